@@ -1,0 +1,15 @@
+-- Refusals by document 01's numbers, and what an answer's number and values are.
+-- Document 01, "Causes, by number".
+use Prim.Native.Nat.{ℕ}
+use Rattle.answers.specs.declared.Refusal.{Refusal}
+use Rattle.answers.specs.declared.Answer.{Answer}
+use Rattle.answers.specs.declared.Answer.the-variants.{Accepted, Refusing}
+
+-- refusal `number` with the values a, b and c
+abbrev pub refusal : ℕ → ℕ → ℕ → ℕ → Refusal
+refusal number a b c = record { number = number; a = a; b = b; c = c }
+
+-- an answer as document 01's number and three values: acceptance is 0, with cells, constructors and text length
+abbrev pub numbered : Answer → Refusal
+numbered (Accepted cells constructors size) = refusal 0 cells constructors size
+numbered (Refusing r) = r

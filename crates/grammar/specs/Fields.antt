@@ -1,0 +1,57 @@
+-- The fields of a table's bytes, with their offsets. Document 01, "Phrase table" and refusal 2.
+use Prim.Native.Nat.{ℕ, zero, suc, _+_, _*_}
+use mathlib.Core.Bool.{Bool, true, false}
+use mathlib.Core.List.{List, [], _∷_}
+use lib.Dec.{eqb, leb}
+use lib.ListN.{length, getD, take, drop}
+
+-- What stands from an offset on: nothing (the offset is the table's length), a field that runs past the end, or a field (its
+-- offset, tag and value) and what follows it.
+pub data Fields : Type 0 where
+  end : ℕ → Fields
+  cut : ℕ → Fields
+  next : ℕ → ℕ → List ℕ → Fields → Fields
+
+-- the length that the field at the front states, high byte first
+abbrev pub sizeOf : List ℕ → ℕ
+sizeOf rest = getD rest 1 0 * 256 + getD rest 2 0
+
+-- the fields of what is left of a table at the offset `at`; k bounds the bytes left
+unfoldable pub fieldsFrom : ℕ → ℕ → List ℕ → Fields
+fieldsFrom zero at rest = end at
+fieldsFrom (suc k) at rest =
+    elim (eqb (length rest) 0) [
+      | true ↦ end at
+      | false ↦
+          elim (leb (3 + sizeOf rest) (length rest)) [
+            | false ↦ cut at
+            | true ↦
+                next at (getD rest 0 0) (take (sizeOf rest) (drop 3 rest))
+                (fieldsFrom k (at + (3 + sizeOf rest)) (drop (3 + sizeOf rest) rest))
+          ]
+    ]
+
+unfoldable pub fieldsOf : List ℕ → Fields
+fieldsOf bs = fieldsFrom (length bs) 0 bs
+
+-- the values of the fields of one tag that stand at the front, and what follows them
+unfoldable pub leading : ℕ → Fields → List (List ℕ)
+leading tag (end at) = []
+leading tag (cut at) = []
+leading tag (next at t v fs) = elim (eqb t tag) [ true ↦ v ∷ leading tag fs | false ↦ [] ]
+
+unfoldable pub afterLeading : ℕ → Fields → Fields
+afterLeading tag (end at) = end at
+afterLeading tag (cut at) = cut at
+afterLeading tag (next at t v fs) = elim (eqb t tag) [ true ↦ afterLeading tag fs | false ↦ next at t v fs ]
+
+-- what a table gives the scanner: its keywords and its outside names, each in table order
+pub record Lexicon : Type 0 where
+  pub keywords : List (List ℕ)
+  pub outsides : List (List ℕ)
+
+-- the keywords and outside names that any bytes begin with, as many as a table may have
+unfoldable pub lexiconOf : List ℕ → Lexicon
+lexiconOf bs =
+    record
+    { keywords = take 62 (leading 1 (fieldsOf bs)); outsides = take 64 (leading 2 (afterLeading 1 (fieldsOf bs))) }

@@ -1,0 +1,4 @@
+pub mod Sorts
+pub mod Table
+pub mod Encode
+pub mod Fields

@@ -1,0 +1,50 @@
+-- The phrase table as data: a sequence of grammars over keywords and outside names, with a root.
+-- Document 01, "Phrase table"; 001, section 4.1: productions p, definitions with their operators a, grammars g, sequences gseq.
+use Prim.Native.Nat.{ℕ}
+use mathlib.Core.List.{List}
+use Rattle.grammar.specs.Sorts.{Signature}
+
+-- a template: a variable of the alternative, an outside name as Var (001's global(x)) or as Label, or a constructor applied
+mutual
+  pub data Template : Type 0 where
+    variable : ℕ → Template
+    outside : ℕ → Template
+    outsideLabel : ℕ → Template
+    make : ℕ → Templates → Template
+
+  pub data Templates : Type 0 where
+    none : Templates
+    more : Template → Templates → Templates
+
+-- an item: "x", ide(B), number (01's addition), local, or a nonterminal applied to arguments
+pub data Item : Type 0 where
+  keyword : ℕ → Item
+  ide : ℕ → Item
+  number : Item
+  local : Item
+  call : ℕ → Templates → Item
+
+-- an alternative: its items from the left, then its result
+pub record Alternative : Type 0 where
+  pub items : List Item
+  pub result : Template
+
+-- 001's operators: == add, |= extend, := update
+pub data Mode : Type 0 where
+  add : Mode
+  extend : Mode
+  update : Mode
+
+-- the definition of a nonterminal: one alternative or more
+pub record Definition : Type 0 where
+  pub nonterminal : ℕ
+  pub mode : Mode
+  pub signature : Signature
+  pub alternatives : List Alternative
+
+-- a block is one grammar of the sequence
+pub record Table : Type 0 where
+  pub keywords : List (List ℕ)
+  pub outsides : List (List ℕ)
+  pub blocks : List (List Definition)
+  pub root : ℕ

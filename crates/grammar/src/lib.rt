@@ -1,0 +1,1 @@
+// Sorts, constructors and the phrase table.

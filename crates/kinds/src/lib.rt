@@ -1,0 +1,1 @@
+// Sets of token kinds as 64-bit numbers.

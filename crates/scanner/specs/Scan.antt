@@ -1,0 +1,132 @@
+-- Scanning: from the bytes of a formula to its tokens, with refusals 14, 15 and 16.
+-- Document 01, "Formula".
+use Prim.Native.Nat.{ℕ, zero, suc, _+_}
+use mathlib.Core.Bool.{Bool, true, false}
+use mathlib.Core.List.{List, [], _∷_, _++_}
+use lib.Dec.{eqb, leb, ltb}
+use lib.ListN.{length, getD, take, drop}
+use Rattle.answers.specs.declared.Refusal.{Refusal}
+use Rattle.scanner.specs.declared.Token.{Token}
+use Rattle.scanner.specs.declared.Lexeme.{Lexeme}
+use Rattle.scanner.specs.declared.Lexeme.the-variants.{Separator, Word, Number, Symbol, Fault}
+use Rattle.scanner.specs.declared.Scanned.{Scanned}
+use Rattle.scanner.specs.declared.Scanned.the-variants.{Tokens, Unscanned}
+use Rattle.spellings.specs.Bytes.{isLetter, isDigit, isWordByte, isSeparator, isSymbol, run, indexOf, largest, valueOf}
+use Rattle.kinds.specs.Kinds.{wordKind, numberKind, keywordKind, noKind}
+use Rattle.answers.specs.Refusals.{refusal}
+use Rattle.grammar.specs.Fields.{Lexicon}
+
+-- ------------------------------------------------------------------ the lexeme at the front
+
+-- a word of n bytes, if it is not too long
+abbrev pub wordLexeme : ℕ → Lexeme
+wordLexeme n = elim (leb n 31) [ true ↦ Word n | false ↦ Fault ]
+
+-- the number that a run of digits spells, if it is not too large
+abbrev pub numberLexeme : List ℕ → Lexeme
+numberLexeme ds = elim (leb (valueOf ds) largest) [ true ↦ Number (length ds) (valueOf ds) | false ↦ Fault ]
+
+-- the longest lexeme at the front of what is left of the formula, by its first byte b
+abbrev pub lexemeBy : ℕ → List ℕ → Lexeme
+lexemeBy b rest =
+    elim (isSeparator b) [
+      | true ↦ Separator
+      | false ↦
+          elim (isLetter b) [
+            | true ↦ wordLexeme (length (run isWordByte rest))
+            | false ↦
+                elim (isDigit b)
+                [ true ↦ numberLexeme (run isDigit rest) | false ↦ elim (isSymbol b) [ true ↦ Symbol | false ↦ Fault ] ]
+          ]
+    ]
+
+unfoldable pub lexemeOf : List ℕ → Lexeme
+lexemeOf rest = lexemeBy (getD rest 0 0) rest
+
+-- ------------------------------------------------------------------ keywords and spelling numbers
+
+-- the kind of a token spelled s that is not a number: a keyword's, if it is one, else the given one
+unfoldable pub kindOf : Lexicon → List ℕ → ℕ → ℕ
+kindOf lex s other =
+    elim (ltb (indexOf s (lex .keywords)) (length (lex .keywords)))
+    [ true ↦ keywordKind (indexOf s (lex .keywords)) | false ↦ other ]
+
+-- the spelling number of a word: outside names 0 upward in table order, others 64 upward by first appearance among `words`
+unfoldable pub spellingOf : Lexicon → List (List ℕ) → List ℕ → ℕ
+spellingOf lex words s =
+    elim (ltb (indexOf s (lex .outsides)) (length (lex .outsides)))
+    [ true ↦ indexOf s (lex .outsides) | false ↦ 64 + indexOf s words ]
+
+-- the words met so far that are neither keywords nor outside names, after one more word
+unfoldable pub wordsWith : Lexicon → List (List ℕ) → List ℕ → List (List ℕ)
+wordsWith lex words s =
+    elim (ltb (spellingOf lex words s) (64 + length words)) [ true ↦ words | false ↦ words ++ (s ∷ []) ]
+
+-- ------------------------------------------------------------------ tokens
+
+-- what one lexeme does: nothing, a fault, or a token with the words then met
+pub data Step : Type 0 where
+  skip : Step
+  fault : Step
+  take-token : Token → List (List ℕ) → Step
+
+abbrev pub token : ℕ → ℕ → ℕ → ℕ → Token
+token kind at size value = record { kind = kind; at = at; size = size; value = value }
+
+-- a token spelled s that is not a number, by its kind: a word has its spelling number, any other the value 0
+abbrev pub spelledStep : Lexicon → List (List ℕ) → ℕ → List ℕ → ℕ → Step
+spelledStep lex words at s kind =
+    elim (eqb kind wordKind) [
+      | true ↦ take-token (token kind at (length s) (spellingOf lex words s)) (wordsWith lex words s)
+      | false ↦ take-token (token kind at (length s) 0) words
+    ]
+
+-- the lexeme at the front of what is left of the formula, which stands at the offset `at`
+abbrev pub stepBy : Lexicon → List (List ℕ) → ℕ → List ℕ → Lexeme → Step
+stepBy lex words at rest Separator = skip
+stepBy lex words at rest (Word n) = spelledStep lex words at (take n rest) (kindOf lex (take n rest) wordKind)
+stepBy lex words at rest (Number n v) = take-token (token numberKind at n v) words
+stepBy lex words at rest Symbol = spelledStep lex words at (take 1 rest) (kindOf lex (take 1 rest) noKind)
+stepBy lex words at rest Fault = fault
+
+-- the tokens found, with the answer and all words numbered from 64
+pub record Lexed : Type 0 where
+  pub answer : Scanned
+  pub tokens : List Token
+  pub words : List (List ℕ)
+
+abbrev pub ended : Scanned → List (List ℕ) → Lexed
+ended r words = record { answer = r; tokens = []; words = words }
+
+abbrev pub withToken : Token → Lexed → Lexed
+withToken t l = record { answer = l .answer; tokens = t ∷ l .tokens; words = l .words }
+
+-- the most tokens that a formula may have
+abbrev pub mostTokens : ℕ
+mostTokens = 4096
+
+-- What is left of the formula at the offset `at`, after n tokens and the words met with them; k bounds the bytes left.
+-- Refusal 15 comes before 16 at each token.
+unfoldable pub lexFrom : ℕ → Lexicon → ℕ → List ℕ → ℕ → List (List ℕ) → Lexed
+lexFrom zero lex at rest n words = ended (Tokens n (length words)) words
+lexFrom (suc k) lex at [] n words = ended (Tokens n (length words)) words
+lexFrom (suc k) lex at (b ∷ bs) n words =
+    elim (stepBy lex words at (b ∷ bs) (lexemeOf (b ∷ bs))) [
+      | skip ↦ lexFrom k lex (at + 1) bs n words
+      | fault ↦ ended (Unscanned (refusal 15 at 0 0)) words
+      | take-token t words′ ↦
+          elim (ltb n mostTokens) [
+            | false ↦ ended (Unscanned (refusal 16 0 0 0)) words
+            | true ↦ withToken t (lexFrom k lex (at + t .size) (drop (t .size) (b ∷ bs)) (n + 1) words′)
+          ]
+    ]
+
+-- the most bytes that a formula may have
+abbrev pub longestFormula : ℕ
+longestFormula = 65535
+
+-- the whole scan
+unfoldable pub scan : Lexicon → List ℕ → Lexed
+scan lex formula =
+    elim (leb (length formula) longestFormula)
+    [ true ↦ lexFrom (length formula) lex 0 formula 0 [] | false ↦ ended (Unscanned (refusal 14 0 0 0)) [] ]

@@ -1,0 +1,26 @@
+// The scanner: from the bytes of a formula to its tokens.
+use answers::Refusal;
+
+// What stands at the front of a run of bytes: a separator, a word or a number (with its length), one symbol byte, or a fault.
+pub enum Lexeme {
+    Separator,
+    Word(usize),
+    Number(usize, u32),
+    Symbol,
+    Fault,
+}
+
+// A token: its kind (0 a word, 1 a number, k + 2 keyword k, 64 a symbol that is no keyword), its offset and length in the
+// formula, and a word's spelling number or a number's value, else 0.
+pub struct Token {
+    pub kind: u8,
+    pub at: u32,
+    pub size: u32,
+    pub value: u32,
+}
+
+// What the scanner answers: how many tokens there are and how many words that are neither keywords nor outside names.
+pub enum Scanned {
+    Tokens(usize, usize),
+    Unscanned(Refusal),
+}

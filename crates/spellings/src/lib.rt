@@ -1,0 +1,1 @@
+// Bytes, words, equal spellings and decimal numbers.

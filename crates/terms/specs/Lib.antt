@@ -1,0 +1,4 @@
+pub mod Term
+pub mod Rename
+pub mod Print
+pub mod Binding

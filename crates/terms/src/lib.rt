@@ -1,0 +1,1 @@
+// Core terms, renaming and printing.
