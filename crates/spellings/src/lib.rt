@@ -1,1 +1,124 @@
 // Bytes, words, equal spellings and decimal numbers.
+ghost use mathlib.Core.Path.{_≡_};
+ghost use Prim.Native.Nat.{_-_};
+ghost use lib.ListN.{length};
+ghost use Rattle.spellings.specs.Bytes.{isLetter, isDigit, isWordByte, isSeparator, isSymbol, run, same};
+ghost use Rattle.spellings.specs.Numbers.{numberOf};
+
+// ---------------------------------------------------------------- classes of bytes
+
+pub fn is_letter(b: u8) -> bool
+    ensures { λ r. ⌜ r ≡ isLetter b ⌝ }
+{
+    ((65 <= b) & (b <= 90)) | ((97 <= b) & (b <= 122))
+}
+
+pub fn is_digit(b: u8) -> bool
+    ensures { λ r. ⌜ r ≡ isDigit b ⌝ }
+{
+    (48 <= b) & (b <= 57)
+}
+
+pub fn is_word_byte(b: u8) -> bool
+    ensures { λ r. ⌜ r ≡ isWordByte b ⌝ }
+{
+    is_letter(b) | is_digit(b) | (b == 95)
+}
+
+pub fn is_separator(b: u8) -> bool
+    ensures { λ r. ⌜ r ≡ isSeparator b ⌝ }
+{
+    (b == 9) | (b == 10) | (b == 13) | (b == 32)
+}
+
+pub fn is_symbol(b: u8) -> bool
+    ensures { λ r. ⌜ r ≡ isSymbol b ⌝ }
+{
+    (33 <= b) & (b <= 126) & !is_letter(b) & !is_digit(b)
+}
+
+// ---------------------------------------------------------------- runs
+
+// The length of the longest run of word bytes at the front.
+pub fn word_run(s: &[u8]) -> usize
+    ensures { λ r. ⌜ r ≡ length (run isWordByte (now (s .entry))) ⌝ }
+{
+    let mut i: usize = 0;
+    while i < s.len() {
+        let goes = is_word_byte(s[i]);
+        if goes {
+            i += 1;
+        } else {
+            return i;
+        }
+    }
+    i
+}
+
+// The length of the longest run of digits at the front.
+pub fn digit_run(s: &[u8]) -> usize
+    ensures { λ r. ⌜ r ≡ length (run isDigit (now (s .entry))) ⌝ }
+{
+    let mut i: usize = 0;
+    while i < s.len() {
+        let goes = is_digit(s[i]);
+        if goes {
+            i += 1;
+        } else {
+            return i;
+        }
+    }
+    i
+}
+
+// ---------------------------------------------------------------- spellings
+
+// Whether two spellings are equal. Lengths are compared first and then bytes from the front, so spellings that differ in length or
+// in their first byte are told apart at once.
+pub fn equal(a: &[u8], b: &[u8]) -> bool
+    ensures { λ r. ⌜ r ≡ same (now (a .entry)) (now (b .entry)) ⌝ }
+{
+    if a.len() != b.len() {
+        return false;
+    }
+    let mut i: usize = 0;
+    while i < a.len() {
+        if a[i] != b[i] {
+            return false;
+        }
+        i += 1;
+    }
+    true
+}
+
+// ---------------------------------------------------------------- decimal numbers
+
+// The value of a run of digits, if it is not above the largest number that a formula may hold.
+pub enum Number {
+    Value(u32),
+    TooLarge,
+}
+
+// The value of one digit. A byte below '0' counts as 0.
+fn digit_value(b: u8) -> u64
+    ensures { λ r. ⌜ r ≡ b - 48 ⌝ }
+{
+    if b < 48 { 0 } else { (b - 48) as u64 }
+}
+
+// The value of a run of digits of any length. The value never falls from one digit to the next, so the work stops where it is too
+// large, and nothing overflows.
+pub fn value(digits: &[u8]) -> Number
+    ensures { λ r. ⌜ r ≡ numberOf (now (digits .entry)) ⌝ }
+{
+    let mut n: u64 = 0;
+    let mut i: usize = 0;
+    while i < digits.len() {
+        n = n * 10 + digit_value(digits[i]);
+        if 999_999_999 < n {
+            return Number::TooLarge;
+        }
+        i += 1;
+    }
+    Number::Value(n as u32)
+}

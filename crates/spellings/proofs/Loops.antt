@@ -1,0 +1,146 @@
+-- The loops of this crate: what holds at each turn, as a record, and what a turn, an early return and the end make of it.
+use Prim.Native.Nat.{ℕ, zero, suc, _+_, _-_, _*_, _<_, _≤_}
+use mathlib.Core.Path.{_≡_, refl, sym, ap, _∙_}
+use mathlib.Core.Bool.{Bool, true, false, _&&_}
+use mathlib.Core.List.{List, [], _∷_}
+use native.Mathlib.Numerals.{add-one}
+use native.Mathlib.Omega.{arith}
+use lib.Dec.{eqb, leb}
+use lib.ListN.{length, getD, drop, drop-of-length-le}
+use lib.Seq.{drop-cons}
+use borrow.Author.Tests.{le-leb, lt-leb, eq-eqb, ne-eqb}
+use Rattle.spellings.specs.Bytes.{run, same, largest, valueFrom, valueOf}
+use Rattle.spellings.specs.Numbers.{limited, numberOf}
+use Rattle.spellings.specs.declared.Number.{Number}
+use Rattle.spellings.specs.declared.Number.the-variants.{Value, TooLarge}
+
+-- what is left of a list at an index within it
+pub drop-at-index : (s : List ℕ) (i : ℕ) → i < length s → drop i s ≡ getD s i 0 ∷ drop (i + 1) s
+drop-at-index s i h = rw (add-one, drop-cons s i 0)
+
+-- ------------------------------------------------------------------ runs
+
+-- i bytes at the front pass the test
+pub record Running (p : ℕ → Bool) (s : List ℕ) (i : ℕ) : Type 0 where
+  pub within : i ≤ length s
+  pub rest : i + length (run p (drop i s)) ≡ length (run p s)
+
+run-taken : (p : ℕ → Bool) (b : ℕ) (bs : List ℕ) → p b ≡ true → run p (b ∷ bs) ≡ b ∷ run p bs
+unfolding run
+run-taken p b bs e = rw (e, run) refl
+
+run-left : (p : ℕ → Bool) (b : ℕ) (bs : List ℕ) → p b ≡ false → run p (b ∷ bs) ≡ []
+unfolding run
+run-left p b bs e = rw (e, run) refl
+
+pub running-start : (p : ℕ → Bool) (s : List ℕ) → Running p s 0
+running-start p s = record { within = omega arith; rest = omega arith }
+
+module _ {p : ℕ → Bool} {s : List ℕ} {i : ℕ} (r : Running p s i) where
+  pub running-next : i < length s → {t : Bool} → t ≡ p (getD s i 0) → t ≡ true → Running p s (i + 1)
+  running-next h e u =
+      let f : length (run p (drop i s)) ≡ suc (length (run p (drop (i + 1) s))) =
+      ap (λ l. length (run p l)) (drop-at-index s i h) ∙ ap length (run-taken p (getD s i 0) (drop (i + 1) s) (sym e ∙ u)) in
+      record { within = omega arith; rest = omega (arith, r .rest) }
+
+  pub running-stop : i < length s → {t : Bool} → t ≡ p (getD s i 0) → t ≡ false → i ≡ length (run p s)
+  running-stop h e u =
+      let f : length (run p (drop i s)) ≡ 0 =
+      ap (λ l. length (run p l)) (drop-at-index s i h) ∙ ap length (run-left p (getD s i 0) (drop (i + 1) s) (sym e ∙ u)) in
+      omega (arith, r .rest)
+
+  pub running-end : length s ≤ i → i ≡ length (run p s)
+  unfolding run
+  running-end h =
+      let f : length (run p (drop i s)) ≡ 0 = ap (λ l. length (run p l)) (drop-of-length-le s h) in
+      omega (arith, r .rest)
+
+-- ------------------------------------------------------------------ equal spellings
+
+-- two spellings of one length agree in their first i bytes
+pub record Agreeing (a b : List ℕ) (i : ℕ) : Type 0 where
+  pub within : i ≤ length a
+  pub rest : same (drop i a) (drop i b) ≡ same a b
+
+and-right : (t u : Bool) → u ≡ false → (t && u) ≡ false
+and-right true u e = e
+and-right false u e = refl
+
+-- spellings of different lengths are not equal
+pub same-length : (a b : List ℕ) → (length a ≡ length b → ⊥) → same a b ≡ false
+unfolding same
+same-length [] [] h = absurd (h refl)
+same-length [] (y ∷ ys) h = refl
+same-length (x ∷ xs) [] h = refl
+same-length (x ∷ xs) (y ∷ ys) h = and-right (eqb x y) (same xs ys) (same-length xs ys (λ e. h (ap suc e)))
+
+same-front : (x y : ℕ) (xs ys : List ℕ) → same (x ∷ xs) (y ∷ ys) ≡ (eqb x y && same xs ys)
+unfolding same
+same-front x y xs ys = refl
+
+pub agreeing-start : (a b : List ℕ) → Agreeing a b 0
+agreeing-start a b = record { within = omega arith; rest = refl }
+
+module _ {a b : List ℕ} {i : ℕ} (r : Agreeing a b i) (long : length a ≡ length b) where
+  front : i < length a → same (drop i a) (drop i b) ≡ (eqb (getD a i 0) (getD b i 0) && same (drop (i + 1) a) (drop (i + 1) b))
+  front h =
+      let k : i < length b = omega arith in
+      rw (drop-at-index a i h, drop-at-index b i k) (same-front _ _ _ _)
+
+  pub agreeing-next : i < length a → getD a i 0 ≡ getD b i 0 → Agreeing a b (i + 1)
+  agreeing-next h e =
+      record { within = omega arith; rest = sym (front h ∙ rw (eq-eqb _ _ e) refl) ∙ r .rest }
+
+  pub agreeing-stop : i < length a → (getD a i 0 ≡ getD b i 0 → ⊥) → false ≡ same a b
+  agreeing-stop h d = sym (front h ∙ rw (ne-eqb _ _ d) refl) ∙ r .rest
+
+  pub agreeing-end : length a ≤ i → true ≡ same a b
+  unfolding same
+  agreeing-end h =
+      let k : length b ≤ i = omega arith in
+      rw (drop-of-length-le a h, drop-of-length-le b k) at (r .rest)
+
+-- ------------------------------------------------------------------ the value of a run of digits
+
+-- the first i bytes are worth n, which is not too large
+pub record Valued (ds : List ℕ) (i n : ℕ) : Type 0 where
+  pub within : i ≤ length ds
+  pub small : n ≤ largest
+  pub rest : valueFrom n (drop i ds) ≡ valueOf ds
+
+-- the value never falls
+pub value-grows : (n : ℕ) (ds : List ℕ) → n ≤ valueFrom n ds
+unfolding valueFrom
+value-grows n [] = omega arith
+value-grows n (d ∷ ds) = omega (arith, value-grows (n * 10 + (d - 48)) ds)
+
+value-front : (n d : ℕ) (ds : List ℕ) → valueFrom n (d ∷ ds) ≡ valueFrom (n * 10 + (d - 48)) ds
+unfolding valueFrom
+value-front n d ds = refl
+
+limited-value : (n : ℕ) → n ≤ largest → limited n ≡ Value n
+limited-value n h = rw (le-leb n largest h, limited) refl
+
+limited-large : (n : ℕ) → largest < n → limited n ≡ TooLarge
+limited-large n h = rw (lt-leb n largest h, limited) refl
+
+pub valued-start : (ds : List ℕ) → Valued ds 0 0
+valued-start ds = record { within = omega arith; small = omega arith; rest = refl }
+
+module _ {ds : List ℕ} {i n : ℕ} (r : Valued ds i n) where
+  valued-front : i < length ds → {d : ℕ} → d ≡ getD ds i 0 - 48 → valueFrom (n * 10 + d) (drop (i + 1) ds) ≡ valueOf ds
+  valued-front h e =
+      rw e
+      (sym (ap (λ l. valueFrom n l) (drop-at-index ds i h) ∙ value-front n (getD ds i 0) (drop (i + 1) ds)) ∙ r .rest)
+
+  pub valued-next : i < length ds → {d : ℕ} → d ≡ getD ds i 0 - 48 → n * 10 + d ≤ largest → Valued ds (i + 1) (n * 10 + d)
+  valued-next h e k = record { within = omega arith; small = k; rest = valued-front h e }
+
+  pub valued-stop : i < length ds → {d : ℕ} → d ≡ getD ds i 0 - 48 → largest < n * 10 + d → TooLarge ≡ numberOf ds
+  valued-stop h {d} e k =
+      sym (limited-large (valueOf ds) (omega (arith, value-grows (n * 10 + d) (drop (i + 1) ds), valued-front h e)))
+
+  pub valued-end : length ds ≤ i → Value n ≡ numberOf ds
+  unfolding valueFrom
+  valued-end h =
+      sym (limited-value n (r .small)) ∙ ap limited (sym (ap (λ l. valueFrom n l) (drop-of-length-le ds h)) ∙ r .rest)

@@ -1,0 +1,57 @@
+-- `equal`: spellings of one length agree in the bytes passed.
+use Prim.Native.Nat.{_-_}
+use mathlib.Core.Path.{sym}
+use lib.ListN.{length}
+use borrow.Author.Needs.{needs}
+use Rattle.spellings.proofs.Loops as loops
+use Rattle.spellings.proofs.equal.Statement.{statement}
+use Rattle.spellings.proofs.equal.Tie as tie
+
+abbrev Inv-loop : tie.InvT-loop
+Inv-loop a b i₀ i = loops.Agreeing a b i
+
+abbrev μ-loop : tie.MeasureT-loop
+μ-loop a b i₀ i = length a - i
+
+returns : tie.Need-returns Inv-loop μ-loop
+returns c = sym (loops.same-length _ _ (c .if1 .taken))
+
+loop-holds : tie.Need-loop-holds Inv-loop μ-loop
+loop-holds c = loops.agreeing-start (c .before .args .a .now) (c .before .args .b .now)
+
+shared-slice-read-if2 : tie.Need-shared-slice-read-if2 Inv-loop μ-loop
+shared-slice-read-if2 c = search needs
+
+shared-slice-read-if2-2 : tie.Need-shared-slice-read-if2-2 Inv-loop μ-loop
+shared-slice-read-if2-2 c = search needs
+
+returns-2 : tie.Need-returns-2 Inv-loop μ-loop
+returns-2 c = loops.agreeing-stop (c .before .before .before .before .loop .inv) (c .before .before .before .before .before .if1 .left) (c .before .before .before .loop-test .taken) (c .if2 .taken)
+
+add-i : tie.Need-add-i Inv-loop μ-loop
+add-i c = search needs
+
+loop-less : tie.Need-loop-less Inv-loop μ-loop
+loop-less c = search needs
+
+loop-again : tie.Need-loop-again Inv-loop μ-loop
+loop-again c = loops.agreeing-next (c .before .before .before .before .loop .inv) (c .before .before .before .before .before .if1 .left) (c .before .before .before .loop-test .taken) (c .if2 .left)
+
+returns-3 : tie.Need-returns-3 Inv-loop μ-loop
+returns-3 c = loops.agreeing-end (c .before .loop .inv) (c .before .before .if1 .left) (c .loop-test .left)
+
+pub equal-spec : {M : Type 1} → statement M
+equal-spec =
+    tie.close
+    (tie.spec
+    Inv-loop
+    μ-loop
+    returns
+    loop-holds
+    shared-slice-read-if2
+    shared-slice-read-if2-2
+    returns-2
+    add-i
+    loop-less
+    loop-again
+    returns-3)

@@ -1,0 +1,53 @@
+-- `word_run`: the bytes passed are the front of the run.
+use Prim.Native.Nat.{_-_}
+use lib.ListN.{length}
+use borrow.Author.Needs.{needs}
+use Rattle.spellings.specs.Bytes.{isWordByte}
+use Rattle.spellings.proofs.Loops as loops
+use Rattle.spellings.proofs.word_run.Statement.{statement}
+use Rattle.spellings.proofs.word_run.Tie as tie
+
+abbrev Inv-loop : tie.InvT-loop
+Inv-loop s i₀ i = loops.Running isWordByte s i
+
+abbrev μ-loop : tie.MeasureT-loop
+μ-loop s i₀ i = length s - i
+
+loop-holds : tie.Need-loop-holds Inv-loop μ-loop
+loop-holds c = loops.running-start isWordByte (c .before .args .s .now)
+
+shared-slice-read-is-word-byte : tie.Need-shared-slice-read-is-word-byte Inv-loop μ-loop
+shared-slice-read-is-word-byte c = search needs
+
+is-word-byte-requires : tie.Need-is-word-byte-requires Inv-loop μ-loop
+is-word-byte-requires c κs = search needs
+
+add-i : tie.Need-add-i Inv-loop μ-loop
+add-i c = search needs
+
+loop-less : tie.Need-loop-less Inv-loop μ-loop
+loop-less c = search needs
+
+loop-again : tie.Need-loop-again Inv-loop μ-loop
+loop-again c = loops.running-next (c .before .before .before .before .loop .inv) (c .before .before .before .loop-test .taken) (c .before .is-word-byte .ensures) (c .if1 .taken)
+
+returns : tie.Need-returns Inv-loop μ-loop
+returns c = loops.running-stop (c .before .before .before .before .loop .inv) (c .before .before .before .loop-test .taken) (c .before .is-word-byte .ensures) (c .if1 .left)
+
+returns-2 : tie.Need-returns-2 Inv-loop μ-loop
+returns-2 c = loops.running-end (c .before .loop .inv) (c .loop-test .left)
+
+pub word-run-spec : {M : Type 1} → statement M
+word-run-spec =
+    tie.close
+    (tie.spec
+    Inv-loop
+    μ-loop
+    loop-holds
+    shared-slice-read-is-word-byte
+    is-word-byte-requires
+    add-i
+    loop-less
+    loop-again
+    returns
+    returns-2)
