@@ -1,7 +1,7 @@
 -- Scanning: from the bytes of a formula to its tokens, with refusals 14, 15 and 16.
 -- Document 01, "Formula".
 use Prim.Native.Nat.{ℕ, zero, suc, _+_}
-use mathlib.Core.Bool.{Bool, true, false}
+use mathlib.Core.Bool.{Bool, true, false, _&&_}
 use mathlib.Core.List.{List, [], _∷_, _++_}
 use lib.Dec.{eqb, leb, ltb}
 use lib.ListN.{length, getD, take, drop}
@@ -9,6 +9,8 @@ use Rattle.answers.specs.declared.Refusal.{Refusal}
 use Rattle.scanner.specs.declared.Token.{Token}
 use Rattle.scanner.specs.declared.Lexeme.{Lexeme}
 use Rattle.scanner.specs.declared.Lexeme.the-variants.{Separator, Word, Number, Symbol, Fault}
+use Rattle.scanner.specs.declared.Step.{Step}
+use Rattle.scanner.specs.declared.Step.the-variants.{Skip, Stop, Emit}
 use Rattle.scanner.specs.declared.Scanned.{Scanned}
 use Rattle.scanner.specs.declared.Scanned.the-variants.{Tokens, Unscanned}
 use Rattle.spellings.specs.Bytes.{isLetter, isDigit, isWordByte, isSeparator, isSymbol, run, indexOf, largest, valueOf}
@@ -57,37 +59,35 @@ spellingOf lex words s =
     elim (ltb (indexOf s (lex .outsides)) (length (lex .outsides)))
     [ true ↦ indexOf s (lex .outsides) | false ↦ 64 + indexOf s words ]
 
--- the words met so far that are neither keywords nor outside names, after one more word
-unfoldable pub wordsWith : Lexicon → List (List ℕ) → List ℕ → List (List ℕ)
-wordsWith lex words s =
-    elim (ltb (spellingOf lex words s) (64 + length words)) [ true ↦ words | false ↦ words ++ (s ∷ []) ]
-
 -- ------------------------------------------------------------------ tokens
-
--- what one lexeme does: nothing, a fault, or a token with the words then met
-pub data Step : Type 0 where
-  skip : Step
-  fault : Step
-  take-token : Token → List (List ℕ) → Step
 
 abbrev pub token : ℕ → ℕ → ℕ → ℕ → Token
 token kind at size value = record { kind = kind; at = at; size = size; value = value }
 
--- a token spelled s that is not a number, by its kind: a word has its spelling number, any other the value 0
-abbrev pub spelledStep : Lexicon → List (List ℕ) → ℕ → List ℕ → ℕ → Step
-spelledStep lex words at s kind =
-    elim (eqb kind wordKind) [
-      | true ↦ take-token (token kind at (length s) (spellingOf lex words s)) (wordsWith lex words s)
-      | false ↦ take-token (token kind at (length s) 0) words
-    ]
+-- the token at the offset `at` that is spelled s and is not a number: a word has its spelling number, any other the value 0
+abbrev pub spelledToken : Lexicon → List (List ℕ) → ℕ → List ℕ → ℕ → Token
+spelledToken lex words at s kind =
+    elim (eqb kind wordKind)
+    [ true ↦ token kind at (length s) (spellingOf lex words s) | false ↦ token kind at (length s) 0 ]
 
--- the lexeme at the front of what is left of the formula, which stands at the offset `at`
+-- what is done at the lexeme that stands at the front of what is left of the formula, at the offset `at`
 abbrev pub stepBy : Lexicon → List (List ℕ) → ℕ → List ℕ → Lexeme → Step
-stepBy lex words at rest Separator = skip
-stepBy lex words at rest (Word n) = spelledStep lex words at (take n rest) (kindOf lex (take n rest) wordKind)
-stepBy lex words at rest (Number n v) = take-token (token numberKind at n v) words
-stepBy lex words at rest Symbol = spelledStep lex words at (take 1 rest) (kindOf lex (take 1 rest) noKind)
-stepBy lex words at rest Fault = fault
+stepBy lex words at rest Separator = Skip
+stepBy lex words at rest (Word n) = Emit (spelledToken lex words at (take n rest) (kindOf lex (take n rest) wordKind))
+stepBy lex words at rest (Number n v) = Emit (token numberKind at n v)
+stepBy lex words at rest Symbol = Emit (spelledToken lex words at (take 1 rest) (kindOf lex (take 1 rest) noKind))
+stepBy lex words at rest Fault = Stop
+
+unfoldable pub stepOf : Lexicon → List (List ℕ) → ℕ → List ℕ → Step
+stepOf lex words at rest = stepBy lex words at rest (lexemeOf rest)
+
+-- a token is a word not met before: its spelling number is the next one after those of `count` words
+abbrev pub isNew : ℕ → Token → Bool
+isNew count t = eqb (t .kind) wordKind && eqb (t .value) (64 + count)
+
+-- the words numbered from 64, after a token spelled s
+unfoldable pub wordsWith : List (List ℕ) → List ℕ → Token → List (List ℕ)
+wordsWith words s t = elim (isNew (length words) t) [ true ↦ words ++ (s ∷ []) | false ↦ words ]
 
 -- the tokens found, with the answer and all words numbered from 64
 pub record Lexed : Type 0 where
@@ -111,13 +111,15 @@ unfoldable pub lexFrom : ℕ → Lexicon → ℕ → List ℕ → ℕ → List (
 lexFrom zero lex at rest n words = ended (Tokens n (length words)) words
 lexFrom (suc k) lex at [] n words = ended (Tokens n (length words)) words
 lexFrom (suc k) lex at (b ∷ bs) n words =
-    elim (stepBy lex words at (b ∷ bs) (lexemeOf (b ∷ bs))) [
-      | skip ↦ lexFrom k lex (at + 1) bs n words
-      | fault ↦ ended (Unscanned (refusal 15 at 0 0)) words
-      | take-token t words′ ↦
+    elim (stepOf lex words at (b ∷ bs)) [
+      | Skip ↦ lexFrom k lex (at + 1) bs n words
+      | Stop ↦ ended (Unscanned (refusal 15 at 0 0)) words
+      | Emit t ↦
           elim (ltb n mostTokens) [
             | false ↦ ended (Unscanned (refusal 16 0 0 0)) words
-            | true ↦ withToken t (lexFrom k lex (at + t .size) (drop (t .size) (b ∷ bs)) (n + 1) words′)
+            | true ↦
+                withToken t
+                (lexFrom k lex (at + t .size) (drop (t .size) (b ∷ bs)) (n + 1) (wordsWith words (take (t .size) (b ∷ bs)) t))
           ]
     ]
 

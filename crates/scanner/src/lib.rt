@@ -19,6 +19,13 @@ pub struct Token {
     pub value: u32,
 }
 
+// What the scanner does at a lexeme: it passes over a separator, stops at a fault, or emits a token.
+pub enum Step {
+    Skip,
+    Stop,
+    Emit(Token),
+}
+
 // What the scanner answers: how many tokens there are and how many words that are neither keywords nor outside names.
 pub enum Scanned {
     Tokens(usize, usize),
