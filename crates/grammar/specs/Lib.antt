@@ -2,3 +2,4 @@ pub mod Sorts
 pub mod Table
 pub mod Encode
 pub mod Fields
+pub mod Cells

@@ -2,3 +2,4 @@ pub mod Term
 pub mod Rename
 pub mod Print
 pub mod Binding
+pub mod Rows

@@ -1,0 +1,18 @@
+-- The check of a table, refusals 1 to 13 in document 01's order: "Checks".
+use Prim.Native.Nat.{ℕ}
+use mathlib.Core.List.{List}
+use Rattle.answers.specs.Checked.{Checked, ok, bad, _>>=_, _>>_, verdict}
+use Rattle.answers.specs.declared.Verdict.{Verdict}
+use Rattle.grammar.specs.Table.{Table}
+use Rattle.layout.specs.Decode.{decode}
+use Rattle.sorting.specs.Sorting.{checkSorts}
+use Rattle.firsts.specs.Normal.{normalized}
+use Rattle.firsts.specs.First.{checkFirsts}
+
+-- the table that some bytes are, if it passes
+unfoldable pub passedTable : List ℕ → Checked Table
+passedTable bs = decode bs >>= λ t. checkSorts t >> checkFirsts (normalized (t .blocks)) >> ok t
+
+-- what `check_table` answers
+unfoldable pub check : List ℕ → Verdict
+check bs = verdict (passedTable bs)

@@ -1,0 +1,163 @@
+-- Nullable nonterminals, first sets (document 01's openings) and left recursion, as 64-bit sets: refusals 12 and 13.
+-- Document 01, "Phrase table". Each set is the least that its rules give: rounds over all productions, 64 of them, settle it.
+use Prim.Native.Nat.{ℕ, zero, suc, _+_}
+use mathlib.Core.Bool.{Bool, true, false, _&&_, _||_}
+use mathlib.Core.List.{List, [], _∷_}
+use lib.Dec.{eqb, ltb}
+use lib.ListN.{getD, set, replicate}
+use lib.Bits.{bitOr, bitAnd}
+use lib.Count.{trailingZeros}
+use Rattle.answers.specs.Refusals.{refusal}
+use Rattle.answers.specs.Checked.{Checked, ok, bad, _>>_}
+use Rattle.kinds.specs.Kinds.{wordKind, numberKind, keywordKind, hasKind, only}
+use Rattle.grammar.specs.Table.{Item, keyword, ide, number, local, call}
+use Rattle.firsts.specs.Normal.{Production}
+
+-- ------------------------------------------------------------------ rounds
+
+-- k rounds of f
+unfoldable pub rounds : {A : Type 0} → ℕ → (A → A) → A → A
+rounds zero f x = x
+rounds (suc k) f x = rounds k f (f x)
+
+-- one round: a step for each production, in order
+unfoldable pub overAll : {A : Type 0} → (Production → A → A) → List Production → A → A
+overAll f [] x = x
+overAll f (p ∷ g) x = overAll f g (f p x)
+
+-- ------------------------------------------------------------------ nullables
+
+-- an item that may read nothing: a local, or a call of a nullable nonterminal
+abbrev pub isPassed : ℕ → Item → Bool
+isPassed nulls (keyword k) = false
+isPassed nulls (ide s) = false
+isPassed nulls number = false
+isPassed nulls local = true
+isPassed nulls (call n ts) = hasKind nulls n
+
+unfoldable pub allPassed : ℕ → List Item → Bool
+allPassed nulls [] = true
+allPassed nulls (i ∷ is) = isPassed nulls i && allPassed nulls is
+
+unfoldable pub nullStep : Production → ℕ → ℕ
+nullStep p nulls = elim (allPassed nulls (p .items)) [ true ↦ bitOr nulls (only (p .owner)) | false ↦ nulls ]
+
+-- the nullable nonterminals of a grammar, bit n for nonterminal n
+unfoldable pub nullables : List Production → ℕ
+nullables g = rounds 64 (overAll nullStep g) 0
+
+-- ------------------------------------------------------------------ first sets and left calls
+
+-- what an item gives by itself: to a first set the kind that it reads, to the left calls the nonterminal that it calls
+abbrev pub own : Bool → Item → ℕ
+own false (keyword k) = only (keywordKind k)
+own false (ide s) = only wordKind
+own false number = only numberKind
+own false local = 0
+own false (call n ts) = 0
+own true (keyword k) = 0
+own true (ide s) = 0
+own true number = 0
+own true local = 0
+own true (call n ts) = only n
+
+-- what a call gives through its nonterminal, whose sets are `sets`
+abbrev pub through : List ℕ → Item → ℕ
+through sets (keyword k) = 0
+through sets (ide s) = 0
+through sets number = 0
+through sets local = 0
+through sets (call n ts) = getD sets n 0
+
+abbrev pub joined : Bool → List ℕ → Item → ℕ → ℕ
+joined calls sets i found = bitOr (bitOr found (own calls i)) (through sets i)
+
+-- what the items give up to the first that is not nullable, with that one
+unfoldable pub gather : Bool → ℕ → List ℕ → List Item → ℕ → ℕ
+gather calls nulls sets [] found = found
+gather calls nulls sets (i ∷ is) found =
+    elim (isPassed nulls i)
+    [ true ↦ gather calls nulls sets is (joined calls sets i found) | false ↦ joined calls sets i found ]
+
+unfoldable pub firstStep : Bool → ℕ → Production → List ℕ → List ℕ
+firstStep calls nulls p sets =
+    set sets (p .owner) (bitOr (getD sets (p .owner) 0) (gather calls nulls sets (p .items) 0))
+
+-- a set for each of the 64 nonterminals
+unfoldable pub setsOf : Bool → ℕ → List Production → List ℕ
+setsOf calls nulls g = rounds 64 (overAll (firstStep calls nulls) g) (replicate 64 0)
+
+-- the first sets: bit 0 a word, bit 1 a number, bit k + 2 keyword k
+abbrev pub firstSets : ℕ → List Production → List ℕ
+firstSets nulls g = setsOf false nulls g
+
+-- the nonterminals that a nonterminal reaches by calls preceded only by nullable items
+abbrev pub leftCalls : ℕ → List Production → List ℕ
+leftCalls nulls g = setsOf true nulls g
+
+-- the first set of one production
+abbrev pub firstOf : ℕ → List ℕ → Production → ℕ
+firstOf nulls firsts p = gather false nulls firsts (p .items) 0
+
+-- ------------------------------------------------------------------ refusals 12 and 13
+
+-- the lowest of the k numbers from n on that passes the test, n + k if none does
+unfoldable pub lowest : ℕ → (ℕ → Bool) → ℕ → ℕ
+lowest zero p n = n
+lowest (suc k) p n = elim (p n) [ true ↦ n | false ↦ lowest k p (n + 1) ]
+
+-- the lowest nonterminal that reaches itself by left calls, 64 if none does
+abbrev pub leftRecursive : List ℕ → ℕ
+leftRecursive calls = lowest 64 (λ n. hasKind (getD calls n 0) n) 0
+
+-- the kinds that two productions of n share
+abbrev pub sharedBy : ℕ → List ℕ → ℕ → Production → Production → ℕ
+sharedBy nulls firsts n p q =
+    elim (eqb (p .owner) n && eqb (q .owner) n)
+    [ true ↦ bitAnd (firstOf nulls firsts p) (firstOf nulls firsts q) | false ↦ 0 ]
+
+-- two productions of n share a kind, or are both nullable
+abbrev pub clash : ℕ → List ℕ → ℕ → Production → Production → Bool
+clash nulls firsts n p q =
+    (eqb (p .owner) n && eqb (q .owner) n)
+    && (ltb 0 (sharedBy nulls firsts n p q) || (allPassed nulls (p .items) && allPassed nulls (q .items)))
+
+-- a test of one production with each of others, and of each pair of a grammar
+unfoldable pub anyWith : (Production → Bool) → List Production → Bool
+anyWith t [] = false
+anyWith t (q ∷ g) = t q || anyWith t g
+
+unfoldable pub anyPair : (Production → Production → Bool) → List Production → Bool
+anyPair t [] = false
+anyPair t (p ∷ g) = anyWith (t p) g || anyPair t g
+
+-- the lowest nonterminal of which two productions clash, 64 if there is none
+abbrev pub clashing : ℕ → List ℕ → List Production → ℕ
+clashing nulls firsts g = lowest 64 (λ n. anyPair (clash nulls firsts n) g) 0
+
+-- what any two productions of a grammar share, together
+unfoldable pub joinWith : (Production → ℕ) → List Production → ℕ → ℕ
+joinWith f [] found = found
+joinWith f (q ∷ g) found = joinWith f g (bitOr found (f q))
+
+unfoldable pub joinPairs : (Production → Production → ℕ) → List Production → ℕ → ℕ
+joinPairs f [] found = found
+joinPairs f (p ∷ g) found = joinPairs f g (joinWith (f p) g found)
+
+-- the lowest kind that any two productions of n share, 64 if none
+abbrev pub lowestShared : ℕ → List ℕ → List Production → ℕ → ℕ
+lowestShared nulls firsts g n = trailingZeros 64 (joinPairs (sharedBy nulls firsts n) g 0)
+
+unfoldable pub noLeftRecursion : ℕ → List Production → Checked (Unit {0})
+noLeftRecursion nulls g =
+    let n : ℕ = leftRecursive (leftCalls nulls g) in
+    elim (ltb n 64) [ true ↦ bad (refusal 12 n 0 0) | false ↦ ok tt ]
+
+unfoldable pub noClash : ℕ → List ℕ → List Production → Checked (Unit {0})
+noClash nulls firsts g =
+    let n : ℕ = clashing nulls firsts g in
+    elim (ltb n 64) [ true ↦ bad (refusal 13 n (lowestShared nulls firsts g n) 0) | false ↦ ok tt ]
+
+-- a grammar can be read by its next token
+unfoldable pub checkFirsts : List Production → Checked (Unit {0})
+checkFirsts g = noLeftRecursion (nullables g) g >> noClash (nullables g) (firstSets (nullables g) g) g

@@ -1,0 +1,1 @@
+// Normalizing, nullable nonterminals, first sets and left recursion: refusals 12 and 13.

@@ -1,0 +1,1 @@
+// The sorts of a grammar sequence: refusals 7, 8, 9 and 11.
