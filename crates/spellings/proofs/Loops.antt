@@ -10,6 +10,7 @@ use lib.ListN.{length, getD, drop, drop-of-length-le}
 use lib.Seq.{drop-cons}
 use borrow.Author.Tests.{le-leb, lt-leb, eq-eqb, ne-eqb}
 use Rattle.spellings.specs.Bytes.{run, same, largest, valueFrom, valueOf}
+use Rattle.spellings.specs.BytesLaws.{run-taken, run-left}
 use Rattle.spellings.specs.Numbers.{limited, numberOf}
 use Rattle.spellings.specs.declared.Number.{Number}
 use Rattle.spellings.specs.declared.Number.the-variants.{Value, TooLarge}
@@ -24,14 +25,6 @@ drop-at-index s i h = rw (add-one, drop-cons s i 0)
 pub record Running (p : ℕ → Bool) (s : List ℕ) (i : ℕ) : Type 0 where
   pub within : i ≤ length s
   pub rest : i + length (run p (drop i s)) ≡ length (run p s)
-
-run-taken : (p : ℕ → Bool) (b : ℕ) (bs : List ℕ) → p b ≡ true → run p (b ∷ bs) ≡ b ∷ run p bs
-unfolding run
-run-taken p b bs e = rw (e, run) refl
-
-run-left : (p : ℕ → Bool) (b : ℕ) (bs : List ℕ) → p b ≡ false → run p (b ∷ bs) ≡ []
-unfolding run
-run-left p b bs e = rw (e, run) refl
 
 pub running-start : (p : ℕ → Bool) (s : List ℕ) → Running p s 0
 running-start p s = record { within = omega arith; rest = omega arith }
@@ -61,18 +54,6 @@ module _ {p : ℕ → Bool} {s : List ℕ} {i : ℕ} (r : Running p s i) where
 pub record Agreeing (a b : List ℕ) (i : ℕ) : Type 0 where
   pub within : i ≤ length a
   pub rest : same (drop i a) (drop i b) ≡ same a b
-
-and-right : (t u : Bool) → u ≡ false → (t && u) ≡ false
-and-right true u e = e
-and-right false u e = refl
-
--- spellings of different lengths are not equal
-pub same-length : (a b : List ℕ) → (length a ≡ length b → ⊥) → same a b ≡ false
-unfolding same
-same-length [] [] h = absurd (h refl)
-same-length [] (y ∷ ys) h = refl
-same-length (x ∷ xs) [] h = refl
-same-length (x ∷ xs) (y ∷ ys) h = and-right (eqb x y) (same xs ys) (same-length xs ys (λ e. h (ap suc e)))
 
 same-front : (x y : ℕ) (xs ys : List ℕ) → same (x ∷ xs) (y ∷ ys) ≡ (eqb x y && same xs ys)
 unfolding same

@@ -2,7 +2,7 @@
 ghost use mathlib.Core.Path.{_≡_};
 ghost use Prim.Native.Nat.{_-_};
 ghost use lib.ListN.{length};
-ghost use Rattle.spellings.specs.Bytes.{isLetter, isDigit, isWordByte, isSeparator, isSymbol, run, same};
+ghost use Rattle.spellings.specs.Bytes.{isLetter, isDigit, isWordByte, isSeparator, isSymbol, run, isWord, isKeyword, same};
 ghost use Rattle.spellings.specs.Numbers.{numberOf};
 
 // ---------------------------------------------------------------- classes of bytes
@@ -72,6 +72,26 @@ pub fn digit_run(s: &[u8]) -> usize
 }
 
 // ---------------------------------------------------------------- spellings
+
+// A word: a letter, then letters, digits or underscores, 31 bytes at most.
+pub fn is_word(s: &[u8]) -> bool
+    ensures { λ r. ⌜ r ≡ isWord (now (s .entry)) ⌝ }
+{
+    if s.len() == 0 {
+        return false;
+    }
+    is_letter(s[0]) & (word_run(s) == s.len()) & (s.len() <= 31)
+}
+
+// What may spell a keyword: a word, or one symbol byte.
+pub fn is_keyword_spelling(s: &[u8]) -> bool
+    ensures { λ r. ⌜ r ≡ isKeyword (now (s .entry)) ⌝ }
+{
+    if s.len() == 1 {
+        return is_letter(s[0]) | is_symbol(s[0]);
+    }
+    is_word(s)
+}
 
 // Whether two spellings are equal. Lengths are compared first and then bytes from the front, so spellings that differ in length or
 // in their first byte are told apart at once.

@@ -3,6 +3,7 @@ use Prim.Native.Nat.{_-_}
 use mathlib.Core.Path.{sym}
 use lib.ListN.{length}
 use borrow.Author.Needs.{needs}
+use Rattle.spellings.specs.BytesLaws.{length-same}
 use Rattle.spellings.proofs.Loops as loops
 use Rattle.spellings.proofs.equal.Statement.{statement}
 use Rattle.spellings.proofs.equal.Tie as tie
@@ -14,7 +15,7 @@ abbrev μ-loop : tie.MeasureT-loop
 μ-loop a b i₀ i = length a - i
 
 returns : tie.Need-returns Inv-loop μ-loop
-returns c = sym (loops.same-length _ _ (c .if1 .taken))
+returns c = sym (length-same _ _ (c .if1 .taken))
 
 loop-holds : tie.Need-loop-holds Inv-loop μ-loop
 loop-holds c = loops.agreeing-start (c .before .args .a .now) (c .before .args .b .now)

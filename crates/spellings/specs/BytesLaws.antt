@@ -1,0 +1,214 @@
+-- What follows from the definitions of runs, words, equal spellings and the place of a spelling in a list.
+use Prim.Native.Nat.{ℕ, zero, suc, _+_, _<_, _≤_}
+use mathlib.Core.Path.{_≡_, refl, sym, ap, ap₂, _∙_, subst}
+use mathlib.Core.Bool.{Bool, true, false, _&&_, _||_, true≢false, false≢true, and-eq-true-iff, and-false}
+use mathlib.Core.List.{List, [], _∷_, _++_}
+use native.Mathlib.Omega.{arith}
+use lib.Dec.{eqb, leb, eqb·zero-suc, eqb·suc-zero, eqb·suc-suc}
+use lib.ListN.{length, getD, take}
+use borrow.Author.Tests.{eq-eqb, eqb-true, ne-eqb}
+use Rattle.spellings.specs.Bytes.{every, run, same, indexOf, isLetter, isWordByte, isSymbol, isWord, isKeyword}
+
+-- a test is true or false, with the equation in hand
+pub by-test {ℓ} : {A : Type ℓ} (t : Bool) → (t ≡ true → A) → (t ≡ false → A) → A
+by-test true f g = f refl
+by-test false f g = g refl
+
+-- ------------------------------------------------------------------ runs
+
+-- a byte that passes is in the run, and the first that fails ends it
+pub run-taken : (p : ℕ → Bool) (b : ℕ) (bs : List ℕ) → p b ≡ true → run p (b ∷ bs) ≡ b ∷ run p bs
+unfolding run
+run-taken p b bs e = rw (e, run) refl
+
+pub run-left : (p : ℕ → Bool) (b : ℕ) (bs : List ℕ) → p b ≡ false → run p (b ∷ bs) ≡ []
+unfolding run
+run-left p b bs e = rw (e, run) refl
+
+module _ (p : ℕ → Bool) where
+  -- every byte of a run passes
+  pub every-run : (s : List ℕ) → every p (run p s) ≡ true
+  unfolding every run
+  every-run [] = refl
+  every-run (b ∷ bs) =
+      by-test (p b) (λ e. rw (run-taken p b bs e, e) (every-run bs)) (λ e. rw (run-left p b bs e) refl)
+
+  -- a run stands at the front
+  pub run-prefix : (s : List ℕ) → run p s ≡ take (length (run p s)) s
+  unfolding run
+  run-prefix [] = refl
+  run-prefix (b ∷ bs) =
+      by-test (p b) (λ e. rw (run-taken p b bs e) (ap (λ l. b ∷ l) (run-prefix bs))) (λ e. rw (run-left p b bs e) refl)
+
+  pub run-length : (s : List ℕ) → length (run p s) ≤ length s
+  unfolding run
+  run-length [] = omega arith
+  run-length (b ∷ bs) =
+      by-test (p b) (λ e. rw (run-taken p b bs e) (omega (arith, run-length bs))) (λ e. rw (run-left p b bs e) (omega arith))
+
+  -- the byte after a run fails
+  pub run-ends : (s : List ℕ) → length (run p s) < length s → p (getD s (length (run p s)) 0) ≡ false
+  unfolding run
+  run-ends [] h = absurd (omega arith)
+  run-ends (b ∷ bs) h =
+      by-test (p b) (λ e. rw (run-taken p b bs e) (run-ends bs (omega (arith, rw (run-taken p b bs e) at h))))
+      (λ e. rw (run-left p b bs e) e)
+
+  -- every byte passes exactly if the run is the whole
+  pub every-whole : (s : List ℕ) → every p s ≡ eqb (length (run p s)) (length s)
+  unfolding every run
+  every-whole [] = refl
+  every-whole (b ∷ bs) =
+      by-test (p b) (λ e. rw (run-taken p b bs e, e) (every-whole bs ∙ sym (eqb·suc-suc (length (run p bs)) (length bs))))
+      (λ e. rw (run-left p b bs e, e) (sym (eqb·zero-suc (length bs))))
+
+  -- each byte passes, where every byte does
+  pub every-at : (s : List ℕ) (i : ℕ) → every p s ≡ true → i < length s → p (getD s i 0) ≡ true
+  unfolding every
+  every-at [] i e h = absurd (omega arith)
+  every-at (b ∷ bs) zero e h = and-eq-true-iff (p b) (every p bs) .0 e .0
+  every-at (b ∷ bs) (suc i) e h = every-at bs i (and-eq-true-iff (p b) (every p bs) .0 e .1) (omega arith)
+
+  -- no front whose every byte passes is longer than the run
+  pub run-longest : (s : List ℕ) (n : ℕ) → n ≤ length s → every p (take n s) ≡ true → n ≤ length (run p s)
+  unfolding every
+  run-longest s zero h e = omega arith
+  run-longest [] (suc n) h e = absurd (omega arith)
+  run-longest (b ∷ bs) (suc n) h e =
+      let both = and-eq-true-iff (p b) (every p (take n bs)) .0 e in
+      rw (run-taken p b bs (both .0)) (omega (arith, run-longest bs n (omega arith) (both .1)))
+
+-- ------------------------------------------------------------------ words
+
+-- a letter is a word byte
+pub letter-word-byte : (b : ℕ) → isLetter b ≡ true → isWordByte b ≡ true
+letter-word-byte b e = rw e refl
+
+-- a test that another one implies may stand beside it
+implied : (t u v w : Bool) → (t ≡ true → u ≡ true) → (t && v && w) ≡ (t && (u && v) && w)
+implied true u v w h = rw (h refl) refl
+implied false u v w h = refl
+
+pub is-word-empty : (s : List ℕ) → length s ≡ 0 → isWord s ≡ false
+is-word-empty [] h = refl
+is-word-empty (b ∷ bs) h = absurd (omega arith)
+
+-- A word begins with a letter, all its bytes are word bytes, and there are 31 at most.
+pub is-word-by : (s : List ℕ) → 0 < length s
+    → isWord s ≡ (isLetter (getD s 0 0) && eqb (length (run isWordByte s)) (length s) && leb (length s) 31)
+unfolding every
+is-word-by [] h = absurd (omega arith)
+is-word-by (b ∷ bs) h =
+    implied (isLetter b) (isWordByte b) (every isWordByte bs) (leb (suc (length bs)) 31) (letter-word-byte b)
+    ∙ ap (λ t. isLetter b && t && leb (suc (length bs)) 31) (every-whole isWordByte (b ∷ bs))
+
+-- a keyword of one byte is a letter or a symbol, any other is a word
+pub is-keyword-one : (s : List ℕ) → length s ≡ 1 → isKeyword s ≡ (isLetter (getD s 0 0) || isSymbol (getD s 0 0))
+is-keyword-one [] h = absurd (omega arith)
+is-keyword-one (b ∷ []) h = refl
+is-keyword-one (b ∷ c ∷ bs) h = absurd (omega arith)
+
+pub is-keyword-word : (s : List ℕ) → (length s ≡ 1 → ⊥) → isKeyword s ≡ isWord s
+is-keyword-word [] h = refl
+is-keyword-word (b ∷ []) h = absurd (h refl)
+is-keyword-word (b ∷ c ∷ bs) h = refl
+
+-- ------------------------------------------------------------------ equal spellings
+
+pub same-refl : (a : List ℕ) → same a a ≡ true
+unfolding same
+same-refl [] = refl
+same-refl (x ∷ xs) = rw (eq-eqb x x refl) (same-refl xs)
+
+-- spellings that the test finds equal are one list of bytes
+pub same-true : (a b : List ℕ) → same a b ≡ true → a ≡ b
+unfolding same
+same-true [] [] e = refl
+same-true [] (y ∷ ys) e = absurd (false≢true e)
+same-true (x ∷ xs) [] e = absurd (false≢true e)
+same-true (x ∷ xs) (y ∷ ys) e =
+    let both = and-eq-true-iff (eqb x y) (same xs ys) .0 e in
+    ap₂ (λ z zs. z ∷ zs) (eqb-true x y (both .0)) (same-true xs ys (both .1))
+
+pub same-false : (a b : List ℕ) → same a b ≡ false → a ≡ b → ⊥
+same-false a b e f = true≢false (sym (same-refl a) ∙ ap (same a) f ∙ e)
+
+-- and one list of bytes is found equal, two different ones not
+pub equal-same : (a b : List ℕ) → a ≡ b → same a b ≡ true
+equal-same a b e = ap (same a) (sym e) ∙ same-refl a
+
+pub differ-same : (a b : List ℕ) → (a ≡ b → ⊥) → same a b ≡ false
+differ-same a b h = by-test (same a b) (λ e. absurd (h (same-true a b e))) (λ e. e)
+
+-- spellings of different lengths are not equal
+pub length-same : (a b : List ℕ) → (length a ≡ length b → ⊥) → same a b ≡ false
+length-same a b h = differ-same a b (λ e. h (ap length e))
+
+pub same-sym : (a b : List ℕ) → same a b ≡ same b a
+same-sym a b =
+    by-test (same a b) (λ e. e ∙ sym (equal-same b a (sym (same-true a b e))))
+    (λ e. e ∙ sym (differ-same b a (λ f. same-false a b e (sym f))))
+
+-- ------------------------------------------------------------------ the place of a spelling in a list
+
+index-hit : (w v : List ℕ) (vs : List (List ℕ)) → same v w ≡ true → indexOf w (v ∷ vs) ≡ 0
+unfolding indexOf
+index-hit w v vs e = rw (e, indexOf) refl
+
+index-miss : (w v : List ℕ) (vs : List (List ℕ)) → same v w ≡ false → indexOf w (v ∷ vs) ≡ suc (indexOf w vs)
+unfolding indexOf
+index-miss w v vs e = rw (e, indexOf) refl
+
+module _ (w : List ℕ) where
+  pub index-le : (vs : List (List ℕ)) → indexOf w vs ≤ length vs
+  unfolding indexOf
+  index-le [] = omega arith
+  index-le (v ∷ vs) =
+      by-test (same v w) (λ e. rw (index-hit w v vs e) (omega arith)) (λ e. rw (index-miss w v vs e) (omega (arith, index-le vs)))
+
+  -- below the list's length, w stands there
+  pub index-found : (vs : List (List ℕ)) → indexOf w vs < length vs → getD vs (indexOf w vs) [] ≡ w
+  unfolding indexOf
+  index-found [] h = absurd (omega arith)
+  index-found (v ∷ vs) h =
+      by-test (same v w) (λ e. rw (index-hit w v vs e) (same-true v w e))
+      (λ e. rw (index-miss w v vs e) (index-found vs (omega (arith, rw (index-miss w v vs e) at h))))
+
+  -- and at no earlier place
+  pub index-first : (vs : List (List ℕ)) (i : ℕ) → i < indexOf w vs → same (getD vs i []) w ≡ false
+  unfolding indexOf
+  index-first [] i h = absurd (omega arith)
+  index-first (v ∷ vs) zero h = by-test (same v w) (λ e. absurd (omega (arith, rw (index-hit w v vs e) at h))) (λ e. e)
+  index-first (v ∷ vs) (suc i) h =
+      by-test (same v w) (λ e. absurd (omega (arith, rw (index-hit w v vs e) at h)))
+      (λ e. index-first vs i (omega (arith, rw (index-miss w v vs e) at h)))
+
+  -- a place where w stands is not before the first
+  pub index-at : (vs : List (List ℕ)) (i : ℕ) → i < length vs → getD vs i [] ≡ w → indexOf w vs ≤ i
+  unfolding indexOf
+  index-at [] i h e = omega arith
+  index-at (v ∷ vs) zero h e = rw (index-hit w v vs (equal-same v w e)) (omega arith)
+  index-at (v ∷ vs) (suc i) h e =
+      by-test (same v w) (λ f. rw (index-hit w v vs f) (omega arith))
+      (λ f. rw (index-miss w v vs f) (omega (arith, index-at vs i (omega arith) e)))
+
+  -- what is found in the front of a list is found there in the whole, and what is not, is looked for in the rest
+  pub index-front : (vs us : List (List ℕ)) → indexOf w vs < length vs → indexOf w (vs ++ us) ≡ indexOf w vs
+  unfolding indexOf
+  index-front [] us h = absurd (omega arith)
+  index-front (v ∷ vs) us h =
+      by-test (same v w) (λ e. rw (index-hit w v (vs ++ us) e, index-hit w v vs e) refl)
+      (λ e. rw (index-miss w v (vs ++ us) e, index-miss w v vs e)
+      (ap suc (index-front vs us (omega (arith, rw (index-miss w v vs e) at h)))))
+
+  pub index-rest : (vs us : List (List ℕ)) → indexOf w vs ≡ length vs → indexOf w (vs ++ us) ≡ length vs + indexOf w us
+  unfolding indexOf
+  index-rest [] us h = omega arith
+  index-rest (v ∷ vs) us h =
+      by-test (same v w) (λ e. absurd (omega (arith, rw (index-hit w v vs e) at h)))
+      (λ e. rw (index-miss w v (vs ++ us) e) (omega (arith, index-rest vs us (omega (arith, rw (index-miss w v vs e) at h)))))
+
+-- two spellings found at one place are equal
+pub index-injective : (v w : List ℕ) (vs : List (List ℕ)) → indexOf v vs < length vs → indexOf v vs ≡ indexOf w vs → v ≡ w
+index-injective v w vs h e =
+    sym (index-found v vs h) ∙ ap (λ i. getD vs i []) e ∙ index-found w vs (omega arith)
