@@ -3,3 +3,4 @@ pub mod Table
 pub mod Encode
 pub mod Fields
 pub mod Cells
+pub mod Lookup

@@ -1,0 +1,354 @@
+-- Laws of a table's fields from an offset on, and of the search for a spelling among the first of them.
+use Prim.Native.Nat.{ℕ, zero, suc, _+_, _-_, _*_, _<_, _≤_}
+use mathlib.Core.Path.{_≡_, refl, sym, ap, _∙_, subst}
+use mathlib.Core.Bool.{Bool, true, false}
+use mathlib.Core.List.{List, [], _∷_}
+use native.Mathlib.Nat.{add-assoc, add-zero, zero-add, sub-zero}
+use native.Mathlib.Omega.{arith}
+use lib.Dec.{eqb, leb, ltb, leb·suc-suc}
+use lib.ListN.{length, getD, take, drop, length-drop, length-take, drop-of-length-le}
+use lib.Seq.{getD-drop, drop-drop, take-nil}
+use borrow.Author.Tests.{lt-ltb, ltb-true, eq-eqb, ne-eqb, le-leb, lt-leb, leb-true, eqb-true, eqb-false}
+use Rattle.spellings.specs.Bytes.{same, indexOf}
+use Rattle.grammar.specs.declared.Front.{Front}
+use Rattle.grammar.specs.declared.Front.the-variants.{Nothing, Short, Field}
+use Rattle.grammar.specs.declared.Found.{Found}
+use Rattle.grammar.specs.declared.Found.the-variants.{At, Absent}
+use Rattle.grammar.specs.Fields.{Fields, end, cut, next, sizeOf, fieldsFrom, fieldsOf, leading, afterLeading, lexiconOf}
+use Rattle.grammar.specs.Lookup.{frontOf, fieldsAt, foundIn}
+
+-- ------------------------------------------------------------------ what stands at an offset
+
+-- by the two tests
+front-tests : (rest : List ℕ) (empty whole : Bool) → eqb (length rest) 0 ≡ empty → leb (3 + sizeOf rest) (length rest) ≡ whole
+    → frontOf rest ≡ elim empty [ true ↦ Nothing | false ↦ elim whole [ true ↦ Field (getD rest 0 0) (sizeOf rest) | false ↦ Short ] ]
+unfolding frontOf
+front-tests rest true whole e f = rw (e, frontOf) refl
+front-tests rest false true e f = rw (e, f, frontOf) refl
+front-tests rest false false e f = rw (e, f, frontOf) refl
+
+module _ (table : List ℕ) (at : ℕ) where
+  size-at : sizeOf (drop at table) ≡ getD table (at + 1) 0 * 256 + getD table (at + 2) 0
+  size-at = rw (getD-drop at table 1 0, getD-drop at table 2 0) refl
+
+  pub front-nothing : length table ≤ at → frontOf (drop at table) ≡ Nothing
+  unfolding frontOf
+  front-nothing h = rw (drop-of-length-le table h) refl
+
+  not-empty : at < length table → eqb (length (drop at table)) 0 ≡ false
+  not-empty h = ne-eqb (length (drop at table)) 0 (λ e. omega (arith, length-drop at table))
+
+  pub front-short : at < length table → length table - at < 3 → frontOf (drop at table) ≡ Short
+  front-short h k =
+      front-tests (drop at table) false false (not-empty h)
+      (lt-leb (3 + sizeOf (drop at table)) (length (drop at table)) (omega (arith, length-drop at table)))
+
+  pub front-cut : at < length table → length table - at - 3 < getD table (at + 1) 0 * 256 + getD table (at + 2) 0 → frontOf (drop at table) ≡ Short
+  front-cut h k =
+      front-tests (drop at table) false false (not-empty h)
+      (lt-leb (3 + sizeOf (drop at table)) (length (drop at table)) (omega (arith, length-drop at table, size-at)))
+
+  pub front-field : at < length table → 3 ≤ length table - at
+      → getD table (at + 1) 0 * 256 + getD table (at + 2) 0 ≤ length table - at - 3
+      → frontOf (drop at table) ≡ Field (getD table at 0) (getD table (at + 1) 0 * 256 + getD table (at + 2) 0)
+  front-field h j k =
+      front-tests (drop at table) false true (not-empty h)
+      (le-leb (3 + sizeOf (drop at table)) (length (drop at table)) (omega (arith, length-drop at table, size-at)))
+      ∙ rw (size-at, getD-drop at table 0 0, add-zero) refl
+
+  pub front-is : at < length table → 3 ≤ length table - at → {high low : ℕ} → high ≡ getD table (at + 1) 0
+      → low ≡ getD table (at + 2) 0
+      → high * 256 + low ≤ length table - at - 3
+      → frontOf (drop at table) ≡ Field (getD table at 0) (high * 256 + low)
+  front-is h j e f k = rw (e, f) (front-field h j (rw (e, f) at k))
+
+-- a whole field lies within the table
+abbrev Inside : List ℕ → ℕ → Front → Type 0
+Inside table at Nothing = length table ≤ at
+Inside table at Short = at < length table
+Inside table at (Field t n) = at + (3 + n) ≤ length table
+
+not-empty-drop : (at : ℕ) (table : List ℕ) → eqb (length (drop at table)) 0 ≡ false → 0 < length (drop at table)
+not-empty-drop at table e = elim-zero (length (drop at table)) (eqb-false (length (drop at table)) 0 e)
+  where
+    elim-zero : (n : ℕ) → (n ≡ 0 → ⊥) → 0 < n
+    elim-zero zero h = absurd (h refl)
+    elim-zero (suc n) h = omega arith
+
+front-inside-by : (table : List ℕ) (at : ℕ) (empty whole : Bool)
+    → eqb (length (drop at table)) 0 ≡ empty
+    → leb (3 + sizeOf (drop at table)) (length (drop at table)) ≡ whole
+    → Inside table at (frontOf (drop at table))
+front-inside-by table at true whole e f =
+    subst (λ (r : Front). Inside table at r) (sym (front-tests (drop at table) true whole e f))
+    (omega (arith, eqb-true (length (drop at table)) 0 e, length-drop at table))
+front-inside-by table at false true e f =
+    subst (λ (r : Front). Inside table at r) (sym (front-tests (drop at table) false true e f))
+    (omega (arith, leb-true (3 + sizeOf (drop at table)) (length (drop at table)) f, not-empty-drop at table e, length-drop at table))
+front-inside-by table at false false e f =
+    subst (λ (r : Front). Inside table at r) (sym (front-tests (drop at table) false false e f))
+    (omega (arith, length-drop at table, not-empty-drop at table e))
+
+pub front-inside : (table : List ℕ) (at : ℕ) {r : Front} → r ≡ frontOf (drop at table) → Inside table at r
+front-inside table at e =
+    subst (λ (r : Front). Inside table at r) (sym e) (front-inside-by table at _ _ refl refl)
+
+-- ------------------------------------------------------------------ the fields from an offset on
+
+-- any bound on the bytes left gives the same fields
+fuel : (k k′ at : ℕ) (rest : List ℕ) → length rest ≤ k → length rest ≤ k′ → fieldsFrom k at rest ≡ fieldsFrom k′ at rest
+unfolding fieldsFrom
+fuel zero zero at rest h h′ = refl
+fuel zero (suc k′) at rest h h′ = rw (eq-eqb (length rest) 0 (omega arith), fieldsFrom) refl
+fuel (suc k) zero at rest h h′ = rw (eq-eqb (length rest) 0 (omega arith), fieldsFrom) refl
+fuel (suc k) (suc k′) at rest h h′ =
+    ap
+    (λ (fs : Fields).
+    elim (eqb (length rest) 0) [
+      | true ↦ end at
+      | false ↦
+          elim (leb (3 + sizeOf rest) (length rest))
+          [ false ↦ cut at | true ↦ next at (getD rest 0 0) (take (sizeOf rest) (drop 3 rest)) fs ]
+    ])
+    (fuel k k′ (at + (3 + sizeOf rest)) (drop (3 + sizeOf rest) rest) (omega (arith, length-drop (3 + sizeOf rest) rest))
+    (omega (arith, length-drop (3 + sizeOf rest) rest)))
+
+-- the fields from an offset on, by what stands there
+abbrev pub opened : List ℕ → ℕ → Front → Fields
+opened table at Nothing = end at
+opened table at Short = cut at
+opened table at (Field t n) = next at t (take n (drop (at + 3) table)) (fieldsAt table (at + 3 + n))
+
+abbrev openedFrom : ℕ → ℕ → List ℕ → Front → Fields
+openedFrom k at rest Nothing = end at
+openedFrom k at rest Short = cut at
+openedFrom k at rest (Field t n) = next at t (take n (drop 3 rest)) (fieldsFrom k (at + (3 + n)) (drop (3 + n) rest))
+
+from-tests : (k at : ℕ) (rest : List ℕ) (empty whole : Bool) → eqb (length rest) 0 ≡ empty
+    → leb (3 + sizeOf rest) (length rest) ≡ whole
+    → fieldsFrom (suc k) at rest
+    ≡ openedFrom k at rest
+    (elim empty [ true ↦ Nothing | false ↦ elim whole [ true ↦ Field (getD rest 0 0) (sizeOf rest) | false ↦ Short ] ])
+unfolding fieldsFrom
+from-tests k at rest true whole e f = rw (e, fieldsFrom) refl
+from-tests k at rest false true e f = rw (e, f, fieldsFrom) refl
+from-tests k at rest false false e f = rw (e, f, fieldsFrom) refl
+
+from-front : (k at : ℕ) (rest : List ℕ) → fieldsFrom (suc k) at rest ≡ openedFrom k at rest (frontOf rest)
+from-front k at rest =
+    from-tests k at rest _ _ refl refl ∙ sym (ap (openedFrom k at rest) (front-tests rest _ _ refl refl))
+
+-- one more than enough
+fields-more : (table : List ℕ) (at : ℕ) → fieldsAt table at ≡ fieldsFrom (suc (length table)) at (drop at table)
+unfolding fieldsAt
+fields-more table at =
+    fuel (length table) (suc (length table)) at (drop at table) (omega (arith, length-drop at table))
+    (omega (arith, length-drop at table))
+
+opened-from : (table : List ℕ) (at : ℕ) (r : Front) → openedFrom (length table) at (drop at table) r ≡ opened table at r
+unfolding fieldsAt
+opened-from table at Nothing = refl
+opened-from table at Short = refl
+opened-from table at (Field t n) =
+    rw (drop-drop 3 at table, drop-drop (3 + n) at table, add-assoc at 3 n) refl
+
+pub fields-at : (table : List ℕ) (at : ℕ) {r : Front} → r ≡ frontOf (drop at table) → fieldsAt table at ≡ opened table at r
+fields-at table at {r} e =
+    fields-more table at ∙ from-front (length table) at (drop at table)
+    ∙ ap (openedFrom (length table) at (drop at table)) (sym e)
+    ∙ opened-from table at r
+
+pub fields-of : (table : List ℕ) → fieldsOf table ≡ fieldsAt table 0
+unfolding fieldsOf fieldsAt
+fields-of table = refl
+
+-- ------------------------------------------------------------------ the search for a spelling
+
+-- a place in a list that follows i spellings
+abbrev pub shifted : ℕ → Found → Found
+shifted i (At k) = At (i + k)
+shifted i Absent = Absent
+
+shifted-twice : (i : ℕ) (f : Found) → shifted i (shifted 1 f) ≡ shifted (i + 1) f
+shifted-twice i (At k) = ap At (sym (add-assoc i 1 k))
+shifted-twice i Absent = refl
+
+found-tests : (s : List ℕ) (vs : List (List ℕ)) (b : Bool) → ltb (indexOf s vs) (length vs) ≡ b
+    → foundIn s vs ≡ elim b [ true ↦ At (indexOf s vs) | false ↦ Absent ]
+unfolding foundIn
+found-tests s vs b e = rw (e, foundIn) refl
+
+pub found-nil : (s : List ℕ) → foundIn s [] ≡ Absent
+unfolding foundIn indexOf
+found-nil s = refl
+
+pub found-here : (s v : List ℕ) (vs : List (List ℕ)) → same v s ≡ true → foundIn s (v ∷ vs) ≡ At 0
+unfolding indexOf
+found-here s v vs e =
+    let z : indexOf s (v ∷ vs) ≡ 0 = rw (e, indexOf) refl in
+    found-tests s (v ∷ vs) true (rw z (lt-ltb 0 (suc (length vs)) (omega arith))) ∙ ap At z
+
+found-later-by : (s v : List ℕ) (vs : List (List ℕ)) (b : Bool) → indexOf s (v ∷ vs) ≡ suc (indexOf s vs)
+    → ltb (indexOf s vs) (length vs) ≡ b
+    → foundIn s (v ∷ vs) ≡ shifted 1 (foundIn s vs)
+found-later-by s v vs true z e =
+    found-tests s (v ∷ vs) true (rw (z, leb·suc-suc) e) ∙ ap At (z ∙ omega arith) ∙ sym (ap (shifted 1) (found-tests s vs true e))
+found-later-by s v vs false z e =
+    found-tests s (v ∷ vs) false (rw (z, leb·suc-suc) e) ∙ sym (ap (shifted 1) (found-tests s vs false e))
+
+pub found-later : (s v : List ℕ) (vs : List (List ℕ)) → same v s ≡ false → foundIn s (v ∷ vs) ≡ shifted 1 (foundIn s vs)
+unfolding indexOf
+found-later s v vs e = found-later-by s v vs _ (rw (e, indexOf) refl) refl
+
+-- ------------------------------------------------------------------ the fields of one tag at the front
+
+-- no field of the tag stands here
+abbrev pub Stops : ℕ → Front → Type 0
+Stops tag Nothing = Unit {0}
+Stops tag Short = Unit {0}
+Stops tag (Field t n) = t ≡ tag → ⊥
+
+module _ (table : List ℕ) (at tag : ℕ) where
+  leading-stop : (r : Front) → Stops tag r → leading tag (opened table at r) ≡ []
+  unfolding leading
+  leading-stop Nothing h = refl
+  leading-stop Short h = refl
+  leading-stop (Field t n) h = rw (ne-eqb t tag h, leading) refl
+
+  after-stop : (r : Front) → Stops tag r → afterLeading tag (opened table at r) ≡ opened table at r
+  unfolding afterLeading
+  after-stop Nothing h = refl
+  after-stop Short h = refl
+  after-stop (Field t n) h = rw (ne-eqb t tag h, afterLeading) refl
+
+  leading-goes : (t : ℕ) (v : List ℕ) (fs : Fields) → t ≡ tag → leading tag (next at t v fs) ≡ v ∷ leading tag fs
+  unfolding leading
+  leading-goes t v fs e = rw (eq-eqb t tag e, leading) refl
+
+  after-goes : (t : ℕ) (v : List ℕ) (fs : Fields) → t ≡ tag → afterLeading tag (next at t v fs) ≡ afterLeading tag fs
+  unfolding afterLeading
+  after-goes t v fs e = rw (eq-eqb t tag e, afterLeading) refl
+
+-- ------------------------------------------------------------------ the loops
+
+-- i fields of the tag do not have the spelling; those from `at` on give what is asked
+pub record Searching (table s : List ℕ) (tag most start at i : ℕ) : Type 0 where
+  pub small : i ≤ most
+  pub rest :
+      shifted i (foundIn s (take (most - i) (leading tag (fieldsAt table at))))
+      ≡ foundIn s (take most (leading tag (fieldsAt table start)))
+
+shifted-none : (f : Found) → shifted 0 f ≡ f
+shifted-none (At k) = ap At (zero-add k)
+shifted-none Absent = refl
+
+pub searching-start : (table s : List ℕ) (tag most start : ℕ) → Searching table s tag most start start 0
+searching-start table s tag most start = record { small = omega arith; rest = rw (sub-zero, shifted-none) refl }
+
+module _ {table s : List ℕ} {tag most start at i : ℕ} (c : Searching table s tag most start at i) where
+  -- with the spellings that are left
+  rest-is : (vs : List (List ℕ)) → take (most - i) (leading tag (fieldsAt table at)) ≡ vs
+      → shifted i (foundIn s vs) ≡ foundIn s (take most (leading tag (fieldsAt table start)))
+  rest-is vs e = ap (λ (l : List (List ℕ)). shifted i (foundIn s l)) (sym e) ∙ c .rest
+
+  none-left : take (most - i) (leading tag (fieldsAt table at)) ≡ []
+      → Absent ≡ foundIn s (take most (leading tag (fieldsAt table start)))
+  none-left e = sym (ap (shifted i) (found-nil s)) ∙ rest-is [] e
+
+  pub searching-out : (r : Front) → r ≡ frontOf (drop at table) → Stops tag r
+      → Absent ≡ foundIn s (take most (leading tag (fieldsAt table start)))
+  searching-out r e h =
+      none-left
+      (ap (λ (fs : Fields). take (most - i) (leading tag fs)) (fields-at table at e)
+      ∙ ap (take (most - i)) (leading-stop table at tag r h)
+      ∙ take-nil (most - i))
+
+  pub searching-end : most ≤ i → Absent ≡ foundIn s (take most (leading tag (fieldsAt table start)))
+  searching-end h =
+      let z : most - i ≡ 0 = omega arith in
+      none-left (ap (λ (k : ℕ). take k (leading tag (fieldsAt table at))) z)
+
+  module _ (h : i < most) {t n : ℕ} (e : Field t n ≡ frontOf (drop at table)) (tagged : t ≡ tag) where
+    one-left : take (most - i) (leading tag (fieldsAt table at))
+        ≡ take n (drop (at + 3) table) ∷ take (most - (i + 1)) (leading tag (fieldsAt table (at + 3 + n)))
+    one-left =
+        let z : most - i ≡ suc (most - (i + 1)) = omega arith in
+        ap (λ (fs : Fields). take (most - i) (leading tag fs)) (fields-at table at e)
+        ∙ ap (take (most - i)) (leading-goes table at tag t _ _ tagged)
+        ∙ ap (λ (k : ℕ). take k (take n (drop (at + 3) table) ∷ leading tag (fieldsAt table (at + 3 + n)))) z
+
+    -- the value as the code has it, from a start to an end
+    value-is : take (at + 3 + n - (at + 3)) (drop (at + 3) table) ≡ take n (drop (at + 3) table)
+    value-is =
+        let z : at + 3 + n - (at + 3) ≡ n = omega arith in
+        ap (λ (k : ℕ). take k (drop (at + 3) table)) z
+
+    pub searching-found : same (take (at + 3 + n - (at + 3)) (drop (at + 3) table)) s ≡ true
+        → At i ≡ foundIn s (take most (leading tag (fieldsAt table start)))
+    searching-found q =
+        sym (ap (shifted i) (found-here s _ _ (rw value-is at q)) ∙ ap At (add-zero i)) ∙ rest-is _ one-left
+
+    pub searching-next : same (take (at + 3 + n - (at + 3)) (drop (at + 3) table)) s ≡ false
+        → Searching table s tag most start (at + 3 + n) (i + 1)
+    searching-next q =
+        record {
+          small = omega arith;
+          rest =
+              sym
+              (ap (shifted i) (found-later s _ _ (rw value-is at q))
+              ∙ shifted-twice i (foundIn s (take (most - (i + 1)) (leading tag (fieldsAt table (at + 3 + n))))))
+              ∙ rest-is _ one-left;
+        }
+
+-- the fields of the tag before `at` are passed
+pub record Passing (table : List ℕ) (tag at : ℕ) : Type 0 where
+  pub rest : afterLeading tag (fieldsAt table at) ≡ afterLeading tag (fieldsAt table 0)
+
+module _ {table : List ℕ} {tag at : ℕ} (c : Passing table tag at) where
+  pub passing-out : (r : Front) → r ≡ frontOf (drop at table) → Stops tag r
+      → fieldsAt table at ≡ afterLeading tag (fieldsAt table 0)
+  passing-out r e h =
+      fields-at table at e ∙ sym (after-stop table at tag r h) ∙ sym (ap (afterLeading tag) (fields-at table at e)) ∙ c .rest
+
+  pub passing-next : {t n : ℕ} → Field t n ≡ frontOf (drop at table) → t ≡ tag → Passing table tag (at + (3 + n))
+  passing-next {t} {n} e h =
+      record {
+        rest =
+            ap (λ (k : ℕ). afterLeading tag (fieldsAt table k)) (sym (add-assoc at 3 n))
+            ∙ sym (ap (afterLeading tag) (fields-at table at e) ∙ after-goes table at tag t _ _ h)
+            ∙ c .rest;
+      }
+
+-- ------------------------------------------------------------------ the lexicon of a table
+
+pub keywords-at : (table : List ℕ) → lexiconOf table .keywords ≡ take 62 (leading 1 (fieldsAt table 0))
+unfolding lexiconOf
+keywords-at table = ap (λ (fs : Fields). take 62 (leading 1 fs)) (fields-of table)
+
+pub outsides-at : (table : List ℕ) (at : ℕ) → fieldsAt table at ≡ afterLeading 1 (fieldsAt table 0)
+    → lexiconOf table .outsides ≡ take 64 (leading 2 (fieldsAt table at))
+unfolding lexiconOf
+outsides-at table at e =
+    ap (λ (fs : Fields). take 64 (leading 2 (afterLeading 1 fs))) (fields-of table)
+    ∙ ap (λ (fs : Fields). take 64 (leading 2 fs)) (sym e)
+
+pub few-keywords : (table : List ℕ) → length (lexiconOf table .keywords) ≤ 62
+unfolding lexiconOf
+few-keywords table = omega (arith, length-take 62 (leading 1 (fieldsOf table)))
+
+pub few-outsides : (table : List ℕ) → length (lexiconOf table .outsides) ≤ 64
+unfolding lexiconOf
+few-outsides table = omega (arith, length-take 64 (leading 2 (afterLeading 1 (fieldsOf table))))
+
+-- a place that is found lies in the list
+abbrev pub Within : List (List ℕ) → Found → Type 0
+Within vs (At k) = k < length vs
+Within vs Absent = Unit {0}
+
+found-within-by : (s : List ℕ) (vs : List (List ℕ)) (b : Bool) → ltb (indexOf s vs) (length vs) ≡ b → Within vs (foundIn s vs)
+found-within-by s vs true e =
+    subst (λ (f : Found). Within vs f) (sym (found-tests s vs true e)) (ltb-true (indexOf s vs) (length vs) e)
+found-within-by s vs false e = subst (λ (f : Found). Within vs f) (sym (found-tests s vs false e)) tt
+
+pub found-within : (s : List ℕ) (vs : List (List ℕ)) {f : Found} → f ≡ foundIn s vs → Within vs f
+found-within s vs e = subst (λ (f : Found). Within vs f) (sym e) (found-within-by s vs _ refl)

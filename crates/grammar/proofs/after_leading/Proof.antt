@@ -1,0 +1,75 @@
+-- `after_leading`: the fields that are left give what all of them give.
+use Prim.Native.Nat.{_-_}
+use mathlib.Core.Path.{refl, sym, _∙_}
+use native.Mathlib.Omega.{arith}
+use borrow.Author.Needs.{needs}
+use lib.ListN.{length}
+use Rattle.grammar.specs.declared.Front.the-variants.{Nothing, Short, Field}
+use Rattle.grammar.proofs.LookupLaws as laws
+use Rattle.grammar.proofs.after_leading.Statement.{statement}
+use Rattle.grammar.proofs.after_leading.Tie as tie
+
+abbrev Inv-loop : tie.InvT-loop
+Inv-loop table tag at₀ at = laws.Passing table tag at
+
+abbrev μ-loop : tie.MeasureT-loop
+μ-loop table tag at₀ at = length table - at
+
+loop-holds : tie.Need-loop-holds Inv-loop μ-loop
+loop-holds c = record { rest = refl }
+
+front-at-requires : tie.Need-front-at-requires Inv-loop μ-loop
+front-at-requires c κs = search needs
+
+enum-told : tie.Need-enum-told Inv-loop μ-loop
+enum-told c = search needs
+
+returns : tie.Need-returns Inv-loop μ-loop
+returns c = laws.passing-out (c .before .before .before .before .loop .inv) Nothing (sym (c .enum-told .given .1) ∙ c .before .before .front-at .ensures) tt
+
+enum-told-2 : tie.Need-enum-told-2 Inv-loop μ-loop
+enum-told-2 c = search needs
+
+returns-2 : tie.Need-returns-2 Inv-loop μ-loop
+returns-2 c = laws.passing-out (c .before .before .before .before .loop .inv) Short (sym (c .enum-told2 .given .1) ∙ c .before .before .front-at .ensures) tt
+
+enum-known-front : tie.Need-enum-known-front Inv-loop μ-loop
+enum-known-front c = search needs
+
+returns-3 : tie.Need-returns-3 Inv-loop μ-loop
+returns-3 c = laws.passing-out (c .before .before .before .before .before .before .loop .inv) (Field _ _) (sym (c .before .before .front .given .1) ∙ c .before .before .before .before .front-at .ensures) (c .if1 .taken)
+
+add-at : tie.Need-add-at Inv-loop μ-loop
+add-at c = omega (arith, laws.front-inside (c .before .before .before .before .before .before .before .before .args .table .now) (c .before .before .before .before .before .before .loop .at) (sym (c .before .before .front .given .1) ∙ c .before .before .before .before .front-at .ensures))
+
+add-at-2 : tie.Need-add-at-2 Inv-loop μ-loop
+add-at-2 c = omega (arith, laws.front-inside (c .before .before .before .before .before .before .before .before .args .table .now) (c .before .before .before .before .before .before .loop .at) (sym (c .before .before .front .given .1) ∙ c .before .before .before .before .front-at .ensures))
+
+loop-less : tie.Need-loop-less Inv-loop μ-loop
+loop-less c = search needs
+
+loop-again : tie.Need-loop-again Inv-loop μ-loop
+loop-again c = laws.passing-next (c .before .before .before .before .before .before .loop .inv) (sym (c .before .before .front .given .1) ∙ c .before .before .before .before .front-at .ensures) (c .if1 .left)
+
+returns-4 : tie.Need-returns-4 Inv-loop μ-loop
+returns-4 c = laws.passing-out (c .before .loop .inv) Nothing (sym (laws.front-nothing _ _ (c .loop-test .left))) tt
+
+pub after-leading-spec : {M : Type 1} → statement M
+after-leading-spec =
+    tie.close
+    (tie.spec
+    Inv-loop
+    μ-loop
+    loop-holds
+    front-at-requires
+    enum-told
+    returns
+    enum-told-2
+    returns-2
+    enum-known-front
+    returns-3
+    add-at
+    add-at-2
+    loop-less
+    loop-again
+    returns-4)

@@ -1,0 +1,98 @@
+-- `find_leading`: the fields that are left give what all of them give.
+use Prim.Native.Nat.{_-_}
+use mathlib.Core.Path.{sym, _∙_}
+use native.Mathlib.Omega.{arith}
+use borrow.Author.Needs.{needs}
+use Rattle.grammar.specs.declared.Front.the-variants.{Nothing, Short, Field}
+use Rattle.grammar.proofs.LookupLaws as laws
+use Rattle.grammar.proofs.find_leading.Statement.{statement}
+use Rattle.grammar.proofs.find_leading.Tie as tie
+
+abbrev Inv-loop : tie.InvT-loop
+Inv-loop table start tag most s at₀ i₀ at i = laws.Searching table s tag most start at i
+
+abbrev μ-loop : tie.MeasureT-loop
+μ-loop table start tag most s at₀ i₀ at i = most - i
+
+loop-holds : tie.Need-loop-holds Inv-loop μ-loop
+loop-holds c = laws.searching-start _ _ _ _ _
+
+front-at-requires : tie.Need-front-at-requires Inv-loop μ-loop
+front-at-requires c κs = search needs
+
+enum-told : tie.Need-enum-told Inv-loop μ-loop
+enum-told c = search needs
+
+returns : tie.Need-returns Inv-loop μ-loop
+returns c = laws.searching-out (c .before .before .before .before .loop .inv) Nothing (sym (c .enum-told .given .1) ∙ c .before .before .front-at .ensures) tt
+
+enum-told-2 : tie.Need-enum-told-2 Inv-loop μ-loop
+enum-told-2 c = search needs
+
+returns-2 : tie.Need-returns-2 Inv-loop μ-loop
+returns-2 c = laws.searching-out (c .before .before .before .before .loop .inv) Short (sym (c .enum-told2 .given .1) ∙ c .before .before .front-at .ensures) tt
+
+enum-known-front : tie.Need-enum-known-front Inv-loop μ-loop
+enum-known-front c = search needs
+
+returns-3 : tie.Need-returns-3 Inv-loop μ-loop
+returns-3 c = laws.searching-out (c .before .before .before .before .before .before .loop .inv) (Field _ _) (sym (c .before .before .front .given .1) ∙ c .before .before .before .before .front-at .ensures) (c .if1 .taken)
+
+add-from : tie.Need-add-from Inv-loop μ-loop
+add-from c = omega (arith, laws.front-inside (c .before .before .before .before .before .before .before .before .before .args .table .now) (c .before .before .before .before .before .before .loop .at) (sym (c .before .before .front .given .1) ∙ c .before .before .before .before .front-at .ensures))
+
+add-to : tie.Need-add-to Inv-loop μ-loop
+add-to c = omega (arith, laws.front-inside (c .before .before .before .before .before .before .before .before .before .args .table .now) (c .before .before .before .before .before .before .loop .at) (sym (c .before .before .front .given .1) ∙ c .before .before .before .before .front-at .ensures))
+
+sub-equal : tie.Need-sub-equal Inv-loop μ-loop
+sub-equal c = search needs
+
+part-equal-start : tie.Need-part-equal-start Inv-loop μ-loop
+part-equal-start c = search needs
+
+part-equal-end : tie.Need-part-equal-end Inv-loop μ-loop
+part-equal-end c = omega (arith, laws.front-inside (c .before .before .before .before .before .before .before .before .before .args .table .now) (c .before .before .before .before .before .before .loop .at) (sym (c .before .before .front .given .1) ∙ c .before .before .before .before .front-at .ensures))
+
+equal-requires : tie.Need-equal-requires Inv-loop μ-loop
+equal-requires c κs = search needs
+
+returns-4 : tie.Need-returns-4 Inv-loop μ-loop
+returns-4 c = laws.searching-found (c .before .before .before .before .before .before .before .before .before .loop .inv) (c .before .before .before .before .before .before .before .before .loop-test .taken) (sym (c .before .before .before .before .before .front .given .1) ∙ c .before .before .before .before .before .before .before .front-at .ensures) (c .before .before .before .if1 .left) (sym (c .before .equal .ensures) ∙ c .if2 .taken)
+
+add-i : tie.Need-add-i Inv-loop μ-loop
+add-i c = search needs
+
+loop-less : tie.Need-loop-less Inv-loop μ-loop
+loop-less c = search needs
+
+loop-again : tie.Need-loop-again Inv-loop μ-loop
+loop-again c = laws.searching-next (c .before .before .before .before .before .before .before .before .before .loop .inv) (c .before .before .before .before .before .before .before .before .loop-test .taken) (sym (c .before .before .before .before .before .front .given .1) ∙ c .before .before .before .before .before .before .before .front-at .ensures) (c .before .before .before .if1 .left) (sym (c .before .equal .ensures) ∙ c .if2 .left)
+
+returns-5 : tie.Need-returns-5 Inv-loop μ-loop
+returns-5 c = laws.searching-end (c .before .loop .inv) (c .loop-test .left)
+
+pub find-leading-spec : {M : Type 1} → statement M
+find-leading-spec =
+    tie.close
+    (tie.spec
+    Inv-loop
+    μ-loop
+    loop-holds
+    front-at-requires
+    enum-told
+    returns
+    enum-told-2
+    returns-2
+    enum-known-front
+    returns-3
+    add-from
+    add-to
+    sub-equal
+    part-equal-start
+    part-equal-end
+    equal-requires
+    returns-4
+    add-i
+    loop-less
+    loop-again
+    returns-5)

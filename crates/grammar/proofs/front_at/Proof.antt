@@ -1,0 +1,70 @@
+-- `front_at`: each way out is a law of what stands at an offset.
+use Prim.Native.Nat.{_+_}
+use mathlib.Core.Path.{sym}
+use native.Mathlib.Omega.{arith}
+use borrow.Author.Needs.{needs}
+use Rattle.grammar.proofs.LookupLaws as laws
+use Rattle.grammar.proofs.front_at.Statement.{statement}
+use Rattle.grammar.proofs.front_at.Tie as tie
+
+returns : tie.Need-returns
+returns c = sym (laws.front-nothing _ _ (c .if1 .taken))
+
+sub-left : tie.Need-sub-left
+sub-left c = search needs
+
+returns-2 : tie.Need-returns-2
+returns-2 c = sym (laws.front-short _ _ (c .before .if1 .left) (c .if2 .taken))
+
+add-wide : tie.Need-add-wide
+add-wide c = search needs
+
+shared-slice-read-wide : tie.Need-shared-slice-read-wide
+shared-slice-read-wide c = search needs
+
+wide-requires : tie.Need-wide-requires
+wide-requires c κs = search needs
+
+mul-size : tie.Need-mul-size
+mul-size c = omega (arith, c .wide .ensures, c .before .shared-slice-known2 .given (c .before .before .before .before .before .args .at + 1))
+
+add-wide-2 : tie.Need-add-wide-2
+add-wide-2 c = search needs
+
+shared-slice-read-wide-2 : tie.Need-shared-slice-read-wide-2
+shared-slice-read-wide-2 c = search needs
+
+wide-requires-2 : tie.Need-wide-requires-2
+wide-requires-2 c κs = search needs
+
+add-size : tie.Need-add-size
+add-size c = omega
+    (arith, c .wide2 .ensures, c .before .before .wide .ensures, c .before .shared-slice-known3 .given (c .before .before .before .before .before .before .before .args .at + 1), c .before .shared-slice-known3 .given (c .before .before .before .before .before .before .before .args .at + 2))
+
+returns-3 : tie.Need-returns-3
+returns-3 c = sym (laws.front-cut (c .before .before .before .before .before .before .before .before .args .table .now) (c .before .before .before .before .before .before .before .before .args .at) (c .before .before .before .before .before .before .if1 .left) (omega (arith, c .before .wide2 .ensures, c .before .before .before .wide .ensures, c .if3 .taken)))
+
+shared-slice-read-t14 : tie.Need-shared-slice-read-t14
+shared-slice-read-t14 c = search needs
+
+returns-4 : tie.Need-returns-4
+returns-4 c = sym (laws.front-is (c .before .before .before .before .before .before .before .before .before .args .table .now) (c .before .before .before .before .before .before .before .before .before .args .at) (c .before .before .before .before .before .before .before .if1 .left) (c .before .before .before .before .before .before .if2 .left) (c .before .before .before .before .wide .ensures) (c .before .before .wide2 .ensures) (c .before .if3 .left))
+
+pub front-at-spec : {M : Type 1} → statement M
+front-at-spec =
+    tie.close
+    (tie.spec
+    returns
+    sub-left
+    returns-2
+    add-wide
+    shared-slice-read-wide
+    wide-requires
+    mul-size
+    add-wide-2
+    shared-slice-read-wide-2
+    wide-requires-2
+    add-size
+    returns-3
+    shared-slice-read-t14
+    returns-4)
