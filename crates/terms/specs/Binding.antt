@@ -1,11 +1,11 @@
 -- Whose name is whose: the binder by origin, in a term, and the binder by nesting, in a text.
 -- Document 01, "Whose name is whose". A place is a constructor's number from the left, from 0, in the term and in the text alike.
-use Prim.Native.Nat.{ℕ, zero, suc, _+_}
+use Prim.Native.Nat.{ℕ, suc, _+_}
 use mathlib.Core.Bool.{Bool, true, false, _&&_}
-use mathlib.Core.List.{List, [], _∷_, _++_}
+use mathlib.Core.List.{List, [], _∷_, _++_, map}
 use lib.Dec.{eqb}
 use Rattle.spellings.specs.Bytes.{same, isWord}
-use Rattle.terms.specs.Term.{Name, word, fresh, outside, Term, Fields, variable, function, apply, rcd, dot, number, nil, cons, size, sizeFields}
+use Rattle.terms.specs.Term.{Name, word, fresh, outside, Term, Fields, variable, function, apply, rcd, dot, number, nil, cons, size}
 use Rattle.terms.specs.Rename.{belongs}
 use Rattle.terms.specs.Print.{Tree, Trees, leaf, node, none, more, mkTermVar, mkTermFun}
 
@@ -34,19 +34,45 @@ unfoldable pub ownerOf : List Binder → Name → Owner
 ownerOf [] v = unbound
 ownerOf (b ∷ around) v = elim (belongs v (b .name)) [ true ↦ boundAt (b .place) | false ↦ ownerOf around v ]
 
--- all variables of a term from the left, each with its binder by origin; the term's own place is p
-unfoldable mutual
-  pub origins : List Binder → ℕ → Term Name → List Use
-  origins around p (variable v) = used p (ownerOf around v) ∷ []
-  origins around p (function b t) = origins (record { name = b; place = p } ∷ around) (suc p) t
-  origins around p (apply t u) = origins around (suc p) t ++ origins around (suc p + size t) u
-  origins around p (rcd f) = originsFields around (suc p) f
-  origins around p (dot t l) = origins around (suc p) t
-  origins around p (number n) = []
+-- a variable of a term: its place, its name and its binder by origin
+pub record Occurrence : Type 0 where
+  pub place : ℕ
+  pub name : Name
+  pub owner : Owner
 
-  pub originsFields : List Binder → ℕ → Fields Name → List Use
-  originsFields around p nil = []
-  originsFields around p (cons l t f) = origins around (suc p) t ++ originsFields around (suc p + size t) f
+-- all variables of a term from the left; the term's own place is p
+unfoldable mutual
+  pub occurrences : List Binder → ℕ → Term Name → List Occurrence
+  occurrences around p (variable v) = record { place = p; name = v; owner = ownerOf around v } ∷ []
+  occurrences around p (function b t) = occurrences (record { name = b; place = p } ∷ around) (suc p) t
+  occurrences around p (apply t u) = occurrences around (suc p) t ++ occurrences around (suc p + size t) u
+  occurrences around p (rcd f) = occurrencesFields around (suc p) f
+  occurrences around p (dot t l) = occurrences around (suc p) t
+  occurrences around p (number n) = []
+
+  pub occurrencesFields : List Binder → ℕ → Fields Name → List Occurrence
+  occurrencesFields around p nil = []
+  occurrencesFields around p (cons l t f) = occurrences around (suc p) t ++ occurrencesFields around (suc p + size t) f
+
+-- all variables of a term from the left, each with its binder by origin
+abbrev pub useOf : Occurrence → Use
+useOf o = used (o .place) (o .owner)
+
+abbrev pub origins : List Binder → ℕ → Term Name → List Use
+origins around p t = map useOf (occurrences around p t)
+
+-- ------------------------------------------------------------------ fresh variables under no binder made with them
+
+abbrev pub isLoose : Name → Owner → Bool
+isLoose (word s) o = false
+isLoose (fresh n) unbound = true
+isLoose (fresh n) (boundAt p) = false
+isLoose (outside s) o = false
+
+-- their places from the left
+unfoldable pub loosePlaces : List Occurrence → List ℕ
+loosePlaces [] = []
+loosePlaces (o ∷ os) = elim (isLoose (o .name) (o .owner)) [ true ↦ o .place ∷ loosePlaces os | false ↦ loosePlaces os ]
 
 -- ------------------------------------------------------------------ by nesting
 
@@ -69,6 +95,16 @@ unfoldable mutual
   pub nodesAll : Trees → ℕ
   nodesAll none = 0
   nodesAll (more t ts) = nodes t + nodesAll ts
+
+-- the names of the constructors of a tree from the left
+unfoldable mutual
+  pub constructorsIn : Tree → List (List ℕ)
+  constructorsIn (leaf s) = []
+  constructorsIn (node s ts) = s ∷ constructorsInAll ts
+
+  pub constructorsInAll : Trees → List (List ℕ)
+  constructorsInAll none = []
+  constructorsInAll (more t ts) = constructorsIn t ++ constructorsInAll ts
 
 -- the first argument, if it is a name
 abbrev pub leafBytes : Tree → List ℕ

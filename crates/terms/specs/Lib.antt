@@ -2,4 +2,5 @@ pub mod Term
 pub mod Rename
 pub mod Print
 pub mod Binding
+pub mod Parts
 pub mod Rows

@@ -1,0 +1,5 @@
+pub mod Spellings
+pub mod Constructors
+pub mod WhoseName
+pub mod ReadBack
+pub mod Statements

@@ -1,0 +1,89 @@
+-- What a term holds, from the left: its constructors, variables and binders; and what is left of it without its names.
+use Prim.Native.Nat.{ℕ, suc}
+use mathlib.Core.Bool.{Bool, true, false, _||_}
+use mathlib.Core.List.{List, [], _∷_, _++_}
+use Rattle.terms.specs.Term.{Name, word, fresh, outside, Term, Fields, variable, function, apply, rcd, dot, number, nil, cons}
+use Rattle.terms.specs.Rename.{isOutside, newName, written}
+use Rattle.terms.specs.Print.{mkTermVar, mkTermFun, mkTermApp, mkTermRcd, mkTermDot, mkFieldNil, mkFieldCons, mkTermNum}
+
+-- the names of the constructors
+unfoldable mutual
+  pub constructors : {N : Type 0} → Term N → List (List ℕ)
+  constructors (variable x) = mkTermVar ∷ []
+  constructors (function x t) = mkTermFun ∷ constructors t
+  constructors (apply t u) = mkTermApp ∷ constructors t ++ constructors u
+  constructors (rcd f) = mkTermRcd ∷ constructorsFields f
+  constructors (dot t l) = mkTermDot ∷ constructors t
+  constructors (number n) = mkTermNum ∷ []
+
+  pub constructorsFields : {N : Type 0} → Fields N → List (List ℕ)
+  constructorsFields nil = mkFieldNil ∷ []
+  constructorsFields (cons l t f) = mkFieldCons ∷ constructors t ++ constructorsFields f
+
+-- the term with every name of a binder or a variable forgotten: its constructors, labels and numbers
+unfoldable mutual
+  pub shape : {N : Type 0} → Term N → Term (Unit {0})
+  shape (variable x) = variable tt
+  shape (function x t) = function tt (shape t)
+  shape (apply t u) = apply (shape t) (shape u)
+  shape (rcd f) = rcd (shapeFields f)
+  shape (dot t l) = dot (shape t) l
+  shape (number n) = number n
+
+  pub shapeFields : {N : Type 0} → Fields N → Fields (Unit {0})
+  shapeFields nil = nil
+  shapeFields (cons l t f) = cons l (shape t) (shapeFields f)
+
+-- the names of the variables
+unfoldable mutual
+  pub variables : {N : Type 0} → Term N → List N
+  variables (variable x) = x ∷ []
+  variables (function x t) = variables t
+  variables (apply t u) = variables t ++ variables u
+  variables (rcd f) = variablesFields f
+  variables (dot t l) = variables t
+  variables (number n) = []
+
+  pub variablesFields : {N : Type 0} → Fields N → List N
+  variablesFields nil = []
+  variablesFields (cons l t f) = variables t ++ variablesFields f
+
+-- a binder, and the variables that stand in its body
+pub record Scope (N : Type 0) : Type 0 where
+  pub binder : N
+  pub inside : List N
+
+-- the binders
+unfoldable mutual
+  pub scopes : {N : Type 0} → Term N → List (Scope N)
+  scopes (variable x) = []
+  scopes (function x t) = record { binder = x; inside = variables t } ∷ scopes t
+  scopes (apply t u) = scopes t ++ scopes u
+  scopes (rcd f) = scopesFields f
+  scopes (dot t l) = scopes t
+  scopes (number n) = []
+
+  pub scopesFields : {N : Type 0} → Fields N → List (Scope N)
+  scopesFields nil = []
+  scopesFields (cons l t f) = scopes t ++ scopesFields f
+
+-- ------------------------------------------------------------------ the names that binders are printed with
+
+-- some name of a list is the outside name spelled s
+unfoldable pub someOutside : List ℕ → List Name → Bool
+someOutside s [] = false
+someOutside s (v ∷ vs) = isOutside s v || someOutside s vs
+
+-- Whether a binder gets a new name: a fresh one always, a formula's if its body holds an outside name of its spelling as a variable.
+-- No binder is an outside name in a term of the expander.
+abbrev pub getsNewName : Name → List Name → Bool
+getsNewName (word s) vs = someOutside s vs
+getsNewName (fresh n) vs = true
+getsNewName (outside s) vs = true
+
+-- the names of binders from the left, when c is the number of the next new name: new ones in order, others as written
+unfoldable pub numberedFrom : ℕ → List (Scope Name) → List (List ℕ)
+numberedFrom c [] = []
+numberedFrom c (b ∷ bs) =
+    elim (getsNewName (b .binder) (b .inside))
+    [ true ↦ newName c ∷ numberedFrom (suc c) bs | false ↦ written (b .binder) ∷ numberedFrom c bs ]
