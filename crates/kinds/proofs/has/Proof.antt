@@ -1,0 +1,23 @@
+-- `has`: the digit at k, by a shift and a mask.
+use Prim.Native.Nat.{_/_, _^_}
+use mathlib.Core.Path.{sym, ap}
+use lib.Bits.{and-mask}
+use lib.Dec.{eqb}
+use Rattle.kinds.specs.Kinds.{hasKind}
+use Rattle.kinds.specs.KindsLaws.{has-above}
+use borrow.Author.Needs.{needs}
+use Rattle.kinds.proofs.has.Statement.{statement}
+use Rattle.kinds.proofs.has.Tie as tie
+
+shr-result : tie.Need-shr-result
+shr-result c = search needs
+
+returns : tie.Need-returns
+unfolding hasKind
+returns c = ap (λ n. eqb n 1) (and-mask (c .before .args .m / 2 ^ c .before .args .k) 1)
+
+returns-2 : tie.Need-returns-2
+returns-2 c = sym (has-above 64 (c .before .args .m) (c .before .args .k) (search needs) (c .if1 .left))
+
+pub has-spec : {M : Type 1} → statement M
+has-spec = tie.close (tie.spec shr-result returns returns-2)
