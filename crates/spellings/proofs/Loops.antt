@@ -1,18 +1,17 @@
 -- The loops of this crate: what holds at each turn, as a record, and what a turn, an early return and the end make of it.
-use Prim.Native.Nat.{ℕ, zero, suc, _+_, _-_, _*_, _<_, _≤_}
+use Prim.Native.Nat.{ℕ, suc, _+_, _-_, _*_, _<_, _≤_}
 use mathlib.Core.Path.{_≡_, refl, sym, ap, _∙_}
 use mathlib.Core.Bool.{Bool, true, false, _&&_}
 use mathlib.Core.List.{List, [], _∷_}
 use native.Mathlib.Numerals.{add-one}
 use native.Mathlib.Omega.{arith}
-use lib.Dec.{eqb, leb}
+use lib.Dec.{eqb}
 use lib.ListN.{length, getD, drop, drop-of-length-le}
 use lib.Seq.{drop-cons}
 use borrow.Author.Tests.{le-leb, lt-leb, eq-eqb, ne-eqb}
 use Rattle.spellings.specs.Bytes.{run, same, largest, valueFrom, valueOf}
 use Rattle.spellings.specs.BytesLaws.{run-taken, run-left}
 use Rattle.spellings.specs.Numbers.{limited, numberOf}
-use Rattle.spellings.specs.declared.Number.{Number}
 use Rattle.spellings.specs.declared.Number.the-variants.{Value, TooLarge}
 
 -- what is left of a list at an index within it
