@@ -1,5 +1,9 @@
 pub mod Spellings
 pub mod Constructors
-pub mod WhoseName
 pub mod ReadBack
+pub mod Origin
+pub mod WhoseName
+pub mod Loose
+pub mod NewNames
+pub mod TextLength
 pub mod Statements

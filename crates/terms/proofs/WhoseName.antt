@@ -47,19 +47,19 @@ pub data Numbered : ℕ → List Entry → Type 0 where
 -- ------------------------------------------------------------------ one step of each search
 
 module _ (e : Entry) (es : List Entry) (v : Name) where
-  owner-here : belongs v (e .origin) ≡ true → ownerOf (map binderOf (e ∷ es)) v ≡ boundAt (e .place)
+  pub owner-here : belongs v (e .origin) ≡ true → ownerOf (map binderOf (e ∷ es)) v ≡ boundAt (e .place)
   unfolding ownerOf
   owner-here h = rw (h, ownerOf) refl
 
-  owner-further : belongs v (e .origin) ≡ false → ownerOf (map binderOf (e ∷ es)) v ≡ ownerOf (map binderOf es) v
+  pub owner-further : belongs v (e .origin) ≡ false → ownerOf (map binderOf (e ∷ es)) v ≡ ownerOf (map binderOf es) v
   unfolding ownerOf
   owner-further h = rw (h, ownerOf) refl
 
-  shown-here : belongs v (e .origin) ≡ true → shownAs (map printedOf (e ∷ es)) v ≡ e .shown
+  pub shown-here : belongs v (e .origin) ≡ true → shownAs (map printedOf (e ∷ es)) v ≡ e .shown
   unfolding shownAs
   shown-here h = rw (h, shownAs) refl
 
-  shown-further : belongs v (e .origin) ≡ false → shownAs (map printedOf (e ∷ es)) v ≡ shownAs (map printedOf es) v
+  pub shown-further : belongs v (e .origin) ≡ false → shownAs (map printedOf (e ∷ es)) v ≡ shownAs (map printedOf es) v
   unfolding shownAs
   shown-further h = rw (h, shownAs) refl
 

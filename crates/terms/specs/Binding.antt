@@ -6,7 +6,7 @@ use mathlib.Core.List.{List, [], _∷_, _++_, map}
 use lib.Dec.{eqb}
 use Rattle.spellings.specs.Bytes.{same, isWord}
 use Rattle.terms.specs.Term.{Name, word, fresh, outside, Term, Fields, variable, function, apply, rcd, dot, number, nil, cons, size}
-use Rattle.terms.specs.Rename.{belongs}
+use Rattle.terms.specs.Rename.{belongs, Walk, loose, reached}
 use Rattle.terms.specs.Print.{Tree, Trees, leaf, node, none, more, mkTermVar, mkTermFun}
 
 -- the binder that a variable belongs to: the one at a place, or none
@@ -24,6 +24,12 @@ used p o = record { place = p; owner = o }
 
 -- ------------------------------------------------------------------ by origin
 
+-- Whose name is whose, by rules: a formula's variable calls for a formula binder of its spelling as written, a fresh one for a binder
+-- made with it, an outside one for none.
+pub data Calls : Name → Name → Type 0 where
+  sameSpelling : (s : List ℕ) → Calls (word s) (word s)
+  sameFresh : (n : ℕ) → Calls (fresh n) (fresh n)
+
 -- a binder of a term: its name and its place
 pub record Binder : Type 0 where
   pub name : Name
@@ -40,10 +46,13 @@ pub record Occurrence : Type 0 where
   pub name : Name
   pub owner : Owner
 
+abbrev pub occurrence : List Binder → ℕ → Name → Occurrence
+occurrence around p v = record { place = p; name = v; owner = ownerOf around v }
+
 -- all variables of a term from the left; the term's own place is p
 unfoldable mutual
   pub occurrences : List Binder → ℕ → Term Name → List Occurrence
-  occurrences around p (variable v) = record { place = p; name = v; owner = ownerOf around v } ∷ []
+  occurrences around p (variable v) = occurrence around p v ∷ []
   occurrences around p (function b t) = occurrences (record { name = b; place = p } ∷ around) (suc p) t
   occurrences around p (apply t u) = occurrences around (suc p) t ++ occurrences around (suc p + size t) u
   occurrences around p (rcd f) = occurrencesFields around (suc p) f
@@ -73,6 +82,11 @@ isLoose (outside s) o = false
 unfoldable pub loosePlaces : List Occurrence → List ℕ
 loosePlaces [] = []
 loosePlaces (o ∷ os) = elim (isLoose (o .name) (o .owner)) [ true ↦ o .place ∷ loosePlaces os | false ↦ loosePlaces os ]
+
+-- the walk that stops at the first of some places, and reaches the end if there is none
+abbrev pub stopsAtFirst : List ℕ → ℕ → Walk
+stopsAtFirst [] end = reached end
+stopsAtFirst (p ∷ ps) end = loose p
 
 -- ------------------------------------------------------------------ by nesting
 

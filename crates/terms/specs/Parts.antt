@@ -1,9 +1,11 @@
 -- What a term holds, from the left: its constructors, variables and binders; and what is left of it without its names.
 use Prim.Native.Nat.{ℕ, suc}
+use mathlib.Core.Path.{_≡_}
 use mathlib.Core.Bool.{Bool, true, false, _||_}
-use mathlib.Core.List.{List, [], _∷_, _++_}
+use mathlib.Core.List.{List, [], _∷_, _++_, map}
 use Rattle.terms.specs.Term.{Name, word, fresh, outside, Term, Fields, variable, function, apply, rcd, dot, number, nil, cons}
 use Rattle.terms.specs.Rename.{isOutside, newName, written}
+use Rattle.terms.specs.Binding.{unbound, Occurrence}
 use Rattle.terms.specs.Print.{mkTermVar, mkTermFun, mkTermApp, mkTermRcd, mkTermDot, mkFieldNil, mkFieldCons, mkTermNum}
 
 -- the names of the constructors
@@ -53,7 +55,7 @@ pub record Scope (N : Type 0) : Type 0 where
   pub binder : N
   pub inside : List N
 
--- the binders
+-- the binders with what they are around
 unfoldable mutual
   pub scopes : {N : Type 0} → Term N → List (Scope N)
   scopes (variable x) = []
@@ -66,6 +68,12 @@ unfoldable mutual
   pub scopesFields : {N : Type 0} → Fields N → List (Scope N)
   scopesFields nil = []
   scopesFields (cons l t f) = scopes t ++ scopesFields f
+
+abbrev pub binderIn : {N : Type 0} → Scope N → N
+binderIn b = b .binder
+
+abbrev pub binders : {N : Type 0} → Term N → List N
+binders t = map binderIn (scopes t)
 
 -- ------------------------------------------------------------------ the names that binders are printed with
 
@@ -87,3 +95,12 @@ numberedFrom c [] = []
 numberedFrom c (b ∷ bs) =
     elim (getsNewName (b .binder) (b .inside))
     [ true ↦ newName c ∷ numberedFrom (suc c) bs | false ↦ written (b .binder) ∷ numberedFrom c bs ]
+
+-- ------------------------------------------------------------------ the names that variables are printed with
+
+-- Variable by variable from the left: one that has no binder by origin is printed as written.
+pub data UnboundAsWritten : List Occurrence → List (List ℕ) → Type 0 where
+  done : UnboundAsWritten [] []
+  next :
+      {o : Occurrence} {x : List ℕ} {os : List Occurrence} {xs : List (List ℕ)}
+      → (o .owner ≡ unbound → x ≡ written (o .name)) → UnboundAsWritten os xs → UnboundAsWritten (o ∷ os) (x ∷ xs)

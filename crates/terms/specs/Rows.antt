@@ -1,7 +1,7 @@
 -- The term that a row of cells stands for. Document 01, "Formula": an argument is a row, a name, a label's spelling number or a
 -- number's value. A part used twice stands at both places.
 use Prim.Native.Nat.{ℕ, zero, suc, _/_, _%_}
-use mathlib.Core.Bool.{Bool, true, false}
+use mathlib.Core.Bool.{true, false}
 use mathlib.Core.List.{List}
 use lib.Dec.{eqb}
 use Rattle.grammar.specs.Cells.{column, nameBase}
