@@ -7,3 +7,4 @@ pub mod Loose
 pub mod NewNames
 pub mod TextLength
 pub mod Statements
+mod Examples
