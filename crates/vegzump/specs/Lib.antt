@@ -1,1 +1,3 @@
 pub mod Expand
+pub mod House
+pub mod Computing
