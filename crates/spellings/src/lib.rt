@@ -2,7 +2,8 @@
 ghost use mathlib.Core.Path.{_≡_};
 ghost use Prim.Native.Nat.{_-_};
 ghost use lib.ListN.{length};
-ghost use Rattle.spellings.specs.Bytes.{isLetter, isDigit, isWordByte, isSeparator, isSymbol, run, isWord, isKeyword, same};
+ghost use Rattle.spellings.specs.Bytes.{isLetter, isDigit, isWordByte, isSeparator, isSymbol, run, isWord, isKeyword, same, decimal};
+ghost use Rattle.spellings.specs.Buffers.{written};
 ghost use Rattle.spellings.specs.Numbers.{numberOf};
 
 // ---------------------------------------------------------------- classes of bytes
@@ -141,4 +142,53 @@ pub fn value(digits: &[u8]) -> Number
         i += 1;
     }
     Number::Value(n as u32)
+}
+
+// The number of decimal digits of n.
+pub fn decimal_size(n: u32) -> usize
+    ensures { λ r. ⌜ r ≡ length (decimal n) ⌝ }
+{
+    let mut size: usize = 1;
+    let mut rest = n;
+    while 10 <= rest {
+        rest = rest / 10;
+        size += 1;
+    }
+    size
+}
+
+// ---------------------------------------------------------------- writing into what remains of a buffer
+
+// Writes the decimal digits of n at the front of `out`, if they fit, and else nothing. The answer is their number in either case.
+pub fn write_decimal(out: &mut [u8], n: u32) -> usize
+    ensures { λ r. ⌜ (r ≡ length (decimal n)) × (now (out .exit) ≡ written (decimal n) (now (out .entry))) ⌝ }
+{
+    let size = decimal_size(n);
+    if out.len() < size {
+        return size;
+    }
+    let mut at = size;
+    let mut rest = n;
+    while 0 < at {
+        at -= 1;
+        out[at] = 48 + (rest % 10) as u8;
+        rest = rest / 10;
+    }
+    size
+}
+
+// Writes the bytes of `s` at the front of `out`, if they fit, and else nothing. The answer is their number in either case.
+pub fn copy_into(out: &mut [u8], s: &[u8]) -> usize
+    ensures { λ r. ⌜ (r ≡ length (now (s .entry))) × (now (out .exit) ≡ written (now (s .entry)) (now (out .entry))) ⌝ }
+{
+    let size = s.len();
+    if out.len() < size {
+        return size;
+    }
+    let mut i: usize = 0;
+    while i < size {
+        out[i] = s[i];
+        i += 1;
+    }
+    size
 }
