@@ -102,6 +102,6 @@ digits-bound (suc j) (suc k) n follow h =
     by (yes l) ih = rw (digits-one k n follow l) (omega arith)
     by (no g) ih = rw (digits-more k n follow (omega arith)) (omega arith)
 
--- a number below 10 ^ j has at most j digits
+-- a number below 10 ^ suc j has at most suc j digits
 pub decimal-bound : (j n : ℕ) → n < 10 ^ suc j → length (decimal n) ≤ suc j
 decimal-bound j n h = omega (arith, digits-bound j (suc n) n [] h)
