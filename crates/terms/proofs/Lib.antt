@@ -5,6 +5,7 @@ pub mod Origin
 pub mod WhoseName
 pub mod Loose
 pub mod NewNames
+pub mod FreeVariables
 pub mod TextLength
 pub mod Statements
 mod Examples

@@ -1,16 +1,14 @@
--- New names are `_1`, `_2` and on from the left, for exactly the binders that document 01 names; all else is printed as written.
+-- New names are `_1`, `_2` and on from the left, for exactly the binders that document 01 names; constructors, labels
+-- and numbers stay as they are.
 use Prim.Native.Nat.{ℕ, _+_}
 use mathlib.Core.Path.{_≡_, refl, sym, ap, ap₂, _∙_}
 use mathlib.Core.Bool.{Bool, true, false, _||_}
 use mathlib.Core.List.{List, [], _∷_, _++_, map, map-append}
 use native.Mathlib.Nat.{zero-add}
 use native.Mathlib.Omega.{arith}
-use Rattle.spellings.specs.BytesLaws.{by-test}
 use Rattle.terms.specs.Term.{Name, word, fresh, outside, Term, Fields, variable, function, apply, rcd, dot, number, nil, cons}
-use Rattle.terms.specs.Rename.{isOutside, holds, holdsFields, isRenamed, one, renames, renamesFields, newName, written, Printed, binderShown, shownAs, belongs, renamed, renamedFields}
-use Rattle.terms.specs.Parts.{shape, shapeFields, variables, variablesFields, Scope, scopes, scopesFields, binderIn, someOutside, getsNewName, numberedFrom, UnboundAsWritten, done, next}
-use Rattle.terms.specs.Binding.{unbound, ownerOf, Occurrence, occurrences, occurrencesFields}
-use Rattle.terms.proofs.WhoseName.{Entry, binderOf, printedOf, owner-here, owner-further, shown-further}
+use Rattle.terms.specs.Rename.{isOutside, holds, holdsFields, isRenamed, one, renames, renamesFields, newName, Printed, binderShown, renamed, renamedFields}
+use Rattle.terms.specs.Parts.{shape, shapeFields, variables, variablesFields, Scope, scopes, scopesFields, binderIn, someOutside, getsNewName, numberedFrom}
 
 -- ------------------------------------------------------------------ constructors, labels and numbers
 
@@ -138,41 +136,3 @@ mutual
   binders-numbered-fields around c (cons l t f) =
       rw (map-append, numbered-append c (scopes t) (scopesFields f), ← renames-count t)
       (ap₂ _++_ (binders-numbered around c t) (binders-numbered-fields around (renames t + c) f))
-
--- ------------------------------------------------------------------ variables without a binder
-
-unbound-written :
-    (es : List Entry) (v : Name) → ownerOf (map binderOf es) v ≡ unbound → shownAs (map printedOf es) v ≡ written v
-unfolding shownAs
-unbound-written [] v h = refl
-unbound-written (e ∷ es) v h =
-    by-test (belongs v (e .origin))
-    (λ q. absurd (let z : _≡_ {A = ℕ} 0 1 = cc (owner-here e es v q) in omega arith))
-    (λ q. shown-further e es v q ∙ unbound-written es v (sym (owner-further e es v q) ∙ h))
-
-written-append :
-    {os us : List Occurrence} {xs ys : List (List ℕ)} → UnboundAsWritten os xs → UnboundAsWritten us ys
-    → UnboundAsWritten (os ++ us) (xs ++ ys)
-written-append done n = n
-written-append (next h m) n = next h (written-append m n)
-
-mutual
-  unfolding renamed renamedFields occurrences occurrencesFields variables variablesFields
-
-  pub unbound-as-written :
-      (es : List Entry) (c p : ℕ) (t : Term Name)
-      → UnboundAsWritten (occurrences (map binderOf es) p t) (variables (renamed (map printedOf es) c t))
-  unbound-as-written es c p (variable v) = next (unbound-written es v) done
-  unbound-as-written es c p (function b t) =
-      unbound-as-written (record { origin = b; shown = binderShown (isRenamed b t) c b; place = p } ∷ es) _ _ t
-  unbound-as-written es c p (apply t u) = written-append (unbound-as-written es _ _ t) (unbound-as-written es _ _ u)
-  unbound-as-written es c p (rcd f) = unbound-as-written-fields es _ _ f
-  unbound-as-written es c p (dot t l) = unbound-as-written es _ _ t
-  unbound-as-written es c p (number n) = done
-
-  unbound-as-written-fields :
-      (es : List Entry) (c p : ℕ) (f : Fields Name)
-      → UnboundAsWritten (occurrencesFields (map binderOf es) p f) (variablesFields (renamedFields (map printedOf es) c f))
-  unbound-as-written-fields es c p nil = done
-  unbound-as-written-fields es c p (cons l t f) =
-      written-append (unbound-as-written es _ _ t) (unbound-as-written-fields es _ _ f)

@@ -176,5 +176,5 @@ mutual
 pub read-back : (t : Term Name) → isWorded t ≡ true → readText (print (rename t)) ≡ more (treeOf (rename t)) none
 unfolding AllNames andTree readFrom readText print
 read-back t w =
-    let h = readable [] 1 t tt w in
+    let h : Readable (treeOf (rename t)) = readable [] _ t tt w in
     read-tree (treeOf (rename t)) h [] _ [] ∙ begun-read none (treeOf (rename t)) h

@@ -17,7 +17,8 @@ use Rattle.terms.proofs.ReadBack.{read-back}
 use Rattle.terms.proofs.Origin.{belongs-exactly}
 use Rattle.terms.proofs.WhoseName.{whose-name}
 use Rattle.terms.proofs.Loose.{walk-stops}
-use Rattle.terms.proofs.NewNames.{same-shape, binders-numbered, unbound-as-written}
+use Rattle.terms.proofs.NewNames.{same-shape, binders-numbered}
+use Rattle.terms.proofs.FreeVariables.{unbound-as-written}
 use Rattle.terms.proofs.TextLength.{text-length}
 
 module _ (t : Term Name) (words : isWorded t ≡ true) where
@@ -28,11 +29,11 @@ module _ (t : Term Name) (words : isWorded t ≡ true) where
   -- The text has the term's constructors in the same order, so that each variable and binder has one place in both.
   pub same-constructors : constructorsInAll (readText (print (rename t))) ≡ constructors t
   unfolding constructorsInAll
-  same-constructors = ap constructorsInAll reads-back ∙ append-nil _ ∙ constructors-in [] 1 t
+  same-constructors = ap constructorsInAll reads-back ∙ append-nil _ ∙ constructors-in [] _ t
 
   pub same-count : nodesAll (readText (print (rename t))) ≡ size t
   unfolding nodesAll
-  same-count = ap nodesAll reads-back ∙ add-zero _ ∙ nodes-size [] 1 t
+  same-count = ap nodesAll reads-back ∙ add-zero _ ∙ nodes-size [] _ t
 
   -- 2. In the text every variable belongs, by nesting and bytes, to the binder that its origin calls for, and to none if there is none.
   pub whose-name-is-whose : nestingAll [] 0 (readText (print (rename t))) ≡ origins [] 0 t
@@ -54,11 +55,11 @@ module _ (t : Term Name) where
 
   -- A variable without a binder is printed as written (one with a binder is printed as the binder is: statement 2).
   pub free-variables : UnboundAsWritten (occurrences [] 0 t) (variables (rename t))
-  free-variables = unbound-as-written [] 1 0 t
+  free-variables = unbound-as-written [] _ 0 t
 
   -- Nothing but binders and variables is renamed: constructors, labels and numbers stay as they are.
   pub labels-stay : shape (rename t) ≡ shape t
-  labels-stay = same-shape [] 1 t
+  labels-stay = same-shape [] _ t
 
   -- 5. The length that cause 24 and an acceptance report is the number of bytes of the text, counted here without making it.
   pub length-of-text : length (print (rename t)) ≡ textSize (rename t)

@@ -7,11 +7,12 @@ use native.Mathlib.Nat.{add-zero, zero-add}
 use native.Mathlib.Omega.{arith}
 use Rattle.spellings.specs.Bytes.{bytes, same, isWord}
 use Rattle.terms.specs.Term.{Name, word, fresh, outside, Term, Fields, variable, function, apply, rcd, dot, number, nil, cons, size}
-use Rattle.terms.specs.Rename.{belongs, holds, holdsFields, isRenamed, one, renames, newName, written, Printed, shownAs, binderShown, renamed, renamedFields, rename}
+use Rattle.terms.specs.Rename.{belongs, holds, holdsFields, isRenamed, one, newName, written, Printed, shownAs, binderShown, renamed, renamedFields, rename}
 use Rattle.terms.specs.Print.{treeOf, treeOfFields}
-use Rattle.terms.specs.Binding.{unbound, boundAt, Binder, ownerOf, occurrences, occurrencesFields, useOf, used, origins, Around, innermost, nodes, nodesAll, nesting, nestingAll, isWordName, isWorded, isWordedFields}
-use Rattle.spellings.specs.BytesLaws.{by-test, same-refl, same-true, differ-same}
-use Rattle.terms.proofs.Spellings.{or-left, or-right, word-not-new, new-not-word, new-not-new}
+use Rattle.terms.specs.Binding.{unbound, Calls, sameSpelling, sameFresh, boundAt, Binder, ownerOf, occurrences, occurrencesFields, useOf, used, origins, Around, innermost, nodes, nodesAll, nesting, nestingAll, isWordName, isWorded, isWordedFields}
+use Rattle.spellings.specs.BytesLaws.{by-test, same-refl, differ-same}
+use Rattle.terms.proofs.Spellings.{or-right, word-not-new, new-not-word, new-not-new}
+use Rattle.terms.proofs.Origin.{belongs-calls}
 use Rattle.terms.proofs.Constructors.{nodes-size}
 
 -- ------------------------------------------------------------------ the binders around, seen three ways
@@ -116,9 +117,8 @@ written-other (fresh n) s m ws o = new-not-word s 0 ws
 written-other (outside r) s m ws o = absurd (false≢true m)
 
 kept-other : (v : Name) (r s : List ℕ) → belongs v (word r) ≡ true → belongs v (word s) ≡ false → same r s ≡ false
-kept-other (word u) r s q o = rw (same-true u r q) at o
-kept-other (fresh n) r s q o = absurd (false≢true q)
-kept-other (outside u) r s q o = absurd (false≢true q)
+kept-other v r s q o =
+    differ-same r s (λ e. true≢false (sym q ∙ ap (λ x. belongs v (word x)) e ∙ o))
 
 module _ (v : Name) (w : isWordName v ≡ true) where
   -- under binders whose new names are below m, no variable is printed as the new name m
@@ -155,10 +155,13 @@ module _ (v : Name) (w : isWordName v ≡ true) where
 
 -- ------------------------------------------------------------------ an outside variable
 
+calls-binder : {v b : Name} → Calls v b → mayBind v ≡ true
+calls-binder (sameSpelling s) = refl
+calls-binder (sameFresh n) = refl
+
 outside-belongs : (s : List ℕ) (b : Name) → belongs (outside s) b ≡ false
-outside-belongs s (word b) = refl
-outside-belongs s (fresh n) = refl
-outside-belongs s (outside b) = refl
+outside-belongs s b =
+    by-test (belongs (outside s) b) (λ e. absurd (false≢true (calls-binder (belongs-calls (outside s) b e)))) (λ e. e)
 
 outside-unbound : (es : List Entry) (s : List ℕ) → ownerOf (map binderOf es) (outside s) ≡ unbound
 unfolding ownerOf
@@ -199,6 +202,11 @@ numbered-more (word s) t false c p es w e n = rw zero-add (kept w n)
 numbered-more (fresh m) t false c p es w e n = absurd (true≢false e)
 numbered-more (outside s) t false c p es w e n = absurd (true≢false e)
 
+-- a formula binder that is kept has no outside name of its spelling in its body
+kept-clear : (s : List ℕ) (t : Term Name) → isRenamed (word s) t ≡ false → holds s t ≡ false
+unfolding isRenamed
+kept-clear s t e = cc
+
 -- a binder is not printed as an outside name of its body
 shown-clear :
     (b : Name) (t : Term Name) (q : Bool) (c : ℕ) (s : List ℕ) → isRenamed b t ≡ q → isWord s ≡ true → holds s t ≡ true
@@ -206,7 +214,7 @@ shown-clear :
 unfolding binderShown isRenamed
 shown-clear b t true c s e w h = word-not-new s c w
 shown-clear (word r) t false c s e w h =
-    differ-same s r (λ g. true≢false (sym h ∙ ap (λ x. holds x t) g ∙ e))
+    differ-same s r (λ g. true≢false (sym h ∙ ap (λ x. holds x t) g ∙ kept-clear r t e))
 shown-clear (fresh m) t false c s e w h = absurd (true≢false e)
 shown-clear (outside r) t false c s e w h = absurd (true≢false e)
 
@@ -229,17 +237,16 @@ mutual
       let q = isRenamed b t in
       let e = entryOf q c p b in
       rw (append-nil, add-zero)
-      (nesting-origins (e ∷ es) (one q + c) (suc p) t (wb .1) (numbered-more b t q c p es (wb .0) refl n)
-      (λ s ws h. innermost-further e es s (shown-clear b t q c s refl ws h) ∙ k s ws h))
+      (nesting-origins (e ∷ es) _ (suc p) t (wb .1) (numbered-more b t q c p es (wb .0) refl n)
+      (λ s ws h. innermost-further e es s (shown-clear b t q c s refl ws h) ∙ k s ws (rw h)))
   nesting-origins es c p (apply t u) w n k =
       let wt = and-eq-true-iff (isWorded t) (isWorded u) .0 w in
-      let d = renames t + c in
-      rw (append-nil, map-append, nodes-size (map printedOf es) c t)
-      (ap₂ _++_ (nesting-origins es c (suc p) t (wt .0) n (λ s ws h. k s ws (or-left (holds s t) (holds s u) h)))
-      (nesting-origins es d (suc p + size t) u (wt .1) (weaken n (renames t)) (λ s ws h. k s ws (or-right (holds s t) (holds s u) h))))
+      rw (append-nil, map-append, nodes-size _ _ t)
+      (ap₂ _++_ (nesting-origins es c (suc p) t (wt .0) n (λ s ws h. k s ws (rw h)))
+      (nesting-origins es _ (suc p + size t) u (wt .1) (search (n, weaken)) (λ s ws h. k s ws (or-right (holds s t) (holds s u) h))))
   nesting-origins es c p (rcd f) w n k = rw append-nil (nesting-origins-fields es c (suc p) f w n k)
   nesting-origins es c p (dot t l) w n k =
-      simp append-nil (nesting-origins es c (suc p) t (and-eq-true-iff (isWorded t) (isWord l) .0 w .0) n k)
+      simp append-nil (nesting-origins es c (suc p) t (and-eq-true-iff (isWorded t) (isWord l) .0 w .0) n (λ s ws h. k s ws (rw h)))
   nesting-origins es c p (number m) w n k = refl
 
   nesting-origins-fields :
@@ -249,13 +256,12 @@ mutual
   nesting-origins-fields es c p (cons l t f) w n k =
       let wf = and-eq-true-iff (isWord l && isWorded t) (isWordedFields f) .0 w in
       let wt = and-eq-true-iff (isWord l) (isWorded t) .0 (wf .0) .1 in
-      let d = renames t + c in
-      rw (append-nil, add-zero, map-append, nodes-size (map printedOf es) c t)
-      (ap₂ _++_ (nesting-origins es c (suc p) t wt n (λ s ws h. k s ws (or-left (holds s t) (holdsFields s f) h)))
-      (nesting-origins-fields es d (suc p + size t) f (wf .1) (weaken n (renames t))
+      rw (append-nil, add-zero, map-append, nodes-size _ _ t)
+      (ap₂ _++_ (nesting-origins es c (suc p) t wt n (λ s ws h. k s ws (rw h)))
+      (nesting-origins-fields es _ (suc p + size t) f (wf .1) (search (n, weaken))
       (λ s ws h. k s ws (or-right (holds s t) (holdsFields s f) h))))
 
 -- the whole term, under no binder
 pub whose-name : (t : Term Name) → isWorded t ≡ true → nesting [] 0 (treeOf (rename t)) ≡ origins [] 0 t
 unfolding innermost
-whose-name t w = nesting-origins [] 1 0 t w (outermost (omega arith)) (λ s ws h. refl)
+whose-name t w = nesting-origins [] _ 0 t w (outermost (omega arith)) (λ s ws h. refl)
