@@ -1,3 +1,4 @@
 pub mod Normal
 pub mod First
 pub mod Rules
+pub mod Index

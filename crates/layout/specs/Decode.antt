@@ -53,19 +53,21 @@ definitionOf v rest =
 
 -- ------------------------------------------------------------------ fields, from the last to the first
 
+-- An alternative's items and result stand together: every field but an item ends the items further right.
+
 abbrev pub putKeyword : List ℕ → Built → Built
-putKeyword v b = built (v ∷ b .keywords) (b .outsides) (b .blocks) (b .root) (b .definitions) (b .alternatives) (b .items) (b .result)
+putKeyword v b = built (v ∷ b .keywords) (b .outsides) (b .blocks) (b .root) (b .definitions) (b .alternatives) [] (variable 0)
 
 abbrev pub putOutside : List ℕ → Built → Built
-putOutside v b = built (b .keywords) (v ∷ b .outsides) (b .blocks) (b .root) (b .definitions) (b .alternatives) (b .items) (b .result)
+putOutside v b = built (b .keywords) (v ∷ b .outsides) (b .blocks) (b .root) (b .definitions) (b .alternatives) [] (variable 0)
 
 -- the definitions read are this block's
 abbrev pub putBlock : List ℕ → Built → Built
-putBlock v b = built (b .keywords) (b .outsides) (b .definitions ∷ b .blocks) (b .root) [] (b .alternatives) (b .items) (b .result)
+putBlock v b = built (b .keywords) (b .outsides) (b .definitions ∷ b .blocks) (b .root) [] (b .alternatives) [] (variable 0)
 
 -- the alternatives read are this definition's
 abbrev pub putDefinition : List ℕ → Built → Built
-putDefinition v b = built (b .keywords) (b .outsides) (b .blocks) (b .root) (definitionOf v (b .alternatives) ∷ b .definitions) [] (b .items) (b .result)
+putDefinition v b = built (b .keywords) (b .outsides) (b .blocks) (b .root) (definitionOf v (b .alternatives) ∷ b .definitions) [] [] (variable 0)
 
 -- the items and the result read are this alternative's
 abbrev pub putAlternative : List ℕ → Built → Built
@@ -75,10 +77,10 @@ abbrev pub putItem : List ℕ → Built → Built
 putItem v b = built (b .keywords) (b .outsides) (b .blocks) (b .root) (b .definitions) (b .alternatives) (itemOf v ∷ b .items) (b .result)
 
 abbrev pub putResult : List ℕ → Built → Built
-putResult v b = built (b .keywords) (b .outsides) (b .blocks) (b .root) (b .definitions) (b .alternatives) (b .items) (firstOf (found (templatesOf v)))
+putResult v b = built (b .keywords) (b .outsides) (b .blocks) (b .root) (b .definitions) (b .alternatives) [] (firstOf (found (templatesOf v)))
 
 abbrev pub putRoot : List ℕ → Built → Built
-putRoot v b = built (b .keywords) (b .outsides) (b .blocks) (getD v 0 0) (b .definitions) (b .alternatives) (b .items) (b .result)
+putRoot v b = built (b .keywords) (b .outsides) (b .blocks) (getD v 0 0) (b .definitions) (b .alternatives) [] (variable 0)
 
 abbrev pub putNothing : List ℕ → Built → Built
 putNothing v b = b
