@@ -1,4 +1,6 @@
 // Sorts, constructors and the phrase table.
+pub mod reader;
+
 use spellings::equal;
 ghost use mathlib.Core.Path.{_≡_};
 ghost use lib.ListN.{drop, take};

@@ -1,0 +1,29 @@
+-- Laws of reading a value: a byte past the end, and the constructors' arities as a table.
+use Prim.Native.Nat.{ℕ, zero, suc, _-_, _<_, _≤_}
+use mathlib.Core.Path.{_≡_, refl, sym, ap, _∙_}
+use mathlib.Core.List.{List, [], _∷_}
+use native.Mathlib.Omega.{arith}
+use lib.ListN.{length, getD, List·getD-map}
+use Rattle.grammar.specs.Sorts.{Signature, gives, unit, constructors, constructor, arity}
+
+-- what stands past the end of a list is the default
+pub getD-past {ℓ} : {A : Type ℓ} (l : List A) (n : ℕ) (d : A) → length l ≤ n → getD l n d ≡ d
+getD-past [] n d h = refl
+getD-past (x ∷ xs) zero d h = absurd (omega arith)
+getD-past (x ∷ xs) (suc n) d h = getD-past xs n d (omega arith)
+
+-- how many arguments the constructors take, in the order of their codes
+abbrev pub arities : List ℕ
+arities = 1 ∷ 2 ∷ 2 ∷ 1 ∷ 2 ∷ 0 ∷ 3 ∷ 1 ∷ []
+
+pub arity-at : (c : ℕ) → getD arities (c - 32) 0 ≡ arity c
+unfolding constructors constructor
+arity-at c = List·getD-map (λ (s : Signature). length (s .params)) constructors (c - 32) (gives [] unit)
+
+pub arity-low : (c : ℕ) → c < 32 → 1 ≡ arity c
+arity-low c h =
+    let z : c - 32 ≡ 0 = omega arith in
+    sym (ap (λ (n : ℕ). getD arities n 0) z) ∙ arity-at c
+
+pub arity-high : (c : ℕ) → 8 ≤ c - 32 → 0 ≡ arity c
+arity-high c h = sym (getD-past arities (c - 32) 0 h) ∙ arity-at c

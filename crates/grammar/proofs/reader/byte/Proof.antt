@@ -1,0 +1,18 @@
+-- `byte`: what stands at a place, or past the end.
+use mathlib.Core.Path.{sym}
+use borrow.Author.Needs.{needs}
+use Rattle.grammar.proofs.reader.byte.Statement.{statement}
+use Rattle.grammar.proofs.reader.byte.Tie as tie
+use Rattle.grammar.proofs.ReaderLaws.{getD-past}
+
+shared-slice-read-result : tie.Need-shared-slice-read-result
+shared-slice-read-result c = search needs
+
+returns : tie.Need-returns
+returns c = search needs
+
+returns-2 : tie.Need-returns-2
+returns-2 c = sym (getD-past (c .before .args .s .now) _ 0 (c .if1 .left))
+
+pub byte-spec : {M : Type 1} → statement M
+byte-spec = tie.close (tie.spec shared-slice-read-result returns returns-2)
