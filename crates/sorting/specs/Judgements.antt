@@ -6,7 +6,7 @@ use mathlib.Core.Path.{_≡_}
 use mathlib.Core.List.{List, [], _∷_, _++_}
 use lib.ListN.{length}
 use Rattle.grammar.specs.Sorts.{Signature, unit, var, binder, label, term, num, constructor}
-use Rattle.grammar.specs.Table.{Template, Templates, variable, outside, outsideLabel, make, none, more, Item, keyword, ide, number, local, call, Alternative, Mode, add, extend, update, Definition, Table}
+use Rattle.grammar.specs.Table.{Template, Templates, variable, outside, outsideLabel, make, none, more, Item, keyword, ide, number, local, call, Alternative, add, extend, update, Definition, Table}
 use Rattle.sorting.specs.Sorting.{Entry, Env, entryOf, Scope}
 
 -- ------------------------------------------------------------------ environments

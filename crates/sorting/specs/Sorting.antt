@@ -6,7 +6,7 @@ use mathlib.Core.Bool.{Bool, true, false, not, _&&_}
 use mathlib.Core.List.{List, [], _∷_, _++_}
 use lib.Dec.{eqb, ltb}
 use lib.ListN.{length, getD}
-use Rattle.answers.specs.Checked.{Checked, ok, bad, _>>=_, _>>_, need}
+use Rattle.answers.specs.Checked.{Checked, ok, _>>=_, _>>_, need}
 use Rattle.spellings.specs.Bytes.{same}
 use Rattle.grammar.specs.Sorts.{Signature, gives, unit, var, binder, label, term, num, fits, constructor}
 use Rattle.grammar.specs.Table.{Template, Templates, variable, outside, outsideLabel, make, none, more, Item, keyword, ide, number, local, call, Alternative, Mode, add, extend, update, Definition, Table}
