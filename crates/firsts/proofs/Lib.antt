@@ -1,0 +1,4 @@
+pub mod Rounds
+pub mod NullablesExactly
+pub mod FirstSetsExactly
+pub mod FirstsTheorems

@@ -1,0 +1,107 @@
+-- A bit of the computed nullables is set exactly if the nonterminal is nullable by the rules.
+use Prim.Native.Nat.{ℕ}
+use mathlib.Core.Path.{_≡_, refl, sym, ap, ap₂, _∙_, fun-ext}
+use mathlib.Core.Bool.{Bool, true, false, _&&_, _||_, false≢true, and-eq-true-iff, and-true, or-false}
+use mathlib.Core.Logic.{_↔_}
+use mathlib.Core.List.{List, [], _∷_}
+use Rattle.kinds.specs.Kinds.{hasKind, only}
+use Rattle.kinds.specs.KindsLaws.{has-none, has-join, has-only}
+use Rattle.grammar.specs.Table.{Item, keyword, ide, number, local, call}
+use Rattle.firsts.specs.Normal.{Production}
+use Rattle.firsts.specs.First.{isPassed, allPassed, nullStep, nullables}
+use Rattle.firsts.specs.Rules.{Of, NullItems, null-none, null-local, null-call, Nullable}
+use Rattle.firsts.proofs.Rounds.{Numbers, Within, admit, least, least-within, least-closed, least-seen}
+
+-- ------------------------------------------------------------------ the test of items, with the nullables as a set
+
+abbrev passed : Numbers → Item → Bool
+passed s (keyword k) = false
+passed s (ide b) = false
+passed s number = false
+passed s local = true
+passed s (call n ts) = s n
+
+allIn : Numbers → List Item → Bool
+allIn s [] = true
+allIn s (i ∷ is) = passed s i && allIn s is
+
+passed-seen : (nulls : ℕ) (i : Item) → isPassed nulls i ≡ passed (hasKind nulls) i
+passed-seen nulls (keyword k) = refl
+passed-seen nulls (ide b) = refl
+passed-seen nulls number = refl
+passed-seen nulls local = refl
+passed-seen nulls (call n ts) = refl
+
+all-seen : (nulls : ℕ) (is : List Item) → allPassed nulls is ≡ allIn (hasKind nulls) is
+unfolding allPassed allIn
+all-seen nulls [] = refl
+all-seen nulls (i ∷ is) = ap₂ _&&_ (passed-seen nulls i) (all-seen nulls is)
+
+passed-more : (s t : Numbers) → Within s t → (i : Item) → passed s i ≡ true → passed t i ≡ true
+passed-more s t h (keyword k) e = e
+passed-more s t h (ide b) e = e
+passed-more s t h number e = e
+passed-more s t h local e = e
+passed-more s t h (call n ts) e = h n e
+
+all-more : (s t : Numbers) → Within s t → (is : List Item) → allIn s is ≡ true → allIn t is ≡ true
+unfolding allIn
+all-more s t h [] e = e
+all-more s t h (i ∷ is) e =
+    let b = and-eq-true-iff _ _ .0 e in
+    and-eq-true-iff _ _ .1 (passed-more s t h i (b .0), all-more s t h is (b .1))
+
+-- ------------------------------------------------------------------ the computed nullables are the least set
+
+step-seen : (p : Production) (nulls : ℕ) → Unit {0} → hasKind (nullStep p nulls) ≡ admit allIn p (hasKind nulls)
+unfolding nullStep
+step-seen p nulls u = fun-ext (λ n. by n (allPassed nulls (p .items)) refl)
+  where
+    by : (n : ℕ) (b : Bool) → allPassed nulls (p .items) ≡ b → hasKind (nullStep p nulls) n ≡ admit allIn p (hasKind nulls) n
+    by n true e = rw (← all-seen nulls (p .items), e, nullStep) (has-join nulls (only (p .owner)) n ∙ ap (λ b. hasKind nulls n || b) (has-only (p .owner) n))
+    by n false e = rw (← all-seen nulls (p .items), e, nullStep) (sym (or-false (hasKind nulls n)))
+
+nullables-seen : (g : List Production) → hasKind (nullables g) ≡ least allIn g
+unfolding nullables
+nullables-seen g = least-seen (λ x. Unit {0}) hasKind allIn nullStep (λ p x u. tt) step-seen g 0 tt (fun-ext has-none)
+
+-- ------------------------------------------------------------------ the rules
+
+module _ (g : List Production) where
+  null-sound : (s : Numbers) → ((n : ℕ) → s n ≡ true → Nullable g n) → (is : List Item) → allIn s is ≡ true → NullItems g is
+  unfolding allIn
+  null-sound s hs [] e = null-none
+  null-sound s hs (keyword k ∷ is) e = absurd (false≢true e)
+  null-sound s hs (ide b ∷ is) e = absurd (false≢true e)
+  null-sound s hs (number ∷ is) e = absurd (false≢true e)
+  null-sound s hs (local ∷ is) e = null-local (null-sound s hs is e)
+  null-sound s hs (call n ts ∷ is) e =
+      let b = and-eq-true-iff _ _ .0 e in
+      let h : Nullable g n = hs n (b .0) in
+      null-call (h .of) (h .items) (null-sound s hs is (b .1))
+
+  null-complete : {is : List Item} → NullItems g is → allIn (least allIn g) is ≡ true
+  unfolding allIn
+  null-complete null-none = refl
+  null-complete (null-local h) = null-complete h
+  null-complete (null-call o h t) = and-eq-true-iff _ _ .1 (least-closed allIn all-more g o (null-complete h), null-complete t)
+
+  pub nullable-exactly : (n : ℕ) → (hasKind (nullables g) n ≡ true) ↔ Nullable g n
+  nullable-exactly n = (
+    λ e. least-within allIn g (Nullable g) keeps n (rw (nullables-seen g) at e),
+    λ h. rw (nullables-seen g) (least-closed allIn all-more g (h .of) (null-complete (h .items))),
+  )
+    where
+      keeps : (s : Numbers) → ((n : ℕ) → s n ≡ true → Nullable g n) → (n : ℕ) (p : Production) → Of g n p → allIn s (p .items) ≡ true → Nullable g n
+      keeps s hs n p o e = record { production = p; of = o; items = null-sound s hs (p .items) e }
+
+  pub null-items-exactly : (is : List Item) → (allPassed (nullables g) is ≡ true) ↔ NullItems g is
+  null-items-exactly is = (
+    λ e. null-sound (hasKind (nullables g)) (λ n. nullable-exactly n .0) is (sym (all-seen (nullables g) is) ∙ e),
+    λ h. all-seen (nullables g) is ∙ rw (nullables-seen g) (null-complete h),
+  )
+
+  pub null-item-exactly : (i : Item) → (isPassed (nullables g) i ≡ true) ↔ NullItems g (i ∷ [])
+  unfolding allPassed
+  null-item-exactly i =
+      (λ e. null-items-exactly (i ∷ []) .0 (and-true _ ∙ e), λ h. sym (and-true _) ∙ null-items-exactly (i ∷ []) .1 h)
