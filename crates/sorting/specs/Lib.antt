@@ -1,3 +1,4 @@
 pub mod Sizes
 pub mod Sorting
 pub mod Judgements
+pub mod ByFields
