@@ -1,6 +1,7 @@
 pub mod Spellings
 pub mod Constructors
 pub mod ReadBack
+pub mod TreeOfTerm
 pub mod Origin
 pub mod WhoseName
 pub mod Loose

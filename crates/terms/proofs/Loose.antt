@@ -13,6 +13,7 @@ use Rattle.terms.specs.Binding.{Binder, ownerOf, Occurrence, occurrence,
 abbrev nameOf : Binder → Name
 nameOf b = b .name
 
+-- one step along the variables
 loose-here : (o : Occurrence) (os : List Occurrence) → isLoose (o .name) (o .owner) ≡ true → loosePlaces (o ∷ os) ≡ o .place ∷ loosePlaces os
 unfolding loosePlaces
 loose-here o os h = rw (h, loosePlaces) refl

@@ -3,8 +3,9 @@ use Prim.Native.Nat.{ℕ, suc}
 use mathlib.Core.Path.{_≡_}
 use mathlib.Core.Bool.{Bool, true, false, _||_}
 use mathlib.Core.List.{List, [], _∷_, _++_, map}
+use Rattle.spellings.specs.Bytes.{same}
 use Rattle.terms.specs.Term.{Name, word, fresh, outside, Term, Fields, variable, function, apply, rcd, dot, number, nil, cons}
-use Rattle.terms.specs.Rename.{isOutside, newName, written}
+use Rattle.terms.specs.Rename.{newName, written}
 use Rattle.terms.specs.Binding.{unbound, Occurrence}
 use Rattle.terms.specs.Print.{mkTermVar, mkTermFun, mkTermApp, mkTermRcd, mkTermDot, mkFieldNil, mkFieldCons, mkTermNum}
 
@@ -80,7 +81,9 @@ binders t = map binderIn (scopes t)
 -- some name of a list is the outside name spelled s
 unfoldable pub someOutside : List ℕ → List Name → Bool
 someOutside s [] = false
-someOutside s (v ∷ vs) = isOutside s v || someOutside s vs
+someOutside s (word w ∷ vs) = someOutside s vs
+someOutside s (fresh n ∷ vs) = someOutside s vs
+someOutside s (outside w ∷ vs) = same s w || someOutside s vs
 
 -- Whether a binder gets a new name: a fresh one always, a formula's if its body holds an outside name of its spelling as a variable.
 -- No binder is an outside name in a term of the expander.
