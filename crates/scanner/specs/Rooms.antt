@@ -1,31 +1,54 @@
 -- How a scan fills the rooms that are lent to it.
-use Prim.Native.Nat.{ℕ, _+_}
+use Prim.Native.Nat.{ℕ, zero, suc, _+_, _*_}
 use mathlib.Core.Bool.{Bool, true, false}
 use mathlib.Core.List.{List, [], _∷_}
+use lib.ListN.{getD, take, drop}
 use lib.Seq.{sets}
 use Rattle.scanner.specs.declared.Token.{Token}
 use Rattle.scanner.specs.declared.Scanned.{Scanned}
 use Rattle.grammar.specs.Fields.{Lexicon}
 use Rattle.scanner.specs.Scan.{Lexed, isNew, scan}
 
--- tokens as numbers, four a token
+-- ------------------------------------------------------------------ tokens and words as numbers
+
+-- a token is four numbers
+abbrev pub rowThen : Token → List ℕ → List ℕ
+rowThen t follow = t .kind ∷ t .at ∷ t .size ∷ t .value ∷ follow
+
 unfoldable pub rows : List Token → List ℕ
 rows [] = []
-rows (t ∷ ts) = t .kind ∷ t .at ∷ t .size ∷ t .value ∷ rows ts
+rows (t ∷ ts) = rowThen t (rows ts)
 
--- where each word not met before stands, two numbers a word: its offset and its length; `count` words were met before these tokens
-unfoldable pub firsts : ℕ → List Token → List ℕ
-firsts count [] = []
-firsts count (t ∷ ts) =
-    elim (isNew count t) [ true ↦ t .at ∷ t .size ∷ firsts (count + 1) ts | false ↦ firsts count ts ]
+-- a word not met before is two numbers, its offset and its length; `count` words were met before this token
+abbrev pub placeThen : ℕ → Token → List ℕ → List ℕ
+placeThen count t follow = elim (isNew count t) [ true ↦ t .at ∷ t .size ∷ follow | false ↦ follow ]
+
+-- how many words there are after it
+abbrev pub countWith : ℕ → Token → ℕ
+countWith count t = elim (isNew count t) [ true ↦ count + 1 | false ↦ count ]
+
+unfoldable pub places : ℕ → List Token → List ℕ
+places count [] = []
+places count (t ∷ ts) = placeThen count t (places (countWith count t) ts)
+
+-- the words that a room of places names in a formula, k of them from word i on
+unfoldable pub wordsFrom : ℕ → List ℕ → List ℕ → ℕ → List (List ℕ)
+wordsFrom zero formula room i = []
+wordsFrom (suc k) formula room i =
+    take (getD room (i * 2 + 1) 0) (drop (getD room (i * 2) 0) formula) ∷ wordsFrom k formula room (i + 1)
+
+abbrev pub wordsIn : List ℕ → List ℕ → ℕ → List (List ℕ)
+wordsIn formula room count = wordsFrom count formula room 0
+
+-- ------------------------------------------------------------------ the rooms after a scan
 
 -- an answer with what the two rooms then hold
 pub data Filled : Type 0 where
   filled : Scanned → List ℕ → List ℕ → Filled
 
--- A scan's answer, its tokens stored in a room from its front, and its words in another; what lies behind them stays.
--- `sets room i ns` is the room with the numbers ns stored from index i on.
+-- A scan's answer, its tokens stored in a room from the front, and the places of its words in another; what lies behind them
+-- stays. `sets room i ns` is the room with the numbers ns stored from index i on.
 unfoldable pub scanInto : Lexicon → List ℕ → List ℕ → List ℕ → Filled
 scanInto lex formula tokens words =
     filled (scan lex formula .answer) (sets tokens 0 (rows (scan lex formula .tokens)))
-    (sets words 0 (firsts 0 (scan lex formula .tokens)))
+    (sets words 0 (places 0 (scan lex formula .tokens)))

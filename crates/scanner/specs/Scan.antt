@@ -16,7 +16,10 @@ use Rattle.scanner.specs.declared.Scanned.the-variants.{Tokens, Unscanne
 use Rattle.spellings.specs.Bytes.{isLetter, isDigit, isWordByte, isSeparator, isSymbol, run, indexOf, largest, valueOf}
 use Rattle.kinds.specs.Kinds.{wordKind, numberKind, keywordKind, noKind}
 use Rattle.answers.specs.Refusals.{refusal}
+use Rattle.grammar.specs.declared.Found.{Found}
+use Rattle.grammar.specs.declared.Found.the-variants.{At, Absent}
 use Rattle.grammar.specs.Fields.{Lexicon}
+use Rattle.grammar.specs.Lookup.{foundIn}
 
 -- ------------------------------------------------------------------ the lexeme at the front
 
@@ -49,15 +52,11 @@ lexemeOf rest = lexemeBy (getD rest 0 0) rest
 
 -- the kind of a token spelled s that is not a number: a keyword's, if it is one, else the given one
 unfoldable pub kindOf : Lexicon → List ℕ → ℕ → ℕ
-kindOf lex s other =
-    elim (ltb (indexOf s (lex .keywords)) (length (lex .keywords)))
-    [ true ↦ keywordKind (indexOf s (lex .keywords)) | false ↦ other ]
+kindOf lex s other = elim (foundIn s (lex .keywords)) [ At k ↦ keywordKind k | Absent ↦ other ]
 
 -- the spelling number of a word: outside names 0 upward in table order, others 64 upward by first appearance among `words`
 unfoldable pub spellingOf : Lexicon → List (List ℕ) → List ℕ → ℕ
-spellingOf lex words s =
-    elim (ltb (indexOf s (lex .outsides)) (length (lex .outsides)))
-    [ true ↦ indexOf s (lex .outsides) | false ↦ 64 + indexOf s words ]
+spellingOf lex words s = elim (foundIn s (lex .outsides)) [ At k ↦ k | Absent ↦ 64 + indexOf s words ]
 
 -- ------------------------------------------------------------------ tokens
 
@@ -67,8 +66,7 @@ token kind at size value = record { kind = kind; at = at; size = size; value = v
 -- the token at the offset `at` that is spelled s and is not a number: a word has its spelling number, any other the value 0
 abbrev pub spelledToken : Lexicon → List (List ℕ) → ℕ → List ℕ → ℕ → Token
 spelledToken lex words at s kind =
-    elim (eqb kind wordKind)
-    [ true ↦ token kind at (length s) (spellingOf lex words s) | false ↦ token kind at (length s) 0 ]
+    token kind at (length s) (elim (eqb kind wordKind) [ true ↦ spellingOf lex words s | false ↦ 0 ])
 
 -- what is done at the lexeme that stands at the front of what is left of the formula, at the offset `at`
 abbrev pub stepBy : Lexicon → List (List ℕ) → ℕ → List ℕ → Lexeme → Step

@@ -1,5 +1,18 @@
 // The scanner: from the bytes of a formula to its tokens.
 use answers::Refusal;
+use grammar::Found;
+use spellings::Number;
+ghost use mathlib.Core.Path.{_≡_};
+ghost use mathlib.Core.List.{[]};
+ghost use Prim.Native.Nat.{_+_, _*_, _≤_, _<_};
+ghost use lib.ListN.{length, take, drop};
+ghost use lib.Seq.{sets};
+ghost use Rattle.spellings.specs.Bytes.{run, isDigit, indexOf};
+ghost use Rattle.grammar.specs.Fields.{afterLeading, lexiconOf};
+ghost use Rattle.grammar.specs.Lookup.{fieldsAt};
+ghost use Rattle.scanner.specs.Scan.{wordLexeme, numberLexeme, lexemeOf, kindOf, spellingOf, spelledToken, stepOf};
+ghost use Rattle.answers.specs.Refusals.{refusal};
+ghost use Rattle.scanner.specs.Rooms.{rowThen, placeThen, countWith, wordsIn, filled, scanInto};
 
 // What stands at the front of a run of bytes: a separator, a word or a number (with its length), one symbol byte, or a fault.
 pub enum Lexeme {
@@ -30,4 +43,279 @@ pub enum Step {
 pub enum Scanned {
     Tokens(usize, usize),
     Unscanned(Refusal),
+}
+
+// ---------------------------------------------------------------- the lexeme at the front
+
+fn word_lexeme(n: usize) -> Lexeme
+    ensures { λ r. ⌜ r ≡ wordLexeme n ⌝ }
+{
+    if n <= 31 {
+        Lexeme::Word(n)
+    } else {
+        Lexeme::Fault
+    }
+}
+
+fn number_lexeme(rest: &[u8]) -> Lexeme
+    ensures { λ r. ⌜ r ≡ numberLexeme (run isDigit (now (rest .entry))) ⌝ }
+{
+    let n = spellings::digit_run(rest);
+    let number = spellings::value(&rest[..n]);
+    match number {
+        Number::Value(v) => Lexeme::Number(n, v),
+        Number::TooLarge => Lexeme::Fault,
+    }
+}
+
+fn front_lexeme(rest: &[u8]) -> Lexeme
+    ensures { λ r. ⌜ r ≡ lexemeOf (now (rest .entry)) ⌝ }
+{
+    if rest.len() == 0 {
+        return Lexeme::Fault;
+    }
+    let b = rest[0];
+    if spellings::is_separator(b) {
+        return Lexeme::Separator;
+    }
+    if spellings::is_letter(b) {
+        return word_lexeme(spellings::word_run(rest));
+    }
+    if spellings::is_digit(b) {
+        return number_lexeme(rest);
+    }
+    if spellings::is_symbol(b) {
+        return Lexeme::Symbol;
+    }
+    Lexeme::Fault
+}
+
+// ---------------------------------------------------------------- keywords and spelling numbers
+
+// The kind of a token spelled s that is not a number. Which keywords count is asked here alone.
+fn kind_of(table: &[u8], s: &[u8], other: u8) -> u8
+    ensures { λ r. ⌜ r ≡ kindOf (lexiconOf (now (table .entry))) (now (s .entry)) other ⌝ }
+{
+    let found = grammar::find_leading(table, 0, 1, 62, s);
+    match found {
+        Found::At(k) => (k + 2) as u8,
+        Found::Absent => other,
+    }
+}
+
+// The bytes from an offset on, n at most.
+fn part(s: &[u8], at: usize, n: usize) -> &[u8]
+    ensures { λ r. ⌜ now r ≡ take n (drop at (now (s .entry))) ⌝ }
+{
+    if s.len() <= at {
+        return &s[..0];
+    }
+    if s.len() - at <= n {
+        return &s[at..];
+    }
+    let end = at + n;
+    &s[at..end]
+}
+
+fn wide(x: u32) -> usize
+    ensures { λ r. ⌜ r ≡ x ⌝ }
+{
+    x as usize
+}
+
+// Which of the words met so far is spelled s; `count` if none is.
+fn find_word(formula: &[u8], words: &[u32; 8192], count: usize, s: &[u8]) -> usize
+    requires { ⌜ count ≤ 4096 ⌝ }
+    ensures { λ r. ⌜ r ≡ indexOf (now (s .entry)) (wordsIn (now (formula .entry)) (now (words .entry)) count) ⌝ }
+{
+    let mut i: usize = 0;
+    while i < count {
+        let at = wide(words[i * 2]);
+        let size = wide(words[i * 2 + 1]);
+        let here = spellings::equal(part(formula, at, size), s);
+        if here {
+            return i;
+        }
+        i += 1;
+    }
+    i
+}
+
+// The spelling number of a word. The table's outside names begin at the offset `names`.
+fn spelling_of(
+    table: &[u8],
+    names: usize,
+    formula: &[u8],
+    words: &[u32; 8192],
+    count: usize,
+    s: &[u8],
+) -> u32
+    requires { ⌜ count ≤ 4096 ⌝ }
+    requires { ⌜ fieldsAt (now table) names ≡ afterLeading 1 (fieldsAt (now table) 0) ⌝ }
+    ensures { λ r. ⌜ r ≡ spellingOf (lexiconOf (now (table .entry))) (wordsIn (now (formula .entry)) (now (words .entry)) count) (now (s .entry)) ⌝ }
+{
+    let found = grammar::find_leading(table, names, 2, 64, s);
+    match found {
+        Found::At(k) => k as u32,
+        Found::Absent => (64 + find_word(formula, words, count, s)) as u32,
+    }
+}
+
+// ---------------------------------------------------------------- tokens
+
+// The token at an offset that is spelled s and is not a number; `other` is its kind if it is no keyword.
+fn spelled_token(
+    table: &[u8],
+    names: usize,
+    formula: &[u8],
+    words: &[u32; 8192],
+    count: usize,
+    at: usize,
+    s: &[u8],
+    other: u8,
+) -> Token
+    requires { ⌜ count ≤ 4096 ⌝ }
+    requires { ⌜ fieldsAt (now table) names ≡ afterLeading 1 (fieldsAt (now table) 0) ⌝ }
+    requires { ⌜ (at < 65536) × (length (now s) < 65536) ⌝ }
+    ensures { λ r. ⌜ r ≡ spelledToken (lexiconOf (now (table .entry))) (wordsIn (now (formula .entry)) (now (words .entry)) count) at (now (s .entry)) (kindOf (lexiconOf (now (table .entry))) (now (s .entry)) other) ⌝ }
+{
+    let kind = kind_of(table, s, other);
+    let place = at as u32;
+    let size = s.len() as u32;
+    if kind == 0 {
+        let value = spelling_of(table, names, formula, words, count, s);
+        return Token {
+            kind,
+            at: place,
+            size,
+            value,
+        };
+    }
+    Token {
+        kind,
+        at: place,
+        size,
+        value: 0,
+    }
+}
+
+// What is done at the lexeme at an offset of the formula.
+fn step_at(
+    table: &[u8],
+    names: usize,
+    formula: &[u8],
+    words: &[u32; 8192],
+    count: usize,
+    at: usize,
+) -> Step
+    requires { ⌜ count ≤ 4096 ⌝ }
+    requires { ⌜ fieldsAt (now table) names ≡ afterLeading 1 (fieldsAt (now table) 0) ⌝ }
+    requires { ⌜ (at < length (now formula)) × (length (now formula) < 65536) ⌝ }
+    ensures { λ r. ⌜ r ≡ stepOf (lexiconOf (now (table .entry))) (wordsIn (now (formula .entry)) (now (words .entry)) count) at (drop at (now (formula .entry))) ⌝ }
+{
+    let lexeme = front_lexeme(&formula[at..]);
+    match lexeme {
+        Lexeme::Separator => Step::Skip,
+        Lexeme::Word(n) => {
+            let s = part(formula, at, n);
+            Step::Emit(spelled_token(table, names, formula, words, count, at, s, 0))
+        }
+        Lexeme::Number(n, v) => {
+            Step::Emit(Token {
+                kind: 1,
+                at: at as u32,
+                size: n as u32,
+                value: v,
+            })
+        }
+        Lexeme::Symbol => {
+            let s = part(formula, at, 1);
+            Step::Emit(spelled_token(table, names, formula, words, count, at, s, 64))
+        }
+        Lexeme::Fault => Step::Stop,
+    }
+}
+
+// ---------------------------------------------------------------- the lent rooms
+
+fn store_token(tokens: &mut [u32; 16384], n: usize, t: Token)
+    requires { ⌜ n < 4096 ⌝ }
+    ensures { λ _. ⌜ now (tokens .exit) ≡ sets (now (tokens .entry)) (n * 4) (rowThen t []) ⌝ }
+{
+    let i = n * 4;
+    tokens[i] = t.kind as u32;
+    tokens[i + 1] = t.at;
+    tokens[i + 2] = t.size;
+    tokens[i + 3] = t.value;
+}
+
+// The place of a word that is new is stored; the answer is how many words there are then.
+fn store_word(words: &mut [u32], count: usize, t: Token) -> usize
+    requires { ⌜ (count < 4096) × (length (now words) ≡ 8192) ⌝ }
+    ensures { λ r. ⌜ r ≡ countWith count t ⌝ }
+    ensures { λ _. ⌜ now (words .exit) ≡ sets (now (words .entry)) (count * 2) (placeThen count t []) ⌝ }
+{
+    let next = 64 + count as u32;
+    let new = (t.kind == 0) & (t.value == next);
+    if new {
+        let i = count * 2;
+        words[i] = t.at;
+        words[i + 1] = t.size;
+        return count + 1;
+    }
+    count
+}
+
+// ---------------------------------------------------------------- the scan
+
+fn unscanned(number: u8, a: u64) -> Scanned
+    ensures { λ r. ⌜ r ≡ Scanned.Unscanned (refusal number a 0 0) ⌝ }
+{
+    Scanned::Unscanned(Refusal {
+        number,
+        a,
+        b: 0,
+        c: 0,
+    })
+}
+
+// The scan of a formula by the keywords and outside names of a table. Four numbers a token are stored from the front of
+// `tokens`: kind, offset, length, value; two numbers a word from the front of `words`: the offset and the length of the first
+// token that has it, for the spelling numbers from 64 on. Numbers behind these stay as they were, on a refusal too.
+pub fn scan(
+    table: &[u8],
+    formula: &[u8],
+    tokens: &mut [u32; 16384],
+    words: &mut [u32; 8192],
+) -> Scanned
+    ensures { λ r. ⌜ filled r (now (tokens .exit)) (now (words .exit)) ≡ scanInto (lexiconOf (now (table .entry))) (now (formula .entry)) (now (tokens .entry)) (now (words .entry)) ⌝ }
+{
+    if 65535 < formula.len() {
+        return unscanned(14, 0);
+    }
+    let names = grammar::after_leading(table, 1);
+    let mut at: usize = 0;
+    let mut n: usize = 0;
+    let mut count: usize = 0;
+    while at < formula.len() {
+        let step = step_at(table, names, formula, words, count, at);
+        match step {
+            Step::Skip => {
+                at += 1;
+            }
+            Step::Stop => {
+                return unscanned(15, at as u64);
+            }
+            Step::Emit(t) => {
+                if n == 4096 {
+                    return unscanned(16, 0);
+                }
+                store_token(tokens, n, t);
+                count = store_word(words, count, t);
+                n += 1;
+                at += t.size as usize;
+            }
+        }
+    }
+    Scanned::Tokens(n, count)
 }

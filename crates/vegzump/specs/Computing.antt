@@ -40,6 +40,7 @@ unfolding
     Rattle.grammar.specs.Fields.leading
     Rattle.grammar.specs.Fields.afterLeading
     Rattle.grammar.specs.Fields.lexiconOf
+    Rattle.grammar.specs.Lookup.foundIn
     Rattle.layout.specs.Prefix.takeTemplates
     Rattle.layout.specs.Prefix.templatesOf
     Rattle.layout.specs.Layout.isHead

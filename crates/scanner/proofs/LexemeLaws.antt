@@ -1,0 +1,140 @@
+-- Laws of the lexeme at the front, of kinds and of spelling numbers, by the tests that the code makes.
+use Prim.Native.Nat.{ℕ, _+_, _-_, _<_, _≤_}
+use mathlib.Core.Path.{_≡_, refl, sym, ap, _∙_, subst}
+use mathlib.Core.Bool.{Bool, true, false}
+use mathlib.Core.List.{List, [], _∷_}
+use native.Mathlib.Omega.{arith}
+use lib.Dec.{leb}
+use lib.ListN.{length, getD, take, drop, length-take, length-drop, drop-of-length-le}
+use lib.Seq.{take-all, take-nil}
+use borrow.Author.Tests.{le-leb, lt-leb}
+use Rattle.spellings.specs.Bytes.{isLetter, isDigit, isWordByte, isSeparator, isSymbol, run, indexOf, largest, valueOf}
+use Rattle.spellings.specs.BytesLaws.{run-prefix, run-length}
+use Rattle.spellings.specs.Numbers.{numberOf}
+use Rattle.spellings.specs.declared.Number as number
+use Rattle.spellings.specs.declared.Number.the-variants.{Value, TooLarge}
+use Rattle.grammar.specs.declared.Found.{Found}
+use Rattle.grammar.specs.declared.Found.the-variants.{At, Absent}
+use Rattle.grammar.specs.Fields.{Lexicon, leading, afterLeading, lexiconOf}
+use Rattle.grammar.specs.Lookup.{fieldsAt, foundIn}
+use Rattle.grammar.proofs.LookupLaws.{keywords-at, outsides-at, found-within}
+use Rattle.kinds.specs.Kinds.{keywordKind}
+use Rattle.scanner.specs.declared.Lexeme.{Lexeme}
+use Rattle.scanner.specs.declared.Lexeme.the-variants.{Separator, Word, Number, Symbol, Fault}
+use Rattle.scanner.specs.Scan.{wordLexeme, numberLexeme, lexemeOf, kindOf, spellingOf}
+
+-- ------------------------------------------------------------------ words and numbers
+
+pub word-fits : (n : ℕ) → n ≤ 31 → wordLexeme n ≡ Word n
+word-fits n h = rw (le-leb n 31 h, wordLexeme) refl
+
+pub word-long : (n : ℕ) → 31 < n → wordLexeme n ≡ Fault
+word-long n h = rw (lt-leb n 31 h, wordLexeme) refl
+
+abbrev numberBy : ℕ → number.Number → Lexeme
+numberBy n (Value v) = Number n v
+numberBy n TooLarge = Fault
+
+number-tests : (ds : List ℕ) (b : Bool) → leb (valueOf ds) largest ≡ b → numberLexeme ds ≡ numberBy (length ds) (numberOf ds)
+number-tests ds true e = rw (e, numberLexeme, numberBy) refl
+number-tests ds false e = rw (e, numberLexeme, numberBy) refl
+
+-- the digits as the code has them, a part of what is left
+pub number-is : (rest : List ℕ) {n : ℕ} (v : number.Number) → n ≡ length (run isDigit rest) → v ≡ numberOf (take n rest)
+    → numberLexeme (run isDigit rest) ≡ numberBy n v
+number-is rest {n} v e f =
+    let d : take n rest ≡ run isDigit rest = ap (λ (k : ℕ). take k rest) e ∙ sym (run-prefix isDigit rest) in
+    number-tests (run isDigit rest) _ refl ∙ ap (λ (k : ℕ). numberBy k (numberOf (run isDigit rest))) (sym e)
+    ∙ ap (numberBy n) (sym (f ∙ ap numberOf d))
+
+pub digits-within : (rest : List ℕ) {n : ℕ} → n ≡ length (run isDigit rest) → n ≤ length rest
+digits-within rest e = omega (arith, run-length isDigit rest)
+
+-- ------------------------------------------------------------------ the lexeme by its first byte
+
+pub lexeme-none : (rest : List ℕ) → length rest ≡ 0 → lexemeOf rest ≡ Fault
+unfolding lexemeOf
+lexeme-none [] h = refl
+lexeme-none (b ∷ bs) h = absurd (omega arith)
+
+-- by the classes of the first byte
+abbrev chosen : List ℕ → Bool → Bool → Bool → Bool → Lexeme
+chosen rest separator letter digit symbol =
+    elim separator [
+      | true ↦ Separator
+      | false ↦
+          elim letter [
+            | true ↦ wordLexeme (length (run isWordByte rest))
+            | false ↦
+                elim digit
+                [ true ↦ numberLexeme (run isDigit rest) | false ↦ elim symbol [ true ↦ Symbol | false ↦ Fault ] ]
+          ]
+    ]
+
+pub lexeme-is : (rest : List ℕ) {b : ℕ} (separator letter digit symbol : Bool) → b ≡ getD rest 0 0
+    → isSeparator b ≡ separator → isLetter b ≡ letter → isDigit b ≡ digit → isSymbol b ≡ symbol
+    → lexemeOf rest ≡ chosen rest separator letter digit symbol
+unfolding lexemeOf
+lexeme-is rest {b} separator letter digit symbol e s l d y =
+    ap (λ (a : ℕ). chosen rest (isSeparator a) (isLetter a) (isDigit a) (isSymbol a)) (sym e)
+    ∙ ap (λ (t : Bool). chosen rest t (isLetter b) (isDigit b) (isSymbol b)) s
+    ∙ ap (λ (t : Bool). chosen rest separator t (isDigit b) (isSymbol b)) l
+    ∙ ap (λ (t : Bool). chosen rest separator letter t (isSymbol b)) d
+    ∙ ap (λ (t : Bool). chosen rest separator letter digit t) y
+
+-- ------------------------------------------------------------------ kinds and spelling numbers by what a search finds
+
+abbrev kindBy : Found → ℕ → ℕ
+kindBy (At k) other = keywordKind k
+kindBy Absent other = other
+
+pub kind-found : (lex : Lexicon) (s : List ℕ) (other : ℕ) (f : Found) → f ≡ foundIn s (lex .keywords) → kindOf lex s other ≡ kindBy f other
+unfolding kindOf
+kind-found lex s other (At k) e = rw (← e, kindOf) refl
+kind-found lex s other Absent e = rw (← e, kindOf) refl
+
+pub kind-is : (table s : List ℕ) (other : ℕ) (f : Found) → f ≡ foundIn s (take 62 (leading 1 (fieldsAt table 0)))
+    → kindOf (lexiconOf table) s other ≡ kindBy f other
+kind-is table s other f e = kind-found (lexiconOf table) s other f (e ∙ ap (foundIn s) (sym (keywords-at table)))
+
+-- a place among at most `most` spellings
+below : (most : ℕ) (s : List ℕ) (vs : List (List ℕ)) {k : ℕ} → At k ≡ foundIn s (take most vs) → k < most
+below most s vs e = omega (arith, found-within s (take most vs) e, length-take most vs)
+
+pub keyword-below : (table s : List ℕ) {k : ℕ} → At k ≡ foundIn s (take 62 (leading 1 (fieldsAt table 0))) → k < 62
+keyword-below table s e = below 62 s (leading 1 (fieldsAt table 0)) e
+
+pub outside-below : (table s : List ℕ) (names : ℕ) {k : ℕ} → At k ≡ foundIn s (take 64 (leading 2 (fieldsAt table names))) → k < 64
+outside-below table s names e = below 64 s (leading 2 (fieldsAt table names)) e
+
+abbrev spellingBy : Found → ℕ → ℕ
+spellingBy (At k) word = k
+spellingBy Absent word = 64 + word
+
+pub spelling-found : (lex : Lexicon) (words : List (List ℕ)) (s : List ℕ) (f : Found) → f ≡ foundIn s (lex .outsides)
+    → spellingOf lex words s ≡ spellingBy f (indexOf s words)
+unfolding spellingOf
+spelling-found lex words s (At k) e = rw (← e, spellingOf) refl
+spelling-found lex words s Absent e = rw (← e, spellingOf) refl
+
+pub spelling-is : (table s : List ℕ) (words : List (List ℕ)) (names : ℕ) (f : Found)
+    → fieldsAt table names ≡ afterLeading 1 (fieldsAt table 0)
+    → f ≡ foundIn s (take 64 (leading 2 (fieldsAt table names)))
+    → spellingOf (lexiconOf table) words s ≡ spellingBy f (indexOf s words)
+spelling-is table s words names f n e =
+    spelling-found (lexiconOf table) words s f (e ∙ ap (foundIn s) (sym (outsides-at table names n)))
+
+-- ------------------------------------------------------------------ a part of a formula
+
+module _ (s : List ℕ) (at n : ℕ) where
+  pub part-past : length s ≤ at → [] ≡ take n (drop at s)
+  part-past h = sym (ap (take n) (drop-of-length-le s h) ∙ take-nil n)
+
+  pub part-rest : length s - at ≤ n → take (length s - at) (drop at s) ≡ take n (drop at s)
+  part-rest h =
+      let k : length (drop at s) ≤ n = omega (arith, length-drop at s) in
+      let j : length (drop at s) ≤ length s - at = omega (arith, length-drop at s) in
+      take-all (length s - at) (drop at s) j ∙ sym (take-all n (drop at s) k)
+
+  pub part-within : take (at + n - at) (drop at s) ≡ take n (drop at s)
+  part-within = let z : at + n - at ≡ n = omega arith in ap (λ (k : ℕ). take k (drop at s)) z

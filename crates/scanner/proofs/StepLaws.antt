@@ -1,0 +1,144 @@
+-- What is known of the lexeme at the front and of the token made of it.
+use Prim.Native.Nat.{ℕ, zero, suc, _+_, _-_, _<_, _≤_}
+use mathlib.Core.Path.{_≡_, refl, sym, ap, _∙_, subst}
+use mathlib.Core.Bool.{Bool, true, false}
+use mathlib.Core.List.{List, [], _∷_}
+use native.Mathlib.Omega.{arith}
+use lib.Dec.{eqb, leb}
+use lib.ListN.{length, getD, take, drop, length-take, length-drop}
+use lib.Seq.{take-all}
+use borrow.Author.Tests.{leb-true, eq-eqb, ne-eqb}
+use Rattle.spellings.specs.Bytes.{isLetter, isDigit, isWordByte, isSeparator, isSymbol, run, largest, valueOf}
+use Rattle.spellings.specs.BytesLaws.{run-taken, run-length, letter-word-byte}
+use Rattle.grammar.specs.Fields.{Lexicon}
+use Rattle.kinds.specs.Kinds.{wordKind, numberKind, noKind}
+use Rattle.scanner.specs.declared.Token.{Token}
+use Rattle.scanner.specs.declared.Lexeme.{Lexeme}
+use Rattle.scanner.specs.declared.Lexeme.the-variants.{Separator, Word, Number, Symbol, Fault}
+use Rattle.scanner.specs.declared.Step.{Step}
+use Rattle.scanner.specs.declared.Step.the-variants.{Skip, Stop, Emit}
+use Rattle.scanner.specs.Scan.{wordLexeme, numberLexeme, lexemeOf, kindOf, spellingOf, token, spelledToken, stepBy, stepOf}
+use Rattle.scanner.proofs.LexemeLaws as lexemes
+
+-- ------------------------------------------------------------------ the lexeme at the front
+
+-- what a lexeme says of the bytes at the front
+abbrev pub Fits : List ℕ → Lexeme → Type 0
+Fits rest Separator = isSeparator (getD rest 0 0) ≡ true
+Fits rest (Word n) = (isLetter (getD rest 0 0) ≡ true) × (n ≡ length (run isWordByte rest)) × (n ≤ 31)
+Fits rest (Number n v) =
+    (isDigit (getD rest 0 0) ≡ true) × (n ≡ length (run isDigit rest)) × (v ≡ valueOf (run isDigit rest)) × (v ≤ largest)
+Fits rest Symbol = isSymbol (getD rest 0 0) ≡ true
+Fits rest Fault = Unit {0}
+
+word-fits : (rest : List ℕ) (b : Bool) → isLetter (getD rest 0 0) ≡ true → leb (length (run isWordByte rest)) 31 ≡ b
+    → Fits rest (wordLexeme (length (run isWordByte rest)))
+word-fits rest true l e =
+    let h : length (run isWordByte rest) ≤ 31 = leb-true (length (run isWordByte rest)) 31 e in
+    subst (Fits rest) (sym (lexemes.word-fits (length (run isWordByte rest)) h)) (l, refl, h)
+word-fits rest false l e =
+    let z : wordLexeme (length (run isWordByte rest)) ≡ Fault = rw (e, wordLexeme) refl in
+    subst (Fits rest) (sym z) tt
+
+number-fits : (rest : List ℕ) (b : Bool) → isDigit (getD rest 0 0) ≡ true → leb (valueOf (run isDigit rest)) largest ≡ b
+    → Fits rest (numberLexeme (run isDigit rest))
+number-fits rest true d e =
+    let z : numberLexeme (run isDigit rest) ≡ Number (length (run isDigit rest)) (valueOf (run isDigit rest)) = rw (e, numberLexeme) refl in
+    subst (Fits rest) (sym z) (d, refl, refl, leb-true (valueOf (run isDigit rest)) largest e)
+number-fits rest false d e =
+    let z : numberLexeme (run isDigit rest) ≡ Fault = rw (e, numberLexeme) refl in
+    subst (Fits rest) (sym z) tt
+
+fits-by : (rest : List ℕ) (separator letter digit symbol : Bool) → isSeparator (getD rest 0 0) ≡ separator
+    → isLetter (getD rest 0 0) ≡ letter → isDigit (getD rest 0 0) ≡ digit → isSymbol (getD rest 0 0) ≡ symbol
+    → Fits rest (lexemeOf rest)
+fits-by rest true letter digit symbol s l d y =
+    subst (Fits rest) (sym (lexemes.lexeme-is rest true letter digit symbol refl s l d y)) s
+fits-by rest false true digit symbol s l d y =
+    subst (Fits rest) (sym (lexemes.lexeme-is rest false true digit symbol refl s l d y)) (word-fits rest _ l refl)
+fits-by rest false false true symbol s l d y =
+    subst (Fits rest) (sym (lexemes.lexeme-is rest false false true symbol refl s l d y)) (number-fits rest _ d refl)
+fits-by rest false false false true s l d y =
+    subst (Fits rest) (sym (lexemes.lexeme-is rest false false false true refl s l d y)) y
+fits-by rest false false false false s l d y =
+    subst (Fits rest) (sym (lexemes.lexeme-is rest false false false false refl s l d y)) tt
+
+pub lexeme-fits : (rest : List ℕ) (l : Lexeme) → l ≡ lexemeOf rest → Fits rest l
+lexeme-fits rest l e = subst (Fits rest) (sym e) (fits-by rest _ _ _ _ refl refl refl refl)
+
+-- a run that begins has a byte
+pub run-some : (p : ℕ → Bool) (s : List ℕ) → 0 < length s → p (getD s 0 0) ≡ true → 0 < length (run p s)
+run-some p [] h e = absurd (omega arith)
+run-some p (b ∷ bs) h e = let z : length (run p (b ∷ bs)) ≡ suc (length (run p bs)) = ap length (run-taken p b bs e) in omega arith
+
+-- ------------------------------------------------------------------ the token
+
+-- a token stands at its offset and lies in what is left
+abbrev pub Lies : ℕ → List ℕ → Step → Type 0
+Lies at rest Skip = Unit {0}
+Lies at rest Stop = Unit {0}
+Lies at rest (Emit t) = (t .at ≡ at) × (0 < t .size) × (t .size ≤ length rest)
+
+lies-by : (lex : Lexicon) (words : List (List ℕ)) (at : ℕ) (rest : List ℕ) (l : Lexeme) → 0 < length rest → Fits rest l
+    → Lies at rest (stepBy lex words at rest l)
+lies-by lex words at rest Separator h f = tt
+lies-by lex words at rest (Word n) h f =
+    let some : 0 < length (run isWordByte rest) = run-some isWordByte rest h (letter-word-byte (getD rest 0 0) (f .0)) in
+    (refl, omega (arith, length-take n rest), omega (arith, length-take n rest))
+lies-by lex words at rest (Number n v) h f =
+    let some : 0 < length (run isDigit rest) = run-some isDigit rest h (f .0) in
+    (refl, omega arith, omega (arith, run-length isDigit rest))
+lies-by lex words at rest Symbol h f = (refl, omega (arith, length-take 1 rest), omega (arith, length-take 1 rest))
+lies-by lex words at rest Fault h f = tt
+
+pub step-by : (lex : Lexicon) (words : List (List ℕ)) (at : ℕ) (rest : List ℕ) {l : Lexeme} → l ≡ lexemeOf rest
+    → stepBy lex words at rest l ≡ stepOf lex words at rest
+unfolding stepOf
+step-by lex words at rest e = ap (stepBy lex words at rest) e
+
+pub step-lies : (lex : Lexicon) (words : List (List ℕ)) (at : ℕ) (rest : List ℕ) (r : Step) → 0 < length rest
+    → r ≡ stepOf lex words at rest
+    → Lies at rest r
+step-lies lex words at rest r h e =
+    subst (Lies at rest) (step-by lex words at rest refl ∙ sym e)
+    (lies-by lex words at rest (lexemeOf rest) h (lexeme-fits rest (lexemeOf rest) refl))
+
+-- ------------------------------------------------------------------ the steps as the code takes them
+
+module _ (lex : Lexicon) (words : List (List ℕ)) (at : ℕ) (s : List ℕ) (other : ℕ) where
+  pub token-word : {kind value : ℕ} → kind ≡ kindOf lex s other → kind ≡ 0 → value ≡ spellingOf lex words s
+      → token kind at (length s) value ≡ spelledToken lex words at s (kindOf lex s other)
+  token-word {kind} {value} e z v =
+      ap (token kind at (length s))
+      (v ∙ ap (λ (t : Bool). elim t [ true ↦ spellingOf lex words s | false ↦ 0 ]) (sym (eq-eqb kind wordKind z)))
+      ∙ ap (spelledToken lex words at s) e
+
+  pub token-other : {kind : ℕ} → kind ≡ kindOf lex s other → (kind ≡ 0 → ⊥)
+      → token kind at (length s) 0 ≡ spelledToken lex words at s (kindOf lex s other)
+  token-other {kind} e z =
+      ap (token kind at (length s))
+      (ap (λ (t : Bool). elim t [ true ↦ spellingOf lex words s | false ↦ 0 ]) (sym (ne-eqb kind wordKind z)))
+      ∙ ap (spelledToken lex words at s) e
+
+-- the rest of a formula as the code lends it
+pub rest-lent : (formula : List ℕ) (at : ℕ) → take (length formula - at) (drop at formula) ≡ drop at formula
+rest-lent formula at = take-all (length formula - at) (drop at formula) (omega (arith, length-drop at formula))
+
+pub lexeme-lent : (formula : List ℕ) (at : ℕ) {l : Lexeme} → l ≡ lexemeOf (take (length formula - at) (drop at formula))
+    → l ≡ lexemeOf (drop at formula)
+lexeme-lent formula at e = e ∙ ap lexemeOf (rest-lent formula at)
+
+pub number-within : (formula : List ℕ) (at n v : ℕ) → Number n v ≡ lexemeOf (drop at formula) → n ≤ length formula
+number-within formula at n v e =
+    omega
+    (arith, lexeme-fits (drop at formula) (Number n v) e .1, run-length isDigit (drop at formula), length-drop at formula)
+
+pub part-within : (formula : List ℕ) (at n : ℕ) {s : List ℕ} → s ≡ take n (drop at formula) → length s ≤ length formula
+part-within formula at n e =
+    omega (arith, ap length e, length-take n (drop at formula), length-drop at formula)
+
+pub emit-spelled : (lex : Lexicon) (words : List (List ℕ)) (at other : ℕ) {s u : List ℕ} {t : Token}
+    → t ≡ spelledToken lex words at s (kindOf lex s other) → s ≡ u
+    → Emit t ≡ Emit (spelledToken lex words at u (kindOf lex u other))
+emit-spelled lex words at other e f =
+    ap Emit (e ∙ ap (λ (v : List ℕ). spelledToken lex words at v (kindOf lex v other)) f)

@@ -1,0 +1,156 @@
+-- Laws of the rooms: stores of a token and of a word's place, and the words that a room of places names.
+use Prim.Native.Nat.{ℕ, zero, suc, _+_, _-_, _*_, _<_, _≤_}
+use mathlib.Core.Path.{_≡_, refl, sym, ap, _∙_, subst}
+use mathlib.Core.Bool.{Bool, true, false}
+use mathlib.Core.List.{List, [], _∷_, _++_}
+use native.Mathlib.Nat.{add-zero, zero-add, add-assoc}
+use native.Mathlib.Numerals.{add-one, add-two, add-three, add-four}
+use native.Mathlib.Omega.{arith}
+use lib.ListN.{length, getD, set, take, drop, length-set}
+use lib.Seq.{sets, getD-set-same, getD-set-other}
+use Rattle.spellings.specs.Bytes.{same, indexOf}
+use Rattle.spellings.specs.BytesLaws.{index-le}
+use Rattle.scanner.specs.declared.Token.{Token}
+use Rattle.scanner.specs.Scan.{isNew, wordsWith}
+use Rattle.scanner.specs.Rooms.{rowThen, placeThen, countWith, wordsFrom, wordsIn}
+
+-- ------------------------------------------------------------------ stores
+
+pub token-stored : (room : List ℕ) (i : ℕ) (t : Token)
+    → set (set (set (set room i (t .kind)) (i + 1) (t .at)) (i + 2) (t .size)) (i + 3) (t .value) ≡ sets room i (rowThen t [])
+token-stored room i t = rw (add-one, add-two, add-three) refl
+
+pub place-stored : (room : List ℕ) (i a b : ℕ) → set (set room i a) (i + 1) b ≡ sets room i (a ∷ b ∷ [])
+place-stored room i a b = rw add-one refl
+
+module _ (room : List ℕ) (count : ℕ) (t : Token) where
+  pub place-new : isNew count t ≡ true → set (set room (count * 2) (t .at)) (count * 2 + 1) (t .size) ≡ sets room (count * 2) (placeThen count t [])
+  place-new e =
+      let p : placeThen count t [] ≡ t .at ∷ t .size ∷ [] = rw (e, placeThen) refl in
+      place-stored room (count * 2) (t .at) (t .size) ∙ sym (ap (sets room (count * 2)) p)
+
+  pub place-old : isNew count t ≡ false → room ≡ sets room (count * 2) (placeThen count t [])
+  place-old e = let p : placeThen count t [] ≡ [] = rw (e, placeThen) refl in sym (ap (sets room (count * 2)) p)
+
+  pub count-new : isNew count t ≡ true → count + 1 ≡ countWith count t
+  count-new e = rw (e, countWith) refl
+
+  pub count-old : isNew count t ≡ false → count ≡ countWith count t
+  count-old e = rw (e, countWith) refl
+
+-- ------------------------------------------------------------------ the search for a word
+
+index-here : (s v : List ℕ) (vs : List (List ℕ)) → same v s ≡ true → indexOf s (v ∷ vs) ≡ 0
+unfolding indexOf
+index-here s v vs e = rw (e, indexOf) refl
+
+index-later : (s v : List ℕ) (vs : List (List ℕ)) → same v s ≡ false → indexOf s (v ∷ vs) ≡ suc (indexOf s vs)
+unfolding indexOf
+index-later s v vs e = rw (e, indexOf) refl
+
+-- i words are not spelled s; those that are left give what is asked
+pub record Finding (formula room s : List ℕ) (count i : ℕ) : Type 0 where
+  pub small : i ≤ count
+  pub rest : i + indexOf s (wordsFrom (count - i) formula room i) ≡ indexOf s (wordsIn formula room count)
+
+pub finding-start : (formula room s : List ℕ) (count : ℕ) → Finding formula room s count 0
+finding-start formula room s count =
+    let z : count - 0 ≡ count = omega arith in
+    record { small = omega arith; rest = rw z (zero-add _) }
+
+module _ {formula room s : List ℕ} {count i : ℕ} (c : Finding formula room s count i) where
+  pub finding-end : count ≤ i → i ≡ indexOf s (wordsIn formula room count)
+  unfolding wordsFrom indexOf
+  finding-end h =
+      let z : count - i ≡ 0 = omega arith in
+      sym (ap (λ (k : ℕ). i + indexOf s (wordsFrom k formula room i)) z ∙ add-zero i) ∙ c .rest
+
+  module _ (h : i < count) {at size : ℕ} (ea : at ≡ getD room (i * 2) 0) (es : size ≡ getD room (i * 2 + 1) 0) where
+    word-left : wordsFrom (count - i) formula room i ≡ take size (drop at formula) ∷ wordsFrom (count - (i + 1)) formula room (i + 1)
+    unfolding wordsFrom
+    word-left =
+        let z : count - i ≡ suc (count - (i + 1)) = omega arith in
+        rw (ea, es) (ap (λ (k : ℕ). wordsFrom k formula room i) z)
+
+    pub finding-found : same (take size (drop at formula)) s ≡ true → i ≡ indexOf s (wordsIn formula room count)
+    finding-found e =
+        sym (ap (λ (l : List (List ℕ)). i + indexOf s l) word-left ∙ ap (λ (k : ℕ). i + k) (index-here s _ _ e) ∙ add-zero i)
+        ∙ c .rest
+
+    pub finding-next : same (take size (drop at formula)) s ≡ false → Finding formula room s count (i + 1)
+    finding-next e =
+        let f : indexOf s (wordsFrom (count - i) formula room i) ≡ suc (indexOf s (wordsFrom (count - (i + 1)) formula room (i + 1)))
+        = ap (indexOf s) word-left ∙ index-later s _ _ e in
+        record { small = omega arith; rest = omega (arith, c .rest) }
+
+-- ------------------------------------------------------------------ the words that a room of places names
+
+pub words-length : (k : ℕ) (formula room : List ℕ) (i : ℕ) → length (wordsFrom k formula room i) ≡ k
+unfolding wordsFrom
+words-length zero formula room i = refl
+words-length (suc k) formula room i = ap suc (words-length k formula room (i + 1))
+
+pub index-small : (formula room s : List ℕ) (count : ℕ) {r : ℕ} → r ≡ indexOf s (wordsIn formula room count) → r ≤ count
+index-small formula room s count e =
+    omega (arith, index-le s (wordsIn formula room count), words-length count formula room 0)
+
+-- one word more at the end
+words-snoc : (k : ℕ) (formula room : List ℕ) (i : ℕ)
+    → wordsFrom (suc k) formula room i
+    ≡ wordsFrom k formula room i ++ (take (getD room ((i + k) * 2 + 1) 0) (drop (getD room ((i + k) * 2) 0) formula) ∷ [])
+unfolding wordsFrom
+words-snoc zero formula room i = rw add-zero refl
+words-snoc (suc k) formula room i =
+    let z : i + 1 + k ≡ i + suc k = omega arith in
+    ap (λ (l : List (List ℕ)). take (getD room (i * 2 + 1) 0) (drop (getD room (i * 2) 0) formula) ∷ l)
+    (words-snoc k formula room (i + 1)
+    ∙ ap (λ (j : ℕ). wordsFrom k formula room (i + 1) ++ (take (getD room (j * 2 + 1) 0) (drop (getD room (j * 2) 0) formula) ∷ [])) z)
+
+-- a store behind the words leaves them
+words-same : (k : ℕ) (formula room : List ℕ) (i j v : ℕ) → (i + k) * 2 ≤ j
+    → wordsFrom k formula (set room j v) i ≡ wordsFrom k formula room i
+unfolding wordsFrom
+words-same zero formula room i j v h = refl
+words-same (suc k) formula room i j v h =
+    let a : getD (set room j v) (i * 2 + 1) 0 ≡ getD room (i * 2 + 1) 0 = getD-set-other room j (i * 2 + 1) v 0 (omega arith) in
+    let b : getD (set room j v) (i * 2) 0 ≡ getD room (i * 2) 0 = getD-set-other room j (i * 2) v 0 (omega arith) in
+    rw (a, b, words-same k formula room (i + 1) j v (omega arith)) refl
+
+-- the words after the place of one more is stored behind them
+words-added : (formula room : List ℕ) (count at size : ℕ) → count * 2 + 1 < length room
+    → wordsIn formula (sets room (count * 2) (at ∷ size ∷ [])) (count + 1)
+    ≡ wordsIn formula room count ++ (take size (drop at formula) ∷ [])
+words-added formula room count at size h =
+    let room₁ : List ℕ = set room (count * 2) at in
+    let room₂ : List ℕ = set room₁ (count * 2 + 1) size in
+    let e : sets room (count * 2) (at ∷ size ∷ []) ≡ room₂ = sym (place-stored room (count * 2) at size) in
+    let z : 0 + count ≡ count = omega arith in
+    let a : getD room₂ (count * 2) 0 ≡ at
+    = getD-set-other room₁ (count * 2 + 1) (count * 2) size 0 (omega arith)
+    ∙ getD-set-same room (count * 2) at 0 (omega arith) in
+    let b : getD room₂ (count * 2 + 1) 0 ≡ size
+    = getD-set-same room₁ (count * 2 + 1) size 0 (omega (arith, length-set room (count * 2) at)) in
+    let w : wordsFrom count formula room₂ 0 ≡ wordsFrom count formula room 0
+    = words-same count formula room₁ 0 (count * 2 + 1) size (omega arith)
+    ∙ words-same count formula room 0 (count * 2) at (omega arith) in
+    rw (e, add-one count, words-snoc count formula room₂ 0, z, a, b, w) refl
+
+words-by : (formula room : List ℕ) (count : ℕ) (t : Token) (new : Bool) → count * 2 + 1 < length room
+    → wordsIn formula (sets room (count * 2) (elim new [ true ↦ t .at ∷ t .size ∷ [] | false ↦ [] ]))
+    (elim new [ true ↦ count + 1 | false ↦ count ])
+    ≡ elim new [ true ↦ wordsIn formula room count ++ (take (t .size) (drop (t .at) formula) ∷ []) | false ↦ wordsIn formula room count ]
+words-by formula room count t true h = words-added formula room count (t .at) (t .size) h
+words-by formula room count t false h = refl
+
+-- the words after a token is stored
+pub words-stored : (formula room : List ℕ) (count : ℕ) (t : Token) → count * 2 + 1 < length room
+    → wordsIn formula (sets room (count * 2) (placeThen count t [])) (countWith count t)
+    ≡ wordsWith (wordsIn formula room count) (take (t .size) (drop (t .at) formula)) t
+unfolding wordsWith
+words-stored formula room count t h =
+    words-by formula room count t (isNew count t) h
+    ∙ ap
+    (λ (k : ℕ).
+    elim (isNew k t)
+    [ true ↦ wordsIn formula room count ++ (take (t .size) (drop (t .at) formula) ∷ []) | false ↦ wordsIn formula room count ])
+    (sym (words-length count formula room 0))

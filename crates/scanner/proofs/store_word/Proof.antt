@@ -1,0 +1,60 @@
+-- `store_word`: two stores if the word is new.
+use native.Mathlib.Omega.{arith}
+use lib.ListN.{length-set}
+use borrow.Author.Needs.{needs}
+use Rattle.scanner.proofs.WordLaws as laws
+use Rattle.scanner.proofs.store_word.Statement.{statement}
+use Rattle.scanner.proofs.store_word.Tie as tie
+
+cast-next : tie.Need-cast-next
+cast-next c = search needs
+
+add-next : tie.Need-add-next
+add-next c = search needs
+
+mul-i : tie.Need-mul-i
+mul-i c = search needs
+
+mul-words : tie.Need-mul-words
+mul-words c = search needs
+
+slice-write-words : tie.Need-slice-write-words
+slice-write-words c = search needs
+
+add-words : tie.Need-add-words
+add-words c = search needs
+
+mul-words-2 : tie.Need-mul-words-2
+mul-words-2 c = search needs
+
+slice-write-words-2 : tie.Need-slice-write-words-2
+slice-write-words-2 c = simp length-set (omega (arith, c .before .before .before .pre))
+
+add-result : tie.Need-add-result
+add-result c = search needs
+
+same-length : tie.Need-same-length
+same-length c = simp length-set
+
+returns : tie.Need-returns
+returns c = (laws.count-new (c .before .before .before .args .words .now) (c .before .before .before .args .count) (c .before .before .before .args .t) (c .if1 .taken), laws.place-new (c .before .before .before .args .words .now) (c .before .before .before .args .count) (c .before .before .before .args .t) (c .if1 .taken))
+
+returns-2 : tie.Need-returns-2
+returns-2 c = (laws.count-old (c .before .before .before .args .words .now) (c .before .before .before .args .count) (c .before .before .before .args .t) (c .if1 .left), laws.place-old (c .before .before .before .args .words .now) (c .before .before .before .args .count) (c .before .before .before .args .t) (c .if1 .left))
+
+pub store-word-spec : {M : Type 1} → statement M
+store-word-spec =
+    tie.close
+    (tie.spec
+    cast-next
+    add-next
+    mul-i
+    mul-words
+    slice-write-words
+    add-words
+    mul-words-2
+    slice-write-words-2
+    add-result
+    same-length
+    returns
+    returns-2)
