@@ -1,2 +1,3 @@
 pub mod LookupLaws
 pub mod ReaderLaws
+pub mod SortLaws

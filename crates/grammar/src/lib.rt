@@ -1,5 +1,6 @@
 // Sorts, constructors and the phrase table.
 pub mod reader;
+pub mod sorts;
 
 use spellings::equal;
 ghost use mathlib.Core.Path.{_≡_};
