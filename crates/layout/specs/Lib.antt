@@ -1,3 +1,4 @@
 pub mod Prefix
 pub mod Layout
 pub mod Decode
+pub mod Within

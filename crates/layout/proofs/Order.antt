@@ -1,0 +1,153 @@
+-- Order: the fields that may follow a tag are those of parts of a table, and each field that may come next begins one of them.
+use Prim.Native.Nat.{ℕ, zero, suc, _≤_}
+use mathlib.Core.Path.{_≡_, refl, sym, ap, _∙_}
+use mathlib.Core.Bool.{Bool, true, false, false≢true}
+use mathlib.Core.List.{List, [], _∷_}
+use native.Mathlib.Omega.{arith}
+use lib.ListN.{getD}
+use Rattle.grammar.specs.Table.{Template, Item, Alternative, Definition}
+use Rattle.grammar.specs.Encode.{Field, field, templateThen, itemValue, headValue, spellingsThen, itemsThen, alternativesThen, definitionsThen, blocksThen}
+use Rattle.layout.specs.Layout.{follows}
+use Rattle.layout.specs.Decode.{Built, built}
+
+-- ------------------------------------------------------------------ what is left to come
+
+module _ (b : Built) where
+  abbrev pub rootLeft : List Field
+  rootLeft = field 8 (b .root ∷ []) ∷ []
+
+  abbrev pub blocksLeft : List Field
+  blocksLeft = blocksThen (b .blocks) rootLeft
+
+  abbrev pub definitionsLeft : List Field
+  definitionsLeft = definitionsThen (b .definitions) blocksLeft
+
+  abbrev pub alternativesLeft : List Field
+  alternativesLeft = alternativesThen (b .alternatives) definitionsLeft
+
+  abbrev pub itemsLeft : List Field
+  itemsLeft = itemsThen (b .items) (field 7 (templateThen (b .result) []) ∷ alternativesLeft)
+
+  abbrev pub outsidesLeft : List Field
+  outsidesLeft = spellingsThen 2 (b .outsides) blocksLeft
+
+  abbrev pub keywordsLeft : List Field
+  keywordsLeft = spellingsThen 1 (b .keywords) outsidesLeft
+
+-- after the tag `last` (0 at the start), the parts that are still open
+unfoldable pub left : ℕ → Built → List Field
+left last b =
+    getD
+    (keywordsLeft b
+    ∷ keywordsLeft b
+    ∷ outsidesLeft b
+    ∷ definitionsLeft b
+    ∷ alternativesLeft b
+    ∷ itemsLeft b
+    ∷ itemsLeft b
+    ∷ alternativesLeft b
+    ∷ [])
+    last
+    []
+
+-- ------------------------------------------------------------------ one field
+
+-- a statement of each tag from 0 to 8
+pub up-to-eight : (P : ℕ → Type 0) → P 0 → P 1 → P 2 → P 3 → P 4 → P 5 → P 6 → P 7 → P 8 → (n : ℕ) → n ≤ 8 → P n
+up-to-eight P p0 p1 p2 p3 p4 p5 p6 p7 p8 zero h = p0
+up-to-eight P p0 p1 p2 p3 p4 p5 p6 p7 p8 (suc zero) h = p1
+up-to-eight P p0 p1 p2 p3 p4 p5 p6 p7 p8 (suc (suc zero)) h = p2
+up-to-eight P p0 p1 p2 p3 p4 p5 p6 p7 p8 (suc (suc (suc zero))) h = p3
+up-to-eight P p0 p1 p2 p3 p4 p5 p6 p7 p8 (suc (suc (suc (suc zero)))) h = p4
+up-to-eight P p0 p1 p2 p3 p4 p5 p6 p7 p8 (suc (suc (suc (suc (suc zero))))) h = p5
+up-to-eight P p0 p1 p2 p3 p4 p5 p6 p7 p8 (suc (suc (suc (suc (suc (suc zero)))))) h = p6
+up-to-eight P p0 p1 p2 p3 p4 p5 p6 p7 p8 (suc (suc (suc (suc (suc (suc (suc zero))))))) h = p7
+up-to-eight P p0 p1 p2 p3 p4 p5 p6 p7 p8 (suc (suc (suc (suc (suc (suc (suc (suc zero)))))))) h = p8
+up-to-eight P p0 p1 p2 p3 p4 p5 p6 p7 p8 (suc (suc (suc (suc (suc (suc (suc (suc (suc n))))))))) h = absurd (omega arith)
+
+no : {A : Type 0} → false ≡ true → A
+no e = absurd (false≢true e)
+
+-- wherever the tag may come, these fields are what is left
+abbrev pub Opens : ℕ → Built → List Field → Type 0
+Opens tag b fs = (last : ℕ) → last ≤ 8 → follows tag last ≡ true → left last b ≡ fs
+
+module _ (tag : ℕ) (b : Built) (fs : List Field) where
+  abbrev After : ℕ → Type 0
+  After last = follows tag last ≡ true → left last b ≡ fs
+
+  by-last : After 0 → After 1 → After 2 → After 3 → After 4 → After 5 → After 6 → After 7 → After 8 → Opens tag b fs
+  by-last = up-to-eight After
+
+-- ------------------------------------------------------------------ the parts with one field more, those before it not yet begun
+
+abbrev pub withKeyword : List ℕ → Built → Built
+withKeyword v b = built (v ∷ b .keywords) (b .outsides) (b .blocks) (b .root) [] [] [] (b .result)
+
+abbrev pub withOutside : List ℕ → Built → Built
+withOutside v b = built [] (v ∷ b .outsides) (b .blocks) (b .root) [] [] [] (b .result)
+
+abbrev pub withBlock : Built → Built
+withBlock b = built [] [] (b .definitions ∷ b .blocks) (b .root) [] [] [] (b .result)
+
+abbrev pub withDefinition : Definition → Built → Built
+withDefinition d b = built [] [] (b .blocks) (b .root) (d ∷ b .definitions) [] [] (b .result)
+
+abbrev pub alternativeOf : Built → Alternative
+alternativeOf b = record { items = b .items; result = b .result }
+
+abbrev pub withAlternative : Built → Built
+withAlternative b = built [] [] (b .blocks) (b .root) (b .definitions) (alternativeOf b ∷ b .alternatives) [] (b .result)
+
+abbrev pub withItem : Item → Built → Built
+withItem i b = built [] [] (b .blocks) (b .root) (b .definitions) (b .alternatives) (i ∷ b .items) (b .result)
+
+abbrev pub withResult : Template → Built → Built
+withResult t b = built [] [] (b .blocks) (b .root) (b .definitions) (b .alternatives) [] t
+
+abbrev pub withRoot : ℕ → Built → Built
+withRoot r b = built [] [] [] r [] [] [] (b .result)
+
+-- The field stands in front of what follows it, after each tag that it may follow.
+module _ (b : Built) where
+  pub opens-keyword : (v : List ℕ) → Opens 1 (withKeyword v b) (field 1 v ∷ left 1 b)
+  unfolding left follows spellingsThen
+  opens-keyword v =
+      by-last 1 (withKeyword v b) (field 1 v ∷ left 1 b) (λ e. refl) (λ e. refl) no no no no no no no
+
+  pub opens-outside : (v : List ℕ) → Opens 2 (withOutside v b) (field 2 v ∷ left 2 b)
+  unfolding left follows spellingsThen
+  opens-outside v =
+      by-last 2 (withOutside v b) (field 2 v ∷ left 2 b) (λ e. refl) (λ e. refl) (λ e. refl) no no no no no no
+
+  pub opens-block : Opens 3 (withBlock b) (field 3 [] ∷ left 3 b)
+  unfolding left follows spellingsThen blocksThen definitionsThen alternativesThen
+  opens-block =
+      by-last 3 (withBlock b) (field 3 [] ∷ left 3 b) (λ e. refl) (λ e. refl) (λ e. refl) (λ e. refl) no no no (λ e. refl) no
+
+  pub opens-definition : (d : Definition) → d .alternatives ≡ b .alternatives
+      → Opens 4 (withDefinition d b) (field 4 (headValue d) ∷ left 4 b)
+  unfolding left follows definitionsThen alternativesThen
+  opens-definition d a =
+      let same = ap (λ rest. field 4 (headValue d) ∷ alternativesThen rest (definitionsLeft b)) a in
+      by-last 4 (withDefinition d b) (field 4 (headValue d) ∷ left 4 b) no no no (λ e. same) no no no (λ e. same) no
+
+  pub opens-alternative : Opens 5 (withAlternative b) (field 5 [] ∷ left 5 b)
+  unfolding left follows alternativesThen
+  opens-alternative =
+      by-last 5 (withAlternative b) (field 5 [] ∷ left 5 b) no no no no (λ e. refl) no no (λ e. refl) no
+
+  pub opens-item : (i : Item) → Opens 6 (withItem i b) (field 6 (itemValue i) ∷ left 6 b)
+  unfolding left follows itemsThen
+  opens-item i =
+      by-last 6 (withItem i b) (field 6 (itemValue i) ∷ left 6 b) no no no no no (λ e. refl) (λ e. refl) no no
+
+  pub opens-result : (t : Template) → Opens 7 (withResult t b) (field 7 (templateThen t []) ∷ left 7 b)
+  unfolding left follows itemsThen
+  opens-result t =
+      by-last 7 (withResult t b) (field 7 (templateThen t []) ∷ left 7 b) no no no no no (λ e. refl) (λ e. refl) no no
+
+  pub opens-root : (r : ℕ) → Opens 8 (withRoot r b) (field 8 (r ∷ []) ∷ left 8 b)
+  unfolding left follows spellingsThen blocksThen definitionsThen alternativesThen
+  opens-root r =
+      by-last 8 (withRoot r b) (field 8 (r ∷ []) ∷ left 8 b) (λ e. refl) (λ e. refl) (λ e. refl) (λ e. refl) no no no (λ e. refl) no

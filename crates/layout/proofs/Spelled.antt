@@ -1,0 +1,55 @@
+-- Spellings: none of a list stands among the fields before it, and no two are equal.
+use Prim.Native.Nat.{ℕ}
+use mathlib.Core.Path.{_≡_, refl, sym, ap, _∙_}
+use mathlib.Core.Bool.{Bool, true, false, not, _&&_, _||_, false≢true, true≢false}
+use mathlib.Core.List.{List, [], _∷_}
+use Rattle.spellings.specs.Bytes.{same}
+use Rattle.spellings.specs.BytesLaws.{same-false, differ-same}
+use Rattle.grammar.specs.Encode.{Field, field}
+use Rattle.layout.specs.Layout.{isRepeated}
+use Rattle.layout.specs.Within.{Each, each-none, each-more, Different, different-none, different-more}
+
+pub each-map : {A : Type 0} {P Q : A → Type 0} → ((x : A) → P x → Q x) → {xs : List A} → Each P xs → Each Q xs
+each-map f each-none = each-none
+each-map f (each-more {x} h t) = each-more (f x h) (each-map f t)
+
+pub each-both : {A : Type 0} {P Q R : A → Type 0} → ((x : A) → P x → Q x → R x) → {xs : List A} → Each P xs → Each Q xs → Each R xs
+each-both f each-none each-none = each-none
+each-both f (each-more {x} h t) (each-more g u) = each-more (f x h g) (each-both f t u)
+
+pub each-all : {A : Type 0} {P : A → Type 0} → ((x : A) → P x) → (xs : List A) → Each P xs
+each-all f [] = each-none
+each-all f (x ∷ xs) = each-more (f x) (each-all f xs)
+
+-- spellings that pass the test, differ, and are new after the fields before them
+pub record Spelled (test : List ℕ → Bool) (tag : ℕ) (before : List Field) (vs : List (List ℕ)) : Type 0 where
+  pub spelled : Each (λ w. test w ≡ true) vs
+  pub fresh : Each (λ w. isRepeated tag w before ≡ false) vs
+  pub different : Different vs
+
+or-false-left : (a b : Bool) → (a || b) ≡ false → a ≡ false
+or-false-left true b e = e
+or-false-left false b e = refl
+
+or-false-right : (a b : Bool) → (a || b) ≡ false → b ≡ false
+or-false-right true b e = absurd (true≢false e)
+or-false-right false b e = e
+
+module _ (test : List ℕ → Bool) (tag : ℕ) (before : List Field) where
+  pub spelled-none : Spelled test tag before []
+  spelled-none = record { spelled = each-none; fresh = each-none; different = different-none }
+
+  -- a field of the tag counts among those before
+  module _ (v : List ℕ) (vs : List (List ℕ))
+      (repeats : (w : List ℕ) → isRepeated tag w (field tag v ∷ before) ≡ (same v w || isRepeated tag w before)) where
+    pub spelled-more : test v ≡ true → isRepeated tag v before ≡ false → Spelled test tag (field tag v ∷ before) vs
+        → Spelled test tag before (v ∷ vs)
+    spelled-more t n s =
+        record {
+          spelled = each-more t (s .spelled);
+          fresh = each-more n (each-map (λ w h. or-false-right (same v w) (isRepeated tag w before) (sym (repeats w) ∙ h)) (s .fresh));
+          different =
+              different-more
+              (each-map (λ w h. same-false v w (or-false-left (same v w) (isRepeated tag w before) (sym (repeats w) ∙ h))) (s .fresh))
+              (s .different);
+        }

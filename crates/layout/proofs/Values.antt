@@ -1,0 +1,295 @@
+-- The values of fields: a value passes 3 and 10 exactly if it is that of an item, a head, a result or a root within the ranges.
+use Prim.Native.Nat.{ℕ, zero, suc, _≤_, _<_}
+use mathlib.Core.Path.{_≡_, refl, sym, ap, ap₂, _∙_, subst, subst⁻¹}
+use mathlib.Core.Bool.{Bool, true, false, not, _&&_, _||_, false≢true, and-eq-true-iff, or-false, and-true}
+use mathlib.Core.List.{List, [], _∷_}
+use native.Mathlib.Omega.{arith}
+use lib.Dec.{eqb, leb}
+use lib.ListN.{length, getD, drop}
+use borrow.Author.Tests.{le-leb, leb-true, eq-eqb, eqb-true}
+use Rattle.spellings.specs.Bytes.{every}
+use Rattle.grammar.specs.Sorts.{isSort, isIdeSort, gives}
+use Rattle.grammar.specs.Table.{Template, Templates, variable, none, more, Item, keyword, ide, number, local, call, Alternative, Mode, add, extend, update, Definition}
+use Rattle.grammar.specs.Encode.{templateThen, templatesThen, itemValue, modeCode, headValue}
+use Rattle.layout.specs.Prefix.{Parsed, fault, parsed, templatesOf, isTemplates, isTemplate, found, firstOf}
+use Rattle.layout.specs.Layout.{isEmpty, isHead, isItem, isRoot, isKnown, isWhole}
+use Rattle.layout.specs.Decode.{modeOf, itemOf, definitionOf}
+use Rattle.layout.specs.Within.{Each, each-none, each-more, TemplateWithin, TemplatesWithin, ItemWithin, keyword-within, ide-within, number-within, local-within, call-within, AlternativeWithin, DefinitionWithin}
+use Rattle.layout.proofs.Split.{Bytes, dropped-bytes}
+use Rattle.layout.proofs.Templates.{Forms, forms, more-parts, read-template, read-templates}
+
+-- ------------------------------------------------------------------ tests
+
+-- one of two tests is true
+pub by-either : {A : Type 0} (a b : Bool) → (a || b) ≡ true → (a ≡ true → A) → (b ≡ true → A) → A
+by-either true b e f g = f refl
+by-either false b e f g = g e
+
+pub and-left : (a b : Bool) → (a && b) ≡ true → a ≡ true
+and-left a b e = and-eq-true-iff a b .0 e .0
+
+pub and-right : (a b : Bool) → (a && b) ≡ true → b ≡ true
+and-right a b e = and-eq-true-iff a b .0 e .1
+
+pub and-three : (a b c : Bool) → (a && b && c) ≡ true → (a ≡ true) × (b ≡ true) × (c ≡ true)
+and-three a b c e = let first = and-left (a && b) c e in (and-left a b first, and-right a b first, and-right (a && b) c e)
+
+-- ------------------------------------------------------------------ which values a tag knows
+
+known-block : (v : List ℕ) → isKnown 3 v ≡ isEmpty v
+unfolding isKnown
+known-block v = simp or-false
+
+known-head : (v : List ℕ) → isKnown 4 v ≡ isHead v
+unfolding isKnown
+known-head v = simp or-false
+
+known-alternative : (v : List ℕ) → isKnown 5 v ≡ isEmpty v
+unfolding isKnown
+known-alternative v = simp or-false
+
+known-item : (v : List ℕ) → isKnown 6 v ≡ isItem v
+unfolding isKnown
+known-item v = simp or-false
+
+known-root : (v : List ℕ) → isKnown 8 v ≡ isRoot v
+unfolding isKnown
+known-root v = refl
+
+-- ------------------------------------------------------------------ blocks and alternatives: empty
+
+empty-value : (v : List ℕ) → isEmpty v ≡ true → v ≡ []
+empty-value [] e = refl
+empty-value (b ∷ bs) e = absurd (omega (arith, eqb-true (length (b ∷ bs)) 0 e))
+
+pub block-value : (v : List ℕ) → isKnown 3 v ≡ true → v ≡ []
+block-value v e = empty-value v (sym (known-block v) ∙ e)
+
+pub alternative-value : (v : List ℕ) → isKnown 5 v ≡ true → v ≡ []
+alternative-value v e = empty-value v (sym (known-alternative v) ∙ e)
+
+-- ------------------------------------------------------------------ roots
+
+pub root-value : (v : List ℕ) → isKnown 8 v ≡ true → (r : ℕ) × (v ≡ r ∷ []) × (r ≤ 63)
+unfolding isRoot
+root-value v e = by v (sym (known-root v) ∙ e)
+  where
+    by : (w : List ℕ) → isRoot w ≡ true → (r : ℕ) × (w ≡ r ∷ []) × (r ≤ 63)
+    by [] h = absurd (false≢true h)
+    by (r ∷ []) h = (r, refl, leb-true r 63 h)
+    by (r ∷ b ∷ bs) h = absurd (omega (arith, eqb-true (length (r ∷ b ∷ bs)) 1 (and-left _ _ h)))
+
+pub root-known : (r : ℕ) → r ≤ 63 → isKnown 8 (r ∷ []) ≡ true
+unfolding isRoot
+root-known r h = known-root (r ∷ []) ∙ le-leb r 63 h
+
+-- ------------------------------------------------------------------ heads
+
+sorts-each : (ss : List ℕ) → every isSort ss ≡ true → Each (λ s. s ≤ 6) ss
+unfolding every
+sorts-each [] e = each-none
+sorts-each (s ∷ ss) e = each-more (leb-true s 6 (and-left (isSort s) (every isSort ss) e)) (sorts-each ss (and-right (isSort s) (every isSort ss) e))
+
+each-sorts : {ss : List ℕ} → Each (λ s. s ≤ 6) ss → every isSort ss ≡ true
+unfolding every
+each-sorts each-none = refl
+each-sorts (each-more {x} {xs} h t) = rw (le-leb x 6 h) (each-sorts t)
+
+mode-value : (m : ℕ) → m ≤ 2 → modeCode (modeOf m) ≡ m
+mode-value zero h = refl
+mode-value (suc zero) h = refl
+mode-value (suc (suc zero)) h = refl
+mode-value (suc (suc (suc m))) h = absurd (omega arith)
+
+mode-read : (m : Mode) → modeOf (modeCode m) ≡ m
+mode-read add = refl
+mode-read extend = refl
+mode-read update = refl
+
+mode-low : (m : Mode) → modeCode m ≤ 2
+mode-low add = omega arith
+mode-low extend = omega arith
+mode-low update = omega arith
+
+pub head-value : (v : List ℕ) → isKnown 4 v ≡ true → (rest : List Alternative) → Each AlternativeWithin rest → 1 ≤ length rest
+    → (v ≡ headValue (definitionOf v rest)) × DefinitionWithin (definitionOf v rest)
+unfolding isHead headValue definitionOf every
+head-value v e rest w l = by v (sym (known-head v) ∙ e)
+  where
+    by : (u : List ℕ) → isHead u ≡ true → (u ≡ headValue (definitionOf u rest)) × DefinitionWithin (definitionOf u rest)
+    by [] h = absurd (false≢true h)
+    by (n ∷ []) h = absurd (false≢true h)
+    by (n ∷ m ∷ []) h = absurd (false≢true h)
+    by (n ∷ m ∷ r ∷ ps) h =
+        let long : Bool = leb 3 (length (n ∷ m ∷ r ∷ ps)) in
+        let brief : Bool = leb (length (n ∷ m ∷ r ∷ ps)) 7 in
+        let sorts = and-right (long && brief && leb n 63 && leb m 2) (every isSort (r ∷ ps)) h in
+        let modes = and-left (long && brief && leb n 63 && leb m 2) (every isSort (r ∷ ps)) h in
+        let numbers = and-left (long && brief && leb n 63) (leb m 2) modes in
+        let sizes = and-left (long && brief) (leb n 63) numbers in (
+          ap (λ k. n ∷ k ∷ r ∷ ps) (sym (mode-value m (leb-true m 2 (and-right (long && brief && leb n 63) (leb m 2) modes)))),
+          record {
+            nonterminal = leb-true n 63 (and-right (long && brief) (leb n 63) numbers);
+            result = leb-true r 6 (and-left (isSort r) (every isSort ps) sorts);
+            params = sorts-each ps (and-right (isSort r) (every isSort ps) sorts);
+            paramCount = omega (arith, leb-true (length (n ∷ m ∷ r ∷ ps)) 7 (and-right long brief sizes));
+            alternatives = w;
+            alternativeCount = l;
+          },
+        )
+
+pub head-known : {d : Definition} → DefinitionWithin d → isKnown 4 (headValue d) ≡ true
+unfolding headValue isHead every
+head-known {d} w =
+    known-head (headValue d)
+    ∙ rw (
+      le-leb 3 (length (headValue d)) (omega arith),
+      le-leb (length (headValue d)) 7 (omega (arith, w .paramCount)),
+      le-leb (d .nonterminal) 63 (w .nonterminal),
+      le-leb (modeCode (d .mode)) 2 (mode-low (d .mode)),
+      le-leb (d .signature .result) 6 (w .result),
+    )
+    (each-sorts (w .params))
+
+pub head-read : (d : Definition) → definitionOf (headValue d) (d .alternatives) ≡ d
+unfolding headValue definitionOf
+head-read d =
+    ap
+    (λ m.
+    record { nonterminal = d .nonterminal; mode = m; signature = d .signature; alternatives = d .alternatives })
+    (mode-read (d .mode))
+
+-- ------------------------------------------------------------------ results
+
+-- the one template that a value is
+one-template : (v : List ℕ) (p : Parsed) → Forms v p → isTemplate p ≡ true → (t : Template) × (v ≡ templateThen t []) × TemplateWithin t
+unfolding templatesThen templateThen
+one-template v fault f e = absurd (false≢true e)
+one-template v (parsed none) f e = absurd (false≢true e)
+one-template v (parsed (more t none)) f e = (t, f .0, more-parts (f .1) .0)
+one-template v (parsed (more t (more u ts))) f e = absurd (false≢true e)
+
+pub result-value : (v : List ℕ) → Bytes v → isWhole 7 v ≡ true → (t : Template) × (v ≡ templateThen t []) × TemplateWithin t
+unfolding isWhole
+result-value v b e = one-template v (templatesOf v) (forms v b) e
+
+pub result-whole : {t : Template} → TemplateWithin t → isWhole 7 (templateThen t []) ≡ true
+unfolding isWhole
+result-whole w = ap isTemplate (read-template w)
+
+pub result-read : {t : Template} → TemplateWithin t → firstOf (found (templatesOf (templateThen t []))) ≡ t
+result-read w = ap (λ p. firstOf (found p)) (read-template w)
+
+-- ------------------------------------------------------------------ items
+
+-- the templates that a call's bytes are
+some-templates : (v : List ℕ) (p : Parsed) → Forms v p → isTemplates p ≡ true → (ts : Templates) × (v ≡ templatesThen ts []) × TemplatesWithin ts
+some-templates v fault f e = absurd (false≢true e)
+some-templates v (parsed ts) f e = (ts, f .0, f .1)
+
+-- an item, its value and its ranges
+abbrev IsItem : List ℕ → Type 0
+IsItem v = (i : Item) × (v ≡ itemValue i) × ItemWithin i
+
+pair : (v : List ℕ) → eqb (length v) 2 ≡ true → v ≡ getD v 0 0 ∷ getD v 1 0 ∷ []
+pair [] e = absurd (false≢true e)
+pair (a ∷ []) e = absurd (false≢true e)
+pair (a ∷ b ∷ []) e = refl
+pair (a ∷ b ∷ c ∷ v) e = absurd (omega (arith, eqb-true (length (a ∷ b ∷ c ∷ v)) 2 e))
+
+two : (v : List ℕ) → leb 2 (length v) ≡ true → v ≡ getD v 0 0 ∷ getD v 1 0 ∷ drop 2 v
+two [] e = absurd (false≢true e)
+two (a ∷ []) e = absurd (false≢true e)
+two (a ∷ b ∷ v) e = refl
+
+-- kind and operand, and no more
+operand : (v : List ℕ) (kind x : ℕ) → eqb (getD v 0 0) kind ≡ true → eqb (length v) 2 ≡ true → getD v 1 0 ≡ x → v ≡ kind ∷ x ∷ []
+operand v kind x k l e = pair v l ∙ ap₂ (λ a b. a ∷ b ∷ []) (eqb-true (getD v 0 0) kind k) e
+
+-- the tests of an item's value, kind by kind
+module _ (v : List ℕ) where
+  abbrev keywordTest : Bool
+  keywordTest = eqb (getD v 0 0) 0 && eqb (length v) 2
+
+  abbrev ideTest : Bool
+  ideTest = eqb (getD v 0 0) 1 && eqb (length v) 2 && isIdeSort (getD v 1 0)
+
+  abbrev plainTest : ℕ → Bool
+  plainTest kind = eqb (getD v 0 0) kind && eqb (length v) 2 && eqb (getD v 1 0) 0
+
+  abbrev callTest : Bool
+  callTest = eqb (getD v 0 0) 4 && leb 2 (length v) && leb (getD v 1 0) 63
+
+  abbrev argumentsTest : Bool
+  argumentsTest = not (eqb (getD v 0 0) 4) || isTemplates (templatesOf (drop 2 v))
+
+module _ (v : List ℕ) (b : Bytes v) where
+  a-keyword : keywordTest v ≡ true → IsItem v
+  unfolding itemValue
+  a-keyword h =
+      let tests = and-eq-true-iff (eqb (getD v 0 0) 0) (eqb (length v) 2) .0 h in
+      (keyword (getD v 1 0), operand v 0 (getD v 1 0) (tests .0) (tests .1) refl, keyword-within (b 1))
+
+  an-ide : ideTest v ≡ true → IsItem v
+  unfolding itemValue
+  an-ide h =
+      let tests = and-three (eqb (getD v 0 0) 1) (eqb (length v) 2) (isIdeSort (getD v 1 0)) h in
+      let sort = and-eq-true-iff (leb 1 (getD v 1 0)) (leb (getD v 1 0) 3) .0 (tests .2) in (
+        ide (getD v 1 0),
+        operand v 1 (getD v 1 0) (tests .0) (tests .1) refl,
+        ide-within (leb-true 1 (getD v 1 0) (sort .0)) (leb-true (getD v 1 0) 3 (sort .1)),
+      )
+
+  -- a number or a local
+  plain : (kind : ℕ) → plainTest v kind ≡ true → v ≡ kind ∷ 0 ∷ []
+  plain kind h =
+      let tests = and-three (eqb (getD v 0 0) kind) (eqb (length v) 2) (eqb (getD v 1 0) 0) h in
+      operand v kind 0 (tests .0) (tests .1) (eqb-true (getD v 1 0) 0 (tests .2))
+
+  a-call : callTest v ≡ true → argumentsTest v ≡ true → IsItem v
+  unfolding itemValue
+  a-call h w =
+      let tests = and-three (eqb (getD v 0 0) 4) (leb 2 (length v)) (leb (getD v 1 0) 63) h in
+      let arguments =
+      some-templates (drop 2 v) (templatesOf (drop 2 v)) (forms (drop 2 v) (dropped-bytes 2 v b)) (rw (tests .0) at w) in (
+        call (getD v 1 0) (arguments .0),
+        two v (tests .1) ∙ ap₂ (λ k r. k ∷ getD v 1 0 ∷ r) (eqb-true (getD v 0 0) 4 (tests .0)) (arguments .1),
+        call-within (leb-true (getD v 1 0) 63 (tests .2)) (arguments .2),
+      )
+
+  pub item-value : isKnown 6 v ≡ true → isWhole 6 v ≡ true → (i : Item) × (v ≡ itemValue i) × ItemWithin i
+  unfolding isItem isWhole itemValue
+  item-value e w =
+      by-either (keywordTest v || ideTest v || plainTest v 2 || plainTest v 3) (callTest v) (sym (known-item v) ∙ e)
+      (λ e. by-either (keywordTest v || ideTest v || plainTest v 2) (plainTest v 3) e
+      (λ e. by-either (keywordTest v || ideTest v) (plainTest v 2) e
+      (λ e. by-either (keywordTest v) (ideTest v) e a-keyword an-ide)
+      (λ e. (number, plain 2 e, number-within)))
+      (λ e. (local, plain 3 e, local-within)))
+      (λ e. a-call e (and-left (argumentsTest v) true w))
+
+pub item-known : {i : Item} → ItemWithin i → isKnown 6 (itemValue i) ≡ true
+unfolding itemValue isItem
+item-known (keyword-within {k} h) = known-item (0 ∷ k ∷ [])
+item-known (ide-within {s} h l) = known-item (1 ∷ s ∷ []) ∙ rw (le-leb 1 s h, le-leb s 3 l) refl
+item-known number-within = known-item (2 ∷ 0 ∷ [])
+item-known local-within = known-item (3 ∷ 0 ∷ [])
+item-known (call-within {n} {ts} h w) =
+    known-item (4 ∷ n ∷ templatesThen ts [])
+    ∙ rw (le-leb 2 (length (4 ∷ n ∷ templatesThen ts [])) (omega arith), le-leb n 63 h) refl
+
+pub item-whole : {i : Item} → ItemWithin i → isWhole 6 (itemValue i) ≡ true
+unfolding itemValue isWhole
+item-whole (keyword-within h) = refl
+item-whole (ide-within h l) = refl
+item-whole number-within = refl
+item-whole local-within = refl
+item-whole (call-within {n} {ts} h w) = and-true (isTemplates (templatesOf (templatesThen ts []))) ∙ ap isTemplates (read-templates w)
+
+pub item-read : {i : Item} → ItemWithin i → itemOf (itemValue i) ≡ i
+unfolding itemValue itemOf
+item-read (keyword-within h) = refl
+item-read (ide-within h l) = refl
+item-read number-within = refl
+item-read local-within = refl
+item-read (call-within {n} {ts} h w) = ap (λ p. call n (found p)) (read-templates w)

@@ -1,0 +1,91 @@
+-- Tables within the counts, spellings and ranges of document 01, "Phrase table".
+use Prim.Native.Nat.{ℕ, zero, suc, _+_, _≤_, _<_}
+use mathlib.Core.Path.{_≡_}
+use mathlib.Core.Bool.{true}
+use mathlib.Core.List.{List, [], _∷_}
+use lib.ListN.{length}
+use Rattle.spellings.specs.Bytes.{isWord, isKeyword}
+use Rattle.grammar.specs.Sorts.{arity}
+use Rattle.grammar.specs.Table.{Template, Templates, variable, outside, outsideLabel, make, none, more, Item, keyword, ide, number, local, call, Alternative, Definition, Table}
+use Rattle.grammar.specs.Encode.{encode}
+use Rattle.layout.specs.Layout.{longestTable}
+
+-- ------------------------------------------------------------------ lists
+
+-- every member has the property
+pub data Each {A : Type 0} (P : A → Type 0) : List A → Type 0 where
+  each-none : Each P []
+  each-more : {x : A} {xs : List A} → P x → Each P xs → Each P (x ∷ xs)
+
+-- no spelling stands twice
+pub data Different : List (List ℕ) → Type 0 where
+  different-none : Different []
+  different-more : {s : List ℕ} {rest : List (List ℕ)} → Each (λ r. s ≡ r → ⊥) rest → Different rest → Different (s ∷ rest)
+
+-- ------------------------------------------------------------------ ranges
+
+-- how many templates there are
+unfoldable pub count : Templates → ℕ
+count none = zero
+count (more t ts) = suc (count ts)
+
+-- 00 to 0F a variable; 10 and 11 a byte that numbers a name; 20 to 27 a constructor with its arguments
+mutual
+  pub data TemplateWithin : Template → Type 0 where
+    variable-within : {i : ℕ} → i ≤ 0x0F → TemplateWithin (variable i)
+    outside-within : {n : ℕ} → n < 256 → TemplateWithin (outside n)
+    label-within : {n : ℕ} → n < 256 → TemplateWithin (outsideLabel n)
+    make-within : {c : ℕ} {ts : Templates} → 0x20 ≤ c → c ≤ 0x27 → count ts ≡ arity c → TemplatesWithin ts
+        → TemplateWithin (make c ts)
+
+  pub data TemplatesWithin : Templates → Type 0 where
+    none-within : TemplatesWithin none
+    more-within : {t : Template} {ts : Templates} → TemplateWithin t → TemplatesWithin ts → TemplatesWithin (more t ts)
+
+-- 06: a keyword's number is a byte, an identifier's sort 1 to 3, a nonterminal 0 to 63
+pub data ItemWithin : Item → Type 0 where
+  keyword-within : {k : ℕ} → k < 256 → ItemWithin (keyword k)
+  ide-within : {s : ℕ} → 1 ≤ s → s ≤ 3 → ItemWithin (ide s)
+  number-within : ItemWithin number
+  local-within : ItemWithin local
+  call-within : {n : ℕ} {ts : Templates} → n ≤ 63 → TemplatesWithin ts → ItemWithin (call n ts)
+
+-- 05 to 07: at most 12 items
+pub record AlternativeWithin (a : Alternative) : Type 0 where
+  pub items : Each ItemWithin (a .items)
+  pub itemCount : length (a .items) ≤ 12
+  pub result : TemplateWithin (a .result)
+
+-- 04: nonterminal 0 to 63, sorts 0 to 6, at most 4 parameters, one alternative or more
+pub record DefinitionWithin (d : Definition) : Type 0 where
+  pub nonterminal : d .nonterminal ≤ 63
+  pub result : d .signature .result ≤ 6
+  pub params : Each (λ s. s ≤ 6) (d .signature .params)
+  pub paramCount : length (d .signature .params) ≤ 4
+  pub alternatives : Each AlternativeWithin (d .alternatives)
+  pub alternativeCount : 1 ≤ length (d .alternatives)
+
+-- ------------------------------------------------------------------ the table
+
+-- the alternatives of a block, and of all blocks
+unfoldable pub alternativesOf : List Definition → ℕ
+alternativesOf [] = 0
+alternativesOf (d ∷ ds) = length (d .alternatives) + alternativesOf ds
+
+unfoldable pub alternativesIn : List (List Definition) → ℕ
+alternativesIn [] = 0
+alternativesIn (b ∷ bs) = alternativesOf b + alternativesIn bs
+
+-- The counts of "Phrase table", the spellings under each of 01 and 02, the ranges of every part, and the length of the whole.
+pub record Within (t : Table) : Type 0 where
+  pub keywords : Each (λ k. isKeyword k ≡ true) (t .keywords)
+  pub keywordsDiffer : Different (t .keywords)
+  pub keywordCount : length (t .keywords) ≤ 62
+  pub outsides : Each (λ o. isWord o ≡ true) (t .outsides)
+  pub outsidesDiffer : Different (t .outsides)
+  pub outsideCount : length (t .outsides) ≤ 64
+  pub blocks : Each (Each DefinitionWithin) (t .blocks)
+  pub blockCount : length (t .blocks) ≤ 16
+  pub alternativeCount : alternativesIn (t .blocks) ≤ 256
+  pub root : t .root ≤ 63
+  pub size : length (encode t) ≤ longestTable
