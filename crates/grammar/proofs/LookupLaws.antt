@@ -10,6 +10,7 @@ use lib.ListN.{length, getD, take, drop, length-drop, length-take, drop-of-lengt
 use lib.Seq.{getD-drop, drop-drop, take-nil}
 use borrow.Author.Tests.{lt-ltb, ltb-true, eq-eqb, ne-eqb, le-leb, lt-leb, leb-true, eqb-true, eqb-false}
 use Rattle.spellings.specs.Bytes.{same, indexOf}
+use Rattle.spellings.specs.BytesLaws.{index-found}
 use Rattle.grammar.specs.declared.Front.{Front}
 use Rattle.grammar.specs.declared.Front.the-variants.{Nothing, Short, Field}
 use Rattle.grammar.specs.declared.Found.{Found}
@@ -352,3 +353,16 @@ found-within-by s vs false e = subst (λ (f : Found). Within vs f) (sym (found-t
 
 pub found-within : (s : List ℕ) (vs : List (List ℕ)) {f : Found} → f ≡ foundIn s vs → Within vs f
 found-within s vs e = subst (λ (f : Found). Within vs f) (sym e) (found-within-by s vs _ refl)
+
+-- what stands at a place that is found
+abbrev Spells : List ℕ → List (List ℕ) → Found → Type 0
+Spells s vs (At k) = getD vs k [] ≡ s
+Spells s vs Absent = Unit {0}
+
+found-spells-by : (s : List ℕ) (vs : List (List ℕ)) (b : Bool) → ltb (indexOf s vs) (length vs) ≡ b → Spells s vs (foundIn s vs)
+found-spells-by s vs true e =
+    subst (Spells s vs) (sym (found-tests s vs true e)) (index-found s vs (ltb-true (indexOf s vs) (length vs) e))
+found-spells-by s vs false e = subst (Spells s vs) (sym (found-tests s vs false e)) tt
+
+pub found-spells : (s : List ℕ) (vs : List (List ℕ)) {k : ℕ} → At k ≡ foundIn s vs → getD vs k [] ≡ s
+found-spells s vs e = subst (Spells s vs) (sym e) (found-spells-by s vs _ refl)

@@ -3,3 +3,7 @@ pub mod LexemeLaws
 pub mod WordLaws
 pub mod StepLaws
 pub mod ScanLoop
+pub mod TokenLaws
+pub mod TilingLaws
+pub mod SpellingLaws
+pub mod ScannerTheorems

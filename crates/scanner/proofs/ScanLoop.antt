@@ -23,7 +23,7 @@ use Rattle.scanner.proofs.WordLaws.{words-length, words-stored}
 -- ------------------------------------------------------------------ what one step does to what is left
 
 -- what is left after a token, by whether there may be one more
-abbrev emitted : ℕ → Lexicon → ℕ → List ℕ → ℕ → List (List ℕ) → Token → Bool → Lexed
+abbrev pub emitted : ℕ → Lexicon → ℕ → List ℕ → ℕ → List (List ℕ) → Token → Bool → Lexed
 emitted k lex at rest n words t more =
     elim more [
       | false ↦ ended (Unscanned (refusal 16 0 0 0)) words
@@ -107,11 +107,11 @@ pub record Turn (lex : Lexicon) (formula tokens₀ words₀ tokens words : List 
       fillFrom n count tokens words (lexFrom fuel lex at (drop at formula) n (wordsIn formula words count))
       ≡ scanInto lex formula tokens₀ words₀
 
-scan-short : (lex : Lexicon) (formula : List ℕ) → length formula ≤ 65535 → scan lex formula ≡ lexFrom (length formula) lex 0 formula 0 []
+pub scan-short : (lex : Lexicon) (formula : List ℕ) → length formula ≤ 65535 → scan lex formula ≡ lexFrom (length formula) lex 0 formula 0 []
 unfolding scan
 scan-short lex formula h = rw (le-leb (length formula) longestFormula h, scan) refl
 
-scan-long : (lex : Lexicon) (formula : List ℕ) → 65535 < length formula → scan lex formula ≡ ended (Unscanned (refusal 14 0 0 0)) []
+pub scan-long : (lex : Lexicon) (formula : List ℕ) → 65535 < length formula → scan lex formula ≡ ended (Unscanned (refusal 14 0 0 0)) []
 unfolding scan
 scan-long lex formula h = rw (lt-leb (length formula) longestFormula h, scan) refl
 

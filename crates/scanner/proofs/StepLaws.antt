@@ -9,7 +9,7 @@ use lib.ListN.{length, getD, take, drop, length-take, length-drop}
 use lib.Seq.{take-all}
 use borrow.Author.Tests.{leb-true, eq-eqb, ne-eqb}
 use Rattle.spellings.specs.Bytes.{isLetter, isDigit, isWordByte, isSeparator, isSymbol, run, largest, valueOf}
-use Rattle.spellings.specs.BytesLaws.{run-taken, run-length, letter-word-byte}
+use Rattle.spellings.specs.BytesLaws.{run-taken, run-prefix, run-length, letter-word-byte}
 use Rattle.grammar.specs.Fields.{Lexicon}
 use Rattle.kinds.specs.Kinds.{wordKind, numberKind, noKind}
 use Rattle.scanner.specs.declared.Token.{Token}
@@ -18,6 +18,7 @@ use Rattle.scanner.specs.declared.Lexeme.the-variants.{Separator, Word, 
 use Rattle.scanner.specs.declared.Step.{Step}
 use Rattle.scanner.specs.declared.Step.the-variants.{Skip, Stop, Emit}
 use Rattle.scanner.specs.Scan.{wordLexeme, numberLexeme, lexemeOf, kindOf, spellingOf, token, spelledToken, stepBy, stepOf}
+use Rattle.scanner.specs.Tiling.{Stands, a-word, a-number, a-symbol}
 use Rattle.scanner.proofs.LexemeLaws as lexemes
 
 -- ------------------------------------------------------------------ the lexeme at the front
@@ -102,6 +103,49 @@ pub step-lies : (lex : Lexicon) (words : List (List ℕ)) (at : ℕ) (rest : Lis
 step-lies lex words at rest r h e =
     subst (Lies at rest) (step-by lex words at rest refl ∙ sym e)
     (lies-by lex words at rest (lexemeOf rest) h (lexeme-fits rest (lexemeOf rest) refl))
+
+-- a step says what stands at the front; a word's value is its spelling number
+abbrev pub Told : Lexicon → List (List ℕ) → ℕ → List ℕ → Step → Type 0
+Told lex words at rest Skip = isSeparator (getD rest 0 0) ≡ true
+Told lex words at rest Stop = Unit {0}
+Told lex words at rest (Emit t) =
+    (t .at ≡ at) × Stands lex rest t × (t .kind ≡ wordKind → t .value ≡ spellingOf lex words (take (t .size) rest))
+
+told-spelled : (lex : Lexicon) (words : List (List ℕ)) (at : ℕ) (rest : List ℕ) (n kind : ℕ) → n ≤ length rest
+    → spelledToken lex words at (take n rest) kind .kind ≡ wordKind
+    → spelledToken lex words at (take n rest) kind .value ≡ spellingOf lex words (take (length (take n rest)) rest)
+told-spelled lex words at rest n kind h e =
+    let z : length (take n rest) ≡ n = omega (arith, length-take n rest) in
+    ap (λ (t : Bool). elim t [ true ↦ spellingOf lex words (take n rest) | false ↦ 0 ]) (eq-eqb kind wordKind e)
+    ∙ ap (λ (k : ℕ). spellingOf lex words (take k rest)) (sym z)
+
+told-by : (lex : Lexicon) (words : List (List ℕ)) (at : ℕ) (rest : List ℕ) (l : Lexeme) → 0 < length rest → Fits rest l
+    → Told lex words at rest (stepBy lex words at rest l)
+told-by lex words at rest Separator h f = f
+told-by lex words at rest (Word n) h f =
+    let k : n ≤ length rest = omega (arith, f .1, run-length isWordByte rest) in
+    let z : length (take n rest) ≡ n = omega (arith, length-take n rest) in (
+      refl,
+      a-word (f .0) (z ∙ f .1) (omega (arith, f .2, z)) (ap (λ (k : ℕ). kindOf lex (take k rest) wordKind) (sym z)),
+      told-spelled lex words at rest n (kindOf lex (take n rest) wordKind) k,
+    )
+told-by lex words at rest (Number n v) h f =
+    let d : take n rest ≡ run isDigit rest = ap (λ (k : ℕ). take k rest) (f .1) ∙ sym (run-prefix isDigit rest) in
+    (refl, a-number (f .0) (f .1) refl (f .2 ∙ ap valueOf (sym d)) (f .3), λ e. absurd (omega (arith, e)))
+told-by lex words at rest Symbol h f =
+    let z : length (take 1 rest) ≡ 1 = omega (arith, length-take 1 rest) in (
+      refl,
+      a-symbol f z (ap (λ (k : ℕ). kindOf lex (take k rest) noKind) (sym z)),
+      told-spelled lex words at rest 1 (kindOf lex (take 1 rest) noKind) h,
+    )
+told-by lex words at rest Fault h f = tt
+
+pub step-told : (lex : Lexicon) (words : List (List ℕ)) (at : ℕ) (rest : List ℕ) (r : Step) → 0 < length rest
+    → r ≡ stepOf lex words at rest
+    → Told lex words at rest r
+step-told lex words at rest r h e =
+    subst (Told lex words at rest) (step-by lex words at rest refl ∙ sym e)
+    (told-by lex words at rest (lexemeOf rest) h (lexeme-fits rest (lexemeOf rest) refl))
 
 -- ------------------------------------------------------------------ the steps as the code takes them
 

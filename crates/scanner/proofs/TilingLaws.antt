@@ -1,0 +1,77 @@
+-- The tokens of a scan tile the formula, and the answer counts them.
+use Prim.Native.Nat.{ℕ, suc, _+_, _<_, _≤_}
+use mathlib.Core.Path.{_≡_, refl, sym, ap, _∙_, subst}
+use mathlib.Core.List.{List, [], _∷_}
+use native.Mathlib.Nat.{add-zero}
+use native.Mathlib.Omega.{arith}
+use lib.ListN.{length}
+use Rattle.grammar.specs.Fields.{Lexicon}
+use Rattle.scanner.specs.declared.Scanned.{Scanned}
+use Rattle.scanner.specs.declared.Scanned.the-variants.{Tokens, Unscanned}
+use Rattle.scanner.specs.Scan.{Lexed, scan}
+use Rattle.scanner.specs.Tiling.{Tiled, finished, a-separator, a-token}
+use Rattle.scanner.proofs.TokenLaws.{Kept, scan-kept}
+
+-- ------------------------------------------------------------------ tiling
+
+-- what holds where a scan is not refused
+abbrev Unrefused : Scanned → Type 0 → Type 0
+Unrefused (Tokens n count) A = A
+Unrefused (Unscanned r) A = Unit {0}
+
+unrefused : (r : Scanned) {A B : Type 0} → (A → B) → Unrefused r A → Unrefused r B
+unrefused (Tokens n count) f a = f a
+unrefused (Unscanned r) f a = tt
+
+module _ (lex : Lexicon) (formula : List ℕ) where
+  TiledFrom : ℕ → ℕ → List (List ℕ) → Lexed → Type 0
+  TiledFrom at n words l = Unrefused (l .answer) (Tiled lex formula at (l .tokens))
+
+  tiled-kept : Kept lex formula TiledFrom
+  unfolding TiledFrom
+  tiled-kept =
+      record {
+        ends = λ n words h. finished refl;
+        stops = λ at n words number a. tt;
+        skips = λ at n words l h s p. unrefused (l .answer) (a-separator h s) p;
+        emits = λ at n words t l h m told p. unrefused (l .answer) (a-token h (told .0) (told .1)) p;
+      }
+
+  pub scan-tiled : {n count : ℕ} → scan lex formula .answer ≡ Tokens n count → Tiled lex formula 0 (scan lex formula .tokens)
+  unfolding TiledFrom
+  scan-tiled e =
+      subst (λ (r : Scanned). Unrefused r (Tiled lex formula 0 (scan lex formula .tokens))) e
+      (scan-kept lex formula TiledFrom tiled-kept)
+
+  -- ------------------------------------------------------------------ counts
+
+  CountedFrom : ℕ → ℕ → List (List ℕ) → Lexed → Type 0
+  CountedFrom at n words l =
+      Unrefused (l .answer) ((l .answer ≡ Tokens (n + length (l .tokens)) (length (l .words))) × (n + length (l .tokens) ≤ 4096))
+
+  counted-kept : Kept lex formula CountedFrom
+  unfolding CountedFrom
+  counted-kept =
+      record {
+        ends = λ n words h. (ap (λ (k : ℕ). Tokens k (length words)) (sym (add-zero n)), omega arith);
+        stops = λ at n words number a. tt;
+        skips = λ at n words l h s p. p;
+        emits =
+            λ at n words t l h m told p.
+            let z : n + 1 + length (l .tokens) ≡ n + suc (length (l .tokens)) = omega arith in
+            subst (λ (k : ℕ). Unrefused (l .answer) ((l .answer ≡ Tokens k (length (l .words))) × (k ≤ 4096))) z p;
+      }
+
+  -- the answer counts the tokens, of which there are at most 4,096, and the words
+  pub scan-counted : {n count : ℕ} → scan lex formula .answer ≡ Tokens n count
+      → (n ≡ length (scan lex formula .tokens)) × (count ≡ length (scan lex formula .words)) × (n ≤ 4096)
+  unfolding CountedFrom
+  scan-counted {n} {count} e =
+      let l : Lexed = scan lex formula in
+      let p : (Tokens n count ≡ Tokens (0 + length (l .tokens)) (length (l .words))) × (0 + length (l .tokens) ≤ 4096)
+      = subst (λ (r : Scanned). Unrefused r ((r ≡ Tokens (0 + length (l .tokens)) (length (l .words))) × (0 + length (l .tokens) ≤ 4096))) e
+      (scan-kept lex formula CountedFrom counted-kept) in
+      let q : Tokens n count ≡ Tokens (0 + length (l .tokens)) (length (l .words)) = p .0 in
+      let a : n ≡ 0 + length (l .tokens) = cc in
+      let b : count ≡ length (l .words) = cc in
+      (omega arith, b, omega (arith, p .1))

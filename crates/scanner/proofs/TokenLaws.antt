@@ -1,0 +1,113 @@
+-- What holds of all tokens of a scan, by recursion on what is left of the formula.
+use Prim.Native.Nat.{ℕ, zero, suc, _+_, _-_, _*_, _<_, _≤_}
+use mathlib.Core.Path.{_≡_, refl, sym, ap, _∙_, subst}
+use mathlib.Core.Bool.{Bool, true, false, _&&_}
+use mathlib.Core.List.{List, [], _∷_, _++_, append-assoc, append-nil}
+use native.Mathlib.Nat.{add-assoc, add-zero}
+use native.Mathlib.Omega.{arith}
+use lib.Dec.{eqb, ltb, leb}
+use lib.ListN.{length, getD, take, drop, length-drop, length-append, drop-of-length-le}
+use lib.Seq.{drop-drop, getD-drop}
+use borrow.Author.Tests.{ltb-true, ltb-false, leb-true, leb-false, le-ltb, lt-ltb, ne-eqb, eq-eqb}
+use Rattle.answers.specs.Refusals.{refusal}
+use Rattle.spellings.specs.Bytes.{isLetter, isDigit, isWordByte, isSeparator, isSymbol, every, run, isWord, indexOf}
+use Rattle.spellings.specs.BytesLaws.{by-test, run-prefix, run-length, every-run, index-le, index-found, index-front, index-rest}
+use Rattle.grammar.specs.declared.Found.{Found}
+use Rattle.grammar.specs.declared.Found.the-variants.{At, Absent}
+use Rattle.grammar.specs.Fields.{Lexicon}
+use Rattle.grammar.specs.Lookup.{foundIn}
+use Rattle.kinds.specs.Kinds.{wordKind, numberKind, noKind}
+use Rattle.scanner.specs.declared.Token.{Token}
+use Rattle.scanner.specs.declared.Step.{Step}
+use Rattle.scanner.specs.declared.Step.the-variants.{Skip, Stop, Emit}
+use Rattle.scanner.specs.declared.Scanned.{Scanned}
+use Rattle.scanner.specs.declared.Scanned.the-variants.{Tokens, Unscanned}
+use Rattle.scanner.specs.Scan.{Lexed, ended, withToken, isNew, wordsWith, mostTokens, longestFormula, kindOf, spellingOf, stepOf, lexFrom, scan}
+use Rattle.scanner.specs.Tiling.{Stands, a-word, a-number, a-symbol, Tiled, finished, a-separator, a-token, bytesOf}
+use Rattle.scanner.proofs.StepLaws.{Lies, Told, step-lies, step-told}
+use Rattle.scanner.proofs.ScanLoop.{emitted, after, lex-step, lex-end, scan-short, scan-long}
+
+-- ------------------------------------------------------------------ one recursion for all facts
+
+-- A fact of what is left at an offset, after n tokens and the words met, that each step hands on.
+pub record Kept (lex : Lexicon) (formula : List ℕ) (P : ℕ → ℕ → List (List ℕ) → Lexed → Type 0) : Type 0 where
+  pub ends : (n : ℕ) (words : List (List ℕ)) → n ≤ 4096 → P (length formula) n words (ended (Tokens n (length words)) words)
+  pub stops : (at n : ℕ) (words : List (List ℕ)) (number a : ℕ) → P at n words (ended (Unscanned (refusal number a 0 0)) words)
+  pub skips : (at n : ℕ) (words : List (List ℕ)) (l : Lexed) → at < length formula → isSeparator (getD formula at 0) ≡ true
+      → P (at + 1) n words l
+      → P at n words l
+  pub emits : (at n : ℕ) (words : List (List ℕ)) (t : Token) (l : Lexed) → at < length formula → n < 4096
+      → Told lex words at (drop at formula) (Emit t)
+      → P (at + t .size) (n + 1) (wordsWith words (take (t .size) (drop at formula)) t) l
+      → P at n words (withToken t l)
+
+module _ (lex : Lexicon) (formula : List ℕ) (P : ℕ → ℕ → List (List ℕ) → Lexed → Type 0) (keeps : Kept lex formula P) where
+  at-end : (k at n : ℕ) (words : List (List ℕ)) → n ≤ 4096 → at ≡ length formula → P at n words (lexFrom k lex at (drop at formula) n words)
+  at-end k at n words h e =
+      let past : length formula ≤ at = omega arith in
+      let none : drop at formula ≡ [] = drop-of-length-le formula past in
+      subst (P at n words)
+      (sym (ap (λ (r : List ℕ). lexFrom k lex at r n words) none ∙ lex-end k lex at n words))
+      (subst (λ (a : ℕ). P a n words (ended (Tokens n (length words)) words)) (sym e) (keeps .ends n words h))
+
+  kept-emit : (k at n : ℕ) (words : List (List ℕ)) (t : Token) → at < length formula → ltb n mostTokens ≡ true
+      → Told lex words at (drop at formula) (Emit t)
+      → P (at + t .size) (n + 1) (wordsWith words (take (t .size) (drop at formula)) t)
+      (lexFrom k lex (at + t .size) (drop (at + t .size) formula) (n + 1) (wordsWith words (take (t .size) (drop at formula)) t))
+      → P at n words (emitted k lex at (drop at formula) n words t true)
+  kept-emit k at n words t h e told p =
+      keeps .emits at n words t _ h (ltb-true n mostTokens e) told
+      (subst
+      (λ (r : List ℕ).
+      P (at + t .size) (n + 1) (wordsWith words (take (t .size) (drop at formula)) t)
+      (lexFrom k lex (at + t .size) r (n + 1) (wordsWith words (take (t .size) (drop at formula)) t)))
+      (sym (drop-drop (t .size) at formula))
+      p)
+
+  kept-step : (k at n : ℕ) (words : List (List ℕ)) (r : Step) → at < length formula → n ≤ 4096 → length formula ≤ at + suc k
+      → r ≡ stepOf lex words at (drop at formula)
+      → Told lex words at (drop at formula) r
+      → Lies at (drop at formula) r
+      → ((a m : ℕ) (ws : List (List ℕ)) → length formula ≤ a + k → a ≤ length formula → m ≤ 4096
+      → P a m ws (lexFrom k lex a (drop a formula) m ws))
+      → P at n words (after k lex at (drop at formula) n words r)
+  kept-step k at n words Skip h m enough e told lies rec =
+      let z : getD (drop at formula) 0 0 ≡ getD formula at 0 = getD-drop at formula 0 0 ∙ ap (λ (i : ℕ). getD formula i 0) (add-zero at) in
+      keeps .skips at n words _ h (ap isSeparator (sym z) ∙ told)
+      (subst (λ (r : List ℕ). P (at + 1) n words (lexFrom k lex (at + 1) r n words)) (sym (drop-drop 1 at formula))
+      (rec (at + 1) n words (omega arith) (omega arith) m))
+  kept-step k at n words Stop h m enough e told lies rec = keeps .stops at n words 15 at
+  kept-step k at n words (Emit t) h m enough e told lies rec =
+      by-test (ltb n mostTokens)
+      (λ more.
+      subst (λ (b : Bool). P at n words (emitted k lex at (drop at formula) n words t b)) (sym more)
+      (kept-emit k at n words t h more told
+      (rec (at + t .size) (n + 1) _ (omega (arith, lies .1)) (omega (arith, lies .2, length-drop at formula))
+      (omega (arith, ltb-true n mostTokens more)))))
+      (λ more.
+      subst (λ (b : Bool). P at n words (emitted k lex at (drop at formula) n words t b)) (sym more)
+      (keeps .stops at n words 16 0))
+
+  kept : (k at n : ℕ) (words : List (List ℕ)) → length formula ≤ at + k → at ≤ length formula → n ≤ 4096
+      → P at n words (lexFrom k lex at (drop at formula) n words)
+  kept zero at n words enough h m = at-end zero at n words m (omega arith)
+  kept (suc k) at n words enough h m =
+      by-test (ltb at (length formula))
+      (λ more.
+      let l : at < length formula = ltb-true at (length formula) more in
+      let some : 0 < length (drop at formula) = omega (arith, length-drop at formula) in
+      subst (P at n words) (sym (lex-step k lex at (drop at formula) n words _ some refl))
+      (kept-step k at n words (stepOf lex words at (drop at formula)) l m enough refl
+      (step-told lex words at (drop at formula) _ some refl)
+      (step-lies lex words at (drop at formula) _ some refl)
+      (kept k)))
+      (λ none. at-end (suc k) at n words m (omega (arith, ltb-false at (length formula) none)))
+
+  -- a fact that each step hands on holds of the whole scan
+  pub scan-kept : P 0 0 [] (scan lex formula)
+  scan-kept =
+      by-test (leb (length formula) longestFormula)
+      (λ fits.
+      subst (P 0 0 []) (sym (scan-short lex formula (leb-true (length formula) longestFormula fits)))
+      (kept (length formula) 0 0 [] (omega arith) (omega arith) (omega arith)))
+      (λ long. subst (P 0 0 []) (sym (scan-long lex formula (leb-false (length formula) longestFormula long))) (keeps .stops 0 0 [] 14 0))
