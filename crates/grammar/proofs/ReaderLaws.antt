@@ -2,8 +2,12 @@
 use Prim.Native.Nat.{ℕ, zero, suc, _-_, _<_, _≤_}
 use mathlib.Core.Path.{_≡_, refl, sym, ap, _∙_}
 use mathlib.Core.List.{List, [], _∷_}
+use mathlib.Core.Bool.{true, and-eq-true-iff}
 use native.Mathlib.Omega.{arith}
+use lib.Dec.{leb}
 use lib.ListN.{length, getD, List·getD-map}
+use borrow.Author.Tests.{leb-true}
+use Rattle.spellings.specs.Bytes.{every}
 use Rattle.grammar.specs.Sorts.{Signature, gives, unit, constructors, constructor, arity}
 
 -- what stands past the end of a list is the default
@@ -27,3 +31,14 @@ arity-low c h =
 
 pub arity-high : (c : ℕ) → 8 ≤ c - 32 → 0 ≡ arity c
 arity-high c h = sym (getD-past arities (c - 32) 0 h) ∙ arity-at c
+
+entry-few : (l : List ℕ) (k : ℕ) → every (λ n. leb n 3) l ≡ true → getD l k 0 ≤ 3
+unfolding every
+entry-few [] k e = omega arith
+entry-few (x ∷ xs) zero e = leb-true x 3 (and-eq-true-iff (leb x 3) (every (λ n. leb n 3) xs) .0 e .0)
+entry-few (x ∷ xs) (suc k) e = entry-few xs k (and-eq-true-iff (leb x 3) (every (λ n. leb n 3) xs) .0 e .1)
+
+-- no constructor takes more than three
+pub arity-few : (c : ℕ) → arity c ≤ 3
+unfolding every
+arity-few c = omega (arith, arity-at c, entry-few arities (c - 32) refl)

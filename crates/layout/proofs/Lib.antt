@@ -5,3 +5,6 @@ pub mod Accept
 pub mod Order
 pub mod Spelled
 pub mod Sound
+pub mod Laws
+pub mod LawsTemplates
+pub mod LawsFields

@@ -2,3 +2,5 @@ pub mod Prefix
 pub mod Layout
 pub mod Decode
 pub mod Within
+pub mod Before
+pub mod Due

@@ -1,0 +1,192 @@
+-- Laws of the tests on one field: values, counts, and the first test that fails.
+use Prim.Native.Nat.{ℕ, suc, _+_, _-_, _<_, _≤_}
+use mathlib.Core.Path.{_≡_, refl, sym, ap, _∙_}
+use mathlib.Core.Bool.{Bool, true, false, not, _&&_, _||_, and-eq-true-iff, and-true}
+use mathlib.Core.List.{List, [], _∷_}
+use native.Mathlib.Omega.{arith}
+use mir.Syntax.{w16}
+use mir.Val.{Fits}
+use lib.Dec.{eqb, leb, ltb}
+use lib.ListN.{length, getD, drop, drop-of-length-le}
+use borrow.Author.Tests.{le-leb, lt-leb, eq-eqb, ne-eqb, ltb-true, not-true, not-false}
+use Rattle.answers.specs.Refusals.{refusal}
+use Rattle.answers.specs.Checked.{Checked, ok, bad, need, verdict, _>>=_, _>>_}
+use Rattle.answers.specs.declared.Verdict.{Verdict}
+use Rattle.answers.specs.declared.Verdict.the-variants.{Passed, Refused}
+use Rattle.spellings.specs.Bytes.{every, isWord, isKeyword}
+use Rattle.spellings.proofs.Loops.{drop-at-index}
+use Rattle.grammar.specs.Sorts.{isSort, isIdeSort}
+use Rattle.grammar.specs.Encode.{Field}
+use Rattle.layout.specs.declared.Progress.{Progress}
+use Rattle.layout.specs.Prefix.{templatesOf, isTemplates, isTemplate}
+use Rattle.layout.specs.Layout.{isHead, isItem, isRoot, isKnown, follows, isRepeated, isSpelled, hasRoom, oneIf, passed, isWhole, checkField}
+
+-- ------------------------------------------------------------------ values
+
+-- the test for an item, by its kind and its operand
+abbrev pub itemBy : List ℕ → ℕ → ℕ → Bool
+itemBy v kind operand =
+    (eqb kind 0 && eqb (length v) 2)
+    || (eqb kind 1 && eqb (length v) 2 && isIdeSort operand)
+    || (eqb kind 2 && eqb (length v) 2 && eqb operand 0)
+    || (eqb kind 3 && eqb (length v) 2 && eqb operand 0)
+    || (eqb kind 4 && leb 2 (length v) && leb operand 63)
+
+-- the bytes before i are sorts
+pub record Sorts (v : List ℕ) (from i : ℕ) : Type 0 where
+  pub rest : every isSort (drop i v) ≡ every isSort (drop from v)
+
+pub sorts-start : (v : List ℕ) (from : ℕ) → Sorts v from from
+sorts-start v from = record { rest = refl }
+
+every-front : (p : ℕ → Bool) (b : ℕ) (bs : List ℕ) → every p (b ∷ bs) ≡ (p b && every p bs)
+unfolding every
+every-front p b bs = refl
+
+module _ {v : List ℕ} {from i : ℕ} (r : Sorts v from i) where
+  sorts-front : i < length v → every isSort (drop i v) ≡ (isSort (getD v i 0) && every isSort (drop (i + 1) v))
+  sorts-front h = ap (every isSort) (drop-at-index v i h) ∙ every-front isSort (getD v i 0) (drop (i + 1) v)
+
+  pub sorts-next : i < length v → getD v i 0 ≤ 6 → Sorts v from (i + 1)
+  sorts-next h k =
+      record {
+        rest =
+            sym (sorts-front h ∙ ap (λ (t : Bool). t && every isSort (drop (i + 1) v)) (le-leb (getD v i 0) 6 k)) ∙ r .rest;
+      }
+
+  pub sorts-stop : i < length v → 6 < getD v i 0 → false ≡ every isSort (drop from v)
+  sorts-stop h k =
+      sym (sorts-front h ∙ ap (λ (t : Bool). t && every isSort (drop (i + 1) v)) (lt-leb (getD v i 0) 6 k)) ∙ r .rest
+
+  pub sorts-end : length v ≤ i → true ≡ every isSort (drop from v)
+  unfolding every
+  sorts-end h = sym (ap (every isSort) (drop-of-length-le v h)) ∙ r .rest
+
+-- ------------------------------------------------------------------ counts
+
+-- one more where there is room fits, whatever the count
+pub fitting : (n limit : ℕ) (here : Bool) → (not here || ltb n limit) ≡ true → limit < 65536 → n < 65536 → {r : ℕ} → r ≡ oneIf here
+    → Fits w16 (n + r)
+fitting n limit true e h k f = record { fits = omega (arith, ltb-true n limit e) }
+fitting n limit false e h k f = record { fits = omega arith }
+
+-- the five tests for room
+pub record Room (tag : ℕ) (s : Progress) : Type 0 where
+  pub keywords : (not (eqb tag 1) || ltb (s .keywords) 62) ≡ true
+  pub outsides : (not (eqb tag 2) || ltb (s .outsides) 64) ≡ true
+  pub blocks : (not (eqb tag 3) || ltb (s .blocks) 16) ≡ true
+  pub alternatives : (not (eqb tag 5) || ltb (s .alternatives) 256) ≡ true
+  pub items : (not (eqb tag 6) || ltb (s .items) 12) ≡ true
+
+pub room-of : (tag : ℕ) (s : Progress) → hasRoom tag s ≡ true → Room tag s
+unfolding hasRoom
+room-of tag s e =
+    let four = and-eq-true-iff _ _ .0 e in
+    let three = and-eq-true-iff _ _ .0 (four .0) in
+    let two = and-eq-true-iff _ _ .0 (three .0) in
+    let one = and-eq-true-iff _ _ .0 (two .0) in
+    record { keywords = one .0; outsides = one .1; blocks = two .1; alternatives = three .1; items = four .1 }
+
+-- the items after a field, by whether it begins an alternative
+items-by : (tag : ℕ) (s : Progress) (begins : Bool) → eqb tag 5 ≡ begins
+    → passed tag s .items ≡ elim begins [ true ↦ 0 | false ↦ s .items + oneIf (eqb tag 6) ]
+unfolding passed
+items-by tag s begins e =
+    ap (λ (t : Bool). elim t as (λ x. ℕ) [ true ↦ 0 | false ↦ s .items + oneIf (eqb tag 6) ]) e
+
+pub items-begin : (tag : ℕ) (s : Progress) → tag ≡ 5 → passed tag s .items ≡ 0
+items-begin tag s e = items-by tag s true (eq-eqb tag 5 e)
+
+pub items-more : (tag : ℕ) (s : Progress) → (tag ≡ 5 → ⊥) → passed tag s .items ≡ s .items + oneIf (eqb tag 6)
+items-more tag s h = items-by tag s false (ne-eqb tag 5 h)
+
+-- ------------------------------------------------------------------ spellings and templates, by the tag
+
+module _ (tag : ℕ) (v : List ℕ) (before : List Field) where
+  pub spelled-keyword : tag ≡ 1 → isSpelled tag v before ≡ (isKeyword v && not (isRepeated 1 v before))
+  unfolding isSpelled
+  spelled-keyword e =
+      ap (λ (t : ℕ). isSpelled t v before) e ∙ and-true (isKeyword v && not (isRepeated 1 v before))
+
+  pub spelled-outside : tag ≡ 2 → isSpelled tag v before ≡ (isWord v && not (isRepeated 2 v before))
+  unfolding isSpelled
+  spelled-outside e = ap (λ (t : ℕ). isSpelled t v before) e
+
+  pub spelled-other : (tag ≡ 1 → ⊥) → (tag ≡ 2 → ⊥) → isSpelled tag v before ≡ true
+  unfolding isSpelled
+  spelled-other f g =
+      λ i.
+      (not (ne-eqb tag 1 f i) || (isKeyword v && not (isRepeated 1 v before)))
+      && (not (ne-eqb tag 2 g i) || (isWord v && not (isRepeated 2 v before)))
+
+module _ (tag : ℕ) (v : List ℕ) where
+  pub whole-item : tag ≡ 6 → isWhole tag v ≡ (not (eqb (getD v 0 0) 4) || isTemplates (templatesOf (drop 2 v)))
+  unfolding isWhole
+  whole-item e =
+      ap (λ (t : ℕ). isWhole t v) e ∙ and-true (not (eqb (getD v 0 0) 4) || isTemplates (templatesOf (drop 2 v)))
+
+  pub whole-result : tag ≡ 7 → isWhole tag v ≡ isTemplate (templatesOf v)
+  unfolding isWhole
+  whole-result e = ap (λ (t : ℕ). isWhole t v) e
+
+  pub whole-other : (tag ≡ 6 → ⊥) → (tag ≡ 7 → ⊥) → isWhole tag v ≡ true
+  unfolding isWhole
+  whole-other f g =
+      λ i.
+      (not (ne-eqb tag 6 f i) || not (eqb (getD v 0 0) 4) || isTemplates (templatesOf (drop 2 v)))
+      && (not (ne-eqb tag 7 g i) || isTemplate (templatesOf v))
+
+-- ------------------------------------------------------------------ one field
+
+-- the first test that fails, in the order 3, 4, 5, 6, 10
+abbrev pub firstFault : Bool → Bool → Bool → Bool → Bool → ℕ → Progress → Checked Progress
+firstFault false ordered spelled room whole at s = bad (refusal 3 at 0 0)
+firstFault true false spelled room whole at s = bad (refusal 4 at 0 0)
+firstFault true true false room whole at s = bad (refusal 5 at 0 0)
+firstFault true true true false whole at s = bad (refusal 6 at 0 0)
+firstFault true true true true false at s = bad (refusal 10 at 0 0)
+firstFault true true true true true at s = ok s
+
+-- a test that the code made
+pub passes : {t test : Bool} → t ≡ test → not t ≡ false → test ≡ true
+passes {t} e f = sym e ∙ not-false t f
+
+pub fails : {t test : Bool} → t ≡ test → not t ≡ true → test ≡ false
+fails {t} e f = sym e ∙ not-true t f
+
+module _ (before : List Field) (at tag : ℕ) (v : List ℕ) (s : Progress) where
+  by-flags : (known ordered spelled room whole : Bool)
+      → (do
+        need known 3 at
+        need ordered 4 at
+        need spelled 5 at
+        need room 6 at
+        need whole 10 at
+        ok (passed tag s))
+      ≡ firstFault known ordered spelled room whole at (passed tag s)
+  by-flags false ordered spelled room whole = refl
+  by-flags true false spelled room whole = refl
+  by-flags true true false room whole = refl
+  by-flags true true true false whole = refl
+  by-flags true true true true false = refl
+  by-flags true true true true true = refl
+
+  pub field-by : (known ordered spelled room whole : Bool)
+      → isKnown tag v ≡ known
+      → follows tag (s .last) ≡ ordered
+      → isSpelled tag v before ≡ spelled
+      → hasRoom tag s ≡ room
+      → isWhole tag v ≡ whole
+      → checkField before at tag v s ≡ firstFault known ordered spelled room whole at (passed tag s)
+  unfolding checkField
+  field-by known ordered spelled room whole e3 e4 e5 e6 e10 =
+      by-flags (isKnown tag v) (follows tag (s .last)) (isSpelled tag v before) (hasRoom tag s) (isWhole tag v)
+      ∙ (λ i. firstFault (e3 i) (e4 i) (e5 i) (e6 i) (e10 i) at (passed tag s))
+
+-- ------------------------------------------------------------------ the end
+
+pub end-root : (last at : ℕ) → last ≡ 8 → verdict (need (eqb last 8) 4 at) ≡ Passed
+end-root last at e = ap (λ (t : Bool). verdict (need t 4 at)) (eq-eqb last 8 e)
+
+pub end-other : (last at : ℕ) → (last ≡ 8 → ⊥) → verdict (need (eqb last 8) 4 at) ≡ Refused (refusal 4 at 0 0)
+end-other last at h = ap (λ (t : Bool). verdict (need t 4 at)) (ne-eqb last 8 h)

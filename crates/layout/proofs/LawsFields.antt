@@ -1,0 +1,259 @@
+-- Laws of a table's fields one after the other: those before an offset, the search among them, and the turns of the check.
+use Prim.Native.Nat.{ℕ, _+_, _-_, _<_, _≤_}
+use mathlib.Core.Path.{_≡_, refl, sym, ap, _∙_}
+use mathlib.Core.Bool.{Bool, true, false, _&&_, _||_, or-false, or-true}
+use mathlib.Core.List.{List, [], _∷_}
+use native.Mathlib.Omega.{arith}
+use lib.Dec.{eqb, leb, ltb}
+use lib.ListN.{length, take, drop}
+use borrow.Author.Tests.{le-leb, lt-leb, le-ltb, lt-ltb}
+use Rattle.answers.specs.declared.Refusal.{Refusal}
+use Rattle.answers.specs.declared.Verdict.{Verdict}
+use Rattle.answers.specs.declared.Verdict.the-variants.{Passed, Refused}
+use Rattle.answers.specs.Refusals.{refusal}
+use Rattle.answers.specs.Checked.{Checked, ok, bad, need, verdict, _>>=_}
+use Rattle.spellings.specs.Bytes.{same}
+use Rattle.spellings.specs.BytesLaws.{by-test}
+use Rattle.grammar.specs.declared.Front.{Front}
+use Rattle.grammar.specs.declared.Front.the-variants.{Nothing, Short, Field}
+use Rattle.grammar.specs.Encode.{field}
+use Rattle.grammar.specs.Encode as encode
+use Rattle.grammar.specs.Fields.{Fields, end, cut, next, fieldsOf}
+use Rattle.grammar.specs.Lookup.{frontOf, fieldsAt}
+use Rattle.grammar.proofs.LookupLaws.{opened, fields-at, fields-of}
+use Rattle.layout.specs.declared.Progress.{Progress}
+use Rattle.layout.specs.declared.Checking.{Checking}
+use Rattle.layout.specs.declared.Checking.the-variants.{Further, Stopped}
+use Rattle.layout.specs.Layout.{isRepeated, checkField, checkFields, start, layout, longestTable}
+use Rattle.layout.specs.Before.{earlier, fieldsBefore, checking}
+
+-- ------------------------------------------------------------------ the fields before an offset
+
+earlier-by : (to at tag : ℕ) (v : List ℕ) (fs : Fields) (before : List encode.Field) (t : Bool) → ltb at to ≡ t
+    → earlier to (next at tag v fs) before
+    ≡ elim t as (λ x. List encode.Field) [ true ↦ earlier to fs (field tag v ∷ before) | false ↦ before ]
+unfolding earlier
+earlier-by to at tag v fs before t e =
+    ap
+    (λ (x : Bool). elim x as (λ y. List encode.Field) [ true ↦ earlier to fs (field tag v ∷ before) | false ↦ before ])
+    e
+
+-- what is left at the end of a list of fields
+earlier-end : (to at : ℕ) (before : List encode.Field) → earlier to (end at) before ≡ before
+unfolding earlier
+earlier-end to at before = refl
+
+earlier-cut : (to at : ℕ) (before : List encode.Field) → earlier to (cut at) before ≡ before
+unfolding earlier
+earlier-cut to at before = refl
+
+module _ (table : List ℕ) (to at : ℕ) (before : List encode.Field) where
+  past-by : (r : Front) → to ≤ at → earlier to (opened table at r) before ≡ before
+  past-by Nothing h = earlier-end to at before
+  past-by Short h = earlier-cut to at before
+  past-by (Field t n) h = earlier-by to at t _ _ before false (le-ltb at to h)
+
+  -- no field from an offset on begins before it
+  past : to ≤ at → earlier to (fieldsAt table at) before ≡ before
+  past h = ap (λ fs. earlier to fs before) (fields-at table at refl) ∙ past-by (frontOf (drop at table)) h
+
+  one-more : {t n : ℕ} → Field t n ≡ frontOf (drop at table) → at < to
+      → earlier to (fieldsAt table at) before
+      ≡ earlier to (fieldsAt table (at + 3 + n)) (field t (take n (drop (at + 3) table)) ∷ before)
+  one-more e h =
+      ap (λ fs. earlier to fs before) (fields-at table at e) ∙ earlier-by to at _ _ _ before true (lt-ltb at to h)
+
+before-is : (table : List ℕ) (to : ℕ) → fieldsBefore table to ≡ earlier to (fieldsAt table 0) []
+unfolding fieldsBefore
+before-is table to = ap (λ fs. earlier to fs []) (fields-of table)
+
+-- a value as the code lends it, from a start to an end
+pub lent-is : (table : List ℕ) (from n : ℕ) → take (from + n - from) (drop from table) ≡ take n (drop from table)
+lent-is table from n =
+    let z : from + n - from ≡ n = omega arith in
+    ap (λ (k : ℕ). take k (drop from table)) z
+
+-- ------------------------------------------------------------------ the search for a repeated spelling
+
+module _ (tag : ℕ) (v : List ℕ) where
+  repeated-front : (f : encode.Field) (fs : List encode.Field)
+      → isRepeated tag v (f ∷ fs) ≡ (eqb (f .tag) tag && same (f .value) v || isRepeated tag v fs)
+  unfolding isRepeated
+  repeated-front f fs = refl
+
+  repeated-none : isRepeated tag v [] ≡ false
+  unfolding isRepeated
+  repeated-none = refl
+
+  regroup : (x h r : Bool) → (x || (h || r)) ≡ ((x || (h || false)) || r)
+  regroup true h r = refl
+  regroup false true r = refl
+  regroup false false r = refl
+
+  -- a spelling is repeated in the fields or in what came before them
+  repeated-earlier : (to : ℕ) (fs : Fields) (before : List encode.Field)
+      → isRepeated tag v (earlier to fs before) ≡ (isRepeated tag v (earlier to fs []) || isRepeated tag v before)
+  unfolding isRepeated earlier
+  repeated-earlier to (end at) before = refl
+  repeated-earlier to (cut at) before = refl
+  repeated-earlier to (next at t w fs) before =
+      by-test (ltb at to)
+      (λ e.
+      ap (isRepeated tag v) (earlier-by to at t w fs before true e)
+      ∙ repeated-earlier to fs (field t w ∷ before)
+      ∙ regroup (isRepeated tag v (earlier to fs [])) (eqb t tag && same w v) (isRepeated tag v before)
+      ∙ sym
+      (ap (λ (x : Bool). x || isRepeated tag v before)
+      (ap (isRepeated tag v) (earlier-by to at t w fs [] true e) ∙ repeated-earlier to fs (field t w ∷ []))))
+      (λ e.
+      ap (isRepeated tag v) (earlier-by to at t w fs before false e)
+      ∙ sym (ap (λ l. isRepeated tag v l || isRepeated tag v before) (earlier-by to at t w fs [] false e)))
+
+-- the fields before `at` do not have the tag and value
+pub record Scanning (table : List ℕ) (to tag : ℕ) (v : List ℕ) (at : ℕ) : Type 0 where
+  pub rest : isRepeated tag v (earlier to (fieldsAt table at) []) ≡ isRepeated tag v (fieldsBefore table to)
+
+pub scanning-start : (table : List ℕ) (to tag : ℕ) (v : List ℕ) → Scanning table to tag v 0
+scanning-start table to tag v = record { rest = sym (ap (isRepeated tag v) (before-is table to)) }
+
+module _ {table : List ℕ} {to tag : ℕ} {v : List ℕ} {at : ℕ} (c : Scanning table to tag v at) where
+  none-left : (fs : List encode.Field) → earlier to (fieldsAt table at) [] ≡ fs → fs ≡ []
+      → false ≡ isRepeated tag v (fieldsBefore table to)
+  none-left fs e f = sym (ap (isRepeated tag v) (e ∙ f) ∙ repeated-none tag v) ∙ c .rest
+
+  pub scanning-end : to ≤ at → false ≡ isRepeated tag v (fieldsBefore table to)
+  scanning-end h = none-left _ (past table to at [] h) refl
+
+  pub scanning-nothing : Nothing ≡ frontOf (drop at table) → false ≡ isRepeated tag v (fieldsBefore table to)
+  scanning-nothing e = none-left _ (ap (λ fs. earlier to fs []) (fields-at table at e)) (earlier-end to at [])
+
+  pub scanning-short : Short ≡ frontOf (drop at table) → false ≡ isRepeated tag v (fieldsBefore table to)
+  scanning-short e = none-left _ (ap (λ fs. earlier to fs []) (fields-at table at e)) (earlier-cut to at [])
+
+  module _ (h : at < to) {t n : ℕ} (e : Field t n ≡ frontOf (drop at table)) where
+    -- the field here, with its value as the code lends it, or one further on
+    found-by : {equal : Bool} → equal ≡ same (take (at + 3 + n - (at + 3)) (drop (at + 3) table)) v → (here : Bool)
+        → (eqb t tag && equal) ≡ here
+        → (isRepeated tag v (earlier to (fieldsAt table (at + 3 + n)) []) || (here || false))
+        ≡ isRepeated tag v (fieldsBefore table to)
+    found-by {equal} q here f =
+        sym
+        (ap (isRepeated tag v) (one-more table to at [] e h)
+        ∙ repeated-earlier tag v to (fieldsAt table (at + 3 + n)) (field t (take n (drop (at + 3) table)) ∷ [])
+        ∙ ap (λ (x : Bool). isRepeated tag v (earlier to (fieldsAt table (at + 3 + n)) []) || x)
+        (repeated-front tag v (field t (take n (drop (at + 3) table))) []
+        ∙ (λ i. (eqb t tag && same (sym (lent-is table (at + 3) n) i) v) || repeated-none tag v i)
+        ∙ ap (λ (x : Bool). (eqb t tag && x) || false) (sym q)
+        ∙ ap (λ (x : Bool). x || false) f))
+        ∙ c .rest
+
+    pub scanning-found : {equal : Bool} → equal ≡ same (take (at + 3 + n - (at + 3)) (drop (at + 3) table)) v
+        → (eqb t tag && equal) ≡ true
+        → true ≡ isRepeated tag v (fieldsBefore table to)
+    scanning-found q f =
+        sym (or-true (isRepeated tag v (earlier to (fieldsAt table (at + 3 + n)) []))) ∙ found-by q true f
+
+    pub scanning-next : {equal : Bool} → equal ≡ same (take (at + 3 + n - (at + 3)) (drop (at + 3) table)) v
+        → (eqb t tag && equal) ≡ false
+        → Scanning table to tag v (at + 3 + n)
+    scanning-next q f =
+        record {
+          rest = sym (or-false (isRepeated tag v (earlier to (fieldsAt table (at + 3 + n)) []))) ∙ found-by q false f;
+        }
+
+-- ------------------------------------------------------------------ the turns of the check
+
+pub layout-long : (table : List ℕ) → longestTable < length table → Refused (refusal 1 0 0 0) ≡ verdict (layout table)
+unfolding layout
+layout-long table h = rw (lt-leb (length table) longestTable h, layout) refl
+
+layout-short : (table : List ℕ) → length table ≤ longestTable → layout table ≡ checkFields (fieldsOf table) [] start
+unfolding layout
+layout-short table h = rw (le-leb (length table) longestTable h, layout) refl
+
+fields-end : (at : ℕ) (before : List encode.Field) (s : Progress) → checkFields (end at) before s ≡ need (eqb (s .last) 8) 4 at
+unfolding checkFields
+fields-end at before s = refl
+
+fields-cut : (at : ℕ) (before : List encode.Field) (s : Progress) → checkFields (cut at) before s ≡ bad (refusal 2 at 0 0)
+unfolding checkFields
+fields-cut at before s = refl
+
+fields-next : (at tag : ℕ) (v : List ℕ) (fs : Fields) (before : List encode.Field) (s : Progress) (r : Checked Progress)
+    → checkField before at tag v s ≡ r
+    → checkFields (next at tag v fs) before s ≡ (r >>= λ t. checkFields fs (field tag v ∷ before) t)
+unfolding checkFields
+fields-next at tag v fs before s r e = ap (λ x. x >>= λ t. checkFields fs (field tag v ∷ before) t) e
+
+checked-ok : (x : Checked Progress) (s : Progress) → Further s ≡ checking x → x ≡ ok s
+checked-ok (ok t) s e = cc
+checked-ok (bad r) s e = let z : _≡_ {A = ℕ} 0 1 = cc in absurd (omega arith)
+
+checked-bad : (x : Checked Progress) (r : Refusal) → Stopped r ≡ checking x → x ≡ bad r
+checked-bad (ok t) r e = let z : _≡_ {A = ℕ} 0 1 = cc in absurd (omega arith)
+checked-bad (bad q) r e = cc
+
+-- the fields before `at` pass and give s; those from there on give what all of them give
+pub record Turn (table : List ℕ) (at : ℕ) (s : Progress) : Type 0 where
+  pub divides : (to : ℕ) → at ≤ to → fieldsBefore table to ≡ earlier to (fieldsAt table at) (fieldsBefore table at)
+  pub rest : checkFields (fieldsAt table at) (fieldsBefore table at) s ≡ checkFields (fieldsOf table) [] start
+
+none-before : (table : List ℕ) → fieldsBefore table 0 ≡ []
+none-before table = before-is table 0 ∙ past table 0 0 [] (omega arith)
+
+pub turn-start : (table : List ℕ) → Turn table 0 start
+turn-start table =
+    record {
+      divides = λ to h. before-is table to ∙ ap (earlier to (fieldsAt table 0)) (sym (none-before table));
+      rest = λ i. checkFields (sym (fields-of table) i) (none-before table i) start;
+    }
+
+module _ {table : List ℕ} {at : ℕ} {s : Progress} (c : Turn table at s) (h : length table ≤ longestTable) where
+  answer : (x : Checked (Unit {0})) → checkFields (fieldsAt table at) (fieldsBefore table at) s ≡ x → verdict x ≡ verdict (layout table)
+  answer x e = ap verdict (sym e ∙ c .rest ∙ sym (layout-short table h))
+
+  pub turn-end : Nothing ≡ frontOf (drop at table) → verdict (need (eqb (s .last) 8) 4 at) ≡ verdict (layout table)
+  turn-end e =
+      answer _ (ap (λ fs. checkFields fs (fieldsBefore table at) s) (fields-at table at e) ∙ fields-end at (fieldsBefore table at) s)
+
+  pub turn-cut : Short ≡ frontOf (drop at table) → Refused (refusal 2 at 0 0) ≡ verdict (layout table)
+  turn-cut e =
+      answer _ (ap (λ fs. checkFields fs (fieldsBefore table at) s) (fields-at table at e) ∙ fields-cut at (fieldsBefore table at) s)
+
+module _ {table : List ℕ} {at : ℕ} {s : Progress} (c : Turn table at s) {t n : ℕ} (e : Field t n ≡ frontOf (drop at table)) where
+  -- the field here, checked with its value as the code lends it
+  field-is : (x : Checked Progress)
+      → checkField (fieldsBefore table at) at t (take (at + 3 + n - (at + 3)) (drop (at + 3) table)) s ≡ x
+      → (x >>= λ u. checkFields (fieldsAt table (at + 3 + n)) (field t (take n (drop (at + 3) table)) ∷ fieldsBefore table at) u)
+      ≡ checkFields (fieldsOf table) [] start
+  field-is x f =
+      sym
+      (ap (λ fs. checkFields fs (fieldsBefore table at) s) (fields-at table at e)
+      ∙ fields-next at t (take n (drop (at + 3) table)) (fieldsAt table (at + 3 + n)) (fieldsBefore table at) s x
+      (ap (λ w. checkField (fieldsBefore table at) at t w s) (sym (lent-is table (at + 3) n)) ∙ f))
+      ∙ c .rest
+
+  pub turn-stopped : length table ≤ longestTable → {r : Refusal}
+      → Stopped r
+      ≡ checking (checkField (fieldsBefore table at) at t (take (at + 3 + n - (at + 3)) (drop (at + 3) table)) s)
+      → Refused r ≡ verdict (layout table)
+  turn-stopped h {r} f = ap verdict (field-is (bad r) (checked-bad _ r f) ∙ sym (layout-short table h))
+
+  before-next : fieldsBefore table (at + 3 + n) ≡ field t (take n (drop (at + 3) table)) ∷ fieldsBefore table at
+  before-next =
+      c .divides (at + 3 + n) (omega arith) ∙ one-more table (at + 3 + n) at (fieldsBefore table at) e (omega arith)
+      ∙ past table (at + 3 + n) (at + 3 + n) _ (omega arith)
+
+  pub turn-next : {u : Progress}
+      → Further u
+      ≡ checking (checkField (fieldsBefore table at) at t (take (at + 3 + n - (at + 3)) (drop (at + 3) table)) s)
+      → Turn table (at + 3 + n) u
+  turn-next {u} f =
+      record {
+        divides =
+            λ to h.
+            c .divides to (omega arith) ∙ one-more table to at (fieldsBefore table at) e (omega arith)
+            ∙ ap (earlier to (fieldsAt table (at + 3 + n))) (sym before-next);
+        rest =
+            ap (λ b. checkFields (fieldsAt table (at + 3 + n)) b u) before-next ∙ field-is (ok u) (checked-ok _ u f);
+      }

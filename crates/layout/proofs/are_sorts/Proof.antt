@@ -1,0 +1,48 @@
+-- `are_sorts`: the bytes passed are sorts.
+use Prim.Native.Nat.{_-_}
+use lib.ListN.{length}
+use Rattle.layout.proofs.Laws as laws
+use borrow.Author.Needs.{needs}
+use Rattle.layout.proofs.are_sorts.Statement.{statement}
+use Rattle.layout.proofs.are_sorts.Tie as tie
+
+abbrev Inv-loop : tie.InvT-loop
+Inv-loop v from i₀ i = laws.Sorts v from i
+
+abbrev μ-loop : tie.MeasureT-loop
+μ-loop v from i₀ i = length v - i
+
+loop-holds : tie.Need-loop-holds Inv-loop μ-loop
+loop-holds c = laws.sorts-start _ _
+
+shared-slice-read-if1 : tie.Need-shared-slice-read-if1 Inv-loop μ-loop
+shared-slice-read-if1 c = search needs
+
+returns : tie.Need-returns Inv-loop μ-loop
+returns c = laws.sorts-stop (c .before .before .before .loop .inv) (c .before .before .loop-test .taken) (c .if1 .taken)
+
+add-i : tie.Need-add-i Inv-loop μ-loop
+add-i c = search needs
+
+loop-less : tie.Need-loop-less Inv-loop μ-loop
+loop-less c = search needs
+
+loop-again : tie.Need-loop-again Inv-loop μ-loop
+loop-again c = laws.sorts-next (c .before .before .before .loop .inv) (c .before .before .loop-test .taken) (c .if1 .left)
+
+returns-2 : tie.Need-returns-2 Inv-loop μ-loop
+returns-2 c = laws.sorts-end (c .before .loop .inv) (c .loop-test .left)
+
+pub are-sorts-spec : {M : Type 1} → statement M
+are-sorts-spec =
+    tie.close
+    (tie.spec
+    Inv-loop
+    μ-loop
+    loop-holds
+    shared-slice-read-if1
+    returns
+    add-i
+    loop-less
+    loop-again
+    returns-2)

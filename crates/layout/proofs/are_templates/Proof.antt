@@ -1,0 +1,77 @@
+-- `are_templates`: what is left makes up for the templates due.
+use Prim.Native.Nat.{_-_}
+use native.Mathlib.Omega.{arith}
+use lib.ListN.{length}
+use Rattle.layout.proofs.LawsTemplates as laws
+use borrow.Author.Needs.{needs}
+use Rattle.layout.proofs.are_templates.Statement.{statement}
+use Rattle.layout.proofs.are_templates.Tie as tie
+
+abbrev Inv-loop : tie.InvT-loop
+Inv-loop v from single due₀ i₀ due i = laws.Due v from single due i
+
+abbrev μ-loop : tie.MeasureT-loop
+μ-loop v from single due₀ i₀ due i = length v - i
+
+one-if-requires : tie.Need-one-if-requires Inv-loop μ-loop
+one-if-requires c κs = search needs
+
+cast-due : tie.Need-cast-due Inv-loop μ-loop
+cast-due c = search needs
+
+loop-holds : tie.Need-loop-holds Inv-loop μ-loop
+loop-holds c = laws.due-start _ _ _ _ (c .one-if .ensures)
+
+shared-slice-read-b : tie.Need-shared-slice-read-b Inv-loop μ-loop
+shared-slice-read-b c = search needs
+
+head-size-requires : tie.Need-head-size-requires Inv-loop μ-loop
+head-size-requires c κs = search needs
+
+sub-if1 : tie.Need-sub-if1 Inv-loop μ-loop
+sub-if1 c = omega arith
+
+returns : tie.Need-returns Inv-loop μ-loop
+returns c = laws.due-stop (c .before .before .before .before .loop .inv) (c .before .before .before .loop-test .taken) (c .before .head-size .ensures) (c .if1 .taken)
+
+less-one-requires : tie.Need-less-one-requires Inv-loop μ-loop
+less-one-requires c κs = search needs
+
+argument-count-requires : tie.Need-argument-count-requires Inv-loop μ-loop
+argument-count-requires c κs = search needs
+
+add-due : tie.Need-add-due Inv-loop μ-loop
+add-due c = omega (arith, laws.due-room (c .before .before .before .before .before .before .loop .inv) (c .before .before .before .before .before .loop-test .taken) (c .before .before .before .head-size .ensures) (c .before .before .if1 .left), laws.due-next (c .before .before .before .before .before .before .loop .inv) (c .before .before .before .before .before .loop-test .taken) (c .before .before .before .head-size .ensures) (c .before .before .if1 .left) (c .before .less-one .ensures) (c .argument-count .ensures) .small)
+
+add-i : tie.Need-add-i Inv-loop μ-loop
+add-i c = omega (arith, laws.due-room (c .before .before .before .before .before .before .loop .inv) (c .before .before .before .before .before .loop-test .taken) (c .before .before .before .head-size .ensures) (c .before .before .if1 .left))
+
+loop-less : tie.Need-loop-less Inv-loop μ-loop
+loop-less c = omega (arith, laws.due-room (c .before .before .before .before .before .before .loop .inv) (c .before .before .before .before .before .loop-test .taken) (c .before .before .before .head-size .ensures) (c .before .before .if1 .left))
+
+loop-again : tie.Need-loop-again Inv-loop μ-loop
+loop-again c = laws.due-next (c .before .before .before .before .before .before .loop .inv) (c .before .before .before .before .before .loop-test .taken) (c .before .before .before .head-size .ensures) (c .before .before .if1 .left) (c .before .less-one .ensures) (c .argument-count .ensures)
+
+returns-2 : tie.Need-returns-2 Inv-loop μ-loop
+returns-2 c = laws.due-end (c .before .loop .inv) (c .loop-test .left)
+
+pub are-templates-spec : {M : Type 1} → statement M
+are-templates-spec =
+    tie.close
+    (tie.spec
+    Inv-loop
+    μ-loop
+    one-if-requires
+    cast-due
+    loop-holds
+    shared-slice-read-b
+    head-size-requires
+    sub-if1
+    returns
+    less-one-requires
+    argument-count-requires
+    add-due
+    add-i
+    loop-less
+    loop-again
+    returns-2)

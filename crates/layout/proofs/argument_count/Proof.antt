@@ -1,0 +1,18 @@
+-- `argument_count`: by its test.
+use mathlib.Core.Path.{sym, _∙_}
+use Rattle.layout.proofs.LawsTemplates as laws
+use borrow.Author.Needs.{needs}
+use Rattle.layout.proofs.argument_count.Statement.{statement}
+use Rattle.layout.proofs.argument_count.Tie as tie
+
+arity-of-requires : tie.Need-arity-of-requires
+arity-of-requires c κs = search needs
+
+returns : tie.Need-returns
+returns c = c .arity-of .ensures ∙ sym (laws.arguments-constructor _ (c .before .if1 .taken))
+
+returns-2 : tie.Need-returns-2
+returns-2 c = sym (laws.arguments-other _ (c .if1 .left))
+
+pub argument-count-spec : {M : Type 1} → statement M
+argument-count-spec = tie.close (tie.spec arity-of-requires returns returns-2)

@@ -1,0 +1,18 @@
+-- `check_end`: by the last tag.
+use mathlib.Core.Path.{sym, _∙_}
+use Rattle.layout.proofs.Laws as laws
+use borrow.Author.Needs.{needs}
+use Rattle.layout.proofs.check_end.Statement.{statement}
+use Rattle.layout.proofs.check_end.Tie as tie
+
+returns : tie.Need-returns
+returns c = sym (laws.end-root _ _ (c .if1 .taken))
+
+refused-requires : tie.Need-refused-requires
+refused-requires c κs = search needs
+
+returns-2 : tie.Need-returns-2
+returns-2 c = c .refused .ensures ∙ sym (laws.end-other _ _ (c .before .if1 .left))
+
+pub check-end-spec : {M : Type 1} → statement M
+check-end-spec = tie.close (tie.spec returns refused-requires returns-2)

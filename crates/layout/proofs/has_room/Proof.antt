@@ -1,0 +1,12 @@
+-- `has_room`: the tests as they stand.
+use mathlib.Core.Path.{refl}
+use Rattle.layout.specs.Layout.{hasRoom}
+use Rattle.layout.proofs.has_room.Statement.{statement}
+use Rattle.layout.proofs.has_room.Tie as tie
+
+returns : tie.Need-returns
+unfolding hasRoom
+returns c = refl
+
+pub has-room-spec : {M : Type 1} → statement M
+has-room-spec = tie.close (tie.spec returns)

@@ -1,0 +1,20 @@
+-- `is_item`: the tests as they stand, over the two bytes.
+use mathlib.Core.Path.{ap₂}
+use Rattle.layout.specs.Layout.{isItem}
+use Rattle.layout.proofs.Laws as laws
+use borrow.Author.Needs.{needs}
+use Rattle.layout.proofs.is_item.Statement.{statement}
+use Rattle.layout.proofs.is_item.Tie as tie
+
+byte-requires : tie.Need-byte-requires
+byte-requires c κs = search needs
+
+byte-requires-2 : tie.Need-byte-requires-2
+byte-requires-2 c κs = search needs
+
+returns : tie.Need-returns
+unfolding isItem
+returns c = ap₂ (laws.itemBy (c .before .before .before .args .v .now)) (c .before .byte .ensures) (c .byte2 .ensures)
+
+pub is-item-spec : {M : Type 1} → statement M
+is-item-spec = tie.close (tie.spec byte-requires byte-requires-2 returns)

@@ -1,0 +1,23 @@
+-- `is_known`: the tests as they stand.
+use mathlib.Core.Bool.{_&&_, _||_}
+use lib.Dec.{eqb}
+use Rattle.layout.specs.Layout.{isKnown, isEmpty}
+use borrow.Author.Needs.{needs}
+use Rattle.layout.proofs.is_known.Statement.{statement}
+use Rattle.layout.proofs.is_known.Tie as tie
+
+is-head-requires : tie.Need-is-head-requires
+is-head-requires c κs = search needs
+
+is-item-requires : tie.Need-is-item-requires
+is-item-requires c κs = search needs
+
+is-root-requires : tie.Need-is-root-requires
+is-root-requires c κs = search needs
+
+returns : tie.Need-returns
+unfolding isKnown
+returns c = let tag = c .before .before .before .before .args .tag in let v = c .before .before .before .before .args .v .now in λ i. eqb tag 1 || eqb tag 2 || (eqb tag 3 && isEmpty v) || (eqb tag 4 && c .before .before .is-head .ensures i) || (eqb tag 5 && isEmpty v) || (eqb tag 6 && c .before .is-item .ensures i) || eqb tag 7 || (eqb tag 8 && c .is-root .ensures i)
+
+pub is-known-spec : {M : Type 1} → statement M
+is-known-spec = tie.close (tie.spec is-head-requires is-item-requires is-root-requires returns)

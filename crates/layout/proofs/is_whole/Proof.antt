@@ -1,0 +1,37 @@
+-- `is_whole`: by the tag.
+use mathlib.Core.Path.{sym, _∙_}
+use mathlib.Core.Bool.{_||_, not}
+use lib.Dec.{eqb}
+use Rattle.layout.proofs.Laws as laws
+use borrow.Author.Needs.{needs}
+use Rattle.layout.proofs.is_whole.Statement.{statement}
+use Rattle.layout.proofs.is_whole.Tie as tie
+
+byte-requires : tie.Need-byte-requires
+byte-requires c κs = search needs
+
+are-templates-requires : tie.Need-are-templates-requires
+are-templates-requires c κs = search needs
+
+returns : tie.Need-returns
+returns c = (λ i. not (eqb (c .before .byte .ensures i) 4) || c .are-templates .ensures i) ∙ sym (laws.whole-item _ _ (c .before .before .if1 .taken))
+
+are-templates-requires-2 : tie.Need-are-templates-requires-2
+are-templates-requires-2 c κs = search needs
+
+returns-2 : tie.Need-returns-2
+returns-2 c = c .are-templates2 .ensures ∙ sym (laws.whole-result _ _ (c .before .if2 .taken))
+
+returns-3 : tie.Need-returns-3
+returns-3 c = sym (laws.whole-other _ _ (c .before .if1 .left) (c .if2 .left))
+
+pub is-whole-spec : {M : Type 1} → statement M
+is-whole-spec =
+    tie.close
+    (tie.spec
+    byte-requires
+    are-templates-requires
+    returns
+    are-templates-requires-2
+    returns-2
+    returns-3)

@@ -1,0 +1,24 @@
+-- `items_after`: a sum within the room that is left.
+use mathlib.Core.Path.{sym, ap, _∙_}
+use Prim.Native.Nat.{_+_}
+use native.Mathlib.Omega.{arith}
+use lib.Dec.{eqb, lit<}
+use Rattle.layout.proofs.Laws as laws
+use borrow.Author.Needs.{needs}
+use Rattle.layout.proofs.items_after.Statement.{statement}
+use Rattle.layout.proofs.items_after.Tie as tie
+
+returns : tie.Need-returns
+returns c = sym (laws.items-begin _ _ (c .if1 .taken))
+
+one-if-requires : tie.Need-one-if-requires
+one-if-requires c κs = search needs
+
+add-result : tie.Need-add-result
+add-result c = laws.fitting _ 12 (eqb (c .before .before .before .args .tag) 6) (laws.room-of _ _ (c .before .before .before .pre) .items) (lit< tt) (omega arith) (c .before .one-if .ensures)
+
+returns-2 : tie.Need-returns-2
+returns-2 c = ap (λ k. c .before .before .before .args .s .items + k) (c .before .one-if .ensures) ∙ sym (laws.items-more _ _ (c .before .before .if1 .left))
+
+pub items-after-spec : {M : Type 1} → statement M
+items-after-spec = tie.close (tie.spec returns one-if-requires add-result returns-2)

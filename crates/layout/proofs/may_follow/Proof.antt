@@ -1,0 +1,12 @@
+-- `may_follow`: the tests as they stand.
+use mathlib.Core.Path.{refl}
+use Rattle.layout.specs.Layout.{follows}
+use Rattle.layout.proofs.may_follow.Statement.{statement}
+use Rattle.layout.proofs.may_follow.Tie as tie
+
+returns : tie.Need-returns
+unfolding follows
+returns c = refl
+
+pub may-follow-spec : {M : Type 1} → statement M
+may-follow-spec = tie.close (tie.spec returns)
