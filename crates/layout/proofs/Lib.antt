@@ -5,6 +5,11 @@ pub mod Accept
 pub mod Order
 pub mod Spelled
 pub mod Sound
+pub mod Complete
+pub mod Rebuilt
+pub mod Inverse
+pub mod RefusalNumbers
+pub mod LayoutTheorems
 pub mod Laws
 pub mod LawsTemplates
 pub mod LawsFields

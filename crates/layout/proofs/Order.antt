@@ -65,8 +65,8 @@ up-to-eight P p0 p1 p2 p3 p4 p5 p6 p7 p8 (suc (suc (suc (suc (suc (suc (suc zero
 up-to-eight P p0 p1 p2 p3 p4 p5 p6 p7 p8 (suc (suc (suc (suc (suc (suc (suc (suc zero)))))))) h = p8
 up-to-eight P p0 p1 p2 p3 p4 p5 p6 p7 p8 (suc (suc (suc (suc (suc (suc (suc (suc (suc n))))))))) h = absurd (omega arith)
 
-no : {A : Type 0} → false ≡ true → A
-no e = absurd (false≢true e)
+never : {A : Type 0} → false ≡ true → A
+never e = absurd (false≢true e)
 
 -- wherever the tag may come, these fields are what is left
 abbrev pub Opens : ℕ → Built → List Field → Type 0
@@ -113,41 +113,41 @@ module _ (b : Built) where
   pub opens-keyword : (v : List ℕ) → Opens 1 (withKeyword v b) (field 1 v ∷ left 1 b)
   unfolding left follows spellingsThen
   opens-keyword v =
-      by-last 1 (withKeyword v b) (field 1 v ∷ left 1 b) (λ e. refl) (λ e. refl) no no no no no no no
+      by-last 1 (withKeyword v b) (field 1 v ∷ left 1 b) (λ e. refl) (λ e. refl) never never never never never never never
 
   pub opens-outside : (v : List ℕ) → Opens 2 (withOutside v b) (field 2 v ∷ left 2 b)
   unfolding left follows spellingsThen
   opens-outside v =
-      by-last 2 (withOutside v b) (field 2 v ∷ left 2 b) (λ e. refl) (λ e. refl) (λ e. refl) no no no no no no
+      by-last 2 (withOutside v b) (field 2 v ∷ left 2 b) (λ e. refl) (λ e. refl) (λ e. refl) never never never never never never
 
   pub opens-block : Opens 3 (withBlock b) (field 3 [] ∷ left 3 b)
   unfolding left follows spellingsThen blocksThen definitionsThen alternativesThen
   opens-block =
-      by-last 3 (withBlock b) (field 3 [] ∷ left 3 b) (λ e. refl) (λ e. refl) (λ e. refl) (λ e. refl) no no no (λ e. refl) no
+      by-last 3 (withBlock b) (field 3 [] ∷ left 3 b) (λ e. refl) (λ e. refl) (λ e. refl) (λ e. refl) never never never (λ e. refl) never
 
   pub opens-definition : (d : Definition) → d .alternatives ≡ b .alternatives
       → Opens 4 (withDefinition d b) (field 4 (headValue d) ∷ left 4 b)
   unfolding left follows definitionsThen alternativesThen
   opens-definition d a =
       let same = ap (λ rest. field 4 (headValue d) ∷ alternativesThen rest (definitionsLeft b)) a in
-      by-last 4 (withDefinition d b) (field 4 (headValue d) ∷ left 4 b) no no no (λ e. same) no no no (λ e. same) no
+      by-last 4 (withDefinition d b) (field 4 (headValue d) ∷ left 4 b) never never never (λ e. same) never never never (λ e. same) never
 
   pub opens-alternative : Opens 5 (withAlternative b) (field 5 [] ∷ left 5 b)
   unfolding left follows alternativesThen
   opens-alternative =
-      by-last 5 (withAlternative b) (field 5 [] ∷ left 5 b) no no no no (λ e. refl) no no (λ e. refl) no
+      by-last 5 (withAlternative b) (field 5 [] ∷ left 5 b) never never never never (λ e. refl) never never (λ e. refl) never
 
   pub opens-item : (i : Item) → Opens 6 (withItem i b) (field 6 (itemValue i) ∷ left 6 b)
   unfolding left follows itemsThen
   opens-item i =
-      by-last 6 (withItem i b) (field 6 (itemValue i) ∷ left 6 b) no no no no no (λ e. refl) (λ e. refl) no no
+      by-last 6 (withItem i b) (field 6 (itemValue i) ∷ left 6 b) never never never never never (λ e. refl) (λ e. refl) never never
 
   pub opens-result : (t : Template) → Opens 7 (withResult t b) (field 7 (templateThen t []) ∷ left 7 b)
   unfolding left follows itemsThen
   opens-result t =
-      by-last 7 (withResult t b) (field 7 (templateThen t []) ∷ left 7 b) no no no no no (λ e. refl) (λ e. refl) no no
+      by-last 7 (withResult t b) (field 7 (templateThen t []) ∷ left 7 b) never never never never never (λ e. refl) (λ e. refl) never never
 
   pub opens-root : (r : ℕ) → Opens 8 (withRoot r b) (field 8 (r ∷ []) ∷ left 8 b)
   unfolding left follows spellingsThen blocksThen definitionsThen alternativesThen
   opens-root r =
-      by-last 8 (withRoot r b) (field 8 (r ∷ []) ∷ left 8 b) (λ e. refl) (λ e. refl) (λ e. refl) (λ e. refl) no no no (λ e. refl) no
+      by-last 8 (withRoot r b) (field 8 (r ∷ []) ∷ left 8 b) (λ e. refl) (λ e. refl) (λ e. refl) (λ e. refl) never never never (λ e. refl) never

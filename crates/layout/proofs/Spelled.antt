@@ -21,6 +21,12 @@ pub each-all : {A : Type 0} {P : A → Type 0} → ((x : A) → P x) → (xs : L
 each-all f [] = each-none
 each-all f (x ∷ xs) = each-more (f x) (each-all f xs)
 
+pub each-parts : {A : Type 0} {P : A → Type 0} {x : A} {xs : List A} → Each P (x ∷ xs) → P x × Each P xs
+each-parts (each-more h t) = (h, t)
+
+different-parts : {v : List ℕ} {vs : List (List ℕ)} → Different (v ∷ vs) → Each (λ w. v ≡ w → ⊥) vs × Different vs
+different-parts (different-more h t) = (h, t)
+
 -- spellings that pass the test, differ, and are new after the fields before them
 pub record Spelled (test : List ℕ → Bool) (tag : ℕ) (before : List Field) (vs : List (List ℕ)) : Type 0 where
   pub spelled : Each (λ w. test w ≡ true) vs
@@ -52,4 +58,18 @@ module _ (test : List ℕ → Bool) (tag : ℕ) (before : List Field) where
               different-more
               (each-map (λ w h. same-false v w (or-false-left (same v w) (isRepeated tag w before) (sym (repeats w) ∙ h))) (s .fresh))
               (s .different);
+        }
+
+    pub spelled-first : Spelled test tag before (v ∷ vs) → (test v ≡ true) × (isRepeated tag v before ≡ false)
+    spelled-first s = (each-parts (s .spelled) .0, each-parts (s .fresh) .0)
+
+    pub spelled-rest : Spelled test tag before (v ∷ vs) → Spelled test tag (field tag v ∷ before) vs
+    spelled-rest s =
+        let different = different-parts (s .different) in
+        record {
+          spelled = each-parts (s .spelled) .1;
+          fresh =
+              each-both (λ w d f. repeats w ∙ ap (λ t. t || isRepeated tag w before) (differ-same v w d) ∙ f) (different .0)
+              (each-parts (s .fresh) .1);
+          different = different .1;
         }
