@@ -36,7 +36,7 @@ collectBy (next at tag v fs) E own =
     ]
 
 -- the bodies of the block that the fields begin in, where S is the signature of the definition begun last and L the sorts of the
--- variables numbered so far
+-- variables numbered so far, none behind a result
 unfoldable pub bodiesBy : Fields → Scope → Signature → List ℕ → Checked (Unit {0})
 bodiesBy (end at) G S L = ok tt
 bodiesBy (cut at) G S L = ok tt
@@ -52,7 +52,7 @@ bodiesBy (next at tag v fs) G S L =
                   | false ↦
                       elim (eqb tag 6) [
                         | true ↦ checkItem G L at (itemOf v) >>= λ s. bodiesBy fs G S (L ++ (s ∷ []))
-                        | false ↦ checkResult G L (S .result) at (firstOf (found (templatesOf v))) >> bodiesBy fs G S L
+                        | false ↦ checkResult G L (S .result) at (firstOf (found (templatesOf v))) >> bodiesBy fs G S []
                       ]
                 ]
           ]
