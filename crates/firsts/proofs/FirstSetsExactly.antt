@@ -19,7 +19,7 @@ use Rattle.grammar.specs.Table.{Item, keyword, ide, number, local, call}
 use Rattle.firsts.specs.Normal.{Production}
 use Rattle.firsts.specs.First.{isPassed, nullables, own, through, joined, gather, firstStep, setsOf}
 use Rattle.firsts.specs.Rules.{Of, First, first-own, first-call, first-past, FirstOf, Reads, reads-keyword, reads-word, reads-number, Calls, calls}
-use Rattle.firsts.proofs.Rounds.{Numbers, Within, admit, least, least-within, least-closed, least-seen, or-left, or-right, or-split}
+use Rattle.firsts.proofs.Rounds.{Numbers, Within, Each, admit, least, least-within, least-closed, least-seen, or-left, or-right, or-split}
 use Rattle.firsts.proofs.NullablesExactly.{null-item-exactly}
 
 -- ------------------------------------------------------------------ the test of items, with bit b of all sets as a set
@@ -134,7 +134,7 @@ module _ (c : Bool) (nulls b : ℕ) where
 -- ------------------------------------------------------------------ the rules
 
 module _ (c : Bool) (Own : Item → ℕ → Type 0) (own-exactly : (i : Item) (b : ℕ) → (hasKind (own c i) b ≡ true) ↔ Own i b) (g : List Production) where
-  called-sound : (b : ℕ) (s : Numbers) → ((n : ℕ) → s n ≡ true → FirstOf g Own n b) → (i : Item) (is : List Item)
+  called-sound : (b : ℕ) (s : Numbers) → Each (λ n. FirstOf g Own n b) s → (i : Item) (is : List Item)
       → called s i ≡ true → First g Own (i ∷ is) b
   called-sound b s hs (keyword k) is e = absurd (false≢true e)
   called-sound b s hs (ide k) is e = absurd (false≢true e)
@@ -142,7 +142,7 @@ module _ (c : Bool) (Own : Item → ℕ → Type 0) (own-exactly : (i : Item) (b
   called-sound b s hs local is e = absurd (false≢true e)
   called-sound b s hs (call n ts) is e = let f = hs n e in first-call (f .of) (f .first)
 
-  first-sound : (b : ℕ) (s : Numbers) → ((n : ℕ) → s n ≡ true → FirstOf g Own n b) → (is : List Item)
+  first-sound : (b : ℕ) (s : Numbers) → Each (λ n. FirstOf g Own n b) s → (is : List Item)
       → firstIn c (nullables g) b s is ≡ true → First g Own is b
   unfolding firstIn
   first-sound b s hs [] e = absurd (false≢true e)
@@ -167,7 +167,7 @@ module _ (c : Bool) (Own : Item → ℕ → Type 0) (own-exactly : (i : Item) (b
         ∙ least-closed (firstIn c (nullables g) b) (first-more c (nullables g) b) g (f .of) (first-complete (f .first)),
   )
     where
-      keeps : (s : Numbers) → ((n : ℕ) → s n ≡ true → FirstOf g Own n b) → (n : ℕ) (p : Production) → Of g n p
+      keeps : (s : Numbers) → Each (λ n. FirstOf g Own n b) s → (n : ℕ) (p : Production) → Of g n p
           → firstIn c (nullables g) b s (p .items) ≡ true → FirstOf g Own n b
       keeps s hs n p o e = record { production = p; of = o; first = first-sound b s hs (p .items) e }
 

@@ -1,4 +1,8 @@
+mod Examples
 pub mod Rounds
 pub mod NullablesExactly
 pub mod FirstSetsExactly
+pub mod Searches
+pub mod Clashing
+pub mod Refusals
 pub mod FirstsTheorems

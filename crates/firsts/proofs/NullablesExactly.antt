@@ -10,7 +10,7 @@ use Rattle.grammar.specs.Table.{Item, keyword, ide, number, local, call}
 use Rattle.firsts.specs.Normal.{Production}
 use Rattle.firsts.specs.First.{isPassed, allPassed, nullStep, nullables}
 use Rattle.firsts.specs.Rules.{Of, NullItems, null-none, null-local, null-call, Nullable}
-use Rattle.firsts.proofs.Rounds.{Numbers, Within, admit, least, least-within, least-closed, least-seen}
+use Rattle.firsts.proofs.Rounds.{Numbers, Within, Each, admit, least, least-within, least-closed, least-seen}
 
 -- ------------------------------------------------------------------ the test of items, with the nullables as a set
 
@@ -68,7 +68,7 @@ nullables-seen g = least-seen (λ x. Unit {0}) hasKind allIn nullStep (λ p x u.
 -- ------------------------------------------------------------------ the rules
 
 module _ (g : List Production) where
-  null-sound : (s : Numbers) → ((n : ℕ) → s n ≡ true → Nullable g n) → (is : List Item) → allIn s is ≡ true → NullItems g is
+  null-sound : (s : Numbers) → Each (Nullable g) s → (is : List Item) → allIn s is ≡ true → NullItems g is
   unfolding allIn
   null-sound s hs [] e = null-none
   null-sound s hs (keyword k ∷ is) e = absurd (false≢true e)
@@ -92,7 +92,7 @@ module _ (g : List Production) where
     λ h. rw (nullables-seen g) (least-closed allIn all-more g (h .of) (null-complete (h .items))),
   )
     where
-      keeps : (s : Numbers) → ((n : ℕ) → s n ≡ true → Nullable g n) → (n : ℕ) (p : Production) → Of g n p → allIn s (p .items) ≡ true → Nullable g n
+      keeps : (s : Numbers) → Each (Nullable g) s → (n : ℕ) (p : Production) → Of g n p → allIn s (p .items) ≡ true → Nullable g n
       keeps s hs n p o e = record { production = p; of = o; items = null-sound s hs (p .items) e }
 
   pub null-items-exactly : (is : List Item) → (allPassed (nullables g) is ≡ true) ↔ NullItems g is

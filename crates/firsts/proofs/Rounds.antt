@@ -38,6 +38,10 @@ nothing n = false
 abbrev pub Within : Numbers → Numbers → Type 0
 Within s t = (n : ℕ) → s n ≡ true → t n ≡ true
 
+-- P holds of each number in the set
+abbrev pub Each : (ℕ → Type 0) → Numbers → Type 0
+Each P s = (n : ℕ) → s n ≡ true → P n
+
 abbrev counted : Bool → ℕ → ℕ
 counted true c = suc c
 counted false c = c
@@ -124,8 +128,8 @@ pub least : (Numbers → List Item → Bool) → List Production → Numbers
 least passes g = rounds 64 (overAll (admit passes) g) nothing
 
 module _ (passes : Numbers → List Item → Bool) (g : List Production) (P : ℕ → Type 0)
-    (keeps : (s : Numbers) → ((n : ℕ) → s n ≡ true → P n) → (n : ℕ) (p : Production) → Of g n p → passes s (p .items) ≡ true → P n) where
-  step-within : (s : Numbers) → ((n : ℕ) → s n ≡ true → P n) → (p : Production) → In g p → (n : ℕ) → admit passes p s n ≡ true → P n
+    (keeps : (s : Numbers) → Each P s → (n : ℕ) (p : Production) → Of g n p → passes s (p .items) ≡ true → P n) where
+  step-within : (s : Numbers) → Each P s → (p : Production) → In g p → Each P (admit passes p s)
   step-within s hs p member n e = ⊎-elim (hs n) (λ a. came (and-eq-true-iff _ _ .0 a)) (or-split (s n) e)
     where
       came : (passes s (p .items) ≡ true) × ((ltb n 64 && eqb n (p .owner)) ≡ true) → P n
@@ -133,19 +137,19 @@ module _ (passes : Numbers → List Item → Bool) (g : List Production) (P : �
           let t = and-eq-true-iff _ _ .0 (a .1) in
           keeps s hs n p (record { member = member; owned = sym (eqb-true n (p .owner) (t .1)); small = ltb-true n 64 (t .0) }) (a .0)
 
-  over-within : (h : List Production) → ((p : Production) → In h p → In g p) → (s : Numbers) → ((n : ℕ) → s n ≡ true → P n)
-      → (n : ℕ) → overAll (admit passes) h s n ≡ true → P n
+  over-within : (h : List Production) → ((p : Production) → In h p → In g p) → (s : Numbers) → Each P s
+      → Each P (overAll (admit passes) h s)
   unfolding overAll
   over-within [] i s hs = hs
   over-within (p ∷ h) i s hs = over-within h (λ q m. i q (in-later m)) (admit passes p s) (step-within s hs p (i p in-first))
 
-  rounds-within : (k : ℕ) (s : Numbers) → ((n : ℕ) → s n ≡ true → P n) → (n : ℕ) → rounds k (overAll (admit passes) g) s n ≡ true → P n
+  rounds-within : (k : ℕ) (s : Numbers) → Each P s → Each P (rounds k (overAll (admit passes) g) s)
   unfolding rounds
   rounds-within zero s hs = hs
   rounds-within (suc k) s hs = rounds-within k (overAll (admit passes) g s) (over-within g (λ q m. m) s hs)
 
   -- what the productions keep holds of each number in it
-  pub least-within : (n : ℕ) → least passes g n ≡ true → P n
+  pub least-within : Each P (least passes g)
   unfolding least
   least-within = rounds-within 64 nothing (λ n e. absurd (false≢true e))
 

@@ -1,4 +1,5 @@
 pub mod Normal
 pub mod First
 pub mod Rules
+pub mod FirstRefusals
 pub mod Index
