@@ -12,11 +12,12 @@ use Rattle.answers.specs.Checked.{Checked, ok, bad}
 use Rattle.kinds.specs.Kinds.{hasKind}
 use Rattle.firsts.specs.Normal.{Production}
 use Rattle.firsts.specs.First.{allPassed, nullables, firstSets, leftCalls, firstOf, checkFirsts}
-use Rattle.firsts.specs.Rules.{NullItems, Nullable, First, Reads, Calls, Opens, LeftReaches}
+use Rattle.firsts.specs.Rules.{Of, NullItems, Nullable, First, Reads, Calls, Opens, LeftReaches}
 use Rattle.firsts.specs.FirstRefusals.{Shares, Clashes, Lowest, LowestOr64, Never, LeftRecursive, Says}
 use Rattle.firsts.proofs.NullablesExactly as nulls
 use Rattle.firsts.proofs.FirstSetsExactly.{sets-exactly, items-exactly, reads-exactly, calls-exactly}
 use Rattle.firsts.proofs.Refusals.{check-exactly, given-12, given-13, some-12, some-13}
+use Rattle.firsts.proofs.OneChoice.{one-opened, one-nullable}
 
 module _ (g : List Production) where
   -- 1. Bit n of the nullables is set exactly if n is nullable.
@@ -65,3 +66,9 @@ module _ (g : List Production) where
   -- 11. Nothing else is given: the result is the one that says what holds of g, a pass, a 12 or a 13.
   pub result-exactly : (x : Checked (Unit {0})) → (checkFirsts g ≡ x) ↔ Says g x
   result-exactly = check-exactly g
+
+  -- 12. In a grammar that passes, one kind opens at most one production of a nonterminal, and at most one is nullable.
+  pub one-production : checkFirsts g ≡ ok tt → (n : ℕ) (p q : Production) → Of g n p → Of g n q
+      → ((b : ℕ) → First g Reads (p .items) b → First g Reads (q .items) b → p ≡ q) × (NullItems g (p .items) → NullItems g (q .items) → p ≡ q)
+  one-production e n p q o k =
+      let none : Never (Clashes g) = passes-exactly .0 e .1 in (λ b. one-opened g none o k, one-nullable g none o k)

@@ -5,4 +5,5 @@ pub mod FirstSetsExactly
 pub mod Searches
 pub mod Clashing
 pub mod Refusals
+pub mod OneChoice
 pub mod FirstsTheorems
