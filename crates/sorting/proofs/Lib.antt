@@ -1,6 +1,9 @@
 pub mod Accepting
 pub mod Environments
 pub mod TemplateSorts
+pub mod TemplateInduction
+pub mod TemplatesByBytes
+pub mod TemplateLoops
 pub mod BodySorts
 pub mod SequenceSorts
 pub mod RefusalNumbers

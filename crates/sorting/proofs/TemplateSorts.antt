@@ -21,7 +21,7 @@ both a b h = and-eq-true-iff a b .0 h
 pub pair : (a b : Bool) → a ≡ true → b ≡ true → (a && b) ≡ true
 pair a b h k = and-eq-true-iff a b .1 (h, k)
 
-either : {A : Type 0} (a b : Bool) → (a || b) ≡ true → (a ≡ true → A) → (b ≡ true → A) → A
+pub either : {A : Type 0} (a b : Bool) → (a || b) ≡ true → (a ≡ true → A) → (b ≡ true → A) → A
 either true b h f g = f refl
 either false b h f g = g h
 

@@ -2,3 +2,4 @@ pub mod Sizes
 pub mod Sorting
 pub mod Judgements
 pub mod ByFields
+pub mod TemplateBytes
