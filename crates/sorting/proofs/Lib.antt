@@ -8,3 +8,4 @@ pub mod BodySorts
 pub mod SequenceSorts
 pub mod RefusalNumbers
 pub mod SortingTheorems
+pub mod ByFieldsSorts
