@@ -1,4 +1,6 @@
 mod Examples
+pub mod ItemsLaws
+pub mod ProductionsLaws
 pub mod Rounds
 pub mod NullablesExactly
 pub mod FirstSetsExactly

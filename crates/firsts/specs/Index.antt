@@ -4,16 +4,13 @@ use Prim.Native.Nat.{ℕ, zero, suc, _+_}
 use mathlib.Core.Bool.{Bool, true, false}
 use mathlib.Core.List.{List, [], _∷_, _++_}
 use lib.Dec.{eqb}
-use lib.ListN.{length, getD, drop}
+use lib.ListN.{getD}
 use Rattle.grammar.specs.Table.{Template, variable, Item}
-use Rattle.grammar.specs.Fields.{Fields, end, cut, next, fieldsFrom}
+use Rattle.grammar.specs.Fields.{Fields, end, cut, next}
+use Rattle.grammar.specs.Lookup.{fieldsAt}
 use Rattle.layout.specs.Prefix.{templatesOf, found, firstOf}
 use Rattle.layout.specs.Decode.{modeOf, itemOf}
 use Rattle.firsts.specs.Normal.{Production, kept}
-
--- the fields of a table from an offset on
-unfoldable pub fieldsAt : List ℕ → ℕ → Fields
-fieldsAt bs at = fieldsFrom (length bs) at (drop at bs)
 
 -- the items at the front, up to the first field that is none
 unfoldable pub itemsOf : Fields → List Item

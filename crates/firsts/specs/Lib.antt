@@ -3,3 +3,4 @@ pub mod First
 pub mod Rules
 pub mod FirstRefusals
 pub mod Index
+pub mod Symbols

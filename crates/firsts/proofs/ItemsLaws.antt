@@ -1,0 +1,252 @@
+-- Laws of the items at an offset of a table: what stands there, and the loops over the items of an alternative.
+use Prim.Native.Nat.{ℕ, zero, suc, _+_, _-_, _<_, _≤_}
+use mathlib.Core.Path.{_≡_, refl, sym, ap, _∙_, subst}
+use mathlib.Core.Bool.{Bool, true, false, _&&_}
+use mathlib.Core.List.{List, [], _∷_, map}
+use native.Mathlib.Omega.{arith}
+use lib.Dec.{eqb}
+use borrow.Author.Tests.{eq-eqb, ne-eqb}
+use lib.ListN.{length, getD, take, drop, List·getD-map}
+use Rattle.kinds.specs.Kinds.{hasKind, only, keywordKind}
+use Rattle.kinds.specs.KindsLaws.{only-none}
+use Rattle.grammar.specs.Table.{Item, keyword, ide, number, local, call}
+use Rattle.grammar.specs.declared.Front.{Front}
+use Rattle.grammar.specs.declared.Front.the-variants.{Nothing, Short, Field}
+use Rattle.grammar.specs.Fields.{Fields, end, cut, next}
+use Rattle.grammar.specs.Lookup.{frontOf, fieldsAt}
+use Rattle.grammar.proofs.LookupLaws.{fields-at, front-inside, front-nothing, opened}
+use Rattle.layout.specs.Prefix.{templatesOf, found}
+use Rattle.layout.specs.Decode.{itemOf}
+use Rattle.firsts.specs.declared.Symbol.{Symbol}
+use Rattle.firsts.specs.declared.Symbol.the-variants.{Keyword, Word, Number, Local, Call}
+use Rattle.firsts.specs.declared.Step.{Step}
+use Rattle.firsts.specs.declared.Step.the-variants.{Done, Past}
+use Rattle.firsts.specs.Symbols.{symbolOf, withSymbol, fieldStep, stepOf}
+use Rattle.firsts.specs.First.{isPassed, allPassed, own, through, joined, gather}
+use Rattle.firsts.specs.Index.{itemsOf}
+
+-- ------------------------------------------------------------------ the symbol of an item
+
+-- by its kind and operand
+abbrev symbols : ℕ → List Symbol
+symbols k = Keyword k ∷ Word ∷ Number ∷ Local ∷ Call k ∷ []
+
+symbol-by : (v : List ℕ) → symbolOf (itemOf v) ≡ getD (symbols (getD v 1 0)) (getD v 0 0) Number
+unfolding itemOf
+symbol-by v =
+    sym
+    (List·getD-map symbolOf
+    (keyword (getD v 1 0) ∷ ide (getD v 1 0) ∷ number ∷ local ∷ call (getD v 1 0) (found (templatesOf (drop 2 v))) ∷ [])
+    (getD v 0 0)
+    number)
+
+pub symbol-is : (v : List ℕ) (kind operand k : ℕ) → kind ≡ getD v 0 0 → operand ≡ getD v 1 0 → kind ≡ k
+    → getD (symbols operand) k Number ≡ symbolOf (itemOf v)
+symbol-is v kind operand k ek eo e =
+    ap (λ (o : ℕ). getD (symbols o) k Number) eo ∙ ap (λ (n : ℕ). getD (symbols (getD v 1 0)) n Number) (sym e ∙ ek)
+    ∙ sym (symbol-by v)
+
+pub symbol-other : (v : List ℕ) (kind operand : ℕ) → kind ≡ getD v 0 0 → operand ≡ getD v 1 0 → (kind ≡ 0 → ⊥) → (kind ≡ 1 → ⊥)
+    → (kind ≡ 3 → ⊥)
+    → (kind ≡ 4 → ⊥)
+    → Number ≡ symbolOf (itemOf v)
+symbol-other v kind operand ek eo n0 n1 n3 n4 = sym (other kind n0 n1 n3 n4) ∙ symbol-is v kind operand kind ek eo refl
+  where
+    other : (k : ℕ) → (k ≡ 0 → ⊥) → (k ≡ 1 → ⊥) → (k ≡ 3 → ⊥) → (k ≡ 4 → ⊥) → getD (symbols operand) k Number ≡ Number
+    other zero a b c d = absurd (a refl)
+    other (suc zero) a b c d = absurd (b refl)
+    other (suc (suc zero)) a b c d = refl
+    other (suc (suc (suc zero))) a b c d = absurd (c refl)
+    other (suc (suc (suc (suc zero)))) a b c d = absurd (d refl)
+    other (suc (suc (suc (suc (suc k))))) a b c d = refl
+
+-- nullables and first sets look at the symbol alone
+passed-by : (nulls : ℕ) (i : Item) → isPassed nulls (withSymbol (symbolOf i)) ≡ isPassed nulls i
+passed-by nulls (keyword k) = refl
+passed-by nulls (ide s) = refl
+passed-by nulls number = refl
+passed-by nulls local = refl
+passed-by nulls (call n ts) = refl
+
+own-by : (calls : Bool) (i : Item) → own calls (withSymbol (symbolOf i)) ≡ own calls i
+own-by true (keyword k) = refl
+own-by true (ide s) = refl
+own-by true number = refl
+own-by true local = refl
+own-by true (call n ts) = refl
+own-by false (keyword k) = refl
+own-by false (ide s) = refl
+own-by false number = refl
+own-by false local = refl
+own-by false (call n ts) = refl
+
+through-by : (sets : List ℕ) (i : Item) → through sets (withSymbol (symbolOf i)) ≡ through sets i
+through-by sets (keyword k) = refl
+through-by sets (ide s) = refl
+through-by sets number = refl
+through-by sets local = refl
+through-by sets (call n ts) = refl
+
+joined-by : (calls : Bool) (sets : List ℕ) (i : Item) (found : ℕ) → joined calls sets (withSymbol (symbolOf i)) found ≡ joined calls sets i found
+joined-by calls sets i found = rw (own-by calls i, through-by sets i) refl
+
+-- the code's cases
+pub passed-is : (nulls : ℕ) {s t : Symbol} → s ≡ t → isPassed nulls (withSymbol t) ≡ isPassed nulls (withSymbol s)
+passed-is nulls e = ap (λ (u : Symbol). isPassed nulls (withSymbol u)) (sym e)
+
+pub own-is : {calls b : Bool} → calls ≡ b → {s t : Symbol} → s ≡ t → own b (withSymbol t) ≡ own calls (withSymbol s)
+own-is {calls} {b} e {s} f = ap (λ (u : Symbol). own b (withSymbol u)) (sym f) ∙ ap (λ (x : Bool). own x (withSymbol s)) (sym e)
+
+pub through-is : (sets : List ℕ) {s t : Symbol} → s ≡ t → through sets (withSymbol t) ≡ through sets (withSymbol s)
+through-is sets e = ap (λ (u : Symbol). through sets (withSymbol u)) (sym e)
+
+pub keyword-none : (k : ℕ) → 62 ≤ k → 0 ≡ only (keywordKind k)
+keyword-none k h = sym (only-none (k + 2) (omega arith))
+
+-- ------------------------------------------------------------------ what stands at an offset
+
+-- an item with this symbol stands at an offset, and another offset is behind it
+pub record ItemAt (bs : List ℕ) (at : ℕ) (s : Symbol) (after : ℕ) : Type 0 where
+  pub item : Item
+  pub symbol : s ≡ symbolOf item
+  pub items : itemsOf (fieldsAt bs at) ≡ item ∷ itemsOf (fieldsAt bs after)
+  pub less : at < after
+  pub inside : after ≤ length bs
+
+abbrev pub Stepped : List ℕ → ℕ → Step → Type 0
+Stepped bs at Done = itemsOf (fieldsAt bs at) ≡ []
+Stepped bs at (Past s after) = ItemAt bs at s after
+
+module _ (bs : List ℕ) (at : ℕ) where
+  stepped-field : (t n : ℕ) → Field t n ≡ frontOf (drop at bs) → (b : Bool) → eqb t 6 ≡ b → Stepped bs at (fieldStep bs at n b)
+  unfolding itemsOf
+  stepped-field t n e true f =
+      record {
+        item = itemOf (take n (drop (at + 3) bs));
+        symbol = refl;
+        items = ap itemsOf (fields-at bs at e) ∙ rw (f, itemsOf) refl;
+        less = omega arith;
+        inside = omega (arith, front-inside bs at e);
+      }
+  stepped-field t n e false f = ap itemsOf (fields-at bs at e) ∙ rw (f, itemsOf) refl
+
+  stepped-by : (f : Front) → f ≡ frontOf (drop at bs) → Stepped bs at (stepOf bs at f)
+  unfolding itemsOf
+  stepped-by Nothing e = ap itemsOf (fields-at bs at e)
+  stepped-by Short e = ap itemsOf (fields-at bs at e)
+  stepped-by (Field t n) e = stepped-field t n e _ refl
+
+  pub stepped : {r : Step} → r ≡ stepOf bs at (frontOf (drop at bs)) → Stepped bs at r
+  stepped e = subst (λ (r : Step). Stepped bs at r) (sym e) (stepped-by _ refl)
+
+  -- behind an item less is left
+  pub step-less : {s : Symbol} {after : ℕ} → Past s after ≡ stepOf bs at (frontOf (drop at bs)) → length bs - after < length bs - at
+  step-less e = omega (arith, stepped e .less, stepped e .inside)
+
+  -- the code's answers
+  pub step-done : {t n : ℕ} → Field t n ≡ frontOf (drop at bs) → (t ≡ 6 → ⊥) → Done ≡ stepOf bs at (frontOf (drop at bs))
+  step-done {t} {n} e h = ap (fieldStep bs at n) (sym (ne-eqb t 6 h)) ∙ ap (stepOf bs at) e
+
+  pub step-past : {t n : ℕ} → Field t n ≡ frontOf (drop at bs) → t ≡ 6 → {s : Symbol}
+      → s ≡ symbolOf (itemOf (take (at + 3 + n - (at + 3)) (drop (at + 3) bs)))
+      → Past s (at + 3 + n) ≡ stepOf bs at (frontOf (drop at bs))
+  step-past {t} {n} e h es =
+      let z : at + 3 + n - (at + 3) ≡ n = omega arith in
+      ap (λ (s : Symbol). Past s (at + 3 + n)) (es ∙ ap (λ (k : ℕ). symbolOf (itemOf (take k (drop (at + 3) bs)))) z)
+      ∙ ap (fieldStep bs at n) (sym (eq-eqb t 6 h))
+      ∙ ap (stepOf bs at) e
+
+  items-end : length bs ≤ at → itemsOf (fieldsAt bs at) ≡ []
+  unfolding itemsOf
+  items-end h = ap itemsOf (fields-at bs at (sym (front-nothing bs at h)))
+
+-- ------------------------------------------------------------------ all items may read nothing
+
+-- the items from `at` on decide
+pub record AllPassing (bs : List ℕ) (nulls start at : ℕ) : Type 0 where
+  pub rest : allPassed nulls (itemsOf (fieldsAt bs at)) ≡ allPassed nulls (itemsOf (fieldsAt bs start))
+
+module _ {bs : List ℕ} {nulls start at : ℕ} (c : AllPassing bs nulls start at) where
+  all-none : itemsOf (fieldsAt bs at) ≡ [] → true ≡ allPassed nulls (itemsOf (fieldsAt bs start))
+  unfolding allPassed
+  all-none e = sym (ap (allPassed nulls) e) ∙ c .rest
+
+  pub all-done : Done ≡ stepOf bs at (frontOf (drop at bs)) → true ≡ allPassed nulls (itemsOf (fieldsAt bs start))
+  all-done e = all-none (stepped bs at e)
+
+  pub all-end : length bs ≤ at → true ≡ allPassed nulls (itemsOf (fieldsAt bs start))
+  all-end h = all-none (items-end bs at h)
+
+  module _ {s : Symbol} {after : ℕ} (e : Past s after ≡ stepOf bs at (frontOf (drop at bs))) {b : Bool} (eb : b ≡ isPassed nulls (withSymbol s)) where
+    passes : b ≡ isPassed nulls (stepped bs at e .item)
+    passes =
+        eb ∙ ap (λ (t : Symbol). isPassed nulls (withSymbol t)) (stepped bs at e .symbol)
+        ∙ passed-by nulls (stepped bs at e .item)
+
+    all-one : (b && allPassed nulls (itemsOf (fieldsAt bs after))) ≡ allPassed nulls (itemsOf (fieldsAt bs start))
+    unfolding allPassed
+    all-one =
+        ap (λ (x : Bool). x && allPassed nulls (itemsOf (fieldsAt bs after))) passes
+        ∙ sym (ap (allPassed nulls) (stepped bs at e .items))
+        ∙ c .rest
+
+    pub all-next : b ≡ true → AllPassing bs nulls start after
+    all-next t = record { rest = ap (λ (x : Bool). x && allPassed nulls (itemsOf (fieldsAt bs after))) (sym t) ∙ all-one }
+
+    pub all-stop : b ≡ false → false ≡ allPassed nulls (itemsOf (fieldsAt bs start))
+    all-stop t = ap (λ (x : Bool). x && allPassed nulls (itemsOf (fieldsAt bs after))) (sym t) ∙ all-one
+
+-- ------------------------------------------------------------------ what the items give
+
+-- what is found so far and the items from `at` on give what all of them give
+pub record Gathering (bs : List ℕ) (calls : Bool) (nulls : ℕ) (sets : List ℕ) (start found at : ℕ) : Type 0 where
+  pub rest : gather calls nulls sets (itemsOf (fieldsAt bs at)) found ≡ gather calls nulls sets (itemsOf (fieldsAt bs start)) 0
+
+module _ {bs : List ℕ} {calls : Bool} {nulls : ℕ} {sets : List ℕ} {start found at : ℕ} (c : Gathering bs calls nulls sets start found at) where
+  gather-none : itemsOf (fieldsAt bs at) ≡ [] → found ≡ gather calls nulls sets (itemsOf (fieldsAt bs start)) 0
+  unfolding gather
+  gather-none e = sym (ap (λ (is : List Item). gather calls nulls sets is found) e) ∙ c .rest
+
+  pub gather-done : Done ≡ stepOf bs at (frontOf (drop at bs)) → found ≡ gather calls nulls sets (itemsOf (fieldsAt bs start)) 0
+  gather-done e = gather-none (stepped bs at e)
+
+  pub gather-end : length bs ≤ at → found ≡ gather calls nulls sets (itemsOf (fieldsAt bs start)) 0
+  gather-end h = gather-none (items-end bs at h)
+
+  module _ {s : Symbol} {after : ℕ} (e : Past s after ≡ stepOf bs at (frontOf (drop at bs))) {more : ℕ}
+      (em : more ≡ joined calls sets (withSymbol s) found) {b : Bool} (eb : b ≡ isPassed nulls (withSymbol s)) where
+    finds : more ≡ joined calls sets (stepped bs at e .item) found
+    finds =
+        em ∙ ap (λ (t : Symbol). joined calls sets (withSymbol t) found) (stepped bs at e .symbol)
+        ∙ joined-by calls sets (stepped bs at e .item) found
+
+    goes : b ≡ isPassed nulls (stepped bs at e .item)
+    goes =
+        eb ∙ ap (λ (t : Symbol). isPassed nulls (withSymbol t)) (stepped bs at e .symbol)
+        ∙ passed-by nulls (stepped bs at e .item)
+
+    gather-one : (elim b [ true ↦ gather calls nulls sets (itemsOf (fieldsAt bs after)) more | false ↦ more ])
+        ≡ gather calls nulls sets (itemsOf (fieldsAt bs start)) 0
+    unfolding gather
+    gather-one =
+        ap (λ (x : Bool). elim x [ true ↦ gather calls nulls sets (itemsOf (fieldsAt bs after)) more | false ↦ more ]) goes
+        ∙ ap
+        (λ (y : ℕ).
+        elim (isPassed nulls (stepped bs at e .item))
+        [ true ↦ gather calls nulls sets (itemsOf (fieldsAt bs after)) y | false ↦ y ])
+        finds
+        ∙ sym (ap (λ (is : List Item). gather calls nulls sets is found) (stepped bs at e .items))
+        ∙ c .rest
+
+    pub gather-next : b ≡ true → Gathering bs calls nulls sets start more after
+    gather-next t =
+        record {
+          rest =
+              ap (λ (x : Bool). elim x [ true ↦ gather calls nulls sets (itemsOf (fieldsAt bs after)) more | false ↦ more ]) (sym t)
+              ∙ gather-one;
+        }
+
+    pub gather-stop : b ≡ false → more ≡ gather calls nulls sets (itemsOf (fieldsAt bs start)) 0
+    gather-stop t =
+        ap (λ (x : Bool). elim x [ true ↦ gather calls nulls sets (itemsOf (fieldsAt bs after)) more | false ↦ more ]) (sym t)
+        ∙ gather-one

@@ -1,0 +1,20 @@
+-- `keyword_set`: a keyword past the last has no kind.
+use borrow.Author.Needs.{needs}
+use Rattle.firsts.proofs.ItemsLaws as laws
+use Rattle.firsts.proofs.items.keyword_set.Statement.{statement}
+use Rattle.firsts.proofs.items.keyword_set.Tie as tie
+
+add-only : tie.Need-add-only
+add-only c = search needs
+
+only-requires : tie.Need-only-requires
+only-requires c κs = search needs
+
+returns : tie.Need-returns
+returns c = search needs
+
+returns-2 : tie.Need-returns-2
+returns-2 c = laws.keyword-none _ (c .if1 .left)
+
+pub keyword-set-spec : {M : Type 1} → statement M
+keyword-set-spec = tie.close (tie.spec add-only only-requires returns returns-2)

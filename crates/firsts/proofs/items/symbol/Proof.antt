@@ -1,0 +1,31 @@
+-- `symbol`: the item's kind decides.
+use borrow.Author.Needs.{needs}
+use Rattle.firsts.proofs.ItemsLaws as laws
+use Rattle.firsts.proofs.items.symbol.Statement.{statement}
+use Rattle.firsts.proofs.items.symbol.Tie as tie
+
+byte-requires : tie.Need-byte-requires
+byte-requires c κs = search needs
+
+byte-requires-2 : tie.Need-byte-requires-2
+byte-requires-2 c κs = search needs
+
+returns : tie.Need-returns
+returns c = laws.symbol-is _ _ _ 0 (c .before .before .byte .ensures) (c .before .byte2 .ensures) (c .match .keys1)
+
+returns-2 : tie.Need-returns-2
+returns-2 c = laws.symbol-is _ _ _ 1 (c .before .before .byte .ensures) (c .before .byte2 .ensures) (c .match .keys2)
+
+returns-3 : tie.Need-returns-3
+returns-3 c = laws.symbol-is _ _ _ 3 (c .before .before .byte .ensures) (c .before .byte2 .ensures) (c .match .keys3)
+
+returns-4 : tie.Need-returns-4
+returns-4 c = laws.symbol-is _ _ _ 4 (c .before .before .byte .ensures) (c .before .byte2 .ensures) (c .match .keys4)
+
+returns-5 : tie.Need-returns-5
+returns-5 c = laws.symbol-other _ _ _ (c .before .before .byte .ensures) (c .before .byte2 .ensures) (c .match .rest .0 .0 .0 .1) (c .match .rest .0 .0 .1) (c .match .rest .0 .1) (c .match .rest .1)
+
+pub symbol-spec : {M : Type 1} → statement M
+symbol-spec =
+    tie.close
+    (tie.spec byte-requires byte-requires-2 returns returns-2 returns-3 returns-4 returns-5)

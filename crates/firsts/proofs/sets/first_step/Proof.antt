@@ -1,0 +1,21 @@
+-- `first_step`: what the items give is joined to the set of the nonterminal.
+use mathlib.Core.Path.{_∙_}
+use borrow.Author.Needs.{needs}
+use Rattle.firsts.proofs.ProductionsLaws as laws
+use Rattle.firsts.proofs.sets.first_step.Statement.{statement}
+use Rattle.firsts.proofs.sets.first_step.Tie as tie
+
+gather-requires : tie.Need-gather-requires
+gather-requires c κs = search needs
+
+join-at-requires : tie.Need-join-at-requires
+join-at-requires c κs = search needs
+
+same-length : tie.Need-same-length
+same-length c = search needs
+
+returns : tie.Need-returns
+returns c = (c .before .before .join-at .ensures .0 ∙ laws.first-step-is _ _ (c .before .before .before .before .before .before .before .before .args .table .now) _ _ _ (c .before .before .before .before .gather .ensures), c .before .before .join-at .ensures .1)
+
+pub first-step-spec : {M : Type 1} → statement M
+first-step-spec = tie.close (tie.spec gather-requires join-at-requires same-length returns)

@@ -1,0 +1,41 @@
+-- What the code reads of an item: nullables and first sets look neither at the sort of an identifier nor at the arguments of a call.
+use Prim.Native.Nat.{ℕ, _+_}
+use mathlib.Core.Bool.{Bool, true, false}
+use mathlib.Core.List.{List}
+use lib.Dec.{eqb}
+use lib.ListN.{take, drop}
+use Rattle.grammar.specs.Table.{none, Item, keyword, ide, number, local, call}
+use Rattle.grammar.specs.declared.Front.{Front}
+use Rattle.grammar.specs.declared.Front.the-variants.{Nothing, Short, Field}
+use Rattle.layout.specs.Decode.{itemOf}
+use Rattle.firsts.specs.declared.Symbol.{Symbol}
+use Rattle.firsts.specs.declared.Symbol.the-variants.{Keyword, Word, Number, Local, Call}
+use Rattle.firsts.specs.declared.Step.{Step}
+use Rattle.firsts.specs.declared.Step.the-variants.{Done, Past}
+
+-- an item's symbol
+abbrev pub symbolOf : Item → Symbol
+symbolOf (keyword k) = Keyword k
+symbolOf (ide s) = Word
+symbolOf number = Number
+symbolOf local = Local
+symbolOf (call n ts) = Call n
+
+-- an item with that symbol
+abbrev pub withSymbol : Symbol → Item
+withSymbol (Keyword k) = keyword k
+withSymbol Word = ide 0
+withSymbol Number = number
+withSymbol Local = local
+withSymbol (Call n) = call n none
+
+-- a field with a value of n bytes, at an offset, is an item
+abbrev pub fieldStep : List ℕ → ℕ → ℕ → Bool → Step
+fieldStep bs at n true = Past (symbolOf (itemOf (take n (drop (at + 3) bs)))) (at + 3 + n)
+fieldStep bs at n false = Done
+
+-- what stands at an offset: an item with the offset behind it, or none
+abbrev pub stepOf : List ℕ → ℕ → Front → Step
+stepOf bs at Nothing = Done
+stepOf bs at Short = Done
+stepOf bs at (Field t n) = fieldStep bs at n (eqb t 6)

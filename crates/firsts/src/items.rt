@@ -1,0 +1,173 @@
+// The items of an alternative, read off the table's bytes, and what each gives to nullables and to first sets.
+use crate::Step;
+use crate::Symbol;
+use grammar::Front;
+use grammar::front_at;
+use grammar::reader::byte;
+use kinds::has;
+use kinds::join;
+use kinds::only;
+ghost use mathlib.Core.Path.{_≡_};
+ghost use lib.ListN.{getD, drop};
+ghost use Rattle.kinds.specs.Kinds.{keywordKind, only};
+ghost use Rattle.grammar.specs.Lookup.{frontOf, fieldsAt};
+ghost use Rattle.layout.specs.Decode.{itemOf};
+ghost use Rattle.firsts.specs.Symbols.{symbolOf, withSymbol, stepOf};
+ghost use Rattle.firsts.specs.First.{isPassed, allPassed, own, through, joined, gather};
+ghost use Rattle.firsts.specs.Index.{itemsOf};
+
+// The symbol of the item that is the value of a field.
+fn symbol(v: &[u8]) -> Symbol
+    ensures { λ r. ⌜ r ≡ symbolOf (itemOf (now (v .entry))) ⌝ }
+{
+    let kind = byte(v, 0);
+    let operand = byte(v, 1);
+    match kind {
+        0 => Symbol::Keyword(operand),
+        1 => Symbol::Word,
+        3 => Symbol::Local,
+        4 => Symbol::Call(operand),
+        _ => Symbol::Number,
+    }
+}
+
+// What stands at an offset.
+pub fn item_at(table: &[u8], at: usize) -> Step
+    ensures { λ r. ⌜ r ≡ stepOf (now (table .entry)) at (frontOf (drop at (now (table .entry)))) ⌝ }
+{
+    let front = front_at(table, at);
+    match front {
+        Front::Nothing => Step::Done,
+        Front::Short => Step::Done,
+        Front::Field(tag, size) => {
+            if tag != 6 {
+                return Step::Done;
+            }
+            let from = at + 3;
+            let to = from + size;
+            let s = symbol(&table[from..to]);
+            Step::Past(s, to)
+        }
+    }
+}
+
+// Whether the item may read nothing.
+fn passed(s: Symbol, nulls: u64) -> bool
+    ensures { λ r. ⌜ r ≡ isPassed nulls (withSymbol s) ⌝ }
+{
+    match s {
+        Symbol::Keyword(_) => false,
+        Symbol::Word => false,
+        Symbol::Number => false,
+        Symbol::Local => true,
+        Symbol::Call(n) => has(nulls, n),
+    }
+}
+
+// Whether every item of the alternative at an offset may read nothing.
+pub fn all_passed(table: &[u8], start: usize, nulls: u64) -> bool
+    ensures { λ r. ⌜ r ≡ allPassed nulls (itemsOf (fieldsAt (now (table .entry)) start)) ⌝ }
+{
+    let mut at = start;
+    while at < table.len() {
+        let step = item_at(table, at);
+        match step {
+            Step::Done => {
+                return true;
+            }
+            Step::Past(s, next) => {
+                let goes = passed(s, nulls);
+                if goes {
+                    at = next;
+                } else {
+                    return false;
+                }
+            }
+        }
+    }
+    true
+}
+
+// The set of the kind of keyword k.
+fn keyword_set(k: u8) -> u64
+    ensures { λ r. ⌜ r ≡ only (keywordKind k) ⌝ }
+{
+    if k < 62 { only(k + 2) } else { 0 }
+}
+
+// What an item gives by itself: to a first set the kind that it reads, to the left calls the nonterminal that it calls.
+fn own(s: Symbol, calls: bool) -> u64
+    ensures { λ r. ⌜ r ≡ own calls (withSymbol s) ⌝ }
+{
+    if calls {
+        match s {
+            Symbol::Keyword(_) => 0,
+            Symbol::Word => 0,
+            Symbol::Number => 0,
+            Symbol::Local => 0,
+            Symbol::Call(n) => only(n),
+        }
+    } else {
+        match s {
+            Symbol::Keyword(k) => keyword_set(k),
+            Symbol::Word => only(0),
+            Symbol::Number => only(1),
+            Symbol::Local => 0,
+            Symbol::Call(_) => 0,
+        }
+    }
+}
+
+// The set of nonterminal n, empty for what is none.
+pub fn set_of(sets: &[u64], n: u8) -> u64
+    ensures { λ r. ⌜ r ≡ getD (now (sets .entry)) n 0 ⌝ }
+{
+    let i = n as usize;
+    if i < sets.len() { sets[i] } else { 0 }
+}
+
+// What a call gives through its nonterminal.
+fn through(s: Symbol, sets: &[u64]) -> u64
+    ensures { λ r. ⌜ r ≡ through (now (sets .entry)) (withSymbol s) ⌝ }
+{
+    match s {
+        Symbol::Keyword(_) => 0,
+        Symbol::Word => 0,
+        Symbol::Number => 0,
+        Symbol::Local => 0,
+        Symbol::Call(n) => set_of(sets, n),
+    }
+}
+
+// What is found with an item, after what was found before it.
+fn joined(s: Symbol, calls: bool, sets: &[u64], found: u64) -> u64
+    ensures { λ r. ⌜ r ≡ joined calls (now (sets .entry)) (withSymbol s) found ⌝ }
+{
+    join(join(found, own(s, calls)), through(s, sets))
+}
+
+// What the items of the alternative at an offset give, up to the first that is not nullable, with that one.
+pub fn gather(table: &[u8], start: usize, calls: bool, nulls: u64, sets: &[u64]) -> u64
+    ensures { λ r. ⌜ r ≡ gather calls nulls (now (sets .entry)) (itemsOf (fieldsAt (now (table .entry)) start)) 0 ⌝ }
+{
+    let mut found: u64 = 0;
+    let mut at = start;
+    while at < table.len() {
+        let step = item_at(table, at);
+        match step {
+            Step::Done => {
+                return found;
+            }
+            Step::Past(s, next) => {
+                found = joined(s, calls, sets, found);
+                let goes = passed(s, nulls);
+                if goes {
+                    at = next;
+                } else {
+                    return found;
+                }
+            }
+        }
+    }
+    found
+}
