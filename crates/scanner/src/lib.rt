@@ -279,6 +279,13 @@ fn unscanned(number: u8, a: u64) -> Scanned
     })
 }
 
+// Refusal 15, with the offset at which the bad lexeme starts.
+fn bad_lexeme(at: usize) -> Scanned
+    ensures { λ r. ⌜ r ≡ Scanned.Unscanned (refusal 15 at 0 0) ⌝ }
+{
+    unscanned(15, at as u64)
+}
+
 // The scan of a formula by the keywords and outside names of a table. Four numbers a token are stored from the front of
 // `tokens`: kind, offset, length, value; two numbers a word from the front of `words`: the offset and the length of the first
 // token that has it, for the spelling numbers from 64 on. Numbers behind these stay as they were, on a refusal too.
@@ -304,7 +311,7 @@ pub fn scan(
                 at += 1;
             }
             Step::Stop => {
-                return unscanned(15, at as u64);
+                return bad_lexeme(at);
             }
             Step::Emit(t) => {
                 if n == 4096 {

@@ -46,20 +46,20 @@ loop-again c = loop.turn-skip (c .before .before .before .before .before .loop .
 enum-told-2 : tie.Need-enum-told-2 Inv-loop μ-loop
 enum-told-2 c = search needs
 
-unscanned-requires-2 : tie.Need-unscanned-requires-2 Inv-loop μ-loop
-unscanned-requires-2 c κs = search needs
+bad-lexeme-requires : tie.Need-bad-lexeme-requires Inv-loop μ-loop
+bad-lexeme-requires c κs = search needs
 
 returns-2 : tie.Need-returns-2 Inv-loop μ-loop
-returns-2 c = ap (λ r. filled r (c .before .before .before .before .before .before .loop .tokens) (c .before .before .before .before .before .before .loop .words)) (c .unscanned2 .ensures) ∙ loop.turn-stop (c .before .before .before .before .before .before .loop .inv) (c .before .before .before .before .before .loop-test .taken) (sym (c .before .enum-told2 .given .1) ∙ c .before .before .before .step-at .ensures)
+returns-2 c = ap (λ r. filled r (c .before .before .before .before .before .before .loop .tokens) (c .before .before .before .before .before .before .loop .words)) (c .bad-lexeme .ensures) ∙ loop.turn-stop (c .before .before .before .before .before .before .loop .inv) (c .before .before .before .before .before .loop-test .taken) (sym (c .before .enum-told2 .given .1) ∙ c .before .before .before .step-at .ensures)
 
 enum-known-step : tie.Need-enum-known-step Inv-loop μ-loop
 enum-known-step c = search needs
 
-unscanned-requires-3 : tie.Need-unscanned-requires-3 Inv-loop μ-loop
-unscanned-requires-3 c κs = search needs
+unscanned-requires-2 : tie.Need-unscanned-requires-2 Inv-loop μ-loop
+unscanned-requires-2 c κs = search needs
 
 returns-3 : tie.Need-returns-3 Inv-loop μ-loop
-returns-3 c = ap (λ r. filled r (c .before .before .before .before .before .before .before .before .loop .tokens) (c .before .before .before .before .before .before .before .before .loop .words)) (c .unscanned3 .ensures) ∙ loop.turn-full (c .before .before .before .before .before .before .before .before .loop .inv) (c .before .before .before .before .before .before .before .loop-test .taken) (sym (c .before .before .before .step .given .1) ∙ c .before .before .before .before .before .step-at .ensures) (c .before .if2 .taken)
+returns-3 c = ap (λ r. filled r (c .before .before .before .before .before .before .before .before .loop .tokens) (c .before .before .before .before .before .before .before .before .loop .words)) (c .unscanned2 .ensures) ∙ loop.turn-full (c .before .before .before .before .before .before .before .before .loop .inv) (c .before .before .before .before .before .before .before .loop-test .taken) (sym (c .before .before .before .step .given .1) ∙ c .before .before .before .before .before .step-at .ensures) (c .before .if2 .taken)
 
 store-token-requires : tie.Need-store-token-requires Inv-loop μ-loop
 store-token-requires c κs = omega (arith, c .before .before .before .before .before .before .before .before .loop .inv .small, c .before .if2 .left)
@@ -101,10 +101,10 @@ scan-spec =
     loop-less
     loop-again
     enum-told-2
-    unscanned-requires-2
+    bad-lexeme-requires
     returns-2
     enum-known-step
-    unscanned-requires-3
+    unscanned-requires-2
     returns-3
     store-token-requires
     store-word-requires
