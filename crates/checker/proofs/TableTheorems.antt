@@ -1,0 +1,86 @@
+-- A table passes if and only if it meets the rules: what is proved of the check of a table, for every list of bytes and every table.
+use Prim.Native.Nat.{ℕ, _<_}
+use mathlib.Core.Path.{_≡_}
+use mathlib.Core.Logic.{_↔_}
+use mathlib.Core.Bool.{true}
+use mathlib.Core.List.{List}
+use lib.ListN.{getD}
+use Rattle.answers.specs.declared.Refusal.{Refusal}
+use Rattle.answers.specs.declared.Verdict.the-variants.{Passed, Refused}
+use Rattle.answers.specs.Refusals.{refusal}
+use Rattle.answers.specs.Checked.{ok, bad}
+use Rattle.kinds.specs.Kinds.{hasKind}
+use Rattle.grammar.specs.Table.{Table}
+use Rattle.grammar.specs.Encode.{encode}
+use Rattle.layout.specs.Within.{Within}
+use Rattle.layout.specs.Decode.{decode}
+use Rattle.layout.proofs.LayoutTheorems as layout
+use Rattle.sorting.specs.Judgements.{WellSorted}
+use Rattle.sorting.specs.Sorting.{checkSorts}
+use Rattle.sorting.proofs.SortingTheorems as sorting
+use Rattle.firsts.specs.Normal.{Production}
+use Rattle.firsts.specs.First.{nullables, firstSets, leftCalls, checkFirsts}
+use Rattle.firsts.specs.Rules.{Nullable, Opens, LeftReaches}
+use Rattle.firsts.specs.FirstRefusals.{Never, Lowest, LowestOr64, LeftRecursive, Shares, Clashes}
+use Rattle.firsts.proofs.FirstsTheorems as firsts
+use Rattle.checker.specs.Check.{check}
+use Rattle.checker.specs.Passes.{grammarOf, Passes}
+use Rattle.checker.proofs.Passing as passing
+
+-- ------------------------------------------------------------------ 1. layout
+
+-- The decoder gives a table exactly if the bytes are its encoding and it is within document 01's counts, spellings and ranges.
+pub decode-exactly : (bs : List ℕ) → ((i : ℕ) → getD bs i 0 < 256) → (t : Table) → (decode bs ≡ ok t) ↔ ((bs ≡ encode t) × Within t)
+decode-exactly = layout.decode-exactly
+
+-- Two tables never share an encoding.
+pub encode-injective : (t u : Table) → Within t → Within u → encode t ≡ encode u → t ≡ u
+encode-injective = layout.encode-injective
+
+-- ------------------------------------------------------------------ 2. sorts
+
+-- None of 7, 8, 9 and 11 is given exactly if the judgements of 001 derive the sequence, and the root is defined, without parameters, of
+-- sort Term.
+pub sorts-exactly : (t : Table) → (checkSorts t ≡ ok tt) ↔ WellSorted t
+sorts-exactly = sorting.sorts-exactly
+
+-- ------------------------------------------------------------------ 3. nullables and first sets
+
+module _ (g : List Production) where
+  -- A bit of the computed sets is set exactly if the least relation holds.
+  pub nullable-exactly : (n : ℕ) → (hasKind (nullables g) n ≡ true) ↔ Nullable g n
+  nullable-exactly = firsts.nullable-exactly g
+
+  pub opens-exactly : (n b : ℕ) → (hasKind (getD (firstSets (nullables g) g) n 0) b ≡ true) ↔ Opens g n b
+  opens-exactly = firsts.opens-exactly g
+
+  pub reaches-exactly : (n m : ℕ) → (hasKind (getD (leftCalls (nullables g) g) n 0) m ≡ true) ↔ LeftReaches g n m
+  reaches-exactly = firsts.reaches-exactly g
+
+  -- 12 is given, with n, exactly if n is the lowest nonterminal that reaches itself by left calls.
+  pub left-recursion-lowest : (n : ℕ) → (checkFirsts g ≡ bad (refusal 12 n 0 0)) ↔ Lowest (LeftRecursive g) n
+  left-recursion-lowest = firsts.left-recursion-lowest g
+
+  -- 13 is given exactly if none does, n is the lowest nonterminal of which two alternatives share a kind or are both nullable, and b the
+  -- lowest kind that any two of it share, 64 if none.
+  pub clash-lowest : (n b : ℕ)
+      → (checkFirsts g ≡ bad (refusal 13 n b 0)) ↔ (Never (LeftRecursive g) × Lowest (Clashes g) n × LowestOr64 (Shares g n) b)
+  clash-lowest = firsts.clash-lowest g
+
+-- ------------------------------------------------------------------ 4. passing
+
+module _ (bs : List ℕ) where
+  -- The check accepts exactly the bytes that pass: encodings of tables within the bounds that meet the rules.
+  pub check-exactly : ((i : ℕ) → getD bs i 0 < 256) → (check bs ≡ Passed) ↔ Passes bs
+  check-exactly = passing.check-exactly bs
+
+  -- Otherwise it gives one refusal, the first in document 01's order: the layout's, else the sorts', else that of 12 and 13.
+  pub refused-by-layout : (r : Refusal) → decode bs ≡ bad r → check bs ≡ Refused r
+  refused-by-layout = passing.refused-by-layout bs
+
+  pub refused-by-sorts : (t : Table) (r : Refusal) → decode bs ≡ ok t → checkSorts t ≡ bad r → check bs ≡ Refused r
+  refused-by-sorts = passing.refused-by-sorts bs
+
+  pub refused-by-firsts : (t : Table) (r : Refusal) → decode bs ≡ ok t → checkSorts t ≡ ok tt → checkFirsts (grammarOf t) ≡ bad r
+      → check bs ≡ Refused r
+  refused-by-firsts = passing.refused-by-firsts bs
