@@ -29,8 +29,9 @@ grammars =
     ∷ (0 ⟶ (nonterminal 1 ∷ nonterminal 0 ∷ []) ∷ 1 ⟶ [] ∷ 1 ⟶ [] ∷ [])
     -- 3 and 4 reach each other
     ∷ (4 ⟶ (nonterminal 3 ∷ []) ∷ 3 ⟶ (local ∷ nonterminal 4 ∷ []) ∷ [])
-    -- two pairs share a keyword, the later pair the lower one
-    ∷ (5 ⟶ (keyword 6 ∷ []) ∷ 5 ⟶ (keyword 6 ∷ []) ∷ 5 ⟶ (keyword 1 ∷ number ∷ []) ∷ 5 ⟶ (keyword 1 ∷ []) ∷ [])
+    -- three pairs share a keyword, and neither the first nor the last of them the lowest
+    ∷ (5 ⟶ (keyword 6 ∷ []) ∷ 5 ⟶ (keyword 6 ∷ []) ∷ 5 ⟶ (keyword 1 ∷ number ∷ []) ∷ 5 ⟶ (keyword 1 ∷ [])
+    ∷ 5 ⟶ (keyword 4 ∷ []) ∷ 5 ⟶ (keyword 4 ∷ local ∷ []) ∷ [])
     -- both nullable, no kind shared
     ∷ (7 ⟶ (local ∷ []) ∷ 7 ⟶ (nonterminal 8 ∷ []) ∷ 8 ⟶ (number ∷ []) ∷ 8 ⟶ [] ∷ [])
     -- one production alone shares nothing with itself, nor two of different nonterminals
