@@ -4,6 +4,8 @@ pub mod TemplateSorts
 pub mod TemplateInduction
 pub mod TemplatesByBytes
 pub mod TemplateLoops
+pub mod HeadLaws
+pub mod CollectLaws
 pub mod BodySorts
 pub mod SequenceSorts
 pub mod RefusalNumbers

@@ -3,3 +3,4 @@ pub mod Sorting
 pub mod Judgements
 pub mod ByFields
 pub mod TemplateBytes
+pub mod ByBytes
