@@ -3,7 +3,6 @@ use Prim.Native.Nat.{ℕ, _≤_}
 use mathlib.Core.Path.{_≡_, refl, sym, ap, _∙_, subst, subst⁻¹}
 use mathlib.Core.Bool.{true, false}
 use mathlib.Core.List.{List, []}
-use native.Mathlib.Omega.{arith}
 use lib.Dec.{leb}
 use lib.ListN.{length}
 use borrow.Author.Tests.{le-leb, leb-true}
@@ -16,7 +15,7 @@ use Rattle.grammar.specs.Fields.{fieldsOf}
 use Rattle.layout.specs.Layout.{start, checkFields, layout, longestTable}
 use Rattle.layout.specs.Decode.{build, tableOf, decode}
 use Rattle.layout.specs.Within.{Within}
-use Rattle.layout.proofs.Split.{Bytes, spread, flat, fields-of-bytes, bytes-of-fields, value-bytes}
+use Rattle.layout.proofs.Split.{Bytes, fields-of-bytes, bytes-of-fields, value-bytes}
 use Rattle.layout.proofs.Accept.{Accepts, accepted-uncut}
 use Rattle.layout.proofs.Sound.{accepted-table}
 use Rattle.layout.proofs.Complete.{table-accepted}

@@ -1,12 +1,12 @@
 -- The layout of tables: what decoding accepts, that it is the inverse of encoding, and what it gives otherwise.
 use Prim.Native.Nat.{ℕ, _<_}
-use mathlib.Core.Path.{_≡_, refl, sym, ap, _∙_}
+use mathlib.Core.Path.{_≡_, sym, ap, _∙_}
 use mathlib.Core.Bool.{true}
 use mathlib.Core.Logic.{_↔_, _⊎_, inl, inr}
 use mathlib.Core.List.{List}
 use lib.ListN.{getD}
 use Rattle.answers.specs.declared.Refusal.{Refusal}
-use Rattle.answers.specs.Checked.{Checked, ok, bad}
+use Rattle.answers.specs.Checked.{ok, bad}
 use Rattle.grammar.specs.Table.{Table}
 use Rattle.grammar.specs.Encode.{encode}
 use Rattle.layout.specs.Decode.{decode}

@@ -9,6 +9,7 @@ pub mod Complete
 pub mod Rebuilt
 pub mod Inverse
 pub mod RefusalNumbers
+pub mod DecodedLexicon
 pub mod LayoutTheorems
 pub mod Laws
 pub mod LawsTemplates

@@ -5,7 +5,7 @@ use mathlib.Core.List.{List, [], _∷_}
 use lib.ListN.{length}
 use Rattle.grammar.specs.Table.{Template, variable, Item, Alternative, Definition, Table}
 use Rattle.grammar.specs.Encode.{Field, field, templateThen, itemValue, headValue, spellingsThen, itemsThen, alternativesThen, definitionsThen, blocksThen, tableFields}
-use Rattle.layout.specs.Decode.{Built, built, nothing, definitionOf, put, build, tableOf}
+use Rattle.layout.specs.Decode.{Built, built, nothing, put, build, tableOf}
 use Rattle.layout.specs.Within.{Each, each-none, each-more, ItemWithin, AlternativeWithin, DefinitionWithin, Within}
 use Rattle.layout.proofs.Split.{spread}
 use Rattle.layout.proofs.Values.{item-read, head-read, result-read}

@@ -1,25 +1,25 @@
 -- Fields that are accepted are those of a table within the counts, spellings and ranges.
-use Prim.Native.Nat.{ℕ, zero, suc, _+_, _-_, _≤_, _<_}
-use mathlib.Core.Path.{_≡_, refl, sym, ap, _∙_, subst, subst⁻¹}
-use mathlib.Core.Bool.{Bool, true, false, not, _&&_, _||_, false≢true, and-true, and-eq-true-iff}
+use Prim.Native.Nat.{ℕ, _+_, _-_, _≤_, _<_}
+use mathlib.Core.Path.{_≡_, refl, sym, ap, _∙_, subst⁻¹}
+use mathlib.Core.Bool.{Bool, true, false, not, _&&_, false≢true, and-true, and-eq-true-iff}
 use mathlib.Core.List.{List, [], _∷_}
 use native.Mathlib.Omega.{arith}
-use lib.Dec.{eqb, ltb}
+use lib.Dec.{eqb}
 use lib.ListN.{length}
 use borrow.Author.Tests.{eqb-true, ltb-true, not-true}
-use Rattle.answers.specs.Checked.{Checked, ok, bad, need}
+use Rattle.answers.specs.Checked.{ok, need}
 use Rattle.spellings.specs.Bytes.{isWord, isKeyword}
-use Rattle.grammar.specs.Table.{Template, Item, Alternative, Definition, variable, Table}
-use Rattle.grammar.specs.Encode.{Field, field, templateThen, itemValue, headValue, spellingsThen, tableFields, encode}
+use Rattle.grammar.specs.Table.{Template, Item, Definition, Table}
+use Rattle.grammar.specs.Encode.{Field, field, templateThen, itemValue, headValue, tableFields, encode}
 use Rattle.grammar.specs.Fields.{Fields, end, cut, next}
 use Rattle.layout.specs.declared.Progress.{Progress}
 use Rattle.layout.specs.Layout.{isKnown, follows, isRepeated, isSpelled, hasRoom, passed, start, checkFields, longestTable}
-use Rattle.layout.specs.Decode.{Built, built, nothing, definitionOf, tableOf}
-use Rattle.layout.specs.Within.{Each, each-none, each-more, Different, TemplateWithin, variable-within, ItemWithin, AlternativeWithin, DefinitionWithin, alternativesOf, alternativesIn, Within}
+use Rattle.layout.specs.Decode.{Built, nothing, definitionOf, tableOf}
+use Rattle.layout.specs.Within.{Each, each-none, each-more, TemplateWithin, variable-within, ItemWithin, AlternativeWithin, DefinitionWithin, alternativesOf, alternativesIn, Within}
 use Rattle.layout.proofs.Split.{Bytes, ValueBytes, flat}
 use Rattle.layout.proofs.Values.{block-value, alternative-value, root-value, head-value, result-value, item-value}
 use Rattle.layout.proofs.Accept.{Passes, Accepts, accepted, by-tag}
-use Rattle.layout.proofs.Order.{left, withKeyword, withOutside, withBlock, withDefinition, alternativeOf, withAlternative, withItem, withResult, withRoot, opens-keyword, opens-outside, opens-block, opens-definition, opens-alternative, opens-item, opens-result, opens-root}
+use Rattle.layout.proofs.Order.{left, withKeyword, withOutside, withBlock, withDefinition, withAlternative, withItem, withResult, withRoot, opens-keyword, opens-outside, opens-block, opens-definition, opens-alternative, opens-item, opens-result, opens-root}
 use Rattle.layout.proofs.Spelled.{Spelled, spelled-none, spelled-more}
 
 -- ------------------------------------------------------------------ counts
@@ -33,11 +33,11 @@ pub record Room (s : Progress) (b : Built) : Type 0 where
   pub items : length (b .items) ≤ 12 - s .items
 
 module _ (s : Progress) where
-  room-1 : hasRoom 1 s ≡ true → s .keywords < 62
+  pub room-1 : hasRoom 1 s ≡ true → s .keywords < 62
   unfolding hasRoom
   room-1 h = ltb-true (s .keywords) 62 (simp and-true at h)
 
-  room-2 : hasRoom 2 s ≡ true → s .outsides < 64
+  pub room-2 : hasRoom 2 s ≡ true → s .outsides < 64
   unfolding hasRoom
   room-2 h = ltb-true (s .outsides) 64 (simp and-true at h)
 

@@ -1,7 +1,7 @@
 -- Spellings: none of a list stands among the fields before it, and no two are equal.
 use Prim.Native.Nat.{ℕ}
 use mathlib.Core.Path.{_≡_, refl, sym, ap, _∙_}
-use mathlib.Core.Bool.{Bool, true, false, not, _&&_, _||_, false≢true, true≢false}
+use mathlib.Core.Bool.{Bool, true, false, _||_, true≢false}
 use mathlib.Core.List.{List, [], _∷_}
 use Rattle.spellings.specs.Bytes.{same}
 use Rattle.spellings.specs.BytesLaws.{same-false, differ-same}

@@ -1,13 +1,13 @@
 -- Bytes and fields: the bytes of a list of fields split into these fields, and bytes that split without a cut are those of their fields.
 use Prim.Native.Nat.{ℕ, zero, suc, _+_, _*_, _/_, _%_, _<_, _≤_}
 use mathlib.Core.Path.{_≡_, refl, sym, ap, ap₂, _∙_}
-use mathlib.Core.Bool.{Bool, true, false}
+use mathlib.Core.Bool.{true, false}
 use mathlib.Core.List.{List, [], _∷_, _++_}
 use native.Mathlib.Omega.{arith}
-use lib.Dec.{eqb, leb}
-use lib.ListN.{length, getD, take, drop, length-append, length-take, length-drop, take-append-drop, drop-of-length-le}
-use lib.Seq.{drop-drop, take-append-seam, drop-append-seam, getD-drop, getD-take, length-take-le}
-use borrow.Author.Tests.{le-leb, leb-true, eq-eqb, ne-eqb, eqb-true, eqb-false}
+use lib.Dec.{leb}
+use lib.ListN.{length, getD, take, drop, length-append, length-drop, take-append-drop}
+use lib.Seq.{drop-drop, take-append-seam, drop-append-seam, getD-drop, length-take-le}
+use borrow.Author.Tests.{le-leb, leb-true, ne-eqb}
 use Rattle.spellings.specs.BytesLaws.{by-test}
 use Rattle.grammar.specs.Encode.{Field, field, fieldThen, fieldBytes}
 use Rattle.grammar.specs.Fields.{Fields, end, cut, next, sizeOf, fieldsFrom, fieldsOf}
@@ -84,7 +84,7 @@ from-field k at tag hi lo v follow e =
     ∙ rw (e, take-append-seam v follow, ← drop-drop (length v) 3 (tag ∷ hi ∷ lo ∷ v ++ follow), drop-append-seam v follow) refl
 
 -- The bytes of fields split into these fields, if each length fits its two bytes.
-pub split-bytes : (fs : List Field) (k at : ℕ) → length (fieldBytes fs) ≤ k → fieldsFrom k at (fieldBytes fs) ≡ spread at fs
+split-bytes : (fs : List Field) (k at : ℕ) → length (fieldBytes fs) ≤ k → fieldsFrom k at (fieldBytes fs) ≡ spread at fs
 unfolding fieldBytes spread
 split-bytes [] k at h = from-end k at
 split-bytes (f ∷ fs) zero at h = absurd (omega arith)
@@ -98,7 +98,7 @@ unfolding fieldsOf
 fields-of-bytes fs = split-bytes fs (length (fieldBytes fs)) 0 (omega arith)
 
 -- three bytes and the rest
-pub three : (bs : List ℕ) → 3 ≤ length bs → bs ≡ getD bs 0 0 ∷ getD bs 1 0 ∷ getD bs 2 0 ∷ drop 3 bs
+three : (bs : List ℕ) → 3 ≤ length bs → bs ≡ getD bs 0 0 ∷ getD bs 1 0 ∷ getD bs 2 0 ∷ drop 3 bs
 three [] h = absurd (omega arith)
 three (a ∷ []) h = absurd (omega arith)
 three (a ∷ b ∷ []) h = absurd (omega arith)
@@ -120,7 +120,7 @@ field-whole rest b h fs e =
     (ap₂ (λ m l. getD rest 0 0 ∷ m / 256 ∷ m % 256 ∷ l) size value ∙ ap₂ (λ a c. getD rest 0 0 ∷ a ∷ c ∷ drop 3 rest) hi lo)
 
 -- Bytes that split without a cut are the bytes of their fields.
-pub split-uncut : (k at : ℕ) (rest : List ℕ) → Bytes rest → length rest ≤ k → Uncut (fieldsFrom k at rest)
+split-uncut : (k at : ℕ) (rest : List ℕ) → Bytes rest → length rest ≤ k → Uncut (fieldsFrom k at rest)
     → rest ≡ fieldBytes (flat (fieldsFrom k at rest))
 unfolding fieldBytes flat
 split-uncut zero at [] b h u = rw (from-end zero at) refl

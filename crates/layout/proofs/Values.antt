@@ -1,15 +1,15 @@
 -- The values of fields: a value passes 3 and 10 exactly if it is that of an item, a head, a result or a root within the ranges.
-use Prim.Native.Nat.{ℕ, zero, suc, _≤_, _<_}
-use mathlib.Core.Path.{_≡_, refl, sym, ap, ap₂, _∙_, subst, subst⁻¹}
+use Prim.Native.Nat.{ℕ, zero, suc, _≤_}
+use mathlib.Core.Path.{_≡_, refl, sym, ap, ap₂, _∙_}
 use mathlib.Core.Bool.{Bool, true, false, not, _&&_, _||_, false≢true, and-eq-true-iff, or-false, and-true}
 use mathlib.Core.List.{List, [], _∷_}
 use native.Mathlib.Omega.{arith}
 use lib.Dec.{eqb, leb}
 use lib.ListN.{length, getD, drop}
-use borrow.Author.Tests.{le-leb, leb-true, eq-eqb, eqb-true}
+use borrow.Author.Tests.{le-leb, leb-true, eqb-true}
 use Rattle.spellings.specs.Bytes.{every}
-use Rattle.grammar.specs.Sorts.{isSort, isIdeSort, gives}
-use Rattle.grammar.specs.Table.{Template, Templates, variable, none, more, Item, keyword, ide, number, local, call, Alternative, Mode, add, extend, update, Definition}
+use Rattle.grammar.specs.Sorts.{isSort, isIdeSort}
+use Rattle.grammar.specs.Table.{Template, Templates, none, more, Item, keyword, ide, number, local, call, Alternative, Mode, add, extend, update, Definition}
 use Rattle.grammar.specs.Encode.{templateThen, templatesThen, itemValue, modeCode, headValue}
 use Rattle.layout.specs.Prefix.{Parsed, fault, parsed, templatesOf, isTemplates, isTemplate, found, firstOf}
 use Rattle.layout.specs.Layout.{isEmpty, isHead, isItem, isRoot, isKnown, isWhole}

@@ -76,7 +76,8 @@ unfoldable pub alternativesIn : List (List Definition) → ℕ
 alternativesIn [] = 0
 alternativesIn (b ∷ bs) = alternativesOf b + alternativesIn bs
 
--- The counts of "Phrase table", the spellings under each of 01 and 02, the ranges of every part, and the length of the whole.
+-- The counts of "Phrase table", the spellings under each of 01 and 02, the ranges of every part, and the length of the whole,
+-- by which the length of every value fits its two bytes.
 pub record Within (t : Table) : Type 0 where
   pub keywords : Each (λ k. isKeyword k ≡ true) (t .keywords)
   pub keywordsDiffer : Different (t .keywords)

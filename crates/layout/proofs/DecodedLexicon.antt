@@ -1,0 +1,151 @@
+-- The keywords and outside names at the front of a table's bytes are those of the decoded table.
+use Prim.Native.Nat.{ℕ, _-_, _≤_}
+use mathlib.Core.Path.{_≡_, refl, sym, ap, ap₂, _∙_, subst⁻¹}
+use mathlib.Core.Bool.{true, false, or-false}
+use mathlib.Core.List.{List, [], _∷_}
+use native.Mathlib.Omega.{arith}
+use lib.Dec.{eqb, leb}
+use lib.ListN.{length, take}
+use lib.Seq.{take-all}
+use borrow.Author.Tests.{leb-true}
+use Rattle.answers.specs.Checked.{ok}
+use Rattle.spellings.specs.BytesLaws.{by-test}
+use Rattle.grammar.specs.Table.{Table}
+use Rattle.grammar.specs.Encode.{Field, field}
+use Rattle.grammar.specs.Fields.{Fields, end, cut, next, fieldsOf, leading, afterLeading, Lexicon, lexiconOf}
+use Rattle.layout.specs.declared.Progress.{Progress}
+use Rattle.layout.specs.Layout.{isKnown, follows, passed, start, checkFields}
+use Rattle.layout.specs.Decode.{Built, put, build, decode}
+use Rattle.layout.proofs.Accept.{Passes, Accepts, accepted, by-tag}
+use Rattle.layout.proofs.Sound.{room-1, room-2}
+use Rattle.layout.proofs.Inverse.{layout-parts, decoded-layout}
+
+-- ------------------------------------------------------------------ leading fields
+
+leading-not : (tag at t : ℕ) (v : List ℕ) (fs : Fields) → eqb t tag ≡ false → leading tag (next at t v fs) ≡ []
+unfolding leading
+leading-not tag at t v fs e = rw (e, leading) refl
+
+after-not : (tag at t : ℕ) (v : List ℕ) (fs : Fields) → eqb t tag ≡ false → afterLeading tag (next at t v fs) ≡ next at t v fs
+unfolding afterLeading
+after-not tag at t v fs e = rw (e, afterLeading) refl
+
+leading-one : (tag at t : ℕ) (v : List ℕ) (fs : Fields) → eqb t tag ≡ true → leading tag (next at t v fs) ≡ v ∷ leading tag fs
+unfolding leading
+leading-one tag at t v fs e = rw (e, leading) refl
+
+-- nothing is left out after no leading field
+after-none : (tag : ℕ) (fs : Fields) → leading tag fs ≡ [] → afterLeading tag fs ≡ fs
+unfolding afterLeading
+after-none tag (end at) e = refl
+after-none tag (cut at) e = refl
+after-none tag (next at t v fs) e =
+    by-test (eqb t tag) (λ h. let z : _≡_ {A = ℕ} 0 1 = cc (leading-one tag at t v fs h) in absurd (omega arith))
+    (λ h. after-not tag at t v fs h)
+
+-- ------------------------------------------------------------------ field by field
+
+-- the leading spellings of fields are those that are built, none after the last place for them, and there is room for them
+record Spells (s : Progress) (fs : Fields) : Type 0 where
+  keywords : leading 1 fs ≡ build fs .keywords
+  outsides : leading 2 (afterLeading 1 fs) ≡ build fs .outsides
+  keywordsOver : 2 ≤ s .last → build fs .keywords ≡ []
+  outsidesOver : 3 ≤ s .last → build fs .outsides ≡ []
+  keywordRoom : length (build fs .keywords) ≤ 62 - s .keywords
+  outsideRoom : length (build fs .outsides) ≤ 64 - s .outsides
+
+abbrev Step : ℕ → Type 0
+Step tag = (at : ℕ) (v : List ℕ) (fs : Fields) (before : List Field) (s : Progress) → Passes before tag v s → Spells (passed tag s) fs
+    → Spells s (next at tag v fs)
+
+follows-keyword : (last : ℕ) → follows 1 last ≡ leb last 1
+unfolding follows
+follows-keyword last = simp or-false
+
+follows-outside : (last : ℕ) → follows 2 last ≡ leb last 2
+unfolding follows
+follows-outside last = simp or-false
+
+step-keyword : Step 1
+unfolding leading afterLeading build put passed
+step-keyword at v fs before s p h =
+    let early : s .last ≤ 1 = leb-true (s .last) 1 (sym (follows-keyword (s .last)) ∙ p .ordered) in
+    let room = room-1 s (p .room) in
+    record {
+      keywords = ap (λ ks. v ∷ ks) (h .keywords);
+      outsides = h .outsides;
+      keywordsOver = λ l. absurd (omega arith);
+      outsidesOver = λ l. absurd (omega arith);
+      keywordRoom = omega (arith, h .keywordRoom);
+      outsideRoom = omega (arith, h .outsideRoom);
+    }
+
+step-outside : Step 2
+unfolding leading afterLeading build put passed
+step-outside at v fs before s p h =
+    let early : s .last ≤ 2 = leb-true (s .last) 2 (sym (follows-outside (s .last)) ∙ p .ordered) in
+    let room = room-2 s (p .room) in
+    let over = h .keywordsOver (omega arith) in
+    record {
+      keywords = sym over;
+      outsides = ap (λ os. v ∷ os) (ap (leading 2) (sym (after-none 1 fs (h .keywords ∙ over))) ∙ h .outsides);
+      keywordsOver = λ l. over;
+      outsidesOver = λ l. absurd (omega arith);
+      keywordRoom = omega (arith, h .keywordRoom);
+      outsideRoom = omega (arith, h .outsideRoom);
+    }
+
+-- a field of another tag
+step-later : (tag : ℕ) → 3 ≤ tag → eqb tag 1 ≡ false → eqb tag 2 ≡ false
+    → ((v : List ℕ) (b : Built) → put tag v b .keywords ≡ b .keywords) → ((v : List ℕ) (b : Built) → put tag v b .outsides ≡ b .outsides)
+    → Step tag
+unfolding build passed
+step-later tag l k o pk po at v fs before s p h =
+    let ks = pk v (build fs) ∙ h .keywordsOver (omega arith) in
+    let os = po v (build fs) ∙ h .outsidesOver l in
+    record {
+      keywords = leading-not 1 at tag v fs k ∙ sym ks;
+      outsides = ap (leading 2) (after-not 1 at tag v fs k) ∙ leading-not 2 at tag v fs o ∙ sym os;
+      keywordsOver = λ z. ks;
+      outsidesOver = λ z. os;
+      keywordRoom = rw ks (omega arith);
+      outsideRoom = rw os (omega arith);
+    }
+
+steps : (tag : ℕ) (v : List ℕ) → isKnown tag v ≡ true → Step tag
+unfolding put
+steps =
+    by-tag Step step-keyword step-outside (step-later 3 (omega arith) refl refl (λ v b. refl) (λ v b. refl))
+    (step-later 4 (omega arith) refl refl (λ v b. refl) (λ v b. refl))
+    (step-later 5 (omega arith) refl refl (λ v b. refl) (λ v b. refl))
+    (step-later 6 (omega arith) refl refl (λ v b. refl) (λ v b. refl))
+    (step-later 7 (omega arith) refl refl (λ v b. refl) (λ v b. refl))
+    (step-later 8 (omega arith) refl refl (λ v b. refl) (λ v b. refl))
+
+spells : (fs : Fields) (before : List Field) (s : Progress) → checkFields fs before s ≡ ok tt → Spells s fs
+unfolding checkFields leading afterLeading build
+spells (end at) before s h =
+    record {
+      keywords = refl;
+      outsides = refl;
+      keywordsOver = λ l. refl;
+      outsidesOver = λ l. refl;
+      keywordRoom = omega arith;
+      outsideRoom = omega arith;
+    }
+spells (cut at) before s h = absurd (subst⁻¹ Accepts h tt)
+spells (next at tag v fs) before s h =
+    let both = accepted at tag v fs before s h in
+    steps tag v (both .0 .known) at v fs before s (both .0) (spells fs (field tag v ∷ before) (passed tag s) (both .1))
+
+-- The lexicon of bytes that are decoded as a table is the table's.
+pub lexicon-decoded : (bs : List ℕ) (t : Table) → decode bs ≡ ok t
+    → lexiconOf bs ≡ record { keywords = t .keywords; outsides = t .outsides }
+unfolding lexiconOf
+lexicon-decoded bs t h =
+    let right = decoded-layout bs t h in
+    let w = spells (fieldsOf bs) [] start (layout-parts bs (right .0) .1) in
+    let b = build (fieldsOf bs) in
+    ap₂ {C = Lexicon} (λ ks os. record { keywords = ks; outsides = os })
+    (ap (take 62) (w .keywords) ∙ take-all 62 (b .keywords) (w .keywordRoom) ∙ ap (λ u. u .keywords) (right .1))
+    (ap (take 64) (w .outsides) ∙ take-all 64 (b .outsides) (w .outsideRoom) ∙ ap (λ u. u .outsides) (right .1))
