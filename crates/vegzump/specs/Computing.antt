@@ -136,6 +136,9 @@ unfolding
     Rattle.terms.specs.Print.textSize
     Rattle.terms.specs.Print.textSizeFields
     Rattle.terms.specs.Rows.nameOf
+    Rattle.terms.specs.Rows.constructorOf
+    Rattle.terms.specs.Rows.termBy
+    Rattle.terms.specs.Rows.fieldsBy
     Rattle.terms.specs.Rows.termAt
     Rattle.terms.specs.Rows.fieldsAt
     Rattle.vegzump.specs.Expand.textOf
