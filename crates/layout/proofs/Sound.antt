@@ -17,7 +17,7 @@ use Rattle.layout.specs.Layout.{isKnown, follows, isRepeated, isSpelled,
 use Rattle.layout.specs.Decode.{Built, nothing, definitionOf, tableOf}
 use Rattle.layout.specs.Within.{Each, each-none, each-more, TemplateWithin, variable-within, ItemWithin, AlternativeWithin, DefinitionWithin, alternativesOf, alternativesIn, Within}
 use Rattle.layout.proofs.Split.{Bytes, ValueBytes, flat}
-use Rattle.layout.proofs.Values.{block-value, alternative-value, root-value, head-value, result-value, item-value}
+use Rattle.layout.proofs.Values.{and-left, block-value, alternative-value, root-value, head-value, result-value, item-value}
 use Rattle.layout.proofs.Accept.{Passes, Accepts, accepted, by-tag}
 use Rattle.layout.proofs.Order.{left, withKeyword, withOutside, withBlock, withDefinition, withAlternative, withItem, withResult, withRoot, opens-keyword, opens-outside, opens-block, opens-definition, opens-alternative, opens-item, opens-result, opens-root}
 use Rattle.layout.proofs.Spelled.{Spelled, spelled-none, spelled-more}
@@ -119,7 +119,8 @@ unfolding passed isSpelled isRepeated follows
 step-keyword before s v fs l bytes p r =
     let b = r .0 in
     let g = r .2 in
-    let tests = and-eq-true-iff (isKeyword v) (not (isRepeated 1 v before)) .0 (and-eq-true-iff (isKeyword v && not (isRepeated 1 v before)) true .0 (p .spelled) .0) in (
+    let spelled = and-left (isKeyword v && not (isRepeated 1 v before)) true (p .spelled) in
+    let tests = and-eq-true-iff (isKeyword v) (not (isRepeated 1 v before)) .0 spelled in (
       withKeyword v b,
       ap (λ k. field 1 v ∷ k) (r .1) ∙ sym (opens-keyword b v (s .last) l (p .ordered)),
       record {
