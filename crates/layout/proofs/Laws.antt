@@ -1,8 +1,8 @@
 -- Laws of the tests on one field: values, counts, and the first test that fails.
-use Prim.Native.Nat.{ℕ, suc, _+_, _-_, _<_, _≤_}
+use Prim.Native.Nat.{ℕ, _+_, _<_, _≤_}
 use mathlib.Core.Path.{_≡_, refl, sym, ap, _∙_}
 use mathlib.Core.Bool.{Bool, true, false, not, _&&_, _||_, and-eq-true-iff, and-true}
-use mathlib.Core.List.{List, [], _∷_}
+use mathlib.Core.List.{List, _∷_}
 use native.Mathlib.Omega.{arith}
 use mir.Syntax.{w16}
 use mir.Val.{Fits}
@@ -11,7 +11,6 @@ use lib.ListN.{length, getD, drop, drop-of-length-le}
 use borrow.Author.Tests.{le-leb, lt-leb, eq-eqb, ne-eqb, ltb-true, not-true, not-false}
 use Rattle.answers.specs.Refusals.{refusal}
 use Rattle.answers.specs.Checked.{Checked, ok, bad, need, verdict, _>>=_, _>>_}
-use Rattle.answers.specs.declared.Verdict.{Verdict}
 use Rattle.answers.specs.declared.Verdict.the-variants.{Passed, Refused}
 use Rattle.spellings.specs.Bytes.{every, isWord, isKeyword}
 use Rattle.spellings.proofs.Loops.{drop-at-index}
@@ -19,7 +18,7 @@ use Rattle.grammar.specs.Sorts.{isSort, isIdeSort}
 use Rattle.grammar.specs.Encode.{Field}
 use Rattle.layout.specs.declared.Progress.{Progress}
 use Rattle.layout.specs.Prefix.{templatesOf, isTemplates, isTemplate}
-use Rattle.layout.specs.Layout.{isHead, isItem, isRoot, isKnown, follows, isRepeated, isSpelled, hasRoom, oneIf, passed, isWhole, checkField}
+use Rattle.layout.specs.Layout.{isKnown, follows, isRepeated, isSpelled, hasRoom, oneIf, passed, isWhole, checkField}
 
 -- ------------------------------------------------------------------ values
 

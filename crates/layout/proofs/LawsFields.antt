@@ -4,12 +4,11 @@ use mathlib.Core.Path.{_≡_, refl, sym, ap, _∙_}
 use mathlib.Core.Bool.{Bool, true, false, _&&_, _||_, or-false, or-true}
 use mathlib.Core.List.{List, [], _∷_}
 use native.Mathlib.Omega.{arith}
-use lib.Dec.{eqb, leb, ltb}
+use lib.Dec.{eqb, ltb}
 use lib.ListN.{length, take, drop}
 use borrow.Author.Tests.{le-leb, lt-leb, le-ltb, lt-ltb}
 use Rattle.answers.specs.declared.Refusal.{Refusal}
-use Rattle.answers.specs.declared.Verdict.{Verdict}
-use Rattle.answers.specs.declared.Verdict.the-variants.{Passed, Refused}
+use Rattle.answers.specs.declared.Verdict.the-variants.{Refused}
 use Rattle.answers.specs.Refusals.{refusal}
 use Rattle.answers.specs.Checked.{Checked, ok, bad, need, verdict, _>>=_}
 use Rattle.spellings.specs.Bytes.{same}
@@ -22,7 +21,6 @@ use Rattle.grammar.specs.Fields.{Fields, end, cut, next, fieldsOf}
 use Rattle.grammar.specs.Lookup.{frontOf, fieldsAt}
 use Rattle.grammar.proofs.LookupLaws.{opened, fields-at, fields-of}
 use Rattle.layout.specs.declared.Progress.{Progress}
-use Rattle.layout.specs.declared.Checking.{Checking}
 use Rattle.layout.specs.declared.Checking.the-variants.{Further, Stopped}
 use Rattle.layout.specs.Layout.{isRepeated, checkField, checkFields, start, layout, longestTable}
 use Rattle.layout.specs.Before.{earlier, fieldsBefore, checking}

@@ -7,13 +7,15 @@ use native.Mathlib.Omega.{arith}
 use lib.Dec.{eqb, leb, ltb, leb·zero}
 use lib.ListN.{length, getD, drop, length-drop, drop-of-length-le}
 use lib.Seq.{drop-drop}
-use borrow.Author.Tests.{le-leb, lt-leb, eq-eqb, ne-eqb, le-ltb, lt-ltb, ltb-true, ltb-false, eqb-true, eqb-false, leb-true, leb-false}
+use borrow.Author.Tests.{le-leb, lt-leb, eq-eqb, ne-eqb, le-ltb, ltb-true, ltb-false, eqb-true, eqb-false, leb-true, leb-false}
 use Rattle.spellings.specs.BytesLaws.{by-test}
 use Rattle.spellings.proofs.Loops.{drop-at-index}
 use Rattle.grammar.proofs.ReaderLaws.{arity-few}
 use Rattle.grammar.specs.Sorts.{isConstructor, arity}
 use Rattle.grammar.specs.Table.{Template, Templates, variable, none, more}
-use Rattle.layout.specs.Prefix.{Parsed, fault, parsed, inFront, Taken, short, taken, alsoTaken, takeTemplates, applied, constructed, byteInFront, isNameTag, nameBy, templatesOf, isTemplates, isTemplate}
+use Rattle.layout.specs.Prefix.{Parsed, fault, parsed, inFront, Taken, short, taken, alsoTaken, takeTemplates, applied, constructed, isNameTag, nameBy, templatesOf}
+use Rattle.layout.specs.PrefixLaws.{name-first, name-last, byte-first, variable-first, constructor-first, unknown-first}
+use Rattle.layout.specs.Within.{count}
 use Rattle.layout.specs.Layout.{oneIf}
 use Rattle.layout.specs.Due.{headSize, arguments, isWholly}
 
@@ -69,59 +71,7 @@ head-of b =
     (λ g. node e f g (head-byte b e (either (ltb b 0x10) false (isConstructor b) f ∙ g)) (arguments-constructor b g))
     (λ g. unknown e f g (head-unknown b e (either (ltb b 0x10) false (isConstructor b) f ∙ g)))))
 
--- ------------------------------------------------------------------ what some bytes are, by their first
-
-name-cut : (b : ℕ) → isNameTag b ≡ true → templatesOf (b ∷ []) ≡ fault
-unfolding templatesOf
-name-cut b e = ap (λ (t : Bool). elim t as (λ x. Parsed) [ true ↦ fault | false ↦ byteInFront b (parsed none) ]) e
-
-name-front : (b n : ℕ) (bs : List ℕ) → isNameTag b ≡ true → templatesOf (b ∷ n ∷ bs) ≡ inFront (nameBy (eqb b 0x10) n) (templatesOf bs)
-unfolding templatesOf
-name-front b n bs e =
-    ap
-    (λ (t : Bool).
-    elim t as (λ x. Parsed)
-    [ true ↦ inFront (nameBy (eqb b 0x10) n) (templatesOf bs) | false ↦ byteInFront b (templatesOf (n ∷ bs)) ])
-    e
-
-byte-front : (b : ℕ) (rest : List ℕ) → isNameTag b ≡ false → templatesOf (b ∷ rest) ≡ byteInFront b (templatesOf rest)
-unfolding templatesOf
-byte-front b [] e = ap (λ (t : Bool). elim t as (λ x. Parsed) [ true ↦ fault | false ↦ byteInFront b (parsed none) ]) e
-byte-front b (n ∷ bs) e =
-    ap
-    (λ (t : Bool).
-    elim t as (λ x. Parsed)
-    [ true ↦ inFront (nameBy (eqb b 0x10) n) (templatesOf bs) | false ↦ byteInFront b (templatesOf (n ∷ bs)) ])
-    e
-
-module _ (b : ℕ) (rest : List ℕ) (e : isNameTag b ≡ false) where
-  by-kind : (low known : Bool) → ltb b 0x10 ≡ low → isConstructor b ≡ known
-      → templatesOf (b ∷ rest)
-      ≡ elim low as (λ x. Parsed) [
-        | true ↦ inFront (variable b) (templatesOf rest)
-        | false ↦ elim known as (λ x. Parsed) [ true ↦ constructed b (templatesOf rest) | false ↦ fault ]
-      ]
-  by-kind low known f g =
-      byte-front b rest e
-      ∙ (λ i. elim (f i) as (λ x. Parsed) [
-        | true ↦ inFront (variable b) (templatesOf rest)
-        | false ↦ elim (g i) as (λ x. Parsed) [ true ↦ constructed b (templatesOf rest) | false ↦ fault ]
-      ])
-
-  leaf-front : ltb b 0x10 ≡ true → templatesOf (b ∷ rest) ≡ inFront (variable b) (templatesOf rest)
-  leaf-front low = by-kind true (isConstructor b) low refl
-
-  node-front : ltb b 0x10 ≡ false → isConstructor b ≡ true → templatesOf (b ∷ rest) ≡ constructed b (templatesOf rest)
-  node-front low known = by-kind false true low known
-
-  unknown-front : ltb b 0x10 ≡ false → isConstructor b ≡ false → templatesOf (b ∷ rest) ≡ fault
-  unknown-front low known = by-kind false false low known
-
 -- ------------------------------------------------------------------ the templates due
-
-abbrev count : Templates → ℕ
-count none = 0
-count (more t ts) = suc (count ts)
 
 -- n templates make up for those due: exactly, if no others may follow
 abbrev makesUp : Bool → ℕ → ℕ → Bool
@@ -169,22 +119,25 @@ taken-more t k n short h = omega arith
 taken-more t k n (taken us vs) h = omega arith
 
 taken-from : (k : ℕ) (ts : Templates) → TakenFrom k (count ts) (takeTemplates k ts)
-unfolding takeTemplates
+unfolding takeTemplates count
 taken-from zero ts = omega arith
 taken-from (suc k) none = omega arith
 taken-from (suc k) (more t ts) = taken-more t k (count ts) (takeTemplates k ts) (taken-from k ts)
 
 module _ (single : Bool) (due : ℕ) where
   meets-front : (t : Template) (p : Parsed) → (single && eqb due 0) ≡ false → meets single due (inFront t p) ≡ meets single (due - 1 + 0) p
+  unfolding count
   meets-front t fault e = refl
   meets-front t (parsed ts) e = makes-up-next single due 0 (count ts) (count ts) e (omega arith)
 
   meets-applied : (c k n : ℕ) (r : Taken) → TakenFrom k n r → (single && eqb due 0) ≡ false
       → meets single due (applied c r) ≡ makesUp single (due - 1 + k) n
+  unfolding count
   meets-applied c k n short h e = makes-up-short single due k n h
   meets-applied c k n (taken us vs) h e = makes-up-next single due k n (count vs) e h
 
   meets-constructed : (c : ℕ) (p : Parsed) → (single && eqb due 0) ≡ false → meets single due (constructed c p) ≡ meets single (due - 1 + arity c) p
+  unfolding count
   meets-constructed c fault e = refl
   meets-constructed c (parsed ts) e =
       meets-applied c (arity c) (count ts) (takeTemplates (arity c) ts) (taken-from (arity c) ts) e
@@ -196,10 +149,12 @@ module _ (single : Bool) (due : ℕ) (over : (single && eqb due 0) ≡ true) whe
   makes-up-over false n e = absurd (false≢true e)
 
   over-front : (t : Template) (p : Parsed) → meets single due (inFront t p) ≡ false
+  unfolding count
   over-front t fault = refl
   over-front t (parsed ts) = makes-up-over single (count ts) over
 
   over-applied : (c : ℕ) (r : Taken) → meets single due (applied c r) ≡ false
+  unfolding count
   over-applied c short = refl
   over-applied c (taken us vs) = makes-up-over single (count vs) over
 
@@ -232,32 +187,32 @@ module _ (b k : ℕ) (over : Bool) {t : Bool} where
 module _ (single : Bool) (due b : ℕ) where
   stop-by : (rest : List ℕ) → Head b → stops (headSize b) (suc (length rest)) (single && eqb due 0) ≡ true
       → meets single due (templatesOf (b ∷ rest)) ≡ false
-  stop-by [] (name e hs ha) f = ap (meets single due) (name-cut b e)
+  stop-by [] (name e hs ha) f = ap (meets single due) (name-last b e)
   stop-by (n ∷ bs) (name e hs ha) f =
-      ap (meets single due) (name-front b n bs e)
+      ap (meets single due) (name-first b n bs e)
       ∙ over-front single due (two-left b (length bs) (single && eqb due 0) hs f) (nameBy (eqb b 0x10) n) (templatesOf bs)
   stop-by rest (leaf e low hs ha) f =
-      ap (meets single due) (leaf-front b rest e low)
+      ap (meets single due) (byte-first b rest e ∙ variable-first b (templatesOf rest) low)
       ∙ over-front single due (one-left b (length rest) (single && eqb due 0) hs f) (variable b) (templatesOf rest)
   stop-by rest (node e low known hs ha) f =
-      ap (meets single due) (node-front b rest e low known)
+      ap (meets single due) (byte-first b rest e ∙ constructor-first b (templatesOf rest) low known)
       ∙ over-constructed single due (one-left b (length rest) (single && eqb due 0) hs f) b (templatesOf rest)
-  stop-by rest (unknown e low known hs) f = ap (meets single due) (unknown-front b rest e low known)
+  stop-by rest (unknown e low known hs) f = ap (meets single due) (byte-first b rest e ∙ unknown-first b (templatesOf rest) low known)
 
   next-by : (rest : List ℕ) → Head b → stops (headSize b) (suc (length rest)) (single && eqb due 0) ≡ false
       → meets single due (templatesOf (b ∷ rest))
       ≡ meets single (due - 1 + arguments b) (templatesOf (drop (headSize b) (b ∷ rest)))
   next-by [] (name e hs ha) f = absurd (true≢false (sym (ap (λ (k : ℕ). stops k 1 (single && eqb due 0)) hs) ∙ f))
   next-by (n ∷ bs) (name e hs ha) f =
-      ap (meets single due) (name-front b n bs e)
+      ap (meets single due) (name-first b n bs e)
       ∙ meets-front single due (nameBy (eqb b 0x10) n) (templatesOf bs) (two-left b (length bs) (single && eqb due 0) hs f)
       ∙ (λ i. meets single (due - 1 + sym ha i) (templatesOf (drop (sym hs i) (b ∷ n ∷ bs))))
   next-by rest (leaf e low hs ha) f =
-      ap (meets single due) (leaf-front b rest e low)
+      ap (meets single due) (byte-first b rest e ∙ variable-first b (templatesOf rest) low)
       ∙ meets-front single due (variable b) (templatesOf rest) (one-left b (length rest) (single && eqb due 0) hs f)
       ∙ (λ i. meets single (due - 1 + sym ha i) (templatesOf (drop (sym hs i) (b ∷ rest))))
   next-by rest (node e low known hs ha) f =
-      ap (meets single due) (node-front b rest e low known)
+      ap (meets single due) (byte-first b rest e ∙ constructor-first b (templatesOf rest) low known)
       ∙ meets-constructed single due b (templatesOf rest) (one-left b (length rest) (single && eqb due 0) hs f)
       ∙ (λ i. meets single (due - 1 + sym ha i) (templatesOf (drop (sym hs i) (b ∷ rest))))
   next-by rest (unknown e low known hs) f =
@@ -267,12 +222,13 @@ module _ (single : Bool) (due b : ℕ) where
 
 -- no bytes leave what is due, and what is due at the start makes the whole
 meets-none : (single : Bool) (due : ℕ) → meets single due (templatesOf []) ≡ eqb due 0
-unfolding templatesOf
+unfolding templatesOf count
 meets-none true due = refl
 meets-none false zero = leb·zero 0
 meets-none false (suc d) = lt-leb (suc d) 0 (omega arith) ∙ sym (ne-eqb (suc d) 0 (λ q. omega arith))
 
 meets-first : (single : Bool) (p : Parsed) → meets single (oneIf single) p ≡ isWholly single p
+unfolding count
 meets-first true fault = refl
 meets-first true (parsed none) = refl
 meets-first true (parsed (more t none)) = refl

@@ -1,65 +1,23 @@
 -- Templates and their prefix forms: bytes are read as templates exactly if they are the prefix forms of templates within the ranges.
 use Prim.Native.Nat.{ℕ, zero, suc, _≤_, _<_}
 use mathlib.Core.Path.{_≡_, refl, sym, ap, _∙_, subst, subst₂, subst⁻¹}
-use mathlib.Core.Bool.{Bool, true, false, and-eq-true-iff}
+use mathlib.Core.Bool.{true, false, and-eq-true-iff}
 use mathlib.Core.List.{List, [], _∷_}
 use native.Mathlib.Omega.{arith}
 use lib.Dec.{eqb, leb, ltb}
 use borrow.Author.Tests.{lt-ltb, le-ltb, ltb-true, le-leb, leb-true, ne-eqb, eqb-true}
 use Rattle.spellings.specs.BytesLaws.{by-test}
 use Rattle.grammar.specs.Sorts.{isConstructor, arity}
-use Rattle.grammar.specs.Table.{Template, Templates, variable, make, none, more}
+use Rattle.grammar.specs.Table.{Template, Templates, make, none, more}
 use Rattle.grammar.specs.Encode.{templateThen, templatesThen}
 use Rattle.layout.specs.Prefix.{Parsed, fault, parsed, inFront, Taken, short, taken, alsoTaken, takeTemplates, applied, constructed, byteInFront, isNameTag, nameBy, templatesOf}
+use Rattle.layout.specs.PrefixLaws.{name-first, name-last, byte-first, variable-first, constructor-first, unknown-first}
 use Rattle.layout.specs.Within.{count, TemplateWithin, variable-within, outside-within, label-within, make-within, TemplatesWithin, none-within, more-within}
 use Rattle.layout.proofs.Split.{Bytes}
-
--- ------------------------------------------------------------------ one byte
-
--- a choice by a test that is known
-chosen : {A : Type 0} (t : Bool) (x y : A) → t ≡ true → (elim t as (λ b. A) [ true ↦ x | false ↦ y ]) ≡ x
-chosen {A} t x y e = ap (λ u. elim u as (λ b. A) [ true ↦ x | false ↦ y ]) e
-
-other : {A : Type 0} (t : Bool) (x y : A) → t ≡ false → (elim t as (λ b. A) [ true ↦ x | false ↦ y ]) ≡ y
-other {A} t x y e = ap (λ u. elim u as (λ b. A) [ true ↦ x | false ↦ y ]) e
-
--- a byte that is no name's tag, in front of any others
-byte-first : (b : ℕ) (bs : List ℕ) → isNameTag b ≡ false → templatesOf (b ∷ bs) ≡ byteInFront b (templatesOf bs)
-unfolding templatesOf
-byte-first b [] e = other (isNameTag b) fault (byteInFront b (parsed none)) e
-byte-first b (n ∷ bs) e =
-    other (isNameTag b) (inFront (nameBy (eqb b 0x10) n) (templatesOf bs)) (byteInFront b (templatesOf (n ∷ bs))) e
-
-name-first : (b n : ℕ) (bs : List ℕ) → isNameTag b ≡ true
-    → templatesOf (b ∷ n ∷ bs) ≡ inFront (nameBy (eqb b 0x10) n) (templatesOf bs)
-unfolding templatesOf
-name-first b n bs e =
-    chosen (isNameTag b) (inFront (nameBy (eqb b 0x10) n) (templatesOf bs)) (byteInFront b (templatesOf (n ∷ bs))) e
-
-name-last : (b : ℕ) → isNameTag b ≡ true → templatesOf (b ∷ []) ≡ fault
-unfolding templatesOf
-name-last b e = chosen (isNameTag b) fault (byteInFront b (parsed none)) e
 
 -- a byte that is neither 10 nor 11 is no name's tag
 no-name : (b : ℕ) → (b ≡ 0x10 → ⊥) → (b ≡ 0x11 → ⊥) → isNameTag b ≡ false
 no-name b e f = rw (ne-eqb b 0x10 e, ne-eqb b 0x11 f) refl
-
-module _ (b : ℕ) (rest : Parsed) where
-  built : Parsed
-  built = elim (isConstructor b) [ true ↦ constructed b rest | false ↦ fault ]
-
-  variable-first : ltb b 0x10 ≡ true → byteInFront b rest ≡ inFront (variable b) rest
-  unfolding built
-  variable-first e = chosen (ltb b 0x10) (inFront (variable b) rest) built e
-
-  constructor-first : ltb b 0x10 ≡ false → isConstructor b ≡ true → byteInFront b rest ≡ constructed b rest
-  unfolding built
-  constructor-first e f =
-      other (ltb b 0x10) (inFront (variable b) rest) built e ∙ chosen (isConstructor b) (constructed b rest) fault f
-
-  unknown-first : ltb b 0x10 ≡ false → isConstructor b ≡ false → byteInFront b rest ≡ fault
-  unfolding built
-  unknown-first e f = other (ltb b 0x10) (inFront (variable b) rest) built e ∙ other (isConstructor b) (constructed b rest) fault f
 
 -- ------------------------------------------------------------------ lists of templates
 

@@ -1,4 +1,5 @@
 pub mod Prefix
+pub mod PrefixLaws
 pub mod Layout
 pub mod Decode
 pub mod Within

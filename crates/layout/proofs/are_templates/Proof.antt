@@ -1,5 +1,5 @@
 -- `are_templates`: what is left makes up for the templates due.
-use Prim.Native.Nat.{_-_}
+use Prim.Native.Nat.{_+_, _-_, _<_, _≤_}
 use native.Mathlib.Omega.{arith}
 use lib.ListN.{length}
 use Rattle.layout.proofs.LawsTemplates as laws
@@ -12,6 +12,19 @@ Inv-loop v from single due₀ i₀ due i = laws.Due v from single due i
 
 abbrev μ-loop : tie.MeasureT-loop
 μ-loop v from single due₀ i₀ due i = length v - i
+
+-- a whole template's first bytes stand here
+room : (c : tie.Else1 Inv-loop μ-loop)
+    → (0 < c .before .head-size .result) × (c .before .head-size .result ≤ length (c .before .before .before .before .before .before .before .args .v .now) - c .before .before .before .before .loop .i)
+room c = laws.due-room (c .before .before .before .before .loop .inv) (c .before .before .before .loop-test .taken) (c .before .head-size .ensures) (c .if1 .left)
+
+next : (c : tie.After-argument-count Inv-loop μ-loop)
+    → let a = c .before .before .before .before .before .before .before .before .before .args in
+    laws.Due (a .v .now) (a .from) (a .single) (c .before .less-one .result + c .argument-count .result)
+    (c .before .before .before .before .before .before .loop .i + c .before .before .before .head-size .result)
+next c =
+    laws.due-next (c .before .before .before .before .before .before .loop .inv) (c .before .before .before .before .before .loop-test .taken) (c .before .before .before .head-size .ensures) (c .before .before .if1 .left)
+    (c .before .less-one .ensures) (c .argument-count .ensures)
 
 one-if-requires : tie.Need-one-if-requires Inv-loop μ-loop
 one-if-requires c κs = search needs
@@ -41,16 +54,16 @@ argument-count-requires : tie.Need-argument-count-requires Inv-loop μ-loop
 argument-count-requires c κs = search needs
 
 add-due : tie.Need-add-due Inv-loop μ-loop
-add-due c = omega (arith, laws.due-room (c .before .before .before .before .before .before .loop .inv) (c .before .before .before .before .before .loop-test .taken) (c .before .before .before .head-size .ensures) (c .before .before .if1 .left), laws.due-next (c .before .before .before .before .before .before .loop .inv) (c .before .before .before .before .before .loop-test .taken) (c .before .before .before .head-size .ensures) (c .before .before .if1 .left) (c .before .less-one .ensures) (c .argument-count .ensures) .small)
+add-due c = omega (arith, room (c .before .before), next c .small)
 
 add-i : tie.Need-add-i Inv-loop μ-loop
-add-i c = omega (arith, laws.due-room (c .before .before .before .before .before .before .loop .inv) (c .before .before .before .before .before .loop-test .taken) (c .before .before .before .head-size .ensures) (c .before .before .if1 .left))
+add-i c = omega (arith, room (c .before .before))
 
 loop-less : tie.Need-loop-less Inv-loop μ-loop
-loop-less c = omega (arith, laws.due-room (c .before .before .before .before .before .before .loop .inv) (c .before .before .before .before .before .loop-test .taken) (c .before .before .before .head-size .ensures) (c .before .before .if1 .left))
+loop-less c = omega (arith, room (c .before .before))
 
 loop-again : tie.Need-loop-again Inv-loop μ-loop
-loop-again c = laws.due-next (c .before .before .before .before .before .before .loop .inv) (c .before .before .before .before .before .loop-test .taken) (c .before .before .before .head-size .ensures) (c .before .before .if1 .left) (c .before .less-one .ensures) (c .argument-count .ensures)
+loop-again c = next c
 
 returns-2 : tie.Need-returns-2 Inv-loop μ-loop
 returns-2 c = laws.due-end (c .before .loop .inv) (c .loop-test .left)

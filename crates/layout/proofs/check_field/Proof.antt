@@ -1,12 +1,25 @@
 -- `check_field`: the first test that fails, in order.
-use mathlib.Core.Path.{refl, sym, ap, _∙_}
+use mathlib.Core.Path.{_≡_, refl, sym, ap, _∙_}
 use mathlib.Core.Bool.{true, false}
 use Rattle.layout.specs.declared.Checking.the-variants.{Further}
-use Rattle.layout.specs.Before.{checking}
+use Rattle.layout.specs.Layout.{isKnown, follows, isSpelled, hasRoom}
+use Rattle.layout.specs.Before.{fieldsBefore, checking}
 use Rattle.layout.proofs.Laws as laws
 use borrow.Author.Needs.{needs}
 use Rattle.layout.proofs.check_field.Statement.{statement}
 use Rattle.layout.proofs.check_field.Tie as tie
+
+known : (c : tie.Else1) → let a = c .before .before .before .before .args in isKnown (a .tag) (a .v .now) ≡ true
+known c = laws.passes (c .before .is-known .ensures) (c .if1 .left)
+
+ordered : (c : tie.Else2) → let a = c .before .before .before .before .before .before .args in follows (a .tag) (a .s .last) ≡ true
+ordered c = laws.passes (c .before .may-follow .ensures) (c .if2 .left)
+
+spelled : (c : tie.Else3) → let a = c .before .before .before .before .before .before .before .before .args in isSpelled (a .tag) (a .v .now) (fieldsBefore (a .table .now) (a .at)) ≡ true
+spelled c = laws.passes (c .before .is-spelled .ensures) (c .if3 .left)
+
+room : (c : tie.Else4) → let a = c .before .before .before .before .before .before .before .before .before .before .args in hasRoom (a .tag) (a .s) ≡ true
+room c = laws.passes (c .before .has-room .ensures) (c .if4 .left)
 
 is-known-requires : tie.Need-is-known-requires
 is-known-requires c κs = search needs
@@ -15,7 +28,16 @@ stopped-requires : tie.Need-stopped-requires
 stopped-requires c κs = search needs
 
 returns : tie.Need-returns
-returns c = c .stopped .ensures ∙ sym (ap checking (laws.field-by _ _ _ _ _ false _ _ _ _ (laws.fails (c .before .before .is-known .ensures) (c .before .if1 .taken)) refl refl refl refl))
+returns c =
+    c .stopped .ensures
+    ∙ sym
+    (ap checking
+    (laws.field-by _ _ _ _ _ false _ _ _ _
+    (laws.fails (c .before .before .is-known .ensures) (c .before .if1 .taken))
+    refl
+    refl
+    refl
+    refl))
 
 may-follow-requires : tie.Need-may-follow-requires
 may-follow-requires c κs = search needs
@@ -24,7 +46,16 @@ stopped-requires-2 : tie.Need-stopped-requires-2
 stopped-requires-2 c κs = search needs
 
 returns-2 : tie.Need-returns-2
-returns-2 c = c .stopped2 .ensures ∙ sym (ap checking (laws.field-by _ _ _ _ _ true false _ _ _ (laws.passes (c .before .before .before .before .is-known .ensures) (c .before .before .before .if1 .left)) (laws.fails (c .before .before .may-follow .ensures) (c .before .if2 .taken)) refl refl refl))
+returns-2 c =
+    c .stopped2 .ensures
+    ∙ sym
+    (ap checking
+    (laws.field-by _ _ _ _ _ true false _ _ _
+    (known (c .before .before .before))
+    (laws.fails (c .before .before .may-follow .ensures) (c .before .if2 .taken))
+    refl
+    refl
+    refl))
 
 is-spelled-requires : tie.Need-is-spelled-requires
 is-spelled-requires c κs = search needs
@@ -33,7 +64,16 @@ stopped-requires-3 : tie.Need-stopped-requires-3
 stopped-requires-3 c κs = search needs
 
 returns-3 : tie.Need-returns-3
-returns-3 c = c .stopped3 .ensures ∙ sym (ap checking (laws.field-by _ _ _ _ _ true true false _ _ (laws.passes (c .before .before .before .before .before .before .is-known .ensures) (c .before .before .before .before .before .if1 .left)) (laws.passes (c .before .before .before .before .may-follow .ensures) (c .before .before .before .if2 .left)) (laws.fails (c .before .before .is-spelled .ensures) (c .before .if3 .taken)) refl refl))
+returns-3 c =
+    c .stopped3 .ensures
+    ∙ sym
+    (ap checking
+    (laws.field-by _ _ _ _ _ true true false _ _
+    (known (c .before .before .before .before .before))
+    (ordered (c .before .before .before))
+    (laws.fails (c .before .before .is-spelled .ensures) (c .before .if3 .taken))
+    refl
+    refl))
 
 has-room-requires : tie.Need-has-room-requires
 has-room-requires c κs = search needs
@@ -42,7 +82,16 @@ stopped-requires-4 : tie.Need-stopped-requires-4
 stopped-requires-4 c κs = search needs
 
 returns-4 : tie.Need-returns-4
-returns-4 c = c .stopped4 .ensures ∙ sym (ap checking (laws.field-by _ _ _ _ _ true true true false _ (laws.passes (c .before .before .before .before .before .before .before .before .is-known .ensures) (c .before .before .before .before .before .before .before .if1 .left)) (laws.passes (c .before .before .before .before .before .before .may-follow .ensures) (c .before .before .before .before .before .if2 .left)) (laws.passes (c .before .before .before .before .is-spelled .ensures) (c .before .before .before .if3 .left)) (laws.fails (c .before .before .has-room .ensures) (c .before .if4 .taken)) refl))
+returns-4 c =
+    c .stopped4 .ensures
+    ∙ sym
+    (ap checking
+    (laws.field-by _ _ _ _ _ true true true false _
+    (known (c .before .before .before .before .before .before .before))
+    (ordered (c .before .before .before .before .before))
+    (spelled (c .before .before .before))
+    (laws.fails (c .before .before .has-room .ensures) (c .before .if4 .taken))
+    refl))
 
 is-whole-requires : tie.Need-is-whole-requires
 is-whole-requires c κs = search needs
@@ -51,13 +100,31 @@ stopped-requires-5 : tie.Need-stopped-requires-5
 stopped-requires-5 c κs = search needs
 
 returns-5 : tie.Need-returns-5
-returns-5 c = c .stopped5 .ensures ∙ sym (ap checking (laws.field-by _ _ _ _ _ true true true true false (laws.passes (c .before .before .before .before .before .before .before .before .before .before .is-known .ensures) (c .before .before .before .before .before .before .before .before .before .if1 .left)) (laws.passes (c .before .before .before .before .before .before .before .before .may-follow .ensures) (c .before .before .before .before .before .before .before .if2 .left)) (laws.passes (c .before .before .before .before .before .before .is-spelled .ensures) (c .before .before .before .before .before .if3 .left)) (laws.passes (c .before .before .before .before .has-room .ensures) (c .before .before .before .if4 .left)) (laws.fails (c .before .before .is-whole .ensures) (c .before .if5 .taken))))
+returns-5 c =
+    c .stopped5 .ensures
+    ∙ sym
+    (ap checking
+    (laws.field-by _ _ _ _ _ true true true true false
+    (known (c .before .before .before .before .before .before .before .before .before))
+    (ordered (c .before .before .before .before .before .before .before))
+    (spelled (c .before .before .before .before .before))
+    (room (c .before .before .before))
+    (laws.fails (c .before .before .is-whole .ensures) (c .before .if5 .taken))))
 
 further-requires : tie.Need-further-requires
-further-requires c κs = laws.passes (c .before .before .before .has-room .ensures) (c .before .before .if4 .left)
+further-requires c κs = room (c .before .before)
 
 returns-6 : tie.Need-returns-6
-returns-6 c = ap Further (c .further .ensures) ∙ sym (ap checking (laws.field-by _ _ _ _ _ true true true true true (laws.passes (c .before .before .before .before .before .before .before .before .before .before .is-known .ensures) (c .before .before .before .before .before .before .before .before .before .if1 .left)) (laws.passes (c .before .before .before .before .before .before .before .before .may-follow .ensures) (c .before .before .before .before .before .before .before .if2 .left)) (laws.passes (c .before .before .before .before .before .before .is-spelled .ensures) (c .before .before .before .before .before .if3 .left)) (laws.passes (c .before .before .before .before .has-room .ensures) (c .before .before .before .if4 .left)) (laws.passes (c .before .before .is-whole .ensures) (c .before .if5 .left))))
+returns-6 c =
+    ap Further (c .further .ensures)
+    ∙ sym
+    (ap checking
+    (laws.field-by _ _ _ _ _ true true true true true
+    (known (c .before .before .before .before .before .before .before .before .before))
+    (ordered (c .before .before .before .before .before .before .before))
+    (spelled (c .before .before .before .before .before))
+    (room (c .before .before .before))
+    (laws.passes (c .before .before .is-whole .ensures) (c .before .if5 .left))))
 
 pub check-field-spec : {M : Type 1} → statement M
 check-field-spec =

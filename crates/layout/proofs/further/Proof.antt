@@ -12,32 +12,50 @@ one-if-requires : tie.Need-one-if-requires
 one-if-requires c κs = search needs
 
 add-t5 : tie.Need-add-t5
-add-t5 c = laws.fitting _ 62 (eqb (c .before .before .args .tag) 1) (laws.room-of _ _ (c .before .before .pre) .keywords) (lit< tt) (omega arith) (c .before .one-if .ensures)
+add-t5 c =
+    laws.fitting _ 62 (eqb (c .before .before .args .tag) 1)
+    (laws.room-of _ _ (c .before .before .pre) .keywords) (lit< tt) (omega arith) (c .before .one-if .ensures)
 
 one-if-requires-2 : tie.Need-one-if-requires-2
 one-if-requires-2 c κs = search needs
 
 add-t8 : tie.Need-add-t8
-add-t8 c = laws.fitting _ 64 (eqb (c .before .before .before .before .args .tag) 2) (laws.room-of _ _ (c .before .before .before .before .pre) .outsides) (lit< tt) (omega arith) (c .before .one-if2 .ensures)
+add-t8 c =
+    laws.fitting _ 64 (eqb (c .before .before .before .before .args .tag) 2)
+    (laws.room-of _ _ (c .before .before .before .before .pre) .outsides) (lit< tt) (omega arith) (c .before .one-if2 .ensures)
 
 one-if-requires-3 : tie.Need-one-if-requires-3
 one-if-requires-3 c κs = search needs
 
 add-t11 : tie.Need-add-t11
-add-t11 c = laws.fitting _ 16 (eqb (c .before .before .before .before .before .before .args .tag) 3) (laws.room-of _ _ (c .before .before .before .before .before .before .pre) .blocks) (lit< tt) (omega arith) (c .before .one-if3 .ensures)
+add-t11 c =
+    laws.fitting _ 16 (eqb (c .before .before .before .before .before .before .args .tag) 3)
+    (laws.room-of _ _ (c .before .before .before .before .before .before .pre) .blocks) (lit< tt) (omega arith) (c .before .one-if3 .ensures)
 
 one-if-requires-4 : tie.Need-one-if-requires-4
 one-if-requires-4 c κs = search needs
 
 add-t14 : tie.Need-add-t14
-add-t14 c = laws.fitting _ 256 (eqb (c .before .before .before .before .before .before .before .before .args .tag) 5) (laws.room-of _ _ (c .before .before .before .before .before .before .before .before .pre) .alternatives) (lit< tt) (omega arith) (c .before .one-if4 .ensures)
+add-t14 c =
+    laws.fitting _ 256 (eqb (c .before .before .before .before .before .before .before .before .args .tag) 5)
+    (laws.room-of _ _ (c .before .before .before .before .before .before .before .before .pre) .alternatives) (lit< tt) (omega arith) (c .before .one-if4 .ensures)
 
 items-after-requires : tie.Need-items-after-requires
 items-after-requires c κs = search needs
 
 returns : tie.Need-returns
 unfolding passed
-returns c = λ i. record { last = c .before .before .before .before .before .before .before .before .before .args .tag; keywords = c .before .before .before .before .before .before .before .before .before .args .s .keywords + c .before .before .before .before .before .before .before .before .one-if .ensures i; outsides = c .before .before .before .before .before .before .before .before .before .args .s .outsides + c .before .before .before .before .before .before .one-if2 .ensures i; blocks = c .before .before .before .before .before .before .before .before .before .args .s .blocks + c .before .before .before .before .one-if3 .ensures i; alternatives = c .before .before .before .before .before .before .before .before .before .args .s .alternatives + c .before .before .one-if4 .ensures i; items = c .items-after .ensures i }
+returns c =
+    let a = c .before .before .before .before .before .before .before .before .before .args in
+    λ i.
+    record {
+      last = a .tag;
+      keywords = a .s .keywords + c .before .before .before .before .before .before .before .before .one-if .ensures i;
+      outsides = a .s .outsides + c .before .before .before .before .before .before .one-if2 .ensures i;
+      blocks = a .s .blocks + c .before .before .before .before .one-if3 .ensures i;
+      alternatives = a .s .alternatives + c .before .before .one-if4 .ensures i;
+      items = c .items-after .ensures i;
+    }
 
 pub further-spec : {M : Type 1} → statement M
 further-spec =

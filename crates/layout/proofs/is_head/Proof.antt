@@ -18,7 +18,14 @@ are-sorts-requires c κs = search needs
 
 returns : tie.Need-returns
 unfolding isHead
-returns c = λ i. leb 3 (length (c .before .before .before .before .args .v .now)) && leb (length (c .before .before .before .before .args .v .now)) 7 && leb (c .before .before .byte .ensures i) 63 && leb (c .before .byte2 .ensures i) 2 && c .are-sorts .ensures i
+returns c =
+    let v = c .before .before .before .before .args .v .now in
+    λ i.
+    leb 3 (length v)
+    && leb (length v) 7
+    && leb (c .before .before .byte .ensures i) 63
+    && leb (c .before .byte2 .ensures i) 2
+    && c .are-sorts .ensures i
 
 pub is-head-spec : {M : Type 1} → statement M
 is-head-spec = tie.close (tie.spec byte-requires byte-requires-2 are-sorts-requires returns)

@@ -1,4 +1,4 @@
--- `is_known`: the tests as they stand.
+-- `is_known`: the tests as they stand, over those for a head, an item and a root.
 use mathlib.Core.Bool.{_&&_, _||_}
 use lib.Dec.{eqb}
 use Rattle.layout.specs.Layout.{isKnown, isEmpty}
@@ -17,7 +17,17 @@ is-root-requires c κs = search needs
 
 returns : tie.Need-returns
 unfolding isKnown
-returns c = let tag = c .before .before .before .before .args .tag in let v = c .before .before .before .before .args .v .now in λ i. eqb tag 1 || eqb tag 2 || (eqb tag 3 && isEmpty v) || (eqb tag 4 && c .before .before .is-head .ensures i) || (eqb tag 5 && isEmpty v) || (eqb tag 6 && c .before .is-item .ensures i) || eqb tag 7 || (eqb tag 8 && c .is-root .ensures i)
+returns c =
+    let a = c .before .before .before .before .args in
+    λ i.
+    eqb (a .tag) 1
+    || eqb (a .tag) 2
+    || (eqb (a .tag) 3 && isEmpty (a .v .now))
+    || (eqb (a .tag) 4 && c .before .before .is-head .ensures i)
+    || (eqb (a .tag) 5 && isEmpty (a .v .now))
+    || (eqb (a .tag) 6 && c .before .is-item .ensures i)
+    || eqb (a .tag) 7
+    || (eqb (a .tag) 8 && c .is-root .ensures i)
 
 pub is-known-spec : {M : Type 1} → statement M
 is-known-spec = tie.close (tie.spec is-head-requires is-item-requires is-root-requires returns)

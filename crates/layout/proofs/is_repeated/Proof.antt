@@ -1,7 +1,10 @@
 -- `is_repeated`: the fields that are left give what all of them give.
-use Prim.Native.Nat.{_-_}
-use mathlib.Core.Path.{sym, _∙_}
+use Prim.Native.Nat.{_+_, _-_, _≤_}
+use mathlib.Core.Path.{_≡_, sym, _∙_}
 use native.Mathlib.Omega.{arith}
+use lib.ListN.{length, drop}
+use Rattle.grammar.specs.declared.Front.the-variants.{Field}
+use Rattle.grammar.specs.Lookup.{frontOf}
 use Rattle.grammar.proofs.LookupLaws.{front-inside}
 use Rattle.layout.proofs.LawsFields as laws
 use borrow.Author.Needs.{needs}
@@ -13,6 +16,15 @@ Inv-loop table to tag v at₀ at = laws.Scanning table to tag v at
 
 abbrev μ-loop : tie.MeasureT-loop
 μ-loop table to tag v at₀ at = to - at
+
+-- the field here, which lies within the table
+front-is : (c : tie.After-known-told Inv-loop μ-loop)
+    → Field (c .before .front .given .0 .0) (c .before .front .given .0 .1 .0) ≡ frontOf (drop (c .before .before .before .before .before .loop .at) (c .before .before .before .before .before .before .before .before .args .table .now))
+front-is c = sym (c .before .front .given .1) ∙ c .before .before .before .front-at .ensures
+
+inside : (c : tie.After-known-told Inv-loop μ-loop)
+    → c .before .before .before .before .before .loop .at + (3 + c .before .front .given .0 .1 .0) ≤ length (c .before .before .before .before .before .before .before .before .args .table .now)
+inside c = front-inside _ _ (front-is c)
 
 loop-holds : tie.Need-loop-holds Inv-loop μ-loop
 loop-holds c = laws.scanning-start _ _ _ _
@@ -36,10 +48,10 @@ enum-known-front : tie.Need-enum-known-front Inv-loop μ-loop
 enum-known-front c = search needs
 
 add-from : tie.Need-add-from Inv-loop μ-loop
-add-from c = omega (arith, front-inside (c .before .before .before .before .before .before .before .before .args .table .now) (c .before .before .before .before .before .loop .at) (sym (c .before .front .given .1) ∙ c .before .before .before .front-at .ensures))
+add-from c = omega (arith, inside c)
 
 add-next : tie.Need-add-next Inv-loop μ-loop
-add-next c = omega (arith, front-inside (c .before .before .before .before .before .before .before .before .args .table .now) (c .before .before .before .before .before .loop .at) (sym (c .before .front .given .1) ∙ c .before .before .before .front-at .ensures))
+add-next c = omega (arith, inside c)
 
 sub-equal : tie.Need-sub-equal Inv-loop μ-loop
 sub-equal c = search needs
@@ -48,19 +60,23 @@ part-equal-start : tie.Need-part-equal-start Inv-loop μ-loop
 part-equal-start c = search needs
 
 part-equal-end : tie.Need-part-equal-end Inv-loop μ-loop
-part-equal-end c = omega (arith, front-inside (c .before .before .before .before .before .before .before .before .args .table .now) (c .before .before .before .before .before .loop .at) (sym (c .before .front .given .1) ∙ c .before .before .before .front-at .ensures))
+part-equal-end c = omega (arith, inside c)
 
 equal-requires : tie.Need-equal-requires Inv-loop μ-loop
 equal-requires c κs = search needs
 
 returns-3 : tie.Need-returns-3 Inv-loop μ-loop
-returns-3 c = laws.scanning-found (c .before .before .before .before .before .before .before .before .loop .inv) (c .before .before .before .before .before .before .before .loop-test .taken) (sym (c .before .before .before .before .front .given .1) ∙ c .before .before .before .before .before .before .front-at .ensures) (c .before .equal .ensures) (c .if1 .taken)
+returns-3 c =
+    laws.scanning-found (c .before .before .before .before .before .before .before .before .loop .inv) (c .before .before .before .before .before .before .before .loop-test .taken) (front-is (c .before .before .before))
+    (c .before .equal .ensures) (c .if1 .taken)
 
 loop-less : tie.Need-loop-less Inv-loop μ-loop
 loop-less c = omega arith
 
 loop-again : tie.Need-loop-again Inv-loop μ-loop
-loop-again c = laws.scanning-next (c .before .before .before .before .before .before .before .before .loop .inv) (c .before .before .before .before .before .before .before .loop-test .taken) (sym (c .before .before .before .before .front .given .1) ∙ c .before .before .before .before .before .before .front-at .ensures) (c .before .equal .ensures) (c .if1 .left)
+loop-again c =
+    laws.scanning-next (c .before .before .before .before .before .before .before .before .loop .inv) (c .before .before .before .before .before .before .before .loop-test .taken) (front-is (c .before .before .before))
+    (c .before .equal .ensures) (c .if1 .left)
 
 returns-4 : tie.Need-returns-4 Inv-loop μ-loop
 returns-4 c = laws.scanning-end (c .before .loop .inv) (c .loop-test .left)
