@@ -138,6 +138,14 @@ spells (next at tag v fs) before s h =
     let both = accepted at tag v fs before s h in
     steps tag v (both .0 .known) at v fs before s (both .0) (spells fs (field tag v ∷ before) (passed tag s) (both .1))
 
+-- The spellings that lead the fields of bytes that are decoded as a table are the table's.
+pub leading-decoded : (bs : List ℕ) (t : Table) → decode bs ≡ ok t
+    → (leading 1 (fieldsOf bs) ≡ t .keywords) × (leading 2 (afterLeading 1 (fieldsOf bs)) ≡ t .outsides)
+leading-decoded bs t h =
+    let right = decoded-layout bs t h in
+    let w = spells (fieldsOf bs) [] start (layout-parts bs (right .0) .1) in
+    (w .keywords ∙ ap (λ u. u .keywords) (right .1), w .outsides ∙ ap (λ u. u .outsides) (right .1))
+
 -- The lexicon of bytes that are decoded as a table is the table's.
 pub lexicon-decoded : (bs : List ℕ) (t : Table) → decode bs ≡ ok t
     → lexiconOf bs ≡ record { keywords = t .keywords; outsides = t .outsides }

@@ -10,7 +10,6 @@ use Rattle.answers.specs.Checked.{Checked, ok, bad, _>>=_, _>>_, need}
 use Rattle.grammar.specs.Sorts.{Signature, gives, unit}
 use Rattle.grammar.specs.Table.{Template, Item, Alternative, Mode, add, extend, update, Definition, Table}
 use lib.Dec.{eqb}
-use borrow.Author.Tests.{eq-eqb}
 use Rattle.grammar.specs.Fields.{Fields, next, fieldsOf, leading, afterLeading}
 use Rattle.grammar.specs.Encode.{Field, field, templateThen, itemValue, modeCode, headValue, spellingsThen, itemsThen, alternativesThen, definitionsThen, blocksThen, tableFields, encode}
 use Rattle.layout.specs.Decode.{modeOf, itemOf, definitionOf}
@@ -19,6 +18,8 @@ use Rattle.layout.specs.Within.{Each, each-none, each-more, TemplateWithin, Ite
 use native.Mathlib.Nat.{add-zero}
 use Rattle.layout.proofs.Split.{spread, fields-of-bytes}
 use Rattle.layout.proofs.Values.{item-read, result-read}
+use Rattle.layout.proofs.Inverse.{decode-encoded}
+use Rattle.layout.proofs.DecodedLexicon.{leading-decoded}
 use Rattle.sorting.specs.Sizes.{fieldSize, spellingsSize, itemsSize, alternativeSize, alternativesSize, definitionSize, definitionsSize}
 use Rattle.sorting.specs.Sorting.{Env, entryOf, consistent, collect, Scope, checkItem, checkItems, checkResult, checkAlternative, checkAlternatives, checkBodies, checkBlocks, blocksSize, checkRoot, checkSorts}
 use Rattle.sorting.specs.ByFields.{headOf, collectBy, bodiesBy, blocksBy, checkSortsBy}
@@ -208,51 +209,6 @@ module _ (K N : ℕ) where
 
 -- ------------------------------------------------------------------ the whole table
 
--- the values of one tag at the front are the spellings; what follows has another tag
-leading-spellings : (tag : ℕ) (ss : List (List ℕ)) (k : List Field) (at : ℕ) → ((a : ℕ) → leading tag (spread a k) ≡ []) → leading tag (spread at (spellingsThen tag ss k)) ≡ ss
-unfolding spread spellingsThen leading
-leading-spellings tag [] k at other = other at
-leading-spellings tag (s ∷ ss) k at other = rw (eq-eqb tag tag refl, leading) (ap (λ l. s ∷ l) (leading-spellings tag ss k (at + fieldSize s) other))
-
-after-spellings : (tag : ℕ) (ss : List (List ℕ)) (k : List Field) (at : ℕ) → ((a : ℕ) → afterLeading tag (spread a k) ≡ spread a k) → afterLeading tag (spread at (spellingsThen tag ss k)) ≡ spread (at + spellingsSize ss) k
-unfolding spread spellingsThen spellingsSize afterLeading
-after-spellings tag [] k at other = other at ∙ ap (λ a. spread a k) (sym (add-zero at))
-after-spellings tag (s ∷ ss) k at other =
-    rw (eq-eqb tag tag refl, afterLeading)
-    (after-spellings tag ss k (at + fieldSize s) other ∙ ap (λ a. spread a k) (omega arith))
-
--- no keyword stands behind the keywords, and neither keyword nor outside name behind the outside names
-module _ (bs : List (List Definition)) (r : ℕ) where
-  no-spelling : (a : ℕ) → leading 2 (spread a (blocksThen bs (field 8 (r ∷ []) ∷ []))) ≡ []
-  unfolding spread leading blocksThen
-  no-spelling a = by bs
-    where
-      by : (cs : List (List Definition)) → leading 2 (spread a (blocksThen cs (field 8 (r ∷ []) ∷ []))) ≡ []
-      by [] = refl
-      by (c ∷ cs) = refl
-
-  no-keyword : (os : List (List ℕ)) (a : ℕ) → leading 1 (spread a (spellingsThen 2 os (blocksThen bs (field 8 (r ∷ []) ∷ [])))) ≡ []
-  unfolding spread leading blocksThen spellingsThen
-  no-keyword os a = by os bs
-    where
-      by : (ws : List (List ℕ)) (cs : List (List Definition)) → leading 1 (spread a (spellingsThen 2 ws (blocksThen cs (field 8 (r ∷ []) ∷ [])))) ≡ []
-      by [] [] = refl
-      by [] (c ∷ cs) = refl
-      by (w ∷ ws) cs = refl
-
-  all-after : (os : List (List ℕ)) (a : ℕ) → afterLeading 1 (spread a (spellingsThen 2 os (blocksThen bs (field 8 (r ∷ []) ∷ [])))) ≡ spread a (spellingsThen 2 os (blocksThen bs (field 8 (r ∷ []) ∷ [])))
-  unfolding spread afterLeading blocksThen spellingsThen
-  all-after os a = by os bs
-    where
-      by : (ws : List (List ℕ)) (cs : List (List Definition)) → afterLeading 1 (spread a (spellingsThen 2 ws (blocksThen cs (field 8 (r ∷ []) ∷ [])))) ≡ spread a (spellingsThen 2 ws (blocksThen cs (field 8 (r ∷ []) ∷ [])))
-      by [] [] = refl
-      by [] (c ∷ cs) = refl
-      by (w ∷ ws) cs = refl
-
--- what the check by fields does with the fields of a table
-abbrev sortsOf : Fields → Checked (Unit {0})
-sortsOf fs = blocksBy fs (length (leading 1 fs)) (length (leading 2 (afterLeading 1 fs))) []
-
 pub fields-sorts : (t : Table) → Within t → checkSortsBy (encode t) ≡ checkSorts t
 unfolding checkSortsBy checkSorts encode tableFields
 fields-sorts t w =
@@ -261,13 +217,11 @@ fields-sorts t w =
     let behind : List Field = blocksThen (t .blocks) (field 8 (t .root ∷ []) ∷ []) in
     let first : ℕ = spellingsSize ks + spellingsSize os in
     let fs : Fields = spread 0 (spellingsThen 1 ks (spellingsThen 2 os behind)) in
-    let e1 : leading 1 fs ≡ ks = leading-spellings 1 ks (spellingsThen 2 os behind) 0 (no-keyword (t .blocks) (t .root) os) in
-    let e2 : leading 2 (afterLeading 1 fs) ≡ os =
-    ap (leading 2) (after-spellings 1 ks (spellingsThen 2 os behind) 0 (all-after (t .blocks) (t .root) os))
-    ∙ leading-spellings 2 os behind (0 + spellingsSize ks) (no-spelling (t .blocks) (t .root)) in
-    ap sortsOf (fields-of-bytes (spellingsThen 1 ks (spellingsThen 2 os behind)))
-    ∙ ap (λ l. blocksBy fs (length l) (length (leading 2 (afterLeading 1 fs))) []) e1
-    ∙ ap (λ l. blocksBy fs (length ks) (length l) []) e2
+    let e : fieldsOf (encode t) ≡ fs = fields-of-bytes (tableFields t) in
+    let led = leading-decoded (encode t) t (decode-encoded t w) in
+    ap (λ l. blocksBy (fieldsOf (encode t)) (length l) (length (leading 2 (afterLeading 1 (fieldsOf (encode t))))) []) (led .0)
+    ∙ ap (λ l. blocksBy (fieldsOf (encode t)) (length ks) (length l) []) (led .1)
+    ∙ ap (λ f. blocksBy f (length ks) (length os) []) e
     ∙ blocks-spellings (length ks) (length os) 1 refl refl ks (spellingsThen 2 os behind) [] 0
     ∙ blocks-spellings (length ks) (length os) 2 refl refl os behind [] (0 + spellingsSize ks)
     ∙ ap (λ a. blocksBy (spread a behind) (length ks) (length os) []) (omega arith)
