@@ -2,7 +2,7 @@
 ghost use mathlib.Core.Path.{_≡_};
 ghost use Prim.Native.Nat.{_-_};
 ghost use lib.ListN.{getD};
-ghost use Rattle.grammar.specs.Sorts.{fits, constructor, unit};
+ghost use Rattle.grammar.specs.Sorts.{fits, isSort, isIdeSort, constructor, unit};
 
 // A sort, by its code.
 pub struct Sort(pub u8);
@@ -31,6 +31,23 @@ impl Sort {
         let binder = Sort::BINDER.0;
         let var = Sort::VAR.0;
         (code == asked) | ((code == binder) & (asked == var))
+    }
+
+    // A code that is a sort's.
+    pub fn is_code(code: u8) -> bool
+        ensures { λ r. ⌜ r ≡ isSort code ⌝ }
+    {
+        let last = Sort::NUM.0;
+        code <= last
+    }
+
+    // The code of a sort that an identifier may be read at: Var, Binder or Label.
+    pub fn is_ide_code(code: u8) -> bool
+        ensures { λ r. ⌜ r ≡ isIdeSort code ⌝ }
+    {
+        let var = Sort::VAR.0;
+        let label = Sort::LABEL.0;
+        (var <= code) & (code <= label)
     }
 }
 

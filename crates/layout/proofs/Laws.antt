@@ -8,25 +8,34 @@ use mir.Syntax.{w16}
 use mir.Val.{Fits}
 use lib.Dec.{eqb, leb, ltb}
 use lib.ListN.{length, getD, drop, drop-of-length-le}
-use borrow.Author.Tests.{le-leb, lt-leb, eq-eqb, ne-eqb, ltb-true, not-true, not-false}
+use borrow.Author.Tests.{eq-eqb, ne-eqb, ltb-true, not-true, not-false}
 use Rattle.answers.specs.Refusals.{refusal}
 use Rattle.answers.specs.Checked.{Checked, ok, bad, need, verdict, _>>=_, _>>_}
 use Rattle.answers.specs.declared.Verdict.the-variants.{Passed, Refused}
 use Rattle.spellings.specs.Bytes.{every, isWord, isKeyword}
 use Rattle.spellings.proofs.Loops.{drop-at-index}
-use Rattle.grammar.specs.Sorts.{isSort, isIdeSort}
+use Rattle.grammar.specs.Sorts.{isSort}
 use Rattle.grammar.specs.Encode.{Field}
 use Rattle.layout.specs.declared.Progress.{Progress}
 use Rattle.layout.specs.Prefix.{templatesOf, isTemplates, isTemplate}
 use Rattle.layout.specs.Layout.{isKnown, follows, isRepeated, isSpelled, hasRoom, oneIf, passed, isWhole, checkField}
 
+-- ------------------------------------------------------------------ tests
+
+-- a test that the code made
+pub passes : {t test : Bool} → t ≡ test → not t ≡ false → test ≡ true
+passes {t} e f = sym e ∙ not-false t f
+
+pub fails : {t test : Bool} → t ≡ test → not t ≡ true → test ≡ false
+fails {t} e f = sym e ∙ not-true t f
+
 -- ------------------------------------------------------------------ values
 
--- the test for an item, by its kind and its operand
-abbrev pub itemBy : List ℕ → ℕ → ℕ → Bool
-itemBy v kind operand =
+-- the test for an item, by its kind, its operand, and whether that is a sort to read an identifier at
+abbrev pub itemBy : List ℕ → ℕ → ℕ → Bool → Bool
+itemBy v kind operand sort =
     (eqb kind 0 && eqb (length v) 2)
-    || (eqb kind 1 && eqb (length v) 2 && isIdeSort operand)
+    || (eqb kind 1 && eqb (length v) 2 && sort)
     || (eqb kind 2 && eqb (length v) 2 && eqb operand 0)
     || (eqb kind 3 && eqb (length v) 2 && eqb operand 0)
     || (eqb kind 4 && leb 2 (length v) && leb operand 63)
@@ -46,16 +55,12 @@ module _ {v : List ℕ} {from i : ℕ} (r : Sorts v from i) where
   sorts-front : i < length v → every isSort (drop i v) ≡ (isSort (getD v i 0) && every isSort (drop (i + 1) v))
   sorts-front h = ap (every isSort) (drop-at-index v i h) ∙ every-front isSort (getD v i 0) (drop (i + 1) v)
 
-  pub sorts-next : i < length v → getD v i 0 ≤ 6 → Sorts v from (i + 1)
-  sorts-next h k =
-      record {
-        rest =
-            sym (sorts-front h ∙ ap (λ (t : Bool). t && every isSort (drop (i + 1) v)) (le-leb (getD v i 0) 6 k)) ∙ r .rest;
-      }
+  pub sorts-next : i < length v → {known : Bool} → known ≡ isSort (getD v i 0) → not known ≡ false → Sorts v from (i + 1)
+  sorts-next h e f =
+      record { rest = sym (sorts-front h ∙ ap (λ (t : Bool). t && every isSort (drop (i + 1) v)) (passes e f)) ∙ r .rest }
 
-  pub sorts-stop : i < length v → 6 < getD v i 0 → false ≡ every isSort (drop from v)
-  sorts-stop h k =
-      sym (sorts-front h ∙ ap (λ (t : Bool). t && every isSort (drop (i + 1) v)) (lt-leb (getD v i 0) 6 k)) ∙ r .rest
+  pub sorts-stop : i < length v → {known : Bool} → known ≡ isSort (getD v i 0) → not known ≡ true → false ≡ every isSort (drop from v)
+  sorts-stop h e f = sym (sorts-front h ∙ ap (λ (t : Bool). t && every isSort (drop (i + 1) v)) (fails e f)) ∙ r .rest
 
   pub sorts-end : length v ≤ i → true ≡ every isSort (drop from v)
   unfolding every
@@ -145,13 +150,6 @@ firstFault true true false room whole at s = bad (refusal 5 at 0 0)
 firstFault true true true false whole at s = bad (refusal 6 at 0 0)
 firstFault true true true true false at s = bad (refusal 10 at 0 0)
 firstFault true true true true true at s = ok s
-
--- a test that the code made
-pub passes : {t test : Bool} → t ≡ test → not t ≡ false → test ≡ true
-passes {t} e f = sym e ∙ not-false t f
-
-pub fails : {t test : Bool} → t ≡ test → not t ≡ true → test ≡ false
-fails {t} e f = sym e ∙ not-true t f
 
 module _ (before : List Field) (at tag : ℕ) (v : List ℕ) (s : Progress) where
   by-flags : (known ordered spelled room whole : Bool)

@@ -5,6 +5,7 @@ use grammar::Front;
 use grammar::front_at;
 use grammar::reader::arity_of;
 use grammar::reader::byte;
+use grammar::sorts::Sort;
 use spellings::equal;
 use spellings::is_keyword_spelling;
 use spellings::is_word;
@@ -47,7 +48,8 @@ fn are_sorts(v: &[u8], from: usize) -> bool
 {
     let mut i = from;
     while i < v.len() {
-        if 6 < v[i] {
+        let known = Sort::is_code(v[i]);
+        if !known {
             return false;
         }
         i += 1;
@@ -70,7 +72,7 @@ fn is_item(v: &[u8]) -> bool
     let operand = byte(v, 1);
     let pair = v.len() == 2;
     ((kind == 0) & pair)
-        | ((kind == 1) & pair & ((1 <= operand) & (operand <= 3)))
+        | ((kind == 1) & pair & Sort::is_ide_code(operand))
         | ((kind == 2) & pair & (operand == 0))
         | ((kind == 3) & pair & (operand == 0))
         | ((kind == 4) & (2 <= v.len()) & (operand <= 63))

@@ -1,5 +1,6 @@
 -- `is_item`: the tests as they stand, over the two bytes.
-use mathlib.Core.Path.{ap₂}
+use mathlib.Core.Path.{ap, _∙_}
+use Rattle.grammar.specs.Sorts.{isIdeSort}
 use Rattle.layout.specs.Layout.{isItem}
 use Rattle.layout.proofs.Laws as laws
 use borrow.Author.Needs.{needs}
@@ -12,9 +13,14 @@ byte-requires c κs = search needs
 byte-requires-2 : tie.Need-byte-requires-2
 byte-requires-2 c κs = search needs
 
+is-ide-code-requires : tie.Need-is-ide-code-requires
+is-ide-code-requires c κs = search needs
+
 returns : tie.Need-returns
 unfolding isItem
-returns c = ap₂ (laws.itemBy (c .before .before .before .args .v .now)) (c .before .byte .ensures) (c .byte2 .ensures)
+returns c =
+    let sort = c .is-ide-code .ensures ∙ ap isIdeSort (c .before .byte2 .ensures) in
+    λ i. laws.itemBy (c .before .before .before .before .args .v .now) (c .before .before .byte .ensures i) (c .before .byte2 .ensures i) (sort i)
 
 pub is-item-spec : {M : Type 1} → statement M
-is-item-spec = tie.close (tie.spec byte-requires byte-requires-2 returns)
+is-item-spec = tie.close (tie.spec byte-requires byte-requires-2 is-ide-code-requires returns)
