@@ -1,6 +1,8 @@
 mod Examples
 pub mod ItemsLaws
 pub mod ProductionsLaws
+pub mod PairsLaws
+pub mod CheckLaws
 pub mod Rounds
 pub mod NullablesExactly
 pub mod FirstSetsExactly

@@ -7,13 +7,13 @@ use native.Mathlib.Nat.{sub-zero}
 use native.Mathlib.Omega.{arith}
 use lib.Bits.{bitOr}
 use lib.Dec.{eqb}
-use lib.ListN.{length, getD, set, length-set}
+use lib.ListN.{length, getD, set, replicate, length-set, length-replicate}
 use lib.Seq.{set-out, set-getD}
 use borrow.Author.Tests.{eqb-true, not-false}
 use Rattle.kinds.specs.Kinds.{only}
 use Rattle.grammar.specs.Lookup.{fieldsAt}
 use Rattle.firsts.specs.Normal.{Production}
-use Rattle.firsts.specs.First.{rounds, overAll, allPassed, nullStep, gather, firstStep}
+use Rattle.firsts.specs.First.{rounds, overAll, allPassed, nullStep, gather, firstStep, setsOf}
 use Rattle.firsts.specs.Index.{itemsOf, productionAt, productionsFrom, productionsBy}
 use Rattle.firsts.proofs.Rounds.{rounds-fixed}
 
@@ -144,3 +144,20 @@ module _ {calls : Bool} {nulls : ℕ} {bs owners starts : List ℕ} {m : ℕ} {s
         same = λ f. e .1 (or-false changed more f .1) ∙ c .same (or-false changed more f .0);
         as-many = k ∙ c .as-many;
       }
+
+-- there are always as many sets
+length-over : (calls : Bool) (nulls : ℕ) (g : List Production) (sets : List ℕ) → length (overAll (firstStep calls nulls) g sets) ≡ length sets
+unfolding overAll firstStep
+length-over calls nulls [] sets = refl
+length-over calls nulls (p ∷ g) sets = length-over calls nulls g _ ∙ length-set sets (p .owner) _
+
+length-rounds : (k : ℕ) (f : List ℕ → List ℕ) → ((sets : List ℕ) → length (f sets) ≡ length sets) → (sets : List ℕ)
+    → length (rounds k f sets) ≡ length sets
+unfolding rounds
+length-rounds zero f e sets = refl
+length-rounds (suc k) f e sets = length-rounds k f e (f sets) ∙ e sets
+
+pub length-sets : (calls : Bool) (nulls : ℕ) (g : List Production) → length (setsOf calls nulls g) ≡ 64
+unfolding setsOf
+length-sets calls nulls g =
+    length-rounds 64 (overAll (firstStep calls nulls) g) (length-over calls nulls g) (replicate 64 0) ∙ length-replicate {A = ℕ} 64 0

@@ -4,3 +4,5 @@ pub mod Rules
 pub mod FirstRefusals
 pub mod Index
 pub mod Symbols
+pub mod Pairs
+pub mod Rooms

@@ -1,4 +1,6 @@
 // Normalizing, nullable nonterminals, first sets and left recursion: refusals 12 and 13.
+pub mod check;
+pub mod clash;
 pub mod index;
 pub mod items;
 pub mod nullable;

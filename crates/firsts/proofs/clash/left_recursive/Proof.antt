@@ -1,0 +1,54 @@
+-- `left_recursive`: no lower nonterminal reaches itself.
+use Prim.Native.Nat.{_-_}
+use mathlib.Core.Path.{_∙_, refl}
+use lib.ListN.{getD}
+use borrow.Author.Needs.{needs}
+use Rattle.kinds.specs.Kinds.{hasKind}
+use Rattle.firsts.proofs.PairsLaws as laws
+use Rattle.firsts.proofs.clash.left_recursive.Statement.{statement}
+use Rattle.firsts.proofs.clash.left_recursive.Tie as tie
+
+abbrev Inv-loop : tie.InvT-loop
+Inv-loop calls n₀ n = laws.Lowest (λ k. hasKind (getD calls k 0) k) n
+
+abbrev μ-loop : tie.MeasureT-loop
+μ-loop calls n₀ n = 64 - n
+
+loop-holds : tie.Need-loop-holds Inv-loop μ-loop
+loop-holds c = record { small = search needs; rest = refl }
+
+set-of-requires : tie.Need-set-of-requires Inv-loop μ-loop
+set-of-requires c κs = search needs
+
+has-requires : tie.Need-has-requires Inv-loop μ-loop
+has-requires c κs = search needs
+
+returns : tie.Need-returns Inv-loop μ-loop
+returns c = laws.lowest-stop (c .before .before .before .before .loop .inv) (c .before .before .before .loop-test .taken) (laws.reach-is _ (c .before .before .set-of .ensures) (c .before .has .ensures) ∙ c .if1 .taken)
+
+add-n : tie.Need-add-n Inv-loop μ-loop
+add-n c = search needs
+
+loop-less : tie.Need-loop-less Inv-loop μ-loop
+loop-less c = search needs
+
+loop-again : tie.Need-loop-again Inv-loop μ-loop
+loop-again c = laws.lowest-next (c .before .before .before .before .loop .inv) (c .before .before .before .loop-test .taken) (laws.reach-is _ (c .before .before .set-of .ensures) (c .before .has .ensures) ∙ c .if1 .left)
+
+returns-2 : tie.Need-returns-2 Inv-loop μ-loop
+returns-2 c = laws.lowest-end (c .before .loop .inv) (c .loop-test .left)
+
+pub left-recursive-spec : {M : Type 1} → statement M
+left-recursive-spec =
+    tie.close
+    (tie.spec
+    Inv-loop
+    μ-loop
+    loop-holds
+    set-of-requires
+    has-requires
+    returns
+    add-n
+    loop-less
+    loop-again
+    returns-2)

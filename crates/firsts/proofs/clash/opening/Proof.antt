@@ -1,0 +1,21 @@
+-- `opening`: what stands at a place, or past the end.
+use mathlib.Core.Path.{sym}
+use borrow.Author.Needs.{needs}
+use Rattle.grammar.proofs.ReaderLaws.{getD-past}
+use Rattle.firsts.proofs.clash.opening.Statement.{statement}
+use Rattle.firsts.proofs.clash.opening.Tie as tie
+
+mul-result : tie.Need-mul-result
+mul-result c = search needs
+
+shared-slice-read-result : tie.Need-shared-slice-read-result
+shared-slice-read-result c = search needs
+
+returns : tie.Need-returns
+returns c = search needs
+
+returns-2 : tie.Need-returns-2
+returns-2 c = sym (getD-past (c .before .args .openings .now) _ 0 (c .if1 .left))
+
+pub opening-spec : {M : Type 1} → statement M
+opening-spec = tie.close (tie.spec mul-result shared-slice-read-result returns returns-2)
