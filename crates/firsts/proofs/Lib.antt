@@ -11,3 +11,4 @@ pub mod Clashing
 pub mod Refusals
 pub mod OneChoice
 pub mod FirstsTheorems
+pub mod NormalizedByFields

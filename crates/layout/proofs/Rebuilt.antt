@@ -74,13 +74,16 @@ module _ (bs : List (List Definition)) (r : ℕ) (k : List Field) where
   keywords-built [] os e = e
   keywords-built (v ∷ ks) os e = ap (put 1 v) (keywords-built ks os e)
 
--- The table is built from its fields.
-pub table-built : (t : Table) (at : ℕ) → Within t → tableOf (build (spread at (tableFields t))) ≡ t
+-- The parts of a table are built from its fields, and nothing is left pending.
+pub parts-built : (t : Table) (at : ℕ) → Within t
+    → build (spread at (tableFields t)) ≡ built (t .keywords) (t .outsides) (t .blocks) (t .root) [] [] [] (variable 0)
 unfolding tableFields
-table-built t at w =
+parts-built t at w =
     let root = field 8 (t .root ∷ []) ∷ [] in
     let blocks = blocksThen (t .blocks) root in
-    ap tableOf
-    (build-spread (tableFields t) at
+    build-spread (tableFields t) at
     ∙ keywords-built (t .blocks) (t .root) (spellingsThen 2 (t .outsides) blocks) (t .keywords) (t .outsides)
-    (outsides-built (t .blocks) (t .root) blocks (t .outsides) (blocks-built (t .root) (w .blocks))))
+    (outsides-built (t .blocks) (t .root) blocks (t .outsides) (blocks-built (t .root) (w .blocks)))
+
+pub table-built : (t : Table) (at : ℕ) → Within t → tableOf (build (spread at (tableFields t))) ≡ t
+table-built t at w = ap tableOf (parts-built t at w)

@@ -83,7 +83,7 @@ abbrev pub putRoot : List ℕ → Built → Built
 putRoot v b = built (b .keywords) (b .outsides) (b .blocks) (getD v 0 0) (b .definitions) (b .alternatives) [] (variable 0)
 
 abbrev pub putNothing : List ℕ → Built → Built
-putNothing v b = b
+putNothing v b = built (b .keywords) (b .outsides) (b .blocks) (b .root) (b .definitions) (b .alternatives) [] (variable 0)
 
 -- a field's part, by its tag
 unfoldable pub put : ℕ → List ℕ → Built → Built
