@@ -6,6 +6,8 @@ pub mod TemplatesByBytes
 pub mod TemplateLoops
 pub mod HeadLaws
 pub mod CollectLaws
+pub mod BodyLaws
+pub mod AlternativeLaws
 pub mod BodySorts
 pub mod SequenceSorts
 pub mod RefusalNumbers

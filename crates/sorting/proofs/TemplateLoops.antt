@@ -76,7 +76,7 @@ places-below room i x (suc k) h =
     ap (λ y. y ∷ places (set room i x) k) (getD-set-other room i k x 0 (λ e. omega arith))
     ∙ ap (λ l. getD room k 0 ∷ l) (places-below room i x k (omega arith))
 
-places-set : (room : List ℕ) (i x : ℕ) → i < length room → places (set room i x) (i + 1) ≡ x ∷ places room i
+pub places-set : (room : List ℕ) (i x : ℕ) → i < length room → places (set room i x) (i + 1) ≡ x ∷ places room i
 unfolding places
 places-set room i x h =
     ap (places (set room i x)) (add-one i)

@@ -13,6 +13,8 @@ use Rattle.answers.specs.Checked.{Checked, ok, bad, _>>=_, _>>_, need, verdict}
 use Rattle.spellings.specs.Bytes.{same}
 use Rattle.grammar.specs.Sorts.{unit, binder, term, num}
 use Rattle.grammar.specs.Fields.{Fields, end, cut, next, fieldsOf}
+use Rattle.sorting.specs.declared.Body.{Body}
+use Rattle.sorting.specs.declared.Body.the-variants.{Variable, Whole}
 use Rattle.sorting.specs.declared.Known.{Known}
 use Rattle.sorting.specs.declared.Sorted.{Sorted}
 use Rattle.sorting.specs.declared.Sorted.the-variants.{As, Unsorted}
@@ -104,6 +106,18 @@ sorted (bad r) = Unsorted r
 -- a result by its value, where the sort B is asked
 unfoldable pub resultAt : ℕ → List ℕ → ℕ → ℕ → List ℕ → Checked (Unit {0})
 resultAt N L B at v = need (closedBytes false v N (length L)) 9 at >> need (fillBytes false v L (B ∷ [])) 11 at
+
+-- one field of an alternative, as the code has it
+abbrev pub bodyOf : Checked ℕ → Body
+bodyOf (ok s) = Variable s
+bodyOf (bad r) = Whole (Refused r)
+
+unfoldable pub bodyAt : List ℕ → List ℕ → ℕ → ℕ → ℕ → List ℕ → ℕ → ℕ → List ℕ → Body
+bodyAt bs H K N B L at tag v =
+    elim (eqb tag 6) [
+      | true ↦ bodyOf (itemAt bs H K N L at v)
+      | false ↦ elim (eqb tag 7) [ true ↦ Whole (verdict (resultAt N L B at v)) | false ↦ Whole Passed ]
+    ]
 
 -- the items and the result of an alternative; there are 16 variables at most
 unfoldable pub alternativeFrom : Fields → List ℕ → List ℕ → ℕ → ℕ → ℕ → List ℕ → Checked (Unit {0})

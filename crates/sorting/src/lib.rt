@@ -1,4 +1,5 @@
 // The sorts of a grammar sequence: refusals 7, 8, 9 and 11.
+mod bodies;
 mod heads;
 mod templates;
 
@@ -17,6 +18,12 @@ pub struct Known {
 pub enum Sorted {
     As(u8),
     Unsorted(Refusal),
+}
+
+// What a field of an alternative gives: the sort of one more variable, or the alternative's verdict.
+pub enum Body {
+    Variable(u8),
+    Whole(Verdict),
 }
 
 // What a field gives: what is known after it, or the verdict.
