@@ -23,7 +23,7 @@ use Rattle.checker.specs.Passes.{grammarOf, Meets, Passes}
 abbrev rules : Table → Checked Table
 rules t = checkSorts t >> checkFirsts (grammarOf t) >> ok t
 
-never : {A : Type 0} (r : Refusal) → Refused r ≡ Passed → A
+pub never : {A : Type 0} (r : Refusal) → Refused r ≡ Passed → A
 never r e = let z : _≡_ {A = ℕ} 0 1 = cc in absurd (omega arith)
 
 -- both checks of a table passed
