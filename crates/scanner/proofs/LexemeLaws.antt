@@ -18,10 +18,10 @@ use Rattle.grammar.specs.declared.Found.the-variants.{At, Absent}
 use Rattle.grammar.specs.Fields.{Lexicon, leading, afterLeading, lexiconOf}
 use Rattle.grammar.specs.Lookup.{fieldsAt, foundIn}
 use Rattle.grammar.proofs.LookupLaws.{keywords-at, outsides-at, found-within}
-use Rattle.kinds.specs.Kinds.{keywordKind}
+use Rattle.kinds.specs.Kinds.{wordKind, keywordKind}
 use Rattle.scanner.specs.declared.Lexeme.{Lexeme}
 use Rattle.scanner.specs.declared.Lexeme.the-variants.{Separator, Word, Number, Symbol, Fault}
-use Rattle.scanner.specs.Scan.{wordLexeme, numberLexeme, lexemeOf, kindOf, spellingOf}
+use Rattle.scanner.specs.Scan.{wordLexeme, numberLexeme, lexemeOf, kindOf, numberOr, spellingOf}
 
 -- ------------------------------------------------------------------ words and numbers
 
@@ -97,6 +97,14 @@ pub kind-is : (table s : List ℕ) (other : ℕ) (f : Found) → f ≡ foundIn s
     → kindOf (lexiconOf table) s other ≡ kindBy f other
 kind-is table s other f e = kind-found (lexiconOf table) s other f (e ∙ ap (foundIn s) (sym (keywords-at table)))
 
+-- only a word has the kind of a word
+pub word-only : (lex : Lexicon) (s : List ℕ) (other : ℕ) → (other ≡ wordKind → ⊥) → kindOf lex s other ≡ wordKind → ⊥
+word-only lex s other h e = by-found (foundIn s (lex .keywords)) refl
+  where
+    by-found : (f : Found) → f ≡ foundIn s (lex .keywords) → ⊥
+    by-found (At k) p = omega (arith, sym (kind-found lex s other (At k) p) ∙ e)
+    by-found Absent p = h (sym (kind-found lex s other Absent p) ∙ e)
+
 -- a place among at most `most` spellings
 below : (most : ℕ) (s : List ℕ) (vs : List (List ℕ)) {k : ℕ} → At k ≡ foundIn s (take most vs) → k < most
 below most s vs e = omega (arith, found-within s (take most vs) e, length-take most vs)
@@ -107,22 +115,30 @@ keyword-below table s e = below 62 s (leading 1 (fieldsAt table 0)) e
 pub outside-below : (table s : List ℕ) (names : ℕ) {k : ℕ} → At k ≡ foundIn s (take 64 (leading 2 (fieldsAt table names))) → k < 64
 outside-below table s names e = below 64 s (leading 2 (fieldsAt table names)) e
 
-abbrev spellingBy : Found → ℕ → ℕ
-spellingBy (At k) word = k
-spellingBy Absent word = 64 + word
+abbrev numberIs : Found → ℕ → ℕ
+numberIs (At k) fresh = k
+numberIs Absent fresh = fresh
+
+pub number-found : (lex : Lexicon) (s : List ℕ) (fresh : ℕ) (f : Found) → f ≡ foundIn s (lex .outsides)
+    → numberOr lex s fresh ≡ numberIs f fresh
+unfolding numberOr
+number-found lex s fresh (At k) e = rw (← e, numberOr) refl
+number-found lex s fresh Absent e = rw (← e, numberOr) refl
+
+pub outside-number : (table s : List ℕ) (names fresh : ℕ) (f : Found) → fieldsAt table names ≡ afterLeading 1 (fieldsAt table 0)
+    → f ≡ foundIn s (take 64 (leading 2 (fieldsAt table names)))
+    → numberOr (lexiconOf table) s fresh ≡ numberIs f fresh
+outside-number table s names fresh f n e =
+    number-found (lexiconOf table) s fresh f (e ∙ ap (foundIn s) (sym (outsides-at table names n)))
+
+pub spelling-number : (lex : Lexicon) (words : List (List ℕ)) (s : List ℕ)
+    → numberOr lex s (64 + indexOf s words) ≡ spellingOf lex words s
+unfolding spellingOf
+spelling-number lex words s = refl
 
 pub spelling-found : (lex : Lexicon) (words : List (List ℕ)) (s : List ℕ) (f : Found) → f ≡ foundIn s (lex .outsides)
-    → spellingOf lex words s ≡ spellingBy f (indexOf s words)
-unfolding spellingOf
-spelling-found lex words s (At k) e = rw (← e, spellingOf) refl
-spelling-found lex words s Absent e = rw (← e, spellingOf) refl
-
-pub spelling-is : (table s : List ℕ) (words : List (List ℕ)) (names : ℕ) (f : Found)
-    → fieldsAt table names ≡ afterLeading 1 (fieldsAt table 0)
-    → f ≡ foundIn s (take 64 (leading 2 (fieldsAt table names)))
-    → spellingOf (lexiconOf table) words s ≡ spellingBy f (indexOf s words)
-spelling-is table s words names f n e =
-    spelling-found (lexiconOf table) words s f (e ∙ ap (foundIn s) (sym (outsides-at table names n)))
+    → spellingOf lex words s ≡ numberIs f (64 + indexOf s words)
+spelling-found lex words s f e = sym (spelling-number lex words s) ∙ number-found lex s (64 + indexOf s words) f e
 
 -- ------------------------------------------------------------------ a part of a formula
 

@@ -1,7 +1,9 @@
 pub mod Examples
 pub mod LexemeLaws
 pub mod WordLaws
+pub mod LinkLaws
 pub mod StepLaws
+pub mod ReadyLaws
 pub mod ScanLoop
 pub mod TokenLaws
 pub mod TilingLaws

@@ -9,7 +9,7 @@ use lib.ListN.{length, take, drop, length-drop, drop-of-length-le}
 use lib.Seq.{sets, drop-drop}
 use borrow.Author.Tests.{le-leb, lt-leb, lt-ltb, le-ltb}
 use Rattle.answers.specs.Refusals.{refusal}
-use Rattle.grammar.specs.Fields.{Lexicon}
+use Rattle.grammar.specs.Fields.{Lexicon, lexiconOf}
 use Rattle.scanner.specs.declared.Token.{Token}
 use Rattle.scanner.specs.declared.Step.{Step}
 use Rattle.scanner.specs.declared.Step.the-variants.{Skip, Stop, Emit}
@@ -17,6 +17,7 @@ use Rattle.scanner.specs.declared.Scanned.{Scanned}
 use Rattle.scanner.specs.declared.Scanned.the-variants.{Tokens, Unscanned}
 use Rattle.scanner.specs.Scan.{Lexed, ended, withToken, isNew, wordsWith, mostTokens, longestFormula, stepOf, lexFrom, scan}
 use Rattle.scanner.specs.Rooms.{rowThen, rows, placeThen, countWith, places, wordsFrom, wordsIn, Filled, filled, scanInto}
+use Rattle.scanner.specs.Links.{Ready}
 use Rattle.scanner.proofs.StepLaws.{step-lies}
 use Rattle.scanner.proofs.WordLaws.{words-length, words-stored}
 
@@ -248,3 +249,8 @@ module _ {lex : Lexicon} {formula tokens₀ words₀ tokens words : List ℕ} {a
       (ap (λ (r : List ℕ). lexFrom (c .fuel) lex at r n (wordsIn formula words count)) (drop-of-length-le formula h)
       ∙ lex-end (c .fuel) lex at n (wordsIn formula words count)))
       ∙ c .rest
+
+-- the loop with what is known of the words
+pub record Scanning (table : List ℕ) (names : ℕ) (formula tokens₀ words₀ tokens words links : List ℕ) (at n count : ℕ) : Type 0 where
+  pub turn : Turn (lexiconOf table) formula tokens₀ words₀ tokens words at n count
+  pub ready : Ready table names formula words count links

@@ -20,7 +20,8 @@ use Rattle.kinds.specs.Kinds.{wordKind, numberKind, noKind, keywordKind}
 use Rattle.scanner.specs.declared.Token.{Token}
 use Rattle.scanner.specs.Scan.{Lexed, isNew, wordsWith, kindOf, spellingOf, scan}
 use Rattle.scanner.specs.Tiling.{Stands, a-word, a-number, a-symbol, bytesOf, tokenAt, spelled}
-use Rattle.scanner.proofs.LexemeLaws.{kind-found, spelling-found}
+use Rattle.scanner.proofs.LexemeLaws.{word-only, spelling-found}
+use Rattle.scanner.proofs.WordLaws.{with-new, with-old}
 use Rattle.scanner.proofs.TokenLaws.{Kept, scan-kept}
 
 -- ------------------------------------------------------------------ words
@@ -33,15 +34,7 @@ run-word (b ∷ bs) l h =
     let n : suc (length (run isWordByte bs)) ≤ 31 = omega (arith, ap length r) in
     ap isWord r ∙ rw (l, every-run isWordByte bs, le-leb _ 31 n) refl
 
--- only a word has the kind of a word
-word-only : (lex : Lexicon) (s : List ℕ) (other : ℕ) → (other ≡ wordKind → ⊥) → kindOf lex s other ≡ wordKind → ⊥
-word-only lex s other h e = by-found (foundIn s (lex .keywords)) refl
-  where
-    by-found : (f : Found) → f ≡ foundIn s (lex .keywords) → ⊥
-    by-found (At k) p = omega (arith, sym (kind-found lex s other (At k) p) ∙ e)
-    by-found Absent p = h (sym (kind-found lex s other Absent p) ∙ e)
-
-stands-word : (lex : Lexicon) (rest : List ℕ) (t : Token) → Stands lex rest t → t .kind ≡ wordKind → isWord (take (t .size) rest) ≡ true
+pub stands-word : (lex : Lexicon) (rest : List ℕ) (t : Token) → Stands lex rest t → t .kind ≡ wordKind → isWord (take (t .size) rest) ≡ true
 stands-word lex rest t (a-word l n h k) e = ap (λ (m : ℕ). isWord (take m rest)) n ∙ ap isWord (sym (run-prefix isWordByte rest)) ∙ run-word rest l (omega (arith, h, n))
 stands-word lex rest t (a-number d n k v h) e = absurd (omega (arith, k, e))
 stands-word lex rest t (a-symbol y n k) e = absurd (word-only lex (take (t .size) rest) noKind (λ z. omega (arith, z)) (sym k ∙ e))
@@ -72,14 +65,6 @@ record Placed (words words′ : List (List ℕ)) (s : List ℕ) : Type 0 where
 index-self : (s : List ℕ) → indexOf s (s ∷ []) ≡ 0
 unfolding indexOf
 index-self s = rw (same-refl s, indexOf) refl
-
-with-new : (words : List (List ℕ)) (s : List ℕ) (t : Token) → isNew (length words) t ≡ true → wordsWith words s t ≡ words ++ (s ∷ [])
-unfolding wordsWith
-with-new words s t e = rw (e, wordsWith) refl
-
-with-old : (words : List (List ℕ)) (s : List ℕ) (t : Token) → isNew (length words) t ≡ false → wordsWith words s t ≡ words
-unfolding wordsWith
-with-old words s t e = rw (e, wordsWith) refl
 
 new-is : (count : ℕ) (t : Token) → t .kind ≡ wordKind → t .value ≡ 64 + count → isNew count t ≡ true
 new-is count t k v = rw (eq-eqb (t .kind) wordKind k, eq-eqb (t .value) (64 + count) v) refl

@@ -181,8 +181,18 @@ pub part-within : (formula : List ℕ) (at n : ℕ) {s : List ℕ} → s ≡ tak
 part-within formula at n e =
     omega (arith, ap length e, length-take n (drop at formula), length-drop at formula)
 
-pub emit-spelled : (lex : Lexicon) (words : List (List ℕ)) (at other : ℕ) {s u : List ℕ} {t : Token}
-    → t ≡ spelledToken lex words at s (kindOf lex s other) → s ≡ u
-    → Emit t ≡ Emit (spelledToken lex words at u (kindOf lex u other))
-emit-spelled lex words at other e f =
-    ap Emit (e ∙ ap (λ (v : List ℕ). spelledToken lex words at v (kindOf lex v other)) f)
+pub emit-word : (lex : Lexicon) (words : List (List ℕ)) (at : ℕ) {s u : List ℕ} {t : Token}
+    → t ≡ spelledToken lex words at s (kindOf lex s 0)
+    → s ≡ u
+    → Emit t ≡ Emit (spelledToken lex words at u (kindOf lex u 0))
+emit-word lex words at e f = ap Emit (e ∙ ap (λ (v : List ℕ). spelledToken lex words at v (kindOf lex v 0)) f)
+
+pub emit-symbol : (lex : Lexicon) (words : List (List ℕ)) (at : ℕ) {s u : List ℕ} {t : Token}
+    → t ≡ token (kindOf lex s noKind) at (length s) 0
+    → s ≡ u
+    → Emit t ≡ Emit (spelledToken lex words at u (kindOf lex u noKind))
+emit-symbol lex words at {s} e f =
+    ap Emit
+    (e
+    ∙ token-other lex words at s noKind refl (lexemes.word-only lex s noKind (λ z. omega (arith, z)))
+    ∙ ap (λ (v : List ℕ). spelledToken lex words at v (kindOf lex v noKind)) f)

@@ -38,51 +38,6 @@ module _ (room : List ℕ) (count : ℕ) (t : Token) where
   pub count-old : isNew count t ≡ false → count ≡ countWith count t
   count-old e = rw (e, countWith) refl
 
--- ------------------------------------------------------------------ the search for a word
-
-index-here : (s v : List ℕ) (vs : List (List ℕ)) → same v s ≡ true → indexOf s (v ∷ vs) ≡ 0
-unfolding indexOf
-index-here s v vs e = rw (e, indexOf) refl
-
-index-later : (s v : List ℕ) (vs : List (List ℕ)) → same v s ≡ false → indexOf s (v ∷ vs) ≡ suc (indexOf s vs)
-unfolding indexOf
-index-later s v vs e = rw (e, indexOf) refl
-
--- i words are not spelled s; those that are left give what is asked
-pub record Finding (formula room s : List ℕ) (count i : ℕ) : Type 0 where
-  pub small : i ≤ count
-  pub rest : i + indexOf s (wordsFrom (count - i) formula room i) ≡ indexOf s (wordsIn formula room count)
-
-pub finding-start : (formula room s : List ℕ) (count : ℕ) → Finding formula room s count 0
-finding-start formula room s count =
-    let z : count - 0 ≡ count = omega arith in
-    record { small = omega arith; rest = rw z (zero-add _) }
-
-module _ {formula room s : List ℕ} {count i : ℕ} (c : Finding formula room s count i) where
-  pub finding-end : count ≤ i → i ≡ indexOf s (wordsIn formula room count)
-  unfolding wordsFrom indexOf
-  finding-end h =
-      let z : count - i ≡ 0 = omega arith in
-      sym (ap (λ (k : ℕ). i + indexOf s (wordsFrom k formula room i)) z ∙ add-zero i) ∙ c .rest
-
-  module _ (h : i < count) {at size : ℕ} (ea : at ≡ getD room (i * 2) 0) (es : size ≡ getD room (i * 2 + 1) 0) where
-    word-left : wordsFrom (count - i) formula room i ≡ take size (drop at formula) ∷ wordsFrom (count - (i + 1)) formula room (i + 1)
-    unfolding wordsFrom
-    word-left =
-        let z : count - i ≡ suc (count - (i + 1)) = omega arith in
-        rw (ea, es) (ap (λ (k : ℕ). wordsFrom k formula room i) z)
-
-    pub finding-found : same (take size (drop at formula)) s ≡ true → i ≡ indexOf s (wordsIn formula room count)
-    finding-found e =
-        sym (ap (λ (l : List (List ℕ)). i + indexOf s l) word-left ∙ ap (λ (k : ℕ). i + k) (index-here s _ _ e) ∙ add-zero i)
-        ∙ c .rest
-
-    pub finding-next : same (take size (drop at formula)) s ≡ false → Finding formula room s count (i + 1)
-    finding-next e =
-        let f : indexOf s (wordsFrom (count - i) formula room i) ≡ suc (indexOf s (wordsFrom (count - (i + 1)) formula room (i + 1)))
-        = ap (indexOf s) word-left ∙ index-later s _ _ e in
-        record { small = omega arith; rest = omega (arith, c .rest) }
-
 -- ------------------------------------------------------------------ the words that a room of places names
 
 pub words-length : (k : ℕ) (formula room : List ℕ) (i : ℕ) → length (wordsFrom k formula room i) ≡ k
@@ -93,6 +48,28 @@ words-length (suc k) formula room i = ap suc (words-length k formula room (i + 1
 pub index-small : (formula room s : List ℕ) (count : ℕ) {r : ℕ} → r ≡ indexOf s (wordsIn formula room count) → r ≤ count
 index-small formula room s count e =
     omega (arith, index-le s (wordsIn formula room count), words-length count formula room 0)
+
+words-at : (k : ℕ) (formula room : List ℕ) (i j : ℕ) → j < k
+    → getD (wordsFrom k formula room i) j [] ≡ take (getD room ((i + j) * 2 + 1) 0) (drop (getD room ((i + j) * 2) 0) formula)
+unfolding wordsFrom
+words-at zero formula room i j h = absurd (omega arith)
+words-at (suc k) formula room i zero h = rw add-zero refl
+words-at (suc k) formula room i (suc j) h =
+    let z : i + 1 + j ≡ i + suc j = omega arith in
+    words-at k formula room (i + 1) j (omega arith)
+    ∙ ap (λ (n : ℕ). take (getD room (n * 2 + 1) 0) (drop (getD room (n * 2) 0) formula)) z
+
+-- word i as the code compares it
+pub word-same : (formula room s : List ℕ) (count i : ℕ) {at size : ℕ} {b : Bool} → i < count → at ≡ getD room (i * 2) 0
+    → size ≡ getD room (i * 2 + 1) 0
+    → same (take size (drop at formula)) s ≡ b
+    → same (getD (wordsIn formula room count) i []) s ≡ b
+word-same formula room s count i h a n e =
+    let z : 0 + i ≡ i = omega arith in
+    ap (λ (v : List ℕ). same v s)
+    (words-at count formula room 0 i h
+    ∙ ap (λ (j : ℕ). take (getD room (j * 2 + 1) 0) (drop (getD room (j * 2) 0) formula)) z)
+    ∙ rw (← a, ← n) e
 
 -- one word more at the end
 words-snoc : (k : ℕ) (formula room : List ℕ) (i : ℕ)
@@ -154,3 +131,11 @@ words-stored formula room count t h =
     elim (isNew k t)
     [ true ↦ wordsIn formula room count ++ (take (t .size) (drop (t .at) formula) ∷ []) | false ↦ wordsIn formula room count ])
     (sym (words-length count formula room 0))
+
+pub with-new : (words : List (List ℕ)) (s : List ℕ) (t : Token) → isNew (length words) t ≡ true → wordsWith words s t ≡ words ++ (s ∷ [])
+unfolding wordsWith
+with-new words s t e = rw (e, wordsWith) refl
+
+pub with-old : (words : List (List ℕ)) (s : List ℕ) (t : Token) → isNew (length words) t ≡ false → wordsWith words s t ≡ words
+unfolding wordsWith
+with-old words s t e = rw (e, wordsWith) refl

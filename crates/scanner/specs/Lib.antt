@@ -1,3 +1,4 @@
 pub mod Scan
 pub mod Rooms
 pub mod Tiling
+pub mod Links

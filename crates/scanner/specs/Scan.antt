@@ -54,9 +54,14 @@ lexemeOf rest = lexemeBy (getD rest 0 0) rest
 unfoldable pub kindOf : Lexicon → List ℕ → ℕ → ℕ
 kindOf lex s other = elim (foundIn s (lex .keywords)) [ At k ↦ keywordKind k | Absent ↦ other ]
 
--- the spelling number of a word: outside names 0 upward in table order, others 64 upward by first appearance among `words`
+-- the spelling number of an outside name, in table order from 0, and of any other word the one given
+unfoldable pub numberOr : Lexicon → List ℕ → ℕ → ℕ
+numberOr lex s fresh = elim (foundIn s (lex .outsides)) [ At k ↦ k | Absent ↦ fresh ]
+
+-- the spelling number of a word: an outside name's, or from 64 upward by first appearance among `words`
 unfoldable pub spellingOf : Lexicon → List (List ℕ) → List ℕ → ℕ
-spellingOf lex words s = elim (foundIn s (lex .outsides)) [ At k ↦ k | Absent ↦ 64 + indexOf s words ]
+unfolding numberOr
+spellingOf lex words s = numberOr lex s (64 + indexOf s words)
 
 -- ------------------------------------------------------------------ tokens
 

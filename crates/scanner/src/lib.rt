@@ -10,7 +10,9 @@ ghost use lib.Seq.{sets};
 ghost use Rattle.spellings.specs.Bytes.{run, isDigit, indexOf};
 ghost use Rattle.grammar.specs.Fields.{afterLeading, lexiconOf};
 ghost use Rattle.grammar.specs.Lookup.{fieldsAt};
-ghost use Rattle.scanner.specs.Scan.{wordLexeme, numberLexeme, lexemeOf, kindOf, spellingOf, spelledToken, stepOf};
+ghost use Rattle.scanner.specs.Scan.{wordLexeme, numberLexeme, lexemeOf, kindOf, numberOr, token, spelledToken, stepOf};
+ghost use Rattle.scanner.specs.Tiling.{bytesOf};
+ghost use Rattle.scanner.specs.Links.{hashOf, Linked, linksWith, linksAfter, Ready};
 ghost use Rattle.answers.specs.Refusals.{refusal};
 ghost use Rattle.scanner.specs.Rooms.{rowThen, placeThen, countWith, wordsIn, filled, scanInto};
 
@@ -123,78 +125,113 @@ fn wide(x: u32) -> usize
     x as usize
 }
 
-// Which of the words met so far is spelled s; `count` if none is.
-fn find_word(formula: &[u8], words: &[u32; 8192], count: usize, s: &[u8]) -> usize
+// The hash of a spelling, below 1,024.
+fn hash(s: &[u8]) -> usize
+    ensures { λ r. ⌜ r ≡ hashOf (now (s .entry)) ⌝ }
+{
+    let mut h: usize = 0;
+    let mut i: usize = 0;
+    while i < s.len() {
+        h = (h * 31 + s[i] as usize) % 1024;
+        i += 1;
+    }
+    h
+}
+
+// Which of the words met so far is spelled s; `count` if none is. Only words of the same hash are looked at.
+fn find_word(
+    formula: &[u8],
+    words: &[u32; 8192],
+    links: &[u32; 5120],
+    count: usize,
+    s: &[u8],
+) -> usize
     requires { ⌜ count ≤ 4096 ⌝ }
+    requires { ⌜ Linked (wordsIn (now formula) (now words) count) (now links) ⌝ }
     ensures { λ r. ⌜ r ≡ indexOf (now (s .entry)) (wordsIn (now (formula .entry)) (now (words .entry)) count) ⌝ }
 {
-    let mut i: usize = 0;
-    while i < count {
+    let h = hash(s);
+    let mut p = wide(links[h]);
+    while 0 < p {
+        let i = p - 1;
         let at = wide(words[i * 2]);
         let size = wide(words[i * 2 + 1]);
         let here = spellings::equal(part(formula, at, size), s);
         if here {
             return i;
         }
-        i += 1;
+        p = wide(links[1024 + i]);
     }
-    i
+    count
 }
 
-// The spelling number of a word. The table's outside names begin at the offset `names`.
-fn spelling_of(
-    table: &[u8],
-    names: usize,
-    formula: &[u8],
-    words: &[u32; 8192],
-    count: usize,
-    s: &[u8],
-) -> u32
-    requires { ⌜ count ≤ 4096 ⌝ }
+// The spelling number of an outside name, or `fresh` of another word. The table's outside names begin at the offset `names`.
+fn number_or(table: &[u8], names: usize, s: &[u8], fresh: u32) -> u32
     requires { ⌜ fieldsAt (now table) names ≡ afterLeading 1 (fieldsAt (now table) 0) ⌝ }
-    ensures { λ r. ⌜ r ≡ spellingOf (lexiconOf (now (table .entry))) (wordsIn (now (formula .entry)) (now (words .entry)) count) (now (s .entry)) ⌝ }
+    ensures { λ r. ⌜ r ≡ numberOr (lexiconOf (now (table .entry))) (now (s .entry)) fresh ⌝ }
 {
     let found = grammar::find_leading(table, names, 2, 64, s);
     match found {
         Found::At(k) => k as u32,
-        Found::Absent => (64 + find_word(formula, words, count, s)) as u32,
+        Found::Absent => fresh,
     }
 }
 
 // ---------------------------------------------------------------- tokens
 
-// The token at an offset that is spelled s and is not a number; `other` is its kind if it is no keyword.
-fn spelled_token(
+// The token of a word spelled s at an offset. A word met before needs no search in the table.
+fn word_token(
     table: &[u8],
     names: usize,
     formula: &[u8],
     words: &[u32; 8192],
+    links: &[u32; 5120],
     count: usize,
-    at: usize,
+    at: u32,
     s: &[u8],
-    other: u8,
 ) -> Token
-    requires { ⌜ count ≤ 4096 ⌝ }
-    requires { ⌜ fieldsAt (now table) names ≡ afterLeading 1 (fieldsAt (now table) 0) ⌝ }
-    requires { ⌜ (at < 65536) × (length (now s) < 65536) ⌝ }
-    ensures { λ r. ⌜ r ≡ spelledToken (lexiconOf (now (table .entry))) (wordsIn (now (formula .entry)) (now (words .entry)) count) at (now (s .entry)) (kindOf (lexiconOf (now (table .entry))) (now (s .entry)) other) ⌝ }
+    requires { ⌜ Ready (now table) names (now formula) (now words) count (now links) ⌝ }
+    requires { ⌜ length (now s) < 65536 ⌝ }
+    ensures { λ r. ⌜ r ≡ spelledToken (lexiconOf (now (table .entry))) (wordsIn (now (formula .entry)) (now (words .entry)) count) at (now (s .entry)) (kindOf (lexiconOf (now (table .entry))) (now (s .entry)) 0) ⌝ }
 {
-    let kind = kind_of(table, s, other);
-    let place = at as u32;
     let size = s.len() as u32;
+    let i = find_word(formula, words, links, count, s);
+    let known = 64 + i as u32;
+    if i < count {
+        return Token {
+            kind: 0,
+            at,
+            size,
+            value: known,
+        };
+    }
+    let kind = kind_of(table, s, 0);
     if kind == 0 {
-        let value = spelling_of(table, names, formula, words, count, s);
+        let value = number_or(table, names, s, known);
         return Token {
             kind,
-            at: place,
+            at,
             size,
             value,
         };
     }
     Token {
         kind,
-        at: place,
+        at,
         size,
+        value: 0,
+    }
+}
+
+// The token of a symbol spelled s at an offset.
+fn symbol_token(table: &[u8], at: u32, s: &[u8]) -> Token
+    requires { ⌜ length (now s) < 65536 ⌝ }
+    ensures { λ r. ⌜ r ≡ token (kindOf (lexiconOf (now (table .entry))) (now (s .entry)) 64) at (length (now (s .entry))) 0 ⌝ }
+{
+    Token {
+        kind: kind_of(table, s, 64),
+        at,
+        size: s.len() as u32,
         value: 0,
     }
 }
@@ -205,32 +242,31 @@ fn step_at(
     names: usize,
     formula: &[u8],
     words: &[u32; 8192],
+    links: &[u32; 5120],
     count: usize,
     at: usize,
 ) -> Step
-    requires { ⌜ count ≤ 4096 ⌝ }
-    requires { ⌜ fieldsAt (now table) names ≡ afterLeading 1 (fieldsAt (now table) 0) ⌝ }
+    requires { ⌜ Ready (now table) names (now formula) (now words) count (now links) ⌝ }
     requires { ⌜ (at < length (now formula)) × (length (now formula) < 65536) ⌝ }
     ensures { λ r. ⌜ r ≡ stepOf (lexiconOf (now (table .entry))) (wordsIn (now (formula .entry)) (now (words .entry)) count) at (drop at (now (formula .entry))) ⌝ }
 {
     let lexeme = front_lexeme(&formula[at..]);
+    let place = at as u32;
     match lexeme {
         Lexeme::Separator => Step::Skip,
         Lexeme::Word(n) => {
             let s = part(formula, at, n);
-            Step::Emit(spelled_token(table, names, formula, words, count, at, s, 0))
+            Step::Emit(word_token(table, names, formula, words, links, count, place, s))
         }
-        Lexeme::Number(n, v) => {
-            Step::Emit(Token {
-                kind: 1,
-                at: at as u32,
-                size: n as u32,
-                value: v,
-            })
-        }
+        Lexeme::Number(n, v) => Step::Emit(Token {
+            kind: 1,
+            at: place,
+            size: n as u32,
+            value: v,
+        }),
         Lexeme::Symbol => {
             let s = part(formula, at, 1);
-            Step::Emit(spelled_token(table, names, formula, words, count, at, s, 64))
+            Step::Emit(symbol_token(table, place, s))
         }
         Lexeme::Fault => Step::Stop,
     }
@@ -249,11 +285,28 @@ fn store_token(tokens: &mut [u32; 16384], n: usize, t: Token)
     tokens[i + 3] = t.value;
 }
 
-// The place of a word that is new is stored; the answer is how many words there are then.
-fn store_word(words: &mut [u32], count: usize, t: Token) -> usize
+// One more word is linked to the older words of its hash.
+fn link_word(links: &mut [u32; 5120], count: usize, s: &[u8])
+    requires { ⌜ count < 4096 ⌝ }
+    ensures { λ _. ⌜ now (links .exit) ≡ linksWith (now (links .entry)) count (now (s .entry)) ⌝ }
+{
+    let h = hash(s);
+    links[1024 + count] = links[h];
+    links[h] = (count + 1) as u32;
+}
+
+// The place of a word that is new is stored, and the word is linked; the answer is how many words there are then.
+fn store_word(
+    words: &mut [u32],
+    links: &mut [u32; 5120],
+    formula: &[u8],
+    count: usize,
+    t: Token,
+) -> usize
     requires { ⌜ (count < 4096) × (length (now words) ≡ 8192) ⌝ }
     ensures { λ r. ⌜ r ≡ countWith count t ⌝ }
     ensures { λ _. ⌜ now (words .exit) ≡ sets (now (words .entry)) (count * 2) (placeThen count t []) ⌝ }
+    ensures { λ _. ⌜ now (links .exit) ≡ linksAfter (now (links .entry)) count (bytesOf (now (formula .entry)) t) t ⌝ }
 {
     let next = 64 + count as u32;
     let new = (t.kind == 0) & (t.value == next);
@@ -261,6 +314,8 @@ fn store_word(words: &mut [u32], count: usize, t: Token) -> usize
         let i = count * 2;
         words[i] = t.at;
         words[i + 1] = t.size;
+        let s = part(formula, t.at as usize, t.size as usize);
+        link_word(links, count, s);
         return count + 1;
     }
     count
@@ -304,8 +359,9 @@ pub fn scan(
     let mut at: usize = 0;
     let mut n: usize = 0;
     let mut count: usize = 0;
+    let mut links = [0u32; 5120];
     while at < formula.len() {
-        let step = step_at(table, names, formula, words, count, at);
+        let step = step_at(table, names, formula, words, &links, count, at);
         match step {
             Step::Skip => {
                 at += 1;
@@ -318,7 +374,7 @@ pub fn scan(
                     return unscanned(16, 0);
                 }
                 store_token(tokens, n, t);
-                count = store_word(words, count, t);
+                count = store_word(words, &mut links, formula, count, t);
                 n += 1;
                 at += t.size as usize;
             }

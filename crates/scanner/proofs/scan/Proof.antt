@@ -1,20 +1,21 @@
 -- `scan`: what is left of the formula gives what the whole gives.
-use Prim.Native.Nat.{ℕ, _-_}
+use Prim.Native.Nat.{_-_}
 use mathlib.Core.Path.{sym, ap, _∙_}
 use native.Mathlib.Omega.{arith}
 use lib.ListN.{length}
 use borrow.Author.Needs.{needs}
 use Rattle.grammar.specs.Fields.{lexiconOf}
 use Rattle.scanner.specs.Rooms.{filled}
+use Rattle.scanner.proofs.ReadyLaws as words-known
 use Rattle.scanner.proofs.ScanLoop as loop
 use Rattle.scanner.proofs.scan.Statement.{statement}
 use Rattle.scanner.proofs.scan.Tie as tie
 
 abbrev Inv-loop : tie.InvT-loop
-Inv-loop table formula tokens₀ words₀ names at₀ n₀ count₀ tokens words at n count = loop.Turn (lexiconOf table) formula tokens₀ words₀ tokens words at n count
+Inv-loop table formula tokens₀ words₀ names at₀ n₀ count₀ links₀ tokens words at n count links = loop.Scanning table names formula tokens₀ words₀ tokens words links at n count
 
 abbrev μ-loop : tie.MeasureT-loop
-μ-loop table formula tokens₀ words₀ names at₀ n₀ count₀ tokens words at n count = length formula - at
+μ-loop table formula tokens₀ words₀ names at₀ n₀ count₀ links₀ tokens words at n count links = length formula - at
 
 unscanned-requires : tie.Need-unscanned-requires Inv-loop μ-loop
 unscanned-requires c κs = search needs
@@ -26,10 +27,10 @@ after-leading-requires : tie.Need-after-leading-requires Inv-loop μ-loop
 after-leading-requires c κs = search needs
 
 loop-holds : tie.Need-loop-holds Inv-loop μ-loop
-loop-holds c = loop.turn-start _ _ _ _ (c .before .if1 .left)
+loop-holds c = record { turn = loop.turn-start _ _ _ _ (c .before .if1 .left); ready = words-known.ready-start _ _ _ _ (c .after-leading .ensures) }
 
 step-at-requires : tie.Need-step-at-requires Inv-loop μ-loop
-step-at-requires c κs = (omega (arith, c .before .before .loop .inv .small, c .before .before .loop .inv .few), (c .before .before .before .after-leading .ensures, (omega arith, omega arith)))
+step-at-requires c κs = (c .before .before .before .loop .inv .ready, (omega arith, omega arith))
 
 enum-told : tie.Need-enum-told Inv-loop μ-loop
 enum-told c = search needs
@@ -41,7 +42,7 @@ loop-less : tie.Need-loop-less Inv-loop μ-loop
 loop-less c = search needs
 
 loop-again : tie.Need-loop-again Inv-loop μ-loop
-loop-again c = loop.turn-skip (c .before .before .before .before .before .loop .inv) (c .before .before .before .before .loop-test .taken) (sym (c .enum-told .given .1) ∙ c .before .before .step-at .ensures)
+loop-again c = record { turn = loop.turn-skip (c .before .before .before .before .before .before .loop .inv .turn) (c .before .before .before .before .before .loop-test .taken) (sym (c .enum-told .given .1) ∙ c .before .before .step-at .ensures); ready = c .before .before .before .before .before .before .loop .inv .ready }
 
 enum-told-2 : tie.Need-enum-told-2 Inv-loop μ-loop
 enum-told-2 c = search needs
@@ -50,7 +51,7 @@ bad-lexeme-requires : tie.Need-bad-lexeme-requires Inv-loop μ-loop
 bad-lexeme-requires c κs = search needs
 
 returns-2 : tie.Need-returns-2 Inv-loop μ-loop
-returns-2 c = ap (λ r. filled r (c .before .before .before .before .before .before .loop .tokens) (c .before .before .before .before .before .before .loop .words)) (c .bad-lexeme .ensures) ∙ loop.turn-stop (c .before .before .before .before .before .before .loop .inv) (c .before .before .before .before .before .loop-test .taken) (sym (c .before .enum-told2 .given .1) ∙ c .before .before .before .step-at .ensures)
+returns-2 c = ap (λ r. filled r (c .before .before .before .before .before .before .before .loop .tokens) (c .before .before .before .before .before .before .before .loop .words)) (c .bad-lexeme .ensures) ∙ loop.turn-stop (c .before .before .before .before .before .before .before .loop .inv .turn) (c .before .before .before .before .before .before .loop-test .taken) (sym (c .before .enum-told2 .given .1) ∙ c .before .before .before .step-at .ensures)
 
 enum-known-step : tie.Need-enum-known-step Inv-loop μ-loop
 enum-known-step c = search needs
@@ -59,16 +60,16 @@ unscanned-requires-2 : tie.Need-unscanned-requires-2 Inv-loop μ-loop
 unscanned-requires-2 c κs = search needs
 
 returns-3 : tie.Need-returns-3 Inv-loop μ-loop
-returns-3 c = ap (λ r. filled r (c .before .before .before .before .before .before .before .before .loop .tokens) (c .before .before .before .before .before .before .before .before .loop .words)) (c .unscanned2 .ensures) ∙ loop.turn-full (c .before .before .before .before .before .before .before .before .loop .inv) (c .before .before .before .before .before .before .before .loop-test .taken) (sym (c .before .before .before .step .given .1) ∙ c .before .before .before .before .before .step-at .ensures) (c .before .if2 .taken)
+returns-3 c = ap (λ r. filled r (c .before .before .before .before .before .before .before .before .before .loop .tokens) (c .before .before .before .before .before .before .before .before .before .loop .words)) (c .unscanned2 .ensures) ∙ loop.turn-full (c .before .before .before .before .before .before .before .before .before .loop .inv .turn) (c .before .before .before .before .before .before .before .before .loop-test .taken) (sym (c .before .before .before .step .given .1) ∙ c .before .before .before .before .before .step-at .ensures) (c .before .if2 .taken)
 
 store-token-requires : tie.Need-store-token-requires Inv-loop μ-loop
-store-token-requires c κs = omega (arith, c .before .before .before .before .before .before .before .before .loop .inv .small, c .before .if2 .left)
+store-token-requires c κs = omega (arith, c .before .before .before .before .before .before .before .before .before .loop .inv .turn .small, c .before .if2 .left)
 
 store-word-requires : tie.Need-store-word-requires Inv-loop μ-loop
-store-word-requires c κs = (omega (arith, c .before .before .before .before .before .before .before .before .before .before .loop .inv .small, c .before .before .before .before .before .before .before .before .before .before .loop .inv .few, c .before .before .before .if2 .left), search needs)
+store-word-requires c κs = (omega (arith, c .before .before .before .before .before .before .before .before .before .before .before .before .loop .inv .turn .small, c .before .before .before .before .before .before .before .before .before .before .before .before .loop .inv .turn .few, c .before .before .before .before .if2 .left), search needs)
 
 add-n : tie.Need-add-n Inv-loop μ-loop
-add-n c = omega (arith, c .before .before .before .before .before .before .before .before .before .before .before .loop .inv .small)
+add-n c = omega (arith, c .before .before .before .before .before .before .before .before .before .before .before .before .before .loop .inv .turn .small)
 
 cast-at : tie.Need-cast-at Inv-loop μ-loop
 cast-at c = search needs
@@ -77,13 +78,16 @@ add-at-2 : tie.Need-add-at-2 Inv-loop μ-loop
 add-at-2 c = search needs
 
 loop-less-2 : tie.Need-loop-less-2 Inv-loop μ-loop
-loop-less-2 c = loop.turn-less (c .before .before .before .before .before .before .before .before .before .before .before .before .loop .inv) (c .before .before .before .before .before .before .before .before .before .before .before .loop-test .taken) (sym (c .before .before .before .before .before .before .before .step .given .1) ∙ c .before .before .before .before .before .before .before .before .before .step-at .ensures)
+loop-less-2 c = loop.turn-less (c .before .before .before .before .before .before .before .before .before .before .before .before .before .before .loop .inv .turn) (c .before .before .before .before .before .before .before .before .before .before .before .before .before .loop-test .taken) (sym (c .before .before .before .before .before .before .before .before .step .given .1) ∙ c .before .before .before .before .before .before .before .before .before .before .step-at .ensures)
 
 loop-again-2 : tie.Need-loop-again-2 Inv-loop μ-loop
-loop-again-2 c = loop.turn-emit (c .before .before .before .before .before .before .before .before .before .before .before .before .loop .inv) (c .before .before .before .before .before .before .before .before .before .before .before .loop-test .taken) (sym (c .before .before .before .before .before .before .before .step .given .1) ∙ c .before .before .before .before .before .before .before .before .before .step-at .ensures) (c .before .before .before .before .before .if2 .left) (search needs) (c .before .before .before .store-token .ensures) (c .before .store-word .ensures .1) (c .before .store-word .ensures .0)
+loop-again-2 c = record {
+  turn = loop.turn-emit (c .before .before .before .before .before .before .before .before .before .before .before .before .before .before .loop .inv .turn) (c .before .before .before .before .before .before .before .before .before .before .before .before .before .loop-test .taken) (sym (c .before .before .before .before .before .before .before .before .step .given .1) ∙ c .before .before .before .before .before .before .before .before .before .before .step-at .ensures) (c .before .before .before .before .before .before .if2 .left) (search needs) (c .before .before .before .before .store-token .ensures) (c .before .store-word .ensures .1 .0) (c .before .store-word .ensures .0);
+  ready = words-known.ready-next (c .before .before .before .before .before .before .before .before .before .before .before .before .before .before .loop .inv .ready) (c .before .before .before .before .before .before .before .before .before .before .before .before .before .loop-test .taken) (sym (c .before .before .before .before .before .before .before .before .step .given .1) ∙ c .before .before .before .before .before .before .before .before .before .before .step-at .ensures) (omega (arith, c .before .before .before .before .before .before .before .before .before .before .before .before .before .before .loop .inv .turn .small, c .before .before .before .before .before .before .before .before .before .before .before .before .before .before .loop .inv .turn .few, c .before .before .before .before .before .before .if2 .left)) (search needs) (c .before .store-word .ensures .1 .0) (c .before .store-word .ensures .1 .1) (c .before .store-word .ensures .0);
+}
 
 returns-4 : tie.Need-returns-4 Inv-loop μ-loop
-returns-4 c = loop.turn-end (c .before .loop .inv) (c .loop-test .left)
+returns-4 c = loop.turn-end (c .before .loop .inv .turn) (c .loop-test .left)
 
 pub scan-spec : {M : Type 1} → statement M
 scan-spec =

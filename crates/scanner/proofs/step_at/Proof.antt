@@ -18,6 +18,9 @@ part-front-lexeme-end c = search needs
 front-lexeme-requires : tie.Need-front-lexeme-requires
 front-lexeme-requires c κs = search needs
 
+cast-place : tie.Need-cast-place
+cast-place c = search needs
+
 enum-told : tie.Need-enum-told
 enum-told c = search needs
 
@@ -27,17 +30,14 @@ enum-known-lexeme c = search needs
 part-requires : tie.Need-part-requires
 part-requires c κs = search needs
 
-spelled-token-requires : tie.Need-spelled-token-requires
-spelled-token-requires c κs = (c .before .before .before .before .before .before .before .before .pre .0, (c .before .before .before .before .before .before .before .before .pre .1 .0, (omega arith, omega (arith, laws.part-within (c .before .before .before .before .before .before .before .before .args .formula .now) (c .before .before .before .before .before .before .before .before .args .at) (c .before .before .lexeme .given .0 .0) (c .part .ensures)))))
+word-token-requires : tie.Need-word-token-requires
+word-token-requires c κs = (c .before .before .before .before .before .before .before .before .pre .0, omega (arith, laws.part-within (c .before .before .before .before .before .before .before .before .args .formula .now) (c .before .before .before .before .before .before .before .before .args .at) (c .before .before .lexeme .given .0 .0) (c .part .ensures)))
 
 enum-known-lexeme-2 : tie.Need-enum-known-lexeme-2
 enum-known-lexeme-2 c = search needs
 
-cast-t19 : tie.Need-cast-t19
-cast-t19 c = search needs
-
-cast-t20 : tie.Need-cast-t20
-cast-t20 c = omega (arith, laws.number-within (c .before .before .before .before .before .before .before .args .formula .now) (c .before .before .before .before .before .before .before .args .at) _ _ (laws.lexeme-lent (c .before .before .before .before .before .before .before .args .formula .now) (c .before .before .before .before .before .before .before .args .at) (sym (c .before .lexeme2 .given .1) ∙ c .before .before .before .front-lexeme .ensures)))
+cast-t21 : tie.Need-cast-t21
+cast-t21 c = omega (arith, laws.number-within (c .before .before .before .before .before .before .before .args .formula .now) (c .before .before .before .before .before .before .before .args .at) _ _ (laws.lexeme-lent (c .before .before .before .before .before .before .before .args .formula .now) (c .before .before .before .before .before .before .before .args .at) (sym (c .before .lexeme2 .given .1) ∙ c .before .before .before .front-lexeme .ensures)))
 
 enum-told-2 : tie.Need-enum-told-2
 enum-told-2 c = search needs
@@ -45,8 +45,8 @@ enum-told-2 c = search needs
 part-requires-2 : tie.Need-part-requires-2
 part-requires-2 c κs = search needs
 
-spelled-token-requires-2 : tie.Need-spelled-token-requires-2
-spelled-token-requires-2 c κs = (c .before .before .before .before .before .before .before .pre .0, (c .before .before .before .before .before .before .before .pre .1 .0, (omega arith, omega (arith, laws.part-within (c .before .before .before .before .before .before .before .args .formula .now) (c .before .before .before .before .before .before .before .args .at) 1 (c .part2 .ensures)))))
+symbol-token-requires : tie.Need-symbol-token-requires
+symbol-token-requires c κs = omega (arith, laws.part-within (c .before .before .before .before .before .before .before .args .formula .now) (c .before .before .before .before .before .before .before .args .at) 1 (c .part2 .ensures))
 
 enum-told-3 : tie.Need-enum-told-3
 enum-told-3 c = search needs
@@ -55,13 +55,13 @@ returns : tie.Need-returns
 returns c = laws.step-by _ _ _ _ (laws.lexeme-lent (c .before .before .before .before .before .before .args .formula .now) (c .before .before .before .before .before .before .args .at) (sym (c .enum-told .given .1) ∙ c .before .before .front-lexeme .ensures))
 
 returns-2 : tie.Need-returns-2
-returns-2 c = laws.emit-spelled _ _ _ _ (c .spelled-token .ensures) (c .before .part .ensures) ∙ laws.step-by _ _ _ _ (laws.lexeme-lent (c .before .before .before .before .before .before .before .before .before .args .formula .now) (c .before .before .before .before .before .before .before .before .before .args .at) (sym (c .before .before .before .lexeme .given .1) ∙ c .before .before .before .before .before .front-lexeme .ensures))
+returns-2 c = laws.emit-word _ _ _ (c .word-token .ensures) (c .before .part .ensures) ∙ laws.step-by _ _ _ _ (laws.lexeme-lent (c .before .before .before .before .before .before .before .before .before .args .formula .now) (c .before .before .before .before .before .before .before .before .before .args .at) (sym (c .before .before .before .lexeme .given .1) ∙ c .before .before .before .before .before .front-lexeme .ensures))
 
 returns-3 : tie.Need-returns-3
 returns-3 c = laws.step-by _ _ _ _ (laws.lexeme-lent (c .before .before .before .before .before .before .before .args .formula .now) (c .before .before .before .before .before .before .before .args .at) (sym (c .before .lexeme2 .given .1) ∙ c .before .before .before .front-lexeme .ensures))
 
 returns-4 : tie.Need-returns-4
-returns-4 c = laws.emit-spelled _ _ _ _ (c .spelled-token2 .ensures) (c .before .part2 .ensures) ∙ laws.step-by _ _ _ _ (laws.lexeme-lent (c .before .before .before .before .before .before .before .before .args .formula .now) (c .before .before .before .before .before .before .before .before .args .at) (sym (c .before .before .enum-told2 .given .1) ∙ c .before .before .before .before .front-lexeme .ensures))
+returns-4 c = laws.emit-symbol _ _ _ (c .symbol-token .ensures) (c .before .part2 .ensures) ∙ laws.step-by _ _ _ _ (laws.lexeme-lent (c .before .before .before .before .before .before .before .before .args .formula .now) (c .before .before .before .before .before .before .before .before .args .at) (sym (c .before .before .enum-told2 .given .1) ∙ c .before .before .before .before .front-lexeme .ensures))
 
 returns-5 : tie.Need-returns-5
 returns-5 c = laws.step-by _ _ _ _ (laws.lexeme-lent (c .before .before .before .before .before .before .args .formula .now) (c .before .before .before .before .before .before .args .at) (sym (c .enum-told3 .given .1) ∙ c .before .before .front-lexeme .ensures))
@@ -74,16 +74,16 @@ step-at-spec =
     part-front-lexeme-start
     part-front-lexeme-end
     front-lexeme-requires
+    cast-place
     enum-told
     enum-known-lexeme
     part-requires
-    spelled-token-requires
+    word-token-requires
     enum-known-lexeme-2
-    cast-t19
-    cast-t20
+    cast-t21
     enum-told-2
     part-requires-2
-    spelled-token-requires-2
+    symbol-token-requires
     enum-told-3
     returns
     returns-2

@@ -1,8 +1,12 @@
--- `store_word`: two stores if the word is new.
+-- `store_word`: two stores and a link if the word is new.
+use mathlib.Core.Path.{sym, ap, _∙_}
 use native.Mathlib.Omega.{arith}
 use lib.ListN.{length-set}
 use borrow.Author.Needs.{needs}
+use Rattle.scanner.specs.Links.{linksWith}
+use Rattle.scanner.specs.Tiling.{bytesOf}
 use Rattle.scanner.proofs.WordLaws as laws
+use Rattle.scanner.proofs.LinkLaws as links
 use Rattle.scanner.proofs.store_word.Statement.{statement}
 use Rattle.scanner.proofs.store_word.Tie as tie
 
@@ -28,7 +32,19 @@ mul-words-2 : tie.Need-mul-words-2
 mul-words-2 c = search needs
 
 slice-write-words-2 : tie.Need-slice-write-words-2
-slice-write-words-2 c = simp length-set (omega (arith, c .before .before .before .pre))
+slice-write-words-2 c = simp length-set (omega (arith, c .before .before .before .before .before .pre))
+
+cast-part : tie.Need-cast-part
+cast-part c = search needs
+
+cast-part-2 : tie.Need-cast-part-2
+cast-part-2 c = search needs
+
+part-requires : tie.Need-part-requires
+part-requires c κs = search needs
+
+link-word-requires : tie.Need-link-word-requires
+link-word-requires c κs = search needs
 
 add-result : tie.Need-add-result
 add-result c = search needs
@@ -37,10 +53,10 @@ same-length : tie.Need-same-length
 same-length c = simp length-set
 
 returns : tie.Need-returns
-returns c = (laws.count-new (c .before .before .before .args .words .now) (c .before .before .before .args .count) (c .before .before .before .args .t) (c .if1 .taken), laws.place-new (c .before .before .before .args .words .now) (c .before .before .before .args .count) (c .before .before .before .args .t) (c .if1 .taken))
+returns c = (laws.count-new (c .before .before .before .before .before .before .before .before .before .before .args .words .now) (c .before .before .before .before .before .before .before .before .before .before .args .count) (c .before .before .before .before .before .before .before .before .before .before .args .t) (c .before .before .before .before .before .if1 .taken), (laws.place-new (c .before .before .before .before .before .before .before .before .before .before .args .words .now) (c .before .before .before .before .before .before .before .before .before .before .args .count) (c .before .before .before .before .before .before .before .before .before .before .args .t) (c .before .before .before .before .before .if1 .taken), c .link-word .ensures ∙ ap (linksWith (c .before .before .before .before .before .before .before .before .before .before .args .links .now) (c .before .before .before .before .before .before .before .before .before .before .args .count)) (c .before .before .part .ensures) ∙ sym (links.links-new (c .before .before .before .before .before .before .before .before .before .before .args .links .now) (c .before .before .before .before .before .before .before .before .before .before .args .count) (bytesOf (c .before .before .before .before .before .before .before .before .before .before .args .formula .now) (c .before .before .before .before .before .before .before .before .before .before .args .t)) (c .before .before .before .before .before .before .before .before .before .before .args .t) (c .before .before .before .before .before .if1 .taken))))
 
 returns-2 : tie.Need-returns-2
-returns-2 c = (laws.count-old (c .before .before .before .args .words .now) (c .before .before .before .args .count) (c .before .before .before .args .t) (c .if1 .left), laws.place-old (c .before .before .before .args .words .now) (c .before .before .before .args .count) (c .before .before .before .args .t) (c .if1 .left))
+returns-2 c = (laws.count-old (c .before .before .before .before .before .args .words .now) (c .before .before .before .before .before .args .count) (c .before .before .before .before .before .args .t) (c .if1 .left), (laws.place-old (c .before .before .before .before .before .args .words .now) (c .before .before .before .before .before .args .count) (c .before .before .before .before .before .args .t) (c .if1 .left), sym (links.links-old (c .before .before .before .before .before .args .links .now) (c .before .before .before .before .before .args .count) (bytesOf (c .before .before .before .before .before .args .formula .now) (c .before .before .before .before .before .args .t)) (c .before .before .before .before .before .args .t) (c .if1 .left))))
 
 pub store-word-spec : {M : Type 1} → statement M
 store-word-spec =
@@ -54,6 +70,10 @@ store-word-spec =
     add-words
     mul-words-2
     slice-write-words-2
+    cast-part
+    cast-part-2
+    part-requires
+    link-word-requires
     add-result
     same-length
     returns
