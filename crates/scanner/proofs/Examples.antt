@@ -1,14 +1,13 @@
 -- Scans that are worked out: tokens, spelling numbers, refusals.
 use mathlib.Core.Path.{_≡_, refl}
-use mathlib.Core.Bool.{Bool, true, false}
-use mathlib.Core.List.{List, [], _∷_, _++_}
+use mathlib.Core.List.{[], _∷_}
 use lib.ListN.{replicate}
 use Rattle.answers.specs.Refusals.{refusal}
 use Rattle.spellings.specs.Bytes.{bytes, run, same, indexOf, valueFrom}
 use Rattle.grammar.specs.Fields.{Lexicon}
 use Rattle.grammar.specs.Lookup.{foundIn}
 use Rattle.scanner.specs.declared.Scanned.the-variants.{Tokens, Unscanned}
-use Rattle.scanner.specs.Scan.{Lexed, token, ended, lexemeOf, kindOf, spellingOf, stepOf, wordsWith, lexFrom, scan}
+use Rattle.scanner.specs.Scan.{token, ended, lexemeOf, kindOf, spellingOf, stepOf, wordsWith, lexFrom, scan}
 
 -- the keywords of document 01's house table, with the outside name T
 house : Lexicon

@@ -8,4 +8,5 @@ pub mod ScanLoop
 pub mod TokenLaws
 pub mod TilingLaws
 pub mod SpellingLaws
+pub mod RoomLaws
 pub mod ScannerTheorems

@@ -2,9 +2,9 @@
 use Prim.Native.Nat.{ℕ, zero, suc, _+_, _-_, _*_, _<_, _≤_}
 use mathlib.Core.Path.{_≡_, refl, sym, ap, ap₂, _∙_}
 use mathlib.Core.Bool.{Bool, true, false}
-use mathlib.Core.List.{List, [], _∷_, _++_}
+use mathlib.Core.List.{List, [], _∷_}
 use native.Mathlib.Omega.{arith}
-use lib.Dec.{leb, ltb}
+use lib.Dec.{ltb}
 use lib.ListN.{length, take, drop, length-drop, drop-of-length-le}
 use lib.Seq.{sets, drop-drop}
 use borrow.Author.Tests.{le-leb, lt-leb, lt-ltb, le-ltb}
@@ -13,7 +13,6 @@ use Rattle.grammar.specs.Fields.{Lexicon, lexiconOf}
 use Rattle.scanner.specs.declared.Token.{Token}
 use Rattle.scanner.specs.declared.Step.{Step}
 use Rattle.scanner.specs.declared.Step.the-variants.{Skip, Stop, Emit}
-use Rattle.scanner.specs.declared.Scanned.{Scanned}
 use Rattle.scanner.specs.declared.Scanned.the-variants.{Tokens, Unscanned}
 use Rattle.scanner.specs.Scan.{Lexed, ended, withToken, isNew, wordsWith, mostTokens, longestFormula, stepOf, lexFrom, scan}
 use Rattle.scanner.specs.Rooms.{rowThen, rows, placeThen, countWith, places, wordsFrom, wordsIn, Filled, filled, scanInto}
@@ -64,7 +63,7 @@ abbrev pub fillFrom : ℕ → ℕ → List ℕ → List ℕ → Lexed → Filled
 fillFrom n count tokens words l =
     filled (l .answer) (sets tokens (n * 4) (rows (l .tokens))) (sets words (count * 2) (places count (l .tokens)))
 
-fill-rows : (n : ℕ) (tokens : List ℕ) (t : Token) (ts : List Token)
+pub fill-rows : (n : ℕ) (tokens : List ℕ) (t : Token) (ts : List Token)
     → sets tokens (n * 4) (rows (t ∷ ts)) ≡ sets (sets tokens (n * 4) (rowThen t [])) ((n + 1) * 4) (rows ts)
 unfolding rows
 fill-rows n tokens t ts =
@@ -81,7 +80,7 @@ fill-places-by count words t follow true =
     ap (λ (i : ℕ). sets (sets words (count * 2) (t .at ∷ t .size ∷ [])) i follow) z
 fill-places-by count words t follow false = refl
 
-fill-places : (count : ℕ) (words : List ℕ) (t : Token) (ts : List Token)
+pub fill-places : (count : ℕ) (words : List ℕ) (t : Token) (ts : List Token)
     → sets words (count * 2) (places count (t ∷ ts))
     ≡ sets (sets words (count * 2) (placeThen count t [])) (countWith count t * 2) (places (countWith count t) ts)
 unfolding places
@@ -93,7 +92,7 @@ fill-token : (n count : ℕ) (tokens words : List ℕ) (t : Token) (l : Lexed)
 fill-token n count tokens words t l =
     ap₂ (filled (l .answer)) (fill-rows n tokens t (l .tokens)) (fill-places count words t (l .tokens))
 
-count-grows : (count : ℕ) (t : Token) (new : Bool) → isNew count t ≡ new → countWith count t ≤ count + 1
+pub count-grows : (count : ℕ) (t : Token) (new : Bool) → isNew count t ≡ new → countWith count t ≤ count + 1
 count-grows count t true e = rw (e, countWith) (omega arith)
 count-grows count t false e = rw (e, countWith) (omega arith)
 

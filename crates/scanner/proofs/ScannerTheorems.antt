@@ -1,20 +1,20 @@
 -- What a scan gives, for every lexicon and every formula. Each statement has one sentence above it; the proofs cite the laws.
-use Prim.Native.Nat.{ℕ, _+_, _-_, _<_, _≤_}
-use mathlib.Core.Path.{_≡_, refl, sym, ap, _∙_, subst}
+use Prim.Native.Nat.{ℕ, _-_, _≤_}
+use mathlib.Core.Path.{_≡_, sym, ap, _∙_}
 use mathlib.Core.Logic.{_↔_}
-use mathlib.Core.Bool.{Bool, true, false}
-use mathlib.Core.List.{List, []}
+use mathlib.Core.Bool.{true}
+use mathlib.Core.List.{List}
 use native.Mathlib.Omega.{arith}
 use lib.Dec.{ltb}
-use lib.ListN.{length, getD, List·getD-eq-default}
-use borrow.Author.Tests.{lt-ltb, le-ltb, ltb-true, ltb-false}
+use lib.ListN.{length, List·getD-eq-default}
+use borrow.Author.Tests.{ltb-true, ltb-false}
 use Rattle.spellings.specs.Bytes.{isWord}
 use Rattle.spellings.specs.BytesLaws.{by-test}
 use Rattle.kinds.specs.Kinds.{wordKind}
 use Rattle.grammar.specs.Fields.{Lexicon}
 use Rattle.scanner.specs.declared.Token.{Token}
 use Rattle.scanner.specs.declared.Scanned.the-variants.{Tokens}
-use Rattle.scanner.specs.Scan.{Lexed, token, spellingOf, scan}
+use Rattle.scanner.specs.Scan.{token, spellingOf, scan}
 use Rattle.scanner.specs.Tiling.{Tiled, bytesOf, tokenAt, spelled}
 use Rattle.scanner.proofs.TilingLaws.{scan-tiled, scan-counted}
 use Rattle.scanner.proofs.SpellingLaws.{Spelled, every-at, scan-spelled, spelled-number}

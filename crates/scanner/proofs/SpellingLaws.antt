@@ -1,25 +1,24 @@
 -- A word token's value is the spelling number of its bytes by all words of the scan, and every word token is a word.
-use Prim.Native.Nat.{ℕ, zero, suc, _+_, _-_, _*_, _<_, _≤_}
-use mathlib.Core.Path.{_≡_, refl, sym, ap, _∙_, subst}
-use mathlib.Core.Bool.{Bool, true, false, _&&_}
+use Prim.Native.Nat.{ℕ, zero, suc, _+_, _-_, _<_, _≤_}
+use mathlib.Core.Path.{_≡_, refl, sym, ap, _∙_}
+use mathlib.Core.Bool.{true, false}
 use mathlib.Core.List.{List, [], _∷_, _++_, append-assoc, append-nil}
-use native.Mathlib.Nat.{add-assoc, add-zero}
+use native.Mathlib.Nat.{add-zero}
 use native.Mathlib.Omega.{arith}
-use lib.Dec.{eqb, ltb, leb}
-use lib.ListN.{length, getD, take, drop, length-take, length-append}
-use lib.Seq.{getD-drop, getD-take}
+use lib.Dec.{ltb}
+use lib.ListN.{length, getD, take, drop, length-append}
 use borrow.Author.Tests.{ltb-true, ltb-false, le-leb, le-ltb, lt-ltb, ne-eqb, eq-eqb}
-use Rattle.spellings.specs.Bytes.{isLetter, isDigit, isWordByte, isSymbol, every, run, isWord, same, indexOf}
-use Rattle.spellings.specs.BytesLaws.{by-test, run-taken, run-prefix, run-length, every-run, letter-word-byte, same-refl, index-le, index-found, index-front, index-rest}
+use Rattle.spellings.specs.Bytes.{isLetter, isWordByte, run, isWord, indexOf}
+use Rattle.spellings.specs.BytesLaws.{by-test, run-taken, run-prefix, every-run, letter-word-byte, same-refl, index-le, index-found, index-front, index-rest}
 use Rattle.grammar.specs.declared.Found.{Found}
 use Rattle.grammar.specs.declared.Found.the-variants.{At, Absent}
 use Rattle.grammar.specs.Fields.{Lexicon}
 use Rattle.grammar.specs.Lookup.{foundIn}
 use Rattle.grammar.proofs.LookupLaws.{found-within, found-spells}
-use Rattle.kinds.specs.Kinds.{wordKind, numberKind, noKind, keywordKind}
+use Rattle.kinds.specs.Kinds.{wordKind, noKind}
 use Rattle.scanner.specs.declared.Token.{Token}
-use Rattle.scanner.specs.Scan.{Lexed, isNew, wordsWith, kindOf, spellingOf, scan}
-use Rattle.scanner.specs.Tiling.{Stands, a-word, a-number, a-symbol, bytesOf, tokenAt, spelled}
+use Rattle.scanner.specs.Scan.{Lexed, isNew, wordsWith, spellingOf, scan}
+use Rattle.scanner.specs.Tiling.{Stands, a-word, a-number, a-symbol, bytesOf, spelled}
 use Rattle.scanner.proofs.LexemeLaws.{word-only, spelling-found}
 use Rattle.scanner.proofs.WordLaws.{with-new, with-old}
 use Rattle.scanner.proofs.TokenLaws.{Kept, scan-kept}

@@ -1,29 +1,23 @@
 -- What holds of all tokens of a scan, by recursion on what is left of the formula.
-use Prim.Native.Nat.{ℕ, zero, suc, _+_, _-_, _*_, _<_, _≤_}
+use Prim.Native.Nat.{ℕ, zero, suc, _+_, _-_, _<_, _≤_}
 use mathlib.Core.Path.{_≡_, refl, sym, ap, _∙_, subst}
-use mathlib.Core.Bool.{Bool, true, false, _&&_}
-use mathlib.Core.List.{List, [], _∷_, _++_, append-assoc, append-nil}
-use native.Mathlib.Nat.{add-assoc, add-zero}
+use mathlib.Core.Bool.{Bool, true}
+use mathlib.Core.List.{List, []}
+use native.Mathlib.Nat.{add-zero}
 use native.Mathlib.Omega.{arith}
-use lib.Dec.{eqb, ltb, leb}
-use lib.ListN.{length, getD, take, drop, length-drop, length-append, drop-of-length-le}
+use lib.Dec.{ltb, leb}
+use lib.ListN.{length, getD, take, drop, length-drop, drop-of-length-le}
 use lib.Seq.{drop-drop, getD-drop}
-use borrow.Author.Tests.{ltb-true, ltb-false, leb-true, leb-false, le-ltb, lt-ltb, ne-eqb, eq-eqb}
+use borrow.Author.Tests.{ltb-true, ltb-false, leb-true, leb-false}
 use Rattle.answers.specs.Refusals.{refusal}
-use Rattle.spellings.specs.Bytes.{isLetter, isDigit, isWordByte, isSeparator, isSymbol, every, run, isWord, indexOf}
-use Rattle.spellings.specs.BytesLaws.{by-test, run-prefix, run-length, every-run, index-le, index-found, index-front, index-rest}
-use Rattle.grammar.specs.declared.Found.{Found}
-use Rattle.grammar.specs.declared.Found.the-variants.{At, Absent}
+use Rattle.spellings.specs.Bytes.{isSeparator}
+use Rattle.spellings.specs.BytesLaws.{by-test}
 use Rattle.grammar.specs.Fields.{Lexicon}
-use Rattle.grammar.specs.Lookup.{foundIn}
-use Rattle.kinds.specs.Kinds.{wordKind, numberKind, noKind}
 use Rattle.scanner.specs.declared.Token.{Token}
 use Rattle.scanner.specs.declared.Step.{Step}
 use Rattle.scanner.specs.declared.Step.the-variants.{Skip, Stop, Emit}
-use Rattle.scanner.specs.declared.Scanned.{Scanned}
 use Rattle.scanner.specs.declared.Scanned.the-variants.{Tokens, Unscanned}
-use Rattle.scanner.specs.Scan.{Lexed, ended, withToken, isNew, wordsWith, mostTokens, longestFormula, kindOf, spellingOf, stepOf, lexFrom, scan}
-use Rattle.scanner.specs.Tiling.{Stands, a-word, a-number, a-symbol, Tiled, finished, a-separator, a-token, bytesOf}
+use Rattle.scanner.specs.Scan.{Lexed, ended, withToken, wordsWith, mostTokens, longestFormula, stepOf, lexFrom, scan}
 use Rattle.scanner.proofs.StepLaws.{Lies, Told, step-lies, step-told}
 use Rattle.scanner.proofs.ScanLoop.{emitted, after, lex-step, lex-end, scan-short, scan-long}
 

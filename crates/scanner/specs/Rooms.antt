@@ -1,13 +1,13 @@
 -- How a scan fills the rooms that are lent to it.
 use Prim.Native.Nat.{ℕ, zero, suc, _+_, _*_}
-use mathlib.Core.Bool.{Bool, true, false}
+use mathlib.Core.Bool.{true, false}
 use mathlib.Core.List.{List, [], _∷_}
 use lib.ListN.{getD, take, drop}
 use lib.Seq.{sets}
 use Rattle.scanner.specs.declared.Token.{Token}
 use Rattle.scanner.specs.declared.Scanned.{Scanned}
 use Rattle.grammar.specs.Fields.{Lexicon}
-use Rattle.scanner.specs.Scan.{Lexed, isNew, scan}
+use Rattle.scanner.specs.Scan.{isNew, scan}
 
 -- ------------------------------------------------------------------ tokens and words as numbers
 

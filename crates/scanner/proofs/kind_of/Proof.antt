@@ -1,12 +1,8 @@
 -- `kind_of`: the keywords are the first 62 fields of tag 1.
 use mathlib.Core.Path.{sym, _∙_}
 use native.Mathlib.Omega.{arith}
-use lib.ListN.{take, length-take}
 use borrow.Author.Needs.{needs}
 use Rattle.grammar.specs.declared.Found.the-variants.{At, Absent}
-use Rattle.grammar.proofs.LookupLaws.{found-within}
-use Rattle.grammar.specs.Fields.{leading}
-use Rattle.grammar.specs.Lookup.{fieldsAt}
 use Rattle.scanner.proofs.LexemeLaws as laws
 use Rattle.scanner.proofs.kind_of.Statement.{statement}
 use Rattle.scanner.proofs.kind_of.Tie as tie

@@ -1,7 +1,6 @@
 -- `number_lexeme`: the digits are a part of what is left.
 use lib.Seq.{length-take-le}
 use mathlib.Core.Path.{sym, _∙_}
-use native.Mathlib.Omega.{arith}
 use borrow.Author.Needs.{needs}
 use Rattle.spellings.specs.declared.Number.the-variants.{Value, TooLarge}
 use Rattle.scanner.proofs.LexemeLaws as laws

@@ -4,7 +4,6 @@ use mathlib.Core.Path.{sym, ap, _∙_}
 use native.Mathlib.Omega.{arith}
 use lib.ListN.{length}
 use borrow.Author.Needs.{needs}
-use Rattle.grammar.specs.Fields.{lexiconOf}
 use Rattle.scanner.specs.Rooms.{filled}
 use Rattle.scanner.proofs.ReadyLaws as words-known
 use Rattle.scanner.proofs.ScanLoop as loop

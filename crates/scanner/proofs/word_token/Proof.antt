@@ -1,5 +1,4 @@
 -- `word_token`: a word met before is plain; for any other the table is asked.
-use mathlib.Core.Path.{sym, _∙_}
 use native.Mathlib.Omega.{arith}
 use borrow.Author.Needs.{needs}
 use Rattle.scanner.proofs.WordLaws.{words-length, index-small}
