@@ -22,7 +22,8 @@ use Rattle.firsts.specs.First.{nullables, firstSets, leftCalls, leftRecu
 use Rattle.firsts.specs.Index.{itemsOf, productionAt, productionsFrom, productionsBy}
 use Rattle.firsts.specs.Pairs.{valuesFrom, sharedAt, joinPairsFrom, clashingBy, noClashBy}
 use Rattle.firsts.specs.Rooms.{Prepared}
-use Rattle.firsts.proofs.PairsLaws.{placed, Fitting, clashing-is, shared-is}
+use Rattle.firsts.proofs.ProductionsLaws.{placed}
+use Rattle.firsts.proofs.PairsLaws.{Fitting, clashing-is, shared-is}
 
 -- ------------------------------------------------------------------ values in their places
 

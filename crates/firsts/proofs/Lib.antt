@@ -3,6 +3,8 @@ pub mod ItemsLaws
 pub mod ProductionsLaws
 pub mod PairsLaws
 pub mod CheckLaws
+pub mod IndexLaws
+pub mod FewAlternatives
 pub mod Rounds
 pub mod NullablesExactly
 pub mod FirstSetsExactly

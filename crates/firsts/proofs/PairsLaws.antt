@@ -13,6 +13,7 @@ use lib.ListN.{getD}
 use Rattle.firsts.specs.Normal.{Production}
 use Rattle.firsts.specs.First.{lowest, allPassed, firstOf, sharedBy, clash, clashing, anyWith, anyPair, joinWith, joinPairs}
 use Rattle.firsts.specs.Index.{productionAt, productionsFrom, productionsBy}
+use Rattle.firsts.proofs.ProductionsLaws.{placed}
 use Rattle.firsts.specs.Pairs.{bothOf, sharedAt, clashAt, clashingBy, anyFrom, anyPairFrom, joinFrom, joinPairsFrom}
 
 -- ------------------------------------------------------------------ the lowest of 64
@@ -236,10 +237,6 @@ pub reach-is : (n : ℕ) {reached s : ℕ} → reached ≡ s → {b : Bool} → 
 reach-is n e f = sym (f ∙ ap (λ (x : ℕ). hasKind x n) e)
 
 -- ------------------------------------------------------------------ the places of an index and its productions
-
--- the production at a place
-abbrev pub placed : List ℕ → List ℕ → List ℕ → ℕ → Production
-placed bs owners starts j = productionAt bs (getD owners j 0) (getD starts j 0)
 
 module _ (bs owners starts : List ℕ) (m : ℕ) where
   module _ (t : Production → Bool) (q : ℕ → Bool) (s : (j : ℕ) → j < m → t (placed bs owners starts j) ≡ q j) where

@@ -19,10 +19,14 @@ use Rattle.firsts.proofs.Rounds.{rounds-fixed}
 
 -- ------------------------------------------------------------------ a loop over the productions
 
+-- the production at a place
+abbrev pub placed : List ℕ → List ℕ → List ℕ → ℕ → Production
+placed bs owners starts j = productionAt bs (getD owners j 0) (getD starts j 0)
+
 module _ (bs owners starts : List ℕ) (m j : ℕ) where
   pub productions-next : j < m
       → productionsFrom (m - j) bs owners starts j
-      ≡ productionAt bs (getD owners j 0) (getD starts j 0) ∷ productionsFrom (m - (j + 1)) bs owners starts (j + 1)
+      ≡ placed bs owners starts j ∷ productionsFrom (m - (j + 1)) bs owners starts (j + 1)
   unfolding productionsFrom
   productions-next h =
       let z : m - j ≡ suc (m - (j + 1)) = omega arith in

@@ -56,3 +56,10 @@ normalizedBy (next at tag v fs) n g =
             | false ↦ normalizedBy fs n g
           ]
     ]
+
+-- how many fields begin an alternative
+unfoldable pub alternativeFields : Fields → ℕ
+alternativeFields (end at) = 0
+alternativeFields (cut at) = 0
+alternativeFields (next at tag v fs) =
+    elim (eqb tag 5) [ true ↦ suc (alternativeFields fs) | false ↦ alternativeFields fs ]
