@@ -8,6 +8,7 @@ pub mod HeadLaws
 pub mod CollectLaws
 pub mod BodyLaws
 pub mod AlternativeLaws
+pub mod StepLaws
 pub mod BodySorts
 pub mod SequenceSorts
 pub mod RefusalNumbers

@@ -150,6 +150,11 @@ stepped (Stop v) H = stopped v
 abbrev pub known : ℕ → ℕ → ℕ → Known
 known K N h = record { keywords = K; outsides = N; head = h }
 
+-- as the code has it
+abbrev pub afterVerdict : Known → Verdict → Step
+afterVerdict k Passed = Next k
+afterVerdict k (Refused r) = Stop (Refused r)
+
 abbrev pub afterBlock : Known → Collected → Stepped
 afterBlock k (collected Passed H) = going k H
 afterBlock k (collected (Refused r) H) = stopped (Refused r)
