@@ -49,6 +49,7 @@ pub enum Scanned {
 
 // ---------------------------------------------------------------- the lexeme at the front
 
+// A run of n word bytes is a word, if it is not too long.
 fn word_lexeme(n: usize) -> Lexeme
     ensures { λ r. ⌜ r ≡ wordLexeme n ⌝ }
 {
@@ -59,6 +60,7 @@ fn word_lexeme(n: usize) -> Lexeme
     }
 }
 
+// The number that the digits at the front spell, if it is not too large.
 fn number_lexeme(rest: &[u8]) -> Lexeme
     ensures { λ r. ⌜ r ≡ numberLexeme (run isDigit (now (rest .entry))) ⌝ }
 {
@@ -70,6 +72,7 @@ fn number_lexeme(rest: &[u8]) -> Lexeme
     }
 }
 
+// The longest lexeme at the front, by its first byte.
 fn front_lexeme(rest: &[u8]) -> Lexeme
     ensures { λ r. ⌜ r ≡ lexemeOf (now (rest .entry)) ⌝ }
 {
@@ -119,6 +122,7 @@ fn part(s: &[u8], at: usize, n: usize) -> &[u8]
     &s[at..end]
 }
 
+// A number of a room as an index.
 fn wide(x: u32) -> usize
     ensures { λ r. ⌜ r ≡ x ⌝ }
 {
@@ -274,6 +278,7 @@ fn step_at(
 
 // ---------------------------------------------------------------- the lent rooms
 
+// A token is stored in row n.
 fn store_token(tokens: &mut [u32; 16384], n: usize, t: Token)
     requires { ⌜ n < 4096 ⌝ }
     ensures { λ _. ⌜ now (tokens .exit) ≡ sets (now (tokens .entry)) (n * 4) (rowThen t []) ⌝ }
@@ -344,6 +349,8 @@ fn bad_lexeme(at: usize) -> Scanned
 // The scan of a formula by the keywords and outside names of a table. Four numbers a token are stored from the front of
 // `tokens`: kind, offset, length, value; two numbers a word from the front of `words`: the offset and the length of the first
 // token that has it, for the spelling numbers from 64 on. Numbers behind these stay as they were, on a refusal too.
+// Ruled out are, among others, a scanner that takes a keyword for a word, one that refuses one byte beside the fault, one that
+// numbers words from 65, and one that clears a room before it refuses.
 pub fn scan(
     table: &[u8],
     formula: &[u8],
