@@ -8,5 +8,6 @@ pub mod ScanLoop
 pub mod TokenLaws
 pub mod TilingLaws
 pub mod SpellingLaws
+pub mod AcceptLaws
 pub mod RoomLaws
 pub mod ScannerTheorems

@@ -17,6 +17,7 @@ use Rattle.scanner.specs.declared.Scanned.the-variants.{Tokens}
 use Rattle.scanner.specs.Scan.{token, spellingOf, scan}
 use Rattle.scanner.specs.Tiling.{Tiled, bytesOf, tokenAt, spelled}
 use Rattle.scanner.proofs.TilingLaws.{scan-tiled, scan-counted}
+use Rattle.scanner.proofs.AcceptLaws.{accepted-short, tiled-accepted}
 use Rattle.scanner.proofs.SpellingLaws.{Spelled, every-at, scan-spelled, spelled-number}
 
 module _ (lex : Lexicon) (formula : List ℕ) where
@@ -29,6 +30,16 @@ module _ (lex : Lexicon) (formula : List ℕ) where
   pub tokens-counted : {n count : ℕ} → scan lex formula .answer ≡ Tokens n count
       → (n ≡ length (scan lex formula .tokens)) × (count ≡ length (scan lex formula .words)) × (n ≤ 4096)
   tokens-counted e = scan-counted lex formula e
+
+  -- A formula is not refused exactly if it has at most 65,535 bytes and is at most 4,096 tokens with separators between them.
+  pub accepted-exactly : ((n : ℕ) × (count : ℕ) × (scan lex formula .answer ≡ Tokens n count))
+      ↔ ((length formula ≤ 65535) × (ts : List Token) × Tiled lex formula 0 ts × (length ts ≤ 4096))
+  accepted-exactly = (
+    λ a.
+        let c = tokens-counted (a .2) in
+        (accepted-short lex formula (a .2), scan lex formula .tokens, tokens-tile (a .2), omega (arith, c .0, c .2)),
+    λ t. let p = tiled-accepted lex formula (t .0) (t .2) (t .3) in (length (t .1), p .0, p .1),
+  )
 
   module _ (few : length (lex .outsides) ≤ 64) where
     -- token i, if it is a word
