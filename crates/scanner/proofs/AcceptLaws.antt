@@ -30,7 +30,7 @@ both : (a b : Bool) → (a && b) ≡ true → (a ≡ true) × (b ≡ true)
 both true b e = (refl, e)
 both false b e = let z : _≡_ {A = ℕ} 0 1 = cc in absurd (omega arith)
 
-separator-low : (b : ℕ) → 33 ≤ b → isSeparator b ≡ false
+pub separator-low : (b : ℕ) → 33 ≤ b → isSeparator b ≡ false
 separator-low b h =
     rw (
       ne-eqb b 9 (λ e. omega (arith, e)),
@@ -40,7 +40,7 @@ separator-low b h =
     )
     refl
 
-letter-high : (b : ℕ) → isLetter b ≡ true → 65 ≤ b
+pub letter-high : (b : ℕ) → isLetter b ≡ true → 65 ≤ b
 letter-high b e = by-test (leb 65 b) (λ h. leb-true 65 b h) later
   where
     later : leb 65 b ≡ false → 65 ≤ b
@@ -48,22 +48,22 @@ letter-high b e = by-test (leb 65 b) (λ h. leb-true 65 b h) later
         let f : (leb 97 b && leb b 122) ≡ true = rw h at e in
         omega (arith, leb-true 97 b (both (leb 97 b) (leb b 122) f .0))
 
-digit-range : (b : ℕ) → isDigit b ≡ true → (48 ≤ b) × (b ≤ 57)
+pub digit-range : (b : ℕ) → isDigit b ≡ true → (48 ≤ b) × (b ≤ 57)
 digit-range b e =
     let p = both (leb 48 b) (leb b 57) e in
     (leb-true 48 b (p .0), leb-true b 57 (p .1))
 
-digit-no-letter : (b : ℕ) → isDigit b ≡ true → isLetter b ≡ false
+pub digit-no-letter : (b : ℕ) → isDigit b ≡ true → isLetter b ≡ false
 digit-no-letter b e =
     let r = digit-range b e in
     rw (lt-leb 65 b (omega (arith, r .1)), lt-leb 97 b (omega (arith, r .1))) refl
 
-record SymbolOnly (b : ℕ) : Type 0 where
-  high : 33 ≤ b
-  no-letter : isLetter b ≡ false
-  no-digit : isDigit b ≡ false
+pub record SymbolOnly (b : ℕ) : Type 0 where
+  pub high : 33 ≤ b
+  pub no-letter : isLetter b ≡ false
+  pub no-digit : isDigit b ≡ false
 
-symbol-only : (b : ℕ) → isSymbol b ≡ true → SymbolOnly b
+pub symbol-only : (b : ℕ) → isSymbol b ≡ true → SymbolOnly b
 symbol-only b e =
     let p = both (leb 33 b && leb b 126 && not (isLetter b)) (not (isDigit b)) e in
     let q = both (leb 33 b && leb b 126) (not (isLetter b)) (p .0) in

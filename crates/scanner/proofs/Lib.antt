@@ -9,5 +9,6 @@ pub mod TokenLaws
 pub mod TilingLaws
 pub mod SpellingLaws
 pub mod AcceptLaws
+pub mod UniqueLaws
 pub mod RoomLaws
 pub mod ScannerTheorems

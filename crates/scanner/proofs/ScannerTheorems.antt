@@ -3,7 +3,7 @@ use Prim.Native.Nat.{ℕ, _-_, _≤_}
 use mathlib.Core.Path.{_≡_, sym, ap, _∙_}
 use mathlib.Core.Logic.{_↔_}
 use mathlib.Core.Bool.{true}
-use mathlib.Core.List.{List}
+use mathlib.Core.List.{List, map}
 use native.Mathlib.Omega.{arith}
 use lib.Dec.{ltb}
 use lib.ListN.{length, List·getD-eq-default}
@@ -18,6 +18,7 @@ use Rattle.scanner.specs.Scan.{token, spellingOf, scan}
 use Rattle.scanner.specs.Tiling.{Tiled, bytesOf, tokenAt, spelled}
 use Rattle.scanner.proofs.TilingLaws.{scan-tiled, scan-counted}
 use Rattle.scanner.proofs.AcceptLaws.{accepted-short, tiled-accepted}
+use Rattle.scanner.proofs.UniqueLaws.{unvalued, tiling-unique}
 use Rattle.scanner.proofs.SpellingLaws.{Spelled, every-at, scan-spelled, spelled-number}
 
 module _ (lex : Lexicon) (formula : List ℕ) where
@@ -40,6 +41,11 @@ module _ (lex : Lexicon) (formula : List ℕ) where
         (accepted-short lex formula (a .2), scan lex formula .tokens, tokens-tile (a .2), omega (arith, c .0, c .2)),
     λ t. let p = tiled-accepted lex formula (t .0) (t .2) (t .3) in (length (t .1), p .0, p .1),
   )
+
+  -- Any tokens that lie in a formula so have the kinds, offsets and lengths of those that the scan finds.
+  pub tokens-determined : {n count : ℕ} → scan lex formula .answer ≡ Tokens n count → {ts : List Token} → Tiled lex formula 0 ts
+      → map unvalued ts ≡ map unvalued (scan lex formula .tokens)
+  tokens-determined e d = tiling-unique lex formula d (tokens-tile e)
 
   module _ (few : length (lex .outsides) ≤ 64) where
     -- token i, if it is a word
