@@ -1,13 +1,13 @@
 -- A formula that is tiled by few enough tokens is not refused.
 use Prim.Native.Nat.{ℕ, zero, suc, _+_, _-_, _<_, _≤_}
 use mathlib.Core.Path.{_≡_, refl, sym, ap, _∙_, subst}
-use mathlib.Core.Bool.{Bool, true, false, not, _&&_}
+use mathlib.Core.Bool.{true, false, not, _&&_}
 use mathlib.Core.List.{List, []}
 use native.Mathlib.Nat.{add-zero}
 use native.Mathlib.Omega.{arith}
 use lib.Dec.{leb, ltb}
 use lib.ListN.{length, getD, take, drop, length-take, length-drop, drop-of-length-le}
-use lib.Seq.{getD-drop, drop-drop}
+use lib.Seq.{drop-drop}
 use borrow.Author.Tests.{ne-eqb, le-leb, lt-leb, lt-ltb, leb-true, leb-false, not-true}
 use Rattle.spellings.specs.Bytes.{isLetter, isDigit, isWordByte, isSeparator, isSymbol, run, largest, valueOf}
 use Rattle.spellings.specs.BytesLaws.{by-test, run-prefix, run-length}
@@ -21,14 +21,11 @@ use Rattle.scanner.specs.declared.Scanned.the-variants.{Tokens, Unscanne
 use Rattle.scanner.specs.Scan.{Lexed, numberLexeme, lexemeOf, stepOf, wordsWith, mostTokens, longestFormula, lexFrom, scan}
 use Rattle.scanner.specs.Tiling.{Stands, a-word, a-number, a-symbol, Tiled, finished, a-separator, a-token}
 use Rattle.scanner.proofs.LexemeLaws.{word-fits, lexeme-is}
-use Rattle.scanner.proofs.StepLaws.{step-by, step-lies}
+use Rattle.scanner.proofs.StepLaws.{front-byte, step-by, step-lies}
+use Rattle.scanner.proofs.WordLaws.{both}
 use Rattle.scanner.proofs.ScanLoop.{emitted, lex-step, lex-end, scan-short, scan-long}
 
 -- ------------------------------------------------------------------ the classes of bytes are apart
-
-both : (a b : Bool) → (a && b) ≡ true → (a ≡ true) × (b ≡ true)
-both true b e = (refl, e)
-both false b e = let z : _≡_ {A = ℕ} 0 1 = cc in absurd (omega arith)
 
 pub separator-low : (b : ℕ) → 33 ≤ b → isSeparator b ≡ false
 separator-low b h =
@@ -142,7 +139,7 @@ module _ (lex : Lexicon) (formula : List ℕ) where
   accepts (a-separator h s d) zero n words enough few = absurd (omega arith)
   accepts {at} {ts} (a-separator h s d) (suc k) n words enough few =
       let some : 0 < length (drop at formula) = omega (arith, length-drop at formula) in
-      let z : getD (drop at formula) 0 0 ≡ getD formula at 0 = getD-drop at formula 0 0 ∙ ap (λ (i : ℕ). getD formula i 0) (add-zero at) in
+      let z : getD (drop at formula) 0 0 ≡ getD formula at 0 = front-byte formula at in
       let e : Skip ≡ stepOf lex words at (drop at formula) = step-by lex words at (drop at formula) (lexeme-separator (drop at formula) (ap isSeparator z ∙ s)) in
       let l : lexFrom (suc k) lex at (drop at formula) n words ≡ lexFrom k lex (at + 1) (drop (at + 1) formula) n words
       = lex-step k lex at (drop at formula) n words Skip some e

@@ -10,12 +10,12 @@ use lib.ListN.{length, getD, set, take, drop, replicate, drop-of-length-le, leng
 use lib.Seq.{getD-set-same, getD-set-other, getD-at}
 use borrow.Author.Tests.{eqb-true, eqb-false, ltb-true, ltb-false}
 use Rattle.spellings.specs.Bytes.{same, indexOf}
-use Rattle.spellings.specs.BytesLaws.{by-test, same-refl, same-true, same-false, index-le, index-found, index-front, index-rest}
+use Rattle.spellings.specs.BytesLaws.{by-test, same-true, same-false, index-le, index-found, index-front, index-rest}
 use Rattle.spellings.proofs.Loops.{drop-at-index}
 use Rattle.scanner.specs.declared.Token.{Token}
 use Rattle.scanner.specs.Scan.{isNew}
 use Rattle.scanner.specs.Rooms.{wordsIn}
-use Rattle.scanner.proofs.WordLaws.{words-length, word-same}
+use Rattle.scanner.proofs.WordLaws.{index-self, words-length, word-same}
 use Rattle.scanner.specs.Links.{hashFrom, hashOf, Newest, Linked, linksWith, linksAfter}
 
 -- ------------------------------------------------------------------ the hash
@@ -124,10 +124,6 @@ module _ {formula room links : List ℕ} {count : ℕ} (k : Linked (wordsIn form
         chasing-less = omega (arith, en, k .nexts (p - 1) (omega (arith, within, words-length count formula room 0)) .small)
 
 -- ------------------------------------------------------------------ one more word
-
-index-self : (s : List ℕ) → indexOf s (s ∷ []) ≡ 0
-unfolding indexOf
-index-self s = rw (same-refl s, indexOf) refl
 
 getD-front : (words : List (List ℕ)) (s : List ℕ) (j : ℕ) → j < length words → getD (words ++ (s ∷ [])) j [] ≡ getD words j []
 getD-front words s j h = List·getD-append words (s ∷ []) [] j h

@@ -1,7 +1,7 @@
 -- What the scan knows between two tokens holds at the start and after each token, and gives the token of a word met before.
 use Prim.Native.Nat.{ℕ, _+_, _*_, _<_, _≤_}
 use mathlib.Core.Path.{_≡_, refl, sym, ap, _∙_, subst}
-use mathlib.Core.Bool.{Bool, true, false, _&&_}
+use mathlib.Core.Bool.{true, false}
 use mathlib.Core.List.{List, [], _∷_, _++_}
 use native.Mathlib.Omega.{arith}
 use lib.Dec.{eqb, ltb}
@@ -24,7 +24,7 @@ use Rattle.scanner.specs.Tiling.{Stands, a-word, a-number, a-symbol, byt
 use Rattle.scanner.specs.Links.{Linked, linksWith, linksAfter, Plain, Ready}
 use Rattle.scanner.proofs.LexemeLaws.{kind-found, word-only, spelling-found, spelling-number}
 use Rattle.scanner.proofs.StepLaws.{Told, step-told, token-word}
-use Rattle.scanner.proofs.WordLaws.{words-length, words-stored, with-new, with-old, count-new, count-old}
+use Rattle.scanner.proofs.WordLaws.{both, words-length, words-stored, with-new, with-old, count-new, count-old}
 use Rattle.scanner.proofs.LinkLaws.{linked-none, linked-more, links-new, links-old}
 
 -- ------------------------------------------------------------------ the token of a word
@@ -45,10 +45,6 @@ module _ (lex : Lexicon) (words : List (List ℕ)) (at : ℕ) (s : List ℕ) whe
   number-asked e f = f ∙ ap (λ (j : ℕ). numberOr lex s (64 + j)) e ∙ spelling-number lex words s
 
 -- ------------------------------------------------------------------ a word that is new
-
-both : (a b : Bool) → (a && b) ≡ true → (a ≡ true) × (b ≡ true)
-both true b e = (refl, e)
-both false b e = let z : _≡_ {A = ℕ} 0 1 = cc in absurd (omega arith)
 
 new-kind : (count : ℕ) (t : Token) → isNew count t ≡ true → t .kind ≡ wordKind
 new-kind count t e = eqb-true (t .kind) wordKind (both (eqb (t .kind) wordKind) (eqb (t .value) (64 + count)) e .0)

@@ -9,7 +9,7 @@ use lib.Dec.{ltb}
 use lib.ListN.{length, getD, take, drop, length-append}
 use borrow.Author.Tests.{ltb-true, ltb-false, le-leb, le-ltb, lt-ltb, ne-eqb, eq-eqb}
 use Rattle.spellings.specs.Bytes.{isLetter, isWordByte, run, isWord, indexOf}
-use Rattle.spellings.specs.BytesLaws.{by-test, run-taken, run-prefix, every-run, letter-word-byte, same-refl, index-le, index-found, index-front, index-rest}
+use Rattle.spellings.specs.BytesLaws.{by-test, run-taken, run-prefix, every-run, letter-word-byte, index-le, index-found, index-front, index-rest}
 use Rattle.grammar.specs.declared.Found.{Found}
 use Rattle.grammar.specs.declared.Found.the-variants.{At, Absent}
 use Rattle.grammar.specs.Fields.{Lexicon}
@@ -20,7 +20,7 @@ use Rattle.scanner.specs.declared.Token.{Token}
 use Rattle.scanner.specs.Scan.{Lexed, isNew, wordsWith, spellingOf, scan}
 use Rattle.scanner.specs.Tiling.{Stands, a-word, a-number, a-symbol, bytesOf, spelled}
 use Rattle.scanner.proofs.LexemeLaws.{word-only, spelling-found}
-use Rattle.scanner.proofs.WordLaws.{with-new, with-old}
+use Rattle.scanner.proofs.WordLaws.{index-self, with-new, with-old}
 use Rattle.scanner.proofs.TokenLaws.{Kept, scan-kept}
 
 -- ------------------------------------------------------------------ words
@@ -60,10 +60,6 @@ every-at P (t ∷ ts) (suc i) d p h = every-at P ts i d (p .1) (omega arith)
 record Placed (words words′ : List (List ℕ)) (s : List ℕ) : Type 0 where
   same-place : indexOf s words′ ≡ indexOf s words
   there : indexOf s words′ < length words′
-
-index-self : (s : List ℕ) → indexOf s (s ∷ []) ≡ 0
-unfolding indexOf
-index-self s = rw (same-refl s, indexOf) refl
 
 new-is : (count : ℕ) (t : Token) → t .kind ≡ wordKind → t .value ≡ 64 + count → isNew count t ≡ true
 new-is count t k v = rw (eq-eqb (t .kind) wordKind k, eq-eqb (t .value) (64 + count) v) refl

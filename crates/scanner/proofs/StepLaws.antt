@@ -3,10 +3,11 @@ use Prim.Native.Nat.{ℕ, suc, _-_, _<_, _≤_}
 use mathlib.Core.Path.{_≡_, refl, sym, ap, _∙_, subst}
 use mathlib.Core.Bool.{Bool, true, false}
 use mathlib.Core.List.{List, [], _∷_}
+use native.Mathlib.Nat.{add-zero}
 use native.Mathlib.Omega.{arith}
 use lib.Dec.{leb}
 use lib.ListN.{length, getD, take, drop, length-take, length-drop}
-use lib.Seq.{take-all}
+use lib.Seq.{take-all, getD-drop}
 use borrow.Author.Tests.{leb-true, eq-eqb, ne-eqb}
 use Rattle.spellings.specs.Bytes.{isLetter, isDigit, isWordByte, isSeparator, isSymbol, run, largest, valueOf}
 use Rattle.spellings.specs.BytesLaws.{run-taken, run-prefix, run-length, letter-word-byte}
@@ -163,6 +164,10 @@ module _ (lex : Lexicon) (words : List (List ℕ)) (at : ℕ) (s : List ℕ) (ot
       ap (token kind at (length s))
       (ap (λ (t : Bool). elim t [ true ↦ spellingOf lex words s | false ↦ 0 ]) (sym (ne-eqb kind wordKind z)))
       ∙ ap (spelledToken lex words at s) e
+
+-- the first byte of what is left
+pub front-byte : (formula : List ℕ) (at : ℕ) → getD (drop at formula) 0 0 ≡ getD formula at 0
+front-byte formula at = getD-drop at formula 0 0 ∙ ap (λ (i : ℕ). getD formula i 0) (add-zero at)
 
 -- the rest of a formula as the code lends it
 pub rest-lent : (formula : List ℕ) (at : ℕ) → take (length formula - at) (drop at formula) ≡ drop at formula

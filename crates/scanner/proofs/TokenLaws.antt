@@ -3,11 +3,10 @@ use Prim.Native.Nat.{ℕ, zero, suc, _+_, _-_, _<_, _≤_}
 use mathlib.Core.Path.{_≡_, refl, sym, ap, _∙_, subst}
 use mathlib.Core.Bool.{Bool, true}
 use mathlib.Core.List.{List, []}
-use native.Mathlib.Nat.{add-zero}
 use native.Mathlib.Omega.{arith}
 use lib.Dec.{ltb, leb}
 use lib.ListN.{length, getD, take, drop, length-drop, drop-of-length-le}
-use lib.Seq.{drop-drop, getD-drop}
+use lib.Seq.{drop-drop}
 use borrow.Author.Tests.{ltb-true, ltb-false, leb-true, leb-false}
 use Rattle.answers.specs.Refusals.{refusal}
 use Rattle.spellings.specs.Bytes.{isSeparator}
@@ -18,7 +17,7 @@ use Rattle.scanner.specs.declared.Step.{Step}
 use Rattle.scanner.specs.declared.Step.the-variants.{Skip, Stop, Emit}
 use Rattle.scanner.specs.declared.Scanned.the-variants.{Tokens, Unscanned}
 use Rattle.scanner.specs.Scan.{Lexed, ended, withToken, wordsWith, mostTokens, longestFormula, stepOf, lexFrom, scan}
-use Rattle.scanner.proofs.StepLaws.{Lies, Told, step-lies, step-told}
+use Rattle.scanner.proofs.StepLaws.{front-byte, Lies, Told, step-lies, step-told}
 use Rattle.scanner.proofs.ScanLoop.{emitted, after, lex-step, lex-end, scan-short, scan-long}
 
 -- ------------------------------------------------------------------ one recursion for all facts
@@ -66,7 +65,7 @@ module _ (lex : Lexicon) (formula : List ℕ) (P : ℕ → ℕ → List (List �
       → P a m ws (lexFrom k lex a (drop a formula) m ws))
       → P at n words (after k lex at (drop at formula) n words r)
   kept-step k at n words Skip h m enough e told lies rec =
-      let z : getD (drop at formula) 0 0 ≡ getD formula at 0 = getD-drop at formula 0 0 ∙ ap (λ (i : ℕ). getD formula i 0) (add-zero at) in
+      let z : getD (drop at formula) 0 0 ≡ getD formula at 0 = front-byte formula at in
       keeps .skips at n words _ h (ap isSeparator (sym z) ∙ told)
       (subst (λ (r : List ℕ). P (at + 1) n words (lexFrom k lex (at + 1) r n words)) (sym (drop-drop 1 at formula))
       (rec (at + 1) n words (omega arith) (omega arith) m))

@@ -3,16 +3,15 @@ use Prim.Native.Nat.{ℕ, _+_}
 use mathlib.Core.Path.{_≡_, refl, sym, ap, ap₂, _∙_, subst}
 use mathlib.Core.Bool.{Bool, true, false}
 use mathlib.Core.List.{List, _∷_, map}
-use native.Mathlib.Nat.{add-zero}
 use native.Mathlib.Omega.{arith}
 use lib.ListN.{getD, take, drop}
-use lib.Seq.{getD-drop}
 use Rattle.spellings.specs.Bytes.{isLetter, isDigit, isSeparator}
 use Rattle.kinds.specs.Kinds.{wordKind, noKind}
 use Rattle.grammar.specs.Fields.{Lexicon}
 use Rattle.scanner.specs.declared.Token.{Token}
 use Rattle.scanner.specs.Scan.{token, kindOf}
 use Rattle.scanner.specs.Tiling.{Stands, a-word, a-number, a-symbol, Tiled, finished, a-separator, a-token}
+use Rattle.scanner.proofs.StepLaws.{front-byte}
 use Rattle.scanner.proofs.AcceptLaws as accept
 
 -- a test does not have two answers
@@ -57,7 +56,7 @@ unvalued t = token (t .kind) (t .at) (t .size) 0
 module _ (lex : Lexicon) (formula : List ℕ) where
   apart : (at : ℕ) (t : Token) → Stands lex (drop at formula) t → isSeparator (getD formula at 0) ≡ true → ⊥
   apart at t st s =
-      let z : getD (drop at formula) 0 0 ≡ getD formula at 0 = getD-drop at formula 0 0 ∙ ap (λ (i : ℕ). getD formula i 0) (add-zero at) in
+      let z : getD (drop at formula) 0 0 ≡ getD formula at 0 = front-byte formula at in
       stands-apart lex (drop at formula) t st (ap isSeparator z ∙ s)
 
   pub tiling-unique : {at : ℕ} {ts us : List Token} → Tiled lex formula at ts → Tiled lex formula at us → map unvalued ts ≡ map unvalued us

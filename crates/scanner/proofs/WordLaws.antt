@@ -1,7 +1,7 @@
 -- Laws of the rooms: stores of a token and of a word's place, and the words that a room of places names.
 use Prim.Native.Nat.{ℕ, zero, suc, _+_, _-_, _*_, _<_, _≤_}
 use mathlib.Core.Path.{_≡_, refl, sym, ap, _∙_}
-use mathlib.Core.Bool.{Bool, true, false}
+use mathlib.Core.Bool.{Bool, true, false, _&&_}
 use mathlib.Core.List.{List, [], _∷_, _++_}
 use native.Mathlib.Nat.{add-zero}
 use native.Mathlib.Numerals.{add-one, add-two, add-three}
@@ -9,10 +9,19 @@ use native.Mathlib.Omega.{arith}
 use lib.ListN.{length, getD, set, take, drop, length-set}
 use lib.Seq.{sets, getD-set-same, getD-set-other}
 use Rattle.spellings.specs.Bytes.{same, indexOf}
-use Rattle.spellings.specs.BytesLaws.{index-le}
+use Rattle.spellings.specs.BytesLaws.{same-refl, index-le}
 use Rattle.scanner.specs.declared.Token.{Token}
 use Rattle.scanner.specs.Scan.{isNew, wordsWith}
 use Rattle.scanner.specs.Rooms.{rowThen, placeThen, countWith, wordsFrom, wordsIn}
+
+-- both parts of a test that passes
+pub both : (a b : Bool) → (a && b) ≡ true → (a ≡ true) × (b ≡ true)
+both true b e = (refl, e)
+both false b e = let z : _≡_ {A = ℕ} 0 1 = cc in absurd (omega arith)
+
+pub index-self : (s : List ℕ) → indexOf s (s ∷ []) ≡ 0
+unfolding indexOf
+index-self s = rw (same-refl s, indexOf) refl
 
 -- ------------------------------------------------------------------ stores
 
