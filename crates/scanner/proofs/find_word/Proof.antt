@@ -65,7 +65,13 @@ equal-requires : tie.Need-equal-requires Inv-loop μ-loop
 equal-requires c κs = search needs
 
 returns : tie.Need-returns Inv-loop μ-loop
-returns c = laws.chasing-found (c .before .before .before .before .before .before .before .before .before .before .before .before .before .before .pre .1) _ (c .before .before .before .before .before .before .before .before .loop .inv) (c .before .before .before .before .before .before .before .loop-test .taken) (c .before .before .before .before .before .wide2 .ensures) (c .before .before .before .wide3 .ensures) (sym (c .before .equal .ensures ∙ ap (λ l. same l (c .before .before .before .before .before .before .before .before .before .before .before .before .before .before .args .s .now)) (c .before .before .part .ensures)) ∙ c .if1 .taken)
+returns c =
+    let turn = c .before .before .before .before .before .before .before .before in
+    let start = turn .before .before .before .before .before .before in
+    let here = c .if1 .taken in
+    let compared = c .before .equal .ensures ∙ ap (λ l. same l (start .args .s .now)) (c .before .before .part .ensures) in
+    laws.chasing-found (start .pre .1) _ (turn .loop .inv) (c .before .before .before .before .before .before .before .loop-test .taken) (c .before .before .before .before .before .wide2 .ensures)
+    (c .before .before .before .wide3 .ensures) (sym compared ∙ here)
 
 add-wide-2 : tie.Need-add-wide-2 Inv-loop μ-loop
 add-wide-2 c = search needs
@@ -80,10 +86,22 @@ wide-requires-4 : tie.Need-wide-requires-4 Inv-loop μ-loop
 wide-requires-4 c κs = search needs
 
 loop-less : tie.Need-loop-less Inv-loop μ-loop
-loop-less c = laws.chasing-less (c .before .before .before .before .before .before .before .before .before .before .before .before .before .before .before .before .pre .1) _ (c .before .before .before .before .before .before .before .before .before .before .loop .inv) (c .before .before .before .before .before .before .before .before .before .loop-test .taken) (c .before .before .before .before .before .before .before .wide2 .ensures) (c .before .before .before .before .before .wide3 .ensures) (sym (c .before .before .before .equal .ensures ∙ ap (λ l. same l (c .before .before .before .before .before .before .before .before .before .before .before .before .before .before .before .before .args .s .now)) (c .before .before .before .before .part .ensures)) ∙ c .before .before .if1 .left) (c .wide4 .ensures)
+loop-less c =
+    let turn = c .before .before .before .before .before .before .before .before .before .before in
+    let start = turn .before .before .before .before .before .before in
+    let here = c .before .before .if1 .left in
+    let compared = c .before .before .before .equal .ensures ∙ ap (λ l. same l (start .args .s .now)) (c .before .before .before .before .part .ensures) in
+    laws.chasing-less (start .pre .1) _ (turn .loop .inv) (c .before .before .before .before .before .before .before .before .before .loop-test .taken) (c .before .before .before .before .before .before .before .wide2 .ensures)
+    (c .before .before .before .before .before .wide3 .ensures) (sym compared ∙ here) (c .wide4 .ensures)
 
 loop-again : tie.Need-loop-again Inv-loop μ-loop
-loop-again c = laws.chasing-next (c .before .before .before .before .before .before .before .before .before .before .before .before .before .before .before .before .pre .1) _ (c .before .before .before .before .before .before .before .before .before .before .loop .inv) (c .before .before .before .before .before .before .before .before .before .loop-test .taken) (c .before .before .before .before .before .before .before .wide2 .ensures) (c .before .before .before .before .before .wide3 .ensures) (sym (c .before .before .before .equal .ensures ∙ ap (λ l. same l (c .before .before .before .before .before .before .before .before .before .before .before .before .before .before .before .before .args .s .now)) (c .before .before .before .before .part .ensures)) ∙ c .before .before .if1 .left) (c .wide4 .ensures)
+loop-again c =
+    let turn = c .before .before .before .before .before .before .before .before .before .before in
+    let start = turn .before .before .before .before .before .before in
+    let here = c .before .before .if1 .left in
+    let compared = c .before .before .before .equal .ensures ∙ ap (λ l. same l (start .args .s .now)) (c .before .before .before .before .part .ensures) in
+    laws.chasing-next (start .pre .1) _ (turn .loop .inv) (c .before .before .before .before .before .before .before .before .before .loop-test .taken) (c .before .before .before .before .before .before .before .wide2 .ensures)
+    (c .before .before .before .before .before .wide3 .ensures) (sym compared ∙ here) (c .wide4 .ensures)
 
 returns-2 : tie.Need-returns-2 Inv-loop μ-loop
 returns-2 c = laws.chasing-end (c .before .before .before .before .before .before .before .pre .1) _ (c .before .loop .inv) (c .loop-test .left)

@@ -29,8 +29,10 @@ word-lexeme-requires : tie.Need-word-lexeme-requires
 word-lexeme-requires c κs = search needs
 
 returns-3 : tie.Need-returns-3
-returns-3 c = c .word-lexeme .ensures ∙ ap wordLexeme (c .before .word-run .ensures)
-    ∙ sym (laws.lexeme-is _ false true _ _ refl (sym (c .before .before .before .before .before .is-separator .ensures) ∙ c .before .before .before .before .if2 .left) (sym (c .before .before .before .is-letter .ensures) ∙ c .before .before .if3 .taken) refl refl)
+returns-3 c =
+    c .word-lexeme .ensures ∙ ap wordLexeme (c .before .word-run .ensures)
+    ∙ sym (laws.lexeme-is _ false true _ _ refl (sym (c .before .before .before .before .before .is-separator .ensures) ∙ c .before .before .before .before .if2 .left)
+    (sym (c .before .before .before .is-letter .ensures) ∙ c .before .before .if3 .taken) refl refl)
 
 is-digit-requires : tie.Need-is-digit-requires
 is-digit-requires c κs = search needs
@@ -39,17 +41,32 @@ number-lexeme-requires : tie.Need-number-lexeme-requires
 number-lexeme-requires c κs = search needs
 
 returns-4 : tie.Need-returns-4
-returns-4 c = c .number-lexeme .ensures
-    ∙ sym (laws.lexeme-is _ false false true _ refl (sym (c .before .before .before .before .before .before .is-separator .ensures) ∙ c .before .before .before .before .before .if2 .left) (sym (c .before .before .before .before .is-letter .ensures) ∙ c .before .before .before .if3 .left) (sym (c .before .before .is-digit .ensures) ∙ c .before .if4 .taken) refl)
+returns-4 c =
+    c .number-lexeme .ensures
+    ∙ sym (laws.lexeme-is _ false false true _ refl (sym (c .before .before .before .before .before .before .is-separator .ensures) ∙ c .before .before .before .before .before .if2 .left)
+    (sym (c .before .before .before .before .is-letter .ensures) ∙ c .before .before .before .if3 .left)
+    (sym (c .before .before .is-digit .ensures) ∙ c .before .if4 .taken) refl)
 
 is-symbol-requires : tie.Need-is-symbol-requires
 is-symbol-requires c κs = search needs
 
 returns-5 : tie.Need-returns-5
-returns-5 c = sym (laws.lexeme-is _ false false false true refl (sym (c .before .before .before .before .before .before .before .is-separator .ensures) ∙ c .before .before .before .before .before .before .if2 .left) (sym (c .before .before .before .before .before .is-letter .ensures) ∙ c .before .before .before .before .if3 .left) (sym (c .before .before .before .is-digit .ensures) ∙ c .before .before .if4 .left) (sym (c .before .is-symbol .ensures) ∙ c .if5 .taken))
+returns-5 c =
+    sym
+    (laws.lexeme-is _ false false false true refl
+    (sym (c .before .before .before .before .before .before .before .is-separator .ensures) ∙ c .before .before .before .before .before .before .if2 .left)
+    (sym (c .before .before .before .before .before .is-letter .ensures) ∙ c .before .before .before .before .if3 .left)
+    (sym (c .before .before .before .is-digit .ensures) ∙ c .before .before .if4 .left)
+    (sym (c .before .is-symbol .ensures) ∙ c .if5 .taken))
 
 returns-6 : tie.Need-returns-6
-returns-6 c = sym (laws.lexeme-is _ false false false false refl (sym (c .before .before .before .before .before .before .before .is-separator .ensures) ∙ c .before .before .before .before .before .before .if2 .left) (sym (c .before .before .before .before .before .is-letter .ensures) ∙ c .before .before .before .before .if3 .left) (sym (c .before .before .before .is-digit .ensures) ∙ c .before .before .if4 .left) (sym (c .before .is-symbol .ensures) ∙ c .if5 .left))
+returns-6 c =
+    sym
+    (laws.lexeme-is _ false false false false refl
+    (sym (c .before .before .before .before .before .before .before .is-separator .ensures) ∙ c .before .before .before .before .before .before .if2 .left)
+    (sym (c .before .before .before .before .before .is-letter .ensures) ∙ c .before .before .before .before .if3 .left)
+    (sym (c .before .before .before .is-digit .ensures) ∙ c .before .before .if4 .left)
+    (sym (c .before .is-symbol .ensures) ∙ c .if5 .left))
 
 pub front-lexeme-spec : {M : Type 1} → statement M
 front-lexeme-spec =

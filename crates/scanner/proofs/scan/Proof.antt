@@ -50,7 +50,10 @@ bad-lexeme-requires : tie.Need-bad-lexeme-requires Inv-loop μ-loop
 bad-lexeme-requires c κs = search needs
 
 returns-2 : tie.Need-returns-2 Inv-loop μ-loop
-returns-2 c = ap (λ r. filled r (c .before .before .before .before .before .before .before .loop .tokens) (c .before .before .before .before .before .before .before .loop .words)) (c .bad-lexeme .ensures) ∙ loop.turn-stop (c .before .before .before .before .before .before .before .loop .inv .turn) (c .before .before .before .before .before .before .loop-test .taken) (sym (c .before .enum-told2 .given .1) ∙ c .before .before .before .step-at .ensures)
+returns-2 c =
+    let turn = c .before .before .before .before .before .before .before in
+    ap (λ r. filled r (turn .loop .tokens) (turn .loop .words)) (c .bad-lexeme .ensures)
+    ∙ loop.turn-stop (turn .loop .inv .turn) (c .before .before .before .before .before .before .loop-test .taken) (sym (c .before .enum-told2 .given .1) ∙ c .before .before .before .step-at .ensures)
 
 enum-known-step : tie.Need-enum-known-step Inv-loop μ-loop
 enum-known-step c = search needs
@@ -59,13 +62,18 @@ unscanned-requires-2 : tie.Need-unscanned-requires-2 Inv-loop μ-loop
 unscanned-requires-2 c κs = search needs
 
 returns-3 : tie.Need-returns-3 Inv-loop μ-loop
-returns-3 c = ap (λ r. filled r (c .before .before .before .before .before .before .before .before .before .loop .tokens) (c .before .before .before .before .before .before .before .before .before .loop .words)) (c .unscanned2 .ensures) ∙ loop.turn-full (c .before .before .before .before .before .before .before .before .before .loop .inv .turn) (c .before .before .before .before .before .before .before .before .loop-test .taken) (sym (c .before .before .before .step .given .1) ∙ c .before .before .before .before .before .step-at .ensures) (c .before .if2 .taken)
+returns-3 c =
+    let turn = c .before .before .before .before .before .before .before .before .before in
+    ap (λ r. filled r (turn .loop .tokens) (turn .loop .words)) (c .unscanned2 .ensures)
+    ∙ loop.turn-full (turn .loop .inv .turn) (c .before .before .before .before .before .before .before .before .loop-test .taken) (sym (c .before .before .before .step .given .1) ∙ c .before .before .before .before .before .step-at .ensures) (c .before .if2 .taken)
 
 store-token-requires : tie.Need-store-token-requires Inv-loop μ-loop
 store-token-requires c κs = omega (arith, c .before .before .before .before .before .before .before .before .before .loop .inv .turn .small, c .before .if2 .left)
 
 store-word-requires : tie.Need-store-word-requires Inv-loop μ-loop
-store-word-requires c κs = (omega (arith, c .before .before .before .before .before .before .before .before .before .before .before .before .loop .inv .turn .small, c .before .before .before .before .before .before .before .before .before .before .before .before .loop .inv .turn .few, c .before .before .before .before .if2 .left), search needs)
+store-word-requires c κs =
+    let turn = c .before .before .before .before .before .before .before .before .before .before .before .before .loop .inv .turn in
+    (omega (arith, turn .small, turn .few, c .before .before .before .before .if2 .left), search needs)
 
 add-n : tie.Need-add-n Inv-loop μ-loop
 add-n c = omega (arith, c .before .before .before .before .before .before .before .before .before .before .before .before .before .loop .inv .turn .small)
@@ -77,13 +85,25 @@ add-at-2 : tie.Need-add-at-2 Inv-loop μ-loop
 add-at-2 c = search needs
 
 loop-less-2 : tie.Need-loop-less-2 Inv-loop μ-loop
-loop-less-2 c = loop.turn-less (c .before .before .before .before .before .before .before .before .before .before .before .before .before .before .loop .inv .turn) (c .before .before .before .before .before .before .before .before .before .before .before .before .before .loop-test .taken) (sym (c .before .before .before .before .before .before .before .before .step .given .1) ∙ c .before .before .before .before .before .before .before .before .before .before .step-at .ensures)
+loop-less-2 c =
+    loop.turn-less (c .before .before .before .before .before .before .before .before .before .before .before .before .before .before .loop .inv .turn) (c .before .before .before .before .before .before .before .before .before .before .before .before .before .loop-test .taken)
+    (sym (c .before .before .before .before .before .before .before .before .step .given .1) ∙ c .before .before .before .before .before .before .before .before .before .before .step-at .ensures)
 
 loop-again-2 : tie.Need-loop-again-2 Inv-loop μ-loop
-loop-again-2 c = record {
-  turn = loop.turn-emit (c .before .before .before .before .before .before .before .before .before .before .before .before .before .before .loop .inv .turn) (c .before .before .before .before .before .before .before .before .before .before .before .before .before .loop-test .taken) (sym (c .before .before .before .before .before .before .before .before .step .given .1) ∙ c .before .before .before .before .before .before .before .before .before .before .step-at .ensures) (c .before .before .before .before .before .before .if2 .left) (search needs) (c .before .before .before .before .store-token .ensures) (c .before .store-word .ensures .1 .0) (c .before .store-word .ensures .0);
-  ready = words-known.ready-next (c .before .before .before .before .before .before .before .before .before .before .before .before .before .before .loop .inv .ready) (c .before .before .before .before .before .before .before .before .before .before .before .before .before .loop-test .taken) (sym (c .before .before .before .before .before .before .before .before .step .given .1) ∙ c .before .before .before .before .before .before .before .before .before .before .step-at .ensures) (omega (arith, c .before .before .before .before .before .before .before .before .before .before .before .before .before .before .loop .inv .turn .small, c .before .before .before .before .before .before .before .before .before .before .before .before .before .before .loop .inv .turn .few, c .before .before .before .before .before .before .if2 .left)) (search needs) (c .before .store-word .ensures .1 .0) (c .before .store-word .ensures .1 .1) (c .before .store-word .ensures .0);
-}
+loop-again-2 c =
+    let turn = c .before .before .before .before .before .before .before .before .before .before .before .before .before .before .loop .inv in
+    let more = c .before .before .before .before .before .before .before .before .before .before .before .before .before .loop-test .taken in
+    let emitted = sym (c .before .before .before .before .before .before .before .before .step .given .1) ∙ c .before .before .before .before .before .before .before .before .before .before .step-at .ensures in
+    let below = c .before .before .before .before .before .before .if2 .left in
+    let words = c .before .store-word .ensures in
+    record {
+      turn = loop.turn-emit (turn .turn) more emitted below (search needs) (c .before .before .before .before .store-token .ensures) (words .1 .0) (words .0);
+      ready =
+          words-known.ready-next (turn .ready) more emitted (omega (arith, turn .turn .small, turn .turn .few, below)) (search needs)
+          (words .1 .0)
+          (words .1 .1)
+          (words .0);
+    }
 
 returns-4 : tie.Need-returns-4 Inv-loop μ-loop
 returns-4 c = loop.turn-end (c .before .loop .inv .turn) (c .loop-test .left)

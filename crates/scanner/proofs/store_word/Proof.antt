@@ -53,10 +53,27 @@ same-length : tie.Need-same-length
 same-length c = simp length-set
 
 returns : tie.Need-returns
-returns c = (laws.count-new (c .before .before .before .before .before .before .before .before .before .before .args .words .now) (c .before .before .before .before .before .before .before .before .before .before .args .count) (c .before .before .before .before .before .before .before .before .before .before .args .t) (c .before .before .before .before .before .if1 .taken), (laws.place-new (c .before .before .before .before .before .before .before .before .before .before .args .words .now) (c .before .before .before .before .before .before .before .before .before .before .args .count) (c .before .before .before .before .before .before .before .before .before .before .args .t) (c .before .before .before .before .before .if1 .taken), c .link-word .ensures ∙ ap (linksWith (c .before .before .before .before .before .before .before .before .before .before .args .links .now) (c .before .before .before .before .before .before .before .before .before .before .args .count)) (c .before .before .part .ensures) ∙ sym (links.links-new (c .before .before .before .before .before .before .before .before .before .before .args .links .now) (c .before .before .before .before .before .before .before .before .before .before .args .count) (bytesOf (c .before .before .before .before .before .before .before .before .before .before .args .formula .now) (c .before .before .before .before .before .before .before .before .before .before .args .t)) (c .before .before .before .before .before .before .before .before .before .before .args .t) (c .before .before .before .before .before .if1 .taken))))
+returns c =
+    let given = c .before .before .before .before .before .before .before .before .before .before .args in
+    let new = c .before .before .before .before .before .if1 .taken in
+    let linked = c .link-word .ensures ∙ ap (linksWith (given .links .now) (given .count)) (c .before .before .part .ensures) in (
+      laws.count-new (given .words .now) (given .count) (given .t) new,
+      (
+        laws.place-new (given .words .now) (given .count) (given .t) new,
+        linked ∙ sym (links.links-new (given .links .now) (given .count) (bytesOf (given .formula .now) (given .t)) (given .t) new),
+      ),
+    )
 
 returns-2 : tie.Need-returns-2
-returns-2 c = (laws.count-old (c .before .before .before .before .before .args .words .now) (c .before .before .before .before .before .args .count) (c .before .before .before .before .before .args .t) (c .if1 .left), (laws.place-old (c .before .before .before .before .before .args .words .now) (c .before .before .before .before .before .args .count) (c .before .before .before .before .before .args .t) (c .if1 .left), sym (links.links-old (c .before .before .before .before .before .args .links .now) (c .before .before .before .before .before .args .count) (bytesOf (c .before .before .before .before .before .args .formula .now) (c .before .before .before .before .before .args .t)) (c .before .before .before .before .before .args .t) (c .if1 .left))))
+returns-2 c =
+    let given = c .before .before .before .before .before .args in
+    let old = c .if1 .left in (
+      laws.count-old (given .words .now) (given .count) (given .t) old,
+      (
+        laws.place-old (given .words .now) (given .count) (given .t) old,
+        sym (links.links-old (given .links .now) (given .count) (bytesOf (given .formula .now) (given .t)) (given .t) old),
+      ),
+    )
 
 pub store-word-spec : {M : Type 1} → statement M
 store-word-spec =

@@ -14,10 +14,16 @@ find-word-requires : tie.Need-find-word-requires
 find-word-requires c κs = (c .before .before .before .pre .0 .few, c .before .before .before .pre .0 .linked)
 
 cast-known : tie.Need-cast-known
-cast-known c = omega (arith, index-small (c .before .before .before .before .args .formula .now) (c .before .before .before .before .args .words .now) (c .before .before .before .before .args .s .now) (c .before .before .before .before .args .count) (c .find-word .ensures), c .before .before .before .before .pre .0 .few)
+cast-known c =
+    let given = c .before .before .before .before .args in
+    let known = index-small (given .formula .now) (given .words .now) (given .s .now) (given .count) (c .find-word .ensures) in
+    omega (arith, known, c .before .before .before .before .pre .0 .few)
 
 add-known : tie.Need-add-known
-add-known c = omega (arith, index-small (c .before .before .before .before .args .formula .now) (c .before .before .before .before .args .words .now) (c .before .before .before .before .args .s .now) (c .before .before .before .before .args .count) (c .find-word .ensures), c .before .before .before .before .pre .0 .few)
+add-known c =
+    let given = c .before .before .before .before .args in
+    let known = index-small (given .formula .now) (given .words .now) (given .s .now) (given .count) (c .find-word .ensures) in
+    omega (arith, known, c .before .before .before .before .pre .0 .few)
 
 returns : tie.Need-returns
 returns c = laws.token-known _ _ _ _ (c .before .find-word .ensures) (omega (arith, c .if1 .taken, words-length (c .before .before .before .before .before .args .count) (c .before .before .before .before .before .args .formula .now) (c .before .before .before .before .before .args .words .now) 0)) (c .before .before .before .before .before .pre .0 .plain _ (c .if1 .taken))
