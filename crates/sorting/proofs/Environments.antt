@@ -11,19 +11,19 @@ use Rattle.sorting.specs.Sorting.{Entry, Env, isDefined, signatureOf, sa
 use Rattle.sorting.specs.Judgements.{Newest, newest-first, newest-later, Absent, absent-empty, absent-entry}
 
 -- the first entry is the one asked for, or the others are looked at
-defined-here : (e : Entry) (E : Env) (n : ℕ) → eqb (e .nonterminal) n ≡ true → isDefined (e ∷ E) n ≡ true
+pub defined-here : (e : Entry) (E : Env) (n : ℕ) → eqb (e .nonterminal) n ≡ true → isDefined (e ∷ E) n ≡ true
 unfolding isDefined
 defined-here e E n h = rw (h, isDefined) refl
 
-defined-later : (e : Entry) (E : Env) (n : ℕ) → eqb (e .nonterminal) n ≡ false → isDefined (e ∷ E) n ≡ isDefined E n
+pub defined-later : (e : Entry) (E : Env) (n : ℕ) → eqb (e .nonterminal) n ≡ false → isDefined (e ∷ E) n ≡ isDefined E n
 unfolding isDefined
 defined-later e E n h = rw (h, isDefined) refl
 
-signature-here : (e : Entry) (E : Env) (n : ℕ) → eqb (e .nonterminal) n ≡ true → signatureOf (e ∷ E) n ≡ e .signature
+pub signature-here : (e : Entry) (E : Env) (n : ℕ) → eqb (e .nonterminal) n ≡ true → signatureOf (e ∷ E) n ≡ e .signature
 unfolding signatureOf
 signature-here e E n h = rw (h, signatureOf) refl
 
-signature-later : (e : Entry) (E : Env) (n : ℕ) → eqb (e .nonterminal) n ≡ false → signatureOf (e ∷ E) n ≡ signatureOf E n
+pub signature-later : (e : Entry) (E : Env) (n : ℕ) → eqb (e .nonterminal) n ≡ false → signatureOf (e ∷ E) n ≡ signatureOf E n
 unfolding signatureOf
 signature-later e E n h = rw (h, signatureOf) refl
 

@@ -9,8 +9,13 @@ pub mod CollectLaws
 pub mod BodyLaws
 pub mod AlternativeLaws
 pub mod StepLaws
+pub mod PlacedFields
+pub mod HeadsByBytes
+pub mod CollectByBytes
+pub mod BodiesByBytes
+pub mod BytesByFields
 pub mod BodySorts
 pub mod SequenceSorts
 pub mod RefusalNumbers
-pub mod SortingTheorems
 pub mod ByFieldsSorts
+pub mod SortingTheorems
