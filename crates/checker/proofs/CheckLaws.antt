@@ -1,8 +1,8 @@
 -- The check of a table from what the layers below answer, for the code.
-use Prim.Native.Nat.{ℕ}
+use Prim.Native.Nat.{ℕ, _≤_}
 use mathlib.Core.Path.{_≡_, refl, sym, _∙_, ap}
 use mathlib.Core.List.{List, []}
-use native.Mathlib.Omega.{arith}
+use lib.ListN.{length}
 use Rattle.answers.specs.declared.Refusal.{Refusal}
 use Rattle.answers.specs.declared.Verdict.{Verdict}
 use Rattle.answers.specs.declared.Verdict.the-variants.{Passed, Refused}
@@ -16,10 +16,12 @@ use Rattle.layout.specs.Within.{Within}
 use Rattle.layout.proofs.Split.{Bytes}
 use Rattle.layout.proofs.Inverse.{layout-encoded, decode-encoded}
 use Rattle.sorting.specs.Sorting.{checkSorts}
-use Rattle.sorting.specs.ByFields.{checkSortsBy}
-use Rattle.sorting.proofs.ByFieldsSorts.{fields-sorts}
+use Rattle.sorting.specs.ByBytes.{sortsOf}
+use Rattle.sorting.proofs.SortingTheorems.{bytes-checked}
 use Rattle.firsts.specs.First.{checkFirsts}
-use Rattle.firsts.specs.Index.{normalizedBy}
+use Rattle.firsts.specs.Normal.{Production}
+use Rattle.firsts.specs.Index.{normalizedBy, alternativeFields}
+use Rattle.firsts.proofs.FewAlternatives.{few-alternatives}
 use Rattle.firsts.proofs.NormalizedByFields.{normalized-by}
 use Rattle.checker.specs.Check.{passedTable, check}
 use Rattle.checker.specs.Passes.{grammarOf}
@@ -46,25 +48,32 @@ module _ (bs : List ℕ) where
 
   module _ (bytes : Bytes bs) (laid : verdict (layout bs) ≡ Passed) where
     -- the table that the bytes are
-    encoded : (t : Table) × (bs ≡ encode t) × Within t
+    pub encoded : (t : Table) × (bs ≡ encode t) × Within t
     encoded = layout-encoded bs bytes (passed-ok (layout bs) laid)
 
     decoded : decode bs ≡ ok (encoded .0)
     decoded = ap decode (encoded .1) ∙ decode-encoded (encoded .0) (encoded .2)
 
-    sorts : checkSortsBy bs ≡ checkSorts (encoded .0)
-    sorts = ap checkSortsBy (encoded .1) ∙ fields-sorts (encoded .0) (encoded .2)
+    sorts-here : sortsOf bs ≡ verdict (checkSorts (encoded .0))
+    sorts-here = bytes-checked bs bytes (encoded .0) decoded
 
-    pub refused-sorts : (r : Refusal) → verdict (checkSortsBy bs) ≡ Refused r → check bs ≡ Refused r
-    refused-sorts r e = refused-by-sorts bs (encoded .0) r decoded (sym sorts ∙ refused-bad (checkSortsBy bs) r e)
+    pub refused-sorts : (r : Refusal) → sortsOf bs ≡ Refused r → check bs ≡ Refused r
+    refused-sorts r e = refused-by-sorts bs (encoded .0) r decoded (refused-bad (checkSorts (encoded .0)) r (sym sorts-here ∙ e))
 
-    pub by-firsts : verdict (checkSortsBy bs) ≡ Passed → check bs ≡ verdict (checkFirsts (normalizedBy (fieldsOf bs) 0 []))
-    unfolding check passedTable
-    by-firsts e =
-        let t = encoded .0 in
-        let s : checkSorts t ≡ ok tt = sym sorts ∙ passed-ok (checkSortsBy bs) e in
-        let g : normalizedBy (fieldsOf bs) 0 [] ≡ grammarOf t = ap (λ b. normalizedBy (fieldsOf b) 0 []) (encoded .1) ∙ normalized-by t (encoded .2) in
-        ap (λ d. verdict (d >>= λ u. checkSorts u >> checkFirsts (grammarOf u) >> ok u)) decoded
-        ∙ ap (λ c. verdict (c >> checkFirsts (grammarOf t) >> ok t)) s
-        ∙ verdict-then (checkFirsts (grammarOf t)) t
-        ∙ ap (λ h. verdict (checkFirsts h)) (sym g)
+    -- how many productions there are at most
+    pub few : (length bs ≤ 16384) × (alternativeFields (fieldsOf bs) ≤ 256)
+    few = few-alternatives bs (passed-ok (layout bs) laid)
+
+    -- the productions of an index that was built from the fields
+    pub indexed : {g : List Production} → g ≡ normalizedBy (fieldsOf bs) 0 [] → g ≡ grammarOf (encoded .0)
+    indexed e = e ∙ ap (λ b. normalizedBy (fieldsOf b) 0 []) (encoded .1) ∙ normalized-by (encoded .0) (encoded .2)
+
+    module _ (sorted : sortsOf bs ≡ Passed) {g : List Production} (e : g ≡ normalizedBy (fieldsOf bs) 0 []) where
+      pub by-firsts : check bs ≡ verdict (checkFirsts g)
+      unfolding check passedTable
+      by-firsts =
+          let t = encoded .0 in
+          ap (λ d. verdict (d >>= λ u. checkSorts u >> checkFirsts (grammarOf u) >> ok u)) decoded
+          ∙ ap (λ c. verdict (c >> checkFirsts (grammarOf t) >> ok t)) (passed-ok (checkSorts t) (sym sorts-here ∙ sorted))
+          ∙ verdict-then (checkFirsts (grammarOf t)) t
+          ∙ ap (λ h. verdict (checkFirsts h)) (sym (indexed e))

@@ -1,6 +1,6 @@
 -- The check of a table accepts exactly the tables that pass, and gives the first refusal otherwise.
 use Prim.Native.Nat.{ℕ, _<_}
-use mathlib.Core.Path.{_≡_, refl, _∙_, ap}
+use mathlib.Core.Path.{_≡_, refl, sym, _∙_, ap}
 use native.Mathlib.Omega.{arith}
 use mathlib.Core.Logic.{_↔_}
 use mathlib.Core.List.{List}
@@ -66,6 +66,9 @@ module _ (bs : List ℕ) where
 
     pub check-exactly : (check bs ≡ Passed) ↔ Passes bs
     check-exactly = (passing, passed)
+
+    pub verdict-exactly : {r : Verdict} → r ≡ check bs → (r ≡ Passed) ↔ Passes bs
+    verdict-exactly e = (λ h. passing (sym e ∙ h), λ p. e ∙ passed p)
 
   -- ------------------------------------------------------------------ the first refusal
 

@@ -6,6 +6,7 @@ use mathlib.Core.Bool.{true}
 use mathlib.Core.List.{List}
 use lib.ListN.{getD}
 use Rattle.answers.specs.declared.Refusal.{Refusal}
+use Rattle.answers.specs.declared.Verdict.{Verdict}
 use Rattle.answers.specs.declared.Verdict.the-variants.{Passed, Refused}
 use Rattle.answers.specs.Refusals.{refusal}
 use Rattle.answers.specs.Checked.{ok, bad}
@@ -84,3 +85,9 @@ module _ (bs : List ℕ) where
   pub refused-by-firsts : (t : Table) (r : Refusal) → decode bs ≡ ok t → checkSorts t ≡ ok tt → checkFirsts (grammarOf t) ≡ bad r
       → check bs ≡ Refused r
   refused-by-firsts = passing.refused-by-firsts bs
+
+  -- ------------------------------------------------------------------ 5. the call
+
+  -- A verdict as `check_table` promises it accepts exactly the bytes that pass; this is the call's second promise.
+  pub call-exactly : ((i : ℕ) → getD bs i 0 < 256) → {r : Verdict} → r ≡ check bs → (r ≡ Passed) ↔ Passes bs
+  call-exactly = passing.verdict-exactly bs
