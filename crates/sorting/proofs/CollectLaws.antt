@@ -9,6 +9,7 @@ use borrow.Author.Tests.{eq-eqb, ne-eqb}
 use Rattle.answers.specs.declared.Verdict.{Verdict}
 use Rattle.answers.specs.declared.Verdict.the-variants.{Passed, Refused}
 use Rattle.answers.specs.Refusals.{refusal}
+use Rattle.spellings.specs.BytesLaws.{by-test}
 use Rattle.grammar.specs.declared.Front.{Front}
 use Rattle.grammar.specs.declared.Front.the-variants.{Nothing, Short, Field}
 use Rattle.grammar.specs.Fields.{Fields, next}
@@ -16,7 +17,7 @@ use Rattle.grammar.specs.Lookup.{frontOf, fieldsAt}
 pub use Rattle.grammar.proofs.LookupLaws.{front-inside}
 use Rattle.grammar.proofs.LookupLaws.{opened, fields-at}
 use Rattle.sorting.specs.ByFields.{endsBlock}
-use Rattle.sorting.specs.ByBytes.{faultOf, withHead, afterHead, Collected, collected, collectFrom}
+use Rattle.sorting.specs.ByBytes.{faultOf, faultAt, withHead, headsAfter, Collected, collected, collectFrom}
 use Rattle.sorting.proofs.TemplateInduction.{choose}
 
 pub record Collecting (bs : List ℕ) (block from : ℕ) (H₀ : List ℕ) (at : ℕ) (H : List ℕ) : Type 0 where
@@ -61,28 +62,41 @@ module _ {bs : List ℕ} {block from : ℕ} {H₀ : List ℕ} {at : ℕ} {H : Li
     pub collecting-ends : endsBlock tag ≡ true → collected Passed H ≡ collectFrom (fieldsAt bs from) bs block H₀
     collecting-ends f = sym (collect-field bs block at tag _ _ H true (eqb tag 4) (eqb (faultOf bs at block H) 0) f refl refl) ∙ left e
 
-    pub collecting-other : endsBlock tag ≡ false → (tag ≡ 4 → ⊥) → Collecting bs block from H₀ (at + 3 + n) H
-    collecting-other f g =
-        record {
-          as-many = c .as-many;
-          rest = sym (collect-field bs block at tag _ _ H false false (eqb (faultOf bs at block H) 0) f (ne-eqb tag 4 g) refl) ∙ left e;
-        }
+    module _ {fault : ℕ} {H′ : List ℕ} (f : endsBlock tag ≡ false) (h : fault ≡ faultAt tag bs at block H) (k : H′ ≡ headsAfter tag fault bs at H) where
+      -- what the field is, by the tests of its tag and of its head
+      field-is : (head clean : Bool) → eqb tag 4 ≡ head → eqb (faultOf bs at block H) 0 ≡ clean
+          → choose
+          (choose (collectFrom (fieldsAt bs (at + 3 + n)) bs block (withHead bs at H))
+          (collected (Refused (refusal (faultOf bs at block H) at 0 0)) H) clean)
+          (collectFrom (fieldsAt bs (at + 3 + n)) bs block H) head
+          ≡ collectFrom (fieldsAt bs from) bs block H₀
+      field-is head clean p q = sym (collect-field bs block at tag _ _ H false head clean f p q) ∙ left e
 
-    module _ {fault : ℕ} {H′ : List ℕ} (f : endsBlock tag ≡ false) (g : tag ≡ 4) (h : fault ≡ faultOf bs at block H) (k : H′ ≡ afterHead fault bs at H) where
+      head-fault : eqb tag 4 ≡ true → fault ≡ faultOf bs at block H
+      head-fault p = h ∙ ap (choose (faultOf bs at block H) 0) p
+
+      heads-are : (clean : Bool) → eqb tag 4 ≡ true → eqb fault 0 ≡ clean → H′ ≡ choose (withHead bs at H) H clean
+      heads-are clean p q = k ∙ ap₂ (λ x y. choose (choose (withHead bs at H) H y) H x) p q
+
       pub collecting-fault :
           {r : Verdict} → r ≡ Refused (refusal fault at 0 0) → (fault ≡ 0 → ⊥) → collected r H′ ≡ collectFrom (fieldsAt bs from) bs block H₀
       collecting-fault q z =
-          let same : H′ ≡ H = k ∙ ap (choose (withHead bs at H) H) (ne-eqb fault 0 z) in
-          ap₂ collected (q ∙ ap (λ x. Refused (refusal x at 0 0)) h) same
-          ∙ sym (collect-field bs block at tag _ _ H false true false f (eq-eqb tag 4 g) (ap (λ x. eqb x 0) (sym h) ∙ ne-eqb fault 0 z))
-          ∙ left e
+          by-test (eqb tag 4)
+          (λ p.
+          ap₂ collected (q ∙ ap (λ x. Refused (refusal x at 0 0)) (head-fault p)) (heads-are false p (ne-eqb fault 0 z))
+          ∙ field-is true false p (ap (λ x. eqb x 0) (sym (head-fault p)) ∙ ne-eqb fault 0 z))
+          (λ p. absurd (z (h ∙ ap (choose (faultOf bs at block H) 0) p)))
 
-      pub collecting-head : length H′ ≡ length H → fault ≡ 0 → Collecting bs block from H₀ (at + 3 + n) H′
-      collecting-head l z =
+      pub collecting-next : length H′ ≡ length H → fault ≡ 0 → Collecting bs block from H₀ (at + 3 + n) H′
+      collecting-next l z =
           record {
             as-many = l ∙ c .as-many;
             rest =
-                ap (collectFrom (fieldsAt bs (at + 3 + n)) bs block) (k ∙ ap (choose (withHead bs at H) H) (eq-eqb fault 0 z))
-                ∙ sym (collect-field bs block at tag _ _ H false true true f (eq-eqb tag 4 g) (ap (λ x. eqb x 0) (sym h) ∙ eq-eqb fault 0 z))
-                ∙ left e;
+                by-test (eqb tag 4)
+                (λ p.
+                ap (collectFrom (fieldsAt bs (at + 3 + n)) bs block) (heads-are true p (eq-eqb fault 0 z))
+                ∙ field-is true true p (ap (λ x. eqb x 0) (sym (head-fault p)) ∙ eq-eqb fault 0 z))
+                (λ p.
+                ap (collectFrom (fieldsAt bs (at + 3 + n)) bs block) (k ∙ ap (choose (choose (withHead bs at H) H (eqb fault 0)) H) p)
+                ∙ field-is false (eqb (faultOf bs at block H) 0) p refl);
           }

@@ -8,9 +8,9 @@ use native.Mathlib.Nat.{add-assoc}
 use lib.Dec.{eqb, leb, ltb}
 use lib.ListN.{length, getD, take, drop, set, length-take, length-drop, drop-of-length-le}
 use lib.Seq.{take-all, take-nil, take-take, drop-drop, set-out}
-use borrow.Author.Tests.{ne-eqb}
+use borrow.Author.Tests.{eq-eqb, ne-eqb}
 use Rattle.spellings.specs.Bytes.{same}
-use Rattle.sorting.specs.ByBytes.{valueAt, signatureAt, faultOf, withHead, afterHead}
+use Rattle.sorting.specs.ByBytes.{valueAt, signatureAt, faultOf, faultAt, withHead, headsAfter}
 use Rattle.sorting.proofs.TemplateInduction.{choose}
 
 -- ------------------------------------------------------------------ parts of a table
@@ -93,12 +93,25 @@ module _ (bs H : List ℕ) (at block : ℕ) {n mode h : ℕ} (e : n ≡ getD bs 
 
 -- ------------------------------------------------------------------ one head more
 
-module _ (bs H : List ℕ) (at : ℕ) where
-  pub head-refused : {fault : ℕ} → (fault ≡ 0 → ⊥) → H ≡ afterHead fault bs at H
-  head-refused {fault} h = sym (ap (choose (withHead bs at H) H) (ne-eqb fault 0 h))
+module _ (bs H : List ℕ) (at tag : ℕ) where
+  -- no head
+  pub head-none : (block : ℕ) → (tag ≡ 4 → ⊥) → (0 ≡ faultAt tag bs at block H) × (H ≡ headsAfter tag 0 bs at H)
+  head-none block d =
+      let e : false ≡ eqb tag 4 = sym (ne-eqb tag 4 d) in
+      (ap (choose (faultOf bs at block H) 0) e, ap (choose (withHead bs at H) H) e)
 
-  pub head-put : {n : ℕ} → n ≡ getD bs (at + 3) 0 → set H n at ≡ afterHead 0 bs at H
-  head-put e = ap (λ i. set H i at) e
+  -- the head's own refusal
+  pub head-fault : (block : ℕ) {fault : ℕ} → tag ≡ 4 → fault ≡ faultOf bs at block H → fault ≡ faultAt tag bs at block H
+  head-fault block e f = f ∙ ap (choose (faultOf bs at block H) 0) (sym (eq-eqb tag 4 e))
 
-  pub head-left : {n : ℕ} → n ≡ getD bs (at + 3) 0 → length H ≤ n → H ≡ afterHead 0 bs at H
-  head-left {n} e h = sym (set-out H n at h) ∙ head-put e
+  heads-are : (fault : ℕ) → tag ≡ 4 → (clean : Bool) → eqb fault 0 ≡ clean → choose (withHead bs at H) H clean ≡ headsAfter tag fault bs at H
+  heads-are fault e clean c = sym (ap₂ (λ x y. choose (choose (withHead bs at H) H y) H x) (eq-eqb tag 4 e) c)
+
+  pub head-refused : {fault : ℕ} → tag ≡ 4 → (fault ≡ 0 → ⊥) → H ≡ headsAfter tag fault bs at H
+  head-refused {fault} e h = heads-are fault e false (ne-eqb fault 0 h)
+
+  pub head-put : {n : ℕ} → tag ≡ 4 → n ≡ getD bs (at + 3) 0 → set H n at ≡ headsAfter tag 0 bs at H
+  head-put e f = ap (λ i. set H i at) f ∙ heads-are 0 e true refl
+
+  pub head-left : {n : ℕ} → tag ≡ 4 → n ≡ getD bs (at + 3) 0 → length H ≤ n → H ≡ headsAfter tag 0 bs at H
+  head-left {n} e f h = sym (set-out H n at h) ∙ head-put e f

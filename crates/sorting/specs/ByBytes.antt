@@ -46,9 +46,12 @@ faultOf bs at block H =
 abbrev pub withHead : List ℕ → ℕ → List ℕ → List ℕ
 withHead bs at H = set H (getD bs (at + 3) 0) at
 
--- the same unless the head was refused
-abbrev pub afterHead : ℕ → List ℕ → ℕ → List ℕ → List ℕ
-afterHead fault bs at H = elim (eqb fault 0) [ true ↦ withHead bs at H | false ↦ H ]
+-- the refusal of any field of a block, and the heads after it; only a head has them
+abbrev pub faultAt : ℕ → List ℕ → ℕ → ℕ → List ℕ → ℕ
+faultAt tag bs at block H = elim (eqb tag 4) [ true ↦ faultOf bs at block H | false ↦ 0 ]
+
+abbrev pub headsAfter : ℕ → ℕ → List ℕ → ℕ → List ℕ → List ℕ
+headsAfter tag fault bs at H = elim (eqb tag 4) [ true ↦ elim (eqb fault 0) [ true ↦ withHead bs at H | false ↦ H ] | false ↦ H ]
 
 -- what collecting a block's heads gives: a verdict, and the heads
 pub data Collected : Type 0 where

@@ -10,7 +10,7 @@ ghost use mathlib.Core.Path.{_≡_};
 ghost use lib.ListN.{length, getD, take, drop, set};
 ghost use Rattle.answers.specs.Refusals.{refusal};
 ghost use Rattle.grammar.specs.Lookup.{fieldsAt};
-ghost use Rattle.sorting.specs.ByBytes.{signatureAt, faultOf, afterHead, collected, collectFrom};
+ghost use Rattle.sorting.specs.ByBytes.{signatureAt, faultOf, faultAt, headsAfter, collected, collectFrom};
 
 pub fn refused(number: u8, at: usize) -> Verdict
     ensures { λ r. ⌜ r ≡ Verdict.Refused (refusal number at 0 0) ⌝ }
@@ -88,11 +88,14 @@ fn fault_of(table: &[u8], at: usize, block: usize, heads: &[u16]) -> u8
     }
 }
 
-// The head at an offset among the heads, if it is not refused; the refusal, or 0.
-fn define(table: &[u8], at: usize, block: usize, heads: &mut [u16]) -> u8
+// A field at an offset: a head goes among the heads, if it is not refused. The refusal, or 0.
+fn define(table: &[u8], at: usize, tag: u8, block: usize, heads: &mut [u16]) -> u8
     requires { ⌜ at ≤ 65535 ⌝ }
-    ensures { λ r. ⌜ (r ≡ faultOf (now (table .entry)) at block (now (heads .entry))) × (now (heads .exit) ≡ afterHead r (now (table .entry)) at (now (heads .entry))) ⌝ }
+    ensures { λ r. ⌜ (r ≡ faultAt tag (now (table .entry)) at block (now (heads .entry))) × (now (heads .exit) ≡ headsAfter tag r (now (table .entry)) at (now (heads .entry))) ⌝ }
 {
+    if tag != 4 {
+        return 0;
+    }
     let fault = fault_of(table, at, block, heads);
     if fault != 0 {
         return fault;
@@ -124,15 +127,11 @@ pub fn collect(table: &[u8], block: usize, from: usize, heads: &mut [u16]) -> Ve
                 if (tag == 3) | (tag == 8) {
                     return Verdict::Passed;
                 }
-                if tag == 4 {
-                    let fault = define(table, at, block, heads);
-                    if fault != 0 {
-                        return refused(fault, at);
-                    }
-                    at = to;
-                } else {
-                    at = to;
+                let fault = define(table, at, tag, block, heads);
+                if fault != 0 {
+                    return refused(fault, at);
                 }
+                at = to;
             }
         }
     }

@@ -54,28 +54,22 @@ returns-3 : tie.Need-returns-3 Inv-loop μ-loop
 returns-3 c = laws.collecting-ends (c .before .before .before .before .before .loop .inv) (sym (c .before .before .front .given .1) ∙ c .before .before .before .before .front-at .ensures) (c .if1 .taken)
 
 define-requires : tie.Need-define-requires Inv-loop μ-loop
-define-requires c κs = omega (arith, laws.front-inside (c .before .before .before .before .before .before .before .before .before .before .args .table .now) (c .before .before .before .before .before .before .before .loop .at) (sym (c .before .before .before .before .front .given .1) ∙ c .before .before .before .before .before .before .front-at .ensures), c .before .before .before .before .before .before .before .before .before .before .pre)
+define-requires c κs = omega (arith, laws.front-inside (c .before .before .before .before .before .before .before .before .before .args .table .now) (c .before .before .before .before .before .before .loop .at) (sym (c .before .before .before .front .given .1) ∙ c .before .before .before .before .before .front-at .ensures), c .before .before .before .before .before .before .before .before .before .pre)
 
 refused-requires : tie.Need-refused-requires Inv-loop μ-loop
 refused-requires c κs = search needs
 
 same-length-4 : tie.Need-same-length-4 Inv-loop μ-loop
-same-length-4 c = c .before .before .before .before .define .kept .1 .1 .1 .0 ∙ c .before .before .before .before .before .before .before .before .before .before .before .before .loop .inv .as-many
+same-length-4 c = c .before .before .before .before .define .kept .1 .1 .1 .1 .0 ∙ c .before .before .before .before .before .before .before .before .before .before .before .loop .inv .as-many
 
 returns-4 : tie.Need-returns-4 Inv-loop μ-loop
-returns-4 c = laws.collecting-fault (c .before .before .before .before .before .before .before .before .before .before .before .before .loop .inv) (sym (c .before .before .before .before .before .before .before .before .before .front .given .1) ∙ c .before .before .before .before .before .before .before .before .before .before .before .front-at .ensures) (c .before .before .before .before .before .before .before .if1 .left) (c .before .before .before .before .before .before .if2 .taken) (c .before .before .before .before .define .ensures .0) (c .before .before .before .before .define .ensures .1) (c .refused .ensures) (c .before .if3 .taken)
+returns-4 c = laws.collecting-fault (c .before .before .before .before .before .before .before .before .before .before .before .loop .inv) (sym (c .before .before .before .before .before .before .before .before .front .given .1) ∙ c .before .before .before .before .before .before .before .before .before .before .front-at .ensures) (c .before .before .before .before .before .before .if1 .left) (c .before .before .before .before .define .ensures .0) (c .before .before .before .before .define .ensures .1) (c .refused .ensures) (c .before .if2 .taken)
 
 loop-less : tie.Need-loop-less Inv-loop μ-loop
-loop-less c = omega (arith, laws.front-inside (c .before .before .before .before .before .before .before .before .before .before .before .before .before .before .args .table .now) (c .before .before .before .before .before .before .before .before .before .before .before .loop .at) (sym (c .before .before .before .before .before .before .before .before .front .given .1) ∙ c .before .before .before .before .before .before .before .before .before .before .front-at .ensures))
+loop-less c = omega (arith, laws.front-inside (c .before .before .before .before .before .before .before .before .before .before .before .before .before .args .table .now) (c .before .before .before .before .before .before .before .before .before .before .loop .at) (sym (c .before .before .before .before .before .before .before .front .given .1) ∙ c .before .before .before .before .before .before .before .before .before .front-at .ensures))
 
 loop-again : tie.Need-loop-again Inv-loop μ-loop
-loop-again c = laws.collecting-head (c .before .before .before .before .before .before .before .before .before .before .before .loop .inv) (sym (c .before .before .before .before .before .before .before .before .front .given .1) ∙ c .before .before .before .before .before .before .before .before .before .before .front-at .ensures) (c .before .before .before .before .before .before .if1 .left) (c .before .before .before .before .before .if2 .taken) (c .before .before .before .define .ensures .0) (c .before .before .before .define .ensures .1) (c .before .before .before .define .kept .1 .1 .1 .0) (c .if3 .left)
-
-loop-less-2 : tie.Need-loop-less-2 Inv-loop μ-loop
-loop-less-2 c = omega (arith, laws.front-inside (c .before .before .before .before .before .before .before .before .before .args .table .now) (c .before .before .before .before .before .before .loop .at) (sym (c .before .before .before .front .given .1) ∙ c .before .before .before .before .before .front-at .ensures))
-
-loop-again-2 : tie.Need-loop-again-2 Inv-loop μ-loop
-loop-again-2 c = laws.collecting-other (c .before .before .before .before .before .before .loop .inv) (sym (c .before .before .before .front .given .1) ∙ c .before .before .before .before .before .front-at .ensures) (c .before .if1 .left) (c .if2 .left)
+loop-again c = laws.collecting-next (c .before .before .before .before .before .before .before .before .before .before .loop .inv) (sym (c .before .before .before .before .before .before .before .front .given .1) ∙ c .before .before .before .before .before .before .before .before .before .front-at .ensures) (c .before .before .before .before .before .if1 .left) (c .before .before .before .define .ensures .0) (c .before .before .before .define .ensures .1) (c .before .before .before .define .kept .1 .1 .1 .1 .0) (c .if2 .left)
 
 pub collect-spec : {M : Type 1} → statement M
 collect-spec =
@@ -101,6 +95,4 @@ collect-spec =
     same-length-4
     returns-4
     loop-less
-    loop-again
-    loop-less-2
-    loop-again-2)
+    loop-again)
