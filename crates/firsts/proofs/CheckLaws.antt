@@ -3,8 +3,8 @@ use Prim.Native.Nat.{ℕ, zero, suc, _+_, _<_, _≤_}
 use mathlib.Core.Path.{_≡_, refl, sym, ap, _∙_}
 use mathlib.Core.Bool.{Bool, true, false}
 use mathlib.Core.List.{List, [], _∷_, _++_, map}
-use native.Mathlib.Nat.{add-zero, zero-add, add-assoc}
-use native.Mathlib.Numerals.{add-one, one-add}
+use native.Mathlib.Nat.{add-zero, zero-add}
+use native.Mathlib.Numerals.{add-one}
 use native.Mathlib.Omega.{arith}
 use lib.Count.{trailingZeros}
 use lib.Dec.{ltb}
@@ -14,11 +14,10 @@ use borrow.Author.Tests.{lt-ltb, le-ltb}
 use Rattle.answers.specs.Refusals.{refusal}
 use Rattle.answers.specs.Checked.{Checked, ok, bad, _>>_, verdict}
 use Rattle.answers.specs.declared.Refusal.{Refusal}
-use Rattle.answers.specs.declared.Verdict.{Verdict}
 use Rattle.answers.specs.declared.Verdict.the-variants.{Passed, Refused}
 use Rattle.grammar.specs.Lookup.{fieldsAt}
 use Rattle.firsts.specs.Normal.{Production}
-use Rattle.firsts.specs.First.{nullables, firstSets, leftCalls, leftRecursive, lowest, firstOf, allPassed, gather, setsOf, clashing, lowestShared, noLeftRecursion, noClash, checkFirsts}
+use Rattle.firsts.specs.First.{nullables, firstSets, leftCalls, leftRecursive, firstOf, allPassed, gather, setsOf, clashing, noLeftRecursion, noClash, checkFirsts}
 use Rattle.firsts.specs.Index.{itemsOf, productionAt, productionsFrom, productionsBy}
 use Rattle.firsts.specs.Pairs.{valuesFrom, sharedAt, joinPairsFrom, clashingBy, noClashBy}
 use Rattle.firsts.specs.Rooms.{Prepared}

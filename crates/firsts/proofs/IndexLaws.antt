@@ -1,6 +1,6 @@
 -- Laws of the index of a grammar: a production laid behind others, those of a nonterminal dropped, and the walk over a table's fields.
 use Prim.Native.Nat.{ℕ, zero, suc, _+_, _-_, _<_, _≤_}
-use mathlib.Core.Path.{_≡_, refl, sym, ap, _∙_, subst}
+use mathlib.Core.Path.{_≡_, refl, sym, ap, _∙_}
 use mathlib.Core.Bool.{Bool, true, false}
 use mathlib.Core.List.{List, [], _∷_, _++_, append-nil}
 use native.Mathlib.Nat.{sub-zero, zero-add, add-zero}
@@ -10,7 +10,7 @@ use lib.Dec.{eqb}
 use lib.ListN.{length, getD, set, take, drop, length-set}
 use lib.Seq.{getD-set-same, getD-set-other, append-snoc}
 use borrow.Author.Tests.{eq-eqb, ne-eqb}
-use Rattle.grammar.specs.Fields.{Fields, end, cut, next, fieldsOf}
+use Rattle.grammar.specs.Fields.{Fields, next, fieldsOf}
 use Rattle.grammar.specs.declared.Front.{Front}
 use Rattle.grammar.specs.declared.Front.the-variants.{Nothing, Short, Field}
 use Rattle.grammar.specs.Lookup.{frontOf, fieldsAt}

@@ -2,19 +2,18 @@
 use Prim.Native.Nat.{ℕ, zero, suc, _+_, _-_, _<_, _≤_}
 use mathlib.Core.Path.{_≡_, refl, sym, ap, _∙_, subst}
 use mathlib.Core.Bool.{Bool, true, false, _&&_}
-use mathlib.Core.List.{List, [], _∷_, map}
+use mathlib.Core.List.{List, [], _∷_}
 use native.Mathlib.Omega.{arith}
 use lib.Dec.{eqb}
 use borrow.Author.Tests.{eq-eqb, ne-eqb}
 use lib.ListN.{length, getD, take, drop, List·getD-map}
-use Rattle.kinds.specs.Kinds.{hasKind, only, keywordKind}
+use Rattle.kinds.specs.Kinds.{only, keywordKind}
 use Rattle.kinds.specs.KindsLaws.{only-none}
 use Rattle.grammar.specs.Table.{Item, keyword, ide, number, local, call}
 use Rattle.grammar.specs.declared.Front.{Front}
 use Rattle.grammar.specs.declared.Front.the-variants.{Nothing, Short, Field}
-use Rattle.grammar.specs.Fields.{Fields, end, cut, next}
 use Rattle.grammar.specs.Lookup.{frontOf, fieldsAt}
-use Rattle.grammar.proofs.LookupLaws.{fields-at, front-inside, front-nothing, opened}
+use Rattle.grammar.proofs.LookupLaws.{fields-at, front-inside, front-nothing}
 use Rattle.layout.specs.Prefix.{templatesOf, found}
 use Rattle.layout.specs.Decode.{itemOf}
 use Rattle.firsts.specs.declared.Symbol.{Symbol}

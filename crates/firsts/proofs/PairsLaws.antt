@@ -2,8 +2,8 @@
 use Prim.Native.Nat.{ℕ, zero, suc, _+_, _-_, _<_, _≤_}
 use mathlib.Core.Path.{_≡_, refl, sym, ap, _∙_, fun-ext}
 use mathlib.Core.Bool.{Bool, true, false, _&&_, _||_}
-use mathlib.Core.List.{List, [], _∷_}
-use native.Mathlib.Nat.{sub-zero, add-assoc}
+use mathlib.Core.List.{List}
+use native.Mathlib.Nat.{sub-zero}
 use native.Mathlib.Omega.{arith}
 use lib.Bits.{bitOr, bitAnd, or-zero-r}
 use lib.Dec.{eqb, ltb}
@@ -231,6 +231,15 @@ module _ (owners openings : List ℕ) (n i j : ℕ) {both : Bool} (e : both ≡ 
 
   pub shared-left : both ≡ false → 0 ≡ sharedAt owners openings n i j
   shared-left t = shared-tests t
+
+-- whether two productions clash
+pub clash-is : (owners openings : List ℕ) (empties : List Bool) (n i j : ℕ) {both : Bool} → both ≡ bothOf owners n i j → {s : ℕ}
+    → s ≡ sharedAt owners openings n i j
+    → {a b : Bool}
+    → a ≡ getD empties i false
+    → b ≡ getD empties j false
+    → (both && (ltb 0 s || (a && b))) ≡ clashAt owners openings empties n i j
+clash-is owners openings empties n i j e f g h = cc
 
 -- whether a nonterminal reaches itself
 pub reach-is : (n : ℕ) {reached s : ℕ} → reached ≡ s → {b : Bool} → b ≡ hasKind reached n → hasKind s n ≡ b

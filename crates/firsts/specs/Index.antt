@@ -1,7 +1,7 @@
 -- The index of a grammar in a lent table: each production by its nonterminal and the offset of its first item. The code works from
 -- the table's bytes and the index; these definitions say what they stand for, for any bytes. Document 01, "Normalizing".
 use Prim.Native.Nat.{ℕ, zero, suc, _+_}
-use mathlib.Core.Bool.{Bool, true, false}
+use mathlib.Core.Bool.{true, false}
 use mathlib.Core.List.{List, [], _∷_, _++_}
 use lib.Dec.{eqb}
 use lib.ListN.{getD}

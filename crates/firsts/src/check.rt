@@ -13,13 +13,13 @@ use kinds::lowest;
 ghost use Prim.Native.Nat.{_≤_};
 ghost use mathlib.Core.Path.{_≡_};
 ghost use mathlib.Core.Bool.{false};
-ghost use mathlib.Core.List.{_++_, map};
+ghost use mathlib.Core.List.{_++_};
 ghost use lib.ListN.{length, getD, drop};
 ghost use Rattle.answers.specs.Refusals.{refusal};
 ghost use Rattle.answers.specs.Checked.{verdict};
 ghost use Rattle.answers.specs.declared.Verdict.the-variants.{Refused};
 ghost use Rattle.grammar.specs.Lookup.{fieldsAt};
-ghost use Rattle.firsts.specs.First.{nullables, firstSets, leftCalls, leftRecursive, firstOf, allPassed, gather, checkFirsts};
+ghost use Rattle.firsts.specs.First.{nullables, leftCalls, leftRecursive, allPassed, gather, checkFirsts};
 ghost use Rattle.firsts.specs.Index.{itemsOf, productionsBy};
 ghost use Rattle.firsts.specs.Pairs.{valuesFrom, noClashBy};
 ghost use Rattle.firsts.specs.Rooms.{Prepared};
@@ -111,7 +111,8 @@ pub fn prepare(
     fill_empties(table, starts, m, set, empties);
 }
 
-// Whether a grammar can be read by its next token: refusal 12 or 13, with what an expansion needs of it in lent rooms.
+// Whether a grammar can be read by its next token: refusal 12 or 13, with what an expansion needs of it in lent rooms. This rules out
+// that two nullable productions pass, and that a clash is told before left recursion, or with the kinds of one pair alone.
 pub fn check_firsts(
     table: &[u8],
     owners: &[u8],

@@ -71,7 +71,8 @@ fn redefine(head: &[u8], owners: &mut [u8], starts: &mut [u16], k: usize) -> usi
     }
 }
 
-// The index of the normalized grammar of a table, and how many productions it has.
+// The index of the normalized grammar of a table, and how many productions it has. This rules out that an extension replaces, and that
+// an update adds.
 pub fn build_index(table: &[u8], owners: &mut [u8; 256], starts: &mut [u16; 256]) -> usize
     requires { ⌜ (length (now table) ≤ 16384) × (alternativeFields (fieldsOf (now table)) ≤ 256) ⌝ }
     ensures { λ r. ⌜ productionsBy r (now (table .entry)) (now (owners .exit)) (now (starts .exit)) ≡ normalizedBy (fieldsOf (now (table .entry))) 0 [] ⌝ }

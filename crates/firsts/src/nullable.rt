@@ -35,7 +35,8 @@ fn null_round(table: &[u8], owners: &[u8], starts: &[u16], m: usize, nulls: u64)
     set
 }
 
-// The nullable nonterminals: rounds until one changes nothing, 64 at most.
+// The nullable nonterminals: rounds until one changes nothing, 64 at most. This rules out that a call never passes, and that one round
+// is taken for all.
 pub fn nullables(table: &[u8], owners: &[u8], starts: &[u16], m: usize) -> u64
     ensures { λ r. ⌜ r ≡ nullables (productionsBy m (now (table .entry)) (now (owners .entry)) (now (starts .entry))) ⌝ }
 {

@@ -67,7 +67,8 @@ fn first_round(
     changed
 }
 
-// The sets of all nonterminals: rounds until one changes nothing, 64 at most.
+// The sets of all nonterminals: rounds until one changes nothing, 64 at most. This rules out that what stands behind a nullable item
+// is lost, and that the rounds end while a set still grows.
 pub fn sets_of(
     table: &[u8],
     owners: &[u8],
