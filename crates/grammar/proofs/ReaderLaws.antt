@@ -1,11 +1,12 @@
--- Laws of reading a value: a byte past the end, and the constructors' arities as a table.
-use Prim.Native.Nat.{ℕ, zero, suc, _-_, _<_, _≤_}
+-- Laws of reading a value: a byte past the end, the constructors' arities as a table, and parts of a slice.
+use Prim.Native.Nat.{ℕ, zero, suc, _+_, _-_, _<_, _≤_}
 use mathlib.Core.Path.{_≡_, refl, sym, ap, _∙_}
 use mathlib.Core.List.{List, [], _∷_}
 use mathlib.Core.Bool.{true, and-eq-true-iff}
 use native.Mathlib.Omega.{arith}
 use lib.Dec.{leb}
-use lib.ListN.{length, getD, List·getD-map}
+use lib.ListN.{length, getD, take, drop, length-drop, drop-of-length-le, List·getD-map}
+use lib.Seq.{take-nil, take-all}
 use borrow.Author.Tests.{leb-true}
 use Rattle.spellings.specs.Bytes.{every}
 use Rattle.grammar.specs.Sorts.{Signature, gives, unit, constructors, constructor, arity}
@@ -42,3 +43,18 @@ entry-few (x ∷ xs) (suc k) e = entry-few xs k (and-eq-true-iff (leb x 3) (ever
 pub arity-few : (c : ℕ) → arity c ≤ 3
 unfolding every
 arity-few c = omega (arith, arity-at c, entry-few arities (c - 32) refl)
+
+-- ------------------------------------------------------------------ a part of a slice
+
+module _ (s : List ℕ) (at n : ℕ) where
+  pub part-past : length s ≤ at → [] ≡ take n (drop at s)
+  part-past h = sym (ap (take n) (drop-of-length-le s h) ∙ take-nil n)
+
+  pub part-rest : length s - at ≤ n → take (length s - at) (drop at s) ≡ take n (drop at s)
+  part-rest h =
+      let k : length (drop at s) ≤ n = omega (arith, length-drop at s) in
+      let j : length (drop at s) ≤ length s - at = omega (arith, length-drop at s) in
+      take-all (length s - at) (drop at s) j ∙ sym (take-all n (drop at s) k)
+
+  pub part-within : take (at + n - at) (drop at s) ≡ take n (drop at s)
+  part-within = let z : at + n - at ≡ n = omega arith in ap (λ (k : ℕ). take k (drop at s)) z

@@ -1,6 +1,6 @@
 // Reading the values of a table's fields: bytes by their place, and how many arguments a constructor takes.
 ghost use mathlib.Core.Path.{_≡_};
-ghost use lib.ListN.{getD};
+ghost use lib.ListN.{getD, take, drop};
 ghost use Rattle.grammar.specs.Sorts.{arity};
 
 // The byte at a place, 0 past the end.
@@ -8,6 +8,20 @@ pub fn byte(s: &[u8], at: usize) -> u8
     ensures { λ r. ⌜ r ≡ getD (now (s .entry)) at 0 ⌝ }
 {
     if at < s.len() { s[at] } else { 0 }
+}
+
+// The bytes from an offset on, n at most.
+pub fn part(s: &[u8], at: usize, n: usize) -> &[u8]
+    ensures { λ r. ⌜ now r ≡ take n (drop at (now (s .entry))) ⌝ }
+{
+    if s.len() <= at {
+        return &s[..0];
+    }
+    if s.len() - at <= n {
+        return &s[at..];
+    }
+    let end = at + n;
+    &s[at..end]
 }
 
 // How many arguments the constructors take, in the order of their codes, from hex 20.

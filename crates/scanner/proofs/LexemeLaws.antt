@@ -139,18 +139,3 @@ spelling-number lex words s = refl
 pub spelling-found : (lex : Lexicon) (words : List (List ℕ)) (s : List ℕ) (f : Found) → f ≡ foundIn s (lex .outsides)
     → spellingOf lex words s ≡ numberIs f (64 + indexOf s words)
 spelling-found lex words s f e = sym (spelling-number lex words s) ∙ number-found lex s (64 + indexOf s words) f e
-
--- ------------------------------------------------------------------ a part of a formula
-
-module _ (s : List ℕ) (at n : ℕ) where
-  pub part-past : length s ≤ at → [] ≡ take n (drop at s)
-  part-past h = sym (ap (take n) (drop-of-length-le s h) ∙ take-nil n)
-
-  pub part-rest : length s - at ≤ n → take (length s - at) (drop at s) ≡ take n (drop at s)
-  part-rest h =
-      let k : length (drop at s) ≤ n = omega (arith, length-drop at s) in
-      let j : length (drop at s) ≤ length s - at = omega (arith, length-drop at s) in
-      take-all (length s - at) (drop at s) j ∙ sym (take-all n (drop at s) k)
-
-  pub part-within : take (at + n - at) (drop at s) ≡ take n (drop at s)
-  part-within = let z : at + n - at ≡ n = omega arith in ap (λ (k : ℕ). take k (drop at s)) z

@@ -1,6 +1,7 @@
 // The scanner: from the bytes of a formula to its tokens.
 use answers::Refusal;
 use grammar::Found;
+use grammar::reader::part;
 use spellings::Number;
 ghost use mathlib.Core.Path.{_≡_};
 ghost use mathlib.Core.List.{[]};
@@ -106,20 +107,6 @@ fn kind_of(table: &[u8], s: &[u8], other: u8) -> u8
         Found::At(k) => (k + 2) as u8,
         Found::Absent => other,
     }
-}
-
-// The bytes from an offset on, n at most.
-fn part(s: &[u8], at: usize, n: usize) -> &[u8]
-    ensures { λ r. ⌜ now r ≡ take n (drop at (now (s .entry))) ⌝ }
-{
-    if s.len() <= at {
-        return &s[..0];
-    }
-    if s.len() - at <= n {
-        return &s[at..];
-    }
-    let end = at + n;
-    &s[at..end]
 }
 
 // A number of a room as an index.

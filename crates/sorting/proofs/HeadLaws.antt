@@ -13,20 +13,6 @@ use Rattle.spellings.specs.Bytes.{same}
 use Rattle.sorting.specs.ByBytes.{valueAt, signatureAt, faultOf, faultAt, withHead, headsAfter}
 use Rattle.sorting.proofs.TemplateInduction.{choose}
 
--- ------------------------------------------------------------------ parts of a table
-
-module _ (t : List ℕ) (from size : ℕ) where
-  pub part-none : length t ≤ from → [] ≡ take size (drop from t)
-  part-none h = sym (ap (take size) (drop-of-length-le t h) ∙ take-nil size)
-
-  pub part-end : length t - from ≤ size → take (length t - from) (drop from t) ≡ take size (drop from t)
-  part-end h =
-      let e : length (drop from t) ≡ length t - from = length-drop from t in
-      take-all (length t - from) (drop from t) (omega arith) ∙ sym (take-all size (drop from t) (omega arith))
-
-  pub part-whole : take (from + size - from) (drop from t) ≡ take size (drop from t)
-  part-whole = let z : from + size - from ≡ size = omega arith in ap (λ k. take k (drop from t)) z
-
 -- ------------------------------------------------------------------ signatures
 
 drop-two : (n : ℕ) (l : List ℕ) → drop 2 (take n l) ≡ take (n - 2) (drop 2 l)

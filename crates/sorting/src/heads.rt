@@ -4,6 +4,7 @@ use answers::Verdict;
 use grammar::Front;
 use grammar::front_at;
 use grammar::reader::byte;
+use grammar::reader::part;
 use spellings::equal;
 ghost use Prim.Native.Nat.{_+_, _≤_};
 ghost use mathlib.Core.Path.{_≡_};
@@ -21,20 +22,6 @@ pub fn refused(number: u8, at: usize) -> Verdict
         b: 0,
         c: 0,
     })
-}
-
-// At most `size` bytes of a table from an offset on.
-pub fn part(table: &[u8], from: usize, size: usize) -> &[u8]
-    ensures { λ r. ⌜ now r ≡ take size (drop from (now (table .entry))) ⌝ }
-{
-    if table.len() <= from {
-        return &table[0..0];
-    }
-    if table.len() - from <= size {
-        return &table[from..];
-    }
-    let to = from + size;
-    &table[from..to]
 }
 
 fn wide(b: u8) -> usize

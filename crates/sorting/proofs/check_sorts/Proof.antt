@@ -3,7 +3,7 @@ use Prim.Native.Nat.{ℕ, _+_, _-_}
 use mathlib.Core.Path.{refl, sym, _∙_}
 use native.Mathlib.Omega.{arith}
 use lib.ListN.{length, length-replicate}
-use Rattle.sorting.proofs.HeadLaws.{part-whole}
+use Rattle.grammar.proofs.ReaderLaws.{part-within}
 use Rattle.sorting.proofs.StepLaws as laws
 use borrow.Author.Needs.{needs}
 use Rattle.sorting.proofs.check_sorts.Statement.{statement}
@@ -67,7 +67,7 @@ enum-known-step : tie.Need-enum-known-step Inv-loop μ-loop
 enum-known-step c = search needs
 
 returns-4 : tie.Need-returns-4 Inv-loop μ-loop
-returns-4 c = laws.sorting-stop (c .before .before .before .before .before .before .before .before .before .before .before .before .before .loop .inv) (c .before .before .before .before .before .check-field .result) (c .before .before .before .before .before .check-field .last .1 .1 .1 .1 .1 .1 .0) (sym (c .before .before .before .before .before .before .before .before .before .before .front .given .1) ∙ c .before .before .before .before .before .before .before .before .before .before .before .before .front-at .ensures) (part-whole (c .before .before .before .before .before .before .before .before .before .before .before .before .before .before .before .before .args .table .now) (c .before .before .before .before .before .before .before .before .before .before .before .before .before .loop .at + 3) (c .before .before .before .before .before .before .before .before .before .before .front .given .0 .1 .0)) (c .before .before .before .before .before .check-field .ensures) (c .before .step .given .1)
+returns-4 c = laws.sorting-stop (c .before .before .before .before .before .before .before .before .before .before .before .before .before .loop .inv) (c .before .before .before .before .before .check-field .result) (c .before .before .before .before .before .check-field .last .1 .1 .1 .1 .1 .1 .0) (sym (c .before .before .before .before .before .before .before .before .before .before .front .given .1) ∙ c .before .before .before .before .before .before .before .before .before .before .before .before .front-at .ensures) (part-within (c .before .before .before .before .before .before .before .before .before .before .before .before .before .before .before .before .args .table .now) (c .before .before .before .before .before .before .before .before .before .before .before .before .before .loop .at + 3) (c .before .before .before .before .before .before .before .before .before .before .front .given .0 .1 .0)) (c .before .before .before .before .before .check-field .ensures) (c .before .step .given .1)
 
 enum-known-step-2 : tie.Need-enum-known-step-2 Inv-loop μ-loop
 enum-known-step-2 c = search needs
@@ -76,7 +76,7 @@ loop-less : tie.Need-loop-less Inv-loop μ-loop
 loop-less c = omega (arith, laws.front-inside (c .before .before .before .before .before .before .before .before .before .before .before .before .before .before .before .before .args .table .now) (c .before .before .before .before .before .before .before .before .before .before .before .before .before .loop .at) (sym (c .before .before .before .before .before .before .before .before .before .before .front .given .1) ∙ c .before .before .before .before .before .before .before .before .before .before .before .before .front-at .ensures))
 
 loop-again : tie.Need-loop-again Inv-loop μ-loop
-loop-again c = laws.sorting-next (c .before .before .before .before .before .before .before .before .before .before .before .before .before .loop .inv) (c .before .before .before .before .before .check-field .result) (c .before .before .before .before .before .check-field .last .1 .1 .1 .1 .1 .1 .0) (sym (c .before .before .before .before .before .before .before .before .before .before .front .given .1) ∙ c .before .before .before .before .before .before .before .before .before .before .before .before .front-at .ensures) (part-whole (c .before .before .before .before .before .before .before .before .before .before .before .before .before .before .before .before .args .table .now) (c .before .before .before .before .before .before .before .before .before .before .before .before .before .loop .at + 3) (c .before .before .before .before .before .before .before .before .before .before .front .given .0 .1 .0)) (c .before .before .before .before .before .check-field .ensures) (c .before .step2 .given .1) (c .before .before .before .before .before .check-field .kept .1 .1 .1 .1 .1 .1 .0) (c .before .before .before .before .before .check-field .kept .1 .1 .1 .1 .1 .1 .1 .0)
+loop-again c = laws.sorting-next (c .before .before .before .before .before .before .before .before .before .before .before .before .before .loop .inv) (c .before .before .before .before .before .check-field .result) (c .before .before .before .before .before .check-field .last .1 .1 .1 .1 .1 .1 .0) (sym (c .before .before .before .before .before .before .before .before .before .before .front .given .1) ∙ c .before .before .before .before .before .before .before .before .before .before .before .before .front-at .ensures) (part-within (c .before .before .before .before .before .before .before .before .before .before .before .before .before .before .before .before .args .table .now) (c .before .before .before .before .before .before .before .before .before .before .before .before .before .loop .at + 3) (c .before .before .before .before .before .before .before .before .before .before .front .given .0 .1 .0)) (c .before .before .before .before .before .check-field .ensures) (c .before .step2 .given .1) (c .before .before .before .before .before .check-field .kept .1 .1 .1 .1 .1 .1 .0) (c .before .before .before .before .before .check-field .kept .1 .1 .1 .1 .1 .1 .1 .0)
 
 pub check-sorts-spec : {M : Type 1} → statement M
 check-sorts-spec =

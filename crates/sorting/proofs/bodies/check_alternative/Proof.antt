@@ -5,7 +5,8 @@ use mathlib.Core.Path.{sym, ap, _∙_}
 use native.Mathlib.Omega.{arith}
 use lib.ListN.{length, getD, drop, length-take}
 use Rattle.sorting.specs.ByBytes.{signatureAt}
-use Rattle.sorting.proofs.HeadLaws.{signature-short, part-whole}
+use Rattle.grammar.proofs.ReaderLaws.{part-within}
+use Rattle.sorting.proofs.HeadLaws.{signature-short}
 use Rattle.sorting.proofs.AlternativeLaws as laws
 use Rattle.sorting.proofs.bodies.check_alternative.Statement.{statement}
 use Rattle.sorting.proofs.bodies.check_alternative.Tie as tie
@@ -80,7 +81,7 @@ part-check-body-end-2 : tie.Need-part-check-body-end-2 Inv-loop μ-loop
 part-check-body-end-2 c = omega (arith, laws.front-inside (c .before .before .before .before .before .before .before .before .before .before .before .before .before .before .before .args .table .now) (c .before .before .before .before .before .before .loop .at) (sym (c .before .before .before .front .given .1) ∙ c .before .before .before .before .before .front-at .ensures))
 
 check-body-requires : tie.Need-check-body-requires Inv-loop μ-loop
-check-body-requires c κs = omega (arith, laws.front-inside (c .before .before .before .before .before .before .before .before .before .before .before .before .before .before .before .before .before .args .table .now) (c .before .before .before .before .before .before .before .before .loop .at) (sym (c .before .before .before .before .before .front .given .1) ∙ c .before .before .before .before .before .before .before .front-at .ensures), c .before .before .before .before .before .before .before .before .loop .inv .as-many, c .before .before .before .before .before .before .before .before .before .before .before .before .before .before .before .before .before .pre .1, ap length (part-whole (c .before .before .before .before .before .before .before .before .before .before .before .before .before .before .before .before .before .args .table .now) (c .before .before .before .before .before .before .before .before .loop .at + 3) (c .before .before .before .before .before .front .given .0 .1 .0)), length-take (c .before .before .before .before .before .front .given .0 .1 .0) (drop (c .before .before .before .before .before .before .before .before .loop .at + 3) (c .before .before .before .before .before .before .before .before .before .before .before .before .before .before .before .before .before .args .table .now)))
+check-body-requires c κs = omega (arith, laws.front-inside (c .before .before .before .before .before .before .before .before .before .before .before .before .before .before .before .before .before .args .table .now) (c .before .before .before .before .before .before .before .before .loop .at) (sym (c .before .before .before .before .before .front .given .1) ∙ c .before .before .before .before .before .before .before .front-at .ensures), c .before .before .before .before .before .before .before .before .loop .inv .as-many, c .before .before .before .before .before .before .before .before .before .before .before .before .before .before .before .before .before .pre .1, ap length (part-within (c .before .before .before .before .before .before .before .before .before .before .before .before .before .before .before .before .before .args .table .now) (c .before .before .before .before .before .before .before .before .loop .at + 3) (c .before .before .before .before .before .front .given .0 .1 .0)), length-take (c .before .before .before .before .before .front .given .0 .1 .0) (drop (c .before .before .before .before .before .before .before .before .loop .at + 3) (c .before .before .before .before .before .before .before .before .before .before .before .before .before .before .before .before .before .args .table .now)))
 
 enum-known-body : tie.Need-enum-known-body Inv-loop μ-loop
 enum-known-body c = search needs
@@ -89,7 +90,7 @@ same-length-3 : tie.Need-same-length-3 Inv-loop μ-loop
 same-length-3 c = c .before .before .before .before .before .check-body .kept .1 .1 .1 .1 .1 .1 .1 .1 .0 ∙ c .before .before .before .before .before .before .before .before .before .before .before .before .before .before .loop .inv .as-many
 
 returns-3 : tie.Need-returns-3 Inv-loop μ-loop
-returns-3 c = laws.walking-whole (c .before .before .before .before .before .before .before .before .before .before .before .before .before .before .before .before .before .before .before .before .before .before .before .args .table .now) (c .before .before .before .before .before .before .before .before .before .before .before .before .before .before .before .before .before .before .before .before .before .before .before .args .heads .now) (c .before .before .before .before .before .before .before .before .before .before .before .before .before .before .before .before .before .before .before .before .before .before .before .args .known .keywords) (c .before .before .before .before .before .before .before .before .before .before .before .before .before .before .before .before .before .before .before .before .before .before .before .args .known .outsides) (getD (signatureAt (c .before .before .before .before .before .before .before .before .before .before .before .before .before .before .before .before .before .before .before .before .before .before .before .args .table .now) (c .before .before .before .before .before .before .before .before .before .before .before .before .before .before .before .before .before .before .before .before .before .before .before .args .known .head)) 0 0) (drop 1 (signatureAt (c .before .before .before .before .before .before .before .before .before .before .before .before .before .before .before .before .before .before .before .before .before .before .before .args .table .now) (c .before .before .before .before .before .before .before .before .before .before .before .before .before .before .before .before .before .before .before .before .before .before .before .args .known .head))) (c .before .before .before .before .before .before .before .before .before .before .before .before .before .before .before .before .before .before .before .before .before .before .before .args .from) (c .before .before .before .before .before .before .before .before .before .before .before .before .before .before .loop .inv) (sym (c .before .before .before .before .before .before .before .before .before .before .before .front .given .1) ∙ c .before .before .before .before .before .before .before .before .before .before .before .before .before .front-at .ensures) (c .before .before .before .before .before .before .before .before .before .before .before .before .before .before .before .before .before .before .byte .ensures ∙ ap (λ l. getD l 0 0) (c .before .before .before .before .before .before .before .before .before .before .before .before .before .before .before .before .before .before .before .signature-at .ensures)) (laws.lent-front (c .before .before .before .before .before .before .before .before .before .before .before .before .before .before .loop .sorts) (c .before .before .before .before .before .before .before .before .before .before .before .before .before .before .loop .n)) (part-whole (c .before .before .before .before .before .before .before .before .before .before .before .before .before .before .before .before .before .before .before .before .before .before .before .args .table .now) (c .before .before .before .before .before .before .before .before .before .before .before .before .before .before .loop .at + 3) (c .before .before .before .before .before .before .before .before .before .before .before .front .given .0 .1 .0)) (c .before .before .before .before .before .check-body .ensures) (c .before .body .given .1)
+returns-3 c = laws.walking-whole (c .before .before .before .before .before .before .before .before .before .before .before .before .before .before .before .before .before .before .before .before .before .before .before .args .table .now) (c .before .before .before .before .before .before .before .before .before .before .before .before .before .before .before .before .before .before .before .before .before .before .before .args .heads .now) (c .before .before .before .before .before .before .before .before .before .before .before .before .before .before .before .before .before .before .before .before .before .before .before .args .known .keywords) (c .before .before .before .before .before .before .before .before .before .before .before .before .before .before .before .before .before .before .before .before .before .before .before .args .known .outsides) (getD (signatureAt (c .before .before .before .before .before .before .before .before .before .before .before .before .before .before .before .before .before .before .before .before .before .before .before .args .table .now) (c .before .before .before .before .before .before .before .before .before .before .before .before .before .before .before .before .before .before .before .before .before .before .before .args .known .head)) 0 0) (drop 1 (signatureAt (c .before .before .before .before .before .before .before .before .before .before .before .before .before .before .before .before .before .before .before .before .before .before .before .args .table .now) (c .before .before .before .before .before .before .before .before .before .before .before .before .before .before .before .before .before .before .before .before .before .before .before .args .known .head))) (c .before .before .before .before .before .before .before .before .before .before .before .before .before .before .before .before .before .before .before .before .before .before .before .args .from) (c .before .before .before .before .before .before .before .before .before .before .before .before .before .before .loop .inv) (sym (c .before .before .before .before .before .before .before .before .before .before .before .front .given .1) ∙ c .before .before .before .before .before .before .before .before .before .before .before .before .before .front-at .ensures) (c .before .before .before .before .before .before .before .before .before .before .before .before .before .before .before .before .before .before .byte .ensures ∙ ap (λ l. getD l 0 0) (c .before .before .before .before .before .before .before .before .before .before .before .before .before .before .before .before .before .before .before .signature-at .ensures)) (laws.lent-front (c .before .before .before .before .before .before .before .before .before .before .before .before .before .before .loop .sorts) (c .before .before .before .before .before .before .before .before .before .before .before .before .before .before .loop .n)) (part-within (c .before .before .before .before .before .before .before .before .before .before .before .before .before .before .before .before .before .before .before .before .before .before .before .args .table .now) (c .before .before .before .before .before .before .before .before .before .before .before .before .before .before .loop .at + 3) (c .before .before .before .before .before .before .before .before .before .before .before .front .given .0 .1 .0)) (c .before .before .before .before .before .check-body .ensures) (c .before .body .given .1)
 
 enum-known-body-2 : tie.Need-enum-known-body-2 Inv-loop μ-loop
 enum-known-body-2 c = search needs
@@ -104,7 +105,7 @@ loop-less : tie.Need-loop-less Inv-loop μ-loop
 loop-less c = omega (arith, laws.front-inside (c .before .before .before .before .before .before .before .before .before .before .before .before .before .before .before .before .before .before .before .before .before .before .before .before .before .before .args .table .now) (c .before .before .before .before .before .before .before .before .before .before .before .before .before .before .before .before .before .loop .at) (sym (c .before .before .before .before .before .before .before .before .before .before .before .before .before .before .front .given .1) ∙ c .before .before .before .before .before .before .before .before .before .before .before .before .before .before .before .before .front-at .ensures))
 
 loop-again : tie.Need-loop-again Inv-loop μ-loop
-loop-again c = laws.walking-next (c .before .before .before .before .before .before .before .before .before .before .before .before .before .before .before .before .before .before .before .before .before .before .before .before .before .before .args .table .now) (c .before .before .before .before .before .before .before .before .before .before .before .before .before .before .before .before .before .before .before .before .before .before .before .before .before .before .args .heads .now) (c .before .before .before .before .before .before .before .before .before .before .before .before .before .before .before .before .before .before .before .before .before .before .before .before .before .before .args .known .keywords) (c .before .before .before .before .before .before .before .before .before .before .before .before .before .before .before .before .before .before .before .before .before .before .before .before .before .before .args .known .outsides) (getD (signatureAt (c .before .before .before .before .before .before .before .before .before .before .before .before .before .before .before .before .before .before .before .before .before .before .before .before .before .before .args .table .now) (c .before .before .before .before .before .before .before .before .before .before .before .before .before .before .before .before .before .before .before .before .before .before .before .before .before .before .args .known .head)) 0 0) (drop 1 (signatureAt (c .before .before .before .before .before .before .before .before .before .before .before .before .before .before .before .before .before .before .before .before .before .before .before .before .before .before .args .table .now) (c .before .before .before .before .before .before .before .before .before .before .before .before .before .before .before .before .before .before .before .before .before .before .before .before .before .before .args .known .head))) (c .before .before .before .before .before .before .before .before .before .before .before .before .before .before .before .before .before .before .before .before .before .before .before .before .before .before .args .from) (c .before .before .before .before .before .before .before .before .before .before .before .before .before .before .before .before .before .loop .inv) (sym (c .before .before .before .before .before .before .before .before .before .before .before .before .before .before .front .given .1) ∙ c .before .before .before .before .before .before .before .before .before .before .before .before .before .before .before .before .front-at .ensures) (c .before .before .before .before .before .before .before .before .before .before .before .before .before .before .before .before .before .before .before .before .before .byte .ensures ∙ ap (λ l. getD l 0 0) (c .before .before .before .before .before .before .before .before .before .before .before .before .before .before .before .before .before .before .before .before .before .before .signature-at .ensures)) (laws.lent-front (c .before .before .before .before .before .before .before .before .before .before .before .before .before .before .before .before .before .loop .sorts) (c .before .before .before .before .before .before .before .before .before .before .before .before .before .before .before .before .before .loop .n)) (part-whole (c .before .before .before .before .before .before .before .before .before .before .before .before .before .before .before .before .before .before .before .before .before .before .before .before .before .before .args .table .now) (c .before .before .before .before .before .before .before .before .before .before .before .before .before .before .before .before .before .loop .at + 3) (c .before .before .before .before .before .before .before .before .before .before .before .before .before .before .front .given .0 .1 .0)) (c .before .before .before .before .before .before .before .before .check-body .ensures) (c .before .before .before .before .body2 .given .1) (c .before .before .before .before .before .before .before .before .check-body .kept .1 .1 .1 .1 .1 .1 .1 .1 .0) (c .before .add-sort .kept .0) (c .before .add-sort .ensures .0) (c .before .add-sort .ensures .1)
+loop-again c = laws.walking-next (c .before .before .before .before .before .before .before .before .before .before .before .before .before .before .before .before .before .before .before .before .before .before .before .before .before .before .args .table .now) (c .before .before .before .before .before .before .before .before .before .before .before .before .before .before .before .before .before .before .before .before .before .before .before .before .before .before .args .heads .now) (c .before .before .before .before .before .before .before .before .before .before .before .before .before .before .before .before .before .before .before .before .before .before .before .before .before .before .args .known .keywords) (c .before .before .before .before .before .before .before .before .before .before .before .before .before .before .before .before .before .before .before .before .before .before .before .before .before .before .args .known .outsides) (getD (signatureAt (c .before .before .before .before .before .before .before .before .before .before .before .before .before .before .before .before .before .before .before .before .before .before .before .before .before .before .args .table .now) (c .before .before .before .before .before .before .before .before .before .before .before .before .before .before .before .before .before .before .before .before .before .before .before .before .before .before .args .known .head)) 0 0) (drop 1 (signatureAt (c .before .before .before .before .before .before .before .before .before .before .before .before .before .before .before .before .before .before .before .before .before .before .before .before .before .before .args .table .now) (c .before .before .before .before .before .before .before .before .before .before .before .before .before .before .before .before .before .before .before .before .before .before .before .before .before .before .args .known .head))) (c .before .before .before .before .before .before .before .before .before .before .before .before .before .before .before .before .before .before .before .before .before .before .before .before .before .before .args .from) (c .before .before .before .before .before .before .before .before .before .before .before .before .before .before .before .before .before .loop .inv) (sym (c .before .before .before .before .before .before .before .before .before .before .before .before .before .before .front .given .1) ∙ c .before .before .before .before .before .before .before .before .before .before .before .before .before .before .before .before .front-at .ensures) (c .before .before .before .before .before .before .before .before .before .before .before .before .before .before .before .before .before .before .before .before .before .byte .ensures ∙ ap (λ l. getD l 0 0) (c .before .before .before .before .before .before .before .before .before .before .before .before .before .before .before .before .before .before .before .before .before .before .signature-at .ensures)) (laws.lent-front (c .before .before .before .before .before .before .before .before .before .before .before .before .before .before .before .before .before .loop .sorts) (c .before .before .before .before .before .before .before .before .before .before .before .before .before .before .before .before .before .loop .n)) (part-within (c .before .before .before .before .before .before .before .before .before .before .before .before .before .before .before .before .before .before .before .before .before .before .before .before .before .before .args .table .now) (c .before .before .before .before .before .before .before .before .before .before .before .before .before .before .before .before .before .loop .at + 3) (c .before .before .before .before .before .before .before .before .before .before .before .before .before .before .front .given .0 .1 .0)) (c .before .before .before .before .before .before .before .before .check-body .ensures) (c .before .before .before .before .body2 .given .1) (c .before .before .before .before .before .before .before .before .check-body .kept .1 .1 .1 .1 .1 .1 .1 .1 .0) (c .before .add-sort .kept .0) (c .before .add-sort .ensures .0) (c .before .add-sort .ensures .1)
 
 pub check-alternative-spec : {M : Type 1} → statement M
 check-alternative-spec =

@@ -1,8 +1,8 @@
 -- `part`: each way out is a law of `take` and `drop`.
 use borrow.Author.Needs.{needs}
-use Rattle.scanner.proofs.LexemeLaws as laws
-use Rattle.scanner.proofs.part.Statement.{statement}
-use Rattle.scanner.proofs.part.Tie as tie
+use Rattle.grammar.proofs.ReaderLaws as laws
+use Rattle.grammar.proofs.reader.part.Statement.{statement}
+use Rattle.grammar.proofs.reader.part.Tie as tie
 
 slice-aggregate-result : tie.Need-slice-aggregate-result
 slice-aggregate-result c = search needs
