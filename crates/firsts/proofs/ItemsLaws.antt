@@ -159,6 +159,14 @@ module _ (bs : List ℕ) (at : ℕ) where
   unfolding itemsOf
   items-end h = ap itemsOf (fields-at bs at (sym (front-nothing bs at h)))
 
+-- whether the code's test passes the item that stands here
+passes : (bs : List ℕ) (at nulls : ℕ) {s : Symbol} {after : ℕ} (e : Past s after ≡ stepOf bs at (frontOf (drop at bs))) {b : Bool}
+    → b ≡ isPassed nulls (withSymbol s)
+    → b ≡ isPassed nulls (stepped bs at e .item)
+passes bs at nulls e eb =
+    eb ∙ ap (λ (t : Symbol). isPassed nulls (withSymbol t)) (stepped bs at e .symbol)
+    ∙ passed-by nulls (stepped bs at e .item)
+
 -- ------------------------------------------------------------------ all items may read nothing
 
 -- the items from `at` on decide
@@ -177,15 +185,10 @@ module _ {bs : List ℕ} {nulls start at : ℕ} (c : AllPassing bs nulls start a
   all-end h = all-none (items-end bs at h)
 
   module _ {s : Symbol} {after : ℕ} (e : Past s after ≡ stepOf bs at (frontOf (drop at bs))) {b : Bool} (eb : b ≡ isPassed nulls (withSymbol s)) where
-    passes : b ≡ isPassed nulls (stepped bs at e .item)
-    passes =
-        eb ∙ ap (λ (t : Symbol). isPassed nulls (withSymbol t)) (stepped bs at e .symbol)
-        ∙ passed-by nulls (stepped bs at e .item)
-
     all-one : (b && allPassed nulls (itemsOf (fieldsAt bs after))) ≡ allPassed nulls (itemsOf (fieldsAt bs start))
     unfolding allPassed
     all-one =
-        ap (λ (x : Bool). x && allPassed nulls (itemsOf (fieldsAt bs after))) passes
+        ap (λ (x : Bool). x && allPassed nulls (itemsOf (fieldsAt bs after))) (passes bs at nulls e eb)
         ∙ sym (ap (allPassed nulls) (stepped bs at e .items))
         ∙ c .rest
 
@@ -219,16 +222,11 @@ module _ {bs : List ℕ} {calls : Bool} {nulls : ℕ} {sets : List ℕ} {start f
         em ∙ ap (λ (t : Symbol). joined calls sets (withSymbol t) found) (stepped bs at e .symbol)
         ∙ joined-by calls sets (stepped bs at e .item) found
 
-    goes : b ≡ isPassed nulls (stepped bs at e .item)
-    goes =
-        eb ∙ ap (λ (t : Symbol). isPassed nulls (withSymbol t)) (stepped bs at e .symbol)
-        ∙ passed-by nulls (stepped bs at e .item)
-
     gather-one : (elim b [ true ↦ gather calls nulls sets (itemsOf (fieldsAt bs after)) more | false ↦ more ])
         ≡ gather calls nulls sets (itemsOf (fieldsAt bs start)) 0
     unfolding gather
     gather-one =
-        ap (λ (x : Bool). elim x [ true ↦ gather calls nulls sets (itemsOf (fieldsAt bs after)) more | false ↦ more ]) goes
+        ap (λ (x : Bool). elim x [ true ↦ gather calls nulls sets (itemsOf (fieldsAt bs after)) more | false ↦ more ]) (passes bs at nulls e eb)
         ∙ ap
         (λ (y : ℕ).
         elim (isPassed nulls (stepped bs at e .item))

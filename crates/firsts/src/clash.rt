@@ -1,6 +1,6 @@
 // Left recursion and clashes: refusals 12 and 13. The clash search works from the nonterminal of each production, its first set, and
 // whether all its items may read nothing.
-use super::items::set_of;
+use super::items::set_at;
 use grammar::reader::byte;
 use kinds::has;
 use kinds::join;
@@ -19,7 +19,7 @@ pub fn left_recursive(calls: &[u64]) -> u8
 {
     let mut n: u8 = 0;
     while n < 64 {
-        let reached = set_of(calls, n);
+        let reached = set_at(calls, n as usize);
         let found = has(reached, n);
         if found {
             return n;
@@ -34,13 +34,6 @@ fn flag(flags: &[bool], j: usize) -> bool
     ensures { λ r. ⌜ r ≡ getD (now (flags .entry)) j false ⌝ }
 {
     if j < flags.len() { flags[j] } else { false }
-}
-
-// The set at a place, empty past the end.
-fn opening(openings: &[u64], j: usize) -> u64
-    ensures { λ r. ⌜ r ≡ getD (now (openings .entry)) j 0 ⌝ }
-{
-    if j < openings.len() { openings[j] } else { 0 }
 }
 
 // Whether the productions at two places are both of nonterminal n.
@@ -58,7 +51,7 @@ fn shared_at(owners: &[u8], openings: &[u64], n: u8, i: usize, j: usize) -> u64
 {
     let both = both_of(owners, n, i, j);
     if both {
-        meet(opening(openings, i), opening(openings, j))
+        meet(set_at(openings, i), set_at(openings, j))
     } else {
         0
     }

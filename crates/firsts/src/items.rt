@@ -118,11 +118,10 @@ fn own(s: Symbol, calls: bool) -> u64
     }
 }
 
-// The set of nonterminal n, empty for what is none.
-pub fn set_of(sets: &[u64], n: u8) -> u64
-    ensures { λ r. ⌜ r ≡ getD (now (sets .entry)) n 0 ⌝ }
+// The set at a place, empty past the end.
+pub fn set_at(sets: &[u64], i: usize) -> u64
+    ensures { λ r. ⌜ r ≡ getD (now (sets .entry)) i 0 ⌝ }
 {
-    let i = n as usize;
     if i < sets.len() { sets[i] } else { 0 }
 }
 
@@ -135,7 +134,7 @@ fn through(s: Symbol, sets: &[u64]) -> u64
         Symbol::Word => 0,
         Symbol::Number => 0,
         Symbol::Local => 0,
-        Symbol::Call(n) => set_of(sets, n),
+        Symbol::Call(n) => set_at(sets, n as usize),
     }
 }
 

@@ -17,14 +17,17 @@ abbrev μ-loop : tie.MeasureT-loop
 loop-holds : tie.Need-loop-holds Inv-loop μ-loop
 loop-holds c = record { small = search needs; rest = refl }
 
-set-of-requires : tie.Need-set-of-requires Inv-loop μ-loop
-set-of-requires c κs = search needs
+cast-set-at : tie.Need-cast-set-at Inv-loop μ-loop
+cast-set-at c = search needs
+
+set-at-requires : tie.Need-set-at-requires Inv-loop μ-loop
+set-at-requires c κs = search needs
 
 has-requires : tie.Need-has-requires Inv-loop μ-loop
 has-requires c κs = search needs
 
 returns : tie.Need-returns Inv-loop μ-loop
-returns c = laws.lowest-stop (c .before .before .before .before .loop .inv) (c .before .before .before .loop-test .taken) (laws.reach-is _ (c .before .before .set-of .ensures) (c .before .has .ensures) ∙ c .if1 .taken)
+returns c = laws.lowest-stop (c .before .before .before .before .loop .inv) (c .before .before .before .loop-test .taken) (laws.reach-is _ (c .before .before .set-at .ensures) (c .before .has .ensures) ∙ c .if1 .taken)
 
 add-n : tie.Need-add-n Inv-loop μ-loop
 add-n c = search needs
@@ -33,7 +36,7 @@ loop-less : tie.Need-loop-less Inv-loop μ-loop
 loop-less c = search needs
 
 loop-again : tie.Need-loop-again Inv-loop μ-loop
-loop-again c = laws.lowest-next (c .before .before .before .before .loop .inv) (c .before .before .before .loop-test .taken) (laws.reach-is _ (c .before .before .set-of .ensures) (c .before .has .ensures) ∙ c .if1 .left)
+loop-again c = laws.lowest-next (c .before .before .before .before .loop .inv) (c .before .before .before .loop-test .taken) (laws.reach-is _ (c .before .before .set-at .ensures) (c .before .has .ensures) ∙ c .if1 .left)
 
 returns-2 : tie.Need-returns-2 Inv-loop μ-loop
 returns-2 c = laws.lowest-end (c .before .loop .inv) (c .loop-test .left)
@@ -45,7 +48,7 @@ left-recursive-spec =
     Inv-loop
     μ-loop
     loop-holds
-    set-of-requires
+    cast-set-at set-at-requires
     has-requires
     returns
     add-n

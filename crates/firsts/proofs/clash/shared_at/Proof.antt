@@ -8,17 +8,17 @@ use Rattle.firsts.proofs.clash.shared_at.Tie as tie
 both-of-requires : tie.Need-both-of-requires
 both-of-requires c κs = search needs
 
-opening-requires : tie.Need-opening-requires
-opening-requires c κs = search needs
+set-at-requires : tie.Need-set-at-requires
+set-at-requires c κs = search needs
 
-opening-requires-2 : tie.Need-opening-requires-2
-opening-requires-2 c κs = search needs
+set-at-requires-2 : tie.Need-set-at-requires-2
+set-at-requires-2 c κs = search needs
 
 meet-requires : tie.Need-meet-requires
 meet-requires c κs = search needs
 
 returns : tie.Need-returns
-returns c = c .meet .ensures ∙ laws.shared-taken (c .before .before .before .before .before .before .before .args .owners .now) (c .before .before .before .before .before .before .before .args .openings .now) _ _ _ (c .before .before .before .before .both-of .ensures) (c .before .before .before .if1 .taken) (c .before .before .opening .ensures) (c .before .opening2 .ensures)
+returns c = c .meet .ensures ∙ laws.shared-taken (c .before .before .before .before .before .before .before .args .owners .now) (c .before .before .before .before .before .before .before .args .openings .now) _ _ _ (c .before .before .before .before .both-of .ensures) (c .before .before .before .if1 .taken) (c .before .before .set-at .ensures) (c .before .set-at2 .ensures)
 
 returns-2 : tie.Need-returns-2
 returns-2 c = laws.shared-left (c .before .before .before .before .args .owners .now) (c .before .before .before .before .args .openings .now) _ _ _ (c .before .both-of .ensures) (c .if1 .left)
@@ -26,4 +26,4 @@ returns-2 c = laws.shared-left (c .before .before .before .before .args .owners 
 pub shared-at-spec : {M : Type 1} → statement M
 shared-at-spec =
     tie.close
-    (tie.spec both-of-requires opening-requires opening-requires-2 meet-requires returns returns-2)
+    (tie.spec both-of-requires set-at-requires set-at-requires-2 meet-requires returns returns-2)

@@ -20,8 +20,11 @@ enum-told-4 c = search needs
 enum-known-s : tie.Need-enum-known-s
 enum-known-s c = search needs
 
-set-of-requires : tie.Need-set-of-requires
-set-of-requires c κs = search needs
+cast-set-at : tie.Need-cast-set-at
+cast-set-at c = search needs
+
+set-at-requires : tie.Need-set-at-requires
+set-at-requires c κs = search needs
 
 returns : tie.Need-returns
 returns c = search needs
@@ -36,7 +39,7 @@ returns-4 : tie.Need-returns-4
 returns-4 c = search needs
 
 returns-5 : tie.Need-returns-5
-returns-5 c = c .set-of .ensures ∙ laws.through-is _ (c .before .before .s .given .1)
+returns-5 c = c .set-at .ensures ∙ laws.through-is _ (c .before .before .s .given .1)
 
 pub through-spec : {M : Type 1} → statement M
 through-spec =
@@ -47,7 +50,7 @@ through-spec =
     enum-told-3
     enum-told-4
     enum-known-s
-    set-of-requires
+    cast-set-at set-at-requires
     returns
     returns-2
     returns-3

@@ -1,9 +1,9 @@
--- `set_of`: what stands at a place, or past the end.
+-- `set_at`: what stands at a place, or past the end.
 use mathlib.Core.Path.{sym}
 use borrow.Author.Needs.{needs}
 use Rattle.grammar.proofs.ReaderLaws.{getD-past}
-use Rattle.firsts.proofs.items.set_of.Statement.{statement}
-use Rattle.firsts.proofs.items.set_of.Tie as tie
+use Rattle.firsts.proofs.items.set_at.Statement.{statement}
+use Rattle.firsts.proofs.items.set_at.Tie as tie
 
 mul-result : tie.Need-mul-result
 mul-result c = search needs
@@ -17,5 +17,5 @@ returns c = search needs
 returns-2 : tie.Need-returns-2
 returns-2 c = sym (getD-past (c .before .args .sets .now) _ 0 (c .if1 .left))
 
-pub set-of-spec : {M : Type 1} → statement M
-set-of-spec = tie.close (tie.spec mul-result shared-slice-read-result returns returns-2)
+pub set-at-spec : {M : Type 1} → statement M
+set-at-spec = tie.close (tie.spec mul-result shared-slice-read-result returns returns-2)
