@@ -18,10 +18,11 @@ use Rattle.grammar.specs.Fields.{Fields, fieldsOf}
 use Rattle.grammar.specs.Lookup.{frontOf, fieldsAt}
 pub use Rattle.grammar.proofs.LookupLaws.{front-inside}
 use Rattle.grammar.proofs.LookupLaws.{opened, fields-at, fields-of}
+use Rattle.layout.specs.Layout.{longestTable}
 use Rattle.sorting.specs.declared.Known.{Known}
 use Rattle.sorting.specs.declared.Step.{Step}
 use Rattle.sorting.specs.declared.Step.the-variants.{Next, Stop}
-use Rattle.sorting.specs.ByBytes.{signatureAt, Collected, collected, collectFrom, alternativeFrom, rootAt, Stepped, going, stopped, stepped, known, afterVerdict, afterBlock, afterBody, stepAt, goOn, sortsFrom, longest, sortsOf}
+use Rattle.sorting.specs.ByBytes.{signatureAt, Collected, collected, collectFrom, alternativeFrom, rootAt, Stepped, going, stopped, stepped, known, afterVerdict, afterBlock, afterBody, stepAt, goOn, sortsFrom, sortsOf}
 use Rattle.sorting.proofs.TemplateInduction.{choose}
 
 -- ------------------------------------------------------------------ the root
@@ -164,15 +165,15 @@ module _ (bs : List ℕ) (at tag : ℕ) (v : List ℕ) (fs : Fields) (k : Known)
 
 -- ------------------------------------------------------------------ the walk
 
-pub sorts-long : (bs : List ℕ) → longest < length bs → Passed ≡ sortsOf bs
+pub sorts-long : (bs : List ℕ) → longestTable < length bs → Passed ≡ sortsOf bs
 unfolding sortsOf
-sorts-long bs h = ap (choose (sortsFrom (fieldsOf bs) bs (known 0 0 0) (replicate 64 0)) Passed) (sym (lt-leb (length bs) longest h))
+sorts-long bs h = ap (choose (sortsFrom (fieldsOf bs) bs (known 0 0 0) (replicate 64 0)) Passed) (sym (lt-leb (length bs) longestTable h))
 
-pub sorts-short : (bs : List ℕ) → length bs ≤ longest → sortsFrom (fieldsAt bs 0) bs (known 0 0 0) (replicate 64 0) ≡ sortsOf bs
+pub sorts-short : (bs : List ℕ) → length bs ≤ longestTable → sortsFrom (fieldsAt bs 0) bs (known 0 0 0) (replicate 64 0) ≡ sortsOf bs
 unfolding sortsOf
 sorts-short bs h =
     ap (λ fs. sortsFrom fs bs (known 0 0 0) (replicate 64 0)) (sym (fields-of bs))
-    ∙ ap (choose (sortsFrom (fieldsOf bs) bs (known 0 0 0) (replicate 64 0)) Passed) (sym (le-leb (length bs) longest h))
+    ∙ ap (choose (sortsFrom (fieldsOf bs) bs (known 0 0 0) (replicate 64 0)) Passed) (sym (le-leb (length bs) longestTable h))
 
 pub record Sorting (bs : List ℕ) (m : ℕ) (H stack : List ℕ) (at : ℕ) (k : Known) : Type 0 where
   pub heads : length H ≡ 64

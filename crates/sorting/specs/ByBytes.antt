@@ -13,6 +13,7 @@ use Rattle.answers.specs.Checked.{Checked, ok, bad, _>>=_, _>>_, need, verdict}
 use Rattle.spellings.specs.Bytes.{same}
 use Rattle.grammar.specs.Sorts.{unit, binder, term, num}
 use Rattle.grammar.specs.Fields.{Fields, end, cut, next, fieldsOf}
+use Rattle.layout.specs.Layout.{longestTable}
 use Rattle.sorting.specs.declared.Body.{Body}
 use Rattle.sorting.specs.declared.Body.the-variants.{Variable, Whole}
 use Rattle.sorting.specs.declared.Known.{Known}
@@ -205,10 +206,7 @@ sortsFrom (end at) bs k H = Passed
 sortsFrom (cut at) bs k H = Passed
 sortsFrom (next at tag v fs) bs k H = goOn (stepAt bs at tag v fs k H) (λ k′ H′. sortsFrom fs bs k′ H′)
 
--- the most bytes that are looked at; a longer table was refused before
-abbrev pub longest : ℕ
-longest = 16384
-
+-- a longer table was refused before
 unfoldable pub sortsOf : List ℕ → Verdict
 sortsOf bs =
-    elim (leb (length bs) longest) [ true ↦ sortsFrom (fieldsOf bs) bs (known 0 0 0) (replicate 64 0) | false ↦ Passed ]
+    elim (leb (length bs) longestTable) [ true ↦ sortsFrom (fieldsOf bs) bs (known 0 0 0) (replicate 64 0) | false ↦ Passed ]

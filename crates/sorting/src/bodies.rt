@@ -7,6 +7,7 @@ use crate::heads::refused;
 use crate::heads::signature_at;
 use crate::templates::are_closed;
 use crate::templates::fills;
+use crate::templates::wide;
 use answers::Refusal;
 use answers::Verdict;
 use grammar::Front;
@@ -32,12 +33,6 @@ fn unsorted(number: u8, at: usize) -> Sorted
         b: 0,
         c: 0,
     })
-}
-
-fn wide(b: u8) -> usize
-    ensures { λ r. ⌜ r ≡ b ⌝ }
-{
-    b as usize
 }
 
 // Opens the places of a signature's parameters on an empty stack, the first parameter's on top; the height.

@@ -1,4 +1,5 @@
 // The heads of definitions: signatures, and refusals 7 and 8.
+use crate::templates::wide;
 use answers::Refusal;
 use answers::Verdict;
 use grammar::Front;
@@ -22,12 +23,6 @@ pub fn refused(number: u8, at: usize) -> Verdict
         b: 0,
         c: 0,
     })
-}
-
-fn wide(b: u8) -> usize
-    ensures { λ r. ⌜ r ≡ b ⌝ }
-{
-    b as usize
 }
 
 // The signature in the head at an offset: the sort of the result, then those of the parameters, four at most.

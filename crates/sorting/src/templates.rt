@@ -12,7 +12,8 @@ ghost use lib.ListN.{length};
 ghost use Rattle.layout.specs.Prefix.{isNameTag};
 ghost use Rattle.sorting.specs.TemplateBytes.{closedBytes, headSort, headParams, fillBytes, places};
 
-fn wide(b: u8) -> usize
+// A byte as a number of the width of offsets.
+pub fn wide(b: u8) -> usize
     ensures { λ r. ⌜ r ≡ b ⌝ }
 {
     b as usize
