@@ -175,39 +175,43 @@ sorts-short bs h =
     ap (λ fs. sortsFrom fs bs (known 0 0 0) (replicate 64 0)) (sym (fields-of bs))
     ∙ ap (choose (sortsFrom (fieldsOf bs) bs (known 0 0 0) (replicate 64 0)) Passed) (sym (le-leb (length bs) longestTable h))
 
-pub record Sorting (bs : List ℕ) (m : ℕ) (H stack : List ℕ) (at : ℕ) (k : Known) : Type 0 where
-  pub heads : length H ≡ 64
-  pub full : length stack ≡ m
+pub record Sorting (bs H₀ stack₀ H stack : List ℕ) (at : ℕ) (k : Known) : Type 0 where
+  pub heads : length H ≡ length H₀
+  pub full : length stack ≡ length stack₀
   pub keywords : k .keywords ≤ at
   pub outsides : k .outsides ≤ at
   pub head : k .head ≤ at
-  pub rest : sortsFrom (fieldsAt bs at) bs k H ≡ sortsOf bs
+  pub rest : sortsFrom (fieldsAt bs at) bs k H ≡ sortsFrom (fieldsAt bs 0) bs (known 0 0 0) H₀
 
-module _ {bs : List ℕ} {m : ℕ} {H stack : List ℕ} {at : ℕ} {k : Known} (s : Sorting bs m H stack at k) where
-  left : {r : Front} → r ≡ frontOf (drop at bs) → sortsFrom (opened bs at r) bs k H ≡ sortsOf bs
+pub sorting-start : (bs H₀ stack₀ : List ℕ) → Sorting bs H₀ stack₀ H₀ stack₀ 0 (known 0 0 0)
+sorting-start bs H₀ stack₀ =
+    record { heads = refl; full = refl; keywords = omega arith; outsides = omega arith; head = omega arith; rest = refl }
+
+module _ {bs H₀ stack₀ H stack : List ℕ} {at : ℕ} {k : Known} (s : Sorting bs H₀ stack₀ H stack at k) where
+  left : {r : Front} → r ≡ frontOf (drop at bs) → sortsFrom (opened bs at r) bs k H ≡ sortsFrom (fieldsAt bs 0) bs (known 0 0 0) H₀
   left e = ap (λ fs. sortsFrom fs bs k H) (sym (fields-at bs at e)) ∙ s .rest
 
-  pub sorting-nothing : Nothing ≡ frontOf (drop at bs) → Passed ≡ sortsOf bs
+  pub sorting-nothing : Nothing ≡ frontOf (drop at bs) → Passed ≡ sortsFrom (fieldsAt bs 0) bs (known 0 0 0) H₀
   unfolding sortsFrom
   sorting-nothing e = left e
 
-  pub sorting-short : Short ≡ frontOf (drop at bs) → Passed ≡ sortsOf bs
+  pub sorting-short : Short ≡ frontOf (drop at bs) → Passed ≡ sortsFrom (fieldsAt bs 0) bs (known 0 0 0) H₀
   unfolding sortsFrom
   sorting-short e = left e
 
   module _ {tag n : ℕ} {value : List ℕ} (step : Step) (H′ : List ℕ) (e : Field tag n ≡ frontOf (drop at bs)) (l : value ≡ take n (drop (at + 3) bs))
       (q : stepped step H′ ≡ stepAt bs at tag value (fieldsAt bs (at + 3 + n)) k H) where
-    at-field : goOn (stepped step H′) (λ k′ L. sortsFrom (fieldsAt bs (at + 3 + n)) bs k′ L) ≡ sortsOf bs
+    at-field : goOn (stepped step H′) (λ k′ L. sortsFrom (fieldsAt bs (at + 3 + n)) bs k′ L) ≡ sortsFrom (fieldsAt bs 0) bs (known 0 0 0) H₀
     unfolding sortsFrom
     at-field =
         ap (λ x. goOn x (λ k′ L. sortsFrom (fieldsAt bs (at + 3 + n)) bs k′ L))
         (q ∙ ap (λ w. stepAt bs at tag w (fieldsAt bs (at + 3 + n)) k H) l)
         ∙ left e
 
-    pub sorting-stop : {c : Verdict} → step ≡ Stop c → c ≡ sortsOf bs
+    pub sorting-stop : {c : Verdict} → step ≡ Stop c → c ≡ sortsFrom (fieldsAt bs 0) bs (known 0 0 0) H₀
     sorting-stop h = ap (λ x. goOn (stepped x H′) (λ k′ L. sortsFrom (fieldsAt bs (at + 3 + n)) bs k′ L)) (sym h) ∙ at-field
 
-    pub sorting-next : {k′ : Known} {stack′ : List ℕ} → step ≡ Next k′ → length H′ ≡ length H → length stack′ ≡ length stack → Sorting bs m H′ stack′ (at + 3 + n) k′
+    pub sorting-next : {k′ : Known} {stack′ : List ℕ} → step ≡ Next k′ → length H′ ≡ length H → length stack′ ≡ length stack → Sorting bs H₀ stack₀ H′ stack′ (at + 3 + n) k′
     sorting-next {k′} h a b =
         let small : (k′ .keywords ≤ at + 3 + n) × (k′ .outsides ≤ at + 3 + n) × (k′ .head ≤ at + 3 + n) =
         subst (λ x. Small (at + 3 + n) (stepped x H′)) h

@@ -19,7 +19,7 @@ ghost use mathlib.Core.Path.{_≡_};
 ghost use lib.ListN.{length};
 ghost use Rattle.answers.specs.Checked.{verdict};
 ghost use Rattle.grammar.specs.Lookup.{fieldsAt};
-ghost use Rattle.sorting.specs.ByBytes.{rootAt, afterVerdict, stepped, stepAt, sortsOf};
+ghost use Rattle.sorting.specs.ByBytes.{rootAt, afterVerdict, stepped, stepAt, known, sortsFrom, sortsOf};
 
 // What is known between two fields of a table: how many keywords and outside names there are, and the offset of the head of the
 // definition begun last.
@@ -111,15 +111,11 @@ fn check_field(
     }
 }
 
-// The sorts of a table whose layout is right: refusals 7, 8, 9 and 11. A table over 16,384 bytes is refused before.
-pub fn check_sorts(table: &[u8]) -> Verdict
-    ensures { λ r. ⌜ r ≡ sortsOf (now (table .entry)) ⌝ }
+// A table's fields from the first on, with no head known yet and room for the places that templates open.
+fn check_fields(table: &[u8], heads: &mut [u16], stack: &mut [u8]) -> Verdict
+    requires { ⌜ (length (now table) ≤ 16384) × (2 * length (now table) + 8 ≤ length (now stack)) ⌝ }
+    ensures { λ r. ⌜ r ≡ sortsFrom (fieldsAt (now (table .entry)) 0) (now (table .entry)) (known 0 0 0) (now (heads .entry)) ⌝ }
 {
-    if 16_384 < table.len() {
-        return Verdict::Passed;
-    }
-    let mut heads = [0u16; 64];
-    let mut stack = [0u8; 32_776];
     let mut at: usize = 0;
     let mut known = Known {
         keywords: 0,
@@ -138,16 +134,8 @@ pub fn check_sorts(table: &[u8]) -> Verdict
             Front::Field(tag, size) => {
                 let from = at + 3;
                 let to = from + size;
-                let step = check_field(
-                    table,
-                    at,
-                    tag,
-                    &table[from..to],
-                    to,
-                    known,
-                    &mut heads,
-                    &mut stack,
-                );
+                let v = &table[from..to];
+                let step = check_field(table, at, tag, v, to, known, heads, stack);
                 match step {
                     Step::Stop(v) => {
                         return v;
@@ -160,4 +148,16 @@ pub fn check_sorts(table: &[u8]) -> Verdict
             }
         }
     }
+}
+
+// The sorts of a table whose layout is right: refusals 7, 8, 9 and 11. A table over 16,384 bytes is refused before.
+pub fn check_sorts(table: &[u8]) -> Verdict
+    ensures { λ r. ⌜ r ≡ sortsOf (now (table .entry)) ⌝ }
+{
+    if 16_384 < table.len() {
+        return Verdict::Passed;
+    }
+    let mut heads = [0u16; 64];
+    let mut stack = [0u8; 32_776];
+    check_fields(table, &mut heads, &mut stack)
 }
