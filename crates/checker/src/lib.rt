@@ -40,7 +40,7 @@ pub fn check_into(
         Verdict::Passed => {}
     }
     let m = firsts::index::build_index(table, owners, starts);
-    let chosen = firsts::check::check_firsts(
+    let chosen = firsts::prepared::check_firsts(
         table,
         owners,
         starts,

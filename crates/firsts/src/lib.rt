@@ -1,9 +1,9 @@
 // Normalizing, nullable nonterminals, first sets and left recursion: refusals 12 and 13.
-pub mod check;
 pub mod clash;
 pub mod index;
 pub mod items;
 pub mod nullable;
+pub mod prepared;
 pub mod sets;
 
 // An item as nullables and first sets see it.

@@ -2,8 +2,8 @@
 use mathlib.Core.Path.{_∙_}
 use borrow.Author.Needs.{needs}
 use Rattle.firsts.proofs.CheckLaws as laws
-use Rattle.firsts.proofs.check.check_firsts.Statement.{statement}
-use Rattle.firsts.proofs.check.check_firsts.Tie as tie
+use Rattle.firsts.proofs.prepared.check_firsts.Statement.{statement}
+use Rattle.firsts.proofs.prepared.check_firsts.Tie as tie
 
 prepare-requires : tie.Need-prepare-requires
 prepare-requires c κs = search needs

@@ -6,8 +6,8 @@ use Rattle.firsts.specs.First.{allPassed}
 use Rattle.firsts.specs.Index.{itemsOf}
 use Rattle.grammar.specs.Lookup.{fieldsAt}
 use Rattle.firsts.proofs.CheckLaws as laws
-use Rattle.firsts.proofs.check.fill_empties.Statement.{statement}
-use Rattle.firsts.proofs.check.fill_empties.Tie as tie
+use Rattle.firsts.proofs.prepared.fill_empties.Statement.{statement}
+use Rattle.firsts.proofs.prepared.fill_empties.Tie as tie
 
 abbrev Inv-loop : tie.InvT-loop
 Inv-loop table starts m nulls empties₀ j₀ empties j = laws.Filling (λ k. allPassed nulls (itemsOf (fieldsAt table (getD starts k 0)))) m empties₀ j empties

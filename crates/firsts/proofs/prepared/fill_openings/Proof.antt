@@ -7,8 +7,8 @@ use Rattle.firsts.specs.Index.{itemsOf}
 use Rattle.firsts.specs.First.{gather}
 use Rattle.grammar.specs.Lookup.{fieldsAt}
 use Rattle.firsts.proofs.CheckLaws as laws
-use Rattle.firsts.proofs.check.fill_openings.Statement.{statement}
-use Rattle.firsts.proofs.check.fill_openings.Tie as tie
+use Rattle.firsts.proofs.prepared.fill_openings.Statement.{statement}
+use Rattle.firsts.proofs.prepared.fill_openings.Tie as tie
 
 abbrev Inv-loop : tie.InvT-loop
 Inv-loop table starts m nulls firsts openings₀ j₀ openings j = laws.Filling (λ k. gather false nulls firsts (itemsOf (fieldsAt table (getD starts k 0))) 0) m openings₀ j openings

@@ -1,8 +1,8 @@
 -- `prepare`: each room is filled from those before it.
 use borrow.Author.Needs.{needs}
 use Rattle.firsts.proofs.CheckLaws as laws
-use Rattle.firsts.proofs.check.prepare.Statement.{statement}
-use Rattle.firsts.proofs.check.prepare.Tie as tie
+use Rattle.firsts.proofs.prepared.prepare.Statement.{statement}
+use Rattle.firsts.proofs.prepared.prepare.Tie as tie
 
 nullables-requires : tie.Need-nullables-requires
 nullables-requires c κs = search needs

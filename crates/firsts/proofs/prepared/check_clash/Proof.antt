@@ -2,8 +2,8 @@
 use mathlib.Core.Path.{_∙_}
 use borrow.Author.Needs.{needs}
 use Rattle.firsts.proofs.CheckLaws as laws
-use Rattle.firsts.proofs.check.check_clash.Statement.{statement}
-use Rattle.firsts.proofs.check.check_clash.Tie as tie
+use Rattle.firsts.proofs.prepared.check_clash.Statement.{statement}
+use Rattle.firsts.proofs.prepared.check_clash.Tie as tie
 
 clashing-requires : tie.Need-clashing-requires
 clashing-requires c κs = search needs

@@ -4,8 +4,8 @@ use lib.ListN.{length}
 use borrow.Author.Needs.{needs}
 use Rattle.firsts.specs.First.{leftRecursive}
 use Rattle.firsts.proofs.ProductionsLaws as sets
-use Rattle.firsts.proofs.check.recursion.Statement.{statement}
-use Rattle.firsts.proofs.check.recursion.Tie as tie
+use Rattle.firsts.proofs.prepared.recursion.Statement.{statement}
+use Rattle.firsts.proofs.prepared.recursion.Tie as tie
 
 sets-of-requires : tie.Need-sets-of-requires
 sets-of-requires c κs = search needs
