@@ -18,6 +18,7 @@ use Rattle.expander.specs.declared.State.{State}
 use Rattle.expander.specs.Run.{Result, done, halt, Run, after}
 use Rattle.expander.specs.Expansion.{Input, cellMade, cell, build, buildAll}
 use Rattle.expander.specs.Figure3.{Value, Constructs, Gives, by-variable, by-global, by-label, by-constructor, GiveAll, give-none, give-more}
+use Rattle.expander.specs.Costs.{rowsOf, rowsOfAll}
 use Rattle.expander.proofs.Shows.{Grown, grown-not, grown-trans, Shows, shows-name, shows-label, ShowAll, show-none, show-more, shows-later, all-later, shows-bound, row-grown, row-shows, outside-named}
 
 -- ------------------------------------------------------------------ how a run ends
@@ -39,18 +40,6 @@ ends-map P H Q K (done a s cells) p f h = f a s cells p
 ends-map P H Q K (halt q cells) p f h = h q p
 
 -- ------------------------------------------------------------------ what templates make
-
--- the cells of a template: one for each constructor
-unfoldable mutual
-  pub rowsOf : Template → ℕ
-  rowsOf (Table.variable i) = 0
-  rowsOf (Table.outside n) = 0
-  rowsOf (Table.outsideLabel n) = 0
-  rowsOf (Table.make c ts) = rowsOfAll ts + 1
-
-  pub rowsOfAll : Templates → ℕ
-  rowsOfAll none = 0
-  rowsOfAll (more t ts) = rowsOf t + rowsOfAll ts
 
 -- n cells more, and nothing else moved; no more than the rows there are
 pub record Made (rows n : ℕ) (s : State) (cells : List ℕ) (s′ : State) (cells′ : List ℕ) : Type 0 where

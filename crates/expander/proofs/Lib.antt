@@ -4,4 +4,6 @@ pub mod Typing
 pub mod Choosing
 pub mod Sound
 pub mod Normalizing
+pub mod Complete
+pub mod Unique
 pub mod ExpansionTheorems

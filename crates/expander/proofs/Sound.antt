@@ -30,8 +30,9 @@ use Rattle.expander.specs.declared.State.{State}
 use Rattle.expander.specs.Run.{Result, done, halt, Run, after}
 use Rattle.expander.specs.Expansion.{Input, ready, Rule, Choice, unfit, chosen, choice, endToken, nextToken, tokenTaken, take, misfit, buildAll, build, wordValue, runItem, runItems, callBegun, mostCalls, runCall, mostOpen, start, ended, run}
 use Rattle.expander.specs.Figure3.{Value, unit, name, label, num, term, Gives, GiveAll, Taken, Derives, by-end, by-keyword, by-ide-var, by-ide-binder, by-ide-label, by-number, by-local, by-call, Parses}
+use Rattle.expander.specs.Costs.{rowsOf, rowsOfAll}
 use Rattle.expander.proofs.Shows.{Agree, Grown, grown-not, grown-trans, Shows, shows-unit, shows-name, shows-label, shows-num, shows-term, ShowAll, show-none, shows-later, all-later, all-and, word-named, fresh-named}
-use Rattle.expander.proofs.Building.{Ends, ends-after, ends-map, Made, Full, Built, BuiltAll, rowsOf, rowsOfAll, build-ends, build-all-ends}
+use Rattle.expander.proofs.Building.{Ends, ends-after, ends-map, Made, Full, Built, BuiltAll, build-ends, build-all-ends}
 use Rattle.expander.specs.ValueSorts.{Typed, typed-unit, typed-var, typed-binder, typed-label, typed-num, typed-term, Matches, matches-none}
 use Rattle.expander.proofs.Typing.{matches-and, gives-exists, give-all-exist, items-typed, FitAll, body-of, taken-of}
 use Rattle.expander.proofs.Choosing.{kindOf, kind-next, Picks, picks, picks-none, choice-picks, rule}
@@ -124,8 +125,9 @@ module _ {g : List Production} (F : FitAll g) (spell : ℕ → List ℕ) (tokens
     pub grown : Grown (s .made) cells (s′ .made) cells′
     pub kept : Kept rows k s′ cells′
 
-  abbrev Any : Refusal → Type 0
-  Any r = Unit {0}
+  -- a refusal of an expansion
+  abbrev pub Any : Refusal → Type 0
+  Any r = (17 ≤ r .number) × (r .number ≤ 21)
 
   -- what is asked of a callee
   abbrev Callee : (ℕ → List ℕ → Run ℕ) → Type 0
@@ -140,7 +142,7 @@ module _ {g : List Production} (F : FitAll g) (spell : ℕ → List ℕ) (tokens
       go : (b : Bool) → eqb (nextToken I s .kind) kind ≡ b
           → Ends P Any (elim b [ true ↦ done (value (nextToken I s .value)) (tokenTaken s) cells | false ↦ misfit (Rattle.kinds.specs.Kinds.only kind) s cells ])
       go true e = f (eqb-true (nextToken I s .kind) kind e)
-      go false e = tt
+      go false e = (omega arith, omega arith)
 
   kept-on : {k : ℕ} {s : State} {cells : List ℕ} → Kept rows (k + 1) s cells → Kept rows k (tokenTaken s) cells
   kept-on h = record { room = h .room; fits = h .fits; names = omega (arith, h .names); begun = h .begun }
@@ -210,8 +212,8 @@ module _ {g : List Production} (F : FitAll g) (spell : ℕ → List ℕ) (tokens
           kept = d .kept;
           step = λ is M′ t j e. subst₂ (λ at i. Derives g spell M (drop at tokens) i (call n ts ∷ is) M′ t j) (b .0 .at-kept) (b .0 .fresh-kept) (by-call (vs .1) (d .taken) (d .derived) (d .given) e);
         })
-        (λ r u. tt))
-        (λ r u. tt)
+        (λ r u. u))
+        (λ r u. (omega (arith, u .is-21), omega (arith, u .is-21)))
 
     -- the items derived, and the result sorted under their variables
     record Derived (k : ℕ) (is : List Item) (r : Template) (B : ℕ) (M : List Value) (s : State) (cells : List ℕ) (xs : List ℕ) (s′ : State) (cells′ : List ℕ) : Type 0 where
@@ -261,8 +263,8 @@ module _ {g : List Production} (F : FitAll g) (spell : ℕ → List ℕ) (tokens
           grown = grown-trans (p .grown) (q .grown);
           kept = q .kept;
         })
-        (λ r u. tt))
-        (λ r u. tt)
+        (λ r u. u))
+        (λ r u. u)
 
   -- ------------------------------------------------------------------ calls
 
@@ -296,20 +298,20 @@ module _ {g : List Production} (F : FitAll g) (spell : ℕ → List ℕ) (tokens
             grown = grown-trans (e .grown) (b .0 .grown);
             kept = kept-made (e .kept) (b .0);
           })
-          (λ r u. tt))
-          (λ r u. tt)
+          (λ r u. (omega (arith, u .is-21), omega (arith, u .is-21))))
+          (λ r u. u)
 
       go : (b : Bool) → ltb (s .calls) mostCalls ≡ b → Picks g n (from s) (choice (ready g) n (kindOf (from s))) → Goal (runCall (suc d) I n xs s cells)
-      go false e q = subst⁻¹ (λ r. Ends (Called k n vs s cells) Any r) (call-full d I n xs s cells e) tt
+      go false e q = subst⁻¹ (λ r. Ends (Called k n vs s cells) Any r) (call-full d I n xs s cells e) (omega arith, omega arith)
       go true e (picks p t f) =
           subst⁻¹ (λ r. Ends (Called k n vs s cells) Any r) (call-chosen d I n xs s cells (rule g p) e (ap (choice (ready g) n) (kind-next (s .at) tokens) ∙ f))
           (items p t (ltb-true (s .calls) mostCalls e))
       go true e (picks-none f c) =
-          subst⁻¹ (λ r. Ends (Called k n vs s cells) Any r) (call-unfit d I n xs s cells e (ap (choice (ready g) n) (kind-next (s .at) tokens) ∙ c)) tt
+          subst⁻¹ (λ r. Ends (Called k n vs s cells) Any r) (call-unfit d I n xs s cells e (ap (choice (ready g) n) (kind-next (s .at) tokens) ∙ c)) (omega arith, omega arith)
 
   call-sound : (d : ℕ) → Callee (runCall d I)
   unfolding runCall
-  call-sound zero k n S vs xs s cells w l m h a = tt
+  call-sound zero k n S vs xs s cells w l m h a = (omega arith, omega arith)
   call-sound (suc d) k n S vs xs s cells w l m h a = call-step d (call-sound d) k n S vs xs s cells w l m h a
 
   -- ------------------------------------------------------------------ the whole formula
@@ -343,7 +345,7 @@ module _ {g : List Production} (F : FitAll g) (spell : ℕ → List ℕ) (tokens
     ended-sound cells x s′ cells′ c = go (ltb (s′ .at) (length tokens)) refl
       where
         go : (b : Bool) → ltb (s′ .at) (length tokens) ≡ b → Ends (Accepted root) Any (elim b [ true ↦ halt (refusal 18 (s′ .at) 0 0) cells′ | false ↦ done x s′ cells′ ])
-        go true e = tt
+        go true e = (omega arith, omega arith)
         go false e =
             parses (ltb-false (s′ .at) (length tokens) e) c
             (subst (Typed (c .value)) res (items-typed F (c .derived) no-arguments (body-of F (taken-of (c .taken)) w) (c .given)))
@@ -353,9 +355,13 @@ module _ {g : List Production} (F : FitAll g) (spell : ℕ → List ℕ) (tokens
     run-ends cells room =
         ends-after (Called 0 root [] start cells) Any (Accepted root) Any (runCall mostOpen I root [] start cells) (ended I)
         (call-sound mostOpen 0 root S [] [] start cells w l no-arguments (record { room = room; fits = omega arith; names = omega arith; begun = omega arith }) show-none)
-        (ended-sound cells) (λ r u. tt)
+        (ended-sound cells) (λ r u. u)
 
     -- what is accepted is parsed
     pub run-sound : (cells : List ℕ) → rows * 4 ≤ length cells → (v : ℕ) (s : State) (cells′ : List ℕ) → run I root cells ≡ done v s cells′
         → Parses g spell root tokens (termAt (s .made) spell cells′ v)
     run-sound cells room v s cells′ e = subst (λ r. Ends (Accepted root) Any r) e (run-ends cells room)
+
+    -- what is refused is refused with 17 to 21
+    pub run-refused : (cells : List ℕ) → rows * 4 ≤ length cells → (r : Refusal) (cells′ : List ℕ) → run I root cells ≡ halt r cells′ → (17 ≤ r .number) × (r .number ≤ 21)
+    run-refused cells room r cells′ e = subst (λ r. Ends (Accepted root) Any r) e (run-ends cells room)
