@@ -31,7 +31,7 @@ use Rattle.expander.specs.Figure3.{Value, unit, name, label, num, term, 
 use Rattle.expander.specs.Costs.{rowsOf, rowsOfAll, openIn, callsIn, rowsIn, Beyond, too-deep, too-many, too-large, openCalls, allCalls, allRows, Exceeds}
 use Rattle.expander.proofs.Shows.{Grown, grown-not, grown-trans, Shows, shows-unit, shows-name, shows-label, shows-num, shows-term, ShowAll, show-none, shows-later, all-later, all-and, word-named, fresh-named}
 use Rattle.expander.proofs.Building.{Ends, ends-after, ends-map, Made, Full, Built, BuiltAll, build-ends, build-all-ends}
-use Rattle.expander.proofs.Typing.{FitAll, taken-of}
+use Rattle.expander.proofs.Typing.{FitAll, taken-of, result-sorted}
 use Rattle.expander.proofs.Choosing.{kindOf, kind-next, Picks, picks, picks-none, choice-picks, rule, taken-one}
 use Rattle.expander.proofs.Sound.{token-here, input, SmallWords, Kept, kept-made, kept-less, call-full, call-chosen}
 
@@ -68,11 +68,6 @@ beyond-open y z r (too-large e l) = too-large e (omega arith)
 
 full-beyond : {rows d o c m m′ : ℕ} → m ≤ m′ → (r : Refusal) → Full rows m r → Beyond rows d o c m′ r
 full-beyond z r h = too-large (h .is-21) (omega (arith, h .beyond))
-
--- the template of an alternative is sorted under its variables
-result-sorted : {G : Scope} {L : List ℕ} {is : List Item} {r : Template} {B : ℕ} → Body G L is r B → (L′ : List ℕ) × (A : ℕ) × Sorted (G .outsides) L′ r A
-result-sorted (by-result {L = L} {A = A} w f) = (L, A, w)
-result-sorted (by-binding i b) = result-sorted b
 
 module _ {g : List Production} (F : FitAll g) (passed : checkFirsts g ≡ ok tt) (spell : ℕ → List ℕ) (tokens : List Token) (rows : ℕ) (small : SmallWords tokens) where
   abbrev I : Input

@@ -4,26 +4,33 @@
 use Prim.Native.Nat.{ℕ, _*_, _≤_, _<_}
 use mathlib.Core.Path.{_≡_, refl, sym, subst, _∙_}
 use mathlib.Core.Logic.{_↔_, _⊎_, inl, inr}
+use mathlib.Core.Bool.{true}
 use mathlib.Core.List.{List, [], _∷_}
 use native.Mathlib.Omega.{arith}
 use lib.ListN.{length}
 use Rattle.answers.specs.declared.Refusal.{Refusal}
+use Rattle.spellings.specs.Bytes.{isWord}
+use Rattle.kinds.specs.Kinds.{wordKind}
+use Rattle.grammar.specs.Fields.{Lexicon}
 use Rattle.answers.specs.Checked.{ok}
 use Rattle.grammar.specs.Table.{Template, Item, Table}
 use Rattle.grammar.specs.Cells.{columns}
 use Rattle.layout.specs.Within.{Within}
 use Rattle.sorting.specs.Judgements.{Body, WellSorted}
 use Rattle.scanner.specs.declared.Token.{Token}
+use Rattle.scanner.specs.Scan.{scan}
 use Rattle.firsts.specs.Normal.{Production, normalized}
 use Rattle.firsts.specs.First.{checkFirsts}
 use Rattle.terms.specs.Term.{Name, Term}
 use Rattle.terms.specs.Rows.{termAt}
+use Rattle.terms.specs.Binding.{isWorded}
 use Rattle.expander.specs.declared.State.{State}
 use Rattle.expander.specs.Run.{Result, done, halt}
 use Rattle.expander.specs.Expansion.{run}
 use Rattle.expander.specs.Figure3.{Value, Gives, Derives, Parses}
 use Rattle.expander.specs.ValueSorts.{Typed, Matches}
 use Rattle.expander.specs.Costs.{allCalls, allRows, Limited, Beyond, too-deep, too-many, too-large, Exceeds}
+use Rattle.expander.specs.Sources.{Among, Sourced}
 use Rattle.expander.proofs.Building.{Ends}
 use Rattle.expander.proofs.Typing.{items-typed}
 use Rattle.expander.proofs.Normalizing.{scopeOf, table-fits}
@@ -31,6 +38,8 @@ use Rattle.expander.proofs.Sound.{input, SmallWords}
 use Rattle.expander.proofs.Sound as sound
 use Rattle.expander.proofs.Complete.{Accepts, run-along}
 use Rattle.expander.proofs.Unique.{parses-one}
+use Rattle.expander.proofs.Scanned.{scanned-small}
+use Rattle.expander.proofs.Sourcing.{parses-sourced, sourced-worded}
 
 -- ------------------------------------------------------------------ sorts
 
@@ -41,6 +50,18 @@ pub parsing-respects-typing : (t : Table) → Within t → (sorted : WellSorted 
     → Derives (normalized (t .blocks)) spell M s i items M′ s′ i′ → Gives spell M′ result v → Typed v B
 parsing-respects-typing t within sorted spell b m d k = items-typed (table-fits t within sorted) d m b k
 
+-- Every name, label and number of a derived term comes from where its place's sort may come from (01, "Whose name is whose").
+pub derived-is-sourced : (t : Table) → Within t → WellSorted t → (spell : ℕ → List ℕ) (tokens : List Token) (u : Term Name)
+    → Parses (normalized (t .blocks)) spell (t .root) tokens u → Sourced tokens spell (length (t .outsides)) u
+derived-is-sourced t within sorted spell tokens u P = parses-sourced (table-fits t within sorted) tokens spell P
+
+-- So a derived term has only words for names and labels, if those of the formula and of the table are words.
+pub derived-is-worded : (t : Table) → Within t → WellSorted t → (spell : ℕ → List ℕ) (tokens : List Token)
+    → ((w : Token) → Among tokens w → w .kind ≡ wordKind → isWord (spell (w .value)) ≡ true)
+    → ((n : ℕ) → n < length (t .outsides) → isWord (spell n) ≡ true)
+    → (u : Term Name) → Parses (normalized (t .blocks)) spell (t .root) tokens u → isWorded u ≡ true
+derived-is-worded t within sorted spell tokens words outsides u P = sourced-worded words outsides (derived-is-sourced t within sorted spell tokens u P)
+
 -- ------------------------------------------------------------------ one reading
 
 -- A formula has one reading at most: two derivations from the root give the same term.
@@ -49,6 +70,10 @@ pub derived-once : (g : List Production) → checkFirsts g ≡ ok tt → (spell 
 derived-once g passed spell root tokens u w P Q = parses-one passed P Q
 
 -- ------------------------------------------------------------------ runs and parses
+
+-- The words of a scan have numbers that a name can hold, so what follows holds of all that is scanned.
+pub scanned-is-small : (lex : Lexicon) → length (lex .outsides) ≤ 64 → (formula : List ℕ) → SmallWords (scan lex formula .tokens)
+scanned-is-small = scanned-small
 
 beyond-not : {rows d o c m : ℕ} {r : Refusal} → (r .number ≡ 17) ⊎ (r .number ≡ 18) → Beyond rows d o c m r → ⊥
 beyond-not (inl e) (too-deep h l) = omega (arith, e, h)

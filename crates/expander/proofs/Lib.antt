@@ -6,4 +6,6 @@ pub mod Sound
 pub mod Normalizing
 pub mod Complete
 pub mod Unique
+pub mod Scanned
+pub mod Sourcing
 pub mod ExpansionTheorems

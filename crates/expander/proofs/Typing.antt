@@ -124,6 +124,11 @@ pub record FitAll (g : List Production) : Type 0 where
   pub outsideCount : scope .outsides ≤ 64
   pub each : (p : Production) → In g p → Fit scope p
 
+-- the template of an alternative is sorted under its variables
+pub result-sorted : {G : Scope} {L : List ℕ} {is : List Item} {r : Template} {B : ℕ} → Body G L is r B → (L′ : List ℕ) × (A : ℕ) × Sorted (G .outsides) L′ r A
+result-sorted (by-result {L = L} {A = A} w f) = (L, A, w)
+result-sorted (by-binding i b) = result-sorted b
+
 pub taken-of : {g : List Production} {n : ℕ} {s : List Token} {p : Production} → Taken g n s p → Of g n p
 taken-of (taken-opened o k) = o
 taken-of (taken-nullable o k z) = o
