@@ -1,3 +1,7 @@
+pub mod TokenLaws
+pub mod ChoiceLaws
+pub mod VariableLaws
+pub mod TemplateLaws
 pub mod Shows
 pub mod Building
 pub mod Typing

@@ -1,4 +1,8 @@
 // The expander: from tokens to cells.
+pub mod choice;
+pub mod templates;
+pub mod tokens;
+
 use answers::Refusal;
 
 // Where an expansion stands: the next token not yet taken, the number of the next fresh name, the calls begun, the cells made.

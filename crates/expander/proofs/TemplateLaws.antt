@@ -1,0 +1,358 @@
+-- Laws of templates read from their bytes, and of the loop over the arguments of a constructor.
+use Prim.Native.Nat.{ℕ, zero, suc, _+_, _-_, _*_, _<_, _≤_}
+use mathlib.Core.Path.{_≡_, refl, sym, ap, _∙_, subst}
+use mathlib.Core.Bool.{Bool, true, false}
+use mathlib.Core.List.{List, [], _∷_, _++_, append-assoc, append-nil}
+use native.Mathlib.Nat.{sub-zero}
+use native.Mathlib.Numerals.{add-one, add-two}
+use native.Mathlib.Omega.{arith}
+use native.Mathlib.Decide.{decLt}
+use lib.Dec.{eqb, leb, ltb}
+use lib.ListN.{length, getD, take, drop, set, drop-of-length-le}
+use lib.Seq.{drop-cons, sets}
+use borrow.Author.Tests.{lt-ltb, le-ltb, lt-leb, ne-eqb}
+use Rattle.spellings.specs.BytesLaws.{by-test}
+use Rattle.answers.specs.Refusals.{refusal}
+use Rattle.grammar.specs.Sorts.{isConstructor, arity}
+use Rattle.grammar.specs.Table.{Template, Templates, variable, make, none, more}
+use Rattle.grammar.specs.Cells.{withRow}
+use Rattle.layout.specs.Prefix.{Parsed, fault, parsed, inFront, Taken, short, taken, alsoTaken, takeTemplates, applied, constructed, byteInFront, isNameTag, nameBy, templatesOf, found, firstOf}
+use Rattle.layout.specs.PrefixLaws.{name-first, name-last, byte-first, variable-first, constructor-first, unknown-first}
+use Rattle.expander.specs.declared.State.{State}
+use Rattle.expander.specs.declared.templates.Built.{Built}
+use Rattle.expander.specs.declared.templates.Built.the-variants.{Made, Full}
+use Rattle.expander.specs.Run.{Result, done, halt, return, after, _>>=_}
+use Rattle.expander.specs.Expansion.{Input, build, buildAll, cell}
+use Rattle.expander.specs.Built.{Holds, withMade, Ahead, templateAt, othersOf, othersAt, noRow, built, Behind}
+use Rattle.expander.proofs.VariableLaws.{spare, spare-set}
+
+-- ------------------------------------------------------------------ what is read in front
+
+-- a template in front of what was read
+front-read : (u : Template) (p : Parsed) (t : Template) (ts : Templates) → inFront u p ≡ parsed (more t ts) → (t ≡ u) × (p ≡ parsed ts)
+front-read u fault t ts e = let z : _≡_ {A = ℕ} 0 1 = cc in absurd (omega arith)
+front-read u (parsed ws) t ts e = (cc, cc)
+
+fault-read : {p : Parsed} (t : Template) (ts : Templates) → p ≡ fault → p ≡ parsed (more t ts) → ⊥
+fault-read t ts e f = let z : _≡_ {A = ℕ} 0 1 = cc in omega arith
+
+-- a constructor and the templates that it takes
+pub record Makes (b : ℕ) (p : Parsed) (t : Template) (ts : Templates) : Type 0 where
+  pub ahead : Templates
+  pub own : Templates
+  pub read : p ≡ parsed ahead
+  pub takes : takeTemplates (arity b) ahead ≡ taken own ts
+  pub is : t ≡ make b own
+
+applied-read : (b : ℕ) (ws : Templates) (x : Taken) → takeTemplates (arity b) ws ≡ x → (t : Template) (ts : Templates)
+    → applied b x ≡ parsed (more t ts)
+    → Makes b (parsed ws) t ts
+applied-read b ws short h t ts e = let z : _≡_ {A = ℕ} 0 1 = cc in absurd (omega arith)
+applied-read b ws (taken us vs) h t ts e = record { ahead = ws; own = us; read = refl; takes = cc; is = cc }
+
+constructed-read : (b : ℕ) (p : Parsed) (t : Template) (ts : Templates) → constructed b p ≡ parsed (more t ts) → Makes b p t ts
+constructed-read b fault t ts e = let z : _≡_ {A = ℕ} 0 1 = cc in absurd (omega arith)
+constructed-read b (parsed ws) t ts e = applied-read b ws (takeTemplates (arity b) ws) refl t ts e
+
+-- one more than none of the templates is taken
+pub record TakesMore (k : ℕ) (ahead own others : Templates) : Type 0 where
+  pub first : Template
+  pub ahead′ : Templates
+  pub own′ : Templates
+  pub ahead-is : ahead ≡ more first ahead′
+  pub own-is : own ≡ more first own′
+  pub takes : takeTemplates k ahead′ ≡ taken own′ others
+
+takes-more : (k : ℕ) (ahead own others : Templates) → takeTemplates (suc k) ahead ≡ taken own others → TakesMore k ahead own others
+unfolding takeTemplates
+takes-more k none own others e = let z : _≡_ {A = ℕ} 0 1 = cc in absurd (omega arith)
+takes-more k (more t ws) own others e = by (takeTemplates k ws) refl e
+  where
+    by : (x : Taken) → takeTemplates k ws ≡ x → alsoTaken t x ≡ taken own others → TakesMore k (more t ws) own others
+    by short h f = let z : _≡_ {A = ℕ} 0 1 = cc in absurd (omega arith)
+    by (taken us vs) h f = record { first = t; ahead′ = ws; own′ = us; ahead-is = refl; own-is = cc; takes = cc }
+
+-- ------------------------------------------------------------------ the template at an offset, by its first byte
+
+no-name : (b : ℕ) → (b ≡ 0x10 → ⊥) → (b ≡ 0x11 → ⊥) → isNameTag b ≡ false
+no-name b e f = rw (ne-eqb b 0x10 e, ne-eqb b 0x11 f) refl
+
+module _ (v : List ℕ) (at : ℕ) (a : Ahead v at) where
+  pub template-is : templateAt v at ≡ a .template
+  template-is = ap (λ (p : Parsed). firstOf (found p)) (a .read)
+
+  pub others-are : othersAt v at ≡ a .others
+  others-are = ap (λ (p : Parsed). othersOf (found p)) (a .read)
+
+  pub ahead-inside : at < length v
+  unfolding templatesOf
+  ahead-inside = by (decLt at (length v))
+    where
+      by : Dec (at < length v) → at < length v
+      by (yes h) = h
+      by (no n) =
+          let e : drop at v ≡ [] = drop-of-length-le v {i = at} (omega arith) in
+          let f : templatesOf [] ≡ parsed (more (a .template) (a .others)) = sym (ap templatesOf e) ∙ a .read in
+          let z : _≡_ {A = ℕ} 0 1 = cc in
+          absurd (omega arith)
+
+  module _ {b : ℕ} (eb : b ≡ getD v at 0) where
+    first-byte : templatesOf (b ∷ drop (at + 1) v) ≡ parsed (more (a .template) (a .others))
+    first-byte =
+        ap (λ (c : ℕ). templatesOf (c ∷ drop (at + 1) v)) eb
+        ∙ ap (λ (n : ℕ). templatesOf (getD v at 0 ∷ drop n v)) (add-one at)
+        ∙ sym (ap templatesOf (drop-cons v at 0 ahead-inside))
+        ∙ a .read
+
+    -- a variable
+    variable-read : b < 16 → (a .template ≡ variable b) × (templatesOf (drop (at + 1) v) ≡ parsed (a .others))
+    variable-read h =
+        front-read (variable b) (templatesOf (drop (at + 1) v)) (a .template) (a .others)
+        (sym
+        (byte-first b (drop (at + 1) v) (no-name b (λ e. omega arith) (λ e. omega arith))
+        ∙ variable-first b (templatesOf (drop (at + 1) v)) (lt-ltb b 16 h))
+        ∙ first-byte)
+
+    pub at-variable : b < 16 → templateAt v at ≡ variable b
+    at-variable h = template-is ∙ variable-read h .0
+
+    pub behind-variable : b < 16 → (x made : ℕ) → Behind v at (Made x (at + 1) made)
+    behind-variable h x made = (omega arith, omega (arith, ahead-inside), variable-read h .1 ∙ ap parsed (sym others-are))
+
+    pub variable-built : b < 16 → (env : List ℕ) (k x : ℕ) → ((M : List ℕ) → Holds env k M → x ≡ getD M b 0)
+        → (rows made : ℕ) (cells : List ℕ) (I : Input) (s : State) (M : List ℕ) → I .rows ≡ rows → Holds env k M
+        → done x (withMade s made) cells ≡ build (templateAt v at) I M (withMade s made) cells
+    unfolding build
+    variable-built h env k x f rows made cells I s M e g =
+        ap (λ (y : ℕ). done y (withMade s made) cells) (f M g)
+        ∙ sym (ap (λ (t : Template). build t I M (withMade s made) cells) (at-variable h))
+
+    -- a constructor
+    makes : 32 ≤ b → Makes b (templatesOf (drop (at + 1) v)) (a .template) (a .others)
+    makes h = by-test (isConstructor b) known (λ c. absurd (unknown c))
+      where
+        other : templatesOf (b ∷ drop (at + 1) v) ≡ byteInFront b (templatesOf (drop (at + 1) v))
+        other = byte-first b (drop (at + 1) v) (no-name b (λ e. omega arith) (λ e. omega arith))
+
+        known : isConstructor b ≡ true → Makes b (templatesOf (drop (at + 1) v)) (a .template) (a .others)
+        known c =
+            constructed-read b (templatesOf (drop (at + 1) v)) (a .template) (a .others)
+            (sym (other ∙ constructor-first b (templatesOf (drop (at + 1) v)) (le-ltb b 16 (omega arith)) c) ∙ first-byte)
+
+        unknown : isConstructor b ≡ false → ⊥
+        unknown c =
+            fault-read (a .template) (a .others)
+            (other ∙ unknown-first b (templatesOf (drop (at + 1) v)) (le-ltb b 16 (omega arith)) c) first-byte
+
+    -- an outside name
+    module _ (low : 16 ≤ b) (high : b < 32) where
+      no-constructor : isConstructor b ≡ false
+      no-constructor = rw (lt-leb 0x20 b high) refl
+
+      name-tag : (bs : List ℕ) → templatesOf (b ∷ bs) ≡ parsed (more (a .template) (a .others)) → isNameTag b ≡ true
+      name-tag bs e =
+          by-test (isNameTag b) (λ t. t)
+          (λ f.
+          absurd
+          (fault-read (a .template) (a .others)
+          (byte-first b bs f ∙ unknown-first b (templatesOf bs) (le-ltb b 16 low) no-constructor) e))
+
+      name-inside : at + 1 < length v
+      name-inside = by (decLt (at + 1) (length v))
+        where
+          by : Dec (at + 1 < length v) → at + 1 < length v
+          by (yes h) = h
+          by (no n) =
+              let e : drop (at + 1) v ≡ [] = drop-of-length-le v {i = at + 1} (omega arith) in
+              let f : templatesOf (b ∷ []) ≡ parsed (more (a .template) (a .others)) = sym (ap (λ (bs : List ℕ). templatesOf (b ∷ bs)) e) ∙ first-byte in
+              absurd (fault-read (a .template) (a .others) (name-last b (name-tag [] f)) f)
+
+      module _ {n : ℕ} (en : n ≡ getD v (at + 1) 0) where
+        second-byte : templatesOf (b ∷ n ∷ drop (at + 2) v) ≡ parsed (more (a .template) (a .others))
+        second-byte =
+            let z : suc (at + 1) ≡ at + 2 = omega arith in
+            ap (λ (c : ℕ). templatesOf (b ∷ c ∷ drop (at + 2) v)) en
+            ∙ ap (λ (k : ℕ). templatesOf (b ∷ getD v (at + 1) 0 ∷ drop k v)) (sym z)
+            ∙ sym (ap (λ (bs : List ℕ). templatesOf (b ∷ bs)) (drop-cons v (at + 1) 0 name-inside))
+            ∙ first-byte
+
+        name-read : (a .template ≡ nameBy (eqb b 0x10) n) × (templatesOf (drop (at + 2) v) ≡ parsed (a .others))
+        name-read =
+            front-read (nameBy (eqb b 0x10) n) (templatesOf (drop (at + 2) v)) (a .template) (a .others)
+            (sym (name-first b n (drop (at + 2) v) (name-tag (n ∷ drop (at + 2) v) second-byte)) ∙ second-byte)
+
+        pub at-name : templateAt v at ≡ nameBy (eqb b 0x10) n
+        at-name = template-is ∙ name-read .0
+
+        pub name-built : (env : List ℕ) (k x : ℕ)
+            → ((I : Input) (M : List ℕ) (s : State) (cells : List ℕ) → build (nameBy (eqb b 0x10) n) I M s cells ≡ done x s cells)
+            → (rows made : ℕ) (cells : List ℕ) (I : Input) (s : State) (M : List ℕ) → I .rows ≡ rows → Holds env k M
+            → done x (withMade s made) cells ≡ build (templateAt v at) I M (withMade s made) cells
+        name-built env k x f rows made cells I s M e g =
+            sym (f I M (withMade s made) cells)
+            ∙ sym (ap (λ (t : Template). build t I M (withMade s made) cells) at-name)
+
+        pub behind-name : (x made : ℕ) → Behind v at (Made x (at + 2) made)
+        behind-name x made = (omega arith, omega (arith, name-inside), name-read .1 ∙ ap parsed (sym others-are))
+
+-- ------------------------------------------------------------------ the arguments of a constructor, one by one
+
+-- i of the n arguments are given, and those ahead give with them what the template gives
+pub record Turn (v : List ℕ) (at : ℕ) (env : List ℕ) (k rows made : ℕ) (cells₀ : List ℕ) (b n : ℕ) (cells args : List ℕ) (i from count : ℕ) : Type 0 where
+  pub many : n ≡ arity b
+  pub small : i ≤ n
+  pub past : at < from
+  pub inside : from ≤ length v
+  pub as-long : length cells ≡ length cells₀
+  pub given : List ℕ
+  pub given-many : length given ≡ i
+  pub given-are : args ≡ spare given
+  pub ahead : Templates
+  pub read : templatesOf (drop from v) ≡ parsed ahead
+  pub own : Templates
+  pub takes : takeTemplates (n - i) ahead ≡ taken own (othersAt v at)
+  pub rest :
+      (I : Input) (s : State) (M : List ℕ) → I .rows ≡ rows → Holds env k M
+      → after (buildAll own I M (withMade s count) cells) (λ ys. cell I b (given ++ ys))
+      ≡ build (templateAt v at) I M (withMade s made) cells₀
+
+pub turn-start : (v : List ℕ) (at : ℕ) (a : Ahead v at) (env : List ℕ) (k rows made : ℕ) (cells : List ℕ) {b n : ℕ}
+    → b ≡ getD v at 0
+    → 32 ≤ b
+    → n ≡ arity b
+    → Turn v at env k rows made cells b n cells (0 ∷ 0 ∷ 0 ∷ []) 0 (at + 1) made
+unfolding build
+turn-start v at a env k rows made cells {b} {n} eb h en =
+    let m : Makes b (templatesOf (drop (at + 1) v)) (a .template) (a .others) = makes v at a eb h in
+    record {
+      many = en;
+      small = omega arith;
+      past = omega arith;
+      inside = omega (arith, ahead-inside v at a);
+      as-long = refl;
+      given = [];
+      given-many = refl;
+      given-are = refl;
+      ahead = m .ahead;
+      read = m .read;
+      own = m .own;
+      takes = ap (λ (j : ℕ). takeTemplates j (m .ahead)) (sub-zero n ∙ en) ∙ m .takes ∙ ap (taken (m .own)) (sym (others-are v at a));
+      rest = λ I s M e g. ap (λ (t : Template). build t I M (withMade s made) cells) (sym (template-is v at a ∙ m .is));
+    }
+
+module _ {v : List ℕ} {at : ℕ} {env : List ℕ} {k rows made : ℕ} {cells₀ : List ℕ} {b n : ℕ} {cells args : List ℕ} {i from count : ℕ}
+    (c : Turn v at env k rows made cells₀ b n cells args i from count) where
+  module _ (less : i < n) where
+    pub next-takes : TakesMore (n - (i + 1)) (c .ahead) (c .own) (othersAt v at)
+    next-takes =
+        let z : suc (n - (i + 1)) ≡ n - i = omega arith in
+        takes-more (n - (i + 1)) (c .ahead) (c .own) (othersAt v at) (ap (λ (j : ℕ). takeTemplates j (c .ahead)) z ∙ c .takes)
+
+    abbrev pub turn-ahead : Ahead v from
+    turn-ahead =
+        record
+        { template = next-takes .first; others = next-takes .ahead′; read = c .read ∙ ap parsed (next-takes .ahead-is) }
+
+    -- what one argument gives, and the others
+    turn-one : (R : Result ℕ) (I : Input) (s : State) (M : List ℕ) → I .rows ≡ rows → Holds env k M
+        → R ≡ build (templateAt v from) I M (withMade s count) cells
+        → after (after R (λ x. buildAll (next-takes .own′) I M >>= λ ys. return (x ∷ ys))) (λ ys. cell I b (c .given ++ ys))
+        ≡ build (templateAt v at) I M (withMade s made) cells₀
+    unfolding buildAll build
+    turn-one R I s M e g h =
+        ap
+        (λ (r : Result ℕ).
+        after (after r (λ x. buildAll (next-takes .own′) I M >>= λ ys. return (x ∷ ys))) (λ ys. cell I b (c .given ++ ys)))
+        (h ∙ ap (λ (t : Template). build t I M (withMade s count) cells) (template-is v from turn-ahead))
+        ∙ sym (ap (λ (ts : Templates). after (buildAll ts I M (withMade s count) cells) (λ ys. cell I b (c .given ++ ys))) (next-takes .own-is))
+        ∙ c .rest I s M e g
+
+    pub turn-full : (cells′ : List ℕ) (r : Built) → r ≡ Full
+        → ((I : Input) (s : State) (M : List ℕ) → I .rows ≡ rows → Holds env k M
+        → built s r cells′ ≡ build (templateAt v from) I M (withMade s count) cells)
+        → (I : Input) (s : State) (M : List ℕ) → I .rows ≡ rows → Holds env k M
+        → noRow s cells′ ≡ build (templateAt v at) I M (withMade s made) cells₀
+    turn-full cells′ r er f I s M e g =
+        turn-one (noRow s cells′) I s M e g (ap (λ (q : Built). built s q cells′) (sym er) ∙ f I s M e g)
+
+    regroup : (x : ℕ) (I : Input) (R : Result (List ℕ))
+        → after R (λ ys. cell I b ((c .given ++ (x ∷ [])) ++ ys))
+        ≡ after (after R (λ ys. return (x ∷ ys))) (λ ys. cell I b (c .given ++ ys))
+    regroup x I (done ys s cs) = ap (λ (l : List ℕ). cell I b l s cs) (append-assoc (c .given) (x ∷ []) ys)
+    regroup x I (halt r cs) = refl
+
+    pub turn-next : (cells′ : List ℕ) (r : Built) {x after′ made′ : ℕ} → length cells′ ≡ length cells → r ≡ Made x after′ made′
+        → ((I : Input) (s : State) (M : List ℕ) → I .rows ≡ rows → Holds env k M
+        → built s r cells′ ≡ build (templateAt v from) I M (withMade s count) cells)
+        → Behind v from r
+        → n ≤ 3
+        → Turn v at env k rows made cells₀ b n cells′ (set args i x) (i + 1) after′ made′
+    turn-next cells′ r {x} {after′} {made′} el er f bh few =
+        let q : Behind v from (Made x after′ made′) = subst (Behind v from) er bh in
+        record {
+          many = c .many;
+          small = omega arith;
+          past = omega (arith, c .past, q .0);
+          inside = q .1;
+          as-long = el ∙ c .as-long;
+          given = c .given ++ (x ∷ []);
+          given-many = lib.ListN.length-append (c .given) (x ∷ []) ∙ omega (arith, c .given-many);
+          given-are = ap (λ (l : List ℕ). set l i x) (c .given-are) ∙ spare-set (c .given) i x (c .given-many) (omega arith);
+          ahead = next-takes .ahead′;
+          read = q .2 ∙ ap parsed (others-are v from turn-ahead);
+          own = next-takes .own′;
+          takes = next-takes .takes;
+          rest =
+              λ I s M e g.
+              regroup x I (buildAll (next-takes .own′) I M (withMade s made′) cells′)
+              ∙ turn-one (done x (withMade s made′) cells′) I s M e g (ap (λ (p : Built). built s p cells′) (sym er) ∙ f I s M e g);
+        }
+
+  module _ (stop : n ≤ i) where
+    end-takes : taken none (c .ahead) ≡ taken (c .own) (othersAt v at)
+    unfolding takeTemplates
+    end-takes =
+        let z : n - i ≡ 0 = omega arith in
+        sym (ap (λ (j : ℕ). takeTemplates j (c .ahead)) z) ∙ c .takes
+
+    end-cell : (I : Input) (s : State) (M : List ℕ) → I .rows ≡ rows → Holds env k M
+        → cell I b (c .given) (withMade s count) cells ≡ build (templateAt v at) I M (withMade s made) cells₀
+    unfolding buildAll
+    end-cell I s M e g =
+        let own-none : none ≡ c .own = cc end-takes in
+        ap (λ (l : List ℕ). cell I b l (withMade s count) cells) (sym (append-nil (c .given)))
+        ∙ ap (λ (ts : Templates). after (buildAll ts I M (withMade s count) cells) (λ ys. cell I b (c .given ++ ys))) own-none
+        ∙ c .rest I s M e g
+
+    pub behind-made : (x made′ : ℕ) → Behind v at (Made x from made′)
+    behind-made x made′ =
+        let all : c .ahead ≡ othersAt v at = cc end-takes in
+        (c .past, c .inside, c .read ∙ ap parsed all)
+
+    cell-by : (t : Bool) (I : Input) (s : State) → I .rows ≡ rows → ltb count rows ≡ t
+        → (elim t [
+          | true ↦ done count (withMade s (count + 1)) (withRow cells count b (c .given))
+          | false ↦ noRow s cells
+        ])
+        ≡ cell I b (c .given) (withMade s count) cells
+    cell-by t I s e f =
+        ap
+        (λ (x : Bool).
+        elim x [
+          | true ↦ done count (withMade s (count + 1)) (withRow cells count b (c .given))
+          | false ↦ noRow s cells
+        ])
+        (sym f ∙ ap (λ (m : ℕ). ltb count m) (sym e))
+
+    pub turn-made : count < rows → (cells′ : List ℕ) → cells′ ≡ sets cells (count * 4) (b ∷ args)
+        → (I : Input) (s : State) (M : List ℕ) → I .rows ≡ rows → Holds env k M
+        → done count (withMade s (count + 1)) cells′ ≡ build (templateAt v at) I M (withMade s made) cells₀
+    turn-made h cells′ ec I s M e g =
+        ap (λ (cs : List ℕ). done count (withMade s (count + 1)) cs)
+        (ec ∙ ap (λ (l : List ℕ). sets cells (count * 4) (b ∷ l)) (c .given-are))
+        ∙ cell-by true I s e (lt-ltb count rows h)
+        ∙ end-cell I s M e g
+
+    pub turn-no-row : rows ≤ count → (I : Input) (s : State) (M : List ℕ) → I .rows ≡ rows → Holds env k M
+        → noRow s cells ≡ build (templateAt v at) I M (withMade s made) cells₀
+    turn-no-row h I s M e g = cell-by false I s e (le-ltb count rows h) ∙ end-cell I s M e g

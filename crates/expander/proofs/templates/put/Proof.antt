@@ -1,0 +1,26 @@
+-- `put`: a value in the array, or one that no template names.
+use borrow.Author.Needs.{needs}
+use Rattle.expander.proofs.VariableLaws as laws
+use Rattle.expander.proofs.templates.put.Statement.{statement}
+use Rattle.expander.proofs.templates.put.Tie as tie
+use Rattle.expander.proofs.templates.put.Reads as reads
+use Rattle.expander.proofs.templates.put.Lts as lts
+
+-- src/templates.rt:43:9
+mul-env : tie.Need-mul-env
+mul-env c = search needs
+
+-- src/templates.rt:43:9
+element-write-env : tie.Need-element-write-env
+element-write-env c = search needs
+
+-- src/templates.rt:39:1
+returns : tie.Need-returns
+returns c = λ M h. laws.put-inside (c .before .args .env .now) M (c .before .args .k) h (c .before .args .v) (c .if1 .taken)
+
+-- src/templates.rt:39:1
+returns-2 : tie.Need-returns-2
+returns-2 c = λ M h. laws.put-outside (c .before .args .env .now) M (c .before .args .k) h (c .before .args .v) (c .if1 .left)
+
+pub put-spec : {M : Type 1} → statement M
+put-spec = tie.close (tie.spec mul-env element-write-env returns returns-2)

@@ -1,0 +1,100 @@
+-- `store_row`: four stores in a row.
+use Prim.Native.Nat.{ℕ, _*_}
+use native.Mathlib.Omega.{arith}
+use lib.ListN.{length-set}
+use borrow.Author.Needs.{needs}
+use Rattle.expander.proofs.VariableLaws as laws
+use Rattle.expander.proofs.templates.store_row.Statement.{statement}
+use Rattle.expander.proofs.templates.store_row.Tie as tie
+use Rattle.expander.proofs.templates.store_row.Reads as reads
+use Rattle.expander.proofs.templates.store_row.Lts as lts
+
+-- src/templates.rt:63:13
+mul-i : tie.Need-mul-i
+mul-i c = search needs
+
+-- src/templates.rt:64:5
+mul-cells : tie.Need-mul-cells
+mul-cells c = search needs
+
+-- src/templates.rt:64:5
+slice-write-cells : tie.Need-slice-write-cells
+slice-write-cells c = search needs
+
+-- src/templates.rt:65:20
+array-read-cells : tie.Need-array-read-cells
+array-read-cells c = search needs
+
+-- src/templates.rt:65:11
+add-cells : tie.Need-add-cells
+add-cells c = search needs
+
+-- src/templates.rt:65:5
+mul-cells-2 : tie.Need-mul-cells-2
+mul-cells-2 c = search needs
+
+-- src/templates.rt:65:5
+slice-write-cells-2 : tie.Need-slice-write-cells-2
+slice-write-cells-2 c = simp length-set (omega arith)
+
+-- src/templates.rt:66:20
+array-read-cells-2 : tie.Need-array-read-cells-2
+array-read-cells-2 c = search needs
+
+-- src/templates.rt:66:11
+add-cells-2 : tie.Need-add-cells-2
+add-cells-2 c = search needs
+
+-- src/templates.rt:66:5
+mul-cells-3 : tie.Need-mul-cells-3
+mul-cells-3 c = search needs
+
+-- src/templates.rt:66:5
+slice-write-cells-3 : tie.Need-slice-write-cells-3
+slice-write-cells-3 c = simp length-set (omega arith)
+
+-- src/templates.rt:67:20
+array-read-cells-3 : tie.Need-array-read-cells-3
+array-read-cells-3 c = search needs
+
+-- src/templates.rt:67:11
+add-cells-3 : tie.Need-add-cells-3
+add-cells-3 c = search needs
+
+-- src/templates.rt:67:5
+mul-cells-4 : tie.Need-mul-cells-4
+mul-cells-4 c = search needs
+
+-- src/templates.rt:67:5
+slice-write-cells-4 : tie.Need-slice-write-cells-4
+slice-write-cells-4 c = simp length-set (omega arith)
+
+-- src/templates.rt:59:1
+same-length : tie.Need-same-length
+same-length c = search needs
+
+-- src/templates.rt:59:1
+returns : tie.Need-returns
+returns c = laws.row-stored (c .args .cells .now) (c .args .t4) (c .args .row * 4) (c .args .code) (c .good .1 .1 .1 .0 .1 .0 .1)
+
+pub store-row-spec : {M : Type 1} → statement M
+store-row-spec =
+    tie.close
+    (tie.spec
+    mul-i
+    mul-cells
+    slice-write-cells
+    array-read-cells
+    add-cells
+    mul-cells-2
+    slice-write-cells-2
+    array-read-cells-2
+    add-cells-2
+    mul-cells-3
+    slice-write-cells-3
+    array-read-cells-3
+    add-cells-3
+    mul-cells-4
+    slice-write-cells-4
+    same-length
+    returns)

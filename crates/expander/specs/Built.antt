@@ -1,0 +1,65 @@
+-- What the code that evaluates templates works on and answers: the values of the variables in an array, templates as bytes in
+-- prefix form, and rows.
+use Prim.Native.Nat.{ℕ, _+_, _<_, _≤_}
+use mathlib.Core.Path.{_≡_}
+use mathlib.Core.List.{List, [], _∷_, _++_}
+use lib.ListN.{length, getD, drop}
+use Rattle.answers.specs.Refusals.{refusal}
+use Rattle.grammar.specs.Table.{Template, Templates, none, more}
+use Rattle.layout.specs.Prefix.{parsed, templatesOf, found, firstOf}
+use Rattle.expander.specs.declared.State.{State}
+use Rattle.expander.specs.declared.templates.Built.{Built}
+use Rattle.expander.specs.declared.templates.Built.the-variants.{Made, Full}
+use Rattle.expander.specs.declared.templates.Arguments.{Arguments}
+use Rattle.expander.specs.declared.templates.Arguments.the-variants.{Listed, Overfull}
+use Rattle.expander.specs.Run.{Result, done, halt}
+
+-- the first 16 of k values M stand in an array of 16: no template names a further variable
+pub record Holds (env : List ℕ) (k : ℕ) (M : List ℕ) : Type 0 where
+  pub long : length env ≡ 16
+  pub count : length M ≡ k
+  pub same : (i : ℕ) → i < 16 → i < k → getD env i 0 ≡ getD M i 0
+
+-- the state with another number of cells made
+abbrev pub withMade : State → ℕ → State
+withMade s made = record { at = s .at; fresh = s .fresh; calls = s .calls; made = made }
+
+-- ------------------------------------------------------------------ one template
+
+-- from an offset on the bytes are templates, one at least
+pub record Ahead (v : List ℕ) (at : ℕ) : Type 0 where
+  pub template : Template
+  pub others : Templates
+  pub read : templatesOf (drop at v) ≡ parsed (more template others)
+
+-- the template at an offset, and those behind it
+abbrev pub templateAt : List ℕ → ℕ → Template
+templateAt v at = firstOf (found (templatesOf (drop at v)))
+
+abbrev pub othersOf : Templates → Templates
+othersOf none = none
+othersOf (more t ts) = ts
+
+abbrev pub othersAt : List ℕ → ℕ → Templates
+othersAt v at = othersOf (found (templatesOf (drop at v)))
+
+-- refusal 21, at the next token
+abbrev pub noRow : {A : Type 0} → State → List ℕ → Result A
+noRow s cells = halt (refusal 21 (s .at) 0 0) cells
+
+-- an answer: the value and the cells made, or no row is left
+abbrev pub built : State → Built → List ℕ → Result ℕ
+built s (Made v after made) cells = done v (withMade s made) cells
+built s Full cells = noRow s cells
+
+-- the offset that is answered lies behind the template
+abbrev pub Behind : List ℕ → ℕ → Built → Type 0
+Behind v at (Made x after made) = (at < after) × (after ≤ length v) × (templatesOf (drop after v) ≡ parsed (othersAt v at))
+Behind v at Full = Unit {0}
+
+-- ------------------------------------------------------------------ a call's arguments
+
+-- an answer: the values are listed in an array, or no row is left
+abbrev pub Lists : State → Arguments → List ℕ → List ℕ → Result (List ℕ) → Type 0
+Lists s (Listed k made) env cells r = (vs : List ℕ) × (r ≡ done vs (withMade s made) cells) × Holds env k vs
+Lists s Overfull env cells r = r ≡ noRow s cells
