@@ -2,6 +2,8 @@ pub mod TokenLaws
 pub mod ChoiceLaws
 pub mod VariableLaws
 pub mod TemplateLaws
+pub mod ArgumentLaws
+pub mod ItemLaws
 pub mod Shows
 pub mod Building
 pub mod Typing

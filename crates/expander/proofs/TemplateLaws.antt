@@ -8,7 +8,7 @@ use native.Mathlib.Numerals.{add-one, add-two}
 use native.Mathlib.Omega.{arith}
 use native.Mathlib.Decide.{decLt}
 use lib.Dec.{eqb, leb, ltb}
-use lib.ListN.{length, getD, take, drop, set, drop-of-length-le}
+use lib.ListN.{length, getD, drop, set, length-append, drop-of-length-le}
 use lib.Seq.{drop-cons, sets}
 use borrow.Author.Tests.{lt-ltb, le-ltb, lt-leb, ne-eqb}
 use Rattle.spellings.specs.BytesLaws.{by-test}
@@ -21,7 +21,7 @@ use Rattle.layout.specs.PrefixLaws.{name-first, name-last, byte-first, variable
 use Rattle.expander.specs.declared.State.{State}
 use Rattle.expander.specs.declared.templates.Built.{Built}
 use Rattle.expander.specs.declared.templates.Built.the-variants.{Made, Full}
-use Rattle.expander.specs.Run.{Result, done, halt, return, after, _>>=_}
+use Rattle.expander.specs.Run.{Result, done, halt, Run, return, after, _>>=_}
 use Rattle.expander.specs.Expansion.{Input, build, buildAll, cell}
 use Rattle.expander.specs.Built.{Holds, withMade, Ahead, templateAt, othersOf, othersAt, noRow, built, Behind}
 use Rattle.expander.proofs.VariableLaws.{spare, spare-set}
@@ -197,6 +197,21 @@ module _ (v : List ℕ) (at : ℕ) (a : Ahead v at) where
 
 -- ------------------------------------------------------------------ the arguments of a constructor, one by one
 
+-- values that are given, and those of the templates ahead, handed on together
+module _ {B : Type 0} (K : List ℕ → Run B) (given : List ℕ) where
+  pub regroup : (x : ℕ) (R : Result (List ℕ))
+      → after R (λ ys. K ((given ++ (x ∷ [])) ++ ys)) ≡ after (after R (λ ys. return (x ∷ ys))) (λ ys. K (given ++ ys))
+  regroup x (done ys s cs) = ap (λ (l : List ℕ). K l s cs) (append-assoc given (x ∷ []) ys)
+  regroup x (halt r cs) = refl
+
+  pub first-built : (I : Input) (M : List ℕ) (t : Template) (ts : Templates) (R : Result ℕ) (s : State) (cells : List ℕ)
+      → R ≡ build t I M s cells
+      → after (after R (λ x. buildAll ts I M >>= λ ys. return (x ∷ ys))) (λ ys. K (given ++ ys))
+      ≡ after (buildAll (more t ts) I M s cells) (λ ys. K (given ++ ys))
+  unfolding build buildAll
+  first-built I M t ts R s cells h =
+      ap (λ (r : Result ℕ). after (after r (λ x. buildAll ts I M >>= λ ys. return (x ∷ ys))) (λ ys. K (given ++ ys))) h
+
 -- i of the n arguments are given, and those ahead give with them what the template gives
 pub record Turn (v : List ℕ) (at : ℕ) (env : List ℕ) (k rows made : ℕ) (cells₀ : List ℕ) (b n : ℕ) (cells args : List ℕ) (i from count : ℕ) : Type 0 where
   pub many : n ≡ arity b
@@ -258,11 +273,8 @@ module _ {v : List ℕ} {at : ℕ} {env : List ℕ} {k rows made : ℕ} {cells�
         → R ≡ build (templateAt v from) I M (withMade s count) cells
         → after (after R (λ x. buildAll (next-takes .own′) I M >>= λ ys. return (x ∷ ys))) (λ ys. cell I b (c .given ++ ys))
         ≡ build (templateAt v at) I M (withMade s made) cells₀
-    unfolding buildAll build
     turn-one R I s M e g h =
-        ap
-        (λ (r : Result ℕ).
-        after (after r (λ x. buildAll (next-takes .own′) I M >>= λ ys. return (x ∷ ys))) (λ ys. cell I b (c .given ++ ys)))
+        first-built (cell I b) (c .given) I M (next-takes .first) (next-takes .own′) R (withMade s count) cells
         (h ∙ ap (λ (t : Template). build t I M (withMade s count) cells) (template-is v from turn-ahead))
         ∙ sym (ap (λ (ts : Templates). after (buildAll ts I M (withMade s count) cells) (λ ys. cell I b (c .given ++ ys))) (next-takes .own-is))
         ∙ c .rest I s M e g
@@ -274,12 +286,6 @@ module _ {v : List ℕ} {at : ℕ} {env : List ℕ} {k rows made : ℕ} {cells�
         → noRow s cells′ ≡ build (templateAt v at) I M (withMade s made) cells₀
     turn-full cells′ r er f I s M e g =
         turn-one (noRow s cells′) I s M e g (ap (λ (q : Built). built s q cells′) (sym er) ∙ f I s M e g)
-
-    regroup : (x : ℕ) (I : Input) (R : Result (List ℕ))
-        → after R (λ ys. cell I b ((c .given ++ (x ∷ [])) ++ ys))
-        ≡ after (after R (λ ys. return (x ∷ ys))) (λ ys. cell I b (c .given ++ ys))
-    regroup x I (done ys s cs) = ap (λ (l : List ℕ). cell I b l s cs) (append-assoc (c .given) (x ∷ []) ys)
-    regroup x I (halt r cs) = refl
 
     pub turn-next : (cells′ : List ℕ) (r : Built) {x after′ made′ : ℕ} → length cells′ ≡ length cells → r ≡ Made x after′ made′
         → ((I : Input) (s : State) (M : List ℕ) → I .rows ≡ rows → Holds env k M
@@ -296,7 +302,7 @@ module _ {v : List ℕ} {at : ℕ} {env : List ℕ} {k rows made : ℕ} {cells�
           inside = q .1;
           as-long = el ∙ c .as-long;
           given = c .given ++ (x ∷ []);
-          given-many = lib.ListN.length-append (c .given) (x ∷ []) ∙ omega (arith, c .given-many);
+          given-many = length-append (c .given) (x ∷ []) ∙ omega (arith, c .given-many);
           given-are = ap (λ (l : List ℕ). set l i x) (c .given-are) ∙ spare-set (c .given) i x (c .given-many) (omega arith);
           ahead = next-takes .ahead′;
           read = q .2 ∙ ap parsed (others-are v from turn-ahead);
@@ -304,7 +310,7 @@ module _ {v : List ℕ} {at : ℕ} {env : List ℕ} {k rows made : ℕ} {cells�
           takes = next-takes .takes;
           rest =
               λ I s M e g.
-              regroup x I (buildAll (next-takes .own′) I M (withMade s made′) cells′)
+              regroup (cell I b) (c .given) x (buildAll (next-takes .own′) I M (withMade s made′) cells′)
               ∙ turn-one (done x (withMade s made′) cells′) I s M e g (ap (λ (p : Built). built s p cells′) (sym er) ∙ f I s M e g);
         }
 

@@ -63,3 +63,8 @@ Behind v at Full = Unit {0}
 abbrev pub Lists : State → Arguments → List ℕ → List ℕ → Result (List ℕ) → Type 0
 Lists s (Listed k made) env cells r = (vs : List ℕ) × (r ≡ done vs (withMade s made) cells) × Holds env k vs
 Lists s Overfull env cells r = r ≡ noRow s cells
+
+-- how many there are
+abbrev pub Few : ℕ → Arguments → Type 0
+Few most (Listed k made) = k ≤ most
+Few most Overfull = Unit {0}

@@ -1,5 +1,6 @@
 // The expander: from tokens to cells.
 pub mod choice;
+pub mod items;
 pub mod templates;
 pub mod tokens;
 

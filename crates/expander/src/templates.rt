@@ -13,7 +13,7 @@ ghost use mathlib.Core.Bool.{true};
 ghost use Rattle.expander.specs.declared.State.{State};
 ghost use Rattle.expander.specs.Run.{done};
 ghost use Rattle.expander.specs.Expansion.{Input, build, buildAll};
-ghost use Rattle.expander.specs.Built.{Holds, withMade, Ahead, templateAt, built, Behind, Lists};
+ghost use Rattle.expander.specs.Built.{Holds, withMade, Ahead, templateAt, built, Behind, Lists, Few};
 
 // What a template gives: its value, the offset behind it and the cells then made; or no row is left for a cell.
 pub enum Built {
@@ -115,4 +115,42 @@ pub fn build(
         return Built::Made(count as u32, from, count + 1);
     }
     Built::Full
+}
+
+// The templates of a call, from an offset of its item's value on; `out` takes their values.
+pub fn build_arguments(
+    v: &[u8],
+    start: usize,
+    env: &[u32; 16],
+    k: usize,
+    rows: usize,
+    made: usize,
+    out: &mut [u32; 16],
+    cells: &mut [u32],
+) -> Arguments
+    requires { ⌜ isTemplates (templatesOf (drop start (now v))) ≡ true ⌝ }
+    requires { ⌜ (rows ≤ 16384) × (rows * 4 ≤ length (now cells)) ⌝ }
+    ensures { λ r. ⌜ ((I : Input) (s : State) (M : List ℕ) → I .rows ≡ rows → Holds (now (env .entry)) k M → Lists s r (now (out .exit)) (now (cells .exit)) (buildAll (found (templatesOf (drop start (now (v .entry))))) I M (withMade s made) (now (cells .entry)))) ⌝ }
+    ensures { λ r. ⌜ Few (length (now (v .entry))) r ⌝ }
+{
+    let mut list = [0u32; 16];
+    let mut at = start;
+    let mut n: usize = 0;
+    let mut count = made;
+    while at < v.len() {
+        let part = build(v, at, env, k, rows, count, cells);
+        match part {
+            Built::Full => {
+                return Arguments::Overfull;
+            }
+            Built::Made(x, after, more) => {
+                put(&mut list, n, x);
+                at = after;
+                count = more;
+                n += 1;
+            }
+        }
+    }
+    *out = list;
+    Arguments::Listed(n, count)
 }

@@ -1,4 +1,6 @@
 -- `take`: the kind of the next token decides.
+use mathlib.Core.Path.{refl}
+use native.Mathlib.Omega.{arith}
 use Rattle.expander.proofs.TokenLaws as laws
 use borrow.Author.Needs.{needs}
 use Rattle.expander.proofs.tokens.take.Statement.{statement}
@@ -27,11 +29,11 @@ misfit-requires c κs = search needs
 
 -- src/tokens.rt:62:1
 returns : tie.Need-returns
-returns c = λ I cells e. laws.take-fits I (c .before .before .args .s) cells (c .before .before .args .kind) (c .before .before .args .value) (c .before .before .args .tokens .now) (c .before .before .args .n) (c .before .kind-at .result) (c .before .kind-at .ensures) e (c .if1 .taken)
+returns c = (λ I cells e. laws.take-fits I (c .before .before .args .s) cells (c .before .before .args .kind) (c .before .before .args .value) (c .before .before .args .tokens .now) (c .before .before .args .n) (c .before .kind-at .result) (c .before .kind-at .ensures) e (c .if1 .taken), (omega arith, refl))
 
 -- src/tokens.rt:62:1
 returns-2 : tie.Need-returns-2
-returns-2 c = λ I cells e. laws.take-misfits I (c .before .before .before .before .args .s) cells (c .before .before .before .before .args .kind) (c .before .before .before .before .args .value) (c .before .before .before .before .args .tokens .now) (c .before .before .before .before .args .n) (c .before .before .before .kind-at .result) (c .before .before .before .kind-at .ensures) e (c .before .before .if1 .left) (c .misfit .result) (c .before .set-of-kind .result) (c .before .set-of-kind .ensures) (c .misfit .ensures)
+returns-2 c = (λ I cells e. laws.take-misfits I (c .before .before .before .before .args .s) cells (c .before .before .before .before .args .kind) (c .before .before .before .before .args .value) (c .before .before .before .before .args .tokens .now) (c .before .before .before .before .args .n) (c .before .before .before .kind-at .result) (c .before .before .before .kind-at .ensures) e (c .before .before .if1 .left) (c .misfit .result) (c .before .set-of-kind .result) (c .before .set-of-kind .ensures) (c .misfit .ensures), tt)
 
 pub take-spec : {M : Type 1} → statement M
 take-spec =
