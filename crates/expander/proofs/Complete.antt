@@ -1,11 +1,11 @@
 -- Beside a derivation of Figure 3 an expansion goes the same way: it is accepted with the term derived, or refused at a limit that the
 -- derivation exceeds.
 use Prim.Native.Nat.{ℕ, zero, suc, _+_, _*_, _≤_, _<_, max}
-use mathlib.Core.Path.{_≡_, refl, sym, ap, subst, subst₂, subst⁻¹, _∙_}
+use mathlib.Core.Path.{_≡_, refl, sym, ap, subst, subst⁻¹, _∙_}
 use mathlib.Core.Bool.{Bool, true, false}
 use mathlib.Core.List.{List, [], _∷_, _++_}
 use native.Mathlib.Omega.{arith}
-use lib.Dec.{eqb, ltb}
+use lib.Dec.{ltb}
 use lib.ListN.{length, getD, drop, drop-of-length-le, length-drop}
 use borrow.Author.Tests.{eq-eqb, ltb-true, ltb-false, le-ltb}
 use Rattle.spellings.specs.BytesLaws.{by-test}
@@ -15,9 +15,7 @@ use Rattle.answers.specs.Checked.{ok}
 use Rattle.kinds.specs.Kinds.{wordKind, numberKind, keywordKind}
 use Rattle.grammar.specs.Sorts as Sorts
 use Rattle.grammar.specs.Table.{Template, Templates, Item, keyword, ide, number, local, call}
-use Rattle.grammar.specs.Cells.{nameBase}
-use Rattle.sorting.specs.Sorting.{Scope}
-use Rattle.sorting.specs.Judgements.{Sorted, Body, by-result, by-binding}
+use Rattle.sorting.specs.Judgements.{Body, by-binding}
 use Rattle.sorting.specs.Judgements as Judgements
 use Rattle.scanner.specs.declared.Token.{Token}
 use Rattle.firsts.specs.Normal.{Production}
@@ -26,11 +24,11 @@ use Rattle.terms.specs.Term.{Name, Term, word, fresh}
 use Rattle.terms.specs.Rows.{termAt, nameOf}
 use Rattle.expander.specs.declared.State.{State}
 use Rattle.expander.specs.Run.{Result, done, halt, Run, after}
-use Rattle.expander.specs.Expansion.{Input, ready, Choice, choice, endToken, nextToken, tokenTaken, take, buildAll, build, wordValue, runItem, runItems, callBegun, mostCalls, runCall, mostOpen, start, ended, run}
-use Rattle.expander.specs.Figure3.{Value, unit, name, label, num, term, Gives, GiveAll, Taken, Derives, by-end, by-keyword, by-ide-var, by-ide-binder, by-ide-label, by-number, by-local, by-call, Parses}
+use Rattle.expander.specs.Expansion.{Input, ready, choice, endToken, nextToken, tokenTaken, take, buildAll, build, wordValue, runItem, runItems, callBegun, mostCalls, runCall, mostOpen, start, ended, run}
+use Rattle.expander.specs.Figure3.{Value, name, label, num, term, Gives, GiveAll, Taken, Derives, by-end, by-keyword, by-ide-var, by-ide-binder, by-ide-label, by-number, by-local, by-call, Parses}
 use Rattle.expander.specs.Costs.{rowsOf, rowsOfAll, openIn, callsIn, rowsIn, Beyond, too-deep, too-many, too-large, openCalls, allCalls, allRows, Exceeds}
-use Rattle.expander.proofs.Shows.{Grown, grown-not, grown-trans, Shows, shows-unit, shows-name, shows-label, shows-num, shows-term, ShowAll, show-none, shows-later, all-later, all-and, word-named, fresh-named}
-use Rattle.expander.proofs.Building.{Ends, ends-after, ends-map, Made, Full, Built, BuiltAll, build-ends, build-all-ends}
+use Rattle.expander.proofs.Shows.{Grown, grown-not, grown-trans, Shows, shows-unit, shows-name, shows-label, shows-num, shows-term, ShowAll, show-none, all-later, all-and, word-named, fresh-named}
+use Rattle.expander.proofs.Building.{Ends, ends-after, ends-map, Full, Built, BuiltAll, build-ends, build-all-ends}
 use Rattle.expander.proofs.Typing.{FitAll, taken-of, result-sorted}
 use Rattle.expander.proofs.Choosing.{kindOf, kind-next, Picks, picks, picks-none, choice-picks, rule, taken-one}
 use Rattle.expander.proofs.Sound.{token-here, input, SmallWords, Kept, kept-made, kept-less, call-full, call-chosen}
@@ -46,22 +44,22 @@ token-is tokens at {t} {s} e =
     let n : _≡_ {A = ℕ} 0 (suc (length s)) = ap length (sym (drop-of-length-le tokens (ltb-false at (length tokens) b)) ∙ e) in
     absurd (omega arith))
 
-take-done : (I : Input) (kind : ℕ) (value : ℕ → ℕ) (s : State) (cells : List ℕ) → nextToken I s .kind ≡ kind → take I kind value s cells ≡ done (value (nextToken I s .value)) (tokenTaken s) cells
+pub take-done : (I : Input) (kind : ℕ) (value : ℕ → ℕ) (s : State) (cells : List ℕ) → nextToken I s .kind ≡ kind → take I kind value s cells ≡ done (value (nextToken I s .value)) (tokenTaken s) cells
 take-done I kind value s cells e = rw (eq-eqb (nextToken I s .kind) kind e, take) refl
 
-items-after : (C : ℕ → List ℕ → Run ℕ) (I : Input) (i : Item) (is : List Item) (xs : List ℕ) (s : State) (cells : List ℕ) (x : ℕ) (s′ : State) (cells′ : List ℕ)
+pub items-after : (C : ℕ → List ℕ → Run ℕ) (I : Input) (i : Item) (is : List Item) (xs : List ℕ) (s : State) (cells : List ℕ) (x : ℕ) (s′ : State) (cells′ : List ℕ)
     → runItem C I i xs s cells ≡ done x s′ cells′ → runItems C I (i ∷ is) xs s cells ≡ runItems C I is (xs ++ (x ∷ [])) s′ cells′
 unfolding runItems
 items-after C I i is xs s cells x s′ cells′ e = ap (λ r. after r (λ y. runItems C I is (xs ++ (y ∷ [])))) e
 
 -- ------------------------------------------------------------------ limits
 
-beyond-more : {rows d o o′ c c′ m m′ : ℕ} → o ≤ o′ → c ≤ c′ → m ≤ m′ → (r : Refusal) → Beyond rows d o c m r → Beyond rows d o′ c′ m′ r
+pub beyond-more : {rows d o o′ c c′ m m′ : ℕ} → o ≤ o′ → c ≤ c′ → m ≤ m′ → (r : Refusal) → Beyond rows d o c m r → Beyond rows d o′ c′ m′ r
 beyond-more x y z r (too-deep e l) = too-deep e (omega arith)
 beyond-more x y z r (too-many e l) = too-many e (omega arith)
 beyond-more x y z r (too-large e l) = too-large e (omega arith)
 
-beyond-open : {rows d o c c′ m m′ : ℕ} → c ≤ c′ → m ≤ m′ → (r : Refusal) → Beyond rows d o c m r → Beyond rows (suc d) (o + 1) c′ m′ r
+pub beyond-open : {rows d o c c′ m m′ : ℕ} → c ≤ c′ → m ≤ m′ → (r : Refusal) → Beyond rows d o c m r → Beyond rows (suc d) (o + 1) c′ m′ r
 beyond-open y z r (too-deep e l) = too-deep e (omega arith)
 beyond-open y z r (too-many e l) = too-many e (omega arith)
 beyond-open y z r (too-large e l) = too-large e (omega arith)
@@ -70,31 +68,31 @@ full-beyond : {rows d o c m m′ : ℕ} → m ≤ m′ → (r : Refusal) → Ful
 full-beyond z r h = too-large (h .is-21) (omega (arith, h .beyond))
 
 module _ {g : List Production} (F : FitAll g) (passed : checkFirsts g ≡ ok tt) (spell : ℕ → List ℕ) (tokens : List Token) (rows : ℕ) (small : SmallWords tokens) where
-  abbrev I : Input
+  abbrev pub I : Input
   I = input g tokens rows
 
-  abbrev from : State → List Token
+  abbrev pub from : State → List Token
   from s = drop (s .at) tokens
 
   -- the way from a state with b calls begun and m cells made: o calls open, c calls begun and n cells made, to the place t and the counter i
-  record Went (k d o c n : ℕ) (t : List Token) (i b m : ℕ) (cells : List ℕ) (s′ : State) (cells′ : List ℕ) : Type 0 where
-    grown : Grown m cells (s′ .made) cells′
-    kept : Kept rows k s′ cells′
-    place : from s′ ≡ t
-    counter : s′ .fresh ≡ i
-    calls-are : s′ .calls ≡ b + c
-    made-are : s′ .made ≡ m + n
-    deep : o ≤ d
+  pub record Went (k d o c n : ℕ) (t : List Token) (i b m : ℕ) (cells : List ℕ) (s′ : State) (cells′ : List ℕ) : Type 0 where
+    pub grown : Grown m cells (s′ .made) cells′
+    pub kept : Kept rows k s′ cells′
+    pub place : from s′ ≡ t
+    pub counter : s′ .fresh ≡ i
+    pub calls-are : s′ .calls ≡ b + c
+    pub made-are : s′ .made ≡ m + n
+    pub deep : o ≤ d
 
-  abbrev Reached : (k d o c n : ℕ) → List Token → ℕ → List Value → ℕ → ℕ → List ℕ → List ℕ → State → List ℕ → Type 0
+  abbrev pub Reached : (k d o c n : ℕ) → List Token → ℕ → List Value → ℕ → ℕ → List ℕ → List ℕ → State → List ℕ → Type 0
   Reached k d o c n t i M b m cells xs s′ cells′ = Went k d o c n t i b m cells s′ cells′ × ShowAll spell (s′ .made) cells′ xs M
 
-  abbrev Gave : (k d o c n : ℕ) → List Token → ℕ → Value → ℕ → ℕ → List ℕ → ℕ → State → List ℕ → Type 0
+  abbrev pub Gave : (k d o c n : ℕ) → List Token → ℕ → Value → ℕ → ℕ → List ℕ → ℕ → State → List ℕ → Type 0
   Gave k d o c n t i v b m cells x s′ cells′ = Went k d o c n t i b m cells s′ cells′ × Shows spell (s′ .made) cells′ x v
 
   -- the run of items beside a derivation with its costs
-  record Along (o c n : ℕ) (t : List Token) (i : ℕ) (is : List Item) (M M′ : List Value) (t′ : List Token) (i′ : ℕ) : Type 0 where
-    along : (d k : ℕ) (r : Template) (B : ℕ) (L xs : List ℕ) (s : State) (cells : List ℕ) → Body (F .scope) L is r B → from s ≡ t → s .fresh ≡ i
+  pub record Along (o c n : ℕ) (t : List Token) (i : ℕ) (is : List Item) (M M′ : List Value) (t′ : List Token) (i′ : ℕ) : Type 0 where
+    pub along : (d k : ℕ) (r : Template) (B : ℕ) (L xs : List ℕ) (s : State) (cells : List ℕ) → Body (F .scope) L is r B → from s ≡ t → s .fresh ≡ i
         → Kept rows (k + length is) s cells → ShowAll spell (s .made) cells xs M
         → Ends (Reached k d o c n t′ i′ M′ (s .calls) (s .made) cells) (Beyond rows d o (s .calls + c) (s .made + n)) (runItems (runCall d I) I is xs s cells)
 
@@ -126,12 +124,12 @@ module _ {g : List Production} (F : FitAll g) (passed : checkFirsts g ≡ ok tt)
   -- a call beside the derivation of its production
   module _ {o c n m : ℕ} {t t′ : List Token} {i i′ : ℕ} {vs M : List Value} {v : Value} (p : Production) (taken : Taken g m t p)
       (A : Along o c n t i (p .items) vs M t′ i′) (gives : Gives spell M (p .result) v) where
-    abbrev cost : ℕ
+    abbrev pub cost : ℕ
     cost = n + rowsOf (p .result)
 
     module _ (k : ℕ) (xs : List ℕ) (s : State) (cells : List ℕ) (e : from s ≡ t) (f : s .fresh ≡ i) (h : Kept rows k s cells)
         (a : ShowAll spell (s .made) cells xs vs) where
-      abbrev Called : ℕ → Result ℕ → Type 0
+      abbrev pub Called : ℕ → Result ℕ → Type 0
       Called d z = Ends (Gave k d (o + 1) (c + 1) cost t′ i′ v (s .calls) (s .made) cells) (Beyond rows d (o + 1) (s .calls + (c + 1)) (s .made + cost)) z
 
       production-along : (d : ℕ) → s .calls < mostCalls
@@ -163,7 +161,7 @@ module _ {g : List Production} (F : FitAll g) (passed : checkFirsts g ≡ ok tt)
           (full-beyond (omega (arith, y .0 .made-are))))
           (beyond-open (omega arith) (omega arith))
 
-      call-along : (d : ℕ) → Called d (runCall d I m xs s cells)
+      pub call-along : (d : ℕ) → Called d (runCall d I m xs s cells)
       unfolding runCall
       call-along zero = too-deep refl (omega arith)
       call-along (suc d) = go (ltb (s .calls) mostCalls) refl (choice-picks g m (taken-of taken .small) (from s))
@@ -263,7 +261,7 @@ module _ {g : List Production} (F : FitAll g) (passed : checkFirsts g ≡ ok tt)
           (beyond-more (omega arith) (omega (arith, y .0 .calls-are)) (omega (arith, y .0 .made-are))))
           (beyond-more (omega arith) (omega arith) (omega arith))
 
-  items-along : {M M′ : List Value} {s s′ : List Token} {i i′ : ℕ} {is : List Item} (D : Derives g spell M s i is M′ s′ i′)
+  pub items-along : {M M′ : List Value} {s s′ : List Token} {i i′ : ℕ} {is : List Item} (D : Derives g spell M s i is M′ s′ i′)
       → Along (openIn D) (callsIn D) (rowsIn D) s i is M M′ s′ i′
   unfolding openIn callsIn rowsIn runItems
   items-along by-end =

@@ -2,10 +2,10 @@
 -- every table within the counts that is well sorted and whose first sets are told apart, all tokens whose words have numbers that a name
 -- can hold, and all rows and cells.
 use Prim.Native.Nat.{ℕ, _*_, _≤_, _<_}
-use mathlib.Core.Path.{_≡_, refl, sym, subst, _∙_}
+use mathlib.Core.Path.{_≡_, refl, sym, ap, subst, _∙_}
 use mathlib.Core.Logic.{_↔_, _⊎_, inl, inr}
 use mathlib.Core.Bool.{true}
-use mathlib.Core.List.{List, [], _∷_}
+use mathlib.Core.List.{List}
 use native.Mathlib.Omega.{arith}
 use lib.ListN.{length}
 use Rattle.answers.specs.declared.Refusal.{Refusal}
@@ -30,6 +30,7 @@ use Rattle.expander.specs.Expansion.{run}
 use Rattle.expander.specs.Figure3.{Value, Gives, Derives, Parses}
 use Rattle.expander.specs.ValueSorts.{Typed, Matches}
 use Rattle.expander.specs.Costs.{allCalls, allRows, Limited, Beyond, too-deep, too-many, too-large, Exceeds}
+use Rattle.expander.specs.Points.{Overrun}
 use Rattle.expander.specs.Sources.{Among, Sourced}
 use Rattle.expander.proofs.Building.{Ends}
 use Rattle.expander.proofs.Typing.{items-typed}
@@ -37,6 +38,8 @@ use Rattle.expander.proofs.Normalizing.{scopeOf, table-fits}
 use Rattle.expander.proofs.Sound.{input, SmallWords}
 use Rattle.expander.proofs.Sound as sound
 use Rattle.expander.proofs.Complete.{Accepts, run-along}
+use Rattle.expander.proofs.Limits.{Refused, run-stops}
+use Rattle.expander.proofs.Overrunning.{run-overrun}
 use Rattle.expander.proofs.Unique.{parses-one}
 use Rattle.expander.proofs.Scanned.{scanned-small}
 use Rattle.expander.proofs.Sourcing.{parses-sourced, sourced-worded}
@@ -89,6 +92,13 @@ within-not h (too-deep e l) = omega (arith, h .few-open, l)
 within-not h (too-many e l) = omega (arith, h .few-calls, l)
 within-not h (too-large e l) = omega (arith, h .few-rows, l)
 
+same-refusal : {r q : Refusal} {cells cells′ : List ℕ} → _≡_ {A = Result ℕ} (halt r cells) (halt q cells′) → r ≡ q
+same-refusal e = cc
+
+apart : {r q : Refusal} → (r .number ≡ 17) ⊎ (r .number ≡ 18) → r ≡ q → 19 ≤ q .number → ⊥
+apart {r} {q} (inl n) e l = omega (arith, ap (λ (x : Refusal). x .number) e, n, l)
+apart {r} {q} (inr n) e l = omega (arith, ap (λ (x : Refusal). x .number) e, n, l)
+
 module _ (t : Table) (within : Within t) (sorted : WellSorted t) (passed : checkFirsts (normalized (t .blocks)) ≡ ok tt) (spell : ℕ → List ℕ)
     (tokens : List Token) (small : SmallWords tokens) (rows : ℕ) (cells : List ℕ) (room : rows * columns ≤ length cells) where
   abbrev Runs : Result ℕ → Type 0
@@ -101,6 +111,18 @@ module _ (t : Table) (within : Within t) (sorted : WellSorted t) (passed : check
   beside P e =
       subst (λ x. Ends (Accepts (table-fits t within sorted) passed spell tokens rows small P) (Exceeds rows P) x) e
       (run-along (table-fits t within sorted) passed spell tokens rows small P cells room)
+
+  stopped : (r : Refusal) (cells′ : List ℕ) → Runs (halt r cells′) → Refused (table-fits t within sorted) passed spell tokens rows small (t .root) r
+  stopped r cells′ e =
+      subst (λ x. Ends (λ v s c. Unit {0}) (Refused (table-fits t within sorted) passed spell tokens rows small (t .root)) x) e
+      (run-stops (table-fits t within sorted) passed spell tokens rows small (t .root) (omega (arith, within .root)) (sorted .signature) (sorted .defined)
+      (sorted .without) cells room)
+
+  overrun : {r : Refusal} → Overrun rows (normalized (t .blocks)) spell (t .root) tokens r
+      → (q : Refusal) × (cells′ : List ℕ) × Runs (halt q cells′) × (19 ≤ q .number) × (q .number ≤ 21)
+  overrun {r} o =
+      run-overrun (table-fits t within sorted) passed spell tokens rows small (t .root) (sorted .signature) (sorted .defined) (sorted .without) (o .point) r
+      (o .beyond) cells room
 
   -- What is accepted is derived: the rules of Figure 3 parse the whole formula as the term that the cells at exit show at the row given.
   pub accepted-is-derived : (v : ℕ) (s : State) (cells′ : List ℕ) → Runs (done v s cells′) → Reads (termAt (s .made) spell cells′ v)
@@ -137,13 +159,38 @@ module _ (t : Table) (within : Within t) (sorted : WellSorted t) (passed : check
   pub misfit-is-not-derived : (r : Refusal) (cells′ : List ℕ) → Runs (halt r cells′) → (r .number ≡ 17) ⊎ (r .number ≡ 18) → (u : Term Name) → Reads u → ⊥
   misfit-is-not-derived r cells′ e n u P = beyond-not n (refused-at-a-limit P r cells′ e)
 
-  -- Where nothing is derived, the expansion is refused, with 17 or 18 unless a limit comes first.
-  pub not-derived-is-refused : ((u : Term Name) → Reads u → ⊥) → (r : Refusal) × (cells′ : List ℕ) × Runs (halt r cells′) × (17 ≤ r .number) × (r .number ≤ 21)
-  not-derived-is-refused none = go (run (input (normalized (t .blocks)) tokens rows) (t .root) cells) refl
+  -- A refusal 19, 20 or 21 is given at a point of the parse, derived or not, with more calls open or begun or more cells than there may be.
+  pub limit-is-exceeded : (r : Refusal) (cells′ : List ℕ) → Runs (halt r cells′) → 19 ≤ r .number → Overrun rows (normalized (t .blocks)) spell (t .root) tokens r
+  limit-is-exceeded r cells′ e l = go (stopped r cells′ e)
     where
-      go : (x : Result ℕ) → Runs x → (r : Refusal) × (cells′ : List ℕ) × Runs (halt r cells′) × (17 ≤ r .number) × (r .number ≤ 21)
-      go (done v s cells′) e = absurd (none (termAt (s .made) spell cells′ v) (accepted-is-derived v s cells′ e))
-      go (halt r cells′) e =
-          let n = sound.run-refused (table-fits t within sorted) spell tokens rows small (t .root) (omega (arith, within .root)) (sorted .signature) (sorted .defined)
-          (sorted .without) (sorted .of-term) cells room r cells′ e in
-          (r, cells′, e, n .0, n .1)
+      go : Refused (table-fits t within sorted) passed spell tokens rows small (t .root) r → Overrun rows (normalized (t .blocks)) spell (t .root) tokens r
+      go (inl (inl n)) = absurd (omega (arith, n, l))
+      go (inl (inr n)) = absurd (omega (arith, n, l))
+      go (inr o) = o
+
+  -- An expansion is refused with 19, 20 or 21 exactly if a point of the parse exceeds a limit.
+  pub limits-exactly : ((r : Refusal) × (cells′ : List ℕ) × Runs (halt r cells′) × (19 ≤ r .number) × (r .number ≤ 21))
+      ↔ ((r : Refusal) × Overrun rows (normalized (t .blocks)) spell (t .root) tokens r)
+  limits-exactly = (
+    λ a. (a .0, limit-is-exceeded (a .0) (a .1) (a .2) (a .3)),
+    λ o. overrun (o .1),
+  )
+
+  -- It is refused with 17 or 18 exactly if nothing is derived from the whole formula and no point of the parse exceeds a limit.
+  pub misfits-exactly : ((r : Refusal) × (cells′ : List ℕ) × Runs (halt r cells′) × ((r .number ≡ 17) ⊎ (r .number ≡ 18)))
+      ↔ (((u : Term Name) → Reads u → ⊥) × ((r : Refusal) → Overrun rows (normalized (t .blocks)) spell (t .root) tokens r → ⊥))
+  misfits-exactly = (
+    λ a. (misfit-is-not-derived (a .0) (a .1) (a .2) (a .3), λ r o. let q = overrun o in apart (a .3) (same-refusal (sym (a .2) ∙ q .2)) (q .3)),
+    λ a. go (a .0) (a .1) (run (input (normalized (t .blocks)) tokens rows) (t .root) cells) refl,
+  )
+    where
+      here : (r : Refusal) (cells′ : List ℕ) → Runs (halt r cells′) → ((r : Refusal) → Overrun rows (normalized (t .blocks)) spell (t .root) tokens r → ⊥)
+          → Refused (table-fits t within sorted) passed spell tokens rows small (t .root) r
+          → (r : Refusal) × (cells′ : List ℕ) × Runs (halt r cells′) × ((r .number ≡ 17) ⊎ (r .number ≡ 18))
+      here r cells′ e never (inl n) = (r, cells′, e, n)
+      here r cells′ e never (inr o) = absurd (never r o)
+
+      go : ((u : Term Name) → Reads u → ⊥) → ((r : Refusal) → Overrun rows (normalized (t .blocks)) spell (t .root) tokens r → ⊥) → (x : Result ℕ) → Runs x
+          → (r : Refusal) × (cells′ : List ℕ) × Runs (halt r cells′) × ((r .number ≡ 17) ⊎ (r .number ≡ 18))
+      go none never (done v s cells′) e = absurd (none (termAt (s .made) spell cells′ v) (accepted-is-derived v s cells′ e))
+      go none never (halt r cells′) e = here r cells′ e never (stopped r cells′ e)

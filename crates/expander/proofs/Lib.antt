@@ -14,4 +14,6 @@ pub mod Complete
 pub mod Unique
 pub mod Scanned
 pub mod Sourcing
+pub mod Limits
+pub mod Overrunning
 pub mod ExpansionTheorems

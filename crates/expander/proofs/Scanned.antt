@@ -1,19 +1,18 @@
 -- A scan gives tokens whose words have small numbers: outside names below 64, then one number for each token at most.
-use Prim.Native.Nat.{ℕ, zero, suc, _+_, _≤_, _<_}
+use Prim.Native.Nat.{ℕ, zero, suc, _+_, _≤_}
 use mathlib.Core.Path.{_≡_, refl}
 use mathlib.Core.Bool.{Bool, true, false}
 use mathlib.Core.List.{List, [], _∷_, _++_}
 use native.Mathlib.Omega.{arith}
 use lib.Dec.{ltb, leb}
-use lib.ListN.{length, getD, take, drop, length-append}
+use lib.ListN.{length, take, drop, length-append}
 use borrow.Author.Tests.{ltb-true}
 use Rattle.answers.specs.Refusals.{refusal}
-use Rattle.kinds.specs.Kinds.{wordKind}
 use Rattle.grammar.specs.Fields.{Lexicon}
 use Rattle.scanner.specs.declared.Token.{Token}
 use Rattle.scanner.specs.declared.Step.{Step}
 use Rattle.scanner.specs.declared.Step.the-variants.{Skip, Emit, Stop}
-use Rattle.scanner.specs.declared.Scanned.the-variants.{Tokens, Unscanned}
+use Rattle.scanner.specs.declared.Scanned.the-variants.{Unscanned}
 use Rattle.scanner.specs.Scan.{Lexed, isNew, wordsWith, ended, withToken, stepOf, mostTokens, lexFrom, longestFormula, scan}
 use Rattle.scanner.proofs.SpellingLaws.{every-at, scan-spelled}
 use Rattle.expander.specs.Expansion.{endToken}

@@ -15,23 +15,21 @@ use Rattle.answers.specs.Refusals.{refusal}
 use Rattle.kinds.specs.Kinds.{wordKind, numberKind, keywordKind}
 use Rattle.grammar.specs.Sorts.{Signature}
 use Rattle.grammar.specs.Sorts as Sorts
-use Rattle.grammar.specs.Table.{Template, Templates, Item, keyword, ide, number, local, call}
+use Rattle.grammar.specs.Table.{Template, Item, keyword, ide, number, call}
 use Rattle.grammar.specs.Cells.{nameBase}
-use Rattle.layout.specs.Within.{Each, each-none, each-more, ItemWithin, ide-within, call-within, TemplateWithin}
-use Rattle.sorting.specs.Sorting.{Scope}
+use Rattle.layout.specs.Within.{Each, each-none, each-more, ItemWithin, ide-within, call-within}
 use Rattle.sorting.specs.Judgements.{Newest, Fits, Sorted, ItemSorted, Body, by-result, by-binding}
 use Rattle.sorting.specs.Judgements as Judgements
 use Rattle.scanner.specs.declared.Token.{Token}
 use Rattle.firsts.specs.Normal.{Production}
-use Rattle.firsts.specs.Rules.{Of}
 use Rattle.terms.specs.Term.{Name, Term}
 use Rattle.terms.specs.Rows.{termAt}
 use Rattle.expander.specs.declared.State.{State}
 use Rattle.expander.specs.Run.{Result, done, halt, Run, after}
-use Rattle.expander.specs.Expansion.{Input, ready, Rule, Choice, unfit, chosen, choice, endToken, nextToken, tokenTaken, take, misfit, buildAll, build, wordValue, runItem, runItems, callBegun, mostCalls, runCall, mostOpen, start, ended, run}
-use Rattle.expander.specs.Figure3.{Value, unit, name, label, num, term, Gives, GiveAll, Taken, Derives, by-end, by-keyword, by-ide-var, by-ide-binder, by-ide-label, by-number, by-local, by-call, Parses}
+use Rattle.expander.specs.Expansion.{Input, ready, Rule, unfit, chosen, choice, endToken, nextToken, tokenTaken, take, misfit, buildAll, build, wordValue, runItem, runItems, callBegun, mostCalls, runCall, mostOpen, start, ended, run}
+use Rattle.expander.specs.Figure3.{Value, unit, name, label, num, term, Gives, Taken, Derives, by-end, by-keyword, by-ide-var, by-ide-binder, by-ide-label, by-number, by-local, by-call, Parses}
 use Rattle.expander.specs.Costs.{rowsOf, rowsOfAll}
-use Rattle.expander.proofs.Shows.{Agree, Grown, grown-not, grown-trans, Shows, shows-unit, shows-name, shows-label, shows-num, shows-term, ShowAll, show-none, shows-later, all-later, all-and, word-named, fresh-named}
+use Rattle.expander.proofs.Shows.{Grown, grown-not, grown-trans, Shows, shows-unit, shows-name, shows-label, shows-num, shows-term, ShowAll, show-none, all-later, all-and, word-named, fresh-named}
 use Rattle.expander.proofs.Building.{Ends, ends-after, ends-map, Made, Full, Built, BuiltAll, build-ends, build-all-ends}
 use Rattle.expander.specs.ValueSorts.{Typed, typed-unit, typed-var, typed-binder, typed-label, typed-num, typed-term, Matches, matches-none}
 use Rattle.expander.proofs.Typing.{matches-and, gives-exists, give-all-exist, items-typed, FitAll, body-of, taken-of}
@@ -63,7 +61,7 @@ SmallWords tokens = (at : ℕ) → getD tokens at endToken .kind ≡ wordKind �
 pub record Kept (rows k : ℕ) (s : State) (cells : List ℕ) : Type 0 where
   pub room : rows * 4 ≤ length cells
   pub fits : s .made ≤ rows
-  pub names : s .fresh + k ≤ 1 + 12 * s .calls
+  pub names : s .fresh + k ≤ 2 + 12 * s .calls
   pub begun : s .calls ≤ mostCalls
 
 pub kept-made : {rows n k : ℕ} {s s′ : State} {cells cells′ : List ℕ} → Kept rows k s cells → Made rows n s cells s′ cells′ → Kept rows k s′ cells′
@@ -96,22 +94,22 @@ module _ (d : ℕ) (I : Input) (n : ℕ) (xs : List ℕ) (s : State) (cells : Li
   call-chosen r e f = rw (e, f, runCall) refl
 
 module _ {g : List Production} (F : FitAll g) (spell : ℕ → List ℕ) (tokens : List Token) (rows : ℕ) (small : SmallWords tokens) where
-  abbrev I : Input
+  abbrev pub I : Input
   I = input g tokens rows
 
-  abbrev from : State → List Token
+  abbrev pub from : State → List Token
   from s = drop (s .at) tokens
 
   -- ------------------------------------------------------------------ items
 
   -- an item derived, with its value, and any derivation of the items after it goes on from it
-  record Stepped (k : ℕ) (i : Item) (A : ℕ) (M : List Value) (s : State) (cells : List ℕ) (x : ℕ) (s′ : State) (cells′ : List ℕ) : Type 0 where
-    value : Value
-    typed : Typed value A
-    shows : Shows spell (s′ .made) cells′ x value
-    grown : Grown (s .made) cells (s′ .made) cells′
-    kept : Kept rows k s′ cells′
-    step : (is : List Item) (M′ : List Value) (t : List Token) (j : ℕ) → Derives g spell (M ++ (value ∷ [])) (from s′) (s′ .fresh) is M′ t j → Derives g spell M (from s) (s .fresh) (i ∷ is) M′ t j
+  pub record Stepped (k : ℕ) (i : Item) (A : ℕ) (M : List Value) (s : State) (cells : List ℕ) (x : ℕ) (s′ : State) (cells′ : List ℕ) : Type 0 where
+    pub value : Value
+    pub typed : Typed value A
+    pub shows : Shows spell (s′ .made) cells′ x value
+    pub grown : Grown (s .made) cells (s′ .made) cells′
+    pub kept : Kept rows k s′ cells′
+    pub step : (is : List Item) (M′ : List Value) (t : List Token) (j : ℕ) → Derives g spell (M ++ (value ∷ [])) (from s′) (s′ .fresh) is M′ t j → Derives g spell M (from s) (s .fresh) (i ∷ is) M′ t j
 
   -- a call derived
   pub record Called (k n : ℕ) (vs : List Value) (s : State) (cells : List ℕ) (x : ℕ) (s′ : State) (cells′ : List ℕ) : Type 0 where
@@ -125,12 +123,12 @@ module _ {g : List Production} (F : FitAll g) (spell : ℕ → List ℕ) (tokens
     pub grown : Grown (s .made) cells (s′ .made) cells′
     pub kept : Kept rows k s′ cells′
 
-  -- a refusal of an expansion
+  -- of refusals nothing is said here
   abbrev pub Any : Refusal → Type 0
-  Any r = (17 ≤ r .number) × (r .number ≤ 21)
+  Any r = Unit {0}
 
   -- what is asked of a callee
-  abbrev Callee : (ℕ → List ℕ → Run ℕ) → Type 0
+  abbrev pub Callee : (ℕ → List ℕ → Run ℕ) → Type 0
   Callee C =
       (k n : ℕ) (S : Signature) (vs : List Value) (xs : List ℕ) (s : State) (cells : List ℕ) → Newest (F .scope .env) n S → n < 64 → Matches vs (S .params)
       → Kept rows k s cells → ShowAll spell (s .made) cells xs vs → Ends (Called k n vs s cells) Any (C n xs s cells)
@@ -142,7 +140,7 @@ module _ {g : List Production} (F : FitAll g) (spell : ℕ → List ℕ) (tokens
       go : (b : Bool) → eqb (nextToken I s .kind) kind ≡ b
           → Ends P Any (elim b [ true ↦ done (value (nextToken I s .value)) (tokenTaken s) cells | false ↦ misfit (Rattle.kinds.specs.Kinds.only kind) s cells ])
       go true e = f (eqb-true (nextToken I s .kind) kind e)
-      go false e = (omega arith, omega arith)
+      go false e = tt
 
   kept-on : {k : ℕ} {s : State} {cells : List ℕ} → Kept rows (k + 1) s cells → Kept rows k (tokenTaken s) cells
   kept-on h = record { room = h .room; fits = h .fits; names = omega (arith, h .names); begun = h .begun }
@@ -171,7 +169,7 @@ module _ {g : List Production} (F : FitAll g) (spell : ℕ → List ℕ) (tokens
   at-ide P (suc (suc (suc (suc B)))) l h a b c = absurd (omega arith)
 
   module _ (C : ℕ → List ℕ → Run ℕ) (callee : Callee C) where
-    item-sound : (k : ℕ) {i : Item} {A : ℕ} {M : List Value} {L xs : List ℕ} (s : State) (cells : List ℕ) → ItemSorted (F .scope) L i A → ItemWithin i → Matches M L
+    pub item-sound : (k : ℕ) {i : Item} {A : ℕ} {M : List Value} {L xs : List ℕ} (s : State) (cells : List ℕ) → ItemSorted (F .scope) L i A → ItemWithin i → Matches M L
         → Kept rows (k + 1) s cells → ShowAll spell (s .made) cells xs M → Ends (Stepped k i A M s cells) Any (runItem C I i xs s cells)
     item-sound k {M = M} s cells (Judgements.by-keyword {k = w} l) z m h a =
         take-ends (Stepped k (keyword w) Sorts.unit M s cells) (keywordKind w) (λ v. 0) s cells
@@ -213,22 +211,22 @@ module _ {g : List Production} (F : FitAll g) (spell : ℕ → List ℕ) (tokens
           step = λ is M′ t j e. subst₂ (λ at i. Derives g spell M (drop at tokens) i (call n ts ∷ is) M′ t j) (b .0 .at-kept) (b .0 .fresh-kept) (by-call (vs .1) (d .taken) (d .derived) (d .given) e);
         })
         (λ r u. u))
-        (λ r u. (omega (arith, u .is-21), omega (arith, u .is-21)))
+        (λ r u. tt)
 
     -- the items derived, and the result sorted under their variables
-    record Derived (k : ℕ) (is : List Item) (r : Template) (B : ℕ) (M : List Value) (s : State) (cells : List ℕ) (xs : List ℕ) (s′ : State) (cells′ : List ℕ) : Type 0 where
-      variables : List Value
-      derived : Derives g spell M (from s) (s .fresh) is variables (from s′) (s′ .fresh)
-      sorts : List ℕ
-      matches : Matches variables sorts
-      sort : ℕ
-      sorted : Sorted (F .scope .outsides) sorts r sort
-      fit : Fits sort B
-      shows : ShowAll spell (s′ .made) cells′ xs variables
-      grown : Grown (s .made) cells (s′ .made) cells′
-      kept : Kept rows k s′ cells′
+    pub record Derived (k : ℕ) (is : List Item) (r : Template) (B : ℕ) (M : List Value) (s : State) (cells : List ℕ) (xs : List ℕ) (s′ : State) (cells′ : List ℕ) : Type 0 where
+      pub variables : List Value
+      pub derived : Derives g spell M (from s) (s .fresh) is variables (from s′) (s′ .fresh)
+      pub sorts : List ℕ
+      pub matches : Matches variables sorts
+      pub sort : ℕ
+      pub sorted : Sorted (F .scope .outsides) sorts r sort
+      pub fit : Fits sort B
+      pub shows : ShowAll spell (s′ .made) cells′ xs variables
+      pub grown : Grown (s .made) cells (s′ .made) cells′
+      pub kept : Kept rows k s′ cells′
 
-    items-sound : (k : ℕ) (is : List Item) {r : Template} {B : ℕ} {M : List Value} {L xs : List ℕ} (s : State) (cells : List ℕ) → Body (F .scope) L is r B → Each ItemWithin is → Matches M L
+    pub items-sound : (k : ℕ) (is : List Item) {r : Template} {B : ℕ} {M : List Value} {L xs : List ℕ} (s : State) (cells : List ℕ) → Body (F .scope) L is r B → Each ItemWithin is → Matches M L
         → Kept rows (k + length is) s cells → ShowAll spell (s .made) cells xs M → Ends (Derived k is r B M s cells) Any (runItems C I is xs s cells)
     unfolding runItems
     items-sound k [] {M = M} {L = L} s cells (by-result {A = A} w f) each-none m h a =
@@ -298,20 +296,20 @@ module _ {g : List Production} (F : FitAll g) (spell : ℕ → List ℕ) (tokens
             grown = grown-trans (e .grown) (b .0 .grown);
             kept = kept-made (e .kept) (b .0);
           })
-          (λ r u. (omega (arith, u .is-21), omega (arith, u .is-21))))
+          (λ r u. tt))
           (λ r u. u)
 
       go : (b : Bool) → ltb (s .calls) mostCalls ≡ b → Picks g n (from s) (choice (ready g) n (kindOf (from s))) → Goal (runCall (suc d) I n xs s cells)
-      go false e q = subst⁻¹ (λ r. Ends (Called k n vs s cells) Any r) (call-full d I n xs s cells e) (omega arith, omega arith)
+      go false e q = subst⁻¹ (λ r. Ends (Called k n vs s cells) Any r) (call-full d I n xs s cells e) tt
       go true e (picks p t f) =
           subst⁻¹ (λ r. Ends (Called k n vs s cells) Any r) (call-chosen d I n xs s cells (rule g p) e (ap (choice (ready g) n) (kind-next (s .at) tokens) ∙ f))
           (items p t (ltb-true (s .calls) mostCalls e))
       go true e (picks-none f c) =
-          subst⁻¹ (λ r. Ends (Called k n vs s cells) Any r) (call-unfit d I n xs s cells e (ap (choice (ready g) n) (kind-next (s .at) tokens) ∙ c)) (omega arith, omega arith)
+          subst⁻¹ (λ r. Ends (Called k n vs s cells) Any r) (call-unfit d I n xs s cells e (ap (choice (ready g) n) (kind-next (s .at) tokens) ∙ c)) tt
 
-  call-sound : (d : ℕ) → Callee (runCall d I)
+  pub call-sound : (d : ℕ) → Callee (runCall d I)
   unfolding runCall
-  call-sound zero k n S vs xs s cells w l m h a = (omega arith, omega arith)
+  call-sound zero k n S vs xs s cells w l m h a = tt
   call-sound (suc d) k n S vs xs s cells w l m h a = call-step d (call-sound d) k n S vs xs s cells w l m h a
 
   -- ------------------------------------------------------------------ the whole formula
@@ -345,7 +343,7 @@ module _ {g : List Production} (F : FitAll g) (spell : ℕ → List ℕ) (tokens
     ended-sound cells x s′ cells′ c = go (ltb (s′ .at) (length tokens)) refl
       where
         go : (b : Bool) → ltb (s′ .at) (length tokens) ≡ b → Ends (Accepted root) Any (elim b [ true ↦ halt (refusal 18 (s′ .at) 0 0) cells′ | false ↦ done x s′ cells′ ])
-        go true e = (omega arith, omega arith)
+        go true e = tt
         go false e =
             parses (ltb-false (s′ .at) (length tokens) e) c
             (subst (Typed (c .value)) res (items-typed F (c .derived) no-arguments (body-of F (taken-of (c .taken)) w) (c .given)))
@@ -361,7 +359,3 @@ module _ {g : List Production} (F : FitAll g) (spell : ℕ → List ℕ) (tokens
     pub run-sound : (cells : List ℕ) → rows * 4 ≤ length cells → (v : ℕ) (s : State) (cells′ : List ℕ) → run I root cells ≡ done v s cells′
         → Parses g spell root tokens (termAt (s .made) spell cells′ v)
     run-sound cells room v s cells′ e = subst (λ r. Ends (Accepted root) Any r) e (run-ends cells room)
-
-    -- what is refused is refused with 17 to 21
-    pub run-refused : (cells : List ℕ) → rows * 4 ≤ length cells → (r : Refusal) (cells′ : List ℕ) → run I root cells ≡ halt r cells′ → (17 ≤ r .number) × (r .number ≤ 21)
-    run-refused cells room r cells′ e = subst (λ r. Ends (Accepted root) Any r) e (run-ends cells room)
