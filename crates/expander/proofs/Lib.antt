@@ -16,4 +16,5 @@ pub mod Scanned
 pub mod Sourcing
 pub mod Limits
 pub mod Overrunning
+pub mod RunsAndParses
 pub mod ExpansionTheorems
