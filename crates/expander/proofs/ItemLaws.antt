@@ -1,24 +1,23 @@
 -- Laws of the items of an alternative and of its result, read off a table's bytes.
-use Prim.Native.Nat.{ℕ, zero, suc, _+_, _-_, _<_, _≤_}
+use Prim.Native.Nat.{ℕ, zero, suc, _+_, _-_, _≤_}
 use mathlib.Core.Path.{_≡_, refl, sym, ap, _∙_, subst}
 use mathlib.Core.Bool.{Bool, true, false, _&&_, and-eq-true-iff}
 use mathlib.Core.List.{List, [], _∷_, _++_}
 use native.Mathlib.Omega.{arith}
 use lib.Dec.{eqb}
-use lib.ListN.{length, getD, take, drop, length-take, length-drop}
+use lib.ListN.{getD, take, drop, length-take, length-drop}
 use borrow.Author.Tests.{eq-eqb, ne-eqb}
 use Rattle.answers.specs.declared.Refusal.{Refusal}
 use Rattle.answers.specs.Refusals.{refusal}
 use Rattle.kinds.specs.Kinds.{only}
-use Rattle.grammar.specs.declared.Front.{Front}
 use Rattle.grammar.specs.declared.Front.the-variants.{Nothing, Short, Field}
 use Rattle.grammar.specs.Table.{Template, Templates, variable, none, more, Item, keyword, ide, number, local, call}
 use Rattle.grammar.specs.Sorts.{label}
 use Rattle.grammar.specs.Cells.{wordName}
-use Rattle.grammar.specs.Fields.{Fields, end, cut, next}
+use Rattle.grammar.specs.Fields.{Fields, next}
 use Rattle.grammar.specs.Lookup.{frontOf, fieldsAt}
 use Rattle.grammar.proofs.LookupLaws.{fields-at, front-inside}
-use Rattle.layout.specs.Prefix.{Parsed, fault, parsed, templatesOf, isTemplates, isTemplate, found, firstOf}
+use Rattle.layout.specs.Prefix.{Parsed, fault, parsed, templatesOf, isTemplates, isTemplate, found}
 use Rattle.layout.specs.Decode.{itemOf}
 use Rattle.scanner.specs.declared.Token.{Token}
 use Rattle.firsts.specs.Index.{itemsOf, resultOf}

@@ -4,6 +4,7 @@ pub mod VariableLaws
 pub mod TemplateLaws
 pub mod ArgumentLaws
 pub mod ItemLaws
+pub mod CallLaws
 pub mod Shows
 pub mod Building
 pub mod Typing

@@ -1,6 +1,6 @@
 -- Laws of the values of variables in an array of 16, and of the rows.
-use Prim.Native.Nat.{ℕ, zero, suc, _+_, _*_, _<_, _≤_}
-use mathlib.Core.Path.{_≡_, refl, sym, ap, _∙_, subst}
+use Prim.Native.Nat.{ℕ, _+_, _<_, _≤_}
+use mathlib.Core.Path.{_≡_, refl, sym, ap, _∙_}
 use mathlib.Core.Bool.{Bool, true, false}
 use mathlib.Core.List.{List, [], _∷_, _++_}
 use native.Mathlib.Omega.{arith}
@@ -11,11 +11,10 @@ use lib.ListN.{length, getD, take, set, length-append, length-set, List·getD-ap
 use lib.Seq.{sets, getD-at, getD-set-same, getD-set-other}
 use borrow.Author.Tests.{eq-eqb, ne-eqb}
 use Rattle.grammar.proofs.ReaderLaws.{getD-past}
-use Rattle.grammar.specs.Table.{outside, outsideLabel}
 use Rattle.grammar.specs.Cells.{outsideName}
 use Rattle.layout.specs.Prefix.{nameBy}
 use Rattle.expander.specs.declared.State.{State}
-use Rattle.expander.specs.Run.{Result, done}
+use Rattle.expander.specs.Run.{done}
 use Rattle.expander.specs.Expansion.{Input, build}
 use Rattle.expander.specs.Built.{Holds}
 

@@ -1,4 +1,5 @@
 // The expander: from tokens to cells.
+pub mod calls;
 pub mod choice;
 pub mod items;
 pub mod templates;

@@ -8,86 +8,61 @@ use Rattle.expander.specs.Expansion.{build}
 use Rattle.expander.proofs.ItemLaws as laws
 use Rattle.expander.proofs.items.finish.Statement.{statement}
 use Rattle.expander.proofs.items.finish.Tie as tie
-use Rattle.expander.proofs.items.finish.Reads as reads
-use Rattle.expander.proofs.items.finish.Lts as lts
-use Rattle.expander.proofs.items.first_variable.Reads as first-variable-reads
-use Rattle.expander.proofs.items.outcome_of.Reads as outcome-of-reads
-use Rattle.expander.proofs.templates.build.Reads as build-reads
-use Rattle.grammar.proofs.front_at.Reads as front-at-reads
 
--- src/items.rt:218:9
 front-at-requires : tie.Need-front-at-requires
 front-at-requires c κs = search needs
 
--- src/items.rt:220:27
 enum-told : tie.Need-enum-told
 enum-told c = search needs
 
--- src/items.rt:220:27
 first-variable-requires : tie.Need-first-variable-requires
 first-variable-requires c κs = search needs
 
--- src/items.rt:221:25
 enum-told-2 : tie.Need-enum-told-2
 enum-told-2 c = search needs
 
--- src/items.rt:221:25
 first-variable-requires-2 : tie.Need-first-variable-requires-2
 first-variable-requires-2 c κs = search needs
 
--- src/items.rt:222:22
 enum-known-front : tie.Need-enum-known-front
 enum-known-front c = search needs
 
--- src/items.rt:224:17
 first-variable-requires-3 : tie.Need-first-variable-requires-3
 first-variable-requires-3 c κs = search needs
 
--- src/items.rt:224:17
 returns : tie.Need-returns
 returns c = (λ I M e g. c .first-variable3 .ensures .0 I M (c .before .before .before .before .before .before .before .before .args .cells .now) g ∙ ap (λ (t : Template). build t I M (c .before .before .before .before .before .before .before .before .args .s) (c .before .before .before .before .before .before .before .before .args .cells .now)) (laws.other-result (c .before .before .before .before .before .before .before .before .args .table .now) (c .before .before .before .before .before .before .before .before .args .at) (sym (c .before .before .before .front .given .1) ∙ c .before .before .before .before .before .front-at .ensures) (c .before .before .before .before .before .before .before .before .pre .0 .0) (c .before .if1 .taken)), c .first-variable3 .ensures .1)
 
--- src/items.rt:226:24
 add-from : tie.Need-add-from
 add-from c = omega (arith, front-inside (c .before .before .before .before .before .before .before .args .table .now) (c .before .before .before .before .before .before .before .args .at) (sym (c .before .before .front .given .1) ∙ c .before .before .before .before .front-at .ensures), c .before .before .before .before .before .before .before .good .0)
 
--- src/items.rt:227:22
 add-to : tie.Need-add-to
 add-to c = omega (arith, front-inside (c .before .before .before .before .before .before .before .args .table .now) (c .before .before .before .before .before .before .before .args .at) (sym (c .before .before .front .given .1) ∙ c .before .before .before .before .front-at .ensures), c .before .before .before .before .before .before .before .good .0)
 
--- src/items.rt:229:31
 sub-build : tie.Need-sub-build
 sub-build c = search needs
 
--- src/items.rt:229:31
 part-build-start : tie.Need-part-build-start
 part-build-start c = search needs
 
--- src/items.rt:229:31
 part-build-end : tie.Need-part-build-end
 part-build-end c = omega (arith, front-inside (c .before .before .before .before .before .before .before .args .table .now) (c .before .before .before .before .before .before .before .args .at) (sym (c .before .before .front .given .1) ∙ c .before .before .before .before .front-at .ensures), c .before .before .before .before .before .before .before .good .0)
 
--- src/items.rt:229:17
 build-requires : tie.Need-build-requires
 build-requires c κs = (laws.result-ahead (c .before .before .before .before .before .before .before .before .before .args .table .now) (c .before .before .before .before .before .before .before .before .before .args .at) (sym (c .before .before .before .before .front .given .1) ∙ c .before .before .before .before .before .before .front-at .ensures) (c .before .before .before .before .before .before .before .before .before .pre .0 .0) (c .before .before .if1 .left) (c .before .before .before .before .before .before .before .before .before .pre .0 .1), c .before .before .before .before .before .before .before .before .before .pre .1)
 
--- src/items.rt:230:13
 outcome-of-requires : tie.Need-outcome-of-requires
 outcome-of-requires c κs = search needs
 
--- src/items.rt:204:1
 returns-2 : tie.Need-returns-2
 returns-2 c = (λ I M e g. c .first-variable .ensures .0 I M (c .before .before .before .before .before .before .args .cells .now) g ∙ ap (λ (t : Template). build t I M (c .before .before .before .before .before .before .args .s) (c .before .before .before .before .before .before .args .cells .now)) (laws.end-result (c .before .before .before .before .before .before .args .table .now) (c .before .before .before .before .before .before .args .at) (sym (c .before .enum-told .given .1) ∙ c .before .before .before .front-at .ensures)), c .first-variable .ensures .1)
 
--- src/items.rt:204:1
 returns-3 : tie.Need-returns-3
 returns-3 c = (λ I M e g. c .first-variable2 .ensures .0 I M (c .before .before .before .before .before .before .args .cells .now) g ∙ ap (λ (t : Template). build t I M (c .before .before .before .before .before .before .args .s) (c .before .before .before .before .before .before .args .cells .now)) (laws.cut-result (c .before .before .before .before .before .before .args .table .now) (c .before .before .before .before .before .before .args .at) (sym (c .before .enum-told2 .given .1) ∙ c .before .before .before .front-at .ensures)), c .first-variable2 .ensures .1)
 
--- src/items.rt:204:1
 same-length : tie.Need-same-length
 same-length c = c .before .before .before .build .kept .1 .1 .1 .1 .1 .1 .0
 
--- src/items.rt:204:1
 returns-4 : tie.Need-returns-4
 returns-4 c = (λ I M e g. c .outcome-of .ensures .0 (c .before .before .before .build .last .1 .1 .1 .1 .1 .1 .0) ∙ c .before .before .before .build .ensures .0 I (c .before .before .before .before .before .before .before .before .before .before .before .before .before .args .s) M e g ∙ ap (λ (t : Template). build t I M (c .before .before .before .before .before .before .before .before .before .before .before .before .before .args .s) (c .before .before .before .before .before .before .before .before .before .before .before .before .before .args .cells .now)) (laws.result-is (c .before .before .before .before .before .before .before .before .before .before .before .before .before .args .table .now) (c .before .before .before .before .before .before .before .before .before .before .before .before .before .args .at) (sym (c .before .before .before .before .before .before .before .before .front .given .1) ∙ c .before .before .before .before .before .before .before .before .before .before .front-at .ensures) (c .before .before .before .before .before .before .before .before .before .before .before .before .before .pre .0 .0) (c .before .before .before .before .before .before .if1 .left)), c .outcome-of .ensures .1)
 

@@ -50,115 +50,87 @@ build-Inv-loop v at env k rows made cells₀ b next n args₀ i₀ from₀ count
 abbrev build-μ-loop : build-lts.MeasureT-loop
 build-μ-loop v at env k rows made cells₀ b next n args₀ i₀ from₀ count₀ cells args i from count = n - i
 
--- src/templates.rt:85:9
 build-byte-requires : (t : ℕ) → build-lts.Need-byte-requires (build-claims t) (build-at t) build.Post build-Inv-loop build-μ-loop
 build-byte-requires t c κs = search needs
 
--- src/templates.rt:86:16
 build-add-next : (t : ℕ) → build-lts.Need-add-next (build-claims t) (build-at t) build.Post build-Inv-loop build-μ-loop
 build-add-next t c = omega (arith, laws.ahead-inside (c .before .before .before .args .v .now) (c .before .before .before .args .at) (c .before .before .before .pre .1 .0), c .before .before .before .good)
 
--- src/templates.rt:88:41
 build-cast-pick : (t : ℕ) → build-lts.Need-cast-pick (build-claims t) (build-at t) build.Post build-Inv-loop build-μ-loop
 build-cast-pick t c = search needs
 
--- src/templates.rt:88:28
 build-pick-requires : (t : ℕ) → build-lts.Need-pick-requires (build-claims t) (build-at t) build.Post build-Inv-loop build-μ-loop
 build-pick-requires t c κs = search needs
 
--- src/templates.rt:88:9
 build-returns : (t : ℕ) → build-lts.Need-returns (build-claims t) (build-at t) build.Post build-Inv-loop build-μ-loop
 build-returns t c = (laws.variable-built (c .before .before .before .before .before .args .v .now) (c .before .before .before .before .before .args .at) (c .before .before .before .before .before .pre .1 .0) (c .before .before .byte .ensures) (c .before .if1 .taken) (c .before .before .before .before .before .args .env .now) (c .before .before .before .before .before .args .k) (c .pick .result) (c .pick .ensures) (c .before .before .before .before .before .args .rows) (c .before .before .before .before .before .args .made) (c .before .before .before .before .before .args .cells .now), laws.behind-variable (c .before .before .before .before .before .args .v .now) (c .before .before .before .before .before .args .at) (c .before .before .before .before .before .pre .1 .0) (c .before .before .byte .ensures) (c .before .if1 .taken) (c .pick .result) (c .before .before .before .before .before .args .made))
 
--- src/templates.rt:91:13
 build-byte-requires-2 : (t : ℕ) → build-lts.Need-byte-requires-2 (build-claims t) (build-at t) build.Post build-Inv-loop build-μ-loop
 build-byte-requires-2 t c κs = search needs
 
--- src/templates.rt:92:28
 build-name-value-requires : (t : ℕ) → build-lts.Need-name-value-requires (build-claims t) (build-at t) build.Post build-Inv-loop build-μ-loop
 build-name-value-requires t c κs = search needs
 
--- src/templates.rt:92:46
 build-add-t24 : (t : ℕ) → build-lts.Need-add-t24 (build-claims t) (build-at t) build.Post build-Inv-loop build-μ-loop
 build-add-t24 t c = omega (arith, laws.behind-name (c .before .before .before .before .before .before .before .args .v .now) (c .before .before .before .before .before .before .before .args .at) (c .before .before .before .before .before .before .before .pre .1 .0) (c .before .before .before .before .byte .ensures) (c .before .before .before .if1 .left) (c .before .before .if2 .taken) (c .before .byte2 .ensures) 0 0 .1, c .before .before .before .before .before .before .before .good)
 
--- src/templates.rt:92:9
 build-returns-2 : (t : ℕ) → build-lts.Need-returns-2 (build-claims t) (build-at t) build.Post build-Inv-loop build-μ-loop
 build-returns-2 t c = (laws.name-built (c .before .before .before .before .before .before .before .args .v .now) (c .before .before .before .before .before .before .before .args .at) (c .before .before .before .before .before .before .before .pre .1 .0) (c .before .before .before .before .byte .ensures) (c .before .before .before .if1 .left) (c .before .before .if2 .taken) (c .before .byte2 .ensures) (c .before .before .before .before .before .before .before .args .env .now) (c .before .before .before .before .before .before .before .args .k) (c .name-value .result) (c .name-value .ensures) (c .before .before .before .before .before .before .before .args .rows) (c .before .before .before .before .before .before .before .args .made) (c .before .before .before .before .before .before .before .args .cells .now), laws.behind-name (c .before .before .before .before .before .before .before .args .v .now) (c .before .before .before .before .before .before .before .args .at) (c .before .before .before .before .before .before .before .pre .1 .0) (c .before .before .before .before .byte .ensures) (c .before .before .before .if1 .left) (c .before .before .if2 .taken) (c .before .byte2 .ensures) (c .name-value .result) (c .before .before .before .before .before .before .before .args .made))
 
--- src/templates.rt:94:9
 build-arity-of-requires : (t : ℕ) → build-lts.Need-arity-of-requires (build-claims t) (build-at t) build.Post build-Inv-loop build-μ-loop
 build-arity-of-requires t c κs = search needs
 
--- src/templates.rt:99:5
 build-loop-holds : (t : ℕ) → build-lts.Need-loop-holds (build-claims t) (build-at t) build.Post build-Inv-loop build-μ-loop
 build-loop-holds t c = laws.turn-start (c .before .before .before .before .before .before .args .v .now) (c .before .before .before .before .before .before .args .at) (c .before .before .before .before .before .before .pre .1 .0) (c .before .before .before .before .before .before .args .env .now) (c .before .before .before .before .before .before .args .k) (c .before .before .before .before .before .before .args .rows) (c .before .before .before .before .before .before .args .made) (c .before .before .before .before .before .before .args .cells .now) (c .before .before .before .byte .ensures) (c .before .if2 .left) (c .arity-of .ensures)
 
--- src/templates.rt:100:13
 build-build-requires : (t : ℕ) → build-lts.Need-build-requires (build-claims t) (build-at t) build.Post build-Inv-loop build-μ-loop
 build-build-requires t c κs = (omega (arith, (c .before .before .loop .inv) .past, (c .before .before .loop .inv) .inside, c .before .before .before .before .before .before .before .before .before .pre .0, laws.ahead-inside (c .before .before .before .before .before .before .before .before .before .args .v .now) (c .before .before .before .before .before .before .before .before .before .args .at) (c .before .before .before .before .before .before .before .before .before .pre .1 .0)), (laws.turn-ahead (c .before .before .loop .inv) (c .before .loop-test .taken), (c .before .before .before .before .before .before .before .before .before .pre .1 .1 .0, omega (arith, c .before .before .before .before .before .before .before .before .before .pre .1 .1 .1, (c .before .before .loop .inv) .as-long))))
 
--- src/templates.rt:103:17
 build-enum-told : (t : ℕ) → build-lts.Need-enum-told (build-claims t) (build-at t) build.Post build-Inv-loop build-μ-loop
 build-enum-told t c = search needs
 
--- src/templates.rt:103:17
 build-same-length : (t : ℕ) → build-lts.Need-same-length (build-claims t) (build-at t) build.Post build-Inv-loop build-μ-loop
 build-same-length t c = c .before .before .before .before .build .kept .1 .1 .1 .1 .1 .1 .0 ∙ c .before .before .before .before .before .before .before .loop .inv .as-long
 
--- src/templates.rt:103:17
 build-returns-3 : (t : ℕ) → build-lts.Need-returns-3 (build-claims t) (build-at t) build.Post build-Inv-loop build-μ-loop
 build-returns-3 t c = (laws.turn-full (c .before .before .before .before .before .before .before .loop .inv) (c .before .before .before .before .before .before .loop-test .taken) (c .before .before .before .before .build .last .1 .1 .1 .1 .1 .1 .0) (c .before .before .before .before .build .result) (c .enum-told .given .1) (c .before .before .before .before .build .ensures .0), tt)
 
--- src/templates.rt:105:25
 build-enum-known-part : (t : ℕ) → build-lts.Need-enum-known-part (build-claims t) (build-at t) build.Post build-Inv-loop build-μ-loop
 build-enum-known-part t c = search needs
 
--- src/templates.rt:106:17
 build-mul-args : (t : ℕ) → build-lts.Need-mul-args (build-claims t) (build-at t) build.Post build-Inv-loop build-μ-loop
 build-mul-args t c = omega (arith, c .before .before .before .before .before .before .before .loop-test .taken, c .before .before .before .before .before .before .before .before .loop .inv .many, arity-few (c .before .before .before .before .before .before .before .before .before .before .before .before .byte .result))
 
--- src/templates.rt:106:17
 build-array-write-args : (t : ℕ) → build-lts.Need-array-write-args (build-claims t) (build-at t) build.Post build-Inv-loop build-μ-loop
 build-array-write-args t c = omega (arith, c .before .before .before .before .before .before .before .loop-test .taken, c .before .before .before .before .before .before .before .before .loop .inv .many, arity-few (c .before .before .before .before .before .before .before .before .before .before .before .before .byte .result))
 
--- src/templates.rt:109:17
 build-add-i : (t : ℕ) → build-lts.Need-add-i (build-claims t) (build-at t) build.Post build-Inv-loop build-μ-loop
 build-add-i t c = omega (arith, c .before .before .before .before .before .before .before .loop-test .taken, c .before .before .before .before .before .before .before .before .loop .inv .many, arity-few (c .before .before .before .before .before .before .before .before .before .before .before .before .byte .result))
 
--- src/templates.rt:99:5
 build-loop-less : (t : ℕ) → build-lts.Need-loop-less (build-claims t) (build-at t) build.Post build-Inv-loop build-μ-loop
 build-loop-less t c = omega (arith, c .before .before .before .before .before .before .before .loop-test .taken)
 
--- src/templates.rt:99:5
 build-loop-again : (t : ℕ) → build-lts.Need-loop-again (build-claims t) (build-at t) build.Post build-Inv-loop build-μ-loop
 build-loop-again t c = laws.turn-next (c .before .before .before .before .before .before .before .before .loop .inv) (c .before .before .before .before .before .before .before .loop-test .taken) (c .before .before .before .before .before .build .last .1 .1 .1 .1 .1 .1 .0) (c .before .before .before .before .before .build .result) (c .before .before .before .before .before .build .kept .1 .1 .1 .1 .1 .1 .0) (c .before .part .given .1) (c .before .before .before .before .before .build .ensures .0) (c .before .before .before .before .before .build .ensures .1) (omega (arith, c .before .before .before .before .before .before .before .before .loop .inv .many, arity-few (c .before .before .before .before .before .before .before .before .before .before .before .before .byte .result)))
 
--- src/templates.rt:114:9
 build-store-row-requires : (t : ℕ) → build-lts.Need-store-row-requires (build-claims t) (build-at t) build.Post build-Inv-loop build-μ-loop
 build-store-row-requires t c κs = (omega (arith, c .before .if3 .taken, c .before .before .before .before .before .before .before .before .before .before .pre .1 .1 .0), omega (arith, c .before .if3 .taken, c .before .before .before .before .before .before .before .before .before .before .pre .1 .1 .1, c .before .before .before .loop .inv .as-long))
 
--- src/templates.rt:115:28
 build-cast-t35 : (t : ℕ) → build-lts.Need-cast-t35 (build-claims t) (build-at t) build.Post build-Inv-loop build-μ-loop
 build-cast-t35 t c = omega (arith, c .before .before .before .before .if3 .taken, c .before .before .before .before .before .before .before .before .before .before .before .before .before .pre .1 .1 .0)
 
--- src/templates.rt:115:48
 build-add-t36 : (t : ℕ) → build-lts.Need-add-t36 (build-claims t) (build-at t) build.Post build-Inv-loop build-μ-loop
 build-add-t36 t c = omega (arith, c .before .before .before .before .if3 .taken, c .before .before .before .before .before .before .before .before .before .before .before .before .before .pre .1 .1 .0)
 
--- src/templates.rt:115:9
 build-same-length-2 : (t : ℕ) → build-lts.Need-same-length-2 (build-claims t) (build-at t) build.Post build-Inv-loop build-μ-loop
 build-same-length-2 t c = c .before .before .store-row .kept .0 ∙ c .before .before .before .before .before .before .loop .inv .as-long
 
--- src/templates.rt:115:9
 build-returns-4 : (t : ℕ) → build-lts.Need-returns-4 (build-claims t) (build-at t) build.Post build-Inv-loop build-μ-loop
 build-returns-4 t c = (laws.turn-made (c .before .before .before .before .before .before .loop .inv) (c .before .before .before .before .before .loop-test .left) (c .before .before .before .before .if3 .taken) (c .before .before .store-row .last .0) (c .before .before .store-row .ensures), laws.behind-made (c .before .before .before .before .before .before .loop .inv) (c .before .before .before .before .before .loop-test .left) (c .before .before .before .before .before .before .loop .count) (c .before .before .before .before .before .before .loop .count + 1))
 
--- src/templates.rt:71:1
 build-same-length-3 : (t : ℕ) → build-lts.Need-same-length-3 (build-claims t) (build-at t) build.Post build-Inv-loop build-μ-loop
 build-same-length-3 t c = c .before .before .loop .inv .as-long
 
--- src/templates.rt:71:1
 build-returns-5 : (t : ℕ) → build-lts.Need-returns-5 (build-claims t) (build-at t) build.Post build-Inv-loop build-μ-loop
 build-returns-5 t c = (laws.turn-no-row (c .before .before .loop .inv) (c .before .loop-test .left) (c .if3 .left), tt)
 

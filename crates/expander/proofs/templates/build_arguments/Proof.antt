@@ -7,10 +7,6 @@ use borrow.Author.Needs.{needs}
 use Rattle.expander.proofs.ArgumentLaws as laws
 use Rattle.expander.proofs.templates.build_arguments.Statement.{statement}
 use Rattle.expander.proofs.templates.build_arguments.Tie as tie
-use Rattle.expander.proofs.templates.build_arguments.Reads as reads
-use Rattle.expander.proofs.templates.build_arguments.Lts as lts
-use Rattle.expander.proofs.templates.build.Reads as build-reads
-use Rattle.expander.proofs.templates.put.Reads as put-reads
 
 abbrev Inv-loop : tie.InvT-loop
 Inv-loop v start env k rows made out cells₀ list₀ at₀ n₀ count₀ cells list at n count = laws.Listing v start env k rows made cells₀ list cells at n count
@@ -18,51 +14,39 @@ Inv-loop v start env k rows made out cells₀ list₀ at₀ n₀ count₀ cells 
 abbrev μ-loop : tie.MeasureT-loop
 μ-loop v start env k rows made out cells₀ list₀ at₀ n₀ count₀ cells list at n count = length v - at
 
--- src/templates.rt:140:5
 loop-holds : tie.Need-loop-holds Inv-loop μ-loop
 loop-holds c = laws.listing-start (c .before .before .args .v .now) (c .before .before .args .start) (c .before .before .args .env .now) (c .before .before .args .k) (c .before .before .args .rows) (c .before .before .args .made) (c .before .before .args .cells .now) (replicate 16 0) refl (c .before .before .pre .0)
 
--- src/templates.rt:141:13
 build-requires : tie.Need-build-requires Inv-loop μ-loop
 build-requires c κs = (laws.listing-first (c .before .before .loop .inv) (c .before .loop-test .taken) .0, (c .before .before .before .before .before .pre .1 .0, omega (arith, c .before .before .before .before .before .pre .1 .1, (c .before .before .loop .inv) .as-long)))
 
--- src/templates.rt:144:17
 enum-told : tie.Need-enum-told Inv-loop μ-loop
 enum-told c = search needs
 
--- src/templates.rt:144:17
 same-length : tie.Need-same-length Inv-loop μ-loop
 same-length c = c .before .before .before .before .build .kept .1 .1 .1 .1 .1 .1 .0 ∙ c .before .before .before .before .before .before .before .loop .inv .as-long
 
--- src/templates.rt:144:17
 returns : tie.Need-returns Inv-loop μ-loop
 returns c = (laws.listing-full (c .before .before .before .before .before .before .before .loop .inv) (c .before .before .before .before .before .before .loop-test .taken) (c .before .before .before .before .build .last .1 .1 .1 .1 .1 .1 .0) (c .before .before .before .before .build .result) (c .before .before .before .before .build .ensures .0) (c .enum-told .given .1), tt)
 
--- src/templates.rt:146:25
 enum-known-part : tie.Need-enum-known-part Inv-loop μ-loop
 enum-known-part c = search needs
 
--- src/templates.rt:147:17
 put-requires : tie.Need-put-requires Inv-loop μ-loop
 put-requires c κs = search needs
 
--- src/templates.rt:150:17
 add-n : tie.Need-add-n Inv-loop μ-loop
 add-n c = omega (arith, c .before .before .before .before .before .before .before .before .before .before .loop .inv .small, c .before .before .before .before .before .before .before .before .before .loop-test .taken, c .before .before .before .before .before .before .before .before .before .before .before .before .before .good .0)
 
--- src/templates.rt:140:5
 loop-less : tie.Need-loop-less Inv-loop μ-loop
 loop-less c = laws.listing-less (c .before .before .before .before .before .before .before .before .before .before .loop .inv) (c .before .before .before .before .before .before .before .before .before .loop-test .taken) (c .before .before .before .before .before .before .before .build .last .1 .1 .1 .1 .1 .1 .0) (c .before .before .before .before .before .before .before .build .result) (c .before .before .before .before .before .before .before .build .ensures .0) (c .before .before .before .part .given .1) (c .before .before .before .before .before .before .before .build .ensures .1)
 
--- src/templates.rt:140:5
 loop-again : tie.Need-loop-again Inv-loop μ-loop
 loop-again c = laws.listing-next (c .before .before .before .before .before .before .before .before .before .before .loop .inv) (c .before .before .before .before .before .before .before .before .before .loop-test .taken) (c .before .before .before .before .before .before .before .build .last .1 .1 .1 .1 .1 .1 .0) (c .before .before .before .before .before .before .before .build .result) (c .before .before .before .before .before .before .before .build .ensures .0) (c .before .before .before .before .before .before .before .build .kept .1 .1 .1 .1 .1 .1 .0) (c .before .before .before .part .given .1) (c .before .before .before .before .before .before .before .build .ensures .1) (c .put .last .0) (c .put .ensures)
 
--- src/templates.rt:121:1
 same-length-2 : tie.Need-same-length-2 Inv-loop μ-loop
 same-length-2 c = c .before .loop .inv .as-long
 
--- src/templates.rt:121:1
 returns-2 : tie.Need-returns-2 Inv-loop μ-loop
 returns-2 c = (laws.listing-end (c .before .loop .inv) (c .loop-test .left), c .before .loop .inv .few)
 

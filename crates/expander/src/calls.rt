@@ -1,0 +1,325 @@
+// Calls: a rule is chosen, its items are done from the left, and its result is built.
+use crate::Outcome;
+use crate::State;
+use crate::choice::Place;
+use crate::choice::choose;
+use crate::items::Step;
+use crate::items::finish;
+use crate::items::item_step;
+use crate::templates::put;
+use crate::tokens::kind_at;
+use crate::tokens::misfit;
+use answers::Refusal;
+use firsts::index::offset;
+use firsts::items::set_at;
+ghost use Prim.Native.Nat.{ℕ, _+_, _-_, _*_, _/_, _≤_, min};
+ghost use mathlib.Core.Path.{_≡_};
+ghost use mathlib.Core.Bool.{true};
+ghost use mathlib.Core.List.{List};
+ghost use lib.ListN.{length};
+ghost use Rattle.answers.specs.Refusals.{refusal};
+ghost use Rattle.grammar.specs.Lookup.{fieldsAt};
+ghost use Rattle.grammar.specs.Cells.{columns};
+ghost use Rattle.expander.specs.Run.{after, ran};
+ghost use Rattle.expander.specs.Expansion.{Input, callBegun, runCall, ended, run};
+ghost use Rattle.expander.specs.Lent.{TokensFit, TableFits, wholeBody};
+ghost use Rattle.expander.specs.Built.{Holds};
+ghost use Rattle.expander.specs.Steps.{body, weight, mostWeight, Kept};
+ghost use Rattle.expander.specs.Calls.{inputBy, Begins, Enters};
+
+// How a call begins: it refuses, or a production is entered at an offset.
+pub enum Begun {
+    Refused(Refusal),
+    Entered(usize, State),
+}
+
+// A limit is met: refusal 19 or 20.
+fn limit(number: u8, at: usize) -> Refusal
+    ensures { λ r. ⌜ r ≡ refusal number at 0 0 ⌝ }
+{
+    Refusal {
+        number,
+        a: at as u64,
+        b: 0,
+        c: 0,
+    }
+}
+
+// The state with one more call begun.
+fn with_call(s: State) -> State
+    requires { ⌜ s .calls ≤ 65536 ⌝ }
+    ensures { λ r. ⌜ r ≡ callBegun s ⌝ }
+{
+    State {
+        at: s.at,
+        fresh: s.fresh,
+        calls: s.calls + 1,
+        made: s.made,
+    }
+}
+
+// The beginning of a call of a nonterminal, while `depth` more calls may be open: tested 19, 20, 17.
+fn begin(
+    owners: &[u8; 256],
+    starts: &[u16; 256],
+    m: usize,
+    firsts: &[u64; 64],
+    openings: &[u64; 256],
+    empties: &[bool; 256],
+    tokens: &[u32; 16384],
+    n: usize,
+    depth: usize,
+    nonterminal: u8,
+    s: State,
+) -> Begun
+    requires { ⌜ (m ≤ 256) × (n ≤ 4096) ⌝ }
+    ensures { λ r. ⌜ ((bs : List ℕ) (rows : ℕ) → Begins (inputBy bs (now (owners .entry)) (now (starts .entry)) m (now (firsts .entry)) (now (openings .entry)) (now (empties .entry)) (now (tokens .entry)) n rows) bs depth nonterminal s r) ⌝ }
+    ensures { λ r. ⌜ Enters (now (starts .entry)) m depth s r ⌝ }
+{
+    let at = s.at;
+    let calls = s.calls;
+    if depth == 0 {
+        return Begun::Refused(limit(19, at));
+    }
+    if 65536 <= calls {
+        return Begun::Refused(limit(20, at));
+    }
+    let kind = kind_at(tokens, n, at);
+    let place = choose(owners, m, openings, empties, nonterminal, kind);
+    match place {
+        Place::Nowhere => Begun::Refused(misfit(at, set_at(firsts, nonterminal as usize))),
+        Place::At(j) => {
+            let start = offset(starts, j);
+            Begun::Entered(start, with_call(s))
+        }
+    }
+}
+
+// A call of a nonterminal with k arguments.
+pub fn call(
+    table: &[u8],
+    owners: &[u8; 256],
+    starts: &[u16; 256],
+    m: usize,
+    firsts: &[u64; 64],
+    openings: &[u64; 256],
+    empties: &[bool; 256],
+    tokens: &[u32; 16384],
+    n: usize,
+    rows: usize,
+    cells: &mut [u32],
+    depth: usize,
+    nonterminal: u8,
+    env: &[u32; 16],
+    k: usize,
+    s: State,
+) -> Outcome
+    requires { ⌜ TableFits (now table) (now starts) m ⌝ }
+    requires { ⌜ TokensFit (now tokens) n ⌝ }
+    requires { ⌜ (rows ≤ 16384) × (rows * 4 ≤ length (now cells)) ⌝ }
+    requires { ⌜ (k ≤ length (now table)) × (weight s ≤ mostWeight) ⌝ }
+    ensures { λ r. ⌜ ((vs : List ℕ) → Holds (now (env .entry)) k vs → ran r (now (cells .exit)) ≡ runCall depth (inputBy (now (table .entry)) (now (owners .entry)) (now (starts .entry)) m (now (firsts .entry)) (now (openings .entry)) (now (empties .entry)) (now (tokens .entry)) n rows) nonterminal vs s (now (cells .entry))) ⌝ }
+    ensures { λ r. ⌜ Kept (weight s) r ⌝ }
+{
+    let begun = begin(
+        owners,
+        starts,
+        m,
+        firsts,
+        openings,
+        empties,
+        tokens,
+        n,
+        depth,
+        nonterminal,
+        s,
+    );
+    match begun {
+        Begun::Refused(r) => Outcome::Halted(r),
+        Begun::Entered(start, t) => items(
+            table,
+            owners,
+            starts,
+            m,
+            firsts,
+            openings,
+            empties,
+            tokens,
+            n,
+            rows,
+            cells,
+            depth - 1,
+            start,
+            env,
+            k,
+            t,
+        ),
+    }
+}
+
+// The items of an alternative from an offset on, under k variables, and its result.
+fn items(
+    table: &[u8],
+    owners: &[u8; 256],
+    starts: &[u16; 256],
+    m: usize,
+    firsts: &[u64; 64],
+    openings: &[u64; 256],
+    empties: &[bool; 256],
+    tokens: &[u32; 16384],
+    n: usize,
+    rows: usize,
+    cells: &mut [u32],
+    depth: usize,
+    start: usize,
+    env: &[u32; 16],
+    k: usize,
+    s: State,
+) -> Outcome
+    requires { ⌜ TableFits (now table) (now starts) m ⌝ }
+    requires { ⌜ TokensFit (now tokens) n ⌝ }
+    requires { ⌜ (rows ≤ 16384) × (rows * 4 ≤ length (now cells)) ⌝ }
+    requires { ⌜ (k ≤ length (now table)) × (weight s + (length (now table) - start) ≤ mostWeight) ⌝ }
+    requires { ⌜ wholeBody (fieldsAt (now table) start) ≡ true ⌝ }
+    ensures { λ r. ⌜ ((vs : List ℕ) → Holds (now (env .entry)) k vs → ran r (now (cells .exit)) ≡ body (runCall depth (inputBy (now (table .entry)) (now (owners .entry)) (now (starts .entry)) m (now (firsts .entry)) (now (openings .entry)) (now (empties .entry)) (now (tokens .entry)) n rows)) (now (table .entry)) start (inputBy (now (table .entry)) (now (owners .entry)) (now (starts .entry)) m (now (firsts .entry)) (now (openings .entry)) (now (empties .entry)) (now (tokens .entry)) n rows) vs s (now (cells .entry))) ⌝ }
+    ensures { λ r. ⌜ Kept (weight s + (length (now (table .entry)) - start)) r ⌝ }
+{
+    let mut vars = *env;
+    let mut args = [0u32; 16];
+    let mut at = start;
+    let mut count = k;
+    let mut here = s;
+    loop {
+        let step = item_step(
+            table,
+            at,
+            tokens,
+            n,
+            &vars,
+            count,
+            rows,
+            &mut args,
+            here,
+            cells,
+        );
+        match step {
+            Step::Finished => {
+                return finish(table, at, &vars, count, rows, here, cells);
+            }
+            Step::Stopped(r) => {
+                return Outcome::Halted(r);
+            }
+            Step::Taken(x, after, t) => {
+                put(&mut vars, count, x);
+                count += 1;
+                at = after;
+                here = t;
+            }
+            Step::Opened(callee, given, after, t) => {
+                let answer = call(
+                    table,
+                    owners,
+                    starts,
+                    m,
+                    firsts,
+                    openings,
+                    empties,
+                    tokens,
+                    n,
+                    rows,
+                    cells,
+                    depth,
+                    callee,
+                    &args,
+                    given,
+                    t,
+                );
+                match answer {
+                    Outcome::Halted(r) => {
+                        return Outcome::Halted(r);
+                    }
+                    Outcome::Value(x, u) => {
+                        put(&mut vars, count, x);
+                        count += 1;
+                        at = after;
+                        here = u;
+                    }
+                }
+            }
+        }
+    }
+}
+
+// How many rows some numbers make, 16,384 at most.
+fn rows_of(numbers: usize) -> usize
+    ensures { λ r. ⌜ r ≡ min (numbers / columns) 16384 ⌝ }
+{
+    let rows = numbers / 4;
+    if rows < 16384 { rows } else { 16384 }
+}
+
+// Nothing is left over behind the root's call: else refusal 18.
+fn ended(n: usize, outcome: Outcome) -> Outcome
+    ensures { λ r. ⌜ ((I : Input) (cells : List ℕ) → length (I .tokens) ≡ n → ran r cells ≡ after (ran outcome cells) (ended I)) ⌝ }
+{
+    match outcome {
+        Outcome::Halted(r) => Outcome::Halted(r),
+        Outcome::Value(v, s) => {
+            let at = s.at;
+            if at < n {
+                return Outcome::Halted(limit(18, at));
+            }
+            Outcome::Value(v, s)
+        }
+    }
+}
+
+// The expansion of a formula's tokens: a call of the root that leaves no token over. It works from the table's bytes, from the index
+// of its grammar with the sets that the check handed on, and from the room of the tokens; it does not check the table.
+// Ruled out are, among others, an expander that copies inner phrases unopened, one that answers invented counts of cells, and one
+// that claims 20 or 21 at its first step.
+pub fn run(
+    table: &[u8],
+    owners: &[u8; 256],
+    starts: &[u16; 256],
+    m: usize,
+    root: u8,
+    firsts: &[u64; 64],
+    openings: &[u64; 256],
+    empties: &[bool; 256],
+    tokens: &[u32; 16384],
+    n: usize,
+    cells: &mut [u32],
+) -> Outcome
+    requires { ⌜ TableFits (now table) (now starts) m ⌝ }
+    requires { ⌜ TokensFit (now tokens) n ⌝ }
+    ensures { λ r. ⌜ ran r (now (cells .exit)) ≡ run (inputBy (now (table .entry)) (now (owners .entry)) (now (starts .entry)) m (now (firsts .entry)) (now (openings .entry)) (now (empties .entry)) (now (tokens .entry)) n (min (length (now (cells .entry)) / columns) 16384)) root (now (cells .entry)) ⌝ }
+{
+    let rows = rows_of(cells.len());
+    let none = [0u32; 16];
+    let start = State {
+        at: 0,
+        fresh: 1,
+        calls: 0,
+        made: 0,
+    };
+    let outcome = call(
+        table,
+        owners,
+        starts,
+        m,
+        firsts,
+        openings,
+        empties,
+        tokens,
+        n,
+        rows,
+        cells,
+        1024,
+        root,
+        &none,
+        0,
+        start,
+    );
+    ended(n, outcome)
+}
