@@ -1,0 +1,4 @@
+pub mod FewAlternatives
+pub mod IndexLaws
+pub mod NormalizedByFields
+pub mod ProductionsLaws
