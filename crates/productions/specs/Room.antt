@@ -7,7 +7,8 @@
 --   130 + 2 j    the offset of its first item, 2^16 times the place of the next production of its nonterminal, and 2^25 if it is nullable
 --
 -- A place that is not there is 256.
-use Prim.Native.Nat.{ℕ, zero, suc, _+_, _*_, _/_, _%_}
+use Prim.Native.Nat.{ℕ, zero, suc, _+_, _*_, _/_, _%_, _<_, _≤_}
+use mathlib.Core.Path.{_≡_}
 use mathlib.Core.Bool.{Bool, true, false, _&&_}
 use mathlib.Core.List.{List, [], _∷_, _++_}
 use lib.Dec.{eqb}
@@ -62,6 +63,17 @@ entryNumbers (e ∷ es) j = e .first ∷ linkNumber e es j ∷ entryNumbers es (
 unfoldable pub roomOf : List ℕ → List Entry → List ℕ
 roomOf sets es =
     length es ∷ (valuesOf (λ n. getD sets n 0) 64 0 ++ (valuesOf (placesNumber es) 64 0 ++ entryNumbers es 0))
+
+-- what stands past the last entry
+abbrev pub noEntry : Entry
+noEntry = record { owner = 0; start = 0; first = 0; nullable = false }
+
+-- a room with some entries at its front, as many as there may be, each at an offset that fits
+pub record HoldsEntries (sets : List ℕ) (es : List Entry) (room : List ℕ) : Type 0 where
+  pub rest : List ℕ
+  pub held : room ≡ roomOf sets es ++ rest
+  pub few : length es ≤ 256
+  pub near : (j : ℕ) → getD es j noEntry .start < 65536
 
 -- ------------------------------------------------------------------ what is read off a room
 
