@@ -5,3 +5,4 @@ pub mod Exactly
 pub mod Stages
 pub mod CellsLeft
 pub mod Listed
+pub mod Naming
