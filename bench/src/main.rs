@@ -87,7 +87,9 @@ fn main() -> ExitCode {
 fn run(options: &Options) -> ExitCode {
     let list = inputs::list(options.hash);
     if let Some((number, side)) = options.once {
-        measured(side, &list[number], &mut Room::new());
+        let mut room = Room::new();
+        side.expand(&list[number].table, &list[number].formula, &mut room.cells, &mut room.text);
+        measured(side, &list[number], &mut room);
         return ExitCode::SUCCESS;
     }
     let mut well = true;
