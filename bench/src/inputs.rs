@@ -46,11 +46,13 @@ fn outermost(variables: usize, binders: usize) -> String {
 
 pub const WORDS: usize = 4_092;
 
-/// The inputs of the list. The scanner's hash says which words collide.
-pub fn list(hash: Polynomial) -> Vec<Input> {
+const COLLIDING: &str = "4,092 words of one hash";
+
+/// The inputs of the list. The scanner's hash says which words collide; finding them takes a while, so it is left out where nobody asks for them.
+pub fn list(hash: Option<Polynomial>) -> Vec<Input> {
     let house = tables::house(&[]);
     let words = tables::words(&[], &[]);
-    let colliding = collide::words(hash, WORDS).join(" ");
+    let colliding = hash.map(|hash| collide::words(hash, WORDS).join(" ")).unwrap_or_default();
     let all_spellings = tables::words(&tables::spellings("key", 62), &tables::spellings("name", 64));
     let long_spellings = tables::words(&tables::long_spellings("k", 62), &tables::long_spellings("k", 126)[62..]);
     vec![
@@ -64,7 +66,7 @@ pub fn list(hash: Polynomial) -> Vec<Input> {
         Input::new("4,092 different words", words.clone(), different(WORDS)),
         Input::new("the same, 126 keywords and names in the table", all_spellings, different(WORDS)),
         Input::new("126 keywords and names of 31 bytes, one beginning", long_spellings, ""),
-        Input::new("4,092 words of one hash", words, colliding),
+        Input::new(COLLIDING, words, colliding),
         Input::new("65,535 calls, 256 productions", tables::levels(16, 240, 0), ""),
         Input::new("32,767 calls, half of 63 alternatives", tables::levels(15, 0, 62), ""),
         Input::new("chain of 64 nullable nonterminals", tables::chain(64, true), ""),
@@ -74,6 +76,11 @@ pub fn list(hash: Polynomial) -> Vec<Input> {
         Input::new("16,254 nested binders of an outside name's spelling", tables::nested(), "T ".to_string() + &"c ".repeat(126)),
         Input::new("13 `twice`", tables::house(&[Extra::Twice]), twice(13)),
     ]
+}
+
+/// Whether this input of the list needs colliding words.
+pub fn collides(input: &Input) -> bool {
+    input.name == COLLIDING
 }
 
 /// Inputs of one, two, four and eight times a size.

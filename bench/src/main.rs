@@ -85,13 +85,11 @@ fn main() -> ExitCode {
 }
 
 fn run(options: &Options) -> ExitCode {
-    let list = inputs::list(options.hash);
     if let Some((number, side)) = options.once {
-        let mut room = Room::new();
-        side.expand(&list[number].table, &list[number].formula, &mut room.cells, &mut room.text);
-        measured(side, &list[number], &mut room);
+        once(options, number, side);
         return ExitCode::SUCCESS;
     }
+    let list = inputs::list(Some(options.hash));
     let mut well = true;
     for part in &options.parts {
         match part.as_str() {
@@ -210,6 +208,17 @@ fn growth(options: &Options) {
 }
 
 // ---- instructions ----
+
+/// One call that is counted, after one that is not.
+fn once(options: &Options, number: usize, side: Side) {
+    let mut list = inputs::list(None);
+    if inputs::collides(&list[number]) {
+        list = inputs::list(Some(options.hash));
+    }
+    let (input, mut room) = (&list[number], Room::new());
+    side.expand(&input.table, &input.formula, &mut room.cells, &mut room.text);
+    measured(side, input, &mut room);
+}
 
 /// What callgrind counts.
 #[no_mangle]

@@ -74,6 +74,7 @@ impl Machine<'_> {
     }
 
     /// Opens a call whose arguments are the last values, inside so many open ones.
+    #[inline(always)]
     fn call(&mut self, nonterminal: u8, parameters: u8, open: usize) -> Result<Frame, Refusal> {
         if open == 1_024 {
             return Err(refusal(19, self.next));
@@ -128,6 +129,7 @@ impl Machine<'_> {
     }
 
     /// Puts templates together: their values are the last ones afterwards.
+    #[inline(always)]
     fn templates(&mut self, span: Span, variables: usize) -> Result<(), Refusal> {
         for op in span.of(&self.grammar.ops) {
             match *op {
