@@ -1,3 +1,4 @@
 pub mod Expand
+pub mod Meaning
 pub mod House
 pub mod Computing
