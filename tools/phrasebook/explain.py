@@ -347,7 +347,16 @@ def misfit(case: Case) -> List[str]:
     kinds = case.kinds(case.b)
     more = ["%d more" % (len(kinds) - LISTED_TOKENS)] if len(kinds) > LISTED_TOKENS + 1 else []
     fitted = kinds if not more else kinds[:LISTED_TOKENS] + more
-    return case.word(case.a) + ["expected: %s" % listed(fitted)] * bool(kinds) + reading_what(case, stopped(case))
+    said = ["expected: %s" % listed(fitted)] if kinds else []
+    return case.word(case.a) + said + keyword_hint(case) + reading_what(case, stopped(case))
+
+
+def keyword_hint(case: Case) -> List[str]:
+    """Why a word does not fit where a word is expected."""
+    token = case.tokens[case.a] if case.a < len(case.tokens) else None
+    if token is None or not case.b & 1 or not token.text.isalpha() or token.bit == reading.WORD_BIT:
+        return []
+    return ["`%s` is a keyword of this table, and so it is no word" % token.text.decode("ascii")]
 
 
 def left_over(case: Case) -> List[str]:
