@@ -15,14 +15,14 @@ use Rattle.layout.specs.Decode.{tableOf, build, decode}
 use Rattle.layout.specs.Within.{Within}
 use Rattle.layout.proofs.Split.{Bytes}
 use Rattle.layout.proofs.Inverse.{layout-encoded, decode-encoded}
-use Rattle.sorting.specs.Sorting.{checkSorts}
-use Rattle.sorting.specs.ByBytes.{sortsOf}
-use Rattle.sorting.proofs.SortingTheorems.{bytes-checked}
+use Rattle.sorts.specs.CheckSorts.{checkSorts}
+use Rattle.sorts.specs.ByBytes.{sortsOf}
+use Rattle.sorts.proofs.SortTheorems.{bytes-checked}
 use Rattle.firsts.specs.First.{checkFirsts}
-use Rattle.firsts.specs.Normal.{Production}
-use Rattle.firsts.specs.Index.{normalizedBy, alternativeFields}
-use Rattle.firsts.proofs.FewAlternatives.{few-alternatives}
-use Rattle.firsts.proofs.NormalizedByFields.{normalized-by}
+use Rattle.productions.specs.Normal.{Production}
+use Rattle.productions.specs.Index.{normalizedBy, alternativeFields}
+use Rattle.productions.proofs.FewAlternatives.{few-alternatives}
+use Rattle.productions.proofs.NormalizedByFields.{normalized-by}
 use Rattle.checker.specs.Check.{passedTable, check}
 use Rattle.checker.specs.Passes.{grammarOf}
 use Rattle.checker.proofs.Passing.{never, refused-by-layout, refused-by-sorts}

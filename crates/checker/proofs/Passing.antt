@@ -12,8 +12,8 @@ use Rattle.answers.specs.Checked.{Checked, ok, bad, _>>=_, _>>_, verdict}
 use Rattle.grammar.specs.Table.{Table}
 use Rattle.layout.specs.Decode.{decode}
 use Rattle.layout.proofs.LayoutTheorems.{decode-exactly}
-use Rattle.sorting.specs.Sorting.{checkSorts}
-use Rattle.sorting.proofs.SortingTheorems.{sorts-exactly}
+use Rattle.sorts.specs.CheckSorts.{checkSorts}
+use Rattle.sorts.proofs.SortTheorems.{sorts-exactly}
 use Rattle.firsts.specs.First.{checkFirsts}
 use Rattle.firsts.proofs.FirstsTheorems.{passes-exactly}
 use Rattle.checker.specs.Check.{passedTable, check}

@@ -16,10 +16,10 @@ use Rattle.grammar.specs.Encode.{encode}
 use Rattle.layout.specs.Within.{Within}
 use Rattle.layout.specs.Decode.{decode}
 use Rattle.layout.proofs.LayoutTheorems as layout
-use Rattle.sorting.specs.Judgements.{WellSorted}
-use Rattle.sorting.specs.Sorting.{checkSorts}
-use Rattle.sorting.proofs.SortingTheorems as sorting
-use Rattle.firsts.specs.Normal.{Production}
+use Rattle.sorts.specs.Judgements.{WellSorted}
+use Rattle.sorts.specs.CheckSorts.{checkSorts}
+use Rattle.sorts.proofs.SortTheorems as sorting
+use Rattle.productions.specs.Normal.{Production}
 use Rattle.firsts.specs.First.{nullables, firstSets, leftCalls, checkFirsts}
 use Rattle.firsts.specs.Rules.{Nullable, Opens, LeftReaches}
 use Rattle.firsts.specs.FirstRefusals.{Never, Lowest, LowestOr64, LeftRecursive, Shares, Clashes}

@@ -5,8 +5,8 @@ use Rattle.answers.specs.Checked.{Checked, ok, bad, _>>=_, _>>_, verdict}
 use Rattle.answers.specs.declared.Verdict.{Verdict}
 use Rattle.grammar.specs.Table.{Table}
 use Rattle.layout.specs.Decode.{decode}
-use Rattle.sorting.specs.Sorting.{checkSorts}
-use Rattle.firsts.specs.Normal.{normalized}
+use Rattle.sorts.specs.CheckSorts.{checkSorts}
+use Rattle.productions.specs.Normal.{normalized}
 use Rattle.firsts.specs.First.{checkFirsts}
 
 -- the table that some bytes are, if it passes

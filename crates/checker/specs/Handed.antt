@@ -7,7 +7,7 @@ use Rattle.answers.specs.declared.Verdict.{Verdict}
 use Rattle.answers.specs.declared.Verdict.the-variants.{Passed, Refused}
 use Rattle.grammar.specs.Table.{Table}
 use Rattle.grammar.specs.Encode.{encode}
-use Rattle.firsts.specs.Index.{productionsBy}
+use Rattle.productions.specs.Index.{productionsBy}
 use Rattle.firsts.specs.Rooms.{Prepared}
 use Rattle.checker.specs.declared.Ready.{Ready}
 use Rattle.checker.specs.declared.Ready.the-variants.{Productions, Unready}

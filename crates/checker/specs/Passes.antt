@@ -5,8 +5,8 @@ use mathlib.Core.List.{List}
 use Rattle.grammar.specs.Table.{Table}
 use Rattle.grammar.specs.Encode.{encode}
 use Rattle.layout.specs.Within.{Within}
-use Rattle.sorting.specs.Judgements.{WellSorted}
-use Rattle.firsts.specs.Normal.{Production, normalized}
+use Rattle.sorts.specs.Judgements.{WellSorted}
+use Rattle.productions.specs.Normal.{Production, normalized}
 use Rattle.firsts.specs.FirstRefusals.{Never, LeftRecursive, Clashes}
 
 -- the productions of a table

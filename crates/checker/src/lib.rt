@@ -34,12 +34,12 @@ pub fn check_into(
         Verdict::Refused(r) => return Ready::Unready(r),
         Verdict::Passed => {}
     }
-    let sorted = sorting::check_sorts(table);
+    let sorted = sorts::check_sorts(table);
     match sorted {
         Verdict::Refused(r) => return Ready::Unready(r),
         Verdict::Passed => {}
     }
-    let m = firsts::index::build_index(table, owners, starts);
+    let m = productions::index::build_index(table, owners, starts);
     let chosen = firsts::prepared::check_firsts(
         table,
         owners,

@@ -3,7 +3,7 @@ use Prim.Native.Nat.{ℕ, zero, suc, _+_, _-_, _*_, _/_, _^_, _<_, _≤_, min}
 use mathlib.Core.Path.{_≡_, refl, sym, ap, _∙_, subst}
 use mathlib.Core.Bool.{Bool, true, false}
 use mathlib.Core.List.{List, [], _∷_, _++_}
-use native.Mathlib.Nat.{le-trans, le-add-right}
+use native.Mathlib.Nat.{le-trans}
 use native.Mathlib.Numerals.{sub-one}
 use native.Mathlib.Omega.{arith}
 use lib.Dec.{ltb}
@@ -15,23 +15,26 @@ use Rattle.answers.specs.Refusals.{refusal}
 use Rattle.grammar.specs.Table.{Item}
 use Rattle.grammar.specs.Cells.{columns}
 use Rattle.grammar.specs.Lookup.{fieldsAt}
-use Rattle.firsts.specs.Index.{itemsOf, resultOf}
-use Rattle.expander.specs.declared.State.{State}
-use Rattle.expander.specs.declared.Outcome.{Outcome}
-use Rattle.expander.specs.declared.Outcome.the-variants.{Value, Halted}
+use Rattle.productions.specs.Index.{itemsOf, resultOf}
+use Rattle.expansion.specs.declared.State.{State}
+use Rattle.expansion.specs.declared.Outcome.{Outcome}
+use Rattle.expansion.specs.declared.Outcome.the-variants.{Value, Halted}
 use Rattle.expander.specs.declared.choice.Place.{Place}
 use Rattle.expander.specs.declared.choice.Place.the-variants.{At, Nowhere}
 use Rattle.expander.specs.declared.items.Step.{Step}
 use Rattle.expander.specs.declared.items.Step.the-variants.{Finished, Stopped, Taken, Opened}
-use Rattle.expander.specs.Run.{Result, done, halt, Run, after, ran}
-use Rattle.expander.specs.Expansion.{Input, endToken, nextToken, misfit, build, runItems, Choice, unfit, chosen, choice, callBegun, mostCalls, runCall, mostOpen, start, ended, run}
+use Rattle.expansion.specs.Run.{Result, done, halt, Run, after, ran}
+use Rattle.expansion.specs.Expansion.{Input, endToken, nextToken, misfit, build, runItems, Choice, unfit}
+use Rattle.expansion.specs.Expansion.{chosen, choice, callBegun, mostCalls, runCall, mostOpen, start, ended, run}
 use Rattle.expander.specs.Lent.{tokensIn, wholeBody, TableFits}
 use Rattle.expander.specs.Chosen.{ruleOr, Below}
 use Rattle.expander.specs.Built.{Holds}
-use Rattle.expander.specs.Steps.{body, weight, mostWeight, Kept, Steps, Onward, Advances}
+use Rattle.expander.specs.Steps.{body, weight, mostWeight, Steps, Onward, Advances, Stays}
 use Rattle.expander.specs.declared.calls.Begun.{Begun}
-use Rattle.expander.specs.declared.calls.Begun.the-variants.{Entered}
-use Rattle.expander.specs.Calls.{inputBy, Begins, Entry, Enters}
+use Rattle.expander.specs.declared.calls.Begun.the-variants.{Refused, Entered}
+use Rattle.expander.specs.Calls.{inputBy, rootItems, Begins, Entry, Enters}
+use Rattle.expander.specs.Frames.{Saved, Loaded}
+use Rattle.expander.proofs.FrameLaws.{Frame, resume, resume-halt, owed, Waits, Stacked, stacked-none, stacked-one, stacked-more, waits-holds}
 
 -- ------------------------------------------------------------------ the beginning of a call
 
@@ -103,7 +106,7 @@ module _ (bs owners starts : List ℕ) (m : ℕ) (firsts openings : List ℕ) (e
         ∙ ap (λ (u : State). body (runCall (depth - 1) input) bs (getD starts j 0) input vs u cells) et
         ∙ by-place e vs cells
 
-positive : (o : ℕ) → (o ≡ 0 → ⊥) → 0 < o
+pub positive : (o : ℕ) → (o ≡ 0 → ⊥) → 0 < o
 positive zero g = absurd (g refl)
 positive (suc o) g = omega arith
 
@@ -139,154 +142,363 @@ pub entry-whole : {bs starts : List ℕ} {m depth : ℕ} {s : State} {start : �
     → wholeBody (fieldsAt bs start) ≡ true
 entry-whole {bs} e f = ap (λ (a : ℕ). wholeBody (fieldsAt bs a)) (e .start-is) ∙ f .whole (e .place) (e .small)
 
--- ------------------------------------------------------------------ the items, one by one
+-- no variables
+pub holds-none : Holds (replicate 16 0) 0 []
+holds-none = record { long = refl; count = refl; same = λ i a b. absurd (omega arith) }
 
--- an item takes no more than it leaves behind
-onward-kept : {bs : List ℕ} {at next : ℕ} {s t : State} → Onward bs at next s t → {most : ℕ} → weight s + (length bs - at) ≤ most
-    → weight t + (length bs - next) ≤ most
-onward-kept o h = omega (arith, h, o .less, o .inside, o .counted, ap (λ (q : ℕ). 16384 * (65536 - q)) (o .called))
+-- ------------------------------------------------------------------ the items of the calls that are open, one by one
 
-less-kept : (a b x : ℕ) {most : ℕ} → a ≤ b → b + x ≤ most → a + x ≤ most
-less-kept a b x h l = omega arith
+-- what the loop over the items starts from, and where it stands
+pub record Root : Type 0 where
+  pub bs : List ℕ
+  pub input : Input
+  pub start : ℕ
+  pub state : State
+  pub cells : List ℕ
+  pub room : List ℕ
+  pub frames : List ℕ
 
-pub kept-less : {a b : ℕ} → a ≤ b → (r : Outcome) → Kept a r → Kept b r
-kept-less h (Value v s) k = le-trans k h
-kept-less h (Halted r) k = tt
+pub record Turn : Type 0 where
+  pub cells : List ℕ
+  pub room : List ℕ
+  pub frames : List ℕ
+  pub vars : List ℕ
+  pub at : ℕ
+  pub count : ℕ
+  pub level : ℕ
+  pub here : State
 
-pub onward-less : {bs : List ℕ} {at next : ℕ} {s t : State} → Onward bs at next s t → length bs - next < length bs - at
-onward-less o = omega (arith, o .less, o .inside)
+abbrev pub whole : Root → Result ℕ
+whole R = rootItems (R .input) (R .bs) (R .start) (R .state) (R .cells)
 
--- what is left of the items gives what all of them give
-pub record Going (bs : List ℕ) (C : ℕ → List ℕ → Run ℕ) (I : Input) (start : ℕ) (env : List ℕ) (k : ℕ) (s : State) (cells₀ : List ℕ)
-    (cells vars : List ℕ) (at count : ℕ) (here : State) : Type 0 where
-  pub whole : wholeBody (fieldsAt bs at) ≡ true
-  pub as-long : length cells ≡ length cells₀
-  pub counted : count ≤ length bs + at
-  pub kept : weight here + (length bs - at) ≤ weight s + (length bs - start)
-  pub rest :
-      (vs : List ℕ) → Holds env k vs
-      → (M : List ℕ) × Holds vars count M × (body C bs at I M here cells ≡ body C bs start I vs s cells₀)
+-- the items and the result from an offset on, under the values of the variables, while `level` calls wait
+abbrev onward : Root → ℕ → ℕ → List ℕ → Run ℕ
+onward R level at M = body (runCall (1023 - level) (R .input)) (R .bs) at (R .input) M
 
-pub going-start : (bs : List ℕ) (C : ℕ → List ℕ → Run ℕ) (I : Input) (start : ℕ) (env : List ℕ) (k : ℕ) (s : State) (cells : List ℕ)
-    → wholeBody (fieldsAt bs start) ≡ true
-    → k ≤ length bs
-    → Going bs C I start env k s cells cells env start k s
-going-start bs C I start env k s cells w h =
-    record { whole = w; as-long = refl; counted = omega arith; kept = omega arith; rest = λ vs g. (vs, g, refl) }
+-- Calls left, then calls that wait, then bytes left: what falls with each turn.
+abbrev pub left : List ℕ → ℕ → ℕ → State → ℕ
+left bs at level here = 40000 * (65536 - here .calls) + 16386 * level + (length bs - at)
+
+-- What is left of the items, and of the calls that wait, gives what the whole gives.
+pub record Going (R : Root) (T : Turn) : Type 0 where
+  pub sound : wholeBody (fieldsAt (R .bs) (T .at)) ≡ true
+  pub as-long : length (T .cells) ≡ length (R .cells)
+  pub room-long : length (T .room) ≡ length (R .room)
+  pub frames-long : length (T .frames) ≡ length (R .frames)
+  pub counted : T .count ≤ length (R .bs) + T .at
+  pub waiting : List Frame
+  pub many : length waiting ≡ T .level
+  pub few : T .level ≤ 1023
+  pub stacked : Stacked (R .bs) (T .frames) waiting
+  pub kept : weight (T .here) + (length (R .bs) - T .at) + owed (R .bs) waiting ≤ weight (R .state) + (length (R .bs) - R .start)
+  pub M : List ℕ
+  pub holds : Holds (T .vars) (T .count) M
+  pub rest : resume (R .input) (R .bs) waiting (onward R (T .level) (T .at) M (T .here) (T .cells)) ≡ whole R
+
+abbrev pub first : Root → Turn
+first R =
+    record {
+      cells = R .cells;
+      room = R .room;
+      frames = R .frames;
+      vars = replicate 16 0;
+      at = R .start;
+      count = 0;
+      level = 0;
+      here = R .state;
+    }
+
+pub going-start : (R : Root) → wholeBody (fieldsAt (R .bs) (R .start)) ≡ true → Going R (first R)
+unfolding resume owed
+going-start R w =
+    record {
+      sound = w;
+      as-long = refl;
+      room-long = refl;
+      frames-long = refl;
+      counted = omega arith;
+      waiting = [];
+      many = refl;
+      few = omega arith;
+      stacked = stacked-none;
+      kept = omega arith;
+      M = [];
+      holds = holds-none;
+      rest = refl;
+    }
 
 -- the counters are small
-pub going-bounds : {bs : List ℕ} {C : ℕ → List ℕ → Run ℕ} {I : Input} {start : ℕ} {env : List ℕ} {k : ℕ} {s : State} {cells₀ : List ℕ}
-    {cells vars : List ℕ} {at count : ℕ} {here : State} → Going bs C I start env k s cells₀ cells vars at count here
-    → weight s + (length bs - start) ≤ mostWeight
-    → (here .at < 2 ^ 32) × (here .fresh < 2 ^ 31)
+pub going-bounds : {R : Root} {T : Turn} → Going R T → weight (R .state) + (length (R .bs) - R .start) ≤ mostWeight
+    → (T .here .at < 2 ^ 32) × (T .here .fresh < 2 ^ 31)
 going-bounds c h = let l = le-trans (c .kept) h in (omega (arith, l), omega (arith, l))
 
--- the items go on, and what one of them does is known
-pub record Stepped (bs : List ℕ) (C : ℕ → List ℕ → Run ℕ) (I : Input) (start : ℕ) (env : List ℕ) (k : ℕ) (s : State) (cells₀ : List ℕ)
-    (cells vars : List ℕ) (at count : ℕ) (here : State) (step : Step) (args cells′ : List ℕ) : Type 0 where
-  pub going : Going bs C I start env k s cells₀ cells vars at count here
-  pub same : length cells′ ≡ length cells
-  pub does : (M : List ℕ) → Holds vars count M → Steps bs at I M here cells step args cells′
-  pub advances : Advances bs at here step
+-- an item takes no more than it leaves behind
+onward-kept : {bs : List ℕ} {at next : ℕ} {s t : State} → Onward bs at next s t → (more : ℕ) {most : ℕ} → weight s + (length bs - at) + more ≤ most
+    → weight t + (length bs - next) + more ≤ most
+onward-kept o more h = omega (arith, h, o .less, o .inside, o .counted, ap (λ (q : ℕ). 16384 * (65536 - q)) (o .called))
 
-module _ {bs : List ℕ} {C : ℕ → List ℕ → Run ℕ} {I : Input} {start : ℕ} {env : List ℕ} {k : ℕ} {s : State} {cells₀ : List ℕ}
-    {cells vars : List ℕ} {at count : ℕ} {here : State} {step : Step} {args cells′ : List ℕ}
-    (d : Stepped bs C I start env k s cells₀ cells vars at count here step args cells′) where
-  abbrev c : Going bs C I start env k s cells₀ cells vars at count here
+kept-below : {wt wh : ℕ} (x o y o′ : ℕ) {most : ℕ} → wt ≡ wh → o ≡ y + o′ → wh + x + o ≤ most → wt + y + o′ ≤ most
+kept-below x o y o′ e f h = omega arith
+
+-- the items go on, and what one of them does is known
+pub record Stepped (R : Root) (T : Turn) (step : Step) (args cells room : List ℕ) : Type 0 where
+  pub going : Going R T
+  pub same : length cells ≡ length (T .cells)
+  pub room-same : length room ≡ length (T .room)
+  pub does : (M : List ℕ) → Holds (T .vars) (T .count) M → Steps (R .bs) (T .at) (R .input) M (T .here) (T .cells) step args cells
+  pub advances : Advances (R .bs) (T .at) (T .here) step
+
+module _ {R : Root} {T : Turn} {step : Step} {args cells room : List ℕ} (d : Stepped R T step args cells room) where
+  abbrev c : Going R T
   c = d .going
 
-  steps : {q : Step} → step ≡ q → (M : List ℕ) → Holds vars count M → Steps bs at I M here cells q args cells′
-  steps e M g = subst (λ (x : Step). Steps bs at I M here cells x args cells′) e (d .does M g)
+  abbrev C : ℕ → List ℕ → Run ℕ
+  C = runCall (1023 - T .level) (R .input)
 
-  -- there is no item
-  module _ (e : step ≡ Finished) where
-    pub going-none : itemsOf (fieldsAt bs at) ≡ []
-    going-none = subst (Advances bs at here) e (d .advances)
+  steps : {q : Step} → step ≡ q → Steps (R .bs) (T .at) (R .input) (c .M) (T .here) (T .cells) q args cells
+  steps e = subst (λ (x : Step). Steps (R .bs) (T .at) (R .input) (c .M) (T .here) (T .cells) x args cells) e (d .does (c .M) (c .holds))
 
-    body-none : (M : List ℕ) → build (resultOf (fieldsAt bs at)) I M here cells ≡ body C bs at I M here cells
-    unfolding body runItems
-    body-none M =
-        ap (λ (is : List Item). after (runItems C I is M here cells) (λ M′. build (resultOf (fieldsAt bs at)) I M′)) (sym going-none)
+  -- a result in place of the items that are left
+  instead : {r : Result ℕ} → r ≡ onward R (T .level) (T .at) (c .M) (T .here) (T .cells) → resume (R .input) (R .bs) (c .waiting) r ≡ whole R
+  instead e = ap (resume (R .input) (R .bs) (c .waiting)) e ∙ c .rest
 
-    pub going-finished : (r : Outcome) (cells″ : List ℕ)
-        → ((M : List ℕ) → Holds vars count M → ran r cells″ ≡ build (resultOf (fieldsAt bs at)) I M here cells′)
-        → (vs : List ℕ)
-        → Holds env k vs
-        → ran r cells″ ≡ body C bs start I vs s cells₀
-    going-finished r cells″ g vs h =
-        let w = c .rest vs h in
-        g (w .0) (w .1) ∙ ap (λ (x : List ℕ). build (resultOf (fieldsAt bs at)) I (w .0) here x) (steps e (w .0) (w .1))
-        ∙ body-none (w .0)
-        ∙ w .2
+  halted : {r : Refusal} {cs : List ℕ} → halt r cs ≡ onward R (T .level) (T .at) (c .M) (T .here) (T .cells) → halt r cs ≡ whole R
+  halted {r} {cs} e = sym (resume-halt (R .input) (R .bs) (c .waiting) r cs) ∙ instead e
 
-    pub finished-kept : (r : Outcome) → Kept (weight here) r → Kept (weight s + (length bs - start)) r
-    finished-kept (Value v t) h = omega (arith, c .kept)
-    finished-kept (Halted x) h = tt
+  pub going-stopped : {r : Refusal} → step ≡ Stopped r → halt r cells ≡ whole R
+  going-stopped e = halted (sym (steps e C))
 
-  pub going-stopped : {r : Refusal} → step ≡ Stopped r → (vs : List ℕ) → Holds env k vs → halt r cells′ ≡ body C bs start I vs s cells₀
-  going-stopped e vs h =
-      let w = c .rest vs h in
-      sym (steps e (w .0) (w .1) C) ∙ w .2
+  pub going-none : step ≡ Finished → itemsOf (fieldsAt (R .bs) (T .at)) ≡ []
+  going-none e = subst (Advances (R .bs) (T .at) (T .here)) e (d .advances)
 
   -- an item gives a value
   module _ {x next : ℕ} {t : State} (e : step ≡ Taken x next t) where
-    pub taken-onward : Onward bs at next here t
-    taken-onward = subst (Advances bs at here) e (d .advances)
+    pub taken-onward : Onward (R .bs) (T .at) next (T .here) t
+    taken-onward = subst (Advances (R .bs) (T .at) (T .here)) e (d .advances)
 
-    pub going-taken : (vars′ : List ℕ) → ((M : List ℕ) → Holds vars count M → Holds vars′ (count + 1) (M ++ (x ∷ [])))
-        → Going bs C I start env k s cells₀ cells′ vars′ next (count + 1) t
-    going-taken vars′ put =
+    abbrev pub taken : List ℕ → Turn
+    taken vars =
+        record { cells = cells; room = room; frames = T .frames; vars = vars; at = next; count = T .count + 1; level = T .level; here = t }
+
+    pub going-taken : {vars : List ℕ} → ((M : List ℕ) → Holds (T .vars) (T .count) M → Holds vars (T .count + 1) (M ++ (x ∷ [])))
+        → Going R (taken vars)
+    going-taken put =
         let o = taken-onward in
         record {
-          whole = o .whole;
+          sound = o .whole;
           as-long = d .same ∙ c .as-long;
+          room-long = d .room-same ∙ c .room-long;
+          frames-long = c .frames-long;
           counted = omega (arith, c .counted, o .less);
-          kept = onward-kept o (c .kept);
-          rest =
-              λ vs h.
-              let w = c .rest vs h in
-              (w .0 ++ (x ∷ []), put (w .0) (w .1), sym (steps e (w .0) (w .1) C) ∙ w .2);
+          waiting = c .waiting;
+          many = c .many;
+          few = c .few;
+          stacked = c .stacked;
+          kept = onward-kept o (owed (R .bs) (c .waiting)) (c .kept);
+          M = c .M ++ (x ∷ []);
+          holds = put (c .M) (c .holds);
+          rest = instead (sym (steps e C));
         }
 
-  -- an item calls
-  module _ {n g next : ℕ} {t : State} (e : step ≡ Opened n g next t) where
-    pub opened-onward : Onward bs at next here t × (g ≤ length bs)
-    opened-onward = subst (Advances bs at here) e (d .advances)
+    pub taken-less : left (R .bs) next (T .level) t < left (R .bs) (T .at) (T .level) (T .here)
+    taken-less = let o = taken-onward in omega (arith, o .less, o .inside, ap (λ (q : ℕ). 40000 * (65536 - q)) (o .called))
 
-    pub opened-weight : weight t ≤ weight s + (length bs - start)
-    opened-weight = le-trans (le-add-right (weight t) (length bs - next)) (onward-kept (opened-onward .0) (c .kept))
+  pub stepped-long : (length cells ≡ length (R .cells)) × (length room ≡ length (R .room)) × (length (T .frames) ≡ length (R .frames))
+  stepped-long = (d .same ∙ c .as-long, d .room-same ∙ c .room-long, c .frames-long)
 
-    module _ (r : Outcome) (cells″ : List ℕ) (call : (vs : List ℕ) → Holds args g vs → ran r cells″ ≡ C n vs t cells′) where
-      after-call : (vs : List ℕ) → (h : Holds env k vs)
-          → after (ran r cells″) (λ x. body C bs next I (c .rest vs h .0 ++ (x ∷ []))) ≡ body C bs start I vs s cells₀
-      after-call vs h =
-          let w = c .rest vs h in
-          let q = steps e (w .0) (w .1) in
-          ap (λ (R : Result ℕ). after R (λ x. body C bs next I (w .0 ++ (x ∷ [])))) (call (q .0) (q .1)) ∙ sym (q .2 C) ∙ w .2
+-- ------------------------------------------------------------------ an item calls
 
-      pub going-halted : {x : Refusal} → r ≡ Halted x → (vs : List ℕ) → Holds env k vs → halt x cells″ ≡ body C bs start I vs s cells₀
-      going-halted er vs h =
-          ap (λ (o : Outcome). after (ran o cells″) (λ x. body C bs next I (c .rest vs h .0 ++ (x ∷ [])))) (sym er)
-          ∙ after-call vs h
+pub record Opening (R : Root) (T : Turn) (n g next : ℕ) (t : State) (args cells room : List ℕ) (b : Begun) : Type 0 where
+  pub step : Step
+  pub stepped : Stepped R T step args cells room
+  pub is : step ≡ Opened n g next t
+  pub begins : Begins (R .input) (R .bs) (1023 - T .level) n t b
 
-      pub going-called : {x : ℕ} {u : State} → r ≡ Value x u → Kept (weight t) r → length cells″ ≡ length cells′ → (vars′ : List ℕ)
+module _ {R : Root} {T : Turn} {n g next : ℕ} {t : State} {args cells room : List ℕ} {b : Begun} (d : Opening R T n g next t args cells room b) where
+  abbrev o-going : Going R T
+  o-going = d .stepped .going
+
+  pub opened-onward : Onward (R .bs) (T .at) next (T .here) t × (g ≤ length (R .bs))
+  opened-onward = subst (Advances (R .bs) (T .at) (T .here)) (d .is) (d .stepped .advances)
+
+  -- what the call that waits makes of what the call gives
+  abbrev waiting-for : ℕ → Result ℕ → Result ℕ
+  waiting-for k r = after r (λ x. onward R k next (o-going .M ++ (x ∷ [])))
+
+  -- its arguments, and what it does with them
+  called : (vs : List ℕ) × Holds args g vs
+      × (waiting-for (T .level) (runCall (1023 - T .level) (R .input) n vs t cells) ≡ onward R (T .level) (T .at) (o-going .M) (T .here) (T .cells))
+  called = let q = steps (d .stepped) (d .is) in (q .0, q .1, sym (q .2 (C (d .stepped))))
+
+  pub going-refused : {r : Refusal} → b ≡ Refused r → halt r cells ≡ whole R
+  going-refused e =
+      halted (d .stepped)
+      (ap (waiting-for (T .level)) (subst (Begins (R .input) (R .bs) (1023 - T .level) n t) e (d .begins) (called .0) cells) ∙ called .2)
+
+  module _ {starts : List ℕ} {m first : ℕ} {u : State} (e : b ≡ Entered first u) (enters : Enters starts m (1023 - T .level) t b)
+      (fits : TableFits (R .bs) starts m) where
+    pub opened-entry : Entry starts m (1023 - T .level) t first u
+    opened-entry = entry-of b e enters
+
+    abbrev pub entered-turn : List ℕ → Turn
+    entered-turn frames =
+        record { cells = cells; room = room; frames = frames; vars = args; at = first; count = g; level = T .level + 1; here = u }
+
+    pub going-opened : {frames : List ℕ} → Saved (T .frames) frames (T .level) (T .vars) (T .count) next → length frames ≡ length (T .frames)
+        → Going R (entered-turn frames)
+    unfolding resume owed
+    going-opened saved long =
+        let c = o-going in
+        let o = opened-onward .0 in
+        record {
+          sound = entry-whole opened-entry fits;
+          as-long = stepped-long (d .stepped) .0;
+          room-long = stepped-long (d .stepped) .1;
+          frames-long = long ∙ c .frames-long;
+          counted = omega (arith, opened-onward .1);
+          waiting = record { next = next; values = c .M } ∷ c .waiting;
+          many = omega (arith, c .many);
+          few = omega (arith, opened-entry .may-open);
+          stacked = stacked-more (c .many) saved (c .holds) (o .whole) (omega (arith, c .counted, o .less)) (o .inside) (c .stacked);
+          kept = omega (arith, onward-kept o (owed (R .bs) (c .waiting)) (c .kept), entry-weight opened-entry (length (R .bs)) (fits .small));
+          M = called .0;
+          holds = called .1;
+          rest =
+              let z : 1023 - (T .level + 1) ≡ 1023 - T .level - 1 = omega arith in
+              ap (λ (k : ℕ). resume (R .input) (R .bs) (c .waiting) (waiting-for k (onward R (T .level + 1) first (called .0) u cells))) (c .many)
+              ∙ instead (d .stepped)
+              (ap (waiting-for (T .level))
+              (ap (λ (k : ℕ). body (runCall k (R .input)) (R .bs) first (R .input) (called .0) u cells) z
+              ∙ subst (Begins (R .input) (R .bs) (1023 - T .level) n t) e (d .begins) (called .0) cells)
+              ∙ called .2);
+        }
+
+    pub opened-less : left (R .bs) first (T .level + 1) u < left (R .bs) (T .at) (T .level) (T .here)
+    opened-less =
+        let o = opened-onward .0 in
+        omega (
+          arith,
+          fits .small,
+          opened-entry .may-call,
+          ap (λ (q : State). 40000 * (65536 - q .calls)) (opened-entry .begun),
+          ap (λ (q : ℕ). 40000 * (65536 - q)) (o .called),
+        )
+
+-- ------------------------------------------------------------------ no item is left
+
+pub record Finishing (R : Root) (T : Turn) (r : Outcome) (cells room : List ℕ) : Type 0 where
+  pub step : Step
+  pub args : List ℕ
+  pub cells₁ : List ℕ
+  pub room₁ : List ℕ
+  pub stepped : Stepped R T step args cells₁ room₁
+  pub is : step ≡ Finished
+  pub same : length cells ≡ length cells₁
+  pub room-same : length room ≡ length room₁
+  pub gives :
+      (M : List ℕ) → Holds (T .vars) (T .count) M → ran r cells ≡ build (resultOf (fieldsAt (R .bs) (T .at))) (R .input) M (T .here) cells₁
+  pub stays : Stays (T .here) r
+
+module _ {R : Root} {T : Turn} {r : Outcome} {cells room : List ℕ} (d : Finishing R T r cells room) where
+  abbrev f-going : Going R T
+  f-going = d .stepped .going
+
+  pub finished-long : (length cells ≡ length (R .cells)) × (length room ≡ length (R .room)) × (length (T .frames) ≡ length (R .frames))
+  finished-long = let l = stepped-long (d .stepped) in (d .same ∙ l .0, d .room-same ∙ l .1, l .2)
+
+  gives-all : ran r cells ≡ onward R (T .level) (T .at) (f-going .M) (T .here) (T .cells)
+  unfolding body runItems
+  gives-all =
+      d .gives (f-going .M) (f-going .holds)
+      ∙ ap (build (resultOf (fieldsAt (R .bs) (T .at))) (R .input) (f-going .M) (T .here)) (steps (d .stepped) (d .is))
+      ∙ ap
+      (λ (is : List Item).
+      after (runItems (C (d .stepped)) (R .input) is (f-going .M) (T .here) (T .cells)) (λ M. build (resultOf (fieldsAt (R .bs) (T .at))) (R .input) M))
+      (sym (going-none (d .stepped) (d .is)))
+
+  pub finished-halted : {x : Refusal} → r ≡ Halted x → halt x cells ≡ whole R
+  finished-halted e = halted (d .stepped) (ap (λ (o : Outcome). ran o cells) (sym e) ∙ gives-all)
+
+  module _ {x : ℕ} {t : State} (e : r ≡ Value x t) where
+    valued : resume (R .input) (R .bs) (f-going .waiting) (done x t cells) ≡ whole R
+    valued = instead (d .stepped) (ap (λ (o : Outcome). ran o cells) (sym e) ∙ gives-all)
+
+    unmoved : (t .at ≡ T .here .at) × (t .fresh ≡ T .here .fresh) × (t .calls ≡ T .here .calls)
+    unmoved = subst (Stays (T .here)) e (d .stays)
+
+    -- no call waits
+    pub finished-root : T .level ≡ 0 → done x t cells ≡ whole R
+    unfolding resume
+    finished-root z = by (f-going .waiting) refl
+      where
+        by : (fs : List Frame) → f-going .waiting ≡ fs → done x t cells ≡ whole R
+        by [] ef = ap (λ (fs : List Frame). resume (R .input) (R .bs) fs (done x t cells)) (sym ef) ∙ valued
+        by (f ∷ fs) ef = absurd (omega (arith, f-going .many, ap length ef))
+
+    -- the innermost of those that wait goes on
+    module _ (below : T .level ≡ 0 → ⊥) {count next : ℕ} (ec : count ≡ getD (T .frames) ((T .level - 1) * 18 + 16) 0)
+        (en : next ≡ getD (T .frames) ((T .level - 1) * 18 + 17) 0) where
+      pub top-frame : (f : Frame) × (fs : List Frame) × (f-going .waiting ≡ f ∷ fs) × (length fs ≡ T .level - 1)
+          × Waits (R .bs) (T .frames) (T .level - 1) f × Stacked (R .bs) (T .frames) fs
+      top-frame = by (f-going .waiting) refl (f-going .stacked)
+        where
+          by : (ws : List Frame) → f-going .waiting ≡ ws → Stacked (R .bs) (T .frames) ws
+              → (f : Frame) × (fs : List Frame) × (f-going .waiting ≡ f ∷ fs) × (length fs ≡ T .level - 1)
+              × Waits (R .bs) (T .frames) (T .level - 1) f × Stacked (R .bs) (T .frames) fs
+          by [] ef stacked-none = absurd (below (sym (f-going .many) ∙ ap length ef))
+          by (f ∷ fs) ef (stacked-one w st) =
+              let l : length fs ≡ T .level - 1 = omega (arith, f-going .many, ap length ef) in
+              (f, fs, ef, l, subst (λ (k : ℕ). Waits (R .bs) (T .frames) k f) l w, st)
+
+      next-is : next ≡ top-frame .0 .next
+      next-is = en ∙ top-frame .4 .next-is
+
+      pub finished-inside : (next ≤ length (R .bs)) × (count < length (R .bs) + next)
+      finished-inside =
+          let w = top-frame .4 in
+          (omega (arith, next-is, w .inside), omega (arith, next-is, ec, w .counted, w .few))
+
+      pub finished-less : length (R .bs) ≤ 16384 → left (R .bs) next (T .level - 1) t < left (R .bs) (T .at) (T .level) (T .here)
+      finished-less small =
+          let p : 0 < T .level = positive (T .level) below in
+          omega (arith, ap (λ (k : ℕ). 40000 * (65536 - k)) (unmoved .2))
+
+      weight-same : weight t ≡ weight (T .here)
+      weight-same = omega (arith, unmoved .0, unmoved .1, ap (λ (k : ℕ). 16384 * (65536 - k)) (unmoved .2))
+
+      abbrev pub lower : List ℕ → Turn
+      lower vars =
+          record { cells = cells; room = room; frames = T .frames; vars = vars; at = next; count = count + 1; level = T .level - 1; here = t }
+
+      pub going-finished : {vars : List ℕ} → Loaded (T .frames) (T .level - 1) vars → {vars′ : List ℕ}
           → ((M : List ℕ) → Holds vars count M → Holds vars′ (count + 1) (M ++ (x ∷ [])))
-          → Going bs C I start env k s cells₀ cells″ vars′ next (count + 1) u
-      going-called {x} {u} er kept″ same″ vars′ put =
-          let o = opened-onward .0 in
-          let q : weight u ≤ weight t = subst (Kept (weight t)) er kept″ in
+          → Going R (lower vars′)
+      unfolding resume owed
+      going-finished loaded put =
+          let c = f-going in
+          let f = top-frame .0 in
+          let fs = top-frame .1 in
+          let w = top-frame .4 in
           record {
-            whole = o .whole;
-            as-long = same″ ∙ d .same ∙ c .as-long;
-            counted = omega (arith, c .counted, o .less);
-            kept = less-kept (weight u) (weight t) (length bs - next) q (onward-kept o (c .kept));
+            sound = ap (λ (a : ℕ). wholeBody (fieldsAt (R .bs) a)) next-is ∙ w .whole;
+            as-long = finished-long .0;
+            room-long = finished-long .1;
+            frames-long = c .frames-long;
+            counted = omega (arith, finished-inside .1);
+            waiting = fs;
+            many = top-frame .3;
+            few = omega (arith, c .few);
+            stacked = top-frame .5;
+            kept =
+                kept-below (length (R .bs) - T .at) (owed (R .bs) (c .waiting)) (length (R .bs) - next) (owed (R .bs) fs) weight-same
+                (ap (owed (R .bs)) (top-frame .2) ∙ ap (λ (a : ℕ). length (R .bs) - a + owed (R .bs) fs) (sym next-is)) (c .kept);
+            M = f .values ++ (x ∷ []);
+            holds = put (f .values) (waits-holds w loaded ec);
             rest =
-                λ vs h.
-                let w = c .rest vs h in (
-                  w .0 ++ (x ∷ []),
-                  put (w .0) (w .1),
-                  ap (λ (p : Outcome). after (ran p cells″) (λ y. body C bs next I (w .0 ++ (y ∷ [])))) (sym er) ∙ after-call vs h,
-                );
+                ap (λ (k : ℕ). resume (R .input) (R .bs) fs (onward R k next (f .values ++ (x ∷ [])) t cells)) (sym (top-frame .3))
+                ∙ ap (λ (a : ℕ). resume (R .input) (R .bs) fs (onward R (length fs) a (f .values ++ (x ∷ [])) t cells)) next-is
+                ∙ ap (λ (ws : List Frame). resume (R .input) (R .bs) ws (done x t cells)) (sym (top-frame .2))
+                ∙ valued;
           }
 
 -- ------------------------------------------------------------------ the whole formula
@@ -308,10 +520,6 @@ module _ (I : Input) (cells : List ℕ) (n : ℕ) (count : length (I .tokens) �
 
   pub ended-done : {v : ℕ} {s : State} → o ≡ Value v s → n ≤ s .at → done v s cells ≡ after (ran o cells) (ended I)
   ended-done {v} {s} e h = ended-by e false (le-ltb (s .at) n h)
-
--- no variables
-pub holds-none : Holds (replicate 16 0) 0 []
-holds-none = record { long = refl; count = refl; same = λ i a b. absurd (omega arith) }
 
 pub rows-few : {rows size : ℕ} → rows ≡ min (size / columns) 16384 → (rows ≤ 16384) × (rows * 4 ≤ size)
 rows-few e = (omega arith, omega arith)

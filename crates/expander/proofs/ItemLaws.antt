@@ -5,7 +5,7 @@ use mathlib.Core.Bool.{Bool, true, false, _&&_, and-eq-true-iff}
 use mathlib.Core.List.{List, [], _∷_, _++_}
 use native.Mathlib.Omega.{arith}
 use lib.Dec.{eqb}
-use lib.ListN.{getD, take, drop, length-take, length-drop}
+use lib.ListN.{length, getD, take, drop, length-take, length-drop}
 use borrow.Author.Tests.{eq-eqb, ne-eqb}
 use Rattle.answers.specs.declared.Refusal.{Refusal}
 use Rattle.answers.specs.Refusals.{refusal}
@@ -20,21 +20,21 @@ use Rattle.grammar.proofs.LookupLaws.{fields-at, front-inside}
 use Rattle.layout.specs.Prefix.{Parsed, fault, parsed, templatesOf, isTemplates, isTemplate, found}
 use Rattle.layout.specs.Decode.{itemOf}
 use Rattle.scanner.specs.declared.Token.{Token}
-use Rattle.firsts.specs.Index.{itemsOf, resultOf}
-use Rattle.expander.specs.declared.State.{State}
-use Rattle.expander.specs.declared.Outcome.{Outcome}
-use Rattle.expander.specs.declared.Outcome.the-variants.{Value, Halted}
+use Rattle.productions.specs.Index.{itemsOf, resultOf}
+use Rattle.expansion.specs.declared.State.{State}
+use Rattle.expansion.specs.declared.Outcome.{Outcome}
+use Rattle.expansion.specs.declared.Outcome.the-variants.{Value, Halted}
 use Rattle.expander.specs.declared.items.Step.the-variants.{Opened}
 use Rattle.expander.specs.declared.templates.Arguments.{Arguments}
 use Rattle.expander.specs.declared.templates.Arguments.the-variants.{Listed, Overfull}
-use Rattle.expander.specs.Run.{Result, done, halt, Run, after, ran}
-use Rattle.expander.specs.Expansion.{Input, endToken, nextToken, tokenTaken, misfit, build, buildAll, wordValue, freshMade, runItem, runItems}
-use Rattle.expander.specs.Expansion as Expansion
+use Rattle.expansion.specs.Run.{Result, done, halt, Run, after, ran}
+use Rattle.expansion.specs.Expansion.{Input, endToken, nextToken, tokenTaken, misfit, build, buildAll, wordValue, freshMade, runItem, runItems}
+use Rattle.expansion.specs.Expansion as Expansion
 use Rattle.expander.specs.Lent.{tokensIn, wholeBody}
 use Rattle.expander.specs.Built.{withMade, Ahead, templateAt, built, Lists, Few}
 use Rattle.expander.specs.declared.templates.Built.{Built}
 use Rattle.expander.specs.declared.templates.Built.the-variants.{Made, Full}
-use Rattle.expander.specs.Steps.{body, weight, Steps, ItemAt, Onward, Spends}
+use Rattle.expander.specs.Steps.{body, Steps, ItemAt, Onward, Spends}
 
 -- ------------------------------------------------------------------ an item by its kind and operand
 
@@ -189,6 +189,9 @@ module _ (bs : List ℕ) (at : ℕ) where
     abbrev pub value : List ℕ
     value = take (at + 3 + n - (at + 3)) (drop (at + 3) bs)
 
+    pub value-shorter : length value ≤ length bs
+    value-shorter = omega (arith, length-take (at + 3 + n - (at + 3)) (drop (at + 3) bs), length-drop (at + 3) bs)
+
     here : fieldsAt bs at ≡ next at t value (fieldsAt bs (at + 3 + n))
     here =
         let z : n ≡ at + 3 + n - (at + 3) = omega arith in
@@ -211,7 +214,7 @@ module _ (bs : List ℕ) (at : ℕ) where
             fields = here-item;
             less = omega arith;
             inside = omega (arith, front-inside bs at e);
-            shorter = omega (arith, length-take (at + 3 + n - (at + 3)) (drop (at + 3) bs), length-drop (at + 3) bs);
+            shorter = value-shorter;
             whole = whole-item .1;
           }
 
@@ -280,5 +283,5 @@ module _ (s : State) (b : Built) where
   pub full-outcome : b ≡ Full → {r : Refusal} → r ≡ refusal 21 (s .at) 0 0 → (cells : List ℕ) → halt r cells ≡ built s b cells
   full-outcome e f cells = ap (λ (x : Refusal). halt x cells) f ∙ ap (λ (c : Built). built s c cells) (sym e)
 
-  pub made-kept : (m : ℕ) {t : State} → t ≡ withMade s m → weight t ≤ weight s
-  made-kept m e = omega (arith, ap weight e)
+  pub made-stays : (m : ℕ) {t : State} → t ≡ withMade s m → (t .at ≡ s .at) × (t .fresh ≡ s .fresh) × (t .calls ≡ s .calls)
+  made-stays m e = (ap (λ (u : State). u .at) e, ap (λ (u : State). u .fresh) e, ap (λ (u : State). u .calls) e)

@@ -1,29 +1,25 @@
 -- Laws of templates read from their bytes, and of the loop over the arguments of a constructor.
-use Prim.Native.Nat.{ℕ, suc, _+_, _-_, _*_, _<_, _≤_}
-use mathlib.Core.Path.{_≡_, refl, sym, ap, _∙_, subst}
-use mathlib.Core.Bool.{Bool, true, false}
-use mathlib.Core.List.{List, [], _∷_, _++_, append-assoc, append-nil}
-use native.Mathlib.Nat.{sub-zero}
+use Prim.Native.Nat.{ℕ, suc, _+_, _-_, _<_, _≤_}
+use mathlib.Core.Path.{_≡_, refl, sym, ap, _∙_}
+use mathlib.Core.Bool.{true, false}
+use mathlib.Core.List.{List, [], _∷_, _++_, append-assoc}
 use native.Mathlib.Numerals.{add-one}
 use native.Mathlib.Omega.{arith}
 use native.Mathlib.Decide.{decLt}
-use lib.Dec.{eqb, ltb}
-use lib.ListN.{length, getD, drop, set, length-append, drop-of-length-le}
-use lib.Seq.{drop-cons, sets}
+use lib.Dec.{eqb}
+use lib.ListN.{length, getD, drop, drop-of-length-le}
+use lib.Seq.{drop-cons}
 use borrow.Author.Tests.{lt-ltb, le-ltb, lt-leb, ne-eqb}
 use Rattle.spellings.specs.BytesLaws.{by-test}
 use Rattle.grammar.specs.Sorts.{isConstructor, arity}
 use Rattle.grammar.specs.Table.{Template, Templates, variable, make, none, more}
-use Rattle.grammar.specs.Cells.{withRow}
 use Rattle.layout.specs.Prefix.{Parsed, fault, parsed, inFront, Taken, short, taken, alsoTaken, takeTemplates, applied, constructed, byteInFront, isNameTag, nameBy, templatesOf, found, firstOf}
-use Rattle.layout.specs.PrefixLaws.{name-first, name-last, byte-first, variable-first, constructor-first, unknown-first}
-use Rattle.expander.specs.declared.State.{State}
-use Rattle.expander.specs.declared.templates.Built.{Built}
-use Rattle.expander.specs.declared.templates.Built.the-variants.{Made, Full}
-use Rattle.expander.specs.Run.{Result, done, halt, Run, return, after, _>>=_}
-use Rattle.expander.specs.Expansion.{Input, build, buildAll, cell}
-use Rattle.expander.specs.Built.{Holds, withMade, Ahead, templateAt, othersOf, othersAt, noRow, built, Behind}
-use Rattle.expander.proofs.VariableLaws.{spare, spare-set}
+use Rattle.layout.proofs.PrefixLaws.{name-first, name-last, byte-first, variable-first, constructor-first, unknown-first}
+use Rattle.expansion.specs.declared.State.{State}
+use Rattle.expander.specs.declared.templates.Built.the-variants.{Made}
+use Rattle.expansion.specs.Run.{Result, done, halt, Run, return, after, _>>=_}
+use Rattle.expansion.specs.Expansion.{Input, build, buildAll, cell}
+use Rattle.expander.specs.Built.{Holds, withMade, Ahead, templateAt, othersOf, othersAt, Behind}
 
 -- ------------------------------------------------------------------ what is read in front
 
@@ -52,24 +48,6 @@ applied-read b ws (taken us vs) h t ts e = record { ahead = ws; own = us; read =
 constructed-read : (b : ℕ) (p : Parsed) (t : Template) (ts : Templates) → constructed b p ≡ parsed (more t ts) → Makes b p t ts
 constructed-read b fault t ts e = let z : _≡_ {A = ℕ} 0 1 = cc in absurd (omega arith)
 constructed-read b (parsed ws) t ts e = applied-read b ws (takeTemplates (arity b) ws) refl t ts e
-
--- one more than none of the templates is taken
-pub record TakesMore (k : ℕ) (ahead own others : Templates) : Type 0 where
-  pub first : Template
-  pub ahead′ : Templates
-  pub own′ : Templates
-  pub ahead-is : ahead ≡ more first ahead′
-  pub own-is : own ≡ more first own′
-  pub takes : takeTemplates k ahead′ ≡ taken own′ others
-
-takes-more : (k : ℕ) (ahead own others : Templates) → takeTemplates (suc k) ahead ≡ taken own others → TakesMore k ahead own others
-unfolding takeTemplates
-takes-more k none own others e = let z : _≡_ {A = ℕ} 0 1 = cc in absurd (omega arith)
-takes-more k (more t ws) own others e = by (takeTemplates k ws) refl e
-  where
-    by : (x : Taken) → takeTemplates k ws ≡ x → alsoTaken t x ≡ taken own others → TakesMore k (more t ws) own others
-    by short h f = let z : _≡_ {A = ℕ} 0 1 = cc in absurd (omega arith)
-    by (taken us vs) h f = record { first = t; ahead′ = ws; own′ = us; ahead-is = refl; own-is = cc; takes = cc }
 
 -- ------------------------------------------------------------------ the template at an offset, by its first byte
 
@@ -127,7 +105,7 @@ module _ (v : List ℕ) (at : ℕ) (a : Ahead v at) where
         ∙ sym (ap (λ (t : Template). build t I M (withMade s made) cells) (at-variable h))
 
     -- a constructor
-    makes : 32 ≤ b → Makes b (templatesOf (drop (at + 1) v)) (a .template) (a .others)
+    pub makes : 32 ≤ b → Makes b (templatesOf (drop (at + 1) v)) (a .template) (a .others)
     makes h = by-test (isConstructor b) known (λ c. absurd (unknown c))
       where
         other : templatesOf (b ∷ drop (at + 1) v) ≡ byteInFront b (templatesOf (drop (at + 1) v))
@@ -210,154 +188,3 @@ module _ {B : Type 0} (K : List ℕ → Run B) (given : List ℕ) where
   unfolding build buildAll
   first-built I M t ts R s cells h =
       ap (λ (r : Result ℕ). after (after r (λ x. buildAll ts I M >>= λ ys. return (x ∷ ys))) (λ ys. K (given ++ ys))) h
-
--- i of the n arguments are given, and those ahead give with them what the template gives
-pub record Turn (v : List ℕ) (at : ℕ) (env : List ℕ) (k rows made : ℕ) (cells₀ : List ℕ) (b n : ℕ) (cells args : List ℕ) (i from count : ℕ) : Type 0 where
-  pub many : n ≡ arity b
-  pub small : i ≤ n
-  pub past : at < from
-  pub inside : from ≤ length v
-  pub as-long : length cells ≡ length cells₀
-  pub given : List ℕ
-  pub given-many : length given ≡ i
-  pub given-are : args ≡ spare given
-  pub ahead : Templates
-  pub read : templatesOf (drop from v) ≡ parsed ahead
-  pub own : Templates
-  pub takes : takeTemplates (n - i) ahead ≡ taken own (othersAt v at)
-  pub rest :
-      (I : Input) (s : State) (M : List ℕ) → I .rows ≡ rows → Holds env k M
-      → after (buildAll own I M (withMade s count) cells) (λ ys. cell I b (given ++ ys))
-      ≡ build (templateAt v at) I M (withMade s made) cells₀
-
-pub turn-start : (v : List ℕ) (at : ℕ) (a : Ahead v at) (env : List ℕ) (k rows made : ℕ) (cells : List ℕ) {b n : ℕ}
-    → b ≡ getD v at 0
-    → 32 ≤ b
-    → n ≡ arity b
-    → Turn v at env k rows made cells b n cells (0 ∷ 0 ∷ 0 ∷ []) 0 (at + 1) made
-unfolding build
-turn-start v at a env k rows made cells {b} {n} eb h en =
-    let m : Makes b (templatesOf (drop (at + 1) v)) (a .template) (a .others) = makes v at a eb h in
-    record {
-      many = en;
-      small = omega arith;
-      past = omega arith;
-      inside = omega (arith, ahead-inside v at a);
-      as-long = refl;
-      given = [];
-      given-many = refl;
-      given-are = refl;
-      ahead = m .ahead;
-      read = m .read;
-      own = m .own;
-      takes = ap (λ (j : ℕ). takeTemplates j (m .ahead)) (sub-zero n ∙ en) ∙ m .takes ∙ ap (taken (m .own)) (sym (others-are v at a));
-      rest = λ I s M e g. ap (λ (t : Template). build t I M (withMade s made) cells) (sym (template-is v at a ∙ m .is));
-    }
-
-module _ {v : List ℕ} {at : ℕ} {env : List ℕ} {k rows made : ℕ} {cells₀ : List ℕ} {b n : ℕ} {cells args : List ℕ} {i from count : ℕ}
-    (c : Turn v at env k rows made cells₀ b n cells args i from count) where
-  module _ (less : i < n) where
-    pub next-takes : TakesMore (n - (i + 1)) (c .ahead) (c .own) (othersAt v at)
-    next-takes =
-        let z : suc (n - (i + 1)) ≡ n - i = omega arith in
-        takes-more (n - (i + 1)) (c .ahead) (c .own) (othersAt v at) (ap (λ (j : ℕ). takeTemplates j (c .ahead)) z ∙ c .takes)
-
-    abbrev pub turn-ahead : Ahead v from
-    turn-ahead =
-        record
-        { template = next-takes .first; others = next-takes .ahead′; read = c .read ∙ ap parsed (next-takes .ahead-is) }
-
-    -- what one argument gives, and the others
-    turn-one : (R : Result ℕ) (I : Input) (s : State) (M : List ℕ) → I .rows ≡ rows → Holds env k M
-        → R ≡ build (templateAt v from) I M (withMade s count) cells
-        → after (after R (λ x. buildAll (next-takes .own′) I M >>= λ ys. return (x ∷ ys))) (λ ys. cell I b (c .given ++ ys))
-        ≡ build (templateAt v at) I M (withMade s made) cells₀
-    turn-one R I s M e g h =
-        first-built (cell I b) (c .given) I M (next-takes .first) (next-takes .own′) R (withMade s count) cells
-        (h ∙ ap (λ (t : Template). build t I M (withMade s count) cells) (template-is v from turn-ahead))
-        ∙ sym (ap (λ (ts : Templates). after (buildAll ts I M (withMade s count) cells) (λ ys. cell I b (c .given ++ ys))) (next-takes .own-is))
-        ∙ c .rest I s M e g
-
-    pub turn-full : (cells′ : List ℕ) (r : Built) → r ≡ Full
-        → ((I : Input) (s : State) (M : List ℕ) → I .rows ≡ rows → Holds env k M
-        → built s r cells′ ≡ build (templateAt v from) I M (withMade s count) cells)
-        → (I : Input) (s : State) (M : List ℕ) → I .rows ≡ rows → Holds env k M
-        → noRow s cells′ ≡ build (templateAt v at) I M (withMade s made) cells₀
-    turn-full cells′ r er f I s M e g =
-        turn-one (noRow s cells′) I s M e g (ap (λ (q : Built). built s q cells′) (sym er) ∙ f I s M e g)
-
-    pub turn-next : (cells′ : List ℕ) (r : Built) {x after′ made′ : ℕ} → length cells′ ≡ length cells → r ≡ Made x after′ made′
-        → ((I : Input) (s : State) (M : List ℕ) → I .rows ≡ rows → Holds env k M
-        → built s r cells′ ≡ build (templateAt v from) I M (withMade s count) cells)
-        → Behind v from r
-        → n ≤ 3
-        → Turn v at env k rows made cells₀ b n cells′ (set args i x) (i + 1) after′ made′
-    turn-next cells′ r {x} {after′} {made′} el er f bh few =
-        let q : Behind v from (Made x after′ made′) = subst (Behind v from) er bh in
-        record {
-          many = c .many;
-          small = omega arith;
-          past = omega (arith, c .past, q .0);
-          inside = q .1;
-          as-long = el ∙ c .as-long;
-          given = c .given ++ (x ∷ []);
-          given-many = length-append (c .given) (x ∷ []) ∙ omega (arith, c .given-many);
-          given-are = ap (λ (l : List ℕ). set l i x) (c .given-are) ∙ spare-set (c .given) i x (c .given-many) (omega arith);
-          ahead = next-takes .ahead′;
-          read = q .2 ∙ ap parsed (others-are v from turn-ahead);
-          own = next-takes .own′;
-          takes = next-takes .takes;
-          rest =
-              λ I s M e g.
-              regroup (cell I b) (c .given) x (buildAll (next-takes .own′) I M (withMade s made′) cells′)
-              ∙ turn-one (done x (withMade s made′) cells′) I s M e g (ap (λ (p : Built). built s p cells′) (sym er) ∙ f I s M e g);
-        }
-
-  module _ (stop : n ≤ i) where
-    end-takes : taken none (c .ahead) ≡ taken (c .own) (othersAt v at)
-    unfolding takeTemplates
-    end-takes =
-        let z : n - i ≡ 0 = omega arith in
-        sym (ap (λ (j : ℕ). takeTemplates j (c .ahead)) z) ∙ c .takes
-
-    end-cell : (I : Input) (s : State) (M : List ℕ) → I .rows ≡ rows → Holds env k M
-        → cell I b (c .given) (withMade s count) cells ≡ build (templateAt v at) I M (withMade s made) cells₀
-    unfolding buildAll
-    end-cell I s M e g =
-        let own-none : none ≡ c .own = cc end-takes in
-        ap (λ (l : List ℕ). cell I b l (withMade s count) cells) (sym (append-nil (c .given)))
-        ∙ ap (λ (ts : Templates). after (buildAll ts I M (withMade s count) cells) (λ ys. cell I b (c .given ++ ys))) own-none
-        ∙ c .rest I s M e g
-
-    pub behind-made : (x made′ : ℕ) → Behind v at (Made x from made′)
-    behind-made x made′ =
-        let all : c .ahead ≡ othersAt v at = cc end-takes in
-        (c .past, c .inside, c .read ∙ ap parsed all)
-
-    cell-by : (t : Bool) (I : Input) (s : State) → I .rows ≡ rows → ltb count rows ≡ t
-        → (elim t [
-          | true ↦ done count (withMade s (count + 1)) (withRow cells count b (c .given))
-          | false ↦ noRow s cells
-        ])
-        ≡ cell I b (c .given) (withMade s count) cells
-    cell-by t I s e f =
-        ap
-        (λ (x : Bool).
-        elim x [
-          | true ↦ done count (withMade s (count + 1)) (withRow cells count b (c .given))
-          | false ↦ noRow s cells
-        ])
-        (sym f ∙ ap (λ (m : ℕ). ltb count m) (sym e))
-
-    pub turn-made : count < rows → (cells′ : List ℕ) → cells′ ≡ sets cells (count * 4) (b ∷ args)
-        → (I : Input) (s : State) (M : List ℕ) → I .rows ≡ rows → Holds env k M
-        → done count (withMade s (count + 1)) cells′ ≡ build (templateAt v at) I M (withMade s made) cells₀
-    turn-made h cells′ ec I s M e g =
-        ap (λ (cs : List ℕ). done count (withMade s (count + 1)) cs)
-        (ec ∙ ap (λ (l : List ℕ). sets cells (count * 4) (b ∷ l)) (c .given-are))
-        ∙ cell-by true I s e (lt-ltb count rows h)
-        ∙ end-cell I s M e g
-
-    pub turn-no-row : rows ≤ count → (I : Input) (s : State) (M : List ℕ) → I .rows ≡ rows → Holds env k M
-        → noRow s cells ≡ build (templateAt v at) I M (withMade s made) cells₀
-    turn-no-row h I s M e g = cell-by false I s e (le-ltb count rows h) ∙ end-cell I s M e g

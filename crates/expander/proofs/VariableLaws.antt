@@ -13,9 +13,9 @@ use borrow.Author.Tests.{eq-eqb, ne-eqb}
 use Rattle.grammar.proofs.ReaderLaws.{getD-past}
 use Rattle.grammar.specs.Cells.{outsideName}
 use Rattle.layout.specs.Prefix.{nameBy}
-use Rattle.expander.specs.declared.State.{State}
-use Rattle.expander.specs.Run.{done}
-use Rattle.expander.specs.Expansion.{Input, build}
+use Rattle.expansion.specs.declared.State.{State}
+use Rattle.expansion.specs.Run.{done}
+use Rattle.expansion.specs.Expansion.{Input, build}
 use Rattle.expander.specs.Built.{Holds}
 
 -- ------------------------------------------------------------------ variables
@@ -92,12 +92,3 @@ row-stored cells (a ∷ b ∷ c ∷ d ∷ l) i code e = absurd (omega arith)
 -- arguments in an array of three, spare ones 0
 abbrev pub spare : List ℕ → List ℕ
 spare given = take 3 (given ++ 0 ∷ 0 ∷ 0 ∷ [])
-
-pub spare-set : (given : List ℕ) (i x : ℕ) → length given ≡ i → i < 3 → set (spare given) i x ≡ spare (given ++ (x ∷ []))
-spare-set given i x e h = ap (λ (j : ℕ). set (spare given) j x) (sym e) ∙ by given (omega arith)
-  where
-    by : (l : List ℕ) → length l < 3 → set (spare l) (length l) x ≡ spare (l ++ (x ∷ []))
-    by [] h = refl
-    by (a ∷ []) h = refl
-    by (a ∷ b ∷ []) h = refl
-    by (a ∷ b ∷ c ∷ l) h = absurd (omega arith)

@@ -7,12 +7,13 @@ use lib.ListN.{length, getD, drop}
 use Rattle.answers.specs.Refusals.{refusal}
 use Rattle.grammar.specs.Table.{Template, Templates, none, more}
 use Rattle.layout.specs.Prefix.{parsed, templatesOf, found, firstOf}
-use Rattle.expander.specs.declared.State.{State}
+use Rattle.expansion.specs.declared.State.{State}
 use Rattle.expander.specs.declared.templates.Built.{Built}
 use Rattle.expander.specs.declared.templates.Built.the-variants.{Made, Full}
 use Rattle.expander.specs.declared.templates.Arguments.{Arguments}
 use Rattle.expander.specs.declared.templates.Arguments.the-variants.{Listed, Overfull}
-use Rattle.expander.specs.Run.{Result, done, halt}
+use Rattle.expansion.specs.Run.{Result, done, halt}
+use Rattle.expansion.specs.Expansion.{Input, build}
 
 -- the first 16 of k values M stand in an array of 16: no template names a further variable
 pub record Holds (env : List ℕ) (k : ℕ) (M : List ℕ) : Type 0 where
@@ -51,6 +52,12 @@ noRow s cells = halt (refusal 21 (s .at) 0 0) cells
 abbrev pub built : State → Built → List ℕ → Result ℕ
 built s (Made v after made) cells = done v (withMade s made) cells
 built s Full cells = noRow s cells
+
+-- the answer, with the cells as they then are, is what the template at an offset gives under k values of variables in an array
+abbrev pub Evaluates : List ℕ → ℕ → List ℕ → ℕ → ℕ → ℕ → List ℕ → Built → List ℕ → Type 0
+Evaluates v at env k rows made cells r cells′ =
+    (I : Input) (s : State) (M : List ℕ) → I .rows ≡ rows → Holds env k M
+    → built s r cells′ ≡ build (templateAt v at) I M (withMade s made) cells
 
 -- the offset that is answered lies behind the template
 abbrev pub Behind : List ℕ → ℕ → Built → Type 0

@@ -2,13 +2,13 @@
 use Prim.Native.Nat.{ℕ, _-_, _<_}
 use mathlib.Core.Path.{_≡_}
 use mathlib.Core.Bool.{Bool}
-use mathlib.Core.List.{List}
+use mathlib.Core.List.{List, []}
 use lib.ListN.{getD}
-use Rattle.expander.specs.declared.State.{State}
+use Rattle.expansion.specs.declared.State.{State}
 use Rattle.expander.specs.declared.calls.Begun.{Begun}
 use Rattle.expander.specs.declared.calls.Begun.the-variants.{Refused, Entered}
-use Rattle.expander.specs.Run.{halt}
-use Rattle.expander.specs.Expansion.{Input, callBegun, runCall}
+use Rattle.expansion.specs.Run.{Result, halt}
+use Rattle.expansion.specs.Expansion.{Input, callBegun, runCall}
 use Rattle.expander.specs.Lent.{tokensIn, grammarBy}
 use Rattle.expander.specs.Steps.{body}
 
@@ -16,6 +16,10 @@ use Rattle.expander.specs.Steps.{body}
 abbrev pub inputBy : List ℕ → List ℕ → List ℕ → ℕ → List ℕ → List ℕ → List Bool → List ℕ → ℕ → ℕ → Input
 inputBy bs owners starts m firsts openings empties room n rows =
     record { grammar = grammarBy m bs owners starts firsts openings empties; tokens = tokensIn room n; rows = rows }
+
+-- the items of the root's alternative from an offset on, and its result: 1,023 more calls may be open
+abbrev pub rootItems : Input → List ℕ → ℕ → State → List ℕ → Result ℕ
+rootItems I bs start s cells = body (runCall 1023 I) bs start I [] s cells
 
 -- a call of nonterminal n refuses, or goes on with the items and the result at an offset
 abbrev pub Begins : Input → List ℕ → ℕ → ℕ → State → Begun → Type 0

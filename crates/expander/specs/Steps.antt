@@ -6,14 +6,14 @@ use mathlib.Core.List.{List, [], _∷_, _++_}
 use lib.ListN.{length}
 use Rattle.grammar.specs.Fields.{next}
 use Rattle.grammar.specs.Lookup.{fieldsAt}
-use Rattle.firsts.specs.Index.{itemsOf, resultOf}
-use Rattle.expander.specs.declared.State.{State}
-use Rattle.expander.specs.declared.Outcome.{Outcome}
-use Rattle.expander.specs.declared.Outcome.the-variants.{Value, Halted}
+use Rattle.productions.specs.Index.{itemsOf, resultOf}
+use Rattle.expansion.specs.declared.State.{State}
+use Rattle.expansion.specs.declared.Outcome.{Outcome}
+use Rattle.expansion.specs.declared.Outcome.the-variants.{Value, Halted}
 use Rattle.expander.specs.declared.items.Step.{Step}
 use Rattle.expander.specs.declared.items.Step.the-variants.{Finished, Stopped, Taken, Opened}
-use Rattle.expander.specs.Run.{Run, halt, after}
-use Rattle.expander.specs.Expansion.{Input, build, runItems}
+use Rattle.expansion.specs.Run.{Run, halt, after}
+use Rattle.expansion.specs.Expansion.{Input, build, runItems}
 use Rattle.expander.specs.Lent.{wholeBody}
 use Rattle.expander.specs.Built.{Holds}
 
@@ -32,9 +32,10 @@ weight s = s .at + s .fresh + 16384 * (65536 - s .calls)
 abbrev pub mostWeight : ℕ
 mostWeight = 16384 * 65536 + 1
 
-abbrev pub Kept : ℕ → Outcome → Type 0
-Kept most (Value v s) = weight s ≤ most
-Kept most (Halted r) = Unit {0}
+-- a result moves no counter but that of the cells
+abbrev pub Stays : State → Outcome → Type 0
+Stays s (Value v t) = (t .at ≡ s .at) × (t .fresh ≡ s .fresh) × (t .calls ≡ s .calls)
+Stays s (Halted r) = Unit {0}
 
 -- ------------------------------------------------------------------ one item
 

@@ -1,8 +1,10 @@
 // Calls: a rule is chosen, its items are done from the left, and its result is built.
-use crate::Outcome;
-use crate::State;
 use crate::choice::Place;
 use crate::choice::choose;
+use crate::frames::count_of;
+use crate::frames::load;
+use crate::frames::next_of;
+use crate::frames::save;
 use crate::items::Step;
 use crate::items::finish;
 use crate::items::item_step;
@@ -10,8 +12,10 @@ use crate::templates::put;
 use crate::tokens::kind_at;
 use crate::tokens::misfit;
 use answers::Refusal;
-use firsts::index::offset;
+use expansion::Outcome;
+use expansion::State;
 use firsts::items::set_at;
+use productions::index::offset;
 ghost use Prim.Native.Nat.{ℕ, _+_, _-_, _*_, _/_, _≤_, min};
 ghost use mathlib.Core.Path.{_≡_};
 ghost use mathlib.Core.Bool.{true};
@@ -20,12 +24,11 @@ ghost use lib.ListN.{length};
 ghost use Rattle.answers.specs.Refusals.{refusal};
 ghost use Rattle.grammar.specs.Lookup.{fieldsAt};
 ghost use Rattle.grammar.specs.Cells.{columns};
-ghost use Rattle.expander.specs.Run.{after, ran};
-ghost use Rattle.expander.specs.Expansion.{Input, callBegun, runCall, ended, run};
+ghost use Rattle.expansion.specs.Run.{after, ran};
+ghost use Rattle.expansion.specs.Expansion.{Input, callBegun, ended, run};
 ghost use Rattle.expander.specs.Lent.{TokensFit, TableFits, wholeBody};
-ghost use Rattle.expander.specs.Built.{Holds};
-ghost use Rattle.expander.specs.Steps.{body, weight, mostWeight, Kept};
-ghost use Rattle.expander.specs.Calls.{inputBy, Begins, Enters};
+ghost use Rattle.expander.specs.Steps.{weight, mostWeight};
+ghost use Rattle.expander.specs.Calls.{inputBy, rootItems, Begins, Enters};
 
 // How a call begins: it refuses, or a production is entered at an offset.
 pub enum Begun {
@@ -73,7 +76,8 @@ fn begin(
     s: State,
 ) -> Begun
     requires { ⌜ (m ≤ 256) × (n ≤ 4096) ⌝ }
-    ensures { λ r. ⌜ ((bs : List ℕ) (rows : ℕ) → Begins (inputBy bs (now (owners .entry)) (now (starts .entry)) m (now (firsts .entry)) (now (openings .entry)) (now (empties .entry)) (now (tokens .entry)) n rows) bs depth nonterminal s r) ⌝ }
+    ensures { λ r. ⌜ ((bs : List ℕ) (rows : ℕ) → Begins (inputBy bs (now (owners .entry)) (now (starts .entry)) m (now (firsts .entry)) (now
+        (openings .entry)) (now (empties .entry)) (now (tokens .entry)) n rows) bs depth nonterminal s r) ⌝ }
     ensures { λ r. ⌜ Enters (now (starts .entry)) m depth s r ⌝ }
 {
     let at = s.at;
@@ -95,69 +99,7 @@ fn begin(
     }
 }
 
-// A call of a nonterminal with k arguments.
-pub fn call(
-    table: &[u8],
-    owners: &[u8; 256],
-    starts: &[u16; 256],
-    m: usize,
-    firsts: &[u64; 64],
-    openings: &[u64; 256],
-    empties: &[bool; 256],
-    tokens: &[u32; 16384],
-    n: usize,
-    rows: usize,
-    cells: &mut [u32],
-    depth: usize,
-    nonterminal: u8,
-    env: &[u32; 16],
-    k: usize,
-    s: State,
-) -> Outcome
-    requires { ⌜ TableFits (now table) (now starts) m ⌝ }
-    requires { ⌜ TokensFit (now tokens) n ⌝ }
-    requires { ⌜ (rows ≤ 16384) × (rows * 4 ≤ length (now cells)) ⌝ }
-    requires { ⌜ (k ≤ length (now table)) × (weight s ≤ mostWeight) ⌝ }
-    ensures { λ r. ⌜ ((vs : List ℕ) → Holds (now (env .entry)) k vs → ran r (now (cells .exit)) ≡ runCall depth (inputBy (now (table .entry)) (now (owners .entry)) (now (starts .entry)) m (now (firsts .entry)) (now (openings .entry)) (now (empties .entry)) (now (tokens .entry)) n rows) nonterminal vs s (now (cells .entry))) ⌝ }
-    ensures { λ r. ⌜ Kept (weight s) r ⌝ }
-{
-    let begun = begin(
-        owners,
-        starts,
-        m,
-        firsts,
-        openings,
-        empties,
-        tokens,
-        n,
-        depth,
-        nonterminal,
-        s,
-    );
-    match begun {
-        Begun::Refused(r) => Outcome::Halted(r),
-        Begun::Entered(start, t) => items(
-            table,
-            owners,
-            starts,
-            m,
-            firsts,
-            openings,
-            empties,
-            tokens,
-            n,
-            rows,
-            cells,
-            depth - 1,
-            start,
-            env,
-            k,
-            t,
-        ),
-    }
-}
-
-// The items of an alternative from an offset on, under k variables, and its result.
+// The items of an alternative from an offset on, and its result. A call that waits for another stands in `frames`.
 fn items(
     table: &[u8],
     owners: &[u8; 256],
@@ -170,24 +112,26 @@ fn items(
     n: usize,
     rows: usize,
     cells: &mut [u32],
-    depth: usize,
+    room: &mut [u32],
+    frames: &mut [u32],
     start: usize,
-    env: &[u32; 16],
-    k: usize,
     s: State,
 ) -> Outcome
     requires { ⌜ TableFits (now table) (now starts) m ⌝ }
     requires { ⌜ TokensFit (now tokens) n ⌝ }
     requires { ⌜ (rows ≤ 16384) × (rows * 4 ≤ length (now cells)) ⌝ }
-    requires { ⌜ (k ≤ length (now table)) × (weight s + (length (now table) - start) ≤ mostWeight) ⌝ }
+    requires { ⌜ (length (now table) ≤ length (now room)) × (18432 ≤ length (now frames)) ⌝ }
+    requires { ⌜ weight s + (length (now table) - start) ≤ mostWeight ⌝ }
     requires { ⌜ wholeBody (fieldsAt (now table) start) ≡ true ⌝ }
-    ensures { λ r. ⌜ ((vs : List ℕ) → Holds (now (env .entry)) k vs → ran r (now (cells .exit)) ≡ body (runCall depth (inputBy (now (table .entry)) (now (owners .entry)) (now (starts .entry)) m (now (firsts .entry)) (now (openings .entry)) (now (empties .entry)) (now (tokens .entry)) n rows)) (now (table .entry)) start (inputBy (now (table .entry)) (now (owners .entry)) (now (starts .entry)) m (now (firsts .entry)) (now (openings .entry)) (now (empties .entry)) (now (tokens .entry)) n rows) vs s (now (cells .entry))) ⌝ }
-    ensures { λ r. ⌜ Kept (weight s + (length (now (table .entry)) - start)) r ⌝ }
+    ensures { λ r. ⌜ ran r (now (cells .exit)) ≡ rootItems (inputBy (now (table .entry)) (now (owners .entry)) (now (starts .entry)) m (now
+        (firsts .entry)) (now (openings .entry)) (now (empties .entry)) (now (tokens .entry)) n rows) (now (table .entry)) start s (now
+        (cells .entry)) ⌝ }
 {
-    let mut vars = *env;
+    let mut vars = [0u32; 16];
     let mut args = [0u32; 16];
     let mut at = start;
-    let mut count = k;
+    let mut count: usize = 0;
+    let mut level: usize = 0;
     let mut here = s;
     loop {
         let step = item_step(
@@ -201,10 +145,28 @@ fn items(
             &mut args,
             here,
             cells,
+            room,
         );
         match step {
             Step::Finished => {
-                return finish(table, at, &vars, count, rows, here, cells);
+                let outcome = finish(table, at, &vars, count, rows, here, cells, room);
+                match outcome {
+                    Outcome::Halted(r) => {
+                        return Outcome::Halted(r);
+                    }
+                    Outcome::Value(x, t) => {
+                        if level == 0 {
+                            return Outcome::Value(x, t);
+                        }
+                        level -= 1;
+                        vars = load(frames, level);
+                        count = count_of(frames, level);
+                        at = next_of(frames, level);
+                        put(&mut vars, count, x);
+                        count += 1;
+                        here = t;
+                    }
+                }
             }
             Step::Stopped(r) => {
                 return Outcome::Halted(r);
@@ -216,8 +178,7 @@ fn items(
                 here = t;
             }
             Step::Opened(callee, given, after, t) => {
-                let answer = call(
-                    table,
+                let begun = begin(
                     owners,
                     starts,
                     m,
@@ -226,22 +187,20 @@ fn items(
                     empties,
                     tokens,
                     n,
-                    rows,
-                    cells,
-                    depth,
+                    1023 - level,
                     callee,
-                    &args,
-                    given,
                     t,
                 );
-                match answer {
-                    Outcome::Halted(r) => {
+                match begun {
+                    Begun::Refused(r) => {
                         return Outcome::Halted(r);
                     }
-                    Outcome::Value(x, u) => {
-                        put(&mut vars, count, x);
-                        count += 1;
-                        at = after;
+                    Begun::Entered(first, u) => {
+                        save(frames, level, &vars, count, after);
+                        level += 1;
+                        vars = args;
+                        count = given;
+                        at = first;
                         here = u;
                     }
                 }
@@ -275,7 +234,8 @@ fn ended(n: usize, outcome: Outcome) -> Outcome
 }
 
 // The expansion of a formula's tokens: a call of the root that leaves no token over. It works from the table's bytes, from the index
-// of its grammar with the sets that the check handed on, and from the room of the tokens; it does not check the table.
+// of its grammar with the sets that the check handed on, and from the room of the tokens; it does not check the table. `room` takes a
+// template that is being evaluated and `frames` the calls that wait; what they hold before and after is of no account.
 // Ruled out are, among others, an expander that copies inner phrases unopened, one that answers invented counts of cells, and one
 // that claims 20 or 21 at its first step.
 pub fn run(
@@ -290,21 +250,18 @@ pub fn run(
     tokens: &[u32; 16384],
     n: usize,
     cells: &mut [u32],
+    room: &mut [u32],
+    frames: &mut [u32],
 ) -> Outcome
     requires { ⌜ TableFits (now table) (now starts) m ⌝ }
     requires { ⌜ TokensFit (now tokens) n ⌝ }
-    ensures { λ r. ⌜ ran r (now (cells .exit)) ≡ run (inputBy (now (table .entry)) (now (owners .entry)) (now (starts .entry)) m (now (firsts .entry)) (now (openings .entry)) (now (empties .entry)) (now (tokens .entry)) n (min (length (now (cells .entry)) / columns) 16384)) root (now (cells .entry)) ⌝ }
+    requires { ⌜ (length (now table) ≤ length (now room)) × (18432 ≤ length (now frames)) ⌝ }
+    ensures { λ r. ⌜ ran r (now (cells .exit)) ≡ run (inputBy (now (table .entry)) (now (owners .entry)) (now (starts .entry)) m (now
+        (firsts .entry)) (now (openings .entry)) (now (empties .entry)) (now (tokens .entry)) n (min (length (now (cells .entry)) / columns)
+        16384)) root (now (cells .entry)) ⌝ }
 {
     let rows = rows_of(cells.len());
-    let none = [0u32; 16];
-    let start = State {
-        at: 0,
-        fresh: 1,
-        calls: 0,
-        made: 0,
-    };
-    let outcome = call(
-        table,
+    let begun = begin(
         owners,
         starts,
         m,
@@ -313,13 +270,36 @@ pub fn run(
         empties,
         tokens,
         n,
-        rows,
-        cells,
         1024,
         root,
-        &none,
-        0,
-        start,
+        State {
+            at: 0,
+            fresh: 1,
+            calls: 0,
+            made: 0,
+        },
     );
-    ended(n, outcome)
+    match begun {
+        Begun::Refused(r) => Outcome::Halted(r),
+        Begun::Entered(start, t) => {
+            let outcome = items(
+                table,
+                owners,
+                starts,
+                m,
+                firsts,
+                openings,
+                empties,
+                tokens,
+                n,
+                rows,
+                cells,
+                room,
+                frames,
+                start,
+                t,
+            );
+            ended(n, outcome)
+        }
+    }
 }

@@ -1,6 +1,4 @@
 // The items of an alternative, read off the table's bytes, and its result.
-use crate::Outcome;
-use crate::State;
 use crate::templates::Arguments;
 use crate::templates::Built;
 use crate::templates::build;
@@ -9,6 +7,8 @@ use crate::templates::pick;
 use crate::tokens::take;
 use crate::tokens::value_at;
 use answers::Refusal;
+use expansion::Outcome;
+use expansion::State;
 use grammar::Front;
 use grammar::front_at;
 use grammar::reader::byte;
@@ -21,13 +21,13 @@ ghost use Rattle.answers.specs.Refusals.{refusal};
 ghost use Rattle.grammar.specs.Lookup.{fieldsAt};
 ghost use Rattle.layout.specs.Prefix.{isTemplates, templatesOf};
 ghost use Rattle.layout.specs.Decode.{itemOf};
-ghost use Rattle.firsts.specs.Index.{itemsOf, resultOf};
-ghost use Rattle.expander.specs.Run.{Run, ran};
-ghost use Rattle.expander.specs.Expansion.{Input, wordValue, freshMade, build, runItem};
+ghost use Rattle.productions.specs.Index.{itemsOf, resultOf};
+ghost use Rattle.expansion.specs.Run.{Run, ran};
+ghost use Rattle.expansion.specs.Expansion.{Input, wordValue, freshMade, build, runItem};
 ghost use Rattle.expander.specs.Lent.{tokensIn, TokensFit, wholeBody};
 ghost use Rattle.grammar.specs.Table.{Template};
 ghost use Rattle.expander.specs.Built.{Holds, withMade, built};
-ghost use Rattle.expander.specs.Steps.{weight, Kept, ItemAt, Steps, Advances, Spends};
+ghost use Rattle.expander.specs.Steps.{Stays, ItemAt, Steps, Advances, Spends};
 
 // What is done at an offset: there is no item, the item refuses, it gives a value (with the offset behind it and where the expansion
 // then stands), or it calls a nonterminal with a number of arguments.
@@ -68,7 +68,8 @@ fn fresh_name(s: State) -> Outcome
 fn read_item(kind: u8, operand: u8, tokens: &[u32; 16384], n: usize, s: State) -> Outcome
     requires { ⌜ TokensFit (now tokens) n ⌝ }
     requires { ⌜ (s .at < 2 ^ 32) × (s .fresh < 2 ^ 31) ⌝ }
-    ensures { λ r. ⌜ ((v : List ℕ) (C : ℕ → List ℕ → Run ℕ) (I : Input) (M cells : List ℕ) → I .tokens ≡ tokensIn (now (tokens .entry)) n → kind ≡ getD v 0 0 → operand ≡ getD v 1 0 → (kind ≡ 4 → ⊥) → ran r cells ≡ runItem C I (itemOf v) M s cells) ⌝ }
+    ensures { λ r. ⌜ ((v : List ℕ) (C : ℕ → List ℕ → Run ℕ) (I : Input) (M cells : List ℕ) → I .tokens ≡ tokensIn (now (tokens .entry)) n →
+        kind ≡ getD v 0 0 → operand ≡ getD v 1 0 → (kind ≡ 4 → ⊥) → ran r cells ≡ runItem C I (itemOf v) M s cells) ⌝ }
     ensures { λ r. ⌜ Spends s r ⌝ }
 {
     let at = s.at;
@@ -105,19 +106,23 @@ fn do_item(
     out: &mut [u32; 16],
     s: State,
     cells: &mut [u32],
+    room: &mut [u32],
 ) -> Step
+    requires { ⌜ (length (now v) ≤ 16384) × (length (now v) ≤ length (now room)) ⌝ }
     requires { ⌜ TokensFit (now tokens) n ⌝ }
     requires { ⌜ isTemplates (templatesOf (drop 2 (now v))) ≡ true ⌝ }
     requires { ⌜ (rows ≤ 16384) × (rows * 4 ≤ length (now cells)) ⌝ }
     requires { ⌜ (s .at < 2 ^ 32) × (s .fresh < 2 ^ 31) ⌝ }
-    ensures { λ r. ⌜ ((bs : List ℕ) (at : ℕ) (I : Input) (M : List ℕ) → ItemAt bs at (now (v .entry)) next → I .tokens ≡ tokensIn (now (tokens .entry)) n → I .rows ≡ rows → Holds (now (env .entry)) k M → Steps bs at I M s (now (cells .entry)) r (now (out .exit)) (now (cells .exit))) ⌝ }
+    ensures { λ r. ⌜ ((bs : List ℕ) (at : ℕ) (I : Input) (M : List ℕ) → ItemAt bs at (now (v .entry)) next → I .tokens ≡ tokensIn (now
+        (tokens .entry)) n → I .rows ≡ rows → Holds (now (env .entry)) k M → Steps bs at I M s (now (cells .entry)) r (now (out .exit)) (now
+        (cells .exit))) ⌝ }
     ensures { λ r. ⌜ ((bs : List ℕ) (at : ℕ) → ItemAt bs at (now (v .entry)) next → Advances bs at s r) ⌝ }
 {
     let kind = byte(v, 0);
     let operand = byte(v, 1);
     if kind == 4 {
         let made = s.made;
-        let listed = build_arguments(v, 2, env, k, rows, made, out, cells);
+        let listed = build_arguments(v, 2, env, k, rows, made, out, cells, room);
         match listed {
             Arguments::Overfull => {
                 return Step::Stopped(no_row(s));
@@ -146,12 +151,15 @@ pub fn item_step(
     out: &mut [u32; 16],
     s: State,
     cells: &mut [u32],
+    room: &mut [u32],
 ) -> Step
+    requires { ⌜ (length (now table) ≤ 16384) × (length (now table) ≤ length (now room)) ⌝ }
     requires { ⌜ TokensFit (now tokens) n ⌝ }
     requires { ⌜ wholeBody (fieldsAt (now table) at) ≡ true ⌝ }
     requires { ⌜ (rows ≤ 16384) × (rows * 4 ≤ length (now cells)) ⌝ }
     requires { ⌜ (s .at < 2 ^ 32) × (s .fresh < 2 ^ 31) ⌝ }
-    ensures { λ r. ⌜ ((I : Input) (M : List ℕ) → I .tokens ≡ tokensIn (now (tokens .entry)) n → I .rows ≡ rows → Holds (now (env .entry)) k M → Steps (now (table .entry)) at I M s (now (cells .entry)) r (now (out .exit)) (now (cells .exit))) ⌝ }
+    ensures { λ r. ⌜ ((I : Input) (M : List ℕ) → I .tokens ≡ tokensIn (now (tokens .entry)) n → I .rows ≡ rows → Holds (now (env .entry)) k
+        M → Steps (now (table .entry)) at I M s (now (cells .entry)) r (now (out .exit)) (now (cells .exit))) ⌝ }
     ensures { λ r. ⌜ Advances (now (table .entry)) at s r ⌝ }
 {
     let front = front_at(table, at);
@@ -175,6 +183,7 @@ pub fn item_step(
                 out,
                 s,
                 cells,
+                room,
             )
         }
     }
@@ -195,7 +204,7 @@ fn with_made(s: State, made: usize) -> State
 // The value of a template, as the outcome of the alternative that it is the result of.
 fn outcome_of(b: Built, s: State) -> Outcome
     ensures { λ r. ⌜ ((cells : List ℕ) → ran r cells ≡ built s b cells) ⌝ }
-    ensures { λ r. ⌜ Kept (weight s) r ⌝ }
+    ensures { λ r. ⌜ Stays s r ⌝ }
 {
     match b {
         Built::Made(v, _, made) => Outcome::Value(v, with_made(s, made)),
@@ -206,7 +215,7 @@ fn outcome_of(b: Built, s: State) -> Outcome
 // The first variable, which stands for a result that is not there.
 fn first_variable(env: &[u32; 16], k: usize, s: State) -> Outcome
     ensures { λ r. ⌜ ((I : Input) (M cells : List ℕ) → Holds (now (env .entry)) k M → ran r cells ≡ build (Template.variable 0) I M s cells) ⌝ }
-    ensures { λ r. ⌜ Kept (weight s) r ⌝ }
+    ensures { λ r. ⌜ Stays s r ⌝ }
 {
     Outcome::Value(pick(env, k, 0), s)
 }
@@ -220,11 +229,14 @@ pub fn finish(
     rows: usize,
     s: State,
     cells: &mut [u32],
+    room: &mut [u32],
 ) -> Outcome
+    requires { ⌜ (length (now table) ≤ 16384) × (length (now table) ≤ length (now room)) ⌝ }
     requires { ⌜ (itemsOf (fieldsAt (now table) at) ≡ []) × (wholeBody (fieldsAt (now table) at) ≡ true) ⌝ }
     requires { ⌜ (rows ≤ 16384) × (rows * 4 ≤ length (now cells)) ⌝ }
-    ensures { λ r. ⌜ ((I : Input) (M : List ℕ) → I .rows ≡ rows → Holds (now (env .entry)) k M → ran r (now (cells .exit)) ≡ build (resultOf (fieldsAt (now (table .entry)) at)) I M s (now (cells .entry))) ⌝ }
-    ensures { λ r. ⌜ Kept (weight s) r ⌝ }
+    ensures { λ r. ⌜ ((I : Input) (M : List ℕ) → I .rows ≡ rows → Holds (now (env .entry)) k M → ran r (now (cells .exit)) ≡ build (resultOf
+        (fieldsAt (now (table .entry)) at)) I M s (now (cells .entry))) ⌝ }
+    ensures { λ r. ⌜ Stays s r ⌝ }
 {
     let front = front_at(table, at);
     match front {
@@ -237,7 +249,7 @@ pub fn finish(
             let from = at + 3;
             let to = from + size;
             let made = s.made;
-            let value = build(&table[from..to], 0, env, k, rows, made, cells);
+            let value = build(&table[from..to], 0, env, k, rows, made, cells, room);
             outcome_of(value, s)
         }
     }

@@ -1,24 +1,32 @@
 // Templates, evaluated from their bytes in prefix form: each constructor makes one cell, arguments first, left to right.
 use grammar::reader::arity_of;
 use grammar::reader::byte;
-ghost use Prim.Native.Nat.{ℕ, _+_, _*_, _<_, _≤_};
+ghost use Prim.Native.Nat.{ℕ, _+_, _*_, _/_, _%_, _<_, _≤_};
 ghost use mathlib.Core.Path.{_≡_};
 ghost use mathlib.Core.List.{List, [], _∷_, _++_};
-ghost use lib.ListN.{length, getD, drop};
+ghost use lib.ListN.{length, getD, take, drop};
 ghost use lib.Seq.{sets};
 ghost use Rattle.grammar.specs.Table.{Template};
+ghost use Rattle.grammar.specs.Cells.{withRow};
 ghost use Rattle.layout.specs.Prefix.{nameBy, templatesOf, isTemplates, found};
 ghost use lib.Dec.{eqb};
 ghost use mathlib.Core.Bool.{true};
-ghost use Rattle.expander.specs.declared.State.{State};
-ghost use Rattle.expander.specs.Run.{done};
-ghost use Rattle.expander.specs.Expansion.{Input, build, buildAll};
-ghost use Rattle.expander.specs.Built.{Holds, withMade, Ahead, templateAt, built, Behind, Lists, Few};
+ghost use Rattle.expansion.specs.declared.State.{State};
+ghost use Rattle.expansion.specs.Run.{done};
+ghost use Rattle.expansion.specs.Expansion.{Input, build, buildAll};
+ghost use Rattle.expander.specs.Built.{Holds, withMade, Ahead, Evaluates, Behind, Lists, Few};
+ghost use Rattle.expander.specs.Heads.{Leads, Heads, Takes};
 
 // What a template gives: its value, the offset behind it and the cells then made; or no row is left for a cell.
 pub enum Built {
     Made(u32, usize, usize),
     Full,
+}
+
+// What stands in front of a template: a value and the offset behind it, or a constructor.
+pub enum Head {
+    Leaf(u32, usize),
+    Node(u8),
 }
 
 // What a call's arguments give: how many there are and the cells then made; or no row is left for a cell.
@@ -67,6 +75,125 @@ fn store_row(cells: &mut [u32], row: usize, code: u8, args: [u32; 3])
     cells[i + 3] = args[2];
 }
 
+// What the template at an offset begins with, under k variables.
+fn head_at(v: &[u8], at: usize, env: &[u32; 16], k: usize) -> Head
+    requires { ⌜ Ahead (now v) at ⌝ }
+    ensures { λ r. ⌜ ((M : List ℕ) → Holds (now (env .entry)) k M → Leads (now (v .entry)) at M r) ⌝ }
+    ensures { λ r. ⌜ Heads (now (v .entry)) at r ⌝ }
+{
+    let b = byte(v, at);
+    if b < 16 {
+        return Head::Leaf(pick(env, k, b as usize), at + 1);
+    }
+    if b < 32 {
+        let n = byte(v, at + 1);
+        return Head::Leaf(name_value(b, n), at + 2);
+    }
+    Head::Node(b)
+}
+
+// An open constructor in one number: its code, and where the one around it has its first argument.
+fn opening(code: u8, around: usize) -> u32
+    requires { ⌜ around ≤ 16384 ⌝ }
+    ensures { λ r. ⌜ r ≡ code + 256 * around ⌝ }
+{
+    code as u32 + 256 * around as u32
+}
+
+fn code_of(w: u32) -> u8
+    ensures { λ r. ⌜ r ≡ w % 256 ⌝ }
+{
+    (w % 256) as u8
+}
+
+fn around_of(w: u32) -> usize
+    ensures { λ r. ⌜ r ≡ w / 256 ⌝ }
+{
+    (w / 256) as usize
+}
+
+// Number i of the n that stand from a place on; 0 past them.
+fn given_at(room: &[u32], pos: usize, n: usize, i: usize) -> u32
+    requires { ⌜ pos + n ≤ length (now room) ⌝ }
+    ensures { λ r. ⌜ r ≡ getD (take n (drop pos (now (room .entry)))) i 0 ⌝ }
+{
+    if i < n { room[pos + i] } else { 0 }
+}
+
+// The row of a constructor whose n arguments stand from a place on.
+fn store_cell(cells: &mut [u32], row: usize, code: u8, room: &[u32], pos: usize, n: usize)
+    requires { ⌜ (row ≤ 16384) × (row * 4 + 4 ≤ length (now cells)) ⌝ }
+    requires { ⌜ pos + n ≤ length (now room) ⌝ }
+    ensures { λ r. ⌜ now (cells .exit) ≡ withRow (now (cells .entry)) row code (take n (drop pos (now (room .entry)))) ⌝ }
+{
+    let args = [
+        given_at(room, pos, n, 0),
+        given_at(room, pos, n, 1),
+        given_at(room, pos, n, 2),
+    ];
+    store_row(cells, row, code, args);
+}
+
+// The template of a constructor at an offset. The room holds the open constructors, each with its arguments so far behind it; `pos` is
+// where those of the innermost one begin, and `top` where they end.
+fn build_node(
+    v: &[u8],
+    from: usize,
+    code: u8,
+    env: &[u32; 16],
+    k: usize,
+    rows: usize,
+    made: usize,
+    cells: &mut [u32],
+    room: &mut [u32],
+) -> Built
+    requires { ⌜ Takes (now v) from code ⌝ }
+    requires { ⌜ (rows ≤ 16384) × (rows * 4 ≤ length (now cells)) ⌝ }
+    requires { ⌜ (length (now v) ≤ 16384) × (length (now v) ≤ length (now room)) ⌝ }
+    ensures { λ r. ⌜ Evaluates (now (v .entry)) from (now (env .entry)) k rows made (now (cells .entry)) r (now (cells .exit)) ⌝ }
+    ensures { λ r. ⌜ Behind (now (v .entry)) from r ⌝ }
+{
+    room[0] = opening(code, 0);
+    let mut at = from + 1;
+    let mut count = made;
+    let mut pos: usize = 1;
+    let mut top: usize = 1;
+    loop {
+        let w = room[pos - 1];
+        let inner = code_of(w);
+        let n = arity_of(inner);
+        if top - pos < n {
+            let head = head_at(v, at, env, k);
+            match head {
+                Head::Leaf(x, next) => {
+                    room[top] = x;
+                    top += 1;
+                    at = next;
+                }
+                Head::Node(b) => {
+                    room[top] = opening(b, pos);
+                    top += 1;
+                    pos = top;
+                    at += 1;
+                }
+            }
+        } else {
+            if rows <= count {
+                return Built::Full;
+            }
+            store_cell(cells, count, inner, room, pos, n);
+            let around = around_of(w);
+            if around == 0 {
+                return Built::Made(count as u32, at, count + 1);
+            }
+            room[pos - 1] = count as u32;
+            count += 1;
+            top = pos;
+            pos = around;
+        }
+    }
+}
+
 // The template at an offset of a field's value, under k variables, with `made` cells made.
 pub fn build(
     v: &[u8],
@@ -76,45 +203,19 @@ pub fn build(
     rows: usize,
     made: usize,
     cells: &mut [u32],
+    room: &mut [u32],
 ) -> Built
     requires { ⌜ Ahead (now v) at ⌝ }
     requires { ⌜ (rows ≤ 16384) × (rows * 4 ≤ length (now cells)) ⌝ }
-    ensures { λ r. ⌜ ((I : Input) (s : State) (M : List ℕ) → I .rows ≡ rows → Holds (now (env .entry)) k M → built s r (now (cells .exit)) ≡ build (templateAt (now (v .entry)) at) I M (withMade s made) (now (cells .entry))) ⌝ }
+    requires { ⌜ (length (now v) ≤ 16384) × (length (now v) ≤ length (now room)) ⌝ }
+    ensures { λ r. ⌜ Evaluates (now (v .entry)) at (now (env .entry)) k rows made (now (cells .entry)) r (now (cells .exit)) ⌝ }
     ensures { λ r. ⌜ Behind (now (v .entry)) at r ⌝ }
 {
-    let b = byte(v, at);
-    let next = at + 1;
-    if b < 16 {
-        return Built::Made(pick(env, k, b as usize), next, made);
+    let head = head_at(v, at, env, k);
+    match head {
+        Head::Leaf(x, next) => Built::Made(x, next, made),
+        Head::Node(b) => build_node(v, at, b, env, k, rows, made, cells, room),
     }
-    if b < 32 {
-        let n = byte(v, next);
-        return Built::Made(name_value(b, n), at + 2, made);
-    }
-    let n = arity_of(b);
-    let mut args = [0u32; 3];
-    let mut i: usize = 0;
-    let mut from = next;
-    let mut count = made;
-    while i < n {
-        let part = build(v, from, env, k, rows, count, cells);
-        match part {
-            Built::Full => {
-                return Built::Full;
-            }
-            Built::Made(x, after, more) => {
-                args[i] = x;
-                from = after;
-                count = more;
-                i += 1;
-            }
-        }
-    }
-    if count < rows {
-        store_row(cells, count, b, args);
-        return Built::Made(count as u32, from, count + 1);
-    }
-    Built::Full
 }
 
 // The templates of a call, from an offset of its item's value on; `out` takes their values.
@@ -127,10 +228,13 @@ pub fn build_arguments(
     made: usize,
     out: &mut [u32; 16],
     cells: &mut [u32],
+    room: &mut [u32],
 ) -> Arguments
     requires { ⌜ isTemplates (templatesOf (drop start (now v))) ≡ true ⌝ }
     requires { ⌜ (rows ≤ 16384) × (rows * 4 ≤ length (now cells)) ⌝ }
-    ensures { λ r. ⌜ ((I : Input) (s : State) (M : List ℕ) → I .rows ≡ rows → Holds (now (env .entry)) k M → Lists s r (now (out .exit)) (now (cells .exit)) (buildAll (found (templatesOf (drop start (now (v .entry))))) I M (withMade s made) (now (cells .entry)))) ⌝ }
+    requires { ⌜ (length (now v) ≤ 16384) × (length (now v) ≤ length (now room)) ⌝ }
+    ensures { λ r. ⌜ ((I : Input) (s : State) (M : List ℕ) → I .rows ≡ rows → Holds (now (env .entry)) k M → Lists s r (now (out .exit))
+        (now (cells .exit)) (buildAll (found (templatesOf (drop start (now (v .entry))))) I M (withMade s made) (now (cells .entry)))) ⌝ }
     ensures { λ r. ⌜ Few (length (now (v .entry))) r ⌝ }
 {
     let mut list = [0u32; 16];
@@ -138,7 +242,7 @@ pub fn build_arguments(
     let mut n: usize = 0;
     let mut count = made;
     while at < v.len() {
-        let part = build(v, at, env, k, rows, count, cells);
+        let part = build(v, at, env, k, rows, count, cells, room);
         match part {
             Built::Full => {
                 return Arguments::Overfull;

@@ -16,12 +16,12 @@ use Rattle.answers.specs.Checked.{Checked, ok, bad, _>>_, verdict}
 use Rattle.answers.specs.declared.Refusal.{Refusal}
 use Rattle.answers.specs.declared.Verdict.the-variants.{Passed, Refused}
 use Rattle.grammar.specs.Lookup.{fieldsAt}
-use Rattle.firsts.specs.Normal.{Production}
+use Rattle.productions.specs.Normal.{Production}
 use Rattle.firsts.specs.First.{nullables, firstSets, leftCalls, leftRecursive, firstOf, allPassed, gather, setsOf, clashing, noLeftRecursion, noClash, checkFirsts}
-use Rattle.firsts.specs.Index.{itemsOf, productionAt, productionsFrom, productionsBy}
+use Rattle.productions.specs.Index.{itemsOf, productionAt, productionsFrom, productionsBy}
 use Rattle.firsts.specs.Pairs.{valuesFrom, sharedAt, joinPairsFrom, clashingBy, noClashBy}
 use Rattle.firsts.specs.Rooms.{Prepared}
-use Rattle.firsts.proofs.ProductionsLaws.{placed}
+use Rattle.productions.proofs.ProductionsLaws.{placed}
 use Rattle.firsts.proofs.PairsLaws.{Fitting, clashing-is, shared-is}
 
 -- ------------------------------------------------------------------ values in their places

@@ -11,7 +11,7 @@ use borrow.Author.Tests.{lt-ltb, ltb-true, eq-eqb, eqb-true}
 use Rattle.kinds.specs.Kinds.{hasKind}
 use Rattle.kinds.specs.KindsLaws.{has-none, has-meet}
 use Rattle.grammar.specs.Table.{Item}
-use Rattle.firsts.specs.Normal.{Production}
+use Rattle.productions.specs.Normal.{Production}
 use Rattle.firsts.specs.First.{nullables, firstSets, firstOf, allPassed, sharedBy, clash, anyPair, joinPairs}
 use Rattle.firsts.specs.Rules.{First, first-own, first-call, first-past, Reads, reads-keyword, reads-word, reads-number}
 use Rattle.firsts.specs.FirstRefusals.{Before, Two, Shares, Clashes}

@@ -8,7 +8,7 @@ use Rattle.answers.specs.Refusals.{refusal}
 use Rattle.answers.specs.Checked.{Checked, ok, bad}
 use Rattle.kinds.specs.Kinds.{hasKind, only}
 use Rattle.grammar.specs.Table.{Item, variable, none, keyword, ide, number, local, call}
-use Rattle.firsts.specs.Normal.{Production}
+use Rattle.productions.specs.Normal.{Production}
 use Rattle.firsts.specs.First.{rounds, overAll, allPassed, nullStep, nullables, gather, firstStep, setsOf, firstSets, lowest, anyWith, anyPair, joinWith, joinPairs, noLeftRecursion, noClash, checkFirsts}
 
 infix 80 _⟶_

@@ -10,7 +10,7 @@ use lib.ListN.{getD}
 use Rattle.answers.specs.Refusals.{refusal}
 use Rattle.answers.specs.Checked.{Checked, ok, bad}
 use Rattle.kinds.specs.Kinds.{hasKind}
-use Rattle.firsts.specs.Normal.{Production}
+use Rattle.productions.specs.Normal.{Production}
 use Rattle.firsts.specs.First.{allPassed, nullables, firstSets, leftCalls, firstOf, checkFirsts}
 use Rattle.firsts.specs.Rules.{Of, NullItems, Nullable, First, Reads, Calls, Opens, LeftReaches}
 use Rattle.firsts.specs.FirstRefusals.{Shares, Clashes, Lowest, LowestOr64, Never, LeftRecursive, Says}

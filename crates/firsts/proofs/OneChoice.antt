@@ -3,7 +3,7 @@ use Prim.Native.Nat.{ℕ}
 use mathlib.Core.Path.{_≡_, refl}
 use mathlib.Core.Logic.{_⊎_, inl, inr}
 use mathlib.Core.List.{List, _∷_}
-use Rattle.firsts.specs.Normal.{Production}
+use Rattle.productions.specs.Normal.{Production}
 use Rattle.firsts.specs.Rules.{In, in-first, in-later, Of, NullItems, First, Reads}
 use Rattle.firsts.specs.FirstRefusals.{Before, before-first, before-later, Two, Clashes, Never}
 

@@ -10,10 +10,10 @@ use lib.Dec.{eqb, ltb}
 use borrow.Author.Tests.{eq-eqb, ne-eqb}
 use Rattle.kinds.specs.Kinds.{hasKind}
 use lib.ListN.{getD}
-use Rattle.firsts.specs.Normal.{Production}
+use Rattle.productions.specs.Normal.{Production}
 use Rattle.firsts.specs.First.{lowest, allPassed, firstOf, sharedBy, clash, clashing, anyWith, anyPair, joinWith, joinPairs}
-use Rattle.firsts.specs.Index.{productionAt, productionsFrom, productionsBy}
-use Rattle.firsts.proofs.ProductionsLaws.{placed}
+use Rattle.productions.specs.Index.{productionAt, productionsFrom, productionsBy}
+use Rattle.productions.proofs.ProductionsLaws.{placed}
 use Rattle.firsts.specs.Pairs.{bothOf, sharedAt, clashAt, clashingBy, anyFrom, anyPairFrom, joinFrom, joinPairsFrom}
 
 -- ------------------------------------------------------------------ the lowest of 64

@@ -11,7 +11,7 @@ use lib.Bits.{bitOr}
 use lib.Count.{trailingZeros}
 use Rattle.kinds.specs.Kinds.{hasKind}
 use Rattle.kinds.specs.KindsLaws.{has-none, has-join, lowest-bound, lowest-has}
-use Rattle.firsts.specs.Normal.{Production}
+use Rattle.productions.specs.Normal.{Production}
 use Rattle.firsts.specs.First.{lowest, anyWith, anyPair, joinWith, joinPairs}
 use Rattle.firsts.specs.Rules.{In, in-first, in-later}
 use Rattle.firsts.specs.FirstRefusals.{Before, before-first, before-later}

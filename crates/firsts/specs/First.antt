@@ -11,7 +11,7 @@ use Rattle.answers.specs.Refusals.{refusal}
 use Rattle.answers.specs.Checked.{Checked, ok, bad, _>>_}
 use Rattle.kinds.specs.Kinds.{wordKind, numberKind, keywordKind, hasKind, only}
 use Rattle.grammar.specs.Table.{Item, keyword, ide, number, local, call}
-use Rattle.firsts.specs.Normal.{Production}
+use Rattle.productions.specs.Normal.{Production}
 
 -- ------------------------------------------------------------------ rounds
 

@@ -6,7 +6,7 @@ use mathlib.Core.List.{List, _∷_}
 use Rattle.answers.specs.declared.Refusal.{Refusal}
 use Rattle.answers.specs.Refusals.{refusal}
 use Rattle.answers.specs.Checked.{Checked, ok, bad}
-use Rattle.firsts.specs.Normal.{Production}
+use Rattle.productions.specs.Normal.{Production}
 use Rattle.firsts.specs.Rules.{In, NullItems, First, Reads, LeftReaches}
 
 -- ------------------------------------------------------------------ two productions of one nonterminal

@@ -1,8 +1,7 @@
-pub mod Normal
 pub mod First
 pub mod Rules
 pub mod FirstRefusals
-pub mod Index
 pub mod Symbols
 pub mod Pairs
 pub mod Rooms
+pub mod Room

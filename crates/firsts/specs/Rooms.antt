@@ -5,7 +5,7 @@ use mathlib.Core.Path.{_≡_}
 use mathlib.Core.Bool.{Bool}
 use mathlib.Core.List.{List, _++_, map}
 use lib.ListN.{length, drop}
-use Rattle.firsts.specs.Normal.{Production}
+use Rattle.productions.specs.Normal.{Production}
 use Rattle.firsts.specs.First.{nullables, firstSets, firstOf, allPassed}
 
 -- the rooms of a grammar; behind its last production they are as they were

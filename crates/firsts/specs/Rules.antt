@@ -5,7 +5,7 @@ use mathlib.Core.Path.{_≡_}
 use mathlib.Core.List.{List, [], _∷_}
 use Rattle.kinds.specs.Kinds.{wordKind, numberKind, keywordKind}
 use Rattle.grammar.specs.Table.{Templates, Item, keyword, ide, number, local, call}
-use Rattle.firsts.specs.Normal.{Production}
+use Rattle.productions.specs.Normal.{Production}
 
 -- p is a production of g
 pub data In : List Production → Production → Type 0 where

@@ -14,7 +14,7 @@ ghost use Rattle.grammar.specs.Lookup.{frontOf, fieldsAt};
 ghost use Rattle.layout.specs.Decode.{itemOf};
 ghost use Rattle.firsts.specs.Symbols.{symbolOf, withSymbol, stepOf};
 ghost use Rattle.firsts.specs.First.{isPassed, allPassed, own, through, joined, gather};
-ghost use Rattle.firsts.specs.Index.{itemsOf};
+ghost use Rattle.productions.specs.Index.{itemsOf};
 
 // The symbol of the item that is the value of a field.
 fn symbol(v: &[u8]) -> Symbol

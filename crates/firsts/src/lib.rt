@@ -1,6 +1,5 @@
 // Normalizing, nullable nonterminals, first sets and left recursion: refusals 12 and 13.
 pub mod clash;
-pub mod index;
 pub mod items;
 pub mod nullable;
 pub mod prepared;

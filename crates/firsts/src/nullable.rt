@@ -1,12 +1,12 @@
 // The nullable nonterminals of a grammar, bit n for nonterminal n, by rounds over its productions.
-use super::index::offset;
 use super::items::all_passed;
 use grammar::reader::byte;
 use kinds::join;
 use kinds::only;
+use productions::index::offset;
 ghost use mathlib.Core.Path.{_≡_};
 ghost use Rattle.firsts.specs.First.{overAll, nullStep, nullables};
-ghost use Rattle.firsts.specs.Index.{productionAt, productionsBy};
+ghost use Rattle.productions.specs.Index.{productionAt, productionsBy};
 
 // A production whose items may all read nothing makes its nonterminal nullable.
 fn null_step(table: &[u8], owner: u8, start: usize, nulls: u64) -> u64

@@ -2,7 +2,6 @@
 use super::clash::clashing;
 use super::clash::left_recursive;
 use super::clash::shared;
-use super::index::offset;
 use super::items::all_passed;
 use super::items::gather;
 use super::nullable::nullables;
@@ -10,6 +9,7 @@ use super::sets::sets_of;
 use answers::Refusal;
 use answers::Verdict;
 use kinds::lowest;
+use productions::index::offset;
 ghost use Prim.Native.Nat.{_≤_};
 ghost use mathlib.Core.Path.{_≡_};
 ghost use mathlib.Core.Bool.{false};
@@ -20,7 +20,7 @@ ghost use Rattle.answers.specs.Checked.{verdict};
 ghost use Rattle.answers.specs.declared.Verdict.the-variants.{Refused};
 ghost use Rattle.grammar.specs.Lookup.{fieldsAt};
 ghost use Rattle.firsts.specs.First.{nullables, leftCalls, leftRecursive, allPassed, gather, checkFirsts};
-ghost use Rattle.firsts.specs.Index.{itemsOf, productionsBy};
+ghost use Rattle.productions.specs.Index.{itemsOf, productionsBy};
 ghost use Rattle.firsts.specs.Pairs.{valuesFrom, noClashBy};
 ghost use Rattle.firsts.specs.Rooms.{Prepared};
 

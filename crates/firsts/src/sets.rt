@@ -1,14 +1,14 @@
 // The first sets of a grammar and its left calls, a set for each of the 64 nonterminals, by rounds over its productions.
-use super::index::offset;
 use super::items::gather;
 use grammar::reader::byte;
 use kinds::join;
+use productions::index::offset;
 ghost use mathlib.Core.Path.{_≡_};
 ghost use mathlib.Core.Bool.{false};
 ghost use lib.Bits.{bitOr};
 ghost use lib.ListN.{getD, set};
 ghost use Rattle.firsts.specs.First.{overAll, firstStep, setsOf};
-ghost use Rattle.firsts.specs.Index.{productionAt, productionsBy};
+ghost use Rattle.productions.specs.Index.{productionAt, productionsBy};
 
 // Joins what was found to the set of nonterminal n, and tells whether that changed it.
 fn join_at(sets: &mut [u64], n: u8, found: u64) -> bool

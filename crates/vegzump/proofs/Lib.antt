@@ -1,1 +1,8 @@
+pub mod Main
+pub mod Hygiene
+pub mod Answers
+pub mod Exactly
+pub mod Stages
+pub mod CellsLeft
+pub mod ScanExactly
 pub mod Listed

@@ -17,11 +17,11 @@ use Rattle.scanner.specs.declared.Token.{Token}
 use Rattle.scanner.specs.declared.Scanned.{Scanned}
 use Rattle.scanner.specs.declared.Scanned.the-variants.{Tokens, Unscanned}
 use Rattle.scanner.specs.Scan.{Lexed, scan}
-use Rattle.firsts.specs.Normal.{normalized}
+use Rattle.productions.specs.Normal.{normalized}
 use Rattle.checker.specs.Check.{passedTable}
-use Rattle.expander.specs.declared.State.{State}
-use Rattle.expander.specs.Run.{Result, done, halt}
-use Rattle.expander.specs.Expansion.{Input, ready, run}
+use Rattle.expansion.specs.declared.State.{State}
+use Rattle.expansion.specs.Run.{Result, done, halt}
+use Rattle.expansion.specs.Expansion.{Input, ready, run}
 use Rattle.terms.specs.Term.{Name, Term, size}
 use Rattle.terms.specs.Rows.{termAt}
 use Rattle.terms.specs.Rename.{Walk, loose, reached, walk, rename}
@@ -32,6 +32,10 @@ pub record Expanded : Type 0 where
   pub answer : Answer
   pub cells : List ℕ
   pub text : List ℕ
+
+-- a call's answer, with the cells and the text as they then are
+abbrev pub expanded : Answer → List ℕ → List ℕ → Expanded
+expanded answer cells text = record { answer = answer; cells = cells; text = text }
 
 -- a refusal leaves the text as it was
 abbrev pub refused : Refusal → List ℕ → List ℕ → Expanded

@@ -1,3 +1,5 @@
 pub mod Expand
+pub mod Unscanned
+pub mod Meaning
 pub mod House
 pub mod Computing

@@ -7,7 +7,7 @@ use Rattle.answers.specs.Checked.{verdict}
 use Rattle.answers.specs.declared.Verdict.the-variants.{Passed}
 use Rattle.layout.specs.Layout.{layout}
 use Rattle.layout.proofs.Split.{Bytes}
-use Rattle.sorting.specs.ByBytes.{sortsOf}
+use Rattle.sorts.specs.ByBytes.{sortsOf}
 use Rattle.checker.specs.Check.{check}
 use Rattle.checker.proofs.CheckLaws as laws
 use Rattle.checker.proofs.check_into.Statement.{statement}
@@ -15,9 +15,9 @@ use Rattle.checker.proofs.check_into.Tie as tie
 use Rattle.checker.proofs.check_into.Reads as reads
 use Rattle.checker.proofs.check_into.Lts as lts
 use Rattle.firsts.proofs.prepared.check_firsts.Reads as check-firsts-reads
-use Rattle.firsts.proofs.index.build_index.Reads as build-index-reads
+use Rattle.productions.proofs.index.build_index.Reads as build-index-reads
 use Rattle.layout.proofs.check_layout.Reads as check-layout-reads
-use Rattle.sorting.proofs.check_sorts.Reads as check-sorts-reads
+use Rattle.sorts.proofs.check_sorts.Reads as check-sorts-reads
 
 abbrev claims : lts.Claims
 claims = (

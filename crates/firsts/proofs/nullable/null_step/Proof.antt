@@ -1,7 +1,7 @@
 -- `null_step`: whether all items may read nothing decides.
 use mathlib.Core.Path.{_∙_}
 use borrow.Author.Needs.{needs}
-use Rattle.firsts.proofs.ProductionsLaws as laws
+use Rattle.firsts.proofs.StepLaws as laws
 use Rattle.firsts.proofs.nullable.null_step.Statement.{statement}
 use Rattle.firsts.proofs.nullable.null_step.Tie as tie
 

@@ -3,7 +3,7 @@ use Prim.Native.Nat.{_-_}
 use lib.ListN.{getD}
 use borrow.Author.Needs.{needs}
 use Rattle.firsts.specs.First.{allPassed}
-use Rattle.firsts.specs.Index.{itemsOf}
+use Rattle.productions.specs.Index.{itemsOf}
 use Rattle.grammar.specs.Lookup.{fieldsAt}
 use Rattle.firsts.proofs.CheckLaws as laws
 use Rattle.firsts.proofs.prepared.fill_empties.Statement.{statement}

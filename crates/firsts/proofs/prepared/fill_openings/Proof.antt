@@ -3,7 +3,7 @@ use Prim.Native.Nat.{_-_}
 use mathlib.Core.Bool.{false}
 use lib.ListN.{getD}
 use borrow.Author.Needs.{needs}
-use Rattle.firsts.specs.Index.{itemsOf}
+use Rattle.productions.specs.Index.{itemsOf}
 use Rattle.firsts.specs.First.{gather}
 use Rattle.grammar.specs.Lookup.{fieldsAt}
 use Rattle.firsts.proofs.CheckLaws as laws

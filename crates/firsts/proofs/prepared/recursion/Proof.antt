@@ -3,7 +3,7 @@ use mathlib.Core.Path.{_∙_, ap, sym}
 use lib.ListN.{length}
 use borrow.Author.Needs.{needs}
 use Rattle.firsts.specs.First.{leftRecursive}
-use Rattle.firsts.proofs.ProductionsLaws as sets
+use Rattle.firsts.proofs.StepLaws as sets
 use Rattle.firsts.proofs.prepared.recursion.Statement.{statement}
 use Rattle.firsts.proofs.prepared.recursion.Tie as tie
 

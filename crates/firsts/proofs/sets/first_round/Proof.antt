@@ -2,7 +2,7 @@
 use Prim.Native.Nat.{_-_}
 use mathlib.Core.Path.{refl}
 use borrow.Author.Needs.{needs}
-use Rattle.firsts.proofs.ProductionsLaws as laws
+use Rattle.firsts.proofs.StepLaws as laws
 use Rattle.firsts.proofs.sets.first_round.Statement.{statement}
 use Rattle.firsts.proofs.sets.first_round.Tie as tie
 

@@ -1,7 +1,7 @@
 -- `first_step`: what the items give is joined to the set of the nonterminal.
 use mathlib.Core.Path.{_∙_}
 use borrow.Author.Needs.{needs}
-use Rattle.firsts.proofs.ProductionsLaws as laws
+use Rattle.firsts.proofs.StepLaws as laws
 use Rattle.firsts.proofs.sets.first_step.Statement.{statement}
 use Rattle.firsts.proofs.sets.first_step.Tie as tie
 

@@ -2,7 +2,7 @@
 use mathlib.Core.Path.{ap, refl}
 use lib.ListN.{set}
 use borrow.Author.Needs.{needs}
-use Rattle.firsts.proofs.ProductionsLaws as laws
+use Rattle.firsts.proofs.StepLaws as laws
 use Rattle.firsts.proofs.sets.join_at.Statement.{statement}
 use Rattle.firsts.proofs.sets.join_at.Tie as tie
 

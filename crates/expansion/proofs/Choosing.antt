@@ -1,0 +1,140 @@
+-- The rule that an expansion chooses is of the production that Figure 3 takes.
+use Prim.Native.Nat.{ℕ, zero, suc, _<_}
+use mathlib.Core.Path.{_≡_, refl, sym, subst, _∙_}
+use mathlib.Core.Logic.{_⊎_, inl, inr}
+use mathlib.Core.Bool.{Bool, true, false, _&&_, true≢false, and-eq-true-iff}
+use mathlib.Core.List.{List, [], _∷_, map}
+use native.Mathlib.Omega.{arith}
+use lib.Dec.{eqb}
+use lib.ListN.{length, getD, drop}
+use borrow.Author.Tests.{eqb-true, eq-eqb}
+use Rattle.answers.specs.Checked.{ok}
+use Rattle.kinds.specs.Kinds.{noKind, hasKind}
+use Rattle.grammar.specs.Table.{Item}
+use Rattle.scanner.specs.declared.Token.{Token}
+use Rattle.productions.specs.Normal.{Production}
+use Rattle.firsts.specs.First.{nullables, firstSets, checkFirsts}
+use Rattle.firsts.specs.Rules.{In, in-first, in-later, First, first-own, first-call, first-past, Reads, reads-keyword, reads-word, reads-number}
+use Rattle.firsts.proofs.FirstsTheorems.{production-opens-exactly, production-nullable-exactly, one-production}
+use Rattle.expansion.specs.Expansion.{Rule, ruleOf, ready, endToken, Choice, unfit, chosen, firstRule, choice}
+use Rattle.expansion.specs.Figure3.{Next, next, Opened, Taken, taken-opened, taken-nullable}
+
+-- ------------------------------------------------------------------ the kind of the next token
+
+-- the kind of the first token, and the kind that is in no set at the end
+abbrev pub kindOf : List Token → ℕ
+kindOf [] = noKind
+kindOf (t ∷ s) = t .kind
+
+pub kind-next : (at : ℕ) (tokens : List Token) → getD tokens at endToken .kind ≡ kindOf (drop at tokens)
+kind-next zero [] = refl
+kind-next (suc at) [] = refl
+kind-next zero (t ∷ tokens) = refl
+kind-next (suc at) (t ∷ tokens) = kind-next at tokens
+
+next-is : {s : List Token} {k : ℕ} → Next s k → kindOf s ≡ k
+next-is next = refl
+
+is-next : (s : List Token) {k : ℕ} → kindOf s ≡ k → k < 64 → Next s k
+is-next [] e l = absurd (omega (arith, e))
+is-next (t ∷ s) e l = subst (Next (t ∷ s)) e next
+
+-- what stands first is a kind
+first-small : {g : List Production} {is : List Item} {b : ℕ} → First g Reads is b → b < 64
+first-small (first-own (reads-keyword l)) = omega arith
+first-small (first-own reads-word) = omega arith
+first-small (first-own reads-number) = omega arith
+first-small (first-call o f) = first-small f
+first-small (first-past z f) = first-small f
+
+members : {g : List Production} {p : Production} → In g p → 0 < length g
+members in-first = omega arith
+members (in-later m) = omega arith
+
+-- ------------------------------------------------------------------ the first rule that passes a test
+
+module _ (rule : Production → Rule) (owned : (p : Production) → rule p .owner ≡ p .owner) (test : Rule → Bool) (n : ℕ) (other : Choice) where
+  pub record Found (g : List Production) : Type 0 where
+    pub production : Production
+    pub member : In g production
+    pub of : production .owner ≡ n
+    pub passed : test (rule production) ≡ true
+    pub answer : firstRule test n (map rule g) other ≡ chosen (rule production)
+
+  pub record Missing (g : List Production) : Type 0 where
+    pub none-passed : (p : Production) → In g p → p .owner ≡ n → test (rule p) ≡ true → ⊥
+    pub answer : firstRule test n (map rule g) other ≡ other
+
+  here : (p : Production) (g : List Production) (b : Bool) → (eqb (rule p .owner) n && test (rule p)) ≡ b
+      → firstRule test n (map rule (p ∷ g)) other ≡ elim b [ true ↦ chosen (rule p) | false ↦ firstRule test n (map rule g) other ]
+  unfolding firstRule
+  here p g b e = rw (e, firstRule) refl
+
+  missing-later : {p : Production} {g : List Production} → (eqb (rule p .owner) n && test (rule p)) ≡ false → Missing g
+      → (q : Production) → In (p ∷ g) q → q .owner ≡ n → test (rule q) ≡ true → ⊥
+  missing-later {p} e m q in-first o t = true≢false (sym (and-eq-true-iff _ _ .1 (eq-eqb (rule p .owner) n (owned p ∙ o), t)) ∙ e)
+  missing-later e m q (in-later k) o t = m .none-passed q k o t
+
+  pub first-rule : (g : List Production) → Found g ⊎ Missing g
+  unfolding firstRule
+  first-rule [] = inr (record { none-passed = λ p m o t. omega (arith, members m); answer = refl })
+  first-rule (p ∷ g) = go (eqb (rule p .owner) n && test (rule p)) refl (first-rule g)
+    where
+      go : (b : Bool) → (eqb (rule p .owner) n && test (rule p)) ≡ b → Found g ⊎ Missing g → Found (p ∷ g) ⊎ Missing (p ∷ g)
+      go true e h =
+          let k = and-eq-true-iff (eqb (rule p .owner) n) (test (rule p)) .0 e in
+          inl (record { production = p; member = in-first; of = sym (owned p) ∙ eqb-true (rule p .owner) n (k .0); passed = k .1; answer = here p g true e })
+      go false e (inl f) =
+          inl (record { production = f .production; member = in-later (f .member); of = f .of; passed = f .passed; answer = here p g false e ∙ f .answer })
+      go false e (inr m) = inr (record { none-passed = missing-later e m; answer = here p g false e ∙ m .answer })
+
+-- ------------------------------------------------------------------ the choice
+
+module _ (g : List Production) where
+  abbrev pub rule : Production → Rule
+  rule p = ruleOf (nullables g) (firstSets (nullables g) g) p
+
+  opened-first : {s : List Token} {p : Production} → Opened g s p → hasKind (rule p .first) (kindOf s) ≡ true
+  opened-first {s} {p} o = production-opens-exactly g p (kindOf s) .1 (subst (First g Reads (p .items)) (sym (next-is (o .token))) (o .first))
+
+  first-opened : (s : List Token) (p : Production) → hasKind (rule p .first) (kindOf s) ≡ true → Opened g s p
+  first-opened s p h =
+      let f : First g Reads (p .items) (kindOf s) = production-opens-exactly g p (kindOf s) .0 h in
+      record { kind = kindOf s; token = is-next s refl (first-small f); first = f }
+
+  -- what a choice answers: the rule of the production taken, or that none is
+  pub data Picks (n : ℕ) (s : List Token) (c : Choice) : Type 0 where
+    picks : (p : Production) → Taken g n s p → c ≡ chosen (rule p) → Picks n s c
+    picks-none : ((p : Production) → Taken g n s p → ⊥) → c ≡ unfit → Picks n s c
+
+  none-taken : {n : ℕ} {s : List Token} → Missing rule (λ p. refl) (λ r. hasKind (r .first) (kindOf s)) n (firstRule (λ r. r .nullable) n (map rule g) unfit) g
+      → Missing rule (λ p. refl) (λ r. r .nullable) n unfit g → (p : Production) → Taken g n s p → ⊥
+  none-taken m k p (taken-opened o h) = m .none-passed p (o .member) (o .owned) (opened-first h)
+  none-taken m k p (taken-nullable o h z) = k .none-passed p (o .member) (o .owned) (production-nullable-exactly g p .1 z)
+
+  pub choice-picks : (n : ℕ) → n < 64 → (s : List Token) → Picks n s (choice (ready g) n (kindOf s))
+  unfolding ready
+  choice-picks n l s =
+      go (first-rule rule (λ p. refl) (λ r. hasKind (r .first) (kindOf s)) n (firstRule (λ r. r .nullable) n (map rule g) unfit) g)
+      (first-rule rule (λ p. refl) (λ r. r .nullable) n unfit g)
+    where
+      go : Found rule (λ p. refl) (λ r. hasKind (r .first) (kindOf s)) n (firstRule (λ r. r .nullable) n (map rule g) unfit) g
+          ⊎ Missing rule (λ p. refl) (λ r. hasKind (r .first) (kindOf s)) n (firstRule (λ r. r .nullable) n (map rule g) unfit) g
+          → Found rule (λ p. refl) (λ r. r .nullable) n unfit g ⊎ Missing rule (λ p. refl) (λ r. r .nullable) n unfit g → Picks n s (choice (ready g) n (kindOf s))
+      go (inl f) k =
+          picks (f .production) (taken-opened (record { member = f .member; owned = f .of; small = l }) (first-opened s (f .production) (f .passed))) (f .answer)
+      go (inr m) (inl f) =
+          picks (f .production)
+          (taken-nullable (record { member = f .member; owned = f .of; small = l }) (λ q o h. m .none-passed q (o .member) (o .owned) (opened-first h))
+          (production-nullable-exactly g (f .production) .0 (f .passed)))
+          (m .answer ∙ f .answer)
+      go (inr m) (inr k) = picks-none (none-taken m k) (m .answer ∙ k .answer)
+
+  -- one production is taken at most
+  module _ (passed : checkFirsts g ≡ ok tt) where
+    pub taken-one : {n : ℕ} {s : List Token} {p q : Production} → Taken g n s p → Taken g n s q → p ≡ q
+    taken-one {n} {s} {p} {q} (taken-opened o h) (taken-opened k i) =
+        one-production g passed n p q o k .0 (h .kind) (h .first) (subst (First g Reads (q .items)) (sym (next-is (i .token)) ∙ next-is (h .token)) (i .first))
+    taken-one {p = p} (taken-opened o h) (taken-nullable k i z) = absurd (i p o h)
+    taken-one {q = q} (taken-nullable o h z) (taken-opened k i) = absurd (h q k i)
+    taken-one {n} {s} {p} {q} (taken-nullable o h z) (taken-nullable k i y) = one-production g passed n p q o k .1 z y

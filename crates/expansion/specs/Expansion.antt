@@ -1,0 +1,182 @@
+-- Expansion of a formula's tokens by a grammar: refusals 17 to 21. Document 01, "Choice", "Formula" and "Causes, by number";
+-- 001, section 4.2, Figure 3. A value is a row, a name, a label's spelling number or a number; a Unit is 0.
+use Prim.Native.Nat.{ℕ, zero, suc, _+_}
+use mathlib.Core.Bool.{Bool, true, false, _&&_}
+use mathlib.Core.List.{List, [], _∷_, _++_, map}
+use lib.Dec.{eqb, ltb}
+use lib.ListN.{length, getD}
+use lib.Count.{ones}
+use Rattle.answers.specs.Refusals.{refusal}
+use Rattle.kinds.specs.Kinds.{wordKind, numberKind, keywordKind, noKind, hasKind, only}
+use Rattle.grammar.specs.Sorts.{label}
+use Rattle.grammar.specs.Table.{Template, Templates, variable, outside, outsideLabel, make, none, more, Item, keyword, ide, number, local, call}
+use Rattle.grammar.specs.Cells.{withRow, wordName, freshName, outsideName}
+use Rattle.scanner.specs.declared.Token.{Token}
+use Rattle.productions.specs.Normal.{Production}
+use Rattle.firsts.specs.First.{nullables, firstSets, firstOf, allPassed}
+use Rattle.expansion.specs.declared.State.{State}
+use Rattle.expansion.specs.Run.{Result, done, halt, Run, return, after, _>>=_}
+
+-- ------------------------------------------------------------------ a grammar made ready
+
+-- a production with its first set, and whether it is nullable
+pub record Rule : Type 0 where
+  pub owner : ℕ
+  pub items : List Item
+  pub result : Template
+  pub first : ℕ
+  pub nullable : Bool
+
+-- the rules in order, and the first set of each nonterminal
+pub record Grammar : Type 0 where
+  pub rules : List Rule
+  pub firsts : List ℕ
+
+abbrev pub ruleOf : ℕ → List ℕ → Production → Rule
+ruleOf nulls firsts p =
+    record {
+      owner = p .owner;
+      items = p .items;
+      result = p .result;
+      first = firstOf nulls firsts p;
+      nullable = allPassed nulls (p .items);
+    }
+
+abbrev pub readyBy : List Production → ℕ → List ℕ → Grammar
+readyBy g nulls firsts = record { rules = map (ruleOf nulls firsts) g; firsts = firsts }
+
+unfoldable pub ready : List Production → Grammar
+ready g = readyBy g (nullables g) (firstSets (nullables g) g)
+
+-- what an expansion reads: the grammar, the tokens, and how many cells may be made
+pub record Input : Type 0 where
+  pub grammar : Grammar
+  pub tokens : List Token
+  pub rows : ℕ
+
+-- ------------------------------------------------------------------ the next token
+
+abbrev pub endToken : Token
+endToken = record { kind = noKind; at = 0; size = 0; value = 0 }
+
+abbrev pub nextToken : Input → State → Token
+nextToken I s = getD (I .tokens) (s .at) endToken
+
+abbrev pub tokenTaken : State → State
+tokenTaken s = record { at = s .at + 1; fresh = s .fresh; calls = s .calls; made = s .made }
+
+-- refusal 17: the next token is none of the kinds
+abbrev pub misfit : ℕ → Run ℕ
+misfit kinds s cells = halt (refusal 17 (s .at) kinds (ones kinds)) cells
+
+-- takes a token of one kind, with a value made of the token's
+abbrev pub take : Input → ℕ → (ℕ → ℕ) → Run ℕ
+take I kind value s cells =
+    elim (eqb (nextToken I s .kind) kind)
+    [ true ↦ done (value (nextToken I s .value)) (tokenTaken s) cells | false ↦ misfit (only kind) s cells ]
+
+-- ------------------------------------------------------------------ templates
+
+abbrev pub cellMade : State → State
+cellMade s = record { at = s .at; fresh = s .fresh; calls = s .calls; made = s .made + 1 }
+
+-- one cell, in the next row: refusal 21 if there is none
+abbrev pub cell : Input → ℕ → List ℕ → Run ℕ
+cell I code arguments s cells =
+    elim (ltb (s .made) (I .rows)) [
+      | true ↦ done (s .made) (cellMade s) (withRow cells (s .made) code arguments)
+      | false ↦ halt (refusal 21 (s .at) 0 0) cells
+    ]
+
+-- a template under the values of the variables: each constructor makes one cell, arguments first, left to right
+unfoldable mutual
+  pub build : Template → Input → List ℕ → Run ℕ
+  build (variable i) I M = return (getD M i 0)
+  build (outside n) I M = return (outsideName n)
+  build (outsideLabel n) I M = return n
+  build (make c ts) I M = buildAll ts I M >>= λ vs. cell I c vs
+
+  pub buildAll : Templates → Input → List ℕ → Run (List ℕ)
+  buildAll none I M = return []
+  buildAll (more t ts) I M = build t I M >>= λ v. buildAll ts I M >>= λ vs. return (v ∷ vs)
+
+-- ------------------------------------------------------------------ items
+
+-- a fresh name: they count through the whole formula
+abbrev pub freshMade : Run ℕ
+freshMade s cells =
+    done (freshName (s .fresh))
+    (record { at = s .at; fresh = s .fresh + 1; calls = s .calls; made = s .made })
+    cells
+
+-- a word read at a sort: a label is its spelling number, a Var or Binder a name
+abbrev pub wordValue : ℕ → ℕ → ℕ
+wordValue sort n = elim (eqb sort label) [ true ↦ n | false ↦ wordName n ]
+
+-- an item under the values of the variables; `callee` is what a call does
+abbrev pub runItem : (ℕ → List ℕ → Run ℕ) → Input → Item → List ℕ → Run ℕ
+runItem callee I (keyword k) M = take I (keywordKind k) (λ v. 0)
+runItem callee I (ide s) M = take I wordKind (wordValue s)
+runItem callee I number M = take I numberKind (λ v. v)
+runItem callee I local M = freshMade
+runItem callee I (call n ts) M = buildAll ts I M >>= λ vs. callee n vs
+
+-- the items from the left, each numbering one variable more
+unfoldable pub runItems : (ℕ → List ℕ → Run ℕ) → Input → List Item → List ℕ → Run (List ℕ)
+runItems callee I [] M = return M
+runItems callee I (i ∷ is) M = runItem callee I i M >>= λ v. runItems callee I is (M ++ (v ∷ []))
+
+-- ------------------------------------------------------------------ calls
+
+-- the rule that is taken, if any
+pub data Choice : Type 0 where
+  unfit : Choice
+  chosen : Rule → Choice
+
+-- the first rule of n that passes the test, else what is given
+unfoldable pub firstRule : (Rule → Bool) → ℕ → List Rule → Choice → Choice
+firstRule test n [] other = other
+firstRule test n (r ∷ rs) other =
+    elim (eqb (r .owner) n && test r) [ true ↦ chosen r | false ↦ firstRule test n rs other ]
+
+-- Choice: the rule whose first set holds the next token, else the nullable one
+abbrev pub choice : Grammar → ℕ → ℕ → Choice
+choice g n kind =
+    firstRule (λ r. hasKind (r .first) kind) n (g .rules) (firstRule (λ r. r .nullable) n (g .rules) unfit)
+
+abbrev pub callBegun : State → State
+callBegun s = record { at = s .at; fresh = s .fresh; calls = s .calls + 1; made = s .made }
+
+abbrev pub mostCalls : ℕ
+mostCalls = 65536
+
+-- A call of nonterminal n with arguments vs, while `open` more calls may be open: tested 19, 20, 17.
+unfoldable pub runCall : ℕ → Input → ℕ → List ℕ → Run ℕ
+runCall zero I n vs s cells = halt (refusal 19 (s .at) 0 0) cells
+runCall (suc open′) I n vs s cells =
+    elim (ltb (s .calls) mostCalls) [
+      | false ↦ halt (refusal 20 (s .at) 0 0) cells
+      | true ↦
+          elim (choice (I .grammar) n (nextToken I s .kind)) [
+            | unfit ↦ misfit (getD (I .grammar .firsts) n 0) s cells
+            | chosen r ↦
+                after (runItems (runCall open′ I) I (r .items) vs (callBegun s) cells) (λ M. build (r .result) I M)
+          ]
+    ]
+
+-- ------------------------------------------------------------------ the whole formula
+
+abbrev pub mostOpen : ℕ
+mostOpen = 1024
+
+abbrev pub start : State
+start = record { at = 0; fresh = 1; calls = 0; made = 0 }
+
+-- nothing is left over
+abbrev pub ended : Input → ℕ → Run ℕ
+ended I v s cells =
+    elim (ltb (s .at) (length (I .tokens))) [ true ↦ halt (refusal 18 (s .at) 0 0) cells | false ↦ done v s cells ]
+
+-- the root is a call
+unfoldable pub run : Input → ℕ → List ℕ → Result ℕ
+run I root cells = after (runCall mostOpen I root [] start cells) (ended I)

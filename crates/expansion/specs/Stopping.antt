@@ -1,0 +1,74 @@
+-- Where an expansion stops, by rules: refusals 17 to 21 in step order, a call being tested 19, 20, 17. Document 01, "Causes, by number".
+-- Everything before the step that fails is derived by Figure 3, within the limits.
+use Prim.Native.Nat.{ℕ, _+_, _-_, _≤_, _<_}
+use mathlib.Core.List.{List, [], _∷_}
+use lib.ListN.{length, getD}
+use lib.Count.{ones}
+use Rattle.answers.specs.declared.Refusal.{Refusal}
+use Rattle.answers.specs.Refusals.{refusal}
+use Rattle.kinds.specs.Kinds.{only}
+use Rattle.grammar.specs.Table.{Templates, Item, call}
+use Rattle.scanner.specs.declared.Token.{Token}
+use Rattle.productions.specs.Normal.{Production}
+use Rattle.firsts.specs.First.{nullables, firstSets}
+use Rattle.firsts.specs.Rules.{Reads}
+use Rattle.expansion.specs.Expansion.{mostCalls, mostOpen}
+use Rattle.expansion.specs.Figure3.{Value, Gives, GiveAll, Next, Taken, Derives}
+use Rattle.expansion.specs.Costs.{rowsOf, rowsOfAll, openIn, callsIn, rowsIn}
+
+-- the index of the next token where s is left: the token count at the end
+abbrev pub indexOf : List Token → List Token → ℕ
+indexOf tokens s = length tokens - length s
+
+-- the first set of a nonterminal
+abbrev pub firstSet : List Production → ℕ → ℕ
+firstSet g n = getD (firstSets (nullables g) g) n 0
+
+-- what a step does: it takes a token of a kind, makes so many cells, or begins a call of a nonterminal
+pub data Step : Type 0 where
+  takes : ℕ → Step
+  makes : ℕ → Step
+  begins : ℕ → Step
+
+-- a step fails where o calls are open, c are begun, m cells are made, and the tokens s are left
+pub data Fails (g : List Production) (rows : ℕ) (tokens : List Token) (o c m : ℕ) (s : List Token) : Step → Refusal → Type 0 where
+  no-token : {k : ℕ} → (Next s k → ⊥) → Fails g rows tokens o c m s (takes k) (refusal 17 (indexOf tokens s) (only k) (ones (only k)))
+  no-row : {n : ℕ} → rows < m + n → Fails g rows tokens o c m s (makes n) (refusal 21 (indexOf tokens s) 0 0)
+  too-deep : {n : ℕ} → mostOpen ≤ o → Fails g rows tokens o c m s (begins n) (refusal 19 (indexOf tokens s) 0 0)
+  too-many : {n : ℕ} → o < mostOpen → mostCalls ≤ c → Fails g rows tokens o c m s (begins n) (refusal 20 (indexOf tokens s) 0 0)
+  no-choice : {n : ℕ} → o < mostOpen → c < mostCalls → ((p : Production) → Taken g n s p → ⊥)
+      → Fails g rows tokens o c m s (begins n) (refusal 17 (indexOf tokens s) (firstSet g n) (ones (firstSet g n)))
+
+-- a derivation within the limits, from o calls open, c begun and m cells made
+pub record Affords (rows o c m : ℕ) {g : List Production} {spell : ℕ → List ℕ} {M M′ : List Value} {s s′ : List Token} {i i′ : ℕ} {is : List Item}
+    (d : Derives g spell M s i is M′ s′ i′) : Type 0 where
+  pub few-open : o + openIn d ≤ mostOpen
+  pub few-calls : c + callsIn d ≤ mostCalls
+  pub few-rows : m + rowsIn d ≤ rows
+
+-- the parse of items, and a call of a nonterminal with arguments, stop at a step that fails
+mutual
+  pub data Stops (g : List Production) (spell : ℕ → List ℕ) (rows : ℕ) (tokens : List Token) : ℕ → ℕ → ℕ → List Value → List Token → ℕ → List Item → Refusal → Type 0 where
+    at-token : {o c m i k : ℕ} {M : List Value} {s : List Token} {j : Item} {is : List Item} {r : Refusal} → Reads j k → Fails g rows tokens o c m s (takes k) r
+        → Stops g spell rows tokens o c m M s i (j ∷ is) r
+    at-arguments : {o c m i n : ℕ} {M vs : List Value} {s : List Token} {ts : Templates} {is : List Item} {r : Refusal} → GiveAll spell M ts vs
+        → Fails g rows tokens o c m s (makes (rowsOfAll ts)) r → Stops g spell rows tokens o c m M s i (call n ts ∷ is) r
+    at-call : {o c m i n : ℕ} {M vs : List Value} {s : List Token} {ts : Templates} {is : List Item} {r : Refusal} → GiveAll spell M ts vs → m + rowsOfAll ts ≤ rows
+        → Enters g spell rows tokens o c (m + rowsOfAll ts) n vs s i r → Stops g spell rows tokens o c m M s i (call n ts ∷ is) r
+    past-item : {o c m i i′ : ℕ} {M M′ : List Value} {s s′ : List Token} {j : Item} {is : List Item} {r : Refusal} (d : Derives g spell M s i (j ∷ []) M′ s′ i′)
+        → Affords rows o c m d → Stops g spell rows tokens o (c + callsIn d) (m + rowsIn d) M′ s′ i′ is r → Stops g spell rows tokens o c m M s i (j ∷ is) r
+
+  pub data Enters (g : List Production) (spell : ℕ → List ℕ) (rows : ℕ) (tokens : List Token) : ℕ → ℕ → ℕ → ℕ → List Value → List Token → ℕ → Refusal → Type 0 where
+    at-start : {o c m i n : ℕ} {vs : List Value} {s : List Token} {r : Refusal} → Fails g rows tokens o c m s (begins n) r → Enters g spell rows tokens o c m n vs s i r
+    in-items : {o c m i n : ℕ} {vs : List Value} {s : List Token} {r : Refusal} {p : Production} → o < mostOpen → c < mostCalls → Taken g n s p
+        → Stops g spell rows tokens (o + 1) (c + 1) m vs s i (p .items) r → Enters g spell rows tokens o c m n vs s i r
+    at-result : {o c m i i′ n : ℕ} {vs M : List Value} {v : Value} {s s′ : List Token} {r : Refusal} {p : Production} → Taken g n s p
+        → (d : Derives g spell vs s i (p .items) M s′ i′) → Affords rows (o + 1) (c + 1) m d → Gives spell M (p .result) v
+        → Fails g rows tokens (o + 1) (c + 1 + callsIn d) (m + rowsIn d) s′ (makes (rowsOf (p .result))) r → Enters g spell rows tokens o c m n vs s i r
+
+-- refusals 17 to 21 of a whole formula; the root is a call
+pub data Refuses (g : List Production) (spell : ℕ → List ℕ) (rows root : ℕ) (tokens : List Token) : Refusal → Type 0 where
+  stops : {r : Refusal} → Enters g spell rows tokens 0 0 0 root [] tokens 1 r → Refuses g spell rows root tokens r
+  left-over : {i : ℕ} {M : List Value} {v : Value} {t : Token} {s : List Token} {p : Production} → Taken g root tokens p
+      → (d : Derives g spell [] tokens 1 (p .items) M (t ∷ s) i) → Affords rows 1 1 0 d → Gives spell M (p .result) v → rowsIn d + rowsOf (p .result) ≤ rows
+      → Refuses g spell rows root tokens (refusal 18 (indexOf tokens (t ∷ s)) 0 0)

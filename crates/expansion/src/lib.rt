@@ -1,0 +1,16 @@
+// What an expansion is: the state that it moves and what a call answers. The definitions stand in specs/; the code is in `expander`.
+use answers::Refusal;
+
+// Where an expansion stands: the next token not yet taken, the number of the next fresh name, the calls begun, the cells made.
+pub struct State {
+    pub at: usize,
+    pub fresh: u32,
+    pub calls: u32,
+    pub made: usize,
+}
+
+// What a call answers: a value and where the expansion then stands, or a refusal.
+pub enum Outcome {
+    Value(u32, State),
+    Halted(Refusal),
+}

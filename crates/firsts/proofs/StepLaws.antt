@@ -1,0 +1,149 @@
+-- Laws of the steps over the productions of an index, and of the rounds of them.
+use Prim.Native.Nat.{ℕ, zero, suc, _+_, _-_, _<_, _≤_}
+use mathlib.Core.Path.{_≡_, refl, sym, ap, _∙_}
+use mathlib.Core.Bool.{Bool, true, false, _||_, not, true≢false}
+use mathlib.Core.List.{List, [], _∷_}
+use native.Mathlib.Nat.{sub-zero}
+use native.Mathlib.Omega.{arith}
+use lib.Bits.{bitOr}
+use lib.Dec.{eqb}
+use lib.ListN.{length, getD, set, replicate, length-set, length-replicate}
+use lib.Seq.{set-out, set-getD}
+use borrow.Author.Tests.{eqb-true, not-false}
+use Rattle.kinds.specs.Kinds.{only}
+use Rattle.grammar.specs.Lookup.{fieldsAt}
+use Rattle.productions.specs.Normal.{Production}
+use Rattle.firsts.specs.First.{rounds, overAll, allPassed, nullStep, gather, firstStep, setsOf}
+use Rattle.productions.specs.Index.{itemsOf, productionAt, productionsFrom, productionsBy}
+use Rattle.productions.proofs.ProductionsLaws.{placed, productions-next, productions-none}
+use Rattle.firsts.proofs.Rounds.{rounds-fixed}
+
+-- ------------------------------------------------------------------ a loop over the productions
+
+-- the steps of the productions from number j on lead from x to where those of all lead from x₀
+pub record Over {A : Type 0} (f : Production → A → A) (bs owners starts : List ℕ) (m : ℕ) (x₀ : A) (j : ℕ) (x : A) : Type 0 where
+  pub rest : overAll f (productionsFrom (m - j) bs owners starts j) x ≡ overAll f (productionsBy m bs owners starts) x₀
+
+pub over-start : {A : Type 0} (f : Production → A → A) (bs owners starts : List ℕ) (m : ℕ) (x₀ : A) → Over f bs owners starts m x₀ 0 x₀
+over-start f bs owners starts m x₀ = record { rest = rw sub-zero refl }
+
+module _ {A : Type 0} {f : Production → A → A} {bs owners starts : List ℕ} {m : ℕ} {x₀ : A} {j : ℕ} {x : A} (c : Over f bs owners starts m x₀ j x) where
+  over-one : {g : List Production} → productionsFrom (m - j) bs owners starts j ≡ g
+      → overAll f g x ≡ overAll f (productionsBy m bs owners starts) x₀
+  over-one e = ap (λ (g : List Production). overAll f g x) (sym e) ∙ c .rest
+
+  pub over-next : j < m → {o s : ℕ} → o ≡ getD owners j 0 → s ≡ getD starts j 0 → {y : A} → y ≡ f (productionAt bs o s) x
+      → Over f bs owners starts m x₀ (j + 1) y
+  unfolding overAll
+  over-next h {s = s} eo es ey =
+      record {
+        rest =
+            ap (overAll f (productionsFrom (m - (j + 1)) bs owners starts (j + 1)))
+            (ey
+            ∙ ap (λ (o : ℕ). f (productionAt bs o s) x) eo
+            ∙ ap (λ (s : ℕ). f (productionAt bs (getD owners j 0) s) x) es)
+            ∙ over-one (productions-next bs owners starts m j h);
+      }
+
+  pub over-end : m ≤ j → x ≡ overAll f (productionsBy m bs owners starts) x₀
+  unfolding overAll
+  over-end h = over-one (productions-none bs owners starts m j h)
+
+-- ------------------------------------------------------------------ rounds
+
+-- after t rounds of the 64 from x₀
+pub record Rounds {A : Type 0} (f : A → A) (x₀ : A) (t : ℕ) (x : A) : Type 0 where
+  pub small : t ≤ 64
+  pub rest : rounds (64 - t) f x ≡ rounds 64 f x₀
+
+module _ {A : Type 0} {f : A → A} {x₀ : A} {t : ℕ} {x : A} (r : Rounds f x₀ t x) where
+  pub rounds-next : t < 64 → {y : A} → y ≡ f x → Rounds f x₀ (t + 1) y
+  unfolding rounds
+  rounds-next h e =
+      let z : 64 - t ≡ suc (64 - (t + 1)) = omega arith in
+      record {
+        small = omega arith;
+        rest = ap (rounds (64 - (t + 1)) f) e ∙ sym (ap (λ (k : ℕ). rounds k f x) z) ∙ r .rest;
+      }
+
+  -- a round that changes nothing is the last
+  pub rounds-stop : f x ≡ x → x ≡ rounds 64 f x₀
+  rounds-stop e = sym (rounds-fixed (64 - t) f x e) ∙ r .rest
+
+  pub rounds-end : 64 ≤ t → x ≡ rounds 64 f x₀
+  unfolding rounds
+  rounds-end h =
+      let z : 64 - t ≡ 0 = omega arith in
+      sym (ap (λ (k : ℕ). rounds k f x) z) ∙ r .rest
+
+-- ------------------------------------------------------------------ nullables
+
+module _ (bs : List ℕ) (owner start nulls : ℕ) where
+  null-tests : (b : Bool) → b ≡ allPassed nulls (itemsOf (fieldsAt bs start))
+      → (elim b [ true ↦ bitOr nulls (only owner) | false ↦ nulls ]) ≡ nullStep (productionAt bs owner start) nulls
+  unfolding nullStep productionAt
+  null-tests b e = ap (λ (x : Bool). elim x [ true ↦ bitOr nulls (only owner) | false ↦ nulls ]) e
+
+  pub null-taken : {b : Bool} → b ≡ allPassed nulls (itemsOf (fieldsAt bs start)) → b ≡ true → {o : ℕ} → o ≡ only owner
+      → bitOr nulls o ≡ nullStep (productionAt bs owner start) nulls
+  null-taken e t eo = ap (bitOr nulls) eo ∙ null-tests true (sym t ∙ e)
+
+  pub null-left : {b : Bool} → b ≡ allPassed nulls (itemsOf (fieldsAt bs start)) → b ≡ false
+      → nulls ≡ nullStep (productionAt bs owner start) nulls
+  null-left e t = null-tests false (sym t ∙ e)
+
+-- ------------------------------------------------------------------ first sets and left calls
+
+-- past the last set nothing is joined
+pub join-past : (sets : List ℕ) (n v : ℕ) → length sets ≤ n → sets ≡ set sets n v
+join-past sets n v h = sym (set-out sets n v h)
+
+-- a set that stays the same leaves them all
+pub join-kept : (sets : List ℕ) (n v : ℕ) → not (eqb v (getD sets n 0)) ≡ false → set sets n v ≡ sets
+join-kept sets n v e = ap (set sets n) (eqb-true v (getD sets n 0) (not-false _ e)) ∙ set-getD sets n 0
+
+pub first-step-is : (calls : Bool) (nulls : ℕ) (bs : List ℕ) (owner start : ℕ) (sets : List ℕ) {found : ℕ}
+    → found ≡ gather calls nulls sets (itemsOf (fieldsAt bs start)) 0
+    → set sets owner (bitOr (getD sets owner 0) found) ≡ firstStep calls nulls (productionAt bs owner start) sets
+unfolding firstStep productionAt
+first-step-is calls nulls bs owner start sets e = ap (λ (v : ℕ). set sets owner (bitOr (getD sets owner 0) v)) e
+
+-- the sets after the productions before number j, and whether one of these changed them
+pub record Joining (calls : Bool) (nulls : ℕ) (bs owners starts : List ℕ) (m : ℕ) (sets₀ : List ℕ) (j : ℕ) (sets : List ℕ) (changed : Bool) : Type 0 where
+  pub over : Over (firstStep calls nulls) bs owners starts m sets₀ j sets
+  pub same : changed ≡ false → sets ≡ sets₀
+  pub as-many : length sets ≡ length sets₀
+
+or-false : (a b : Bool) → (a || b) ≡ false → (a ≡ false) × (b ≡ false)
+or-false true b e = absurd (true≢false e)
+or-false false b e = (refl, e)
+
+module _ {calls : Bool} {nulls : ℕ} {bs owners starts : List ℕ} {m : ℕ} {sets₀ : List ℕ} {j : ℕ} {sets : List ℕ} {changed : Bool}
+    (c : Joining calls nulls bs owners starts m sets₀ j sets changed) where
+  pub joining-next : j < m → {o s : ℕ} → o ≡ getD owners j 0 → s ≡ getD starts j 0 → {sets′ : List ℕ} {more : Bool}
+      → (sets′ ≡ firstStep calls nulls (productionAt bs o s) sets) × (more ≡ false → sets′ ≡ sets)
+      → length sets′ ≡ length sets
+      → Joining calls nulls bs owners starts m sets₀ (j + 1) sets′ (changed || more)
+  joining-next h eo es {more = more} e k =
+      record {
+        over = over-next (c .over) h eo es (e .0);
+        same = λ f. e .1 (or-false changed more f .1) ∙ c .same (or-false changed more f .0);
+        as-many = k ∙ c .as-many;
+      }
+
+-- there are always as many sets
+length-over : (calls : Bool) (nulls : ℕ) (g : List Production) (sets : List ℕ) → length (overAll (firstStep calls nulls) g sets) ≡ length sets
+unfolding overAll firstStep
+length-over calls nulls [] sets = refl
+length-over calls nulls (p ∷ g) sets = length-over calls nulls g _ ∙ length-set sets (p .owner) _
+
+length-rounds : (k : ℕ) (f : List ℕ → List ℕ) → ((sets : List ℕ) → length (f sets) ≡ length sets) → (sets : List ℕ)
+    → length (rounds k f sets) ≡ length sets
+unfolding rounds
+length-rounds zero f e sets = refl
+length-rounds (suc k) f e sets = length-rounds k f e (f sets) ∙ e sets
+
+pub length-sets : (calls : Bool) (nulls : ℕ) (g : List Production) → length (setsOf calls nulls g) ≡ 64
+unfolding setsOf
+length-sets calls nulls g =
+    length-rounds 64 (overAll (firstStep calls nulls) g) (length-over calls nulls g) (replicate 64 0) ∙ length-replicate {A = ℕ} 64 0

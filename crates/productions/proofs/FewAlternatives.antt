@@ -1,0 +1,48 @@
+-- A table whose layout is right is short enough, and has few enough alternatives, for its index.
+use Prim.Native.Nat.{ℕ, suc, _+_, _≤_}
+use mathlib.Core.Path.{_≡_}
+use mathlib.Core.Bool.{Bool, true, false, not, _||_}
+use mathlib.Core.List.{List, [], _∷_}
+use native.Mathlib.Omega.{arith}
+use lib.Dec.{eqb, ltb}
+use lib.ListN.{length}
+use borrow.Author.Tests.{ltb-true}
+use Rattle.answers.specs.Checked.{ok}
+use Rattle.grammar.specs.Encode.{Field, field}
+use Rattle.grammar.specs.Fields.{Fields, end, cut, next, fieldsOf}
+use Rattle.layout.specs.declared.Progress.{Progress}
+use Rattle.layout.specs.Layout.{oneIf, passed, start, checkFields, layout}
+use Rattle.layout.proofs.Accept.{accepted}
+use Rattle.layout.proofs.Inverse.{layout-parts}
+use Rattle.layout.proofs.Laws.{room-of}
+use Rattle.productions.specs.Index.{alternativeFields}
+
+-- where there is room, one more is not too many
+one-more : (n : ℕ) (b : Bool) → (not b || ltb n 256) ≡ true → n ≤ 256 → n + oneIf b ≤ 256
+one-more n true e h = omega (arith, ltb-true n 256 e)
+one-more n false e h = omega arith
+
+-- a field, and those that follow it
+count-field : (at tag : ℕ) (v : List ℕ) (fs : Fields) → alternativeFields (next at tag v fs) ≡ oneIf (eqb tag 5) + alternativeFields fs
+unfolding alternativeFields
+count-field at tag v fs = by (eqb tag 5)
+  where
+    by : (b : Bool) → (elim b as (λ x. ℕ) [ true ↦ suc (alternativeFields fs) | false ↦ alternativeFields fs ]) ≡ oneIf b + alternativeFields fs
+    by true = omega arith
+    by false = omega arith
+
+few-fields : (fs : Fields) (before : List Field) (s : Progress) → s .alternatives ≤ 256 → checkFields fs before s ≡ ok tt
+    → s .alternatives + alternativeFields fs ≤ 256
+unfolding alternativeFields passed
+few-fields (end at) before s l h = omega arith
+few-fields (cut at) before s l h = omega arith
+few-fields (next at tag v fs) before s l h =
+    let passes = accepted at tag v fs before s h in
+    let room : s .alternatives + oneIf (eqb tag 5) ≤ 256 =
+    one-more (s .alternatives) (eqb tag 5) (room-of tag s (passes .0 .room) .alternatives) l in
+    omega (arith, count-field at tag v fs, few-fields fs (field tag v ∷ before) (passed tag s) room (passes .1))
+
+pub few-alternatives : (bs : List ℕ) → layout bs ≡ ok tt → (length bs ≤ 16384) × (alternativeFields (fieldsOf bs) ≤ 256)
+few-alternatives bs h =
+    let parts = layout-parts bs h in
+    (parts .0, omega (arith, few-fields (fieldsOf bs) [] start (omega arith) (parts .1)))

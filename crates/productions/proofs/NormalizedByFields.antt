@@ -1,0 +1,139 @@
+-- Normalizing field by field gives the normalized grammar of a table.
+use Prim.Native.Nat.{ℕ, _<_, _≤_}
+use mathlib.Core.Path.{_≡_, refl, sym, _∙_, ap}
+use mathlib.Core.Bool.{Bool, true, false}
+use mathlib.Core.List.{List, [], _∷_, _++_, append-assoc, append-nil}
+use native.Mathlib.Omega.{arith}
+use lib.Dec.{eqb, ltb}
+use lib.ListN.{getD, List·getD-eq-default}
+use borrow.Author.Tests.{ne-eqb, ltb-true, ltb-false}
+use Rattle.spellings.specs.BytesLaws.{by-test}
+use Rattle.grammar.specs.Table.{variable, Table}
+use Rattle.grammar.specs.Encode.{tableFields, encode}
+use Rattle.grammar.specs.Fields.{Fields, end, cut, next, fieldsOf}
+use Rattle.layout.specs.Decode.{Built, put, putNothing, putKeyword, putOutside, putBlock, putDefinition, putAlternative, putItem, putResult, putRoot, build, itemOf, definitionOf, modeOf}
+use Rattle.layout.specs.Within.{Within}
+use Rattle.layout.proofs.Split.{fields-of-bytes}
+use Rattle.layout.proofs.Order.{up-to-eight}
+use Rattle.layout.proofs.Rebuilt.{parts-built}
+use Rattle.productions.specs.Normal.{Production, productionsOf, kept, defined, definedAll, normalizedFrom, normalized}
+use Rattle.productions.specs.Index.{itemsOf, resultOf, normalizedBy}
+
+-- the grammar that is left when the fields begin in a definition of n, behind the productions g
+abbrev behind : Built → ℕ → List Production → List Production
+behind b n g = normalizedFrom (definedAll (g ++ productionsOf n (b .alternatives)) (b .definitions)) (b .blocks)
+
+-- ------------------------------------------------------------------ one field
+
+-- the statement of some fields, for every definition that they begin in
+record Agrees (fs : Fields) (b : Built) : Type 0 where
+  items : itemsOf fs ≡ b .items
+  result : resultOf fs ≡ b .result
+  normal : (n : ℕ) (g : List Production) → normalizedBy fs n g ≡ behind b n g
+
+abbrev Step : ℕ → Type 0
+Step tag = (at : ℕ) (v : List ℕ) (fs : Fields) (b : Built) → Agrees fs b → Agrees (next at tag v fs) (put tag v b)
+
+-- a tag that is none of a definition, an alternative, an item or a result
+step-other : (tag : ℕ) → eqb tag 4 ≡ false → eqb tag 5 ≡ false → eqb tag 6 ≡ false → eqb tag 7 ≡ false
+    → ((v : List ℕ) (b : Built) → put tag v b .items ≡ []) → ((v : List ℕ) (b : Built) → put tag v b .result ≡ variable 0)
+    → ((v : List ℕ) (b : Built) (n : ℕ) (g : List Production) → behind (put tag v b) n g ≡ behind b n g)
+    → Step tag
+unfolding itemsOf resultOf normalizedBy
+step-other tag e4 e5 e6 e7 no-items no-result same at v fs b h =
+    record {
+      items = rw (e6, itemsOf) (sym (no-items v b));
+      result = rw (e6, e7, resultOf) (sym (no-result v b));
+      normal = λ n g. rw (e4, e5, normalizedBy) (h .normal n g ∙ sym (same v b n g));
+    }
+
+step-definition : Step 4
+unfolding itemsOf resultOf normalizedBy put definedAll definitionOf productionsOf
+step-definition at v fs b h =
+    record {
+      items = refl;
+      result = refl;
+      normal =
+          λ n g.
+          h .normal (getD v 0 0) (kept (modeOf (getD v 1 0)) (getD v 0 0) g)
+          ∙ ap (λ l. normalizedFrom (definedAll (defined l (definitionOf v (b .alternatives))) (b .definitions)) (b .blocks)) (sym (append-nil g));
+    }
+
+step-alternative : Step 5
+unfolding itemsOf resultOf normalizedBy put productionsOf
+step-alternative at v fs b h =
+    record {
+      items = refl;
+      result = refl;
+      normal =
+          λ n g.
+          ap (λ is. normalizedBy fs n (g ++ (record { owner = n; items = is; result = resultOf fs } ∷ []))) (h .items)
+          ∙ ap (λ t. normalizedBy fs n (g ++ (record { owner = n; items = b .items; result = t } ∷ []))) (h .result)
+          ∙ h .normal n (g ++ (record { owner = n; items = b .items; result = b .result } ∷ []))
+          ∙ ap (λ l. normalizedFrom (definedAll l (b .definitions)) (b .blocks)) (append-assoc g _ (productionsOf n (b .alternatives)));
+    }
+
+step-item : Step 6
+unfolding itemsOf resultOf normalizedBy put
+step-item at v fs b h = record { items = ap (λ is. itemOf v ∷ is) (h .items); result = h .result; normal = h .normal }
+
+step-result : Step 7
+unfolding itemsOf resultOf normalizedBy put
+step-result at v fs b h = record { items = refl; result = refl; normal = h .normal }
+
+step-known : (tag : ℕ) → tag ≤ 8 → Step tag
+unfolding put productionsOf normalizedFrom definedAll
+step-known =
+    up-to-eight Step (step-other 0 refl refl refl refl (λ v b. refl) (λ v b. refl) (λ v b n g. refl))
+    (step-other 1 refl refl refl refl (λ v b. refl) (λ v b. refl) (λ v b n g. refl))
+    (step-other 2 refl refl refl refl (λ v b. refl) (λ v b. refl) (λ v b n g. refl))
+    (step-other 3 refl refl refl refl (λ v b. refl) (λ v b. refl) (λ v b n g. refl))
+    step-definition
+    step-alternative
+    step-item
+    step-result
+    (step-other 8 refl refl refl refl (λ v b. refl) (λ v b. refl) (λ v b n g. refl))
+
+-- a tag beyond those of document 01
+put-unknown : (tag : ℕ) → 8 < tag → put tag ≡ putNothing
+unfolding put
+put-unknown tag h =
+    List·getD-eq-default
+    (putNothing
+    ∷ putKeyword
+    ∷ putOutside
+    ∷ putBlock
+    ∷ putDefinition
+    ∷ putAlternative
+    ∷ putItem
+    ∷ putResult
+    ∷ putRoot
+    ∷ [])
+    putNothing
+    h
+
+step-unknown : (tag : ℕ) → 8 < tag → Step tag
+step-unknown tag h =
+    let e = put-unknown tag h in
+    step-other tag (ne-eqb tag 4 (λ q. omega arith)) (ne-eqb tag 5 (λ q. omega arith)) (ne-eqb tag 6 (λ q. omega arith))
+    (ne-eqb tag 7 (λ q. omega arith))
+    (λ v b. ap (λ f. f v b .items) e)
+    (λ v b. ap (λ f. f v b .result) e)
+    (λ v b n g. ap (λ f. behind (f v b) n g) e)
+
+-- ------------------------------------------------------------------ all fields
+
+agrees : (fs : Fields) → Agrees fs (build fs)
+unfolding itemsOf resultOf normalizedBy build productionsOf definedAll normalizedFrom
+agrees (end at) = record { items = refl; result = refl; normal = λ n g. sym (append-nil g) }
+agrees (cut at) = record { items = refl; result = refl; normal = λ n g. sym (append-nil g) }
+agrees (next at tag v fs) =
+    by-test (ltb 8 tag) (λ e. step-unknown tag (ltb-true 8 tag e) at v fs (build fs) (agrees fs))
+    (λ e. step-known tag (ltb-false 8 tag e) at v fs (build fs) (agrees fs))
+
+-- The normalized grammar of a table is what the fields of its encoding give in order.
+pub normalized-by : (t : Table) → Within t → normalizedBy (fieldsOf (encode t)) 0 [] ≡ normalized (t .blocks)
+unfolding encode productionsOf definedAll
+normalized-by t w =
+    agrees (fieldsOf (encode t)) .normal 0 []
+    ∙ ap (λ b. behind b 0 []) (ap build (fields-of-bytes (tableFields t)) ∙ parts-built t 0 w)

@@ -1,0 +1,130 @@
+-- `build_index`: the fields that are left give what all of them give.
+use Prim.Native.Nat.{_-_}
+use mathlib.Core.Path.{_∙_, sym}
+use native.Mathlib.Omega.{arith}
+use lib.ListN.{length}
+use borrow.Author.Needs.{needs}
+use Rattle.productions.proofs.IndexLaws as laws
+use Rattle.productions.proofs.index.build_index.Statement.{statement}
+use Rattle.productions.proofs.index.build_index.Tie as tie
+
+abbrev Inv-loop : tie.InvT-loop
+Inv-loop table owners₀ starts₀ at₀ n₀ k₀ owners starts at n k = laws.Building table at n k owners starts
+
+abbrev μ-loop : tie.MeasureT-loop
+μ-loop table owners₀ starts₀ at₀ n₀ k₀ owners starts at n k = length table - at
+
+loop-holds : tie.Need-loop-holds Inv-loop μ-loop
+loop-holds c = laws.building-start _ _ _ (c .before .pre)
+
+front-at-requires : tie.Need-front-at-requires Inv-loop μ-loop
+front-at-requires c κs = search needs
+
+enum-told : tie.Need-enum-told Inv-loop μ-loop
+enum-told c = search needs
+
+returns : tie.Need-returns Inv-loop μ-loop
+returns c = (laws.building-nothing (c .before .before .before .before .loop .inv) (sym (c .enum-told .given .1) ∙ c .before .before .front-at .ensures), laws.building-few (c .before .before .before .before .loop .inv))
+
+enum-told-2 : tie.Need-enum-told-2 Inv-loop μ-loop
+enum-told-2 c = search needs
+
+returns-2 : tie.Need-returns-2 Inv-loop μ-loop
+returns-2 c = (laws.building-short (c .before .before .before .before .loop .inv) (sym (c .enum-told2 .given .1) ∙ c .before .before .front-at .ensures), laws.building-few (c .before .before .before .before .loop .inv))
+
+enum-known-front : tie.Need-enum-known-front Inv-loop μ-loop
+enum-known-front c = search needs
+
+add-from : tie.Need-add-from Inv-loop μ-loop
+add-from c = omega (arith, laws.building-inside (c .before .before .before .before .before .loop .inv) (sym (c .before .front .given .1) ∙ c .before .before .before .front-at .ensures))
+
+add-to : tie.Need-add-to Inv-loop μ-loop
+add-to c = omega (arith, laws.building-inside (c .before .before .before .before .before .loop .inv) (sym (c .before .front .given .1) ∙ c .before .before .before .front-at .ensures))
+
+sub-byte : tie.Need-sub-byte Inv-loop μ-loop
+sub-byte c = search needs
+
+part-byte-start : tie.Need-part-byte-start Inv-loop μ-loop
+part-byte-start c = search needs
+
+part-byte-end : tie.Need-part-byte-end Inv-loop μ-loop
+part-byte-end c = omega (arith, laws.building-inside (c .before .before .before .before .before .before .loop .inv) (sym (c .before .before .front .given .1) ∙ c .before .before .before .before .front-at .ensures))
+
+byte-requires : tie.Need-byte-requires Inv-loop μ-loop
+byte-requires c κs = search needs
+
+sub-redefine : tie.Need-sub-redefine Inv-loop μ-loop
+sub-redefine c = search needs
+
+part-redefine-start : tie.Need-part-redefine-start Inv-loop μ-loop
+part-redefine-start c = search needs
+
+part-redefine-end : tie.Need-part-redefine-end Inv-loop μ-loop
+part-redefine-end c = omega (arith, laws.building-inside (c .before .before .before .before .before .before .before .before .loop .inv) (sym (c .before .before .before .before .front .given .1) ∙ c .before .before .before .before .before .before .front-at .ensures))
+
+redefine-requires : tie.Need-redefine-requires Inv-loop μ-loop
+redefine-requires c κs = omega (arith, laws.building-few (c .before .before .before .before .before .before .before .before .before .before .before .loop .inv), c .before .redefine-arg2 .given .0 .1, c .redefine-arg3 .given .0 .1)
+
+cast-push : tie.Need-cast-push Inv-loop μ-loop
+cast-push c = omega (arith, laws.building-inside (c .before .before .before .before .before .before .before .before .before .loop .inv) (sym (c .before .before .before .before .before .front .given .1) ∙ c .before .before .before .before .before .before .before .front-at .ensures), c .before .before .before .before .before .before .before .before .before .loop .inv .short)
+
+push-requires : tie.Need-push-requires Inv-loop μ-loop
+push-requires c κs = omega (arith, laws.building-room (c .before .before .before .before .before .before .before .before .before .loop .inv) (sym (c .before .before .before .before .before .front .given .1) ∙ c .before .before .before .before .before .before .before .front-at .ensures) (c .before .before .if2 .taken), c .before .push-arg .given .0 .1, c .push-arg2 .given .0 .1)
+
+add-k : tie.Need-add-k Inv-loop μ-loop
+add-k c = omega (arith, laws.building-few (c .before .before .before .before .before .before .before .before .before .before .loop .inv))
+
+loop-less : tie.Need-loop-less Inv-loop μ-loop
+loop-less c = laws.building-less (c .before .before .before .before .before .before .before .before .before .before .before .before .loop .inv) (sym (c .before .before .before .before .before .before .before .before .front .given .1) ∙ c .before .before .before .before .before .before .before .before .before .before .front-at .ensures)
+
+loop-again : tie.Need-loop-again Inv-loop μ-loop
+loop-again c = laws.building-head (c .before .before .before .before .before .before .before .before .before .before .before .before .loop .inv) (sym (c .before .before .before .before .before .before .before .before .front .given .1) ∙ c .before .before .before .before .before .before .before .before .before .before .front-at .ensures) (c .before .before .before .before .before .before .if1 .taken) (c .before .before .before .before .byte .ensures) (c .redefine .ensures)
+
+loop-less-2 : tie.Need-loop-less-2 Inv-loop μ-loop
+loop-less-2 c = laws.building-less (c .before .before .before .before .before .before .before .before .before .before .loop .inv) (sym (c .before .before .before .before .before .before .front .given .1) ∙ c .before .before .before .before .before .before .before .before .front-at .ensures)
+
+loop-again-2 : tie.Need-loop-again-2 Inv-loop μ-loop
+loop-again-2 c = laws.building-alternative (c .before .before .before .before .before .before .before .before .before .before .loop .inv) (sym (c .before .before .before .before .before .before .front .given .1) ∙ c .before .before .before .before .before .before .before .before .front-at .ensures) (c .before .before .before .if2 .taken) (c .push .ensures)
+
+loop-less-3 : tie.Need-loop-less-3 Inv-loop μ-loop
+loop-less-3 c = laws.building-less (c .before .before .before .before .before .before .before .loop .inv) (sym (c .before .before .before .front .given .1) ∙ c .before .before .before .before .before .front-at .ensures)
+
+loop-again-3 : tie.Need-loop-again-3 Inv-loop μ-loop
+loop-again-3 c = laws.building-other (c .before .before .before .before .before .before .before .loop .inv) (sym (c .before .before .before .front .given .1) ∙ c .before .before .before .before .before .front-at .ensures) (c .before .if1 .left) (c .if2 .left)
+
+returns-3 : tie.Need-returns-3 Inv-loop μ-loop
+returns-3 c = (laws.building-end (c .before .loop .inv) (c .loop-test .left), laws.building-few (c .before .loop .inv))
+
+pub build-index-spec : {M : Type 1} → statement M
+build-index-spec =
+    tie.close
+    (tie.spec
+    Inv-loop
+    μ-loop
+    loop-holds
+    front-at-requires
+    enum-told
+    returns
+    enum-told-2
+    returns-2
+    enum-known-front
+    add-from
+    add-to
+    sub-byte
+    part-byte-start
+    part-byte-end
+    byte-requires
+    sub-redefine
+    part-redefine-start
+    part-redefine-end
+    redefine-requires
+    cast-push
+    push-requires
+    add-k
+    loop-less
+    loop-again
+    loop-less-2
+    loop-again-2
+    loop-less-3
+    loop-again-3
+    returns-3)

@@ -1,0 +1,108 @@
+// The index of a grammar in a table: the nonterminal of each production, and the offset of its first item.
+use grammar::Front;
+use grammar::front_at;
+use grammar::reader::byte;
+ghost use Prim.Native.Nat.{ℕ, _+_, _<_, _≤_};
+ghost use mathlib.Core.Path.{_≡_};
+ghost use mathlib.Core.List.{List, [], _∷_, _++_};
+ghost use lib.ListN.{length, getD};
+ghost use Rattle.grammar.specs.Fields.{fieldsOf};
+ghost use Rattle.layout.specs.Decode.{modeOf};
+ghost use Rattle.productions.specs.Normal.{without, kept};
+ghost use Rattle.productions.specs.Index.{productionAt, productionsBy, normalizedBy, alternativeFields};
+
+fn wide(x: u16) -> usize
+    ensures { λ r. ⌜ r ≡ x ⌝ }
+{
+    x as usize
+}
+
+// The offset at a place of the index, 0 past its end.
+pub fn offset(starts: &[u16], j: usize) -> usize
+    ensures { λ r. ⌜ r ≡ getD (now (starts .entry)) j 0 ⌝ }
+{
+    if j < starts.len() { wide(starts[j]) } else { 0 }
+}
+
+// Lays a production behind the first k.
+fn push(owners: &mut [u8], starts: &mut [u16], k: usize, owner: u8, start: u16)
+    requires { ⌜ (k < length (now owners)) × (k < length (now starts)) ⌝ }
+    ensures { λ r. ⌜ ((bs : List ℕ) → productionsBy (k + 1) bs (now (owners .exit)) (now (starts .exit)) ≡ productionsBy k bs (now (owners .entry)) (now (starts .entry)) ++ (productionAt bs owner start ∷ [])) ⌝ }
+{
+    owners[k] = owner;
+    starts[k] = start;
+}
+
+// Drops the productions of nonterminal n among the first k, and tells how many are left.
+fn without(owners: &mut [u8], starts: &mut [u16], k: usize, n: u8) -> usize
+    requires { ⌜ (k ≤ length (now owners)) × (k ≤ length (now starts)) ⌝ }
+    ensures { λ r. ⌜ ((bs : List ℕ) → productionsBy r bs (now (owners .exit)) (now (starts .exit)) ≡ without n (productionsBy k bs (now (owners .entry)) (now (starts .entry)))) ⌝ }
+    ensures { λ r. ⌜ r ≤ k ⌝ }
+{
+    let mut i: usize = 0;
+    let mut w: usize = 0;
+    while i < k {
+        let owner = owners[i];
+        let start = starts[i];
+        if owner == n {
+            i += 1;
+        } else {
+            owners[w] = owner;
+            starts[w] = start;
+            w += 1;
+            i += 1;
+        }
+    }
+    w
+}
+
+// The productions that the head of a definition leaves: an update drops those of its nonterminal.
+fn redefine(head: &[u8], owners: &mut [u8], starts: &mut [u16], k: usize) -> usize
+    requires { ⌜ (k ≤ length (now owners)) × (k ≤ length (now starts)) ⌝ }
+    ensures { λ r. ⌜ ((bs : List ℕ) → productionsBy r bs (now (owners .exit)) (now (starts .exit)) ≡ kept (modeOf (getD (now (head .entry)) 1 0)) (getD (now (head .entry)) 0 0) (productionsBy k bs (now (owners .entry)) (now (starts .entry)))) ⌝ }
+    ensures { λ r. ⌜ r ≤ k ⌝ }
+{
+    let mode = byte(head, 1);
+    if mode == 2 {
+        let n = byte(head, 0);
+        without(owners, starts, k, n)
+    } else {
+        k
+    }
+}
+
+// The index of the normalized grammar of a table, and how many productions it has. This rules out that an extension replaces, and that
+// an update adds.
+pub fn build_index(table: &[u8], owners: &mut [u8; 256], starts: &mut [u16; 256]) -> usize
+    requires { ⌜ (length (now table) ≤ 16384) × (alternativeFields (fieldsOf (now table)) ≤ 256) ⌝ }
+    ensures { λ r. ⌜ productionsBy r (now (table .entry)) (now (owners .exit)) (now (starts .exit)) ≡ normalizedBy (fieldsOf (now (table .entry))) 0 [] ⌝ }
+    ensures { λ r. ⌜ r ≤ 256 ⌝ }
+{
+    let mut at: usize = 0;
+    let mut n: u8 = 0;
+    let mut k: usize = 0;
+    while at < table.len() {
+        let front = front_at(table, at);
+        match front {
+            Front::Nothing => {
+                return k;
+            }
+            Front::Short => {
+                return k;
+            }
+            Front::Field(tag, size) => {
+                let from = at + 3;
+                let to = from + size;
+                if tag == 4 {
+                    n = byte(&table[from..to], 0);
+                    k = redefine(&table[from..to], owners, starts, k);
+                } else if tag == 5 {
+                    push(owners, starts, k, n, to as u16);
+                    k += 1;
+                }
+                at = to;
+            }
+        }
+    }
+    k
+}

@@ -1,6 +1,0 @@
-pub mod Sizes
-pub mod Sorting
-pub mod Judgements
-pub mod ByFields
-pub mod TemplateBytes
-pub mod ByBytes

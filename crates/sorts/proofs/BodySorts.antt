@@ -1,0 +1,141 @@
+-- Checking items, alternatives and definitions is the judgement E ⊢ g ok.
+use Prim.Native.Nat.{ℕ, _+_}
+use mathlib.Core.Path.{ap, subst⁻¹, _∙_}
+use mathlib.Core.Bool.{Bool, _&&_}
+use mathlib.Core.List.{List, [], _∷_, _++_}
+use lib.Dec.{ltb}
+use lib.ListN.{length}
+use borrow.Author.Tests.{ltb-true, lt-ltb}
+use Rattle.answers.specs.Checked.{Checked, ok, _>>_, need}
+use Rattle.grammar.specs.Sorts.{Signature, unit, fits}
+use Rattle.grammar.specs.Table.{Template, Item, keyword, ide, number, local, call, Alternative, Definition}
+use Rattle.grammar.specs.Encode.{headValue}
+use Rattle.sorts.specs.Sizes.{fieldSize, itemsSize, definitionSize}
+use Rattle.sorts.specs.CheckSorts.{Scope, isDefined, signatureOf, isClosed, areClosed, sortOf, isSorted, fill, checkItem, checkItems, checkResult, checkAlternative, checkAlternatives, checkBodies}
+use Rattle.sorts.specs.Judgements.{ItemSorted, by-keyword, by-ide, by-number, by-local, by-call, Body, by-result, by-binding, Bodies, no-alternative, by-choice, Ok, ok-empty, ok-definition}
+use Rattle.sorts.proofs.Accepting.{Accepts, need-passed, need-passes, needs-passed, needs-passes, bind-passed, bind-passes, then-passed, then-passes}
+use Rattle.sorts.proofs.Environments.{defined-newest, newest-defined, newest-signature}
+use Rattle.sorts.proofs.TemplateSorts.{both, pair, fits-rule, rule-fits, sorted-rule, rule-sorted, fill-rule, rule-fill}
+
+module _ (G : Scope) where
+  -- ------------------------------------------------------------------ an item
+
+  -- a passed item has a sort by the rules, and that sort is the check's value
+  pub item-rule :
+      (L : List ℕ) (at : ℕ) (i : Item) (P : ℕ → Type 0) → Accepts (checkItem G L at i) P
+      → (B : ℕ) × ItemSorted G L i B × P B
+  item-rule L at (keyword k) P h =
+      let n = need-passed (ltb k (G .keywords)) 9 at _ (then-passed P (need (ltb k (G .keywords)) 9 at) (ok unit) h) in
+      (unit, by-keyword (ltb-true k (G .keywords) (n .0)), n .1)
+  item-rule L at (ide s) P h = (s, by-ide, h)
+  item-rule L at number P h = (_, by-number, h)
+  item-rule L at local P h = (_, by-local, h)
+  item-rule L at (call n ts) P h =
+      let S : Signature = signatureOf (G .env) n in
+      let closed : Bool = isDefined (G .env) n && areClosed ts G (length L) in
+      let tests : Checked (Unit {0}) = need closed 9 at >> need (fill ts L (S .params)) 11 at in
+      let q = needs-passed closed (fill ts L (S .params)) 9 11 at (λ u. P (S .result)) (then-passed P tests (ok (S .result)) h) in
+      let d = both (isDefined (G .env) n) (areClosed ts G (length L)) (q .0) in
+      (S .result, by-call (defined-newest (G .env) n (d .0)) (fill-rule G L ts (S .params) (d .1) (q .1)), q .2)
+
+  pub rule-item :
+      {L : List ℕ} (at : ℕ) {i : Item} {B : ℕ} (P : ℕ → Type 0) → ItemSorted G L i B → P B → Accepts (checkItem G L at i) P
+  rule-item at P (by-keyword {k = k} h) p =
+      then-passes P (need (ltb k (G .keywords)) 9 at) (ok unit)
+      (need-passes (ltb k (G .keywords)) 9 at _ (lt-ltb k (G .keywords) h) p)
+  rule-item at P by-ide p = p
+  rule-item at P by-number p = p
+  rule-item at P by-local p = p
+  rule-item {L} at P (by-call {n = n} {S = S} {ts = ts} d h) p =
+      let f = rule-fill G L ts h in
+      let closed : Bool = isDefined (G .env) n && areClosed ts G (length L) in
+      subst⁻¹ (λ X. Accepts (need closed 9 at >> need (fill ts L (X .params)) 11 at >> ok (X .result)) P) (newest-signature d)
+      (then-passes P (need closed 9 at >> need (fill ts L (S .params)) 11 at) (ok (S .result))
+      (needs-passes closed _ 9 11 at _ (pair (isDefined (G .env) n) _ (newest-defined d) (f .0)) (f .1) p))
+
+  -- ------------------------------------------------------------------ an alternative
+
+  module _ (P : Unit {0} → Type 0) where
+    -- once the sorts of all variables are known, the result is checked
+    abbrev Rest : ℕ → ℕ → Template → List ℕ → Type 0
+    Rest B at t L = Accepts (checkResult G L B at t) P
+
+    -- items and result together
+    pub body-rule :
+        (is : List Item) (L : List ℕ) (B at from : ℕ) (t : Template) → Accepts (checkItems G L at is) (Rest B from t)
+        → Body G L is t B × P tt
+    unfolding checkItems
+    body-rule [] L B at from t h =
+        let n = needs-passed (isClosed t G (length L)) (isSorted t L && fits (sortOf t L) B) 9 11 from P h in
+        let s = both (isSorted t L) (fits (sortOf t L) B) (n .1) in
+        (by-result (sorted-rule G L t (n .0) (s .0)) (fits-rule (sortOf t L) B (s .1)), n .2)
+    body-rule (i ∷ is) L B at from t h =
+        let r = item-rule L at i _ (bind-passed (Rest B from t) (checkItem G L at i) _ h) in
+        let q = body-rule is (L ++ (r .0 ∷ [])) B _ from t (r .2) in
+        (by-binding (r .1) (q .0), q .1)
+
+    pub rule-body :
+        {is : List Item} {L : List ℕ} {B : ℕ} (at from : ℕ) {t : Template} → Body G L is t B → P tt
+        → Accepts (checkItems G L at is) (Rest B from t)
+    unfolding checkItems
+    rule-body at from (by-result {L = L} {t = t} {A = A} {B = B} s f) p =
+        let r = rule-sorted G L t s in
+        needs-passes _ _ 9 11 from P (r .0)
+        (pair (isSorted t L) (fits (sortOf t L) B) (r .1) (ap (λ x. fits x B) (r .2) ∙ rule-fits f)) p
+    rule-body at from (by-binding {L = L} {i = i} {t = t} {B = B} s b) p =
+        bind-passes (Rest B from t) (checkItem G L at i) _ (rule-item at _ s (rule-body _ from b p))
+
+    pub alternative-rule :
+        (S : Signature) (at : ℕ) (a : Alternative) → Accepts (checkAlternative G S at a) P
+        → Body G (S .params) (a .items) (a .result) (S .result) × P tt
+    unfolding checkAlternative
+    alternative-rule S at a h =
+        body-rule (a .items) (S .params) (S .result) (at + 3) (at + 3 + itemsSize (a .items)) (a .result)
+        (bind-passed P (checkItems G (S .params) (at + 3) (a .items)) _ h)
+
+    pub rule-alternative :
+        (S : Signature) (at : ℕ) (a : Alternative) → Body G (S .params) (a .items) (a .result) (S .result) → P tt
+        → Accepts (checkAlternative G S at a) P
+    unfolding checkAlternative
+    rule-alternative S at a b p =
+        bind-passes P (checkItems G (S .params) (at + 3) (a .items)) _ (rule-body (at + 3) (at + 3 + itemsSize (a .items)) b p)
+
+  -- ------------------------------------------------------------------ alternatives and definitions
+
+  pub bodies-rule :
+      (P : Unit {0} → Type 0) (S : Signature) (at : ℕ) (choices : List Alternative) → Accepts (checkAlternatives G S at choices) P
+      → Bodies G S choices × P tt
+  unfolding checkAlternatives
+  bodies-rule P S at [] h = (no-alternative, h)
+  bodies-rule P S at (a ∷ rest) h =
+      let r = alternative-rule _ S at a (then-passed P (checkAlternative G S at a) _ h) in
+      let q = bodies-rule P S _ rest (r .1) in
+      (by-choice (r .0) (q .0), q .1)
+
+  pub rule-bodies :
+      (P : Unit {0} → Type 0) {S : Signature} (at : ℕ) {choices : List Alternative} → Bodies G S choices → P tt
+      → Accepts (checkAlternatives G S at choices) P
+  unfolding checkAlternatives
+  rule-bodies P at no-alternative p = p
+  rule-bodies P {S} at (by-choice {a = a} b bs) p =
+      then-passes P (checkAlternative G S at a) _ (rule-alternative _ S at a b (rule-bodies P _ bs p))
+
+  pub ok-rule :
+      (P : Unit {0} → Type 0) (at : ℕ) (ds : List Definition) → Accepts (checkBodies G at ds) P → Ok G ds × P tt
+  unfolding checkBodies
+  ok-rule P at [] h = (ok-empty, h)
+  ok-rule P at (d ∷ ds) h =
+      let from : ℕ = at + fieldSize (headValue d) in
+      let bodies : Checked (Unit {0}) = checkAlternatives G (d .signature) from (d .alternatives) in
+      let r = bodies-rule _ (d .signature) from (d .alternatives) (then-passed P bodies (checkBodies G (at + definitionSize d) ds) h) in
+      let q = ok-rule P (at + definitionSize d) ds (r .1) in
+      (ok-definition (r .0) (q .0), q .1)
+
+  pub rule-ok : (P : Unit {0} → Type 0) (at : ℕ) {ds : List Definition} → Ok G ds → P tt → Accepts (checkBodies G at ds) P
+  unfolding checkBodies
+  rule-ok P at ok-empty p = p
+  rule-ok P at (ok-definition {d = d} {ds = ds} b o) p =
+      let from : ℕ = at + fieldSize (headValue d) in
+      let bodies : Checked (Unit {0}) = checkAlternatives G (d .signature) from (d .alternatives) in
+      let rest : Checked (Unit {0}) = checkBodies G (at + definitionSize d) ds in
+      then-passes P bodies rest (rule-bodies (λ u. Accepts rest P) from b (rule-ok P (at + definitionSize d) o p))

@@ -1,0 +1,115 @@
+-- Collecting a block's heads from a table's bytes is collecting its signatures from its fields.
+use Prim.Native.Nat.{ℕ, _+_, _≤_}
+use mathlib.Core.Path.{_≡_, refl, subst, subst⁻¹}
+use mathlib.Core.Bool.{Bool, true, false}
+use mathlib.Core.List.{List, _∷_}
+use native.Mathlib.Omega.{arith}
+use lib.Dec.{eqb, leb}
+use lib.ListN.{length, getD, set}
+use lib.Seq.{getD-set-same, getD-set-other, set-out}
+use borrow.Author.Tests.{eqb-true, eqb-false, leb-true, leb-false}
+use Rattle.answers.specs.declared.Verdict.the-variants.{Passed, Refused}
+use Rattle.answers.specs.Refusals.{refusal}
+use Rattle.answers.specs.Checked.{Checked, ok, bad, _>>_}
+use Rattle.spellings.specs.BytesLaws.{by-test}
+use Rattle.grammar.specs.Encode.{Field, field}
+use Rattle.grammar.specs.Fields.{Fields, end, cut, next}
+use Rattle.layout.specs.declared.Progress.{Progress}
+use Rattle.layout.specs.Layout.{isKnown, passed, checkFields}
+use Rattle.layout.proofs.Accept.{accepted}
+use Rattle.sorts.specs.CheckSorts.{Env, entryOf, consistent}
+use Rattle.sorts.specs.ByFields.{endsBlock, headOf, collectBy}
+use Rattle.sorts.specs.ByBytes.{faultOf, withHead, Collected, collected, collectFrom}
+use Rattle.sorts.proofs.TemplateInduction.{choose}
+use Rattle.sorts.proofs.PlacedFields.{Placed, endOf, placed-end, placed-from-lower}
+use Rattle.sorts.proofs.HeadsByBytes.{Head, head-known, Collects, head-same, head-more}
+
+-- every head lies at an offset or before it
+abbrev pub Below : List ℕ → ℕ → Type 0
+Below H limit = (n : ℕ) → getD H n 0 ≤ limit
+
+-- one head more
+below-more : (H : List ℕ) (n at limit : ℕ) → Below H limit → at ≤ limit → Below (set H n at) limit
+below-more H n at limit b h j =
+    by-test (eqb j n)
+    (λ e.
+    let z : j ≡ n = eqb-true j n e in
+    by-test (leb (length H) n)
+    (λ l. subst⁻¹ (λ L. getD L j 0 ≤ limit) (set-out H n at (leb-true (length H) n l)) (b j))
+    (λ l. subst⁻¹ (λ i. getD (set H n at) i 0 ≤ limit) z (subst⁻¹ (λ x. x ≤ limit) (getD-set-same H n at 0 (leb-false (length H) n l)) h)))
+    (λ e. subst⁻¹ (λ x. x ≤ limit) (getD-set-other H n j at 0 (eqb-false j n e)) (b j))
+
+-- both checks agree: the same refusal, or an environment and the heads that show it
+abbrev pub Agree : List ℕ → Env → ℕ → ℕ → Checked Env → Collected → Type 0
+Agree bs E block limit (ok own) (collected Passed H) = Collects bs E own block H × Below H limit
+Agree bs E block limit (ok own) (collected (Refused r) H) = ⊥
+Agree bs E block limit (bad r) (collected Passed H) = ⊥
+Agree bs E block limit (bad r) (collected (Refused q) H) = r ≡ q
+
+module _ (bs : List ℕ) (E : Env) (block : ℕ) where
+  -- one field, by what it is and what the fields behind it give
+  module _ (at tag : ℕ) (v : List ℕ) (fs : Fields) (own : Env) (H : List ℕ)
+      (other : Below H (endOf fs) → Agree bs E block (endOf fs) (collectBy fs E own) (collectFrom fs bs block H)) where
+    abbrev fieldsGive : Bool → Bool → Checked Env
+    fieldsGive ends head =
+        choose (ok own)
+        (choose (consistent (headOf v .mode) E own (headOf v) at >> collectBy fs E (entryOf (headOf v) ∷ own)) (collectBy fs E own) head)
+        ends
+
+    abbrev bytesGive : Bool → Bool → Collected
+    bytesGive ends head =
+        choose (collected Passed H)
+        (choose
+        (choose (collectFrom fs bs block (withHead bs at H)) (collected (Refused (refusal (faultOf bs at block H) at 0 0)) H)
+        (eqb (faultOf bs at block H) 0))
+        (collectFrom fs bs block H) head)
+        ends
+
+    -- a head: refused by both, or one more
+    refused-or-more :
+        (clean : Bool)
+        → Agree bs E block (endOf fs) (collectBy fs E (entryOf (headOf v) ∷ own)) (collectFrom fs bs block (withHead bs at H))
+        → Agree bs E block (endOf fs)
+        (choose (ok (tt {0})) (bad (refusal (faultOf bs at block H) at 0 0)) clean >> collectBy fs E (entryOf (headOf v) ∷ own))
+        (choose (collectFrom fs bs block (withHead bs at H)) (collected (Refused (refusal (faultOf bs at block H) at 0 0)) H) clean)
+    refused-or-more true more = more
+    refused-or-more false more = refl
+
+    head-agrees :
+        consistent (headOf v .mode) E own (headOf v) at
+        ≡ choose (ok tt) (bad (refusal (faultOf bs at block H) at 0 0)) (eqb (faultOf bs at block H) 0)
+        → Agree bs E block (endOf fs) (collectBy fs E (entryOf (headOf v) ∷ own)) (collectFrom fs bs block (withHead bs at H))
+        → Agree bs E block (endOf fs) (fieldsGive false true) (bytesGive false true)
+    head-agrees q more =
+        subst⁻¹
+        (λ x. Agree bs E block (endOf fs) (x >> collectBy fs E (entryOf (headOf v) ∷ own)) (bytesGive false true))
+        q (refused-or-more (eqb (faultOf bs at block H) 0) more)
+
+    field-agrees :
+        (ends head : Bool) → Collects bs E own block H → Below H (choose at (endOf fs) ends)
+        → (head ≡ true → Below H (endOf fs) → Agree bs E block (endOf fs) (fieldsGive false true) (bytesGive false true))
+        → Agree bs E block (choose at (endOf fs) ends) (fieldsGive ends head) (bytesGive ends head)
+    field-agrees true head c b h = (c, b)
+    field-agrees false true c b h = h refl b
+    field-agrees false false c b h = other b
+
+  pub collect-agrees :
+      (fs : Fields) (before : List Field) (s : Progress) (own : Env) (H : List ℕ) → checkFields fs before s ≡ ok tt
+      → Placed bs (block + 1) fs → Collects bs E own block H → Below H (endOf fs)
+      → Agree bs E block (endOf fs) (collectBy fs E own) (collectFrom fs bs block H)
+  unfolding collectBy collectFrom endOf
+  collect-agrees (end at) before s own H a p c b = (c, b)
+  collect-agrees (cut at) before s own H a p c b = (c, b)
+  collect-agrees (next at tag v fs) before s own H a p c b =
+      let q = accepted at tag v fs before s a in
+      let low : block + 1 ≤ at = p .0 in
+      let rest : Placed bs (block + 1) fs = placed-from-lower bs (at + 3) (block + 1) fs (omega arith) (p .2) in
+      field-agrees at tag v fs own H (λ l. collect-agrees fs (field tag v ∷ before) (passed tag s) own H (q .1) rest c l)
+      (endsBlock tag) (eqb tag 4) c b
+      (λ e l.
+      let h : Head v = head-known v (subst (λ t. isKnown t v ≡ true) (eqb-true tag 4 e) (q .0 .known)) in
+      let behind : at + 3 ≤ endOf fs = placed-end bs (at + 3) fs (p .2) in
+      head-agrees at tag v fs own H (λ l. collect-agrees fs (field tag v ∷ before) (passed tag s) own H (q .1) rest c l)
+      (head-same bs E own block H c at (p .1) h)
+      (collect-agrees fs (field tag v ∷ before) (passed tag s) (entryOf (headOf v) ∷ own) (withHead bs at H) (q .1) rest
+      (head-more bs E own block H c at (p .1) h (omega arith)) (below-more H (getD bs (at + 3) 0) at (endOf fs) l (omega arith))))

@@ -1,0 +1,102 @@
+-- Laws of the walk over a block that collects its heads: what is left gives what the whole gives.
+use Prim.Native.Nat.{ℕ, _+_}
+use mathlib.Core.Path.{_≡_, refl, sym, ap, ap₂, _∙_}
+use mathlib.Core.Bool.{Bool, true, false}
+use mathlib.Core.List.{List}
+use lib.Dec.{eqb}
+use lib.ListN.{length, drop}
+use borrow.Author.Tests.{eq-eqb, ne-eqb}
+use Rattle.answers.specs.declared.Verdict.{Verdict}
+use Rattle.answers.specs.declared.Verdict.the-variants.{Passed, Refused}
+use Rattle.answers.specs.Refusals.{refusal}
+use Rattle.spellings.specs.BytesLaws.{by-test}
+use Rattle.grammar.specs.declared.Front.{Front}
+use Rattle.grammar.specs.declared.Front.the-variants.{Nothing, Short, Field}
+use Rattle.grammar.specs.Fields.{Fields, next}
+use Rattle.grammar.specs.Lookup.{frontOf, fieldsAt}
+pub use Rattle.grammar.proofs.LookupLaws.{front-inside}
+use Rattle.grammar.proofs.LookupLaws.{opened, fields-at}
+use Rattle.sorts.specs.ByFields.{endsBlock}
+use Rattle.sorts.specs.ByBytes.{faultOf, faultAt, withHead, headsAfter, Collected, collected, collectFrom}
+use Rattle.sorts.proofs.TemplateInduction.{choose}
+
+pub record Collecting (bs : List ℕ) (block from : ℕ) (H₀ : List ℕ) (at : ℕ) (H : List ℕ) : Type 0 where
+  pub as-many : length H ≡ length H₀
+  pub rest : collectFrom (fieldsAt bs at) bs block H ≡ collectFrom (fieldsAt bs from) bs block H₀
+
+pub collecting-start : (bs : List ℕ) (block from : ℕ) (H₀ : List ℕ) → Collecting bs block from H₀ from H₀
+collecting-start bs block from H₀ = record { as-many = refl; rest = refl }
+
+-- one field, by the tests of its tag and of its head
+collect-field :
+    (bs : List ℕ) (block at tag : ℕ) (v : List ℕ) (fs : Fields) (H : List ℕ) (ends head clean : Bool) → endsBlock tag ≡ ends
+    → eqb tag 4 ≡ head → eqb (faultOf bs at block H) 0 ≡ clean
+    → collectFrom (next at tag v fs) bs block H
+    ≡ choose (collected Passed H)
+    (choose
+    (choose (collectFrom fs bs block (withHead bs at H)) (collected (Refused (refusal (faultOf bs at block H) at 0 0)) H) clean)
+    (collectFrom fs bs block H) head)
+    ends
+unfolding collectFrom
+collect-field bs block at tag v fs H ends head clean e f g =
+    let heads : Bool → Collected =
+    choose (collectFrom fs bs block (withHead bs at H)) (collected (Refused (refusal (faultOf bs at block H) at 0 0)) H) in
+    let other : Collected = collectFrom fs bs block H in
+    ap (choose (collected Passed H) (choose (heads (eqb (faultOf bs at block H) 0)) other (eqb tag 4))) e
+    ∙ ap (λ x. choose (collected Passed H) (choose (heads (eqb (faultOf bs at block H) 0)) other x) ends) f
+    ∙ ap (λ x. choose (collected Passed H) (choose (heads x) other head) ends) g
+
+module _ {bs : List ℕ} {block from : ℕ} {H₀ : List ℕ} {at : ℕ} {H : List ℕ} (c : Collecting bs block from H₀ at H) where
+  left : {r : Front} → r ≡ frontOf (drop at bs) → collectFrom (opened bs at r) bs block H ≡ collectFrom (fieldsAt bs from) bs block H₀
+  left e = ap (λ fs. collectFrom fs bs block H) (sym (fields-at bs at e)) ∙ c .rest
+
+  pub collecting-nothing : Nothing ≡ frontOf (drop at bs) → collected Passed H ≡ collectFrom (fieldsAt bs from) bs block H₀
+  unfolding collectFrom
+  collecting-nothing e = left e
+
+  pub collecting-short : Short ≡ frontOf (drop at bs) → collected Passed H ≡ collectFrom (fieldsAt bs from) bs block H₀
+  unfolding collectFrom
+  collecting-short e = left e
+
+  module _ {tag n : ℕ} (e : Field tag n ≡ frontOf (drop at bs)) where
+    pub collecting-ends : endsBlock tag ≡ true → collected Passed H ≡ collectFrom (fieldsAt bs from) bs block H₀
+    collecting-ends f = sym (collect-field bs block at tag _ _ H true (eqb tag 4) (eqb (faultOf bs at block H) 0) f refl refl) ∙ left e
+
+    module _ {fault : ℕ} {H′ : List ℕ} (f : endsBlock tag ≡ false) (h : fault ≡ faultAt tag bs at block H) (k : H′ ≡ headsAfter tag fault bs at H) where
+      -- what the field is, by the tests of its tag and of its head
+      field-is : (head clean : Bool) → eqb tag 4 ≡ head → eqb (faultOf bs at block H) 0 ≡ clean
+          → choose
+          (choose (collectFrom (fieldsAt bs (at + 3 + n)) bs block (withHead bs at H))
+          (collected (Refused (refusal (faultOf bs at block H) at 0 0)) H) clean)
+          (collectFrom (fieldsAt bs (at + 3 + n)) bs block H) head
+          ≡ collectFrom (fieldsAt bs from) bs block H₀
+      field-is head clean p q = sym (collect-field bs block at tag _ _ H false head clean f p q) ∙ left e
+
+      head-fault : eqb tag 4 ≡ true → fault ≡ faultOf bs at block H
+      head-fault p = h ∙ ap (choose (faultOf bs at block H) 0) p
+
+      heads-are : (clean : Bool) → eqb tag 4 ≡ true → eqb fault 0 ≡ clean → H′ ≡ choose (withHead bs at H) H clean
+      heads-are clean p q = k ∙ ap₂ (λ x y. choose (choose (withHead bs at H) H y) H x) p q
+
+      pub collecting-fault :
+          {r : Verdict} → r ≡ Refused (refusal fault at 0 0) → (fault ≡ 0 → ⊥) → collected r H′ ≡ collectFrom (fieldsAt bs from) bs block H₀
+      collecting-fault q z =
+          by-test (eqb tag 4)
+          (λ p.
+          ap₂ collected (q ∙ ap (λ x. Refused (refusal x at 0 0)) (head-fault p)) (heads-are false p (ne-eqb fault 0 z))
+          ∙ field-is true false p (ap (λ x. eqb x 0) (sym (head-fault p)) ∙ ne-eqb fault 0 z))
+          (λ p. absurd (z (h ∙ ap (choose (faultOf bs at block H) 0) p)))
+
+      pub collecting-next : length H′ ≡ length H → fault ≡ 0 → Collecting bs block from H₀ (at + 3 + n) H′
+      collecting-next l z =
+          record {
+            as-many = l ∙ c .as-many;
+            rest =
+                by-test (eqb tag 4)
+                (λ p.
+                ap (collectFrom (fieldsAt bs (at + 3 + n)) bs block) (heads-are true p (eq-eqb fault 0 z))
+                ∙ field-is true true p (ap (λ x. eqb x 0) (sym (head-fault p)) ∙ eq-eqb fault 0 z))
+                (λ p.
+                ap (collectFrom (fieldsAt bs (at + 3 + n)) bs block) (k ∙ ap (choose (choose (withHead bs at H) H (eqb fault 0)) H) p)
+                ∙ field-is false (eqb (faultOf bs at block H) 0) p refl);
+          }

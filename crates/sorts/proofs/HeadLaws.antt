@@ -1,0 +1,103 @@
+-- Laws of the heads of definitions: their signatures, their refusals, and the walk over a block that collects them.
+use Prim.Native.Nat.{ℕ, zero, suc, _+_, _-_, _*_, _≤_, _<_}
+use mathlib.Core.Path.{_≡_, refl, sym, ap, ap₂, _∙_}
+use mathlib.Core.Bool.{Bool, true, false, _&&_, _||_}
+use mathlib.Core.List.{List, [], _∷_}
+use native.Mathlib.Omega.{arith}
+use native.Mathlib.Nat.{add-assoc}
+use lib.Dec.{eqb, leb, ltb}
+use lib.ListN.{length, getD, take, drop, set, length-take, length-drop, drop-of-length-le}
+use lib.Seq.{take-all, take-nil, take-take, drop-drop, set-out}
+use borrow.Author.Tests.{eq-eqb, ne-eqb}
+use Rattle.spellings.specs.Bytes.{same}
+use Rattle.sorts.specs.ByBytes.{valueAt, signatureAt, faultOf, faultAt, withHead, headsAfter}
+use Rattle.sorts.proofs.TemplateInduction.{choose}
+
+-- ------------------------------------------------------------------ signatures
+
+drop-two : (n : ℕ) (l : List ℕ) → drop 2 (take n l) ≡ take (n - 2) (drop 2 l)
+drop-two zero l = refl
+drop-two (suc zero) [] = refl
+drop-two (suc zero) (x ∷ l) = refl
+drop-two (suc (suc n)) [] = sym (take-nil (suc (suc n) - 2))
+drop-two (suc (suc n)) (x ∷ []) = sym (take-nil (suc (suc n) - 2))
+drop-two (suc (suc n)) (x ∷ y ∷ l) = let e : n ≡ suc (suc n) - 2 = omega arith in ap (λ k. take k l) e
+
+module _ (bs : List ℕ) (at : ℕ) {hi lo : ℕ} (e : hi ≡ getD bs (at + 1) 0) (f : lo ≡ getD bs (at + 2) 0) where
+  signature-is : signatureAt bs at ≡ take 5 (take (hi * 256 + lo - 2) (drop (at + 5) bs))
+  unfolding signatureAt
+  signature-is =
+      ap₂ (λ x y. take 5 (drop 2 (take (x * 256 + y) (drop (at + 3) bs)))) (sym e) (sym f)
+      ∙ ap (take 5) (drop-two (hi * 256 + lo) (drop (at + 3) bs))
+      ∙ ap (λ l. take 5 (take (hi * 256 + lo - 2) l)) (drop-drop 2 (at + 3) bs ∙ ap (λ k. drop k bs) (add-assoc at 3 2))
+
+  pub signature-none : hi * 256 + lo < 2 → take 0 (drop (at + 5) bs) ≡ signatureAt bs at
+  signature-none h =
+      let z : 0 ≡ hi * 256 + lo - 2 = omega arith in
+      ap (λ k. take 5 (take k (drop (at + 5) bs))) z ∙ sym signature-is
+
+  pub signature-some : hi * 256 + lo < 7 → take (hi * 256 + lo - 2) (drop (at + 5) bs) ≡ signatureAt bs at
+  signature-some h =
+      let n : ℕ = hi * 256 + lo - 2 in
+      let l : List ℕ = drop (at + 5) bs in
+      sym (take-all 5 (take n l) (omega (arith, length-take n l))) ∙ sym signature-is
+
+  pub signature-most : 7 ≤ hi * 256 + lo → take 5 (drop (at + 5) bs) ≡ signatureAt bs at
+  signature-most h = sym (take-take 5 (hi * 256 + lo - 2) (drop (at + 5) bs) (omega arith)) ∙ sym signature-is
+
+pub signature-short : (bs : List ℕ) (at : ℕ) → length (signatureAt bs at) ≤ 5
+unfolding signatureAt
+signature-short bs at = omega (arith, length-take 5 (drop 2 (valueAt bs at)))
+
+-- ------------------------------------------------------------------ refusals 7 and 8
+
+module _ (bs H : List ℕ) (at block : ℕ) {n mode h : ℕ} (e : n ≡ getD bs (at + 3) 0) (f : mode ≡ getD bs (at + 4) 0) (g : h ≡ getD H n 0) where
+  -- by the mode, and one test for each
+  faultBy : Bool → Bool → Bool → ℕ
+  faultBy earlier good new = choose (choose 0 8 good) (choose 0 7 new) earlier
+
+  fault-is : faultOf bs at block H ≡ faultBy (eqb mode 1 || eqb mode 2) (leb h block && ltb 0 h && same (signatureAt bs h) (signatureAt bs at)) (eqb h 0)
+  unfolding faultOf faultBy
+  fault-is =
+      let k : getD H (getD bs (at + 3) 0) 0 ≡ h = ap (λ i. getD H i 0) (sym e) ∙ sym g in
+      ap₂ (λ m x. faultBy (eqb m 1 || eqb m 2) (leb x block && ltb 0 x && same (signatureAt bs x) (signatureAt bs at)) (eqb x 0)) (sym f) k
+
+  pub fault-earlier :
+      {s s′ : List ℕ} {alike : Bool} → (eqb mode 1 || eqb mode 2) ≡ true → s ≡ signatureAt bs h → s′ ≡ signatureAt bs at → alike ≡ same s s′
+      → (good : Bool) → (leb h block && ltb 0 h && alike) ≡ good → choose 0 8 good ≡ faultOf bs at block H
+  unfolding faultBy
+  fault-earlier {s} {s′} {alike} m p q a good k =
+      let test : Bool = leb h block && ltb 0 h && same (signatureAt bs h) (signatureAt bs at) in
+      let b : test ≡ good = ap (λ x. leb h block && ltb 0 h && x) (sym (a ∙ ap₂ same p q)) ∙ k in
+      sym (fault-is ∙ ap (λ x. faultBy x test (eqb h 0)) m ∙ ap (choose 0 8) b)
+
+  pub fault-new : (eqb mode 1 || eqb mode 2) ≡ false → (new : Bool) → eqb h 0 ≡ new → choose 0 7 new ≡ faultOf bs at block H
+  unfolding faultBy
+  fault-new m new k =
+      let test : Bool = leb h block && ltb 0 h && same (signatureAt bs h) (signatureAt bs at) in
+      sym (fault-is ∙ ap (λ x. faultBy x test (eqb h 0)) m ∙ ap (choose 0 7) k)
+
+-- ------------------------------------------------------------------ one head more
+
+module _ (bs H : List ℕ) (at tag : ℕ) where
+  -- no head
+  pub head-none : (block : ℕ) → (tag ≡ 4 → ⊥) → (0 ≡ faultAt tag bs at block H) × (H ≡ headsAfter tag 0 bs at H)
+  head-none block d =
+      let e : false ≡ eqb tag 4 = sym (ne-eqb tag 4 d) in
+      (ap (choose (faultOf bs at block H) 0) e, ap (choose (withHead bs at H) H) e)
+
+  -- the head's own refusal
+  pub head-fault : (block : ℕ) {fault : ℕ} → tag ≡ 4 → fault ≡ faultOf bs at block H → fault ≡ faultAt tag bs at block H
+  head-fault block e f = f ∙ ap (choose (faultOf bs at block H) 0) (sym (eq-eqb tag 4 e))
+
+  heads-are : (fault : ℕ) → tag ≡ 4 → (clean : Bool) → eqb fault 0 ≡ clean → choose (withHead bs at H) H clean ≡ headsAfter tag fault bs at H
+  heads-are fault e clean c = sym (ap₂ (λ x y. choose (choose (withHead bs at H) H y) H x) (eq-eqb tag 4 e) c)
+
+  pub head-refused : {fault : ℕ} → tag ≡ 4 → (fault ≡ 0 → ⊥) → H ≡ headsAfter tag fault bs at H
+  head-refused {fault} e h = heads-are fault e false (ne-eqb fault 0 h)
+
+  pub head-put : {n : ℕ} → tag ≡ 4 → n ≡ getD bs (at + 3) 0 → set H n at ≡ headsAfter tag 0 bs at H
+  head-put e f = ap (λ i. set H i at) f ∙ heads-are 0 e true refl
+
+  pub head-left : {n : ℕ} → tag ≡ 4 → n ≡ getD bs (at + 3) 0 → length H ≤ n → H ≡ headsAfter tag 0 bs at H
+  head-left {n} e f h = sym (set-out H n at h) ∙ head-put e f

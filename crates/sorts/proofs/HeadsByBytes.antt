@@ -1,0 +1,297 @@
+-- The heads collected from a table's bytes are the environment collected from its fields.
+use Prim.Native.Nat.{ℕ, suc, _+_, _*_, _≤_, _<_}
+use mathlib.Core.Path.{_≡_, refl, sym, ap, ap₂, subst⁻¹, _∙_}
+use mathlib.Core.Bool.{Bool, true, false, not, _&&_, _||_, true≢false}
+use mathlib.Core.List.{List, [], _∷_, _++_}
+use native.Mathlib.Omega.{arith}
+use native.Mathlib.Nat.{add-zero, add-assoc}
+use lib.Dec.{eqb, leb, ltb}
+use lib.ListN.{length, getD, take, drop, set, length-set, length-take}
+use lib.Seq.{take-all, getD-drop, getD-take, getD-set-same, getD-set-other}
+use borrow.Author.Tests.{eqb-true, eqb-false, eq-eqb, ne-eqb, lt-ltb, ltb-true, ltb-false, lt-leb, not-true}
+use Rattle.answers.specs.Refusals.{refusal}
+use Rattle.answers.specs.Checked.{Checked, ok, bad, need}
+use Rattle.spellings.specs.Bytes.{same}
+use Rattle.spellings.specs.BytesLaws.{by-test}
+use Rattle.grammar.specs.Sorts.{Signature}
+use Rattle.grammar.specs.Table.{variable, Mode, add, extend, update, Definition}
+use Rattle.grammar.specs.Encode.{modeCode, headValue}
+use Rattle.layout.specs.Decode.{definitionOf}
+use Rattle.layout.specs.Layout.{isKnown}
+use Rattle.layout.specs.Within.{each-none, each-more, variable-within}
+use Rattle.layout.proofs.Values.{head-value}
+use Rattle.sorts.specs.CheckSorts.{Entry, Env, entryOf, isDefined, signatureOf, sameSignature, isNew, isAsBefore, consistent}
+use Rattle.sorts.specs.ByFields.{headOf}
+use Rattle.sorts.specs.ByBytes.{valueAt, signatureAt, faultOf, withHead}
+use Rattle.sorts.proofs.TemplateInduction.{choose}
+use Rattle.sorts.proofs.HeadLaws.{fault-earlier, fault-new}
+use Rattle.sorts.proofs.Environments.{defined-here, defined-later, signature-here, signature-later}
+
+-- ------------------------------------------------------------------ a head
+
+-- a known head: nonterminal, mode, result, parameters
+pub record Head (v : List ℕ) : Type 0 where
+  pub nonterminal : ℕ
+  pub mode : Mode
+  pub result : ℕ
+  pub params : List ℕ
+  pub shape : v ≡ nonterminal ∷ modeCode mode ∷ result ∷ params
+  pub low : nonterminal < 64
+  pub few : length params ≤ 4
+
+pub head-known : (v : List ℕ) → isKnown 4 v ≡ true → Head v
+unfolding definitionOf headValue
+head-known v e =
+    let h = head-value v e (record { items = []; result = variable 0 } ∷ [])
+    (each-more (record { items = each-none; itemCount = omega arith; result = variable-within (omega arith) }) each-none) (omega arith) in
+    let d : Definition = definitionOf v (record { items = []; result = variable 0 } ∷ []) in
+    let low : d .nonterminal ≤ 63 = h .1 .nonterminal in
+    record {
+      nonterminal = d .nonterminal;
+      mode = d .mode;
+      result = d .signature .result;
+      params = d .signature .params;
+      shape = h .0;
+      low = omega arith;
+      few = h .1 .paramCount;
+    }
+
+-- a signature's bytes: the result, then the parameters
+abbrev pub bytesOf : Signature → List ℕ
+bytesOf S = S .result ∷ S .params
+
+mode-of : (m : Mode) (n r : ℕ) (ps : List ℕ) → headOf (n ∷ modeCode m ∷ r ∷ ps) .mode ≡ m
+unfolding definitionOf
+mode-of add n r ps = refl
+mode-of extend n r ps = refl
+mode-of update n r ps = refl
+
+module _ (bs : List ℕ) (at : ℕ) {v : List ℕ} (p : v ≡ valueAt bs at) (h : Head v) where
+  -- the bytes of the table that hold it
+  byte-at : (i x : ℕ) → i < 3 → getD (h .nonterminal ∷ modeCode (h .mode) ∷ h .result ∷ h .params) i 0 ≡ x → getD bs (at + 3 + i) 0 ≡ x
+  byte-at i x l e =
+      let size : ℕ = getD bs (at + 1) 0 * 256 + getD bs (at + 2) 0 in
+      let long : suc (suc (suc (length (h .params)))) ≡ length (valueAt bs at) = ap length (sym (h .shape) ∙ p) in
+      sym (getD-drop (at + 3) bs i 0)
+      ∙ sym (getD-take size (drop (at + 3) bs) i 0 (omega (arith, length-take size (drop (at + 3) bs))))
+      ∙ ap (λ w. getD w i 0) (sym p ∙ h .shape)
+      ∙ e
+
+  pub head-nonterminal : getD bs (at + 3) 0 ≡ h .nonterminal
+  head-nonterminal = ap (λ k. getD bs k 0) (sym (add-zero (at + 3))) ∙ byte-at 0 (h .nonterminal) (omega arith) refl
+
+  pub head-mode : getD bs (at + 4) 0 ≡ modeCode (h .mode)
+  head-mode = ap (λ k. getD bs k 0) (sym (add-assoc at 3 1)) ∙ byte-at 1 (modeCode (h .mode)) (omega arith) refl
+
+  pub head-signature : signatureAt bs at ≡ bytesOf (headOf v .signature)
+  unfolding signatureAt definitionOf
+  head-signature =
+      ap (λ w. take 5 (drop 2 w)) (sym p)
+      ∙ ap (λ w. take 5 (drop 2 w)) (h .shape)
+      ∙ take-all 5 (h .result ∷ h .params) (omega (arith, h .few))
+      ∙ ap (λ w. bytesOf (headOf w .signature)) (sym (h .shape))
+
+pub head-of-nonterminal : {v : List ℕ} (h : Head v) → headOf v .nonterminal ≡ h .nonterminal
+unfolding definitionOf
+head-of-nonterminal h = ap (λ w. headOf w .nonterminal) (h .shape)
+
+pub head-of-mode : {v : List ℕ} (h : Head v) → headOf v .mode ≡ h .mode
+head-of-mode h = ap (λ w. headOf w .mode) (h .shape) ∙ mode-of (h .mode) (h .nonterminal) (h .result) (h .params)
+
+pub head-few : {v : List ℕ} (h : Head v) → length (headOf v .signature .params) ≤ 4
+unfolding definitionOf
+head-few h = subst⁻¹ (λ w. length (headOf w .signature .params) ≤ 4) (h .shape) (h .few)
+
+-- ------------------------------------------------------------------ environments
+
+-- one nonterminal: its head's offset is not 0 exactly if it is defined, and the head has its newest signature
+pub record Knows (bs : List ℕ) (E : Env) (H : List ℕ) (n : ℕ) : Type 0 where
+  pub defined : ltb 0 (getD H n 0) ≡ isDefined E n
+  pub shown : isDefined E n ≡ true → signatureAt bs (getD H n 0) ≡ bytesOf (signatureOf E n)
+
+-- an environment followed by another
+append-defined : (own E : Env) (n : ℕ) → isDefined (own ++ E) n ≡ (isDefined own n || isDefined E n)
+unfolding isDefined
+append-defined [] E n = refl
+append-defined (e ∷ own) E n =
+    by-test (eqb (e .nonterminal) n)
+    (λ q. defined-here e (own ++ E) n q ∙ sym (ap (λ t. t || isDefined E n) (defined-here e own n q)))
+    (λ q.
+    defined-later e (own ++ E) n q
+    ∙ append-defined own E n
+    ∙ sym (ap (λ t. t || isDefined E n) (defined-later e own n q)))
+
+append-signature : (own E : Env) (n : ℕ) → isDefined own n ≡ false → signatureOf (own ++ E) n ≡ signatureOf E n
+unfolding isDefined
+append-signature [] E n h = refl
+append-signature (e ∷ own) E n h =
+    by-test (eqb (e .nonterminal) n) (λ q. absurd (true≢false (sym (defined-here e own n q) ∙ h)))
+    (λ q. signature-later e (own ++ E) n q ∙ append-signature own E n (sym (defined-later e own n q) ∙ h))
+
+-- what a block has defined lies behind its beginning
+pub record Collects (bs : List ℕ) (E own : Env) (block : ℕ) (H : List ℕ) : Type 0 where
+  pub size : length H ≡ 64
+  pub knows : (n : ℕ) → n < 64 → Knows bs (own ++ E) H n
+  pub here : (n : ℕ) → n < 64 → leb (getD H n 0) block ≡ not (isDefined own n)
+
+-- three tests, each of which is asked only after those before it
+three :
+    (a b c a′ b′ c′ : Bool) → a ≡ a′ → (a′ ≡ true → b ≡ b′) → (a′ ≡ true → b′ ≡ true → c ≡ c′) → (a && b && c) ≡ (a′ && b′ && c′)
+three a b c true true c′ e f g = ap₂ (λ x y. x && y && c) e (f refl) ∙ g refl refl
+three a b c true false c′ e f g = ap₂ (λ x y. x && y && c) e (f refl)
+three a b c false b′ c′ e f g = ap (λ x. x && b && c) e
+
+module _ (bs : List ℕ) (E own : Env) (block : ℕ) (H : List ℕ) (c : Collects bs E own block H) (at : ℕ) {v : List ℕ}
+    (p : v ≡ valueAt bs at) (h : Head v) where
+  n : ℕ
+  n = h .nonterminal
+
+  head : ℕ
+  head = getD H n 0
+
+  known-head : Knows bs (own ++ E) H n
+  unfolding n
+  known-head = c .knows n (h .low)
+
+  -- refusal 7: no head
+  new-same : eqb head 0 ≡ (not (isDefined own n) && not (isDefined E n))
+  unfolding head n
+  new-same =
+      zero-test head
+      ∙ ap not (known-head .defined ∙ append-defined own E n)
+      ∙ not-or (isDefined own n) (isDefined E n)
+    where
+      zero-test : (k : ℕ) → eqb k 0 ≡ not (ltb 0 k)
+      zero-test k =
+          by-test (ltb 0 k) (λ e. ne-eqb k 0 (λ z. let l : 0 < k = ltb-true 0 k e in omega arith) ∙ sym (ap not e))
+          (λ e. eq-eqb k 0 (let l : k ≤ 0 = ltb-false 0 k e in omega arith) ∙ sym (ap not e))
+
+      not-or : (a b : Bool) → not (a || b) ≡ (not a && not b)
+      not-or true b = refl
+      not-or false b = refl
+
+  -- refusal 8: a head before the block, with the same signature
+  before-same :
+      (leb head block && ltb 0 head && same (signatureAt bs head) (signatureAt bs at))
+      ≡ (not (isDefined own n) && isDefined E n && sameSignature (signatureOf E n) (headOf v .signature))
+  unfolding head n
+  before-same =
+      three (leb head block) (ltb 0 head) (same (signatureAt bs head) (signatureAt bs at)) (not (isDefined own n)) (isDefined E n)
+      (sameSignature (signatureOf E n) (headOf v .signature)) (c .here n (h .low))
+      (λ o. known-head .defined ∙ append-defined own E n ∙ ap (λ t. t || isDefined E n) (not-true (isDefined own n) o))
+      (λ o e.
+      let missing : isDefined own n ≡ false = not-true (isDefined own n) o in
+      let known : isDefined (own ++ E) n ≡ true = append-defined own E n ∙ ap (λ t. t || isDefined E n) missing ∙ e in
+      ap₂ same (known-head .shown known ∙ ap bytesOf (append-signature own E n missing)) (head-signature bs at p h))
+
+  -- the refusal of the head is that of the definition
+  outcome : ℕ → Checked (Unit {0})
+  outcome fault = choose (ok tt) (bad (refusal fault at 0 0)) (eqb fault 0)
+
+  need-outcome-7 : (t : Bool) → need t 7 at ≡ outcome (choose 0 7 t)
+  unfolding outcome
+  need-outcome-7 true = refl
+  need-outcome-7 false = refl
+
+  need-outcome-8 : (t : Bool) → need t 8 at ≡ outcome (choose 0 8 t)
+  unfolding outcome
+  need-outcome-8 true = refl
+  need-outcome-8 false = refl
+
+  numbered : headOf v .nonterminal ≡ n
+  unfolding n
+  numbered = head-of-nonterminal h
+
+  coded : {m : Mode} → h .mode ≡ m → modeCode m ≡ getD bs (at + 4) 0
+  coded q = sym (head-mode bs at p h ∙ ap modeCode q)
+
+  new-outcome : (eqb (modeCode (h .mode)) 1 || eqb (modeCode (h .mode)) 2) ≡ false → need (isNew E own (headOf v)) 7 at ≡ outcome (faultOf bs at block H)
+  unfolding head n
+  new-outcome m =
+      ap (λ k. need (not (isDefined own k) && not (isDefined E k)) 7 at) numbered
+      ∙ ap (λ t. need t 7 at) (sym new-same)
+      ∙ need-outcome-7 (eqb head 0)
+      ∙ ap outcome (fault-new bs H at block (sym (head-nonterminal bs at p h)) (coded refl) refl m (eqb head 0) refl)
+
+  before-outcome : (eqb (modeCode (h .mode)) 1 || eqb (modeCode (h .mode)) 2) ≡ true → need (isAsBefore E own (headOf v)) 8 at ≡ outcome (faultOf bs at block H)
+  unfolding head n
+  before-outcome m =
+      let good : Bool = leb head block && ltb 0 head && same (signatureAt bs head) (signatureAt bs at) in
+      ap (λ k. need (not (isDefined own k) && isDefined E k && sameSignature (signatureOf E k) (headOf v .signature)) 8 at) numbered
+      ∙ ap (λ t. need t 8 at) (sym before-same)
+      ∙ need-outcome-8 good
+      ∙ ap outcome (fault-earlier bs H at block (sym (head-nonterminal bs at p h)) (coded refl) refl m refl refl refl good refl)
+
+  pub head-same :
+      consistent (headOf v .mode) E own (headOf v) at
+      ≡ choose (ok tt) (bad (refusal (faultOf bs at block H) at 0 0)) (eqb (faultOf bs at block H) 0)
+  unfolding outcome
+  head-same = ap (λ m. consistent m E own (headOf v) at) (head-of-mode h) ∙ by (h .mode) refl
+    where
+      by : (m : Mode) → h .mode ≡ m → consistent m E own (headOf v) at ≡ outcome (faultOf bs at block H)
+      by add q = new-outcome (ap (λ m. eqb (modeCode m) 1 || eqb (modeCode m) 2) q)
+      by extend q = before-outcome (ap (λ m. eqb (modeCode m) 1 || eqb (modeCode m) 2) q)
+      by update q = before-outcome (ap (λ m. eqb (modeCode m) 1 || eqb (modeCode m) 2) q)
+
+  -- one head more
+  module _ (l : block < at) where
+    e : Entry
+    e = entryOf (headOf v)
+
+    heads : List ℕ
+    heads = withHead bs at H
+
+    placed : heads ≡ set H n at
+    unfolding heads n
+    placed = ap (λ k. set H k at) (head-nonterminal bs at p h)
+
+    own-head : getD heads n 0 ≡ at
+    unfolding heads n
+    own-head = ap (λ L. getD L n 0) placed ∙ getD-set-same H n at 0 (let k : n < 64 = h .low in omega (arith, c .size))
+
+    other-head : (j : ℕ) → (j ≡ n → ⊥) → getD heads j 0 ≡ getD H j 0
+    other-head j d = ap (λ L. getD L j 0) placed ∙ getD-set-other H n j at 0 d
+
+    -- the new head's nonterminal, or another one
+    this : (j : ℕ) → eqb n j ≡ true → eqb (e .nonterminal) j ≡ true
+    unfolding e
+    this j q = ap (λ k. eqb k j) numbered ∙ q
+
+    that : (j : ℕ) → eqb n j ≡ false → eqb (e .nonterminal) j ≡ false
+    unfolding e
+    that j q = ap (λ k. eqb k j) numbered ∙ q
+
+    this-head : (j : ℕ) → eqb n j ≡ true → getD heads j 0 ≡ at
+    this-head j q = ap (λ k. getD heads k 0) (sym (eqb-true n j q)) ∙ own-head
+
+    that-head : (j : ℕ) → eqb n j ≡ false → getD heads j 0 ≡ getD H j 0
+    that-head j q = other-head j (λ z. eqb-false n j q (sym z))
+
+    knows-more : (j : ℕ) → j < 64 → Knows bs (e ∷ own ++ E) heads j
+    unfolding e
+    knows-more j k =
+        by-test (eqb n j)
+        (λ q.
+        record {
+          defined = ap (ltb 0) (this-head j q) ∙ lt-ltb 0 at (omega arith) ∙ sym (defined-here e (own ++ E) j (this j q));
+          shown = λ d. ap (signatureAt bs) (this-head j q) ∙ head-signature bs at p h ∙ ap bytesOf (sym (signature-here e (own ++ E) j (this j q)));
+        })
+        (λ q.
+        let old = c .knows j k in
+        record {
+          defined = ap (ltb 0) (that-head j q) ∙ old .defined ∙ sym (defined-later e (own ++ E) j (that j q));
+          shown = λ d.
+              ap (signatureAt bs) (that-head j q)
+              ∙ old .shown (sym (defined-later e (own ++ E) j (that j q)) ∙ d)
+              ∙ ap bytesOf (sym (signature-later e (own ++ E) j (that j q)));
+        })
+
+    here-more : (j : ℕ) → j < 64 → leb (getD heads j 0) block ≡ not (isDefined (e ∷ own) j)
+    here-more j k =
+        by-test (eqb n j)
+        (λ q. ap (λ x. leb x block) (this-head j q) ∙ lt-leb at block l ∙ ap not (sym (defined-here e own j (this j q))))
+        (λ q. ap (λ x. leb x block) (that-head j q) ∙ c .here j k ∙ ap not (sym (defined-later e own j (that j q))))
+
+    pub head-more : Collects bs E (entryOf (headOf v) ∷ own) block (withHead bs at H)
+    unfolding e heads
+    head-more = record { size = length-set H (getD bs (at + 3) 0) at ∙ c .size; knows = knows-more; here = here-more }

@@ -1,0 +1,23 @@
+-- `add_sort`: one sort more, if there is room.
+use Rattle.sorts.proofs.BodyLaws as laws
+use borrow.Author.Needs.{needs}
+use Rattle.sorts.proofs.bodies.add_sort.Statement.{statement}
+use Rattle.sorts.proofs.bodies.add_sort.Tie as tie
+
+slice-write-sorts : tie.Need-slice-write-sorts
+slice-write-sorts c = search needs
+
+add-result : tie.Need-add-result
+add-result c = search needs
+
+same-length : tie.Need-same-length
+same-length c = search needs
+
+returns : tie.Need-returns
+returns c = laws.sort-added (c .before .args .sorts .now) (c .before .args .n) (c .before .args .s) (c .before .pre .1) (c .if1 .taken)
+
+returns-2 : tie.Need-returns-2
+returns-2 c = laws.sort-left (c .before .args .sorts .now) (c .before .args .n) (c .before .args .s) (c .before .pre .1) (c .if1 .left) (c .before .pre .0)
+
+pub add-sort-spec : {M : Type 1} → statement M
+add-sort-spec = tie.close (tie.spec slice-write-sorts add-result same-length returns returns-2)

@@ -1,0 +1,54 @@
+-- `load_params`: what is copied is the front of the parameters.
+use borrow.Author.Needs.{needs}
+use Prim.Native.Nat.{_-_}
+use mathlib.Core.Path.{refl}
+use native.Mathlib.Omega.{arith}
+use lib.ListN.{length}
+use Rattle.sorts.proofs.BodyLaws as laws
+use Rattle.sorts.proofs.bodies.load_params.Statement.{statement}
+use Rattle.sorts.proofs.bodies.load_params.Tie as tie
+
+abbrev Inv-loop : tie.InvT-loop
+Inv-loop signature sorts₀ n₀ i₀ sorts n i = laws.Copying signature sorts₀ sorts n i
+
+abbrev μ-loop : tie.MeasureT-loop
+μ-loop signature sorts₀ n₀ i₀ sorts n i = length signature - i
+
+loop-holds : tie.Need-loop-holds Inv-loop μ-loop
+loop-holds c = laws.copying-start _ _
+
+shared-slice-read-sorts : tie.Need-shared-slice-read-sorts Inv-loop μ-loop
+shared-slice-read-sorts c = search needs
+
+slice-write-sorts : tie.Need-slice-write-sorts Inv-loop μ-loop
+slice-write-sorts c = omega (arith, c .before .before .loop .inv, c .before .before .before .pre)
+
+add-i : tie.Need-add-i Inv-loop μ-loop
+add-i c = search needs
+
+loop-less : tie.Need-loop-less Inv-loop μ-loop
+loop-less c = search needs
+
+loop-again : tie.Need-loop-again Inv-loop μ-loop
+loop-again c = laws.copying-next _ _ (c .before .before .before .pre) (c .before .before .loop .inv) (c .before .loop-test .taken) refl
+
+same-length : tie.Need-same-length Inv-loop μ-loop
+same-length c = c .before .loop .inv .as-many
+
+returns : tie.Need-returns Inv-loop μ-loop
+returns c = laws.copying-end _ _ (c .before .loop .inv) (c .loop-test .left)
+
+pub load-params-spec : {M : Type 1} → statement M
+load-params-spec =
+    tie.close
+    (tie.spec
+    Inv-loop
+    μ-loop
+    loop-holds
+    shared-slice-read-sorts
+    slice-write-sorts
+    add-i
+    loop-less
+    loop-again
+    same-length
+    returns)

@@ -1,0 +1,60 @@
+-- `open_params`: the parameters from the last to the first.
+use borrow.Author.Needs.{needs}
+use mathlib.Core.Path.{refl}
+use native.Mathlib.Omega.{arith}
+use Rattle.sorts.proofs.BodyLaws as laws
+use Rattle.sorts.proofs.bodies.open_params.Statement.{statement}
+use Rattle.sorts.proofs.bodies.open_params.Tie as tie
+
+abbrev Inv-loop : tie.InvT-loop
+Inv-loop signature stack₀ top₀ j₀ stack top j = laws.Loading signature stack₀ stack top j
+
+abbrev μ-loop : tie.MeasureT-loop
+μ-loop signature stack₀ top₀ j₀ stack top j = j
+
+returns : tie.Need-returns Inv-loop μ-loop
+returns c = laws.params-none (c .before .args .signature .now) (c .before .args .stack .now) (c .if1 .taken)
+
+loop-holds : tie.Need-loop-holds Inv-loop μ-loop
+loop-holds c = laws.loading-start _ _ (c .if1 .left)
+
+sub-j : tie.Need-sub-j Inv-loop μ-loop
+sub-j c = search needs
+
+shared-slice-read-stack : tie.Need-shared-slice-read-stack Inv-loop μ-loop
+shared-slice-read-stack c = omega (arith, c .before .before .loop .inv)
+
+slice-write-stack : tie.Need-slice-write-stack Inv-loop μ-loop
+slice-write-stack c = omega (arith, c .before .before .loop .inv, c .before .before .before .before .pre)
+
+add-top : tie.Need-add-top Inv-loop μ-loop
+add-top c = omega (arith, c .before .before .loop .inv)
+
+loop-less : tie.Need-loop-less Inv-loop μ-loop
+loop-less c = search needs
+
+loop-again : tie.Need-loop-again Inv-loop μ-loop
+loop-again c = laws.loading-next _ _ (c .before .before .before .before .pre) (c .before .before .loop .inv) (c .before .loop-test .taken) refl
+
+same-length : tie.Need-same-length Inv-loop μ-loop
+same-length c = c .before .loop .inv .as-many
+
+returns-2 : tie.Need-returns-2 Inv-loop μ-loop
+returns-2 c = laws.loading-end _ _ (c .before .loop .inv) (c .loop-test .left)
+
+pub open-params-spec : {M : Type 1} → statement M
+open-params-spec =
+    tie.close
+    (tie.spec
+    Inv-loop
+    μ-loop
+    returns
+    loop-holds
+    sub-j
+    shared-slice-read-stack
+    slice-write-stack
+    add-top
+    loop-less
+    loop-again
+    same-length
+    returns-2)

@@ -1,0 +1,98 @@
+-- `collect`: the fields left give what all of them give.
+use borrow.Author.Needs.{needs}
+use Prim.Native.Nat.{_-_}
+use mathlib.Core.Path.{sym, _∙_}
+use native.Mathlib.Omega.{arith}
+use lib.ListN.{length}
+use Rattle.sorts.proofs.CollectLaws as laws
+use Rattle.sorts.proofs.heads.collect.Statement.{statement}
+use Rattle.sorts.proofs.heads.collect.Tie as tie
+
+abbrev Inv-loop : tie.InvT-loop
+Inv-loop table block from heads₀ at₀ heads at = laws.Collecting table block from heads₀ at heads
+
+abbrev μ-loop : tie.MeasureT-loop
+μ-loop table block from heads₀ at₀ heads at = length table - at
+
+loop-holds : tie.Need-loop-holds Inv-loop μ-loop
+loop-holds c = laws.collecting-start _ _ _ _
+
+front-at-requires : tie.Need-front-at-requires Inv-loop μ-loop
+front-at-requires c κs = search needs
+
+enum-told : tie.Need-enum-told Inv-loop μ-loop
+enum-told c = search needs
+
+same-length : tie.Need-same-length Inv-loop μ-loop
+same-length c = c .before .before .before .loop .inv .as-many
+
+returns : tie.Need-returns Inv-loop μ-loop
+returns c = laws.collecting-nothing (c .before .before .before .loop .inv) (sym (c .enum-told .given .1) ∙ c .before .before .front-at .ensures)
+
+enum-told-2 : tie.Need-enum-told-2 Inv-loop μ-loop
+enum-told-2 c = search needs
+
+same-length-2 : tie.Need-same-length-2 Inv-loop μ-loop
+same-length-2 c = c .before .before .before .loop .inv .as-many
+
+returns-2 : tie.Need-returns-2 Inv-loop μ-loop
+returns-2 c = laws.collecting-short (c .before .before .before .loop .inv) (sym (c .enum-told2 .given .1) ∙ c .before .before .front-at .ensures)
+
+enum-known-front : tie.Need-enum-known-front Inv-loop μ-loop
+enum-known-front c = search needs
+
+add-to : tie.Need-add-to Inv-loop μ-loop
+add-to c = omega (arith, laws.front-inside (c .before .before .before .before .before .before .before .args .table .now) (c .before .before .before .before .loop .at) (sym (c .before .front .given .1) ∙ c .before .before .before .front-at .ensures))
+
+add-to-2 : tie.Need-add-to-2 Inv-loop μ-loop
+add-to-2 c = omega (arith, laws.front-inside (c .before .before .before .before .before .before .before .args .table .now) (c .before .before .before .before .loop .at) (sym (c .before .front .given .1) ∙ c .before .before .before .front-at .ensures))
+
+same-length-3 : tie.Need-same-length-3 Inv-loop μ-loop
+same-length-3 c = c .before .before .before .before .before .loop .inv .as-many
+
+returns-3 : tie.Need-returns-3 Inv-loop μ-loop
+returns-3 c = laws.collecting-ends (c .before .before .before .before .before .loop .inv) (sym (c .before .before .front .given .1) ∙ c .before .before .before .before .front-at .ensures) (c .if1 .taken)
+
+define-requires : tie.Need-define-requires Inv-loop μ-loop
+define-requires c κs = omega (arith, laws.front-inside (c .before .before .before .before .before .before .before .before .before .args .table .now) (c .before .before .before .before .before .before .loop .at) (sym (c .before .before .before .front .given .1) ∙ c .before .before .before .before .before .front-at .ensures), c .before .before .before .before .before .before .before .before .before .pre)
+
+refused-requires : tie.Need-refused-requires Inv-loop μ-loop
+refused-requires c κs = search needs
+
+same-length-4 : tie.Need-same-length-4 Inv-loop μ-loop
+same-length-4 c = c .before .before .before .before .define .kept .1 .1 .1 .1 .0 ∙ c .before .before .before .before .before .before .before .before .before .before .before .loop .inv .as-many
+
+returns-4 : tie.Need-returns-4 Inv-loop μ-loop
+returns-4 c = laws.collecting-fault (c .before .before .before .before .before .before .before .before .before .before .before .loop .inv) (sym (c .before .before .before .before .before .before .before .before .front .given .1) ∙ c .before .before .before .before .before .before .before .before .before .before .front-at .ensures) (c .before .before .before .before .before .before .if1 .left) (c .before .before .before .before .define .ensures .0) (c .before .before .before .before .define .ensures .1) (c .refused .ensures) (c .before .if2 .taken)
+
+loop-less : tie.Need-loop-less Inv-loop μ-loop
+loop-less c = omega (arith, laws.front-inside (c .before .before .before .before .before .before .before .before .before .before .before .before .before .args .table .now) (c .before .before .before .before .before .before .before .before .before .before .loop .at) (sym (c .before .before .before .before .before .before .before .front .given .1) ∙ c .before .before .before .before .before .before .before .before .before .front-at .ensures))
+
+loop-again : tie.Need-loop-again Inv-loop μ-loop
+loop-again c = laws.collecting-next (c .before .before .before .before .before .before .before .before .before .before .loop .inv) (sym (c .before .before .before .before .before .before .before .front .given .1) ∙ c .before .before .before .before .before .before .before .before .before .front-at .ensures) (c .before .before .before .before .before .if1 .left) (c .before .before .before .define .ensures .0) (c .before .before .before .define .ensures .1) (c .before .before .before .define .kept .1 .1 .1 .1 .0) (c .if2 .left)
+
+pub collect-spec : {M : Type 1} → statement M
+collect-spec =
+    tie.close
+    (tie.spec
+    Inv-loop
+    μ-loop
+    loop-holds
+    front-at-requires
+    enum-told
+    same-length
+    returns
+    enum-told-2
+    same-length-2
+    returns-2
+    enum-known-front
+    add-to
+    add-to-2
+    same-length-3
+    returns-3
+    define-requires
+    refused-requires
+    same-length-4
+    returns-4
+    loop-less
+    loop-again)

@@ -1,0 +1,60 @@
+-- `fault_of`: by the mode, one test for each.
+use mathlib.Core.Bool.{true, false}
+use borrow.Author.Tests.{eq-eqb, ne-eqb}
+use Rattle.sorts.proofs.HeadLaws as laws
+use borrow.Author.Needs.{needs}
+use Rattle.sorts.proofs.heads.fault_of.Statement.{statement}
+use Rattle.sorts.proofs.heads.fault_of.Tie as tie
+
+add-byte : tie.Need-add-byte
+add-byte c = search needs
+
+byte-requires : tie.Need-byte-requires
+byte-requires c κs = search needs
+
+add-byte-2 : tie.Need-add-byte-2
+add-byte-2 c = search needs
+
+byte-requires-2 : tie.Need-byte-requires-2
+byte-requires-2 c κs = search needs
+
+head-of-requires : tie.Need-head-of-requires
+head-of-requires c κs = search needs
+
+signature-at-requires : tie.Need-signature-at-requires
+signature-at-requires c κs = c .before .head-of .ensures .1
+
+signature-at-requires-2 : tie.Need-signature-at-requires-2
+signature-at-requires-2 c κs = search needs
+
+equal-requires : tie.Need-equal-requires
+equal-requires c κs = search needs
+
+returns : tie.Need-returns
+returns c = laws.fault-earlier (c .before .before .before .before .before .before .before .before .before .before .args .table .now) (c .before .before .before .before .before .before .before .before .before .before .args .heads .now) (c .before .before .before .before .before .before .before .before .before .before .args .at) (c .before .before .before .before .before .before .before .before .before .before .args .block) (c .before .before .before .before .before .before .before .byte .ensures) (c .before .before .before .before .before .before .byte2 .ensures) (c .before .before .before .before .before .head-of .ensures .0) (c .before .before .before .before .if1 .taken) (c .before .before .before .signature-at .ensures) (c .before .before .signature-at2 .ensures) (c .before .equal .ensures) true (c .if2 .taken)
+
+returns-2 : tie.Need-returns-2
+returns-2 c = laws.fault-earlier (c .before .before .before .before .before .before .before .before .before .before .args .table .now) (c .before .before .before .before .before .before .before .before .before .before .args .heads .now) (c .before .before .before .before .before .before .before .before .before .before .args .at) (c .before .before .before .before .before .before .before .before .before .before .args .block) (c .before .before .before .before .before .before .before .byte .ensures) (c .before .before .before .before .before .before .byte2 .ensures) (c .before .before .before .before .before .head-of .ensures .0) (c .before .before .before .before .if1 .taken) (c .before .before .before .signature-at .ensures) (c .before .before .signature-at2 .ensures) (c .before .equal .ensures) false (c .if2 .left)
+
+returns-3 : tie.Need-returns-3
+returns-3 c = laws.fault-new (c .before .before .before .before .before .before .before .args .table .now) (c .before .before .before .before .before .before .before .args .heads .now) (c .before .before .before .before .before .before .before .args .at) (c .before .before .before .before .before .before .before .args .block) (c .before .before .before .before .byte .ensures) (c .before .before .before .byte2 .ensures) (c .before .before .head-of .ensures .0) (c .before .if1 .left) true (eq-eqb _ 0 (c .if3 .taken))
+
+returns-4 : tie.Need-returns-4
+returns-4 c = laws.fault-new (c .before .before .before .before .before .before .before .args .table .now) (c .before .before .before .before .before .before .before .args .heads .now) (c .before .before .before .before .before .before .before .args .at) (c .before .before .before .before .before .before .before .args .block) (c .before .before .before .before .byte .ensures) (c .before .before .before .byte2 .ensures) (c .before .before .head-of .ensures .0) (c .before .if1 .left) false (ne-eqb _ 0 (c .if3 .left))
+
+pub fault-of-spec : {M : Type 1} → statement M
+fault-of-spec =
+    tie.close
+    (tie.spec
+    add-byte
+    byte-requires
+    add-byte-2
+    byte-requires-2
+    head-of-requires
+    signature-at-requires
+    signature-at-requires-2
+    equal-requires
+    returns
+    returns-2
+    returns-3
+    returns-4)

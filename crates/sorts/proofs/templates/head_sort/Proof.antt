@@ -1,0 +1,31 @@
+-- `head_sort`: test by test.
+use Rattle.sorts.proofs.TemplateLoops as laws
+use borrow.Author.Needs.{needs}
+use Rattle.sorts.proofs.templates.head_sort.Statement.{statement}
+use Rattle.sorts.proofs.templates.head_sort.Tie as tie
+
+wide-requires : tie.Need-wide-requires
+wide-requires c κs = search needs
+
+byte-requires : tie.Need-byte-requires
+byte-requires c κs = search needs
+
+returns : tie.Need-returns
+returns c = laws.variable-sort _ (c .byte .ensures) (c .before .wide .ensures) (c .before .before .if1 .taken)
+
+returns-2 : tie.Need-returns-2
+returns-2 c = laws.name-sort _ (c .if2 .taken)
+
+returns-3 : tie.Need-returns-3
+returns-3 c = laws.label-sort _ (c .if3 .taken)
+
+result-of-requires : tie.Need-result-of-requires
+result-of-requires c κs = search needs
+
+returns-4 : tie.Need-returns-4
+returns-4 c = laws.constructor-sort _ (c .result-of .ensures) (c .before .before .before .if1 .left) (c .before .before .if2 .left) (c .before .if3 .left)
+
+pub head-sort-spec : {M : Type 1} → statement M
+head-sort-spec =
+    tie.close
+    (tie.spec wide-requires byte-requires returns returns-2 returns-3 result-of-requires returns-4)

@@ -1,0 +1,63 @@
+-- `open_places`: the arguments from the last to the first.
+use borrow.Author.Needs.{needs}
+use native.Mathlib.Omega.{arith}
+use Rattle.sorts.proofs.TemplateLoops as laws
+use Rattle.sorts.proofs.templates.open_places.Statement.{statement}
+use Rattle.sorts.proofs.templates.open_places.Tie as tie
+
+abbrev Inv-loop : tie.InvT-loop
+Inv-loop stack₀ start b top₀ k₀ stack top k = laws.Opening stack₀ start b stack top k
+
+abbrev μ-loop : tie.MeasureT-loop
+μ-loop stack₀ start b top₀ k₀ stack top k = k
+
+returns : tie.Need-returns Inv-loop μ-loop
+returns c = laws.opening-none _ _ _ (c .if1 .taken)
+
+arity-of-requires : tie.Need-arity-of-requires Inv-loop μ-loop
+arity-of-requires c κs = search needs
+
+loop-holds : tie.Need-loop-holds Inv-loop μ-loop
+loop-holds c = laws.opening-start _ _ _ (c .arity-of .ensures)
+
+sub-k : tie.Need-sub-k Inv-loop μ-loop
+sub-k c = search needs
+
+argument-of-requires : tie.Need-argument-of-requires Inv-loop μ-loop
+argument-of-requires c κs = search needs
+
+slice-write-stack : tie.Need-slice-write-stack Inv-loop μ-loop
+slice-write-stack c = laws.opening-room _ _ _ (c .before .before .before .before .before .before .pre) (c .before .before .loop .inv) (c .before .loop-test .taken)
+
+add-top : tie.Need-add-top Inv-loop μ-loop
+add-top c = omega (arith, laws.opening-room _ _ _ (c .before .before .before .before .before .before .pre) (c .before .before .loop .inv) (c .before .loop-test .taken))
+
+loop-less : tie.Need-loop-less Inv-loop μ-loop
+loop-less c = search needs
+
+loop-again : tie.Need-loop-again Inv-loop μ-loop
+loop-again c = laws.opening-next _ _ _ (c .before .before .before .before .before .before .pre) (c .before .before .loop .inv) (c .before .loop-test .taken) (c .argument-of .ensures)
+
+same-length : tie.Need-same-length Inv-loop μ-loop
+same-length c = c .before .loop .inv .as-many
+
+returns-2 : tie.Need-returns-2 Inv-loop μ-loop
+returns-2 c = laws.opening-end _ _ _ (c .before .loop .inv) (c .loop-test .left) (c .before .before .before .if1 .left)
+
+pub open-places-spec : {M : Type 1} → statement M
+open-places-spec =
+    tie.close
+    (tie.spec
+    Inv-loop
+    μ-loop
+    returns
+    arity-of-requires
+    loop-holds
+    sub-k
+    argument-of-requires
+    slice-write-stack
+    add-top
+    loop-less
+    loop-again
+    same-length
+    returns-2)

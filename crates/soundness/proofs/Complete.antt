@@ -1,0 +1,339 @@
+-- Beside a derivation of Figure 3 an expansion goes the same way: it is accepted with the term derived, or refused at a limit that the
+-- derivation exceeds.
+use Prim.Native.Nat.{ℕ, zero, suc, _+_, _*_, _≤_, _<_, max}
+use mathlib.Core.Path.{_≡_, refl, sym, ap, subst, subst⁻¹, _∙_}
+use mathlib.Core.Bool.{Bool, true, false}
+use mathlib.Core.List.{List, [], _∷_, _++_}
+use native.Mathlib.Omega.{arith}
+use lib.Dec.{ltb}
+use lib.ListN.{length, getD, drop, drop-of-length-le, length-drop}
+use borrow.Author.Tests.{eq-eqb, ltb-true, ltb-false, le-ltb}
+use Rattle.spellings.specs.BytesLaws.{by-test}
+use Rattle.answers.specs.declared.Refusal.{Refusal}
+use Rattle.answers.specs.Refusals.{refusal}
+use Rattle.answers.specs.Checked.{ok}
+use Rattle.kinds.specs.Kinds.{wordKind, numberKind, keywordKind}
+use Rattle.grammar.specs.Sorts as Sorts
+use Rattle.grammar.specs.Table.{Template, Templates, Item, keyword, ide, number, local, call}
+use Rattle.sorts.specs.Judgements.{Body, by-binding}
+use Rattle.sorts.specs.Judgements as Judgements
+use Rattle.scanner.specs.declared.Token.{Token}
+use Rattle.productions.specs.Normal.{Production}
+use Rattle.firsts.specs.First.{checkFirsts}
+use Rattle.terms.specs.Term.{Name, Term, word, fresh}
+use Rattle.terms.specs.Rows.{termAt, nameOf}
+use Rattle.expansion.specs.declared.State.{State}
+use Rattle.expansion.specs.Run.{Result, done, halt, Run, after}
+use Rattle.expansion.specs.Expansion.{Input, ready, choice, endToken, nextToken, tokenTaken, take, buildAll, build, wordValue, runItem, runItems, callBegun, mostCalls, runCall, mostOpen, start, ended, run}
+use Rattle.expansion.specs.Figure3.{Value, name, label, num, term, Gives, GiveAll, Taken, Derives, by-end, by-keyword, by-ide-var, by-ide-binder, by-ide-label, by-number, by-local, by-call, Parses}
+use Rattle.expansion.specs.Costs.{rowsOf, rowsOfAll, openIn, callsIn, rowsIn, Beyond, too-deep, too-many, too-large, openCalls, allCalls, allRows, Exceeds}
+use Rattle.expansion.proofs.Shows.{Grown, grown-not, grown-trans, Shows, shows-unit, shows-name, shows-label, shows-num, shows-term, ShowAll, show-none, all-later, all-and, word-named, fresh-named}
+use Rattle.soundness.proofs.Building.{Ends, ends-after, ends-map, Full, Built, BuiltAll, build-ends, build-all-ends}
+use Rattle.soundness.proofs.Typing.{FitAll, taken-of, result-sorted}
+use Rattle.expansion.proofs.Choosing.{kindOf, kind-next, Picks, picks, picks-none, choice-picks, rule, taken-one}
+use Rattle.expansion.specs.Parsing.{input, SmallWords}
+use Rattle.soundness.proofs.Sound.{token-here, Kept, kept-made, kept-less, call-full, call-chosen}
+
+-- ------------------------------------------------------------------ the next token
+
+-- the first token of what is left, and what is left after it
+pub token-is : (tokens : List Token) (at : ℕ) {t : Token} {s : List Token} → drop at tokens ≡ t ∷ s → (getD tokens at endToken ≡ t) × (drop (at + 1) tokens ≡ s)
+token-is tokens at {t} {s} e =
+    by-test (ltb at (length tokens))
+    (λ b. let h : getD tokens at endToken ∷ drop (at + 1) tokens ≡ t ∷ s = sym (token-here tokens at (ltb-true at (length tokens) b)) ∙ e in ((cc), (cc)))
+    (λ b.
+    let n : _≡_ {A = ℕ} 0 (suc (length s)) = ap length (sym (drop-of-length-le tokens (ltb-false at (length tokens) b)) ∙ e) in
+    absurd (omega arith))
+
+pub take-done : (I : Input) (kind : ℕ) (value : ℕ → ℕ) (s : State) (cells : List ℕ) → nextToken I s .kind ≡ kind → take I kind value s cells ≡ done (value (nextToken I s .value)) (tokenTaken s) cells
+take-done I kind value s cells e = rw (eq-eqb (nextToken I s .kind) kind e, take) refl
+
+pub items-after : (C : ℕ → List ℕ → Run ℕ) (I : Input) (i : Item) (is : List Item) (xs : List ℕ) (s : State) (cells : List ℕ) (x : ℕ) (s′ : State) (cells′ : List ℕ)
+    → runItem C I i xs s cells ≡ done x s′ cells′ → runItems C I (i ∷ is) xs s cells ≡ runItems C I is (xs ++ (x ∷ [])) s′ cells′
+unfolding runItems
+items-after C I i is xs s cells x s′ cells′ e = ap (λ r. after r (λ y. runItems C I is (xs ++ (y ∷ [])))) e
+
+-- ------------------------------------------------------------------ limits
+
+pub beyond-more : {rows d o o′ c c′ m m′ : ℕ} → o ≤ o′ → c ≤ c′ → m ≤ m′ → (r : Refusal) → Beyond rows d o c m r → Beyond rows d o′ c′ m′ r
+beyond-more x y z r (too-deep e l) = too-deep e (omega arith)
+beyond-more x y z r (too-many e l) = too-many e (omega arith)
+beyond-more x y z r (too-large e l) = too-large e (omega arith)
+
+pub beyond-open : {rows d o c c′ m m′ : ℕ} → c ≤ c′ → m ≤ m′ → (r : Refusal) → Beyond rows d o c m r → Beyond rows (suc d) (o + 1) c′ m′ r
+beyond-open y z r (too-deep e l) = too-deep e (omega arith)
+beyond-open y z r (too-many e l) = too-many e (omega arith)
+beyond-open y z r (too-large e l) = too-large e (omega arith)
+
+full-beyond : {rows d o c m m′ : ℕ} → m ≤ m′ → (r : Refusal) → Full rows m r → Beyond rows d o c m′ r
+full-beyond z r h = too-large (h .is-21) (omega (arith, h .beyond))
+
+module _ {g : List Production} (F : FitAll g) (passed : checkFirsts g ≡ ok tt) (spell : ℕ → List ℕ) (tokens : List Token) (rows : ℕ) (small : SmallWords tokens) where
+  abbrev pub I : Input
+  I = input g tokens rows
+
+  abbrev pub from : State → List Token
+  from s = drop (s .at) tokens
+
+  -- the way from a state with b calls begun and m cells made: o calls open, c calls begun and n cells made, to the place t and the counter i
+  pub record Went (k d o c n : ℕ) (t : List Token) (i b m : ℕ) (cells : List ℕ) (s′ : State) (cells′ : List ℕ) : Type 0 where
+    pub grown : Grown m cells (s′ .made) cells′
+    pub kept : Kept rows k s′ cells′
+    pub place : from s′ ≡ t
+    pub counter : s′ .fresh ≡ i
+    pub calls-are : s′ .calls ≡ b + c
+    pub made-are : s′ .made ≡ m + n
+    pub deep : o ≤ d
+
+  abbrev pub Reached : (k d o c n : ℕ) → List Token → ℕ → List Value → ℕ → ℕ → List ℕ → List ℕ → State → List ℕ → Type 0
+  Reached k d o c n t i M b m cells xs s′ cells′ = Went k d o c n t i b m cells s′ cells′ × ShowAll spell (s′ .made) cells′ xs M
+
+  abbrev pub Gave : (k d o c n : ℕ) → List Token → ℕ → Value → ℕ → ℕ → List ℕ → ℕ → State → List ℕ → Type 0
+  Gave k d o c n t i v b m cells x s′ cells′ = Went k d o c n t i b m cells s′ cells′ × Shows spell (s′ .made) cells′ x v
+
+  -- the run of items beside a derivation with its costs
+  pub record Along (o c n : ℕ) (t : List Token) (i : ℕ) (is : List Item) (M M′ : List Value) (t′ : List Token) (i′ : ℕ) : Type 0 where
+    pub along : (d k : ℕ) (r : Template) (B : ℕ) (L xs : List ℕ) (s : State) (cells : List ℕ) → Body (F .scope) L is r B → from s ≡ t → s .fresh ≡ i
+        → Kept rows (k + length is) s cells → ShowAll spell (s .made) cells xs M
+        → Ends (Reached k d o c n t′ i′ M′ (s .calls) (s .made) cells) (Beyond rows d o (s .calls + c) (s .made + n)) (runItems (runCall d I) I is xs s cells)
+
+  -- a token taken, and the items after it
+  token-along : {o c n : ℕ} {t : Token} {s₀ s′ : List Token} {i i′ : ℕ} {is : List Item} {M M′ : List Value} {v : Value} (item : Item) (kind : ℕ) (value : ℕ → ℕ)
+      → ((C : ℕ → List ℕ → Run ℕ) (xs : List ℕ) → runItem C I item xs ≡ take I kind value)
+      → t .kind ≡ kind
+      → ((s : State) (cells : List ℕ) → nextToken I s ≡ t → Shows spell (s .made) cells (value (nextToken I s .value)) v)
+      → Along o c n s₀ i is (M ++ (v ∷ [])) M′ s′ i′ → Along o c n (t ∷ s₀) i (item ∷ is) M M′ s′ i′
+  token-along {o} {c} {n} {t} {s₀} {s′} {i} {i′} {is} {M} {M′} {v} item kind value same e shown A =
+      record { along = λ d k r B L xs s cells b p f h a. go d k r B L xs s cells b p f h a }
+    where
+      go : (d k : ℕ) (r : Template) (B : ℕ) (L xs : List ℕ) (s : State) (cells : List ℕ) → Body (F .scope) L (item ∷ is) r B → from s ≡ t ∷ s₀ → s .fresh ≡ i
+          → Kept rows (k + length (item ∷ is)) s cells → ShowAll spell (s .made) cells xs M
+          → Ends (Reached k d o c n s′ i′ M′ (s .calls) (s .made) cells) (Beyond rows d o (s .calls + c) (s .made + n)) (runItems (runCall d I) I (item ∷ is) xs s cells)
+      go d k r B L xs s cells (by-binding w b) p f h a =
+          let q = token-is tokens (s .at) p in
+          let x : ℕ = value (nextToken I s .value) in
+          let taken : runItem (runCall d I) I item xs s cells ≡ done x (tokenTaken s) cells =
+          ap (λ R. R s cells) (same (runCall d I) xs) ∙ take-done I kind value s cells (ap (λ u. u .kind) (q .0) ∙ e) in
+          subst⁻¹ (λ z. Ends (Reached k d o c n s′ i′ M′ (s .calls) (s .made) cells) (Beyond rows d o (s .calls + c) (s .made + n)) z)
+          (items-after (runCall d I) I item is xs s cells x (tokenTaken s) cells taken)
+          (A .along d k r B _ (xs ++ (x ∷ [])) (tokenTaken s) cells b (q .1) f
+          (record { room = h .room; fits = h .fits; names = omega (arith, h .names); begun = h .begun }) (all-and a (shown s cells (q .0))))
+
+  word-shown : (s : State) (t : Token) → nextToken I s ≡ t → t .kind ≡ wordKind → nameOf spell (Rattle.grammar.specs.Cells.wordName (nextToken I s .value)) ≡ word (spell (t .value))
+  word-shown s t q e = word-named spell (nextToken I s .value) (small (s .at) (ap (λ u. u .kind) q ∙ e)) ∙ ap (λ u. word (spell (u .value))) q
+
+  -- a call beside the derivation of its production
+  module _ {o c n m : ℕ} {t t′ : List Token} {i i′ : ℕ} {vs M : List Value} {v : Value} (p : Production) (taken : Taken g m t p)
+      (A : Along o c n t i (p .items) vs M t′ i′) (gives : Gives spell M (p .result) v) where
+    abbrev pub cost : ℕ
+    cost = n + rowsOf (p .result)
+
+    module _ (k : ℕ) (xs : List ℕ) (s : State) (cells : List ℕ) (e : from s ≡ t) (f : s .fresh ≡ i) (h : Kept rows k s cells)
+        (a : ShowAll spell (s .made) cells xs vs) where
+      abbrev pub Called : ℕ → Result ℕ → Type 0
+      Called d z = Ends (Gave k d (o + 1) (c + 1) cost t′ i′ v (s .calls) (s .made) cells) (Beyond rows d (o + 1) (s .calls + (c + 1)) (s .made + cost)) z
+
+      production-along : (d : ℕ) → s .calls < mostCalls
+          → Called (suc d) (after (runItems (runCall d I) I (p .items) xs (callBegun s) cells) (λ ys. build (p .result) I ys))
+      production-along d l =
+          let q = F .each p (taken-of taken .member) in
+          let w = result-sorted (q .body) in
+          ends-after (Reached k d o c n t′ i′ M (callBegun s .calls) (s .made) cells) (Beyond rows d o (callBegun s .calls + c) (s .made + n))
+          (Gave k (suc d) (o + 1) (c + 1) cost t′ i′ v (s .calls) (s .made) cells) (Beyond rows (suc d) (o + 1) (s .calls + (c + 1)) (s .made + cost))
+          (runItems (runCall d I) I (p .items) xs (callBegun s) cells) (λ ys. build (p .result) I ys)
+          (A .along d k (p .result) (q .signature .result) (q .signature .params) xs (callBegun s) cells (q .body) e f
+          (record { room = h .room; fits = h .fits; names = omega (arith, h .names, q .itemCount); begun = omega arith }) a)
+          (λ ys s₁ c₁ y.
+          ends-map (Built spell I (rowsOf (p .result)) s₁ c₁ v) (Full rows (s₁ .made + rowsOf (p .result)))
+          (Gave k (suc d) (o + 1) (c + 1) cost t′ i′ v (s .calls) (s .made) cells) (Beyond rows (suc d) (o + 1) (s .calls + (c + 1)) (s .made + cost)) (build (p .result) I ys s₁ c₁)
+          (build-ends spell I (p .result) s₁ c₁ gives (w .2) (omega (arith, F .outsideCount)) (y .0 .kept .room) (y .0 .kept .fits) (y .1))
+          (λ x s₂ c₂ b. (
+            record {
+              grown = grown-trans (y .0 .grown) (b .0 .grown);
+              kept = kept-made (y .0 .kept) (b .0);
+              place = ap (λ at. drop at tokens) (b .0 .at-kept) ∙ y .0 .place;
+              counter = b .0 .fresh-kept ∙ y .0 .counter;
+              calls-are = omega (arith, y .0 .calls-are, b .0 .calls-kept);
+              made-are = omega (arith, y .0 .made-are, b .0 .made-is);
+              deep = omega (arith, y .0 .deep);
+            },
+            b .1,
+          ))
+          (full-beyond (omega (arith, y .0 .made-are))))
+          (beyond-open (omega arith) (omega arith))
+
+      pub call-along : (d : ℕ) → Called d (runCall d I m xs s cells)
+      unfolding runCall
+      call-along zero = too-deep refl (omega arith)
+      call-along (suc d) = go (ltb (s .calls) mostCalls) refl (choice-picks g m (taken-of taken .small) (from s))
+        where
+          go : (b : Bool) → ltb (s .calls) mostCalls ≡ b → Picks g m (from s) (choice (ready g) m (kindOf (from s))) → Called (suc d) (runCall (suc d) I m xs s cells)
+          go false l q = subst⁻¹ (λ z. Called (suc d) z) (call-full d I m xs s cells l) (too-many refl (omega (arith, ltb-false (s .calls) mostCalls l)))
+          go true l (picks p′ w z) =
+              let same : p′ ≡ p = taken-one g passed w (subst⁻¹ (λ u. Taken g m u p) e taken) in
+              let picked : choice (ready g) m (nextToken I s .kind) ≡ Rattle.expansion.specs.Expansion.chosen (rule g p) =
+              ap (choice (ready g) m) (kind-next (s .at) tokens) ∙ z ∙ ap (λ u. Rattle.expansion.specs.Expansion.chosen (rule g u)) same in
+              subst⁻¹ (λ z. Called (suc d) z) (call-chosen d I m xs s cells (rule g p) l picked) (production-along d (ltb-true (s .calls) mostCalls l))
+          go true l (picks-none none z) = absurd (none p (subst⁻¹ (λ u. Taken g m u p) e taken))
+
+  -- a fresh name, and the items after it
+  local-along : {o c n : ℕ} {t t′ : List Token} {i i′ : ℕ} {is : List Item} {M M′ : List Value} → Along o c n t (i + 1) is (M ++ (name Sorts.binder (fresh i) ∷ [])) M′ t′ i′
+      → Along o c n t i (local ∷ is) M M′ t′ i′
+  local-along {o} {c} {n} {t} {t′} {i} {i′} {is} {M} {M′} A = record { along = go }
+    where
+      go : (d k : ℕ) (r : Template) (B : ℕ) (L xs : List ℕ) (s : State) (cells : List ℕ) → Body (F .scope) L (local ∷ is) r B → from s ≡ t → s .fresh ≡ i
+          → Kept rows (k + length (local ∷ is)) s cells → ShowAll spell (s .made) cells xs M
+          → Ends (Reached k d o c n t′ i′ M′ (s .calls) (s .made) cells) (Beyond rows d o (s .calls + c) (s .made + n)) (runItems (runCall d I) I (local ∷ is) xs s cells)
+      go d k r B L xs s cells (by-binding w b) p f h a =
+          subst⁻¹ (λ z. Ends (Reached k d o c n t′ i′ M′ (s .calls) (s .made) cells) (Beyond rows d o (s .calls + c) (s .made + n)) z)
+          (items-after (runCall d I) I local is xs s cells _ _ cells refl)
+          (A .along d k r B _ _ (record { at = s .at; fresh = s .fresh + 1; calls = s .calls; made = s .made }) cells b p (ap (λ j. j + 1) f)
+          (record { room = h .room; fits = h .fits; names = omega (arith, h .names); begun = h .begun })
+          (all-and a (shows-name (fresh-named spell (s .fresh) (omega (arith, h .names, h .begun)) ∙ ap fresh f))))
+
+  -- a call with its arguments, and the items after it
+  call-item-along : {o c n o′ c′ n′ m : ℕ} {t t₁ t′ : List Token} {i i₁ i′ : ℕ} {is : List Item} {ts : Templates} {M M₁ M′ vs : List Value} {v : Value} (p : Production)
+      → GiveAll spell M ts vs → Taken g m t p → Along o c n t i (p .items) vs M₁ t₁ i₁ → Gives spell M₁ (p .result) v → Along o′ c′ n′ t₁ i₁ is (M ++ (v ∷ [])) M′ t′ i′
+      → Along (max (o + 1) o′) (c + 1 + c′) (rowsOfAll ts + n + rowsOf (p .result) + n′) t i (call m ts ∷ is) M M′ t′ i′
+  unfolding runItems
+  call-item-along {o} {c} {n} {o′} {c′} {n′} {m} {t} {t₁} {t′} {i} {i₁} {i′} {is} {ts} {M} {M₁} {M′} {vs} {v} p gs taken A gives A′ = record { along = go }
+    where
+      cells-of : ℕ
+      cells-of = rowsOfAll ts + n + rowsOf (p .result)
+
+      item : (d k : ℕ) {L Bs xs : List ℕ} (s : State) (cells : List ℕ) → Judgements.Fill (F .scope .outsides) L ts Bs → from s ≡ t → s .fresh ≡ i
+          → Kept rows (k + 1) s cells → ShowAll spell (s .made) cells xs M
+          → Ends (Gave k d (o + 1) (c + 1) cells-of t₁ i₁ v (s .calls) (s .made) cells) (Beyond rows d (o + 1) (s .calls + (c + 1)) (s .made + cells-of))
+          (runItem (runCall d I) I (call m ts) xs s cells)
+      item d k {xs = xs} s cells w e f h a =
+          ends-after (BuiltAll spell I (rowsOfAll ts) s cells vs) (Full rows (s .made + rowsOfAll ts))
+          (Gave k d (o + 1) (c + 1) cells-of t₁ i₁ v (s .calls) (s .made) cells) (Beyond rows d (o + 1) (s .calls + (c + 1)) (s .made + cells-of))
+          (buildAll ts I xs s cells) (λ ys. runCall d I m ys)
+          (build-all-ends spell I ts s cells gs w (omega (arith, F .outsideCount)) (h .room) (h .fits) a)
+          (λ ys s₁ c₁ b.
+          ends-map (Gave k d (o + 1) (c + 1) (n + rowsOf (p .result)) t₁ i₁ v (s₁ .calls) (s₁ .made) c₁)
+          (Beyond rows d (o + 1) (s₁ .calls + (c + 1)) (s₁ .made + (n + rowsOf (p .result))))
+          (Gave k d (o + 1) (c + 1) cells-of t₁ i₁ v (s .calls) (s .made) cells) (Beyond rows d (o + 1) (s .calls + (c + 1)) (s .made + cells-of))
+          (runCall d I m ys s₁ c₁)
+          (call-along p taken A gives k ys s₁ c₁ (ap (λ at. drop at tokens) (b .0 .at-kept) ∙ e) (b .0 .fresh-kept ∙ f) (kept-less (kept-made h (b .0))) (b .1) d)
+          (λ x s₂ c₂ y. (
+            record {
+              grown = grown-trans (b .0 .grown) (y .0 .grown);
+              kept = y .0 .kept;
+              place = y .0 .place;
+              counter = y .0 .counter;
+              calls-are = omega (arith, y .0 .calls-are, b .0 .calls-kept);
+              made-are = omega (arith, y .0 .made-are, b .0 .made-is);
+              deep = y .0 .deep;
+            },
+            y .1,
+          ))
+          (beyond-more (omega arith) (omega (arith, b .0 .calls-kept)) (omega (arith, b .0 .made-is))))
+          (full-beyond (omega arith))
+
+      go : (d k : ℕ) (r : Template) (B : ℕ) (L xs : List ℕ) (s : State) (cells : List ℕ) → Body (F .scope) L (call m ts ∷ is) r B → from s ≡ t → s .fresh ≡ i
+          → Kept rows (k + length (call m ts ∷ is)) s cells → ShowAll spell (s .made) cells xs M
+          → Ends (Reached k d (max (o + 1) o′) (c + 1 + c′) (cells-of + n′) t′ i′ M′ (s .calls) (s .made) cells)
+          (Beyond rows d (max (o + 1) o′) (s .calls + (c + 1 + c′)) (s .made + (cells-of + n′))) (runItems (runCall d I) I (call m ts ∷ is) xs s cells)
+      go d k r B L xs s cells (by-binding (Judgements.by-call w z) b) e f h a =
+          ends-after (Gave (k + length is) d (o + 1) (c + 1) cells-of t₁ i₁ v (s .calls) (s .made) cells) (Beyond rows d (o + 1) (s .calls + (c + 1)) (s .made + cells-of))
+          (Reached k d (max (o + 1) o′) (c + 1 + c′) (cells-of + n′) t′ i′ M′ (s .calls) (s .made) cells)
+          (Beyond rows d (max (o + 1) o′) (s .calls + (c + 1 + c′)) (s .made + (cells-of + n′)))
+          (runItem (runCall d I) I (call m ts) xs s cells) (λ x. runItems (runCall d I) I is (xs ++ (x ∷ [])))
+          (item d (k + length is) s cells z e f (record { room = h .room; fits = h .fits; names = omega (arith, h .names); begun = h .begun }) a)
+          (λ x s₁ c₁ y.
+          ends-map (Reached k d o′ c′ n′ t′ i′ M′ (s₁ .calls) (s₁ .made) c₁) (Beyond rows d o′ (s₁ .calls + c′) (s₁ .made + n′))
+          (Reached k d (max (o + 1) o′) (c + 1 + c′) (cells-of + n′) t′ i′ M′ (s .calls) (s .made) cells)
+          (Beyond rows d (max (o + 1) o′) (s .calls + (c + 1 + c′)) (s .made + (cells-of + n′)))
+          (runItems (runCall d I) I is (xs ++ (x ∷ [])) s₁ c₁)
+          (A′ .along d k r B _ (xs ++ (x ∷ [])) s₁ c₁ b (y .0 .place) (y .0 .counter) (y .0 .kept) (all-and (all-later (y .0 .grown) a) (y .1)))
+          (λ ys s₂ c₂ q. (
+            record {
+              grown = grown-trans (y .0 .grown) (q .0 .grown);
+              kept = q .0 .kept;
+              place = q .0 .place;
+              counter = q .0 .counter;
+              calls-are = omega (arith, y .0 .calls-are, q .0 .calls-are);
+              made-are = omega (arith, y .0 .made-are, q .0 .made-are);
+              deep = omega (arith, y .0 .deep, q .0 .deep);
+            },
+            q .1,
+          ))
+          (beyond-more (omega arith) (omega (arith, y .0 .calls-are)) (omega (arith, y .0 .made-are))))
+          (beyond-more (omega arith) (omega arith) (omega arith))
+
+  pub items-along : {M M′ : List Value} {s s′ : List Token} {i i′ : ℕ} {is : List Item} (D : Derives g spell M s i is M′ s′ i′)
+      → Along (openIn D) (callsIn D) (rowsIn D) s i is M M′ s′ i′
+  unfolding openIn callsIn rowsIn runItems
+  items-along by-end =
+      record {
+        along = λ d k r B L xs s cells b p f h a. (
+          record {
+            grown = grown-not (s .made) cells;
+            kept = record { room = h .room; fits = h .fits; names = omega (arith, h .names); begun = h .begun };
+            place = p;
+            counter = f;
+            calls-are = omega arith;
+            made-are = omega arith;
+            deep = omega arith;
+          },
+          a,
+        );
+      }
+  items-along (by-keyword {k = k} e D) = token-along (keyword k) (keywordKind k) (λ v. 0) (λ C xs. refl) e (λ s cells q. shows-unit) (items-along D)
+  items-along (by-ide-var {t = t} e D) =
+      token-along (ide Sorts.var) wordKind (wordValue Sorts.var) (λ C xs. refl) e (λ s cells q. shows-name (word-shown s t q e)) (items-along D)
+  items-along (by-ide-binder {t = t} e D) =
+      token-along (ide Sorts.binder) wordKind (wordValue Sorts.binder) (λ C xs. refl) e (λ s cells q. shows-name (word-shown s t q e)) (items-along D)
+  items-along (by-ide-label {t = t} e D) =
+      token-along (ide Sorts.label) wordKind (wordValue Sorts.label) (λ C xs. refl) e
+      (λ s cells q. subst (λ u. Shows spell (s .made) cells (nextToken I s .value) (label (spell (u .value)))) q shows-label) (items-along D)
+  items-along (by-number {t = t} e D) =
+      token-along number numberKind (λ v. v) (λ C xs. refl) e
+      (λ s cells q. subst (λ u. Shows spell (s .made) cells (nextToken I s .value) (num (u .value))) q shows-num) (items-along D)
+  items-along (by-local D) = local-along (items-along D)
+  items-along (by-call {p = p} gs t D q D′) = call-item-along p gs t (items-along D) q (items-along D′)
+
+  -- ------------------------------------------------------------------ the whole formula
+
+  module _ {root : ℕ} {t : Term Name} (P : Parses g spell root tokens t) where
+    -- accepted with the term, within the limits
+    pub record Accepts (v : ℕ) (s : State) (cells : List ℕ) : Type 0 where
+      pub term-is : termAt (s .made) spell cells v ≡ t
+      pub opened : openCalls P ≤ mostOpen
+      pub calls-are : s .calls ≡ allCalls P
+      pub few : s .calls ≤ mostCalls
+      pub made-are : s .made ≡ allRows P
+      pub fit : s .made ≤ rows
+
+    shown : {made : ℕ} {cells : List ℕ} {x : ℕ} → Shows spell made cells x (term t) → termAt made spell cells x ≡ t
+    shown {made} {cells} (shows-term h) = h .read cells (record { same = λ j l. refl }) made (h .below)
+
+    all-read : (at : ℕ) → drop at tokens ≡ [] → length tokens ≤ at
+    all-read at e = omega (arith, sym (length-drop at tokens) ∙ ap length e)
+
+    ended-along : (v : ℕ) (s : State) (cells : List ℕ) → from s ≡ [] → Accepts v s cells → Ends Accepts (Exceeds rows P) (ended I v s cells)
+    ended-along v s cells e h =
+        subst⁻¹ (λ b. Ends Accepts (Exceeds rows P) (elim b [ true ↦ halt (refusal 18 (s .at) 0 0) cells | false ↦ done v s cells ]))
+        (le-ltb (s .at) (length tokens) (all-read (s .at) e)) h
+
+    pub run-along : (cells : List ℕ) → rows * 4 ≤ length cells → Ends Accepts (Exceeds rows P) (run I root cells)
+    unfolding run
+    run-along cells room =
+        let D = P .derived in
+        let n : ℕ = rowsIn D + rowsOf (P .production .result) in
+        ends-after (Gave 0 mostOpen (openIn D + 1) (callsIn D + 1) n [] (P .counter) (term t) 0 0 cells) (Beyond rows mostOpen (openIn D + 1) (0 + (callsIn D + 1)) (0 + n))
+        Accepts (Exceeds rows P) (runCall mostOpen I root [] start cells) (ended I)
+        (call-along (P .production) (P .taken) (items-along D) (P .result) 0 [] start cells refl refl
+        (record { room = room; fits = omega arith; names = omega arith; begun = omega arith }) show-none mostOpen)
+        (λ v s c y.
+        ended-along v s c (y .0 .place)
+        (record {
+          term-is = shown (y .1);
+          opened = y .0 .deep;
+          calls-are = omega (arith, y .0 .calls-are);
+          few = y .0 .kept .begun;
+          made-are = omega (arith, y .0 .made-are);
+          fit = y .0 .kept .fits;
+        }))
+        (beyond-more (omega arith) (omega arith) (omega arith))

@@ -1,0 +1,15 @@
+pub mod Building
+pub mod Complete
+pub mod ExpansionTheorems
+pub mod Limits
+pub mod Normalizing
+pub mod Overrunning
+pub mod Placing
+pub mod RunsAndParses
+pub mod Scanned
+pub mod Sound
+pub mod Sourcing
+pub mod StopComplete
+pub mod StopLaws
+pub mod StopSound
+pub mod Typing

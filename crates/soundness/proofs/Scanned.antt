@@ -1,0 +1,73 @@
+-- A scan gives tokens whose words have small numbers: outside names below 64, then one number for each token at most.
+use Prim.Native.Nat.{ℕ, zero, suc, _+_, _≤_}
+use mathlib.Core.Path.{_≡_, refl}
+use mathlib.Core.Bool.{Bool, true, false}
+use mathlib.Core.List.{List, [], _∷_, _++_}
+use native.Mathlib.Omega.{arith}
+use lib.Dec.{ltb, leb}
+use lib.ListN.{length, take, drop, length-append}
+use borrow.Author.Tests.{ltb-true}
+use Rattle.answers.specs.Refusals.{refusal}
+use Rattle.grammar.specs.Fields.{Lexicon}
+use Rattle.scanner.specs.declared.Token.{Token}
+use Rattle.scanner.specs.declared.Step.{Step}
+use Rattle.scanner.specs.declared.Step.the-variants.{Skip, Emit, Stop}
+use Rattle.scanner.specs.declared.Scanned.the-variants.{Unscanned}
+use Rattle.scanner.specs.Scan.{Lexed, isNew, wordsWith, ended, withToken, stepOf, mostTokens, lexFrom, longestFormula, scan}
+use Rattle.scanner.proofs.SpellingLaws.{every-at, scan-spelled}
+use Rattle.expansion.specs.Expansion.{endToken}
+use Rattle.expansion.specs.Parsing.{SmallWords}
+use Rattle.soundness.proofs.Sound.{token-before}
+
+-- a token adds one word at most
+one-more : (words : List (List ℕ)) (s : List ℕ) (t : Token) → length (wordsWith words s t) ≤ length words + 1
+unfolding wordsWith
+one-more words s t = go (isNew (length words) t)
+  where
+    go : (b : Bool) → length {A = List ℕ} (elim b as (λ x. List (List ℕ)) [ true ↦ words ++ (s ∷ []) | false ↦ words ]) ≤ length words + 1
+    go true = omega (arith, length-append words (s ∷ []))
+    go false = omega arith
+
+few-from : (k : ℕ) (lex : Lexicon) (at : ℕ) (rest : List ℕ) (n : ℕ) (words : List (List ℕ)) → n ≤ mostTokens
+    → length (lexFrom k lex at rest n words .words) + n ≤ length words + mostTokens
+unfolding lexFrom
+few-from zero lex at rest n words l = omega arith
+few-from (suc k) lex at [] n words l = omega arith
+few-from (suc k) lex at (b ∷ bs) n words l =
+    go (stepOf lex words at (b ∷ bs)) (few-from k lex (at + 1) bs n words l) (λ t h. few-from k lex (at + t .size) (drop (t .size) (b ∷ bs)) (n + 1) (wordsWith words (take (t .size) (b ∷ bs)) t) h)
+  where
+    emitted : Token → Lexed
+    emitted t = withToken t (lexFrom k lex (at + t .size) (drop (t .size) (b ∷ bs)) (n + 1) (wordsWith words (take (t .size) (b ∷ bs)) t))
+
+    limited : (t : Token) (c : Bool) → ltb n mostTokens ≡ c
+        → (n + 1 ≤ mostTokens → length (emitted t .words) + (n + 1) ≤ length (wordsWith words (take (t .size) (b ∷ bs)) t) + mostTokens)
+        → length ((elim c as (λ x. Lexed) [ false ↦ ended (Unscanned (refusal 16 0 0 0)) words | true ↦ emitted t ]) .words) + n ≤ length words + mostTokens
+    limited t false e h = omega arith
+    limited t true e h = omega (arith, h (omega (arith, ltb-true n mostTokens e)), one-more words (take (t .size) (b ∷ bs)) t)
+
+    go : (r : Step) → length (lexFrom k lex (at + 1) bs n words .words) + n ≤ length words + mostTokens
+        → ((t : Token) → n + 1 ≤ mostTokens → length (emitted t .words) + (n + 1) ≤ length (wordsWith words (take (t .size) (b ∷ bs)) t) + mostTokens)
+        → length
+        ((elim r as (λ x. Lexed) [
+          | Skip ↦ lexFrom k lex (at + 1) bs n words
+          | Stop ↦ ended (Unscanned (refusal 15 at 0 0)) words
+          | Emit t ↦ elim (ltb n mostTokens) as (λ x. Lexed) [ false ↦ ended (Unscanned (refusal 16 0 0 0)) words | true ↦ emitted t ]
+        ])
+        .words) + n ≤ length words + mostTokens
+    go Skip h f = h
+    go Stop h f = omega arith
+    go (Emit t) h f = limited t (ltb n mostTokens) refl (f t)
+
+few-words : (lex : Lexicon) (formula : List ℕ) → length (scan lex formula .words) ≤ mostTokens
+unfolding scan
+few-words lex formula = go (leb (length formula) longestFormula)
+  where
+    go : (b : Bool) → length ((elim b as (λ x. Lexed) [ true ↦ lexFrom (length formula) lex 0 formula 0 [] | false ↦ ended (Unscanned (refusal 14 0 0 0)) [] ]) .words) ≤ mostTokens
+    go true = omega (arith, few-from (length formula) lex 0 formula 0 [] (omega arith))
+    go false = omega arith
+
+-- the words of a scan have numbers that a name can hold
+pub scanned-small : (lex : Lexicon) → length (lex .outsides) ≤ 64 → (formula : List ℕ) → SmallWords (scan lex formula .tokens)
+scanned-small lex few formula at k =
+    let s = every-at _ (scan lex formula .tokens) at endToken (scan-spelled lex few formula) (token-before (scan lex formula .tokens) at k (omega arith)) k in
+    omega (arith, s .known, few-words lex formula)

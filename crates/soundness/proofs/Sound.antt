@@ -1,0 +1,354 @@
+-- What an expansion accepts is derived by Figure 3, and the cells show it.
+use Prim.Native.Nat.{ℕ, zero, suc, _+_, _*_, _≤_, _<_}
+use mathlib.Core.Path.{_≡_, refl, sym, ap, subst, subst₂, subst⁻¹, _∙_}
+use mathlib.Core.Bool.{Bool, true, false}
+use mathlib.Core.List.{List, [], _∷_, _++_}
+use native.Mathlib.Omega.{arith}
+use native.Mathlib.Numerals.{add-one}
+use lib.Dec.{eqb, ltb}
+use lib.ListN.{length, getD, drop, drop-of-length-le, List·getD-eq-default}
+use lib.Seq.{drop-cons}
+use borrow.Author.Tests.{eqb-true, ltb-true, ltb-false}
+use Rattle.spellings.specs.BytesLaws.{by-test}
+use Rattle.answers.specs.declared.Refusal.{Refusal}
+use Rattle.answers.specs.Refusals.{refusal}
+use Rattle.kinds.specs.Kinds.{wordKind, numberKind, keywordKind}
+use Rattle.grammar.specs.Sorts.{Signature}
+use Rattle.grammar.specs.Sorts as Sorts
+use Rattle.grammar.specs.Table.{Template, Item, keyword, ide, number, call}
+use Rattle.layout.specs.Within.{Each, each-none, each-more, ItemWithin, ide-within, call-within}
+use Rattle.sorts.specs.Judgements.{Newest, Fits, Sorted, ItemSorted, Body, by-result, by-binding}
+use Rattle.sorts.specs.Judgements as Judgements
+use Rattle.scanner.specs.declared.Token.{Token}
+use Rattle.productions.specs.Normal.{Production}
+use Rattle.terms.specs.Term.{Name, Term}
+use Rattle.terms.specs.Rows.{termAt}
+use Rattle.expansion.specs.declared.State.{State}
+use Rattle.expansion.specs.Run.{Result, done, halt, Run, after}
+use Rattle.expansion.specs.Expansion.{Input, ready, Rule, unfit, chosen, choice, endToken, nextToken, tokenTaken, take, misfit, buildAll, build, wordValue, runItem, runItems, callBegun, mostCalls, runCall, mostOpen, start, ended, run}
+use Rattle.expansion.specs.Figure3.{Value, unit, name, label, num, term, Gives, Taken, Derives, by-end, by-keyword, by-ide-var, by-ide-binder, by-ide-label, by-number, by-local, by-call, Parses}
+use Rattle.expansion.specs.Parsing.{input, SmallWords}
+use Rattle.expansion.specs.Costs.{rowsOf, rowsOfAll}
+use Rattle.expansion.proofs.Shows.{Grown, grown-not, grown-trans, Shows, shows-unit, shows-name, shows-label, shows-num, shows-term, ShowAll, show-none, all-later, all-and, word-named, fresh-named}
+use Rattle.soundness.proofs.Building.{Ends, ends-after, ends-map, Made, Full, Built, BuiltAll, build-ends, build-all-ends}
+use Rattle.expansion.specs.ValueSorts.{Typed, typed-unit, typed-var, typed-binder, typed-label, typed-num, typed-term, Matches, matches-none}
+use Rattle.soundness.proofs.Typing.{matches-and, gives-exists, give-all-exist, items-typed, FitAll, body-of, taken-of}
+use Rattle.expansion.proofs.Choosing.{kindOf, kind-next, Picks, picks, picks-none, choice-picks, rule}
+
+-- ------------------------------------------------------------------ the tokens from a place on
+
+pub token-here : (tokens : List Token) (at : ℕ) → at < length tokens → drop at tokens ≡ getD tokens at endToken ∷ drop (at + 1) tokens
+token-here tokens at h = rw (add-one at) (drop-cons tokens at endToken h)
+
+-- a kind below 64 is that of a token
+pub token-before : (tokens : List Token) (at : ℕ) {k : ℕ} → getD tokens at endToken .kind ≡ k → k < 64 → at < length tokens
+token-before tokens at {k} e l =
+    by-test (ltb at (length tokens)) (λ b. ltb-true at (length tokens) b)
+    (λ b.
+    let n : 64 ≡ k = ap (λ t. t .kind) (sym (List·getD-eq-default tokens endToken (ltb-false at (length tokens) b))) ∙ e in
+    absurd (omega arith))
+
+-- ------------------------------------------------------------------ what an expansion is given
+
+-- The rows have room in the cells, and the fresh names in a name: each call begun has at most 12 of them, k of which are to come.
+pub record Kept (rows k : ℕ) (s : State) (cells : List ℕ) : Type 0 where
+  pub room : rows * 4 ≤ length cells
+  pub fits : s .made ≤ rows
+  pub names : s .fresh + k ≤ 2 + 12 * s .calls
+  pub begun : s .calls ≤ mostCalls
+
+pub kept-made : {rows n k : ℕ} {s s′ : State} {cells cells′ : List ℕ} → Kept rows k s cells → Made rows n s cells s′ cells′ → Kept rows k s′ cells′
+kept-made h m =
+    record {
+      room = rw (m .grown .as-many) (h .room);
+      fits = m .fits;
+      names = omega (arith, h .names, m .fresh-kept, m .calls-kept);
+      begun = omega (arith, h .begun, m .calls-kept);
+    }
+
+pub kept-less : {rows k : ℕ} {s : State} {cells : List ℕ} → Kept rows (k + 1) s cells → Kept rows k s cells
+kept-less h = record { room = h .room; fits = h .fits; names = omega (arith, h .names); begun = h .begun }
+
+-- ------------------------------------------------------------------ a call's tests
+
+module _ (d : ℕ) (I : Input) (n : ℕ) (xs : List ℕ) (s : State) (cells : List ℕ) where
+  pub call-full : ltb (s .calls) mostCalls ≡ false → runCall (suc d) I n xs s cells ≡ halt (refusal 20 (s .at) 0 0) cells
+  unfolding runCall
+  call-full e = rw (e, runCall) refl
+
+  pub call-unfit : ltb (s .calls) mostCalls ≡ true → choice (I .grammar) n (nextToken I s .kind) ≡ unfit
+      → runCall (suc d) I n xs s cells ≡ misfit (getD (I .grammar .firsts) n 0) s cells
+  unfolding runCall
+  call-unfit e f = rw (e, f, runCall) refl
+
+  pub call-chosen : (r : Rule) → ltb (s .calls) mostCalls ≡ true → choice (I .grammar) n (nextToken I s .kind) ≡ chosen r
+      → runCall (suc d) I n xs s cells ≡ after (runItems (runCall d I) I (r .items) xs (callBegun s) cells) (λ ys. build (r .result) I ys)
+  unfolding runCall
+  call-chosen r e f = rw (e, f, runCall) refl
+
+module _ {g : List Production} (F : FitAll g) (spell : ℕ → List ℕ) (tokens : List Token) (rows : ℕ) (small : SmallWords tokens) where
+  abbrev pub I : Input
+  I = input g tokens rows
+
+  abbrev pub from : State → List Token
+  from s = drop (s .at) tokens
+
+  -- ------------------------------------------------------------------ items
+
+  -- an item derived, with its value, and any derivation of the items after it goes on from it
+  pub record Stepped (k : ℕ) (i : Item) (A : ℕ) (M : List Value) (s : State) (cells : List ℕ) (x : ℕ) (s′ : State) (cells′ : List ℕ) : Type 0 where
+    pub value : Value
+    pub typed : Typed value A
+    pub shows : Shows spell (s′ .made) cells′ x value
+    pub grown : Grown (s .made) cells (s′ .made) cells′
+    pub kept : Kept rows k s′ cells′
+    pub step : (is : List Item) (M′ : List Value) (t : List Token) (j : ℕ) → Derives g spell (M ++ (value ∷ [])) (from s′) (s′ .fresh) is M′ t j → Derives g spell M (from s) (s .fresh) (i ∷ is) M′ t j
+
+  -- a call derived
+  pub record Called (k n : ℕ) (vs : List Value) (s : State) (cells : List ℕ) (x : ℕ) (s′ : State) (cells′ : List ℕ) : Type 0 where
+    pub production : Production
+    pub taken : Taken g n (from s) production
+    pub variables : List Value
+    pub derived : Derives g spell vs (from s) (s .fresh) (production .items) variables (from s′) (s′ .fresh)
+    pub value : Value
+    pub given : Gives spell variables (production .result) value
+    pub shows : Shows spell (s′ .made) cells′ x value
+    pub grown : Grown (s .made) cells (s′ .made) cells′
+    pub kept : Kept rows k s′ cells′
+
+  -- of refusals nothing is said here
+  abbrev pub Any : Refusal → Type 0
+  Any r = Unit {0}
+
+  -- what is asked of a callee
+  abbrev pub Callee : (ℕ → List ℕ → Run ℕ) → Type 0
+  Callee C =
+      (k n : ℕ) (S : Signature) (vs : List Value) (xs : List ℕ) (s : State) (cells : List ℕ) → Newest (F .scope .env) n S → n < 64 → Matches vs (S .params)
+      → Kept rows k s cells → ShowAll spell (s .made) cells xs vs → Ends (Called k n vs s cells) Any (C n xs s cells)
+
+  take-ends : (P : ℕ → State → List ℕ → Type 0) (kind : ℕ) (value : ℕ → ℕ) (s : State) (cells : List ℕ)
+      → (nextToken I s .kind ≡ kind → P (value (nextToken I s .value)) (tokenTaken s) cells) → Ends P Any (take I kind value s cells)
+  take-ends P kind value s cells f = go (eqb (nextToken I s .kind) kind) refl
+    where
+      go : (b : Bool) → eqb (nextToken I s .kind) kind ≡ b
+          → Ends P Any (elim b [ true ↦ done (value (nextToken I s .value)) (tokenTaken s) cells | false ↦ misfit (Rattle.kinds.specs.Kinds.only kind) s cells ])
+      go true e = f (eqb-true (nextToken I s .kind) kind e)
+      go false e = tt
+
+  kept-on : {k : ℕ} {s : State} {cells : List ℕ} → Kept rows (k + 1) s cells → Kept rows k (tokenTaken s) cells
+  kept-on h = record { room = h .room; fits = h .fits; names = omega (arith, h .names); begun = h .begun }
+
+  -- a token taken as the value v
+  taken-as : {k : ℕ} {i : Item} {A kind : ℕ} {M : List Value} {s : State} {cells : List ℕ} (x : ℕ) (v : Value) → nextToken I s .kind ≡ kind → kind < 64
+      → Kept rows (k + 1) s cells → Typed v A → Shows spell (s .made) cells x v
+      → ((is : List Item) (M′ : List Value) (t : List Token) (j : ℕ) → Derives g spell (M ++ (v ∷ [])) (drop (s .at + 1) tokens) (s .fresh) is M′ t j → Derives g spell M (nextToken I s ∷ drop (s .at + 1) tokens) (s .fresh) (i ∷ is) M′ t j)
+      → Stepped k i A M s cells x (tokenTaken s) cells
+  taken-as {i = i} {M = M} {s = s} {cells = cells} x v e l h w z f =
+      let h′ : drop (s .at) tokens ≡ nextToken I s ∷ drop (s .at + 1) tokens = token-here tokens (s .at) (token-before tokens (s .at) e l) in
+      record {
+        value = v;
+        typed = w;
+        shows = z;
+        grown = grown-not (s .made) cells;
+        kept = kept-on h;
+        step = λ is M′ t j d. subst⁻¹ (λ ts. Derives g spell M ts (s .fresh) (i ∷ is) M′ t j) h′ (f is M′ t j d);
+      }
+
+  at-ide : (P : ℕ → Type 0) (B : ℕ) → 1 ≤ B → B ≤ 3 → P Sorts.var → P Sorts.binder → P Sorts.label → P B
+  at-ide P zero l h a b c = absurd (omega arith)
+  at-ide P (suc zero) l h a b c = a
+  at-ide P (suc (suc zero)) l h a b c = b
+  at-ide P (suc (suc (suc zero))) l h a b c = c
+  at-ide P (suc (suc (suc (suc B)))) l h a b c = absurd (omega arith)
+
+  module _ (C : ℕ → List ℕ → Run ℕ) (callee : Callee C) where
+    pub item-sound : (k : ℕ) {i : Item} {A : ℕ} {M : List Value} {L xs : List ℕ} (s : State) (cells : List ℕ) → ItemSorted (F .scope) L i A → ItemWithin i → Matches M L
+        → Kept rows (k + 1) s cells → ShowAll spell (s .made) cells xs M → Ends (Stepped k i A M s cells) Any (runItem C I i xs s cells)
+    item-sound k {M = M} s cells (Judgements.by-keyword {k = w} l) z m h a =
+        take-ends (Stepped k (keyword w) Sorts.unit M s cells) (keywordKind w) (λ v. 0) s cells
+        (λ e. taken-as 0 unit e (omega (arith, l, F .keywordCount)) h typed-unit shows-unit (λ is M′ t j d. by-keyword e d))
+    item-sound k {M = M} {L = L} {xs = xs} s cells (Judgements.by-ide {B = B}) (ide-within l u) m h a =
+        at-ide (λ B. Ends (Stepped k (ide B) B M s cells) Any (runItem C I (ide B) xs s cells)) B l u
+        (take-ends (Stepped k (ide Sorts.var) Sorts.var M s cells) wordKind (wordValue Sorts.var) s cells
+        (λ e. taken-as _ _ e (omega arith) h typed-var (shows-name (word-named spell (nextToken I s .value) (small (s .at) e))) (λ is M′ t j d. by-ide-var e d)))
+        (take-ends (Stepped k (ide Sorts.binder) Sorts.binder M s cells) wordKind (wordValue Sorts.binder) s cells
+        (λ e. taken-as _ _ e (omega arith) h typed-binder (shows-name (word-named spell (nextToken I s .value) (small (s .at) e))) (λ is M′ t j d. by-ide-binder e d)))
+        (take-ends (Stepped k (ide Sorts.label) Sorts.label M s cells) wordKind (wordValue Sorts.label) s cells
+        (λ e. taken-as _ _ e (omega arith) h typed-label shows-label (λ is M′ t j d. by-ide-label e d)))
+    item-sound k {M = M} s cells Judgements.by-number z m h a =
+        take-ends (Stepped k number Sorts.num M s cells) numberKind (λ v. v) s cells
+        (λ e. taken-as _ _ e (omega arith) h typed-num shows-num (λ is M′ t j d. by-number e d))
+    item-sound k {M = M} s cells Judgements.by-local z m h a =
+        record {
+          value = name Sorts.binder (Rattle.terms.specs.Term.fresh (s .fresh));
+          typed = typed-binder;
+          shows = shows-name (fresh-named spell (s .fresh) (omega (arith, h .names, h .begun)));
+          grown = grown-not (s .made) cells;
+          kept = record { room = h .room; fits = h .fits; names = omega (arith, h .names); begun = h .begun };
+          step = λ is M′ t j d. by-local d;
+        }
+    item-sound k {A = A} {M = M} {L = L} {xs = xs} s cells (Judgements.by-call {n = n} {S = S} {ts = ts} w f) (call-within l ws) m h a =
+        let vs = give-all-exist spell m ts f ws in
+        ends-after (BuiltAll spell I (rowsOfAll ts) s cells (vs .0)) (Full rows (s .made + rowsOfAll ts)) (Stepped k (call n ts) A M s cells) Any (buildAll ts I xs s cells) (λ ys. C n ys)
+        (build-all-ends spell I ts s cells (vs .1) f (omega (arith, F .outsideCount)) (h .room) (h .fits) a)
+        (λ ys s₁ c₁ b.
+        ends-map (Called k n (vs .0) s₁ c₁) Any (Stepped k (call n ts) A M s cells) Any (C n ys s₁ c₁)
+        (callee k n S (vs .0) ys s₁ c₁ w (omega arith) (vs .2) (kept-less (kept-made h (b .0))) (b .1))
+        (λ x s₂ c₂ d.
+        record {
+          value = d .value;
+          typed = items-typed F (d .derived) (vs .2) (body-of F (taken-of (d .taken)) w) (d .given);
+          shows = d .shows;
+          grown = grown-trans (b .0 .grown) (d .grown);
+          kept = d .kept;
+          step = λ is M′ t j e. subst₂ (λ at i. Derives g spell M (drop at tokens) i (call n ts ∷ is) M′ t j) (b .0 .at-kept) (b .0 .fresh-kept) (by-call (vs .1) (d .taken) (d .derived) (d .given) e);
+        })
+        (λ r u. u))
+        (λ r u. tt)
+
+    -- the items derived, and the result sorted under their variables
+    pub record Derived (k : ℕ) (is : List Item) (r : Template) (B : ℕ) (M : List Value) (s : State) (cells : List ℕ) (xs : List ℕ) (s′ : State) (cells′ : List ℕ) : Type 0 where
+      pub variables : List Value
+      pub derived : Derives g spell M (from s) (s .fresh) is variables (from s′) (s′ .fresh)
+      pub sorts : List ℕ
+      pub matches : Matches variables sorts
+      pub sort : ℕ
+      pub sorted : Sorted (F .scope .outsides) sorts r sort
+      pub fit : Fits sort B
+      pub shows : ShowAll spell (s′ .made) cells′ xs variables
+      pub grown : Grown (s .made) cells (s′ .made) cells′
+      pub kept : Kept rows k s′ cells′
+
+    pub items-sound : (k : ℕ) (is : List Item) {r : Template} {B : ℕ} {M : List Value} {L xs : List ℕ} (s : State) (cells : List ℕ) → Body (F .scope) L is r B → Each ItemWithin is → Matches M L
+        → Kept rows (k + length is) s cells → ShowAll spell (s .made) cells xs M → Ends (Derived k is r B M s cells) Any (runItems C I is xs s cells)
+    unfolding runItems
+    items-sound k [] {M = M} {L = L} s cells (by-result {A = A} w f) each-none m h a =
+        record {
+          variables = M;
+          derived = by-end;
+          sorts = L;
+          matches = m;
+          sort = A;
+          sorted = w;
+          fit = f;
+          shows = a;
+          grown = grown-not (s .made) cells;
+          kept = record { room = h .room; fits = h .fits; names = omega (arith, h .names); begun = h .begun };
+        }
+    items-sound k (i ∷ is) {r = r} {B = B} {M = M} {xs = xs} s cells (by-binding {A = A} w b) (each-more z zs) m h a =
+        ends-after (Stepped (k + length is) i A M s cells) Any (Derived k (i ∷ is) r B M s cells) Any (runItem C I i xs s cells) (λ x. runItems C I is (xs ++ (x ∷ [])))
+        (item-sound (k + length is) s cells w z m (record { room = h .room; fits = h .fits; names = omega (arith, h .names); begun = h .begun }) a)
+        (λ x s₁ c₁ p.
+        ends-map (Derived k is r B (M ++ (p .value ∷ [])) s₁ c₁) Any (Derived k (i ∷ is) r B M s cells) Any (runItems C I is (xs ++ (x ∷ [])) s₁ c₁)
+        (items-sound k is s₁ c₁ b zs (matches-and m (p .typed)) (p .kept) (all-and (all-later (p .grown) a) (p .shows)))
+        (λ ys s₂ c₂ q.
+        record {
+          variables = q .variables;
+          derived = p .step is (q .variables) (from s₂) (s₂ .fresh) (q .derived);
+          sorts = q .sorts;
+          matches = q .matches;
+          sort = q .sort;
+          sorted = q .sorted;
+          fit = q .fit;
+          shows = q .shows;
+          grown = grown-trans (p .grown) (q .grown);
+          kept = q .kept;
+        })
+        (λ r u. u))
+        (λ r u. u)
+
+  -- ------------------------------------------------------------------ calls
+
+  call-step : (d : ℕ) → Callee (runCall d I) → Callee (runCall (suc d) I)
+  call-step d callee k n S vs xs s cells w l m h a = go (ltb (s .calls) mostCalls) refl (choice-picks g n l (from s))
+    where
+      Goal : Result ℕ → Type 0
+      Goal r = Ends (Called k n vs s cells) Any r
+
+      items : (p : Production) → Taken g n (from s) p → s .calls < mostCalls
+          → Goal (after (runItems (runCall d I) I (p .items) xs (callBegun s) cells) (λ ys. build (p .result) I ys))
+      items p t c =
+          let q = F .each p (taken-of t .member) in
+          ends-after (Derived (runCall d I) callee k (p .items) (p .result) (S .result) vs (callBegun s) cells) Any (Called k n vs s cells) Any
+          (runItems (runCall d I) I (p .items) xs (callBegun s) cells) (λ ys. build (p .result) I ys)
+          (items-sound (runCall d I) callee k (p .items) (callBegun s) cells (body-of F (taken-of t) w) (q .items) m
+          (record { room = h .room; fits = h .fits; names = omega (arith, h .names, q .itemCount); begun = omega arith }) a)
+          (λ ys s₁ c₁ e.
+          let v = gives-exists spell (e .matches) (p .result) (e .sorted) (q .result) in
+          ends-map (Built spell I (rowsOf (p .result)) s₁ c₁ (v .0)) (Full rows (s₁ .made + rowsOf (p .result))) (Called k n vs s cells) Any (build (p .result) I ys s₁ c₁)
+          (build-ends spell I (p .result) s₁ c₁ (v .1) (e .sorted) (omega (arith, F .outsideCount)) (e .kept .room) (e .kept .fits) (e .shows))
+          (λ x s₂ c₂ b.
+          record {
+            production = p;
+            taken = t;
+            variables = e .variables;
+            derived = subst₂ (λ at i. Derives g spell vs (from s) (s .fresh) (p .items) (e .variables) (drop at tokens) i) (sym (b .0 .at-kept)) (sym (b .0 .fresh-kept)) (e .derived);
+            value = v .0;
+            given = v .1;
+            shows = b .1;
+            grown = grown-trans (e .grown) (b .0 .grown);
+            kept = kept-made (e .kept) (b .0);
+          })
+          (λ r u. tt))
+          (λ r u. u)
+
+      go : (b : Bool) → ltb (s .calls) mostCalls ≡ b → Picks g n (from s) (choice (ready g) n (kindOf (from s))) → Goal (runCall (suc d) I n xs s cells)
+      go false e q = subst⁻¹ (λ r. Ends (Called k n vs s cells) Any r) (call-full d I n xs s cells e) tt
+      go true e (picks p t f) =
+          subst⁻¹ (λ r. Ends (Called k n vs s cells) Any r) (call-chosen d I n xs s cells (rule g p) e (ap (choice (ready g) n) (kind-next (s .at) tokens) ∙ f))
+          (items p t (ltb-true (s .calls) mostCalls e))
+      go true e (picks-none f c) =
+          subst⁻¹ (λ r. Ends (Called k n vs s cells) Any r) (call-unfit d I n xs s cells e (ap (choice (ready g) n) (kind-next (s .at) tokens) ∙ c)) tt
+
+  pub call-sound : (d : ℕ) → Callee (runCall d I)
+  unfolding runCall
+  call-sound zero k n S vs xs s cells w l m h a = tt
+  call-sound (suc d) k n S vs xs s cells w l m h a = call-step d (call-sound d) k n S vs xs s cells w l m h a
+
+  -- ------------------------------------------------------------------ the whole formula
+
+  abbrev pub Accepted : ℕ → ℕ → State → List ℕ → Type 0
+  Accepted root v s cells = Parses g spell root tokens (termAt (s .made) spell cells v)
+
+  shown : {made : ℕ} {cells : List ℕ} {x : ℕ} {t : Term Name} → Shows spell made cells x (term t) → termAt made spell cells x ≡ t
+  shown {made} {cells} (shows-term h) = h .read cells (record { same = λ j l. refl }) made (h .below)
+
+  parses : {root : ℕ} {cells : List ℕ} {x : ℕ} {s′ : State} {cells′ : List ℕ} {k : ℕ} → length tokens ≤ s′ .at
+      → (c : Called k root [] start cells x s′ cells′) → Typed (c .value) Sorts.term → Accepted root x s′ cells′
+  parses {root} {cells} {x} {s′} {cells′} l c w = go (c .value) w (c .given) (c .shows)
+    where
+      go : (v : Value) → Typed v Sorts.term → Gives spell (c .variables) (c .production .result) v → Shows spell (s′ .made) cells′ x v → Parses g spell root tokens (termAt (s′ .made) spell cells′ x)
+      go (term t) typed-term q z =
+          record {
+            variables = c .variables;
+            production = c .production;
+            counter = s′ .fresh;
+            taken = c .taken;
+            derived = subst (λ ts. Derives g spell [] tokens 1 (c .production .items) (c .variables) ts (s′ .fresh)) (drop-of-length-le tokens l) (c .derived);
+            result = subst⁻¹ (λ t′. Gives spell (c .variables) (c .production .result) (term t′)) (shown z) q;
+          }
+
+  module _ (root : ℕ) (l : root < 64) (S : Signature) (w : Newest (F .scope .env) root S) (none : S .params ≡ []) (res : S .result ≡ Sorts.term) where
+    no-arguments : Matches [] (S .params)
+    no-arguments = subst⁻¹ (Matches []) none matches-none
+
+    ended-sound : (cells : List ℕ) (x : ℕ) (s′ : State) (cells′ : List ℕ) → Called 0 root [] start cells x s′ cells′ → Ends (Accepted root) Any (ended I x s′ cells′)
+    ended-sound cells x s′ cells′ c = go (ltb (s′ .at) (length tokens)) refl
+      where
+        go : (b : Bool) → ltb (s′ .at) (length tokens) ≡ b → Ends (Accepted root) Any (elim b [ true ↦ halt (refusal 18 (s′ .at) 0 0) cells′ | false ↦ done x s′ cells′ ])
+        go true e = tt
+        go false e =
+            parses (ltb-false (s′ .at) (length tokens) e) c
+            (subst (Typed (c .value)) res (items-typed F (c .derived) no-arguments (body-of F (taken-of (c .taken)) w) (c .given)))
+
+    run-ends : (cells : List ℕ) → rows * 4 ≤ length cells → Ends (Accepted root) Any (run I root cells)
+    unfolding run
+    run-ends cells room =
+        ends-after (Called 0 root [] start cells) Any (Accepted root) Any (runCall mostOpen I root [] start cells) (ended I)
+        (call-sound mostOpen 0 root S [] [] start cells w l no-arguments (record { room = room; fits = omega arith; names = omega arith; begun = omega arith }) show-none)
+        (ended-sound cells) (λ r u. u)
+
+    -- what is accepted is parsed
+    pub run-sound : (cells : List ℕ) → rows * 4 ≤ length cells → (v : ℕ) (s : State) (cells′ : List ℕ) → run I root cells ≡ done v s cells′
+        → Parses g spell root tokens (termAt (s .made) spell cells′ v)
+    run-sound cells room v s cells′ e = subst (λ r. Ends (Accepted root) Any r) e (run-ends cells room)

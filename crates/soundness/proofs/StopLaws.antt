@@ -1,0 +1,162 @@
+-- Steps of an expansion: templates halt with 21 at the token where they stand, and a place never runs past the tokens.
+use Prim.Native.Nat.{ℕ, zero, suc, _+_, _-_, _*_, _≤_, _<_}
+use mathlib.Core.Path.{_≡_, refl, sym, ap, subst, subst⁻¹, _∙_}
+use mathlib.Core.Bool.{Bool, true, false}
+use mathlib.Core.List.{List, [], _∷_, _++_}
+use native.Mathlib.Omega.{arith}
+use lib.Dec.{eqb, ltb}
+use lib.ListN.{length, getD, drop, length-drop}
+use lib.Count.{ones}
+use borrow.Author.Tests.{eqb-true, ne-eqb, ltb-true}
+use Rattle.answers.specs.declared.Refusal.{Refusal}
+use Rattle.answers.specs.Refusals.{refusal}
+use Rattle.kinds.specs.Kinds.{wordKind, numberKind, keywordKind, only}
+use Rattle.grammar.specs.Table.{Template, Templates, none, more, Item}
+use Rattle.grammar.specs.Table as Table
+use Rattle.grammar.specs.Cells.{withRow}
+use Rattle.layout.specs.Within.{Each, each-more, ItemWithin, call-within}
+use Rattle.sorts.specs.Judgements.{ItemSorted, Body, by-binding}
+use Rattle.sorts.specs.Judgements as Judgements
+use Rattle.scanner.specs.declared.Token.{Token}
+use Rattle.productions.specs.Normal.{Production}
+use Rattle.firsts.specs.Rules.{Reads, reads-keyword, reads-word, reads-number}
+use Rattle.expansion.specs.declared.State.{State}
+use Rattle.expansion.specs.Run.{Result, done, halt, Run, after}
+use Rattle.expansion.specs.Expansion.{Input, ready, unfit, chosen, choice, nextToken, tokenTaken, take, misfit, cellMade, cell, build, buildAll, wordValue, runItem, runItems, callBegun, mostCalls, runCall}
+use Rattle.expansion.specs.Figure3.{Next, next, Taken}
+use Rattle.expansion.specs.Parsing.{input, SmallWords}
+use Rattle.soundness.proofs.Building.{Ends, ends-after}
+use Rattle.soundness.proofs.Typing.{FitAll, taken-of}
+use Rattle.expansion.proofs.Choosing.{kindOf, kind-next, Picks, picks, picks-none, choice-picks, rule}
+use Rattle.soundness.proofs.Sound.{token-before, call-full, call-unfit, call-chosen}
+use Rattle.expansion.specs.Stopping.{indexOf}
+
+pub ends-both : {A : Type 0} (P Q : A → State → List ℕ → Type 0) (H K : Refusal → Type 0) (x : Result A) → Ends P H x → Ends Q K x
+    → Ends (λ a s c. P a s c × Q a s c) (λ r. H r × K r) x
+ends-both P Q H K (done a s c) p q = (p, q)
+ends-both P Q H K (halt r c) p q = (p, q)
+
+-- ------------------------------------------------------------------ templates
+
+module _ (I : Input) where
+  -- the place stays, and a refusal is 21 there
+  abbrev pub Stays : {A : Type 0} → State → Result A → Type 0
+  Stays s x = Ends (λ a s′ c. s′ .at ≡ s .at) (λ r. r ≡ refusal 21 (s .at) 0 0) x
+
+  stays-after : {A B : Type 0} (s : State) (x : Result A) (k : A → Run B) → Stays s x → ((a : A) (s′ : State) (c : List ℕ) → Stays s′ (k a s′ c)) → Stays s (after x k)
+  stays-after s (halt r c) k h f = h
+  stays-after {B = B} s (done a s′ c) k h f = go (k a s′ c) (f a s′ c)
+    where
+      go : (y : Result B) → Stays s′ y → Stays s y
+      go (done b s″ c″) q = q ∙ h
+      go (halt r c″) q = q ∙ ap (λ (n : ℕ). refusal 21 n 0 0) h
+
+  cell-stays : (code : ℕ) (xs : List ℕ) (s : State) (cells : List ℕ) → Stays s (cell I code xs s cells)
+  cell-stays code xs s cells = go (ltb (s .made) (I .rows))
+    where
+      go : (b : Bool) → Stays {A = ℕ} s (elim b as (λ x. Result ℕ) [ true ↦ done (s .made) (cellMade s) (withRow cells (s .made) code xs) | false ↦ halt (refusal 21 (s .at) 0 0) cells ])
+      go true = refl
+      go false = refl
+
+  mutual
+    unfolding build buildAll
+
+    pub build-stays : (t : Template) (M : List ℕ) (s : State) (cells : List ℕ) → Stays s (build t I M s cells)
+    build-stays (Table.variable i) M s cells = refl
+    build-stays (Table.outside n) M s cells = refl
+    build-stays (Table.outsideLabel n) M s cells = refl
+    build-stays (Table.make c ts) M s cells = stays-after s (buildAll ts I M s cells) (λ vs. cell I c vs) (build-all-stays ts M s cells) (λ vs s′ c′. cell-stays c vs s′ c′)
+
+    pub build-all-stays : (ts : Templates) (M : List ℕ) (s : State) (cells : List ℕ) → Stays s (buildAll ts I M s cells)
+    build-all-stays none M s cells = refl
+    build-all-stays (more t ts) M s cells =
+        stays-after s (build t I M s cells) _ (build-stays t M s cells)
+        (λ v s′ c′. stays-after s′ (buildAll ts I M s′ c′) _ (build-all-stays ts M s′ c′) (λ vs s″ c″. refl))
+
+-- ------------------------------------------------------------------ tokens
+
+is-next : (s : List Token) {k : ℕ} → kindOf s ≡ k → k < 64 → Next s k
+is-next [] e l = absurd (omega (arith, e))
+is-next (t ∷ s) e l = subst (Next (t ∷ s)) e next
+
+next-is : {s : List Token} {k : ℕ} → Next s k → kindOf s ≡ k
+next-is next = refl
+
+pub reads-small : {j : Item} {k : ℕ} → Reads j k → k < 64
+reads-small (reads-keyword l) = omega arith
+reads-small reads-word = omega arith
+reads-small reads-number = omega arith
+
+module _ {g : List Production} (F : FitAll g) (spell : ℕ → List ℕ) (tokens : List Token) (rows : ℕ) (small : SmallWords tokens) where
+  abbrev J : Input
+  J = input g tokens rows
+
+  abbrev rest : State → List Token
+  rest s = drop (s .at) tokens
+
+  pub index-is : (s : State) {t : List Token} → rest s ≡ t → s .at ≤ length tokens → indexOf tokens t ≡ s .at
+  index-is s e l = omega (arith, ap length e, length-drop (s .at) tokens)
+
+  -- a token taken is of the kind, and one that is not is none of it
+  pub next-kind : (s : State) {k : ℕ} → nextToken J s .kind ≡ k → k < 64 → Next (rest s) k
+  next-kind s e l = is-next (rest s) (sym (kind-next (s .at) tokens) ∙ e) l
+
+  pub kind-of-next : (s : State) {k : ℕ} → Next (rest s) k → nextToken J s .kind ≡ k
+  kind-of-next s n = kind-next (s .at) tokens ∙ next-is n
+
+  pub take-halts : (kind : ℕ) (value : ℕ → ℕ) (s : State) (cells : List ℕ) → kind < 64 → (Next (rest s) kind → ⊥)
+      → take J kind value s cells ≡ halt (refusal 17 (s .at) (only kind) (ones (only kind))) cells
+  take-halts kind value s cells l n = rw (ne-eqb (nextToken J s .kind) kind (λ e. n (next-kind s e l)), take) refl
+
+  -- ------------------------------------------------------------------ the place
+
+  abbrev pub Bounded : {A : Type 0} → Result A → Type 0
+  Bounded x = Ends (λ a s c. s .at ≤ length tokens) (λ r. Unit {0}) x
+
+  bounded-after : {A B : Type 0} (x : Result A) (k : A → Run B) → Bounded x → ((a : A) (s : State) (c : List ℕ) → s .at ≤ length tokens → Bounded (k a s c)) → Bounded (after x k)
+  bounded-after (done a s c) k h f = f a s c h
+  bounded-after (halt r c) k h f = tt
+
+  stays-bounded : {A : Type 0} (s : State) (x : Result A) → s .at ≤ length tokens → Stays J s x → Bounded x
+  stays-bounded s (done a s′ c) l h = omega arith
+  stays-bounded s (halt r c) l h = tt
+
+  take-bounded : (kind : ℕ) (value : ℕ → ℕ) (s : State) (cells : List ℕ) → kind < 64 → Bounded (take J kind value s cells)
+  take-bounded kind value s cells l = go (eqb (nextToken J s .kind) kind) refl
+    where
+      go : (b : Bool) → eqb (nextToken J s .kind) kind ≡ b
+          → Bounded {A = ℕ} (elim b as (λ x. Result ℕ) [ true ↦ done (value (nextToken J s .value)) (tokenTaken s) cells | false ↦ misfit (only kind) s cells ])
+      go true e = omega (arith, token-before tokens (s .at) (eqb-true (nextToken J s .kind) kind e) l)
+      go false e = tt
+
+  module _ (C : ℕ → List ℕ → Run ℕ) (callee : (n : ℕ) (vs : List ℕ) (s : State) (cells : List ℕ) → n < 64 → s .at ≤ length tokens → Bounded (C n vs s cells)) where
+    pub item-bounded : {i : Item} {A : ℕ} {L : List ℕ} (xs : List ℕ) (s : State) (cells : List ℕ) → ItemSorted (F .scope) L i A → ItemWithin i
+        → s .at ≤ length tokens → Bounded (runItem C J i xs s cells)
+    item-bounded xs s cells (Judgements.by-keyword {k = k} l) z h = take-bounded (keywordKind k) (λ v. 0) s cells (omega (arith, l, F .keywordCount))
+    item-bounded xs s cells (Judgements.by-ide {B = B}) z h = take-bounded wordKind (wordValue B) s cells (omega arith)
+    item-bounded xs s cells Judgements.by-number z h = take-bounded numberKind (λ v. v) s cells (omega arith)
+    item-bounded xs s cells Judgements.by-local z h = h
+    item-bounded xs s cells (Judgements.by-call {n = n} {ts = ts} w f) (call-within l ws) h =
+        bounded-after (buildAll ts J xs s cells) (λ vs. C n vs) (stays-bounded s (buildAll ts J xs s cells) h (build-all-stays J ts xs s cells)) (λ vs s′ c′ b. callee n vs s′ c′ (omega arith) b)
+
+    pub items-bounded : (is : List Item) {r : Template} {B : ℕ} {L : List ℕ} (xs : List ℕ) (s : State) (cells : List ℕ) → Body (F .scope) L is r B
+        → Each ItemWithin is → s .at ≤ length tokens → Bounded (runItems C J is xs s cells)
+    unfolding runItems
+    items-bounded [] xs s cells b z h = h
+    items-bounded (i ∷ is) xs s cells (by-binding w b) (each-more z zs) h =
+        bounded-after (runItem C J i xs s cells) (λ v. runItems C J is (xs ++ (v ∷ []))) (item-bounded xs s cells w z h) (λ v s′ c′ l. items-bounded is (xs ++ (v ∷ [])) s′ c′ b zs l)
+
+  pub call-bounded : (d n : ℕ) (vs : List ℕ) (s : State) (cells : List ℕ) → n < 64 → s .at ≤ length tokens → Bounded (runCall d J n vs s cells)
+  unfolding runCall
+  call-bounded zero n vs s cells l h = tt
+  call-bounded (suc d) n vs s cells l h = go (call-bounded d) (ltb (s .calls) mostCalls) refl (choice-picks g n l (rest s))
+    where
+      go : ((m : ℕ) (ws : List ℕ) (s′ : State) (c′ : List ℕ) → m < 64 → s′ .at ≤ length tokens → Bounded (runCall d J m ws s′ c′)) → (b : Bool) → ltb (s .calls) mostCalls ≡ b
+          → Picks g n (rest s) (choice (ready g) n (kindOf (rest s))) → Bounded (runCall (suc d) J n vs s cells)
+      go f false e q = subst⁻¹ (λ x. Bounded x) (call-full d J n vs s cells e) tt
+      go f true e (picks p t z) =
+          subst⁻¹ (λ x. Bounded x) (call-chosen d J n vs s cells (rule g p) e (ap (choice (ready g) n) (kind-next (s .at) tokens) ∙ z))
+          (bounded-after (runItems (runCall d J) J (p .items) vs (callBegun s) cells) (λ M. build (p .result) J M)
+          (items-bounded (runCall d J) f (p .items) vs (callBegun s) cells (F .each p (taken-of t .member) .body) (F .each p (taken-of t .member) .items) h)
+          (λ M s′ c′ b. stays-bounded s′ (build (p .result) J M s′ c′) b (build-stays J (p .result) M s′ c′)))
+      go f true e (picks-none a z) = subst⁻¹ (λ x. Bounded x) (call-unfit d J n vs s cells e (ap (choice (ready g) n) (kind-next (s .at) tokens) ∙ z)) tt

@@ -1,0 +1,255 @@
+-- An expansion that halts stops by the rules, with the same refusal.
+use Prim.Native.Nat.{ℕ, zero, suc, _+_, _*_, _≤_, _<_}
+use mathlib.Core.Path.{_≡_, refl, sym, ap, subst, subst₂, subst⁻¹, _∙_}
+use mathlib.Core.Bool.{Bool, true, false}
+use mathlib.Core.List.{List, [], _∷_, _++_}
+use native.Mathlib.Omega.{arith}
+use lib.Dec.{eqb, ltb}
+use lib.ListN.{length, getD, drop}
+use lib.Count.{ones}
+use borrow.Author.Tests.{eqb-false, ltb-true, ltb-false}
+use Rattle.answers.specs.declared.Refusal.{Refusal}
+use Rattle.answers.specs.Refusals.{refusal}
+use Rattle.answers.specs.Checked.{ok}
+use Rattle.kinds.specs.Kinds.{wordKind, numberKind, keywordKind, only}
+use Rattle.grammar.specs.Sorts.{Signature, constructors, constructor}
+use Rattle.grammar.specs.Sorts as Sorts
+use Rattle.grammar.specs.Table.{Template, Templates, make, none, Item, number, call}
+use Rattle.layout.specs.Within.{Each, each-more, ItemWithin, call-within}
+use Rattle.sorts.specs.Judgements.{Newest, ItemSorted, Body, by-result, by-binding}
+use Rattle.sorts.specs.Judgements as Judgements
+use Rattle.scanner.specs.declared.Token.{Token}
+use Rattle.productions.specs.Normal.{Production}
+use Rattle.firsts.specs.First.{checkFirsts}
+use Rattle.firsts.specs.Rules.{Reads, reads-keyword, reads-word, reads-number}
+use Rattle.expansion.specs.declared.State.{State}
+use Rattle.expansion.specs.Run.{Result, done, halt, Run, after}
+use Rattle.expansion.specs.Expansion.{Input, ready, choice, nextToken, tokenTaken, take, misfit, buildAll, build, wordValue, runItem, runItems, callBegun, mostCalls, runCall, mostOpen, start, ended, run}
+use Rattle.expansion.specs.Figure3.{Value, Gives, GiveAll, give-none, Taken, Derives, by-end}
+use Rattle.expansion.specs.ValueSorts.{Matches, matches-none}
+use Rattle.expansion.specs.Costs.{rowsOf, rowsOfAll, openIn, callsIn, rowsIn, Beyond}
+use Rattle.expansion.specs.Parsing.{input, SmallWords}
+use Rattle.expansion.proofs.Shows.{ShowAll, show-none, all-later, all-and}
+use Rattle.soundness.proofs.Building.{Ends, ends-after, ends-map, Made, Full, Built, BuiltAll, build-ends, build-all-ends}
+use Rattle.soundness.proofs.Typing.{matches-and, give-all-exist, gives-exists, FitAll, body-of, taken-of}
+use Rattle.expansion.proofs.Choosing.{kindOf, kind-next, Picks, picks, picks-none, choice-picks, rule}
+use Rattle.soundness.proofs.Sound.{Kept, kept-made, kept-less, call-full, call-unfit, call-chosen, Stepped, Called, Derived, Any, item-sound, items-sound, call-sound}
+use Rattle.soundness.proofs.Complete.{items-along, items-after, Reached, Gave, call-along}
+use Rattle.soundness.proofs.Limits.{after-by}
+use Rattle.expansion.specs.Stopping.{indexOf, firstSet, takes, makes, begins, Fails, no-token, no-row, too-deep, too-many, no-choice, Affords, Stops, at-token, at-arguments, at-call, past-item, Enters, at-start, in-items, at-result, Refuses, stops, left-over}
+use Rattle.soundness.proofs.StopLaws.{ends-both, Stays, build-stays, build-all-stays, reads-small, index-is, kind-of-next, Bounded, item-bounded, items-bounded, call-bounded}
+
+module _ {g : List Production} (F : FitAll g) (passed : checkFirsts g ≡ ok tt) (spell : ℕ → List ℕ) (tokens : List Token) (rows : ℕ) (small : SmallWords tokens) where
+  abbrev J : Input
+  J = input g tokens rows
+
+  abbrev rest : State → List Token
+  rest s = drop (s .at) tokens
+
+  abbrev Fine : {A : Type 0} → A → State → List ℕ → Type 0
+  Fine a s cells = Unit {0}
+
+  -- from a state, with o calls open
+  abbrev StopsAt : ℕ → List Value → List Item → State → Refusal → Type 0
+  StopsAt o M is s r = Stops g spell rows tokens o (s .calls) (s .made) M (rest s) (s .fresh) is r
+
+  abbrev EntersAt : ℕ → ℕ → List Value → State → Refusal → Type 0
+  EntersAt o n vs s r = Enters g spell rows tokens o (s .calls) (s .made) n vs (rest s) (s .fresh) r
+
+  here : (s : State) → s .at ≤ length tokens → indexOf tokens (rest s) ≡ s .at
+  here s l = index-is F spell tokens rows small s refl l
+
+  -- what is asked of a callee
+  abbrev Halting : ℕ → Type 0
+  Halting d =
+      (o k n : ℕ) (S : Signature) (vs : List Value) (xs : List ℕ) (s : State) (cells : List ℕ) → d + o ≡ mostOpen → Newest (F .scope .env) n S → n < 64 → Matches vs (S .params)
+      → s .at ≤ length tokens → Kept rows k s cells → ShowAll spell (s .made) cells xs vs → Ends Fine (EntersAt o n vs s) (runCall d J n xs s cells)
+
+  take-halts : (o : ℕ) (M : List Value) {j : Item} (is : List Item) (kind : ℕ) (value : ℕ → ℕ) (s : State) (cells : List ℕ) → Reads j kind → s .at ≤ length tokens
+      → Ends Fine (StopsAt o M (j ∷ is) s) (take J kind value s cells)
+  take-halts o M {j} is kind value s cells w l = go (eqb (nextToken J s .kind) kind) refl
+    where
+      go : (b : Bool) → eqb (nextToken J s .kind) kind ≡ b
+          → Ends {A = ℕ} Fine (StopsAt o M (j ∷ is) s) (elim b as (λ x. Result ℕ) [ true ↦ done (value (nextToken J s .value)) (tokenTaken s) cells | false ↦ misfit (only kind) s cells ])
+      go true e = tt
+      go false e =
+          at-token w
+          (subst (λ (a : ℕ). Fails g rows tokens o (s .calls) (s .made) (rest s) (takes kind) (refusal 17 a (only kind) (ones (only kind)))) (here s l)
+          (no-token (λ n. eqb-false (nextToken J s .kind) kind e (kind-of-next F spell tokens rows small s n))))
+
+  full-row : (o c m : ℕ) {n : ℕ} (s : State) → s .at ≤ length tokens → rows < m + n → Fails g rows tokens o c m (rest s) (makes n) (refusal 21 (s .at) 0 0)
+  full-row o c m {n} s l h = subst (λ (a : ℕ). Fails g rows tokens o c m (rest s) (makes n) (refusal 21 a 0 0)) (here s l) (no-row h)
+
+  -- a call of a state after its arguments is one of the state before them
+  enters-stops : {o n : ℕ} {M vs : List Value} {ts : Templates} (is : List Item) {s s₁ : State} {cells c₁ : List ℕ} → GiveAll spell M ts vs → Made rows (rowsOfAll ts) s cells s₁ c₁
+      → (r : Refusal) → EntersAt o n vs s₁ r → StopsAt o M (call n ts ∷ is) s r
+  enters-stops {o} {n} {vs = vs} {ts = ts} is {s = s} {s₁ = s₁} gs b r e =
+      let fits : s .made + rowsOfAll ts ≤ rows = omega (arith, b .fits, b .made-is) in
+      at-call gs fits
+      (subst₂ (λ at i. Enters g spell rows tokens o (s .calls) (s .made + rowsOfAll ts) n vs (drop at tokens) i r) (b .at-kept) (b .fresh-kept)
+      (subst₂ (λ c m. Enters g spell rows tokens o c m n vs (rest s₁) (s₁ .fresh) r) (b .calls-kept) (b .made-is) e))
+
+  module _ (d o : ℕ) (left : d + o ≡ mostOpen) (halting : Halting d) where
+    item-halts : (k : ℕ) {i : Item} {A : ℕ} {M : List Value} {L xs : List ℕ} (is : List Item) (s : State) (cells : List ℕ) → ItemSorted (F .scope) L i A → ItemWithin i → Matches M L
+        → s .at ≤ length tokens → Kept rows (k + 1) s cells → ShowAll spell (s .made) cells xs M
+        → Ends Fine (StopsAt o M (i ∷ is) s) (runItem (runCall d J) J i xs s cells)
+    item-halts k {M = M} is s cells (Judgements.by-keyword {k = w} l) z m b h a = take-halts o M is (keywordKind w) (λ v. 0) s cells (reads-keyword (omega (arith, l, F .keywordCount))) b
+    item-halts k {M = M} is s cells (Judgements.by-ide {B = B}) z m b h a = take-halts o M is wordKind (wordValue B) s cells reads-word b
+    item-halts k {M = M} is s cells Judgements.by-number z m b h a = take-halts o M is numberKind (λ v. v) s cells reads-number b
+    item-halts k is s cells Judgements.by-local z m b h a = tt
+    item-halts k {M = M} {xs = xs} is s cells (Judgements.by-call {n = n} {S = S} {ts = ts} w f) (call-within l ws) m b h a =
+        let vs = give-all-exist spell m ts f ws in
+        ends-after (λ ys s₁ c₁. BuiltAll spell J (rowsOfAll ts) s cells (vs .0) ys s₁ c₁ × (s₁ .at ≡ s .at)) (λ r. Full rows (s .made + rowsOfAll ts) r × (r ≡ refusal 21 (s .at) 0 0))
+        Fine (StopsAt o M (call n ts ∷ is) s) (buildAll ts J xs s cells) (λ ys. runCall d J n ys)
+        (ends-both (BuiltAll spell J (rowsOfAll ts) s cells (vs .0)) (λ ys s₁ c₁. s₁ .at ≡ s .at) (Full rows (s .made + rowsOfAll ts)) (λ r. r ≡ refusal 21 (s .at) 0 0) (buildAll ts J xs s cells)
+        (build-all-ends spell J ts s cells (vs .1) f (omega (arith, F .outsideCount)) (h .room) (h .fits) a) (build-all-stays J ts xs s cells))
+        (λ ys s₁ c₁ y.
+        ends-map Fine (EntersAt o n (vs .0) s₁) Fine (StopsAt o M (call n ts ∷ is) s) (runCall d J n ys s₁ c₁)
+        (halting o k n S (vs .0) ys s₁ c₁ left w (omega arith) (vs .2) (omega (arith, y .1)) (kept-less (kept-made h (y .0 .0))) (y .0 .1))
+        (λ x s₂ c₂ u. u) (enters-stops is (vs .1) (y .0 .0)))
+        (λ r u. at-arguments (vs .1) (subst⁻¹ (λ q. Fails g rows tokens o (s .calls) (s .made) (rest s) (makes (rowsOfAll ts)) q) (u .1) (full-row o (s .calls) (s .made) s b (u .0 .beyond))))
+
+    -- an item derived has cost what its derivation costs
+    item-costs : (k : ℕ) {i : Item} {A : ℕ} {M : List Value} {L : List ℕ} (xs : List ℕ) (s : State) (cells : List ℕ) → ItemSorted (F .scope) L i A
+        → Kept rows (k + 1) s cells → ShowAll spell (s .made) cells xs M → (x : ℕ) (s₁ : State) (c₁ : List ℕ) → runItem (runCall d J) J i xs s cells ≡ done x s₁ c₁
+        → {M₁ : List Value} (D : Derives g spell M (rest s) (s .fresh) (i ∷ []) M₁ (rest s₁) (s₁ .fresh))
+        → (s₁ .calls ≡ s .calls + callsIn D) × (s₁ .made ≡ s .made + rowsIn D) × (openIn D ≤ d)
+    unfolding runItems constructor constructors
+    item-costs k {i} {L = L} xs s cells w h a x s₁ c₁ e {M₁} D =
+        let body : Body (F .scope) L (i ∷ []) (make 0x25 none) Sorts.fields = by-binding w (by-result (Judgements.by-constructor Judgements.fill-none) Judgements.fits-equal) in
+        let q = subst (λ z. Ends (Reached F passed spell tokens rows small k d (openIn D) (callsIn D) (rowsIn D) (rest s₁) (s₁ .fresh) M₁ (s .calls) (s .made) cells)
+        (Beyond rows d (openIn D) (s .calls + callsIn D) (s .made + rowsIn D)) z)
+        (items-after (runCall d J) J i [] xs s cells x s₁ c₁ e)
+        (items-along F passed spell tokens rows small D .along d k (make 0x25 none) Sorts.fields L xs s cells body refl refl h a) in
+        (q .0 .calls-are, q .0 .made-are, q .0 .deep)
+
+    items-halt : (k : ℕ) (is : List Item) {r : Template} {B : ℕ} {M : List Value} {L xs : List ℕ} (s : State) (cells : List ℕ) → Body (F .scope) L is r B → Each ItemWithin is → Matches M L
+        → s .at ≤ length tokens → Kept rows (k + length is) s cells → ShowAll spell (s .made) cells xs M
+        → Ends Fine (StopsAt o M is s) (runItems (runCall d J) J is xs s cells)
+    unfolding runItems
+    items-halt k [] s cells b z m n h a = tt
+    items-halt k (i ∷ is) {M = M} {xs = xs} s cells (by-binding {A = A} w b) (each-more z zs) m n h a =
+        let h′ : Kept rows (k + length is + 1) s cells = record { room = h .room; fits = h .fits; names = omega (arith, h .names); begun = h .begun } in
+        after-by Fine (StopsAt o M (i ∷ is) s) (runItem (runCall d J) J i xs s cells) (λ x. runItems (runCall d J) J is (xs ++ (x ∷ [])))
+        (λ x s₁ c₁ e.
+        let p : Stepped F spell tokens rows small (k + length is) i A M s cells x s₁ c₁ =
+        subst (λ z. Ends (Stepped F spell tokens rows small (k + length is) i A M s cells) (Any F spell tokens rows small) z) e
+        (item-sound F spell tokens rows small (runCall d J) (call-sound F spell tokens rows small d) (k + length is) s cells w z m h′ a) in
+        let D = p .step [] (M ++ (p .value ∷ [])) (rest s₁) (s₁ .fresh) by-end in
+        let q = item-costs (k + length is) xs s cells w h′ a x s₁ c₁ e D in
+        let n₁ : s₁ .at ≤ length tokens =
+        subst (λ y. Ends {A = ℕ} (λ a s c. s .at ≤ length tokens) (λ r. Unit {0}) y) e
+        (item-bounded F spell tokens rows small (runCall d J) (call-bounded F spell tokens rows small d) xs s cells w z n) in
+        ends-map Fine (StopsAt o (M ++ (p .value ∷ [])) is s₁) Fine (StopsAt o M (i ∷ is) s) (runItems (runCall d J) J is (xs ++ (x ∷ [])) s₁ c₁)
+        (items-halt k is s₁ c₁ b zs (matches-and m (p .typed)) n₁ (p .kept) (all-and (all-later (p .grown) a) (p .shows)))
+        (λ ys s₂ c₂ u. u)
+        (λ r u.
+        past-item {o = o} {c = s .calls} {m = s .made} D (record { few-open = omega (arith, q .2); few-calls = omega (arith, q .0, p .kept .begun); few-rows = omega (arith, q .1, p .kept .fits) })
+        (subst₂ (λ c m. Stops g spell rows tokens o c m (M ++ (p .value ∷ [])) (rest s₁) (s₁ .fresh) is r) (q .0) (q .1) u)))
+        (λ q c₁ e. subst (λ z. Ends Fine (StopsAt o M (i ∷ is) s) z) e (item-halts (k + length is) is s cells w z m n h′ a))
+
+  -- ------------------------------------------------------------------ calls
+
+  module _ (d o : ℕ) (left : suc d + o ≡ mostOpen) (halting : Halting d) (k n : ℕ) (S : Signature) (vs : List Value) (xs : List ℕ) (s : State) (cells : List ℕ)
+      (w : Newest (F .scope .env) n S) (l : n < 64) (m : Matches vs (S .params)) (b : s .at ≤ length tokens) (h : Kept rows k s cells) (a : ShowAll spell (s .made) cells xs vs) where
+    abbrev Goal : Result ℕ → Type 0
+    Goal z = Ends Fine (EntersAt o n vs s) z
+
+    deeper : o < mostOpen
+    deeper = omega arith
+
+    production-halts : (p : Production) → Taken g n (rest s) p → s .calls < mostCalls
+        → Goal (after (runItems (runCall d J) J (p .items) xs (callBegun s) cells) (λ ys. build (p .result) J ys))
+    production-halts p t c =
+        let q = F .each p (taken-of t .member) in
+        let h′ : Kept rows (k + length (p .items)) (callBegun s) cells =
+        record { room = h .room; fits = h .fits; names = omega (arith, h .names, q .itemCount); begun = omega arith } in
+        let body = body-of F (taken-of t) w in
+        let K = EntersAt o n vs s in
+        after-by Fine K (runItems (runCall d J) J (p .items) xs (callBegun s) cells) (λ ys. build (p .result) J ys)
+        (λ ys s₁ c₁ e.
+        let y : Derived F spell tokens rows small (runCall d J) (call-sound F spell tokens rows small d) k (p .items) (p .result) (S .result) vs (callBegun s) cells ys s₁ c₁ =
+        subst (λ z. Ends (Derived F spell tokens rows small (runCall d J) (call-sound F spell tokens rows small d) k (p .items) (p .result) (S .result) vs (callBegun s) cells) (Any F spell tokens rows small) z) e
+        (items-sound F spell tokens rows small (runCall d J) (call-sound F spell tokens rows small d) k (p .items) (callBegun s) cells body (q .items) m h′ a) in
+        let D = y .derived in
+        let z = subst (λ z. Ends (Reached F passed spell tokens rows small k d (openIn D) (callsIn D) (rowsIn D) (rest s₁) (s₁ .fresh) (y .variables) (callBegun s .calls) (s .made) cells)
+        (Beyond rows d (openIn D) (callBegun s .calls + callsIn D) (s .made + rowsIn D)) z) e
+        (items-along F passed spell tokens rows small D .along d k (p .result) (S .result) (S .params) xs (callBegun s) cells body refl refl h′ a) in
+        let b₁ : s₁ .at ≤ length tokens =
+        subst (λ y. Ends {A = List ℕ} (λ a s c. s .at ≤ length tokens) (λ r. Unit {0}) y) e
+        (items-bounded F spell tokens rows small (runCall d J) (call-bounded F spell tokens rows small d) (p .items) xs (callBegun s) cells body (q .items) b) in
+        let v = gives-exists spell (y .matches) (p .result) (y .sorted) (q .result) in
+        let A : Affords rows (o + 1) (s .calls + 1) (s .made) D =
+        record { few-open = omega (arith, z .0 .deep, left); few-calls = omega (arith, z .0 .calls-are, y .kept .begun); few-rows = omega (arith, z .0 .made-are, y .kept .fits) } in
+        ends-map (λ x s₂ c₂. Built spell J (rowsOf (p .result)) s₁ c₁ (v .0) x s₂ c₂ × (s₂ .at ≡ s₁ .at)) (λ r. Full rows (s₁ .made + rowsOf (p .result)) r × (r ≡ refusal 21 (s₁ .at) 0 0)) Fine K
+        (build (p .result) J ys s₁ c₁)
+        (ends-both (Built spell J (rowsOf (p .result)) s₁ c₁ (v .0)) (λ x s₂ c₂. s₂ .at ≡ s₁ .at) (Full rows (s₁ .made + rowsOf (p .result))) (λ r. r ≡ refusal 21 (s₁ .at) 0 0) (build (p .result) J ys s₁ c₁)
+        (build-ends spell J (p .result) {v = v .0} s₁ c₁ (v .1) (y .sorted) (omega (arith, F .outsideCount)) (y .kept .room) (y .kept .fits) (y .shows)) (build-stays J (p .result) ys s₁ c₁))
+        (λ x s₂ c₂ u. tt)
+        (λ r u.
+        at-result {v = v .0} t D A (v .1)
+        (subst⁻¹ (λ q. Fails g rows tokens (o + 1) (s .calls + 1 + callsIn D) (s .made + rowsIn D) (rest s₁) (makes (rowsOf (p .result))) q) (u .1)
+        (full-row (o + 1) (s .calls + 1 + callsIn D) (s .made + rowsIn D) s₁ b₁ (omega (arith, u .0 .beyond, z .0 .made-are))))))
+        (λ r c₁ e.
+        in-items deeper c t
+        (subst (λ z. Ends Fine (StopsAt (o + 1) vs (p .items) (callBegun s)) z) e
+        (items-halt d (o + 1) (omega (arith, left)) halting k (p .items) (callBegun s) cells body (q .items) m b h′ a)))
+
+    call-step : Goal (runCall (suc d) J n xs s cells)
+    unfolding ready
+    call-step = go (ltb (s .calls) mostCalls) refl (choice-picks g n l (rest s))
+      where
+        go : (c : Bool) → ltb (s .calls) mostCalls ≡ c → Picks g n (rest s) (choice (ready g) n (kindOf (rest s))) → Goal (runCall (suc d) J n xs s cells)
+        go false e q =
+            subst⁻¹ (λ r. Goal r) (call-full d J n xs s cells e)
+            (at-start (subst (λ (i : ℕ). Fails g rows tokens o (s .calls) (s .made) (rest s) (begins n) (refusal 20 i 0 0)) (here s b) (too-many deeper (ltb-false (s .calls) mostCalls e))))
+        go true e (picks p t f) =
+            subst⁻¹ (λ r. Goal r) (call-chosen d J n xs s cells (rule g p) e (ap (choice (ready g) n) (kind-next (s .at) tokens) ∙ f))
+            (production-halts p t (ltb-true (s .calls) mostCalls e))
+        go true e (picks-none f c) =
+            subst⁻¹ (λ r. Goal r) (call-unfit d J n xs s cells e (ap (choice (ready g) n) (kind-next (s .at) tokens) ∙ c))
+            (at-start
+            (subst (λ (i : ℕ). Fails g rows tokens o (s .calls) (s .made) (rest s) (begins n) (refusal 17 i (firstSet g n) (ones (firstSet g n)))) (here s b)
+            (no-choice deeper (ltb-true (s .calls) mostCalls e) f)))
+
+  pub call-halts : (d : ℕ) → Halting d
+  unfolding runCall
+  call-halts zero o k n S vs xs s cells e w l m b h a =
+      at-start (subst (λ (i : ℕ). Fails g rows tokens o (s .calls) (s .made) (rest s) (begins n) (refusal 19 i 0 0)) (here s b) (too-deep (omega (arith, e))))
+  call-halts (suc d) o k n S vs xs s cells e w l m b h a = call-step d o e (call-halts d) k n S vs xs s cells w l m b h a
+
+  -- ------------------------------------------------------------------ the whole formula
+
+  pub run-halts : (root : ℕ) → root < 64 → (S : Signature) → Newest (F .scope .env) root S → S .params ≡ [] → (cells : List ℕ) → rows * 4 ≤ length cells
+      → Ends Fine (Refuses g spell rows root tokens) (run J root cells)
+  unfolding run
+  run-halts root l S w e cells room =
+      let none : Matches [] (S .params) = subst⁻¹ (Matches []) e matches-none in
+      let h : Kept rows 0 start cells = record { room = room; fits = omega arith; names = omega arith; begun = omega arith } in
+      after-by Fine (Refuses g spell rows root tokens) (runCall mostOpen J root [] start cells) (ended J)
+      (λ v s c₁ q. over v s c₁ q
+      (subst (λ z. Ends (Called F spell tokens rows small 0 root [] start cells) (Any F spell tokens rows small) z) q (call-sound F spell tokens rows small mostOpen 0 root S [] [] start cells w l none h show-none))
+      (subst (λ y. Ends {A = ℕ} (λ a s c. s .at ≤ length tokens) (λ r. Unit {0}) y) q (call-bounded F spell tokens rows small mostOpen root [] start cells l (omega arith))) h)
+      (λ r c₁ q. stops (subst (λ z. Ends Fine (EntersAt 0 root [] start) z) q (call-halts mostOpen 0 0 root S [] [] start cells refl w l none (omega arith) h show-none)))
+    where
+      over : (v : ℕ) (s : State) (c₁ : List ℕ) → runCall mostOpen J root [] start cells ≡ done v s c₁ → Called F spell tokens rows small 0 root [] start cells v s c₁ → s .at ≤ length tokens
+          → Kept rows 0 start cells → Ends Fine (Refuses g spell rows root tokens) (ended J v s c₁)
+      over v s c₁ q y b h = go (ltb (s .at) (length tokens)) refl
+        where
+          leftover : (t : Token) (ts : List Token) → rest s ≡ t ∷ ts → Refuses g spell rows root tokens (refusal 18 (s .at) 0 0)
+          leftover t ts e =
+              let D : Derives g spell [] tokens 1 (y .production .items) (y .variables) (t ∷ ts) (s .fresh) =
+              subst (λ u. Derives g spell [] tokens 1 (y .production .items) (y .variables) u (s .fresh)) e (y .derived) in
+              let z = subst (λ x. Ends (Gave F passed spell tokens rows small 0 mostOpen (openIn D + 1) (callsIn D + 1) (rowsIn D + rowsOf (y .production .result)) (t ∷ ts) (s .fresh) (y .value) 0 0 cells)
+              (Beyond rows mostOpen (openIn D + 1) (0 + (callsIn D + 1)) (0 + (rowsIn D + rowsOf (y .production .result)))) x) q
+              (call-along F passed spell tokens rows small (y .production) (y .taken) (items-along F passed spell tokens rows small D) (y .given) 0 [] start cells refl refl h show-none mostOpen) in
+              let A : Affords rows 1 1 0 D =
+              record { few-open = omega (arith, z .0 .deep); few-calls = omega (arith, z .0 .calls-are, z .0 .kept .begun); few-rows = omega (arith, z .0 .made-are, z .0 .kept .fits) } in
+              let fits : rowsIn D + rowsOf (y .production .result) ≤ rows = omega (arith, z .0 .made-are, z .0 .kept .fits) in
+              subst (λ (i : ℕ). Refuses g spell rows root tokens (refusal 18 i 0 0)) (index-is F spell tokens rows small s e b)
+              (left-over {v = y .value} (y .taken) D A (y .given) fits)
+
+          go : (c : Bool) → ltb (s .at) (length tokens) ≡ c
+              → Ends {A = ℕ} Fine (Refuses g spell rows root tokens) (elim c as (λ x. Result ℕ) [ true ↦ halt (refusal 18 (s .at) 0 0) c₁ | false ↦ done v s c₁ ])
+          go true e = leftover _ _ (Rattle.soundness.proofs.Sound.token-here tokens (s .at) (ltb-true (s .at) (length tokens) e))
+          go false e = tt
