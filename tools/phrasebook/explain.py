@@ -94,7 +94,8 @@ def field_past_end(case: Case) -> List[str]:
         return []
     if left < 3:
         return ["byte %d of the table: %s left, and a field begins with a tag and two bytes of length" % (case.a, is_or_are(left, "byte"))]
-    return ["byte %d of the table: this field says that it has %d bytes, and %d are left" % (case.a, size_at(case.data, case.a), left - 3)]
+    says = counted(size_at(case.data, case.a), "byte")
+    return ["byte %d of the table: this field says that it has %s, and %s left" % (case.a, says, is_or_are(left - 3, "byte"))]
 
 
 def is_or_are(n: int, what: str) -> str:
@@ -152,7 +153,8 @@ def why_unknown_item(v: bytes) -> str:
 
 def unknown_value(case: Case) -> List[str]:
     f = case.field()
-    return case.at(f.place, why_unknown(f) or "this field") if f else []
+    why = why_unknown(f) if f else ""
+    return case.at(f.place, why) if why else []
 
 
 def missing(tag: Optional[int]) -> str:
@@ -258,8 +260,8 @@ def body_line(case: Case, judge: Callable[..., Optional[str]]) -> List[str]:
         return root_line(case, f)
     if f is None or a is None:
         return []
-    name = case.nonterminal(a.definition.nonterminal)
-    return case.at(f.place, "in %s: %s" % (name, judge(case, a, f) or "this field"))
+    said = judge(case, a, f)
+    return case.at(f.place, "in %s: %s" % (case.nonterminal(a.definition.nonterminal), said)) if said else []
 
 
 def bad_template(case: Case) -> List[str]:
@@ -345,7 +347,16 @@ def misfit(case: Case) -> List[str]:
     kinds = case.kinds(case.b)
     more = ["%d more" % (len(kinds) - LISTED_TOKENS)] if len(kinds) > LISTED_TOKENS + 1 else []
     fitted = kinds if not more else kinds[:LISTED_TOKENS] + more
-    return case.word(case.a) + ["expected: %s" % listed(fitted)] * bool(kinds) + reading_what(case, stopped(case))
+    said = ["expected: %s" % listed(fitted)] if kinds else []
+    return case.word(case.a) + said + keyword_hint(case) + reading_what(case, stopped(case))
+
+
+def keyword_hint(case: Case) -> List[str]:
+    """Why a word does not fit where a word is expected."""
+    token = case.tokens[case.a] if case.a < len(case.tokens) else None
+    if token is None or not case.b & 1 or not token.text.isalpha() or token.bit == reading.WORD_BIT:
+        return []
+    return ["`%s` is a keyword of this table, and so it is no word" % token.text.decode("ascii")]
 
 
 def left_over(case: Case) -> List[str]:

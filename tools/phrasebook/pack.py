@@ -59,6 +59,15 @@ def numbers_of(n: Notation) -> Dict[str, int]:
     return out
 
 
+def check_names(parameters: List[str], a: Alternative) -> None:
+    """The variables of an alternative have different names."""
+    known = set(parameters)
+    for name in [i.name for i in a.items if i.name is not None]:
+        if name.text in known:
+            raise Trouble("this alternative has a variable `%s` already" % name.text, name.spot)
+        known.add(name.text)
+
+
 def place_sort(sorts: List[int], at: int) -> Optional[int]:
     return sorts[at] if at < len(sorts) else None
 
@@ -117,19 +126,18 @@ class Packer:
 
     def alternative(self, d: Definition, a: Alternative) -> None:
         variables = {name.text: i for i, (name, _) in enumerate(d.parameters)}
+        check_names(list(variables), a)
         place, count = len(self.data), len(variables)
         self.put(ALTERNATIVE, b"", a.spot)
         for item in a.items + self.last_call(a, variables):
-            if item.name is not None and item.name.text in variables:
-                raise Trouble("this alternative has a variable `%s` already" % item.name.text, item.name.spot)
             self.put(ITEM, self.item(d, a, item, variables), item.spot)
             if item.name is not None:
                 variables[item.name.text] = count
             count += 1
         if self.is_last_call(a, variables):
-            self.put(RESULT, bytes([self.variable(count - 1, a.result.head)]), a.result.head.spot)
+            self.put(RESULT, bytes([self.variable(count - 1, a.result.head)]), a.result.spot)
         else:
-            self.put(RESULT, self.template(a.result, variables), a.result.head.spot)
+            self.put(RESULT, self.template(a.result, variables), a.result.spot)
         self.variables[place] = {i: name for name, i in variables.items()}
 
     def is_last_call(self, a: Alternative, variables: Dict[str, int]) -> bool:
@@ -141,7 +149,7 @@ class Packer:
         """A nonterminal as the result is one more item."""
         if not self.is_last_call(a, variables):
             return []
-        return [Item(a.result.head.spot, None, a.result.head, None, a.result.arguments or [])]
+        return [Item(a.result.spot, None, a.result.head, None, a.result.arguments or [])]
 
     def item(self, d: Definition, a: Alternative, item: Item, variables: Dict[str, int]) -> bytes:
         what = item.what
