@@ -1,6 +1,6 @@
 //! The inputs that are measured: a list, and series of growing ones.
 
-use crate::collide::{self, Polynomial};
+use crate::collide::{self, Hash};
 use crate::tables::{self, Extra};
 
 pub struct Input {
@@ -46,13 +46,11 @@ fn outermost(variables: usize, binders: usize) -> String {
 
 pub const WORDS: usize = 4_092;
 
-const COLLIDING: &str = "4,092 words of one hash";
-
-/// The inputs of the list. The scanner's hash says which words collide; finding them takes a while, so it is left out where nobody asks for them.
-pub fn list(hash: Option<Polynomial>) -> Vec<Input> {
+/// The inputs of the list. `multiplier` is that of the polynomial hash for which words are made that collide.
+pub fn list(multiplier: u32) -> Vec<Input> {
     let house = tables::house(&[]);
     let words = tables::words(&[], &[]);
-    let colliding = hash.map(|hash| collide::words(hash, WORDS).join(" ")).unwrap_or_default();
+    let colliding = |hash: Hash| collide::words(hash, WORDS).join(" ");
     let all_spellings = tables::words(&tables::spellings("key", 62), &tables::spellings("name", 64));
     let long_spellings = tables::words(&tables::long_spellings("k", 62), &tables::long_spellings("k", 126)[62..]);
     vec![
@@ -66,7 +64,8 @@ pub fn list(hash: Option<Polynomial>) -> Vec<Input> {
         Input::new("4,092 different words", words.clone(), different(WORDS)),
         Input::new("the same, 126 keywords and names in the table", all_spellings, different(WORDS)),
         Input::new("126 keywords and names of 31 bytes, one beginning", long_spellings, ""),
-        Input::new(COLLIDING, words, colliding),
+        Input::new(format!("4,092 words of one hash, h·{multiplier} + b"), words.clone(), colliding(Hash::Polynomial { multiplier })),
+        Input::new("4,092 words of one tree of the scanner", words, colliding(Hash::Folded)),
         Input::new("65,535 calls, 256 productions", tables::levels(16, 240, 0), ""),
         Input::new("32,767 calls, half of 63 alternatives", tables::levels(15, 0, 62), ""),
         Input::new("chain of 64 nullable nonterminals", tables::chain(64, true), ""),
@@ -76,11 +75,6 @@ pub fn list(hash: Option<Polynomial>) -> Vec<Input> {
         Input::new("16,254 nested binders of an outside name's spelling", tables::nested(), "T ".to_string() + &"c ".repeat(126)),
         Input::new("13 `twice`", tables::house(&[Extra::Twice]), twice(13)),
     ]
-}
-
-/// Whether this input of the list needs colliding words.
-pub fn collides(input: &Input) -> bool {
-    input.name == COLLIDING
 }
 
 /// Inputs of one, two, four and eight times a size.
@@ -98,8 +92,9 @@ fn series(name: &'static str, sizes: [usize; 4], input: impl Fn(usize) -> (Vec<u
 }
 
 /// One series for each thing that an input can have more of.
-pub fn growth(hash: Polynomial) -> Vec<Series> {
-    let colliding = collide::words(hash, WORDS);
+pub fn growth(multiplier: u32) -> Vec<Series> {
+    let of_one_hash = collide::words(Hash::Polynomial { multiplier }, WORDS);
+    let of_one_tree = collide::words(Hash::Folded, WORDS);
     let halves = |size: usize| (tables::long_spellings("k", size / 2), tables::long_spellings("n", size - size / 2));
     vec![
         series("table bytes", [2_040, 4_080, 8_160, 16_320], |size| {
@@ -118,7 +113,10 @@ pub fn growth(hash: Polynomial) -> Vec<Series> {
         }),
         series("different words", [506, 1_023, 2_046, 4_092], |size| (tables::words(&[], &[]), different(size))),
         series("words of one hash", [506, 1_023, 2_046, 4_092], |size| {
-            (tables::words(&[], &[]), colliding[..size].join(" "))
+            (tables::words(&[], &[]), of_one_hash[..size].join(" "))
+        }),
+        series("words of one tree of the scanner", [506, 1_023, 2_046, 4_092], |size| {
+            (tables::words(&[], &[]), of_one_tree[..size].join(" "))
         }),
         series("calls", [13, 14, 15, 16], |size| (tables::levels(size, 240, 0), String::new())),
         series("productions", [32, 64, 128, 256], |size| (tables::levels(2, size - 2, 0), String::new())),
