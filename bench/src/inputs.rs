@@ -1,7 +1,7 @@
 //! The inputs that are measured: a list, and series of growing ones.
 
 use crate::collide::{self, Hash};
-use crate::tables::{self, Extra};
+use crate::tables::{self, Extra, Table, TERM, VAR};
 
 pub struct Input {
     pub name: String,
@@ -135,9 +135,13 @@ pub fn growth(multiplier: u32) -> Vec<Series> {
     ]
 }
 
-/// An input near a limit, by three numbers that are drawn.
+/// How many kinds of input near a limit there are.
+pub const LIMITS: usize = 16;
+
+/// An input near a limit, by its kind and two numbers that are drawn.
 pub fn near_a_limit(kind: usize, size: usize, other: usize) -> (Vec<u8>, String) {
-    match kind % 12 {
+    let empty_record = |table: Table| table.alternative().result(&[0x23, 0x25]);
+    match kind {
         0 => (tables::house(&[]), parentheses(505 + size % 12)),
         1 => (tables::house(&[]), "q".to_string() + &".a".repeat(1_016 + size % 12)),
         2 => (tables::house(&[]), record(1_014 + size % 12)),
@@ -149,6 +153,20 @@ pub fn near_a_limit(kind: usize, size: usize, other: usize) -> (Vec<u8>, String)
         8 => (tables::nested(), outermost(8 * (size % 700), 48 * (other % 300))),
         9 => (tables::nested(), "T ".to_string() + &"c ".repeat(size % 140) + &"v ".repeat(other % 200)),
         10 => (tables::large(1 + size % 62, other % 8, None), "a key0 b key3 c".to_string()),
-        _ => (tables::house(&[]), " ".repeat(65_530 + size % 10) + "q"),
+        11 => (tables::house(&[]), " ".repeat(65_530 + size % 10) + "q"),
+        12 => {
+            let (keywords, names) = (tables::spellings("k", 59 + size % 5), tables::spellings("n", 61 + other % 5));
+            (empty_record(Table::new().keywords(keywords).names(names).block().add(0, TERM, &[])).root(0), "n1 k1".to_string())
+        }
+        13 => {
+            let table = empty_record(Table::new().block().add(0, TERM, &[]));
+            (table.times(13 + size % 4, |table, _| table.block()).root(0), String::new())
+        }
+        14 => (tables::levels(2, 250 + size % 8, 0), String::new()),
+        _ => {
+            let count = 10 + size % 4;
+            let table = Table::new().block().add(0, TERM, &[]).alternative().times(count, |table, _| table.ide(VAR));
+            (table.result(&[0x20, (other % 14) as u8]).root(0), different(count))
+        }
     }
 }
