@@ -37,8 +37,8 @@ pub struct Drawn {
 }
 
 pub fn draw(draws: &mut Draws, passing: &[Vec<u8>]) -> Drawn {
-    if draws.below(400) == 0 {
-        let (kind, size, other) = (draws.below(12), draws.below(10_000), draws.below(10_000));
+    if draws.below(200) == 0 {
+        let (kind, size, other) = (draws.below(inputs::LIMITS), draws.below(10_000), draws.below(10_000));
         let (table, formula) = inputs::near_a_limit(kind, size, other);
         return Drawn { table, formula: formula.into_bytes() };
     }
@@ -112,11 +112,12 @@ fn made_up(draws: &mut Draws) -> Vec<u8> {
     while maker.draws.percent(25) {
         table = table.block();
         let n = maker.draws.below(count);
-        let mode = 1 + maker.draws.below(2) as u8;
+        let mode = if maker.draws.percent(4) { 0 } else { 1 + maker.draws.below(2) as u8 };
         if mode == 2 {
             used[n].clear();
         }
-        table = table.definition(n, mode, maker.signatures[n].result, &maker.signatures[n].parameters);
+        let result = if maker.draws.percent(3) { maker.draws.one(&sorts) } else { maker.signatures[n].result };
+        table = table.definition(n, mode, result, &maker.signatures[n].parameters);
         table = maker.alternatives(table, n, keywords.len(), &mut used[n]);
     }
     table.root(0)

@@ -1,7 +1,7 @@
 //! The inputs that are measured: a list, and series of growing ones.
 
-use crate::collide::{self, Polynomial};
-use crate::tables::{self, Extra};
+use crate::collide::{self, Hash};
+use crate::tables::{self, Extra, Table, TERM, VAR};
 
 pub struct Input {
     pub name: String,
@@ -46,13 +46,11 @@ fn outermost(variables: usize, binders: usize) -> String {
 
 pub const WORDS: usize = 4_092;
 
-const COLLIDING: &str = "4,092 words of one hash";
-
-/// The inputs of the list. The scanner's hash says which words collide; finding them takes a while, so it is left out where nobody asks for them.
-pub fn list(hash: Option<Polynomial>) -> Vec<Input> {
+/// The inputs of the list. `multiplier` is that of the polynomial hash for which words are made that collide.
+pub fn list(multiplier: u32) -> Vec<Input> {
     let house = tables::house(&[]);
     let words = tables::words(&[], &[]);
-    let colliding = hash.map(|hash| collide::words(hash, WORDS).join(" ")).unwrap_or_default();
+    let colliding = |hash: Hash| collide::words(hash, WORDS).join(" ");
     let all_spellings = tables::words(&tables::spellings("key", 62), &tables::spellings("name", 64));
     let long_spellings = tables::words(&tables::long_spellings("k", 62), &tables::long_spellings("k", 126)[62..]);
     vec![
@@ -66,7 +64,8 @@ pub fn list(hash: Option<Polynomial>) -> Vec<Input> {
         Input::new("4,092 different words", words.clone(), different(WORDS)),
         Input::new("the same, 126 keywords and names in the table", all_spellings, different(WORDS)),
         Input::new("126 keywords and names of 31 bytes, one beginning", long_spellings, ""),
-        Input::new(COLLIDING, words, colliding),
+        Input::new(format!("4,092 words of one hash, h·{multiplier} + b"), words.clone(), colliding(Hash::Polynomial { multiplier })),
+        Input::new("4,092 words of one tree of the scanner", words, colliding(Hash::Folded)),
         Input::new("65,535 calls, 256 productions", tables::levels(16, 240, 0), ""),
         Input::new("32,767 calls, half of 63 alternatives", tables::levels(15, 0, 62), ""),
         Input::new("chain of 64 nullable nonterminals", tables::chain(64, true), ""),
@@ -76,11 +75,6 @@ pub fn list(hash: Option<Polynomial>) -> Vec<Input> {
         Input::new("16,254 nested binders of an outside name's spelling", tables::nested(), "T ".to_string() + &"c ".repeat(126)),
         Input::new("13 `twice`", tables::house(&[Extra::Twice]), twice(13)),
     ]
-}
-
-/// Whether this input of the list needs colliding words.
-pub fn collides(input: &Input) -> bool {
-    input.name == COLLIDING
 }
 
 /// Inputs of one, two, four and eight times a size.
@@ -98,8 +92,9 @@ fn series(name: &'static str, sizes: [usize; 4], input: impl Fn(usize) -> (Vec<u
 }
 
 /// One series for each thing that an input can have more of.
-pub fn growth(hash: Polynomial) -> Vec<Series> {
-    let colliding = collide::words(hash, WORDS);
+pub fn growth(multiplier: u32) -> Vec<Series> {
+    let of_one_hash = collide::words(Hash::Polynomial { multiplier }, WORDS);
+    let of_one_tree = collide::words(Hash::Folded, WORDS);
     let halves = |size: usize| (tables::long_spellings("k", size / 2), tables::long_spellings("n", size - size / 2));
     vec![
         series("table bytes", [2_040, 4_080, 8_160, 16_320], |size| {
@@ -118,7 +113,10 @@ pub fn growth(hash: Polynomial) -> Vec<Series> {
         }),
         series("different words", [506, 1_023, 2_046, 4_092], |size| (tables::words(&[], &[]), different(size))),
         series("words of one hash", [506, 1_023, 2_046, 4_092], |size| {
-            (tables::words(&[], &[]), colliding[..size].join(" "))
+            (tables::words(&[], &[]), of_one_hash[..size].join(" "))
+        }),
+        series("words of one tree of the scanner", [506, 1_023, 2_046, 4_092], |size| {
+            (tables::words(&[], &[]), of_one_tree[..size].join(" "))
         }),
         series("calls", [13, 14, 15, 16], |size| (tables::levels(size, 240, 0), String::new())),
         series("productions", [32, 64, 128, 256], |size| (tables::levels(2, size - 2, 0), String::new())),
@@ -137,9 +135,13 @@ pub fn growth(hash: Polynomial) -> Vec<Series> {
     ]
 }
 
-/// An input near a limit, by three numbers that are drawn.
+/// How many kinds of input near a limit there are.
+pub const LIMITS: usize = 16;
+
+/// An input near a limit, by its kind and two numbers that are drawn.
 pub fn near_a_limit(kind: usize, size: usize, other: usize) -> (Vec<u8>, String) {
-    match kind % 12 {
+    let empty_record = |table: Table| table.alternative().result(&[0x23, 0x25]);
+    match kind {
         0 => (tables::house(&[]), parentheses(505 + size % 12)),
         1 => (tables::house(&[]), "q".to_string() + &".a".repeat(1_016 + size % 12)),
         2 => (tables::house(&[]), record(1_014 + size % 12)),
@@ -151,6 +153,20 @@ pub fn near_a_limit(kind: usize, size: usize, other: usize) -> (Vec<u8>, String)
         8 => (tables::nested(), outermost(8 * (size % 700), 48 * (other % 300))),
         9 => (tables::nested(), "T ".to_string() + &"c ".repeat(size % 140) + &"v ".repeat(other % 200)),
         10 => (tables::large(1 + size % 62, other % 8, None), "a key0 b key3 c".to_string()),
-        _ => (tables::house(&[]), " ".repeat(65_530 + size % 10) + "q"),
+        11 => (tables::house(&[]), " ".repeat(65_530 + size % 10) + "q"),
+        12 => {
+            let (keywords, names) = (tables::spellings("k", 59 + size % 5), tables::spellings("n", 61 + other % 5));
+            (empty_record(Table::new().keywords(keywords).names(names).block().add(0, TERM, &[])).root(0), "n1 k1".to_string())
+        }
+        13 => {
+            let table = empty_record(Table::new().block().add(0, TERM, &[]));
+            (table.times(13 + size % 4, |table, _| table.block()).root(0), String::new())
+        }
+        14 => (tables::levels(2, 250 + size % 8, 0), String::new()),
+        _ => {
+            let count = 10 + size % 4;
+            let table = Table::new().block().add(0, TERM, &[]).alternative().times(count, |table, _| table.ide(VAR));
+            (table.result(&[0x20, (other % 14) as u8]).root(0), different(count))
+        }
     }
 }

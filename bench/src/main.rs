@@ -10,7 +10,6 @@ mod sides;
 mod tables;
 mod times;
 
-use collide::Polynomial;
 use compare::Comparison;
 use draw::Draws;
 use inputs::Input;
@@ -20,12 +19,12 @@ use std::time::{Duration, Instant};
 use times::{shown, Room};
 
 const USAGE: &str = "\
-usage: bench/run [compare] [times] [growth] [counts] [--draws N] [--seed N] [--cases FILE] [--budget MS] [--hash MULTIPLIER,BITS]
+usage: bench/run [compare] [times] [growth] [counts] [--draws N] [--seed N] [--cases FILE] [--budget MS] [--hash MULTIPLIER]
   compare   the conformance cases, the inputs that are measured, and N drawn inputs (100,000; seed 1)
   times     best times of both, archive over plain, for each input; MS milliseconds (300) for each
   growth    times at one, two, four and eight times a size
   counts    instructions of both, by valgrind's callgrind
-Without a word: compare, times, growth. --hash is the polynomial hash that the colliding words are made for (the scanner's).";
+Without a word: compare, times, growth. --hash is the multiplier (31) of the polynomial hash for which colliding words are made.";
 
 struct Options {
     parts: Vec<String>,
@@ -33,9 +32,9 @@ struct Options {
     seed: u64,
     cases: String,
     budget: Duration,
-    hash: Polynomial,
-    /// One call of an input on a side, for callgrind.
-    once: Option<(usize, Side)>,
+    hash: u32,
+    /// One call on a side, with the files that have table and formula, for callgrind.
+    once: Option<(Side, String, String)>,
 }
 
 fn options() -> Option<Options> {
@@ -45,7 +44,7 @@ fn options() -> Option<Options> {
         seed: 1,
         cases: concat!(env!("CARGO_MANIFEST_DIR"), "/../crates/conformance/data/cases.bin").into(),
         budget: Duration::from_millis(300),
-        hash: Polynomial { multiplier: 31, bits: 32 },
+        hash: 31,
         once: None,
     };
     let mut words = std::env::args().skip(1);
@@ -56,14 +55,10 @@ fn options() -> Option<Options> {
             "--seed" => options.seed = words.next()?.parse().ok()?,
             "--cases" => options.cases = words.next()?,
             "--budget" => options.budget = Duration::from_millis(words.next()?.parse().ok()?),
-            "--hash" => {
-                let value = words.next()?;
-                let (multiplier, bits) = value.split_once(',')?;
-                options.hash = Polynomial { multiplier: multiplier.parse().ok()?, bits: bits.parse().ok()? };
-            }
+            "--hash" => options.hash = words.next()?.parse().ok()?,
             "--once" => {
                 let side = if words.next()? == "archive" { Side::Archive } else { Side::Plain };
-                options.once = Some((words.next()?.parse().ok()?, side));
+                options.once = Some((side, words.next()?, words.next()?));
             }
             _ => return None,
         }
@@ -85,18 +80,17 @@ fn main() -> ExitCode {
 }
 
 fn run(options: &Options) -> ExitCode {
-    if let Some((number, side)) = options.once {
-        once(options, number, side);
-        return ExitCode::SUCCESS;
+    if let Some((side, table, formula)) = &options.once {
+        return once(*side, table, formula).map_or(ExitCode::FAILURE, |_| ExitCode::SUCCESS);
     }
-    let list = inputs::list(Some(options.hash));
+    let list = inputs::list(options.hash);
     let mut well = true;
     for part in &options.parts {
         match part.as_str() {
             "compare" => well &= compare(options, &list),
             "times" => well &= times(options, &list),
             "growth" => growth(options),
-            _ => well &= counts(options, &list),
+            _ => well &= counts(&list),
         }
         println!();
     }
@@ -210,40 +204,41 @@ fn growth(options: &Options) {
 // ---- instructions ----
 
 /// One call that is counted, after one that is not.
-fn once(options: &Options, number: usize, side: Side) {
-    let mut list = inputs::list(None);
-    if inputs::collides(&list[number]) {
-        list = inputs::list(Some(options.hash));
-    }
-    let (input, mut room) = (&list[number], Room::new());
-    side.expand(&input.table, &input.formula, &mut room.cells, &mut room.text);
-    measured(side, input, &mut room);
+fn once(side: Side, table: &str, formula: &str) -> std::io::Result<()> {
+    let (table, formula, mut room) = (std::fs::read(table)?, std::fs::read(formula)?, Room::new());
+    side.expand(&table, &formula, &mut room.cells, &mut room.text);
+    measured(side, &table, &formula, &mut room);
+    Ok(())
 }
 
 /// What callgrind counts.
 #[no_mangle]
 #[inline(never)]
-extern "Rust" fn measured(side: Side, input: &Input, room: &mut Room) -> plain::Answer {
-    side.expand(&input.table, &input.formula, &mut room.cells, &mut room.text)
+extern "Rust" fn measured(side: Side, table: &[u8], formula: &[u8], room: &mut Room) -> plain::Answer {
+    side.expand(table, formula, &mut room.cells, &mut room.text)
 }
 
-fn collected(options: &Options, side: &str, number: usize) -> Option<u64> {
+fn collected(side: &str, input: &Input) -> Option<u64> {
+    let folder = std::env::temp_dir();
+    let files = ["table", "formula"].map(|part| folder.join(format!("vegzump-bench-{}-{part}", std::process::id())));
+    std::fs::write(&files[0], &input.table).ok()?;
+    std::fs::write(&files[1], &input.formula).ok()?;
     let said = Command::new("valgrind")
-        .args(["--tool=callgrind", "--toggle-collect=measured", "--callgrind-out-file=/dev/null", "--main-stacksize=16777216"])
+        .args(["--tool=callgrind", "--toggle-collect=measured", "--callgrind-out-file=/dev/null"])
         .arg(std::env::current_exe().ok()?)
-        .args(["--hash", &format!("{},{}", options.hash.multiplier, options.hash.bits)])
-        .args(["--once", side, &number.to_string()])
-        .output()
-        .ok()?;
-    let said = String::from_utf8_lossy(&said.stderr).into_owned();
+        .args(["--once", side])
+        .args(&files)
+        .output();
+    files.iter().for_each(|file| drop(std::fs::remove_file(file)));
+    let said = String::from_utf8_lossy(&said.ok()?.stderr).into_owned();
     let line = said.lines().find(|line| line.contains("Collected :"))?;
     line.split_whitespace().last()?.parse().ok()
 }
 
-fn counts(options: &Options, list: &[Input]) -> bool {
+fn counts(list: &[Input]) -> bool {
     println!("| Input | archive, instructions | plain Rust, instructions | ratio |\n|---|---|---|---|");
-    for (number, input) in list.iter().enumerate() {
-        let (Some(archive), Some(plain)) = (collected(options, "archive", number), collected(options, "plain", number)) else {
+    for input in list {
+        let (Some(archive), Some(plain)) = (collected("archive", input), collected("plain", input)) else {
             println!("valgrind is not installed, or gave no count");
             return false;
         };
