@@ -6,3 +6,5 @@ pub mod Stages
 pub mod CellsLeft
 pub mod Listed
 pub mod Naming
+pub mod Parsing
+pub mod Root

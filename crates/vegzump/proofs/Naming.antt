@@ -60,29 +60,30 @@ module _ (bs : List ℕ) (bytes : (i : ℕ) → getD bs i 0 < 256) (P : Passes b
       rw lexicon-passed (short-words (P .table .outsides) (λ i l. each-at (P .within .outsides) i [] l) m)
 
   module _ {formula tokens words : List ℕ} {n count : ℕ} (H : Holds (lexiconOfTable (P .table)) (P .within .outsideCount) formula tokens words n count) where
-    abbrev list : List (List ℕ)
-    list = scanOf (P .table) formula .words
-
-    words-list : Words formula words count list
+    words-list : Words formula words count (scanOf (P .table) formula .words)
     words-list =
         record {
           many = sym (tokens-counted (lexiconOfTable (P .table)) (P .within .outsideCount) formula (H .answered) .1);
-          each = λ i l. ap (λ (ws : List (List ℕ)). getD ws i []) (sym (H .words-are)) ∙ words-at count 0 i formula words l;
+          each =
+              λ i l.
+              let z : 0 + i ≡ i = omega arith in
+              ap (λ (ws : List (List ℕ)). getD ws i []) (sym (H .words-are)) ∙ words-at count 0 i formula words l ∙ ap (spanned formula words) z;
         }
 
     -- The spellings that the last step reads are those of the formula's words and the table's outside names.
-    pub spelled : spelledBy bs formula words count ≡ spellOf (P .table .outsides) list
+    pub spelled : spelledBy bs formula words count ≡ spellOf (P .table .outsides) (scanOf (P .table) formula .words)
     spelled =
-        spelled-lists bs formula words list words-list
-        ∙ ap (λ (l : Lexicon). spellOf (l .outsides) list) lexicon-passed
+        spelled-lists bs formula words (scanOf (P .table) formula .words) words-list
+        ∙ ap (λ (l : Lexicon). spellOf (l .outsides) (scanOf (P .table) formula .words)) lexicon-passed
 
     pub words-fit : (j : ℕ) → j < count → length (spanned formula words j) < 32
     words-fit j l =
         let plain = scan-plain (lexiconOfTable (P .table)) (P .within .outsideCount) formula in
         let at = words-list .each j l in
-        omega (arith, word-length (getD list j []) (plain .are-words j (omega (arith, words-list .many))), ap length at)
+        omega (arith, word-length (getD (scanOf (P .table) formula .words) j []) (plain .are-words j (omega (arith, words-list .many))), ap length at)
 
     pub distinct : Distinct (spelledBy bs formula words count)
     distinct =
         let plain = scan-plain (lexiconOfTable (P .table)) (P .within .outsideCount) formula in
-        rw spelled (apart-lists (P .table .outsides) list (different-once (P .within .outsidesDiffer)) (plain .once) (plain .no-outside))
+        rw spelled
+        (apart-lists (P .table .outsides) (scanOf (P .table) formula .words) (different-once (P .within .outsidesDiffer)) (plain .once) (plain .no-outside))

@@ -1,4 +1,5 @@
 pub mod Expand
+pub mod Parse
 pub mod Meaning
 pub mod House
 pub mod Computing
