@@ -1,8 +1,7 @@
-pub mod Main
+pub mod Demands
 pub mod Hygiene
-pub mod Answers
 pub mod Exactly
 pub mod Stages
+pub mod Owners
 pub mod CellsLeft
-pub mod ScanExactly
 pub mod Listed

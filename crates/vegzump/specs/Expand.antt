@@ -1,10 +1,10 @@
 -- The whole expansion: from the bytes of a table and a formula, the cells and the text as lent, to the answer, the cells and the
 -- text at exit. Document 01, "Causes, by number": "Every expansion checks the table again".
-use Prim.Native.Nat.{ℕ, _+_, _-_, _/_, min}
+use Prim.Native.Nat.{ℕ, _/_, min}
 use mathlib.Core.Bool.{Bool, true, false}
 use mathlib.Core.List.{List, [], _∷_, _++_}
-use lib.Dec.{leb, ltb}
-use lib.ListN.{length, getD, drop}
+use lib.Dec.{leb}
+use lib.ListN.{length, drop}
 use Rattle.answers.specs.declared.Refusal.{Refusal}
 use Rattle.answers.specs.declared.Answer.{Answer}
 use Rattle.answers.specs.declared.Answer.the-variants.{Accepted, Refusing}
@@ -17,6 +17,7 @@ use Rattle.scanner.specs.declared.Token.{Token}
 use Rattle.scanner.specs.declared.Scanned.{Scanned}
 use Rattle.scanner.specs.declared.Scanned.the-variants.{Tokens, Unscanned}
 use Rattle.scanner.specs.Scan.{Lexed, scan}
+use Rattle.scanner.specs.Tiling.{spelled}
 use Rattle.productions.specs.Normal.{normalized}
 use Rattle.checker.specs.Check.{passedTable}
 use Rattle.expansion.specs.declared.State.{State}
@@ -73,10 +74,6 @@ written made t cells text (ok out) =
 
 -- ------------------------------------------------------------------ from a passed table
 
--- the spelling of a spelling number: outside names below 64, the formula's other words from 64
-unfoldable pub spell : List (List ℕ) → List (List ℕ) → ℕ → List ℕ
-spell outsides words n = elim (ltb n 64) [ true ↦ getD outsides n [] | false ↦ getD words (n - 64) [] ]
-
 -- the most cells that an expansion makes
 abbrev pub mostCells : ℕ
 mostCells = 16384
@@ -93,13 +90,13 @@ finished spelled text (done v s cells) =
     let t : Term Name = termAt (s .made) spelled cells v in
     written (s .made) t cells text (textOf (s .made) t)
 
+abbrev pub lexiconOfTable : Table → Lexicon
+lexiconOfTable t = record { keywords = t .keywords; outsides = t .outsides }
+
 abbrev pub scanned : Table → Lexed → Scanned → List ℕ → List ℕ → Expanded
 scanned t l (Unscanned r) cells text = refused r cells text
 scanned t l (Tokens n m) cells text =
-    finished (spell (t .outsides) (l .words)) text (run (inputOf t (l .tokens) cells) (t .root) cells)
-
-abbrev pub lexiconOfTable : Table → Lexicon
-lexiconOfTable t = record { keywords = t .keywords; outsides = t .outsides }
+    finished (spelled (lexiconOfTable t) (l .words)) text (run (inputOf t (l .tokens) cells) (t .root) cells)
 
 unfoldable pub expandTable : Table → List ℕ → List ℕ → List ℕ → Expanded
 expandTable t formula cells text =

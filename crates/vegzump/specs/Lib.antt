@@ -1,5 +1,6 @@
 pub mod Expand
-pub mod Unscanned
+pub mod Origins
 pub mod Meaning
+pub mod Hygiene
 pub mod House
 pub mod Computing
