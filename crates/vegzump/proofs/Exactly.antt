@@ -18,8 +18,9 @@ use Rattle.terms.specs.Term.{Name, Term, size}
 use Rattle.terms.specs.Rows.{termAt}
 use Rattle.terms.specs.Rename.{rename}
 use Rattle.terms.specs.Print.{print}
+use Rattle.terms.specs.Emit.{largestTerm}
 use Rattle.terms.specs.Binding.{occurrences, loosePlaces}
-use Rattle.vegzump.specs.Expand.{Expanded, largestTerm, lexiconOfTable, inputOf, expandTable}
+use Rattle.vegzump.specs.Expand.{Expanded, lexiconOfTable, inputOf, expandTable}
 use Rattle.vegzump.specs.Meaning.{Scans, spellOf, Means, rowsLent, MeansWithin, cellsOf, Cause, unscanned, stopped, Accepts, Left}
 use Rattle.vegzump.specs.Meaning as Meaning
 use Rattle.vegzump.proofs.Owners.{occurs, Says, loose-says, none-places, first-places}

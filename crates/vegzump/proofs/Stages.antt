@@ -10,7 +10,7 @@ use borrow.Author.Tests.{leb-true, leb-false, lt-ltb}
 use Rattle.answers.specs.declared.Refusal.{Refusal}
 use Rattle.answers.specs.declared.Answer.the-variants.{Accepted, Refusing}
 use Rattle.answers.specs.Refusals.{refusal}
-use Rattle.answers.specs.Checked.{Checked, ok, bad, _>>=_, _>>_}
+use Rattle.answers.specs.Checked.{Checked, ok, bad, _>>=_, _>>_, need}
 use Rattle.spellings.specs.Bytes.{isWord}
 use Rattle.kinds.specs.Kinds.{wordKind}
 use Rattle.grammar.specs.Table.{Table}
@@ -45,9 +45,10 @@ use Rattle.terms.specs.Term.{Name, Term, size}
 use Rattle.terms.specs.Rows.{termAt}
 use Rattle.terms.specs.Rename.{Walk, loose, reached, walk, rename}
 use Rattle.terms.specs.Print.{print}
+use Rattle.terms.specs.Emit.{largestTerm, noneLoose, passing, textOf, Emitted, emittedIf, emitted}
 use Rattle.terms.specs.Binding.{occurrences, loosePlaces, stopsAtFirst, isWorded}
 use Rattle.terms.proofs.Statements as terms
-use Rattle.vegzump.specs.Expand.{Expanded, refused, largestTerm, closed, textOf, written, mostCells, inputOf, finished, scanned, lexiconOfTable, expandTable, checkedFirst, expand}
+use Rattle.vegzump.specs.Expand.{Expanded, refused, withCells, mostCells, inputOf, finished, scanned, lexiconOfTable, expandTable, checkedFirst, expand}
 use Rattle.vegzump.specs.Meaning.{Scans, spellOf, Means, rowsLent, MeansWithin, cellsOf}
 
 -- ------------------------------------------------------------------ the table
@@ -83,40 +84,37 @@ pub data Finish (made : ℕ) (u : Term Name) (cells text : List ℕ) : Expanded 
       })
 
 module _ (made : ℕ) (u : Term Name) (cells text : List ℕ) where
-  abbrev Done : Checked (List ℕ) → Type 0
-  Done c = Finish made u cells text (written made u cells text c)
+  abbrev Done : Checked (Unit {0}) → Type 0
+  Done c = Finish made u cells text (withCells cells (emittedIf c textOf made u text))
 
-  by-room : size u ≤ largestTerm → loosePlaces (occurrences [] 0 u) ≡ [] → Done (ok (print (rename u)))
+  by-room : size u ≤ largestTerm → loosePlaces (occurrences [] 0 u) ≡ [] → Done (ok tt)
   by-room small none = go (leb (length (print (rename u))) (length text)) refl
     where
       go : (b : Bool) → leb (length (print (rename u))) (length text) ≡ b
           → Finish made u cells text
-          (elim b as (λ x. Expanded) [
-            | false ↦ refused (refusal 24 (length (print (rename u))) 0 0) cells text
+          (withCells cells
+          (elim b as (λ x. Emitted) [
+            | false ↦ record { answer = Refusing (refusal 24 (length (print (rename u))) 0 0); text = text }
             | true ↦
                 record {
                   answer = Accepted made (size u) (length (print (rename u)));
-                  cells = cells;
                   text = print (rename u) ++ drop (length (print (rename u))) text;
                 }
-          ])
+          ]))
       go true e = prints small none (leb-true _ _ e)
       go false e = too-long small none (leb-false _ _ e)
 
-  by-walk : (ps : List ℕ) → loosePlaces (occurrences [] 0 u) ≡ ps → size u ≤ largestTerm
-      → Done (closed (stopsAtFirst ps (size u)) >>= λ x. ok (print (rename u)))
+  by-walk : (ps : List ℕ) → loosePlaces (occurrences [] 0 u) ≡ ps → size u ≤ largestTerm → Done (noneLoose (stopsAtFirst ps (size u)) >>= λ x. ok tt)
   by-walk [] e small = by-room small e
   by-walk (p ∷ ps) e small = is-loose small e
 
-  by-size : (b : Bool) → leb (size u) largestTerm ≡ b
-      → Done (elim b as (λ x. Checked (List ℕ)) [ false ↦ bad (refusal 22 made 0 0) | true ↦ closed (walk [] 0 u) >>= λ x. ok (print (rename u)) ])
+  by-size : (b : Bool) → leb (size u) largestTerm ≡ b → Done (need b 22 made >>= λ x. noneLoose (walk [] 0 u) >>= λ y. ok tt)
   by-size false e = too-big (leb-false (size u) largestTerm e)
   by-size true e =
-      subst (λ w. Done (closed w >>= λ x. ok (print (rename u)))) (sym (terms.first-loose u))
-      (by-walk (loosePlaces (occurrences [] 0 u)) refl (leb-true (size u) largestTerm e))
+      subst (λ w. Done (noneLoose w >>= λ x. ok tt)) (sym (terms.first-loose u)) (by-walk (loosePlaces (occurrences [] 0 u)) refl (leb-true (size u) largestTerm e))
 
-  pub finishes : Finish made u cells text (written made u cells text (textOf made u))
-  unfolding textOf
+  pub finishes : Finish made u cells text (withCells cells (emitted textOf made u text))
+  unfolding emitted passing
   finishes = by-size (leb (size u) largestTerm) refl
 
 -- ------------------------------------------------------------------ the tokens
@@ -247,7 +245,7 @@ module _ (t : Table) (T : Passing t) (formula : List ℕ) where
     by-run {ts} {ws} S (done v s cells′) e =
         let m = meant S v s cells′ e in
         let u : Term Name = termAt (s .made) (spellOf t ws) cells′ v in
-        at-last (m .0) (m .1) (subst (λ n. Finish n u cells′ text (written (s .made) u cells′ text (textOf (s .made) u))) (m .1 .made-is) (finishes (s .made) u cells′ text))
+        at-last (m .0) (m .1) (subst (λ n. Finish n u cells′ text (withCells cells′ (emitted textOf (s .made) u text))) (m .1 .made-is) (finishes (s .made) u cells′ text))
 
     by-scan : (a : Scanned) → scan lex formula .answer ≡ a → Stage (scanned t (scan lex formula) a cells text)
     by-scan (Unscanned r) e = in-scan (unscans-exactly r .0 e)
@@ -275,7 +273,7 @@ module _ (t : Table) (T : Passing t) (formula : List ℕ) where
     pub meant-ends : {u : Term Name} (E : MeansWithin t formula cells u) → (cells′ : List ℕ) × Finish (cellsOf E) u cells′ text (expandTable t formula cells text)
     meant-ends {u} E =
         let q = run-to-end E in
-        let e : expandTable t formula cells text ≡ written (cellsOf E) u (q .2) text (textOf (cellsOf E) u)
+        let e : expandTable t formula cells text ≡ withCells (q .2) (emitted textOf (cellsOf E) u text)
         = run-ends (E .means .scans) (done (q .0) (q .1) (q .2)) (q .3 .runs)
-        ∙ ap₂ (λ (m : ℕ) (w : Term Name). written m w (q .2) text (textOf m w)) (q .3 .made-is) (q .3 .shows) in
+        ∙ ap₂ (λ (m : ℕ) (w : Term Name). withCells (q .2) (emitted textOf m w text)) (q .3 .made-is) (q .3 .shows) in
         (q .2, subst (Finish (cellsOf E) u (q .2) text) (sym e) (finishes (cellsOf E) u (q .2) text))

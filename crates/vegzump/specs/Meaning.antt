@@ -19,8 +19,9 @@ use Rattle.expansion.specs.Stopping.{Refuses}
 use Rattle.terms.specs.Term.{Name, Term, size}
 use Rattle.terms.specs.Rename.{rename}
 use Rattle.terms.specs.Print.{print}
+use Rattle.terms.specs.Emit.{largestTerm}
 use Rattle.terms.specs.Binding.{Occurrence}
-use Rattle.vegzump.specs.Expand.{largestTerm, lexiconOfTable, mostCells}
+use Rattle.vegzump.specs.Expand.{lexiconOfTable, mostCells}
 use Rattle.vegzump.specs.Origins.{Occurs, FirstLoose, NoneLoose}
 
 -- ------------------------------------------------------------------ the term of demand 2
