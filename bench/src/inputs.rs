@@ -52,6 +52,7 @@ pub fn list(multiplier: u32) -> Vec<Input> {
     let words = tables::words(&[], &[]);
     let colliding = |hash: Hash| collide::words(hash, WORDS).join(" ");
     let all_spellings = tables::words(&tables::spellings("key", 62), &tables::spellings("name", 64));
+    let long_words: String = (0..2_035).map(|n| format!("{}{n:04} ", "w".repeat(27))).collect();
     let long_spellings = tables::words(&tables::long_spellings("k", 62), &tables::long_spellings("k", 126)[62..]);
     vec![
         Input::new("`peter`, house table", house.clone(), "peter"),
@@ -62,7 +63,8 @@ pub fn list(multiplier: u32) -> Vec<Input> {
         Input::new("64 nonterminals of 4 alternatives, 4,092 tokens", tables::fours(64), tables::fours_formula(64, 1_023)),
         Input::new("15.9 KB of table, 9 tokens", tables::large(62, 6, Some(15_900)), "a key0 b key3 c key6 d key9 e"),
         Input::new("4,092 different words", words.clone(), different(WORDS)),
-        Input::new("the same, 126 keywords and names in the table", all_spellings, different(WORDS)),
+        Input::new("2,035 words of 31 bytes, one beginning", words.clone(), long_words),
+        Input::new("4,092 different words, 126 keywords and names in the table", all_spellings, different(WORDS)),
         Input::new("126 keywords and names of 31 bytes, one beginning", long_spellings, ""),
         Input::new(format!("4,092 words of one hash, h·{multiplier} + b"), words.clone(), colliding(Hash::Polynomial { multiplier })),
         Input::new("4,092 words of one tree of the scanner", words, colliding(Hash::Folded)),
@@ -70,10 +72,12 @@ pub fn list(multiplier: u32) -> Vec<Input> {
         Input::new("32,767 calls, half of 63 alternatives", tables::levels(15, 0, 62), ""),
         Input::new("chain of 64 nullable nonterminals", tables::chain(64, true), ""),
         Input::new("the same, called downward", tables::chain(64, false), ""),
+        Input::new("64 nonterminals of 12 nullable calls", tables::dense(64), ""),
         Input::new("16,383 nested functions of fresh names", tables::nested(), functions(16_383)),
         Input::new("4,096 variables of the outermost of 8,160 binders", tables::nested(), outermost(4_096, 8_160)),
         Input::new("16,254 nested binders of an outside name's spelling", tables::nested(), "T ".to_string() + &"c ".repeat(126)),
         Input::new("13 `twice`", tables::house(&[Extra::Twice]), twice(13)),
+        Input { number: 22, ..Input::new("500 `twice`, refused with 22", tables::house(&[Extra::Twice]), twice(500)) },
     ]
 }
 

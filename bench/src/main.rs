@@ -88,7 +88,7 @@ fn run(options: &Options) -> ExitCode {
     for part in &options.parts {
         match part.as_str() {
             "compare" => well &= compare(options, &list),
-            "times" => well &= times(options, &list),
+            "times" => times(options, &list),
             "growth" => growth(options),
             _ => well &= counts(&list),
         }
@@ -178,15 +178,20 @@ fn tokens(input: &Input) -> usize {
     (0..input.formula.len()).filter(|&at| input.formula[at] != b' ' && starts(at)).count()
 }
 
-fn times(options: &Options, list: &[Input]) -> bool {
+fn times(options: &Options, list: &[Input]) {
     let mut room = Room::new();
     println!("| Input | table bytes | tokens | archive, µs | plain Rust, µs | ratio |\n|---|---|---|---|---|---|");
+    let (mut worst, mut worst_long) = (0.0f64, 0.0f64);
     for input in list {
         let [archive, plain] = times::best(input, &mut room, options.budget);
         let (bytes, tokens, ratio) = (input.table.len(), tokens(input), archive / plain);
         println!("| {} | {bytes} | {tokens} | {} | {} | {ratio:.2} |", input.name, shown(archive), shown(plain));
+        worst = worst.max(ratio);
+        if tokens > 1_000 {
+            worst_long = worst_long.max(ratio);
+        }
     }
-    true
+    println!("\nThe largest ratio is {worst:.2}, and {worst_long:.2} of inputs over 1,000 tokens.");
 }
 
 fn growth(options: &Options) {

@@ -261,6 +261,18 @@ pub fn chain(count: usize, upward: bool) -> Vec<u8> {
         .root(root)
 }
 
+/// So many nullable nonterminals, each calling the next twelve; the root is the last, which calls none.
+pub fn dense(count: usize) -> Vec<u8> {
+    Table::new()
+        .names(["T"])
+        .block()
+        .times(count, |table, n| {
+            let calls = (count - 1 - n).min(12);
+            table.add(n, TERM, &[]).alternative().times(calls, |table, i| table.call(n + 1 + i, &[])).result(&[0x20, 0x10, 0])
+        })
+        .root(count - 1)
+}
+
 /// Terms built from the inside: each `x` puts 48 functions of fresh names round what there is, `y` one, `v` eight variables of the outermost binder
 /// beside it, `c` 129 functions of the word that the formula begins with.
 pub fn nested() -> Vec<u8> {

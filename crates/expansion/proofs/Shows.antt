@@ -10,7 +10,7 @@ use Rattle.grammar.specs.Cells.{columns, column, withRow, nameBase, wordName, f
 use Rattle.terms.specs.Term.{Name, word, fresh, outside, Term, Fields, variable, function, apply, rcd, dot, cons}
 use Rattle.terms.specs.Term as Terms
 use Rattle.terms.specs.Rows.{Constructor, constructorOf, nameOf, termBy, isCons, fieldsBy, termAt, fieldsAt, mkTermFun, mkTermApp, mkTermRcd, mkTermDot, mkFieldNil, mkFieldCons, mkTermNum}
-use Rattle.expansion.specs.Figure3.{Value, unit, name, label, num, term, fields, Constructs, Bound, bound-first, bound-later}
+use Rattle.expansion.specs.Figure3.{Value, unit, var, binder, label, num, term, fields, Constructs, Bound, bound-first, bound-later}
 use Rattle.expansion.specs.Figure3 as Figure3
 
 -- ------------------------------------------------------------------ cells that grow
@@ -47,7 +47,8 @@ pub record ShowsFields (spell : ℕ → List ℕ) (made : ℕ) (cells : List ℕ
 
 pub data Shows (spell : ℕ → List ℕ) (made : ℕ) (cells : List ℕ) : ℕ → Value → Type 0 where
   shows-unit : Shows spell made cells 0 unit
-  shows-name : {x B : ℕ} {y : Name} → nameOf spell x ≡ y → Shows spell made cells x (name B y)
+  shows-var : {x : ℕ} {y : Name} → nameOf spell x ≡ y → Shows spell made cells x (var y)
+  shows-binder : {x : ℕ} {y : Name} → nameOf spell x ≡ y → Shows spell made cells x (binder y)
   shows-label : {x : ℕ} → Shows spell made cells x (label (spell x))
   shows-num : {x : ℕ} → Shows spell made cells x (num x)
   shows-term : {x : ℕ} {t : Term Name} → ShowsTerm spell made cells x t → Shows spell made cells x (term t)
@@ -60,7 +61,8 @@ pub data ShowAll (spell : ℕ → List ℕ) (made : ℕ) (cells : List ℕ) : Li
 -- what is shown stays shown
 pub shows-later : {spell : ℕ → List ℕ} {m m′ : ℕ} {cells cells′ : List ℕ} {x : ℕ} {v : Value} → Grown m cells m′ cells′ → Shows spell m cells x v → Shows spell m′ cells′ x v
 shows-later g shows-unit = shows-unit
-shows-later g (shows-name e) = shows-name e
+shows-later g (shows-var e) = shows-var e
+shows-later g (shows-binder e) = shows-binder e
 shows-later g shows-label = shows-label
 shows-later g shows-num = shows-num
 shows-later g (shows-term {x = x} {t = t} h) =
@@ -204,9 +206,9 @@ module _ (spell : ℕ → List ℕ) (made : ℕ) (cells : List ℕ) (room : made
 
   pub row-shows : {c : ℕ} {xs : List ℕ} {vs : List Value} {v : Value} → Constructs c vs v → ShowAll spell made cells xs vs → After c xs v
   unfolding constructorOf termBy fieldsBy
-  row-shows Figure3.mkTermVar-var (show-more (shows-name {x = x} n) show-none) = variable-row x n
-  row-shows Figure3.mkTermVar-binder (show-more (shows-name {x = x} n) show-none) = variable-row x n
-  row-shows Figure3.mkTermFun (show-more (shows-name {x = x} n) (show-more (shows-term {x = y} h) show-none)) =
+  row-shows Figure3.mkTermVar-var (show-more (shows-var {x = x} n) show-none) = variable-row x n
+  row-shows Figure3.mkTermVar-binder (show-more (shows-binder {x = x} n) show-none) = variable-row x n
+  row-shows Figure3.mkTermFun (show-more (shows-binder {x = x} n) (show-more (shows-term {x = y} h) show-none)) =
       let zs : List ℕ = x ∷ y ∷ [] in
       row-term 0x21 zs refl
       (λ cells′ a k l. ap₂ function (name-in made cells 0x21 zs room spell cells′ a 1 (omega arith) refl n) (term-in made cells 0x21 zs room spell cells′ a 2 (omega arith) refl h k l))

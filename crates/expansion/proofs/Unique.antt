@@ -1,6 +1,7 @@
 -- Figure 3 derives at most one value: with 01's choice, no formula has two readings.
 use Prim.Native.Nat.{ℕ}
 use mathlib.Core.Path.{_≡_, refl, sym, ap, subst, subst₂, subst₃, _∙_}
+use mathlib.Core.Bool.{Bool, true, false, true≢false}
 use mathlib.Core.List.{List, [], _∷_, _++_}
 use Rattle.answers.specs.Checked.{ok}
 use Rattle.grammar.specs.Table.{Template, Templates, none, more, Item}
@@ -9,7 +10,7 @@ use Rattle.scanner.specs.declared.Token.{Token}
 use Rattle.productions.specs.Normal.{Production}
 use Rattle.firsts.specs.First.{checkFirsts}
 use Rattle.terms.specs.Term.{Name, Term}
-use Rattle.expansion.specs.Figure3.{Value, term, Constructs, Bound, bound-first, bound-later, Gives, by-variable, by-global, by-label, by-constructor, GiveAll, give-none, give-more, Derives, by-end, by-keyword, by-ide-var, by-ide-binder, by-ide-label, by-number, by-local, by-call, Parses}
+use Rattle.expansion.specs.Figure3.{Value, term, Constructs, Bound, bound-first, bound-later, Gives, by-variable, by-global, by-label, by-constructor, GiveAll, give-none, give-more, WordAs, as-var, as-binder, as-label, ReadsAs, by-keyword, by-ide, by-number, by-local, Derives, by-end, by-terminal, by-call, Parses}
 use Rattle.expansion.specs.Figure3 as Figure3
 use Rattle.expansion.proofs.Choosing.{taken-one}
 
@@ -42,28 +43,53 @@ module _ {spell : ℕ → List ℕ} {M : List Value} where
     all-one none give-none give-none = refl
     all-one (more t ts) (give-more {v = v} g gs) (give-more {vs = ws} h hs) = ap (λ us. v ∷ us) (all-one ts gs hs) ∙ ap (λ u. u ∷ ws) (gives-one t g h)
 
+-- ------------------------------------------------------------------ terminals
+
+-- a terminal is no call, and reads one value
+abbrev isTerminal : Item → Bool
+isTerminal (Table.keyword k) = true
+isTerminal (Table.ide B) = true
+isTerminal Table.number = true
+isTerminal Table.local = true
+isTerminal (Table.call n ts) = false
+
+terminal-item : {g : List Production} {spell : ℕ → List ℕ} {s s′ : List Token} {i i′ : ℕ} {p : Item} {v : Value} → ReadsAs g spell s i p s′ i′ v → true ≡ isTerminal p
+terminal-item (by-keyword e) = refl
+terminal-item (by-ide e w) = refl
+terminal-item (by-number e) = refl
+terminal-item by-local = refl
+
+word-one : {B : ℕ} {x : List ℕ} {v w : Value} → WordAs B x v → WordAs B x w → v ≡ w
+word-one as-var as-var = refl
+word-one as-binder as-binder = refl
+word-one as-label as-label = refl
+
+terminal-one : {g : List Production} {spell : ℕ → List ℕ} {s s₁ s₂ : List Token} {i i₁ i₂ : ℕ} {p : Item} {v w : Value} → ReadsAs g spell s i p s₁ i₁ v → ReadsAs g spell s i p s₂ i₂ w
+    → (v ≡ w) × (s₁ ≡ s₂) × (i₁ ≡ i₂)
+terminal-one (by-keyword e) (by-keyword f) = (refl, refl, refl)
+terminal-one (by-ide e a) (by-ide f b) = (word-one a b, refl, refl)
+terminal-one (by-number e) (by-number f) = (refl, refl, refl)
+terminal-one by-local by-local = (refl, refl, refl)
+
 -- ------------------------------------------------------------------ items
 
 module _ {g : List Production} (passed : checkFirsts g ≡ ok tt) {spell : ℕ → List ℕ} where
   pub derives-one : {M M₁ M₂ : List Value} {s s₁ s₂ : List Token} {i i₁ i₂ : ℕ} {is : List Item} → Derives g spell M s i is M₁ s₁ i₁ → Derives g spell M s i is M₂ s₂ i₂
       → (M₁ ≡ M₂) × (s₁ ≡ s₂) × (i₁ ≡ i₂)
   derives-one by-end by-end = (refl, refl, refl)
-  derives-one (by-keyword e d) (by-keyword f h) = derives-one d h
-  derives-one (by-ide-var e d) (by-ide-var f h) = derives-one d h
-  derives-one (by-ide-binder e d) (by-ide-binder f h) = derives-one d h
-  derives-one (by-ide-label e d) (by-ide-label f h) = derives-one d h
-  derives-one (by-number e d) (by-number f h) = derives-one d h
-  derives-one (by-local d) (by-local h) = derives-one d h
+  derives-one {M} (by-terminal {s₁ = t} {i₁ = j} {ps = ps} {v = v} e d) (by-terminal {M′ = M₂} {s₁ = t′} {s′ = s₂} {i₁ = j′} {i′ = i₂} {v = v′} f h) =
+      let q = terminal-one e f in
+      derives-one d (subst₃ (λ w u k. Derives g spell (M ++ (w ∷ [])) u k ps M₂ s₂ i₂) (sym (q .0)) (sym (q .1)) (sym (q .2)) h)
+  derives-one (by-terminal e d) (by-call gs t d₁ q r) = absurd (true≢false (terminal-item e))
+  derives-one (by-call gs t d₁ q r) (by-terminal e d) = absurd (true≢false (terminal-item e))
   derives-one {M} {s = s} {i = i}
-      (by-call {is = is} {ts = ts} {p = p} gs t d q r)
+      (by-call {ts = ts} {ps = is} {p = p} gs t d q r)
       (by-call {M₁ = M₁} {M′ = M₂} {s₁ = s₁} {s′ = s₂} {i₁ = i₁} {i′ = i₂} {v = w} gs′ t′ d′ q′ r′) =
       let a = derives-one d (subst₂ (λ vs x. Derives g spell vs s i (x .items) M₁ s₁ i₁) (sym (all-one ts gs gs′)) (sym (taken-one g passed t t′)) d′) in
       let b = gives-one (p .result) q (subst₂ (λ m x. Gives spell m (x .result) w) (sym (a .0)) (sym (taken-one g passed t t′)) q′) in
       derives-one r (subst₃ (λ v t j. Derives g spell (M ++ (v ∷ [])) t j is M₂ s₂ i₂) (sym b) (sym (a .1)) (sym (a .2)) r′)
 
   pub parses-one : {root : ℕ} {tokens : List Token} {t u : Term Name} → Parses g spell root tokens t → Parses g spell root tokens u → t ≡ u
-  parses-one {tokens = tokens} {t} {u} P Q =
-      let e = taken-one g passed (P .taken) (Q .taken) in
-      let a = derives-one (P .derived) (subst (λ x. Derives g spell [] tokens 1 (x .items) (Q .variables) [] (Q .counter)) (sym e) (Q .derived)) in
-      let b : term t ≡ term u = gives-one (P .production .result) (P .result) (subst₂ (λ m x. Gives spell m (x .result) (term u)) (sym (a .0)) (sym e) (Q .result)) in
+  parses-one {t = t} {u} P Q =
+      let e : _≡_ {A = List Value} (term t ∷ []) (term u ∷ []) = derives-one (P .derived) (Q .derived) .0 in
       cc

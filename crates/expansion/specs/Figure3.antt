@@ -1,6 +1,13 @@
--- The parse rules of 001, Figure 3, as document 01 changes them: g; M ⊢ ⟨s, i⟩ p ⇒ ⟨s', i'⟩ t, one constructor a rule.
--- 01 changes: only the alternative that is taken derives (Choice); a number is read; an outside name may be a Label; a Binder may stand
--- where Var is asked. A result `wrong` is not derived: what Figure 3 gives `wrong` derives nothing here.
+-- Parsing: the rules of 001, Figure 3, as document 01 changes them, one constructor a rule and one premise a line.
+--
+-- The paper has one judgement g; M ⊢ ⟨s, i⟩ p ⇒ ⟨s', i'⟩ t over all productions p. A table cannot write all of them: it has no `unit`, no
+-- p1 p2 that binds nothing (each item is numbered, so bound), no choice but between the alternatives of a nonterminal, and no argument of a
+-- constructor or a call that reads a token or calls. So p is a template (`Gives`: it reads nothing and makes no fresh name), a terminal
+-- (⟨s, i⟩ p ⇒ ⟨s', i'⟩ v), or items in sequence, calls among them (M ⊢ ⟨s, i⟩ x1 = p1 .. xk = pk ⇒ ⟨s', i'⟩ M').
+--
+-- Document 01 changes: of two alternatives only the one taken derives (`Taken`); a number is read; an outside name may be a Label; a Binder
+-- may stand where Var is asked. `wrong`, the paper's result for an unbound variable or an undefined nonterminal, is no value here: nothing
+-- is derived in its place. That a well sorted production never meets it is a theorem (`never-wrong` on the page of the demands).
 use Prim.Native.Nat.{ℕ, suc, _+_}
 use mathlib.Core.Path.{_≡_}
 use mathlib.Core.List.{List, [], _∷_, _++_}
@@ -14,52 +21,59 @@ use Rattle.firsts.specs.Rules.{Of, NullItems, First, Reads}
 use Rattle.terms.specs.Term.{Name, word, fresh, outside, Term, Fields, variable, function, apply, rcd, dot, nil, cons}
 use Rattle.terms.specs.Term as Terms
 
--- terms b: unit, identifiers x_B, and constructed terms; 01's numbers
+-- ------------------------------------------------------------------ terms b and environments M
+
+-- unit, identifiers x_Var, x_Binder and x_Label, constructed terms of the sorts Term and Fields; 01's numbers
 pub data Value : Type 0 where
   unit : Value
-  name : ℕ → Name → Value
+  var : Name → Value
+  binder : Name → Value
   label : List ℕ → Value
   num : ℕ → Value
   term : Term Name → Value
   fields : Fields Name → Value
 
--- the sort of a term can be determined without an environment
-abbrev pub sortOf : Value → ℕ
-sortOf unit = Sorts.unit
-sortOf (name B x) = B
-sortOf (label l) = Sorts.label
-sortOf (num n) = Sorts.num
-sortOf (term t) = Sorts.term
-sortOf (fields f) = Sorts.fields
-
--- c(b1, .., bk) is the term v. A Var place takes a Binder too.
+-- c(b1, .., bk) is the term v; a Var place takes a Binder too
 pub data Constructs : ℕ → List Value → Value → Type 0 where
-  mkTermVar-var : {x : Name} → Constructs 0x20 (name Sorts.var x ∷ []) (term (variable x))
-  mkTermVar-binder : {x : Name} → Constructs 0x20 (name Sorts.binder x ∷ []) (term (variable x))
-  mkTermFun : {x : Name} {t : Term Name} → Constructs 0x21 (name Sorts.binder x ∷ term t ∷ []) (term (function x t))
+  mkTermVar-var : {x : Name} → Constructs 0x20 (var x ∷ []) (term (variable x))
+  mkTermVar-binder : {x : Name} → Constructs 0x20 (binder x ∷ []) (term (variable x))
+  mkTermFun : {x : Name} {t : Term Name} → Constructs 0x21 (binder x ∷ term t ∷ []) (term (function x t))
   mkTermApp : {t u : Term Name} → Constructs 0x22 (term t ∷ term u ∷ []) (term (apply t u))
   mkTermRcd : {f : Fields Name} → Constructs 0x23 (fields f ∷ []) (term (rcd f))
   mkTermDot : {t : Term Name} {l : List ℕ} → Constructs 0x24 (term t ∷ label l ∷ []) (term (dot t l))
   mkFieldNil : Constructs 0x25 [] (fields nil)
-  mkFieldCons : {l : List ℕ} {t : Term Name} {f : Fields Name} → Constructs 0x26 (label l ∷ term t ∷ fields f ∷ []) (fields (cons l t f))
+  mkFieldCons : {l : List ℕ} {t : Term Name} {f : Fields Name}
+      → Constructs 0x26 (label l ∷ term t ∷ fields f ∷ []) (fields (cons l t f))
   mkTermNum : {n : ℕ} → Constructs 0x27 (num n ∷ []) (term (Terms.number n))
 
--- M, x = t, M' has x = t
+-- M, x = t, M' has x = t: variables are numbered, so that none is shadowed
 pub data Bound : List Value → ℕ → Value → Type 0 where
   bound-first : {v : Value} {M : List Value} → Bound (v ∷ M) 0 v
   bound-later : {u v : Value} {M : List Value} {i : ℕ} → Bound M i v → Bound (u ∷ M) (suc i) v
 
--- templates read nothing and make no fresh name: x, global(x), a Label, c(p1, .., pk); `spell` gives an outside name's spelling
+-- ------------------------------------------------------------------ templates: x, global(x), 01's Label, c(p1, .., pk)
+
+-- `spell` gives the spelling of an outside name or of a word token by its number
 mutual
   pub data Gives (spell : ℕ → List ℕ) (M : List Value) : Template → Value → Type 0 where
-    by-variable : {i : ℕ} {v : Value} → Bound M i v → Gives spell M (Table.variable i) v
-    by-global : {n : ℕ} → Gives spell M (Table.outside n) (name Sorts.var (outside (spell n)))
+    by-variable : {i : ℕ} {v : Value}
+        → Bound M i v
+        → Gives spell M (Table.variable i) v
+    by-global : {n : ℕ} → Gives spell M (Table.outside n) (var (outside (spell n)))
     by-label : {n : ℕ} → Gives spell M (Table.outsideLabel n) (label (spell n))
-    by-constructor : {c : ℕ} {ts : Templates} {vs : List Value} {v : Value} → GiveAll spell M ts vs → Constructs c vs v → Gives spell M (Table.make c ts) v
+    by-constructor : {c : ℕ} {ts : Templates} {vs : List Value} {v : Value}
+        → GiveAll spell M ts vs
+        → Constructs c vs v
+        → Gives spell M (Table.make c ts) v
 
   pub data GiveAll (spell : ℕ → List ℕ) (M : List Value) : Templates → List Value → Type 0 where
     give-none : GiveAll spell M none []
-    give-more : {t : Template} {ts : Templates} {v : Value} {vs : List Value} → Gives spell M t v → GiveAll spell M ts vs → GiveAll spell M (more t ts) (v ∷ vs)
+    give-more : {t : Template} {ts : Templates} {v : Value} {vs : List Value}
+        → Gives spell M t v
+        → GiveAll spell M ts vs
+        → GiveAll spell M (more t ts) (v ∷ vs)
+
+-- ------------------------------------------------------------------ the alternative that is taken
 
 -- the next token of s is of kind k
 pub data Next : List Token → ℕ → Type 0 where
@@ -71,28 +85,67 @@ pub record Opened (g : List Production) (s : List Token) (p : Production) : Type
   pub token : Next s kind
   pub first : First g Reads (p .items) kind
 
--- Choice: the alternative of n whose first set holds the next token; else the nullable one
+-- 01, "Choice": the alternative of n whose first set holds the next token; else the nullable one
 pub data Taken (g : List Production) (n : ℕ) (s : List Token) : Production → Type 0 where
-  taken-opened : {p : Production} → Of g n p → Opened g s p → Taken g n s p
-  taken-nullable : {p : Production} → Of g n p → ((q : Production) → Of g n q → Opened g s q → ⊥) → NullItems g (p .items) → Taken g n s p
+  taken-opened : {p : Production}
+      → Of g n p
+      → Opened g s p
+      → Taken g n s p
+  taken-nullable : {p : Production}
+      → Of g n p
+      → ((q : Production) → Of g n q → Opened g s q → ⊥)
+      → NullItems g (p .items)
+      → Taken g n s p
 
--- The items of an alternative from the left: from the variables M and the configuration ⟨s, i⟩ to the variables M' and ⟨s', i'⟩.
--- "x", ide(B), number, local, and x(p1, .., pk), whose arguments come first.
-pub data Derives (g : List Production) (spell : ℕ → List ℕ) : List Value → List Token → ℕ → List Item → List Value → List Token → ℕ → Type 0 where
-  by-end : {M : List Value} {s : List Token} {i : ℕ} → Derives g spell M s i [] M s i
-  by-keyword : {M M′ : List Value} {t : Token} {s s′ : List Token} {i i′ k : ℕ} {is : List Item} → t .kind ≡ keywordKind k → Derives g spell (M ++ (unit ∷ [])) s i is M′ s′ i′ → Derives g spell M (t ∷ s) i (keyword k ∷ is) M′ s′ i′
-  by-ide-var : {M M′ : List Value} {t : Token} {s s′ : List Token} {i i′ : ℕ} {is : List Item} → t .kind ≡ wordKind → Derives g spell (M ++ (name Sorts.var (word (spell (t .value))) ∷ [])) s i is M′ s′ i′ → Derives g spell M (t ∷ s) i (ide Sorts.var ∷ is) M′ s′ i′
-  by-ide-binder : {M M′ : List Value} {t : Token} {s s′ : List Token} {i i′ : ℕ} {is : List Item} → t .kind ≡ wordKind → Derives g spell (M ++ (name Sorts.binder (word (spell (t .value))) ∷ [])) s i is M′ s′ i′ → Derives g spell M (t ∷ s) i (ide Sorts.binder ∷ is) M′ s′ i′
-  by-ide-label : {M M′ : List Value} {t : Token} {s s′ : List Token} {i i′ : ℕ} {is : List Item} → t .kind ≡ wordKind → Derives g spell (M ++ (label (spell (t .value)) ∷ [])) s i is M′ s′ i′ → Derives g spell M (t ∷ s) i (ide Sorts.label ∷ is) M′ s′ i′
-  by-number : {M M′ : List Value} {t : Token} {s s′ : List Token} {i i′ : ℕ} {is : List Item} → t .kind ≡ numberKind → Derives g spell (M ++ (num (t .value) ∷ [])) s i is M′ s′ i′ → Derives g spell M (t ∷ s) i (Table.number ∷ is) M′ s′ i′
-  by-local : {M M′ : List Value} {s s′ : List Token} {i i′ : ℕ} {is : List Item} → Derives g spell (M ++ (name Sorts.binder (fresh i) ∷ [])) s (i + 1) is M′ s′ i′ → Derives g spell M s i (local ∷ is) M′ s′ i′
-  by-call : {M M₁ M′ : List Value} {s s₁ s′ : List Token} {i i₁ i′ n : ℕ} {is : List Item} {ts : Templates} {vs : List Value} {v : Value} {p : Production} → GiveAll spell M ts vs → Taken g n s p → Derives g spell vs s i (p .items) M₁ s₁ i₁ → Gives spell M₁ (p .result) v → Derives g spell (M ++ (v ∷ [])) s₁ i₁ is M′ s′ i′ → Derives g spell M s i (call n ts ∷ is) M′ s′ i′
+-- ------------------------------------------------------------------ terminals and sequences
 
--- the root, from the whole formula with fresh names from 1, reads all tokens and gives a term (001, Corollary 1)
+-- x_B: what a word gives where it is read at sort B ∈ {Var, Binder, Label}
+pub data WordAs : ℕ → List ℕ → Value → Type 0 where
+  as-var : {x : List ℕ} → WordAs Sorts.var x (var (word x))
+  as-binder : {x : List ℕ} → WordAs Sorts.binder x (binder (word x))
+  as-label : {x : List ℕ} → WordAs Sorts.label x (label x)
+
+module _ (g : List Production) (spell : ℕ → List ℕ) where
+  infix 10 ⟨_∣_⟩_⇒⟨_∣_⟩_
+  infix 10 _⊢⟨_∣_⟩_⇒⟨_∣_⟩_
+  -- terminals: "x", ide(B), 01's number, local
+  pub data ⟨_∣_⟩_⇒⟨_∣_⟩_ : List Token → ℕ → Item → List Token → ℕ → Value → Type 0 where
+    by-keyword : {t : Token} {s : List Token} {i k : ℕ}
+        → t .kind ≡ keywordKind k
+        → ⟨ t ∷ s ∣ i ⟩ keyword k ⇒⟨ s ∣ i ⟩ unit
+    by-ide : {t : Token} {s : List Token} {i B : ℕ} {v : Value}
+        → t .kind ≡ wordKind
+        → WordAs B (spell (t .value)) v
+        → ⟨ t ∷ s ∣ i ⟩ ide B ⇒⟨ s ∣ i ⟩ v
+    by-number : {t : Token} {s : List Token} {i : ℕ}
+        → t .kind ≡ numberKind
+        → ⟨ t ∷ s ∣ i ⟩ Table.number ⇒⟨ s ∣ i ⟩ num (t .value)
+    by-local : {s : List Token} {i : ℕ} → ⟨ s ∣ i ⟩ local ⇒⟨ s ∣ i + 1 ⟩ binder (fresh i)
+
+  -- x1 = p1 .. xk = pk, from the variables M and the configuration ⟨s, i⟩ to M' and ⟨s', i'⟩; arguments come before their call, whose
+  -- alternative begins with them as its only variables
+  pub data _⊢⟨_∣_⟩_⇒⟨_∣_⟩_ : List Value → List Token → ℕ → List Item → List Token → ℕ → List Value → Type 0 where
+    by-end : {M : List Value} {s : List Token} {i : ℕ} → M ⊢⟨ s ∣ i ⟩ [] ⇒⟨ s ∣ i ⟩ M
+    by-terminal : {M M′ : List Value} {s s₁ s′ : List Token} {i i₁ i′ : ℕ} {p : Item} {ps : List Item} {v : Value}
+        → ⟨ s ∣ i ⟩ p ⇒⟨ s₁ ∣ i₁ ⟩ v
+        → (M ++ (v ∷ [])) ⊢⟨ s₁ ∣ i₁ ⟩ ps ⇒⟨ s′ ∣ i′ ⟩ M′
+        → M ⊢⟨ s ∣ i ⟩ (p ∷ ps) ⇒⟨ s′ ∣ i′ ⟩ M′
+    by-call : {M M₁ M′ vs : List Value} {s s₁ s′ : List Token} {i i₁ i′ n : ℕ} {ts : Templates} {ps : List Item} {v : Value} {p : Production}
+        → GiveAll spell M ts vs
+        → Taken g n s p
+        → vs ⊢⟨ s ∣ i ⟩ p .items ⇒⟨ s₁ ∣ i₁ ⟩ M₁
+        → Gives spell M₁ (p .result) v
+        → (M ++ (v ∷ [])) ⊢⟨ s₁ ∣ i₁ ⟩ ps ⇒⟨ s′ ∣ i′ ⟩ M′
+        → M ⊢⟨ s ∣ i ⟩ (call n ts ∷ ps) ⇒⟨ s′ ∣ i′ ⟩ M′
+
+-- the same judgements by names: an item reads, items derive
+abbrev pub ReadsAs : List Production → (ℕ → List ℕ) → List Token → ℕ → Item → List Token → ℕ → Value → Type 0
+ReadsAs g spell s i p s′ i′ v = ⟨_∣_⟩_⇒⟨_∣_⟩_ g spell s i p s′ i′ v
+
+abbrev pub Derives : List Production → (ℕ → List ℕ) → List Value → List Token → ℕ → List Item → List Value → List Token → ℕ → Type 0
+Derives g spell M s i ps M′ s′ i′ = _⊢⟨_∣_⟩_⇒⟨_∣_⟩_ g spell M s i ps s′ i′ M′
+
+-- a whole formula: one call, of the root, with fresh names from 1, reads all tokens and gives a term (001, Corollary 1)
 pub record Parses (g : List Production) (spell : ℕ → List ℕ) (root : ℕ) (tokens : List Token) (t : Term Name) : Type 0 where
-  pub variables : List Value
-  pub production : Production
   pub counter : ℕ
-  pub taken : Taken g root tokens production
-  pub derived : Derives g spell [] tokens 1 (production .items) variables [] counter
-  pub result : Gives spell variables (production .result) (term t)
+  pub derived : Derives g spell [] tokens 1 (call root none ∷ []) (term t ∷ []) [] counter

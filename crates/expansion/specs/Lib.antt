@@ -3,8 +3,6 @@ pub mod Expansion
 pub mod Figure3
 pub mod ValueSorts
 pub mod Costs
-pub mod Points
 pub mod Stopping
 pub mod Places
-pub mod Sources
 pub mod Parsing

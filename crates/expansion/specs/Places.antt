@@ -10,7 +10,14 @@ use Rattle.grammar.specs.Table as Table
 use Rattle.scanner.specs.declared.Token.{Token}
 use Rattle.productions.specs.Normal.{Production}
 use Rattle.terms.specs.Term.{Name, word, fresh, outside, Term, Fields, variable, function, apply, rcd, dot, number, nil, cons}
-use Rattle.expansion.specs.Figure3.{Value, Derives, by-end, by-keyword, by-ide-var, by-ide-binder, by-ide-label, by-number, by-local, by-call, Parses}
+use Rattle.expansion.specs.Figure3.{Value, ReadsAs, by-keyword, by-ide, by-number, by-local, Derives, by-end, by-terminal, by-call}
+
+-- x is one of a list
+pub data Has {A : Type 0} : List A → A → Type 0 where
+  has-first : {x : A} {xs : List A} → Has (x ∷ xs) x
+  has-later : {x y : A} {xs : List A} → Has xs x → Has (y ∷ xs) x
+
+-- ------------------------------------------------------------------ what a derivation gave
 
 -- an ide item of a sort met a token, a local gave a fresh name, a number item met a token, a template has 10 or 11 and a name number
 pub data Given : Type 0 where
@@ -20,6 +27,7 @@ pub data Given : Type 0 where
   outside-name : ℕ → Given
   outside-label : ℕ → Given
 
+-- by a template
 unfoldable mutual
   pub namedIn : Template → List Given
   namedIn (Table.variable i) = []
@@ -31,26 +39,23 @@ unfoldable mutual
   namedInAll none = []
   namedInAll (more t ts) = namedIn t ++ namedInAll ts
 
-unfoldable pub givenIn : {g : List Production} {spell : ℕ → List ℕ} {M M′ : List Value} {s s′ : List Token} {i i′ : ℕ} {is : List Item} → Derives g spell M s i is M′ s′ i′ → List Given
-givenIn by-end = []
-givenIn (by-keyword e d) = givenIn d
-givenIn (by-ide-var {t = t} e d) = word-at Sorts.var t ∷ givenIn d
-givenIn (by-ide-binder {t = t} e d) = word-at Sorts.binder t ∷ givenIn d
-givenIn (by-ide-label {t = t} e d) = word-at Sorts.label t ∷ givenIn d
-givenIn (by-number {t = t} e d) = number-at t ∷ givenIn d
-givenIn (by-local {i = i} d) = fresh-name i ∷ givenIn d
-givenIn (by-call {ts = ts} {p = p} vs t d v d′) = namedInAll ts ++ (givenIn d ++ (namedIn (p .result) ++ givenIn d′))
+module _ {g : List Production} {spell : ℕ → List ℕ} where
+  -- by a terminal
+  unfoldable pub givenAt : {s s′ : List Token} {i i′ : ℕ} {p : Item} {v : Value} → ReadsAs g spell s i p s′ i′ v → List Given
+  givenAt (by-keyword e) = []
+  givenAt (by-ide {t = t} {B = B} e w) = word-at B t ∷ []
+  givenAt (by-number {t = t} e) = number-at t ∷ []
+  givenAt (by-local {i = i}) = fresh-name i ∷ []
 
--- all that the derivation of a formula gave
-abbrev pub given : {g : List Production} {spell : ℕ → List ℕ} {root : ℕ} {tokens : List Token} {u : Term Name} → Parses g spell root tokens u → List Given
-given P = givenIn (P .derived) ++ namedIn (P .production .result)
-
-pub data Has : List Given → Given → Type 0 where
-  has-first : {x : Given} {G : List Given} → Has (x ∷ G) x
-  has-later : {x y : Given} {G : List Given} → Has G x → Has (y ∷ G) x
+  -- by a sequence of items
+  unfoldable pub givenIn : {M M′ : List Value} {s s′ : List Token} {i i′ : ℕ} {ps : List Item} → Derives g spell M s i ps M′ s′ i′ → List Given
+  givenIn by-end = []
+  givenIn (by-terminal e d) = givenAt e ++ givenIn d
+  givenIn (by-call {ts = ts} {p = p} vs t d v d′) = namedInAll ts ++ (givenIn d ++ (namedIn (p .result) ++ givenIn d′))
 
 -- ------------------------------------------------------------------ places
 
+-- where G was given, the name at a Var place, the name at a Binder place, the label at a Label place, the number at a Num place
 pub data VarPlace (G : List Given) (spell : ℕ → List ℕ) : Name → Type 0 where
   var-var : {t : Token} → Has G (word-at Sorts.var t) → VarPlace G spell (word (spell (t .value)))
   var-binder : {t : Token} → Has G (word-at Sorts.binder t) → VarPlace G spell (word (spell (t .value)))
@@ -68,6 +73,7 @@ pub data LabelPlace (G : List Given) (spell : ℕ → List ℕ) : List ℕ → T
 pub data NumPlace (G : List Given) : ℕ → Type 0 where
   num-number : {t : Token} → Has G (number-at t) → NumPlace G (t .value)
 
+-- a term each place of which holds what its sort asks for
 mutual
   pub data Placed (G : List Given) (spell : ℕ → List ℕ) : Term Name → Type 0 where
     placed-variable : {x : Name} → VarPlace G spell x → Placed G spell (variable x)
@@ -79,4 +85,5 @@ mutual
 
   pub data PlacedFields (G : List Given) (spell : ℕ → List ℕ) : Fields Name → Type 0 where
     placed-nil : PlacedFields G spell nil
-    placed-cons : {l : List ℕ} {t : Term Name} {f : Fields Name} → LabelPlace G spell l → Placed G spell t → PlacedFields G spell f → PlacedFields G spell (cons l t f)
+    placed-cons : {l : List ℕ} {t : Term Name} {f : Fields Name} → LabelPlace G spell l → Placed G spell t → PlacedFields G spell f
+        → PlacedFields G spell (cons l t f)

@@ -7,14 +7,14 @@ use lib.Count.{ones}
 use Rattle.answers.specs.declared.Refusal.{Refusal}
 use Rattle.answers.specs.Refusals.{refusal}
 use Rattle.kinds.specs.Kinds.{only}
-use Rattle.grammar.specs.Table.{Templates, Item, call}
+use Rattle.grammar.specs.Table.{Templates, none, Item, call}
 use Rattle.scanner.specs.declared.Token.{Token}
 use Rattle.productions.specs.Normal.{Production}
 use Rattle.firsts.specs.First.{nullables, firstSets}
 use Rattle.firsts.specs.Rules.{Reads}
 use Rattle.expansion.specs.Expansion.{mostCalls, mostOpen}
 use Rattle.expansion.specs.Figure3.{Value, Gives, GiveAll, Next, Taken, Derives}
-use Rattle.expansion.specs.Costs.{rowsOf, rowsOfAll, openIn, callsIn, rowsIn}
+use Rattle.expansion.specs.Costs.{rowsOf, rowsOfAll, callsIn, rowsIn, Affords}
 
 -- the index of the next token where s is left: the token count at the end
 abbrev pub indexOf : List Token → List Token → ℕ
@@ -30,45 +30,74 @@ pub data Step : Type 0 where
   makes : ℕ → Step
   begins : ℕ → Step
 
--- a step fails where o calls are open, c are begun, m cells are made, and the tokens s are left
-pub data Fails (g : List Production) (rows : ℕ) (tokens : List Token) (o c m : ℕ) (s : List Token) : Step → Refusal → Type 0 where
-  no-token : {k : ℕ} → (Next s k → ⊥) → Fails g rows tokens o c m s (takes k) (refusal 17 (indexOf tokens s) (only k) (ones (only k)))
-  no-row : {n : ℕ} → rows < m + n → Fails g rows tokens o c m s (makes n) (refusal 21 (indexOf tokens s) 0 0)
-  too-deep : {n : ℕ} → mostOpen ≤ o → Fails g rows tokens o c m s (begins n) (refusal 19 (indexOf tokens s) 0 0)
-  too-many : {n : ℕ} → o < mostOpen → mostCalls ≤ c → Fails g rows tokens o c m s (begins n) (refusal 20 (indexOf tokens s) 0 0)
-  no-choice : {n : ℕ} → o < mostOpen → c < mostCalls → ((p : Production) → Taken g n s p → ⊥)
-      → Fails g rows tokens o c m s (begins n) (refusal 17 (indexOf tokens s) (firstSet g n) (ones (firstSet g n)))
+module _ (g : List Production) (spell : ℕ → List ℕ) (rows : ℕ) (tokens : List Token) where
+  -- a step fails where o calls are open, c are begun, m cells are made, and the tokens s are left
+  pub data Fails (o c m : ℕ) (s : List Token) : Step → Refusal → Type 0 where
+    no-token : {k : ℕ}
+        → (Next s k → ⊥)
+        → Fails o c m s (takes k) (refusal 17 (indexOf tokens s) (only k) (ones (only k)))
+    no-row : {n : ℕ}
+        → rows < m + n
+        → Fails o c m s (makes n) (refusal 21 (indexOf tokens s) 0 0)
+    too-deep : {n : ℕ}
+        → mostOpen ≤ o
+        → Fails o c m s (begins n) (refusal 19 (indexOf tokens s) 0 0)
+    too-many : {n : ℕ}
+        → o < mostOpen
+        → mostCalls ≤ c
+        → Fails o c m s (begins n) (refusal 20 (indexOf tokens s) 0 0)
+    no-choice : {n : ℕ}
+        → o < mostOpen
+        → c < mostCalls
+        → ((p : Production) → Taken g n s p → ⊥)
+        → Fails o c m s (begins n) (refusal 17 (indexOf tokens s) (firstSet g n) (ones (firstSet g n)))
 
--- a derivation within the limits, from o calls open, c begun and m cells made
-pub record Affords (rows o c m : ℕ) {g : List Production} {spell : ℕ → List ℕ} {M M′ : List Value} {s s′ : List Token} {i i′ : ℕ} {is : List Item}
-    (d : Derives g spell M s i is M′ s′ i′) : Type 0 where
-  pub few-open : o + openIn d ≤ mostOpen
-  pub few-calls : c + callsIn d ≤ mostCalls
-  pub few-rows : m + rowsIn d ≤ rows
+  -- the parse of items, and a call of a nonterminal with arguments, stop at a step that fails
+  mutual
+    pub data Stops : ℕ → ℕ → ℕ → List Value → List Token → ℕ → List Item → Refusal → Type 0 where
+      at-token : {o c m i k : ℕ} {M : List Value} {s : List Token} {p : Item} {ps : List Item} {r : Refusal}
+          → Reads p k
+          → Fails o c m s (takes k) r
+          → Stops o c m M s i (p ∷ ps) r
+      at-arguments : {o c m i n : ℕ} {M vs : List Value} {s : List Token} {ts : Templates} {ps : List Item} {r : Refusal}
+          → GiveAll spell M ts vs
+          → Fails o c m s (makes (rowsOfAll ts)) r
+          → Stops o c m M s i (call n ts ∷ ps) r
+      at-call : {o c m i n : ℕ} {M vs : List Value} {s : List Token} {ts : Templates} {ps : List Item} {r : Refusal}
+          → GiveAll spell M ts vs
+          → m + rowsOfAll ts ≤ rows
+          → Enters o c (m + rowsOfAll ts) n vs s i r
+          → Stops o c m M s i (call n ts ∷ ps) r
+      past-item : {o c m i i′ : ℕ} {M M′ : List Value} {s s′ : List Token} {p : Item} {ps : List Item} {r : Refusal}
+          → (d : Derives g spell M s i (p ∷ []) M′ s′ i′)
+          → Affords rows o c m d
+          → Stops o (c + callsIn d) (m + rowsIn d) M′ s′ i′ ps r
+          → Stops o c m M s i (p ∷ ps) r
 
--- the parse of items, and a call of a nonterminal with arguments, stop at a step that fails
-mutual
-  pub data Stops (g : List Production) (spell : ℕ → List ℕ) (rows : ℕ) (tokens : List Token) : ℕ → ℕ → ℕ → List Value → List Token → ℕ → List Item → Refusal → Type 0 where
-    at-token : {o c m i k : ℕ} {M : List Value} {s : List Token} {j : Item} {is : List Item} {r : Refusal} → Reads j k → Fails g rows tokens o c m s (takes k) r
-        → Stops g spell rows tokens o c m M s i (j ∷ is) r
-    at-arguments : {o c m i n : ℕ} {M vs : List Value} {s : List Token} {ts : Templates} {is : List Item} {r : Refusal} → GiveAll spell M ts vs
-        → Fails g rows tokens o c m s (makes (rowsOfAll ts)) r → Stops g spell rows tokens o c m M s i (call n ts ∷ is) r
-    at-call : {o c m i n : ℕ} {M vs : List Value} {s : List Token} {ts : Templates} {is : List Item} {r : Refusal} → GiveAll spell M ts vs → m + rowsOfAll ts ≤ rows
-        → Enters g spell rows tokens o c (m + rowsOfAll ts) n vs s i r → Stops g spell rows tokens o c m M s i (call n ts ∷ is) r
-    past-item : {o c m i i′ : ℕ} {M M′ : List Value} {s s′ : List Token} {j : Item} {is : List Item} {r : Refusal} (d : Derives g spell M s i (j ∷ []) M′ s′ i′)
-        → Affords rows o c m d → Stops g spell rows tokens o (c + callsIn d) (m + rowsIn d) M′ s′ i′ is r → Stops g spell rows tokens o c m M s i (j ∷ is) r
+    pub data Enters : ℕ → ℕ → ℕ → ℕ → List Value → List Token → ℕ → Refusal → Type 0 where
+      at-start : {o c m i n : ℕ} {vs : List Value} {s : List Token} {r : Refusal}
+          → Fails o c m s (begins n) r
+          → Enters o c m n vs s i r
+      in-items : {o c m i n : ℕ} {vs : List Value} {s : List Token} {r : Refusal} {p : Production}
+          → o < mostOpen
+          → c < mostCalls
+          → Taken g n s p
+          → Stops (o + 1) (c + 1) m vs s i (p .items) r
+          → Enters o c m n vs s i r
+      at-result : {o c m i i′ n : ℕ} {vs M : List Value} {v : Value} {s s′ : List Token} {r : Refusal} {p : Production}
+          → Taken g n s p
+          → (d : Derives g spell vs s i (p .items) M s′ i′)
+          → Affords rows (o + 1) (c + 1) m d
+          → Gives spell M (p .result) v
+          → Fails (o + 1) (c + 1 + callsIn d) (m + rowsIn d) s′ (makes (rowsOf (p .result))) r
+          → Enters o c m n vs s i r
 
-  pub data Enters (g : List Production) (spell : ℕ → List ℕ) (rows : ℕ) (tokens : List Token) : ℕ → ℕ → ℕ → ℕ → List Value → List Token → ℕ → Refusal → Type 0 where
-    at-start : {o c m i n : ℕ} {vs : List Value} {s : List Token} {r : Refusal} → Fails g rows tokens o c m s (begins n) r → Enters g spell rows tokens o c m n vs s i r
-    in-items : {o c m i n : ℕ} {vs : List Value} {s : List Token} {r : Refusal} {p : Production} → o < mostOpen → c < mostCalls → Taken g n s p
-        → Stops g spell rows tokens (o + 1) (c + 1) m vs s i (p .items) r → Enters g spell rows tokens o c m n vs s i r
-    at-result : {o c m i i′ n : ℕ} {vs M : List Value} {v : Value} {s s′ : List Token} {r : Refusal} {p : Production} → Taken g n s p
-        → (d : Derives g spell vs s i (p .items) M s′ i′) → Affords rows (o + 1) (c + 1) m d → Gives spell M (p .result) v
-        → Fails g rows tokens (o + 1) (c + 1 + callsIn d) (m + rowsIn d) s′ (makes (rowsOf (p .result))) r → Enters g spell rows tokens o c m n vs s i r
-
--- refusals 17 to 21 of a whole formula; the root is a call
-pub data Refuses (g : List Production) (spell : ℕ → List ℕ) (rows root : ℕ) (tokens : List Token) : Refusal → Type 0 where
-  stops : {r : Refusal} → Enters g spell rows tokens 0 0 0 root [] tokens 1 r → Refuses g spell rows root tokens r
-  left-over : {i : ℕ} {M : List Value} {v : Value} {t : Token} {s : List Token} {p : Production} → Taken g root tokens p
-      → (d : Derives g spell [] tokens 1 (p .items) M (t ∷ s) i) → Affords rows 1 1 0 d → Gives spell M (p .result) v → rowsIn d + rowsOf (p .result) ≤ rows
-      → Refuses g spell rows root tokens (refusal 18 (indexOf tokens (t ∷ s)) 0 0)
+  -- refusals 17 to 21 of a whole formula, which is one call, of the root; 18: the call is derived, and a token is left over
+  pub data Refuses (root : ℕ) : Refusal → Type 0 where
+    stops : {r : Refusal}
+        → Stops 0 0 0 [] tokens 1 (call root none ∷ []) r
+        → Refuses root r
+    left-over : {i : ℕ} {M : List Value} {t : Token} {s : List Token}
+        → (d : Derives g spell [] tokens 1 (call root none ∷ []) M (t ∷ s) i)
+        → Affords rows 0 0 0 d
+        → Refuses root (refusal 18 (indexOf tokens (t ∷ s)) 0 0)

@@ -3,14 +3,14 @@ use Prim.Native.Nat.{ℕ}
 use mathlib.Core.List.{List, [], _∷_}
 use Rattle.grammar.specs.Sorts as Sorts
 use Rattle.terms.specs.Term.{Name, Term, Fields}
-use Rattle.expansion.specs.Figure3.{Value, unit, name, label, num, term, fields}
+use Rattle.expansion.specs.Figure3.{Value, unit, var, binder, label, num, term, fields}
 
 -- v may stand where B is asked: it has that sort, or it is a Binder where Var is asked
 pub data Typed : Value → ℕ → Type 0 where
   typed-unit : Typed unit Sorts.unit
-  typed-var : {x : Name} → Typed (name Sorts.var x) Sorts.var
-  typed-binder : {x : Name} → Typed (name Sorts.binder x) Sorts.binder
-  typed-either : {x : Name} → Typed (name Sorts.binder x) Sorts.var
+  typed-var : {x : Name} → Typed (var x) Sorts.var
+  typed-binder : {x : Name} → Typed (binder x) Sorts.binder
+  typed-either : {x : Name} → Typed (binder x) Sorts.var
   typed-label : {l : List ℕ} → Typed (label l) Sorts.label
   typed-term : {t : Term Name} → Typed (term t) Sorts.term
   typed-fields : {f : Fields Name} → Typed (fields f) Sorts.fields
@@ -19,4 +19,7 @@ pub data Typed : Value → ℕ → Type 0 where
 -- M ⊨ L: the values of the variables have their sorts
 pub data Matches : List Value → List ℕ → Type 0 where
   matches-none : Matches [] []
-  matches-more : {v : Value} {B : ℕ} {M : List Value} {L : List ℕ} → Typed v B → Matches M L → Matches (v ∷ M) (B ∷ L)
+  matches-more : {v : Value} {B : ℕ} {M : List Value} {L : List ℕ}
+      → Typed v B
+      → Matches M L
+      → Matches (v ∷ M) (B ∷ L)

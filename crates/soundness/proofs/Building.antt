@@ -19,7 +19,7 @@ use Rattle.expansion.specs.Run.{Result, done, halt, Run, after}
 use Rattle.expansion.specs.Expansion.{Input, cellMade, cell, build, buildAll}
 use Rattle.expansion.specs.Figure3.{Value, Constructs, Gives, by-variable, by-global, by-label, by-constructor, GiveAll, give-none, give-more}
 use Rattle.expansion.specs.Costs.{rowsOf, rowsOfAll}
-use Rattle.expansion.proofs.Shows.{Grown, grown-not, grown-trans, Shows, shows-name, shows-label, ShowAll, show-none, show-more, shows-later, all-later, shows-bound, row-grown, row-shows, outside-named}
+use Rattle.expansion.proofs.Shows.{Grown, grown-not, grown-trans, Shows, shows-var, shows-label, ShowAll, show-none, show-more, shows-later, all-later, shows-bound, row-grown, row-shows, outside-named}
 
 -- ------------------------------------------------------------------ how a run ends
 
@@ -38,6 +38,19 @@ pub ends-map : {A : Type 0} (P : A → State → List ℕ → Type 0) (H : Refus
     (r : Result A) → Ends P H r → ((a : A) (s : State) (cells : List ℕ) → P a s cells → Q a s cells) → ((q : Refusal) → H q → K q) → Ends Q K r
 ends-map P H Q K (done a s cells) p f h = f a s cells p
 ends-map P H Q K (halt q cells) p f h = h q p
+
+-- the same, with what the run was
+pub after-by : {A B : Type 0} (Q : B → State → List ℕ → Type 0) (K : Refusal → Type 0) (r : Result A) (k : A → Run B)
+    → ((a : A) (s : State) (cells : List ℕ) → r ≡ done a s cells → Ends Q K (k a s cells))
+    → ((q : Refusal) (cells : List ℕ) → r ≡ halt q cells → K q) → Ends Q K (after r k)
+after-by Q K (done a s cells) k f h = f a s cells refl
+after-by Q K (halt q cells) k f h = h q cells refl
+
+-- two facts of one run
+pub ends-both : {A : Type 0} (P Q : A → State → List ℕ → Type 0) (H K : Refusal → Type 0) (x : Result A) → Ends P H x → Ends Q K x
+    → Ends (λ a s c. P a s c × Q a s c) (λ r. H r × K r) x
+ends-both P Q H K (done a s c) p q = (p, q)
+ends-both P Q H K (halt r c) p q = (p, q)
 
 -- ------------------------------------------------------------------ what templates make
 
@@ -101,7 +114,7 @@ module _ (spell : ℕ → List ℕ) (I : Input) where
         → Gives spell M t v → Sorted N L t A → N ≤ nameBase → I .rows * 4 ≤ length cells → s .made ≤ I .rows → ShowAll spell (s .made) cells xs M
         → Ends (Built (rowsOf t) s cells v) (Full (I .rows) (s .made + rowsOf t)) (build t I xs s cells)
     build-ends (Table.variable i) s cells (by-variable b) w small room fit a = (nothing-made s cells fit, shows-bound a b)
-    build-ends (Table.outside n) s cells by-global (Judgements.by-global l) small room fit a = (nothing-made s cells fit, shows-name (outside-named spell n (omega arith)))
+    build-ends (Table.outside n) s cells by-global (Judgements.by-global l) small room fit a = (nothing-made s cells fit, shows-var (outside-named spell n (omega arith)))
     build-ends (Table.outsideLabel n) s cells by-label w small room fit a = (nothing-made s cells fit, shows-label)
     build-ends (Table.make c ts) {v = v} {xs = xs} s cells (by-constructor {vs = vs} g k) (Judgements.by-constructor w) small room fit a =
         let n : ℕ = rowsOfAll ts in

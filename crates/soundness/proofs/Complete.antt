@@ -14,7 +14,7 @@ use Rattle.answers.specs.Refusals.{refusal}
 use Rattle.answers.specs.Checked.{ok}
 use Rattle.kinds.specs.Kinds.{wordKind, numberKind, keywordKind}
 use Rattle.grammar.specs.Sorts as Sorts
-use Rattle.grammar.specs.Table.{Template, Templates, Item, keyword, ide, number, local, call}
+use Rattle.grammar.specs.Table.{Template, Templates, make, none, Item, keyword, ide, number, local, call}
 use Rattle.sorts.specs.Judgements.{Body, by-binding}
 use Rattle.sorts.specs.Judgements as Judgements
 use Rattle.scanner.specs.declared.Token.{Token}
@@ -25,14 +25,15 @@ use Rattle.terms.specs.Rows.{termAt, nameOf}
 use Rattle.expansion.specs.declared.State.{State}
 use Rattle.expansion.specs.Run.{Result, done, halt, Run, after}
 use Rattle.expansion.specs.Expansion.{Input, ready, choice, endToken, nextToken, tokenTaken, take, buildAll, build, wordValue, runItem, runItems, callBegun, mostCalls, runCall, mostOpen, start, ended, run}
-use Rattle.expansion.specs.Figure3.{Value, name, label, num, term, Gives, GiveAll, Taken, Derives, by-end, by-keyword, by-ide-var, by-ide-binder, by-ide-label, by-number, by-local, by-call, Parses}
-use Rattle.expansion.specs.Costs.{rowsOf, rowsOfAll, openIn, callsIn, rowsIn, Beyond, too-deep, too-many, too-large, openCalls, allCalls, allRows, Exceeds}
-use Rattle.expansion.proofs.Shows.{Grown, grown-not, grown-trans, Shows, shows-unit, shows-name, shows-label, shows-num, shows-term, ShowAll, show-none, all-later, all-and, word-named, fresh-named}
+use Rattle.expansion.specs.Figure3.{Value, binder, label, num, term, Gives, GiveAll, Taken, as-var, as-binder, as-label, by-keyword, by-ide, by-number, by-local, Derives, by-end, by-terminal, by-call, Parses}
+use Rattle.expansion.specs.Costs.{rowsOf, rowsOfAll, openIn, callsIn, rowsIn, Affords}
+use Rattle.expansion.proofs.Shows.{Grown, grown-not, grown-trans, Shows, shows-unit, shows-var, shows-binder, shows-label, shows-num, shows-term, ShowAll, show-none, show-more, all-later, all-and, word-named, fresh-named}
+use Rattle.soundness.proofs.Setting.{Setting, root-body}
 use Rattle.soundness.proofs.Building.{Ends, ends-after, ends-map, Full, Built, BuiltAll, build-ends, build-all-ends}
 use Rattle.soundness.proofs.Typing.{FitAll, taken-of, result-sorted}
 use Rattle.expansion.proofs.Choosing.{kindOf, kind-next, Picks, picks, picks-none, choice-picks, rule, taken-one}
-use Rattle.expansion.specs.Parsing.{input, SmallWords}
-use Rattle.soundness.proofs.Sound.{token-here, Kept, kept-made, kept-less, call-full, call-chosen}
+use Rattle.expansion.specs.Parsing.{input}
+use Rattle.soundness.proofs.Sound.{token-here, Kept, kept-made, kept-less, call-full, call-chosen, shown}
 
 -- ------------------------------------------------------------------ the next token
 
@@ -55,6 +56,12 @@ items-after C I i is xs s cells x s′ cells′ e = ap (λ r. after r (λ y. run
 
 -- ------------------------------------------------------------------ limits
 
+-- refusal 19, 20 or 21 where the calls open, the calls in all or the cells are more than there may be
+pub data Beyond (rows deep opened begun made : ℕ) (r : Refusal) : Type 0 where
+  too-deep : r .number ≡ 19 → deep < opened → Beyond rows deep opened begun made r
+  too-many : r .number ≡ 20 → mostCalls < begun → Beyond rows deep opened begun made r
+  too-large : r .number ≡ 21 → rows < made → Beyond rows deep opened begun made r
+
 pub beyond-more : {rows d o o′ c c′ m m′ : ℕ} → o ≤ o′ → c ≤ c′ → m ≤ m′ → (r : Refusal) → Beyond rows d o c m r → Beyond rows d o′ c′ m′ r
 beyond-more x y z r (too-deep e l) = too-deep e (omega arith)
 beyond-more x y z r (too-many e l) = too-many e (omega arith)
@@ -68,7 +75,19 @@ beyond-open y z r (too-large e l) = too-large e (omega arith)
 full-beyond : {rows d o c m m′ : ℕ} → m ≤ m′ → (r : Refusal) → Full rows m r → Beyond rows d o c m′ r
 full-beyond z r h = too-large (h .is-21) (omega (arith, h .beyond))
 
-module _ {g : List Production} (F : FitAll g) (passed : checkFirsts g ≡ ok tt) (spell : ℕ → List ℕ) (tokens : List Token) (rows : ℕ) (small : SmallWords tokens) where
+module _ {g : List Production} (X : Setting g) where
+  abbrev F : FitAll g
+  F = X .fit
+
+  abbrev spell : ℕ → List ℕ
+  spell = X .spell
+
+  abbrev tokens : List Token
+  tokens = X .tokens
+
+  abbrev rows : ℕ
+  rows = X .rows
+
   abbrev pub I : Input
   I = input g tokens rows
 
@@ -120,7 +139,7 @@ module _ {g : List Production} (F : FitAll g) (passed : checkFirsts g ≡ ok tt)
           (record { room = h .room; fits = h .fits; names = omega (arith, h .names); begun = h .begun }) (all-and a (shown s cells (q .0))))
 
   word-shown : (s : State) (t : Token) → nextToken I s ≡ t → t .kind ≡ wordKind → nameOf spell (Rattle.grammar.specs.Cells.wordName (nextToken I s .value)) ≡ word (spell (t .value))
-  word-shown s t q e = word-named spell (nextToken I s .value) (small (s .at) (ap (λ u. u .kind) q ∙ e)) ∙ ap (λ u. word (spell (u .value))) q
+  word-shown s t q e = word-named spell (nextToken I s .value) (X .small (s .at) (ap (λ u. u .kind) q ∙ e)) ∙ ap (λ u. word (spell (u .value))) q
 
   -- a call beside the derivation of its production
   module _ {o c n m : ℕ} {t t′ : List Token} {i i′ : ℕ} {vs M : List Value} {v : Value} (p : Production) (taken : Taken g m t p)
@@ -170,14 +189,14 @@ module _ {g : List Production} (F : FitAll g) (passed : checkFirsts g ≡ ok tt)
           go : (b : Bool) → ltb (s .calls) mostCalls ≡ b → Picks g m (from s) (choice (ready g) m (kindOf (from s))) → Called (suc d) (runCall (suc d) I m xs s cells)
           go false l q = subst⁻¹ (λ z. Called (suc d) z) (call-full d I m xs s cells l) (too-many refl (omega (arith, ltb-false (s .calls) mostCalls l)))
           go true l (picks p′ w z) =
-              let same : p′ ≡ p = taken-one g passed w (subst⁻¹ (λ u. Taken g m u p) e taken) in
+              let same : p′ ≡ p = taken-one g (X .passed) w (subst⁻¹ (λ u. Taken g m u p) e taken) in
               let picked : choice (ready g) m (nextToken I s .kind) ≡ Rattle.expansion.specs.Expansion.chosen (rule g p) =
               ap (choice (ready g) m) (kind-next (s .at) tokens) ∙ z ∙ ap (λ u. Rattle.expansion.specs.Expansion.chosen (rule g u)) same in
               subst⁻¹ (λ z. Called (suc d) z) (call-chosen d I m xs s cells (rule g p) l picked) (production-along d (ltb-true (s .calls) mostCalls l))
-          go true l (picks-none none z) = absurd (none p (subst⁻¹ (λ u. Taken g m u p) e taken))
+          go true l (picks-none f z) = absurd (f p (subst⁻¹ (λ u. Taken g m u p) e taken))
 
   -- a fresh name, and the items after it
-  local-along : {o c n : ℕ} {t t′ : List Token} {i i′ : ℕ} {is : List Item} {M M′ : List Value} → Along o c n t (i + 1) is (M ++ (name Sorts.binder (fresh i) ∷ [])) M′ t′ i′
+  local-along : {o c n : ℕ} {t t′ : List Token} {i i′ : ℕ} {is : List Item} {M M′ : List Value} → Along o c n t (i + 1) is (M ++ (binder (fresh i) ∷ [])) M′ t′ i′
       → Along o c n t i (local ∷ is) M M′ t′ i′
   local-along {o} {c} {n} {t} {t′} {i} {i′} {is} {M} {M′} A = record { along = go }
     where
@@ -189,7 +208,7 @@ module _ {g : List Production} (F : FitAll g) (passed : checkFirsts g ≡ ok tt)
           (items-after (runCall d I) I local is xs s cells _ _ cells refl)
           (A .along d k r B _ _ (record { at = s .at; fresh = s .fresh + 1; calls = s .calls; made = s .made }) cells b p (ap (λ j. j + 1) f)
           (record { room = h .room; fits = h .fits; names = omega (arith, h .names); begun = h .begun })
-          (all-and a (shows-name (fresh-named spell (s .fresh) (omega (arith, h .names, h .begun)) ∙ ap fresh f))))
+          (all-and a (shows-binder (fresh-named spell (s .fresh) (omega (arith, h .names, h .begun)) ∙ ap fresh f))))
 
   -- a call with its arguments, and the items after it
   call-item-along : {o c n o′ c′ n′ m : ℕ} {t t₁ t′ : List Token} {i i₁ i′ : ℕ} {is : List Item} {ts : Templates} {M M₁ M′ vs : List Value} {v : Value} (p : Production)
@@ -280,60 +299,97 @@ module _ {g : List Production} (F : FitAll g) (passed : checkFirsts g ≡ ok tt)
           a,
         );
       }
-  items-along (by-keyword {k = k} e D) = token-along (keyword k) (keywordKind k) (λ v. 0) (λ C xs. refl) e (λ s cells q. shows-unit) (items-along D)
-  items-along (by-ide-var {t = t} e D) =
-      token-along (ide Sorts.var) wordKind (wordValue Sorts.var) (λ C xs. refl) e (λ s cells q. shows-name (word-shown s t q e)) (items-along D)
-  items-along (by-ide-binder {t = t} e D) =
-      token-along (ide Sorts.binder) wordKind (wordValue Sorts.binder) (λ C xs. refl) e (λ s cells q. shows-name (word-shown s t q e)) (items-along D)
-  items-along (by-ide-label {t = t} e D) =
+  items-along (by-terminal (by-keyword {k = k} e) D) = token-along (keyword k) (keywordKind k) (λ v. 0) (λ C xs. refl) e (λ s cells q. shows-unit) (items-along D)
+  items-along (by-terminal (by-ide {t = t} e as-var) D) =
+      token-along (ide Sorts.var) wordKind (wordValue Sorts.var) (λ C xs. refl) e (λ s cells q. shows-var (word-shown s t q e)) (items-along D)
+  items-along (by-terminal (by-ide {t = t} e as-binder) D) =
+      token-along (ide Sorts.binder) wordKind (wordValue Sorts.binder) (λ C xs. refl) e (λ s cells q. shows-binder (word-shown s t q e)) (items-along D)
+  items-along (by-terminal (by-ide {t = t} e as-label) D) =
       token-along (ide Sorts.label) wordKind (wordValue Sorts.label) (λ C xs. refl) e
       (λ s cells q. subst (λ u. Shows spell (s .made) cells (nextToken I s .value) (label (spell (u .value)))) q shows-label) (items-along D)
-  items-along (by-number {t = t} e D) =
+  items-along (by-terminal (by-number {t = t} e) D) =
       token-along number numberKind (λ v. v) (λ C xs. refl) e
       (λ s cells q. subst (λ u. Shows spell (s .made) cells (nextToken I s .value) (num (u .value))) q shows-num) (items-along D)
-  items-along (by-local D) = local-along (items-along D)
+  items-along (by-terminal by-local D) = local-along (items-along D)
   items-along (by-call {p = p} gs t D q D′) = call-item-along p gs t (items-along D) q (items-along D′)
 
   -- ------------------------------------------------------------------ the whole formula
 
-  module _ {root : ℕ} {t : Term Name} (P : Parses g spell root tokens t) where
+  -- the items that are one call of the root run as that call
+  pub root-ends : (P : List ℕ → State → List ℕ → Type 0) (H : Refusal → Type 0) (d : ℕ) (cells : List ℕ)
+      → Ends P H (runItems (runCall d I) I (call (X .root) none ∷ []) [] start cells) → Ends (λ x s c. P (x ∷ []) s c) H (runCall d I (X .root) [] start cells)
+  unfolding runItems buildAll
+  root-ends P H d cells h = go (runCall d I (X .root) [] start cells) h
+    where
+      go : (x : Result ℕ) → Ends P H (after x (λ v. runItems (runCall d I) I [] ([] ++ (v ∷ [])))) → Ends (λ x s c. P (x ∷ []) s c) H x
+      go (done v s c) q = q
+      go (halt r c) q = q
+
+  -- the call of the root beside its derivation
+  pub root-along : {M : List Value} {t : List Token} {i : ℕ} (D : Derives g spell [] tokens 1 (call (X .root) none ∷ []) M t i)
+      → (cells : List ℕ) → rows * 4 ≤ length cells
+      → Ends (λ x s c. Reached 0 mostOpen (openIn D) (callsIn D) (rowsIn D) t i M 0 0 cells (x ∷ []) s c) (Beyond rows mostOpen (openIn D) (callsIn D) (rowsIn D))
+      (runCall mostOpen I (X .root) [] start cells)
+  root-along {M} {t} {i} D cells room =
+      let W = Reached 0 mostOpen (openIn D) (callsIn D) (rowsIn D) t i M 0 0 cells in
+      let K = Beyond rows mostOpen (openIn D) (callsIn D) (rowsIn D) in
+      root-ends W K mostOpen cells
+      (ends-map W (Beyond rows mostOpen (openIn D) (0 + callsIn D) (0 + rowsIn D)) W K (runItems (runCall mostOpen I) I (call (X .root) none ∷ []) [] start cells)
+      (items-along D .along mostOpen 0 (make 0x25 none) Sorts.fields [] [] start cells (root-body X) refl refl
+      (record { room = room; fits = omega arith; names = omega arith; begun = omega arith }) show-none)
+      (λ xs s c u. u) (beyond-more (omega arith) (omega arith) (omega arith)))
+
+  module _ {t : Term Name} (P : Parses g spell (X .root) tokens t) where
     -- accepted with the term, within the limits
     pub record Accepts (v : ℕ) (s : State) (cells : List ℕ) : Type 0 where
       pub term-is : termAt (s .made) spell cells v ≡ t
-      pub opened : openCalls P ≤ mostOpen
-      pub calls-are : s .calls ≡ allCalls P
-      pub few : s .calls ≤ mostCalls
-      pub made-are : s .made ≡ allRows P
-      pub fit : s .made ≤ rows
+      pub affords : Affords rows 0 0 0 (P .derived)
+      pub made-are : s .made ≡ rowsIn (P .derived)
 
-    shown : {made : ℕ} {cells : List ℕ} {x : ℕ} → Shows spell made cells x (term t) → termAt made spell cells x ≡ t
-    shown {made} {cells} (shows-term h) = h .read cells (record { same = λ j l. refl }) made (h .below)
+    abbrev Exceeds : Refusal → Type 0
+    Exceeds r = Beyond rows mostOpen (openIn (P .derived)) (callsIn (P .derived)) (rowsIn (P .derived)) r
 
     all-read : (at : ℕ) → drop at tokens ≡ [] → length tokens ≤ at
     all-read at e = omega (arith, sym (length-drop at tokens) ∙ ap length e)
 
-    ended-along : (v : ℕ) (s : State) (cells : List ℕ) → from s ≡ [] → Accepts v s cells → Ends Accepts (Exceeds rows P) (ended I v s cells)
+    ended-along : (v : ℕ) (s : State) (cells : List ℕ) → from s ≡ [] → Accepts v s cells → Ends Accepts Exceeds (ended I v s cells)
     ended-along v s cells e h =
-        subst⁻¹ (λ b. Ends Accepts (Exceeds rows P) (elim b [ true ↦ halt (refusal 18 (s .at) 0 0) cells | false ↦ done v s cells ]))
+        subst⁻¹ (λ b. Ends Accepts Exceeds (elim b [ true ↦ halt (refusal 18 (s .at) 0 0) cells | false ↦ done v s cells ]))
         (le-ltb (s .at) (length tokens) (all-read (s .at) e)) h
 
-    pub run-along : (cells : List ℕ) → rows * 4 ≤ length cells → Ends Accepts (Exceeds rows P) (run I root cells)
+    shown-first : {made : ℕ} {cells : List ℕ} {x : ℕ} → ShowAll spell made cells (x ∷ []) (term t ∷ []) → termAt made spell cells x ≡ t
+    shown-first (show-more h show-none) = shown X h
+
+    run-along : (cells : List ℕ) → rows * 4 ≤ length cells → Ends Accepts Exceeds (run I (X .root) cells)
     unfolding run
     run-along cells room =
         let D = P .derived in
-        let n : ℕ = rowsIn D + rowsOf (P .production .result) in
-        ends-after (Gave 0 mostOpen (openIn D + 1) (callsIn D + 1) n [] (P .counter) (term t) 0 0 cells) (Beyond rows mostOpen (openIn D + 1) (0 + (callsIn D + 1)) (0 + n))
-        Accepts (Exceeds rows P) (runCall mostOpen I root [] start cells) (ended I)
-        (call-along (P .production) (P .taken) (items-along D) (P .result) 0 [] start cells refl refl
-        (record { room = room; fits = omega arith; names = omega arith; begun = omega arith }) show-none mostOpen)
+        ends-after (λ x s c. Reached 0 mostOpen (openIn D) (callsIn D) (rowsIn D) [] (P .counter) (term t ∷ []) 0 0 cells (x ∷ []) s c) Exceeds
+        Accepts Exceeds (runCall mostOpen I (X .root) [] start cells) (ended I) (root-along D cells room)
         (λ v s c y.
         ended-along v s c (y .0 .place)
         (record {
-          term-is = shown (y .1);
-          opened = y .0 .deep;
-          calls-are = omega (arith, y .0 .calls-are);
-          few = y .0 .kept .begun;
+          term-is = shown-first (y .1);
+          affords =
+              record { few-open = omega (arith, y .0 .deep); few-calls = omega (arith, y .0 .calls-are, y .0 .kept .begun); few-rows = omega (arith, y .0 .made-are, y .0 .kept .fits) };
           made-are = omega (arith, y .0 .made-are);
-          fit = y .0 .kept .fits;
         }))
-        (beyond-more (omega arith) (omega arith) (omega arith))
+        (λ r u. u)
+
+    within-not : {r : Refusal} → Affords rows 0 0 0 (P .derived) → Exceeds r → ⊥
+    within-not h (too-deep e l) = omega (arith, h .few-open, l)
+    within-not h (too-many e l) = omega (arith, h .few-calls, l)
+    within-not h (too-large e l) = omega (arith, h .few-rows, l)
+
+    -- accepted beside the derivation
+    pub accepts : (cells : List ℕ) → rows * 4 ≤ length cells → (v : ℕ) (s : State) (cells′ : List ℕ) → run I (X .root) cells ≡ done v s cells′ → Accepts v s cells′
+    accepts cells room v s cells′ e = subst (λ z. Ends Accepts Exceeds z) e (run-along cells room)
+
+    -- a derivation within the limits is accepted
+    pub accepted : (cells : List ℕ) → rows * 4 ≤ length cells → Affords rows 0 0 0 (P .derived)
+        → (v : ℕ) × (s : State) × (cells′ : List ℕ) × (run I (X .root) cells ≡ done v s cells′)
+    accepted cells room h = go (run I (X .root) cells) refl (run-along cells room)
+      where
+        go : (x : Result ℕ) → run I (X .root) cells ≡ x → Ends Accepts Exceeds x → (v : ℕ) × (s : State) × (cells′ : List ℕ) × (run I (X .root) cells ≡ done v s cells′)
+        go (done v s cells′) e a = (v, s, cells′, e)
+        go (halt r cells′) e q = absurd (within-not h q)

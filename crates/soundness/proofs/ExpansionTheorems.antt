@@ -1,125 +1,152 @@
--- What an expansion means: the run of specs/Expansion is the parse by the rules of specs/Figure3, at the cost of specs/Costs. This holds of
--- every table within the counts that is well sorted and whose first sets are told apart, all tokens whose words have numbers that a name
--- can hold, and all rows and cells.
+-- What an expansion means: the run of expansion/specs/Expansion is the parse by the rules of expansion/specs/Figure3, at the cost of
+-- expansion/specs/Costs, and stops where expansion/specs/Stopping says. This holds of every table that passes, all tokens whose words have
+-- numbers that a name can hold, and all rows and cells.
 use Prim.Native.Nat.{ℕ, _*_, _≤_, _<_}
-use mathlib.Core.Path.{_≡_}
-use mathlib.Core.Logic.{_↔_, _⊎_}
+use mathlib.Core.Path.{_≡_, sym, ap, subst, _∙_}
+use mathlib.Core.Logic.{_↔_}
 use mathlib.Core.Bool.{true}
 use mathlib.Core.List.{List}
+use native.Mathlib.Omega.{arith}
 use lib.ListN.{length}
 use Rattle.answers.specs.declared.Refusal.{Refusal}
+use Rattle.answers.specs.Checked.{ok}
 use Rattle.spellings.specs.Bytes.{isWord}
 use Rattle.kinds.specs.Kinds.{wordKind}
 use Rattle.grammar.specs.Fields.{Lexicon}
-use Rattle.answers.specs.Checked.{ok}
-use Rattle.grammar.specs.Table.{Template, Item, Table}
+use Rattle.grammar.specs.Table.{Template, Templates, Item, Table}
 use Rattle.grammar.specs.Cells.{columns}
-use Rattle.layout.specs.Within.{Within}
-use Rattle.sorts.specs.Judgements.{Body, WellSorted}
+use Rattle.layout.specs.Within.{TemplateWithin}
 use Rattle.scanner.specs.declared.Token.{Token}
 use Rattle.scanner.specs.Scan.{scan}
-use Rattle.productions.specs.Normal.{Production, normalized}
+use Rattle.productions.specs.Normal.{Production}
 use Rattle.firsts.specs.First.{checkFirsts}
+use Rattle.firsts.proofs.FirstsTheorems.{passes-exactly}
+use Rattle.sorts.specs.Judgements.{Sorted, Fill, Body}
+use Rattle.checker.specs.Passes.{grammarOf}
 use Rattle.terms.specs.Term.{Name, Term}
 use Rattle.terms.specs.Rows.{termAt}
 use Rattle.terms.specs.Binding.{isWorded}
 use Rattle.expansion.specs.declared.State.{State}
-use Rattle.expansion.specs.Run.{done, halt}
-use Rattle.expansion.specs.Expansion.{run}
-use Rattle.expansion.specs.Figure3.{Value, Gives, Derives, Parses}
+use Rattle.expansion.specs.Run.{Result, done, halt}
+use Rattle.expansion.specs.Figure3.{Value, Gives, GiveAll, Derives, Parses}
 use Rattle.expansion.specs.ValueSorts.{Typed, Matches}
-use Rattle.expansion.specs.Costs.{allCalls, allRows, Limited, Exceeds}
-use Rattle.expansion.specs.Points.{Overrun}
-use Rattle.expansion.specs.Sources.{Among, Sourced}
-use Rattle.soundness.proofs.Typing.{items-typed}
-use Rattle.soundness.proofs.Normalizing.{scopeOf, table-fits}
+use Rattle.expansion.specs.Costs.{rowsIn, Affords}
+use Rattle.expansion.specs.Stopping.{Refuses}
+use Rattle.expansion.specs.Places.{givenIn, Has, Placed}
 use Rattle.expansion.specs.Parsing.{Runs, SmallWords}
-use Rattle.soundness.proofs.Limits.{Refused}
-use Rattle.soundness.proofs.RunsAndParses as both
 use Rattle.expansion.proofs.Unique.{parses-one}
+use Rattle.soundness.specs.Passing.{Passing, Lexemes}
+use Rattle.soundness.proofs.Building.{Ends}
+use Rattle.soundness.proofs.Typing.{gives-exists, give-all-exist, items-typed}
+use Rattle.soundness.proofs.Setting.{Setting}
+use Rattle.soundness.proofs.Normalizing.{scopeOf, table-fits}
+use Rattle.soundness.proofs.Sound.{run-sound}
+use Rattle.soundness.proofs.Complete.{accepts, accepted}
+use Rattle.soundness.proofs.StopSound.{run-halts}
+use Rattle.soundness.proofs.StopComplete.{refuses-halts}
+use Rattle.soundness.proofs.Placing.{Supplied, parses-placed, parses-supplied, placed-worded}
 use Rattle.soundness.proofs.Scanned.{scanned-small}
-use Rattle.soundness.proofs.Sourcing.{parses-sourced, sourced-worded}
 
--- ------------------------------------------------------------------ sorts
-
--- Parsing respects typing (001, Theorem 1): under variables of their sorts, an alternative of sort B derives a value of sort B.
-pub parsing-respects-typing : (t : Table) → Within t → (sorted : WellSorted t) → (spell : ℕ → List ℕ)
-    → {M M′ : List Value} {s s′ : List Token} {i i′ : ℕ} {items : List Item} {result : Template} {L : List ℕ} {B : ℕ} {v : Value}
-    → Body (scopeOf t sorted) L items result B → Matches M L
-    → Derives (normalized (t .blocks)) spell M s i items M′ s′ i′ → Gives spell M′ result v → Typed v B
-parsing-respects-typing t within sorted spell b m d k = items-typed (table-fits t within sorted) d m b k
-
--- Every name, label and number of a derived term comes from where its place's sort may come from (01, "Whose name is whose").
-pub derived-is-sourced : (t : Table) → Within t → WellSorted t → (spell : ℕ → List ℕ) (tokens : List Token) (u : Term Name)
-    → Parses (normalized (t .blocks)) spell (t .root) tokens u → Sourced tokens spell (length (t .outsides)) u
-derived-is-sourced t within sorted spell tokens u P = parses-sourced (table-fits t within sorted) tokens spell P
-
--- So a derived term has only words for names and labels, if those of the formula and of the table are words.
-pub derived-is-worded : (t : Table) → Within t → WellSorted t → (spell : ℕ → List ℕ) (tokens : List Token)
-    → ((w : Token) → Among tokens w → w .kind ≡ wordKind → isWord (spell (w .value)) ≡ true)
-    → ((n : ℕ) → n < length (t .outsides) → isWord (spell n) ≡ true)
-    → (u : Term Name) → Parses (normalized (t .blocks)) spell (t .root) tokens u → isWorded u ≡ true
-derived-is-worded t within sorted spell tokens words outsides u P = sourced-worded words outsides (derived-is-sourced t within sorted spell tokens u P)
-
--- ------------------------------------------------------------------ one reading
-
--- A formula has one reading at most: two derivations from the root give the same term.
-pub derived-once : (g : List Production) → checkFirsts g ≡ ok tt → (spell : ℕ → List ℕ) (root : ℕ) (tokens : List Token) (u w : Term Name)
-    → Parses g spell root tokens u → Parses g spell root tokens w → u ≡ w
-derived-once g passed spell root tokens u w P Q = parses-one passed P Q
-
--- ------------------------------------------------------------------ runs and parses
-
--- The words of a scan have numbers that a name can hold, so what follows holds of all that is scanned.
+-- The words of a scan have numbers that a name can hold.
 pub scanned-is-small : (lex : Lexicon) → length (lex .outsides) ≤ 64 → (formula : List ℕ) → SmallWords (scan lex formula .tokens)
 scanned-is-small = scanned-small
 
-module _ (t : Table) (within : Within t) (sorted : WellSorted t) (passed : checkFirsts (normalized (t .blocks)) ≡ ok tt) (spell : ℕ → List ℕ)
-    (tokens : List Token) (small : SmallWords tokens) (rows : ℕ) (cells : List ℕ) (room : rows * columns ≤ length cells) where
-  abbrev g : List Production
-  g = normalized (t .blocks)
+module _ (t : Table) (T : Passing t) where
+  firsts-passed : checkFirsts (grammarOf t) ≡ ok tt
+  firsts-passed = passes-exactly (grammarOf t) .1 (T .meets .not-left-recursive, T .meets .without-clash)
 
-  -- What is accepted is derived: the rules of Figure 3 parse the whole formula as the term that the cells at exit show at the row given.
-  pub accepted-is-derived : (v : ℕ) (s : State) (cells′ : List ℕ) → Runs g (t .root) tokens rows cells (done v s cells′)
-      → Parses g spell (t .root) tokens (termAt (s .made) spell cells′ v)
-  accepted-is-derived = both.accepted-is-derived t within sorted passed spell tokens small rows cells room
+  -- ------------------------------------------------------------------ sorts
 
-  -- Accepted beside a derivation, the cells show the term derived, and the state has counted the derivation's calls and cells.
-  pub accepted-as-derived : {u : Term Name} (P : Parses g spell (t .root) tokens u) (v : ℕ) (s : State) (cells′ : List ℕ) → Runs g (t .root) tokens rows cells (done v s cells′)
-      → (termAt (s .made) spell cells′ v ≡ u) × (s .calls ≡ allCalls P) × (s .made ≡ allRows P)
-  accepted-as-derived = both.accepted-as-derived t within sorted passed spell tokens small rows cells room
+  -- Parsing respects typing (001, Theorem 1): under variables of their sorts, an alternative of sort B derives a value of sort B.
+  pub parsing-respects-typing : {spell : ℕ → List ℕ} {M M′ : List Value} {s s′ : List Token} {i i′ : ℕ} {items : List Item} {result : Template} {L : List ℕ} {B : ℕ} {v : Value}
+      → Body (scopeOf t (T .meets .sorted)) L items result B
+      → Matches M L
+      → Derives (grammarOf t) spell M s i items M′ s′ i′
+      → Gives spell M′ result v
+      → Typed v B
+  parsing-respects-typing b m d k = items-typed (table-fits t (T .within) (T .meets .sorted)) d m b k
 
-  -- A term is accepted exactly if it is derived within the limits.
-  pub accepted-exactly : (u : Term Name)
-      → ((v : ℕ) × (s : State) × (cells′ : List ℕ) × Runs g (t .root) tokens rows cells (done v s cells′) × (termAt (s .made) spell cells′ v ≡ u))
-      ↔ ((P : Parses g spell (t .root) tokens u) × Limited rows P)
-  accepted-exactly = both.accepted-exactly t within sorted passed spell tokens small rows cells room
+  -- ------------------------------------------------------------------ readings
 
-  -- Refused beside a derivation, the number is 19, 20 or 21, and the derivation exceeds that limit.
-  pub refused-at-a-limit : {u : Term Name} (P : Parses g spell (t .root) tokens u) (r : Refusal) (cells′ : List ℕ) → Runs g (t .root) tokens rows cells (halt r cells′) → Exceeds rows P r
-  refused-at-a-limit = both.refused-at-a-limit t within sorted passed spell tokens small rows cells room
+  module _ (R : Lexemes) where
+    abbrev pub Reads : Term Name → Type 0
+    Reads u = Parses (grammarOf t) (R .spell) (t .root) (R .tokens) u
 
-  -- Refusals 17 and 18 say that nothing is derived from the whole formula, whatever the limits.
-  pub misfit-is-not-derived : (r : Refusal) (cells′ : List ℕ) → Runs g (t .root) tokens rows cells (halt r cells′) → (r .number ≡ 17) ⊎ (r .number ≡ 18)
-      → (u : Term Name) → Parses g spell (t .root) tokens u → ⊥
-  misfit-is-not-derived = both.misfit-is-not-derived t within sorted passed spell tokens small rows cells room
+    -- A formula has one reading at most: two derivations from the root give the same term.
+    pub derived-once : {u w : Term Name} → Reads u → Reads w → u ≡ w
+    derived-once P Q = parses-one firsts-passed P Q
 
-  -- Where nothing is derived, the expansion is refused, with 17 or 18 or at a point of the parse that exceeds a limit.
-  pub not-derived-is-refused : ((u : Term Name) → Parses g spell (t .root) tokens u → ⊥)
-      → (r : Refusal) × (cells′ : List ℕ) × Runs g (t .root) tokens rows cells (halt r cells′) × (((r .number ≡ 17) ⊎ (r .number ≡ 18)) ⊎ Overrun rows g spell (t .root) tokens r)
-  not-derived-is-refused = both.not-derived-is-refused t within sorted passed spell tokens small rows cells room
+    -- Each place of a derived term holds what its sort asks for (01, "Whose name is whose").
+    pub derived-is-placed : {u : Term Name} (P : Reads u) → Placed (givenIn (P .derived)) (R .spell) u
+    derived-is-placed P = parses-placed P
 
-  -- A refusal 19, 20 or 21 is given at a point of the parse, derived to its end or not, that has more calls open or begun or more cells than
-  -- there may be.
-  pub limit-is-exceeded : (r : Refusal) (cells′ : List ℕ) → Runs g (t .root) tokens rows cells (halt r cells′) → 19 ≤ r .number → Overrun rows g spell (t .root) tokens r
-  limit-is-exceeded = both.limit-is-exceeded t within sorted passed spell tokens small rows cells room
+    abbrev setting : ℕ → Setting (grammarOf t)
+    setting rows =
+        record {
+          fit = table-fits t (T .within) (T .meets .sorted);
+          passed = firsts-passed;
+          spell = R .spell;
+          tokens = R .tokens;
+          rows = rows;
+          small = R .small;
+          root = t .root;
+          root-small = omega (arith, T .within .root);
+          signature = T .meets .sorted .signature;
+          defined = T .meets .sorted .defined;
+          without = T .meets .sorted .without;
+          of-term = T .meets .sorted .of-term;
+        }
 
-  -- An expansion is refused with 19, 20 or 21 exactly if a point of the parse exceeds a limit.
-  pub limits-exactly : ((r : Refusal) × (cells′ : List ℕ) × Runs g (t .root) tokens rows cells (halt r cells′) × (19 ≤ r .number) × (r .number ≤ 21))
-      ↔ ((r : Refusal) × Overrun rows g spell (t .root) tokens r)
-  limits-exactly = both.limits-exactly t within sorted passed spell tokens small rows cells room
+    -- What was given in its derivation is a token of the formula or one of the table's outside names.
+    pub derived-is-supplied : {u : Term Name} (P : Reads u) → Rattle.layout.specs.Within.Each (Supplied (R .tokens) (length (t .outsides))) (givenIn (P .derived))
+    derived-is-supplied P = parses-supplied (setting 0) P
 
-  -- It is refused with 17 or 18 exactly if nothing is derived from the whole formula and no point of the parse exceeds a limit.
-  pub misfits-exactly : ((r : Refusal) × (cells′ : List ℕ) × Runs g (t .root) tokens rows cells (halt r cells′) × ((r .number ≡ 17) ⊎ (r .number ≡ 18)))
-      ↔ (((u : Term Name) → Parses g spell (t .root) tokens u → ⊥) × ((r : Refusal) → Overrun rows g spell (t .root) tokens r → ⊥))
-  misfits-exactly = both.misfits-exactly t within sorted passed spell tokens small rows cells room
+    -- So a derived term has only words for names and labels, if those of the formula and of the table are words.
+    pub derived-is-worded : ((w : Token) → Has (R .tokens) w → w .kind ≡ wordKind → isWord (R .spell (w .value)) ≡ true)
+        → ((n : ℕ) → n < length (t .outsides) → isWord (R .spell n) ≡ true)
+        → {u : Term Name} → Reads u → isWorded u ≡ true
+    derived-is-worded words outsides P = placed-worded (R .spell) (derived-is-supplied P) words outsides (derived-is-placed P)
+
+    -- ------------------------------------------------------------------ runs and parses
+
+    module _ (rows : ℕ) (cells : List ℕ) (room : rows * columns ≤ length cells) where
+      abbrev pub Answers : Result ℕ → Type 0
+      Answers x = Runs (grammarOf t) (t .root) (R .tokens) rows cells x
+
+      -- What is accepted is derived: Figure 3 parses the whole formula as the term that the cells at exit show at the row given.
+      pub accepted-is-derived : (v : ℕ) (s : State) (cells′ : List ℕ) → Answers (done v s cells′) → Reads (termAt (s .made) (R .spell) cells′ v)
+      accepted-is-derived = run-sound (setting rows) cells room
+
+      -- A term is accepted exactly if it is derived within the limits.
+      pub accepted-exactly : (u : Term Name)
+          → ((v : ℕ) × (s : State) × (cells′ : List ℕ) × Answers (done v s cells′) × (termAt (s .made) (R .spell) cells′ v ≡ u))
+          ↔ ((P : Reads u) × Affords rows 0 0 0 (P .derived))
+      accepted-exactly u = (
+        λ a.
+            let P : Reads u = subst Reads (a .4) (accepted-is-derived (a .0) (a .1) (a .2) (a .3)) in
+            (P, accepts (setting rows) P cells room (a .0) (a .1) (a .2) (a .3) .affords),
+        λ d.
+            let b = accepted (setting rows) (d .0) cells room (d .1) in
+            (b .0, b .1, b .2, b .3, accepts (setting rows) (d .0) cells room (b .0) (b .1) (b .2) (b .3) .term-is),
+      )
+
+      -- Accepted beside a derivation, the cells show the term derived, and the state has counted the derivation's cells.
+      pub accepted-as-derived : {u : Term Name} (P : Reads u) (v : ℕ) (s : State) (cells′ : List ℕ) → Answers (done v s cells′)
+          → (termAt (s .made) (R .spell) cells′ v ≡ u) × (s .made ≡ rowsIn (P .derived))
+      accepted-as-derived P v s cells′ e = let a = accepts (setting rows) P cells room v s cells′ e in (a .term-is, a .made-are)
+
+      -- An expansion halts with a refusal exactly if the rules stop with it: the number, and all its values.
+      pub refused-exactly : (r : Refusal) → ((cells′ : List ℕ) × Answers (halt r cells′)) ↔ Refuses (grammarOf t) (R .spell) rows (R .tokens) (t .root) r
+      refused-exactly r = (
+        λ a.
+            subst (λ x. Ends {A = ℕ} (λ v s c. Unit {0}) (λ q. Refuses (grammarOf t) (R .spell) rows (R .tokens) (t .root) q) x) (a .1)
+            (run-halts (setting rows) cells room),
+        λ h. refuses-halts (setting rows) h cells room,
+      )
+
+-- ------------------------------------------------------------------ never wrong
+
+-- A well sorted template, under variables of their sorts, gives a value of its sort: never `wrong` (001, Theorem 1).
+pub never-wrong : (spell : ℕ → List ℕ) {N : ℕ} {M : List Value} {L : List ℕ} {A : ℕ} (t : Template) → Matches M L → Sorted N L t A → TemplateWithin t
+    → (v : Value) × Gives spell M t v × Typed v A
+never-wrong spell t m w z = gives-exists spell m t w z

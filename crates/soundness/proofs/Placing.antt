@@ -1,16 +1,25 @@
--- Every place of a derived term holds what its sort demands.
-use Prim.Native.Nat.{ℕ}
+-- Every place of a derived term holds what its sort asks for, from the tokens of the formula or the names of the table.
+use Prim.Native.Nat.{ℕ, _<_}
+use mathlib.Core.Path.{_≡_, refl}
+use mathlib.Core.Bool.{true, and-eq-true-iff}
 use mathlib.Core.List.{List, [], _∷_, _++_}
+use Rattle.spellings.specs.Bytes.{isWord}
+use Rattle.kinds.specs.Kinds.{wordKind, numberKind}
 use Rattle.grammar.specs.Sorts as Sorts
 use Rattle.grammar.specs.Table.{Template, Templates, none, more, Item}
 use Rattle.grammar.specs.Table as Table
 use Rattle.layout.specs.Within.{Each, each-none, each-more}
+use Rattle.sorts.specs.Judgements.{Sorted, Fill, fill-none, fill-more, Body, by-binding}
+use Rattle.sorts.specs.Judgements as Judgements
 use Rattle.scanner.specs.declared.Token.{Token}
 use Rattle.productions.specs.Normal.{Production}
 use Rattle.terms.specs.Term.{Name, Term, Fields}
-use Rattle.expansion.specs.Figure3.{Value, unit, name, label, num, term, fields, Constructs, Bound, bound-first, bound-later, Gives, by-variable, by-global, by-label, by-constructor, GiveAll, give-none, give-more, Derives, by-end, by-keyword, by-ide-var, by-ide-binder, by-ide-label, by-number, by-local, by-call, Parses}
+use Rattle.terms.specs.Binding.{isWordName, isWorded, isWordedFields}
+use Rattle.expansion.specs.Figure3.{Value, unit, var, binder, label, num, term, fields, Constructs, Bound, bound-first, bound-later, Gives, by-variable, by-global, by-label, by-constructor, GiveAll, give-none, give-more, as-var, as-binder, as-label, ReadsAs, by-keyword, by-ide, by-number, by-local, Derives, by-end, by-terminal, by-call, Parses}
 use Rattle.expansion.specs.Figure3 as Figure3
-use Rattle.expansion.specs.Places.{Given, namedIn, namedInAll, givenIn, given, Has, has-first, has-later, VarPlace, var-var, var-binder, var-local, var-outside, BinderPlace, binder-binder, binder-local, LabelPlace, label-label, label-outside, NumPlace, num-number, Placed, placed-variable, placed-function, placed-apply, placed-rcd, placed-dot, placed-number, PlacedFields, placed-nil, placed-cons}
+use Rattle.expansion.specs.Places.{Given, word-at, fresh-name, number-at, outside-name, outside-label, namedIn, namedInAll, givenAt, givenIn, Has, has-first, has-later, VarPlace, var-var, var-binder, var-local, var-outside, BinderPlace, binder-binder, binder-local, LabelPlace, label-label, label-outside, NumPlace, num-number, Placed, placed-variable, placed-function, placed-apply, placed-rcd, placed-dot, placed-number, PlacedFields, placed-nil, placed-cons}
+use Rattle.soundness.proofs.Typing.{FitAll, taken-of, result-sorted}
+use Rattle.soundness.proofs.Setting.{Setting, root-body}
 
 each-and : {A : Type 0} {P : A → Type 0} {xs : List A} {x : A} → Each P xs → P x → Each P (xs ++ (x ∷ []))
 each-and each-none k = each-more k each-none
@@ -21,19 +30,19 @@ each-split [] h = (each-none, h)
 each-split (x ∷ xs) (each-more h hs) = let q = each-split xs hs in (each-more h (q .0), q .1)
 
 -- all of a list is in it
-each-later : {y : Given} {G xs : List Given} → Each (Has G) xs → Each (Has (y ∷ G)) xs
+each-later : {A : Type 0} {y : A} {G xs : List A} → Each (Has G) xs → Each (Has (y ∷ G)) xs
 each-later each-none = each-none
 each-later (each-more h hs) = each-more (has-later h) (each-later hs)
 
-each-has : (G : List Given) → Each (Has G) G
+each-has : {A : Type 0} (G : List A) → Each (Has G) G
 each-has [] = each-none
 each-has (x ∷ G) = each-more has-first (each-later (each-has G))
 
 module _ (G : List Given) (spell : ℕ → List ℕ) where
   data From : Value → Type 0 where
     from-unit : From unit
-    from-var : {x : Name} → VarPlace G spell x → From (name Sorts.var x)
-    from-binder : {x : Name} → BinderPlace G spell x → From (name Sorts.binder x)
+    from-var : {x : Name} → VarPlace G spell x → From (var x)
+    from-binder : {x : Name} → BinderPlace G spell x → From (binder x)
     from-label : {l : List ℕ} → LabelPlace G spell l → From (label l)
     from-num : {n : ℕ} → NumPlace G n → From (num n)
     from-term : {t : Term Name} → Placed G spell t → From (term t)
@@ -78,15 +87,22 @@ module _ (G : List Given) (spell : ℕ → List ℕ) where
       all-from none a give-none = each-none
       all-from (more t ts) a (give-more g gs) = let q = each-split (namedIn t) a in each-more (gives-from t (q .0) g) (all-from ts (q .1) gs)
 
-  items-from : {g : List Production} {M M′ : List Value} {s s′ : List Token} {i i′ : ℕ} {is : List Item} (d : Derives g spell M s i is M′ s′ i′) → Each (Has G) (givenIn d) → Each From M → Each From M′
+  terminal-from : {g : List Production} {s s′ : List Token} {i i′ : ℕ} {p : Item} {v : Value} (e : ReadsAs g spell s i p s′ i′ v) → Each (Has G) (givenAt e) → From v
+  unfolding givenAt
+  terminal-from (by-keyword e) a = from-unit
+  terminal-from (by-ide e as-var) a = from-var (var-var (first-of a))
+  terminal-from (by-ide e as-binder) a = from-binder (binder-binder (first-of a))
+  terminal-from (by-ide e as-label) a = from-label (label-label (first-of a))
+  terminal-from (by-number e) a = from-num (num-number (first-of a))
+  terminal-from by-local a = from-binder (binder-local (first-of a))
+
+  items-from : {g : List Production} {M M′ : List Value} {s s′ : List Token} {i i′ : ℕ} {is : List Item} (d : Derives g spell M s i is M′ s′ i′)
+      → Each (Has G) (givenIn d) → Each From M → Each From M′
   unfolding givenIn
   items-from by-end a m = m
-  items-from (by-keyword e d) a m = items-from d a (each-and m from-unit)
-  items-from (by-ide-var e d) a m = items-from d (others-of a) (each-and m (from-var (var-var (first-of a))))
-  items-from (by-ide-binder e d) a m = items-from d (others-of a) (each-and m (from-binder (binder-binder (first-of a))))
-  items-from (by-ide-label e d) a m = items-from d (others-of a) (each-and m (from-label (label-label (first-of a))))
-  items-from (by-number e d) a m = items-from d (others-of a) (each-and m (from-num (num-number (first-of a))))
-  items-from (by-local d) a m = items-from d (others-of a) (each-and m (from-binder (binder-local (first-of a))))
+  items-from (by-terminal e d) a m =
+      let q = each-split (givenAt e) a in
+      items-from d (q .1) (each-and m (terminal-from e (q .0)))
   items-from (by-call {ts = ts} {p = p} gs t d q d′) a m =
       let x = each-split (namedInAll ts) a in
       let y = each-split (givenIn d) (x .1) in
@@ -94,10 +110,125 @@ module _ (G : List Given) (spell : ℕ → List ℕ) where
       let inner = items-from d (y .0) (all-from m ts (x .0) gs) in
       items-from d′ (z .1) (each-and m (gives-from inner (p .result) (z .0) q))
 
-  from-placed : {t : Term Name} → From (term t) → Placed G spell t
-  from-placed (from-term h) = h
+  from-placed : {t : Term Name} → Each From (term t ∷ []) → Placed G spell t
+  from-placed (each-more (from-term h) each-none) = h
 
-pub parses-placed : {g : List Production} {spell : ℕ → List ℕ} {root : ℕ} {tokens : List Token} {u : Term Name} (P : Parses g spell root tokens u) → Placed (given P) spell u
+-- Every place of a derived term holds what its sort asks for.
+pub parses-placed : {g : List Production} {spell : ℕ → List ℕ} {root : ℕ} {tokens : List Token} {u : Term Name} (P : Parses g spell root tokens u)
+    → Placed (givenIn (P .derived)) spell u
 parses-placed {spell = spell} P =
-    let a = each-split (givenIn (P .derived)) (each-has (given P)) in
-    from-placed (given P) spell (gives-from (given P) spell (items-from (given P) spell (P .derived) (a .0) each-none) (P .production .result) (a .1) (P .result))
+    let G = givenIn (P .derived) in
+    from-placed G spell (items-from G spell (P .derived) (each-has G) each-none)
+
+-- ------------------------------------------------------------------ what is given
+
+-- A word or a number is a token of its kind, an outside name one of N.
+pub data Supplied (tokens : List Token) (N : ℕ) : Given → Type 0 where
+  supplied-word : {B : ℕ} {t : Token} → Has tokens t → t .kind ≡ wordKind → Supplied tokens N (word-at B t)
+  supplied-fresh : {i : ℕ} → Supplied tokens N (fresh-name i)
+  supplied-number : {t : Token} → Has tokens t → t .kind ≡ numberKind → Supplied tokens N (number-at t)
+  supplied-outside : {n : ℕ} → n < N → Supplied tokens N (outside-name n)
+  supplied-label : {n : ℕ} → n < N → Supplied tokens N (outside-label n)
+
+pub each-at : {A : Type 0} {P : A → Type 0} {xs : List A} {x : A} → Each P xs → Has xs x → P x
+each-at (each-more h hs) has-first = h
+each-at (each-more h hs) (has-later k) = each-at hs k
+
+each-append : {A : Type 0} {P : A → Type 0} {xs ys : List A} → Each P xs → Each P ys → Each P (xs ++ ys)
+each-append each-none k = k
+each-append (each-more h hs) k = each-more h (each-append hs k)
+
+module _ {g : List Production} (F : FitAll g) (tokens : List Token) (spell : ℕ → List ℕ) where
+  abbrev N : ℕ
+  N = F .scope .outsides
+
+  abbrev Known : Given → Type 0
+  Known x = Supplied tokens N x
+
+  mutual
+    unfolding namedIn namedInAll
+
+    named-known : {L : List ℕ} {A : ℕ} (t : Template) → Sorted N L t A → Each Known (namedIn t)
+    named-known (Table.variable i) w = each-none
+    named-known (Table.outside n) (Judgements.by-global l) = each-more (supplied-outside l) each-none
+    named-known (Table.outsideLabel n) (Judgements.by-label l) = each-more (supplied-label l) each-none
+    named-known (Table.make c ts) (Judgements.by-constructor f) = all-known ts f
+
+    all-known : {L Bs : List ℕ} (ts : Templates) → Fill N L ts Bs → Each Known (namedInAll ts)
+    all-known none fill-none = each-none
+    all-known (more t ts) (fill-more w f ws) = each-append (named-known t w) (all-known ts ws)
+
+  -- a terminal leaves a part of the tokens
+  terminal-known : {s s′ : List Token} {i i′ : ℕ} {p : Item} {v : Value} (e : ReadsAs g spell s i p s′ i′ v) → Each (Has tokens) s
+      → Each Known (givenAt e) × Each (Has tokens) s′
+  unfolding givenAt
+  terminal-known (by-keyword e) (each-more h hs) = (each-none, hs)
+  terminal-known (by-ide e w) (each-more h hs) = (each-more (supplied-word h e) each-none, hs)
+  terminal-known (by-number e) (each-more h hs) = (each-more (supplied-number h e) each-none, hs)
+  terminal-known by-local hs = (each-more supplied-fresh each-none, hs)
+
+  items-known : {M M′ : List Value} {s s′ : List Token} {i i′ : ℕ} {is : List Item} {L : List ℕ} {r : Template} {B : ℕ}
+      (d : Derives g spell M s i is M′ s′ i′) → Body (F .scope) L is r B → Each (Has tokens) s → Each Known (givenIn d) × Each (Has tokens) s′
+  unfolding givenIn
+  items-known by-end b a = (each-none, a)
+  items-known (by-terminal e d) (by-binding w b) a =
+      let q = terminal-known e a in
+      let z = items-known d b (q .1) in
+      (each-append (q .0) (z .0), z .1)
+  items-known (by-call {ts = ts} {p = p} gs t d q d′) (by-binding (Judgements.by-call w f) b) a =
+      let body = F .each p (taken-of t .member) .body in
+      let x = items-known d body a in
+      let y = items-known d′ b (x .1) in
+      (each-append (all-known ts f) (each-append (x .0) (each-append (named-known (p .result) (result-sorted body .2)) (y .0))), y .1)
+
+-- Whatever was given in a derivation is a token of the formula or a name of the table.
+pub parses-supplied : {g : List Production} (X : Setting g) {u : Term Name} (P : Parses g (X .spell) (X .root) (X .tokens) u)
+    → Each (Supplied (X .tokens) (X .fit .scope .outsides)) (givenIn (P .derived))
+parses-supplied X P = items-known (X .fit) (X .tokens) (X .spell) (P .derived) (root-body X) (each-has (X .tokens)) .0
+
+-- ------------------------------------------------------------------ words
+
+-- a word that is given is spelled as a word
+abbrev Worded : (ℕ → List ℕ) → Given → Type 0
+Worded spell (word-at B t) = isWord (spell (t .value)) ≡ true
+Worded spell (fresh-name i) = Unit {0}
+Worded spell (number-at t) = Unit {0}
+Worded spell (outside-name n) = isWord (spell n) ≡ true
+Worded spell (outside-label n) = isWord (spell n) ≡ true
+
+module _ {tokens : List Token} {N : ℕ} {G : List Given} (spell : ℕ → List ℕ) (known : Each (Supplied tokens N) G)
+    (words : (t : Token) → Has tokens t → t .kind ≡ wordKind → isWord (spell (t .value)) ≡ true) (outsides : (n : ℕ) → n < N → isWord (spell n) ≡ true) where
+  supplied-worded : {x : Given} → Supplied tokens N x → Worded spell x
+  supplied-worded (supplied-word h e) = words _ h e
+  supplied-worded supplied-fresh = tt
+  supplied-worded (supplied-number h e) = tt
+  supplied-worded (supplied-outside l) = outsides _ l
+  supplied-worded (supplied-label l) = outsides _ l
+
+  worded : {x : Given} → Has G x → Worded spell x
+  worded h = supplied-worded (each-at known h)
+
+  var-worded : {x : Name} → VarPlace G spell x → isWordName x ≡ true
+  var-worded (var-var h) = worded h
+  var-worded (var-binder h) = worded h
+  var-worded (var-local h) = refl
+  var-worded (var-outside h) = worded h
+
+  label-worded : {l : List ℕ} → LabelPlace G spell l → isWord l ≡ true
+  label-worded (label-label h) = worded h
+  label-worded (label-outside h) = worded h
+
+  mutual
+    unfolding isWorded isWordedFields
+
+    pub placed-worded : {u : Term Name} → Placed G spell u → isWorded u ≡ true
+    placed-worded (placed-variable x) = var-worded x
+    placed-worded (placed-function x t) = and-eq-true-iff _ _ .1 (var-worded (binder-var G spell x), placed-worded t)
+    placed-worded (placed-apply t u) = and-eq-true-iff _ _ .1 (placed-worded t, placed-worded u)
+    placed-worded (placed-rcd f) = fields-worded f
+    placed-worded (placed-dot t l) = and-eq-true-iff _ _ .1 (placed-worded t, label-worded l)
+    placed-worded (placed-number n) = refl
+
+    fields-worded : {f : Fields Name} → PlacedFields G spell f → isWordedFields f ≡ true
+    fields-worded placed-nil = refl
+    fields-worded (placed-cons l t f) = and-eq-true-iff _ _ .1 (and-eq-true-iff _ _ .1 (label-worded l, placed-worded t), fields-worded f)

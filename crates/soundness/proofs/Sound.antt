@@ -15,7 +15,7 @@ use Rattle.answers.specs.Refusals.{refusal}
 use Rattle.kinds.specs.Kinds.{wordKind, numberKind, keywordKind}
 use Rattle.grammar.specs.Sorts.{Signature}
 use Rattle.grammar.specs.Sorts as Sorts
-use Rattle.grammar.specs.Table.{Template, Item, keyword, ide, number, call}
+use Rattle.grammar.specs.Table.{Template, none, Item, keyword, ide, number, call}
 use Rattle.layout.specs.Within.{Each, each-none, each-more, ItemWithin, ide-within, call-within}
 use Rattle.sorts.specs.Judgements.{Newest, Fits, Sorted, ItemSorted, Body, by-result, by-binding}
 use Rattle.sorts.specs.Judgements as Judgements
@@ -26,10 +26,11 @@ use Rattle.terms.specs.Rows.{termAt}
 use Rattle.expansion.specs.declared.State.{State}
 use Rattle.expansion.specs.Run.{Result, done, halt, Run, after}
 use Rattle.expansion.specs.Expansion.{Input, ready, Rule, unfit, chosen, choice, endToken, nextToken, tokenTaken, take, misfit, buildAll, build, wordValue, runItem, runItems, callBegun, mostCalls, runCall, mostOpen, start, ended, run}
-use Rattle.expansion.specs.Figure3.{Value, unit, name, label, num, term, Gives, Taken, Derives, by-end, by-keyword, by-ide-var, by-ide-binder, by-ide-label, by-number, by-local, by-call, Parses}
-use Rattle.expansion.specs.Parsing.{input, SmallWords}
+use Rattle.expansion.specs.Figure3.{Value, unit, binder, label, num, term, Gives, give-none, Taken, as-var, as-binder, as-label, by-keyword, by-ide, by-number, by-local, Derives, by-end, by-terminal, by-call, Parses}
+use Rattle.expansion.specs.Parsing.{input}
 use Rattle.expansion.specs.Costs.{rowsOf, rowsOfAll}
-use Rattle.expansion.proofs.Shows.{Grown, grown-not, grown-trans, Shows, shows-unit, shows-name, shows-label, shows-num, shows-term, ShowAll, show-none, all-later, all-and, word-named, fresh-named}
+use Rattle.expansion.proofs.Shows.{Grown, grown-not, grown-trans, Shows, shows-unit, shows-var, shows-binder, shows-label, shows-num, shows-term, ShowAll, show-none, all-later, all-and, word-named, fresh-named}
+use Rattle.soundness.proofs.Setting.{Setting, no-arguments}
 use Rattle.soundness.proofs.Building.{Ends, ends-after, ends-map, Made, Full, Built, BuiltAll, build-ends, build-all-ends}
 use Rattle.expansion.specs.ValueSorts.{Typed, typed-unit, typed-var, typed-binder, typed-label, typed-num, typed-term, Matches, matches-none}
 use Rattle.soundness.proofs.Typing.{matches-and, gives-exists, give-all-exist, items-typed, FitAll, body-of, taken-of}
@@ -86,7 +87,19 @@ module _ (d : ℕ) (I : Input) (n : ℕ) (xs : List ℕ) (s : State) (cells : Li
   unfolding runCall
   call-chosen r e f = rw (e, f, runCall) refl
 
-module _ {g : List Production} (F : FitAll g) (spell : ℕ → List ℕ) (tokens : List Token) (rows : ℕ) (small : SmallWords tokens) where
+module _ {g : List Production} (X : Setting g) where
+  abbrev F : FitAll g
+  F = X .fit
+
+  abbrev spell : ℕ → List ℕ
+  spell = X .spell
+
+  abbrev tokens : List Token
+  tokens = X .tokens
+
+  abbrev rows : ℕ
+  rows = X .rows
+
   abbrev pub I : Input
   I = input g tokens rows
 
@@ -166,26 +179,26 @@ module _ {g : List Production} (F : FitAll g) (spell : ℕ → List ℕ) (tokens
         → Kept rows (k + 1) s cells → ShowAll spell (s .made) cells xs M → Ends (Stepped k i A M s cells) Any (runItem C I i xs s cells)
     item-sound k {M = M} s cells (Judgements.by-keyword {k = w} l) z m h a =
         take-ends (Stepped k (keyword w) Sorts.unit M s cells) (keywordKind w) (λ v. 0) s cells
-        (λ e. taken-as 0 unit e (omega (arith, l, F .keywordCount)) h typed-unit shows-unit (λ is M′ t j d. by-keyword e d))
+        (λ e. taken-as 0 unit e (omega (arith, l, F .keywordCount)) h typed-unit shows-unit (λ is M′ t j d. by-terminal (by-keyword e) d))
     item-sound k {M = M} {L = L} {xs = xs} s cells (Judgements.by-ide {B = B}) (ide-within l u) m h a =
         at-ide (λ B. Ends (Stepped k (ide B) B M s cells) Any (runItem C I (ide B) xs s cells)) B l u
         (take-ends (Stepped k (ide Sorts.var) Sorts.var M s cells) wordKind (wordValue Sorts.var) s cells
-        (λ e. taken-as _ _ e (omega arith) h typed-var (shows-name (word-named spell (nextToken I s .value) (small (s .at) e))) (λ is M′ t j d. by-ide-var e d)))
+        (λ e. taken-as _ _ e (omega arith) h typed-var (shows-var (word-named spell (nextToken I s .value) (X .small (s .at) e))) (λ is M′ t j d. by-terminal (by-ide e as-var) d)))
         (take-ends (Stepped k (ide Sorts.binder) Sorts.binder M s cells) wordKind (wordValue Sorts.binder) s cells
-        (λ e. taken-as _ _ e (omega arith) h typed-binder (shows-name (word-named spell (nextToken I s .value) (small (s .at) e))) (λ is M′ t j d. by-ide-binder e d)))
+        (λ e. taken-as _ _ e (omega arith) h typed-binder (shows-binder (word-named spell (nextToken I s .value) (X .small (s .at) e))) (λ is M′ t j d. by-terminal (by-ide e as-binder) d)))
         (take-ends (Stepped k (ide Sorts.label) Sorts.label M s cells) wordKind (wordValue Sorts.label) s cells
-        (λ e. taken-as _ _ e (omega arith) h typed-label shows-label (λ is M′ t j d. by-ide-label e d)))
+        (λ e. taken-as _ _ e (omega arith) h typed-label shows-label (λ is M′ t j d. by-terminal (by-ide e as-label) d)))
     item-sound k {M = M} s cells Judgements.by-number z m h a =
         take-ends (Stepped k number Sorts.num M s cells) numberKind (λ v. v) s cells
-        (λ e. taken-as _ _ e (omega arith) h typed-num shows-num (λ is M′ t j d. by-number e d))
+        (λ e. taken-as _ _ e (omega arith) h typed-num shows-num (λ is M′ t j d. by-terminal (by-number e) d))
     item-sound k {M = M} s cells Judgements.by-local z m h a =
         record {
-          value = name Sorts.binder (Rattle.terms.specs.Term.fresh (s .fresh));
+          value = binder (Rattle.terms.specs.Term.fresh (s .fresh));
           typed = typed-binder;
-          shows = shows-name (fresh-named spell (s .fresh) (omega (arith, h .names, h .begun)));
+          shows = shows-binder (fresh-named spell (s .fresh) (omega (arith, h .names, h .begun)));
           grown = grown-not (s .made) cells;
           kept = record { room = h .room; fits = h .fits; names = omega (arith, h .names); begun = h .begun };
-          step = λ is M′ t j d. by-local d;
+          step = λ is M′ t j d. by-terminal by-local d;
         }
     item-sound k {A = A} {M = M} {L = L} {xs = xs} s cells (Judgements.by-call {n = n} {S = S} {ts = ts} w f) (call-within l ws) m h a =
         let vs = give-all-exist spell m ts f ws in
@@ -307,48 +320,55 @@ module _ {g : List Production} (F : FitAll g) (spell : ℕ → List ℕ) (tokens
 
   -- ------------------------------------------------------------------ the whole formula
 
-  abbrev pub Accepted : ℕ → ℕ → State → List ℕ → Type 0
-  Accepted root v s cells = Parses g spell root tokens (termAt (s .made) spell cells v)
-
-  shown : {made : ℕ} {cells : List ℕ} {x : ℕ} {t : Term Name} → Shows spell made cells x (term t) → termAt made spell cells x ≡ t
+  pub shown : {made : ℕ} {cells : List ℕ} {x : ℕ} {t : Term Name} → Shows spell made cells x (term t) → termAt made spell cells x ≡ t
   shown {made} {cells} (shows-term h) = h .read cells (record { same = λ j l. refl }) made (h .below)
 
-  parses : {root : ℕ} {cells : List ℕ} {x : ℕ} {s′ : State} {cells′ : List ℕ} {k : ℕ} → length tokens ≤ s′ .at
-      → (c : Called k root [] start cells x s′ cells′) → Typed (c .value) Sorts.term → Accepted root x s′ cells′
-  parses {root} {cells} {x} {s′} {cells′} l c w = go (c .value) w (c .given) (c .shows)
+  abbrev pub Root : List ℕ → ℕ → State → List ℕ → Type 0
+  Root cells = Called 0 (X .root) [] start cells
+
+  -- the root, called
+  pub root-called : (cells : List ℕ) → rows * 4 ≤ length cells → Ends (Root cells) Any (runCall mostOpen I (X .root) [] start cells)
+  root-called cells room =
+      call-sound mostOpen 0 (X .root) (X .signature) [] [] start cells (X .defined) (X .root-small) (no-arguments X)
+      (record { room = room; fits = omega arith; names = omega arith; begun = omega arith }) show-none
+
+  -- as a derivation of one call
+  pub root-derived : {cells : List ℕ} {x : ℕ} {s′ : State} {cells′ : List ℕ} (c : Root cells x s′ cells′)
+      → Derives g spell [] tokens 1 (call (X .root) none ∷ []) (c .value ∷ []) (from s′) (s′ .fresh)
+  root-derived c = by-call give-none (c .taken) (c .derived) (c .given) by-end
+
+  abbrev RootGives : ℕ → Value → List Token → Type 0
+  RootGives i v ts = Derives g spell [] tokens 1 (call (X .root) none ∷ []) (v ∷ []) ts i
+
+  parses : {cells : List ℕ} {x : ℕ} {s′ : State} {cells′ : List ℕ} → length tokens ≤ s′ .at → (c : Root cells x s′ cells′)
+      → Parses g spell (X .root) tokens (termAt (s′ .made) spell cells′ x)
+  parses {x = x} {s′} {cells′} l c =
+      go (c .value)
+      (subst (Typed (c .value)) (X .of-term) (items-typed F (c .derived) (no-arguments X) (body-of F (taken-of (c .taken)) (X .defined)) (c .given)))
+      (root-derived c) (c .shows)
     where
-      go : (v : Value) → Typed v Sorts.term → Gives spell (c .variables) (c .production .result) v → Shows spell (s′ .made) cells′ x v → Parses g spell root tokens (termAt (s′ .made) spell cells′ x)
-      go (term t) typed-term q z =
-          record {
-            variables = c .variables;
-            production = c .production;
-            counter = s′ .fresh;
-            taken = c .taken;
-            derived = subst (λ ts. Derives g spell [] tokens 1 (c .production .items) (c .variables) ts (s′ .fresh)) (drop-of-length-le tokens l) (c .derived);
-            result = subst⁻¹ (λ t′. Gives spell (c .variables) (c .production .result) (term t′)) (shown z) q;
-          }
+      go : (v : Value) → Typed v Sorts.term → RootGives (s′ .fresh) v (from s′) → Shows spell (s′ .made) cells′ x v
+          → Parses g spell (X .root) tokens (termAt (s′ .made) spell cells′ x)
+      go (term t) typed-term d z =
+          record { counter = s′ .fresh; derived = subst₂ (RootGives (s′ .fresh)) (ap term (sym (shown z))) (drop-of-length-le tokens l) d }
 
-  module _ (root : ℕ) (l : root < 64) (S : Signature) (w : Newest (F .scope .env) root S) (none : S .params ≡ []) (res : S .result ≡ Sorts.term) where
-    no-arguments : Matches [] (S .params)
-    no-arguments = subst⁻¹ (Matches []) none matches-none
+  Accepted : ℕ → State → List ℕ → Type 0
+  Accepted v s cells = Parses g spell (X .root) tokens (termAt (s .made) spell cells v)
 
-    ended-sound : (cells : List ℕ) (x : ℕ) (s′ : State) (cells′ : List ℕ) → Called 0 root [] start cells x s′ cells′ → Ends (Accepted root) Any (ended I x s′ cells′)
-    ended-sound cells x s′ cells′ c = go (ltb (s′ .at) (length tokens)) refl
-      where
-        go : (b : Bool) → ltb (s′ .at) (length tokens) ≡ b → Ends (Accepted root) Any (elim b [ true ↦ halt (refusal 18 (s′ .at) 0 0) cells′ | false ↦ done x s′ cells′ ])
-        go true e = tt
-        go false e =
-            parses (ltb-false (s′ .at) (length tokens) e) c
-            (subst (Typed (c .value)) res (items-typed F (c .derived) no-arguments (body-of F (taken-of (c .taken)) w) (c .given)))
+  ended-sound : (cells : List ℕ) (x : ℕ) (s′ : State) (cells′ : List ℕ) → Root cells x s′ cells′ → Ends Accepted Any (ended I x s′ cells′)
+  unfolding Accepted
+  ended-sound cells x s′ cells′ c = go (ltb (s′ .at) (length tokens)) refl
+    where
+      go : (b : Bool) → ltb (s′ .at) (length tokens) ≡ b
+          → Ends Accepted Any (elim b [ true ↦ halt (refusal 18 (s′ .at) 0 0) cells′ | false ↦ done x s′ cells′ ])
+      go true e = tt
+      go false e = parses (ltb-false (s′ .at) (length tokens) e) c
 
-    run-ends : (cells : List ℕ) → rows * 4 ≤ length cells → Ends (Accepted root) Any (run I root cells)
-    unfolding run
-    run-ends cells room =
-        ends-after (Called 0 root [] start cells) Any (Accepted root) Any (runCall mostOpen I root [] start cells) (ended I)
-        (call-sound mostOpen 0 root S [] [] start cells w l no-arguments (record { room = room; fits = omega arith; names = omega arith; begun = omega arith }) show-none)
-        (ended-sound cells) (λ r u. u)
-
-    -- what is accepted is parsed
-    pub run-sound : (cells : List ℕ) → rows * 4 ≤ length cells → (v : ℕ) (s : State) (cells′ : List ℕ) → run I root cells ≡ done v s cells′
-        → Parses g spell root tokens (termAt (s .made) spell cells′ v)
-    run-sound cells room v s cells′ e = subst (λ r. Ends (Accepted root) Any r) e (run-ends cells room)
+  -- what is accepted is parsed
+  pub run-sound : (cells : List ℕ) → rows * 4 ≤ length cells → (v : ℕ) (s : State) (cells′ : List ℕ) → run I (X .root) cells ≡ done v s cells′
+      → Parses g spell (X .root) tokens (termAt (s .made) spell cells′ v)
+  unfolding run Accepted
+  run-sound cells room v s cells′ e =
+      subst (λ r. Ends Accepted Any r) e
+      (ends-after (Root cells) Any Accepted Any (runCall mostOpen I (X .root) [] start cells) (ended I) (root-called cells room) (ended-sound cells)
+      (λ r u. u))

@@ -1,7 +1,7 @@
 -- An expansion that stops by the rules halts with the same refusal.
 use Prim.Native.Nat.{ℕ, zero, suc, _+_, _*_, _≤_, _<_}
 use mathlib.Core.Path.{_≡_, refl, sym, ap, subst, subst⁻¹, _∙_}
-use mathlib.Core.Bool.{Bool, true, false}
+use mathlib.Core.Bool.{Bool, true, false, true≢false}
 use mathlib.Core.List.{List, [], _∷_, _++_}
 use native.Mathlib.Omega.{arith}
 use lib.Dec.{ltb}
@@ -27,26 +27,46 @@ use Rattle.expansion.specs.Run.{Result, done, halt, Run, after}
 use Rattle.expansion.specs.Expansion.{Input, ready, choice, nextToken, buildAll, build, wordValue, runItem, runItems, callBegun, mostCalls, runCall, mostOpen, start, ended, run}
 use Rattle.expansion.specs.Expansion as Expansion
 use Rattle.expansion.specs.Figure3.{Value, Gives, GiveAll, Next, Taken, Derives}
-use Rattle.expansion.specs.Costs.{rowsOf, rowsOfAll, openIn, callsIn, rowsIn, Beyond}
-use Rattle.expansion.specs.Costs as Costs
-use Rattle.expansion.specs.Parsing.{input, SmallWords}
+use Rattle.expansion.specs.Costs.{rowsOf, rowsOfAll, openIn, callsIn, rowsIn, Affords}
+use Rattle.expansion.specs.Parsing.{input}
 use Rattle.expansion.proofs.Shows.{ShowAll, show-none}
-use Rattle.soundness.proofs.Building.{Ends, Full, Built, BuiltAll, build-ends, build-all-ends}
+use Rattle.soundness.proofs.Setting.{Setting, no-arguments, item-body, root-body, root-within}
+use Rattle.soundness.proofs.Building.{Ends, ends-both, Full, Built, BuiltAll, build-ends, build-all-ends}
 use Rattle.soundness.proofs.Typing.{FitAll, taken-of, result-sorted}
 use Rattle.expansion.proofs.Choosing.{kindOf, kind-next, Picks, picks, picks-none, choice-picks, rule, taken-one}
 use Rattle.soundness.proofs.Sound.{Kept, kept-made, kept-less, call-full, call-unfit, call-chosen}
-use Rattle.soundness.proofs.Complete.{items-along, items-after, Reached, Gave, call-along}
-use Rattle.expansion.specs.Stopping.{indexOf, firstSet, takes, makes, begins, Fails, no-token, no-row, too-deep, too-many, no-choice, Affords, Stops, at-token, at-arguments, at-call, past-item, Enters, at-start, in-items, at-result, Refuses, stops, left-over}
-use Rattle.soundness.proofs.StopLaws.{ends-both, build-stays, build-all-stays, index-is, take-halts, Bounded, item-bounded, items-bounded, call-bounded}
+use Rattle.soundness.proofs.Complete.{Beyond, items-along, items-after, Reached, root-along}
+use Rattle.soundness.proofs.Complete as Complete
+use Rattle.expansion.specs.Stopping.{indexOf, firstSet, takes, makes, begins, Fails, no-token, no-row, too-deep, too-many, no-choice, Stops, at-token, at-arguments, at-call, past-item, Enters, at-start, in-items, at-result, Refuses, stops, left-over}
+use Rattle.soundness.proofs.StopLaws.{build-stays, build-all-stays, index-is, take-halts, Bounded, item-bounded, items-bounded, call-bounded}
 
 -- halted with this refusal
 abbrev pub HaltsWith : {A : Type 0} → Refusal → Result A → Type 0
 HaltsWith r x = (cells : List ℕ) × (x ≡ halt r cells)
 
+abbrev isDone : {A : Type 0} → Result A → Bool
+isDone (done a s c) = true
+isDone (halt r c) = false
+
+never-done : {A C : Type 0} {a : A} {s : State} {c c′ : List ℕ} {r : Refusal} → _≡_ {A = Result A} (done a s c) (halt r c′) → C
+never-done e = absurd (true≢false (ap isDone e))
+
 halts-after : {A B : Type 0} (r : Refusal) (x : Result A) (k : A → Run B) → HaltsWith r x → HaltsWith r (after x k)
 halts-after r x k h = (h .0, ap (λ z. after z k) (h .1))
 
-module _ {g : List Production} (F : FitAll g) (passed : checkFirsts g ≡ ok tt) (spell : ℕ → List ℕ) (tokens : List Token) (rows : ℕ) (small : SmallWords tokens) where
+module _ {g : List Production} (X : Setting g) where
+  abbrev F : FitAll g
+  F = X .fit
+
+  abbrev spell : ℕ → List ℕ
+  spell = X .spell
+
+  abbrev tokens : List Token
+  tokens = X .tokens
+
+  abbrev rows : ℕ
+  rows = X .rows
+
   abbrev J : Input
   J = input g tokens rows
 
@@ -62,7 +82,7 @@ module _ {g : List Production} (F : FitAll g) (passed : checkFirsts g ≡ ok tt)
     made : s .made ≡ m
 
   index : {c m : ℕ} {t : List Token} {i : ℕ} (s : State) → At c m t i s → indexOf tokens t ≡ s .at
-  index s p = index-is F spell tokens rows small s (p .place) (p .bounded)
+  index s p = index-is X s (p .place) (p .bounded)
 
   record Halts (o c m : ℕ) (t : List Token) (i : ℕ) (is : List Item) (M : List Value) (r : Refusal) : Type 0 where
     halts : (d k : ℕ) (result : Template) (B : ℕ) (L xs : List ℕ) (s : State) (cells : List ℕ) → d + o ≡ mostOpen → Body (F .scope) L is result B → Each ItemWithin is → At c m t i s
@@ -84,16 +104,16 @@ module _ {g : List Production} (F : FitAll g) (passed : checkFirsts g ≡ ok tt)
   reads-take reads-number C xs = (omega arith, λ v. v, refl)
 
   token-fails : {o c m i k : ℕ} {t : List Token} {j : Item} {r : Refusal} (C : ℕ → List ℕ → Run ℕ) (xs : List ℕ) (s : State) (cells : List ℕ) → Reads j k
-      → Fails g rows tokens o c m t (takes k) r → At c m t i s → HaltsWith r (runItem C J j xs s cells)
+      → Fails g spell rows tokens o c m t (takes k) r → At c m t i s → HaltsWith r (runItem C J j xs s cells)
   token-fails {k = k} {t = t} C xs s cells w (no-token f) p =
       let q = reads-take w C xs in (
         cells,
-        ap (λ R. R s cells) (q .2) ∙ take-halts F spell tokens rows small k (q .1) s cells (q .0) (λ n. f (subst (λ u. Next u k) (p .place) n))
+        ap (λ R. R s cells) (q .2) ∙ take-halts X k (q .1) s cells (q .0) (λ n. f (subst (λ u. Next u k) (p .place) n))
             ∙ ap (λ (a : ℕ). halt (refusal 17 a (only k) (ones (only k))) cells) (sym (index s p)),
       )
 
   arguments-fail : {o c m i : ℕ} {t : List Token} {r : Refusal} {ts : Templates} {M vs : List Value} {L Bs xs : List ℕ} (s : State) (cells : List ℕ) → GiveAll spell M ts vs → Fill (F .scope .outsides) L ts Bs
-      → Fails g rows tokens o c m t (makes (rowsOfAll ts)) r → At c m t i s → rows * 4 ≤ length cells → s .made ≤ rows → ShowAll spell (s .made) cells xs M → HaltsWith r (buildAll ts J xs s cells)
+      → Fails g spell rows tokens o c m t (makes (rowsOfAll ts)) r → At c m t i s → rows * 4 ≤ length cells → s .made ≤ rows → ShowAll spell (s .made) cells xs M → HaltsWith r (buildAll ts J xs s cells)
   arguments-fail {t = t} {ts = ts} {vs = vs} {xs = xs} s cells gs f (no-row l) p room fits a =
       go (buildAll ts J xs s cells)
       (ends-both (BuiltAll spell J (rowsOfAll ts) s cells vs) (λ ys s₁ c₁. s₁ .at ≡ s .at) (Full rows (s .made + rowsOfAll ts)) (λ r. r ≡ refusal 21 (s .at) 0 0) (buildAll ts J xs s cells)
@@ -104,7 +124,7 @@ module _ {g : List Production} (F : FitAll g) (passed : checkFirsts g ≡ ok tt)
       go (done ys s₁ c₁) y = absurd (omega (arith, y .0 .0 .made-is, y .0 .0 .fits, l, p .made))
       go (halt q c₁) u = (c₁, ap (λ w. halt w c₁) (u .1 ∙ ap (λ (a : ℕ). refusal 21 a 0 0) (sym (index s p))))
 
-  start-fails : {o c m n i : ℕ} {t : List Token} {vs : List Value} {r : Refusal} → Fails g rows tokens o c m t (begins n) r → Calls o c m n vs t i r
+  start-fails : {o c m n i : ℕ} {t : List Token} {vs : List Value} {r : Refusal} → Fails g spell rows tokens o c m t (begins n) r → Calls o c m n vs t i r
   unfolding runCall ready
   start-fails {o} {c} {m} {n} {i} {t} {vs} (too-deep l) = record { calls = go }
     where
@@ -144,7 +164,7 @@ module _ {g : List Production} (F : FitAll g) (passed : checkFirsts g ≡ ok tt)
         by : Picks g n (rest s) (choice (ready g) n (kindOf (rest s))) → HaltsWith r (runCall (suc d) J n ys s cells)
         by (picks p′ w z) =
             let picked : choice (ready g) n (nextToken J s .kind) ≡ Expansion.chosen (rule g p) =
-            ap (choice (ready g) n) (kind-next (s .at) tokens) ∙ z ∙ ap (λ u. Expansion.chosen (rule g u)) (taken-one g passed (subst (λ u. Taken g n u p′) (q .place) w) taken) in
+            ap (choice (ready g) n) (kind-next (s .at) tokens) ∙ z ∙ ap (λ u. Expansion.chosen (rule g u)) (taken-one g (X .passed) (subst (λ u. Taken g n u p′) (q .place) w) taken) in
             (h .0, call-chosen d J n ys s cells (rule g p) (lt-ltb (s .calls) mostCalls (omega (arith, q .calls))) picked ∙ h .1)
         by (picks-none z u) = absurd (z p (subst⁻¹ (λ u. Taken g n u p) (q .place) taken))
 
@@ -168,7 +188,7 @@ module _ {g : List Production} (F : FitAll g) (passed : checkFirsts g ≡ ok tt)
             (begun-kept (omega (arith, q .calls)) h) a))
 
     result-fails : {r : Refusal} {i′ : ℕ} {M : List Value} {v : Value} {t′ : List Token} (D : Derives g spell vs t i (p .items) M t′ i′) → Affords rows (o + 1) (c + 1) m D → Gives spell M (p .result) v
-        → Fails g rows tokens (o + 1) (c + 1 + callsIn D) (m + rowsIn D) t′ (makes (rowsOf (p .result))) r → Calls o c m n vs t i r
+        → Fails g spell rows tokens (o + 1) (c + 1 + callsIn D) (m + rowsIn D) t′ (makes (rowsOf (p .result))) r → Calls o c m n vs t i r
     result-fails {i′ = i′} {M = M} {v = v} {t′ = t′} D A gives (no-row l) = record { calls = go }
       where
         go : (d k : ℕ) (ys : List ℕ) (s : State) (cells : List ℕ) → d + o ≡ mostOpen → n < 64 → At c m t i s → Kept rows k s cells → ShowAll spell (s .made) cells ys vs
@@ -179,18 +199,18 @@ module _ {g : List Production} (F : FitAll g) (passed : checkFirsts g ≡ ok tt)
             let b : s .calls < mostCalls = omega (arith, A .few-calls, q .calls) in
             enter (refusal 21 (indexOf tokens t′) 0 0) d ys s cells q (omega (arith, A .few-calls))
             (by (runItems (runCall d J) J (p .items) ys (callBegun s) cells)
-            (ends-both (Reached F passed spell tokens rows small k d (openIn D) (callsIn D) (rowsIn D) t′ i′ M (callBegun s .calls) (s .made) cells) (λ zs s₁ c₁. s₁ .at ≤ length tokens)
+            (ends-both (Reached X k d (openIn D) (callsIn D) (rowsIn D) t′ i′ M (callBegun s .calls) (s .made) cells) (λ zs s₁ c₁. s₁ .at ≤ length tokens)
             (Beyond rows d (openIn D) (callBegun s .calls + callsIn D) (s .made + rowsIn D)) (λ r. Unit {0}) (runItems (runCall d J) J (p .items) ys (callBegun s) cells)
-            (items-along F passed spell tokens rows small D .along d k (p .result) (f .signature .result) (f .signature .params) ys (callBegun s) cells (f .body) (q .place) (q .counter) (begun-kept b h) a)
-            (items-bounded F spell tokens rows small (runCall d J) (call-bounded F spell tokens rows small d) (p .items) ys (callBegun s) cells (f .body) (f .items) (q .bounded))))
+            (items-along X D .along d k (p .result) (f .signature .result) (f .signature .params) ys (callBegun s) cells (f .body) (q .place) (q .counter) (begun-kept b h) a)
+            (items-bounded X (runCall d J) (call-bounded X d) (p .items) ys (callBegun s) cells (f .body) (f .items) (q .bounded))))
           where
             never : {q : Refusal} → Beyond rows d (openIn D) (callBegun s .calls + callsIn D) (s .made + rowsIn D) q → ⊥
-            never (Costs.too-deep x y) = omega (arith, A .few-open, e, y)
-            never (Costs.too-many x y) = omega (arith, A .few-calls, q .calls, y)
-            never (Costs.too-large x y) = omega (arith, A .few-rows, q .made, y)
+            never (Complete.too-deep x y) = omega (arith, A .few-open, e, y)
+            never (Complete.too-many x y) = omega (arith, A .few-calls, q .calls, y)
+            never (Complete.too-large x y) = omega (arith, A .few-rows, q .made, y)
 
             by : (x : Result (List ℕ))
-                → Ends (λ zs s₁ c₁. Reached F passed spell tokens rows small k d (openIn D) (callsIn D) (rowsIn D) t′ i′ M (callBegun s .calls) (s .made) cells zs s₁ c₁ × (s₁ .at ≤ length tokens))
+                → Ends (λ zs s₁ c₁. Reached X k d (openIn D) (callsIn D) (rowsIn D) t′ i′ M (callBegun s .calls) (s .made) cells zs s₁ c₁ × (s₁ .at ≤ length tokens))
                 (λ r. Beyond rows d (openIn D) (callBegun s .calls + callsIn D) (s .made + rowsIn D) r × Unit {0}) x
                 → HaltsWith (refusal 21 (indexOf tokens t′) 0 0) (after x (λ M. build (p .result) J M))
             by (halt w c₁) u = absurd (never (u .0))
@@ -204,7 +224,7 @@ module _ {g : List Production} (F : FitAll g) (passed : checkFirsts g ≡ ok tt)
                     → HaltsWith (refusal 21 (indexOf tokens t′) 0 0) x
                 last (done x s₂ c₂) y = absurd (omega (arith, y .0 .0 .made-is, y .0 .0 .fits, u .0 .0 .made-are, l, q .made))
                 last (halt w c₂) y =
-                    (c₂, ap (λ z. halt z c₂) (y .1 ∙ ap (λ (x : ℕ). refusal 21 x 0 0) (sym (index-is F spell tokens rows small s₁ (u .0 .0 .place) (u .1)))))
+                    (c₂, ap (λ z. halt z c₂) (y .1 ∙ ap (λ (x : ℕ). refusal 21 x 0 0) (sym (index-is X s₁ (u .0 .0 .place) (u .1)))))
 
   -- ------------------------------------------------------------------ items
 
@@ -233,7 +253,7 @@ module _ {g : List Production} (F : FitAll g) (passed : checkFirsts g ≡ ok tt)
               (kept-less (kept-made (kept-item k (length is) h) (u .0))) (u .1)
 
   arguments-halt : {o c m n i : ℕ} {t : List Token} {ts : Templates} {M vs : List Value} (is : List Item) {r : Refusal} → GiveAll spell M ts vs
-      → Fails g rows tokens o c m t (makes (rowsOfAll ts)) r → Halts o c m t i (call n ts ∷ is) M r
+      → Fails g spell rows tokens o c m t (makes (rowsOfAll ts)) r → Halts o c m t i (call n ts ∷ is) M r
   unfolding runItems
   arguments-halt {o} {c} {m} {n} {i} {t} {ts} {M} {vs} is {r} gs f = record { halts = go }
     where
@@ -244,7 +264,7 @@ module _ {g : List Production} (F : FitAll g) (passed : checkFirsts g ≡ ok tt)
           (halts-after r (buildAll ts J xs s cells) (λ ys. runCall d J n ys) (arguments-fail s cells gs z f p (h .room) (h .fits) a))
 
   token-halts : {o c m i k : ℕ} {t : List Token} {j : Item} {M : List Value} (is : List Item) {r : Refusal} → Reads j k
-      → Fails g rows tokens o c m t (takes k) r → Halts o c m t i (j ∷ is) M r
+      → Fails g spell rows tokens o c m t (takes k) r → Halts o c m t i (j ∷ is) M r
   unfolding runItems
   token-halts {j = j} is {r} w f =
       record {
@@ -254,24 +274,23 @@ module _ {g : List Production} (F : FitAll g) (passed : checkFirsts g ≡ ok tt)
 
   past-halts : {o c m i i′ : ℕ} {t t′ : List Token} {j : Item} {is : List Item} {M M′ : List Value} {r : Refusal} (D : Derives g spell M t i (j ∷ []) M′ t′ i′) → Affords rows o c m D
       → Halts o (c + callsIn D) (m + rowsIn D) t′ i′ is M′ r → Halts o c m t i (j ∷ is) M r
-  unfolding runItems constructor constructors
+  unfolding runItems
   past-halts {o} {c} {m} {i} {i′} {t} {t′} {j} {is} {M} {M′} {r} D A H = record { halts = go }
     where
       go : (d k : ℕ) (result : Template) (B : ℕ) (L xs : List ℕ) (s : State) (cells : List ℕ) → d + o ≡ mostOpen → Body (F .scope) L (j ∷ is) result B → Each ItemWithin (j ∷ is)
           → At c m t i s → Kept rows (k + length (j ∷ is)) s cells → ShowAll spell (s .made) cells xs M → HaltsWith r (runItems (runCall d J) J (j ∷ is) xs s cells)
       go d k result B L xs s cells e (by-binding {A = S} w b) (each-more z zs) p h a =
-          let body : Body (F .scope) L (j ∷ []) (make 0x25 none) Sorts.fields = by-binding w (by-result (Judgements.by-constructor Judgements.fill-none) Judgements.fits-equal) in
           by (runItem (runCall d J) J j xs s cells)
-          (items-along F passed spell tokens rows small D .along d (k + length is) (make 0x25 none) Sorts.fields L xs s cells body (p .place) (p .counter) (kept-item k (length is) h) a)
-          (item-bounded F spell tokens rows small (runCall d J) (call-bounded F spell tokens rows small d) xs s cells w z (p .bounded))
+          (items-along X D .along d (k + length is) (make 0x25 none) Sorts.fields L xs s cells (item-body X w) (p .place) (p .counter) (kept-item k (length is) h) a)
+          (item-bounded X (runCall d J) (call-bounded X d) xs s cells w z (p .bounded))
         where
           never : {q : Refusal} → Beyond rows d (openIn D) (s .calls + callsIn D) (s .made + rowsIn D) q → ⊥
-          never (Costs.too-deep x y) = omega (arith, A .few-open, e, y)
-          never (Costs.too-many x y) = omega (arith, A .few-calls, p .calls, y)
-          never (Costs.too-large x y) = omega (arith, A .few-rows, p .made, y)
+          never (Complete.too-deep x y) = omega (arith, A .few-open, e, y)
+          never (Complete.too-many x y) = omega (arith, A .few-calls, p .calls, y)
+          never (Complete.too-large x y) = omega (arith, A .few-rows, p .made, y)
 
           by : (x : Result ℕ)
-              → Ends (Reached F passed spell tokens rows small (k + length is) d (openIn D) (callsIn D) (rowsIn D) t′ i′ M′ (s .calls) (s .made) cells)
+              → Ends (Reached X (k + length is) d (openIn D) (callsIn D) (rowsIn D) t′ i′ M′ (s .calls) (s .made) cells)
               (Beyond rows d (openIn D) (s .calls + callsIn D) (s .made + rowsIn D)) (after x (λ y. runItems (runCall d J) J [] (xs ++ (y ∷ []))))
               → Ends {A = ℕ} (λ a s c. s .at ≤ length tokens) (λ r. Unit {0}) x → HaltsWith r (after x (λ y. runItems (runCall d J) J is (xs ++ (y ∷ []))))
           by (halt q c₁) u n = absurd (never u)
@@ -288,9 +307,9 @@ module _ {g : List Production} (F : FitAll g) (passed : checkFirsts g ≡ ok tt)
 
   mutual
     stops-halts : {o c m i : ℕ} {M : List Value} {t : List Token} {is : List Item} {r : Refusal} → Stops g spell rows tokens o c m M t i is r → Halts o c m t i is M r
-    stops-halts (at-token {is = is} w f) = token-halts is w f
-    stops-halts (at-arguments {is = is} gs f) = arguments-halt is gs f
-    stops-halts (at-call {is = is} gs l e) = call-fails is gs l (enters-calls e)
+    stops-halts (at-token {ps = is} w f) = token-halts is w f
+    stops-halts (at-arguments {ps = is} gs f) = arguments-halt is gs f
+    stops-halts (at-call {ps = is} gs l e) = call-fails is gs l (enters-calls e)
     stops-halts (past-item D A st) = past-halts D A (stops-halts st)
 
     enters-calls : {o c m n i : ℕ} {vs : List Value} {t : List Token} {r : Refusal} → Enters g spell rows tokens o c m n vs t i r → Calls o c m n vs t i r
@@ -300,37 +319,46 @@ module _ {g : List Production} (F : FitAll g) (passed : checkFirsts g ≡ ok tt)
 
   -- ------------------------------------------------------------------ the whole formula
 
-  left-halts : (root i : ℕ) (M : List Value) (v : Value) (t : Token) (ts : List Token) (p : Production) → Taken g root tokens p
-      → (D : Derives g spell [] tokens 1 (p .items) M (t ∷ ts) i) → Affords rows 1 1 0 D → Gives spell M (p .result) v → rowsIn D + rowsOf (p .result) ≤ rows
-      → (cells : List ℕ) → rows * 4 ≤ length cells → root < 64 → HaltsWith (refusal 18 (indexOf tokens (t ∷ ts)) 0 0) (run J root cells)
-  unfolding run
-  left-halts root i M v t ts p taken D A gives l cells room small-root =
-      go (runCall mostOpen J root [] start cells)
-      (ends-both (Gave F passed spell tokens rows small 0 mostOpen (openIn D + 1) (callsIn D + 1) (rowsIn D + rowsOf (p .result)) (t ∷ ts) i v 0 0 cells) (λ x s c. s .at ≤ length tokens)
-      (Beyond rows mostOpen (openIn D + 1) (0 + (callsIn D + 1)) (0 + (rowsIn D + rowsOf (p .result)))) (λ r. Unit {0}) (runCall mostOpen J root [] start cells)
-      (call-along F passed spell tokens rows small p taken (items-along F passed spell tokens rows small D) gives 0 [] start cells refl refl
-      (record { room = room; fits = omega arith; names = omega arith; begun = omega arith }) show-none mostOpen)
-      (call-bounded F spell tokens rows small mostOpen root [] start cells small-root (omega arith)))
+  -- the items that are one call of the root halt where that call does
+  root-halts : (r : Refusal) (cells : List ℕ) → HaltsWith r (runItems (runCall mostOpen J) J (call (X .root) none ∷ []) [] start cells)
+      → HaltsWith r (runCall mostOpen J (X .root) [] start cells)
+  unfolding runItems buildAll
+  root-halts r cells h = go (runCall mostOpen J (X .root) [] start cells) h
     where
-      never : {q : Refusal} → Beyond rows mostOpen (openIn D + 1) (0 + (callsIn D + 1)) (0 + (rowsIn D + rowsOf (p .result))) q → ⊥
-      never (Costs.too-deep x y) = omega (arith, A .few-open, y)
-      never (Costs.too-many x y) = omega (arith, A .few-calls, y)
-      never (Costs.too-large x y) = omega (arith, l, y)
+      go : (x : Result ℕ) → HaltsWith r (after x (λ v. runItems (runCall mostOpen J) J [] ([] ++ (v ∷ [])))) → HaltsWith r x
+      go (done v s c) q = never-done (q .1)
+      go (halt z c) q = (c, (cc (q .1)))
+
+  left-halts : {i : ℕ} {M : List Value} {t : Token} {ts : List Token} (D : Derives g spell [] tokens 1 (call (X .root) none ∷ []) M (t ∷ ts) i)
+      → Affords rows 0 0 0 D → (cells : List ℕ) → rows * 4 ≤ length cells → HaltsWith (refusal 18 (indexOf tokens (t ∷ ts)) 0 0) (run J (X .root) cells)
+  unfolding run
+  left-halts {i} {M} {t} {ts} D A cells room =
+      go (runCall mostOpen J (X .root) [] start cells)
+      (ends-both (λ x s c. Reached X 0 mostOpen (openIn D) (callsIn D) (rowsIn D) (t ∷ ts) i M 0 0 cells (x ∷ []) s c) (λ x s c. s .at ≤ length tokens)
+      (Beyond rows mostOpen (openIn D) (callsIn D) (rowsIn D)) (λ r. Unit {0}) (runCall mostOpen J (X .root) [] start cells)
+      (root-along X D cells room) (call-bounded X mostOpen (X .root) [] start cells (X .root-small) (omega arith)))
+    where
+      never : {q : Refusal} → Beyond rows mostOpen (openIn D) (callsIn D) (rowsIn D) q → ⊥
+      never (Complete.too-deep x y) = omega (arith, A .few-open, y)
+      never (Complete.too-many x y) = omega (arith, A .few-calls, y)
+      never (Complete.too-large x y) = omega (arith, A .few-rows, y)
 
       go : (x : Result ℕ)
-          → Ends (λ x s c. Gave F passed spell tokens rows small 0 mostOpen (openIn D + 1) (callsIn D + 1) (rowsIn D + rowsOf (p .result)) (t ∷ ts) i v 0 0 cells x s c × (s .at ≤ length tokens))
-          (λ r. Beyond rows mostOpen (openIn D + 1) (0 + (callsIn D + 1)) (0 + (rowsIn D + rowsOf (p .result))) r × Unit {0}) x
+          → Ends (λ x s c. Reached X 0 mostOpen (openIn D) (callsIn D) (rowsIn D) (t ∷ ts) i M 0 0 cells (x ∷ []) s c × (s .at ≤ length tokens))
+          (λ r. Beyond rows mostOpen (openIn D) (callsIn D) (rowsIn D) r × Unit {0}) x
           → HaltsWith (refusal 18 (indexOf tokens (t ∷ ts)) 0 0) (after x (ended J))
       go (halt q c) u = absurd (never (u .0))
       go (done x s c) u =
           let e : length (drop (s .at) tokens) ≡ suc (length ts) = ap length (u .0 .0 .place) in
           let b : ltb (s .at) (length tokens) ≡ true = lt-ltb (s .at) (length tokens) (omega (arith, length-drop (s .at) tokens)) in
-          (c, rw (b, ended) (ap (λ (n : ℕ). halt (refusal 18 n 0 0) c) (sym (index-is F spell tokens rows small s (u .0 .0 .place) (u .1)))))
+          (c, rw (b, ended) (ap (λ (n : ℕ). halt (refusal 18 n 0 0) c) (sym (index-is X s (u .0 .0 .place) (u .1)))))
 
-  pub refuses-halts : {root : ℕ} {r : Refusal} → Refuses g spell rows root tokens r → root < 64 → (cells : List ℕ) → rows * 4 ≤ length cells → HaltsWith r (run J root cells)
+  pub refuses-halts : {r : Refusal} → Refuses g spell rows tokens (X .root) r → (cells : List ℕ) → rows * 4 ≤ length cells → HaltsWith r (run J (X .root) cells)
   unfolding run
-  refuses-halts {root} {r} (stops E) l cells room =
-      halts-after r (runCall mostOpen J root [] start cells) (ended J)
-      (enters-calls E .calls mostOpen 0 [] start cells refl l (record { place = refl; bounded = omega arith; counter = refl; calls = refl; made = refl })
-      (record { room = room; fits = omega arith; names = omega arith; begun = omega arith }) show-none)
-  refuses-halts {root} (left-over {i = i} {M = M} {v = v} {t = t} {s = ts} {p = p} taken D A gives f) l cells room = left-halts root i M v t ts p taken D A gives f cells room l
+  refuses-halts {r} (stops E) cells room =
+      halts-after r (runCall mostOpen J (X .root) [] start cells) (ended J)
+      (root-halts r cells
+      (stops-halts E .halts mostOpen 0 (make 0x25 none) Sorts.fields [] [] start cells refl (root-body X) (root-within X)
+      (record { place = refl; bounded = omega arith; counter = refl; calls = refl; made = refl })
+      (record { room = room; fits = omega arith; names = omega arith; begun = omega arith }) show-none))
+  refuses-halts (left-over D A) cells room = left-halts D A cells room

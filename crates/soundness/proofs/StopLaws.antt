@@ -24,17 +24,13 @@ use Rattle.expansion.specs.declared.State.{State}
 use Rattle.expansion.specs.Run.{Result, done, halt, Run, after}
 use Rattle.expansion.specs.Expansion.{Input, ready, unfit, chosen, choice, nextToken, tokenTaken, take, misfit, cellMade, cell, build, buildAll, wordValue, runItem, runItems, callBegun, mostCalls, runCall}
 use Rattle.expansion.specs.Figure3.{Next, next, Taken}
-use Rattle.expansion.specs.Parsing.{input, SmallWords}
+use Rattle.expansion.specs.Parsing.{input}
+use Rattle.soundness.proofs.Setting.{Setting}
 use Rattle.soundness.proofs.Building.{Ends, ends-after}
 use Rattle.soundness.proofs.Typing.{FitAll, taken-of}
 use Rattle.expansion.proofs.Choosing.{kindOf, kind-next, Picks, picks, picks-none, choice-picks, rule}
 use Rattle.soundness.proofs.Sound.{token-before, call-full, call-unfit, call-chosen}
 use Rattle.expansion.specs.Stopping.{indexOf}
-
-pub ends-both : {A : Type 0} (P Q : A → State → List ℕ → Type 0) (H K : Refusal → Type 0) (x : Result A) → Ends P H x → Ends Q K x
-    → Ends (λ a s c. P a s c × Q a s c) (λ r. H r × K r) x
-ends-both P Q H K (done a s c) p q = (p, q)
-ends-both P Q H K (halt r c) p q = (p, q)
 
 -- ------------------------------------------------------------------ templates
 
@@ -87,7 +83,19 @@ reads-small (reads-keyword l) = omega arith
 reads-small reads-word = omega arith
 reads-small reads-number = omega arith
 
-module _ {g : List Production} (F : FitAll g) (spell : ℕ → List ℕ) (tokens : List Token) (rows : ℕ) (small : SmallWords tokens) where
+module _ {g : List Production} (X : Setting g) where
+  abbrev F : FitAll g
+  F = X .fit
+
+  abbrev spell : ℕ → List ℕ
+  spell = X .spell
+
+  abbrev tokens : List Token
+  tokens = X .tokens
+
+  abbrev rows : ℕ
+  rows = X .rows
+
   abbrev J : Input
   J = input g tokens rows
 

@@ -27,19 +27,31 @@ use Rattle.expansion.specs.Run.{Result, done, halt, Run, after}
 use Rattle.expansion.specs.Expansion.{Input, ready, choice, nextToken, tokenTaken, take, misfit, buildAll, build, wordValue, runItem, runItems, callBegun, mostCalls, runCall, mostOpen, start, ended, run}
 use Rattle.expansion.specs.Figure3.{Value, Gives, GiveAll, give-none, Taken, Derives, by-end}
 use Rattle.expansion.specs.ValueSorts.{Matches, matches-none}
-use Rattle.expansion.specs.Costs.{rowsOf, rowsOfAll, openIn, callsIn, rowsIn, Beyond}
-use Rattle.expansion.specs.Parsing.{input, SmallWords}
+use Rattle.expansion.specs.Costs.{rowsOf, rowsOfAll, openIn, callsIn, rowsIn, Affords}
+use Rattle.expansion.specs.Parsing.{input}
 use Rattle.expansion.proofs.Shows.{ShowAll, show-none, all-later, all-and}
-use Rattle.soundness.proofs.Building.{Ends, ends-after, ends-map, Made, Full, Built, BuiltAll, build-ends, build-all-ends}
+use Rattle.soundness.proofs.Setting.{Setting, no-arguments, item-body, root-body, root-within}
+use Rattle.soundness.proofs.Building.{Ends, after-by, ends-both, ends-after, ends-map, Made, Full, Built, BuiltAll, build-ends, build-all-ends}
 use Rattle.soundness.proofs.Typing.{matches-and, give-all-exist, gives-exists, FitAll, body-of, taken-of}
 use Rattle.expansion.proofs.Choosing.{kindOf, kind-next, Picks, picks, picks-none, choice-picks, rule}
-use Rattle.soundness.proofs.Sound.{Kept, kept-made, kept-less, call-full, call-unfit, call-chosen, Stepped, Called, Derived, Any, item-sound, items-sound, call-sound}
-use Rattle.soundness.proofs.Complete.{items-along, items-after, Reached, Gave, call-along}
-use Rattle.soundness.proofs.Limits.{after-by}
-use Rattle.expansion.specs.Stopping.{indexOf, firstSet, takes, makes, begins, Fails, no-token, no-row, too-deep, too-many, no-choice, Affords, Stops, at-token, at-arguments, at-call, past-item, Enters, at-start, in-items, at-result, Refuses, stops, left-over}
-use Rattle.soundness.proofs.StopLaws.{ends-both, Stays, build-stays, build-all-stays, reads-small, index-is, kind-of-next, Bounded, item-bounded, items-bounded, call-bounded}
+use Rattle.soundness.proofs.Sound.{token-here, Kept, kept-made, kept-less, call-full, call-unfit, call-chosen, Stepped, Called, Derived, Any, item-sound, items-sound, call-sound, Root, root-called, root-derived}
+use Rattle.soundness.proofs.Complete.{Beyond, items-along, items-after, Reached, root-along}
+use Rattle.expansion.specs.Stopping.{indexOf, firstSet, takes, makes, begins, Fails, no-token, no-row, too-deep, too-many, no-choice, Stops, at-token, at-arguments, at-call, past-item, Enters, at-start, in-items, at-result, Refuses, stops, left-over}
+use Rattle.soundness.proofs.StopLaws.{Stays, build-stays, build-all-stays, reads-small, index-is, kind-of-next, Bounded, item-bounded, items-bounded, call-bounded}
 
-module _ {g : List Production} (F : FitAll g) (passed : checkFirsts g ≡ ok tt) (spell : ℕ → List ℕ) (tokens : List Token) (rows : ℕ) (small : SmallWords tokens) where
+module _ {g : List Production} (X : Setting g) where
+  abbrev F : FitAll g
+  F = X .fit
+
+  abbrev spell : ℕ → List ℕ
+  spell = X .spell
+
+  abbrev tokens : List Token
+  tokens = X .tokens
+
+  abbrev rows : ℕ
+  rows = X .rows
+
   abbrev J : Input
   J = input g tokens rows
 
@@ -57,7 +69,7 @@ module _ {g : List Production} (F : FitAll g) (passed : checkFirsts g ≡ ok tt)
   EntersAt o n vs s r = Enters g spell rows tokens o (s .calls) (s .made) n vs (rest s) (s .fresh) r
 
   here : (s : State) → s .at ≤ length tokens → indexOf tokens (rest s) ≡ s .at
-  here s l = index-is F spell tokens rows small s refl l
+  here s l = index-is X s refl l
 
   -- what is asked of a callee
   abbrev Halting : ℕ → Type 0
@@ -74,11 +86,11 @@ module _ {g : List Production} (F : FitAll g) (passed : checkFirsts g ≡ ok tt)
       go true e = tt
       go false e =
           at-token w
-          (subst (λ (a : ℕ). Fails g rows tokens o (s .calls) (s .made) (rest s) (takes kind) (refusal 17 a (only kind) (ones (only kind)))) (here s l)
-          (no-token (λ n. eqb-false (nextToken J s .kind) kind e (kind-of-next F spell tokens rows small s n))))
+          (subst (λ (a : ℕ). Fails g spell rows tokens o (s .calls) (s .made) (rest s) (takes kind) (refusal 17 a (only kind) (ones (only kind)))) (here s l)
+          (no-token (λ n. eqb-false (nextToken J s .kind) kind e (kind-of-next X s n))))
 
-  full-row : (o c m : ℕ) {n : ℕ} (s : State) → s .at ≤ length tokens → rows < m + n → Fails g rows tokens o c m (rest s) (makes n) (refusal 21 (s .at) 0 0)
-  full-row o c m {n} s l h = subst (λ (a : ℕ). Fails g rows tokens o c m (rest s) (makes n) (refusal 21 a 0 0)) (here s l) (no-row h)
+  full-row : (o c m : ℕ) {n : ℕ} (s : State) → s .at ≤ length tokens → rows < m + n → Fails g spell rows tokens o c m (rest s) (makes n) (refusal 21 (s .at) 0 0)
+  full-row o c m {n} s l h = subst (λ (a : ℕ). Fails g spell rows tokens o c m (rest s) (makes n) (refusal 21 a 0 0)) (here s l) (no-row h)
 
   -- a call of a state after its arguments is one of the state before them
   enters-stops : {o n : ℕ} {M vs : List Value} {ts : Templates} (is : List Item) {s s₁ : State} {cells c₁ : List ℕ} → GiveAll spell M ts vs → Made rows (rowsOfAll ts) s cells s₁ c₁
@@ -107,20 +119,19 @@ module _ {g : List Production} (F : FitAll g) (passed : checkFirsts g ≡ ok tt)
         ends-map Fine (EntersAt o n (vs .0) s₁) Fine (StopsAt o M (call n ts ∷ is) s) (runCall d J n ys s₁ c₁)
         (halting o k n S (vs .0) ys s₁ c₁ left w (omega arith) (vs .2) (omega (arith, y .1)) (kept-less (kept-made h (y .0 .0))) (y .0 .1))
         (λ x s₂ c₂ u. u) (enters-stops is (vs .1) (y .0 .0)))
-        (λ r u. at-arguments (vs .1) (subst⁻¹ (λ q. Fails g rows tokens o (s .calls) (s .made) (rest s) (makes (rowsOfAll ts)) q) (u .1) (full-row o (s .calls) (s .made) s b (u .0 .beyond))))
+        (λ r u. at-arguments (vs .1) (subst⁻¹ (λ q. Fails g spell rows tokens o (s .calls) (s .made) (rest s) (makes (rowsOfAll ts)) q) (u .1) (full-row o (s .calls) (s .made) s b (u .0 .beyond))))
 
     -- an item derived has cost what its derivation costs
     item-costs : (k : ℕ) {i : Item} {A : ℕ} {M : List Value} {L : List ℕ} (xs : List ℕ) (s : State) (cells : List ℕ) → ItemSorted (F .scope) L i A
         → Kept rows (k + 1) s cells → ShowAll spell (s .made) cells xs M → (x : ℕ) (s₁ : State) (c₁ : List ℕ) → runItem (runCall d J) J i xs s cells ≡ done x s₁ c₁
         → {M₁ : List Value} (D : Derives g spell M (rest s) (s .fresh) (i ∷ []) M₁ (rest s₁) (s₁ .fresh))
         → (s₁ .calls ≡ s .calls + callsIn D) × (s₁ .made ≡ s .made + rowsIn D) × (openIn D ≤ d)
-    unfolding runItems constructor constructors
+    unfolding runItems
     item-costs k {i} {L = L} xs s cells w h a x s₁ c₁ e {M₁} D =
-        let body : Body (F .scope) L (i ∷ []) (make 0x25 none) Sorts.fields = by-binding w (by-result (Judgements.by-constructor Judgements.fill-none) Judgements.fits-equal) in
-        let q = subst (λ z. Ends (Reached F passed spell tokens rows small k d (openIn D) (callsIn D) (rowsIn D) (rest s₁) (s₁ .fresh) M₁ (s .calls) (s .made) cells)
+        let q = subst (λ z. Ends (Reached X k d (openIn D) (callsIn D) (rowsIn D) (rest s₁) (s₁ .fresh) M₁ (s .calls) (s .made) cells)
         (Beyond rows d (openIn D) (s .calls + callsIn D) (s .made + rowsIn D)) z)
         (items-after (runCall d J) J i [] xs s cells x s₁ c₁ e)
-        (items-along F passed spell tokens rows small D .along d k (make 0x25 none) Sorts.fields L xs s cells body refl refl h a) in
+        (items-along X D .along d k (make 0x25 none) Sorts.fields L xs s cells (item-body X w) refl refl h a) in
         (q .0 .calls-are, q .0 .made-are, q .0 .deep)
 
     items-halt : (k : ℕ) (is : List Item) {r : Template} {B : ℕ} {M : List Value} {L xs : List ℕ} (s : State) (cells : List ℕ) → Body (F .scope) L is r B → Each ItemWithin is → Matches M L
@@ -132,14 +143,14 @@ module _ {g : List Production} (F : FitAll g) (passed : checkFirsts g ≡ ok tt)
         let h′ : Kept rows (k + length is + 1) s cells = record { room = h .room; fits = h .fits; names = omega (arith, h .names); begun = h .begun } in
         after-by Fine (StopsAt o M (i ∷ is) s) (runItem (runCall d J) J i xs s cells) (λ x. runItems (runCall d J) J is (xs ++ (x ∷ [])))
         (λ x s₁ c₁ e.
-        let p : Stepped F spell tokens rows small (k + length is) i A M s cells x s₁ c₁ =
-        subst (λ z. Ends (Stepped F spell tokens rows small (k + length is) i A M s cells) (Any F spell tokens rows small) z) e
-        (item-sound F spell tokens rows small (runCall d J) (call-sound F spell tokens rows small d) (k + length is) s cells w z m h′ a) in
+        let p : Stepped X (k + length is) i A M s cells x s₁ c₁ =
+        subst (λ z. Ends (Stepped X (k + length is) i A M s cells) (Any X) z) e
+        (item-sound X (runCall d J) (call-sound X d) (k + length is) s cells w z m h′ a) in
         let D = p .step [] (M ++ (p .value ∷ [])) (rest s₁) (s₁ .fresh) by-end in
         let q = item-costs (k + length is) xs s cells w h′ a x s₁ c₁ e D in
         let n₁ : s₁ .at ≤ length tokens =
         subst (λ y. Ends {A = ℕ} (λ a s c. s .at ≤ length tokens) (λ r. Unit {0}) y) e
-        (item-bounded F spell tokens rows small (runCall d J) (call-bounded F spell tokens rows small d) xs s cells w z n) in
+        (item-bounded X (runCall d J) (call-bounded X d) xs s cells w z n) in
         ends-map Fine (StopsAt o (M ++ (p .value ∷ [])) is s₁) Fine (StopsAt o M (i ∷ is) s) (runItems (runCall d J) J is (xs ++ (x ∷ [])) s₁ c₁)
         (items-halt k is s₁ c₁ b zs (matches-and m (p .typed)) n₁ (p .kept) (all-and (all-later (p .grown) a) (p .shows)))
         (λ ys s₂ c₂ u. u)
@@ -168,16 +179,16 @@ module _ {g : List Production} (F : FitAll g) (passed : checkFirsts g ≡ ok tt)
         let K = EntersAt o n vs s in
         after-by Fine K (runItems (runCall d J) J (p .items) xs (callBegun s) cells) (λ ys. build (p .result) J ys)
         (λ ys s₁ c₁ e.
-        let y : Derived F spell tokens rows small (runCall d J) (call-sound F spell tokens rows small d) k (p .items) (p .result) (S .result) vs (callBegun s) cells ys s₁ c₁ =
-        subst (λ z. Ends (Derived F spell tokens rows small (runCall d J) (call-sound F spell tokens rows small d) k (p .items) (p .result) (S .result) vs (callBegun s) cells) (Any F spell tokens rows small) z) e
-        (items-sound F spell tokens rows small (runCall d J) (call-sound F spell tokens rows small d) k (p .items) (callBegun s) cells body (q .items) m h′ a) in
+        let y : Derived X (runCall d J) (call-sound X d) k (p .items) (p .result) (S .result) vs (callBegun s) cells ys s₁ c₁ =
+        subst (λ z. Ends (Derived X (runCall d J) (call-sound X d) k (p .items) (p .result) (S .result) vs (callBegun s) cells) (Any X) z) e
+        (items-sound X (runCall d J) (call-sound X d) k (p .items) (callBegun s) cells body (q .items) m h′ a) in
         let D = y .derived in
-        let z = subst (λ z. Ends (Reached F passed spell tokens rows small k d (openIn D) (callsIn D) (rowsIn D) (rest s₁) (s₁ .fresh) (y .variables) (callBegun s .calls) (s .made) cells)
+        let z = subst (λ z. Ends (Reached X k d (openIn D) (callsIn D) (rowsIn D) (rest s₁) (s₁ .fresh) (y .variables) (callBegun s .calls) (s .made) cells)
         (Beyond rows d (openIn D) (callBegun s .calls + callsIn D) (s .made + rowsIn D)) z) e
-        (items-along F passed spell tokens rows small D .along d k (p .result) (S .result) (S .params) xs (callBegun s) cells body refl refl h′ a) in
+        (items-along X D .along d k (p .result) (S .result) (S .params) xs (callBegun s) cells body refl refl h′ a) in
         let b₁ : s₁ .at ≤ length tokens =
         subst (λ y. Ends {A = List ℕ} (λ a s c. s .at ≤ length tokens) (λ r. Unit {0}) y) e
-        (items-bounded F spell tokens rows small (runCall d J) (call-bounded F spell tokens rows small d) (p .items) xs (callBegun s) cells body (q .items) b) in
+        (items-bounded X (runCall d J) (call-bounded X d) (p .items) xs (callBegun s) cells body (q .items) b) in
         let v = gives-exists spell (y .matches) (p .result) (y .sorted) (q .result) in
         let A : Affords rows (o + 1) (s .calls + 1) (s .made) D =
         record { few-open = omega (arith, z .0 .deep, left); few-calls = omega (arith, z .0 .calls-are, y .kept .begun); few-rows = omega (arith, z .0 .made-are, y .kept .fits) } in
@@ -188,7 +199,7 @@ module _ {g : List Production} (F : FitAll g) (passed : checkFirsts g ≡ ok tt)
         (λ x s₂ c₂ u. tt)
         (λ r u.
         at-result {v = v .0} t D A (v .1)
-        (subst⁻¹ (λ q. Fails g rows tokens (o + 1) (s .calls + 1 + callsIn D) (s .made + rowsIn D) (rest s₁) (makes (rowsOf (p .result))) q) (u .1)
+        (subst⁻¹ (λ q. Fails g spell rows tokens (o + 1) (s .calls + 1 + callsIn D) (s .made + rowsIn D) (rest s₁) (makes (rowsOf (p .result))) q) (u .1)
         (full-row (o + 1) (s .calls + 1 + callsIn D) (s .made + rowsIn D) s₁ b₁ (omega (arith, u .0 .beyond, z .0 .made-are))))))
         (λ r c₁ e.
         in-items deeper c t
@@ -202,54 +213,59 @@ module _ {g : List Production} (F : FitAll g) (passed : checkFirsts g ≡ ok tt)
         go : (c : Bool) → ltb (s .calls) mostCalls ≡ c → Picks g n (rest s) (choice (ready g) n (kindOf (rest s))) → Goal (runCall (suc d) J n xs s cells)
         go false e q =
             subst⁻¹ (λ r. Goal r) (call-full d J n xs s cells e)
-            (at-start (subst (λ (i : ℕ). Fails g rows tokens o (s .calls) (s .made) (rest s) (begins n) (refusal 20 i 0 0)) (here s b) (too-many deeper (ltb-false (s .calls) mostCalls e))))
+            (at-start (subst (λ (i : ℕ). Fails g spell rows tokens o (s .calls) (s .made) (rest s) (begins n) (refusal 20 i 0 0)) (here s b) (too-many deeper (ltb-false (s .calls) mostCalls e))))
         go true e (picks p t f) =
             subst⁻¹ (λ r. Goal r) (call-chosen d J n xs s cells (rule g p) e (ap (choice (ready g) n) (kind-next (s .at) tokens) ∙ f))
             (production-halts p t (ltb-true (s .calls) mostCalls e))
         go true e (picks-none f c) =
             subst⁻¹ (λ r. Goal r) (call-unfit d J n xs s cells e (ap (choice (ready g) n) (kind-next (s .at) tokens) ∙ c))
             (at-start
-            (subst (λ (i : ℕ). Fails g rows tokens o (s .calls) (s .made) (rest s) (begins n) (refusal 17 i (firstSet g n) (ones (firstSet g n)))) (here s b)
+            (subst (λ (i : ℕ). Fails g spell rows tokens o (s .calls) (s .made) (rest s) (begins n) (refusal 17 i (firstSet g n) (ones (firstSet g n)))) (here s b)
             (no-choice deeper (ltb-true (s .calls) mostCalls e) f)))
 
   pub call-halts : (d : ℕ) → Halting d
   unfolding runCall
   call-halts zero o k n S vs xs s cells e w l m b h a =
-      at-start (subst (λ (i : ℕ). Fails g rows tokens o (s .calls) (s .made) (rest s) (begins n) (refusal 19 i 0 0)) (here s b) (too-deep (omega (arith, e))))
+      at-start (subst (λ (i : ℕ). Fails g spell rows tokens o (s .calls) (s .made) (rest s) (begins n) (refusal 19 i 0 0)) (here s b) (too-deep (omega (arith, e))))
   call-halts (suc d) o k n S vs xs s cells e w l m b h a = call-step d o e (call-halts d) k n S vs xs s cells w l m b h a
 
   -- ------------------------------------------------------------------ the whole formula
 
-  pub run-halts : (root : ℕ) → root < 64 → (S : Signature) → Newest (F .scope .env) root S → S .params ≡ [] → (cells : List ℕ) → rows * 4 ≤ length cells
-      → Ends Fine (Refuses g spell rows root tokens) (run J root cells)
-  unfolding run
-  run-halts root l S w e cells room =
-      let none : Matches [] (S .params) = subst⁻¹ (Matches []) e matches-none in
-      let h : Kept rows 0 start cells = record { room = room; fits = omega arith; names = omega arith; begun = omega arith } in
-      after-by Fine (Refuses g spell rows root tokens) (runCall mostOpen J root [] start cells) (ended J)
-      (λ v s c₁ q. over v s c₁ q
-      (subst (λ z. Ends (Called F spell tokens rows small 0 root [] start cells) (Any F spell tokens rows small) z) q (call-sound F spell tokens rows small mostOpen 0 root S [] [] start cells w l none h show-none))
-      (subst (λ y. Ends {A = ℕ} (λ a s c. s .at ≤ length tokens) (λ r. Unit {0}) y) q (call-bounded F spell tokens rows small mostOpen root [] start cells l (omega arith))) h)
-      (λ r c₁ q. stops (subst (λ z. Ends Fine (EntersAt 0 root [] start) z) q (call-halts mostOpen 0 0 root S [] [] start cells refl w l none (omega arith) h show-none)))
-    where
-      over : (v : ℕ) (s : State) (c₁ : List ℕ) → runCall mostOpen J root [] start cells ≡ done v s c₁ → Called F spell tokens rows small 0 root [] start cells v s c₁ → s .at ≤ length tokens
-          → Kept rows 0 start cells → Ends Fine (Refuses g spell rows root tokens) (ended J v s c₁)
-      over v s c₁ q y b h = go (ltb (s .at) (length tokens)) refl
-        where
-          leftover : (t : Token) (ts : List Token) → rest s ≡ t ∷ ts → Refuses g spell rows root tokens (refusal 18 (s .at) 0 0)
-          leftover t ts e =
-              let D : Derives g spell [] tokens 1 (y .production .items) (y .variables) (t ∷ ts) (s .fresh) =
-              subst (λ u. Derives g spell [] tokens 1 (y .production .items) (y .variables) u (s .fresh)) e (y .derived) in
-              let z = subst (λ x. Ends (Gave F passed spell tokens rows small 0 mostOpen (openIn D + 1) (callsIn D + 1) (rowsIn D + rowsOf (y .production .result)) (t ∷ ts) (s .fresh) (y .value) 0 0 cells)
-              (Beyond rows mostOpen (openIn D + 1) (0 + (callsIn D + 1)) (0 + (rowsIn D + rowsOf (y .production .result)))) x) q
-              (call-along F passed spell tokens rows small (y .production) (y .taken) (items-along F passed spell tokens rows small D) (y .given) 0 [] start cells refl refl h show-none mostOpen) in
-              let A : Affords rows 1 1 0 D =
-              record { few-open = omega (arith, z .0 .deep); few-calls = omega (arith, z .0 .calls-are, z .0 .kept .begun); few-rows = omega (arith, z .0 .made-are, z .0 .kept .fits) } in
-              let fits : rowsIn D + rowsOf (y .production .result) ≤ rows = omega (arith, z .0 .made-are, z .0 .kept .fits) in
-              subst (λ (i : ℕ). Refuses g spell rows root tokens (refusal 18 i 0 0)) (index-is F spell tokens rows small s e b)
-              (left-over {v = y .value} (y .taken) D A (y .given) fits)
+  -- the call of the root is the one item of the whole
+  root-stops : {r : Refusal} → EntersAt 0 (X .root) [] start r → Refuses g spell rows tokens (X .root) r
+  unfolding rowsOfAll
+  root-stops e = stops (at-call {m = 0} {ts = none} give-none (omega arith) e)
 
+  leftover : (cells : List ℕ) (x : ℕ) (s : State) (cells′ : List ℕ) {t : Token} {ts : List Token} → rows * 4 ≤ length cells
+      → runCall mostOpen J (X .root) [] start cells ≡ done x s cells′ → Root X cells x s cells′ → s .at ≤ length tokens → rest s ≡ t ∷ ts
+      → Refuses g spell rows tokens (X .root) (refusal 18 (s .at) 0 0)
+  leftover cells x s cells′ {t} {ts} room q y b e =
+      let D : Derives g spell [] tokens 1 (call (X .root) none ∷ []) (y .value ∷ []) (t ∷ ts) (s .fresh) =
+      subst (λ u. Derives g spell [] tokens 1 (call (X .root) none ∷ []) (y .value ∷ []) u (s .fresh)) e (root-derived X y) in
+      let z = subst (λ z. Ends (λ x′ s′ c. Reached X 0 mostOpen (openIn D) (callsIn D) (rowsIn D) (t ∷ ts) (s .fresh) (y .value ∷ []) 0 0 cells (x′ ∷ []) s′ c)
+      (Beyond rows mostOpen (openIn D) (callsIn D) (rowsIn D)) z) q (root-along X D cells room) in
+      subst (λ (i : ℕ). Refuses g spell rows tokens (X .root) (refusal 18 i 0 0)) (index-is X s e b)
+      (left-over D
+      (record { few-open = omega (arith, z .0 .deep); few-calls = omega (arith, z .0 .calls-are, z .0 .kept .begun); few-rows = omega (arith, z .0 .made-are, z .0 .kept .fits) }))
+
+  pub run-halts : (cells : List ℕ) → rows * 4 ≤ length cells → Ends Fine (Refuses g spell rows tokens (X .root)) (run J (X .root) cells)
+  unfolding run
+  run-halts cells room =
+      after-by Fine (Refuses g spell rows tokens (X .root)) (runCall mostOpen J (X .root) [] start cells) (ended J)
+      (λ v s c₁ q.
+      over v s c₁ q (subst (λ z. Ends (Root X cells) (Any X) z) q (root-called X cells room))
+      (subst (λ y. Ends {A = ℕ} (λ a s c. s .at ≤ length tokens) (λ r. Unit {0}) y) q (call-bounded X mostOpen (X .root) [] start cells (X .root-small) (omega arith))))
+      (λ r c₁ q.
+      root-stops
+      (subst (λ z. Ends Fine (EntersAt 0 (X .root) [] start) z) q
+      (call-halts mostOpen 0 0 (X .root) (X .signature) [] [] start cells refl (X .defined) (X .root-small) (no-arguments X) (omega arith)
+      (record { room = room; fits = omega arith; names = omega arith; begun = omega arith }) show-none)))
+    where
+      over : (v : ℕ) (s : State) (c₁ : List ℕ) → runCall mostOpen J (X .root) [] start cells ≡ done v s c₁ → Root X cells v s c₁ → s .at ≤ length tokens
+          → Ends Fine (Refuses g spell rows tokens (X .root)) (ended J v s c₁)
+      over v s c₁ q y b = go (ltb (s .at) (length tokens)) refl
+        where
           go : (c : Bool) → ltb (s .at) (length tokens) ≡ c
-              → Ends {A = ℕ} Fine (Refuses g spell rows root tokens) (elim c as (λ x. Result ℕ) [ true ↦ halt (refusal 18 (s .at) 0 0) c₁ | false ↦ done v s c₁ ])
-          go true e = leftover _ _ (Rattle.soundness.proofs.Sound.token-here tokens (s .at) (ltb-true (s .at) (length tokens) e))
+              → Ends {A = ℕ} Fine (Refuses g spell rows tokens (X .root)) (elim c as (λ x. Result ℕ) [ true ↦ halt (refusal 18 (s .at) 0 0) c₁ | false ↦ done v s c₁ ])
+          go true e = leftover cells v s c₁ room q y b (token-here tokens (s .at) (ltb-true (s .at) (length tokens) e))
           go false e = tt

@@ -9,13 +9,13 @@ use Rattle.grammar.specs.Table.{Template, Templates, none, more, Item}
 use Rattle.grammar.specs.Table as Table
 use Rattle.layout.specs.Within.{Each, TemplateWithin, TemplatesWithin, make-within, more-within, ItemWithin}
 use Rattle.sorts.specs.CheckSorts.{Scope, signatureOf}
-use Rattle.sorts.specs.Judgements.{Has, has-first, has-later, Newest, Fits, fits-equal, fits-binder, Sorted, Fill, fill-none, fill-more, Body, by-result, by-binding}
+use Rattle.sorts.specs.Judgements.{Has, has-first, has-later, Newest, Fits, fits-equal, fits-binder, Sorted, Fill, fill-none, fill-more, ItemSorted, Body, by-result, by-binding}
 use Rattle.sorts.specs.Judgements as Judgements
 use Rattle.sorts.proofs.Environments.{newest-signature}
 use Rattle.scanner.specs.declared.Token.{Token}
 use Rattle.productions.specs.Normal.{Production}
 use Rattle.firsts.specs.Rules.{In, Of}
-use Rattle.expansion.specs.Figure3.{Value, Constructs, Bound, bound-first, bound-later, Gives, by-variable, by-global, by-label, by-constructor, GiveAll, give-none, give-more, Taken, taken-opened, taken-nullable, Derives, by-end, by-keyword, by-ide-var, by-ide-binder, by-ide-label, by-number, by-local, by-call}
+use Rattle.expansion.specs.Figure3.{Value, Constructs, Bound, bound-first, bound-later, Gives, by-variable, by-global, by-label, by-constructor, GiveAll, give-none, give-more, Taken, taken-opened, taken-nullable, WordAs, as-var, as-binder, as-label, ReadsAs, by-keyword, by-ide, by-number, by-local, Derives, by-end, by-terminal, by-call}
 use Rattle.expansion.specs.Figure3 as Figure3
 use Rattle.expansion.specs.ValueSorts.{Typed, typed-unit, typed-var, typed-binder, typed-either, typed-label, typed-term, typed-fields, typed-num, Matches, matches-none, matches-more}
 
@@ -123,6 +123,16 @@ pub record FitAll (g : List Production) : Type 0 where
   pub outsideCount : scope .outsides ≤ 64
   pub each : (p : Production) → In g p → Fit scope p
 
+-- what a terminal gives has its sort
+terminal-typed : {g : List Production} {spell : ℕ → List ℕ} {G : Scope} {L : List ℕ} {s s′ : List Token} {i i′ : ℕ} {p : Item} {v : Value} {A : ℕ}
+    → ReadsAs g spell s i p s′ i′ v → ItemSorted G L p A → Typed v A
+terminal-typed (by-keyword e) (Judgements.by-keyword l) = typed-unit
+terminal-typed (by-ide e as-var) Judgements.by-ide = typed-var
+terminal-typed (by-ide e as-binder) Judgements.by-ide = typed-binder
+terminal-typed (by-ide e as-label) Judgements.by-ide = typed-label
+terminal-typed (by-number e) Judgements.by-number = typed-num
+terminal-typed by-local Judgements.by-local = typed-binder
+
 -- the template of an alternative is sorted under its variables
 pub result-sorted : {G : Scope} {L : List ℕ} {is : List Item} {r : Template} {B : ℕ} → Body G L is r B → (L′ : List ℕ) × (A : ℕ) × Sorted (G .outsides) L′ r A
 result-sorted (by-result {L = L} {A = A} w f) = (L, A, w)
@@ -144,11 +154,6 @@ module _ {g : List Production} (F : FitAll g) where
   pub items-typed : {spell : ℕ → List ℕ} {M M′ : List Value} {s s′ : List Token} {i i′ : ℕ} {is : List Item} {L : List ℕ} {r : Template} {B : ℕ} {v : Value}
       → Derives g spell M s i is M′ s′ i′ → Matches M L → Body (F .scope) L is r B → Gives spell M′ r v → Typed v B
   items-typed {r = r} by-end m (by-result w f) k = typed-at (gives-typed _ m r w k) f
-  items-typed (by-keyword e d) m (by-binding (Judgements.by-keyword l) b) k = items-typed d (matches-and m typed-unit) b k
-  items-typed (by-ide-var e d) m (by-binding Judgements.by-ide b) k = items-typed d (matches-and m typed-var) b k
-  items-typed (by-ide-binder e d) m (by-binding Judgements.by-ide b) k = items-typed d (matches-and m typed-binder) b k
-  items-typed (by-ide-label e d) m (by-binding Judgements.by-ide b) k = items-typed d (matches-and m typed-label) b k
-  items-typed (by-number e d) m (by-binding Judgements.by-number b) k = items-typed d (matches-and m typed-num) b k
-  items-typed (by-local d) m (by-binding Judgements.by-local b) k = items-typed d (matches-and m typed-binder) b k
+  items-typed (by-terminal e d) m (by-binding w b) k = items-typed d (matches-and m (terminal-typed e w)) b k
   items-typed (by-call {ts = ts} gs t d q d′) m (by-binding (Judgements.by-call w f) b) k =
       items-typed d′ (matches-and m (items-typed d (give-all-typed _ m ts f gs) (body-of (taken-of t) w) q)) b k

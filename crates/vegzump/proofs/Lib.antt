@@ -1,8 +1,8 @@
-pub mod Main
+pub mod Demands
 pub mod Hygiene
-pub mod Answers
 pub mod Exactly
 pub mod Stages
+pub mod Owners
 pub mod CellsLeft
 pub mod Listed
 pub mod Naming

@@ -1,58 +1,55 @@
--- Where an expansion of a passed table ends: in the scan, in the parse, or in the last tests.
-use Prim.Native.Nat.{ℕ, zero, suc, _+_, _*_, _/_, _≤_, _<_, min}
-use mathlib.Core.Path.{_≡_, refl, sym, ap, subst, _∙_}
-use mathlib.Core.Logic.{_⊎_, inl, inr}
+-- Where an expansion of a passed table ends: in the scan, in the parse, or in the last step.
+use Prim.Native.Nat.{ℕ, zero, suc, _*_, _/_, _≤_, _<_, min}
+use mathlib.Core.Path.{_≡_, refl, sym, ap, ap₂, subst, _∙_}
 use mathlib.Core.Bool.{Bool, true, false}
 use mathlib.Core.List.{List, [], _∷_, _++_}
 use native.Mathlib.Omega.{arith}
-use lib.Dec.{leb, ltb}
-use lib.ListN.{length, getD, take, drop}
-use borrow.Author.Tests.{leb-true, leb-false, lt-ltb, le-leb, lt-leb}
+use lib.Dec.{leb}
+use lib.ListN.{length, getD, drop}
+use borrow.Author.Tests.{leb-true, leb-false, lt-ltb}
 use Rattle.answers.specs.declared.Refusal.{Refusal}
 use Rattle.answers.specs.declared.Answer.the-variants.{Accepted, Refusing}
 use Rattle.answers.specs.Refusals.{refusal}
-use Rattle.answers.specs.Checked.{Checked, ok, bad, _>>=_, _>>_}
+use Rattle.answers.specs.Checked.{Checked, ok, bad, _>>=_, _>>_, need}
 use Rattle.spellings.specs.Bytes.{isWord}
 use Rattle.kinds.specs.Kinds.{wordKind}
 use Rattle.grammar.specs.Table.{Table}
 use Rattle.grammar.specs.Fields.{Lexicon}
 use Rattle.grammar.specs.Cells.{columns}
-use Rattle.layout.specs.Within.{Each, each-none, each-more, Within}
-use Rattle.layout.specs.Decode.{decode}
+use Rattle.layout.specs.Within.{Each, each-none, each-more}
 use Rattle.layout.proofs.LayoutTheorems.{decode-exactly}
 use Rattle.sorts.specs.CheckSorts.{checkSorts}
 use Rattle.sorts.proofs.SortTheorems.{sorts-exactly}
 use Rattle.firsts.specs.First.{checkFirsts}
 use Rattle.firsts.proofs.FirstsTheorems.{passes-exactly}
 use Rattle.scanner.specs.declared.Token.{Token}
-use Rattle.scanner.specs.declared.Step.{Step}
-use Rattle.scanner.specs.declared.Step.the-variants.{Skip, Stop, Emit}
 use Rattle.scanner.specs.declared.Scanned.{Scanned}
 use Rattle.scanner.specs.declared.Scanned.the-variants.{Tokens, Unscanned}
-use Rattle.scanner.specs.Scan.{Lexed, ended, withToken, wordsWith, stepOf, mostTokens, longestFormula, lexFrom, scan}
-use Rattle.scanner.specs.Tiling.{bytesOf}
+use Rattle.scanner.specs.Scan.{Lexed, scan}
+use Rattle.scanner.specs.Tiling.{bytesOf, spelled}
+use Rattle.scanner.specs.Unscanned.{Unscans}
 use Rattle.scanner.proofs.SpellingLaws.{Spelled, Every, scan-spelled, spelled-number}
+use Rattle.scanner.proofs.ScannerTheorems as scanner
 use Rattle.checker.specs.Check.{passedTable}
-use Rattle.checker.specs.Passes.{grammarOf, Meets, Passes}
+use Rattle.checker.specs.Passes.{grammarOf, Passes}
 use Rattle.expansion.specs.declared.State.{State}
 use Rattle.expansion.specs.Run.{Result, done, halt}
 use Rattle.expansion.specs.Expansion.{run}
 use Rattle.expansion.specs.Parsing.{Runs, SmallWords}
-use Rattle.expansion.specs.Costs.{allRows, too-deep, too-many, too-large}
-use Rattle.expansion.specs.Points.{Overrun}
-use Rattle.expansion.specs.Sources.{Among, among-first, among-later}
-use Rattle.soundness.proofs.Building as building
-use Rattle.soundness.proofs.Normalizing.{table-fits}
-use Rattle.soundness.proofs.Limits.{Refused, run-stops}
+use Rattle.expansion.specs.Figure3.{Parses}
+use Rattle.expansion.specs.Stopping.{Refuses}
+use Rattle.expansion.specs.Places.{Has, has-first, has-later}
+use Rattle.soundness.specs.Passing.{Passing, Lexemes}
 use Rattle.soundness.proofs.ExpansionTheorems as expansion
 use Rattle.terms.specs.Term.{Name, Term, size}
 use Rattle.terms.specs.Rows.{termAt}
 use Rattle.terms.specs.Rename.{Walk, loose, reached, walk, rename}
 use Rattle.terms.specs.Print.{print}
+use Rattle.terms.specs.Emit.{largestTerm, noneLoose, passing, textOf, Emitted, emittedIf, emitted}
 use Rattle.terms.specs.Binding.{occurrences, loosePlaces, stopsAtFirst, isWorded}
 use Rattle.terms.proofs.Statements as terms
-use Rattle.vegzump.specs.Expand.{Expanded, refused, largestTerm, closed, textOf, written, spell, mostCells, inputOf, finished, scanned, lexiconOfTable, expandTable, checkedFirst, expand}
-use Rattle.vegzump.specs.Meaning.{scanOf, IsTokens, spellOf, ParsesAs, Means, rowsIn, MeansWithin, cellsOf}
+use Rattle.vegzump.specs.Expand.{Expanded, refused, withCells, mostCells, inputOf, finished, scanned, lexiconOfTable, expandTable, checkedFirst, expand}
+use Rattle.vegzump.specs.Meaning.{Scans, spellOf, Means, rowsLent, MeansWithin, cellsOf}
 
 -- ------------------------------------------------------------------ the table
 
@@ -69,50 +66,7 @@ module _ (bs : List ℕ) (bytes : (i : ℕ) → getD bs i 0 < 256) (P : Passes b
   unfolding expand
   expand-passed formula cells text = ap (λ c. checkedFirst c formula cells text) passed-table
 
--- ------------------------------------------------------------------ the scan's refusals
-
--- 14, 15 or 16, if any
-abbrev pub Early : Scanned → Type 0
-Early (Tokens n m) = Unit {0}
-Early (Unscanned r) = (14 ≤ r .number) × (r .number ≤ 16)
-
-early-from : (k : ℕ) (lex : Lexicon) (at : ℕ) (rest : List ℕ) (n : ℕ) (words : List (List ℕ)) → Early (lexFrom k lex at rest n words .answer)
-unfolding lexFrom
-early-from zero lex at rest n words = tt
-early-from (suc k) lex at [] n words = tt
-early-from (suc k) lex at (b ∷ bs) n words =
-    go (stepOf lex words at (b ∷ bs)) (early-from k lex (at + 1) bs n words)
-    (λ t. early-from k lex (at + t .size) (drop (t .size) (b ∷ bs)) (n + 1) (wordsWith words (take (t .size) (b ∷ bs)) t))
-  where
-    emitted : Token → Lexed
-    emitted t = withToken t (lexFrom k lex (at + t .size) (drop (t .size) (b ∷ bs)) (n + 1) (wordsWith words (take (t .size) (b ∷ bs)) t))
-
-    limited : (t : Token) (c : Bool) → Early (emitted t .answer)
-        → Early ((elim c as (λ x. Lexed) [ false ↦ ended (Unscanned (refusal 16 0 0 0)) words | true ↦ emitted t ]) .answer)
-    limited t false h = (omega arith, omega arith)
-    limited t true h = h
-
-    go : (r : Step) → Early (lexFrom k lex (at + 1) bs n words .answer) → ((t : Token) → Early (emitted t .answer))
-        → Early
-        ((elim r as (λ x. Lexed) [
-          | Skip ↦ lexFrom k lex (at + 1) bs n words
-          | Stop ↦ ended (Unscanned (refusal 15 at 0 0)) words
-          | Emit t ↦ elim (ltb n mostTokens) as (λ x. Lexed) [ false ↦ ended (Unscanned (refusal 16 0 0 0)) words | true ↦ emitted t ]
-        ])
-        .answer)
-    go Skip h f = h
-    go Stop h f = (omega arith, omega arith)
-    go (Emit t) h f = limited t (ltb n mostTokens) (f t)
-
-pub scan-early : (lex : Lexicon) (formula : List ℕ) → Early (scan lex formula .answer)
-unfolding scan
-scan-early lex formula = go (leb (length formula) longestFormula)
-  where
-    go : (b : Bool) → Early ((elim b as (λ x. Lexed) [ true ↦ lexFrom (length formula) lex 0 formula 0 [] | false ↦ ended (Unscanned (refusal 14 0 0 0)) [] ]) .answer)
-    go true = early-from (length formula) lex 0 formula 0 []
-    go false = (omega arith, omega arith)
-
--- ------------------------------------------------------------------ the last tests
+-- ------------------------------------------------------------------ the last step
 
 -- 22, 23 and 24 in their order, else the text
 pub data Finish (made : ℕ) (u : Term Name) (cells text : List ℕ) : Expanded → Type 0 where
@@ -130,142 +84,196 @@ pub data Finish (made : ℕ) (u : Term Name) (cells text : List ℕ) : Expanded 
       })
 
 module _ (made : ℕ) (u : Term Name) (cells text : List ℕ) where
-  abbrev Done : Checked (List ℕ) → Type 0
-  Done c = Finish made u cells text (written made u cells text c)
+  abbrev Done : Checked (Unit {0}) → Type 0
+  Done c = Finish made u cells text (withCells cells (emittedIf c textOf made u text))
 
-  by-room : size u ≤ largestTerm → loosePlaces (occurrences [] 0 u) ≡ [] → Done (ok (print (rename u)))
+  by-room : size u ≤ largestTerm → loosePlaces (occurrences [] 0 u) ≡ [] → Done (ok tt)
   by-room small none = go (leb (length (print (rename u))) (length text)) refl
     where
       go : (b : Bool) → leb (length (print (rename u))) (length text) ≡ b
           → Finish made u cells text
-          (elim b as (λ x. Expanded) [
-            | false ↦ refused (refusal 24 (length (print (rename u))) 0 0) cells text
+          (withCells cells
+          (elim b as (λ x. Emitted) [
+            | false ↦ record { answer = Refusing (refusal 24 (length (print (rename u))) 0 0); text = text }
             | true ↦
                 record {
                   answer = Accepted made (size u) (length (print (rename u)));
-                  cells = cells;
                   text = print (rename u) ++ drop (length (print (rename u))) text;
                 }
-          ])
+          ]))
       go true e = prints small none (leb-true _ _ e)
       go false e = too-long small none (leb-false _ _ e)
 
-  by-walk : (ps : List ℕ) → loosePlaces (occurrences [] 0 u) ≡ ps → size u ≤ largestTerm
-      → Done (closed (stopsAtFirst ps (size u)) >>= λ x. ok (print (rename u)))
+  by-walk : (ps : List ℕ) → loosePlaces (occurrences [] 0 u) ≡ ps → size u ≤ largestTerm → Done (noneLoose (stopsAtFirst ps (size u)) >>= λ x. ok tt)
   by-walk [] e small = by-room small e
   by-walk (p ∷ ps) e small = is-loose small e
 
-  by-size : (b : Bool) → leb (size u) largestTerm ≡ b
-      → Done (elim b as (λ x. Checked (List ℕ)) [ false ↦ bad (refusal 22 made 0 0) | true ↦ closed (walk [] 0 u) >>= λ x. ok (print (rename u)) ])
+  by-size : (b : Bool) → leb (size u) largestTerm ≡ b → Done (need b 22 made >>= λ x. noneLoose (walk [] 0 u) >>= λ y. ok tt)
   by-size false e = too-big (leb-false (size u) largestTerm e)
   by-size true e =
-      subst (λ w. Done (closed w >>= λ x. ok (print (rename u)))) (sym (terms.first-loose u))
-      (by-walk (loosePlaces (occurrences [] 0 u)) refl (leb-true (size u) largestTerm e))
+      subst (λ w. Done (noneLoose w >>= λ x. ok tt)) (sym (terms.first-loose u)) (by-walk (loosePlaces (occurrences [] 0 u)) refl (leb-true (size u) largestTerm e))
 
-  pub finishes : Finish made u cells text (written made u cells text (textOf made u))
-  unfolding textOf
+  pub finishes : Finish made u cells text (withCells cells (emitted textOf made u text))
+  unfolding emitted passing
   finishes = by-size (leb (size u) largestTerm) refl
 
 -- ------------------------------------------------------------------ the tokens
 
-among-every : (P : Token → Type 0) {ts : List Token} {w : Token} → Among ts w → Every P ts → P w
-among-every P among-first p = p .0
-among-every P (among-later a) p = among-every P a (p .1)
+every-has : (P : Token → Type 0) {ts : List Token} {w : Token} → Has ts w → Every P ts → P w
+every-has P has-first p = p .0
+every-has P (has-later a) p = every-has P a (p .1)
 
-each-at : {A : Type 0} {P : A → Type 0} {xs : List A} → Each P xs → (n : ℕ) (d : A) → n < length xs → P (getD xs n d)
-each-at each-none n d l = absurd (omega arith)
-each-at (each-more h hs) zero d l = h
-each-at (each-more h hs) (suc n) d l = each-at hs n d (omega arith)
+each-getD : {A : Type 0} {P : A → Type 0} {xs : List A} → Each P xs → (n : ℕ) (d : A) → n < length xs → P (getD xs n d)
+each-getD each-none n d l = absurd (omega arith)
+each-getD (each-more h hs) zero d l = h
+each-getD (each-more h hs) (suc n) d l = each-getD hs n d (omega arith)
 
-module _ (t : Table) (within : Within t) (meets : Meets t) (formula : List ℕ) where
-  abbrev lex : Lexicon
+module _ (t : Table) (T : Passing t) (formula : List ℕ) where
+  abbrev pub lex : Lexicon
   lex = lexiconOfTable t
 
-  spelled-at : (w : Token) → Among (scanOf t formula .tokens) w → w .kind ≡ wordKind → Spelled lex formula (scanOf t formula .words) w
-  spelled-at w a k = among-every (λ v. v .kind ≡ wordKind → Spelled lex formula (scanOf t formula .words) v) a (scan-spelled lex (within .outsideCount) formula) k
+  few : length (t .outsides) ≤ 64
+  few = T .within .outsideCount
 
-  -- a word's spelling number stands for its bytes, and an outside name's for the table's spelling
-  pub words-spelled : (w : Token) → Among (scanOf t formula .tokens) w → w .kind ≡ wordKind → spellOf t formula (w .value) ≡ bytesOf formula w
-  unfolding spell
-  words-spelled w a k = spelled-number lex (within .outsideCount) formula (scanOf t formula .words) w (spelled-at w a k)
+  -- tokens and words by the rules are those of the scan
+  abbrev Lexing : List Token → List (List ℕ) → Lexed
+  Lexing ts ws = record { answer = Tokens (length ts) (length ws); tokens = ts; words = ws }
 
-  pub outsides-spelled : (n : ℕ) → n < length (t .outsides) → spellOf t formula n ≡ getD (t .outsides) n []
-  unfolding spell
-  outsides-spelled n l = rw (lt-ltb n 64 (omega (arith, within .outsideCount)), spell) refl
+  pub scanned-as : {ts : List Token} {ws : List (List ℕ)} → Scans t formula ts ws → scan lex formula ≡ Lexing ts ws
+  scanned-as {ts} {ws} S = scanner.accepted-exactly lex few formula ts ws .1 (S .short, S .tiled, S .few)
 
-  words-worded : (w : Token) → Among (scanOf t formula .tokens) w → w .kind ≡ wordKind → isWord (spellOf t formula (w .value)) ≡ true
-  words-worded w a k = ap isWord (words-spelled w a k) ∙ spelled-at w a k .is-word
+  pub scans-of : {n m : ℕ} → scan lex formula .answer ≡ Tokens n m → Scans t formula (scan lex formula .tokens) (scan lex formula .words)
+  scans-of {n} {m} e =
+      let c = scanner.tokens-counted lex few formula e in
+      let ts = scan lex formula .tokens in
+      let ws = scan lex formula .words in
+      let same : scan lex formula ≡ Lexing ts ws = ap (λ (a : Scanned). record { answer = a; tokens = ts; words = ws }) (e ∙ ap₂ Tokens (c .0) (c .1)) in
+      let q = scanner.accepted-exactly lex few formula ts ws .0 same in
+      record { short = q .0; tiled = q .1; few = q .2 }
 
-  outsides-worded : (n : ℕ) → n < length (t .outsides) → isWord (spellOf t formula n) ≡ true
-  outsides-worded n l = ap isWord (outsides-spelled n l) ∙ each-at (within .outsides) n [] l
+  pub unscans-exactly : (r : Refusal) → (scan lex formula .answer ≡ Unscanned r → Unscans lex formula r) × (Unscans lex formula r → scan lex formula .answer ≡ Unscanned r)
+  unscans-exactly r = scanner.refused-exactly lex few formula r
 
-  pub worded : (u : Term Name) → ParsesAs t formula u → isWorded u ≡ true
-  worded u P = expansion.derived-is-worded t within (meets .sorted) (spellOf t formula) (scanOf t formula .tokens) words-worded outsides-worded u P
+  module _ {ts : List Token} {ws : List (List ℕ)} (S : Scans t formula ts ws) where
+    pub lexemes : Lexemes
+    lexemes =
+        record {
+          spell = spellOf t ws;
+          tokens = ts;
+          small = subst (λ (l : Lexed). SmallWords (l .tokens)) (scanned-as S) (expansion.scanned-is-small lex few formula);
+        }
 
-  pub small : SmallWords (scanOf t formula .tokens)
-  small = expansion.scanned-is-small lex (within .outsideCount) formula
+    spelled-at : (w : Token) → Has ts w → w .kind ≡ wordKind → Spelled lex formula ws w
+    spelled-at w a k =
+        every-has (λ v. v .kind ≡ wordKind → Spelled lex formula ws v) a
+        (subst (λ (l : Lexed). Every (λ v. v .kind ≡ wordKind → Spelled lex formula (l .words) v) (l .tokens)) (scanned-as S) (scan-spelled lex few formula)) k
 
-  pub firsts-passed : checkFirsts (grammarOf t) ≡ ok tt
-  firsts-passed = passes-exactly (grammarOf t) .1 (meets .not-left-recursive, meets .without-clash)
+    -- a word's spelling number stands for its bytes, and an outside name's for the table's spelling
+    pub words-as-written : (w : Token) → Has ts w → w .kind ≡ wordKind → spellOf t ws (w .value) ≡ bytesOf formula w
+    words-as-written w a k = spelled-number lex few formula ws w (spelled-at w a k)
+
+    pub outsides-as-listed : (n : ℕ) → n < length (t .outsides) → spellOf t ws n ≡ getD (t .outsides) n []
+    outsides-as-listed n l = rw (lt-ltb n 64 (omega (arith, few)), spelled) refl
+
+    pub worded : {u : Term Name} → Parses (grammarOf t) (spellOf t ws) (t .root) ts u → isWorded u ≡ true
+    unfolding lexemes
+    worded P =
+        expansion.derived-is-worded t T lexemes (λ w a k. ap isWord (words-as-written w a k) ∙ spelled-at w a k .is-word)
+        (λ n l. ap isWord (outsides-as-listed n l) ∙ each-getD (T .within .outsides) n [] l) P
+
+  -- the term of a formula
+  pub means-one : {u w : Term Name} → Means t formula u → Means t formula w → u ≡ w
+  unfolding lexemes
+  means-one {u} {w} M N =
+      let e : Lexing (M .tokens) (M .words) ≡ Lexing (N .tokens) (N .words) = sym (scanned-as (M .scans)) ∙ scanned-as (N .scans) in
+      expansion.derived-once t T (lexemes (N .scans))
+      (subst (λ (l : Lexed). Parses (grammarOf t) (spellOf t (l .words)) (t .root) (l .tokens) u) e (M .parsed)) (N .parsed)
 
   -- ------------------------------------------------------------------ the stages
 
-  module _ (cells : List ℕ) where
-    pub room : rowsIn cells * columns ≤ length cells
+  module _ (cells text : List ℕ) where
+    pub room : rowsLent cells * columns ≤ length cells
     room = omega arith
 
-    abbrev pub RunsTo : Result ℕ → Type 0
-    RunsTo x = Runs (grammarOf t) (t .root) (scanOf t formula .tokens) (rowsIn cells) cells x
+    abbrev pub RunsTo : List Token → Result ℕ → Type 0
+    RunsTo ts x = Runs (grammarOf t) (t .root) ts (rowsLent cells) cells x
 
-    abbrev pub Overruns : Refusal → Type 0
-    Overruns r = Overrun (rowsIn cells) (grammarOf t) (spellOf t formula) (t .root) (scanOf t formula .tokens) r
+    abbrev pub Stopped : List Token → List (List ℕ) → Refusal → Type 0
+    Stopped ts ws r = Refuses (grammarOf t) (spellOf t ws) (rowsLent cells) ts (t .root) r
 
-    -- a run that halts has met a token that does not fit or is left over, or a limit
-    pub halted : (r : Refusal) (cells′ : List ℕ) → RunsTo (halt r cells′) → ((r .number ≡ 17) ⊎ (r .number ≡ 18)) ⊎ Overruns r
-    halted r cells′ e =
-        let F = table-fits t within (meets .sorted) in
-        let R = Refused F firsts-passed (spellOf t formula) (scanOf t formula .tokens) (rowsIn cells) small (t .root) in
-        subst (λ x. building.Ends (λ v s c. Unit {0}) R x) e
-        (run-stops F firsts-passed (spellOf t formula) (scanOf t formula .tokens) (rowsIn cells) small (t .root) (omega (arith, within .root)) (meets .sorted .signature)
-        (meets .sorted .defined) (meets .sorted .without) cells room)
+    pub stops-exactly : {ts : List Token} {ws : List (List ℕ)} → Scans t formula ts ws → (r : Refusal)
+        → ((cells′ : List ℕ) × RunsTo ts (halt r cells′) → Stopped ts ws r) × (Stopped ts ws r → (cells′ : List ℕ) × RunsTo ts (halt r cells′))
+    unfolding lexemes
+    stops-exactly S r = expansion.refused-exactly t T (lexemes S) (rowsLent cells) cells room r
 
-    over-number : {r : Refusal} → Overruns r → (19 ≤ r .number) × (r .number ≤ 21)
-    over-number {r} o = go (o .beyond)
-      where
-        go : Rattle.expansion.specs.Costs.Beyond (rowsIn cells) Rattle.expansion.specs.Expansion.mostOpen (o .opened) (o .begun) (o .made) r → (19 ≤ r .number) × (r .number ≤ 21)
-        go (too-deep e l) = (omega (arith, e), omega (arith, e))
-        go (too-many e l) = (omega (arith, e), omega (arith, e))
-        go (too-large e l) = (omega (arith, e), omega (arith, e))
+    -- a term within the limits is run to its end
+    pub record Reached {u : Term Name} (E : MeansWithin t formula cells u) (v : ℕ) (s : State) (cells′ : List ℕ) : Type 0 where
+      pub runs : RunsTo (E .means .tokens) (done v s cells′)
+      pub made-is : s .made ≡ cellsOf E
+      pub shows : termAt (s .made) (spellOf t (E .means .words)) cells′ v ≡ u
 
-    pub middle : (r : Refusal) (cells′ : List ℕ) → RunsTo (halt r cells′) → (17 ≤ r .number) × (r .number ≤ 21)
-    middle r cells′ e = go (halted r cells′ e)
-      where
-        go : ((r .number ≡ 17) ⊎ (r .number ≡ 18)) ⊎ Overruns r → (17 ≤ r .number) × (r .number ≤ 21)
-        go (inl (inl n)) = (omega (arith, n), omega (arith, n))
-        go (inl (inr n)) = (omega (arith, n), omega (arith, n))
-        go (inr o) = let n = over-number o in (omega (arith, n .0), n .1)
+    pub run-to-end : {u : Term Name} (E : MeansWithin t formula cells u) → (v : ℕ) × (s : State) × (cells′ : List ℕ) × Reached E v s cells′
+    unfolding lexemes
+    run-to-end {u} E =
+        let R = lexemes (E .means .scans) in
+        let a = expansion.accepted-exactly t T R (rowsLent cells) cells room u .1 (E .means .parsed, E .affords) in
+        let c = expansion.accepted-as-derived t T R (rowsLent cells) cells room (E .means .parsed) (a .0) (a .1) (a .2) (a .3) in
+        (a .0, a .1, a .2, record { runs = a .3; made-is = c .1; shows = a .4 })
 
-    module _ (text : List ℕ) where
-      pub data Stage : Expanded → Type 0 where
-        in-scan : {r : Refusal} → scanOf t formula .answer ≡ Unscanned r → 14 ≤ r .number → r .number ≤ 16 → Stage (refused r cells text)
-        in-parse : {r : Refusal} {cells′ : List ℕ} → IsTokens t formula → RunsTo (halt r cells′) → 17 ≤ r .number → r .number ≤ 21 → Stage (refused r cells′ text)
-        at-last : {u : Term Name} {cells′ : List ℕ} {x : Expanded} {v : ℕ} {s : State} (E : MeansWithin t formula cells u) → RunsTo (done v s cells′) → s .made ≡ cellsOf E
-            → termAt (cellsOf E) (spellOf t formula) cells′ v ≡ u → Finish (cellsOf E) u cells′ text x → Stage x
+    -- what is run to its end means a term within the limits
+    pub meant : {ts : List Token} {ws : List (List ℕ)} → Scans t formula ts ws → (v : ℕ) (s : State) (cells′ : List ℕ) → RunsTo ts (done v s cells′)
+        → (E : MeansWithin t formula cells (termAt (s .made) (spellOf t ws) cells′ v)) × Reached E v s cells′
+    unfolding lexemes
+    meant {ts} {ws} S v s cells′ e =
+        let R = lexemes S in
+        let W = expansion.accepted-exactly t T R (rowsLent cells) cells room (termAt (s .made) (spellOf t ws) cells′ v) .0 (v, s, cells′, e, refl) in
+        let c = expansion.accepted-as-derived t T R (rowsLent cells) cells room (W .0) v s cells′ e in (
+          record { means = record { tokens = ts; words = ws; scans = S; parsed = W .0 }; affords = W .1 },
+          record { runs = e; made-is = c .1; shows = refl },
+        )
 
-      by-run : IsTokens t formula → (x : Result ℕ) → RunsTo x → Stage (finished (spellOf t formula) text x)
-      by-run T (halt r cells′) e = let m = middle r cells′ e in in-parse T e (m .0) (m .1)
-      by-run T (done v s cells′) e =
-          let u : Term Name = termAt (s .made) (spellOf t formula) cells′ v in
-          let W = expansion.accepted-exactly t within (meets .sorted) firsts-passed (spellOf t formula) (scanOf t formula .tokens) small (rowsIn cells) cells room u .0 (v, s, cells′, e, refl) in
-          let c = expansion.accepted-as-derived t within (meets .sorted) firsts-passed (spellOf t formula) (scanOf t formula .tokens) small (rowsIn cells) cells room (W .0) v s cells′ e in
-          let E : MeansWithin t formula cells u = record { means = record { tokens = T; parsed = W .0 }; limited = W .1 } in
-          at-last {v = v} {s = s} E e (c .2) (ap (λ m. termAt m (spellOf t formula) cells′ v) (sym (c .2)))
-          (subst (λ m. Finish m u cells′ text (written (s .made) u cells′ text (textOf (s .made) u))) (c .2) (finishes (s .made) u cells′ text))
+    -- the stages, with what is handed back
+    pub data Stage : Expanded → Type 0 where
+      in-scan : {r : Refusal} → Unscans lex formula r → Stage (refused r cells text)
+      in-parse : {r : Refusal} {ts : List Token} {ws : List (List ℕ)} {cells′ : List ℕ} → Scans t formula ts ws → RunsTo ts (halt r cells′) → Stopped ts ws r
+          → Stage (refused r cells′ text)
+      at-last : {u : Term Name} {v : ℕ} {s : State} {cells′ : List ℕ} {x : Expanded} (E : MeansWithin t formula cells u) → Reached E v s cells′
+          → Finish (cellsOf E) u cells′ text x → Stage x
 
-      by-scan : (a : Scanned) → scanOf t formula .answer ≡ a → Early a → Stage (scanned t (scanOf t formula) a cells text)
-      by-scan (Unscanned r) e h = in-scan e (h .0) (h .1)
-      by-scan (Tokens n m) e h = by-run (record { count = n; words = m; answer = e }) (run (inputOf t (scanOf t formula .tokens) cells) (t .root) cells) refl
+    by-run : {ts : List Token} {ws : List (List ℕ)} → Scans t formula ts ws → (x : Result ℕ) → RunsTo ts x → Stage (finished (spellOf t ws) text x)
+    by-run S (halt r cells′) e = in-parse S e (stops-exactly S r .0 (cells′, e))
+    by-run {ts} {ws} S (done v s cells′) e =
+        let m = meant S v s cells′ e in
+        let u : Term Name = termAt (s .made) (spellOf t ws) cells′ v in
+        at-last (m .0) (m .1) (subst (λ n. Finish n u cells′ text (withCells cells′ (emitted textOf (s .made) u text))) (m .1 .made-is) (finishes (s .made) u cells′ text))
 
-      pub stages : Stage (expandTable t formula cells text)
-      unfolding expandTable
-      stages = by-scan (scanOf t formula .answer) refl (scan-early lex formula)
+    by-scan : (a : Scanned) → scan lex formula .answer ≡ a → Stage (scanned t (scan lex formula) a cells text)
+    by-scan (Unscanned r) e = in-scan (unscans-exactly r .0 e)
+    by-scan (Tokens n m) e = by-run (scans-of e) (run (inputOf t (scan lex formula .tokens) cells) (t .root) cells) refl
+
+    pub stages : Stage (expandTable t formula cells text)
+    unfolding expandTable
+    stages = by-scan (scan lex formula .answer) refl
+
+    -- ------------------------------------------------------------------ back from the rules
+
+    pub unscanned-ends : {r : Refusal} → Unscans lex formula r → expandTable t formula cells text ≡ refused r cells text
+    unfolding expandTable
+    unscanned-ends {r} u = ap (λ (a : Scanned). scanned t (scan lex formula) a cells text) (unscans-exactly r .1 u)
+
+    run-ends : {ts : List Token} {ws : List (List ℕ)} → Scans t formula ts ws → (x : Result ℕ) → RunsTo ts x
+        → expandTable t formula cells text ≡ finished (spellOf t ws) text x
+    unfolding expandTable
+    run-ends {ts} {ws} S x e = ap (λ (l : Lexed). scanned t l (l .answer) cells text) (scanned-as S) ∙ ap (λ (y : Result ℕ). finished (spellOf t ws) text y) e
+
+    pub stopped-ends : {r : Refusal} {ts : List Token} {ws : List (List ℕ)} → Scans t formula ts ws → Stopped ts ws r
+        → (cells′ : List ℕ) × (expandTable t formula cells text ≡ refused r cells′ text)
+    stopped-ends {r} S h = let q = stops-exactly S r .1 h in (q .0, run-ends S (halt r (q .0)) (q .1))
+
+    pub meant-ends : {u : Term Name} (E : MeansWithin t formula cells u) → (cells′ : List ℕ) × Finish (cellsOf E) u cells′ text (expandTable t formula cells text)
+    meant-ends {u} E =
+        let q = run-to-end E in
+        let e : expandTable t formula cells text ≡ withCells (q .2) (emitted textOf (cellsOf E) u text)
+        = run-ends (E .means .scans) (done (q .0) (q .1) (q .2)) (q .3 .runs)
+        ∙ ap₂ (λ (m : ℕ) (w : Term Name). withCells (q .2) (emitted textOf m w text)) (q .3 .made-is) (q .3 .shows) in
+        (q .2, subst (Finish (cellsOf E) u (q .2) text) (sym e) (finishes (cellsOf E) u (q .2) text))

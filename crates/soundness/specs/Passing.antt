@@ -1,0 +1,19 @@
+-- What the theorems on an expansion are given: a table that passes, and the tokens of a formula.
+use Prim.Native.Nat.{ℕ}
+use mathlib.Core.List.{List}
+use Rattle.grammar.specs.Table.{Table}
+use Rattle.layout.specs.Within.{Within}
+use Rattle.scanner.specs.declared.Token.{Token}
+use Rattle.checker.specs.Passes.{Meets}
+use Rattle.expansion.specs.Parsing.{SmallWords}
+
+-- a table within the counts, spellings and ranges that meets the rules
+pub record Passing (t : Table) : Type 0 where
+  pub within : Within t
+  pub meets : Meets t
+
+-- tokens whose words have numbers that a name can hold, and what a spelling number stands for
+pub record Lexemes : Type 0 where
+  pub spell : ℕ → List ℕ
+  pub tokens : List Token
+  pub small : SmallWords tokens

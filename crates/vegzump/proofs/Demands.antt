@@ -1,0 +1,123 @@
+-- Everything that is promised of an expansion, from the bytes of a table and a formula to the answer and to all that was lent, on one page.
+-- `expand` (specs/Expand) is what the public call promises by equation. What its answers mean, by rules: specs/Meaning (the term of a formula,
+-- refusals 14 to 24, acceptance), specs/Origins and specs/Hygiene (demand 3); below them the rules of the scanner (Tiling, Unscanned), of 001's
+-- Figure 3 and of where an expansion stops (expansion: Figure3, Costs, Stopping, Places), and of a table that passes (checker: Passes).
+use Prim.Native.Nat.{ℕ, _≤_, _<_}
+use mathlib.Core.Path.{_≡_, refl, ap, subst⁻¹}
+use mathlib.Core.Logic.{_↔_}
+use mathlib.Core.List.{List, _++_}
+use lib.ListN.{length, getD, drop}
+use Rattle.answers.specs.declared.Refusal.{Refusal}
+use Rattle.answers.specs.declared.Answer.{Answer}
+use Rattle.answers.specs.declared.Answer.the-variants.{Accepted, Refusing}
+use Rattle.answers.specs.declared.Verdict.the-variants.{Refused}
+use Rattle.answers.specs.Checked.{Checked, ok, bad, verdict}
+use Rattle.grammar.specs.Table.{Template, Item, Table}
+use Rattle.layout.specs.Within.{TemplateWithin}
+use Rattle.sorts.specs.Judgements.{Sorted, Body}
+use Rattle.scanner.specs.declared.Token.{Token}
+use Rattle.scanner.specs.Unscanned.{Unscans}
+use Rattle.checker.specs.Check.{passedTable, check}
+use Rattle.checker.specs.Passes.{grammarOf, Passes}
+use Rattle.checker.proofs.TableTheorems.{check-exactly}
+use Rattle.expansion.specs.Figure3.{Value, Gives, Derives}
+use Rattle.expansion.specs.ValueSorts.{Typed, Matches}
+use Rattle.soundness.specs.Passing.{Passing}
+use Rattle.soundness.proofs.Normalizing.{scopeOf}
+use Rattle.soundness.proofs.ExpansionTheorems as expansion
+use Rattle.terms.specs.Term.{Name, Term}
+use Rattle.terms.specs.Rows.{termAt}
+use Rattle.terms.specs.Rename.{rename}
+use Rattle.terms.specs.Print.{print}
+use Rattle.vegzump.specs.Expand.{Expanded, expanded, refused, lexiconOfTable, checkedFirst, expand}
+use Rattle.vegzump.specs.Meaning.{spellOf, Means, rowsLent, textLength, Cause, Accepts, Left}
+use Rattle.vegzump.specs.Hygiene.{Demand3}
+use Rattle.vegzump.proofs.Stages.{expand-passed, means-one}
+use Rattle.vegzump.proofs.Exactly as exactly
+use Rattle.vegzump.proofs.Hygiene as hygiene
+
+-- every list of bytes as table, every formula, cells and text
+module _ (table : List ℕ) (bytes : (i : ℕ) → getD table i 0 < 256) (formula cells text : List ℕ) where
+  abbrev X : Expanded
+  X = expand table formula cells text
+
+  -- ------------------------------------------------------------------ demand 3
+
+  -- If the table passes, an expansion ends in one of the refusals 14 to 24 with the text as lent, or in the one term that Figure 3 derives,
+  -- each part of the sort that its place demands, printed so that each variable belongs by nesting to exactly the binder that its origin
+  -- calls for.
+  pub demand-3 : Demand3 table formula text (X .answer) (X .text)
+  demand-3 = hygiene.demand-3 table bytes formula cells text
+
+  -- So does every call that answers as `expand` does.
+  pub call-meets-demand-3 : {answer : Answer} {cells′ text′ : List ℕ} → expanded answer cells′ text′ ≡ X → Demand3 table formula text answer text′
+  call-meets-demand-3 e = subst⁻¹ (λ (x : Expanded). Demand3 table formula text (x .answer) (x .text)) e demand-3
+
+  -- ------------------------------------------------------------------ demand 2: a table that does not pass
+
+  -- A table that does not pass gets exactly the refusal of its check, and nothing that was lent changes.
+  pub not-passed : (Passes table → ⊥) → (r : Refusal) × (check table ≡ Refused r) × (X ≡ refused r cells text)
+  unfolding check expand
+  not-passed n = go (passedTable table) refl
+    where
+      go : (c : Checked Table) → passedTable table ≡ c
+          → (r : Refusal) × (check table ≡ Refused r) × (checkedFirst (passedTable table) formula cells text ≡ refused r cells text)
+      go (ok t) e = absurd (n (check-exactly table bytes .0 (ap verdict e)))
+      go (bad r) e = (r, ap verdict e, ap (λ d. checkedFirst d formula cells text) e)
+
+  -- ------------------------------------------------------------------ demand 2: a table that passes
+
+  module _ (P : Passes table) where
+    abbrev T : Passing (P .table)
+    T = record { within = P .within; meets = P .meets }
+
+    -- A refusal is given exactly in its case of document 01's table of causes, with the values listed there.
+    pub refused-exactly : (r : Refusal) → (X .answer ≡ Refusing r) ↔ Cause (P .table) formula cells text r
+    refused-exactly = rw (expand-passed table bytes P formula cells text) (exactly.refused-exactly (P .table) T formula cells text)
+
+    -- A formula is accepted exactly if Figure 3 derives a term within the limits and the rows lent, which is not too large, has no loose
+    -- fresh variable and fits the text lent; a, b and c are its cells, constructors and bytes.
+    pub accepted-exactly : (a b c : ℕ) → (X .answer ≡ Accepted a b c) ↔ ((u : Term Name) × Accepts (P .table) formula cells text u a b c)
+    accepted-exactly = rw (expand-passed table bytes P formula cells text) (exactly.accepted-exactly (P .table) T formula cells text)
+
+    -- Figure 3 derives one term at most.
+    pub one-term : {u w : Term Name} → Means (P .table) formula u → Means (P .table) formula w → u ≡ w
+    one-term = means-one (P .table) T formula
+
+    -- The text of an acceptance is that term renamed and printed, with what was lent behind it.
+    pub accepted-text : (a b c : ℕ) → X .answer ≡ Accepted a b c → {u : Term Name} → Means (P .table) formula u
+        → X .text ≡ print (rename u) ++ drop (textLength u) text
+    accepted-text = rw (expand-passed table bytes P formula cells text) (exactly.accepted-text (P .table) T formula cells text)
+
+    -- A row of its cells shows that term.
+    pub accepted-cells : (a b c : ℕ) → X .answer ≡ Accepted a b c → {u : Term Name} (M : Means (P .table) formula u)
+        → (v : ℕ) × (termAt a (spellOf (P .table) (M .words)) (X .cells) v ≡ u)
+    accepted-cells = rw (expand-passed table bytes P formula cells text) (exactly.accepted-cells (P .table) T formula cells text)
+
+    -- ------------------------------------------------------------------ what is left as it was
+
+    -- Every refusal leaves the text as it was; 14, 15 and 16 leave the cells too.
+    pub text-kept : (r : Refusal) → X .answer ≡ Refusing r → X .text ≡ text
+    text-kept = rw (expand-passed table bytes P formula cells text) (exactly.text-kept (P .table) T formula cells text)
+
+    pub cells-kept : (r : Refusal) → Unscans (lexiconOfTable (P .table)) formula r → X .cells ≡ cells
+    cells-kept = rw (expand-passed table bytes P formula cells text) (exactly.cells-kept (P .table) T formula cells text)
+
+    -- Any answer leaves the cells behind the rows made, which are no more than there are, and on acceptance are a.
+    pub cells-left : (m : ℕ) × (m ≤ rowsLent cells) × Left m cells (X .cells) × ((a b c : ℕ) → X .answer ≡ Accepted a b c → a ≡ m)
+    cells-left =
+        let k = exactly.keeps (P .table) T formula cells text in
+        rw (expand-passed table bytes P formula cells text) (k .rows, k .few, k .left, k .counted)
+
+    -- ------------------------------------------------------------------ 001, Theorem 1
+
+    -- Parsing respects typing: under variables of their sorts, an alternative of sort B derives a value of sort B.
+    pub parsing-respects-typing : {spell : ℕ → List ℕ} {M M′ : List Value} {s s′ : List Token} {i i′ : ℕ} {items : List Item} {result : Template} {L : List ℕ} {B : ℕ} {v : Value}
+        → Body (scopeOf (P .table) (P .meets .sorted)) L items result B → Matches M L
+        → Derives (grammarOf (P .table)) spell M s i items M′ s′ i′ → Gives spell M′ result v → Typed v B
+    parsing-respects-typing = expansion.parsing-respects-typing (P .table) T
+
+-- And a well sorted template, under variables of their sorts, gives a value of its sort: it never gives `wrong`.
+pub never-wrong : (spell : ℕ → List ℕ) {N : ℕ} {M : List Value} {L : List ℕ} {A : ℕ} (t : Template) → Matches M L → Sorted N L t A → TemplateWithin t
+    → (v : Value) × Gives spell M t v × Typed v A
+never-wrong = expansion.never-wrong

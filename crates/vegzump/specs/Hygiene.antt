@@ -1,0 +1,55 @@
+-- What demand 3 asks of an expansion, from the bytes of a table and a formula to the text at exit. Document 01, "Whose name is whose".
+use Prim.Native.Nat.{ℕ, _≤_, _<_}
+use mathlib.Core.Path.{_≡_}
+use mathlib.Core.List.{List, [], _++_, map}
+use lib.ListN.{length, getD, drop}
+use Rattle.answers.specs.declared.Refusal.{Refusal}
+use Rattle.answers.specs.declared.Answer.{Answer}
+use Rattle.answers.specs.declared.Answer.the-variants.{Accepted, Refusing}
+use Rattle.kinds.specs.Kinds.{wordKind}
+use Rattle.grammar.specs.Table.{Table}
+use Rattle.layout.specs.Within.{Each}
+use Rattle.scanner.specs.declared.Token.{Token}
+use Rattle.scanner.specs.Tiling.{bytesOf}
+use Rattle.checker.specs.Passes.{Passes}
+use Rattle.expansion.specs.Places.{givenIn, Has, Placed}
+use Rattle.terms.specs.Term.{Name, Term, size}
+use Rattle.terms.specs.Rename.{rename}
+use Rattle.terms.specs.Print.{none, more, treeOf}
+use Rattle.terms.specs.Parts.{constructors, shape}
+use Rattle.terms.specs.Binding.{Occurrence, useOf, constructorsInAll, nestingAll}
+use Rattle.terms.specs.Reading.{readText}
+use Rattle.vegzump.specs.Meaning.{spellOf, Means}
+use Rattle.vegzump.specs.Origins.{Occurs, IsOwned}
+
+-- The text `out` is the one term u of demand 2. Each part of u has the sort that its place demands; its words are the bytes of their tokens,
+-- its outside names the table's spellings. The text has u's constructors and labels, and each of its variables belongs, by nesting and
+-- bytes, to exactly the binder that its origin calls for.
+pub record Hygienic (t : Table) (formula : List ℕ) (u : Term Name) (out : List ℕ) : Type 0 where
+  pub means : Means t formula u
+  pub only : (w : Term Name) → Means t formula w → w ≡ u
+  pub sorted : Placed (givenIn (means .parsed .derived)) (spellOf t (means .words)) u
+  pub words-as-written : (w : Token) → Has (means .tokens) w → w .kind ≡ wordKind → spellOf t (means .words) (w .value) ≡ bytesOf formula w
+  pub outsides-as-listed : (n : ℕ) → n < length (t .outsides) → spellOf t (means .words) n ≡ getD (t .outsides) n []
+  pub reads-back : readText out ≡ more (treeOf (rename u)) none
+  pub same-constructors : constructorsInAll (readText out) ≡ constructors u
+  pub labels-stay : shape (rename u) ≡ shape u
+  pub occurrences : List Occurrence
+  pub occur : Occurs [] 0 u occurrences
+  pub owned : Each IsOwned occurrences
+  pub whose : nestingAll [] 0 (readText out) ≡ map useOf occurrences
+
+-- Of a passed table t: an answer, with the text at exit, is one of the refusals 14 to 24 and the text as lent, or an acceptance and a
+-- hygienic text in front of what was lent.
+pub data Ends (t : Table) (formula text : List ℕ) : Answer → List ℕ → Type 0 where
+  refuses : (r : Refusal)
+      → 14 ≤ r .number
+      → r .number ≤ 24
+      → Ends t formula text (Refusing r) text
+  prints : {cells : ℕ} {u : Term Name} {out : List ℕ}
+      → Hygienic t formula u out
+      → Ends t formula text (Accepted cells (size u) (length out)) (out ++ drop (length out) text)
+
+-- demand 3, of the bytes of any table
+abbrev pub Demand3 : List ℕ → List ℕ → List ℕ → Answer → List ℕ → Type 0
+Demand3 table formula text answer text′ = (P : Passes table) → Ends (P .table) formula text answer text′
