@@ -22,7 +22,8 @@ use Rattle.terms.specs.Rows.{termAt}
 use Rattle.terms.specs.Rename.{rename}
 use Rattle.terms.specs.Print.{print}
 use Rattle.terms.specs.Binding.{occurrences, loosePlaces}
-use Rattle.vegzump.specs.Expand.{Expanded, refused, largestTerm, inputOf, checkedFirst, expandTable, expand}
+use Rattle.terms.specs.Emit.{largestTerm}
+use Rattle.vegzump.specs.Expand.{Expanded, refused, inputOf, checkedFirst, expandTable, expand}
 use Rattle.vegzump.specs.Meaning.{scanOf, IsTokens, spellOf, ParsesAs, Means, rowsIn, Overruns, Cause, Accepts, Left}
 use Rattle.vegzump.proofs.Stages.{expand-passed, Finish, too-big, is-loose, too-long, prints, firsts-passed, Stage, in-scan, in-parse, at-last, stages}
 use Rattle.vegzump.proofs.Exactly as exactly

@@ -23,7 +23,8 @@ use Rattle.terms.specs.Rows.{termAt}
 use Rattle.terms.specs.Rename.{rename}
 use Rattle.terms.specs.Print.{print}
 use Rattle.terms.specs.Binding.{occurrences, loosePlaces}
-use Rattle.vegzump.specs.Expand.{Expanded, refused, largestTerm, textOf, written, inputOf, finished, scanned, lexiconOfTable, expandTable}
+use Rattle.terms.specs.Emit.{largestTerm, textOf, emitted}
+use Rattle.vegzump.specs.Expand.{Expanded, refused, withCells, inputOf, finished, scanned, lexiconOfTable, expandTable}
 use Rattle.vegzump.specs.Meaning.{scanOf, IsTokens, spellOf, ParsesAs, Means, rowsIn, MeansWithin, cellsOf, Cause, unscanned, stopped, Accepts, Left}
 use Rattle.vegzump.specs.Meaning as Meaning
 use Rattle.vegzump.proofs.Stages.{Finish, too-big, is-loose, too-long, prints, finishes, small, room, firsts-passed, RunsTo, Overruns, middle, Stage, in-scan, in-parse, at-last, stages}
@@ -121,9 +122,9 @@ module _ (t : Table) (within : Within t) (meets : Meets t) (formula cells text :
   reached {u} E =
       let a = expansion.accepted-exactly t within (meets .sorted) (firsts-passed t within meets formula) (spellOf t formula) (scanOf t formula .tokens) (small t within meets formula) (rowsIn cells) cells (room t within meets formula cells) u .1 (E .means .parsed, E .limited) in
       let c = expansion.accepted-as-derived t within (meets .sorted) (firsts-passed t within meets formula) (spellOf t formula) (scanOf t formula .tokens) (small t within meets formula) (rowsIn cells) cells (room t within meets formula cells) (E .means .parsed) (a .0) (a .1) (a .2) (a .3) in
-      let e : X ≡ written (cellsOf E) u (a .2) text (textOf (cellsOf E) u)
+      let e : X ≡ withCells (a .2) (emitted textOf (cellsOf E) u text)
       = at-scan (E .means .tokens) (done (a .0) (a .1) (a .2)) (a .3)
-      ∙ ap₂ (λ (m : ℕ) (w : Term Name). written m w (a .2) text (textOf m w)) (c .2) (c .0) in
+      ∙ ap₂ (λ (m : ℕ) (w : Term Name). withCells (a .2) (emitted textOf m w text)) (c .2) (c .0) in
       (a .2, subst (Finish (cellsOf E) u (a .2) text) (sym e) (finishes (cellsOf E) u (a .2) text))
 
   -- ------------------------------------------------------------------ 17 to 21

@@ -5,6 +5,7 @@ use mathlib.Core.Logic.{_⊎_, inl, inr}
 use mathlib.Core.Bool.{Bool, true, false}
 use mathlib.Core.List.{List, [], _∷_, _++_}
 use native.Mathlib.Omega.{arith}
+use native.Mathlib.Decide.{decLe}
 use lib.Dec.{leb, ltb}
 use lib.ListN.{length, getD, take, drop}
 use borrow.Author.Tests.{leb-true, leb-false, lt-ltb, le-leb, lt-leb}
@@ -46,12 +47,14 @@ use Rattle.soundness.proofs.Normalizing.{table-fits}
 use Rattle.soundness.proofs.Limits.{Refused, run-stops}
 use Rattle.soundness.proofs.ExpansionTheorems as expansion
 use Rattle.terms.specs.Term.{Name, Term, size}
-use Rattle.terms.specs.Rows.{termAt}
+use Rattle.terms.specs.Rows.{spell, termAt}
+use Rattle.terms.specs.Emit.{largestTerm, textOf, fitted, emitted}
+use Rattle.terms.proofs.EmitLaws.{fitted-long, fitted-whole, emitted-large, emitted-loose, emitted-fitted}
 use Rattle.terms.specs.Rename.{Walk, loose, reached, walk, rename}
 use Rattle.terms.specs.Print.{print}
 use Rattle.terms.specs.Binding.{occurrences, loosePlaces, stopsAtFirst, isWorded}
 use Rattle.terms.proofs.Statements as terms
-use Rattle.vegzump.specs.Expand.{Expanded, refused, largestTerm, closed, textOf, written, spell, mostCells, inputOf, finished, scanned, lexiconOfTable, expandTable, checkedFirst, expand}
+use Rattle.vegzump.specs.Expand.{Expanded, refused, withCells, mostCells, inputOf, finished, scanned, lexiconOfTable, expandTable, checkedFirst, expand}
 use Rattle.vegzump.specs.Meaning.{scanOf, IsTokens, spellOf, ParsesAs, Means, rowsIn, MeansWithin, cellsOf}
 
 -- ------------------------------------------------------------------ the table
@@ -130,41 +133,24 @@ pub data Finish (made : ℕ) (u : Term Name) (cells text : List ℕ) : Expanded 
       })
 
 module _ (made : ℕ) (u : Term Name) (cells text : List ℕ) where
-  abbrev Done : Checked (List ℕ) → Type 0
-  Done c = Finish made u cells text (written made u cells text c)
-
-  by-room : size u ≤ largestTerm → loosePlaces (occurrences [] 0 u) ≡ [] → Done (ok (print (rename u)))
-  by-room small none = go (leb (length (print (rename u))) (length text)) refl
+  by-room : size u ≤ largestTerm → loosePlaces (occurrences [] 0 u) ≡ [] → Finish made u cells text (withCells cells (fitted made (size u) (textOf u) text))
+  by-room small none = by (decLe (length (textOf u)) (length text))
     where
-      go : (b : Bool) → leb (length (print (rename u))) (length text) ≡ b
-          → Finish made u cells text
-          (elim b as (λ x. Expanded) [
-            | false ↦ refused (refusal 24 (length (print (rename u))) 0 0) cells text
-            | true ↦
-                record {
-                  answer = Accepted made (size u) (length (print (rename u)));
-                  cells = cells;
-                  text = print (rename u) ++ drop (length (print (rename u))) text;
-                }
-          ])
-      go true e = prints small none (leb-true _ _ e)
-      go false e = too-long small none (leb-false _ _ e)
+      by : Dec (length (textOf u) ≤ length text) → Finish made u cells text (withCells cells (fitted made (size u) (textOf u) text))
+      by (yes h) = rw (fitted-whole made (size u) (textOf u) text h) (prints small none h)
+      by (no n) = let h : length text < length (textOf u) = omega arith in rw (fitted-long made (size u) (textOf u) text h) (too-long small none h)
 
-  by-walk : (ps : List ℕ) → loosePlaces (occurrences [] 0 u) ≡ ps → size u ≤ largestTerm
-      → Done (closed (stopsAtFirst ps (size u)) >>= λ x. ok (print (rename u)))
-  by-walk [] e small = by-room small e
-  by-walk (p ∷ ps) e small = is-loose small e
+  pub finishes : Finish made u cells text (withCells cells (emitted textOf made u text))
+  finishes = by (decLe (size u) largestTerm) (loosePlaces (occurrences [] 0 u)) refl
+    where
+      walks : {ps : List ℕ} → loosePlaces (occurrences [] 0 u) ≡ ps → walk [] 0 u ≡ stopsAtFirst ps (size u)
+      walks e = terms.first-loose u ∙ ap (λ ps. stopsAtFirst ps (size u)) e
 
-  by-size : (b : Bool) → leb (size u) largestTerm ≡ b
-      → Done (elim b as (λ x. Checked (List ℕ)) [ false ↦ bad (refusal 22 made 0 0) | true ↦ closed (walk [] 0 u) >>= λ x. ok (print (rename u)) ])
-  by-size false e = too-big (leb-false (size u) largestTerm e)
-  by-size true e =
-      subst (λ w. Done (closed w >>= λ x. ok (print (rename u)))) (sym (terms.first-loose u))
-      (by-walk (loosePlaces (occurrences [] 0 u)) refl (leb-true (size u) largestTerm e))
-
-  pub finishes : Finish made u cells text (written made u cells text (textOf made u))
-  unfolding textOf
-  finishes = by-size (leb (size u) largestTerm) refl
+      by : Dec (size u ≤ largestTerm) → (ps : List ℕ) → loosePlaces (occurrences [] 0 u) ≡ ps
+          → Finish made u cells text (withCells cells (emitted textOf made u text))
+      by (no n) ps e = let h : largestTerm < size u = omega arith in rw (emitted-large textOf made u text h) (too-big h)
+      by (yes h) [] e = rw (emitted-fitted textOf made u text h (walks e)) (by-room h e)
+      by (yes h) (p ∷ ps) e = rw (emitted-loose textOf made u text h (walks e)) (is-loose h e)
 
 -- ------------------------------------------------------------------ the tokens
 
@@ -260,7 +246,7 @@ module _ (t : Table) (within : Within t) (meets : Meets t) (formula : List ℕ) 
           let c = expansion.accepted-as-derived t within (meets .sorted) firsts-passed (spellOf t formula) (scanOf t formula .tokens) small (rowsIn cells) cells room (W .0) v s cells′ e in
           let E : MeansWithin t formula cells u = record { means = record { tokens = T; parsed = W .0 }; limited = W .1 } in
           at-last {v = v} {s = s} E e (c .2) (ap (λ m. termAt m (spellOf t formula) cells′ v) (sym (c .2)))
-          (subst (λ m. Finish m u cells′ text (written (s .made) u cells′ text (textOf (s .made) u))) (c .2) (finishes (s .made) u cells′ text))
+          (subst (λ m. Finish m u cells′ text (withCells cells′ (emitted textOf (s .made) u text))) (c .2) (finishes (s .made) u cells′ text))
 
       by-scan : (a : Scanned) → scanOf t formula .answer ≡ a → Early a → Stage (scanned t (scanOf t formula) a cells text)
       by-scan (Unscanned r) e h = in-scan e (h .0) (h .1)

@@ -1,15 +1,12 @@
 -- The whole expansion: from the bytes of a table and a formula, the cells and the text as lent, to the answer, the cells and the
 -- text at exit. Document 01, "Causes, by number": "Every expansion checks the table again".
-use Prim.Native.Nat.{ℕ, _+_, _-_, _/_, min}
-use mathlib.Core.Bool.{Bool, true, false}
-use mathlib.Core.List.{List, [], _∷_, _++_}
-use lib.Dec.{leb, ltb}
-use lib.ListN.{length, getD, drop}
+use Prim.Native.Nat.{ℕ, _/_, min}
+use mathlib.Core.List.{List, []}
+use lib.ListN.{length}
 use Rattle.answers.specs.declared.Refusal.{Refusal}
 use Rattle.answers.specs.declared.Answer.{Answer}
-use Rattle.answers.specs.declared.Answer.the-variants.{Accepted, Refusing}
-use Rattle.answers.specs.Refusals.{refusal}
-use Rattle.answers.specs.Checked.{Checked, ok, bad, _>>=_, _>>_, need}
+use Rattle.answers.specs.declared.Answer.the-variants.{Refusing}
+use Rattle.answers.specs.Checked.{Checked, ok, bad}
 use Rattle.grammar.specs.Table.{Table}
 use Rattle.grammar.specs.Fields.{Lexicon}
 use Rattle.grammar.specs.Cells.{columns}
@@ -22,10 +19,8 @@ use Rattle.checker.specs.Check.{passedTable}
 use Rattle.expansion.specs.declared.State.{State}
 use Rattle.expansion.specs.Run.{Result, done, halt}
 use Rattle.expansion.specs.Expansion.{Input, ready, run}
-use Rattle.terms.specs.Term.{Name, Term, size}
-use Rattle.terms.specs.Rows.{termAt}
-use Rattle.terms.specs.Rename.{Walk, loose, reached, walk, rename}
-use Rattle.terms.specs.Print.{print}
+use Rattle.terms.specs.Rows.{spell, termAt}
+use Rattle.terms.specs.Emit.{textOf, Emitted, emitted}
 
 -- the answer, and all that was lent as it is at exit
 pub record Expanded : Type 0 where
@@ -41,41 +36,11 @@ expanded answer cells text = record { answer = answer; cells = cells; text = tex
 abbrev pub refused : Refusal → List ℕ → List ℕ → Expanded
 refused r cells text = record { answer = Refusing r; cells = cells; text = text }
 
--- ------------------------------------------------------------------ the last tests, 22, 23 and 24
-
-abbrev pub largestTerm : ℕ
-largestTerm = 16384
-
--- 23: the first fresh variable under no binder made with it
-abbrev pub closed : Walk → Checked (Unit {0})
-closed (loose p) = bad (refusal 23 p 0 0)
-closed (reached p) = ok tt
-
--- the text of a term, if the term is not too large and its names are bound
-unfoldable pub textOf : ℕ → Term Name → Checked (List ℕ)
-textOf made t =
-    elim (leb (size t) largestTerm)
-    [ false ↦ bad (refusal 22 made 0 0) | true ↦ closed (walk [] 0 t) >>= λ u. ok (print (rename t)) ]
-
--- the text written at the front of the buffer, if it fits
-abbrev pub written : ℕ → Term Name → List ℕ → List ℕ → Checked (List ℕ) → Expanded
-written made t cells text (bad r) = refused r cells text
-written made t cells text (ok out) =
-    elim (leb (length out) (length text)) [
-      | false ↦ refused (refusal 24 (length out) 0 0) cells text
-      | true ↦
-          record {
-            answer = Accepted made (size t) (length out);
-            cells = cells;
-            text = out ++ drop (length out) text;
-          }
-    ]
+-- the last step of an expansion, beside the cells
+abbrev pub withCells : List ℕ → Emitted → Expanded
+withCells cells e = record { answer = e .answer; cells = cells; text = e .text }
 
 -- ------------------------------------------------------------------ from a passed table
-
--- the spelling of a spelling number: outside names below 64, the formula's other words from 64
-unfoldable pub spell : List (List ℕ) → List (List ℕ) → ℕ → List ℕ
-spell outsides words n = elim (ltb n 64) [ true ↦ getD outsides n [] | false ↦ getD words (n - 64) [] ]
 
 -- the most cells that an expansion makes
 abbrev pub mostCells : ℕ
@@ -86,12 +51,11 @@ inputOf t tokens cells =
     record
     { grammar = ready (normalized (t .blocks)); tokens = tokens; rows = min (length cells / columns) mostCells }
 
--- the term at the root's row, printed
+-- the last step with the term at the root's row, of which the text is written
 abbrev pub finished : (ℕ → List ℕ) → List ℕ → Result ℕ → Expanded
 finished spelled text (halt r cells) = refused r cells text
 finished spelled text (done v s cells) =
-    let t : Term Name = termAt (s .made) spelled cells v in
-    written (s .made) t cells text (textOf (s .made) t)
+    withCells cells (emitted textOf (s .made) (termAt (s .made) spelled cells v) text)
 
 abbrev pub scanned : Table → Lexed → Scanned → List ℕ → List ℕ → Expanded
 scanned t l (Unscanned r) cells text = refused r cells text

@@ -23,7 +23,9 @@ use Rattle.terms.specs.Print.{none, more, treeOf, print}
 use Rattle.terms.specs.Parts.{constructors, shape}
 use Rattle.terms.specs.Binding.{Owner, unbound, boundAt, Calls, Binder, Occurrence, occurrences, loosePlaces, origins, constructorsInAll, nestingAll}
 use Rattle.terms.specs.Reading.{readText}
-use Rattle.vegzump.specs.Expand.{largestTerm, lexiconOfTable, spell, mostCells}
+use Rattle.terms.specs.Rows.{spell}
+use Rattle.terms.specs.Emit.{largestTerm}
+use Rattle.vegzump.specs.Expand.{lexiconOfTable, mostCells}
 use Rattle.scanner.specs.Unscanned.{Unscans}
 use Rattle.expansion.specs.Stopping.{Refuses}
 use Rattle.expansion.specs.Places.{given, Placed}
