@@ -47,6 +47,7 @@ class Template:
     """A template as written: a name alone, or a head with arguments."""
     head: Token
     arguments: Optional[List["Template"]]
+    spot: Spot
 
 
 @dataclass
@@ -161,6 +162,12 @@ class Parser:
         token = self.peek()
         self.at += 1
         return token
+
+    def span(self, first: Spot) -> Spot:
+        """From a spot to the last token taken, or to the end of the line if that stands in a later one."""
+        last = self.tokens[self.at - 1].spot
+        end = last.column + last.width if last.line == first.line else len(first.text.rstrip()) + 1
+        return first._replace(width=end - first.column)
 
     def expect(self, text: str, why: str) -> Token:
         if self.peek().text != text:
@@ -287,12 +294,18 @@ class Parser:
             raise self.surprise("an item (a keyword in quotes, ide, number, local or a nonterminal) or `=>`")
         self.take()
         item = Item(spot, name, what)
+        self.item_rest(item)
+        item.spot = self.span(spot)
+        return item
+
+    def item_rest(self, item: Item) -> None:
+        """The sort of ide, or the arguments of a call."""
+        what = item.what
         if what.text == "ide" and self.peek().text == ":":
             self.take()
             item.sort = self.sort()
         elif not what.is_keyword() and self.peek().text == "(":
             item.arguments = self.arguments()
-        return item
 
     def template(self) -> Template:
         if not self.peek().is_name():
@@ -300,7 +313,8 @@ class Parser:
         head = self.take()
         if self.peek().text == "<<":
             raise self.surprise("a result")
-        return Template(head, self.arguments() if self.peek().text == "(" else None)
+        arguments = self.arguments() if self.peek().text == "(" else None
+        return Template(head, arguments, self.span(head.spot))
 
     def arguments(self) -> List[Template]:
         out, opening = [], self.take()

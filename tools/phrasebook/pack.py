@@ -12,7 +12,7 @@ from .source import Spot, Trouble, counted, listed, near, stand
 from .table import (ALTERNATIVE, BINDER, BLOCK, BY_NAME, DEFINITION, GLOBAL, IS_CALL, IS_IDE, IS_KEYWORD, IS_LOCAL, IS_NUMBER, ITEM, KEYWORD,
                     LABEL, NAME, OUTSIDE_LABEL, RESULT, ROOT, SORTS, VAR, VARIABLES, encode)
 
-NUMBERED = re.compile(r"n(\d{1,3})")
+NUMBERED = re.compile(r"n(0|[1-9]\d{0,2})")
 OTHER_ITEMS = {"number": IS_NUMBER, "local": IS_LOCAL}
 
 
@@ -59,6 +59,15 @@ def numbers_of(n: Notation) -> Dict[str, int]:
     return out
 
 
+def check_names(parameters: List[str], a: Alternative) -> None:
+    """The variables of an alternative have different names."""
+    known = set(parameters)
+    for name in [i.name for i in a.items if i.name is not None]:
+        if name.text in known:
+            raise Trouble("this alternative has a variable `%s` already" % name.text, name.spot)
+        known.add(name.text)
+
+
 def place_sort(sorts: List[int], at: int) -> Optional[int]:
     return sorts[at] if at < len(sorts) else None
 
@@ -102,13 +111,7 @@ class Packer:
     def nonterminal(self, token: Token) -> int:
         if token.text in self.numbers:
             return self.numbers[token.text]
-        m = NUMBERED.fullmatch(token.text)
-        if m and int(m.group(1)) < 256:
-            return int(m.group(1))
         raise Trouble("`%s` is no nonterminal of this grammar%s" % (token.text, near(token.text, self.numbers)), token.spot)
-
-    def is_nonterminal(self, token: Token) -> bool:
-        return token.text in self.numbers or NUMBERED.fullmatch(token.text) is not None
 
     def definition(self, d: Definition) -> None:
         self.put(DEFINITION, bytes([self.nonterminal(d.name), d.mode, d.result] + [s for _, s in d.parameters]), d.name.spot)
@@ -117,31 +120,30 @@ class Packer:
 
     def alternative(self, d: Definition, a: Alternative) -> None:
         variables = {name.text: i for i, (name, _) in enumerate(d.parameters)}
+        check_names(list(variables), a)
         place, count = len(self.data), len(variables)
         self.put(ALTERNATIVE, b"", a.spot)
         for item in a.items + self.last_call(a, variables):
-            if item.name is not None and item.name.text in variables:
-                raise Trouble("this alternative has a variable `%s` already" % item.name.text, item.name.spot)
             self.put(ITEM, self.item(d, a, item, variables), item.spot)
             if item.name is not None:
                 variables[item.name.text] = count
             count += 1
         if self.is_last_call(a, variables):
-            self.put(RESULT, bytes([self.variable(count - 1, a.result.head)]), a.result.head.spot)
+            self.put(RESULT, bytes([self.variable(count - 1, a.result.head)]), a.result.spot)
         else:
-            self.put(RESULT, self.template(a.result, variables), a.result.head.spot)
+            self.put(RESULT, self.template(a.result, variables), a.result.spot)
         self.variables[place] = {i: name for name, i in variables.items()}
 
     def is_last_call(self, a: Alternative, variables: Dict[str, int]) -> bool:
         head = a.result.head
         declared = set(variables) | {i.name.text for i in a.items if i.name is not None}
-        return head.text not in declared and head.text not in notation.RESERVED and self.is_nonterminal(head)
+        return head.text not in declared and head.text not in notation.RESERVED and head.text in self.numbers
 
     def last_call(self, a: Alternative, variables: Dict[str, int]) -> List[Item]:
         """A nonterminal as the result is one more item."""
         if not self.is_last_call(a, variables):
             return []
-        return [Item(a.result.head.spot, None, a.result.head, None, a.result.arguments or [])]
+        return [Item(a.result.spot, None, a.result.head, None, a.result.arguments or [])]
 
     def item(self, d: Definition, a: Alternative, item: Item, variables: Dict[str, int]) -> bytes:
         what = item.what
@@ -151,7 +153,7 @@ class Packer:
             return bytes([IS_IDE, self.ide_sort(d, a, item) if item.sort is None else item.sort])
         if what.text in OTHER_ITEMS:
             return bytes([OTHER_ITEMS[what.text], 0])
-        if not self.is_nonterminal(what):
+        if what.text not in self.numbers:
             hint = near(what.text, list(self.numbers) + ["ide", "number", "local"]) or '; a keyword stands in quotes, as "%s"' % what.text
             raise Trouble("`%s` is no nonterminal of this grammar%s" % (what.text, hint), what.spot)
         arguments = b"".join(self.template(t, variables) for t in item.arguments)
@@ -171,7 +173,7 @@ class Packer:
 
     def unknown(self, t: notation.Template, variables: Dict[str, int]) -> Trouble:
         name = t.head.text
-        if self.is_nonterminal(t.head):
+        if name in self.numbers:
             hint = "give it a name among the items, as `x=%s`" % name
             return Trouble("the nonterminal `%s` cannot stand inside a result or an argument: %s" % (name, hint), t.head.spot)
         if name in self.names:

@@ -3,7 +3,7 @@
 The answer is that of the proved expander; this finds the item and the calls that were open at that moment.
 """
 import re
-from typing import Any, List, NamedTuple, Optional, Tuple
+from typing import Any, Dict, List, NamedTuple, Optional, Tuple
 
 from .grammar import NUMBER_BIT, WORD_BIT, Alternative, Grammar, keyword_bit
 from .table import BY_CODE, IS_CALL, IS_KEYWORD, IS_LOCAL, KEYWORD, VARIABLES, Field, Template, TemplateFault, read_result, read_templates, spellings
@@ -56,11 +56,12 @@ class Call(NamedTuple):
 
 
 class Stop(Exception):
-    """Where a reading stops: number as in document 01, the item at which it stops (none for the root), the calls then open."""
+    """Where a reading stops: number as in document 01, the item at which it stops (none for the root), the calls then open, and the tokens
+    by which calls that took their empty alternative here could have gone on."""
 
-    def __init__(self, number: int, token: int, item: Optional[Field], alternative: Optional[Alternative], calls: List[Call]):
+    def __init__(self, number: int, token: int, item: Optional[Field], alternative: Optional[Alternative], calls: List[Call], others: int):
         super().__init__()
-        self.number, self.token, self.item, self.alternative, self.calls = number, token, item, alternative, calls
+        self.number, self.token, self.item, self.alternative, self.calls, self.others = number, token, item, alternative, calls, others
 
 
 class Node(NamedTuple):
@@ -80,12 +81,13 @@ class Reading:
         self.grammar, self.tokens, self.rows = grammar, tokens, rows
         self.at = self.calls = self.cells = self.fresh = 0
         self.open: List[Call] = []
+        self.passed: Dict[int, int] = {}
 
     def fits(self, bits: int) -> bool:
         return self.at < len(self.tokens) and bits >> self.tokens[self.at].bit & 1 == 1
 
     def stop(self, number: int, item: Optional[Field], alternative: Optional[Alternative]) -> Stop:
-        return Stop(number, self.at, item, alternative, list(self.open))
+        return Stop(number, self.at, item, alternative, list(self.open), self.passed.get(self.at, 0))
 
     def whole(self) -> Any:
         value = self.call(self.grammar.root, (), None, None)
@@ -110,8 +112,11 @@ class Reading:
     def choice(self, nonterminal: int) -> Optional[Alternative]:
         """The alternative that the next token opens, else the nullable one."""
         own = self.grammar.productions.get(nonterminal, [])
-        opened = (a for a in own if self.fits(self.grammar.own_firsts[a.field.place]))
-        return next(opened, None) or next((a for a in own if self.grammar.empty(a)), None)
+        opened = next((a for a in own if self.fits(self.grammar.own_firsts[a.field.place])), None)
+        if opened is not None:
+            return opened
+        self.passed[self.at] = self.passed.get(self.at, 0) | self.grammar.firsts.get(nonterminal, 0)
+        return next((a for a in own if self.grammar.empty(a)), None)
 
     def alternative(self, a: Alternative, values: List[Any]) -> Any:
         for f in a.items:

@@ -1,6 +1,7 @@
 """Why a field of an alternative has something undefined in it, or a wrong sort: causes 9 and 11 in words."""
 from typing import List, Optional
 
+from .case import Case
 from .grammar import Alternative
 from .source import counted, stand
 from .table import (BINDER, BY_CODE, GLOBAL, IS_CALL, IS_KEYWORD, ITEM, LABEL, NAME, TERM, VAR, VARIABLES, Field, Template, TemplateFault,
@@ -21,7 +22,7 @@ def items_before(a: Alternative, f: Field) -> int:
     return sum(i.place < f.place for i in a.items)
 
 
-def undefined(case, a: Alternative, f: Field) -> Optional[str]:
+def undefined(case: Case, a: Alternative, f: Field) -> Optional[str]:
     """What a field uses that is not defined."""
     if f.tag == ITEM and f.value[0] == IS_KEYWORD:
         return "keyword %d is not defined: the table has %d" % (f.value[1], len(case.keywords))
@@ -31,13 +32,13 @@ def undefined(case, a: Alternative, f: Field) -> Optional[str]:
     return next((said for t in templates_of(f) for said in [undefined_in(case, t, count)] if said), None)
 
 
-def undefined_nonterminal(case, number: int) -> str:
+def undefined_nonterminal(case: Case, number: int) -> str:
     later = [d for d in case.grammar.definitions if d.nonterminal == number]
     what = "%s is not defined in this block or an earlier one" % case.nonterminal(number)
     return what + ("; its definition at %s comes too late" % case.where(later[0].field.place) if later else "")
 
 
-def undefined_in(case, t: Template, count: int) -> Optional[str]:
+def undefined_in(case: Case, t: Template, count: int) -> Optional[str]:
     if t.head < VARIABLES:
         return "variable %d is not numbered here: there are %d" % (t.head, count) if t.head >= count else None
     if t.head in BY_CODE:
@@ -46,7 +47,7 @@ def undefined_in(case, t: Template, count: int) -> Optional[str]:
     return "outside name %d is not defined: the table has %d" % (t.name, len(names)) if t.name >= len(names) else None
 
 
-def complaint(case, a: Alternative, f: Field) -> Optional[str]:
+def complaint(case: Case, a: Alternative, f: Field) -> Optional[str]:
     """Which sort or count of arguments is wrong in a field."""
     sorts = case.grammar.sorts(a, items_before(a, f))
     templates = templates_of(f)
@@ -59,7 +60,7 @@ def complaint(case, a: Alternative, f: Field) -> Optional[str]:
     return wrong_arguments(case, a, sorts, templates, called)
 
 
-def wrong_arguments(case, a: Alternative, sorts, templates: List[Template], called) -> Optional[str]:
+def wrong_arguments(case: Case, a: Alternative, sorts, templates: List[Template], called) -> Optional[str]:
     name, wanted = case.nonterminal(called.nonterminal), called.parameters
     if len(templates) != len(wanted):
         sorts_wanted = " (%s)" % " ".join(sort_name(s) for s in wanted) if wanted else ""
@@ -71,7 +72,7 @@ def wrong_arguments(case, a: Alternative, sorts, templates: List[Template], call
     return None
 
 
-def misplaced(case, a: Alternative, sorts, t: Template, want: int, why: str) -> Optional[str]:
+def misplaced(case: Case, a: Alternative, sorts, t: Template, want: int, why: str) -> Optional[str]:
     """The first place in a template whose sort is not the one that is asked for."""
     have = sort_of(sorts, t)
     if have is not None and have != want and not (have == BINDER and want == VAR):
@@ -94,7 +95,7 @@ def sort_of(sorts, t: Template) -> Optional[int]:
     return VAR if t.head == GLOBAL else LABEL
 
 
-def named(case, a: Alternative, t: Template) -> str:
+def named(case: Case, a: Alternative, t: Template) -> str:
     if t.head in BY_CODE:
         return BY_CODE[t.head].name
     if t.head < VARIABLES:

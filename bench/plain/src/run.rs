@@ -14,6 +14,7 @@ pub struct Ran {
 }
 
 /// An open call: the items that are still to be met, the template of its result, and where its variables begin.
+#[derive(Clone, Copy)]
 struct Frame {
     items: Span,
     result: Span,
@@ -31,6 +32,7 @@ struct Machine<'a> {
     next: usize,
     fresh: u32,
     calls: usize,
+    /// The open calls round the innermost one.
     open: Vec<Frame>,
     /// The variables of all open calls, those of the innermost last; above them what a template has put together so far. The arguments of a call
     /// are its first variables where they stand, and its result takes their place as the caller's next variable.
@@ -42,8 +44,8 @@ pub fn run(grammar: &Grammar, firsts: &Firsts, choice: &Choice, tokens: &[Token]
     let (open, values) = (Vec::with_capacity(16), Vec::with_capacity(64));
     let mut machine =
         Machine { grammar, firsts, choice, tokens, cells, rows, made: 0, next: 0, fresh: 0, calls: 0, open, values };
-    machine.call(grammar.root, 0)?;
-    machine.items()?;
+    let root = machine.call(grammar.root, 0, 0)?;
+    machine.items(root)?;
     if machine.next < tokens.len() {
         return Err(refusal(18, machine.next));
     }
@@ -71,9 +73,10 @@ impl Machine<'_> {
         }
     }
 
-    /// Opens a call whose arguments are the last values.
-    fn call(&mut self, nonterminal: u8, parameters: u8) -> Result<(), Refusal> {
-        if self.open.len() == 1_024 {
+    /// Opens a call whose arguments are the last values, inside so many open ones.
+    #[inline(always)]
+    fn call(&mut self, nonterminal: u8, parameters: u8, open: usize) -> Result<Frame, Refusal> {
+        if open == 1_024 {
             return Err(refusal(19, self.next));
         }
         if self.calls == 65_536 {
@@ -86,21 +89,21 @@ impl Machine<'_> {
         self.calls += 1;
         let alternative = &self.grammar.alternatives[number];
         let variables = self.values.len() - usize::from(parameters);
-        self.open.push(Frame { items: alternative.items, result: alternative.result, variables });
-        Ok(())
+        Ok(Frame { items: alternative.items, result: alternative.result, variables })
     }
 
     /// Items of the innermost call, until no call is open.
-    fn items(&mut self) -> Result<(), Refusal> {
-        while let Some(frame) = self.open.last_mut() {
-            let variables = frame.variables;
+    fn items(&mut self, mut frame: Frame) -> Result<(), Refusal> {
+        loop {
             if frame.items.from == frame.items.to {
-                let result = frame.result;
-                self.templates(result, variables)?;
+                self.templates(frame.result, frame.variables)?;
                 let value = self.values.pop().unwrap_or_default();
-                self.values.truncate(variables);
+                self.values.truncate(frame.variables);
                 self.values.push(value);
-                self.open.pop();
+                match self.open.pop() {
+                    Some(outer) => frame = outer,
+                    None => return Ok(()),
+                }
                 continue;
             }
             let item = self.grammar.items[frame.items.from as usize];
@@ -115,17 +118,18 @@ impl Machine<'_> {
                     name(2, self.fresh)
                 }
                 Item::Call { nonterminal, parameters, arguments } => {
-                    self.templates(arguments, variables)?;
-                    self.call(nonterminal, parameters)?;
+                    self.templates(arguments, frame.variables)?;
+                    let inner = self.call(nonterminal, parameters, self.open.len() + 1)?;
+                    self.open.push(std::mem::replace(&mut frame, inner));
                     continue;
                 }
             };
             self.values.push(value);
         }
-        Ok(())
     }
 
     /// Puts templates together: their values are the last ones afterwards.
+    #[inline(always)]
     fn templates(&mut self, span: Span, variables: usize) -> Result<(), Refusal> {
         for op in span.of(&self.grammar.ops) {
             match *op {
@@ -139,9 +143,10 @@ impl Machine<'_> {
                     let row = &mut self.cells[4 * self.made..][..4];
                     row.fill(0);
                     row[0] = code.into();
-                    for (cell, value) in row[1..].iter_mut().zip(self.values.drain(from..)) {
-                        *cell = value;
+                    for (cell, value) in row[1..].iter_mut().zip(&self.values[from..]) {
+                        *cell = *value;
                     }
+                    self.values.truncate(from);
                     self.values.push(self.made as u32);
                     self.made += 1;
                 }

@@ -93,8 +93,8 @@ struct Checker<'a> {
     signatures: [Option<&'a [u8]>; 64],
     /// The sorts of the variables numbered so far in the present alternative.
     variables: Vec<u8>,
-    /// The constructors begun in a template, with the number of arguments that are complete.
-    begun: Vec<(u8, usize)>,
+    /// What a template still owes, the next last: the sort of a part, or a constructor's code after the sorts of its arguments.
+    owed: Vec<u8>,
     grammar: Grammar,
 }
 
@@ -108,13 +108,13 @@ pub fn check(table: &[u8], spellings: &Spellings) -> Result<Grammar, Refusal> {
         names: spellings.names,
         signatures: [None; 64],
         variables: Vec::with_capacity(16),
-        begun: Vec::new(),
+        owed: Vec::with_capacity(16),
         grammar: Grammar {
             root: 0,
             defined: 0,
-            alternatives: Vec::new(),
-            items: Vec::new(),
-            ops: Vec::new(),
+            alternatives: Vec::with_capacity(table.len() / 16),
+            items: Vec::with_capacity(table.len() / 8),
+            ops: Vec::with_capacity(table.len() / 4),
             lists: [List { first: 0, last: 0 }; 64],
         },
     };
@@ -208,22 +208,18 @@ impl<'a> Checker<'a> {
         Ok(())
     }
 
-    /// Templates that must have the sorts asked, one each. They are put into postfix order on the way.
-    fn templates(&mut self, bytes: &[u8], asked: &[u8], place: usize) -> Result<Span, Refusal> {
+    /// Templates that must have the sorts asked, one each: all their 9 before any 11. They are put into postfix order on the way.
+    fn templates(&mut self, bytes: &[u8], sorts: &[u8], place: usize) -> Result<Span, Refusal> {
         let from = self.grammar.ops.len() as u32;
-        let (mut count, mut sorts_fit) = (0, true);
-        let mut bytes = bytes.iter().copied();
-        while let Some(byte) = bytes.next() {
-            let sort_asked = match self.begun.last() {
-                Some(&(code, complete)) => ARGUMENTS[usize::from(code - 0x20)].get(complete),
-                None => {
-                    count += 1;
-                    asked.get(count - 1)
-                }
-            };
+        self.owed.clear();
+        self.owed.extend(sorts.iter().rev());
+        let mut sorts_fit = true;
+        let mut bytes = bytes.iter();
+        while let Some(&byte) = bytes.next() {
+            let asked = self.asked();
             let given = match byte {
                 0x10 | 0x11 => {
-                    let number = bytes.next().unwrap_or(u8::MAX);
+                    let number = bytes.next().copied().unwrap_or(u8::MAX);
                     if usize::from(number) >= self.names {
                         return Err(refusal(9, place));
                     }
@@ -232,7 +228,10 @@ impl<'a> Checker<'a> {
                     sort
                 }
                 0x20.. => {
-                    self.begun.push((byte, 0));
+                    self.owed.push(byte);
+                    for &sort in ARGUMENTS[usize::from(byte & 7)].iter().rev() {
+                        self.owed.push(sort);
+                    }
                     if byte == 0x25 || byte == 0x26 { FIELDS } else { TERM }
                 }
                 _ => {
@@ -241,27 +240,22 @@ impl<'a> Checker<'a> {
                     sort
                 }
             };
-            sorts_fit &= sort_asked.is_some_and(|&sort| fits(given, sort));
-            self.complete(byte < 0x20);
+            // Where there are more templates than sorts, nothing is asked.
+            sorts_fit &= asked.is_some_and(|asked| fits(given, asked));
         }
-        if !sorts_fit || count != asked.len() {
+        if !sorts_fit || self.asked().is_some() {
             return Err(refusal(11, place));
         }
         Ok(Span { from, to: self.grammar.ops.len() as u32 })
     }
 
-    /// Makes the constructors that have all their arguments, one more of them if `argument`.
-    fn complete(&mut self, argument: bool) {
-        let mut one_more = argument;
-        while let Some((code, complete)) = self.begun.last_mut() {
-            *complete += usize::from(one_more);
-            if *complete < ARGUMENTS[usize::from(*code - 0x20)].len() {
-                break;
+    /// The sort that is owed next, after the constructors whose arguments are complete.
+    fn asked(&mut self) -> Option<u8> {
+        loop {
+            match self.owed.pop() {
+                Some(code @ 0x20..) => self.grammar.ops.push(Op::Make(code)),
+                sort => return sort,
             }
-            let code = *code;
-            self.grammar.ops.push(Op::Make(code));
-            self.begun.pop();
-            one_more = true;
         }
     }
 }

@@ -66,6 +66,19 @@ fn every_case() -> usize {
     cases
 }
 
+/// The numbers of the crate are those of the header.
+#[test]
+fn as_the_header_says() {
+    let header = fs::read_to_string(concat!(env!("CARGO_MANIFEST_DIR"), "/../../include/vegzump.h")).unwrap();
+    let stated = |name: &str| -> usize {
+        let line = header.lines().find(|line| line.starts_with(&format!("#define {name} "))).unwrap();
+        line.split_whitespace().nth(2).unwrap().trim_end_matches('u').parse().unwrap()
+    };
+    let names = ["STACK", "TABLE_BYTES", "FORMULA_BYTES", "ROWS", "ROW_CELLS"];
+    let found = names.map(|name| stated(&format!("VEGZUMP_{name}")));
+    assert_eq!(found, [STACK, TABLE_BYTES, FORMULA_BYTES, ROWS, ROW_CELLS]);
+}
+
 #[test]
 fn conformance_cases() {
     let cases = with_stack(every_case).join().unwrap();
