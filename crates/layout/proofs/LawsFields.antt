@@ -110,11 +110,11 @@ pub record Turn (table : List ℕ) (at : ℕ) (s : Progress) : Type 0 where
 pub none-before : (table : List ℕ) → fieldsBefore table 0 ≡ []
 none-before table = before-is table 0 ∙ past table 0 0 [] (omega arith)
 
-pub turn-start : (table : List ℕ) → Turn table 0 start
-turn-start table =
+pub turn-start : {table : List ℕ} {s : Progress} → s ≡ start → Turn table 0 s
+turn-start {table} e =
     record {
       divides = λ to h. before-is table to ∙ ap (earlier to (fieldsAt table 0)) (sym (none-before table));
-      rest = λ i. checkFields (sym (fields-of table) i) (none-before table i) start;
+      rest = λ i. checkFields (sym (fields-of table) i) (none-before table i) (e i);
     }
 
 module _ {table : List ℕ} {at : ℕ} {s : Progress} (c : Turn table at s) (h : length table ≤ longestTable) where

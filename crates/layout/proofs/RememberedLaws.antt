@@ -52,11 +52,11 @@ has-moved {table} {tag} {b} {b′} {k} {k′} {r} e f g h =
     subst (Has table tag b′ k′) g (subst (λ x. Has table tag b′ x r) f (subst (λ x. Has table tag x k r) e h))
 
 -- no field yet
-pub remembered-start : {table : List ℕ} → Remembered table 0 start (replicate 320 0) (replicate 320 0)
-remembered-start {table} =
+pub remembered-start : {table : List ℕ} {s : Progress} → s ≡ start → Remembered table 0 s (replicate 320 0) (replicate 320 0)
+remembered-start {table} e =
     record {
-      keywords = subst (λ b. Has table 1 b 0 (replicate 320 0)) (sym (none-before table)) has-none;
-      outsides = subst (λ b. Has table 2 b 0 (replicate 320 0)) (sym (none-before table)) has-none;
+      keywords = has-moved (sym (none-before table)) (sym (ap (λ s. s .keywords) e)) refl has-none;
+      outsides = has-moved (sym (none-before table)) (sym (ap (λ s. s .outsides) e)) refl has-none;
     }
 
 module _ {table : List ℕ} {at : ℕ} {s : Progress} {K N : List ℕ} (c : Turn table at s) (m : Remembered table at s K N) {t n : ℕ}

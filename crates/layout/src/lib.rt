@@ -24,7 +24,7 @@ ghost use Rattle.answers.specs.Checked.{need, verdict};
 ghost use Rattle.spellings.specs.Bytes.{every};
 ghost use Rattle.grammar.specs.Sorts.{isSort};
 ghost use Rattle.layout.specs.Prefix.{templatesOf};
-ghost use Rattle.layout.specs.Layout.{isHead, isItem, isRoot, isKnown, follows, isSpelled, hasRoom, oneIf, passed, isWhole, checkField, layout};
+ghost use Rattle.layout.specs.Layout.{isHead, isItem, isRoot, isKnown, follows, isSpelled, hasRoom, oneIf, passed, isWhole, checkField, start, layout};
 ghost use Rattle.layout.specs.Before.{fieldsBefore, checking};
 ghost use Rattle.layout.specs.Index.{spelledBy, Falling, Indexed, Remembered};
 ghost use Rattle.layout.specs.Due.{headSize, arguments, isWholly};
@@ -326,6 +326,20 @@ fn check_end(at: usize, s: Progress) -> Verdict
     refused(4, at)
 }
 
+// What has been read where a table begins.
+fn nothing_read() -> Progress
+    ensures { λ r. ⌜ r ≡ start ⌝ }
+{
+    Progress {
+        last: 0,
+        keywords: 0,
+        outsides: 0,
+        blocks: 0,
+        alternatives: 0,
+        items: 0,
+    }
+}
+
 // The layout of a table: refusals 1 to 6 and 10.
 pub fn check_layout(table: &[u8]) -> Verdict
     ensures { λ r. ⌜ r ≡ verdict (layout (now (table .entry))) ⌝ }
@@ -336,14 +350,7 @@ pub fn check_layout(table: &[u8]) -> Verdict
     let mut keywords = [0u32; 320];
     let mut outsides = [0u32; 320];
     let mut at: usize = 0;
-    let mut s = Progress {
-        last: 0,
-        keywords: 0,
-        outsides: 0,
-        blocks: 0,
-        alternatives: 0,
-        items: 0,
-    };
+    let mut s = nothing_read();
     loop {
         let front = front_at(table, at);
         match front {

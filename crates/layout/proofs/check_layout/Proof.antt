@@ -29,7 +29,7 @@ module _ (p : tie.After-known-told Inv-loop μ-loop) where
   turn = p .before .before .before .before
 
   abbrev table : List ℕ
-  table = turn .before .before .before .args .table .now
+  table = turn .before .before .before .before .args .table .now
 
   abbrev at : ℕ
   at = turn .loop .at
@@ -48,10 +48,10 @@ module _ (p : tie.After-known-told Inv-loop μ-loop) where
   lent = take (at + 3 + size - (at + 3)) (drop (at + 3) table)
 
   place : at + 3 ≤ 65536
-  place = omega (arith, inside, turn .before .if1 .left)
+  place = omega (arith, inside, turn .before .before .if1 .left)
 
   small : length lent ≤ 65536
-  small = omega (arith, length-take (at + 3 + size - (at + 3)) (drop (at + 3) table), inside, turn .before .if1 .left)
+  small = omega (arith, length-take (at + 3 + size - (at + 3)) (drop (at + 3) table), inside, turn .before .before .if1 .left)
 
 -- it is checked, and accepted
 abbrev field : tie.After-check-field Inv-loop μ-loop → tie.After-known-told Inv-loop μ-loop
@@ -73,8 +73,11 @@ refused-requires c κs = search needs
 returns : tie.Need-returns Inv-loop μ-loop
 returns c = c .refused .ensures ∙ laws.layout-long _ (c .before .if1 .taken)
 
+nothing-read-requires : tie.Need-nothing-read-requires Inv-loop μ-loop
+nothing-read-requires c κs = search needs
+
 loop-holds : tie.Need-loop-holds Inv-loop μ-loop
-loop-holds c = (laws.turn-start _, remembered-start)
+loop-holds c = (laws.turn-start (c .nothing-read .ensures), remembered-start (c .nothing-read .ensures))
 
 front-at-requires : tie.Need-front-at-requires Inv-loop μ-loop
 front-at-requires c κs = search needs
@@ -89,7 +92,7 @@ returns-2 : tie.Need-returns-2 Inv-loop μ-loop
 returns-2 c =
     let p = c .before .before .before .before in
     c .check-end .ensures
-    ∙ laws.turn-end (p .loop .inv .0) (p .before .if1 .left) (sym (c .before .enum-told .given .1) ∙ c .before .before .before .front-at .ensures)
+    ∙ laws.turn-end (p .loop .inv .0) (p .before .before .if1 .left) (sym (c .before .enum-told .given .1) ∙ c .before .before .before .front-at .ensures)
 
 enum-told-2 : tie.Need-enum-told-2 Inv-loop μ-loop
 enum-told-2 c = search needs
@@ -101,7 +104,7 @@ returns-3 : tie.Need-returns-3 Inv-loop μ-loop
 returns-3 c =
     let p = c .before .before .before .before in
     c .refused2 .ensures
-    ∙ laws.turn-cut (p .loop .inv .0) (p .before .if1 .left) (sym (c .before .enum-told2 .given .1) ∙ c .before .before .before .front-at .ensures)
+    ∙ laws.turn-cut (p .loop .inv .0) (p .before .before .if1 .left) (sym (c .before .enum-told2 .given .1) ∙ c .before .before .before .front-at .ensures)
 
 enum-known-front : tie.Need-enum-known-front Inv-loop μ-loop
 enum-known-front c = search needs
@@ -130,7 +133,7 @@ enum-known-checked c = search needs
 returns-4 : tie.Need-returns-4 Inv-loop μ-loop
 returns-4 c =
     let p = c .before .before .before in
-    laws.turn-stopped (turn (field p) .loop .inv .0) (stands (field p)) (turn (field p) .before .if1 .left)
+    laws.turn-stopped (turn (field p) .loop .inv .0) (stands (field p)) (turn (field p) .before .before .if1 .left)
     (sym (c .before .checked .given .1) ∙ p .check-field .ensures)
 
 enum-known-checked-2 : tie.Need-enum-known-checked-2 Inv-loop μ-loop
@@ -172,6 +175,7 @@ check-layout-spec =
     μ-loop
     refused-requires
     returns
+    nothing-read-requires
     loop-holds
     front-at-requires
     enum-told
