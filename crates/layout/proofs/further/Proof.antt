@@ -38,7 +38,8 @@ one-if-requires-4 c κs = search needs
 add-t14 : tie.Need-add-t14
 add-t14 c =
     laws.fitting _ 256 (eqb (c .before .before .before .before .before .before .before .before .args .tag) 5)
-    (laws.room-of _ _ (c .before .before .before .before .before .before .before .before .pre) .alternatives) (lit< tt) (omega arith) (c .before .one-if4 .ensures)
+    (laws.room-of _ _ (c .before .before .before .before .before .before .before .before .pre) .alternatives) (lit< tt) (omega arith)
+    (c .before .one-if4 .ensures)
 
 items-after-requires : tie.Need-items-after-requires
 items-after-requires c κs = search needs
