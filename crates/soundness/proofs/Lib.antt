@@ -10,3 +10,4 @@ pub mod StopComplete
 pub mod Placing
 pub mod Scanned
 pub mod ExpansionTheorems
+pub mod RowsMade

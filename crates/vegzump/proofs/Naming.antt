@@ -13,16 +13,22 @@ use Rattle.layout.proofs.LayoutTheorems.{decode-exactly}
 use Rattle.layout.proofs.DecodedLexicon.{lexicon-decoded}
 use Rattle.scanner.specs.Scan.{scan}
 use Rattle.scanner.specs.Rooms.{wordsFrom, wordsIn}
+use Rattle.scanner.specs.Tiling.{spelled}
 use Rattle.scanner.proofs.AfterScan.{Holds}
 use Rattle.scanner.proofs.WordsOfScan.{scan-plain}
 use Rattle.scanner.proofs.ScannerTheorems.{tokens-counted}
 use Rattle.printer.specs.Pool.{oneOf, spanned, spelledBy, Words}
 use Rattle.printer.proofs.SpellLaws.{Once, word-length, short-words, apart-lists, spelled-lists}
-use Rattle.terms.specs.Rows.{spellOf}
-use Rattle.terms.specs.Names.{Distinct}
+use Rattle.terms.specs.Rows.{spell}
+use Rattle.terms.specs.Term.{Name, outside, Term, Fields}
+use Rattle.terms.specs.Names.{Distinct, VariableName, BinderName, WellNamed, WellNamedFields}
+use Rattle.kinds.specs.Kinds.{wordKind}
+use Rattle.scanner.specs.declared.Token.{Token}
+use Rattle.expansion.specs.Places.{Has, Given, word-at, outside-name, VarPlace, var-var, var-binder, var-local, var-outside, BinderPlace, binder-binder, binder-local, Placed, placed-variable, placed-function, placed-apply, placed-rcd, placed-dot, placed-number, PlacedFields, placed-nil, placed-cons}
+use Rattle.soundness.proofs.Placing.{Supplied, supplied-word, supplied-outside}
+use Rattle.soundness.proofs.Placing as placing
 use Rattle.checker.specs.Passes.{Passes}
 use Rattle.vegzump.specs.Expand.{lexiconOfTable}
-use Rattle.vegzump.specs.Meaning.{scanOf}
 
 -- ------------------------------------------------------------------ lists
 
@@ -48,6 +54,42 @@ words-at (suc k) i (suc j) formula room h =
     let z : i + 1 + j ≡ i + suc j = omega arith in
     words-at k (i + 1) j formula room (omega arith) ∙ ap (spanned formula room) z
 
+-- ------------------------------------------------------------------ names of a derived term
+
+module _ {tokens : List Token} {N : ℕ} {G : List Given} {spell : ℕ → List ℕ} (few : N ≤ 64) (known : Each (Supplied tokens N) G)
+    (words : (t : Token) → Has tokens t → t .kind ≡ wordKind → isWord (spell (t .value)) ≡ true)
+    (outsides : (n : ℕ) → n < N → isWord (spell n) ≡ true) where
+  word-given : {B : ℕ} {t : Token} → Supplied tokens N (word-at B t) → isWord (spell (t .value)) ≡ true
+  word-given (supplied-word h e) = words _ h e
+
+  outside-given : {n : ℕ} → Supplied tokens N (outside-name n) → VariableName spell (outside (spell n))
+  outside-given {n} (supplied-outside l) = (n, omega arith, refl, outsides n l)
+
+  variable-named : {x : Name} → VarPlace G spell x → VariableName spell x
+  variable-named (var-var h) = word-given (placing.each-at known h)
+  variable-named (var-binder h) = word-given (placing.each-at known h)
+  variable-named (var-local h) = tt
+  variable-named (var-outside h) = outside-given (placing.each-at known h)
+
+  binder-named : {x : Name} → BinderPlace G spell x → BinderName spell x
+  binder-named (binder-binder h) = word-given (placing.each-at known h)
+  binder-named (binder-local h) = tt
+
+  mutual
+    unfolding WellNamed WellNamedFields
+
+    pub placed-named : {u : Term Name} → Placed G spell u → WellNamed spell u
+    placed-named (placed-variable x) = variable-named x
+    placed-named (placed-function x t) = (binder-named x, placed-named t)
+    placed-named (placed-apply t u) = (placed-named t, placed-named u)
+    placed-named (placed-rcd f) = fields-named f
+    placed-named (placed-dot t l) = placed-named t
+    placed-named (placed-number n) = tt
+
+    fields-named : {f : Fields Name} → PlacedFields G spell f → WellNamedFields spell f
+    fields-named placed-nil = tt
+    fields-named (placed-cons l t f) = (placed-named t, fields-named f)
+
 -- ------------------------------------------------------------------ a passed table
 
 module _ (bs : List ℕ) (bytes : (i : ℕ) → getD bs i 0 < 256) (P : Passes bs) where
@@ -60,7 +102,7 @@ module _ (bs : List ℕ) (bytes : (i : ℕ) → getD bs i 0 < 256) (P : Passes b
       rw lexicon-passed (short-words (P .table .outsides) (λ i l. each-at (P .within .outsides) i [] l) m)
 
   module _ {formula tokens words : List ℕ} {n count : ℕ} (H : Holds (lexiconOfTable (P .table)) (P .within .outsideCount) formula tokens words n count) where
-    words-list : Words formula words count (scanOf (P .table) formula .words)
+    words-list : Words formula words count (scan (lexiconOfTable (P .table)) formula .words)
     words-list =
         record {
           many = sym (tokens-counted (lexiconOfTable (P .table)) (P .within .outsideCount) formula (H .answered) .1);
@@ -71,19 +113,21 @@ module _ (bs : List ℕ) (bytes : (i : ℕ) → getD bs i 0 < 256) (P : Passes b
         }
 
     -- The spellings that the last step reads are those of the formula's words and the table's outside names.
-    pub spelled : spelledBy bs formula words count ≡ spellOf (P .table .outsides) (scanOf (P .table) formula .words)
-    spelled =
-        spelled-lists bs formula words (scanOf (P .table) formula .words) words-list
-        ∙ ap (λ (l : Lexicon). spellOf (l .outsides) (scanOf (P .table) formula .words)) lexicon-passed
+    pub spelled-by : spelledBy bs formula words count ≡ spelled (lexiconOfTable (P .table)) (scan (lexiconOfTable (P .table)) formula .words)
+    unfolding spell
+    spelled-by =
+        spelled-lists bs formula words (scan (lexiconOfTable (P .table)) formula .words) words-list
+        ∙ ap (λ (l : Lexicon). spell (l .outsides) (scan (lexiconOfTable (P .table)) formula .words)) lexicon-passed
 
     pub words-fit : (j : ℕ) → j < count → length (spanned formula words j) < 32
     words-fit j l =
         let plain = scan-plain (lexiconOfTable (P .table)) (P .within .outsideCount) formula in
         let at = words-list .each j l in
-        omega (arith, word-length (getD (scanOf (P .table) formula .words) j []) (plain .are-words j (omega (arith, words-list .many))), ap length at)
+        omega (arith, word-length (getD (scan (lexiconOfTable (P .table)) formula .words) j []) (plain .are-words j (omega (arith, words-list .many))), ap length at)
 
     pub distinct : Distinct (spelledBy bs formula words count)
+    unfolding spell
     distinct =
         let plain = scan-plain (lexiconOfTable (P .table)) (P .within .outsideCount) formula in
-        rw spelled
-        (apart-lists (P .table .outsides) (scanOf (P .table) formula .words) (different-once (P .within .outsidesDiffer)) (plain .once) (plain .no-outside))
+        rw spelled-by
+        (apart-lists (P .table .outsides) (scan (lexiconOfTable (P .table)) formula .words) (different-once (P .within .outsidesDiffer)) (plain .once) (plain .no-outside))

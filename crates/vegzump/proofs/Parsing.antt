@@ -10,11 +10,12 @@ use Rattle.grammar.specs.Table.{Table}
 use Rattle.scanner.specs.declared.Scanned.{Scanned}
 use Rattle.scanner.specs.declared.Scanned.the-variants.{Tokens, Unscanned}
 use Rattle.scanner.specs.Scan.{Lexed, scan}
+use Rattle.scanner.specs.Tiling.{spelled}
 use Rattle.checker.specs.Check.{passedTable, check}
 use Rattle.expansion.specs.declared.State.{State}
 use Rattle.expansion.specs.Run.{Result, done, halt}
 use Rattle.expansion.specs.Expansion.{run}
-use Rattle.vegzump.specs.Expand.{Expanded, refused, spell, inputOf, finished, scanned, lexiconOfTable, expandTable, checkedFirst, expand}
+use Rattle.vegzump.specs.Expand.{Expanded, refused, inputOf, finished, scanned, lexiconOfTable, expandTable, checkedFirst, expand}
 use Rattle.vegzump.specs.Parse.{parseScanned, parseChecked, parse}
 
 -- ------------------------------------------------------------------ what the parse gives
@@ -50,19 +51,19 @@ module _ (bs formula cells : List ℕ) where
 module _ (bs formula cells text : List ℕ) where
   scanned-is : (t : Table) (s : Scanned)
       → scanned t (scan (lexiconOfTable t) formula) s cells text
-      ≡ finished (spell (t .outsides) (scan (lexiconOfTable t) formula .words)) text (parseScanned t (scan (lexiconOfTable t) formula) s cells)
+      ≡ finished (spelled (lexiconOfTable t) (scan (lexiconOfTable t) formula .words)) text (parseScanned t (scan (lexiconOfTable t) formula) s cells)
   scanned-is t (Unscanned r) = refl
   scanned-is t (Tokens n m) = refl
 
   -- An expansion of a passed table is the last step on what the parse gives.
   pub expand-finishes : {t : Table} → passedTable bs ≡ ok t
       → expand bs formula cells text
-      ≡ finished (spell (t .outsides) (scan (lexiconOfTable t) formula .words)) text (parse bs formula cells)
+      ≡ finished (spelled (lexiconOfTable t) (scan (lexiconOfTable t) formula .words)) text (parse bs formula cells)
   unfolding expand expandTable parse
   expand-finishes {t} e =
       ap (λ (c : Checked Table). checkedFirst c formula cells text) e
       ∙ scanned-is t (scan (lexiconOfTable t) formula .answer)
-      ∙ ap (finished (spell (t .outsides) (scan (lexiconOfTable t) formula .words)) text)
+      ∙ ap (finished (spelled (lexiconOfTable t) (scan (lexiconOfTable t) formula .words)) text)
       (sym (ap (λ (c : Checked Table). parseChecked c formula cells) e))
 
   -- An expansion whose parse refuses gives that refusal, with the cells made and the text as it was.
@@ -76,4 +77,4 @@ module _ (bs formula cells text : List ℕ) where
           let same : q ≡ r = cc in
           let left : cells ≡ cells′ = cc in
           ap (λ (c : Checked Table). checkedFirst c formula cells text) h ∙ rw (same, left) refl
-      go (ok t) h = expand-finishes h ∙ ap (finished (spell (t .outsides) (scan (lexiconOfTable t) formula .words)) text) e
+      go (ok t) h = expand-finishes h ∙ ap (finished (spelled (lexiconOfTable t) (scan (lexiconOfTable t) formula .words)) text) e

@@ -1,15 +1,22 @@
 -- Check, scan and run in one: refusals 1 to 21, or the value of the root's call, with the cells then made. The first part of `expand`,
 -- before its last step.
 use Prim.Native.Nat.{ℕ}
+use mathlib.Core.Path.{_≡_}
 use mathlib.Core.List.{List}
 use Rattle.answers.specs.Checked.{Checked, ok, bad}
 use Rattle.grammar.specs.Table.{Table}
 use Rattle.scanner.specs.declared.Scanned.{Scanned}
 use Rattle.scanner.specs.declared.Scanned.the-variants.{Tokens, Unscanned}
 use Rattle.scanner.specs.Scan.{Lexed, scan}
+use Rattle.scanner.specs.Rooms.{TokensFit, wordsIn}
 use Rattle.checker.specs.Check.{passedTable}
-use Rattle.expansion.specs.Run.{Result, done, halt}
+use Rattle.checker.specs.Passes.{Passes}
+use Rattle.expansion.specs.declared.State.{State}
+use Rattle.expansion.specs.declared.Outcome.the-variants.{Value}
+use Rattle.expansion.specs.Run.{Result, done, halt, ran}
 use Rattle.expansion.specs.Expansion.{run}
+use Rattle.expander.specs.Lent.{Held}
+use Rattle.vegzump.specs.declared.parse.Parsed.{Parsed}
 use Rattle.vegzump.specs.Expand.{inputOf, lexiconOfTable}
 
 abbrev pub parseScanned : Table → Lexed → Scanned → List ℕ → Result ℕ
@@ -23,3 +30,27 @@ parseChecked (ok t) formula cells =
 
 unfoldable pub parse : List ℕ → List ℕ → List ℕ → Result ℕ
 parse table formula cells = parseChecked (passedTable table) formula cells
+
+-- ------------------------------------------------------------------ what the code of the parse promises
+
+-- a room holds the grammar of a table that passes
+pub record HoldsPassed (bs room : List ℕ) : Type 0 where
+  pub passes : Passes bs
+  pub held : Held bs room
+
+-- and a room of tokens fits
+pub record Runnable (bs room tokens : List ℕ) (n : ℕ) : Type 0 where
+  pub held : Held bs room
+  pub tokens-fit : TokensFit tokens n
+
+-- the formula is tokens under a passed table, and a room names its words
+pub record Scans (bs formula words : List ℕ) (count : ℕ) : Type 0 where
+  pub passes : Passes bs
+  pub tokens : ℕ
+  pub answered : scan (lexiconOfTable (passes .table)) formula .answer ≡ Tokens tokens count
+  pub words-are : wordsIn formula words count ≡ scan (lexiconOfTable (passes .table)) formula .words
+
+-- the outcome and the cells are those of `parse`; where a value was reached, the words are known
+pub record Parses (bs formula cells words′ cells′ : List ℕ) (r : Parsed) : Type 0 where
+  pub equal : ran (r .outcome) cells′ ≡ parse bs formula cells
+  pub scans : (v : ℕ) (s : State) → r .outcome ≡ Value v s → Scans bs formula words′ (r .words)
