@@ -1,5 +1,5 @@
 -- What an expansion may take from a table that passes: the room holds its grammar.
-use Prim.Native.Nat.{ℕ}
+use Prim.Native.Nat.{ℕ, _<_}
 use mathlib.Core.Path.{_≡_, refl, _∙_, ap}
 use mathlib.Core.List.{List, []}
 use native.Mathlib.Omega.{arith}
@@ -16,7 +16,8 @@ use Rattle.layout.proofs.Spelled.{each-map}
 use Rattle.layout.proofs.LayoutTheorems.{decode-exactly}
 use Rattle.sorts.specs.CheckSorts.{checkSorts}
 use Rattle.sorts.proofs.SortTheorems.{sorts-exactly}
-use Rattle.productions.specs.Index.{Place, normalizedBy, wholeBody}
+use Rattle.layout.specs.Within.{Each}
+use Rattle.productions.specs.Index.{Place, placesOf, normalizedBy, wholeBody}
 use Rattle.productions.proofs.FewAlternatives.{few-alternatives}
 use Rattle.productions.proofs.NormalizedByFields.{normalized-by}
 use Rattle.productions.proofs.Places.{productions-at, few-places, whole-places}
@@ -55,3 +56,7 @@ module _ {bs : List ℕ} (bytes : Bytes bs) (p : Passes bs) where
             ∙ ap (λ c. roomBy c bs room₀) (sorts-exactly (p .table) .1 (p .meets .sorted));
         whole = each-map (λ q w. w .whole) (whole-places bs laid-out);
       }
+
+  -- Each of its productions is of one of the 64 nonterminals.
+  pub passed-owned : Each (λ (q : Place). q .owner < 64) (placesOf bs)
+  passed-owned = each-map (λ q w. w .small) (whole-places bs laid-out)

@@ -9,5 +9,5 @@ pub mod StopSound
 pub mod StopComplete
 pub mod Placing
 pub mod Scanned
-pub mod ExpansionTheorems
 pub mod RowsMade
+pub mod ExpansionTheorems

@@ -31,19 +31,19 @@ module _ {g : List Production} (X : Setting g) where
     pub as-many : length cells′ ≡ length cells
     pub same : termAt (s .made) (X .spell) (take (s .made * columns) cells′) v ≡ termAt (s .made) (X .spell) cells′ v
 
-  term-rows : {cells′ : List ℕ} {x : ℕ} {s′ : State} (v : Value) → Typed v Sorts.term → Shows (X .spell) (s′ .made) cells′ x v
-      → termAt (s′ .made) (X .spell) (take (s′ .made * columns) cells′) x ≡ termAt (s′ .made) (X .spell) cells′ x
-  term-rows {cells′} {x} {s′} (term t) typed-term (shows-term h) =
-      h .read (take (s′ .made * columns) cells′) (record { same = λ j b. getD-take (s′ .made * columns) cells′ j 0 b }) (s′ .made) (h .below)
-      ∙ sym (h .read cells′ (record { same = λ j b. refl }) (s′ .made) (h .below))
+  term-rows : {cells′ : List ℕ} {x made : ℕ} (v : Value) → Typed v Sorts.term → Shows (X .spell) made cells′ x v
+      → termAt made (X .spell) (take (made * columns) cells′) x ≡ termAt made (X .spell) cells′ x
+  term-rows {cells′} {x} {made} (term t) typed-term (shows-term h) =
+      h .read (take (made * columns) cells′) (record { same = λ j b. getD-take (made * columns) cells′ j 0 b }) made (h .below)
+      ∙ sym (h .read cells′ (record { same = λ j b. refl }) made (h .below))
 
   root-leaves : {cells : List ℕ} {x : ℕ} {s′ : State} {cells′ : List ℕ} → Root X cells x s′ cells′ → Leaves cells x s′ cells′
-  root-leaves {s′ = s′} c =
+  root-leaves c =
       let sorted = items-typed (X .fit) (c .derived) (no-arguments X) (body-of (X .fit) (taken-of (c .taken)) (X .defined)) (c .given) in
       record {
         few = c .kept .fits;
         as-many = c .grown .as-many;
-        same = term-rows {s′ = s′} (c .value) (subst (Typed (c .value)) (X .of-term) sorted) (c .shows);
+        same = term-rows (c .value) (subst (Typed (c .value)) (X .of-term) sorted) (c .shows);
       }
 
   ended-leaves : (cells : List ℕ) (x : ℕ) (s′ : State) (cells′ : List ℕ) → Root X cells x s′ cells′

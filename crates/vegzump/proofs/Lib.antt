@@ -8,3 +8,4 @@ pub mod Listed
 pub mod Naming
 pub mod Parsing
 pub mod Root
+pub mod Joining

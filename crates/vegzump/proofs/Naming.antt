@@ -14,7 +14,7 @@ use Rattle.layout.proofs.DecodedLexicon.{lexicon-decoded}
 use Rattle.scanner.specs.Scan.{scan}
 use Rattle.scanner.specs.Rooms.{wordsFrom, wordsIn}
 use Rattle.scanner.specs.Tiling.{spelled}
-use Rattle.scanner.proofs.AfterScan.{Holds}
+use Rattle.scanner.specs.declared.Scanned.the-variants.{Tokens}
 use Rattle.scanner.proofs.WordsOfScan.{scan-plain}
 use Rattle.scanner.proofs.ScannerTheorems.{tokens-counted}
 use Rattle.printer.specs.Pool.{oneOf, spanned, spelledBy, Words}
@@ -56,7 +56,7 @@ words-at (suc k) i (suc j) formula room h =
 
 -- ------------------------------------------------------------------ names of a derived term
 
-module _ {tokens : List Token} {N : ℕ} {G : List Given} {spell : ℕ → List ℕ} (few : N ≤ 64) (known : Each (Supplied tokens N) G)
+module _ {tokens : List Token} {N : ℕ} {G : List Given} (spell : ℕ → List ℕ) (few : N ≤ 64) (known : Each (Supplied tokens N) G)
     (words : (t : Token) → Has tokens t → t .kind ≡ wordKind → isWord (spell (t .value)) ≡ true)
     (outsides : (n : ℕ) → n < N → isWord (spell n) ≡ true) where
   word-given : {B : ℕ} {t : Token} → Supplied tokens N (word-at B t) → isWord (spell (t .value)) ≡ true
@@ -101,15 +101,16 @@ module _ (bs : List ℕ) (bytes : (i : ℕ) → getD bs i 0 < 256) (P : Passes b
   outsides-fit m =
       rw lexicon-passed (short-words (P .table .outsides) (λ i l. each-at (P .within .outsides) i [] l) m)
 
-  module _ {formula tokens words : List ℕ} {n count : ℕ} (H : Holds (lexiconOfTable (P .table)) (P .within .outsideCount) formula tokens words n count) where
+  module _ (formula words : List ℕ) {n count : ℕ} (answered : scan (lexiconOfTable (P .table)) formula .answer ≡ Tokens n count)
+      (words-are : wordsIn formula words count ≡ scan (lexiconOfTable (P .table)) formula .words) where
     words-list : Words formula words count (scan (lexiconOfTable (P .table)) formula .words)
     words-list =
         record {
-          many = sym (tokens-counted (lexiconOfTable (P .table)) (P .within .outsideCount) formula (H .answered) .1);
+          many = sym (tokens-counted (lexiconOfTable (P .table)) (P .within .outsideCount) formula answered .1);
           each =
               λ i l.
               let z : 0 + i ≡ i = omega arith in
-              ap (λ (ws : List (List ℕ)). getD ws i []) (sym (H .words-are)) ∙ words-at count 0 i formula words l ∙ ap (spanned formula words) z;
+              ap (λ (ws : List (List ℕ)). getD ws i []) (sym words-are) ∙ words-at count 0 i formula words l ∙ ap (spanned formula words) z;
         }
 
     -- The spellings that the last step reads are those of the formula's words and the table's outside names.

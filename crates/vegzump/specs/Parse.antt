@@ -1,8 +1,9 @@
 -- Check, scan and run in one: refusals 1 to 21, or the value of the root's call, with the cells then made. The first part of `expand`,
 -- before its last step.
-use Prim.Native.Nat.{ℕ}
+use Prim.Native.Nat.{ℕ, _*_, _≤_}
 use mathlib.Core.Path.{_≡_}
 use mathlib.Core.List.{List}
+use lib.ListN.{length}
 use Rattle.answers.specs.Checked.{Checked, ok, bad}
 use Rattle.grammar.specs.Table.{Table}
 use Rattle.scanner.specs.declared.Scanned.{Scanned}
@@ -44,13 +45,20 @@ pub record Runnable (bs room tokens : List ℕ) (n : ℕ) : Type 0 where
   pub tokens-fit : TokensFit tokens n
 
 -- the formula is tokens under a passed table, and a room names its words
-pub record Scans (bs formula words : List ℕ) (count : ℕ) : Type 0 where
+pub record WordsKnown (bs formula words : List ℕ) (count : ℕ) : Type 0 where
   pub passes : Passes bs
   pub tokens : ℕ
+  pub few : count ≤ 4096
   pub answered : scan (lexiconOfTable (passes .table)) formula .answer ≡ Tokens tokens count
   pub words-are : wordsIn formula words count ≡ scan (lexiconOfTable (passes .table)) formula .words
 
--- the outcome and the cells are those of `parse`; where a value was reached, the words are known
+-- the rows made lie in the cells
+pub record RowsLie (made : ℕ) (cells : List ℕ) : Type 0 where
+  pub few : made ≤ 16384
+  pub inside : made * 4 ≤ length cells
+
+-- the outcome and the cells are those of `parse`; where a value was reached, the words are known and the rows lie in the cells
 pub record Parses (bs formula cells words′ cells′ : List ℕ) (r : Parsed) : Type 0 where
   pub equal : ran (r .outcome) cells′ ≡ parse bs formula cells
-  pub scans : (v : ℕ) (s : State) → r .outcome ≡ Value v s → Scans bs formula words′ (r .words)
+  pub words-known : (v : ℕ) (s : State) → r .outcome ≡ Value v s → WordsKnown bs formula words′ (r .words)
+  pub rows-lie : (v : ℕ) (s : State) → r .outcome ≡ Value v s → RowsLie (s .made) cells′
