@@ -1,3 +1,4 @@
+pub mod PrefixLaws
 pub mod Split
 pub mod Templates
 pub mod Values

@@ -11,7 +11,7 @@ use Rattle.grammar.specs.Sorts.{isConstructor, arity}
 use Rattle.grammar.specs.Table.{Template, Templates, make, none, more}
 use Rattle.grammar.specs.Encode.{templateThen, templatesThen}
 use Rattle.layout.specs.Prefix.{Parsed, fault, parsed, inFront, Taken, short, taken, alsoTaken, takeTemplates, applied, constructed, byteInFront, isNameTag, nameBy, templatesOf}
-use Rattle.layout.specs.PrefixLaws.{name-first, name-last, byte-first, variable-first, constructor-first, unknown-first}
+use Rattle.layout.proofs.PrefixLaws.{name-first, name-last, byte-first, variable-first, constructor-first, unknown-first}
 use Rattle.layout.specs.Within.{count, TemplateWithin, variable-within, outside-within, label-within, make-within, TemplatesWithin, none-within, more-within}
 use Rattle.layout.proofs.Split.{Bytes}
 

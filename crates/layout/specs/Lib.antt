@@ -1,5 +1,4 @@
 pub mod Prefix
-pub mod PrefixLaws
 pub mod Layout
 pub mod Decode
 pub mod Within

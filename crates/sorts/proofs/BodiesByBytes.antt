@@ -1,13 +1,14 @@
 -- The tests of items, results and the root on a table's bytes are those of what the bytes are.
 use Prim.Native.Nat.{ℕ, _<_}
 use mathlib.Core.Path.{_≡_, refl, sym, ap, ap₂, _∙_}
-use mathlib.Core.Bool.{Bool, true, false, _&&_, and-true}
+use mathlib.Core.Bool.{Bool, true, false, not, _&&_, and-true}
 use mathlib.Core.List.{List, [], _∷_}
 use native.Mathlib.Omega.{arith}
-use lib.Dec.{eqb, leb, eqb·suc-zero}
+use lib.Dec.{eqb, leb, ltb, eqb·suc-zero}
 use lib.ListN.{length, getD, drop}
 use borrow.Author.Tests.{lt-leb}
-use Rattle.answers.specs.Checked.{ok, _>>_, need}
+use Rattle.answers.specs.Refusals.{refusal}
+use Rattle.answers.specs.Checked.{Checked, ok, bad, _>>_, need, verdict}
 use Rattle.spellings.specs.BytesLaws.{by-test}
 use Rattle.grammar.specs.Sorts.{Signature, term, fits}
 use Rattle.grammar.specs.Table.{Template, Templates, none, more, Item, call}
@@ -19,83 +20,134 @@ use Rattle.layout.specs.Within.{TemplatesWithin, ItemWithin, keyword-within, id
 use Rattle.layout.proofs.Split.{Bytes}
 use Rattle.layout.proofs.Templates.{read-templates, read-template}
 use Rattle.layout.proofs.Values.{item-value, item-read, result-value, result-read}
+use Rattle.sorts.specs.declared.Sorted.{Sorted}
+use Rattle.sorts.specs.declared.Sorted.the-variants.{As, Unsorted}
 use Rattle.sorts.specs.CheckSorts.{Scope, isDefined, signatureOf, isClosed, areClosed, isSorted, sortOf, fill, checkItem, checkResult, checkRoot}
-use Rattle.sorts.specs.TemplateBytes.{closedBytes, fillBytes}
-use Rattle.sorts.specs.ByBytes.{signatureAt, callAt, itemAt, resultAt, rootAt}
+use Rattle.sorts.specs.TemplateBytes.{fillBytes, templatesFault}
+use Rattle.sorts.specs.ByBytes.{signatureAt, Context, unlessFault, callAt, itemAt, resultAt, rootAt, verdictOf}
+use Rattle.sorts.proofs.TemplateInduction.{choose}
 use Rattle.sorts.proofs.TemplatesByBytes.{closed-bytes, fill-bytes}
-use Rattle.sorts.proofs.HeadsByBytes.{Knows}
+use Rattle.sorts.proofs.HeadsByBytes.{Knows, zero-test}
+
+-- what is known, by a scope
+abbrev pub contextOf : Scope → ℕ → List ℕ → List ℕ → Context
+contextOf G h H L = record { keywords = G .keywords; outsides = G .outsides; head = h; heads = H; sorts = L }
+
+-- a sort or a refusal at a place
+abbrev pub sortedAt : ℕ → Sorted → Checked ℕ
+sortedAt at (As s) = ok s
+sortedAt at (Unsorted fault) = bad (refusal fault at 0 0)
+
+-- 9 before 11, by the outcomes of the tests
+abbrev faultBy : Bool → Bool → ℕ
+faultBy closed filled = choose (choose 0 11 filled) 9 closed
+
+call-by :
+    (at s : ℕ) (defined closed filled : Bool)
+    → sortedAt at (choose (Unsorted 9) (unlessFault s (faultBy closed filled)) (not defined))
+    ≡ (need (defined && closed) 9 at >> need filled 11 at >> ok s)
+call-by at s true true true = refl
+call-by at s true true false = refl
+call-by at s true false filled = refl
+call-by at s false closed filled = refl
+
+result-by : (at : ℕ) (closed filled : Bool) → verdictOf at (faultBy closed filled) ≡ verdict (need closed 9 at >> need filled 11 at)
+result-by at true true = refl
+result-by at true false = refl
+result-by at false filled = refl
+
+root-by : (at : ℕ) (defined fitting : Bool) → verdictOf at (choose 9 (choose 0 11 fitting) (not defined)) ≡ verdict (need defined 9 at >> need fitting 11 at)
+root-by at true true = refl
+root-by at true false = refl
+root-by at false fitting = refl
 
 module _ (bs : List ℕ) (G : Scope) (H : List ℕ) (knows : (n : ℕ) → n < 64 → Knows bs (G .env) H n) where
-  -- ------------------------------------------------------------------ calls and items
+  missing : (n : ℕ) → n < 64 → eqb (getD H n 0) 0 ≡ not (isDefined (G .env) n)
+  missing n l = zero-test (getD H n 0) ∙ ap not (knows n l .defined)
 
-  call-agrees :
-      (L : List ℕ) (at n : ℕ) {ts : Templates} → n < 64 → TemplatesWithin ts
-      → callAt bs H (G .outsides) L at n (templatesThen ts []) ≡ checkItem G L at (call n ts)
-  unfolding callAt
-  call-agrees L at n {ts} l w =
-      let k = knows n l in
-      let args : List ℕ = templatesThen ts [] in
-      let closed : closedBytes false args (G .outsides) (length L) ≡ areClosed ts G (length L) = closed-bytes G (length L) args ts (read-templates w) in
-      let sig : List ℕ = signatureAt bs (getD H n 0) in
-      let S : Signature = signatureOf (G .env) n in
-      ap₂ (λ x y. need (x && y) 9 at >> need (fillBytes false args L (drop 1 sig)) 11 at >> ok (getD sig 0 0)) (k .defined) closed
-      ∙ by-test (isDefined (G .env) n)
-      (λ e.
-      ap (λ x. need (isDefined (G .env) n && areClosed ts G (length L)) 9 at >> need (fillBytes false args L (drop 1 x)) 11 at >> ok (getD x 0 0)) (k .shown e)
-      ∙ ap (λ x. need (isDefined (G .env) n && areClosed ts G (length L)) 9 at >> need x 11 at >> ok (S .result)) (fill-bytes L args ts (S .params) (read-templates w)))
-      (λ e.
-      ap (λ x. need (x && areClosed ts G (length L)) 9 at >> need (fillBytes false args L (drop 1 sig)) 11 at >> ok (getD sig 0 0)) e
-      ∙ sym (ap (λ x. need (x && areClosed ts G (length L)) 9 at >> need (fill ts L (S .params)) 11 at >> ok (S .result)) e))
+  module _ (h : ℕ) (L : List ℕ) (at : ℕ) where
+    -- ------------------------------------------------------------------ calls and items
 
-  value-agrees : (L : List ℕ) (at : ℕ) {i : Item} → ItemWithin i → itemAt bs H (G .keywords) (G .outsides) L at (itemValue i) ≡ checkItem G L at i
-  unfolding itemAt itemValue
-  value-agrees L at (keyword-within h) = refl
-  value-agrees L at (ide-within h k) = refl
-  value-agrees L at number-within = refl
-  value-agrees L at local-within = refl
-  value-agrees L at (call-within {n} {ts} h w) = call-agrees L at n (omega arith) w
+    call-agrees :
+        (n : ℕ) {ts : Templates} → n < 64 → TemplatesWithin ts
+        → sortedAt at (callAt bs (contextOf G h H L) n (templatesThen ts [])) ≡ checkItem G L at (call n ts)
+    unfolding callAt templatesFault
+    call-agrees n {ts} l w =
+        let args : List ℕ = templatesThen ts [] in
+        let closed : Bool = areClosed ts G (length L) in
+        let S : Signature = signatureOf (G .env) n in
+        let sig : List ℕ = signatureAt bs (getD H n 0) in
+        ap₂ (λ x y. sortedAt at (choose (Unsorted 9) (unlessFault (getD sig 0 0) (faultBy y (fillBytes false args L (drop 1 sig)))) x)) (missing n l)
+        (closed-bytes G (length L) args ts (read-templates w))
+        ∙ call-by at (getD sig 0 0) (isDefined (G .env) n) closed (fillBytes false args L (drop 1 sig))
+        ∙ by-test (isDefined (G .env) n)
+        (λ e.
+        ap (λ x. need (isDefined (G .env) n && closed) 9 at >> need (fillBytes false args L (drop 1 x)) 11 at >> ok (getD x 0 0)) (knows n l .shown e)
+        ∙ ap (λ x. need (isDefined (G .env) n && closed) 9 at >> need x 11 at >> ok (S .result)) (fill-bytes L args ts (S .params) (read-templates w)))
+        (λ e.
+        ap (λ x. need (x && closed) 9 at >> need (fillBytes false args L (drop 1 sig)) 11 at >> ok (getD sig 0 0)) e
+        ∙ sym (ap (λ x. need (x && closed) 9 at >> need (fill ts L (S .params)) 11 at >> ok (S .result)) e))
 
-  pub item-agrees :
-      (L : List ℕ) (at : ℕ) (v : List ℕ) → Bytes v → isKnown 6 v ≡ true → isWhole 6 v ≡ true
-      → itemAt bs H (G .keywords) (G .outsides) L at v ≡ checkItem G L at (itemOf v)
-  item-agrees L at v b k w =
-      let i = item-value v b k w in
-      ap (itemAt bs H (G .keywords) (G .outsides) L at) (i .1)
-      ∙ value-agrees L at (i .2)
-      ∙ ap (checkItem G L at) (sym (ap itemOf (i .1) ∙ item-read (i .2)))
+    keyword-agrees : (t : Bool) → sortedAt at (choose (As 0) (Unsorted 9) t) ≡ (need t 9 at >> ok 0)
+    keyword-agrees true = refl
+    keyword-agrees false = refl
 
-  -- ------------------------------------------------------------------ results
+    value-agrees : {i : Item} → ItemWithin i → sortedAt at (itemAt bs (contextOf G h H L) (itemValue i)) ≡ checkItem G L at i
+    unfolding itemAt itemValue
+    value-agrees (keyword-within {k} l) = keyword-agrees (ltb k (G .keywords))
+    value-agrees (ide-within l k) = refl
+    value-agrees number-within = refl
+    value-agrees local-within = refl
+    value-agrees (call-within {n} {ts} l w) = call-agrees n (omega arith) w
 
-  pub result-agrees :
-      (L : List ℕ) (B at : ℕ) (v : List ℕ) → Bytes v → isWhole 7 v ≡ true
-      → resultAt (G .outsides) L B at v ≡ checkResult G L B at (firstOf (found (templatesOf v)))
-  unfolding resultAt areClosed fill
-  result-agrees L B at v b w =
-      let r = result-value v b w in
-      let t : Template = r .0 in
-      let one = read-template (r .2) in
-      ap (resultAt (G .outsides) L B at) (r .1)
-      ∙ ap₂ (λ x y. need x 9 at >> need y 11 at)
-      (closed-bytes G (length L) (templateThen t []) (more t none) one ∙ and-true (isClosed t G (length L)))
-      (fill-bytes L (templateThen t []) (more t none) (B ∷ []) one ∙ and-true (isSorted t L && fits (sortOf t L) B))
-      ∙ ap (checkResult G L B at) (sym (ap (λ u. firstOf (found (templatesOf u))) (r .1) ∙ result-read (r .2)))
+    -- an item's bytes are checked as the item
+    pub item-agrees :
+        (v : List ℕ) → Bytes v → isKnown 6 v ≡ true → isWhole 6 v ≡ true
+        → sortedAt at (itemAt bs (contextOf G h H L) v) ≡ checkItem G L at (itemOf v)
+    item-agrees v b k w =
+        let i = item-value v b k w in
+        ap (λ u. sortedAt at (itemAt bs (contextOf G h H L) u)) (i .1)
+        ∙ value-agrees (i .2)
+        ∙ ap (checkItem G L at) (sym (ap itemOf (i .1) ∙ item-read (i .2)))
+
+    -- ------------------------------------------------------------------ results
+
+    -- a result's bytes are checked as the template
+    pub result-agrees :
+        (S : Signature) (v : List ℕ) → signatureAt bs h ≡ S .result ∷ S .params → Bytes v → isWhole 7 v ≡ true
+        → verdictOf at (resultAt bs (contextOf G h H L) v) ≡ verdict (checkResult G L (S .result) at (firstOf (found (templatesOf v))))
+    unfolding resultAt templatesFault areClosed fill
+    result-agrees S v e b w =
+        let B : ℕ = S .result in
+        let r = result-value v b w in
+        let t : Template = r .0 in
+        let one = read-template (r .2) in
+        ap (λ s. verdictOf at (templatesFault (G .outsides) L v (getD s 0 0 ∷ []))) e
+        ∙ ap (λ u. verdictOf at (templatesFault (G .outsides) L u (B ∷ []))) (r .1)
+        ∙ ap₂ (λ x y. verdictOf at (faultBy x y))
+        (closed-bytes G (length L) (templateThen t []) (more t none) one ∙ and-true (isClosed t G (length L)))
+        (fill-bytes L (templateThen t []) (more t none) (B ∷ []) one ∙ and-true (isSorted t L && fits (sortOf t L) B))
+        ∙ result-by at (isClosed t G (length L)) (isSorted t L && fits (sortOf t L) B)
+        ∙ ap (λ u. verdict (checkResult G L B at u)) (sym (ap (λ u. firstOf (found (templatesOf u))) (r .1) ∙ result-read (r .2)))
 
   -- ------------------------------------------------------------------ the root
 
-  pub root-agrees : (at n : ℕ) → n < 64 → rootAt bs H at n ≡ checkRoot (G .env) at n
+  -- the root's byte is checked as the root
+  pub root-agrees : (at n : ℕ) → n < 64 → verdictOf at (rootAt bs H n) ≡ verdict (checkRoot (G .env) at n)
   unfolding rootAt checkRoot
   root-agrees at n l =
-      let k = knows n l in
       let S : Signature = signatureOf (G .env) n in
       let fitting : List ℕ → Bool = λ s. leb (length s) 1 && eqb (getD s 0 0) term in
-      ap (λ x. need x 9 at >> need (fitting (signatureAt bs (getD H n 0))) 11 at) (k .defined)
+      let sig : List ℕ = signatureAt bs (getD H n 0) in
+      ap (λ x. verdictOf at (choose 9 (choose 0 11 (fitting sig)) x)) (missing n l)
+      ∙ root-by at (isDefined (G .env) n) (fitting sig)
       ∙ by-test (isDefined (G .env) n)
       (λ e.
-      ap (λ x. need (isDefined (G .env) n) 9 at >> need (fitting x) 11 at) (k .shown e)
-      ∙ ap (λ x. need (isDefined (G .env) n) 9 at >> need (x && eqb (S .result) term) 11 at) (none-left (S .result) (S .params)))
+      ap (λ x. verdict (need (isDefined (G .env) n) 9 at >> need (fitting x) 11 at)) (knows n l .shown e)
+      ∙ ap (λ x. verdict (need (isDefined (G .env) n) 9 at >> need (x && eqb (S .result) term) 11 at)) (none-left (S .result) (S .params)))
       (λ e.
-      ap (λ x. need x 9 at >> need (fitting (signatureAt bs (getD H n 0))) 11 at) e
-      ∙ sym (ap (λ x. need x 9 at >> need (eqb (length (S .params)) 0 && eqb (S .result) term) 11 at) e))
+      ap (λ x. verdict (need x 9 at >> need (fitting sig) 11 at)) e
+      ∙ sym (ap (λ x. verdict (need x 9 at >> need (eqb (length (S .params)) 0 && eqb (S .result) term) 11 at)) e))
     where
       none-left : (r : ℕ) (ps : List ℕ) → leb (length (r ∷ ps)) 1 ≡ eqb (length ps) 0
       none-left r [] = refl

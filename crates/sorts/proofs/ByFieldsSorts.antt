@@ -11,7 +11,8 @@ use Rattle.grammar.specs.Sorts.{Signature, gives, unit}
 use Rattle.grammar.specs.Table.{Template, Item, Alternative, Mode, add, extend, update, Definition, Table}
 use lib.Dec.{eqb}
 use Rattle.grammar.specs.Fields.{Fields, next, fieldsOf, leading, afterLeading}
-use Rattle.grammar.specs.Encode.{Field, field, templateThen, itemValue, modeCode, headValue, spellingsThen, itemsThen, alternativesThen, definitionsThen, blocksThen, tableFields, encode}
+use Rattle.grammar.specs.Encode.{Field, field, templateThen, itemValue, modeCode, headValue, spellingsThen, itemsThen, alternativesThen}
+use Rattle.grammar.specs.Encode.{definitionsThen, blocksThen, tableFields, encode}
 use Rattle.layout.specs.Decode.{modeOf, itemOf, definitionOf}
 use Rattle.layout.specs.Prefix.{templatesOf, found, firstOf}
 use Rattle.layout.specs.Within.{Each, each-none, each-more, TemplateWithin, ItemWithin, AlternativeWithin, DefinitionWithin, Within}
@@ -21,7 +22,8 @@ use Rattle.layout.proofs.Values.{item-read, result-read}
 use Rattle.layout.proofs.Inverse.{decode-encoded}
 use Rattle.layout.proofs.DecodedLexicon.{leading-decoded}
 use Rattle.sorts.specs.Sizes.{fieldSize, spellingsSize, itemsSize, alternativeSize, alternativesSize, definitionSize, definitionsSize}
-use Rattle.sorts.specs.CheckSorts.{Env, entryOf, consistent, collect, Scope, checkItem, checkItems, checkResult, checkAlternative, checkAlternatives, checkBodies, checkBlocks, blocksSize, checkRoot, checkSorts}
+use Rattle.sorts.specs.CheckSorts.{Env, entryOf, consistent, collect, Scope, checkItem, checkItems, checkResult, checkAlternative}
+use Rattle.sorts.specs.CheckSorts.{checkAlternatives, checkBodies, checkBlocks, blocksSize, checkRoot, checkSorts}
 use Rattle.sorts.specs.ByFields.{headOf, collectBy, bodiesBy, blocksBy, checkSortsBy}
 
 -- ------------------------------------------------------------------ checks in order
@@ -59,20 +61,26 @@ by-head d add E own at = refl
 by-head d extend E own at = refl
 by-head d update E own at = refl
 
-head-consistent : (d : Definition) (E own : Env) (at : ℕ) → consistent (headOf (headValue d) .mode) E own (headOf (headValue d)) at ≡ consistent (d .mode) E own d at
+head-consistent :
+    (d : Definition) (E own : Env) (at : ℕ)
+    → consistent (headOf (headValue d) .mode) E own (headOf (headValue d)) at ≡ consistent (d .mode) E own d at
 unfolding headValue definitionOf
 head-consistent d E own at = ap (λ m. consistent m E own (headOf (headValue d)) at) (mode-read (d .mode)) ∙ by-head d (d .mode) E own at
 
 -- ------------------------------------------------------------------ signatures
 
 module _ (E : Env) where
-  collect-items : (is : List Item) (k : List Field) (own : Env) (at : ℕ) → collectBy (spread at (itemsThen is k)) E own ≡ collectBy (spread (at + itemsSize is) k) E own
+  collect-items :
+      (is : List Item) (k : List Field) (own : Env) (at : ℕ)
+      → collectBy (spread at (itemsThen is k)) E own ≡ collectBy (spread (at + itemsSize is) k) E own
   unfolding spread itemsThen itemsSize collectBy
   collect-items [] k own at = ap (λ a. collectBy (spread a k) E own) (omega arith)
   collect-items (i ∷ is) k own at =
       collect-items is k own (at + (3 + length (itemValue i))) ∙ ap (λ a. collectBy (spread a k) E own) (omega arith)
 
-  collect-alternatives : (rest : List Alternative) (k : List Field) (own : Env) (at : ℕ) → collectBy (spread at (alternativesThen rest k)) E own ≡ collectBy (spread (at + alternativesSize rest) k) E own
+  collect-alternatives :
+      (rest : List Alternative) (k : List Field) (own : Env) (at : ℕ)
+      → collectBy (spread at (alternativesThen rest k)) E own ≡ collectBy (spread (at + alternativesSize rest) k) E own
   unfolding spread alternativesThen alternativesSize alternativeSize collectBy
   collect-alternatives [] k own at = ap (λ a. collectBy (spread a k) E own) (omega arith)
   collect-alternatives (a ∷ rest) k own at =
@@ -86,7 +94,9 @@ module _ (E : Env) where
     unfolding spread definitionsThen collectBy collect definitionSize headValue definitionOf
     collect-definitions [] own at = ends at own
     collect-definitions (d ∷ ds) own at =
-        ap (λ c. c >> collectBy (spread (at + fieldSize (headValue d)) (alternativesThen (d .alternatives) (definitionsThen ds k))) E (entryOf d ∷ own)) (head-consistent d E own at)
+        ap
+        (λ c. c >> collectBy (spread (at + fieldSize (headValue d)) (alternativesThen (d .alternatives) (definitionsThen ds k))) E (entryOf d ∷ own))
+        (head-consistent d E own at)
         ∙ ap (λ c. consistent (d .mode) E own d at >> c)
         (collect-alternatives (d .alternatives) (definitionsThen ds k) (entryOf d ∷ own) (at + fieldSize (headValue d))
         ∙ ap (λ a. collectBy (spread a (definitionsThen ds k)) E (entryOf d ∷ own)) (omega arith)
@@ -104,12 +114,14 @@ module _ (G : Scope) where
       ap (λ u. checkResult G L (S .result) at u >> bodiesBy (spread (at + fieldSize (templateThen t [])) k) G S []) (result-read w)
       ∙ ap (λ a. checkResult G L (S .result) a t >> bodiesBy (spread (a + fieldSize (templateThen t [])) k) G S []) (sym (add-zero at))
   bodies-items (each-more {x = i} {xs = is} h hs) {t} w k S L at =
-      ap (λ j. checkItem G L at j >>= λ s. bodiesBy (spread (at + fieldSize (itemValue i)) (itemsThen is (field 7 (templateThen t []) ∷ k))) G S (L ++ (s ∷ []))) (item-read h)
+      ap (λ j. checkItem G L at j >>= λ s. bodiesBy (spread (at + fieldSize (itemValue i)) (itemsThen is (field 7 (templateThen t []) ∷ k))) G S
+      (L ++ (s ∷ []))) (item-read h)
       ∙ ap (λ f. checkItem G L at i >>= f)
       (fun-ext
       (λ s.
       bodies-items hs w k S (L ++ (s ∷ [])) (at + fieldSize (itemValue i))
-      ∙ ap (λ a. checkItems G (L ++ (s ∷ [])) (at + fieldSize (itemValue i)) is >>= λ L′. checkResult G L′ (S .result) a t >> bodiesBy (spread (a + fieldSize (templateThen t [])) k) G S []) (omega arith)))
+      ∙ ap (λ a. checkItems G (L ++ (s ∷ [])) (at + fieldSize (itemValue i)) is >>= λ L′. checkResult G L′ (S .result) a t >> bodiesBy
+      (spread (a + fieldSize (templateThen t [])) k) G S []) (omega arith)))
       ∙ sym (bind-bind (checkItem G L at i) _ _)
 
   bodies-alternatives : {rest : List Alternative} → Each AlternativeWithin rest → (k : List Field) (S : Signature) (at : ℕ)
@@ -127,7 +139,9 @@ module _ (G : Scope) where
 
   -- what follows a block's definitions ends the block
   module _ (k : List Field) (ends : (at : ℕ) (S : Signature) → bodiesBy (spread at k) G S [] ≡ ok tt) where
-    pub bodies-definitions : {ds : List Definition} → Each DefinitionWithin ds → (S : Signature) (at : ℕ) → bodiesBy (spread at (definitionsThen ds k)) G S [] ≡ checkBodies G at ds
+    pub bodies-definitions :
+        {ds : List Definition} → Each DefinitionWithin ds → (S : Signature) (at : ℕ)
+        → bodiesBy (spread at (definitionsThen ds k)) G S [] ≡ checkBodies G at ds
     unfolding spread definitionsThen bodiesBy checkBodies definitionSize headValue definitionOf
     bodies-definitions each-none S at = ends at S
     bodies-definitions (each-more {x = d} {xs = ds} h hs) S at =
@@ -140,12 +154,16 @@ module _ (G : Scope) where
 
 module _ (K N : ℕ) where
   -- only the fields 03 and 08 count here
-  blocks-items : (is : List Item) (k : List Field) (E : Env) (at : ℕ) → blocksBy (spread at (itemsThen is k)) K N E ≡ blocksBy (spread (at + itemsSize is) k) K N E
+  blocks-items :
+      (is : List Item) (k : List Field) (E : Env) (at : ℕ)
+      → blocksBy (spread at (itemsThen is k)) K N E ≡ blocksBy (spread (at + itemsSize is) k) K N E
   unfolding spread itemsThen itemsSize blocksBy
   blocks-items [] k E at = ap (λ a. blocksBy (spread a k) K N E) (sym (add-zero at))
   blocks-items (i ∷ is) k E at = blocks-items is k E (at + fieldSize (itemValue i)) ∙ ap (λ a. blocksBy (spread a k) K N E) (omega arith)
 
-  blocks-alternatives : (rest : List Alternative) (k : List Field) (E : Env) (at : ℕ) → blocksBy (spread at (alternativesThen rest k)) K N E ≡ blocksBy (spread (at + alternativesSize rest) k) K N E
+  blocks-alternatives :
+      (rest : List Alternative) (k : List Field) (E : Env) (at : ℕ)
+      → blocksBy (spread at (alternativesThen rest k)) K N E ≡ blocksBy (spread (at + alternativesSize rest) k) K N E
   unfolding spread alternativesThen alternativesSize alternativeSize blocksBy
   blocks-alternatives [] k E at = ap (λ a. blocksBy (spread a k) K N E) (sym (add-zero at))
   blocks-alternatives (a ∷ rest) k E at =
@@ -153,7 +171,9 @@ module _ (K N : ℕ) where
       ∙ blocks-alternatives rest k E (at + 3 + itemsSize (a .items) + fieldSize (templateThen (a .result) []))
       ∙ ap (λ p. blocksBy (spread p k) K N E) (omega arith)
 
-  blocks-definitions : (ds : List Definition) (k : List Field) (E : Env) (at : ℕ) → blocksBy (spread at (definitionsThen ds k)) K N E ≡ blocksBy (spread (at + definitionsSize ds) k) K N E
+  blocks-definitions :
+      (ds : List Definition) (k : List Field) (E : Env) (at : ℕ)
+      → blocksBy (spread at (definitionsThen ds k)) K N E ≡ blocksBy (spread (at + definitionsSize ds) k) K N E
   unfolding spread definitionsThen definitionsSize definitionSize blocksBy
   blocks-definitions [] k E at = ap (λ a. blocksBy (spread a k) K N E) (sym (add-zero at))
   blocks-definitions (d ∷ ds) k E at =
@@ -161,11 +181,15 @@ module _ (K N : ℕ) where
       ∙ blocks-definitions ds k E (at + fieldSize (headValue d) + alternativesSize (d .alternatives))
       ∙ ap (λ p. blocksBy (spread p k) K N E) (omega arith)
 
-  blocks-skip : (tag : ℕ) → eqb tag 3 ≡ false → eqb tag 8 ≡ false → (at : ℕ) (v : List ℕ) (fs : Fields) (E : Env) → blocksBy (next at tag v fs) K N E ≡ blocksBy fs K N E
+  blocks-skip :
+      (tag : ℕ) → eqb tag 3 ≡ false → eqb tag 8 ≡ false → (at : ℕ) (v : List ℕ) (fs : Fields) (E : Env)
+      → blocksBy (next at tag v fs) K N E ≡ blocksBy fs K N E
   unfolding blocksBy
   blocks-skip tag block root at v fs E = rw (blocksBy, block, root) refl
 
-  blocks-spellings : (tag : ℕ) → eqb tag 3 ≡ false → eqb tag 8 ≡ false → (ss : List (List ℕ)) (k : List Field) (E : Env) (at : ℕ) → blocksBy (spread at (spellingsThen tag ss k)) K N E ≡ blocksBy (spread (at + spellingsSize ss) k) K N E
+  blocks-spellings :
+      (tag : ℕ) → eqb tag 3 ≡ false → eqb tag 8 ≡ false → (ss : List (List ℕ)) (k : List Field) (E : Env) (at : ℕ)
+      → blocksBy (spread at (spellingsThen tag ss k)) K N E ≡ blocksBy (spread (at + spellingsSize ss) k) K N E
   unfolding spread spellingsThen spellingsSize
   blocks-spellings tag block root [] k E at = ap (λ a. blocksBy (spread a k) K N E) (sym (add-zero at))
   blocks-spellings tag block root (s ∷ ss) k E at =
@@ -193,13 +217,21 @@ module _ (K N : ℕ) where
     unfolding spread blocksThen blocksBy checkBlocks blocksSize
     blocks-sorts each-none E at = ap (λ a. checkRoot E a r) (sym (add-zero at))
     blocks-sorts (each-more {x = b} {xs = bs} h hs) E at =
-        ap (λ c. c >>= λ own. bodiesBy (spread (at + 3) (definitionsThen b (blocksThen bs rootField))) (record { keywords = K; outsides = N; env = own ++ E }) (gives [] unit) [] >> blocksBy (spread (at + 3) (definitionsThen b (blocksThen bs rootField))) K N (own ++ E))
+        ap (λ c. c >>= λ own. bodiesBy (spread (at + 3) (definitionsThen b (blocksThen bs rootField)))
+        (record { keywords = K; outsides = N; env = own ++ E }) (gives [] unit) [] >> blocksBy
+        (spread (at + 3) (definitionsThen b (blocksThen bs rootField))) K N (own ++ E))
         (collect-definitions E (blocksThen bs rootField) (λ a own. collect-ends bs a E own) b [] (at + 3))
         ∙ ap (λ f. collect E [] (at + 3) b >>= f)
         (fun-ext
         (λ own.
         ap (λ c. c >> blocksBy (spread (at + 3) (definitionsThen b (blocksThen bs rootField))) K N (own ++ E))
-        (bodies-definitions (record { keywords = K; outsides = N; env = own ++ E }) (blocksThen bs rootField) (λ a S. bodies-ends bs (record { keywords = K; outsides = N; env = own ++ E }) a S) h (gives [] unit) (at + 3))
+        (bodies-definitions (record {
+          keywords =
+              K;
+          outsides = N;
+          env = own ++ E;
+        }) (blocksThen bs rootField) (λ a S. bodies-ends bs (record
+        { keywords = K; outsides = N; env = own ++ E }) a S) h (gives [] unit) (at + 3))
         ∙ ap (λ c. checkBodies (record { keywords = K; outsides = N; env = own ++ E }) (at + 3) b >> c)
         (blocks-definitions b (blocksThen bs rootField) (own ++ E) (at + 3)
         ∙ blocks-sorts hs (own ++ E) (at + 3 + definitionsSize b)

@@ -18,22 +18,24 @@ use Rattle.grammar.specs.Fields.{Fields, end, cut, next, fieldsOf, leading, aft
 use Rattle.grammar.proofs.LookupLaws.{fields-of}
 use Rattle.layout.specs.declared.Progress.{Progress}
 use Rattle.layout.specs.Prefix.{templatesOf, found, firstOf}
-use Rattle.layout.specs.Decode.{itemOf}
 use Rattle.layout.specs.Layout.{isKnown, follows, passed, checkFields, start, layout}
 use Rattle.layout.proofs.Split.{Bytes, ValueBytes, value-bytes}
 use Rattle.layout.proofs.Accept.{Passes, accepted, by-tag}
 use Rattle.layout.proofs.Laws.{room-of}
 use Rattle.layout.proofs.Values.{root-value}
 use Rattle.layout.proofs.Inverse.{layout-parts}
-use Rattle.sorts.specs.CheckSorts.{Env, isDefined, checkItem, checkResult}
+use Rattle.sorts.specs.CheckSorts.{Env, isDefined, checkResult}
 use Rattle.sorts.specs.Judgements.{scope}
 use Rattle.sorts.specs.ByFields.{headOf, collectBy, bodiesBy, blocksBy, checkSortsBy}
-use Rattle.sorts.specs.ByBytes.{signatureAt, Collected, collected, collectFrom, alternativeFrom, known, afterBlock, afterBody, stepAt, goOn, sortsFrom, sortsOf}
+use Rattle.sorts.specs.declared.Sorted.{Sorted}
+use Rattle.sorts.specs.declared.Sorted.the-variants.{As, Unsorted}
+use Rattle.sorts.specs.ByBytes.{signatureAt, Collected, collected, collectFrom, itemAt, afterVerdict, afterBlock, afterItem}
+use Rattle.sorts.specs.ByBytes.{stepAt, goOn, sortsFrom, sortsOf}
 use Rattle.sorts.proofs.StepLaws.{sorts-short}
 use Rattle.sorts.proofs.PlacedFields.{Placed, endOf, placed-end, placed-fields, placed-from-lower}
 use Rattle.sorts.proofs.HeadsByBytes.{bytesOf, Knows, Collects, Head, head-known, head-signature, head-few}
 use Rattle.sorts.proofs.CollectByBytes.{Below, Agree, collect-agrees}
-use Rattle.sorts.proofs.BodiesByBytes.{item-agrees, result-agrees, root-agrees}
+use Rattle.sorts.proofs.BodiesByBytes.{contextOf, sortedAt, item-agrees, result-agrees, root-agrees}
 
 module _ (bs : List ℕ) where
   -- the heads show an environment, and none lies behind the block that the fields begin in
@@ -57,9 +59,8 @@ module _ (bs : List ℕ) where
   abbrev fieldsVerdict : Fields → ℕ → ℕ → Env → Signature → List ℕ → Verdict
   fieldsVerdict fs K N E S L = verdict (bodiesBy fs (scope K N E) S L >> blocksBy fs K N E)
 
-  abbrev bytesVerdict : Fields → ℕ → ℕ → ℕ → List ℕ → ℕ → List ℕ → Verdict
-  bytesVerdict fs K N h H B L =
-      goOn (afterBody (known K N h) H (alternativeFrom fs bs H K N B L)) (λ k H′. sortsFrom fs bs k H′)
+  abbrev bytesVerdict : Fields → ℕ → ℕ → ℕ → List ℕ → List ℕ → Verdict
+  bytesVerdict fs K N h H L = sortsFrom fs bs (record { keywords = K; outsides = N; head = h; heads = H; sorts = L })
 
   -- ------------------------------------------------------------------ which tag follows
 
@@ -69,7 +70,9 @@ module _ (bs : List ℕ) where
   begun (after-head s f) e = (s, f)
   begun (after-result s f) e = (s, f)
 
-  never : {h : ℕ} {S : Signature} {last : ℕ} (tag : ℕ) → Between h S last → follows tag 3 ≡ false → follows tag 4 ≡ false → follows tag 7 ≡ false → follows tag last ≡ true → ⊥
+  never :
+      {h : ℕ} {S : Signature} {last : ℕ} (tag : ℕ) → Between h S last → follows tag 3 ≡ false → follows tag 4 ≡ false → follows tag 7 ≡ false
+      → follows tag last ≡ true → ⊥
   never tag after-block a b c e = true≢false (sym e ∙ a)
   never tag (after-head s f) a b c e = true≢false (sym e ∙ b)
   never tag (after-result s f) a b c e = true≢false (sym e ∙ c)
@@ -81,59 +84,59 @@ module _ (bs : List ℕ) where
   -- ------------------------------------------------------------------ answers put together
 
   item-case :
-      (fs : Fields) (K N h : ℕ) (E : Env) (H : List ℕ) (B : ℕ) (S : Signature) (L : List ℕ) (c : Checked ℕ)
-      → ((s : ℕ) → bytesVerdict fs K N h H B (take 16 (L ++ (s ∷ []))) ≡ fieldsVerdict fs K N E S (L ++ (s ∷ [])))
-      → goOn (afterBody (known K N h) H (c >>= λ s. alternativeFrom fs bs H K N B (take 16 (L ++ (s ∷ []))))) (λ k H′. sortsFrom fs bs k H′)
-      ≡ verdict ((c >>= λ s. bodiesBy fs (scope K N E) S (L ++ (s ∷ []))) >> blocksBy fs K N E)
-  item-case fs K N h E H B S L (ok s) f = f s
-  item-case fs K N h E H B S L (bad r) f = refl
+      (fs : Fields) (K N h : ℕ) (E : Env) (H : List ℕ) (S : Signature) (L : List ℕ) (at : ℕ) (c : Sorted)
+      → ((s : ℕ) → bytesVerdict fs K N h H (take 16 (L ++ (s ∷ []))) ≡ fieldsVerdict fs K N E S (L ++ (s ∷ [])))
+      → goOn (afterItem (contextOf (scope K N E) h H L) at c) (λ X. sortsFrom fs bs X)
+      ≡ verdict ((sortedAt at c >>= λ s. bodiesBy fs (scope K N E) S (L ++ (s ∷ []))) >> blocksBy fs K N E)
+  item-case fs K N h E H S L at (As s) f = f s
+  item-case fs K N h E H S L at (Unsorted fault) f = refl
 
   result-case :
-      (fs : Fields) (K N h : ℕ) (E : Env) (H : List ℕ) (S : Signature) (L : List ℕ) (c : Checked (Unit {0}))
-      → sortsFrom fs bs (known K N h) H ≡ fieldsVerdict fs K N E S L
-      → goOn (afterBody (known K N h) H c) (λ k H′. sortsFrom fs bs k H′)
-      ≡ verdict (c >> bodiesBy fs (scope K N E) S L >> blocksBy fs K N E)
-  result-case fs K N h E H S L (ok u) f = f
-  result-case fs K N h E H S L (bad r) f = refl
+      (fs : Fields) (K N h : ℕ) (E : Env) (H : List ℕ) (S : Signature) (L L′ : List ℕ) (c : Checked (Unit {0}))
+      → bytesVerdict fs K N h H L ≡ fieldsVerdict fs K N E S L′
+      → goOn (afterVerdict (contextOf (scope K N E) h H L) (verdict c)) (λ X. sortsFrom fs bs X)
+      ≡ verdict (c >> bodiesBy fs (scope K N E) S L′ >> blocksBy fs K N E)
+  result-case fs K N h E H S L L′ (ok u) f = f
+  result-case fs K N h E H S L L′ (bad r) f = refl
 
   block-case :
-      (fs : Fields) (K N h block : ℕ) (E : Env) (c : Checked Env) (x : Collected) → Agree bs E block (endOf fs) c x
+      (fs : Fields) (K N h block : ℕ) (E : Env) (H₀ L : List ℕ) (c : Checked Env) (x : Collected) → Agree bs E block (endOf fs) c x
       → ((own : Env) (H : List ℕ) → Collects bs E own block H → Below H (endOf fs)
-      → sortsFrom fs bs (known K N h) H ≡ fieldsVerdict fs K N (own ++ E) (gives [] unit) [])
-      → goOn (afterBlock (known K N h) x) (λ k H′. sortsFrom fs bs k H′)
+      → bytesVerdict fs K N h H L ≡ fieldsVerdict fs K N (own ++ E) (gives [] unit) [])
+      → goOn (afterBlock (contextOf (scope K N E) h H₀ L) x) (λ X. sortsFrom fs bs X)
       ≡ verdict (c >>= λ own. bodiesBy fs (scope K N (own ++ E)) (gives [] unit) [] >> blocksBy fs K N (own ++ E))
-  block-case fs K N h block E (ok own) (collected Passed H) a f = f own H (a .0) (a .1)
-  block-case fs K N h block E (ok own) (collected (Refused r) H) a f = absurd a
-  block-case fs K N h block E (bad r) (collected Passed H) a f = absurd a
-  block-case fs K N h block E (bad r) (collected (Refused q) H) a f = ap Refused (sym a)
+  block-case fs K N h block E H₀ L (ok own) (collected Passed H) a f = f own H (a .0) (a .1)
+  block-case fs K N h block E H₀ L (ok own) (collected (Refused r) H) a f = absurd a
+  block-case fs K N h block E H₀ L (bad r) (collected Passed H) a f = absurd a
+  block-case fs K N h block E H₀ L (bad r) (collected (Refused q) H) a f = ap Refused (sym a)
 
   -- ------------------------------------------------------------------ one field
 
   -- the fields behind a field, and what is known of it
-  module _ (at : ℕ) (v : List ℕ) (fs : Fields) (K N h : ℕ) (E : Env) (H : List ℕ) (p : Placed bs (at + 3) fs) where
+  module _ (at : ℕ) (v : List ℕ) (fs : Fields) (K N h : ℕ) (E : Env) (H L : List ℕ) (p : Placed bs (at + 3) fs) where
     -- a block is collected, then its bodies follow
     block-agrees :
         (before : List Field) (s : Progress) → checkFields fs before s ≡ ok tt → Shows E H (next at 3 v fs)
-        → ((own : Env) (H′ : List ℕ) → Shows (own ++ E) H′ fs → sortsFrom fs bs (known K N h) H′ ≡ fieldsVerdict fs K N (own ++ E) (gives [] unit) [])
-        → sortsFrom (next at 3 v fs) bs (known K N h) H ≡ verdict (blocksBy (next at 3 v fs) K N E)
+        → ((own : Env) (H′ : List ℕ) → Shows (own ++ E) H′ fs → bytesVerdict fs K N h H′ L ≡ fieldsVerdict fs K N (own ++ E) (gives [] unit) [])
+        → bytesVerdict (next at 3 v fs) K N h H L ≡ verdict (blocksBy (next at 3 v fs) K N E)
     unfolding sortsFrom stepAt blocksBy endOf isDefined
     block-agrees before s a w f =
         let low : (n : ℕ) → getD H n 0 ≤ at = w .below in
         let behind : at + 3 ≤ endOf fs = placed-end bs (at + 3) fs p in
         let c : Collects bs E [] at H = record { size = w .size; knows = w .knows; here = λ n l. le-leb (getD H n 0) at (low n) } in
-        block-case fs K N h at E (collectBy fs E []) (collectFrom fs bs at H)
+        block-case fs K N h at E H L (collectBy fs E []) (collectFrom fs bs at H)
         (collect-agrees bs E at fs before s [] H a (placed-from-lower bs (at + 3) (at + 1) fs (omega arith) p) c
         (λ n. omega (arith, low n)))
         (λ own H′ d b. f own H′ (record { size = d .size; knows = d .knows; below = b }))
 
     root-verdict :
         isKnown 8 v ≡ true → Shows E H (next at 8 v fs)
-        → sortsFrom (next at 8 v fs) bs (known K N h) H ≡ verdict (blocksBy (next at 8 v fs) K N E)
+        → bytesVerdict (next at 8 v fs) K N h H L ≡ verdict (blocksBy (next at 8 v fs) K N E)
     unfolding sortsFrom stepAt blocksBy
     root-verdict k w =
         let r = root-value v k in
         let low : getD v 0 0 < 64 = subst⁻¹ (λ u. getD u 0 0 < 64) (r .1) (omega (arith, r .2)) in
-        ap verdict (root-agrees bs (scope K N E) H (w .knows) at (getD v 0 0) low)
+        root-agrees bs (scope K N E) H (w .knows) at (getD v 0 0) low
 
   -- the sorts of one variable more
   one-more : (L : List ℕ) (s : ℕ) → length L ≤ 15 → take 16 (L ++ (s ∷ [])) ≡ L ++ (s ∷ [])
@@ -142,51 +145,51 @@ module _ (bs : List ℕ) where
   -- ------------------------------------------------------------------ blocks
 
   mutual
-    unfolding sortsFrom stepAt bodiesBy blocksBy endOf passed alternativeFrom follows
+    unfolding sortsFrom stepAt bodiesBy blocksBy endOf passed follows
 
     between-agrees :
         (fs : Fields) (before : List Field) (s : Progress) → checkFields fs before s ≡ ok tt → ValueBytes fs → (from : ℕ) → Placed bs from fs
-        → (K N h : ℕ) (E : Env) (H : List ℕ) (S : Signature) (L : List ℕ) → Shows E H fs → Between h S (s .last)
-        → sortsFrom fs bs (known K N h) H ≡ fieldsVerdict fs K N E S L
-    between-agrees (end at) before s a y from p K N h E H S L w b = refl
-    between-agrees (cut at) before s a y from p K N h E H S L w b = refl
-    between-agrees (next at tag v fs) before s a y from p K N h E H S L w b =
+        → (K N h : ℕ) (E : Env) (H L : List ℕ) (S : Signature) (L′ : List ℕ) → Shows E H fs → Between h S (s .last)
+        → bytesVerdict fs K N h H L ≡ fieldsVerdict fs K N E S L′
+    between-agrees (end at) before s a y from p K N h E H L S L′ w b = refl
+    between-agrees (cut at) before s a y from p K N h E H L S L′ w b = refl
+    between-agrees (next at tag v fs) before s a y from p K N h E H L S L′ w b =
         let q = accepted at tag v fs before s a in
         by-tag
         (λ t. Passes before t v s → checkFields fs (field t v ∷ before) (passed t s) ≡ ok tt → Shows E H (next at t v fs)
-        → sortsFrom (next at t v fs) bs (known K N h) H ≡ fieldsVerdict (next at t v fs) K N E S L)
+        → bytesVerdict (next at t v fs) K N h H L ≡ fieldsVerdict (next at t v fs) K N E S L′)
         (λ o r w. absurd (never 1 b refl refl refl (o .ordered)))
         (λ o r w. absurd (never 2 b refl refl refl (o .ordered)))
         (λ o r w.
-        block-agrees at v fs K N h E H (p .2) (field 3 v ∷ before) (passed 3 s) r w
+        block-agrees at v fs K N h E H L (p .2) (field 3 v ∷ before) (passed 3 s) r w
         (λ own H′ d.
-        between-agrees fs (field 3 v ∷ before) (passed 3 s) r (y .1) (at + 3) (p .2) K N h (own ++ E) H′ (gives [] unit) [] d after-block))
+        between-agrees fs (field 3 v ∷ before) (passed 3 s) r (y .1) (at + 3) (p .2) K N h (own ++ E) H′ L (gives [] unit) [] d after-block))
         (λ o r w.
         let d : Head v = head-known v (o .known) in
-        between-agrees fs (field 4 v ∷ before) (passed 4 s) r (y .1) (at + 3) (p .2) K N at E H (headOf v .signature) L
+        between-agrees fs (field 4 v ∷ before) (passed 4 s) r (y .1) (at + 3) (p .2) K N at E H L (headOf v .signature) L′
         (record { size = w .size; knows = w .knows; below = w .below }) (after-head (head-signature bs at (p .1) d) (head-few d)))
         (λ o r w.
         let g = begun b (o .ordered) in
-        ap (λ sig. bytesVerdict fs K N h H (getD sig 0 0) (drop 1 sig)) (g .0)
+        ap (λ sig. bytesVerdict fs K N h H (drop 1 sig)) (g .0)
         ∙ inside-agrees fs (field 5 v ∷ before) (passed 5 s) r (y .1) (at + 3) (p .2) K N h E H S (S .params)
         (record { size = w .size; knows = w .knows; below = w .below }) (g .0) (g .1) after-start (g .1))
         (λ o r w. absurd (never 6 b refl refl refl (o .ordered)))
         (λ o r w. absurd (never 7 b refl refl refl (o .ordered)))
-        (λ o r w. root-verdict at v fs K N h E H (p .2) (o .known) w)
+        (λ o r w. root-verdict at v fs K N h E H L (p .2) (o .known) w)
         tag v (q .0 .known) (q .0) (q .1) w
 
     inside-agrees :
         (fs : Fields) (before : List Field) (s : Progress) → checkFields fs before s ≡ ok tt → ValueBytes fs → (from : ℕ) → Placed bs from fs
         → (K N h : ℕ) (E : Env) (H : List ℕ) (S : Signature) (L : List ℕ) → Shows E H fs → signatureAt bs h ≡ bytesOf S → length (S .params) ≤ 4
         → Inside (s .last) → length L ≤ 4 + s .items
-        → bytesVerdict fs K N h H (S .result) L ≡ fieldsVerdict fs K N E S L
+        → bytesVerdict fs K N h H L ≡ fieldsVerdict fs K N E S L
     inside-agrees (end at) before s a y from p K N h E H S L w sig few b l = refl
     inside-agrees (cut at) before s a y from p K N h E H S L w sig few b l = refl
     inside-agrees (next at tag v fs) before s a y from p K N h E H S L w sig few b l =
         let q = accepted at tag v fs before s a in
         by-tag
         (λ t. Passes before t v s → checkFields fs (field t v ∷ before) (passed t s) ≡ ok tt → Shows E H (next at t v fs)
-        → bytesVerdict (next at t v fs) K N h H (S .result) L ≡ fieldsVerdict (next at t v fs) K N E S L)
+        → bytesVerdict (next at t v fs) K N h H L ≡ fieldsVerdict (next at t v fs) K N E S L)
         (λ o r w. absurd (never-inside 1 b refl refl (o .ordered)))
         (λ o r w. absurd (never-inside 2 b refl refl (o .ordered)))
         (λ o r w. absurd (never-inside 3 b refl refl (o .ordered)))
@@ -194,18 +197,18 @@ module _ (bs : List ℕ) where
         (λ o r w. absurd (never-inside 5 b refl refl (o .ordered)))
         (λ o r w.
         let room : s .items < 12 = ltb-true (s .items) 12 (room-of 6 s (o .room) .items) in
-        ap (λ c. goOn (afterBody (known K N h) H (c >>= λ x. alternativeFrom fs bs H K N (S .result) (take 16 (L ++ (x ∷ []))))) (λ k H′. sortsFrom fs bs k H′))
-        (item-agrees bs (scope K N E) H (w .knows) L at v (y .0) (o .known) (o .whole))
-        ∙ item-case fs K N h E H (S .result) S L (checkItem (scope K N E) L at (itemOf v))
+        item-case fs K N h E H S L at (itemAt bs (contextOf (scope K N E) h H L) v)
         (λ x.
-        ap (bytesVerdict fs K N h H (S .result)) (one-more L x (omega arith))
+        ap (bytesVerdict fs K N h H) (one-more L x (omega arith))
         ∙ inside-agrees fs (field 6 v ∷ before) (passed 6 s) r (y .1) (at + 3) (p .2) K N h E H S (L ++ (x ∷ []))
-        (record { size = w .size; knows = w .knows; below = w .below }) sig few after-item (omega (arith, length-append L (x ∷ [])))))
+        (record { size = w .size; knows = w .knows; below = w .below }) sig few after-item (omega (arith, length-append L (x ∷ []))))
+        ∙ ap (λ c. verdict ((c >>= λ x. bodiesBy fs (scope K N E) S (L ++ (x ∷ []))) >> blocksBy fs K N E))
+        (item-agrees bs (scope K N E) H (w .knows) h L at v (y .0) (o .known) (o .whole)))
         (λ o r w.
-        ap (λ c. goOn (afterBody (known K N h) H c) (λ k H′. sortsFrom fs bs k H′))
-        (result-agrees bs (scope K N E) H (w .knows) L (S .result) at v (y .0) (o .whole))
-        ∙ result-case fs K N h E H S [] (checkResult (scope K N E) L (S .result) at (firstOf (found (templatesOf v))))
-        (between-agrees fs (field 7 v ∷ before) (passed 7 s) r (y .1) (at + 3) (p .2) K N h E H S []
+        ap (λ c. goOn (afterVerdict (contextOf (scope K N E) h H L) c) (λ X. sortsFrom fs bs X))
+        (result-agrees bs (scope K N E) H (w .knows) h L at S v sig (y .0) (o .whole))
+        ∙ result-case fs K N h E H S L [] (checkResult (scope K N E) L (S .result) at (firstOf (found (templatesOf v))))
+        (between-agrees fs (field 7 v ∷ before) (passed 7 s) r (y .1) (at + 3) (p .2) K N h E H L S []
         (record { size = w .size; knows = w .knows; below = w .below }) (after-result sig few)))
         (λ o r w. absurd (never-inside 8 b refl refl (o .ordered)))
         tag v (q .0 .known) (q .0) (q .1) w
@@ -231,16 +234,16 @@ module _ (bs : List ℕ) where
   first-block :
       (at : ℕ) (v : List ℕ) (fs : Fields) (before : List Field) (s : Progress) → checkFields fs (field 3 v ∷ before) (passed 3 s) ≡ ok tt
       → ValueBytes fs → Placed bs (at + 3) fs → (K N : ℕ) (H : List ℕ) → Shows [] H (next at 3 v fs)
-      → sortsFrom (next at 3 v fs) bs (known K N 0) H ≡ verdict (blocksBy (next at 3 v fs) K N [])
+      → bytesVerdict (next at 3 v fs) K N 0 H [] ≡ verdict (blocksBy (next at 3 v fs) K N [])
   unfolding passed
   first-block at v fs before s r y p K N H w =
-      block-agrees at v fs K N 0 [] H p (field 3 v ∷ before) (passed 3 s) r w
-      (λ own H′ d. between-agrees fs (field 3 v ∷ before) (passed 3 s) r y (at + 3) p K N 0 (own ++ []) H′ (gives [] unit) [] d after-block)
+      block-agrees at v fs K N 0 [] H [] p (field 3 v ∷ before) (passed 3 s) r w
+      (λ own H′ d. between-agrees fs (field 3 v ∷ before) (passed 3 s) r y (at + 3) p K N 0 (own ++ []) H′ [] (gives [] unit) [] d after-block)
 
   names-agree :
       (fs : Fields) (before : List Field) (s : Progress) → checkFields fs before s ≡ ok tt → ValueBytes fs → (from : ℕ) → Placed bs from fs
       → (K N : ℕ) (H : List ℕ) → Shows [] H fs → Naming (s .last)
-      → sortsFrom fs bs (known K N 0) H ≡ verdict (blocksBy fs K (N + length (leading 2 fs)) [])
+      → bytesVerdict fs K N 0 H [] ≡ verdict (blocksBy fs K (N + length (leading 2 fs)) [])
   unfolding sortsFrom stepAt blocksBy endOf passed follows leading
   names-agree (end at) before s a y from p K N H w b = refl
   names-agree (cut at) before s a y from p K N H w b = refl
@@ -248,7 +251,7 @@ module _ (bs : List ℕ) where
       let q = accepted at tag v fs before s a in
       by-tag
       (λ t. Passes before t v s → checkFields fs (field t v ∷ before) (passed t s) ≡ ok tt → Shows [] H (next at t v fs)
-      → sortsFrom (next at t v fs) bs (known K N 0) H ≡ verdict (blocksBy (next at t v fs) K (N + length (leading 2 (next at t v fs))) []))
+      → bytesVerdict (next at t v fs) K N 0 H [] ≡ verdict (blocksBy (next at t v fs) K (N + length (leading 2 (next at t v fs))) []))
       (λ o r w. absurd (not-naming 1 b refl (o .ordered)))
       (λ o r w.
       let z : N + 1 + length (leading 2 fs) ≡ N + suc (length (leading 2 fs)) = omega arith in
@@ -261,13 +264,13 @@ module _ (bs : List ℕ) where
       (λ o r w. absurd (not-naming 5 b refl (o .ordered)))
       (λ o r w. absurd (not-naming 6 b refl (o .ordered)))
       (λ o r w. absurd (not-naming 7 b refl (o .ordered)))
-      (λ o r w. root-verdict at v fs K N 0 [] H (p .2) (o .known) w)
+      (λ o r w. root-verdict at v fs K N 0 [] H [] (p .2) (o .known) w)
       tag v (q .0 .known) (q .0) (q .1) w
 
   spellings-agree :
       (fs : Fields) (before : List Field) (s : Progress) → checkFields fs before s ≡ ok tt → ValueBytes fs → (from : ℕ) → Placed bs from fs
       → (K : ℕ) (H : List ℕ) → Shows [] H fs → Spelling (s .last)
-      → sortsFrom fs bs (known K 0 0) H ≡ verdict (blocksBy fs (K + length (leading 1 fs)) (length (leading 2 (afterLeading 1 fs))) [])
+      → bytesVerdict fs K 0 0 H [] ≡ verdict (blocksBy fs (K + length (leading 1 fs)) (length (leading 2 (afterLeading 1 fs))) [])
   unfolding sortsFrom stepAt blocksBy endOf passed follows leading afterLeading
   spellings-agree (end at) before s a y from p K H w b = refl
   spellings-agree (cut at) before s a y from p K H w b = refl
@@ -275,7 +278,7 @@ module _ (bs : List ℕ) where
       let q = accepted at tag v fs before s a in
       by-tag
       (λ t. Passes before t v s → checkFields fs (field t v ∷ before) (passed t s) ≡ ok tt → Shows [] H (next at t v fs)
-      → sortsFrom (next at t v fs) bs (known K 0 0) H
+      → bytesVerdict (next at t v fs) K 0 0 H []
       ≡ verdict
       (blocksBy (next at t v fs) (K + length (leading 1 (next at t v fs))) (length (leading 2 (afterLeading 1 (next at t v fs)))) []))
       (λ o r w.
@@ -294,7 +297,7 @@ module _ (bs : List ℕ) where
       (λ o r w. absurd (not-spelling 5 b refl refl (o .ordered)))
       (λ o r w. absurd (not-spelling 6 b refl refl (o .ordered)))
       (λ o r w. absurd (not-spelling 7 b refl refl (o .ordered)))
-      (λ o r w. root-verdict at v fs K 0 0 [] H (p .2) (o .known) w)
+      (λ o r w. root-verdict at v fs K 0 0 [] H [] (p .2) (o .known) w)
       tag v (q .0 .known) (q .0) (q .1) w
 
   -- ------------------------------------------------------------------ the whole table
@@ -319,6 +322,6 @@ module _ (bs : List ℕ) where
       let parts = layout-parts bs e in
       let fs : Fields = fieldsOf bs in
       sym (sorts-short bs (parts .0))
-      ∙ ap (λ gs. sortsFrom gs bs (known 0 0 0) (replicate 64 0)) (sym (fields-of bs))
+      ∙ ap (λ gs. bytesVerdict gs 0 0 0 (replicate 64 0) []) (sym (fields-of bs))
       ∙ spellings-agree fs [] start (parts .1) (value-bytes bs b) 0 (placed-fields bs) 0 (replicate 64 0) (nothing-shown fs) at-start
       ∙ ap (λ k. verdict (blocksBy fs k (length (leading 2 (afterLeading 1 fs))) [])) (zero-add (length (leading 1 fs)))

@@ -17,15 +17,15 @@ use Rattle.grammar.specs.Lookup.{frontOf, fieldsAt}
 pub use Rattle.grammar.proofs.LookupLaws.{front-inside}
 use Rattle.grammar.proofs.LookupLaws.{opened, fields-at}
 use Rattle.sorts.specs.ByFields.{endsBlock}
-use Rattle.sorts.specs.ByBytes.{faultOf, faultAt, withHead, headsAfter, Collected, collected, collectFrom}
+use Rattle.sorts.specs.ByBytes.{faultOf, withHead, Defined, Collected, collected, collectFrom}
 use Rattle.sorts.proofs.TemplateInduction.{choose}
 
 pub record Collecting (bs : List ℕ) (block from : ℕ) (H₀ : List ℕ) (at : ℕ) (H : List ℕ) : Type 0 where
   pub as-many : length H ≡ length H₀
   pub rest : collectFrom (fieldsAt bs at) bs block H ≡ collectFrom (fieldsAt bs from) bs block H₀
 
-pub collecting-start : (bs : List ℕ) (block from : ℕ) (H₀ : List ℕ) → Collecting bs block from H₀ from H₀
-collecting-start bs block from H₀ = record { as-many = refl; rest = refl }
+pub collecting-start : {bs : List ℕ} {block from : ℕ} {H₀ : List ℕ} → Collecting bs block from H₀ from H₀
+collecting-start = record { as-many = refl; rest = refl }
 
 -- one field, by the tests of its tag and of its head
 collect-field :
@@ -62,7 +62,7 @@ module _ {bs : List ℕ} {block from : ℕ} {H₀ : List ℕ} {at : ℕ} {H : Li
     pub collecting-ends : endsBlock tag ≡ true → collected Passed H ≡ collectFrom (fieldsAt bs from) bs block H₀
     collecting-ends f = sym (collect-field bs block at tag _ _ H true (eqb tag 4) (eqb (faultOf bs at block H) 0) f refl refl) ∙ left e
 
-    module _ {fault : ℕ} {H′ : List ℕ} (f : endsBlock tag ≡ false) (h : fault ≡ faultAt tag bs at block H) (k : H′ ≡ headsAfter tag fault bs at H) where
+    module _ {fault : ℕ} {H′ : List ℕ} (f : endsBlock tag ≡ false) (d : Defined bs at tag block H fault H′) where
       -- what the field is, by the tests of its tag and of its head
       field-is : (head clean : Bool) → eqb tag 4 ≡ head → eqb (faultOf bs at block H) 0 ≡ clean
           → choose
@@ -73,10 +73,10 @@ module _ {bs : List ℕ} {block from : ℕ} {H₀ : List ℕ} {at : ℕ} {H : Li
       field-is head clean p q = sym (collect-field bs block at tag _ _ H false head clean f p q) ∙ left e
 
       head-fault : eqb tag 4 ≡ true → fault ≡ faultOf bs at block H
-      head-fault p = h ∙ ap (choose (faultOf bs at block H) 0) p
+      head-fault p = d .faulty ∙ ap (choose (faultOf bs at block H) 0) p
 
       heads-are : (clean : Bool) → eqb tag 4 ≡ true → eqb fault 0 ≡ clean → H′ ≡ choose (withHead bs at H) H clean
-      heads-are clean p q = k ∙ ap₂ (λ x y. choose (choose (withHead bs at H) H y) H x) p q
+      heads-are clean p q = d .heads ∙ ap₂ (λ x y. choose (choose (withHead bs at H) H y) H x) p q
 
       pub collecting-fault :
           {r : Verdict} → r ≡ Refused (refusal fault at 0 0) → (fault ≡ 0 → ⊥) → collected r H′ ≡ collectFrom (fieldsAt bs from) bs block H₀
@@ -85,7 +85,7 @@ module _ {bs : List ℕ} {block from : ℕ} {H₀ : List ℕ} {at : ℕ} {H : Li
           (λ p.
           ap₂ collected (q ∙ ap (λ x. Refused (refusal x at 0 0)) (head-fault p)) (heads-are false p (ne-eqb fault 0 z))
           ∙ field-is true false p (ap (λ x. eqb x 0) (sym (head-fault p)) ∙ ne-eqb fault 0 z))
-          (λ p. absurd (z (h ∙ ap (choose (faultOf bs at block H) 0) p)))
+          (λ p. absurd (z (d .faulty ∙ ap (choose (faultOf bs at block H) 0) p)))
 
       pub collecting-next : length H′ ≡ length H → fault ≡ 0 → Collecting bs block from H₀ (at + 3 + n) H′
       collecting-next l z =
@@ -97,6 +97,6 @@ module _ {bs : List ℕ} {block from : ℕ} {H₀ : List ℕ} {at : ℕ} {H : Li
                 ap (collectFrom (fieldsAt bs (at + 3 + n)) bs block) (heads-are true p (eq-eqb fault 0 z))
                 ∙ field-is true true p (ap (λ x. eqb x 0) (sym (head-fault p)) ∙ eq-eqb fault 0 z))
                 (λ p.
-                ap (collectFrom (fieldsAt bs (at + 3 + n)) bs block) (k ∙ ap (choose (choose (withHead bs at H) H (eqb fault 0)) H) p)
+                ap (collectFrom (fieldsAt bs (at + 3 + n)) bs block) (d .heads ∙ ap (choose (choose (withHead bs at H) H (eqb fault 0)) H) p)
                 ∙ field-is false (eqb (faultOf bs at block H) 0) p refl);
           }

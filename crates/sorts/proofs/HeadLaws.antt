@@ -1,6 +1,6 @@
 -- Laws of the heads of definitions: their signatures, their refusals, and the walk over a block that collects them.
 use Prim.Native.Nat.{ℕ, zero, suc, _+_, _-_, _*_, _≤_, _<_}
-use mathlib.Core.Path.{_≡_, refl, sym, ap, ap₂, _∙_}
+use mathlib.Core.Path.{_≡_, refl, sym, ap, ap₂, subst, _∙_}
 use mathlib.Core.Bool.{Bool, true, false, _&&_, _||_}
 use mathlib.Core.List.{List, [], _∷_}
 use native.Mathlib.Omega.{arith}
@@ -10,7 +10,7 @@ use lib.ListN.{length, getD, take, drop, set, length-take, length-drop, drop-of-
 use lib.Seq.{take-all, take-nil, take-take, drop-drop, set-out}
 use borrow.Author.Tests.{eq-eqb, ne-eqb}
 use Rattle.spellings.specs.Bytes.{same}
-use Rattle.sorts.specs.ByBytes.{valueAt, signatureAt, faultOf, faultAt, withHead, headsAfter}
+use Rattle.sorts.specs.ByBytes.{valueAt, signatureAt, faultOf, withHead, Defined}
 use Rattle.sorts.proofs.TemplateInduction.{choose}
 
 -- ------------------------------------------------------------------ signatures
@@ -22,6 +22,14 @@ drop-two (suc zero) (x ∷ l) = refl
 drop-two (suc (suc n)) [] = sym (take-nil (suc (suc n) - 2))
 drop-two (suc (suc n)) (x ∷ []) = sym (take-nil (suc (suc n) - 2))
 drop-two (suc (suc n)) (x ∷ y ∷ l) = let e : n ≡ suc (suc n) - 2 = omega arith in ap (λ k. take k l) e
+
+-- no head stands past the end
+pub signature-past : (bs : List ℕ) (at : ℕ) → length bs ≤ at → take 0 (drop at bs) ≡ signatureAt bs at
+unfolding signatureAt
+signature-past bs at h =
+    let size : ℕ = getD bs (at + 1) 0 * 256 + getD bs (at + 2) 0 in
+    sym
+    (ap (λ l. take 5 (drop 2 (take size l))) (drop-of-length-le bs {i = at + 3} (omega arith)) ∙ ap (λ l. take 5 (drop 2 l)) (take-nil size))
 
 module _ (bs : List ℕ) (at : ℕ) {hi lo : ℕ} (e : hi ≡ getD bs (at + 1) 0) (f : lo ≡ getD bs (at + 2) 0) where
   signature-is : signatureAt bs at ≡ take 5 (take (hi * 256 + lo - 2) (drop (at + 5) bs))
@@ -79,25 +87,32 @@ module _ (bs H : List ℕ) (at block : ℕ) {n mode h : ℕ} (e : n ≡ getD bs 
 
 -- ------------------------------------------------------------------ one head more
 
-module _ (bs H : List ℕ) (at tag : ℕ) where
+module _ (bs : List ℕ) (at tag block : ℕ) (H : List ℕ) where
   -- no head
-  pub head-none : (block : ℕ) → (tag ≡ 4 → ⊥) → (0 ≡ faultAt tag bs at block H) × (H ≡ headsAfter tag 0 bs at H)
-  head-none block d =
+  pub head-none : (tag ≡ 4 → ⊥) → Defined bs at tag block H 0 H
+  head-none d =
       let e : false ≡ eqb tag 4 = sym (ne-eqb tag 4 d) in
-      (ap (choose (faultOf bs at block H) 0) e, ap (choose (withHead bs at H) H) e)
+      record { faulty = ap (choose (faultOf bs at block H) 0) e; heads = ap (choose (withHead bs at H) H) e }
 
-  -- the head's own refusal
-  pub head-fault : (block : ℕ) {fault : ℕ} → tag ≡ 4 → fault ≡ faultOf bs at block H → fault ≡ faultAt tag bs at block H
-  head-fault block e f = f ∙ ap (choose (faultOf bs at block H) 0) (sym (eq-eqb tag 4 e))
+  module _ (e : tag ≡ 4) {fault : ℕ} (f : fault ≡ faultOf bs at block H) where
+    -- by the head's own refusal
+    head-by : (clean : Bool) → eqb fault 0 ≡ clean → {H′ : List ℕ} → H′ ≡ choose (withHead bs at H) H clean → Defined bs at tag block H fault H′
+    head-by clean c q =
+        record {
+          faulty = f ∙ ap (choose (faultOf bs at block H) 0) (sym (eq-eqb tag 4 e));
+          heads = q ∙ sym (ap₂ (λ x y. choose (choose (withHead bs at H) H y) H x) (eq-eqb tag 4 e) c);
+        }
 
-  heads-are : (fault : ℕ) → tag ≡ 4 → (clean : Bool) → eqb fault 0 ≡ clean → choose (withHead bs at H) H clean ≡ headsAfter tag fault bs at H
-  heads-are fault e clean c = sym (ap₂ (λ x y. choose (choose (withHead bs at H) H y) H x) (eq-eqb tag 4 e) c)
+    pub head-refused : (fault ≡ 0 → ⊥) → Defined bs at tag block H fault H
+    head-refused h = head-by false (ne-eqb fault 0 h) refl
 
-  pub head-refused : {fault : ℕ} → tag ≡ 4 → (fault ≡ 0 → ⊥) → H ≡ headsAfter tag fault bs at H
-  head-refused {fault} e h = heads-are fault e false (ne-eqb fault 0 h)
+    module _ (z : fault ≡ 0) {n : ℕ} (q : n ≡ getD bs (at + 3) 0) where
+      put : {H′ : List ℕ} → H′ ≡ set H n at → Defined bs at tag block H 0 H′
+      put {H′} p = subst (λ x. Defined bs at tag block H x H′) z (head-by true (eq-eqb fault 0 z) (p ∙ ap (λ i. set H i at) q))
 
-  pub head-put : {n : ℕ} → tag ≡ 4 → n ≡ getD bs (at + 3) 0 → set H n at ≡ headsAfter tag 0 bs at H
-  head-put e f = ap (λ i. set H i at) f ∙ heads-are 0 e true refl
+      pub head-put : Defined bs at tag block H 0 (set H n at)
+      head-put = put refl
 
-  pub head-left : {n : ℕ} → tag ≡ 4 → n ≡ getD bs (at + 3) 0 → length H ≤ n → H ≡ headsAfter tag 0 bs at H
-  head-left {n} e f h = sym (set-out H n at h) ∙ head-put e f
+      -- a nonterminal past the heads is not kept
+      pub head-left : length H ≤ n → Defined bs at tag block H 0 H
+      head-left h = put (sym (set-out H n at h))

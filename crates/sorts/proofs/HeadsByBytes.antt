@@ -109,6 +109,12 @@ pub record Knows (bs : List ℕ) (E : Env) (H : List ℕ) (n : ℕ) : Type 0 whe
   pub defined : ltb 0 (getD H n 0) ≡ isDefined E n
   pub shown : isDefined E n ≡ true → signatureAt bs (getD H n 0) ≡ bytesOf (signatureOf E n)
 
+-- a number is 0 exactly if it is not above 0
+pub zero-test : (k : ℕ) → eqb k 0 ≡ not (ltb 0 k)
+zero-test k =
+    by-test (ltb 0 k) (λ e. ne-eqb k 0 (λ z. let l : 0 < k = ltb-true 0 k e in omega arith) ∙ sym (ap not e))
+    (λ e. eq-eqb k 0 (let l : k ≤ 0 = ltb-false 0 k e in omega arith) ∙ sym (ap not e))
+
 -- an environment followed by another
 append-defined : (own E : Env) (n : ℕ) → isDefined (own ++ E) n ≡ (isDefined own n || isDefined E n)
 unfolding isDefined
@@ -161,11 +167,6 @@ module _ (bs : List ℕ) (E own : Env) (block : ℕ) (H : List ℕ) (c : Collect
       ∙ ap not (known-head .defined ∙ append-defined own E n)
       ∙ not-or (isDefined own n) (isDefined E n)
     where
-      zero-test : (k : ℕ) → eqb k 0 ≡ not (ltb 0 k)
-      zero-test k =
-          by-test (ltb 0 k) (λ e. ne-eqb k 0 (λ z. let l : 0 < k = ltb-true 0 k e in omega arith) ∙ sym (ap not e))
-          (λ e. eq-eqb k 0 (let l : k ≤ 0 = ltb-false 0 k e in omega arith) ∙ sym (ap not e))
-
       not-or : (a b : Bool) → not (a || b) ≡ (not a && not b)
       not-or true b = refl
       not-or false b = refl

@@ -7,7 +7,6 @@ pub mod TemplateLoops
 pub mod HeadLaws
 pub mod CollectLaws
 pub mod BodyLaws
-pub mod AlternativeLaws
 pub mod StepLaws
 pub mod PlacedFields
 pub mod HeadsByBytes

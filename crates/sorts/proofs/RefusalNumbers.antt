@@ -11,7 +11,9 @@ use Rattle.grammar.specs.Sorts.{Signature, unit, term, fits}
 use Rattle.grammar.specs.Table.{Item, keyword, ide, number, local, call, Alternative, Mode, add, extend, update, Definition, Table}
 use Rattle.grammar.specs.Encode.{itemValue}
 use Rattle.sorts.specs.Sizes.{fieldSize, alternativeSize, definitionSize, definitionsSize}
-use Rattle.sorts.specs.CheckSorts.{Env, Scope, entryOf, isDefined, signatureOf, isNew, isAsBefore, isClosed, areClosed, isSorted, sortOf, fill, consistent, collect, checkItem, checkItems, checkAlternative, checkAlternatives, checkBodies, checkBlocks, checkRoot, checkSorts}
+use Rattle.sorts.specs.CheckSorts.{Env, Scope, entryOf, isDefined, signatureOf, isNew, isAsBefore, isClosed, areClosed, isSorted, sortOf, fill}
+use Rattle.sorts.specs.CheckSorts.{consistent, collect, checkItem, checkItems, checkAlternative, checkAlternatives, checkBodies, checkBlocks}
+use Rattle.sorts.specs.CheckSorts.{checkRoot, checkSorts}
 
 -- one of the four numbers; b and c are 0
 abbrev pub IsSortRefusal : Refusal → Type 0

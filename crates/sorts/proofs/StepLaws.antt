@@ -2,226 +2,301 @@
 use Prim.Native.Nat.{ℕ, _+_, _≤_, _<_}
 use mathlib.Core.Path.{_≡_, refl, sym, ap, ap₂, subst, _∙_}
 use mathlib.Core.Bool.{Bool, true, false, _&&_}
-use mathlib.Core.List.{List}
+use mathlib.Core.List.{List, [], _∷_, _++_}
 use native.Mathlib.Omega.{arith}
-use lib.Dec.{eqb, leb, ltb}
+use lib.Dec.{eqb, leb}
 use lib.ListN.{length, getD, take, drop, replicate}
-use borrow.Author.Tests.{lt-ltb, le-ltb, le-leb, lt-leb, ne-eqb}
+use borrow.Author.Tests.{le-leb, lt-leb, eq-eqb, ne-eqb}
 use Rattle.answers.specs.declared.Verdict.{Verdict}
 use Rattle.answers.specs.declared.Verdict.the-variants.{Passed, Refused}
 use Rattle.answers.specs.Refusals.{refusal}
-use Rattle.answers.specs.Checked.{Checked, ok, bad, _>>_, need, verdict}
 use Rattle.grammar.specs.Sorts.{term}
 use Rattle.grammar.specs.declared.Front.{Front}
 use Rattle.grammar.specs.declared.Front.the-variants.{Nothing, Short, Field}
 use Rattle.grammar.specs.Fields.{Fields, fieldsOf}
 use Rattle.grammar.specs.Lookup.{frontOf, fieldsAt}
-pub use Rattle.grammar.proofs.LookupLaws.{front-inside}
 use Rattle.grammar.proofs.LookupLaws.{opened, fields-at, fields-of}
 use Rattle.layout.specs.Layout.{longestTable}
 use Rattle.sorts.specs.declared.Known.{Known}
+use Rattle.sorts.specs.declared.Sorted.{Sorted}
+use Rattle.sorts.specs.declared.Sorted.the-variants.{As, Unsorted}
 use Rattle.sorts.specs.declared.Step.{Step}
 use Rattle.sorts.specs.declared.Step.the-variants.{Next, Stop}
-use Rattle.sorts.specs.ByBytes.{signatureAt, Collected, collected, collectFrom, alternativeFrom, rootAt, Stepped, going, stopped, stepped, known, afterVerdict, afterBlock, afterBody, stepAt, goOn, sortsFrom, sortsOf}
+use Rattle.sorts.specs.ByBytes.{signatureAt, collected, collectFrom, collectAt, context, unknown, itemAt, resultAt, rootAt}
+use Rattle.sorts.specs.ByBytes.{Stepped, going, stopped, stepped, verdictOf, afterVerdict, afterBlock, afterItem, itemStep, stepAt, stepOf}
+use Rattle.sorts.specs.ByBytes.{withSorts, counting, counted}
+use Rattle.sorts.specs.ByBytes.{goOn, sortsFrom, sortsOf, Counts, ItemChecked, FieldChecked}
 use Rattle.sorts.proofs.TemplateInduction.{choose}
 
 -- ------------------------------------------------------------------ the root
 
-module _ (bs H : List ℕ) (at n : ℕ) {h : ℕ} (e : h ≡ getD H n 0) where
+module _ (bs H : List ℕ) (n : ℕ) {h : ℕ} (e : h ≡ getD H n 0) where
+  -- by its tests
   root-by :
-      (defined fitting : Bool) → ltb 0 h ≡ defined → (leb (length (signatureAt bs h)) 1 && eqb (getD (signatureAt bs h) 0 0) term) ≡ fitting
-      → verdict (need defined 9 at >> need fitting 11 at) ≡ verdict (rootAt bs H at n)
+      (missing fitting : Bool) → eqb h 0 ≡ missing → (leb (length (signatureAt bs h)) 1 && eqb (getD (signatureAt bs h) 0 0) term) ≡ fitting
+      → choose 9 (choose 0 11 fitting) missing ≡ rootAt bs H n
   unfolding rootAt
-  root-by defined fitting d f =
+  root-by missing fitting d f =
       sym
-      (ap
-      (λ x. verdict (need (ltb 0 x) 9 at >> need (leb (length (signatureAt bs x)) 1 && eqb (getD (signatureAt bs x) 0 0) term) 11 at))
-      (sym e)
-      ∙ ap₂ (λ x y. verdict (need x 9 at >> need y 11 at)) d f)
+      (ap (λ x. choose 9 (choose 0 11 (leb (length (signatureAt bs x)) 1 && eqb (getD (signatureAt bs x) 0 0) term)) (eqb x 0)) (sym e)
+      ∙ ap₂ (λ x y. choose 9 (choose 0 11 y) x) d f)
 
-  pub root-undefined : h ≡ 0 → Refused (refusal 9 at 0 0) ≡ verdict (rootAt bs H at n)
-  root-undefined z = root-by false _ (le-ltb 0 h (omega arith)) refl
+  -- it is not defined
+  pub root-undefined : h ≡ 0 → 9 ≡ rootAt bs H n
+  root-undefined z = root-by true _ (eq-eqb h 0 z) refl
 
-  -- by the code's test
+  -- by the code's test of its signature
   pub root-tested :
       {S : List ℕ} {b : ℕ} → (h ≡ 0 → ⊥) → S ≡ signatureAt bs h → b ≡ getD S 0 0 → (fitting : Bool)
-      → (leb (length S) 1 && eqb b term) ≡ fitting → choose Passed (Refused (refusal 11 at 0 0)) fitting ≡ verdict (rootAt bs H at n)
+      → (leb (length S) 1 && eqb b term) ≡ fitting → choose 0 11 fitting ≡ rootAt bs H n
   root-tested {S} {b} z s q fitting t =
-      by fitting
-      ∙ root-by true fitting (lt-ltb 0 h (omega arith))
+      root-by false fitting (ne-eqb h 0 z)
       (ap₂ (λ l x. leb (length l) 1 && eqb x term) (sym s) (sym (q ∙ ap (λ l. getD l 0 0) s)) ∙ t)
-    where
-      by : (f : Bool) → choose Passed (Refused (refusal 11 at 0 0)) f ≡ verdict (need true 9 at >> need f 11 at)
-      by true = refl
-      by false = refl
+
+-- ------------------------------------------------------------------ verdicts and counts
+
+-- the verdict of no fault, and of one
+pub verdict-none : (at fault : ℕ) → fault ≡ 0 → Passed ≡ verdictOf at fault
+verdict-none at fault e = ap (choose Passed (Refused (refusal fault at 0 0))) (sym (eq-eqb fault 0 e))
+
+pub verdict-some : (at fault : ℕ) → (fault ≡ 0 → ⊥) → Refused (refusal fault at 0 0) ≡ verdictOf at fault
+verdict-some at fault e = ap (choose Passed (Refused (refusal fault at 0 0))) (sym (ne-eqb fault 0 e))
+
+module _ (k : Known) (tag at : ℕ) where
+  -- what is known, by the tests of the tag
+  countingBy : Bool → Bool → Bool → Known
+  countingBy keyword outside head =
+      record {
+        keywords = choose (k .keywords + 1) (k .keywords) keyword;
+        outsides = choose (k .outsides + 1) (k .outsides) outside;
+        head = choose at (k .head) head;
+        variables = k .variables;
+      }
+
+  counting-is : countingBy (eqb tag 1) (eqb tag 2) (eqb tag 4) ≡ counting k tag at
+  unfolding counting countingBy
+  counting-is = refl
+
+  counting-at : {t : ℕ} → tag ≡ t → countingBy (eqb t 1) (eqb t 2) (eqb t 4) ≡ counting k tag at
+  counting-at e = ap (λ x. countingBy (eqb x 1) (eqb x 2) (eqb x 4)) (sym e) ∙ counting-is
+
+  -- one keyword more, one outside name more, another head, or none of these
+  pub count-keyword :
+      tag ≡ 1 → record { keywords = k .keywords + 1; outsides = k .outsides; head = k .head; variables = k .variables } ≡ counting k tag at
+  unfolding countingBy
+  count-keyword e = counting-at e
+
+  pub count-outside :
+      tag ≡ 2 → record { keywords = k .keywords; outsides = k .outsides + 1; head = k .head; variables = k .variables } ≡ counting k tag at
+  unfolding countingBy
+  count-outside e = counting-at e
+
+  pub count-head :
+      tag ≡ 4 → record { keywords = k .keywords; outsides = k .outsides; head = at; variables = k .variables } ≡ counting k tag at
+  unfolding countingBy
+  count-head e = counting-at e
+
+  pub count-other : ((Unit {0} × (tag ≡ 1 → ⊥)) × (tag ≡ 2 → ⊥)) × (tag ≡ 4 → ⊥) → k ≡ counting k tag at
+  unfolding countingBy
+  count-other (((u, a), b), c) =
+      ap₂ (λ x y. countingBy x y false) (sym (ne-eqb tag 1 a)) (sym (ne-eqb tag 2 b))
+      ∙ ap (countingBy (eqb tag 1) (eqb tag 2)) (sym (ne-eqb tag 4 c))
+      ∙ counting-is
+
+  one-at-most : (n : ℕ) (t : Bool) → choose (n + 1) n t ≤ n + 1
+  one-at-most n true = omega arith
+  one-at-most n false = omega arith
+
+  counts : Counts k (Next (counting k tag at))
+  unfolding counting
+  counts = (one-at-most (k .keywords) (eqb tag 1), one-at-most (k .outsides) (eqb tag 2))
+
+-- ------------------------------------------------------------------ an item
+
+module _ {bs : List ℕ} {at : ℕ} {v : List ℕ} {k : Known} {H L : List ℕ} where
+  -- an item's refusal
+  pub item-refused :
+      {s : Sorted} {fault : ℕ} {c : Verdict} {L′ : List ℕ} → s ≡ itemAt bs (context k H L) v → s ≡ Unsorted fault
+      → c ≡ Refused (refusal fault at 0 0) → ItemChecked bs at v k H L (Stop c) L′
+  item-refused e f q = record { steps = ap stopped q ∙ ap (afterItem (context k H L) at) (sym f ∙ e); counts = tt }
+
+  -- one variable more
+  pub item-added :
+      {s : Sorted} {x n : ℕ} {L′ : List ℕ} → s ≡ itemAt bs (context k H L) v → s ≡ As x
+      → take n L′ ≡ take 16 (context k H L .sorts ++ (x ∷ []))
+      → ItemChecked bs at v k H L (Next (record { keywords = k .keywords; outsides = k .outsides; head = k .head; variables = n })) L′
+  item-added e f q =
+      record {
+        steps =
+            ap (λ l. going (record { keywords = k .keywords; outsides = k .outsides; head = k .head; heads = H; sorts = l })) q
+            ∙ ap (afterItem (context k H L) at) (sym f ∙ e);
+        counts = (omega arith, omega arith);
+      }
 
 -- ------------------------------------------------------------------ one field
 
-block-goes : (k : Known) (v : Verdict) (H′ : List ℕ) → stepped (afterVerdict k v) H′ ≡ afterBlock k (collected v H′)
-block-goes k Passed H′ = refl
-block-goes k (Refused r) H′ = refl
+-- a verdict on the way
+verdict-goes : (k : Known) (H L : List ℕ) (c : Verdict) → stepped (stepOf k c) H L ≡ afterVerdict (context k H L) c
+verdict-goes k H L Passed = refl
+verdict-goes k H L (Refused r) = refl
 
-body-goes : (k : Known) (H : List ℕ) (c : Checked (Unit {0})) → stepped (afterVerdict k (verdict c)) H ≡ afterBody k H c
-body-goes k H (ok u) = refl
-body-goes k H (bad r) = refl
+verdict-counts : (k : Known) (c : Verdict) → Counts k (stepOf k c)
+verdict-counts k Passed = (omega arith, omega arith)
+verdict-counts k (Refused r) = tt
 
--- what is known is small
-abbrev Small : ℕ → Stepped → Type 0
-Small n (going k H) = (k .keywords ≤ n) × (k .outsides ≤ n) × (k .head ≤ n)
-Small n (stopped c) = Unit {0}
+module _ (bs : List ℕ) (at : ℕ) (v : List ℕ) (to : ℕ) (k : Known) (H L : List ℕ) where
+  step-is : {tag : ℕ} (t : ℕ) → tag ≡ t → stepAt bs at t v (fieldsAt bs to) (context k H L) ≡ stepAt bs at tag v (fieldsAt bs to) (context k H L)
+  step-is t e = ap (λ x. stepAt bs at x v (fieldsAt bs to) (context k H L)) (sym e)
 
-module _ (bs : List ℕ) (at tag : ℕ) (v : List ℕ) (fs : Fields) (k : Known) (H : List ℕ) where
-  step-is : {j : ℕ} → tag ≡ j → stepAt bs at j v fs k H ≡ stepAt bs at tag v fs k H
-  step-is e = ap (λ t. stepAt bs at t v fs k H) (sym e)
+  -- by the tests of the tag
+  stepTests : ℕ → Bool → Bool → Bool → Bool → Bool → Stepped
+  stepTests tag block alternative item result root =
+      choose (afterBlock (context k H L) (collectAt bs at to H))
+      (choose (going (withSorts (context k H L) (drop 1 (signatureAt bs (k .head)))))
+      (choose (itemStep bs (context k H L) at v)
+      (choose (afterVerdict (context k H L) (verdictOf at (resultAt bs (context k H L) v)))
+      (choose (stopped (verdictOf at (rootAt bs H (getD v 0 0)))) (going (counted (context k H L) tag at)) root)
+      result)
+      item)
+      alternative)
+      block
 
-  pub step-keyword : tag ≡ 1 → going (known (k .keywords + 1) (k .outsides) (k .head)) H ≡ stepAt bs at tag v fs k H
-  unfolding stepAt
-  step-keyword e = step-is e
-
-  pub step-outside : tag ≡ 2 → going (known (k .keywords) (k .outsides + 1) (k .head)) H ≡ stepAt bs at tag v fs k H
-  unfolding stepAt
-  step-outside e = step-is e
-
+module _ {bs : List ℕ} {at tag : ℕ} {v : List ℕ} {to : ℕ} {k : Known} {H L : List ℕ} where
+  -- a block's heads are collected
   pub step-block :
-      {r : Step} {c : Verdict} {H′ : List ℕ} → tag ≡ 3 → r ≡ afterVerdict k c → collected c H′ ≡ collectFrom fs bs at H
-      → stepped r H′ ≡ stepAt bs at tag v fs k H
+      {r : Step} {c : Verdict} {H′ : List ℕ} → tag ≡ 3 → collected c H′ ≡ collectAt bs at to H → r ≡ stepOf k c
+      → FieldChecked bs at tag v to k H L r H′ L
   unfolding stepAt
-  step-block {r} {c} {H′} e q p = ap (λ x. stepped x H′) q ∙ block-goes k c H′ ∙ ap (afterBlock k) p ∙ step-is e
+  step-block {r} {c} {H′} e p q =
+      record {
+        steps = ap (λ x. stepped x H′ L) q ∙ verdict-goes k H′ L c ∙ ap (afterBlock (context k H L)) p ∙ step-is bs at v to k H L 3 e;
+        counts = subst (Counts k) (sym q) (verdict-counts k c);
+      }
 
-  pub step-head : tag ≡ 4 → going (known (k .keywords) (k .outsides) at) H ≡ stepAt bs at tag v fs k H
+  -- an alternative's variables are its parameters
+  pub step-parameters :
+      {n : ℕ} {L′ signature : List ℕ} → tag ≡ 5 → signature ≡ signatureAt bs (k .head) → take n L′ ≡ drop 1 signature
+      → FieldChecked bs at tag v to k H L (Next (record { keywords = k .keywords; outsides = k .outsides; head = k .head; variables = n })) H L′
   unfolding stepAt
-  step-head e = step-is e
+  step-parameters e p q =
+      record {
+        steps =
+            ap (λ l. going (record { keywords = k .keywords; outsides = k .outsides; head = k .head; heads = H; sorts = l }))
+            (q ∙ ap (drop 1) p)
+            ∙ step-is bs at v to k H L 5 e;
+        counts = (omega arith, omega arith);
+      }
 
-  pub step-body :
-      {r : Step} {c : Verdict} → tag ≡ 5 → r ≡ afterVerdict k c
-      → c ≡ verdict (alternativeFrom fs bs H (k .keywords) (k .outsides) (getD (signatureAt bs (k .head)) 0 0) (drop 1 (signatureAt bs (k .head))))
-      → stepped r H ≡ stepAt bs at tag v fs k H
+  -- an item
+  pub step-item : {r : Step} {L′ : List ℕ} → tag ≡ 6 → ItemChecked bs at v k H L r L′ → FieldChecked bs at tag v to k H L r H L′
   unfolding stepAt
-  step-body e q p = ap (λ x. stepped x H) (q ∙ ap (afterVerdict k) p) ∙ body-goes k H
-      (alternativeFrom fs bs H (k .keywords) (k .outsides) (getD (signatureAt bs (k .head)) 0 0) (drop 1 (signatureAt bs (k .head))))
-      ∙ step-is e
+  step-item e i = record { steps = i .steps ∙ step-is bs at v to k H L 6 e; counts = i .counts }
 
-  pub step-root : {c : Verdict} {n : ℕ} → tag ≡ 8 → n ≡ getD v 0 0 → c ≡ verdict (rootAt bs H at n) → stopped c ≡ stepAt bs at tag v fs k H
+  -- a result
+  pub step-result :
+      {fault : ℕ} {c : Verdict} {r : Step} → tag ≡ 7 → fault ≡ resultAt bs (context k [] L) v → c ≡ verdictOf at fault → r ≡ stepOf k c
+      → FieldChecked bs at tag v to k H L r H L
+  unfolding stepAt resultAt
+  step-result {fault} {c} e p q f =
+      record {
+        steps =
+            ap (λ x. stepped x H L) f
+            ∙ verdict-goes k H L c
+            ∙ ap (afterVerdict (context k H L)) (q ∙ ap (verdictOf at) p)
+            ∙ step-is bs at v to k H L 7 e;
+        counts = subst (Counts k) (sym f) (verdict-counts k c);
+      }
+
+  -- the root
+  pub step-root :
+      {n fault : ℕ} {c : Verdict} → tag ≡ 8 → n ≡ getD v 0 0 → fault ≡ rootAt bs H n → c ≡ verdictOf at fault
+      → FieldChecked bs at tag v to k H L (Stop c) H L
   unfolding stepAt
-  step-root e q p = ap stopped (p ∙ ap (λ n. verdict (rootAt bs H at n)) q) ∙ step-is e
+  step-root e p q f =
+      record { steps = ap stopped (f ∙ ap (verdictOf at) (q ∙ ap (rootAt bs H) p)) ∙ step-is bs at v to k H L 8 e; counts = tt }
 
-  stepTests : Bool → Bool → Bool → Bool → Bool → Bool → Stepped
-  stepTests a b c d e f =
-      choose (going (known (k .keywords + 1) (k .outsides) (k .head)) H)
-      (choose (going (known (k .keywords) (k .outsides + 1) (k .head)) H)
-      (choose (afterBlock k (collectFrom fs bs at H))
-      (choose (going (known (k .keywords) (k .outsides) at) H)
-      (choose
-      (afterBody k H
-      (alternativeFrom fs bs H (k .keywords) (k .outsides) (getD (signatureAt bs (k .head)) 0 0)
-      (drop 1 (signatureAt bs (k .head)))))
-      (choose (stopped (verdict (rootAt bs H at (getD v 0 0)))) (going k H) f)
-      e)
-      d)
-      c)
-      b)
-      a
-
-  step-tests : stepTests (eqb tag 1) (eqb tag 2) (eqb tag 3) (eqb tag 4) (eqb tag 5) (eqb tag 8) ≡ stepAt bs at tag v fs k H
-  unfolding stepAt stepTests
-  step-tests = refl
-
-  pub step-other :
-      (tag ≡ 1 → ⊥) → (tag ≡ 2 → ⊥) → (tag ≡ 3 → ⊥) → (tag ≡ 4 → ⊥) → (tag ≡ 5 → ⊥) → (tag ≡ 8 → ⊥)
-      → going k H ≡ stepAt bs at tag v fs k H
-  unfolding stepTests
-  step-other a b c d e f =
-      ap₂ (λ x y. stepTests x y false false false false) (sym (ne-eqb tag 1 a)) (sym (ne-eqb tag 2 b))
-      ∙ ap₂ (λ x y. stepTests (eqb tag 1) (eqb tag 2) x y false false) (sym (ne-eqb tag 3 c)) (sym (ne-eqb tag 4 d))
-      ∙ ap₂ (λ x y. stepTests (eqb tag 1) (eqb tag 2) (eqb tag 3) (eqb tag 4) x y) (sym (ne-eqb tag 5 e)) (sym (ne-eqb tag 8 f))
-      ∙ step-tests
-
-  module _ (n : ℕ) (x : k .keywords < n) (y : k .outsides < n) (z : k .head ≤ n) (w : at ≤ n) where
-    small-block : (c : Collected) → Small n (afterBlock k c)
-    small-block (collected Passed H′) = omega arith
-    small-block (collected (Refused r) H′) = tt
-
-    small-body : (c : Checked (Unit {0})) → Small n (afterBody k H c)
-    small-body (ok u) = omega arith
-    small-body (bad r) = tt
-
-    small-tests : (a b c d e f : Bool) → Small n (stepTests a b c d e f)
-    unfolding stepTests
-    small-tests true b c d e f = omega arith
-    small-tests false true c d e f = omega arith
-    small-tests false false true d e f = small-block (collectFrom fs bs at H)
-    small-tests false false false true e f = omega arith
-    small-tests false false false false true f =
-        small-body
-        (alternativeFrom fs bs H (k .keywords) (k .outsides) (getD (signatureAt bs (k .head)) 0 0)
-        (drop 1 (signatureAt bs (k .head))))
-    small-tests false false false false false true = tt
-    small-tests false false false false false false = omega arith
-
-    step-small : (r : Step) (H′ : List ℕ) → stepped r H′ ≡ stepAt bs at tag v fs k H → Small n (stepped r H′)
-    step-small r H′ e =
-        subst (Small n) (step-tests ∙ sym e)
-        (small-tests (eqb tag 1) (eqb tag 2) (eqb tag 3) (eqb tag 4) (eqb tag 5) (eqb tag 8))
+  -- any other field
+  pub step-counts :
+      {k′ : Known}
+      → ((((Unit {0} × (tag ≡ 3 → ⊥)) × (tag ≡ 5 → ⊥)) × (tag ≡ 6 → ⊥)) × (tag ≡ 7 → ⊥)) × (tag ≡ 8 → ⊥)
+      → k′ ≡ counting k tag at → FieldChecked bs at tag v to k H L (Next k′) H L
+  unfolding stepAt stepTests counting
+  step-counts (((((u, a), b), c), d), e) q =
+      record {
+        steps =
+            let tests : Bool → Bool → Bool → Bool → Bool → Stepped = stepTests bs at v to k H L tag in
+            ap (λ x. going (context x H L)) q
+            ∙ ap₂ (λ x y. tests x y false false false) (sym (ne-eqb tag 3 a)) (sym (ne-eqb tag 5 b))
+            ∙ ap₂ (λ x y. tests (eqb tag 3) (eqb tag 5) x y false) (sym (ne-eqb tag 6 c)) (sym (ne-eqb tag 7 d))
+            ∙ ap (tests (eqb tag 3) (eqb tag 5) (eqb tag 6) (eqb tag 7)) (sym (ne-eqb tag 8 e));
+        counts = subst (λ x. Counts k (Next x)) (sym q) (counts k tag at);
+      }
 
 -- ------------------------------------------------------------------ the walk
 
+-- a table that is too long is not looked at; of any other the fields give the answer
 pub sorts-long : (bs : List ℕ) → longestTable < length bs → Passed ≡ sortsOf bs
 unfolding sortsOf
-sorts-long bs h = ap (choose (sortsFrom (fieldsOf bs) bs (known 0 0 0) (replicate 64 0)) Passed) (sym (lt-leb (length bs) longestTable h))
+sorts-long bs h = ap (choose (sortsFrom (fieldsOf bs) bs (unknown (replicate 64 0))) Passed) (sym (lt-leb (length bs) longestTable h))
 
-pub sorts-short : (bs : List ℕ) → length bs ≤ longestTable → sortsFrom (fieldsAt bs 0) bs (known 0 0 0) (replicate 64 0) ≡ sortsOf bs
+pub sorts-short : (bs : List ℕ) → length bs ≤ longestTable → sortsFrom (fieldsAt bs 0) bs (unknown (replicate 64 0)) ≡ sortsOf bs
 unfolding sortsOf
 sorts-short bs h =
-    ap (λ fs. sortsFrom fs bs (known 0 0 0) (replicate 64 0)) (sym (fields-of bs))
-    ∙ ap (choose (sortsFrom (fieldsOf bs) bs (known 0 0 0) (replicate 64 0)) Passed) (sym (le-leb (length bs) longestTable h))
+    ap (λ fs. sortsFrom fs bs (unknown (replicate 64 0))) (sym (fields-of bs))
+    ∙ ap (choose (sortsFrom (fieldsOf bs) bs (unknown (replicate 64 0))) Passed) (sym (le-leb (length bs) longestTable h))
 
-pub record Sorting (bs H₀ stack₀ H stack : List ℕ) (at : ℕ) (k : Known) : Type 0 where
+-- The fields from an offset on, with what is known there, give what all fields give.
+pub record Sorting (bs H₀ L₀ stack₀ H L stack : List ℕ) (at : ℕ) (k : Known) : Type 0 where
   pub heads : length H ≡ length H₀
+  pub sorts : length L ≡ length L₀
   pub full : length stack ≡ length stack₀
   pub keywords : k .keywords ≤ at
   pub outsides : k .outsides ≤ at
-  pub head : k .head ≤ at
-  pub rest : sortsFrom (fieldsAt bs at) bs k H ≡ sortsFrom (fieldsAt bs 0) bs (known 0 0 0) H₀
+  pub rest : sortsFrom (fieldsAt bs at) bs (context k H L) ≡ sortsFrom (fieldsAt bs 0) bs (unknown H₀)
 
-pub sorting-start : (bs H₀ stack₀ : List ℕ) → Sorting bs H₀ stack₀ H₀ stack₀ 0 (known 0 0 0)
-sorting-start bs H₀ stack₀ =
-    record { heads = refl; full = refl; keywords = omega arith; outsides = omega arith; head = omega arith; rest = refl }
+pub sorting-start :
+    {bs H₀ L₀ stack₀ : List ℕ}
+    → Sorting bs H₀ L₀ stack₀ H₀ L₀ stack₀ 0 (record { keywords = 0; outsides = 0; head = 0; variables = 0 })
+sorting-start =
+    record { heads = refl; sorts = refl; full = refl; keywords = omega arith; outsides = omega arith; rest = refl }
 
-module _ {bs H₀ stack₀ H stack : List ℕ} {at : ℕ} {k : Known} (s : Sorting bs H₀ stack₀ H stack at k) where
-  left : {r : Front} → r ≡ frontOf (drop at bs) → sortsFrom (opened bs at r) bs k H ≡ sortsFrom (fieldsAt bs 0) bs (known 0 0 0) H₀
-  left e = ap (λ fs. sortsFrom fs bs k H) (sym (fields-at bs at e)) ∙ s .rest
+module _ {bs H₀ L₀ stack₀ H L stack : List ℕ} {at : ℕ} {k : Known} (s : Sorting bs H₀ L₀ stack₀ H L stack at k) where
+  left : {r : Front} → r ≡ frontOf (drop at bs) → sortsFrom (opened bs at r) bs (context k H L) ≡ sortsFrom (fieldsAt bs 0) bs (unknown H₀)
+  left e = ap (λ fs. sortsFrom fs bs (context k H L)) (sym (fields-at bs at e)) ∙ s .rest
 
-  pub sorting-nothing : Nothing ≡ frontOf (drop at bs) → Passed ≡ sortsFrom (fieldsAt bs 0) bs (known 0 0 0) H₀
+  pub sorting-nothing : Nothing ≡ frontOf (drop at bs) → Passed ≡ sortsFrom (fieldsAt bs 0) bs (unknown H₀)
   unfolding sortsFrom
   sorting-nothing e = left e
 
-  pub sorting-short : Short ≡ frontOf (drop at bs) → Passed ≡ sortsFrom (fieldsAt bs 0) bs (known 0 0 0) H₀
+  pub sorting-short : Short ≡ frontOf (drop at bs) → Passed ≡ sortsFrom (fieldsAt bs 0) bs (unknown H₀)
   unfolding sortsFrom
   sorting-short e = left e
 
-  module _ {tag n : ℕ} {value : List ℕ} (step : Step) (H′ : List ℕ) (e : Field tag n ≡ frontOf (drop at bs)) (l : value ≡ take n (drop (at + 3) bs))
-      (q : stepped step H′ ≡ stepAt bs at tag value (fieldsAt bs (at + 3 + n)) k H) where
-    at-field : goOn (stepped step H′) (λ k′ L. sortsFrom (fieldsAt bs (at + 3 + n)) bs k′ L) ≡ sortsFrom (fieldsAt bs 0) bs (known 0 0 0) H₀
+  module _ {tag n : ℕ} {value : List ℕ} {step : Step} {H′ L′ : List ℕ} (e : Field tag n ≡ frontOf (drop at bs))
+      (l : value ≡ take n (drop (at + 3) bs)) (q : FieldChecked bs at tag value (at + 3 + n) k H L step H′ L′) where
+    at-field : goOn (stepped step H′ L′) (λ X. sortsFrom (fieldsAt bs (at + 3 + n)) bs X) ≡ sortsFrom (fieldsAt bs 0) bs (unknown H₀)
     unfolding sortsFrom
     at-field =
-        ap (λ x. goOn x (λ k′ L. sortsFrom (fieldsAt bs (at + 3 + n)) bs k′ L))
-        (q ∙ ap (λ w. stepAt bs at tag w (fieldsAt bs (at + 3 + n)) k H) l)
+        ap (λ x. goOn x (λ X. sortsFrom (fieldsAt bs (at + 3 + n)) bs X))
+        (q .steps ∙ ap (λ w. stepAt bs at tag w (fieldsAt bs (at + 3 + n)) (context k H L)) l)
         ∙ left e
 
-    pub sorting-stop : {c : Verdict} → step ≡ Stop c → c ≡ sortsFrom (fieldsAt bs 0) bs (known 0 0 0) H₀
-    sorting-stop h = ap (λ x. goOn (stepped x H′) (λ k′ L. sortsFrom (fieldsAt bs (at + 3 + n)) bs k′ L)) (sym h) ∙ at-field
+    step-gives : {r : Step} → step ≡ r → goOn (stepped r H′ L′) (λ X. sortsFrom (fieldsAt bs (at + 3 + n)) bs X) ≡ sortsFrom (fieldsAt bs 0) bs (unknown H₀)
+    step-gives h = ap (λ x. goOn (stepped x H′ L′) (λ X. sortsFrom (fieldsAt bs (at + 3 + n)) bs X)) (sym h) ∙ at-field
 
-    pub sorting-next : {k′ : Known} {stack′ : List ℕ} → step ≡ Next k′ → length H′ ≡ length H → length stack′ ≡ length stack → Sorting bs H₀ stack₀ H′ stack′ (at + 3 + n) k′
-    sorting-next {k′} h a b =
-        let small : (k′ .keywords ≤ at + 3 + n) × (k′ .outsides ≤ at + 3 + n) × (k′ .head ≤ at + 3 + n) =
-        subst (λ x. Small (at + 3 + n) (stepped x H′)) h
-        (step-small bs at tag value (fieldsAt bs (at + 3 + n)) k H (at + 3 + n) (omega (arith, s .keywords))
-        (omega (arith, s .outsides)) (omega (arith, s .head)) (omega arith) step H′ q) in
+    pub sorting-stop : {c : Verdict} → step ≡ Stop c → c ≡ sortsFrom (fieldsAt bs 0) bs (unknown H₀)
+    sorting-stop h = step-gives h
+
+    pub sorting-next :
+        {k′ : Known} {stack′ : List ℕ} → step ≡ Next k′ → length H′ ≡ length H → length L′ ≡ length L → length stack′ ≡ length stack
+        → Sorting bs H₀ L₀ stack₀ H′ L′ stack′ (at + 3 + n) k′
+    sorting-next {k′} h a b c =
+        let more : (k′ .keywords ≤ k .keywords + 1) × (k′ .outsides ≤ k .outsides + 1) = subst (Counts k) h (q .counts) in
         record {
           heads = a ∙ s .heads;
-          full = b ∙ s .full;
-          keywords = small .0;
-          outsides = small .1;
-          head = small .2;
-          rest = ap (λ x. goOn (stepped x H′) (λ k′ L. sortsFrom (fieldsAt bs (at + 3 + n)) bs k′ L)) (sym h) ∙ at-field;
+          sorts = b ∙ s .sorts;
+          full = c ∙ s .full;
+          keywords = omega (arith, s .keywords);
+          outsides = omega (arith, s .outsides);
+          rest = step-gives h;
         }

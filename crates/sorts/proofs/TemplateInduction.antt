@@ -1,13 +1,15 @@
 -- Induction over the templates that some bytes are, by how they are read.
 use Prim.Native.Nat.{ℕ}
-use mathlib.Core.Path.{_≡_, refl, ap, subst⁻¹, _∙_}
+use mathlib.Core.Path.{_≡_, refl, subst⁻¹}
 use mathlib.Core.Bool.{Bool, true, false}
 use mathlib.Core.List.{List, [], _∷_}
 use lib.Dec.{eqb, ltb}
 use Rattle.spellings.specs.BytesLaws.{by-test}
 use Rattle.grammar.specs.Sorts.{arity, isConstructor}
 use Rattle.grammar.specs.Table.{Template, Templates, variable, make, none, more}
-use Rattle.layout.specs.Prefix.{Parsed, fault, parsed, inFront, Taken, short, taken, takeTemplates, applied, constructed, byteInFront, isNameTag, nameBy, templatesOf}
+use Rattle.layout.proofs.PrefixLaws.{name-first, name-last, byte-first, variable-first, constructor-first, unknown-first}
+use Rattle.layout.specs.Prefix.{Parsed, fault, parsed, inFront, Taken, short, taken, takeTemplates, applied, constructed}
+use Rattle.layout.specs.Prefix.{byteInFront, isNameTag, nameBy, templatesOf}
 
 -- Q holds of the templates, if the bytes are whole templates
 abbrev pub Whole : (Templates → Type 0) → Parsed → Type 0
@@ -26,31 +28,6 @@ pub record Read (Q : List ℕ → Templates → Type 0) : Type 0 where
 -- a choice by a test whose outcome is known
 abbrev pub choose : {A : Type 0} → A → A → Bool → A
 choose a b t = elim t [ true ↦ a | false ↦ b ]
-
--- the tests on the first byte, one by one
-variable-byte : (b : ℕ) (r : Parsed) → ltb b 0x10 ≡ true → byteInFront b r ≡ inFront (variable b) r
-variable-byte b r e = ap (choose (inFront (variable b) r) (choose (constructed b r) fault (isConstructor b))) e
-
-constructor-byte : (b : ℕ) (r : Parsed) → ltb b 0x10 ≡ false → isConstructor b ≡ true → byteInFront b r ≡ constructed b r
-constructor-byte b r e k =
-    ap (choose (inFront (variable b) r) (choose (constructed b r) fault (isConstructor b))) e ∙ ap (choose (constructed b r) fault) k
-
-unknown-byte : (b : ℕ) (r : Parsed) → ltb b 0x10 ≡ false → isConstructor b ≡ false → byteInFront b r ≡ fault
-unknown-byte b r e k =
-    ap (choose (inFront (variable b) r) (choose (constructed b r) fault (isConstructor b))) e ∙ ap (choose (constructed b r) fault) k
-
-name-cut : (b : ℕ) → isNameTag b ≡ true → templatesOf (b ∷ []) ≡ fault
-unfolding templatesOf
-name-cut b e = ap (choose fault (byteInFront b (parsed none))) e
-
-name-bytes : (b x : ℕ) (bs : List ℕ) → isNameTag b ≡ true → templatesOf (b ∷ x ∷ bs) ≡ inFront (nameBy (eqb b 0x10) x) (templatesOf bs)
-unfolding templatesOf
-name-bytes b x bs e = ap (choose (inFront (nameBy (eqb b 0x10) x) (templatesOf bs)) (byteInFront b (templatesOf (x ∷ bs)))) e
-
-other-byte : (b : ℕ) (bs : List ℕ) → isNameTag b ≡ false → templatesOf (b ∷ bs) ≡ byteInFront b (templatesOf bs)
-unfolding templatesOf
-other-byte b [] e = ap (choose fault (byteInFront b (parsed none))) e
-other-byte b (x ∷ bs) e = ap (choose (inFront (nameBy (eqb b 0x10) x) (templatesOf bs)) (byteInFront b (templatesOf (x ∷ bs)))) e
 
 module _ (Q : List ℕ → Templates → Type 0) (read : Read Q) where
   in-front : (t : Template) (bs cs : List ℕ) (r : Parsed) → ((ts : Templates) → Q bs ts → Q cs (more t ts)) → Whole (Q bs) r → Whole (Q cs) (inFront t r)
@@ -72,24 +49,24 @@ module _ (Q : List ℕ → Templates → Type 0) (read : Read Q) where
   byte-read : (b : ℕ) (bs : List ℕ) (r : Parsed) → isNameTag b ≡ false → Whole (Q bs) r → Whole (Q (b ∷ bs)) (byteInFront b r)
   byte-read b bs r n h =
       by-test (ltb b 0x10)
-      (λ e. subst⁻¹ (Whole (Q (b ∷ bs))) (variable-byte b r e) (in-front (variable b) bs (b ∷ bs) r (λ ts q. read .at-variable b bs ts n e q) h))
+      (λ e. subst⁻¹ (Whole (Q (b ∷ bs))) (variable-first b r e) (in-front (variable b) bs (b ∷ bs) r (λ ts q. read .at-variable b bs ts n e q) h))
       (λ e.
       by-test (isConstructor b)
-      (λ k. subst⁻¹ (Whole (Q (b ∷ bs))) (constructor-byte b r e k) (constructor-read b bs r n e k h))
-      (λ k. subst⁻¹ (Whole (Q (b ∷ bs))) (unknown-byte b r e k) tt))
+      (λ k. subst⁻¹ (Whole (Q (b ∷ bs))) (constructor-first b r e k) (constructor-read b bs r n e k h))
+      (λ k. subst⁻¹ (Whole (Q (b ∷ bs))) (unknown-first b r e k) tt))
 
   -- one byte and the bytes after it
   front-read : (b : ℕ) (bs : List ℕ) → isNameTag b ≡ false → Whole (Q bs) (templatesOf bs) → Whole (Q (b ∷ bs)) (templatesOf (b ∷ bs))
-  front-read b bs n h = subst⁻¹ (Whole (Q (b ∷ bs))) (other-byte b bs n) (byte-read b bs (templatesOf bs) n h)
+  front-read b bs n h = subst⁻¹ (Whole (Q (b ∷ bs))) (byte-first b bs n) (byte-read b bs (templatesOf bs) n h)
 
   pub whole : (bs : List ℕ) → Whole (Q bs) (templatesOf bs)
   unfolding templatesOf
   whole [] = read .at-end
   whole (b ∷ []) =
-      by-test (isNameTag b) (λ e. subst⁻¹ (Whole (Q (b ∷ []))) (name-cut b e) tt) (λ e. front-read b [] e (read .at-end))
+      by-test (isNameTag b) (λ e. subst⁻¹ (Whole (Q (b ∷ []))) (name-last b e) tt) (λ e. front-read b [] e (read .at-end))
   whole (b ∷ x ∷ bs) =
       by-test (isNameTag b)
       (λ e.
-      subst⁻¹ (Whole (Q (b ∷ x ∷ bs))) (name-bytes b x bs e)
+      subst⁻¹ (Whole (Q (b ∷ x ∷ bs))) (name-first b x bs e)
       (in-front (nameBy (eqb b 0x10) x) bs (b ∷ x ∷ bs) (templatesOf bs) (λ ts q. read .at-name b x bs ts e q) (whole bs)))
       (λ e. front-read b (x ∷ bs) e (whole (x ∷ bs)))

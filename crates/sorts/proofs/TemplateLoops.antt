@@ -5,7 +5,7 @@ use mathlib.Core.Bool.{Bool, true, false, not, _&&_}
 use mathlib.Core.List.{List, [], _∷_, _++_}
 use native.Mathlib.Numerals.{add-one}
 use native.Mathlib.Omega.{arith}
-use lib.Dec.{eqb, ltb, eqb·suc-zero}
+use lib.Dec.{eqb, ltb}
 use lib.ListN.{length, getD, drop, set, length-set, drop-of-length-le}
 use lib.Seq.{drop-cons, getD-set-same, getD-set-other}
 use borrow.Author.Tests.{not-true, not-false, ltb-true, ltb-false, lt-ltb, le-ltb, eq-eqb, ne-eqb}
@@ -13,7 +13,9 @@ use Rattle.spellings.specs.BytesLaws.{by-test}
 use Rattle.grammar.specs.Sorts.{unit, var, label, fits, constructor, arity}
 use Rattle.grammar.proofs.SortLaws.{arity-small}
 use Rattle.layout.specs.Prefix.{isNameTag}
-use Rattle.sorts.specs.TemplateBytes.{isClosedByte, namesNext, closedBytes, headSort, headParams, fillBytes, places}
+use Rattle.sorts.specs.TemplateBytes.{isClosedByte, namesNext, closedBytes, headSort, headParams, fillBytes, templatesFault}
+use Rattle.sorts.specs.TemplateBytes.{Places, unfit, awaiting, fillByte, places, placesAt, Filled, Opened}
+use Rattle.sorts.proofs.TemplateInduction.{choose}
 use Rattle.sorts.proofs.TemplatesByBytes.{head-sort, head-variable, head-constructor, params-none, params-some}
 
 -- the byte at i, and those after it
@@ -23,37 +25,10 @@ front v i h e = drop-cons v i 0 h ∙ ap (λ j. getD v i 0 ∷ drop j v) (sym (a
 ended : (v : List ℕ) {i : ℕ} → length v ≤ i → drop i v ≡ []
 ended v h = drop-of-length-le v h
 
--- ------------------------------------------------------------------ closed
-
-pub record Closing (v : List ℕ) (N n : ℕ) (name : Bool) (i : ℕ) : Type 0 where
-  pub within : i ≤ length v
-  pub rest : closedBytes name (drop i v) N n ≡ closedBytes false v N n
-
-module _ (v : List ℕ) (N n : ℕ) where
-  pub closing-start : Closing v N n false 0
-  closing-start = record { within = omega arith; rest = refl }
-
-  module _ {name : Bool} {i b : ℕ} (c : Closing v N n name i) (h : i < length v) (e : b ≡ getD v i 0) where
-    closing-step : (closed : Bool) → isClosedByte name b N n ≡ closed → (closed && closedBytes (namesNext name b) (drop (i + 1) v) N n) ≡ closedBytes false v N n
-    unfolding closedBytes
-    closing-step closed k =
-        ap (λ z. z && closedBytes (namesNext name b) (drop (i + 1) v) N n) (sym k)
-        ∙ ap (λ l. closedBytes name l N n) (sym (front v i h e))
-        ∙ c .rest
-
-    pub closing-out : not (isClosedByte name b N n) ≡ true → false ≡ closedBytes false v N n
-    closing-out k = closing-step false (not-true _ k)
-
-    pub closing-next : not (isClosedByte name b N n) ≡ false → Closing v N n (namesNext name b) (i + 1)
-    closing-next k = record { within = omega arith; rest = closing-step true (not-false _ k) }
-
-  pub closing-end : {name : Bool} {i : ℕ} → Closing v N n name i → length v ≤ i → true ≡ closedBytes false v N n
-  unfolding closedBytes
-  closing-end {name} c h = ap (λ l. closedBytes name l N n) (sym (ended v h)) ∙ c .rest
-
 -- ------------------------------------------------------------------ the sort of a first byte
 
 module _ (L : List ℕ) {b : ℕ} where
+  -- a variable has the sort that the list gives it
   pub variable-sort : {s w : ℕ} → s ≡ getD L w 0 → w ≡ b → b < 16 → s ≡ headSort b L
   variable-sort e f h = e ∙ ap (λ i. getD L i 0) f ∙ sym (head-variable L b (lt-ltb b 16 h))
 
@@ -83,11 +58,6 @@ places-set room i x h =
     ∙ ap (λ y. y ∷ places (set room i x) i) (getD-set-same room i x 0 h)
     ∙ ap (λ l. x ∷ l) (places-below room i x i (omega arith))
 
-places-top : (room : List ℕ) (top : ℕ) → (top ≡ 0 → ⊥) → places room top ≡ getD room (top - 1) 0 ∷ places room (top - 1)
-unfolding places
-places-top room zero h = absurd (h refl)
-places-top room (suc top) h = let e : top ≡ suc top - 1 = omega arith in ap (λ k. getD room k 0 ∷ places room k) e
-
 pub params-small : (b : ℕ) → length (headParams b) ≤ 3
 params-small b =
     by-test (ltb b 32) (λ e. omega (arith, ap length (params-none b (ltb-true b 32 e))))
@@ -100,7 +70,7 @@ pub record Opening (room₀ : List ℕ) (start b : ℕ) (room : List ℕ) (top k
   pub most : k ≤ arity b
   pub opened : places room top ≡ drop k (constructor b .params) ++ places room₀ start
 
-module _ (room₀ : List ℕ) (start b : ℕ) where
+module _ {room₀ : List ℕ} {start b : ℕ} where
   pub opening-start : {k : ℕ} → k ≡ arity b → Opening room₀ start b room₀ start k
   opening-start {k} e =
       record {
@@ -132,98 +102,178 @@ module _ (room₀ : List ℕ) (start b : ℕ) where
             ∙ ap (λ l. l ++ places room₀ start) (sym (drop-cons params (k - 1) unit (omega (arith, o .most))));
       }
 
-  pub opening-end : {room : List ℕ} {top k : ℕ} → Opening room₀ start b room top k → k ≤ 0 → 32 ≤ b
-      → (top ≡ start + length (headParams b)) × (places room top ≡ headParams b ++ places room₀ start)
+  pub opening-end : {room : List ℕ} {top k : ℕ} → Opening room₀ start b room top k → k ≤ 0 → 32 ≤ b → Opened b room₀ start room top
   opening-end {room} {top} {k} o h p =
       let z : k ≡ 0 = omega arith in
-      let e : headParams b ≡ constructor b .params = params-some b p in (
-        omega (arith, o .height, ap length e),
-        o .opened ∙ ap (λ j. drop j (constructor b .params) ++ places room₀ start) z ∙ ap (λ l. l ++ places room₀ start) (sym e),
-      )
+      let e : headParams b ≡ constructor b .params = params-some b p in
+      record {
+        height = omega (arith, o .height, ap length e);
+        opened =
+            o .opened ∙ ap (λ j. drop j (constructor b .params) ++ places room₀ start) z ∙ ap (λ l. l ++ places room₀ start) (sym e);
+      }
 
-  pub opening-none : b < 32 → (start ≡ start + length (headParams b)) × (places room₀ start ≡ headParams b ++ places room₀ start)
+  pub opening-none : b < 32 → Opened b room₀ start room₀ start
   opening-none h =
       let e : headParams b ≡ [] = params-none b h in
-      (omega (arith, ap length e), ap (λ l. l ++ places room₀ start) (sym e))
+      record { height = omega (arith, ap length e); opened = ap (λ l. l ++ places room₀ start) (sym e) }
 
--- ------------------------------------------------------------------ filling
+-- ------------------------------------------------------------------ one byte fills a place
 
-pub record Filling (v L room₀ : List ℕ) (start : ℕ) (room : List ℕ) (top : ℕ) (name : Bool) (i : ℕ) : Type 0 where
+-- the places open, by the height
+places-none : (b : ℕ) (L room : List ℕ) (height : ℕ) → height < 2 → unfit ≡ fillByte false b L (placesAt room height)
+unfolding placesAt places
+places-none b L room zero h = refl
+places-none b L room (suc zero) h = refl
+places-none b L room (suc (suc k)) h = absurd (omega arith)
+
+places-some :
+    (room : List ℕ) (height : ℕ) → 2 ≤ height
+    → placesAt room height ≡ awaiting (getD room (height - 2) 0 ∷ places room (height - 2))
+unfolding placesAt places
+places-some room zero h = absurd (omega arith)
+places-some room (suc zero) h = absurd (omega arith)
+places-some room (suc (suc k)) h =
+    let e : k ≡ suc (suc k) - 2 = omega arith in
+    ap (λ j. awaiting (getD room j 0 ∷ places room j)) e
+
+placed : (room : List ℕ) (top : ℕ) → placesAt room (top + 1) ≡ awaiting (places room top)
+unfolding placesAt
+placed room top = ap (placesAt room) (add-one top)
+
+-- by the test of the sort
+fill-by :
+    (b : ℕ) (L room : List ℕ) (height s : ℕ) → 2 ≤ height → s ≡ headSort b L → (fitting : Bool) → fits s (getD room (height - 2) 0) ≡ fitting
+    → choose (awaiting (headParams b ++ places room (height - 2))) unfit fitting ≡ fillByte false b L (placesAt room height)
+fill-by b L room height s h q fitting k =
+    ap (choose (awaiting (headParams b ++ places room (height - 2))) unfit) (sym k ∙ ap (λ x. fits x (getD room (height - 2) 0)) q)
+    ∙ ap (fillByte false b L) (sym (places-some room height h))
+
+other-byte : (b : ℕ) (L : List ℕ) (ps : Places) {name : Bool} → name ≡ false → fillByte false b L ps ≡ fillByte name b L ps
+other-byte b L ps e = ap (λ t. fillByte t b L ps) (sym e)
+
+module _ {name : Bool} {b : ℕ} {L room : List ℕ} {height : ℕ} where
+  -- a name's number fills nothing
+  pub fill-number : name ≡ true → Filled name b L room height room height
+  fill-number e = record { small = omega arith; filled = ap (λ t. fillByte t b L (placesAt room height)) (sym e) }
+
+  -- no place is open
+  pub fill-none : name ≡ false → height < 2 → Filled name b L room height room 0
+  unfolding placesAt
+  fill-none e h = record { small = omega arith; filled = places-none b L room height h ∙ other-byte b L _ e }
+
+  -- the template does not fit the place on top
+  pub fill-unfit :
+      {s : ℕ} → name ≡ false → 2 ≤ height → s ≡ headSort b L → fits s (getD room (height - 2) 0) ≡ false
+      → Filled name b L room height room 0
+  unfolding placesAt
+  fill-unfit {s} e h q k = record { small = omega arith; filled = fill-by b L room height s h q false k ∙ other-byte b L _ e }
+
+  -- it fits, and opens places of its own
+  pub fill-fits :
+      {s : ℕ} {room′ : List ℕ} {top : ℕ} → name ≡ false → 2 ≤ height → s ≡ headSort b L → fits s (getD room (height - 2) 0) ≡ true
+      → Opened b room (height - 2) room′ top → Filled name b L room height room′ (top + 1)
+  fill-fits {s} {room′} {top} e h q k o =
+      record {
+        small = omega (arith, o .height, params-small b);
+        filled = placed room′ top ∙ ap awaiting (o .opened) ∙ fill-by b L room height s h q true k ∙ other-byte b L _ e;
+      }
+
+-- ------------------------------------------------------------------ both tests
+
+-- what is left of some templates fills the places open
+abbrev fillLeft : Bool → List ℕ → List ℕ → Places → Bool
+fillLeft name bs L unfit = false
+fillLeft name bs L (awaiting ps) = fillBytes name bs L ps
+
+fill-left : (name : Bool) (b : ℕ) (bs L : List ℕ) (ps : Places) → fillLeft (namesNext name b) bs L (fillByte name b L ps) ≡ fillLeft name (b ∷ bs) L ps
+unfolding fillBytes
+fill-left true b bs L unfit = refl
+fill-left true b bs L (awaiting []) = refl
+fill-left true b bs L (awaiting (p ∷ ps)) = refl
+fill-left false b bs L unfit = refl
+fill-left false b bs L (awaiting []) = refl
+fill-left false b bs L (awaiting (p ∷ ps)) = by (fits (headSort b L) p)
+  where
+    by :
+        (fitting : Bool)
+        → fillLeft (isNameTag b) bs L (choose (awaiting (headParams b ++ ps)) unfit fitting)
+        ≡ (fitting && fillBytes (isNameTag b) bs L (headParams b ++ ps))
+    by true = refl
+    by false = refl
+
+left-end : (name : Bool) (L room : List ℕ) (height : ℕ) → eqb height 1 ≡ fillLeft name [] L (placesAt room height)
+unfolding fillBytes placesAt places
+left-end name L room zero = refl
+left-end name L room (suc zero) = refl
+left-end name L room (suc (suc k)) = ne-eqb (suc (suc k)) 1 (λ e. omega arith)
+
+-- The bytes from i on and the places open give what all the bytes and the first places give.
+pub record Testing (v L : List ℕ) (N : ℕ) (room₀ : List ℕ) (start : ℕ) (room : List ℕ) (height : ℕ) (name : Bool) (i : ℕ) : Type 0 where
   pub within : i ≤ length v
   pub as-many : length room ≡ length room₀
-  pub enough : top + 2 * (length v - i) ≤ length room
-  pub rest : fillBytes name (drop i v) L (places room top) ≡ fillBytes false v L (places room₀ start)
+  pub enough : height + 2 * (length v - i) + 2 ≤ length room
+  pub closed : closedBytes name (drop i v) N (length L) ≡ closedBytes false v N (length L)
+  pub fills : fillLeft name (drop i v) L (placesAt room height) ≡ fillBytes false v L (places room₀ start)
 
-module _ (v L room₀ : List ℕ) (start : ℕ) where
-  pub filling-start : start + 2 * length v ≤ length room₀ → Filling v L room₀ start room₀ start false 0
-  filling-start h = record { within = omega arith; as-many = refl; enough = omega arith; rest = refl }
+pub testing-start :
+    {v L room₀ : List ℕ} {N start : ℕ} → start + 2 * length v + 3 ≤ length room₀ → Testing v L N room₀ start room₀ (start + 1) false 0
+testing-start {v} {L} {room₀} {N} {start} h =
+    record {
+      within = omega arith;
+      as-many = refl;
+      enough = omega arith;
+      closed = refl;
+      fills = ap (fillLeft false v L) (placed room₀ start);
+    }
 
-  fill-name : (b : ℕ) (bs ps : List ℕ) → fillBytes false bs L ps ≡ fillBytes true (b ∷ bs) L ps
-  unfolding fillBytes
-  fill-name b bs [] = refl
-  fill-name b bs (p ∷ ps) = refl
+-- the refusal, by the outcomes of both tests
+fault-by :
+    (N : ℕ) (L v ps : List ℕ) (closed filled : Bool) → closedBytes false v N (length L) ≡ closed → fillBytes false v L ps ≡ filled
+    → choose (choose 0 11 filled) 9 closed ≡ templatesFault N L v ps
+unfolding templatesFault
+fault-by N L v ps closed filled e f =
+    ap (λ x. choose (choose 0 11 filled) 9 x) (sym e) ∙ ap (λ x. choose (choose 0 11 x) 9 (closedBytes false v N (length L))) (sym f)
 
-  module _ {room : List ℕ} {top i b : ℕ} (h : i < length v) (e : b ≡ getD v i 0) where
-    pub filling-number : {name : Bool} → Filling v L room₀ start room top name i → name ≡ true → Filling v L room₀ start room top false (i + 1)
-    filling-number f t =
+module _ {v L room₀ room : List ℕ} {N start height i : ℕ} {name : Bool} (t : Testing v L N room₀ start room height name i) where
+  module _ (h : i < length v) {b n : ℕ} (e : b ≡ getD v i 0) (w : n ≡ b) where
+    closed-step :
+        (closed : Bool) → isClosedByte name n N (length L) ≡ closed
+        → (closed && closedBytes (namesNext name b) (drop (i + 1) v) N (length L)) ≡ closedBytes false v N (length L)
+    unfolding closedBytes
+    closed-step closed k =
+        ap (λ x. x && closedBytes (namesNext name b) (drop (i + 1) v) N (length L)) (sym k ∙ ap (λ x. isClosedByte name x N (length L)) w)
+        ∙ ap (λ l. closedBytes name l N (length L)) (sym (front v i h e))
+        ∙ t .closed
+
+    -- a variable or a name that is not defined
+    pub testing-open : not (isClosedByte name n N (length L)) ≡ true → 9 ≡ templatesFault N L v (places room₀ start)
+    testing-open k = fault-by N L v (places room₀ start) false _ (sym (closed-step false (not-true _ k))) refl
+
+    pub testing-next :
+        {room′ : List ℕ} {height′ : ℕ} → not (isClosedByte name n N (length L)) ≡ false → length room′ ≡ length room
+        → Filled name b L room height room′ height′ → Testing v L N room₀ start room′ height′ (namesNext name b) (i + 1)
+    testing-next k l f =
         record {
           within = omega arith;
-          as-many = f .as-many;
-          enough = omega (arith, f .enough);
-          rest =
-              fill-name b (drop (i + 1) v) (places room top)
-              ∙ ap (λ l. fillBytes true l L (places room top)) (sym (front v i h e))
-              ∙ ap (λ t. fillBytes t (drop i v) L (places room top)) (sym t)
-              ∙ f .rest;
+          as-many = l ∙ t .as-many;
+          enough = omega (arith, t .enough, f .small);
+          closed = closed-step true (not-false _ k);
+          fills =
+              ap (fillLeft (namesNext name b) (drop (i + 1) v) L) (f .filled)
+              ∙ fill-left name b (drop (i + 1) v) L (placesAt room height)
+              ∙ ap (λ l. fillLeft name l L (placesAt room height)) (sym (front v i h e))
+              ∙ t .fills;
         }
 
-    module _ {name : Bool} (f : Filling v L room₀ start room top name i) (t : name ≡ false) where
-      first-byte : fillBytes false (b ∷ drop (i + 1) v) L (places room top) ≡ fillBytes false v L (places room₀ start)
-      first-byte =
-          ap (λ l. fillBytes false l L (places room top)) (sym (front v i h e))
-          ∙ ap (λ t. fillBytes t (drop i v) L (places room top)) (sym t)
-          ∙ f .rest
+  -- all bytes are passed
+  testing-end : length v ≤ i → (filled : Bool) → eqb height 1 ≡ filled → choose 0 11 filled ≡ templatesFault N L v (places room₀ start)
+  unfolding closedBytes
+  testing-end h filled e =
+      fault-by N L v (places room₀ start) true filled (sym (ap (λ l. closedBytes name l N (length L)) (sym (ended v h)) ∙ t .closed))
+      (sym (left-end name L room height ∙ ap (λ l. fillLeft name l L (placesAt room height)) (sym (ended v h)) ∙ t .fills) ∙ e)
 
-      pub filling-empty : top ≡ 0 → false ≡ fillBytes false v L (places room₀ start)
-      unfolding fillBytes places
-      filling-empty z = ap (λ k. fillBytes false (b ∷ drop (i + 1) v) L (places room k)) (sym z) ∙ first-byte
+  pub testing-filled : length v ≤ i → height ≡ 1 → 0 ≡ templatesFault N L v (places room₀ start)
+  testing-filled h e = testing-end h true (eq-eqb height 1 e)
 
-      -- the template on top fits or not
-      filling-step :
-          (top ≡ 0 → ⊥) → (s : ℕ) (fitting : Bool) → s ≡ headSort b L → fits s (getD room (top - 1) 0) ≡ fitting
-          → (fitting && fillBytes (isNameTag b) (drop (i + 1) v) L (headParams b ++ places room (top - 1))) ≡ fillBytes false v L (places room₀ start)
-      unfolding fillBytes
-      filling-step z s fitting q k =
-          let rest : Bool = fillBytes (isNameTag b) (drop (i + 1) v) L (headParams b ++ places room (top - 1)) in
-          ap (λ x. x && rest) (sym k)
-          ∙ ap (λ x. fits x (getD room (top - 1) 0) && rest) q
-          ∙ ap (fillBytes false (b ∷ drop (i + 1) v) L) (sym (places-top room top z))
-          ∙ first-byte
-
-      pub filling-out : (top ≡ 0 → ⊥) → (s : ℕ) → s ≡ headSort b L → fits s (getD room (top - 1) 0) ≡ false → false ≡ fillBytes false v L (places room₀ start)
-      filling-out z s q k = filling-step z s false q k
-
-      pub filling-next :
-          {room′ : List ℕ} {top′ : ℕ} → (top ≡ 0 → ⊥) → (s : ℕ) → s ≡ headSort b L → fits s (getD room (top - 1) 0) ≡ true
-          → length room′ ≡ length room → top′ ≡ top - 1 + length (headParams b) → places room′ top′ ≡ headParams b ++ places room (top - 1)
-          → Filling v L room₀ start room′ top′ (isNameTag b) (i + 1)
-      filling-next z s q k len height open′ =
-          record {
-            within = omega arith;
-            as-many = len ∙ f .as-many;
-            enough = omega (arith, f .enough, params-small b);
-            rest = ap (fillBytes (isNameTag b) (drop (i + 1) v) L) open′ ∙ filling-step z s true q k;
-          }
-
-  empty-places : (name : Bool) (room : List ℕ) (k : ℕ) → eqb k 0 ≡ fillBytes name [] L (places room k)
-  unfolding fillBytes places
-  empty-places name room zero = refl
-  empty-places name room (suc k) = eqb·suc-zero k
-
-  pub filling-end :
-      {room : List ℕ} {top i : ℕ} {name : Bool} → Filling v L room₀ start room top name i → length v ≤ i
-      → eqb top 0 ≡ fillBytes false v L (places room₀ start)
-  filling-end {room} {top} {i} {name} f h =
-      empty-places name room top
-      ∙ ap (λ l. fillBytes name l L (places room top)) (sym (ended v h))
-      ∙ f .rest
+  pub testing-unfilled : length v ≤ i → (height ≡ 1 → ⊥) → 11 ≡ templatesFault N L v (places room₀ start)
+  testing-unfilled h e = testing-end h false (ne-eqb height 1 e)

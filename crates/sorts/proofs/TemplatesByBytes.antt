@@ -63,7 +63,9 @@ module _ (G : Scope) (n : ℕ) where
   closedFirst : Bool → Bool → ℕ → List ℕ → Bool
   closedFirst big named b bs = (big || ltb b n) && closedBytes named bs (G .outsides) n
 
-  closed-first : (b : ℕ) (bs : List ℕ) (big named : Bool) → leb 0x10 b ≡ big → isNameTag b ≡ named → closedBytes false (b ∷ bs) (G .outsides) n ≡ closedFirst big named b bs
+  closed-first :
+      (b : ℕ) (bs : List ℕ) (big named : Bool) → leb 0x10 b ≡ big → isNameTag b ≡ named
+      → closedBytes false (b ∷ bs) (G .outsides) n ≡ closedFirst big named b bs
   unfolding closedBytes closedFirst
   closed-first b bs big named e f =
       ap (λ t. closedFirst t (isNameTag b) b bs) e ∙ ap (λ t. closedFirst big t b bs) f

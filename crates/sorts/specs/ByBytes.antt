@@ -1,7 +1,8 @@
 -- The check of sorts on the bytes of a table, as the code makes it, for any bytes. The environment is a list of offsets: at the place
 -- of a nonterminal the offset of its newest definition's head, or 0. On a table whose layout is right the check is `checkSortsBy`
--- (proofs/BytesByFields.antt).
-use Prim.Native.Nat.{ℕ, _+_, _*_}
+-- (proofs/BytesByFields.antt). Nobody needs this file to believe `expand`.
+use Prim.Native.Nat.{ℕ, _+_, _*_, _≤_}
+use mathlib.Core.Path.{_≡_}
 use mathlib.Core.Bool.{true, false, _&&_, _||_}
 use mathlib.Core.List.{List, [], _∷_, _++_}
 use lib.Dec.{eqb, leb, ltb}
@@ -9,20 +10,18 @@ use lib.ListN.{length, getD, take, drop, set, replicate}
 use Rattle.answers.specs.declared.Verdict.{Verdict}
 use Rattle.answers.specs.declared.Verdict.the-variants.{Passed, Refused}
 use Rattle.answers.specs.Refusals.{refusal}
-use Rattle.answers.specs.Checked.{Checked, ok, bad, _>>=_, _>>_, need, verdict}
 use Rattle.spellings.specs.Bytes.{same}
 use Rattle.grammar.specs.Sorts.{unit, binder, term, num}
 use Rattle.grammar.specs.Fields.{Fields, end, cut, next, fieldsOf}
+use Rattle.grammar.specs.Lookup.{fieldsAt}
 use Rattle.layout.specs.Layout.{longestTable}
-use Rattle.sorts.specs.declared.Body.{Body}
-use Rattle.sorts.specs.declared.Body.the-variants.{Variable, Whole}
 use Rattle.sorts.specs.declared.Known.{Known}
 use Rattle.sorts.specs.declared.Sorted.{Sorted}
 use Rattle.sorts.specs.declared.Sorted.the-variants.{As, Unsorted}
 use Rattle.sorts.specs.declared.Step.{Step}
 use Rattle.sorts.specs.declared.Step.the-variants.{Next, Stop}
 use Rattle.sorts.specs.ByFields.{endsBlock}
-use Rattle.sorts.specs.TemplateBytes.{closedBytes, fillBytes}
+use Rattle.sorts.specs.TemplateBytes.{templatesFault, places}
 
 -- ------------------------------------------------------------------ heads
 
@@ -75,138 +74,227 @@ collectFrom (next at tag v fs) bs block H =
           ]
     ]
 
+-- those of the block whose fields begin at an offset
+abbrev pub collectAt : List ℕ → ℕ → ℕ → List ℕ → Collected
+collectAt bs block from H = collectFrom (fieldsAt bs from) bs block H
+
+-- ------------------------------------------------------------------ what is known
+
+-- What is known between two fields: how many keywords and outside names there are, the offset of the head of the definition begun
+-- last, the newest head of each nonterminal, and the sorts of the variables numbered so far.
+pub record Context : Type 0 where
+  pub keywords : ℕ
+  pub outsides : ℕ
+  pub head : ℕ
+  pub heads : List ℕ
+  pub sorts : List ℕ
+
+-- as the code has it: three numbers, how many variables there are, and two rooms
+abbrev pub context : Known → List ℕ → List ℕ → Context
+context k H L =
+    record {
+      keywords = k .keywords;
+      outsides = k .outsides;
+      head = k .head;
+      heads = H;
+      sorts = take (k .variables) L;
+    }
+
+-- nothing is known
+abbrev pub unknown : List ℕ → Context
+unknown H = record { keywords = 0; outsides = 0; head = 0; heads = H; sorts = [] }
+
+-- other heads
+abbrev pub withHeads : Context → List ℕ → Context
+withHeads X H = record { keywords = X .keywords; outsides = X .outsides; head = X .head; heads = H; sorts = X .sorts }
+
+-- other variables
+abbrev pub withSorts : Context → List ℕ → Context
+withSorts X L = record { keywords = X .keywords; outsides = X .outsides; head = X .head; heads = X .heads; sorts = L }
+
 -- ------------------------------------------------------------------ bodies
 
--- a call of n with its arguments' bytes, where N outside names are defined and L has the sorts of the variables
-unfoldable pub callAt : List ℕ → List ℕ → ℕ → List ℕ → ℕ → ℕ → List ℕ → Checked ℕ
-callAt bs H N L at n arguments =
-    let h : ℕ = getD H n 0 in
-    need (ltb 0 h && closedBytes false arguments N (length L)) 9 at
-    >> need (fillBytes false arguments L (drop 1 (signatureAt bs h))) 11 at
-    >> ok (getD (signatureAt bs h) 0 0)
+-- a sort, unless there is a fault
+abbrev pub unlessFault : ℕ → ℕ → Sorted
+unlessFault s fault = elim (eqb fault 0) [ true ↦ As s | false ↦ Unsorted fault ]
 
--- an item by its value, where K keywords are defined
-unfoldable pub itemAt : List ℕ → List ℕ → ℕ → ℕ → List ℕ → ℕ → List ℕ → Checked ℕ
-itemAt bs H K N L at v =
+-- a call of n with its arguments' bytes
+unfoldable pub callAt : List ℕ → Context → ℕ → List ℕ → Sorted
+callAt bs X n arguments =
+    let h : ℕ = getD (X .heads) n 0 in
+    elim (eqb h 0) [
+      | true ↦ Unsorted 9
+      | false ↦
+          unlessFault (getD (signatureAt bs h) 0 0)
+          (templatesFault (X .outsides) (X .sorts) arguments (drop 1 (signatureAt bs h)))
+    ]
+
+-- an item by its value
+unfoldable pub itemAt : List ℕ → Context → List ℕ → Sorted
+itemAt bs X v =
     elim (eqb (getD v 0 0) 0) [
-      | true ↦ need (ltb (getD v 1 0) K) 9 at >> ok unit
+      | true ↦ elim (ltb (getD v 1 0) (X .keywords)) [ true ↦ As unit | false ↦ Unsorted 9 ]
       | false ↦
           elim (eqb (getD v 0 0) 1) [
-            | true ↦ ok (getD v 1 0)
+            | true ↦ As (getD v 1 0)
             | false ↦
                 elim (eqb (getD v 0 0) 3) [
-                  | true ↦ ok binder
-                  | false ↦
-                      elim (eqb (getD v 0 0) 4) [ true ↦ callAt bs H N L at (getD v 1 0) (drop 2 v) | false ↦ ok num ]
+                  | true ↦ As binder
+                  | false ↦ elim (eqb (getD v 0 0) 4) [ true ↦ callAt bs X (getD v 1 0) (drop 2 v) | false ↦ As num ]
                 ]
           ]
     ]
 
--- as the code has it
-abbrev pub sorted : Checked ℕ → Sorted
-sorted (ok s) = As s
-sorted (bad r) = Unsorted r
+-- the refusal of a result by its value, 9 or 11, or 0
+unfoldable pub resultAt : List ℕ → Context → List ℕ → ℕ
+resultAt bs X v = templatesFault (X .outsides) (X .sorts) v (getD (signatureAt bs (X .head)) 0 0 ∷ [])
 
--- a result by its value, where the sort B is asked
-unfoldable pub resultAt : ℕ → List ℕ → ℕ → ℕ → List ℕ → Checked (Unit {0})
-resultAt N L B at v = need (closedBytes false v N (length L)) 9 at >> need (fillBytes false v L (B ∷ [])) 11 at
-
--- one field of an alternative, as the code has it
-abbrev pub bodyOf : Checked ℕ → Body
-bodyOf (ok s) = Variable s
-bodyOf (bad r) = Whole (Refused r)
-
-unfoldable pub bodyAt : List ℕ → List ℕ → ℕ → ℕ → ℕ → List ℕ → ℕ → ℕ → List ℕ → Body
-bodyAt bs H K N B L at tag v =
-    elim (eqb tag 6) [
-      | true ↦ bodyOf (itemAt bs H K N L at v)
-      | false ↦ elim (eqb tag 7) [ true ↦ Whole (verdict (resultAt N L B at v)) | false ↦ Whole Passed ]
-    ]
-
--- the items and the result of an alternative; there are 16 variables at most
-unfoldable pub alternativeFrom : Fields → List ℕ → List ℕ → ℕ → ℕ → ℕ → List ℕ → Checked (Unit {0})
-alternativeFrom (end at) bs H K N B L = ok tt
-alternativeFrom (cut at) bs H K N B L = ok tt
-alternativeFrom (next at tag v fs) bs H K N B L =
-    elim (eqb tag 6) [
-      | true ↦ itemAt bs H K N L at v >>= λ s. alternativeFrom fs bs H K N B (take 16 (L ++ (s ∷ [])))
-      | false ↦ elim (eqb tag 7) [ true ↦ resultAt N L B at v | false ↦ ok tt ]
+-- the refusal of the root n, or 0: it is defined, has no parameters and gives a Term
+unfoldable pub rootAt : List ℕ → List ℕ → ℕ → ℕ
+rootAt bs H n =
+    let h : ℕ = getD H n 0 in
+    elim (eqb h 0) [
+      | true ↦ 9
+      | false ↦
+          elim (leb (length (signatureAt bs h)) 1 && eqb (getD (signatureAt bs h) 0 0) term) [ true ↦ 0 | false ↦ 11 ]
     ]
 
 -- ------------------------------------------------------------------ field by field
 
--- the root n is defined, has no parameters and gives a Term
-unfoldable pub rootAt : List ℕ → List ℕ → ℕ → ℕ → Checked (Unit {0})
-rootAt bs H at n =
-    let h : ℕ = getD H n 0 in
-    need (ltb 0 h) 9 at >> need (leb (length (signatureAt bs h)) 1 && eqb (getD (signatureAt bs h) 0 0) term) 11 at
-
--- what a field gives: what is known after it and the heads, or the verdict
+-- what a field gives: what is known after it, or the verdict
 pub data Stepped : Type 0 where
-  going : Known → List ℕ → Stepped
+  going : Context → Stepped
   stopped : Verdict → Stepped
 
 -- as the code has it
-abbrev pub stepped : Step → List ℕ → Stepped
-stepped (Next k) H = going k H
-stepped (Stop v) H = stopped v
+abbrev pub stepped : Step → List ℕ → List ℕ → Stepped
+stepped (Next k) H L = going (context k H L)
+stepped (Stop v) H L = stopped v
 
-abbrev pub known : ℕ → ℕ → ℕ → Known
-known K N h = record { keywords = K; outsides = N; head = h }
+-- the verdict of a fault at a place
+abbrev pub verdictOf : ℕ → ℕ → Verdict
+verdictOf at fault = elim (eqb fault 0) [ true ↦ Passed | false ↦ Refused (refusal fault at 0 0) ]
+
+abbrev pub afterVerdict : Context → Verdict → Stepped
+afterVerdict X Passed = going X
+afterVerdict X (Refused r) = stopped (Refused r)
+
+abbrev pub afterBlock : Context → Collected → Stepped
+afterBlock X (collected v H) = afterVerdict (withHeads X H) v
+
+-- one variable more; there are 16 at most
+abbrev pub afterItem : Context → ℕ → Sorted → Stepped
+afterItem X at (As s) = going (withSorts X (take 16 (X .sorts ++ (s ∷ []))))
+afterItem X at (Unsorted fault) = stopped (Refused (refusal fault at 0 0))
+
+-- an item at an offset
+abbrev pub itemStep : List ℕ → Context → ℕ → List ℕ → Stepped
+itemStep bs X at v = afterItem X at (itemAt bs X v)
+
+-- a keyword, an outside name and a head; no other field counts
+abbrev pub counted : Context → ℕ → ℕ → Context
+counted X tag at =
+    record {
+      keywords = elim (eqb tag 1) [ true ↦ X .keywords + 1 | false ↦ X .keywords ];
+      outsides = elim (eqb tag 2) [ true ↦ X .outsides + 1 | false ↦ X .outsides ];
+      head = elim (eqb tag 4) [ true ↦ at | false ↦ X .head ];
+      heads = X .heads;
+      sorts = X .sorts;
+    }
 
 -- as the code has it
-abbrev pub afterVerdict : Known → Verdict → Step
-afterVerdict k Passed = Next k
-afterVerdict k (Refused r) = Stop (Refused r)
+unfoldable pub counting : Known → ℕ → ℕ → Known
+counting k tag at =
+    record {
+      keywords = elim (eqb tag 1) [ true ↦ k .keywords + 1 | false ↦ k .keywords ];
+      outsides = elim (eqb tag 2) [ true ↦ k .outsides + 1 | false ↦ k .outsides ];
+      head = elim (eqb tag 4) [ true ↦ at | false ↦ k .head ];
+      variables = k .variables;
+    }
 
-abbrev pub afterBlock : Known → Collected → Stepped
-afterBlock k (collected Passed H) = going k H
-afterBlock k (collected (Refused r) H) = stopped (Refused r)
+-- as the code has it
+abbrev pub stepOf : Known → Verdict → Step
+stepOf k Passed = Next k
+stepOf k (Refused r) = Stop (Refused r)
 
-abbrev pub afterBody : Known → List ℕ → Checked (Unit {0}) → Stepped
-afterBody k H (ok u) = going k H
-afterBody k H (bad r) = stopped (Refused r)
-
--- the field at an offset, and the fields behind it: a block's definitions are collected at its beginning, an alternative is checked
--- at its beginning
-unfoldable pub stepAt : List ℕ → ℕ → ℕ → List ℕ → Fields → Known → List ℕ → Stepped
-stepAt bs at tag v fs k H =
-    elim (eqb tag 1) [
-      | true ↦ going (known (k .keywords + 1) (k .outsides) (k .head)) H
+-- the field at an offset, and the fields behind it: a block's definitions are collected at its beginning, the variables of an
+-- alternative are its parameters at its beginning
+unfoldable pub stepAt : List ℕ → ℕ → ℕ → List ℕ → Fields → Context → Stepped
+stepAt bs at tag v fs X =
+    elim (eqb tag 3) [
+      | true ↦ afterBlock X (collectFrom fs bs at (X .heads))
       | false ↦
-          elim (eqb tag 2) [
-            | true ↦ going (known (k .keywords) (k .outsides + 1) (k .head)) H
+          elim (eqb tag 5) [
+            | true ↦ going (withSorts X (drop 1 (signatureAt bs (X .head))))
             | false ↦
-                elim (eqb tag 3) [
-                  | true ↦ afterBlock k (collectFrom fs bs at H)
+                elim (eqb tag 6) [
+                  | true ↦ itemStep bs X at v
                   | false ↦
-                      elim (eqb tag 4) [
-                        | true ↦ going (known (k .keywords) (k .outsides) at) H
+                      elim (eqb tag 7) [
+                        | true ↦ afterVerdict X (verdictOf at (resultAt bs X v))
                         | false ↦
-                            elim (eqb tag 5) [
-                              | true ↦
-                                  let S : List ℕ = signatureAt bs (k .head) in
-                                  afterBody k H
-                                  (alternativeFrom fs bs H (k .keywords) (k .outsides) (getD S 0 0) (drop 1 S))
-                              | false ↦
-                                  elim (eqb tag 8)
-                                  [ true ↦ stopped (verdict (rootAt bs H at (getD v 0 0))) | false ↦ going k H ]
+                            elim (eqb tag 8) [
+                              | true ↦ stopped (verdictOf at (rootAt bs (X .heads) (getD v 0 0)))
+                              | false ↦ going (counted X tag at)
                             ]
                       ]
                 ]
           ]
     ]
 
-abbrev pub goOn : Stepped → (Known → List ℕ → Verdict) → Verdict
-goOn (going k H) f = f k H
+abbrev pub goOn : Stepped → (Context → Verdict) → Verdict
+goOn (going X) f = f X
 goOn (stopped v) f = v
 
-unfoldable pub sortsFrom : Fields → List ℕ → Known → List ℕ → Verdict
-sortsFrom (end at) bs k H = Passed
-sortsFrom (cut at) bs k H = Passed
-sortsFrom (next at tag v fs) bs k H = goOn (stepAt bs at tag v fs k H) (λ k′ H′. sortsFrom fs bs k′ H′)
+unfoldable pub sortsFrom : Fields → List ℕ → Context → Verdict
+sortsFrom (end at) bs X = Passed
+sortsFrom (cut at) bs X = Passed
+sortsFrom (next at tag v fs) bs X = goOn (stepAt bs at tag v fs X) (λ Y. sortsFrom fs bs Y)
 
 -- a longer table was refused before
 unfoldable pub sortsOf : List ℕ → Verdict
-sortsOf bs =
-    elim (leb (length bs) longestTable) [ true ↦ sortsFrom (fieldsOf bs) bs (known 0 0 0) (replicate 64 0) | false ↦ Passed ]
+sortsOf bs = elim (leb (length bs) longestTable) [ true ↦ sortsFrom (fieldsOf bs) bs (unknown (replicate 64 0)) | false ↦ Passed ]
+
+-- ------------------------------------------------------------------ what the code's functions ask and ensure
+
+-- one field of a block that is being collected: its refusal, or 0, and the heads after it
+pub record Defined (bs : List ℕ) (at tag block : ℕ) (H : List ℕ) (fault : ℕ) (H′ : List ℕ) : Type 0 where
+  pub faulty : fault ≡ faultAt tag bs at block H
+  pub heads : H′ ≡ headsAfter tag fault bs at H
+
+-- the places of a signature's parameters on an empty stack
+pub record Loaded (signature room : List ℕ) (top : ℕ) : Type 0 where
+  pub small : top ≤ length signature
+  pub loaded : places room top ≡ drop 1 signature
+
+-- the counts of a table's keywords and outside names stay below its length
+pub record Countable (k : Known) : Type 0 where
+  pub keywords : k .keywords ≤ 16384
+  pub outsides : k .outsides ≤ 16384
+
+-- one field adds one at most
+abbrev pub Counts : Known → Step → Type 0
+Counts k (Next k′) = (k′ .keywords ≤ k .keywords + 1) × (k′ .outsides ≤ k .outsides + 1)
+Counts k (Stop v) = Unit {0}
+
+-- an item at an offset: what it gives, where the code answers r and leaves the sorts L′
+pub record ItemChecked (bs : List ℕ) (at : ℕ) (v : List ℕ) (k : Known) (H L : List ℕ) (r : Step) (L′ : List ℕ) : Type 0 where
+  pub steps : stepped r H L′ ≡ itemStep bs (context k H L) at v
+  pub counts : Counts k r
+
+-- the field at an offset, where the next one stands at `to`: what it gives, where the code answers r and leaves the heads H′ and the
+-- sorts L′
+pub record FieldChecked (bs : List ℕ) (at tag : ℕ) (v : List ℕ) (to : ℕ) (k : Known) (H L : List ℕ) (r : Step) (H′ L′ : List ℕ) : Type 0 where
+  pub steps : stepped r H′ L′ ≡ stepAt bs at tag v (fieldsAt bs to) (context k H L)
+  pub counts : Counts k r
+
+-- room for 16 variables, and for the places that a value's templates open
+pub record Room (v sorts stack : List ℕ) : Type 0 where
+  pub variables : length sorts ≡ 16
+  pub places : 2 * length v + 8 ≤ length stack
+
+-- what the check of one field asks of the table, its value, the rooms and what is known
+pub record Ready (k : Known) (table v sorts stack : List ℕ) : Type 0 where
+  pub short : length table ≤ 16384
+  pub room : Room v sorts stack
+  pub counts : Countable k

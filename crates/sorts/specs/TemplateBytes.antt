@@ -1,10 +1,11 @@
 -- The tests of templates, byte by byte on their prefix form, as the code makes them. On whole templates they are `areClosed` and
--- `fill` (proofs/TemplatesByBytes.antt).
-use Prim.Native.Nat.{ℕ, zero, suc}
+-- `fill` (proofs/TemplatesByBytes.antt). Nobody needs this file to believe `expand`.
+use Prim.Native.Nat.{ℕ, zero, suc, _+_, _≤_}
+use mathlib.Core.Path.{_≡_}
 use mathlib.Core.Bool.{Bool, true, false, not, _&&_, _||_}
 use mathlib.Core.List.{List, [], _∷_, _++_}
 use lib.Dec.{eqb, leb, ltb}
-use lib.ListN.{getD}
+use lib.ListN.{length, getD}
 use Rattle.grammar.specs.Sorts.{unit, var, label, fits, constructor}
 use Rattle.layout.specs.Prefix.{isNameTag}
 
@@ -47,7 +48,42 @@ fillBytes true (b ∷ bs) L ps = fillBytes false bs L ps
 fillBytes false (b ∷ bs) L [] = false
 fillBytes false (b ∷ bs) L (p ∷ ps) = fits (headSort b L) p && fillBytes (isNameTag b) bs L (headParams b ++ ps)
 
+-- ------------------------------------------------------------------ both tests in one pass
+
+-- the refusal of templates that are to fill places: 9 before 11, or 0
+unfoldable pub templatesFault : ℕ → List ℕ → List ℕ → List ℕ → ℕ
+templatesFault N L v ps =
+    elim (closedBytes false v N (length L))
+    [ true ↦ elim (fillBytes false v L ps) [ true ↦ 0 | false ↦ 11 ] | false ↦ 9 ]
+
+-- the places open, until a template does not fit its place
+pub data Places : Type 0 where
+  unfit : Places
+  awaiting : List ℕ → Places
+
+-- the places open after one byte more; `name` says that it is a name's number
+abbrev pub fillByte : Bool → ℕ → List ℕ → Places → Places
+fillByte true b L ps = ps
+fillByte false b L unfit = unfit
+fillByte false b L (awaiting []) = unfit
+fillByte false b L (awaiting (p ∷ ps)) = elim (fits (headSort b L) p) [ true ↦ awaiting (headParams b ++ ps) | false ↦ unfit ]
+
 -- the first k bytes of a room as a stack of places, the newest first
 unfoldable pub places : List ℕ → ℕ → List ℕ
 places room zero = []
 places room (suc k) = getD room k 0 ∷ places room k
+
+-- the places open as the code has them: a room, and one more than their number, 0 once a template did not fit
+unfoldable pub placesAt : List ℕ → ℕ → Places
+placesAt room zero = unfit
+placesAt room (suc k) = awaiting (places room k)
+
+-- what filling one place does to the number of places open
+pub record Filled (name : Bool) (b : ℕ) (L room : List ℕ) (height : ℕ) (room′ : List ℕ) (height′ : ℕ) : Type 0 where
+  pub small : height′ ≤ height + 2
+  pub filled : placesAt room′ height′ ≡ fillByte name b L (placesAt room height)
+
+-- what opening the places of a constructor's arguments does to a stack
+pub record Opened (b : ℕ) (room : List ℕ) (start : ℕ) (room′ : List ℕ) (top : ℕ) : Type 0 where
+  pub height : top ≡ start + length (headParams b)
+  pub opened : places room′ top ≡ headParams b ++ places room start

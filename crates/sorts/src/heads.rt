@@ -11,8 +11,7 @@ ghost use Prim.Native.Nat.{_+_, _≤_};
 ghost use mathlib.Core.Path.{_≡_};
 ghost use lib.ListN.{length, getD, take, drop, set};
 ghost use Rattle.answers.specs.Refusals.{refusal};
-ghost use Rattle.grammar.specs.Lookup.{fieldsAt};
-ghost use Rattle.sorts.specs.ByBytes.{signatureAt, faultOf, faultAt, headsAfter, collected, collectFrom};
+ghost use Rattle.sorts.specs.ByBytes.{signatureAt, faultOf, Defined, collected, collectAt};
 
 pub fn refused(number: u8, at: usize) -> Verdict
     ensures { λ r. ⌜ r ≡ Verdict.Refused (refusal number at 0 0) ⌝ }
@@ -27,9 +26,11 @@ pub fn refused(number: u8, at: usize) -> Verdict
 
 // The signature in the head at an offset: the sort of the result, then those of the parameters, four at most.
 pub fn signature_at(table: &[u8], at: usize) -> &[u8]
-    requires { ⌜ at ≤ 65536 ⌝ }
     ensures { λ r. ⌜ now r ≡ signatureAt (now (table .entry)) at ⌝ }
 {
+    if table.len() <= at {
+        return part(table, at, 0);
+    }
     let size = wide(byte(table, at + 1)) * 256 + wide(byte(table, at + 2));
     if size < 2 {
         return part(table, at + 5, 0);
@@ -42,7 +43,7 @@ pub fn signature_at(table: &[u8], at: usize) -> &[u8]
 
 // The offset of a nonterminal's newest head, 0 for none.
 pub fn head_of(heads: &[u16], n: u8) -> usize
-    ensures { λ r. ⌜ (r ≡ getD (now (heads .entry)) n 0) × (r ≤ 65536) ⌝ }
+    ensures { λ r. ⌜ r ≡ getD (now (heads .entry)) n 0 ⌝ }
 {
     let i = wide(n);
     if i < heads.len() {
@@ -71,9 +72,9 @@ fn fault_of(table: &[u8], at: usize, block: usize, heads: &[u16]) -> u8
 }
 
 // A field at an offset: a head goes among the heads, if it is not refused. The refusal, or 0.
-fn define(table: &[u8], at: usize, tag: u8, block: usize, heads: &mut [u16]) -> u8
+fn define(heads: &mut [u16], table: &[u8], at: usize, tag: u8, block: usize) -> u8
     requires { ⌜ at ≤ 65535 ⌝ }
-    ensures { λ r. ⌜ (r ≡ faultAt tag (now (table .entry)) at block (now (heads .entry))) × (now (heads .exit) ≡ headsAfter tag r (now (table .entry)) at (now (heads .entry))) ⌝ }
+    ensures { λ r. ⌜ Defined (now (table .entry)) at tag block (now (heads .entry)) r (now (heads .exit)) ⌝ }
 {
     if tag != 4 {
         return 0;
@@ -90,9 +91,9 @@ fn define(table: &[u8], at: usize, tag: u8, block: usize, heads: &mut [u16]) -> 
 }
 
 // The heads of the block that begins at an offset, from its first field on.
-pub fn collect(table: &[u8], block: usize, from: usize, heads: &mut [u16]) -> Verdict
+pub fn collect(heads: &mut [u16], table: &[u8], block: usize, from: usize) -> Verdict
     requires { ⌜ length (now table) ≤ 65535 ⌝ }
-    ensures { λ r. ⌜ collected r (now (heads .exit)) ≡ collectFrom (fieldsAt (now (table .entry)) from) (now (table .entry)) block (now (heads .entry)) ⌝ }
+    ensures { λ r. ⌜ collected r (now (heads .exit)) ≡ collectAt (now (table .entry)) block from (now (heads .entry)) ⌝ }
 {
     let mut at = from;
     loop {
@@ -109,7 +110,7 @@ pub fn collect(table: &[u8], block: usize, from: usize, heads: &mut [u16]) -> Ve
                 if (tag == 3) | (tag == 8) {
                     return Verdict::Passed;
                 }
-                let fault = define(table, at, tag, block, heads);
+                let fault = define(heads, table, at, tag, block);
                 if fault != 0 {
                     return refused(fault, at);
                 }

@@ -5,7 +5,10 @@ mod templates;
 
 use answers::Refusal;
 use answers::Verdict;
-use bodies::check_alternative;
+use bodies::add_sort;
+use bodies::check_item;
+use bodies::check_result;
+use bodies::load_params;
 use grammar::Front;
 use grammar::front_at;
 use grammar::reader::byte;
@@ -17,28 +20,23 @@ use heads::signature_at;
 ghost use Prim.Native.Nat.{_+_, _*_, _≤_};
 ghost use mathlib.Core.Path.{_≡_};
 ghost use lib.ListN.{length};
-ghost use Rattle.answers.specs.Checked.{verdict};
 ghost use Rattle.grammar.specs.Lookup.{fieldsAt};
-ghost use Rattle.sorts.specs.ByBytes.{rootAt, afterVerdict, stepped, stepAt, known, sortsFrom, sortsOf};
+ghost use Rattle.sorts.specs.ByBytes.{rootAt, unknown, verdictOf, stepOf, counting, sortsFrom, sortsOf};
+ghost use Rattle.sorts.specs.ByBytes.{Countable, ItemChecked, FieldChecked, Room, Ready};
 
-// What is known between two fields of a table: how many keywords and outside names there are, and the offset of the head of the
-// definition begun last.
+// What is known between two fields of a table: how many keywords and outside names there are, the offset of the head of the
+// definition begun last, and how many variables of its alternative are numbered.
 pub struct Known {
     pub keywords: usize,
     pub outsides: usize,
     pub head: usize,
+    pub variables: usize,
 }
 
-// The sort of an item's variable, or the item's refusal.
+// The sort of an item's variable, or the item's refusal, 9 or 11.
 pub enum Sorted {
     As(u8),
-    Unsorted(Refusal),
-}
-
-// What a field of an alternative gives: the sort of one more variable, or the alternative's verdict.
-pub enum Body {
-    Variable(u8),
-    Whole(Verdict),
+    Unsorted(u8),
 }
 
 // What a field gives: what is known after it, or the verdict.
@@ -47,25 +45,36 @@ pub enum Step {
     Stop(Verdict),
 }
 
-// The root is defined, has no parameters and gives a Term.
-fn check_root(table: &[u8], heads: &[u16], at: usize, n: u8) -> Verdict
-    ensures { λ r. ⌜ r ≡ verdict (rootAt (now (table .entry)) (now (heads .entry)) at n) ⌝ }
+// The refusal of the root, 9 or 11, or 0: it is defined, has no parameters and gives a Term.
+fn check_root(table: &[u8], heads: &[u16], n: u8) -> u8
+    ensures { λ r. ⌜ r ≡ rootAt (now (table .entry)) (now (heads .entry)) n ⌝ }
 {
     let h = head_of(heads, n);
     if h == 0 {
-        return refused(9, at);
+        return 9;
     }
     let signature = signature_at(table, h);
     let term = Sort::TERM.0;
     if (signature.len() <= 1) & (byte(signature, 0) == term) {
+        0
+    } else {
+        11
+    }
+}
+
+// The verdict of a fault at a place; 0 is none.
+fn verdict_of(fault: u8, at: usize) -> Verdict
+    ensures { λ r. ⌜ r ≡ verdictOf at fault ⌝ }
+{
+    if fault == 0 {
         return Verdict::Passed;
     }
-    refused(11, at)
+    refused(fault, at)
 }
 
 // The check goes on with what is known, or stops.
-fn after(v: Verdict, known: Known) -> Step
-    ensures { λ r. ⌜ r ≡ afterVerdict known v ⌝ }
+fn step_of(v: Verdict, known: Known) -> Step
+    ensures { λ r. ⌜ r ≡ stepOf known v ⌝ }
 {
     match v {
         Verdict::Passed => Step::Next(known),
@@ -73,54 +82,117 @@ fn after(v: Verdict, known: Known) -> Step
     }
 }
 
-// The field at an offset, where the next one stands at `to`: a block's definitions are collected at its beginning, an alternative is
-// checked at its beginning.
+// What is known after a keyword, an outside name or a head at an offset; no other field counts.
+fn count(known: Known, tag: u8, at: usize) -> Known
+    requires { ⌜ Countable known ⌝ }
+    ensures { λ r. ⌜ r ≡ counting known tag at ⌝ }
+{
+    let keywords = known.keywords;
+    let outsides = known.outsides;
+    let head = known.head;
+    let variables = known.variables;
+    match tag {
+        1 => Known {
+            keywords: keywords + 1,
+            outsides,
+            head,
+            variables,
+        },
+        2 => Known {
+            keywords,
+            outsides: outsides + 1,
+            head,
+            variables,
+        },
+        4 => Known {
+            keywords,
+            outsides,
+            head: at,
+            variables,
+        },
+        _ => known,
+    }
+}
+
+// An item at an offset: one variable more, or its refusal.
+fn check_variable(
+    sorts: &mut [u8],
+    stack: &mut [u8],
+    table: &[u8],
+    heads: &[u16],
+    known: Known,
+    at: usize,
+    v: &[u8],
+) -> Step
+    requires { ⌜ Room (now v) (now sorts) (now stack) ⌝ }
+    ensures { λ r. ⌜ ItemChecked (now (table .entry)) at (now (v .entry)) known (now (heads .entry)) (now (sorts .entry)) r (now (sorts .exit)) ⌝ }
+{
+    let item = check_item(stack, table, heads, sorts, known, v);
+    match item {
+        Sorted::Unsorted(fault) => Step::Stop(refused(fault, at)),
+        Sorted::As(s) => {
+            let n = known.variables;
+            let variables = add_sort(sorts, n, s);
+            Step::Next(Known {
+                keywords: known.keywords,
+                outsides: known.outsides,
+                head: known.head,
+                variables,
+            })
+        }
+    }
+}
+
+// The field at an offset, where the next one stands at `to`: a block's definitions are collected at its beginning, the variables of an
+// alternative are its parameters at its beginning.
 fn check_field(
+    heads: &mut [u16],
+    sorts: &mut [u8],
+    stack: &mut [u8],
     table: &[u8],
     at: usize,
     tag: u8,
     v: &[u8],
     to: usize,
     known: Known,
-    heads: &mut [u16],
-    stack: &mut [u8],
 ) -> Step
-    requires { ⌜ (length (now table) ≤ 16384) × (2 * length (now table) + 8 ≤ length (now stack)) × (known .keywords ≤ 65536) × (known .outsides ≤ 65536) × (known .head ≤ 65536) ⌝ }
-    ensures { λ r. ⌜ stepped r (now (heads .exit)) ≡ stepAt (now (table .entry)) at tag (now (v .entry)) (fieldsAt (now (table .entry)) to) known (now (heads .entry)) ⌝ }
+    requires { ⌜ Ready known (now table) (now v) (now sorts) (now stack) ⌝ }
+    ensures { λ r. ⌜ FieldChecked (now (table .entry)) at tag (now (v .entry)) to known (now (heads .entry)) (now (sorts .entry))
+        r (now (heads .exit)) (now (sorts .exit)) ⌝ }
 {
     match tag {
-        1 => Step::Next(Known {
-            keywords: known.keywords + 1,
-            outsides: known.outsides,
-            head: known.head,
-        }),
-        2 => Step::Next(Known {
-            keywords: known.keywords,
-            outsides: known.outsides + 1,
-            head: known.head,
-        }),
-        3 => after(collect(table, at, to, heads), known),
-        4 => Step::Next(Known {
-            keywords: known.keywords,
-            outsides: known.outsides,
-            head: at,
-        }),
-        5 => after(check_alternative(table, heads, known, to, stack), known),
-        8 => Step::Stop(check_root(table, heads, at, byte(v, 0))),
-        _ => Step::Next(known),
+        3 => step_of(collect(heads, table, at, to), known),
+        5 => {
+            let head = known.head;
+            let variables = load_params(sorts, signature_at(table, head));
+            Step::Next(Known {
+                keywords: known.keywords,
+                outsides: known.outsides,
+                head,
+                variables,
+            })
+        }
+        6 => check_variable(sorts, stack, table, heads, known, at, v),
+        7 => step_of(
+            verdict_of(check_result(stack, table, sorts, known, v), at),
+            known,
+        ),
+        8 => Step::Stop(verdict_of(check_root(table, heads, byte(v, 0)), at)),
+        _ => Step::Next(count(known, tag, at)),
     }
 }
 
-// A table's fields from the first on, with no head known yet and room for the places that templates open.
-fn check_fields(table: &[u8], heads: &mut [u16], stack: &mut [u8]) -> Verdict
-    requires { ⌜ (length (now table) ≤ 16384) × (2 * length (now table) + 8 ≤ length (now stack)) ⌝ }
-    ensures { λ r. ⌜ r ≡ sortsFrom (fieldsAt (now (table .entry)) 0) (now (table .entry)) (known 0 0 0) (now (heads .entry)) ⌝ }
+// A table's fields from the first on, with no head known yet and room for the variables and for the places that templates open.
+fn check_fields(heads: &mut [u16], sorts: &mut [u8], stack: &mut [u8], table: &[u8]) -> Verdict
+    requires { ⌜ (length (now table) ≤ 16384) × Room (now table) (now sorts) (now stack) ⌝ }
+    ensures { λ r. ⌜ r ≡ sortsFrom (fieldsAt (now (table .entry)) 0) (now (table .entry)) (unknown (now (heads .entry))) ⌝ }
 {
     let mut at: usize = 0;
     let mut known = Known {
         keywords: 0,
         outsides: 0,
         head: 0,
+        variables: 0,
     };
     loop {
         let front = front_at(table, at);
@@ -135,7 +207,7 @@ fn check_fields(table: &[u8], heads: &mut [u16], stack: &mut [u8]) -> Verdict
                 let from = at + 3;
                 let to = from + size;
                 let v = &table[from..to];
-                let step = check_field(table, at, tag, v, to, known, heads, stack);
+                let step = check_field(heads, sorts, stack, table, at, tag, v, to, known);
                 match step {
                     Step::Stop(v) => {
                         return v;
@@ -150,6 +222,28 @@ fn check_fields(table: &[u8], heads: &mut [u16], stack: &mut [u8]) -> Verdict
     }
 }
 
+// With room for the places that the templates of a small table open.
+fn check_small(table: &[u8]) -> Verdict
+    requires { ⌜ length (now table) ≤ 1024 ⌝ }
+    ensures { λ r. ⌜ r ≡ sortsOf (now (table .entry)) ⌝ }
+{
+    let mut heads = [0u16; 64];
+    let mut sorts = [0u8; 16];
+    let mut stack = [0u8; 2_056];
+    check_fields(&mut heads, &mut sorts, &mut stack, table)
+}
+
+// With room for those of any table.
+fn check_large(table: &[u8]) -> Verdict
+    requires { ⌜ length (now table) ≤ 16384 ⌝ }
+    ensures { λ r. ⌜ r ≡ sortsOf (now (table .entry)) ⌝ }
+{
+    let mut heads = [0u16; 64];
+    let mut sorts = [0u8; 16];
+    let mut stack = [0u8; 32_776];
+    check_fields(&mut heads, &mut sorts, &mut stack, table)
+}
+
 // The sorts of a table whose layout is right: refusals 7, 8, 9 and 11. A table over 16,384 bytes is refused before.
 pub fn check_sorts(table: &[u8]) -> Verdict
     ensures { λ r. ⌜ r ≡ sortsOf (now (table .entry)) ⌝ }
@@ -157,7 +251,8 @@ pub fn check_sorts(table: &[u8]) -> Verdict
     if 16_384 < table.len() {
         return Verdict::Passed;
     }
-    let mut heads = [0u16; 64];
-    let mut stack = [0u8; 32_776];
-    check_fields(table, &mut heads, &mut stack)
+    if table.len() <= 1024 {
+        return check_small(table);
+    }
+    check_large(table)
 }

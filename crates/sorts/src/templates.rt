@@ -1,4 +1,4 @@
-// The tests of templates on their bytes in prefix form.
+// The tests of templates on their bytes in prefix form: refusals 9 and 11.
 use grammar::reader::arity_of;
 use grammar::reader::byte;
 use grammar::sorts::Sort;
@@ -6,35 +6,15 @@ use grammar::sorts::argument_of;
 use grammar::sorts::result_of;
 ghost use Prim.Native.Nat.{_+_, _*_, _≤_};
 ghost use mathlib.Core.Path.{_≡_};
-ghost use mathlib.Core.Bool.{false};
 ghost use mathlib.Core.List.{_++_};
 ghost use lib.ListN.{length};
-ghost use Rattle.layout.specs.Prefix.{isNameTag};
-ghost use Rattle.sorts.specs.TemplateBytes.{closedBytes, headSort, headParams, fillBytes, places};
+ghost use Rattle.sorts.specs.TemplateBytes.{headSort, headParams, places, Opened, Filled, templatesFault};
 
 // A byte as a number of the width of offsets.
 pub fn wide(b: u8) -> usize
     ensures { λ r. ⌜ r ≡ b ⌝ }
 {
     b as usize
-}
-
-// Every variable and name of some templates is defined, where there are `outsides` outside names and `n` variables.
-pub fn are_closed(v: &[u8], outsides: usize, n: usize) -> bool
-    ensures { λ r. ⌜ r ≡ closedBytes false (now (v .entry)) outsides n ⌝ }
-{
-    let mut name = false;
-    let mut i: usize = 0;
-    while i < v.len() {
-        let b = wide(v[i]);
-        let closed = (name & (b < outsides)) | (!name & ((16 <= b) | (b < n)));
-        if !closed {
-            return false;
-        }
-        name = !name & ((b == 16) | (b == 17));
-        i += 1;
-    }
-    true
 }
 
 // The sort of the template that begins with a byte, where `sorts` has those of the variables.
@@ -56,7 +36,7 @@ fn head_sort(b: u8, sorts: &[u8]) -> Sort
 // Opens the places of a constructor's arguments on a stack, the first argument's on top; the new height.
 fn open_places(stack: &mut [u8], start: usize, b: u8) -> usize
     requires { ⌜ start + 3 ≤ length (now stack) ⌝ }
-    ensures { λ r. ⌜ (r ≡ start + length (headParams b)) × (places (now (stack .exit)) r ≡ headParams b ++ places (now (stack .entry)) start) ⌝ }
+    ensures { λ r. ⌜ Opened b (now (stack .entry)) start (now (stack .exit)) r ⌝ }
 {
     if b < 32 {
         return start;
@@ -72,33 +52,46 @@ fn open_places(stack: &mut [u8], start: usize, b: u8) -> usize
     top
 }
 
-// Templates fill the places on a stack of a height, one by one and all of them.
-pub fn fills(v: &[u8], sorts: &[u8], stack: &mut [u8], start: usize) -> bool
-    requires { ⌜ start + 2 * length (now v) ≤ length (now stack) ⌝ }
-    ensures { λ r. ⌜ r ≡ fillBytes false (now (v .entry)) (now (sorts .entry)) (places (now (stack .entry)) start) ⌝ }
+// One byte of a template that is to fill the place on top of a stack; `name` says that it is a name's number. The height is one more
+// than the number of places open, and 0 once a template did not fit; the new height.
+fn fill(stack: &mut [u8], height: usize, name: bool, b: u8, sorts: &[u8]) -> usize
+    requires { ⌜ height + 2 ≤ length (now stack) ⌝ }
+    ensures { λ r. ⌜ Filled name b (now (sorts .entry)) (now (stack .entry)) height (now (stack .exit)) r ⌝ }
 {
-    let mut top = start;
+    if name {
+        return height;
+    }
+    if height < 2 {
+        return 0;
+    }
+    let under = height - 2;
+    let place = Sort(stack[under]);
+    let fitting = head_sort(b, sorts).fits(place);
+    if !fitting {
+        return 0;
+    }
+    open_places(stack, under, b) + 1
+}
+
+// The refusal of templates that are to fill the places on a stack of a height, one by one and all of them: 9 where one of `outsides`
+// outside names or of the variables is not defined, before 11; or 0.
+pub fn fault_in(stack: &mut [u8], start: usize, v: &[u8], outsides: usize, sorts: &[u8]) -> u8
+    requires { ⌜ start + 2 * length (now v) + 3 ≤ length (now stack) ⌝ }
+    ensures { λ r. ⌜ r ≡ templatesFault outsides (now (sorts .entry)) (now (v .entry)) (places (now (stack .entry)) start) ⌝ }
+{
+    let mut height = start + 1;
     let mut name = false;
     let mut i: usize = 0;
     while i < v.len() {
         let b = v[i];
-        if name {
-            name = false;
-            i += 1;
-        } else {
-            if top == 0 {
-                return false;
-            }
-            let under = top - 1;
-            let place = Sort(stack[under]);
-            let fitting = head_sort(b, sorts).fits(place);
-            if !fitting {
-                return false;
-            }
-            top = open_places(stack, under, b);
-            name = (b == 16) | (b == 17);
-            i += 1;
+        let n = wide(b);
+        let closed = (name & (n < outsides)) | (!name & ((16 <= n) | (n < sorts.len())));
+        if !closed {
+            return 9;
         }
+        height = fill(stack, height, name, b, sorts);
+        name = !name & ((b == 16) | (b == 17));
+        i += 1;
     }
-    top == 0
+    if height == 1 { 0 } else { 11 }
 }

@@ -11,7 +11,7 @@ use Rattle.spellings.specs.BytesLaws.{by-test}
 use Rattle.grammar.specs.Sorts.{isConstructor, arity}
 use Rattle.grammar.specs.Table.{Template, Templates, variable, none, more}
 use Rattle.layout.specs.Prefix.{Parsed, fault, parsed, inFront, Taken, short, taken, takeTemplates, applied, constructed, byteInFront, isNameTag, templatesOf, isTemplates, found}
-use Rattle.layout.specs.PrefixLaws.{name-first, name-last, byte-first, variable-first, constructor-first, unknown-first}
+use Rattle.layout.proofs.PrefixLaws.{name-first, name-last, byte-first, variable-first, constructor-first, unknown-first}
 use Rattle.expansion.specs.declared.State.{State}
 use Rattle.templates.specs.declared.Built.{Built}
 use Rattle.templates.specs.declared.Built.the-variants.{Made, Full}

@@ -14,7 +14,7 @@ use Rattle.spellings.specs.BytesLaws.{by-test}
 use Rattle.grammar.specs.Sorts.{isConstructor, arity}
 use Rattle.grammar.specs.Table.{Template, Templates, variable, make, none, more}
 use Rattle.layout.specs.Prefix.{Parsed, fault, parsed, inFront, Taken, short, taken, alsoTaken, takeTemplates, applied, constructed, byteInFront, isNameTag, nameBy, templatesOf, found, firstOf}
-use Rattle.layout.specs.PrefixLaws.{name-first, name-last, byte-first, variable-first, constructor-first, unknown-first}
+use Rattle.layout.proofs.PrefixLaws.{name-first, name-last, byte-first, variable-first, constructor-first, unknown-first}
 use Rattle.expansion.specs.declared.State.{State}
 use Rattle.templates.specs.declared.Built.the-variants.{Made}
 use Rattle.expansion.specs.Run.{Result, done, halt, Run, return, after, _>>=_}

@@ -1,29 +1,54 @@
 -- `check_field`: by the field's tag.
-use mathlib.Core.Path.{refl}
-use native.Mathlib.Omega.{arith}
-use Rattle.grammar.specs.Lookup.{fieldsAt}
-use Rattle.sorts.proofs.StepLaws as laws
 use borrow.Author.Needs.{needs}
+use Prim.Native.Nat.{_≤_}
+use mathlib.Core.Path.{refl, ap}
+use lib.ListN.{length}
+use Rattle.sorts.proofs.HeadLaws.{signature-short}
+use Rattle.sorts.proofs.StepLaws as laws
+use native.Mathlib.Omega.{arith}
 use Rattle.sorts.proofs.check_field.Statement.{statement}
 use Rattle.sorts.proofs.check_field.Tie as tie
 
-add-t10 : tie.Need-add-t10
-add-t10 c = omega (arith, c .before .before .before .before .before .before .pre)
+abbrev start : tie.After-shared-slice-known2 → tie.Start
+start p = p .before .before .before .before .before
 
-add-t12 : tie.Need-add-t12
-add-t12 c = omega (arith, c .before .before .before .before .before .before .pre)
+-- an item, and a result
+abbrev item : tie.After-check-variable → tie.At-match-keys3
+item p = p .before .before .before .before
+
+abbrev tested : tie.After-step-of2 → tie.After-check-result
+tested c = c .before .before .before .before
 
 collect-requires : tie.Need-collect-requires
-collect-requires c κs = omega (arith, c .before .before .before .before .before .before .pre)
+collect-requires c κs = omega (arith, start (c .before .before) .pre .short)
 
-after-requires : tie.Need-after-requires
-after-requires c κs = search needs
+step-of-requires : tie.Need-step-of-requires
+step-of-requires c κs = search needs
 
-check-alternative-requires : tie.Need-check-alternative-requires
-check-alternative-requires c κs = (c .before .before .before .before .before .before .before .pre .4, c .before .before .before .before .before .before .before .pre .1)
+signature-at-requires : tie.Need-signature-at-requires
+signature-at-requires c κs = search needs
 
-after-requires-2 : tie.Need-after-requires-2
-after-requires-2 c κs = search needs
+load-params-requires : tie.Need-load-params-requires
+load-params-requires c κs =
+    omega (
+      arith,
+      ap length (c .signature-at .ensures),
+      signature-short (start (c .before .before .before) .args .table .now)
+          (start (c .before .before .before) .args .known .head),
+      start (c .before .before .before) .pre .room .variables,
+    )
+
+check-variable-requires : tie.Need-check-variable-requires
+check-variable-requires c κs = start (c .before .before .before .before) .pre .room
+
+check-result-requires : tie.Need-check-result-requires
+check-result-requires c κs = start (c .before .before .before) .pre .room .places
+
+verdict-of-requires : tie.Need-verdict-of-requires
+verdict-of-requires c κs = search needs
+
+step-of-requires-2 : tie.Need-step-of-requires-2
+step-of-requires-2 c κs = search needs
 
 byte-requires : tie.Need-byte-requires
 byte-requires c κs = search needs
@@ -31,59 +56,87 @@ byte-requires c κs = search needs
 check-root-requires : tie.Need-check-root-requires
 check-root-requires c κs = search needs
 
-returns : tie.Need-returns
-returns c = laws.step-keyword (c .before .before .before .before .before .before .args .table .now) (c .before .before .before .before .before .before .args .at) (c .before .before .before .before .before .before .args .tag) (c .before .before .before .before .before .before .args .v .now) (fieldsAt (c .before .before .before .before .before .before .args .table .now) (c .before .before .before .before .before .before .args .to)) (c .before .before .before .before .before .before .args .known) (c .before .before .before .before .before .before .args .heads .now) (c .before .match .keys1)
+verdict-of-requires-2 : tie.Need-verdict-of-requires-2
+verdict-of-requires-2 c κs = search needs
 
-returns-2 : tie.Need-returns-2
-returns-2 c = laws.step-outside (c .before .before .before .before .before .before .args .table .now) (c .before .before .before .before .before .before .args .at) (c .before .before .before .before .before .before .args .tag) (c .before .before .before .before .before .before .args .v .now) (fieldsAt (c .before .before .before .before .before .before .args .table .now) (c .before .before .before .before .before .before .args .to)) (c .before .before .before .before .before .before .args .known) (c .before .before .before .before .before .before .args .heads .now) (c .before .match .keys2)
+count-requires : tie.Need-count-requires
+count-requires c κs = start (c .before) .pre .counts
 
 same-length : tie.Need-same-length
-same-length c = c .before .before .before .collect .kept .1 .1 .1 .0
+same-length c = c .before .before .before .collect .kept .0
 
-returns-3 : tie.Need-returns-3
-returns-3 c = laws.step-block (c .before .before .before .before .before .before .before .before .before .before .args .table .now) (c .before .before .before .before .before .before .before .before .before .before .args .at) (c .before .before .before .before .before .before .before .before .before .before .args .tag) (c .before .before .before .before .before .before .before .before .before .before .args .v .now) (fieldsAt (c .before .before .before .before .before .before .before .before .before .before .args .table .now) (c .before .before .before .before .before .before .before .before .before .before .args .to)) (c .before .before .before .before .before .before .before .before .before .before .args .known) (c .before .before .before .before .before .before .before .before .before .before .args .heads .now) (c .before .before .before .before .before .match .keys3) (c .after .ensures) (c .before .before .before .collect .ensures)
-
-returns-4 : tie.Need-returns-4
-returns-4 c = laws.step-head (c .before .before .before .before .before .args .table .now) (c .before .before .before .before .before .args .at) (c .before .before .before .before .before .args .tag) (c .before .before .before .before .before .args .v .now) (fieldsAt (c .before .before .before .before .before .args .table .now) (c .before .before .before .before .before .args .to)) (c .before .before .before .before .before .args .known) (c .before .before .before .before .before .args .heads .now) (c .match .keys4)
+returns : tie.Need-returns
+returns c = laws.step-block (c .before .before .before .before .before .match .keys1) (c .before .before .before .collect .ensures) (c .step-of .ensures)
 
 same-length-2 : tie.Need-same-length-2
-same-length-2 c = refl
+same-length-2 c = c .before .before .load-params .kept .0
+
+returns-2 : tie.Need-returns-2
+returns-2 c =
+    laws.step-parameters (c .before .before .before .before .before .match .keys2) (c .before .before .before .signature-at .ensures)
+    (c .before .before .load-params .ensures)
 
 same-length-3 : tie.Need-same-length-3
-same-length-3 c = c .before .before .before .check-alternative .kept .1 .1 .1 .1 .0
-
-returns-5 : tie.Need-returns-5
-returns-5 c = laws.step-body (c .before .before .before .before .before .before .before .before .before .before .before .args .table .now) (c .before .before .before .before .before .before .before .before .before .before .before .args .at) (c .before .before .before .before .before .before .before .before .before .before .before .args .tag) (c .before .before .before .before .before .before .before .before .before .before .before .args .v .now) (fieldsAt (c .before .before .before .before .before .before .before .before .before .before .before .args .table .now) (c .before .before .before .before .before .before .before .before .before .before .before .args .to)) (c .before .before .before .before .before .before .before .before .before .before .before .args .known) (c .before .before .before .before .before .before .before .before .before .before .before .args .heads .now) (c .before .before .before .before .before .before .match .keys5) (c .after2 .ensures) (c .before .before .before .check-alternative .ensures)
+same-length-3 c = refl
 
 same-length-4 : tie.Need-same-length-4
-same-length-4 c = refl
+same-length-4 c = c .before .before .before .before .check-variable .kept .0
+
+same-length-5 : tie.Need-same-length-5
+same-length-5 c = c .before .before .before .before .check-variable .kept .1 .0
+
+returns-3 : tie.Need-returns-3
+returns-3 c = laws.step-item (item (c .before .before .before .before) .match .keys3) (c .before .before .before .before .check-variable .ensures)
+
+same-length-6 : tie.Need-same-length-6
+same-length-6 c = refl
+
+same-length-7 : tie.Need-same-length-7
+same-length-7 c = tested c .check-result .kept .0
+
+returns-4 : tie.Need-returns-4
+returns-4 c =
+    laws.step-result (tested c .before .before .before .match .keys4) (tested c .check-result .ensures) (c .before .verdict-of .ensures)
+    (c .step-of2 .ensures)
+
+same-length-8 : tie.Need-same-length-8
+same-length-8 c = refl
+
+returns-5 : tie.Need-returns-5
+returns-5 c =
+    laws.step-root (c .before .before .before .before .match .keys5) (c .before .before .byte .ensures) (c .before .check-root .ensures)
+    (c .verdict-of2 .ensures)
 
 returns-6 : tie.Need-returns-6
-returns-6 c = laws.step-root (c .before .before .before .before .before .before .before .before .args .table .now) (c .before .before .before .before .before .before .before .before .args .at) (c .before .before .before .before .before .before .before .before .args .tag) (c .before .before .before .before .before .before .before .before .args .v .now) (fieldsAt (c .before .before .before .before .before .before .before .before .args .table .now) (c .before .before .before .before .before .before .before .before .args .to)) (c .before .before .before .before .before .before .before .before .args .known) (c .before .before .before .before .before .before .before .before .args .heads .now) (c .before .before .before .match .keys6) (c .before .byte .ensures) (c .check-root .ensures)
-
-returns-7 : tie.Need-returns-7
-returns-7 c = laws.step-other (c .before .before .before .before .before .args .table .now) (c .before .before .before .before .before .args .at) (c .before .before .before .before .before .args .tag) (c .before .before .before .before .before .args .v .now) (fieldsAt (c .before .before .before .before .before .args .table .now) (c .before .before .before .before .before .args .to)) (c .before .before .before .before .before .args .known) (c .before .before .before .before .before .args .heads .now) (c .match .rest .0 .0 .0 .0 .0 .1) (c .match .rest .0 .0 .0 .0 .1) (c .match .rest .0 .0 .0 .1) (c .match .rest .0 .0 .1) (c .match .rest .0 .1) (c .match .rest .1)
+returns-6 c = laws.step-counts (c .before .match .rest) (c .count .ensures)
 
 pub check-field-spec : {M : Type 1} → statement M
 check-field-spec =
     tie.close
     (tie.spec
-    add-t10
-    add-t12
     collect-requires
-    after-requires
-    check-alternative-requires
-    after-requires-2
+    step-of-requires
+    signature-at-requires
+    load-params-requires
+    check-variable-requires
+    check-result-requires
+    verdict-of-requires
+    step-of-requires-2
     byte-requires
     check-root-requires
-    returns
-    returns-2
+    verdict-of-requires-2
+    count-requires
     same-length
-    returns-3
-    returns-4
+    returns
     same-length-2
+    returns-2
     same-length-3
-    returns-5
     same-length-4
-    returns-6
-    returns-7)
+    same-length-5
+    returns-3
+    same-length-6
+    same-length-7
+    returns-4
+    same-length-8
+    returns-5
+    returns-6)

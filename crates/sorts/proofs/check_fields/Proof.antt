@@ -1,22 +1,78 @@
 -- `check_fields`: the fields left give what all of them give.
 use borrow.Author.Needs.{needs}
-use Prim.Native.Nat.{_+_, _-_}
-use mathlib.Core.Path.{sym, _∙_}
-use native.Mathlib.Omega.{arith}
-use lib.ListN.{length}
+use Prim.Native.Nat.{ℕ, _+_, _-_, _≤_}
+use mathlib.Core.Path.{_≡_, sym, _∙_}
+use mathlib.Core.List.{List}
+use lib.ListN.{length, take, drop, length-take}
+use Rattle.grammar.specs.declared.Front.the-variants.{Field}
+use Rattle.grammar.specs.Lookup.{frontOf}
+use Rattle.grammar.proofs.LookupLaws.{front-inside}
 use Rattle.grammar.proofs.ReaderLaws.{part-within}
+use Rattle.sorts.specs.ByBytes.{Ready}
 use Rattle.sorts.proofs.StepLaws as laws
+use native.Mathlib.Omega.{arith}
 use Rattle.sorts.proofs.check_fields.Statement.{statement}
 use Rattle.sorts.proofs.check_fields.Tie as tie
 
 abbrev Inv-loop : tie.InvT-loop
-Inv-loop table heads₀ stack₀ at₀ known₀ heads stack at known = laws.Sorting table heads₀ stack₀ heads stack at known
+Inv-loop heads₀ sorts₀ stack₀ table at₀ known₀ heads sorts stack at known = laws.Sorting table heads₀ sorts₀ stack₀ heads sorts stack at known
 
 abbrev μ-loop : tie.MeasureT-loop
-μ-loop table heads₀ stack₀ at₀ known₀ heads stack at known = length table - at
+μ-loop heads₀ sorts₀ stack₀ table at₀ known₀ heads sorts stack at known = length table - at
+
+-- a whole field stands here
+module _ (p : tie.After-known-told Inv-loop μ-loop) where
+  abbrev turn : tie.At-loop Inv-loop μ-loop
+  turn = p .before .before .before .before
+
+  abbrev start : tie.Start Inv-loop μ-loop
+  start = turn .before .before .before .before .before
+
+  abbrev table : List ℕ
+  table = start .args .table .now
+
+  abbrev size : ℕ
+  size = p .before .front .given .0 .1 .0
+
+  stands : Field (p .before .front .given .0 .0) size ≡ frontOf (drop (turn .loop .at) table)
+  stands = sym (p .before .front .given .1) ∙ p .before .before .before .front-at .ensures
+
+  inside : turn .loop .at + (3 + size) ≤ length table
+  inside = front-inside table (turn .loop .at) stands
+
+  -- its value as the code lends it
+  abbrev lent : List ℕ
+  lent = take (turn .loop .at + 3 + size - (turn .loop .at + 3)) (drop (turn .loop .at + 3) table)
+
+  value : lent ≡ take size (drop (turn .loop .at + 3) table)
+  value = part-within table (turn .loop .at + 3) size
+
+  ready : Ready (turn .loop .known) table lent (turn .loop .sorts) (turn .loop .stack)
+  ready =
+      let few = length-take (turn .loop .at + 3 + size - (turn .loop .at + 3)) (drop (turn .loop .at + 3) table) in
+      record {
+        short = start .pre .0;
+        room =
+            record {
+              variables = turn .loop .inv .sorts ∙ start .pre .1 .variables;
+              places = omega (arith, few, inside, turn .loop .inv .full, start .pre .1 .places);
+            };
+        counts =
+            record {
+              keywords = omega (arith, inside, turn .loop .inv .keywords, start .pre .0);
+              outsides = omega (arith, inside, turn .loop .inv .outsides, start .pre .0);
+            };
+      }
+
+-- it is checked
+abbrev field : tie.After-check-field Inv-loop μ-loop → tie.After-known-told Inv-loop μ-loop
+field p = p .before .before .before .before .before
+
+abbrev checked : tie.After-slice-known6 Inv-loop μ-loop → tie.After-check-field Inv-loop μ-loop
+checked p = p .before .before .before .before .before .before
 
 loop-holds : tie.Need-loop-holds Inv-loop μ-loop
-loop-holds c = laws.sorting-start _ _ _
+loop-holds c = laws.sorting-start
 
 front-at-requires : tie.Need-front-at-requires Inv-loop μ-loop
 front-at-requires c κs = search needs
@@ -28,7 +84,10 @@ same-length : tie.Need-same-length Inv-loop μ-loop
 same-length c = c .before .before .before .loop .inv .heads
 
 same-length-2 : tie.Need-same-length-2 Inv-loop μ-loop
-same-length-2 c = c .before .before .before .loop .inv .full
+same-length-2 c = c .before .before .before .loop .inv .sorts
+
+same-length-3 : tie.Need-same-length-3 Inv-loop μ-loop
+same-length-3 c = c .before .before .before .loop .inv .full
 
 returns : tie.Need-returns Inv-loop μ-loop
 returns c = laws.sorting-nothing (c .before .before .before .loop .inv) (sym (c .enum-told .given .1) ∙ c .before .before .front-at .ensures)
@@ -36,11 +95,14 @@ returns c = laws.sorting-nothing (c .before .before .before .loop .inv) (sym (c 
 enum-told-2 : tie.Need-enum-told-2 Inv-loop μ-loop
 enum-told-2 c = search needs
 
-same-length-3 : tie.Need-same-length-3 Inv-loop μ-loop
-same-length-3 c = c .before .before .before .loop .inv .heads
-
 same-length-4 : tie.Need-same-length-4 Inv-loop μ-loop
-same-length-4 c = c .before .before .before .loop .inv .full
+same-length-4 c = c .before .before .before .loop .inv .heads
+
+same-length-5 : tie.Need-same-length-5 Inv-loop μ-loop
+same-length-5 c = c .before .before .before .loop .inv .sorts
+
+same-length-6 : tie.Need-same-length-6 Inv-loop μ-loop
+same-length-6 c = c .before .before .before .loop .inv .full
 
 returns-2 : tie.Need-returns-2 Inv-loop μ-loop
 returns-2 c = laws.sorting-short (c .before .before .before .loop .inv) (sym (c .enum-told2 .given .1) ∙ c .before .before .front-at .ensures)
@@ -49,10 +111,10 @@ enum-known-front : tie.Need-enum-known-front Inv-loop μ-loop
 enum-known-front c = search needs
 
 add-from : tie.Need-add-from Inv-loop μ-loop
-add-from c = omega (arith, laws.front-inside (c .before .before .before .before .before .before .before .before .args .table .now) (c .before .before .before .before .loop .at) (sym (c .before .front .given .1) ∙ c .before .before .before .front-at .ensures))
+add-from c = omega (arith, inside c)
 
 add-to : tie.Need-add-to Inv-loop μ-loop
-add-to c = omega (arith, laws.front-inside (c .before .before .before .before .before .before .before .before .args .table .now) (c .before .before .before .before .loop .at) (sym (c .before .front .given .1) ∙ c .before .before .before .front-at .ensures))
+add-to c = omega (arith, inside c)
 
 sub-v : tie.Need-sub-v Inv-loop μ-loop
 sub-v c = search needs
@@ -61,31 +123,39 @@ part-v-start : tie.Need-part-v-start Inv-loop μ-loop
 part-v-start c = search needs
 
 part-v-end : tie.Need-part-v-end Inv-loop μ-loop
-part-v-end c = omega (arith, laws.front-inside (c .before .before .before .before .before .before .before .before .args .table .now) (c .before .before .before .before .loop .at) (sym (c .before .front .given .1) ∙ c .before .before .before .front-at .ensures))
+part-v-end c = omega (arith, inside c)
 
 check-field-requires : tie.Need-check-field-requires Inv-loop μ-loop
-check-field-requires c κs = omega (arith, laws.front-inside (c .before .before .before .before .before .before .before .before .before .before .before .args .table .now) (c .before .before .before .before .before .before .before .loop .at) (sym (c .before .before .before .before .front .given .1) ∙ c .before .before .before .before .before .before .front-at .ensures), c .before .before .before .before .before .before .before .loop .inv, c .before .before .before .before .before .before .before .before .before .before .before .pre)
+check-field-requires c κs = ready (c .before .before .before .before)
 
 enum-known-step : tie.Need-enum-known-step Inv-loop μ-loop
 enum-known-step c = search needs
 
-same-length-5 : tie.Need-same-length-5 Inv-loop μ-loop
-same-length-5 c = c .before .before .before .before .before .before .before .check-field .kept .1 .1 .1 .1 .1 .1 .0 ∙ c .before .before .before .before .before .before .before .before .before .before .before .before .before .before .before .loop .inv .heads
+same-length-7 : tie.Need-same-length-7 Inv-loop μ-loop
+same-length-7 c = checked (c .before .before .before) .check-field .kept .0 ∙ turn (field (checked (c .before .before .before))) .loop .inv .heads
 
-same-length-6 : tie.Need-same-length-6 Inv-loop μ-loop
-same-length-6 c = c .before .before .before .before .before .before .before .check-field .kept .1 .1 .1 .1 .1 .1 .1 .0 ∙ c .before .before .before .before .before .before .before .before .before .before .before .before .before .before .before .loop .inv .full
+same-length-8 : tie.Need-same-length-8 Inv-loop μ-loop
+same-length-8 c = checked (c .before .before .before) .check-field .kept .1 .0 ∙ turn (field (checked (c .before .before .before))) .loop .inv .sorts
+
+same-length-9 : tie.Need-same-length-9 Inv-loop μ-loop
+same-length-9 c = checked (c .before .before .before) .check-field .kept .1 .1 .0 ∙ turn (field (checked (c .before .before .before))) .loop .inv .full
 
 returns-3 : tie.Need-returns-3 Inv-loop μ-loop
-returns-3 c = laws.sorting-stop (c .before .before .before .before .before .before .before .before .before .before .before .before .before .before .before .loop .inv) (c .before .before .before .before .before .before .before .check-field .result) (c .before .before .before .before .before .before .before .check-field .last .1 .1 .1 .1 .1 .1 .0) (sym (c .before .before .before .before .before .before .before .before .before .before .before .before .front .given .1) ∙ c .before .before .before .before .before .before .before .before .before .before .before .before .before .before .front-at .ensures) (part-within (c .before .before .before .before .before .before .before .before .before .before .before .before .before .before .before .before .before .before .before .args .table .now) (c .before .before .before .before .before .before .before .before .before .before .before .before .before .before .before .loop .at + 3) (c .before .before .before .before .before .before .before .before .before .before .before .before .front .given .0 .1 .0)) (c .before .before .before .before .before .before .before .check-field .ensures) (c .before .step .given .1)
+returns-3 c =
+    let p = checked (c .before .before .before) in
+    laws.sorting-stop (turn (field p) .loop .inv) (stands (field p)) (value (field p)) (p .check-field .ensures) (c .before .step .given .1)
 
 enum-known-step-2 : tie.Need-enum-known-step-2 Inv-loop μ-loop
 enum-known-step-2 c = search needs
 
 loop-less : tie.Need-loop-less Inv-loop μ-loop
-loop-less c = omega (arith, laws.front-inside (c .before .before .before .before .before .before .before .before .before .before .before .before .before .before .before .before .before .before .before .args .table .now) (c .before .before .before .before .before .before .before .before .before .before .before .before .before .before .before .loop .at) (sym (c .before .before .before .before .before .before .before .before .before .before .before .before .front .given .1) ∙ c .before .before .before .before .before .before .before .before .before .before .before .before .before .before .front-at .ensures))
+loop-less c = omega (arith, inside (field (checked (c .before .before .before))))
 
 loop-again : tie.Need-loop-again Inv-loop μ-loop
-loop-again c = laws.sorting-next (c .before .before .before .before .before .before .before .before .before .before .before .before .before .before .before .loop .inv) (c .before .before .before .before .before .before .before .check-field .result) (c .before .before .before .before .before .before .before .check-field .last .1 .1 .1 .1 .1 .1 .0) (sym (c .before .before .before .before .before .before .before .before .before .before .before .before .front .given .1) ∙ c .before .before .before .before .before .before .before .before .before .before .before .before .before .before .front-at .ensures) (part-within (c .before .before .before .before .before .before .before .before .before .before .before .before .before .before .before .before .before .before .before .args .table .now) (c .before .before .before .before .before .before .before .before .before .before .before .before .before .before .before .loop .at + 3) (c .before .before .before .before .before .before .before .before .before .before .before .before .front .given .0 .1 .0)) (c .before .before .before .before .before .before .before .check-field .ensures) (c .before .step2 .given .1) (c .before .before .before .before .before .before .before .check-field .kept .1 .1 .1 .1 .1 .1 .0) (c .before .before .before .before .before .before .before .check-field .kept .1 .1 .1 .1 .1 .1 .1 .0)
+loop-again c =
+    let p = checked (c .before .before .before) in
+    laws.sorting-next (turn (field p) .loop .inv) (stands (field p)) (value (field p)) (p .check-field .ensures) (c .before .step2 .given .1)
+    (p .check-field .kept .0) (p .check-field .kept .1 .0) (p .check-field .kept .1 .1 .0)
 
 pub check-fields-spec : {M : Type 1} → statement M
 check-fields-spec =
@@ -98,10 +168,12 @@ check-fields-spec =
     enum-told
     same-length
     same-length-2
+    same-length-3
     returns
     enum-told-2
-    same-length-3
     same-length-4
+    same-length-5
+    same-length-6
     returns-2
     enum-known-front
     add-from
@@ -111,8 +183,9 @@ check-fields-spec =
     part-v-end
     check-field-requires
     enum-known-step
-    same-length-5
-    same-length-6
+    same-length-7
+    same-length-8
+    same-length-9
     returns-3
     enum-known-step-2
     loop-less

@@ -1,77 +1,105 @@
 -- `check_call`: 9 before 11, then the signature's result.
-use mathlib.Core.Path.{sym, ap, _∙_}
-use mathlib.Core.Bool.{false}
-use native.Mathlib.Omega.{arith}
-use lib.ListN.{length, getD, drop}
-use borrow.Author.Tests.{not-true, not-false}
-use Rattle.sorts.specs.TemplateBytes.{fillBytes}
+use borrow.Author.Needs.{needs}
+use Prim.Native.Nat.{ℕ, _≤_}
+use mathlib.Core.Path.{_≡_, ap, ap₂, _∙_}
+use lib.ListN.{length, drop}
+use Rattle.sorts.specs.TemplateBytes.{templatesFault}
+use Rattle.sorts.specs.ByBytes.{context}
 use Rattle.sorts.proofs.HeadLaws.{signature-short}
 use Rattle.sorts.proofs.BodyLaws as laws
-use borrow.Author.Needs.{needs}
+use native.Mathlib.Omega.{arith}
 use Rattle.sorts.proofs.bodies.check_call.Statement.{statement}
 use Rattle.sorts.proofs.bodies.check_call.Tie as tie
+
+-- the nonterminal's signature
+module _ (p : tie.After-signature-at) where
+  abbrev head : tie.After-head-of
+  head = p .before .before
+
+  abbrev start : tie.Start
+  start = head .before .before .before .before .before .before
+
+  short : length (p .signature-at .result .now) ≤ 5
+  short = omega (arith, ap length (p .signature-at .ensures), signature-short (start .args .table .now) (head .head-of .result))
+
+-- the places of its parameters are open, then the arguments are tested
+abbrev opened : tie.After-part → tie.After-open-params
+opened p = p .before .before .before
+
+abbrev lent : tie.After-fault-in → tie.After-part
+lent p = p .before .before
+
+abbrev signed : tie.After-fault-in → tie.After-signature-at
+signed p = opened (lent p) .before .before
+
+abbrev tested : tie.After-slice-known3 → tie.After-fault-in
+tested p = p .before .before
+
+fault :
+    (p : tie.After-fault-in)
+    → p .fault-in .result
+    ≡ templatesFault (start (signed p) .args .known .outsides)
+    (context (start (signed p) .args .known) (start (signed p) .args .heads .now) (start (signed p) .args .sorts .now) .sorts)
+    (start (signed p) .args .arguments .now)
+    (drop 1 (signed p .signature-at .result .now))
+fault p =
+    let a = start (signed p) .args in
+    p .fault-in .ensures
+    ∙ ap₂ (λ l ps. templatesFault (a .known .outsides) l (a .arguments .now) ps) (lent p .part .ensures)
+    (opened (lent p) .open-params .ensures .loaded)
 
 head-of-requires : tie.Need-head-of-requires
 head-of-requires c κs = search needs
 
-unsorted-requires : tie.Need-unsorted-requires
-unsorted-requires c κs = search needs
-
 returns : tie.Need-returns
-returns c = c .unsorted .ensures ∙ laws.call-undefined (c .before .before .before .before .before .before .before .before .args .table .now) (c .before .before .before .before .before .before .before .before .args .heads .now) (c .before .before .before .before .before .before .before .before .args .outsides) (c .before .before .before .before .before .before .before .before .args .sorts .now) (c .before .before .before .before .before .before .before .before .args .at) (c .before .before .before .before .before .before .before .before .args .n) (c .before .before .before .before .before .before .before .before .args .arguments .now) (c .before .before .head-of .ensures .0) (c .before .if1 .taken)
-
-are-closed-requires : tie.Need-are-closed-requires
-are-closed-requires c κs = search needs
-
-unsorted-requires-2 : tie.Need-unsorted-requires-2
-unsorted-requires-2 c κs = search needs
-
-returns-2 : tie.Need-returns-2
-returns-2 c = c .unsorted2 .ensures ∙ laws.call-open (c .before .before .before .before .before .before .before .before .before .before .args .table .now) (c .before .before .before .before .before .before .before .before .before .before .args .heads .now) (c .before .before .before .before .before .before .before .before .before .before .args .outsides) (c .before .before .before .before .before .before .before .before .before .before .args .sorts .now) (c .before .before .before .before .before .before .before .before .before .before .args .at) (c .before .before .before .before .before .before .before .before .before .before .args .n) (c .before .before .before .before .before .before .before .before .before .before .args .arguments .now) (c .before .before .before .before .head-of .ensures .0) (c .before .before .before .if1 .left) (sym (c .before .before .are-closed .ensures) ∙ not-true _ (c .before .if2 .taken))
+returns c = laws.call-undefined _ _ _ _ (c .before .head-of .ensures) (c .if1 .taken)
 
 signature-at-requires : tie.Need-signature-at-requires
-signature-at-requires c κs = c .before .before .before .head-of .ensures .1
+signature-at-requires c κs = search needs
 
 open-params-requires : tie.Need-open-params-requires
-open-params-requires c κs = omega (arith, c .before .before .before .before .before .before .before .before .before .before .before .pre, ap length (c .before .signature-at .ensures), signature-short (c .before .before .before .before .before .before .before .before .before .before .before .args .table .now) (c .before .before .before .before .before .head-of .result))
+open-params-requires c κs = omega (arith, start (c .before) .pre, short (c .before))
 
-fills-requires : tie.Need-fills-requires
-fills-requires c κs = omega (arith, c .before .before .before .before .before .before .before .before .before .before .before .before .before .before .before .pre, c .before .before .before .open-params .ensures .0, c .before .before .before .open-params .kept .1 .0, ap length (c .before .before .before .before .before .signature-at .ensures), signature-short (c .before .before .before .before .before .before .before .before .before .before .before .before .before .before .before .args .table .now) (c .before .before .before .before .before .before .before .before .before .head-of .result))
+part-requires : tie.Need-part-requires
+part-requires c κs = search needs
 
-unsorted-requires-3 : tie.Need-unsorted-requires-3
-unsorted-requires-3 c κs = search needs
+fault-in-requires : tie.Need-fault-in-requires
+fault-in-requires c κs =
+    let q = opened (c .before) in
+    omega (arith, start (q .before .before) .pre, q .open-params .ensures .small, q .open-params .kept .0, short (q .before .before))
 
 same-length : tie.Need-same-length
-same-length c = c .before .before .before .before .fills .kept .1 .1 .0 ∙ c .before .before .before .before .before .before .before .before .open-params .kept .1 .0
+same-length c = tested (c .before) .fault-in .kept .0 ∙ opened (lent (tested (c .before))) .open-params .kept .0
 
-returns-3 : tie.Need-returns-3
-returns-3 c = c .unsorted3 .ensures ∙ laws.call-unfit (c .before .before .before .before .before .before .before .before .before .before .before .before .before .before .before .before .before .before .before .before .args .table .now) (c .before .before .before .before .before .before .before .before .before .before .before .before .before .before .before .before .before .before .before .before .args .heads .now) (c .before .before .before .before .before .before .before .before .before .before .before .before .before .before .before .before .before .before .before .before .args .outsides) (c .before .before .before .before .before .before .before .before .before .before .before .before .before .before .before .before .before .before .before .before .args .sorts .now) (c .before .before .before .before .before .before .before .before .before .before .before .before .before .before .before .before .before .before .before .before .args .at) (c .before .before .before .before .before .before .before .before .before .before .before .before .before .before .before .before .before .before .before .before .args .n) (c .before .before .before .before .before .before .before .before .before .before .before .before .before .before .before .before .before .before .before .before .args .arguments .now) (c .before .before .before .before .before .before .before .before .before .before .before .before .before .before .head-of .ensures .0) (c .before .before .before .before .before .before .before .before .before .before .before .before .before .if1 .left) (sym (c .before .before .before .before .before .before .before .before .before .before .before .before .are-closed .ensures) ∙ not-false _ (c .before .before .before .before .before .before .before .before .before .before .before .if2 .left)) (sym (c .before .before .before .before .fills .ensures ∙ ap (fillBytes false (c .before .before .before .before .before .before .before .before .before .before .before .before .before .before .before .before .before .before .before .before .args .arguments .now) (c .before .before .before .before .before .before .before .before .before .before .before .before .before .before .before .before .before .before .before .before .args .sorts .now)) (c .before .before .before .before .before .before .before .before .open-params .ensures .1 ∙ ap (drop 1) (c .before .before .before .before .before .before .before .before .before .before .signature-at .ensures))) ∙ not-true _ (c .before .if3 .taken))
+returns-2 : tie.Need-returns-2
+returns-2 c =
+    laws.call-unfit _ _ _ _ (signed (tested (c .before)) .before .before .head-of .ensures) (signed (tested (c .before)) .before .if1 .left)
+    (signed (tested (c .before)) .signature-at .ensures) (fault (tested (c .before))) (c .if2 .taken)
 
 byte-requires : tie.Need-byte-requires
 byte-requires c κs = search needs
 
 same-length-2 : tie.Need-same-length-2
-same-length-2 c = c .before .before .before .before .fills .kept .1 .1 .0 ∙ c .before .before .before .before .before .before .before .before .open-params .kept .1 .0
+same-length-2 c = tested (c .before .before) .fault-in .kept .0 ∙ opened (lent (tested (c .before .before))) .open-params .kept .0
 
-returns-4 : tie.Need-returns-4
-returns-4 c = laws.call-fit (c .before .before .before .before .before .before .before .before .before .before .before .before .before .before .before .before .before .before .before .before .args .table .now) (c .before .before .before .before .before .before .before .before .before .before .before .before .before .before .before .before .before .before .before .before .args .heads .now) (c .before .before .before .before .before .before .before .before .before .before .before .before .before .before .before .before .before .before .before .before .args .outsides) (c .before .before .before .before .before .before .before .before .before .before .before .before .before .before .before .before .before .before .before .before .args .sorts .now) (c .before .before .before .before .before .before .before .before .before .before .before .before .before .before .before .before .before .before .before .before .args .at) (c .before .before .before .before .before .before .before .before .before .before .before .before .before .before .before .before .before .before .before .before .args .n) (c .before .before .before .before .before .before .before .before .before .before .before .before .before .before .before .before .before .before .before .before .args .arguments .now) (c .before .before .before .before .before .before .before .before .before .before .before .before .before .before .head-of .ensures .0) (c .before .before .before .before .before .before .before .before .before .before .before .before .before .if1 .left) (sym (c .before .before .before .before .before .before .before .before .before .before .before .before .are-closed .ensures) ∙ not-false _ (c .before .before .before .before .before .before .before .before .before .before .before .if2 .left)) (sym (c .before .before .before .before .fills .ensures ∙ ap (fillBytes false (c .before .before .before .before .before .before .before .before .before .before .before .before .before .before .before .before .before .before .before .before .args .arguments .now) (c .before .before .before .before .before .before .before .before .before .before .before .before .before .before .before .before .before .before .before .before .args .sorts .now)) (c .before .before .before .before .before .before .before .before .open-params .ensures .1 ∙ ap (drop 1) (c .before .before .before .before .before .before .before .before .before .before .signature-at .ensures))) ∙ not-false _ (c .before .if3 .left)) (c .byte .ensures ∙ ap (λ l. getD l 0 0) (c .before .before .before .before .before .before .before .before .before .before .signature-at .ensures))
+returns-3 : tie.Need-returns-3
+returns-3 c =
+    laws.call-fit _ _ _ _ (signed (tested (c .before .before)) .before .before .head-of .ensures)
+    (signed (tested (c .before .before)) .before .if1 .left) (signed (tested (c .before .before)) .signature-at .ensures)
+    (fault (tested (c .before .before))) (c .before .if2 .left) (c .byte .ensures)
 
 pub check-call-spec : {M : Type 1} → statement M
 check-call-spec =
     tie.close
     (tie.spec
     head-of-requires
-    unsorted-requires
     returns
-    are-closed-requires
-    unsorted-requires-2
-    returns-2
     signature-at-requires
     open-params-requires
-    fills-requires
-    unsorted-requires-3
+    part-requires
+    fault-in-requires
     same-length
-    returns-3
+    returns-2
     byte-requires
     same-length-2
-    returns-4)
+    returns-3)

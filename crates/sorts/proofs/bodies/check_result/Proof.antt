@@ -1,56 +1,54 @@
--- `check_result`: 9 before 11.
-use mathlib.Core.Path.{sym, ap, _∙_}
-use mathlib.Core.Bool.{false}
-use native.Mathlib.Omega.{arith}
-use lib.ListN.{length-set}
-use borrow.Author.Tests.{not-true, not-false}
-use Rattle.sorts.specs.TemplateBytes.{fillBytes}
-use Rattle.sorts.proofs.BodyLaws as laws
+-- `check_result`: one place, of the sort that the signature gives.
 use borrow.Author.Needs.{needs}
+use Prim.Native.Nat.{ℕ}
+use mathlib.Core.Path.{_≡_, ap, _∙_}
+use mathlib.Core.List.{[]}
+use lib.ListN.{length-set, set, take}
+use Rattle.sorts.specs.TemplateBytes.{templatesFault, places}
+use Rattle.sorts.proofs.BodyLaws as laws
+use native.Mathlib.Omega.{arith}
 use Rattle.sorts.proofs.bodies.check_result.Statement.{statement}
 use Rattle.sorts.proofs.bodies.check_result.Tie as tie
 
-are-closed-requires : tie.Need-are-closed-requires
-are-closed-requires c κs = search needs
+abbrev start : tie.After-byte → tie.Start
+start p = p .before .before .before .before .before .before
 
-refused-requires : tie.Need-refused-requires
-refused-requires c κs = search needs
+signature-at-requires : tie.Need-signature-at-requires
+signature-at-requires c κs = search needs
 
-returns : tie.Need-returns
-returns c = c .refused .ensures ∙ laws.result-open (c .before .before .before .before .before .before .args .outsides) (c .before .before .before .before .before .before .args .sorts .now) (c .before .before .before .before .before .before .args .asked) (c .before .before .before .before .before .before .args .at) (c .before .before .before .before .before .before .args .v .now) (sym (c .before .before .are-closed .ensures) ∙ not-true _ (c .before .if1 .taken))
+byte-requires : tie.Need-byte-requires
+byte-requires c κs = search needs
 
 slice-write-stack : tie.Need-slice-write-stack
-slice-write-stack c = omega (arith, c .before .before .before .before .before .pre)
+slice-write-stack c = omega (arith, start c .pre)
 
-fills-requires : tie.Need-fills-requires
-fills-requires c κs = omega (arith, c .before .before .before .before .before .before .pre, length-set (c .before .before .before .before .before .before .args .stack .now) 0 (c .before .before .before .before .before .before .args .asked))
+part-requires : tie.Need-part-requires
+part-requires c κs = search needs
 
-refused-requires-2 : tie.Need-refused-requires-2
-refused-requires-2 c κs = search needs
+fault-in-requires : tie.Need-fault-in-requires
+fault-in-requires c κs = simp length-set (omega (arith, start (c .before .before) .pre))
 
 same-length : tie.Need-same-length
-same-length c = c .before .before .before .before .fills .kept .1 .1 .0 ∙ length-set (c .before .before .before .before .before .before .before .before .before .before .before .args .stack .now) 0 (c .before .before .before .before .before .before .before .before .before .before .before .args .asked)
+same-length c = c .before .before .fault-in .kept .0 ∙ simp length-set
 
-returns-2 : tie.Need-returns-2
-returns-2 c = c .refused2 .ensures ∙ laws.result-unfit (c .before .before .before .before .before .before .before .before .before .before .before .args .outsides) (c .before .before .before .before .before .before .before .before .before .before .before .args .sorts .now) (c .before .before .before .before .before .before .before .before .before .before .before .args .asked) (c .before .before .before .before .before .before .before .before .before .before .before .args .at) (c .before .before .before .before .before .before .before .before .before .before .before .args .v .now) (sym (c .before .before .before .before .before .before .before .are-closed .ensures) ∙ not-false _ (c .before .before .before .before .before .before .if1 .left)) (sym (c .before .before .before .before .fills .ensures ∙ ap (fillBytes false (c .before .before .before .before .before .before .before .before .before .before .before .args .v .now) (c .before .before .before .before .before .before .before .before .before .before .before .args .sorts .now)) (laws.one-place (c .before .before .before .before .before .before .before .before .before .before .before .args .stack .now) (c .before .before .before .before .before .before .before .before .before .before .before .args .asked) (omega (arith, c .before .before .before .before .before .before .before .before .before .before .before .pre)))) ∙ not-true _ (c .before .if2 .taken))
-
-same-length-2 : tie.Need-same-length-2
-same-length-2 c = c .before .before .before .fills .kept .1 .1 .0 ∙ length-set (c .before .before .before .before .before .before .before .before .before .before .args .stack .now) 0 (c .before .before .before .before .before .before .before .before .before .before .args .asked)
-
-returns-3 : tie.Need-returns-3
-returns-3 c = laws.result-fit (c .before .before .before .before .before .before .before .before .before .before .args .outsides) (c .before .before .before .before .before .before .before .before .before .before .args .sorts .now) (c .before .before .before .before .before .before .before .before .before .before .args .asked) (c .before .before .before .before .before .before .before .before .before .before .args .at) (c .before .before .before .before .before .before .before .before .before .before .args .v .now) (sym (c .before .before .before .before .before .before .are-closed .ensures) ∙ not-false _ (c .before .before .before .before .before .if1 .left)) (sym (c .before .before .before .fills .ensures ∙ ap (fillBytes false (c .before .before .before .before .before .before .before .before .before .before .args .v .now) (c .before .before .before .before .before .before .before .before .before .before .args .sorts .now)) (laws.one-place (c .before .before .before .before .before .before .before .before .before .before .args .stack .now) (c .before .before .before .before .before .before .before .before .before .before .args .asked) (omega (arith, c .before .before .before .before .before .before .before .before .before .before .pre)))) ∙ not-false _ (c .if2 .left))
+returns : tie.Need-returns
+returns c =
+    let p = c .before .before .before .before .before in
+    let a = start p .args in
+    laws.result-is (a .table .now) (a .known) [] (a .sorts .now) (a .v .now) (a .stack .now) (p .before .signature-at .ensures) (p .byte .ensures)
+    (omega (arith, start p .pre))
+    (c .before .before .fault-in .ensures
+    ∙ ap (λ l. templatesFault (a .known .outsides) l (a .v .now) (places (set (a .stack .now) 0 (p .byte .result)) 1))
+    (c .before .before .before .before .part .ensures))
 
 pub check-result-spec : {M : Type 1} → statement M
 check-result-spec =
     tie.close
     (tie.spec
-    are-closed-requires
-    refused-requires
-    returns
+    signature-at-requires
+    byte-requires
     slice-write-stack
-    fills-requires
-    refused-requires-2
+    part-requires
+    fault-in-requires
     same-length
-    returns-2
-    same-length-2
-    returns-3)
+    returns)

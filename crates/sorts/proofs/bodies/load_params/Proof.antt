@@ -9,13 +9,13 @@ use Rattle.sorts.proofs.bodies.load_params.Statement.{statement}
 use Rattle.sorts.proofs.bodies.load_params.Tie as tie
 
 abbrev Inv-loop : tie.InvT-loop
-Inv-loop signature sorts₀ n₀ i₀ sorts n i = laws.Copying signature sorts₀ sorts n i
+Inv-loop sorts₀ signature n₀ i₀ sorts n i = laws.Copying signature sorts₀ sorts n i
 
 abbrev μ-loop : tie.MeasureT-loop
-μ-loop signature sorts₀ n₀ i₀ sorts n i = length signature - i
+μ-loop sorts₀ signature n₀ i₀ sorts n i = length signature - i
 
 loop-holds : tie.Need-loop-holds Inv-loop μ-loop
-loop-holds c = laws.copying-start _ _
+loop-holds c = laws.copying-start
 
 shared-slice-read-sorts : tie.Need-shared-slice-read-sorts Inv-loop μ-loop
 shared-slice-read-sorts c = search needs
@@ -30,13 +30,13 @@ loop-less : tie.Need-loop-less Inv-loop μ-loop
 loop-less c = search needs
 
 loop-again : tie.Need-loop-again Inv-loop μ-loop
-loop-again c = laws.copying-next _ _ (c .before .before .before .pre) (c .before .before .loop .inv) (c .before .loop-test .taken) refl
+loop-again c = laws.copying-next (c .before .before .before .pre) (c .before .before .loop .inv) (c .before .loop-test .taken) refl
 
 same-length : tie.Need-same-length Inv-loop μ-loop
 same-length c = c .before .loop .inv .as-many
 
 returns : tie.Need-returns Inv-loop μ-loop
-returns c = laws.copying-end _ _ (c .before .loop .inv) (c .loop-test .left)
+returns c = laws.copying-end (c .before .loop .inv) (c .loop-test .left)
 
 pub load-params-spec : {M : Type 1} → statement M
 load-params-spec =

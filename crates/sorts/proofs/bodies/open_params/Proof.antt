@@ -7,16 +7,16 @@ use Rattle.sorts.proofs.bodies.open_params.Statement.{statement}
 use Rattle.sorts.proofs.bodies.open_params.Tie as tie
 
 abbrev Inv-loop : tie.InvT-loop
-Inv-loop signature stack₀ top₀ j₀ stack top j = laws.Loading signature stack₀ stack top j
+Inv-loop stack₀ signature top₀ j₀ stack top j = laws.Loading signature stack₀ stack top j
 
 abbrev μ-loop : tie.MeasureT-loop
-μ-loop signature stack₀ top₀ j₀ stack top j = j
+μ-loop stack₀ signature top₀ j₀ stack top j = j
 
 returns : tie.Need-returns Inv-loop μ-loop
-returns c = laws.params-none (c .before .args .signature .now) (c .before .args .stack .now) (c .if1 .taken)
+returns c = laws.params-none (c .if1 .taken)
 
 loop-holds : tie.Need-loop-holds Inv-loop μ-loop
-loop-holds c = laws.loading-start _ _ (c .if1 .left)
+loop-holds c = laws.loading-start (c .if1 .left)
 
 sub-j : tie.Need-sub-j Inv-loop μ-loop
 sub-j c = search needs
@@ -34,13 +34,13 @@ loop-less : tie.Need-loop-less Inv-loop μ-loop
 loop-less c = search needs
 
 loop-again : tie.Need-loop-again Inv-loop μ-loop
-loop-again c = laws.loading-next _ _ (c .before .before .before .before .pre) (c .before .before .loop .inv) (c .before .loop-test .taken) refl
+loop-again c = laws.loading-next (c .before .before .before .before .pre) (c .before .before .loop .inv) (c .before .loop-test .taken) refl
 
 same-length : tie.Need-same-length Inv-loop μ-loop
 same-length c = c .before .loop .inv .as-many
 
 returns-2 : tie.Need-returns-2 Inv-loop μ-loop
-returns-2 c = laws.loading-end _ _ (c .before .loop .inv) (c .loop-test .left)
+returns-2 c = laws.loading-end (c .before .loop .inv) (c .loop-test .left)
 
 pub open-params-spec : {M : Type 1} → statement M
 open-params-spec =

@@ -1,21 +1,44 @@
 -- `collect`: the fields left give what all of them give.
 use borrow.Author.Needs.{needs}
-use Prim.Native.Nat.{_-_}
-use mathlib.Core.Path.{sym, _∙_}
-use native.Mathlib.Omega.{arith}
-use lib.ListN.{length}
+use Prim.Native.Nat.{ℕ, _+_, _-_, _≤_}
+use mathlib.Core.Path.{_≡_, sym, _∙_}
+use lib.ListN.{length, drop}
+use Rattle.grammar.specs.declared.Front.the-variants.{Field}
+use Rattle.grammar.specs.Lookup.{frontOf}
 use Rattle.sorts.proofs.CollectLaws as laws
+use native.Mathlib.Omega.{arith}
 use Rattle.sorts.proofs.heads.collect.Statement.{statement}
 use Rattle.sorts.proofs.heads.collect.Tie as tie
 
 abbrev Inv-loop : tie.InvT-loop
-Inv-loop table block from heads₀ at₀ heads at = laws.Collecting table block from heads₀ at heads
+Inv-loop heads₀ table block from at₀ heads at = laws.Collecting table block from heads₀ at heads
 
 abbrev μ-loop : tie.MeasureT-loop
-μ-loop table block from heads₀ at₀ heads at = length table - at
+μ-loop heads₀ table block from at₀ heads at = length table - at
+
+-- a whole field stands here
+module _ (p : tie.After-known-told Inv-loop μ-loop) where
+  abbrev turn : tie.At-loop Inv-loop μ-loop
+  turn = p .before .before .before .before
+
+  abbrev start : tie.Start Inv-loop μ-loop
+  start = turn .before .before .before
+
+  stands : Field (p .before .front .given .0 .0) (p .before .front .given .0 .1 .0) ≡ frontOf (drop (turn .loop .at) (start .args .table .now))
+  stands = sym (p .before .front .given .1) ∙ p .before .before .before .front-at .ensures
+
+  inside : turn .loop .at + (3 + p .before .front .given .0 .1 .0) ≤ length (start .args .table .now)
+  inside = laws.front-inside (start .args .table .now) (turn .loop .at) stands
+
+-- it is defined
+abbrev field : tie.After-define Inv-loop μ-loop → tie.After-known-told Inv-loop μ-loop
+field p = p .before .before .before
+
+abbrev defined : tie.After-slice-known2 Inv-loop μ-loop → tie.After-define Inv-loop μ-loop
+defined p = p .before .before
 
 loop-holds : tie.Need-loop-holds Inv-loop μ-loop
-loop-holds c = laws.collecting-start _ _ _ _
+loop-holds c = laws.collecting-start
 
 front-at-requires : tie.Need-front-at-requires Inv-loop μ-loop
 front-at-requires c κs = search needs
@@ -42,34 +65,39 @@ enum-known-front : tie.Need-enum-known-front Inv-loop μ-loop
 enum-known-front c = search needs
 
 add-to : tie.Need-add-to Inv-loop μ-loop
-add-to c = omega (arith, laws.front-inside (c .before .before .before .before .before .before .before .args .table .now) (c .before .before .before .before .loop .at) (sym (c .before .front .given .1) ∙ c .before .before .before .front-at .ensures))
+add-to c = omega (arith, inside c)
 
 add-to-2 : tie.Need-add-to-2 Inv-loop μ-loop
-add-to-2 c = omega (arith, laws.front-inside (c .before .before .before .before .before .before .before .args .table .now) (c .before .before .before .before .loop .at) (sym (c .before .front .given .1) ∙ c .before .before .before .front-at .ensures))
+add-to-2 c = omega (arith, inside c)
 
 same-length-3 : tie.Need-same-length-3 Inv-loop μ-loop
-same-length-3 c = c .before .before .before .before .before .loop .inv .as-many
+same-length-3 c = turn (c .before) .loop .inv .as-many
 
 returns-3 : tie.Need-returns-3 Inv-loop μ-loop
-returns-3 c = laws.collecting-ends (c .before .before .before .before .before .loop .inv) (sym (c .before .before .front .given .1) ∙ c .before .before .before .before .front-at .ensures) (c .if1 .taken)
+returns-3 c = laws.collecting-ends (turn (c .before) .loop .inv) (stands (c .before)) (c .if1 .taken)
 
 define-requires : tie.Need-define-requires Inv-loop μ-loop
-define-requires c κs = omega (arith, laws.front-inside (c .before .before .before .before .before .before .before .before .before .args .table .now) (c .before .before .before .before .before .before .loop .at) (sym (c .before .before .before .front .given .1) ∙ c .before .before .before .before .before .front-at .ensures), c .before .before .before .before .before .before .before .before .before .pre)
+define-requires c κs = omega (arith, inside (c .before .before), turn (c .before .before) .before .before .before .pre)
 
 refused-requires : tie.Need-refused-requires Inv-loop μ-loop
 refused-requires c κs = search needs
 
 same-length-4 : tie.Need-same-length-4 Inv-loop μ-loop
-same-length-4 c = c .before .before .before .before .define .kept .1 .1 .1 .1 .0 ∙ c .before .before .before .before .before .before .before .before .before .before .before .loop .inv .as-many
+same-length-4 c = defined (c .before .before) .define .kept .0 ∙ turn (field (defined (c .before .before))) .loop .inv .as-many
 
 returns-4 : tie.Need-returns-4 Inv-loop μ-loop
-returns-4 c = laws.collecting-fault (c .before .before .before .before .before .before .before .before .before .before .before .loop .inv) (sym (c .before .before .before .before .before .before .before .before .front .given .1) ∙ c .before .before .before .before .before .before .before .before .before .before .front-at .ensures) (c .before .before .before .before .before .before .if1 .left) (c .before .before .before .before .define .ensures .0) (c .before .before .before .before .define .ensures .1) (c .refused .ensures) (c .before .if2 .taken)
+returns-4 c =
+    laws.collecting-fault (turn (field (defined (c .before .before))) .loop .inv) (stands (field (defined (c .before .before))))
+    (defined (c .before .before) .before .before .if1 .left) (defined (c .before .before) .define .ensures) (c .refused .ensures)
+    (c .before .if2 .taken)
 
 loop-less : tie.Need-loop-less Inv-loop μ-loop
-loop-less c = omega (arith, laws.front-inside (c .before .before .before .before .before .before .before .before .before .before .before .before .before .args .table .now) (c .before .before .before .before .before .before .before .before .before .before .loop .at) (sym (c .before .before .before .before .before .before .before .front .given .1) ∙ c .before .before .before .before .before .before .before .before .before .front-at .ensures))
+loop-less c = omega (arith, inside (field (defined (c .before))))
 
 loop-again : tie.Need-loop-again Inv-loop μ-loop
-loop-again c = laws.collecting-next (c .before .before .before .before .before .before .before .before .before .before .loop .inv) (sym (c .before .before .before .before .before .before .before .front .given .1) ∙ c .before .before .before .before .before .before .before .before .before .front-at .ensures) (c .before .before .before .before .before .if1 .left) (c .before .before .before .define .ensures .0) (c .before .before .before .define .ensures .1) (c .before .before .before .define .kept .1 .1 .1 .1 .0) (c .if2 .left)
+loop-again c =
+    laws.collecting-next (turn (field (defined (c .before))) .loop .inv) (stands (field (defined (c .before))))
+    (defined (c .before) .before .before .if1 .left) (defined (c .before) .define .ensures) (defined (c .before) .define .kept .0) (c .if2 .left)
 
 pub collect-spec : {M : Type 1} → statement M
 collect-spec =

@@ -1,12 +1,16 @@
 -- `define`: a head goes among the others unless it is refused.
-use mathlib.Core.Path.{sym, _∙_}
-use Rattle.sorts.proofs.HeadLaws as laws
 use borrow.Author.Needs.{needs}
+use mathlib.Core.Path.{_∙_}
+use Rattle.sorts.proofs.HeadLaws as laws
 use Rattle.sorts.proofs.heads.define.Statement.{statement}
 use Rattle.sorts.proofs.heads.define.Tie as tie
 
+-- the head is not refused
+abbrev clean : tie.After-wide → tie.Else2
+clean p = p .before .before
+
 returns : tie.Need-returns
-returns c = laws.head-none (c .before .before .before .args .table .now) (c .before .before .before .args .heads .now) (c .before .before .before .args .at) (c .before .before .before .args .tag) (c .before .before .before .args .block) (c .if1 .taken)
+returns c = laws.head-none _ _ _ _ _ (c .if1 .taken)
 
 fault-of-requires : tie.Need-fault-of-requires
 fault-of-requires c κs = search needs
@@ -15,7 +19,7 @@ same-length : tie.Need-same-length
 same-length c = search needs
 
 returns-2 : tie.Need-returns-2
-returns-2 c = (laws.head-fault (c .before .before .before .before .before .before .args .table .now) (c .before .before .before .before .before .before .args .heads .now) (c .before .before .before .before .before .before .args .at) (c .before .before .before .before .before .before .args .tag) (c .before .before .before .before .before .before .args .block) (c .before .before .before .if1 .left) (c .before .fault-of .ensures), laws.head-refused (c .before .before .before .before .before .before .args .table .now) (c .before .before .before .before .before .before .args .heads .now) (c .before .before .before .before .before .before .args .at) (c .before .before .before .before .before .before .args .tag) (c .before .before .before .if1 .left) (c .if2 .taken))
+returns-2 c = laws.head-refused _ _ _ _ _ (c .before .before .before .if1 .left) (c .before .fault-of .ensures) (c .if2 .taken)
 
 add-byte : tie.Need-add-byte
 add-byte c = search needs
@@ -39,13 +43,17 @@ same-length-2 : tie.Need-same-length-2
 same-length-2 c = search needs
 
 returns-3 : tie.Need-returns-3
-returns-3 c = (laws.head-fault (c .before .before .before .before .before .before .before .before .before .args .table .now) (c .before .before .before .before .before .before .before .before .before .args .heads .now) (c .before .before .before .before .before .before .before .before .before .args .at) (c .before .before .before .before .before .before .before .before .before .args .tag) (c .before .before .before .before .before .before .before .before .before .args .block) (c .before .before .before .before .before .before .if1 .left) (sym (c .before .before .before .if2 .left) ∙ c .before .before .before .before .fault-of .ensures), laws.head-put (c .before .before .before .before .before .before .before .before .before .args .table .now) (c .before .before .before .before .before .before .before .before .before .args .heads .now) (c .before .before .before .before .before .before .before .before .before .args .at) (c .before .before .before .before .before .before .before .before .before .args .tag) (c .before .before .before .before .before .before .if1 .left) (c .before .wide .ensures ∙ c .before .before .byte .ensures))
+returns-3 c =
+    laws.head-put _ _ _ _ _ (clean (c .before) .before .before .before .if1 .left) (clean (c .before) .before .fault-of .ensures)
+    (clean (c .before) .if2 .left) (c .before .wide .ensures ∙ c .before .before .byte .ensures)
 
 same-length-3 : tie.Need-same-length-3
 same-length-3 c = search needs
 
 returns-4 : tie.Need-returns-4
-returns-4 c = (laws.head-fault (c .before .before .before .before .before .before .before .before .before .args .table .now) (c .before .before .before .before .before .before .before .before .before .args .heads .now) (c .before .before .before .before .before .before .before .before .before .args .at) (c .before .before .before .before .before .before .before .before .before .args .tag) (c .before .before .before .before .before .before .before .before .before .args .block) (c .before .before .before .before .before .before .if1 .left) (sym (c .before .before .before .if2 .left) ∙ c .before .before .before .before .fault-of .ensures), laws.head-left (c .before .before .before .before .before .before .before .before .before .args .table .now) (c .before .before .before .before .before .before .before .before .before .args .heads .now) (c .before .before .before .before .before .before .before .before .before .args .at) (c .before .before .before .before .before .before .before .before .before .args .tag) (c .before .before .before .before .before .before .if1 .left) (c .before .wide .ensures ∙ c .before .before .byte .ensures) (c .if3 .left))
+returns-4 c =
+    laws.head-left _ _ _ _ _ (clean (c .before) .before .before .before .if1 .left) (clean (c .before) .before .fault-of .ensures)
+    (clean (c .before) .if2 .left) (c .before .wide .ensures ∙ c .before .before .byte .ensures) (c .if3 .left)
 
 pub define-spec : {M : Type 1} → statement M
 define-spec =

@@ -1,10 +1,14 @@
 -- `fault_of`: by the mode, one test for each.
+use borrow.Author.Needs.{needs}
 use mathlib.Core.Bool.{true, false}
 use borrow.Author.Tests.{eq-eqb, ne-eqb}
 use Rattle.sorts.proofs.HeadLaws as laws
-use borrow.Author.Needs.{needs}
 use Rattle.sorts.proofs.heads.fault_of.Statement.{statement}
 use Rattle.sorts.proofs.heads.fault_of.Tie as tie
+
+-- the earlier head, where both signatures are compared
+abbrev earlier : tie.After-equal → tie.After-head-of
+earlier p = p .before .before .before .before
 
 add-byte : tie.Need-add-byte
 add-byte c = search needs
@@ -22,7 +26,7 @@ head-of-requires : tie.Need-head-of-requires
 head-of-requires c κs = search needs
 
 signature-at-requires : tie.Need-signature-at-requires
-signature-at-requires c κs = c .before .head-of .ensures .1
+signature-at-requires c κs = search needs
 
 signature-at-requires-2 : tie.Need-signature-at-requires-2
 signature-at-requires-2 c κs = search needs
@@ -31,16 +35,26 @@ equal-requires : tie.Need-equal-requires
 equal-requires c κs = search needs
 
 returns : tie.Need-returns
-returns c = laws.fault-earlier (c .before .before .before .before .before .before .before .before .before .before .args .table .now) (c .before .before .before .before .before .before .before .before .before .before .args .heads .now) (c .before .before .before .before .before .before .before .before .before .before .args .at) (c .before .before .before .before .before .before .before .before .before .before .args .block) (c .before .before .before .before .before .before .before .byte .ensures) (c .before .before .before .before .before .before .byte2 .ensures) (c .before .before .before .before .before .head-of .ensures .0) (c .before .before .before .before .if1 .taken) (c .before .before .before .signature-at .ensures) (c .before .before .signature-at2 .ensures) (c .before .equal .ensures) true (c .if2 .taken)
+returns c =
+    laws.fault-earlier _ _ _ _ (earlier (c .before) .before .before .byte .ensures) (earlier (c .before) .before .byte2 .ensures)
+    (earlier (c .before) .head-of .ensures) (c .before .before .before .before .if1 .taken) (c .before .before .before .signature-at .ensures)
+    (c .before .before .signature-at2 .ensures) (c .before .equal .ensures) true (c .if2 .taken)
 
 returns-2 : tie.Need-returns-2
-returns-2 c = laws.fault-earlier (c .before .before .before .before .before .before .before .before .before .before .args .table .now) (c .before .before .before .before .before .before .before .before .before .before .args .heads .now) (c .before .before .before .before .before .before .before .before .before .before .args .at) (c .before .before .before .before .before .before .before .before .before .before .args .block) (c .before .before .before .before .before .before .before .byte .ensures) (c .before .before .before .before .before .before .byte2 .ensures) (c .before .before .before .before .before .head-of .ensures .0) (c .before .before .before .before .if1 .taken) (c .before .before .before .signature-at .ensures) (c .before .before .signature-at2 .ensures) (c .before .equal .ensures) false (c .if2 .left)
+returns-2 c =
+    laws.fault-earlier _ _ _ _ (earlier (c .before) .before .before .byte .ensures) (earlier (c .before) .before .byte2 .ensures)
+    (earlier (c .before) .head-of .ensures) (c .before .before .before .before .if1 .taken) (c .before .before .before .signature-at .ensures)
+    (c .before .before .signature-at2 .ensures) (c .before .equal .ensures) false (c .if2 .left)
 
 returns-3 : tie.Need-returns-3
-returns-3 c = laws.fault-new (c .before .before .before .before .before .before .before .args .table .now) (c .before .before .before .before .before .before .before .args .heads .now) (c .before .before .before .before .before .before .before .args .at) (c .before .before .before .before .before .before .before .args .block) (c .before .before .before .before .byte .ensures) (c .before .before .before .byte2 .ensures) (c .before .before .head-of .ensures .0) (c .before .if1 .left) true (eq-eqb _ 0 (c .if3 .taken))
+returns-3 c =
+    laws.fault-new _ _ _ _ (c .before .before .before .before .byte .ensures) (c .before .before .before .byte2 .ensures)
+    (c .before .before .head-of .ensures) (c .before .if1 .left) true (eq-eqb _ 0 (c .if3 .taken))
 
 returns-4 : tie.Need-returns-4
-returns-4 c = laws.fault-new (c .before .before .before .before .before .before .before .args .table .now) (c .before .before .before .before .before .before .before .args .heads .now) (c .before .before .before .before .before .before .before .args .at) (c .before .before .before .before .before .before .before .args .block) (c .before .before .before .before .byte .ensures) (c .before .before .before .byte2 .ensures) (c .before .before .head-of .ensures .0) (c .before .if1 .left) false (ne-eqb _ 0 (c .if3 .left))
+returns-4 c =
+    laws.fault-new _ _ _ _ (c .before .before .before .before .byte .ensures) (c .before .before .before .byte2 .ensures)
+    (c .before .before .head-of .ensures) (c .before .if1 .left) false (ne-eqb _ 0 (c .if3 .left))
 
 pub fault-of-spec : {M : Type 1} → statement M
 fault-of-spec =

@@ -1,7 +1,6 @@
 -- `head_of`: what stands at the place, or past the end.
-use mathlib.Core.Path.{sym, ap}
+use mathlib.Core.Path.{refl, sym}
 use native.Mathlib.Omega.{arith}
-use lib.ListN.{getD}
 use Rattle.grammar.proofs.ReaderLaws.{getD-past}
 use borrow.Author.Needs.{needs}
 use Rattle.sorts.proofs.heads.head_of.Statement.{statement}
@@ -20,10 +19,10 @@ cast-result : tie.Need-cast-result
 cast-result c = omega (arith, c .shared-slice-known2 .given (c .before .before .wide .result))
 
 returns : tie.Need-returns
-returns c = (ap (λ i. getD (c .before .before .before .before .args .heads .now) i 0) (c .before .before .wide .ensures), omega (arith, c .shared-slice-known2 .given (c .before .before .wide .result)))
+returns c = rw (c .before .before .wide .ensures) refl
 
 returns-2 : tie.Need-returns-2
-returns-2 c = (sym (getD-past (c .before .before .before .args .heads .now) _ 0 (omega (arith, c .before .wide .ensures, c .if1 .left))), omega arith)
+returns-2 c = sym (getD-past (c .before .before .before .args .heads .now) _ 0 (omega (arith, c .before .wide .ensures, c .if1 .left)))
 
 pub head-of-spec : {M : Type 1} → statement M
 head-of-spec =

@@ -1,9 +1,28 @@
 -- `signature_at`: two bytes after the head's first two, up to the length that it states.
-use mathlib.Core.Path.{_∙_}
-use Rattle.sorts.proofs.HeadLaws as laws
 use borrow.Author.Needs.{needs}
+use mathlib.Core.Path.{_≡_, _∙_}
+use Prim.Native.Nat.{ℕ, _+_}
+use lib.ListN.{getD}
+use Rattle.sorts.proofs.HeadLaws as laws
 use Rattle.sorts.proofs.heads.signature_at.Statement.{statement}
 use Rattle.sorts.proofs.heads.signature_at.Tie as tie
+
+-- the two bytes of the length
+module _ (p : tie.After-wide2) where
+  abbrev start : tie.After-shared-slice-known
+  start = p .before .before .before .before .before
+
+  high : p .before .before .wide .result ≡ getD (start .before .args .table .now) (start .before .args .at + 1) 0
+  high = p .before .before .wide .ensures ∙ p .before .before .before .byte .ensures
+
+  low : p .wide2 .result ≡ getD (start .before .args .table .now) (start .before .args .at + 2) 0
+  low = p .wide2 .ensures ∙ p .before .byte2 .ensures
+
+part-requires : tie.Need-part-requires
+part-requires c κs = search needs
+
+returns : tie.Need-returns
+returns c = c .part .ensures ∙ laws.signature-past _ _ (c .before .if1 .taken)
 
 add-byte : tie.Need-add-byte
 add-byte c = search needs
@@ -32,34 +51,36 @@ add-size c = search needs
 add-part : tie.Need-add-part
 add-part c = search needs
 
-part-requires : tie.Need-part-requires
-part-requires c κs = search needs
-
-returns : tie.Need-returns
-returns c = c .part .ensures ∙ laws.signature-none (c .before .before .before .before .before .before .before .args .table .now) (c .before .before .before .before .before .before .before .args .at) (c .before .before .before .before .wide .ensures ∙ c .before .before .before .before .before .byte .ensures) (c .before .before .wide2 .ensures ∙ c .before .before .before .byte2 .ensures) (c .before .if1 .taken)
-
-add-part-2 : tie.Need-add-part-2
-add-part-2 c = search needs
-
 part-requires-2 : tie.Need-part-requires-2
 part-requires-2 c κs = search needs
 
 returns-2 : tie.Need-returns-2
-returns-2 c = c .part2 .ensures ∙ laws.signature-some (c .before .before .before .before .before .before .before .before .args .table .now) (c .before .before .before .before .before .before .before .before .args .at) (c .before .before .before .before .before .wide .ensures ∙ c .before .before .before .before .before .before .byte .ensures) (c .before .before .before .wide2 .ensures ∙ c .before .before .before .before .byte2 .ensures) (c .before .if2 .taken)
+returns-2 c = c .part2 .ensures ∙ laws.signature-none _ _ (high (c .before .before)) (low (c .before .before)) (c .before .if2 .taken)
 
-add-part-3 : tie.Need-add-part-3
-add-part-3 c = search needs
+add-part-2 : tie.Need-add-part-2
+add-part-2 c = search needs
 
 part-requires-3 : tie.Need-part-requires-3
 part-requires-3 c κs = search needs
 
 returns-3 : tie.Need-returns-3
-returns-3 c = c .part3 .ensures ∙ laws.signature-most (c .before .before .before .before .before .before .before .before .args .table .now) (c .before .before .before .before .before .before .before .before .args .at) (c .before .before .before .before .before .wide .ensures ∙ c .before .before .before .before .before .before .byte .ensures) (c .before .before .before .wide2 .ensures ∙ c .before .before .before .before .byte2 .ensures) (c .before .if2 .left)
+returns-3 c = c .part3 .ensures ∙ laws.signature-some _ _ (high (c .before .before .before)) (low (c .before .before .before)) (c .before .if3 .taken)
+
+add-part-3 : tie.Need-add-part-3
+add-part-3 c = search needs
+
+part-requires-4 : tie.Need-part-requires-4
+part-requires-4 c κs = search needs
+
+returns-4 : tie.Need-returns-4
+returns-4 c = c .part4 .ensures ∙ laws.signature-most _ _ (high (c .before .before .before)) (low (c .before .before .before)) (c .before .if3 .left)
 
 pub signature-at-spec : {M : Type 1} → statement M
 signature-at-spec =
     tie.close
     (tie.spec
+    part-requires
+    returns
     add-byte
     byte-requires
     wide-requires
@@ -69,11 +90,11 @@ signature-at-spec =
     wide-requires-2
     add-size
     add-part
-    part-requires
-    returns
-    add-part-2
     part-requires-2
     returns-2
-    add-part-3
+    add-part-2
     part-requires-3
-    returns-3)
+    returns-3
+    add-part-3
+    part-requires-4
+    returns-4)

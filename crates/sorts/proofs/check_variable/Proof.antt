@@ -1,0 +1,67 @@
+-- `check_variable`: the item's refusal, or its sort behind the others.
+use borrow.Author.Needs.{needs}
+use mathlib.Core.Path.{refl}
+use Rattle.sorts.proofs.StepLaws as laws
+use Rattle.sorts.proofs.check_variable.Statement.{statement}
+use Rattle.sorts.proofs.check_variable.Tie as tie
+
+abbrev start : tie.After-check-item-arg2 → tie.Start
+start p = let q = p .before .before .before in q .before .before .before .before
+
+-- the item is checked, and its sort added
+abbrev given : tie.After-slice-known3 → tie.After-check-item
+given p = p .before .before
+
+abbrev added : tie.After-slice-known4 → tie.After-known-told2
+added c = c .before .before .before .before
+
+check-item-requires : tie.Need-check-item-requires
+check-item-requires c κs = start c .pre .places
+
+enum-known-item : tie.Need-enum-known-item
+enum-known-item c = search needs
+
+refused-requires : tie.Need-refused-requires
+refused-requires c κs = search needs
+
+enum-known-item-2 : tie.Need-enum-known-item-2
+enum-known-item-2 c = search needs
+
+add-sort-requires : tie.Need-add-sort-requires
+add-sort-requires c κs = start (given (c .before .before .before .before) .before) .pre .variables
+
+same-length : tie.Need-same-length
+same-length c = refl
+
+same-length-2 : tie.Need-same-length-2
+same-length-2 c = given (c .before .before .before .before) .check-item .kept .0
+
+returns : tie.Need-returns
+returns c = laws.item-refused (given (c .before .before .before .before) .check-item .ensures) (c .before .before .item .given .1) (c .refused .ensures)
+
+same-length-3 : tie.Need-same-length-3
+same-length-3 c = c .before .before .add-sort .kept .0
+
+same-length-4 : tie.Need-same-length-4
+same-length-4 c = given (added c .before .before .before) .check-item .kept .0
+
+returns-2 : tie.Need-returns-2
+returns-2 c =
+    laws.item-added (given (added c .before .before .before) .check-item .ensures) (added c .before .item2 .given .1)
+    (c .before .before .add-sort .ensures)
+
+pub check-variable-spec : {M : Type 1} → statement M
+check-variable-spec =
+    tie.close
+    (tie.spec
+    check-item-requires
+    enum-known-item
+    refused-requires
+    enum-known-item-2
+    add-sort-requires
+    same-length
+    same-length-2
+    returns
+    same-length-3
+    same-length-4
+    returns-2)

@@ -1,0 +1,21 @@
+-- `step_of`: by the verdict.
+use borrow.Author.Needs.{needs}
+use mathlib.Core.Path.{sym, ap}
+use Rattle.sorts.specs.ByBytes.{stepOf}
+use Rattle.sorts.proofs.step_of.Statement.{statement}
+use Rattle.sorts.proofs.step_of.Tie as tie
+
+enum-told : tie.Need-enum-told
+enum-told c = search needs
+
+enum-known-v : tie.Need-enum-known-v
+enum-known-v c = search needs
+
+returns : tie.Need-returns
+returns c = sym (ap (stepOf (c .before .before .args .known)) (c .enum-told .given .1))
+
+returns-2 : tie.Need-returns-2
+returns-2 c = sym (ap (stepOf (c .before .before .before .args .known)) (c .before .v .given .1))
+
+pub step-of-spec : {M : Type 1} → statement M
+step-of-spec = tie.close (tie.spec enum-told enum-known-v returns returns-2)

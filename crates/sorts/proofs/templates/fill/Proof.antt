@@ -1,0 +1,71 @@
+-- `fill`: a name's number, no place, no fit, or the places of the template.
+use borrow.Author.Needs.{needs}
+use mathlib.Core.Path.{sym, _∙_}
+use borrow.Author.Tests.{not-true, not-false}
+use Rattle.sorts.proofs.TemplateLoops as laws
+use native.Mathlib.Omega.{arith}
+use Rattle.sorts.proofs.templates.fill.Statement.{statement}
+use Rattle.sorts.proofs.templates.fill.Tie as tie
+
+-- a place is open; the template does not fit it, or fits and its places are opened
+abbrev start : tie.Else2 → tie.Start
+start c = c .before .before .before .before
+
+abbrev unfit : tie.Then3 → tie.Else2
+unfit c = c .before .before .before .before
+
+abbrev free : tie.Else3 → tie.Else2
+free c = c .before .before .before .before
+
+abbrev fitted : tie.After-slice-known3 → tie.Else3
+fitted c = c .before .before .before .before
+
+returns : tie.Need-returns
+returns c = laws.fill-number (c .if1 .taken)
+
+returns-2 : tie.Need-returns-2
+returns-2 c = laws.fill-none (c .before .if1 .left) (c .if2 .taken)
+
+slice-read-t11 : tie.Need-slice-read-t11
+slice-read-t11 c = search needs
+
+head-sort-requires : tie.Need-head-sort-requires
+head-sort-requires c κs = search needs
+
+fits-requires : tie.Need-fits-requires
+fits-requires c κs = search needs
+
+returns-3 : tie.Need-returns-3
+returns-3 c =
+    laws.fill-unfit (unfit c .before .if1 .left) (unfit c .if2 .left) (c .before .before .head-sort .ensures)
+    (sym (c .before .fits2 .ensures) ∙ not-true _ (c .if3 .taken))
+
+open-places-requires : tie.Need-open-places-requires
+open-places-requires c κs = omega (arith, start (free (c .before)) .pre)
+
+add-result : tie.Need-add-result
+add-result c =
+    omega (arith, c .before .before .open-places .ensures .height, laws.params-small (start (free (fitted c)) .args .b), start (free (fitted c)) .pre)
+
+same-length : tie.Need-same-length
+same-length c = c .before .before .open-places .kept .0
+
+returns-4 : tie.Need-returns-4
+returns-4 c =
+    laws.fill-fits (free (fitted c) .before .if1 .left) (free (fitted c) .if2 .left) (fitted c .before .before .head-sort .ensures)
+    (sym (fitted c .before .fits2 .ensures) ∙ not-false _ (fitted c .if3 .left)) (c .before .before .open-places .ensures)
+
+pub fill-spec : {M : Type 1} → statement M
+fill-spec =
+    tie.close
+    (tie.spec
+    returns
+    returns-2
+    slice-read-t11
+    head-sort-requires
+    fits-requires
+    returns-3
+    open-places-requires
+    add-result
+    same-length
+    returns-4)
