@@ -16,7 +16,7 @@ use Rattle.terms.specs.Rows.{nameOf, Constructor, mkTermVar, mkTermFun, mkTermA
 use Rattle.terms.specs.Rename.{newName, written}
 use Rattle.terms.specs.Print.{print, textSize, textSizeFields}
 use Rattle.terms.specs.Labelled.{nameShown, labelled, labelledFields}
-use Rattle.printer.specs.Shown.{spellIn, termText}
+use Rattle.printer.specs.Shown.{spellIn, term, partText, Fits}
 use Rattle.printer.specs.Pool.{ShortSpellings}
 use Rattle.rows.specs.Sizes.{noSpell, sizeAt}
 use Rattle.rows.proofs.RowLaws.{as-word, as-fresh, as-outside}
@@ -83,13 +83,17 @@ unfolding spellIn
 spelling-short pool h m = omega (arith, h m, length-take (getD pool (m * 32) 0) (drop (m * 32 + 1) pool))
 
 -- the text of a term that is not too large is not too long
-pub text-bound : (pool cells numbers : List ℕ) (made root : ℕ) → ShortSpellings pool → sizeAt cells made root ≤ 16384
-    → ((i : ℕ) → getD cells i 0 < 4294967296) → ((i : ℕ) → getD numbers i 0 < 65536) → length (termText pool cells numbers made root 0) < 2 ^ 62
-unfolding termText
-text-bound pool cells numbers made root h l wide few =
-    omega (
-      arith,
-      size-spell made noSpell (spellIn pool) cells root,
-      text-length (labelled numbers 0 (termAt made (spellIn pool) cells root)),
-      short-text (spellIn pool) cells numbers (spelling-short pool h) few wide made root 0,
-    )
+pub text-fits : {pool cells numbers : List ℕ} {made root : ℕ} → ShortSpellings pool → sizeAt cells made root ≤ 16384
+    → ((i : ℕ) → getD cells i 0 < 4294967296) → ((i : ℕ) → getD numbers i 0 < 65536) → Fits pool cells numbers (term made root) 0 0
+unfolding partText
+text-fits {pool} {cells} {numbers} {made} {root} h l wide few =
+    record {
+      room =
+          omega (
+            arith,
+            size-spell made noSpell (spellIn pool) cells root,
+            text-length (labelled numbers 0 (termAt made (spellIn pool) cells root)),
+            short-text (spellIn pool) cells numbers (spelling-short pool h) few wide made root 0,
+          );
+      inside = omega arith;
+    }

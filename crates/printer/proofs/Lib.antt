@@ -1,4 +1,6 @@
 pub mod WriteLaws
+pub mod Pieces
+pub mod Texts
 pub mod PrintLaws
 pub mod PoolLaws
 pub mod BoundLaws

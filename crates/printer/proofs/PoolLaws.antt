@@ -18,10 +18,10 @@ use Rattle.grammar.specs.Lookup.{frontOf, fieldsAt}
 use Rattle.grammar.proofs.LookupLaws.{opened, fields-at, Stops, outsides-at, few-outsides, front-inside}
 use Rattle.grammar.proofs.ReaderLaws.{getD-past}
 use Rattle.printer.specs.Shown.{spellIn, Wrote}
-use Rattle.terms.specs.Rows.{spellOf}
+use Rattle.terms.specs.Rows.{spell}
 use Rattle.printer.specs.Pool.{spanned, Pooled, noneOf, oneOf, Words, filledTo}
 use Rattle.rows.proofs.ListLaws.{zeros}
-use Rattle.printer.proofs.PrintLaws.{then}
+use Rattle.printer.proofs.Pieces.{then}
 
 -- ------------------------------------------------------------------ one more spelling
 
@@ -267,14 +267,14 @@ module _ (outs : List (List ℕ)) (formula room : List ℕ) where
       (same-but i) ep
 
   -- with all words stored, it is the spelling of a number by the lists of names and words
-  pub filled-end : {count : ℕ} (list : List (List ℕ)) → Words formula room count list → (m : ℕ) → filledTo outs formula room count m ≡ spellOf outs list m
-  unfolding spellOf
+  pub filled-end : {count : ℕ} (list : List (List ℕ)) → Words formula room count list → (m : ℕ) → filledTo outs formula room count m ≡ spell outs list m
+  unfolding spell
   filled-end {count} list w m =
       by-test (ltb m 64)
-      (λ e. near count m (ltb-true m 64 e) ∙ sym (rw (e, spellOf) refl))
+      (λ e. near count m (ltb-true m 64 e) ∙ sym (rw (e, spell) refl))
       (λ e.
       let far : 64 ≤ m = omega (arith, ltb-false m 64 e) in
-      let there : spellOf outs list m ≡ getD list (m - 64) [] = rw (e, spellOf) refl in
+      let there : spell outs list m ≡ getD list (m - 64) [] = rw (e, spell) refl in
       by-test (ltb (m - 64) count)
       (λ t. stored-word count m far (ltb-true (m - 64) count t) ∙ sym (w .each (m - 64) (ltb-true (m - 64) count t)) ∙ sym there)
       (λ t.

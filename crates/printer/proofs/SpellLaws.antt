@@ -13,7 +13,7 @@ use Rattle.grammar.specs.Fields.{lexiconOf}
 use Rattle.grammar.proofs.ReaderLaws.{getD-past}
 use Rattle.terms.specs.Rows.{termAt}
 use Rattle.terms.specs.Names.{Distinct, WellNamed}
-use Rattle.terms.specs.Rows.{spellOf}
+use Rattle.terms.specs.Rows.{spell}
 use Rattle.printer.specs.Pool.{oneOf, spanned, Words, filledTo}
 use Rattle.printer.specs.Pool.{spelledBy}
 use Rattle.printer.proofs.PoolLaws.{filled-end}
@@ -45,16 +45,16 @@ inside l i w =
 
 module _ (outs words : List (List ℕ)) (once-outs : Once outs) (once-words : Once words)
     (other : (i j : ℕ) → i < length outs → j < length words → getD outs i [] ≡ getD words j [] → ⊥) where
-  near : (n : ℕ) → n < 64 → spellOf outs words n ≡ getD outs n []
-  unfolding spellOf
-  near n h = rw (lt-ltb n 64 h, spellOf) refl
+  near : (n : ℕ) → n < 64 → spell outs words n ≡ getD outs n []
+  unfolding spell
+  near n h = rw (lt-ltb n 64 h, spell) refl
 
-  far : (n : ℕ) → 64 ≤ n → spellOf outs words n ≡ getD words (n - 64) []
-  unfolding spellOf
-  far n h = rw (le-ltb n 64 h, spellOf) refl
+  far : (n : ℕ) → 64 ≤ n → spell outs words n ≡ getD words (n - 64) []
+  unfolding spell
+  far n h = rw (le-ltb n 64 h, spell) refl
 
   abbrev S : ℕ → List ℕ
-  S = spellOf outs words
+  S = spell outs words
 
   one : (m n : ℕ) → m < 64 → n < 64 → isWord (S m) ≡ true → S m ≡ S n → m ≡ n
   one m n a b w e =
@@ -76,7 +76,7 @@ module _ (outs words : List (List ℕ)) (once-outs : Once outs) (once-words : On
       omega arith
 
   -- Words have one number each, if no list has a spelling twice and the two share none.
-  pub apart-lists : Distinct (spellOf outs words)
+  pub apart-lists : Distinct (spell outs words)
   apart-lists m n w e =
       by-test (ltb m 64)
       (λ p.
@@ -89,5 +89,5 @@ module _ (outs words : List (List ℕ)) (once-outs : Once outs) (once-words : On
 
 -- The spellings that `finish` reads are those of the lists.
 pub spelled-lists : (table formula room : List ℕ) {count : ℕ} (list : List (List ℕ)) → Words formula room count list
-    → spelledBy table formula room count ≡ spellOf (lexiconOf table .outsides) list
+    → spelledBy table formula room count ≡ spell (lexiconOf table .outsides) list
 spelled-lists table formula room list w = λ i m. filled-end (lexiconOf table .outsides) formula room list w m i

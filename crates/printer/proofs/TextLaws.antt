@@ -10,7 +10,7 @@ use Rattle.spellings.specs.BuffersLaws.{written-fits, written-not}
 use Rattle.terms.specs.Rows.{termAt}
 use Rattle.terms.specs.Print.{print}
 use Rattle.terms.specs.Labelled.{labelled}
-use Rattle.printer.specs.Shown.{spellIn, termText, textBy, Wrote, Prints}
+use Rattle.printer.specs.Shown.{spellIn, term, partText, textBy, Wrote, Prints}
 use Rattle.printer.specs.Pool.{Pooled}
 
 -- a text that is too long
@@ -29,8 +29,8 @@ prints-whole {out} {text} e l w =
 
 -- the text by what the room spells
 pub prints-spelled : (cells numbers : List ℕ) (made root : ℕ) {pool text text′ : List ℕ} {S : ℕ → List ℕ} {r : ℕ}
-    → Pooled pool S → Prints (termText pool cells numbers made root 0) text text′ r → Prints (textBy S cells numbers made root) text text′ r
-unfolding termText textBy
+    → Pooled pool S → Prints (partText pool cells numbers (term made root) 0) text text′ r → Prints (textBy S cells numbers made root) text text′ r
+unfolding partText textBy
 prints-spelled cells numbers made root {pool} {S = S} h p =
     let spelled : spellIn pool ≡ S = λ i m. h .spelled m i in
     rw spelled at p

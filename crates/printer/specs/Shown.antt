@@ -1,5 +1,5 @@
 -- The text of a term by the numbers of new names at its places, as the printing walk has it. Nobody needs this to believe `expand`.
-use Prim.Native.Nat.{ℕ, _+_, _*_, _≤_}
+use Prim.Native.Nat.{ℕ, _+_, _*_, _^_, _<_, _≤_}
 use mathlib.Core.Path.{_≡_}
 use mathlib.Core.List.{List, [], _∷_, _++_}
 use lib.ListN.{length, getD, take, drop}
@@ -7,8 +7,9 @@ use lib.Seq.{sets}
 use Rattle.spellings.specs.Bytes.{bytes, decimal}
 use Rattle.spellings.specs.Buffers.{written}
 use Rattle.terms.specs.Term.{Term, Fields, variable, function, apply, rcd, dot, number, nil, cons}
-use Rattle.terms.specs.Labelled.{labelled, labelledFields}
-use Rattle.terms.specs.Rows.{termAt, fieldsAt}
+use Rattle.rows.specs.Sizes.{sizeAt, sizeFieldsAt}
+use Rattle.terms.specs.Labelled.{nameShown, labelled, labelledFields}
+use Rattle.terms.specs.Rows.{nameOf, termAt, fieldsAt}
 use Rattle.terms.specs.Print.{print, showThen, treeOfFields}
 
 -- what the text of a term begins with, up to its first part or, if it has none, to the last parenthesis
@@ -21,8 +22,8 @@ opening (rcd f) = bytes "mkTermRcd("
 opening (dot t l) = bytes "mkTermDot("
 opening (number n) = bytes "mkTermNum(" ++ decimal n
 
--- the same of a field list
-unfoldable pub openingFields : Fields (List ℕ) → List ℕ
+-- the same of a field list, which holds no names
+unfoldable pub openingFields : {N : Type 0} → Fields N → List ℕ
 unfolding bytes
 openingFields nil = bytes "mkFieldNil("
 openingFields (cons l t f) = bytes "mkFieldCons(" ++ l ++ 0x20 ∷ []
@@ -31,18 +32,25 @@ openingFields (cons l t f) = bytes "mkFieldCons(" ++ l ++ 0x20 ∷ []
 unfoldable pub spellIn : List ℕ → ℕ → List ℕ
 spellIn pool n = take (getD pool (n * 32) 0) (drop (n * 32 + 1) pool)
 
--- the texts of the term and the field list at a row
-unfoldable pub termText : List ℕ → List ℕ → List ℕ → ℕ → ℕ → ℕ → List ℕ
-termText pool cells numbers k row p = print (labelled numbers p (termAt k (spellIn pool) cells row))
-
-unfoldable pub fieldsText : List ℕ → List ℕ → List ℕ → ℕ → ℕ → ℕ → List ℕ
-fieldsText pool cells numbers k row p = showThen (treeOfFields (labelledFields numbers p (fieldsAt k (spellIn pool) cells row))) []
-
 unfoldable pub termOpening : List ℕ → List ℕ → List ℕ → ℕ → ℕ → ℕ → List ℕ
 termOpening pool cells numbers k row p = opening (labelled numbers p (termAt k (spellIn pool) cells row))
 
-unfoldable pub fieldsOpening : List ℕ → List ℕ → List ℕ → ℕ → ℕ → ℕ → List ℕ
-fieldsOpening pool cells numbers k row p = openingFields (labelledFields numbers p (fieldsAt k (spellIn pool) cells row))
+unfoldable pub fieldsOpening : List ℕ → List ℕ → ℕ → ℕ → List ℕ
+fieldsOpening pool cells k row = openingFields (fieldsAt k (spellIn pool) cells row)
+
+-- what is printed of a row, by a bound of the depth: its term or its field list
+pub data Part : Type 0 where
+  term : ℕ → ℕ → Part
+  fields : ℕ → ℕ → Part
+
+-- the text of a part, whose place is p
+unfoldable pub partText : List ℕ → List ℕ → List ℕ → Part → ℕ → List ℕ
+partText pool cells numbers (term k row) p = print (labelled numbers p (termAt k (spellIn pool) cells row))
+partText pool cells numbers (fields k row) p = showThen (treeOfFields (labelledFields numbers p (fieldsAt k (spellIn pool) cells row))) []
+
+abbrev pub partSize : List ℕ → Part → ℕ
+partSize cells (term k row) = sizeAt cells k row
+partSize cells (fields k row) = sizeFieldsAt cells k row
 
 -- Bytes were to be written behind `at` bytes of a buffer: the answer is the place behind them, whether they fit or not; where they
 -- fit, they stand there and nothing else has changed.
@@ -50,6 +58,27 @@ pub record Wrote (out : List ℕ) (at : ℕ) (text : List ℕ) (r : ℕ) (out′
   pub end : r ≡ at + length text
   pub same : length out′ ≡ length out
   pub put : at + length text ≤ length out → out′ ≡ sets out at text
+
+-- a name, by the number of its new name, is not too long behind `at` bytes; the same of what a term or a field list begins with
+pub record NameFits (pool : List ℕ) (x shown at : ℕ) : Type 0 where
+  pub room : at + length (nameShown shown (nameOf (spellIn pool) x)) < 2 ^ 62
+
+pub record OpeningFits (pool cells numbers : List ℕ) (k row at place : ℕ) : Type 0 where
+  pub room : at + length (termOpening pool cells numbers k row place) < 2 ^ 62
+  pub inside : place < 16384
+
+pub record FieldsOpeningFits (pool cells : List ℕ) (k row at : ℕ) : Type 0 where
+  pub room : at + length (fieldsOpening pool cells k row) < 2 ^ 62
+
+-- a part is neither too long, behind `at` bytes, nor too large, from a place on
+pub record Fits (pool cells numbers : List ℕ) (x : Part) (at place : ℕ) : Type 0 where
+  pub room : at + length (partText pool cells numbers x place) < 2 ^ 62
+  pub inside : place + partSize cells x ≤ 16384
+
+-- a part was to be written behind `at` bytes, and the places of its constructors are passed
+pub record Printed (pool cells numbers : List ℕ) (x : Part) (at place : ℕ) (out : List ℕ) (r place′ : ℕ) (out′ : List ℕ) : Type 0 where
+  pub wrote : Wrote out at (partText pool cells numbers x place) r out′
+  pub moved : place′ ≡ place + partSize cells x
 
 -- ------------------------------------------------------------------ a whole text
 

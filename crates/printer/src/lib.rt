@@ -5,7 +5,7 @@ ghost use Prim.Native.Nat.{ℕ, _≤_, _<_};
 ghost use mathlib.Core.Path.{_≡_};
 ghost use lib.ListN.{length, getD};
 ghost use Rattle.rows.specs.Sizes.{sizeAt};
-ghost use Rattle.printer.specs.Shown.{termText, textBy, Prints};
+ghost use Rattle.printer.specs.Shown.{term, partText, textBy, Prints};
 ghost use Rattle.printer.specs.Pool.{ShortSpellings, spelledBy, Printable};
 
 pub mod pool;
@@ -42,7 +42,7 @@ fn print_into(
     text: &mut [u8],
 ) -> usize
     requires { ⌜ ShortSpellings (now pool) × (sizeAt (now cells) made root ≤ 16384) ⌝ }
-    ensures { λ r. ⌜ Prints (termText (now (pool .entry)) (now (cells .entry)) (now (shown .entry)) made root 0) (now (text .entry)) (now (text .exit)) r ⌝ }
+    ensures { λ r. ⌜ Prints (partText (now (pool .entry)) (now (cells .entry)) (now (shown .entry)) (term made root) 0) (now (text .entry)) (now (text .exit)) r ⌝ }
 {
     wide_numbers(cells);
     narrow_numbers(shown);

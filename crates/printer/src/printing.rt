@@ -4,14 +4,12 @@ use crate::writing::byte_at;
 use crate::writing::copy_at;
 use crate::writing::decimal_at;
 use rows::column;
-ghost use Prim.Native.Nat.{ℕ, _+_, _^_, _<_, _≤_};
+ghost use Prim.Native.Nat.{_+_, _^_, _<_};
 ghost use mathlib.Core.Path.{_≡_};
-ghost use mathlib.Core.List.{List, []};
 ghost use lib.ListN.{length, getD};
-ghost use Rattle.terms.specs.Term.{size, sizeFields};
-ghost use Rattle.terms.specs.Rows.{nameOf, termAt, fieldsAt};
+ghost use Rattle.terms.specs.Rows.{nameOf};
 ghost use Rattle.terms.specs.Labelled.{nameShown};
-ghost use Rattle.printer.specs.Shown.{spellIn, termText, fieldsText, termOpening, fieldsOpening, Wrote};
+ghost use Rattle.printer.specs.Shown.{spellIn, termOpening, fieldsOpening, term, fields, Wrote, NameFits, OpeningFits, FieldsOpeningFits, Fits, Printed};
 
 fn wide(x: u16) -> u32
     ensures { λ r. ⌜ r ≡ x ⌝ }
@@ -21,7 +19,7 @@ fn wide(x: u16) -> u32
 
 // A name, by its value and the number of its new name.
 fn name_at(out: &mut [u8], at: usize, pool: &&[u8], x: u32, shown: u16) -> usize
-    requires { ⌜ at + length (nameShown shown (nameOf (spellIn (now (now pool))) x)) < 2 ^ 62 ⌝ }
+    requires { ⌜ NameFits (now (now pool)) x shown at ⌝ }
     ensures { λ r. ⌜ Wrote (now (out .entry)) at (nameShown shown (nameOf (spellIn (now (now (pool .entry)))) x)) r (now (out .exit)) ⌝ }
 {
     if 0 < shown {
@@ -52,8 +50,7 @@ fn open_term(
     row: u32,
     place: usize,
 ) -> usize
-    requires { ⌜ place < 16384 ⌝ }
-    requires { ⌜ at + length (termOpening (now (now pool)) (now (now cells)) (now shown) bound row place) < 2 ^ 62 ⌝ }
+    requires { ⌜ OpeningFits (now (now pool)) (now (now cells)) (now shown) bound row at place ⌝ }
     ensures { λ r. ⌜ Wrote (now (out .entry)) at (termOpening (now (now (pool .entry))) (now (now (cells .entry))) (now (shown .entry)) bound row place) r (now (out .exit)) ⌝ }
 {
     if bound == 0 {
@@ -100,8 +97,8 @@ fn open_fields(
     bound: usize,
     row: u32,
 ) -> usize
-    requires { ⌜ at + length (fieldsOpening (now (now pool)) (now (now cells)) [] bound row 0) < 2 ^ 62 ⌝ }
-    ensures { λ r. ⌜ ((numbers : List ℕ) (p : ℕ) → Wrote (now (out .entry)) at (fieldsOpening (now (now (pool .entry))) (now (now (cells .entry))) numbers bound row p) r (now (out .exit))) ⌝ }
+    requires { ⌜ FieldsOpeningFits (now (now pool)) (now (now cells)) bound row at ⌝ }
+    ensures { λ r. ⌜ Wrote (now (out .entry)) at (fieldsOpening (now (now (pool .entry))) (now (now (cells .entry))) bound row) r (now (out .exit)) ⌝ }
 {
     if bound == 0 {
         return copy_at(out, at, b"mkFieldNil(");
@@ -126,10 +123,8 @@ pub fn print_term(
     row: u32,
     place: &mut usize,
 ) -> usize
-    requires { ⌜ at + length (termText (now (now pool)) (now (now cells)) (now shown) bound row (now place)) < 2 ^ 62 ⌝ }
-    requires { ⌜ now place + size (termAt bound (spellIn (now (now pool))) (now (now cells)) row) ≤ 16384 ⌝ }
-    ensures { λ r. ⌜ Wrote (now (out .entry)) at (termText (now (now (pool .entry))) (now (now (cells .entry))) (now (shown .entry)) bound row (now (place .entry))) r (now (out .exit)) ⌝ }
-    ensures { λ r. ⌜ now (place .exit) ≡ now (place .entry) + size (termAt bound (spellIn (now (now (pool .entry)))) (now (now (cells .entry))) row) ⌝ }
+    requires { ⌜ Fits (now (now pool)) (now (now cells)) (now shown) (term bound row) at (now place) ⌝ }
+    ensures { λ r. ⌜ Printed (now (now (pool .entry))) (now (now (cells .entry))) (now (shown .entry)) (term bound row) at (now (place .entry)) (now (out .entry)) r (now (place .exit)) (now (out .exit)) ⌝ }
 {
     let here = *place;
     let first = open_term(out, at, pool, cells, shown, bound, row, here);
@@ -219,10 +214,8 @@ fn print_fields(
     row: u32,
     place: &mut usize,
 ) -> usize
-    requires { ⌜ at + length (fieldsText (now (now pool)) (now (now cells)) (now shown) bound row (now place)) < 2 ^ 62 ⌝ }
-    requires { ⌜ now place + sizeFields (fieldsAt bound (spellIn (now (now pool))) (now (now cells)) row) ≤ 16384 ⌝ }
-    ensures { λ r. ⌜ Wrote (now (out .entry)) at (fieldsText (now (now (pool .entry))) (now (now (cells .entry))) (now (shown .entry)) bound row (now (place .entry))) r (now (out .exit)) ⌝ }
-    ensures { λ r. ⌜ now (place .exit) ≡ now (place .entry) + sizeFields (fieldsAt bound (spellIn (now (now (pool .entry)))) (now (now (cells .entry))) row) ⌝ }
+    requires { ⌜ Fits (now (now pool)) (now (now cells)) (now shown) (fields bound row) at (now place) ⌝ }
+    ensures { λ r. ⌜ Printed (now (now (pool .entry))) (now (now (cells .entry))) (now (shown .entry)) (fields bound row) at (now (place .entry)) (now (out .entry)) r (now (place .exit)) (now (out .exit)) ⌝ }
 {
     let here = *place;
     let first = open_fields(out, at, pool, cells, bound, row);

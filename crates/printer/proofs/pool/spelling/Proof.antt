@@ -27,7 +27,7 @@ part-requires : tie.Need-part-requires
 part-requires c κs = search needs
 
 returns : tie.Need-returns
-returns c = spelled (c .before .before .before .before .args .pool .now) (c .before .before .before .before .args .n) (c .before .wide .ensures ∙ c .before .before .byte .ensures) (c .part .ensures)
+returns c = spelled _ _ (c .before .wide .ensures ∙ c .before .before .byte .ensures) (c .part .ensures)
 
 pub spelling-spec : {M : Type 1} → statement M
 spelling-spec =

@@ -27,7 +27,12 @@ same-length : tie.Need-same-length
 same-length c = search needs
 
 returns : tie.Need-returns
-returns c = laws.stored-both (c .before .before .before .before .before .before .before .narrow .ensures) (c .before .before .before .before .before .before .byte-at .ensures) (c .before .before .copy-at .ensures) (omega (arith, c .before .before .before .before .before .before .before .before .before .before .before .pre .0 .0, c .before .before .before .before .before .before .before .before .before .before .before .pre .0 .1))
+returns c =
+    let back = c .before .before .before .before .before .before in
+    let at-narrow = back .before in
+    let entry = at-narrow .before .before .before .before in
+    laws.stored-both (at-narrow .narrow .ensures) (c .before .before .before .before .before .before .byte-at .ensures)
+    (c .before .before .copy-at .ensures) (omega (arith, entry .pre .0 .0, entry .pre .0 .1))
 
 pub store-spec : {M : Type 1} → statement M
 store-spec =

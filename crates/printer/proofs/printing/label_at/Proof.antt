@@ -1,22 +1,19 @@
 -- `label_at`: its spelling.
 use mathlib.Core.Path.{ap}
 use native.Mathlib.Omega.{arith}
+use borrow.Author.Needs.{needs}
 use lib.ListN.{length}
-use borrow.Author.Needs.{needs}
-use Rattle.printer.proofs.PrintLaws.{as-text}
-use borrow.Author.Needs.{needs}
+use Rattle.printer.proofs.Pieces.{as-text}
 use Rattle.printer.proofs.printing.label_at.Statement.{statement}
 use Rattle.printer.proofs.printing.label_at.Tie as tie
-use Rattle.printer.proofs.printing.label_at.Reads as reads
-use Rattle.printer.proofs.printing.label_at.Lts as lts
-use Rattle.printer.proofs.writing.copy_at.Reads as copy-at-reads
-use Rattle.printer.proofs.pool.spelling.Reads as spelling-reads
 
 spelling-requires : tie.Need-spelling-requires
 spelling-requires c κs = search needs
 
 copy-at-requires : tie.Need-copy-at-requires
-copy-at-requires c κs = omega (arith, ap length (c .spelling .ensures), c .before .before .before .before .pre)
+copy-at-requires c κs =
+    let entry = c .before .before .before .before in
+    omega (arith, ap length (c .spelling .ensures), entry .pre)
 
 same-length : tie.Need-same-length
 same-length c = search needs

@@ -26,7 +26,10 @@ same-length : tie.Need-same-length
 same-length c = search needs
 
 returns : tie.Need-returns
-returns c = lent (c .before .before .before .before .before .before .before .args .out .now) (c .before .before .before .before .before .before .before .args .s .now) (c .before .before .before .before .before .before .before .args .at) (c .before .before .before .before .within .result) (c .before .before .before .before .within .ensures) (c .before .before .copy-into .ensures .0) (c .before .before .copy-into .ensures .1)
+returns c =
+    let at-within = c .before .before .before .before in
+    lent _ _ _ (at-within .within .result) (at-within .within .ensures) (c .before .before .copy-into .ensures .0)
+    (c .before .before .copy-into .ensures .1)
 
 pub copy-at-spec : {M : Type 1} → statement M
 copy-at-spec =

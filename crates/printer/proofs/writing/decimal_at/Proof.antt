@@ -27,7 +27,10 @@ same-length : tie.Need-same-length
 same-length c = search needs
 
 returns : tie.Need-returns
-returns c = lent (c .before .before .before .before .before .before .args .out .now) (decimal (c .before .before .before .before .before .before .args .n)) (c .before .before .before .before .before .before .args .at) (c .before .before .before .before .within .result) (c .before .before .before .before .within .ensures) (c .before .before .write-decimal .ensures .0) (c .before .before .write-decimal .ensures .1)
+returns c =
+    let at-within = c .before .before .before .before in
+    lent _ (decimal _) _ (at-within .within .result) (at-within .within .ensures) (c .before .before .write-decimal .ensures .0)
+    (c .before .before .write-decimal .ensures .1)
 
 pub decimal-at-spec : {M : Type 1} → statement M
 decimal-at-spec =
