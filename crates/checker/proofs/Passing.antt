@@ -55,13 +55,13 @@ module _ (bs : List ℕ) where
           table = a .0;
           encoded = e .0;
           within = e .1;
-          meets = record { sorted = sorts-exactly (a .0) .0 (a .2); not-left-recursive = f .0; without-clash = f .1 };
+          meets = record { sorted = sorts-exactly (a .0) (e .1) .0 (a .2); not-left-recursive = f .0; without-clash = f .1 };
         }
 
     passed : Passes bs → check bs ≡ Passed
     passed p =
         accepts (p .table) (decode-exactly bs bytes (p .table) .1 (p .encoded, p .within))
-        (sorts-exactly (p .table) .1 (p .meets .sorted))
+        (sorts-exactly (p .table) (p .within) .1 (p .meets .sorted))
         (passes-exactly (grammarOf (p .table)) .1 (p .meets .not-left-recursive, p .meets .without-clash))
 
     pub check-exactly : (check bs ≡ Passed) ↔ Passes bs

@@ -3,6 +3,4 @@ pub mod Expansion
 pub mod Figure3
 pub mod ValueSorts
 pub mod Costs
-pub mod Stopping
-pub mod Places
 pub mod Parsing

@@ -10,6 +10,7 @@ use Rattle.answers.specs.Checked.{Checked, ok, _>>_, need}
 use Rattle.grammar.specs.Sorts.{Signature, unit, fits}
 use Rattle.grammar.specs.Table.{Template, Item, keyword, ide, number, local, call, Alternative, Definition}
 use Rattle.grammar.specs.Encode.{headValue}
+use Rattle.layout.specs.Within.{Each, each-none, each-more, TemplateWithin, ItemWithin, ide-within, call-within, AlternativeWithin, DefinitionWithin}
 use Rattle.sorts.specs.Sizes.{fieldSize, itemsSize, definitionSize}
 use Rattle.sorts.specs.CheckSorts.{Scope, isDefined, signatureOf, isClosed, areClosed, sortOf, isSorted, fill, checkItem, checkItems, checkResult, checkAlternative, checkAlternatives, checkBodies}
 use Rattle.sorts.specs.Judgements.{ItemSorted, by-keyword, by-ide, by-number, by-local, by-call, Body, by-result, by-binding, Bodies, no-alternative, by-choice, Ok, ok-empty, ok-definition}
@@ -22,28 +23,28 @@ module _ (G : Scope) where
 
   -- a passed item has a sort by the rules, and that sort is the check's value
   pub item-rule :
-      (L : List ℕ) (at : ℕ) (i : Item) (P : ℕ → Type 0) → Accepts (checkItem G L at i) P
+      (L : List ℕ) (at : ℕ) (i : Item) (P : ℕ → Type 0) → ItemWithin i → Accepts (checkItem G L at i) P
       → (B : ℕ) × ItemSorted G L i B × P B
-  item-rule L at (keyword k) P h =
+  item-rule L at (keyword k) P w h =
       let n = need-passed (ltb k (G .keywords)) 9 at _ (then-passed P (need (ltb k (G .keywords)) 9 at) (ok unit) h) in
       (unit, by-keyword (ltb-true k (G .keywords) (n .0)), n .1)
-  item-rule L at (ide s) P h = (s, by-ide, h)
-  item-rule L at number P h = (_, by-number, h)
-  item-rule L at local P h = (_, by-local, h)
-  item-rule L at (call n ts) P h =
+  item-rule L at (ide s) P (ide-within l u) h = (s, by-ide l u, h)
+  item-rule L at number P w h = (_, by-number, h)
+  item-rule L at local P w h = (_, by-local, h)
+  item-rule L at (call n ts) P (call-within l ws) h =
       let S : Signature = signatureOf (G .env) n in
       let closed : Bool = isDefined (G .env) n && areClosed ts G (length L) in
       let tests : Checked (Unit {0}) = need closed 9 at >> need (fill ts L (S .params)) 11 at in
       let q = needs-passed closed (fill ts L (S .params)) 9 11 at (λ u. P (S .result)) (then-passed P tests (ok (S .result)) h) in
       let d = both (isDefined (G .env) n) (areClosed ts G (length L)) (q .0) in
-      (S .result, by-call (defined-newest (G .env) n (d .0)) (fill-rule G L ts (S .params) (d .1) (q .1)), q .2)
+      (S .result, by-call (defined-newest (G .env) n (d .0)) (fill-rule G L ts (S .params) ws (d .1) (q .1)), q .2)
 
   pub rule-item :
       {L : List ℕ} (at : ℕ) {i : Item} {B : ℕ} (P : ℕ → Type 0) → ItemSorted G L i B → P B → Accepts (checkItem G L at i) P
   rule-item at P (by-keyword {k = k} h) p =
       then-passes P (need (ltb k (G .keywords)) 9 at) (ok unit)
       (need-passes (ltb k (G .keywords)) 9 at _ (lt-ltb k (G .keywords) h) p)
-  rule-item at P by-ide p = p
+  rule-item at P (by-ide l u) p = p
   rule-item at P by-number p = p
   rule-item at P by-local p = p
   rule-item {L} at P (by-call {n = n} {S = S} {ts = ts} d h) p =
@@ -62,16 +63,16 @@ module _ (G : Scope) where
 
     -- items and result together
     pub body-rule :
-        (is : List Item) (L : List ℕ) (B at from : ℕ) (t : Template) → Accepts (checkItems G L at is) (Rest B from t)
+        (is : List Item) (L : List ℕ) (B at from : ℕ) (t : Template) → Each ItemWithin is → TemplateWithin t → Accepts (checkItems G L at is) (Rest B from t)
         → Body G L is t B × P tt
     unfolding checkItems
-    body-rule [] L B at from t h =
+    body-rule [] L B at from t each-none w h =
         let n = needs-passed (isClosed t G (length L)) (isSorted t L && fits (sortOf t L) B) 9 11 from P h in
         let s = both (isSorted t L) (fits (sortOf t L) B) (n .1) in
-        (by-result (sorted-rule G L t (n .0) (s .0)) (fits-rule (sortOf t L) B (s .1)), n .2)
-    body-rule (i ∷ is) L B at from t h =
-        let r = item-rule L at i _ (bind-passed (Rest B from t) (checkItem G L at i) _ h) in
-        let q = body-rule is (L ++ (r .0 ∷ [])) B _ from t (r .2) in
+        (by-result (sorted-rule G L t w (n .0) (s .0)) (fits-rule (sortOf t L) B (s .1)), n .2)
+    body-rule (i ∷ is) L B at from t (each-more z zs) w h =
+        let r = item-rule L at i _ z (bind-passed (Rest B from t) (checkItem G L at i) _ h) in
+        let q = body-rule is (L ++ (r .0 ∷ [])) B _ from t zs w (r .2) in
         (by-binding (r .1) (q .0), q .1)
 
     pub rule-body :
@@ -86,11 +87,11 @@ module _ (G : Scope) where
         bind-passes (Rest B from t) (checkItem G L at i) _ (rule-item at _ s (rule-body _ from b p))
 
     pub alternative-rule :
-        (S : Signature) (at : ℕ) (a : Alternative) → Accepts (checkAlternative G S at a) P
+        (S : Signature) (at : ℕ) (a : Alternative) → AlternativeWithin a → Accepts (checkAlternative G S at a) P
         → Body G (S .params) (a .items) (a .result) (S .result) × P tt
     unfolding checkAlternative
-    alternative-rule S at a h =
-        body-rule (a .items) (S .params) (S .result) (at + 3) (at + 3 + itemsSize (a .items)) (a .result)
+    alternative-rule S at a w h =
+        body-rule (a .items) (S .params) (S .result) (at + 3) (at + 3 + itemsSize (a .items)) (a .result) (w .items) (w .result)
         (bind-passed P (checkItems G (S .params) (at + 3) (a .items)) _ h)
 
     pub rule-alternative :
@@ -103,13 +104,13 @@ module _ (G : Scope) where
   -- ------------------------------------------------------------------ alternatives and definitions
 
   pub bodies-rule :
-      (P : Unit {0} → Type 0) (S : Signature) (at : ℕ) (choices : List Alternative) → Accepts (checkAlternatives G S at choices) P
+      (P : Unit {0} → Type 0) (S : Signature) (at : ℕ) (choices : List Alternative) → Each AlternativeWithin choices → Accepts (checkAlternatives G S at choices) P
       → Bodies G S choices × P tt
   unfolding checkAlternatives
-  bodies-rule P S at [] h = (no-alternative, h)
-  bodies-rule P S at (a ∷ rest) h =
-      let r = alternative-rule _ S at a (then-passed P (checkAlternative G S at a) _ h) in
-      let q = bodies-rule P S _ rest (r .1) in
+  bodies-rule P S at [] each-none h = (no-alternative, h)
+  bodies-rule P S at (a ∷ rest) (each-more w ws) h =
+      let r = alternative-rule _ S at a w (then-passed P (checkAlternative G S at a) _ h) in
+      let q = bodies-rule P S _ rest ws (r .1) in
       (by-choice (r .0) (q .0), q .1)
 
   pub rule-bodies :
@@ -121,14 +122,14 @@ module _ (G : Scope) where
       then-passes P (checkAlternative G S at a) _ (rule-alternative _ S at a b (rule-bodies P _ bs p))
 
   pub ok-rule :
-      (P : Unit {0} → Type 0) (at : ℕ) (ds : List Definition) → Accepts (checkBodies G at ds) P → Ok G ds × P tt
+      (P : Unit {0} → Type 0) (at : ℕ) (ds : List Definition) → Each DefinitionWithin ds → Accepts (checkBodies G at ds) P → Ok G ds × P tt
   unfolding checkBodies
-  ok-rule P at [] h = (ok-empty, h)
-  ok-rule P at (d ∷ ds) h =
+  ok-rule P at [] each-none h = (ok-empty, h)
+  ok-rule P at (d ∷ ds) (each-more w ws) h =
       let from : ℕ = at + fieldSize (headValue d) in
       let bodies : Checked (Unit {0}) = checkAlternatives G (d .signature) from (d .alternatives) in
-      let r = bodies-rule _ (d .signature) from (d .alternatives) (then-passed P bodies (checkBodies G (at + definitionSize d) ds) h) in
-      let q = ok-rule P (at + definitionSize d) ds (r .1) in
+      let r = bodies-rule _ (d .signature) from (d .alternatives) (w .alternatives) (then-passed P bodies (checkBodies G (at + definitionSize d) ds) h) in
+      let q = ok-rule P (at + definitionSize d) ds ws (r .1) in
       (ok-definition (r .0) (q .0), q .1)
 
   pub rule-ok : (P : Unit {0} → Type 0) (at : ℕ) {ds : List Definition} → Ok G ds → P tt → Accepts (checkBodies G at ds) P

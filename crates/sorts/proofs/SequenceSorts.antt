@@ -10,6 +10,7 @@ use borrow.Author.Tests.{eqb-true, eq-eqb, not-true}
 use Rattle.answers.specs.Checked.{Checked}
 use Rattle.grammar.specs.Sorts.{Signature, term}
 use Rattle.grammar.specs.Table.{Mode, add, extend, update, Definition, Table}
+use Rattle.layout.specs.Within.{Each, each-none, each-more, DefinitionWithin, Within}
 use Rattle.sorts.specs.Sizes.{definitionSize, definitionsSize}
 use Rattle.sorts.specs.CheckSorts.{Env, Scope, entryOf, isDefined, signatureOf, sameSignature, isAsBefore, isNew, consistent, collect, checkBodies, checkBlocks, checkRoot, checkSorts}
 use Rattle.sorts.specs.Judgements.{Newest, Absent, Defines, no-definition, by-add, by-extend, by-update, scope, Sequence, no-grammar, by-grammar, WellSorted}
@@ -110,16 +111,16 @@ module _ (E : Env) where
 
 module _ (K N : ℕ) (P : Env → Type 0) where
   pub sequence-rule :
-      (E : Env) (at : ℕ) (gs : List (List Definition)) → Accepts (checkBlocks K N E at gs) P
+      (E : Env) (at : ℕ) (gs : List (List Definition)) → Each (Each DefinitionWithin) gs → Accepts (checkBlocks K N E at gs) P
       → (E′ : Env) × Sequence K N E gs E′ × P E′
   unfolding checkBlocks
-  sequence-rule E at [] h = (E, no-grammar, h)
-  sequence-rule E at (g ∷ gs) h =
+  sequence-rule E at [] each-none h = (E, no-grammar, h)
+  sequence-rule E at (g ∷ gs) (each-more w ws) h =
       let c = collect-rule E _ [] (at + 3) g (bind-passed P (collect E [] (at + 3) g) _ h) in
       let G : Scope = scope K N (c .0 ++ E) in
       let rest : Checked Env = checkBlocks K N (c .0 ++ E) (at + 3 + definitionsSize g) gs in
-      let o = ok-rule G (λ u. Accepts rest P) (at + 3) g (then-passed P (checkBodies G (at + 3) g) rest (c .2)) in
-      let s = sequence-rule (c .0 ++ E) (at + 3 + definitionsSize g) gs (o .1) in
+      let o = ok-rule G (λ u. Accepts rest P) (at + 3) g w (then-passed P (checkBodies G (at + 3) g) rest (c .2)) in
+      let s = sequence-rule (c .0 ++ E) (at + 3 + definitionsSize g) gs ws (o .1) in
       (s .0, by-grammar (c .1) (o .0) (s .1), s .2)
 
   pub rule-sequence :
@@ -171,10 +172,10 @@ rule-root E at n r =
 
 -- ------------------------------------------------------------------ the whole table
 
-pub table-rule : (t : Table) → Accepts (checkSorts t) (λ u. Unit {0}) → WellSorted t
+pub table-rule : (t : Table) → Within t → Accepts (checkSorts t) (λ u. Unit {0}) → WellSorted t
 unfolding checkSorts
-table-rule t h =
-    let s = sequence-rule (length (t .keywords)) (length (t .outsides)) _ [] _ (t .blocks) (bind-passed (λ u. Unit {0}) (checkBlocks _ _ [] _ (t .blocks)) _ h) in
+table-rule t w h =
+    let s = sequence-rule (length (t .keywords)) (length (t .outsides)) _ [] _ (t .blocks) (w .blocks) (bind-passed (λ u. Unit {0}) (checkBlocks _ _ [] _ (t .blocks)) _ h) in
     let r = root-rule (s .0) _ (t .root) (s .2) in
     record {
       env = s .0;

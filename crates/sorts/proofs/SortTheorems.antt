@@ -6,6 +6,7 @@ use mathlib.Core.List.{List}
 use Rattle.answers.specs.declared.Refusal.{Refusal}
 use Rattle.answers.specs.Checked.{ok, bad, verdict}
 use Rattle.grammar.specs.Table.{Table}
+use Rattle.layout.specs.Within.{Within}
 use Rattle.layout.specs.Decode.{decode}
 use Rattle.layout.proofs.Split.{Bytes}
 use Rattle.layout.proofs.Inverse.{decoded-layout, decoded-encoding}
@@ -19,10 +20,10 @@ use Rattle.sorts.proofs.BytesByFields.{bytes-sorts}
 use Rattle.sorts.proofs.ByFieldsSorts.{fields-sorts}
 use Rattle.sorts.proofs.RefusalNumbers.{IsSortRefusal, table-sort}
 
--- A table passes the sort check exactly if the judgements derive its sequence of grammars and its root is defined, without
+-- A table within the counts and ranges passes the sort check exactly if the judgements derive its sequence of grammars and its root is defined, without
 -- parameters, of sort Term.
-pub sorts-exactly : (t : Table) → (checkSorts t ≡ ok tt) ↔ WellSorted t
-sorts-exactly t = (λ e. table-rule t (passed (checkSorts t) e), λ w. passes (checkSorts t) (rule-table t w))
+pub sorts-exactly : (t : Table) → Within t → (checkSorts t ≡ ok tt) ↔ WellSorted t
+sorts-exactly t w = (λ e. table-rule t w (passed (checkSorts t) e), λ s. passes (checkSorts t) (rule-table t s))
 
 -- A table that does not pass is refused with 7, 8, 9 or 11; of the values, only the place can differ from 0.
 pub sort-refusals : (t : Table) (r : Refusal) → checkSorts t ≡ bad r → IsSortRefusal r

@@ -9,6 +9,7 @@ use lib.ListN.{length, getD}
 use borrow.Author.Tests.{eqb-true, eq-eqb, ltb-true, lt-ltb}
 use Rattle.grammar.specs.Sorts.{unit, var, binder, fits, constructor}
 use Rattle.grammar.specs.Table.{Template, Templates, variable, outside, outsideLabel, make, none, more}
+use Rattle.layout.specs.Within.{TemplateWithin, make-within, TemplatesWithin, more-within}
 use Rattle.sorts.specs.CheckSorts.{Scope, isClosed, areClosed, sortOf, isSorted, fill}
 use Rattle.sorts.specs.Judgements.{Has, has-first, has-later, Fits, fits-equal, fits-binder, Sorted, by-variable, by-global, by-label, by-constructor, Fill, fill-none, fill-more}
 
@@ -63,22 +64,22 @@ module _ (G : Scope) (L : List ℕ) where
     unfolding isClosed areClosed isSorted fill
 
     pub sorted-rule :
-        (t : Template) → isClosed t G (length L) ≡ true → isSorted t L ≡ true → Sorted (G .outsides) L t (sortOf t L)
-    sorted-rule (variable i) c s = by-variable (has-at L i (ltb-true i (length L) c))
-    sorted-rule (outside x) c s = by-global (ltb-true x (G .outsides) c)
-    sorted-rule (outsideLabel x) c s = by-label (ltb-true x (G .outsides) c)
-    sorted-rule (make k ts) c s = by-constructor (fill-rule ts (constructor k .params) c s)
+        (t : Template) → TemplateWithin t → isClosed t G (length L) ≡ true → isSorted t L ≡ true → Sorted (G .outsides) L t (sortOf t L)
+    sorted-rule (variable i) w c s = by-variable (has-at L i (ltb-true i (length L) c))
+    sorted-rule (outside x) w c s = by-global (ltb-true x (G .outsides) c)
+    sorted-rule (outsideLabel x) w c s = by-label (ltb-true x (G .outsides) c)
+    sorted-rule (make k ts) (make-within l h e ws) c s = by-constructor l h (fill-rule ts (constructor k .params) ws c s)
 
     pub fill-rule :
-        (ts : Templates) (Bs : List ℕ) → areClosed ts G (length L) ≡ true → fill ts L Bs ≡ true → Fill (G .outsides) L ts Bs
-    fill-rule none [] c s = fill-none
-    fill-rule none (B ∷ Bs) c s = absurd (true≢false (sym s))
-    fill-rule (more t ts) [] c s = absurd (true≢false (sym s))
-    fill-rule (more t ts) (B ∷ Bs) c s =
+        (ts : Templates) (Bs : List ℕ) → TemplatesWithin ts → areClosed ts G (length L) ≡ true → fill ts L Bs ≡ true → Fill (G .outsides) L ts Bs
+    fill-rule none [] ws c s = fill-none
+    fill-rule none (B ∷ Bs) ws c s = absurd (true≢false (sym s))
+    fill-rule (more t ts) [] ws c s = absurd (true≢false (sym s))
+    fill-rule (more t ts) (B ∷ Bs) (more-within w ws) c s =
         let k = both (isClosed t G (length L)) (areClosed ts G (length L)) c in
         let u = both (isSorted t L && fits (sortOf t L) B) (fill ts L Bs) s in
         let v = both (isSorted t L) (fits (sortOf t L) B) (u .0) in
-        fill-more (sorted-rule t (k .0) (v .0)) (fits-rule (sortOf t L) B (v .1)) (fill-rule ts Bs (k .1) (u .1))
+        fill-more (sorted-rule t w (k .0) (v .0)) (fits-rule (sortOf t L) B (v .1)) (fill-rule ts Bs ws (k .1) (u .1))
 
   mutual
     unfolding isClosed areClosed isSorted fill
@@ -89,7 +90,7 @@ module _ (G : Scope) (L : List ℕ) where
     rule-sorted (variable i) (by-variable h) = (lt-ltb i (length L) (has-below h), refl, has-sort h)
     rule-sorted (outside x) (by-global h) = (lt-ltb x (G .outsides) h, refl, refl)
     rule-sorted (outsideLabel x) (by-label h) = (lt-ltb x (G .outsides) h, refl, refl)
-    rule-sorted (make c ts) (by-constructor h) = let f = rule-fill ts h in (f .0, f .1, refl)
+    rule-sorted (make c ts) (by-constructor l u h) = let f = rule-fill ts h in (f .0, f .1, refl)
 
     pub rule-fill :
         (ts : Templates) {Bs : List ℕ} → Fill (G .outsides) L ts Bs

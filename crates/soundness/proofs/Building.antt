@@ -116,7 +116,7 @@ module _ (spell : ℕ → List ℕ) (I : Input) where
     build-ends (Table.variable i) s cells (by-variable b) w small room fit a = (nothing-made s cells fit, shows-bound a b)
     build-ends (Table.outside n) s cells by-global (Judgements.by-global l) small room fit a = (nothing-made s cells fit, shows-var (outside-named spell n (omega arith)))
     build-ends (Table.outsideLabel n) s cells by-label w small room fit a = (nothing-made s cells fit, shows-label)
-    build-ends (Table.make c ts) {v = v} {xs = xs} s cells (by-constructor {vs = vs} g k) (Judgements.by-constructor w) small room fit a =
+    build-ends (Table.make c ts) {v = v} {xs = xs} s cells (by-constructor {vs = vs} g k) (Judgements.by-constructor lo hi w) small room fit a =
         let n : ℕ = rowsOfAll ts in
         ends-after (BuiltAll n s cells vs) (Full (I .rows) (s .made + n)) (Built (n + 1) s cells v) (Full (I .rows) (s .made + (n + 1)))
         (buildAll ts I xs s cells) (λ ys. cell I c ys)

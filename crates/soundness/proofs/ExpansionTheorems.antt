@@ -15,7 +15,7 @@ use Rattle.kinds.specs.Kinds.{wordKind}
 use Rattle.grammar.specs.Fields.{Lexicon}
 use Rattle.grammar.specs.Table.{Template, Templates, Item, Table}
 use Rattle.grammar.specs.Cells.{columns}
-use Rattle.layout.specs.Within.{TemplateWithin}
+use Rattle.layout.specs.Within.{Each}
 use Rattle.scanner.specs.declared.Token.{Token}
 use Rattle.scanner.specs.Scan.{scan}
 use Rattle.productions.specs.Normal.{Production}
@@ -31,8 +31,8 @@ use Rattle.expansion.specs.Run.{Result, done, halt}
 use Rattle.expansion.specs.Figure3.{Value, Gives, GiveAll, Derives, Parses}
 use Rattle.expansion.specs.ValueSorts.{Typed, Matches}
 use Rattle.expansion.specs.Costs.{rowsIn, Affords}
-use Rattle.expansion.specs.Stopping.{Refuses}
-use Rattle.expansion.specs.Places.{givenIn, Has, Placed}
+use Rattle.soundness.specs.Stopping.{Refuses}
+use Rattle.soundness.specs.Places.{givenIn, Among, Placed}
 use Rattle.expansion.specs.Parsing.{Runs, SmallWords}
 use Rattle.expansion.proofs.Unique.{parses-one}
 use Rattle.soundness.specs.Passing.{Passing, Lexemes}
@@ -99,11 +99,11 @@ module _ (t : Table) (T : Passing t) where
         }
 
     -- What was given in its derivation is a token of the formula or one of the table's outside names.
-    pub derived-is-supplied : {u : Term Name} (P : Reads u) → Rattle.layout.specs.Within.Each (Supplied (R .tokens) (length (t .outsides))) (givenIn (P .derived))
+    pub derived-is-supplied : {u : Term Name} (P : Reads u) → Each (Supplied (R .tokens) (length (t .outsides))) (givenIn (P .derived))
     derived-is-supplied P = parses-supplied (setting 0) P
 
     -- So a derived term has only words for names and labels, if those of the formula and of the table are words.
-    pub derived-is-worded : ((w : Token) → Has (R .tokens) w → w .kind ≡ wordKind → isWord (R .spell (w .value)) ≡ true)
+    pub derived-is-worded : ((w : Token) → Among (R .tokens) w → w .kind ≡ wordKind → isWord (R .spell (w .value)) ≡ true)
         → ((n : ℕ) → n < length (t .outsides) → isWord (R .spell n) ≡ true)
         → {u : Term Name} → Reads u → isWorded u ≡ true
     derived-is-worded words outsides P = placed-worded (R .spell) (derived-is-supplied P) words outsides (derived-is-placed P)
@@ -152,6 +152,6 @@ module _ (t : Table) (T : Passing t) where
 -- ------------------------------------------------------------------ never wrong
 
 -- A well sorted template, under variables of their sorts, gives a value of its sort: never `wrong` (001, Theorem 1).
-pub never-wrong : (spell : ℕ → List ℕ) {N : ℕ} {M : List Value} {L : List ℕ} {A : ℕ} (t : Template) → Matches M L → Sorted N L t A → TemplateWithin t
+pub never-wrong : (spell : ℕ → List ℕ) {N : ℕ} {M : List Value} {L : List ℕ} {A : ℕ} (t : Template) → Matches M L → Sorted N L t A
     → (v : Value) × Gives spell M t v × Typed v A
-never-wrong spell t m w z = gives-exists spell m t w z
+never-wrong spell t m w = gives-exists spell m t w

@@ -90,7 +90,7 @@ module _ {E : Env} where
 module _ (K N : ℕ) where
   item-more : {E E′ : Env} {L : List ℕ} {i : Item} {A : ℕ} → More E E′ → ItemSorted (scope K N E) L i A → ItemSorted (scope K N E′) L i A
   item-more m (by-keyword l) = by-keyword l
-  item-more m by-ide = by-ide
+  item-more m (by-ide l u) = by-ide l u
   item-more m by-number = by-number
   item-more m by-local = by-local
   item-more m (by-call w f) = by-call (m _ _ w) f

@@ -17,7 +17,7 @@ use Rattle.terms.specs.Term.{Name, Term, Fields}
 use Rattle.terms.specs.Binding.{isWordName, isWorded, isWordedFields}
 use Rattle.expansion.specs.Figure3.{Value, unit, var, binder, label, num, term, fields, Constructs, Bound, bound-first, bound-later, Gives, by-variable, by-global, by-label, by-constructor, GiveAll, give-none, give-more, as-var, as-binder, as-label, ReadsAs, by-keyword, by-ide, by-number, by-local, Derives, by-end, by-terminal, by-call, Parses}
 use Rattle.expansion.specs.Figure3 as Figure3
-use Rattle.expansion.specs.Places.{Given, word-at, fresh-name, number-at, outside-name, outside-label, namedIn, namedInAll, givenAt, givenIn, Has, has-first, has-later, VarPlace, var-var, var-binder, var-local, var-outside, BinderPlace, binder-binder, binder-local, LabelPlace, label-label, label-outside, NumPlace, num-number, Placed, placed-variable, placed-function, placed-apply, placed-rcd, placed-dot, placed-number, PlacedFields, placed-nil, placed-cons}
+use Rattle.soundness.specs.Places.{Given, word-at, fresh-name, number-at, outside-name, outside-label, namedIn, namedInAll, givenAt, givenIn, Among, among-first, among-later, VarPlace, var-var, var-binder, var-local, var-outside, BinderPlace, binder-binder, binder-local, LabelPlace, label-label, label-outside, NumPlace, num-number, Placed, placed-variable, placed-function, placed-apply, placed-rcd, placed-dot, placed-number, PlacedFields, placed-nil, placed-cons}
 use Rattle.soundness.proofs.Typing.{FitAll, taken-of, result-sorted}
 use Rattle.soundness.proofs.Setting.{Setting, root-body}
 
@@ -30,13 +30,13 @@ each-split [] h = (each-none, h)
 each-split (x ∷ xs) (each-more h hs) = let q = each-split xs hs in (each-more h (q .0), q .1)
 
 -- all of a list is in it
-each-later : {A : Type 0} {y : A} {G xs : List A} → Each (Has G) xs → Each (Has (y ∷ G)) xs
+each-later : {A : Type 0} {y : A} {G xs : List A} → Each (Among G) xs → Each (Among (y ∷ G)) xs
 each-later each-none = each-none
-each-later (each-more h hs) = each-more (has-later h) (each-later hs)
+each-later (each-more h hs) = each-more (among-later h) (each-later hs)
 
-each-has : {A : Type 0} (G : List A) → Each (Has G) G
+each-has : {A : Type 0} (G : List A) → Each (Among G) G
 each-has [] = each-none
-each-has (x ∷ G) = each-more has-first (each-later (each-has G))
+each-has (x ∷ G) = each-more among-first (each-later (each-has G))
 
 module _ (G : List Given) (spell : ℕ → List ℕ) where
   data From : Value → Type 0 where
@@ -67,27 +67,27 @@ module _ (G : List Given) (spell : ℕ → List ℕ) where
   constructs-from Figure3.mkFieldCons (each-more (from-label l) (each-more (from-term t) (each-more (from-fields f) each-none))) = from-fields (placed-cons l t f)
   constructs-from Figure3.mkTermNum (each-more (from-num n) each-none) = from-term (placed-number n)
 
-  first-of : {x : Given} {xs : List Given} → Each (Has G) (x ∷ xs) → Has G x
+  first-of : {x : Given} {xs : List Given} → Each (Among G) (x ∷ xs) → Among G x
   first-of (each-more h hs) = h
 
-  others-of : {x : Given} {xs : List Given} → Each (Has G) (x ∷ xs) → Each (Has G) xs
+  others-of : {x : Given} {xs : List Given} → Each (Among G) (x ∷ xs) → Each (Among G) xs
   others-of (each-more h hs) = hs
 
   module _ {M : List Value} (m : Each From M) where
     mutual
       unfolding namedIn namedInAll
 
-      gives-from : (t : Template) {v : Value} → Each (Has G) (namedIn t) → Gives spell M t v → From v
+      gives-from : (t : Template) {v : Value} → Each (Among G) (namedIn t) → Gives spell M t v → From v
       gives-from (Table.variable i) a (by-variable b) = bound-from m b
       gives-from (Table.outside n) a by-global = from-var (var-outside (first-of a))
       gives-from (Table.outsideLabel n) a by-label = from-label (label-outside (first-of a))
       gives-from (Table.make c ts) a (by-constructor g k) = constructs-from k (all-from ts a g)
 
-      all-from : (ts : Templates) {vs : List Value} → Each (Has G) (namedInAll ts) → GiveAll spell M ts vs → Each From vs
+      all-from : (ts : Templates) {vs : List Value} → Each (Among G) (namedInAll ts) → GiveAll spell M ts vs → Each From vs
       all-from none a give-none = each-none
       all-from (more t ts) a (give-more g gs) = let q = each-split (namedIn t) a in each-more (gives-from t (q .0) g) (all-from ts (q .1) gs)
 
-  terminal-from : {g : List Production} {s s′ : List Token} {i i′ : ℕ} {p : Item} {v : Value} (e : ReadsAs g spell s i p s′ i′ v) → Each (Has G) (givenAt e) → From v
+  terminal-from : {g : List Production} {s s′ : List Token} {i i′ : ℕ} {p : Item} {v : Value} (e : ReadsAs g spell s i p s′ i′ v) → Each (Among G) (givenAt e) → From v
   unfolding givenAt
   terminal-from (by-keyword e) a = from-unit
   terminal-from (by-ide e as-var) a = from-var (var-var (first-of a))
@@ -97,7 +97,7 @@ module _ (G : List Given) (spell : ℕ → List ℕ) where
   terminal-from by-local a = from-binder (binder-local (first-of a))
 
   items-from : {g : List Production} {M M′ : List Value} {s s′ : List Token} {i i′ : ℕ} {is : List Item} (d : Derives g spell M s i is M′ s′ i′)
-      → Each (Has G) (givenIn d) → Each From M → Each From M′
+      → Each (Among G) (givenIn d) → Each From M → Each From M′
   unfolding givenIn
   items-from by-end a m = m
   items-from (by-terminal e d) a m =
@@ -124,15 +124,15 @@ parses-placed {spell = spell} P =
 
 -- A word or a number is a token of its kind, an outside name one of N.
 pub data Supplied (tokens : List Token) (N : ℕ) : Given → Type 0 where
-  supplied-word : {B : ℕ} {t : Token} → Has tokens t → t .kind ≡ wordKind → Supplied tokens N (word-at B t)
+  supplied-word : {B : ℕ} {t : Token} → Among tokens t → t .kind ≡ wordKind → Supplied tokens N (word-at B t)
   supplied-fresh : {i : ℕ} → Supplied tokens N (fresh-name i)
-  supplied-number : {t : Token} → Has tokens t → t .kind ≡ numberKind → Supplied tokens N (number-at t)
+  supplied-number : {t : Token} → Among tokens t → t .kind ≡ numberKind → Supplied tokens N (number-at t)
   supplied-outside : {n : ℕ} → n < N → Supplied tokens N (outside-name n)
   supplied-label : {n : ℕ} → n < N → Supplied tokens N (outside-label n)
 
-pub each-at : {A : Type 0} {P : A → Type 0} {xs : List A} {x : A} → Each P xs → Has xs x → P x
-each-at (each-more h hs) has-first = h
-each-at (each-more h hs) (has-later k) = each-at hs k
+pub each-at : {A : Type 0} {P : A → Type 0} {xs : List A} {x : A} → Each P xs → Among xs x → P x
+each-at (each-more h hs) among-first = h
+each-at (each-more h hs) (among-later k) = each-at hs k
 
 each-append : {A : Type 0} {P : A → Type 0} {xs ys : List A} → Each P xs → Each P ys → Each P (xs ++ ys)
 each-append each-none k = k
@@ -152,15 +152,15 @@ module _ {g : List Production} (F : FitAll g) (tokens : List Token) (spell : ℕ
     named-known (Table.variable i) w = each-none
     named-known (Table.outside n) (Judgements.by-global l) = each-more (supplied-outside l) each-none
     named-known (Table.outsideLabel n) (Judgements.by-label l) = each-more (supplied-label l) each-none
-    named-known (Table.make c ts) (Judgements.by-constructor f) = all-known ts f
+    named-known (Table.make c ts) (Judgements.by-constructor l u f) = all-known ts f
 
     all-known : {L Bs : List ℕ} (ts : Templates) → Fill N L ts Bs → Each Known (namedInAll ts)
     all-known none fill-none = each-none
     all-known (more t ts) (fill-more w f ws) = each-append (named-known t w) (all-known ts ws)
 
   -- a terminal leaves a part of the tokens
-  terminal-known : {s s′ : List Token} {i i′ : ℕ} {p : Item} {v : Value} (e : ReadsAs g spell s i p s′ i′ v) → Each (Has tokens) s
-      → Each Known (givenAt e) × Each (Has tokens) s′
+  terminal-known : {s s′ : List Token} {i i′ : ℕ} {p : Item} {v : Value} (e : ReadsAs g spell s i p s′ i′ v) → Each (Among tokens) s
+      → Each Known (givenAt e) × Each (Among tokens) s′
   unfolding givenAt
   terminal-known (by-keyword e) (each-more h hs) = (each-none, hs)
   terminal-known (by-ide e w) (each-more h hs) = (each-more (supplied-word h e) each-none, hs)
@@ -168,7 +168,7 @@ module _ {g : List Production} (F : FitAll g) (tokens : List Token) (spell : ℕ
   terminal-known by-local hs = (each-more supplied-fresh each-none, hs)
 
   items-known : {M M′ : List Value} {s s′ : List Token} {i i′ : ℕ} {is : List Item} {L : List ℕ} {r : Template} {B : ℕ}
-      (d : Derives g spell M s i is M′ s′ i′) → Body (F .scope) L is r B → Each (Has tokens) s → Each Known (givenIn d) × Each (Has tokens) s′
+      (d : Derives g spell M s i is M′ s′ i′) → Body (F .scope) L is r B → Each (Among tokens) s → Each Known (givenIn d) × Each (Among tokens) s′
   unfolding givenIn
   items-known by-end b a = (each-none, a)
   items-known (by-terminal e d) (by-binding w b) a =
@@ -197,7 +197,7 @@ Worded spell (outside-name n) = isWord (spell n) ≡ true
 Worded spell (outside-label n) = isWord (spell n) ≡ true
 
 module _ {tokens : List Token} {N : ℕ} {G : List Given} (spell : ℕ → List ℕ) (known : Each (Supplied tokens N) G)
-    (words : (t : Token) → Has tokens t → t .kind ≡ wordKind → isWord (spell (t .value)) ≡ true) (outsides : (n : ℕ) → n < N → isWord (spell n) ≡ true) where
+    (words : (t : Token) → Among tokens t → t .kind ≡ wordKind → isWord (spell (t .value)) ≡ true) (outsides : (n : ℕ) → n < N → isWord (spell n) ≡ true) where
   supplied-worded : {x : Given} → Supplied tokens N x → Worded spell x
   supplied-worded (supplied-word h e) = words _ h e
   supplied-worded supplied-fresh = tt
@@ -205,7 +205,7 @@ module _ {tokens : List Token} {N : ℕ} {G : List Given} (spell : ℕ → List 
   supplied-worded (supplied-outside l) = outsides _ l
   supplied-worded (supplied-label l) = outsides _ l
 
-  worded : {x : Given} → Has G x → Worded spell x
+  worded : {x : Given} → Among G x → Worded spell x
   worded h = supplied-worded (each-at known h)
 
   var-worded : {x : Name} → VarPlace G spell x → isWordName x ≡ true

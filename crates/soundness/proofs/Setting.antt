@@ -39,7 +39,7 @@ module _ {g : List Production} (X : Setting g) where
   -- an item that is sorted, as a body of its own
   pub item-body : {L : List ℕ} {i : Item} {A : ℕ} → Judgements.ItemSorted (X .fit .scope) L i A → Body (X .fit .scope) L (i ∷ []) (make 0x25 none) Sorts.fields
   unfolding constructor constructors
-  item-body w = by-binding w (by-result (Judgements.by-constructor fill-none) Judgements.fits-equal)
+  item-body w = by-binding w (by-result (Judgements.by-constructor {c = 0x25} (omega arith) (omega arith) fill-none) Judgements.fits-equal)
 
   -- the call of the root, as a body of its own
   pub root-body : Body (X .fit .scope) [] (call (X .root) none ∷ []) (make 0x25 none) Sorts.fields

@@ -16,7 +16,7 @@ use Rattle.kinds.specs.Kinds.{wordKind, numberKind, keywordKind}
 use Rattle.grammar.specs.Sorts.{Signature}
 use Rattle.grammar.specs.Sorts as Sorts
 use Rattle.grammar.specs.Table.{Template, none, Item, keyword, ide, number, call}
-use Rattle.layout.specs.Within.{Each, each-none, each-more, ItemWithin, ide-within, call-within}
+use Rattle.layout.specs.Within.{Each, each-none, each-more, ItemWithin, call-within}
 use Rattle.sorts.specs.Judgements.{Newest, Fits, Sorted, ItemSorted, Body, by-result, by-binding}
 use Rattle.sorts.specs.Judgements as Judgements
 use Rattle.scanner.specs.declared.Token.{Token}
@@ -180,7 +180,7 @@ module _ {g : List Production} (X : Setting g) where
     item-sound k {M = M} s cells (Judgements.by-keyword {k = w} l) z m h a =
         take-ends (Stepped k (keyword w) Sorts.unit M s cells) (keywordKind w) (λ v. 0) s cells
         (λ e. taken-as 0 unit e (omega (arith, l, F .keywordCount)) h typed-unit shows-unit (λ is M′ t j d. by-terminal (by-keyword e) d))
-    item-sound k {M = M} {L = L} {xs = xs} s cells (Judgements.by-ide {B = B}) (ide-within l u) m h a =
+    item-sound k {M = M} {L = L} {xs = xs} s cells (Judgements.by-ide {B = B} l u) z m h a =
         at-ide (λ B. Ends (Stepped k (ide B) B M s cells) Any (runItem C I (ide B) xs s cells)) B l u
         (take-ends (Stepped k (ide Sorts.var) Sorts.var M s cells) wordKind (wordValue Sorts.var) s cells
         (λ e. taken-as _ _ e (omega arith) h typed-var (shows-var (word-named spell (nextToken I s .value) (X .small (s .at) e))) (λ is M′ t j d. by-terminal (by-ide e as-var) d)))
@@ -201,7 +201,7 @@ module _ {g : List Production} (X : Setting g) where
           step = λ is M′ t j d. by-terminal by-local d;
         }
     item-sound k {A = A} {M = M} {L = L} {xs = xs} s cells (Judgements.by-call {n = n} {S = S} {ts = ts} w f) (call-within l ws) m h a =
-        let vs = give-all-exist spell m ts f ws in
+        let vs = give-all-exist spell m ts f in
         ends-after (BuiltAll spell I (rowsOfAll ts) s cells (vs .0)) (Full rows (s .made + rowsOfAll ts)) (Stepped k (call n ts) A M s cells) Any (buildAll ts I xs s cells) (λ ys. C n ys)
         (build-all-ends spell I ts s cells (vs .1) f (omega (arith, F .outsideCount)) (h .room) (h .fits) a)
         (λ ys s₁ c₁ b.
@@ -287,7 +287,7 @@ module _ {g : List Production} (X : Setting g) where
           (items-sound (runCall d I) callee k (p .items) (callBegun s) cells (body-of F (taken-of t) w) (q .items) m
           (record { room = h .room; fits = h .fits; names = omega (arith, h .names, q .itemCount); begun = omega arith }) a)
           (λ ys s₁ c₁ e.
-          let v = gives-exists spell (e .matches) (p .result) (e .sorted) (q .result) in
+          let v = gives-exists spell (e .matches) (p .result) (e .sorted) in
           ends-map (Built spell I (rowsOf (p .result)) s₁ c₁ (v .0)) (Full rows (s₁ .made + rowsOf (p .result))) (Called k n vs s cells) Any (build (p .result) I ys s₁ c₁)
           (build-ends spell I (p .result) s₁ c₁ (v .1) (e .sorted) (omega (arith, F .outsideCount)) (e .kept .room) (e .kept .fits) (e .shows))
           (λ x s₂ c₂ b.

@@ -30,7 +30,7 @@ use Rattle.soundness.proofs.Building.{Ends, ends-after}
 use Rattle.soundness.proofs.Typing.{FitAll, taken-of}
 use Rattle.expansion.proofs.Choosing.{kindOf, kind-next, Picks, picks, picks-none, choice-picks, rule}
 use Rattle.soundness.proofs.Sound.{token-before, call-full, call-unfit, call-chosen}
-use Rattle.expansion.specs.Stopping.{indexOf}
+use Rattle.soundness.specs.Stopping.{indexOf}
 
 -- ------------------------------------------------------------------ templates
 
@@ -141,7 +141,7 @@ module _ {g : List Production} (X : Setting g) where
     pub item-bounded : {i : Item} {A : ℕ} {L : List ℕ} (xs : List ℕ) (s : State) (cells : List ℕ) → ItemSorted (F .scope) L i A → ItemWithin i
         → s .at ≤ length tokens → Bounded (runItem C J i xs s cells)
     item-bounded xs s cells (Judgements.by-keyword {k = k} l) z h = take-bounded (keywordKind k) (λ v. 0) s cells (omega (arith, l, F .keywordCount))
-    item-bounded xs s cells (Judgements.by-ide {B = B}) z h = take-bounded wordKind (wordValue B) s cells (omega arith)
+    item-bounded xs s cells (Judgements.by-ide {B = B} l u) z h = take-bounded wordKind (wordValue B) s cells (omega arith)
     item-bounded xs s cells Judgements.by-number z h = take-bounded numberKind (λ v. v) s cells (omega arith)
     item-bounded xs s cells Judgements.by-local z h = h
     item-bounded xs s cells (Judgements.by-call {n = n} {ts = ts} w f) (call-within l ws) h =

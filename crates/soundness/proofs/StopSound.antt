@@ -36,7 +36,7 @@ use Rattle.soundness.proofs.Typing.{matches-and, give-all-exist, gives-
 use Rattle.expansion.proofs.Choosing.{kindOf, kind-next, Picks, picks, picks-none, choice-picks, rule}
 use Rattle.soundness.proofs.Sound.{token-here, Kept, kept-made, kept-less, call-full, call-unfit, call-chosen, Stepped, Called, Derived, Any, item-sound, items-sound, call-sound, Root, root-called, root-derived}
 use Rattle.soundness.proofs.Complete.{Beyond, items-along, items-after, Reached, root-along}
-use Rattle.expansion.specs.Stopping.{indexOf, firstSet, takes, makes, begins, Fails, no-token, no-row, too-deep, too-many, no-choice, Stops, at-token, at-arguments, at-call, past-item, Enters, at-start, in-items, at-result, Refuses, stops, left-over}
+use Rattle.soundness.specs.Stopping.{indexOf, firstSet, takes, makes, begins, Fails, no-token, no-row, too-deep, too-many, no-choice, Stops, at-token, at-arguments, at-call, past-item, Enters, at-start, in-items, at-result, Refuses, stops, left-over}
 use Rattle.soundness.proofs.StopLaws.{Stays, build-stays, build-all-stays, reads-small, index-is, kind-of-next, Bounded, item-bounded, items-bounded, call-bounded}
 
 module _ {g : List Production} (X : Setting g) where
@@ -106,11 +106,11 @@ module _ {g : List Production} (X : Setting g) where
         → s .at ≤ length tokens → Kept rows (k + 1) s cells → ShowAll spell (s .made) cells xs M
         → Ends Fine (StopsAt o M (i ∷ is) s) (runItem (runCall d J) J i xs s cells)
     item-halts k {M = M} is s cells (Judgements.by-keyword {k = w} l) z m b h a = take-halts o M is (keywordKind w) (λ v. 0) s cells (reads-keyword (omega (arith, l, F .keywordCount))) b
-    item-halts k {M = M} is s cells (Judgements.by-ide {B = B}) z m b h a = take-halts o M is wordKind (wordValue B) s cells reads-word b
+    item-halts k {M = M} is s cells (Judgements.by-ide {B = B} l u) z m b h a = take-halts o M is wordKind (wordValue B) s cells reads-word b
     item-halts k {M = M} is s cells Judgements.by-number z m b h a = take-halts o M is numberKind (λ v. v) s cells reads-number b
     item-halts k is s cells Judgements.by-local z m b h a = tt
     item-halts k {M = M} {xs = xs} is s cells (Judgements.by-call {n = n} {S = S} {ts = ts} w f) (call-within l ws) m b h a =
-        let vs = give-all-exist spell m ts f ws in
+        let vs = give-all-exist spell m ts f in
         ends-after (λ ys s₁ c₁. BuiltAll spell J (rowsOfAll ts) s cells (vs .0) ys s₁ c₁ × (s₁ .at ≡ s .at)) (λ r. Full rows (s .made + rowsOfAll ts) r × (r ≡ refusal 21 (s .at) 0 0))
         Fine (StopsAt o M (call n ts ∷ is) s) (buildAll ts J xs s cells) (λ ys. runCall d J n ys)
         (ends-both (BuiltAll spell J (rowsOfAll ts) s cells (vs .0)) (λ ys s₁ c₁. s₁ .at ≡ s .at) (Full rows (s .made + rowsOfAll ts)) (λ r. r ≡ refusal 21 (s .at) 0 0) (buildAll ts J xs s cells)
@@ -189,7 +189,7 @@ module _ {g : List Production} (X : Setting g) where
         let b₁ : s₁ .at ≤ length tokens =
         subst (λ y. Ends {A = List ℕ} (λ a s c. s .at ≤ length tokens) (λ r. Unit {0}) y) e
         (items-bounded X (runCall d J) (call-bounded X d) (p .items) xs (callBegun s) cells body (q .items) b) in
-        let v = gives-exists spell (y .matches) (p .result) (y .sorted) (q .result) in
+        let v = gives-exists spell (y .matches) (p .result) (y .sorted) in
         let A : Affords rows (o + 1) (s .calls + 1) (s .made) D =
         record { few-open = omega (arith, z .0 .deep, left); few-calls = omega (arith, z .0 .calls-are, y .kept .begun); few-rows = omega (arith, z .0 .made-are, y .kept .fits) } in
         ends-map (λ x s₂ c₂. Built spell J (rowsOf (p .result)) s₁ c₁ (v .0) x s₂ c₂ × (s₂ .at ≡ s₁ .at)) (λ r. Full rows (s₁ .made + rowsOf (p .result)) r × (r ≡ refusal 21 (s₁ .at) 0 0)) Fine K

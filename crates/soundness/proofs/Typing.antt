@@ -7,7 +7,7 @@ use lib.ListN.{length}
 use Rattle.grammar.specs.Sorts.{Signature, constructors, constructor}
 use Rattle.grammar.specs.Table.{Template, Templates, none, more, Item}
 use Rattle.grammar.specs.Table as Table
-use Rattle.layout.specs.Within.{Each, TemplateWithin, TemplatesWithin, make-within, more-within, ItemWithin}
+use Rattle.layout.specs.Within.{Each, TemplateWithin, ItemWithin}
 use Rattle.sorts.specs.CheckSorts.{Scope, signatureOf}
 use Rattle.sorts.specs.Judgements.{Has, has-first, has-later, Newest, Fits, fits-equal, fits-binder, Sorted, Fill, fill-none, fill-more, ItemSorted, Body, by-result, by-binding}
 use Rattle.sorts.specs.Judgements as Judgements
@@ -77,20 +77,20 @@ constructs-exists c l h {vs} m =
 module _ (spell : ℕ → List ℕ) {N : ℕ} {M : List Value} {L : List ℕ} (m : Matches M L) where
   -- a sorted template gives a value
   mutual
-    pub gives-exists : {A : ℕ} (t : Template) → Sorted N L t A → TemplateWithin t → (v : Value) × Gives spell M t v × Typed v A
-    gives-exists (Table.variable i) (Judgements.by-variable h) w = let b = bound-exists m h in (b .0, by-variable (b .1), b .2)
-    gives-exists (Table.outside n) (Judgements.by-global h) w = (_, by-global, typed-var)
-    gives-exists (Table.outsideLabel n) (Judgements.by-label h) w = (_, by-label, typed-label)
-    gives-exists (Table.make c ts) (Judgements.by-constructor f) (make-within l h e ws) =
-        let r = give-all-exist ts f ws in
+    pub gives-exists : {A : ℕ} (t : Template) → Sorted N L t A → (v : Value) × Gives spell M t v × Typed v A
+    gives-exists (Table.variable i) (Judgements.by-variable h) = let b = bound-exists m h in (b .0, by-variable (b .1), b .2)
+    gives-exists (Table.outside n) (Judgements.by-global h) = (_, by-global, typed-var)
+    gives-exists (Table.outsideLabel n) (Judgements.by-label h) = (_, by-label, typed-label)
+    gives-exists (Table.make c ts) (Judgements.by-constructor l h f) =
+        let r = give-all-exist ts f in
         let k = constructs-exists c l h (r .2) in
         (k .0, by-constructor (r .1) (k .1), constructs-typed (k .1))
 
-    pub give-all-exist : {Bs : List ℕ} (ts : Templates) → Fill N L ts Bs → TemplatesWithin ts → (vs : List Value) × GiveAll spell M ts vs × Matches vs Bs
-    give-all-exist none fill-none w = ([], give-none, matches-none)
-    give-all-exist (more t ts) (fill-more s f ss) (more-within w ws) =
-        let g = gives-exists t s w in
-        let gs = give-all-exist ts ss ws in
+    pub give-all-exist : {Bs : List ℕ} (ts : Templates) → Fill N L ts Bs → (vs : List Value) × GiveAll spell M ts vs × Matches vs Bs
+    give-all-exist none fill-none = ([], give-none, matches-none)
+    give-all-exist (more t ts) (fill-more s f ss) =
+        let g = gives-exists t s in
+        let gs = give-all-exist ts ss in
         (g .0 ∷ gs .0, give-more (g .1) (gs .1), matches-more (typed-at (g .2) f) (gs .2))
 
   -- what a sorted template gives has its sort
@@ -99,7 +99,7 @@ module _ (spell : ℕ → List ℕ) {N : ℕ} {M : List Value} {L : List ℕ} (m
     gives-typed (Table.variable i) (Judgements.by-variable h) (by-variable b) = bound-typed m h b
     gives-typed (Table.outside n) (Judgements.by-global h) by-global = typed-var
     gives-typed (Table.outsideLabel n) (Judgements.by-label h) by-label = typed-label
-    gives-typed (Table.make c ts) (Judgements.by-constructor f) (by-constructor g k) = constructs-typed k
+    gives-typed (Table.make c ts) (Judgements.by-constructor l h f) (by-constructor g k) = constructs-typed k
 
     pub give-all-typed : {Bs : List ℕ} (ts : Templates) {vs : List Value} → Fill N L ts Bs → GiveAll spell M ts vs → Matches vs Bs
     give-all-typed none fill-none give-none = matches-none
@@ -127,9 +127,9 @@ pub record FitAll (g : List Production) : Type 0 where
 terminal-typed : {g : List Production} {spell : ℕ → List ℕ} {G : Scope} {L : List ℕ} {s s′ : List Token} {i i′ : ℕ} {p : Item} {v : Value} {A : ℕ}
     → ReadsAs g spell s i p s′ i′ v → ItemSorted G L p A → Typed v A
 terminal-typed (by-keyword e) (Judgements.by-keyword l) = typed-unit
-terminal-typed (by-ide e as-var) Judgements.by-ide = typed-var
-terminal-typed (by-ide e as-binder) Judgements.by-ide = typed-binder
-terminal-typed (by-ide e as-label) Judgements.by-ide = typed-label
+terminal-typed (by-ide e as-var) (Judgements.by-ide l u) = typed-var
+terminal-typed (by-ide e as-binder) (Judgements.by-ide l u) = typed-binder
+terminal-typed (by-ide e as-label) (Judgements.by-ide l u) = typed-label
 terminal-typed (by-number e) Judgements.by-number = typed-num
 terminal-typed by-local Judgements.by-local = typed-binder
 

@@ -13,7 +13,6 @@ use Rattle.answers.specs.declared.Answer.the-variants.{Accepted, Refusing}
 use Rattle.answers.specs.declared.Verdict.the-variants.{Refused}
 use Rattle.answers.specs.Checked.{Checked, ok, bad, verdict}
 use Rattle.grammar.specs.Table.{Template, Item, Table}
-use Rattle.layout.specs.Within.{TemplateWithin}
 use Rattle.sorts.specs.Judgements.{Sorted, Body}
 use Rattle.scanner.specs.declared.Token.{Token}
 use Rattle.scanner.specs.Unscanned.{Unscans}
@@ -118,6 +117,6 @@ module _ (table : List ℕ) (bytes : (i : ℕ) → getD table i 0 < 256) (formul
     parsing-respects-typing = expansion.parsing-respects-typing (P .table) T
 
 -- And a well sorted template, under variables of their sorts, gives a value of its sort: it never gives `wrong`.
-pub never-wrong : (spell : ℕ → List ℕ) {N : ℕ} {M : List Value} {L : List ℕ} {A : ℕ} (t : Template) → Matches M L → Sorted N L t A → TemplateWithin t
+pub never-wrong : (spell : ℕ → List ℕ) {N : ℕ} {M : List Value} {L : List ℕ} {A : ℕ} (t : Template) → Matches M L → Sorted N L t A
     → (v : Value) × Gives spell M t v × Typed v A
 never-wrong = expansion.never-wrong

@@ -14,8 +14,8 @@ use Rattle.scanner.specs.Unscanned.{Unscans, too-long, a-fault, too-many}
 use Rattle.productions.specs.Normal.{Production}
 use Rattle.checker.specs.Passes.{Passes}
 use Rattle.expansion.specs.Figure3.{Value}
-use Rattle.expansion.specs.Stopping.{Step, Fails, Stops, Enters, Refuses, stops, left-over, at-token, at-arguments, at-call, past-item, at-start, in-items, at-result}
-use Rattle.expansion.specs.Stopping as Stopping
+use Rattle.soundness.specs.Stopping.{Step, Fails, Stops, Enters, Refuses, stops, left-over, at-token, at-arguments, at-call, past-item, at-start, in-items, at-result}
+use Rattle.soundness.specs.Stopping as Stopping
 use Rattle.soundness.specs.Passing.{Passing}
 use Rattle.soundness.proofs.Placing.{parses-placed}
 use Rattle.terms.specs.Term.{Name, Term, size}

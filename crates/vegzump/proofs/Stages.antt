@@ -1,16 +1,16 @@
 -- Where an expansion of a passed table ends: in the scan, in the parse, or in the last step.
 use Prim.Native.Nat.{ℕ, zero, suc, _*_, _/_, _≤_, _<_, min}
 use mathlib.Core.Path.{_≡_, refl, sym, ap, ap₂, subst, _∙_}
-use mathlib.Core.Bool.{Bool, true, false}
+use mathlib.Core.Bool.{true}
 use mathlib.Core.List.{List, [], _∷_, _++_}
 use native.Mathlib.Omega.{arith}
-use lib.Dec.{leb}
+use native.Mathlib.Decide.{decLe}
 use lib.ListN.{length, getD, drop}
-use borrow.Author.Tests.{leb-true, leb-false, lt-ltb}
+use borrow.Author.Tests.{lt-ltb}
 use Rattle.answers.specs.declared.Refusal.{Refusal}
 use Rattle.answers.specs.declared.Answer.the-variants.{Accepted, Refusing}
 use Rattle.answers.specs.Refusals.{refusal}
-use Rattle.answers.specs.Checked.{Checked, ok, bad, _>>=_, _>>_, need}
+use Rattle.answers.specs.Checked.{Checked, ok, bad, _>>=_, _>>_}
 use Rattle.spellings.specs.Bytes.{isWord}
 use Rattle.kinds.specs.Kinds.{wordKind}
 use Rattle.grammar.specs.Table.{Table}
@@ -37,15 +37,16 @@ use Rattle.expansion.specs.Run.{Result, done, halt}
 use Rattle.expansion.specs.Expansion.{run}
 use Rattle.expansion.specs.Parsing.{Runs, SmallWords}
 use Rattle.expansion.specs.Figure3.{Parses}
-use Rattle.expansion.specs.Stopping.{Refuses}
-use Rattle.expansion.specs.Places.{Has, has-first, has-later}
+use Rattle.soundness.specs.Stopping.{Refuses}
+use Rattle.soundness.specs.Places.{Among, among-first, among-later}
 use Rattle.soundness.specs.Passing.{Passing, Lexemes}
 use Rattle.soundness.proofs.ExpansionTheorems as expansion
 use Rattle.terms.specs.Term.{Name, Term, size}
 use Rattle.terms.specs.Rows.{termAt}
 use Rattle.terms.specs.Rename.{Walk, loose, reached, walk, rename}
 use Rattle.terms.specs.Print.{print}
-use Rattle.terms.specs.Emit.{largestTerm, noneLoose, passing, textOf, Emitted, emittedIf, emitted}
+use Rattle.terms.specs.Emit.{largestTerm, textOf, fitted, emitted}
+use Rattle.terms.proofs.EmitLaws.{fitted-long, fitted-whole, emitted-large, emitted-loose, emitted-fitted}
 use Rattle.terms.specs.Binding.{occurrences, loosePlaces, stopsAtFirst, isWorded}
 use Rattle.terms.proofs.Statements as terms
 use Rattle.vegzump.specs.Expand.{Expanded, refused, withCells, mostCells, inputOf, finished, scanned, lexiconOfTable, expandTable, checkedFirst, expand}
@@ -59,7 +60,7 @@ module _ (bs : List ℕ) (bytes : (i : ℕ) → getD bs i 0 < 256) (P : Passes b
   unfolding passedTable
   passed-table =
       ap (λ d. d >>= (λ t. checkSorts t >> checkFirsts (grammarOf t) >> ok t)) (decode-exactly bs bytes (P .table) .1 (P .encoded, P .within))
-      ∙ ap (λ c. c >> checkFirsts (grammarOf (P .table)) >> ok (P .table)) (sorts-exactly (P .table) .1 (P .meets .sorted))
+      ∙ ap (λ c. c >> checkFirsts (grammarOf (P .table)) >> ok (P .table)) (sorts-exactly (P .table) (P .within) .1 (P .meets .sorted))
       ∙ ap (λ c. c >> ok (P .table)) (passes-exactly (grammarOf (P .table)) .1 (P .meets .not-left-recursive, P .meets .without-clash))
 
   pub expand-passed : (formula cells text : List ℕ) → expand bs formula cells text ≡ expandTable (P .table) formula cells text
@@ -84,44 +85,30 @@ pub data Finish (made : ℕ) (u : Term Name) (cells text : List ℕ) : Expanded 
       })
 
 module _ (made : ℕ) (u : Term Name) (cells text : List ℕ) where
-  abbrev Done : Checked (Unit {0}) → Type 0
-  Done c = Finish made u cells text (withCells cells (emittedIf c textOf made u text))
-
-  by-room : size u ≤ largestTerm → loosePlaces (occurrences [] 0 u) ≡ [] → Done (ok tt)
-  by-room small none = go (leb (length (print (rename u))) (length text)) refl
+  by-room : size u ≤ largestTerm → loosePlaces (occurrences [] 0 u) ≡ [] → Finish made u cells text (withCells cells (fitted made (size u) (textOf u) text))
+  by-room small none = by (decLe (length (textOf u)) (length text))
     where
-      go : (b : Bool) → leb (length (print (rename u))) (length text) ≡ b
-          → Finish made u cells text
-          (withCells cells
-          (elim b as (λ x. Emitted) [
-            | false ↦ record { answer = Refusing (refusal 24 (length (print (rename u))) 0 0); text = text }
-            | true ↦
-                record {
-                  answer = Accepted made (size u) (length (print (rename u)));
-                  text = print (rename u) ++ drop (length (print (rename u))) text;
-                }
-          ]))
-      go true e = prints small none (leb-true _ _ e)
-      go false e = too-long small none (leb-false _ _ e)
-
-  by-walk : (ps : List ℕ) → loosePlaces (occurrences [] 0 u) ≡ ps → size u ≤ largestTerm → Done (noneLoose (stopsAtFirst ps (size u)) >>= λ x. ok tt)
-  by-walk [] e small = by-room small e
-  by-walk (p ∷ ps) e small = is-loose small e
-
-  by-size : (b : Bool) → leb (size u) largestTerm ≡ b → Done (need b 22 made >>= λ x. noneLoose (walk [] 0 u) >>= λ y. ok tt)
-  by-size false e = too-big (leb-false (size u) largestTerm e)
-  by-size true e =
-      subst (λ w. Done (noneLoose w >>= λ x. ok tt)) (sym (terms.first-loose u)) (by-walk (loosePlaces (occurrences [] 0 u)) refl (leb-true (size u) largestTerm e))
+      by : Dec (length (textOf u) ≤ length text) → Finish made u cells text (withCells cells (fitted made (size u) (textOf u) text))
+      by (yes h) = rw (fitted-whole made (size u) (textOf u) text h) (prints small none h)
+      by (no n) = let h : length text < length (textOf u) = omega arith in rw (fitted-long made (size u) (textOf u) text h) (too-long small none h)
 
   pub finishes : Finish made u cells text (withCells cells (emitted textOf made u text))
-  unfolding emitted passing
-  finishes = by-size (leb (size u) largestTerm) refl
+  finishes = by (decLe (size u) largestTerm) (loosePlaces (occurrences [] 0 u)) refl
+    where
+      walks : {ps : List ℕ} → loosePlaces (occurrences [] 0 u) ≡ ps → walk [] 0 u ≡ stopsAtFirst ps (size u)
+      walks e = terms.first-loose u ∙ ap (λ ps. stopsAtFirst ps (size u)) e
+
+      by : Dec (size u ≤ largestTerm) → (ps : List ℕ) → loosePlaces (occurrences [] 0 u) ≡ ps
+          → Finish made u cells text (withCells cells (emitted textOf made u text))
+      by (no n) ps e = let h : largestTerm < size u = omega arith in rw (emitted-large textOf made u text h) (too-big h)
+      by (yes h) [] e = rw (emitted-fitted textOf made u text h (walks e)) (by-room h e)
+      by (yes h) (p ∷ ps) e = rw (emitted-loose textOf made u text h (walks e)) (is-loose h e)
 
 -- ------------------------------------------------------------------ the tokens
 
-every-has : (P : Token → Type 0) {ts : List Token} {w : Token} → Has ts w → Every P ts → P w
-every-has P has-first p = p .0
-every-has P (has-later a) p = every-has P a (p .1)
+every-has : (P : Token → Type 0) {ts : List Token} {w : Token} → Among ts w → Every P ts → P w
+every-has P among-first p = p .0
+every-has P (among-later a) p = every-has P a (p .1)
 
 pub each-getD : {A : Type 0} {P : A → Type 0} {xs : List A} → Each P xs → (n : ℕ) (d : A) → n < length xs → P (getD xs n d)
 each-getD each-none n d l = absurd (omega arith)
@@ -163,13 +150,13 @@ module _ (t : Table) (T : Passing t) (formula : List ℕ) where
           small = subst (λ (l : Lexed). SmallWords (l .tokens)) (scanned-as S) (expansion.scanned-is-small lex few formula);
         }
 
-    pub spelled-at : (w : Token) → Has ts w → w .kind ≡ wordKind → Spelled lex formula ws w
+    pub spelled-at : (w : Token) → Among ts w → w .kind ≡ wordKind → Spelled lex formula ws w
     spelled-at w a k =
         every-has (λ v. v .kind ≡ wordKind → Spelled lex formula ws v) a
         (subst (λ (l : Lexed). Every (λ v. v .kind ≡ wordKind → Spelled lex formula (l .words) v) (l .tokens)) (scanned-as S) (scan-spelled lex few formula)) k
 
     -- a word's spelling number stands for its bytes, and an outside name's for the table's spelling
-    pub words-as-written : (w : Token) → Has ts w → w .kind ≡ wordKind → spellOf t ws (w .value) ≡ bytesOf formula w
+    pub words-as-written : (w : Token) → Among ts w → w .kind ≡ wordKind → spellOf t ws (w .value) ≡ bytesOf formula w
     words-as-written w a k = spelled-number lex few formula ws w (spelled-at w a k)
 
     pub outsides-as-listed : (n : ℕ) → n < length (t .outsides) → spellOf t ws n ≡ getD (t .outsides) n []

@@ -12,7 +12,7 @@ use Rattle.layout.specs.Within.{Each}
 use Rattle.scanner.specs.declared.Token.{Token}
 use Rattle.scanner.specs.Tiling.{bytesOf}
 use Rattle.checker.specs.Passes.{Passes}
-use Rattle.expansion.specs.Places.{givenIn, Has, Placed}
+use Rattle.soundness.specs.Places.{givenIn, Among, Placed}
 use Rattle.terms.specs.Term.{Name, Term, size}
 use Rattle.terms.specs.Rename.{rename}
 use Rattle.terms.specs.Print.{none, more, treeOf}
@@ -29,7 +29,7 @@ pub record Hygienic (t : Table) (formula : List ℕ) (u : Term Name) (out : List
   pub means : Means t formula u
   pub only : (w : Term Name) → Means t formula w → w ≡ u
   pub sorted : Placed (givenIn (means .parsed .derived)) (spellOf t (means .words)) u
-  pub words-as-written : (w : Token) → Has (means .tokens) w → w .kind ≡ wordKind → spellOf t (means .words) (w .value) ≡ bytesOf formula w
+  pub words-as-written : (w : Token) → Among (means .tokens) w → w .kind ≡ wordKind → spellOf t (means .words) (w .value) ≡ bytesOf formula w
   pub outsides-as-listed : (n : ℕ) → n < length (t .outsides) → spellOf t (means .words) n ≡ getD (t .outsides) n []
   pub reads-back : readText out ≡ more (treeOf (rename u)) none
   pub same-constructors : constructorsInAll (readText out) ≡ constructors u

@@ -15,7 +15,7 @@ use Rattle.scanner.specs.Unscanned.{Unscans}
 use Rattle.checker.specs.Passes.{grammarOf}
 use Rattle.expansion.specs.Figure3.{Parses}
 use Rattle.expansion.specs.Costs.{rowsIn, Affords}
-use Rattle.expansion.specs.Stopping.{Refuses}
+use Rattle.soundness.specs.Stopping.{Refuses}
 use Rattle.terms.specs.Term.{Name, Term, size}
 use Rattle.terms.specs.Rename.{rename}
 use Rattle.terms.specs.Print.{print}

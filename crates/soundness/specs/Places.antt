@@ -10,12 +10,12 @@ use Rattle.grammar.specs.Table as Table
 use Rattle.scanner.specs.declared.Token.{Token}
 use Rattle.productions.specs.Normal.{Production}
 use Rattle.terms.specs.Term.{Name, word, fresh, outside, Term, Fields, variable, function, apply, rcd, dot, number, nil, cons}
 use Rattle.expansion.specs.Figure3.{Value, ReadsAs, by-keyword, by-ide, by-number, by-local, Derives, by-end, by-terminal, by-call}
 
 -- x is one of a list
-pub data Has {A : Type 0} : List A → A → Type 0 where
-  has-first : {x : A} {xs : List A} → Has (x ∷ xs) x
-  has-later : {x y : A} {xs : List A} → Has xs x → Has (y ∷ xs) x
+pub data Among {A : Type 0} : List A → A → Type 0 where
+  among-first : {x : A} {xs : List A} → Among (x ∷ xs) x
+  among-later : {x y : A} {xs : List A} → Among xs x → Among (y ∷ xs) x
 
 -- ------------------------------------------------------------------ what a derivation gave
 
@@ -57,21 +57,21 @@ module _ {g : List Production} {spell : ℕ → List ℕ} where
 
 -- where G was given, the name at a Var place, the name at a Binder place, the label at a Label place, the number at a Num place
 pub data VarPlace (G : List Given) (spell : ℕ → List ℕ) : Name → Type 0 where
-  var-var : {t : Token} → Has G (word-at Sorts.var t) → VarPlace G spell (word (spell (t .value)))
-  var-binder : {t : Token} → Has G (word-at Sorts.binder t) → VarPlace G spell (word (spell (t .value)))
-  var-local : {i : ℕ} → Has G (fresh-name i) → VarPlace G spell (fresh i)
-  var-outside : {n : ℕ} → Has G (outside-name n) → VarPlace G spell (outside (spell n))
+  var-var : {t : Token} → Among G (word-at Sorts.var t) → VarPlace G spell (word (spell (t .value)))
+  var-binder : {t : Token} → Among G (word-at Sorts.binder t) → VarPlace G spell (word (spell (t .value)))
+  var-local : {i : ℕ} → Among G (fresh-name i) → VarPlace G spell (fresh i)
+  var-outside : {n : ℕ} → Among G (outside-name n) → VarPlace G spell (outside (spell n))
 
 pub data BinderPlace (G : List Given) (spell : ℕ → List ℕ) : Name → Type 0 where
-  binder-binder : {t : Token} → Has G (word-at Sorts.binder t) → BinderPlace G spell (word (spell (t .value)))
-  binder-local : {i : ℕ} → Has G (fresh-name i) → BinderPlace G spell (fresh i)
+  binder-binder : {t : Token} → Among G (word-at Sorts.binder t) → BinderPlace G spell (word (spell (t .value)))
+  binder-local : {i : ℕ} → Among G (fresh-name i) → BinderPlace G spell (fresh i)
 
 pub data LabelPlace (G : List Given) (spell : ℕ → List ℕ) : List ℕ → Type 0 where
-  label-label : {t : Token} → Has G (word-at Sorts.label t) → LabelPlace G spell (spell (t .value))
-  label-outside : {n : ℕ} → Has G (outside-label n) → LabelPlace G spell (spell n)
+  label-label : {t : Token} → Among G (word-at Sorts.label t) → LabelPlace G spell (spell (t .value))
+  label-outside : {n : ℕ} → Among G (outside-label n) → LabelPlace G spell (spell n)
 
 pub data NumPlace (G : List Given) : ℕ → Type 0 where
-  num-number : {t : Token} → Has G (number-at t) → NumPlace G (t .value)
+  num-number : {t : Token} → Among G (number-at t) → NumPlace G (t .value)
 
 -- a term each place of which holds what its sort asks for
 mutual
