@@ -53,7 +53,7 @@ module _ {bs : List ℕ} (bytes : Bytes bs) (p : Passes bs) where
         held =
             c .held
             ∙ ap (λ d. roomBy (d >>= λ t. checkSorts t) bs room₀) decoded
-            ∙ ap (λ c. roomBy c bs room₀) (sorts-exactly (p .table) .1 (p .meets .sorted));
+            ∙ ap (λ c. roomBy c bs room₀) (sorts-exactly (p .table) (p .within) .1 (p .meets .sorted));
         whole = each-map (λ q w. w .whole) (whole-places bs laid-out);
       }
 

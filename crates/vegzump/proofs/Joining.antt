@@ -19,6 +19,7 @@ use Rattle.grammar.specs.Cells.{columns}
 use Rattle.layout.specs.Within.{Each}
 use Rattle.layout.proofs.Split.{Bytes}
 use Rattle.scanner.specs.declared.Token.{Token}
+use Rattle.scanner.specs.declared.Scanned.{Scanned}
 use Rattle.scanner.specs.declared.Scanned.the-variants.{Tokens, Unscanned}
 use Rattle.scanner.specs.Scan.{Lexed, scan}
 use Rattle.scanner.specs.Rooms.{Filled, filled, scanInto, tokensIn, TokensFit, wordsIn, RoomFor}
@@ -39,17 +40,20 @@ use Rattle.terms.specs.Names.{WellNamed}
 use Rattle.terms.specs.Emit.{textOf, Emitted, emitted}
 use Rattle.emitter.specs.Emittable.{Emittable}
 use Rattle.expansion.specs.declared.State.{State}
-use Rattle.expansion.specs.Run.{Result, done, halt}
+use Rattle.expansion.specs.declared.Outcome.{Outcome}
+use Rattle.expansion.specs.declared.Outcome.the-variants.{Value, Halted}
+use Rattle.expansion.specs.Run.{Result, done, halt, ran}
 use Rattle.expansion.specs.Expansion.{run}
 use Rattle.expansion.specs.Parsing.{input}
-use Rattle.expansion.specs.Figure3.{Parses}
-use Rattle.expansion.specs.Places.{Has}
-use Rattle.expander.specs.Lent.{Held, lentInput, rowsIn}
+use Rattle.expansion.specs.Figure3 as Figure3
+use Rattle.expander.specs.Lent.{Held, lentInput}
+use Rattle.templates.specs.Built.{rowsIn}
 use Rattle.soundness.specs.Passing.{Passing, Lexemes}
 use Rattle.soundness.proofs.ExpansionTheorems as expansion
 use Rattle.vegzump.specs.Expand.{Expanded, expanded, refused, withCells, inputOf, finished, lexiconOfTable, expand}
 use Rattle.vegzump.specs.Meaning as Meaning
-use Rattle.vegzump.specs.Parse.{parse, HoldsPassed, WordsKnown, RowsLie}
+use Rattle.vegzump.specs.declared.parse.Parsed.{Parsed}
+use Rattle.vegzump.specs.Parse.{parse, HoldsPassed, WordsKnown, RowsLie, Parses}
 use Rattle.vegzump.proofs.Naming as naming
 use Rattle.vegzump.proofs.Parsing as parsing
 use Rattle.vegzump.proofs.Root.{root-last}
@@ -59,9 +63,9 @@ use Rattle.vegzump.proofs.Stages as stages
 
 module _ {bs : List ℕ} (bytes : Bytes bs) where
   -- a table that the check passes, and its room
-  pub checked-passes : {room₀ room : List ℕ} → CheckedInto bs room₀ room Passed → HoldsPassed bs room
-  checked-passes c =
-      let P : Passes bs = check-exactly bs bytes .0 (sym (c .answer)) in
+  pub checked-passes : {room₀ room : List ℕ} {r : Verdict} → CheckedInto bs room₀ room r → r ≡ Passed → HoldsPassed bs room
+  checked-passes c e =
+      let P : Passes bs = check-exactly bs bytes .0 (sym (c .answer) ∙ e) in
       record { passes = P; held = record { grammar = passed-holds bytes P c; owned = passed-owned bytes P } }
 
   module _ (P : Passes bs) (formula cells : List ℕ) where
@@ -81,14 +85,16 @@ module _ {bs : List ℕ} (bytes : Bytes bs) where
       in-lexicon e = e ∙ ap (λ (l : Lexicon). scanInto l formula tokens words) (naming.lexicon-passed bs bytes P)
 
       -- A scan that refuses is the end of the parse.
-      pub parse-stops : {r : Refusal} {tokens′ words′ : List ℕ} → filled (Unscanned r) tokens′ words′ ≡ scanInto (lexiconOf bs) formula tokens words
-          → halt r cells ≡ parse bs formula cells
-      parse-stops e = sym (parsing.parse-unscanned bs formula cells passed (scan-refused lex few formula room (in-lexicon e)))
+      pub parse-stops : {a : Scanned} {r : Refusal} {tokens′ words′ : List ℕ} → filled a tokens′ words′ ≡ scanInto (lexiconOf bs) formula tokens words
+          → a ≡ Unscanned r → halt r cells ≡ parse bs formula cells
+      parse-stops {tokens′ = tokens′} {words′} e h =
+          let f = ap (λ (x : Scanned). filled x tokens′ words′) (sym h) ∙ in-lexicon e in
+          sym (parsing.parse-unscanned bs formula cells passed (scan-refused lex few formula room f))
 
       -- One that does not leaves its tokens and words in the rooms.
-      pub scan-fills : {n count : ℕ} {tokens′ words′ : List ℕ} → filled (Tokens n count) tokens′ words′ ≡ scanInto (lexiconOf bs) formula tokens words
-          → Holds lex few formula tokens′ words′ n count
-      scan-fills e = scan-holds lex few formula room (in-lexicon e)
+      pub scan-fills : {a : Scanned} {n count : ℕ} {tokens′ words′ : List ℕ} → filled a tokens′ words′ ≡ scanInto (lexiconOf bs) formula tokens words
+          → a ≡ Tokens n count → Holds lex few formula tokens′ words′ n count
+      scan-fills {tokens′ = tokens′} {words′} e h = scan-holds lex few formula room (ap (λ (x : Scanned). filled x tokens′ words′) (sym h) ∙ in-lexicon e)
 
     -- ------------------------------------------------------------------ the run
 
@@ -141,7 +147,7 @@ module _ {bs : List ℕ} (bytes : Bytes bs) (cells : List ℕ) {formula words ce
   answers : run (input (grammarOf (P .table)) (lexed .tokens) (rowsIn cells)) (P .table .root) cells ≡ done v s cells′
   answers = sym (parsing.parse-run bs formula cells (passed bytes P formula cells) (K .answered)) ∙ sym reached
 
-  derived : Parses (grammarOf (P .table)) spell (P .table .root) (lexed .tokens) (termAt (s .made) spell cells′ v)
+  derived : Figure3.Parses (grammarOf (P .table)) spell (P .table .root) (lexed .tokens) (termAt (s .made) spell cells′ v)
   derived = expansion.accepted-is-derived (P .table) T L (rowsIn cells) cells (omega arith) v s cells′ answers
 
   leaves : (s .made ≤ rowsIn cells) × (length cells′ ≡ length cells)
@@ -180,7 +186,9 @@ module _ {bs : List ℕ} (bytes : Bytes bs) (cells : List ℕ) {formula words ce
         wordsFit = naming.words-fit bs bytes P formula words (K .answered) (K .words-are);
         distinct = naming.distinct bs bytes P formula words (K .answered) (K .words-are);
         whole = record { few = omega (arith, long, rows-lie .few); whole = omega (arith, long) };
-        wellNamed = rw (spelled-is, term-is) named;
+        wellNamed =
+            subst (λ (f : ℕ → List ℕ). WellNamed f (termAt (s .made) f (take (s .made * columns) cells′) v)) (sym spelled-is)
+            (subst (WellNamed spell) (sym (leaves .2)) named);
       }
 
   -- What the last step answers and writes is what the expansion does.
@@ -193,3 +201,39 @@ module _ {bs : List ℕ} (bytes : Bytes bs) (cells : List ℕ) {formula words ce
       ∙ ap (finished spell text) (sym reached)
       ∙ ap (λ (u : Term Name). withCells cells′ (emitted textOf (s .made) u text)) (sym term-is)
       ∙ ap (withCells cells′) e)
+
+-- ------------------------------------------------------------------ the promises of the parse and of the whole call
+
+-- A parse that refused before its run.
+pub refused-parses : {bs formula cells : List ℕ} (words′ : List ℕ) {r : Refusal} {q : Parsed} → q ≡ record { outcome = Halted r; words = 0 }
+    → halt r cells ≡ parse bs formula cells → Parses bs formula cells words′ cells q
+refused-parses {cells = cells} words′ {r} {q} e h =
+    let never : (v : ℕ) (s : State) → q .outcome ≡ Value v s → ⊥ = λ v s z. let n : _≡_ {A = ℕ} 0 1 = cc in omega arith in
+    record {
+      equal = ap (λ (p : Parsed). ran (p .outcome) cells) e ∙ h;
+      words-known = λ v s z. absurd (never v s z);
+      rows-lie = λ v s z. absurd (never v s z);
+    }
+
+-- A parse that ran.
+pub ran-parses : {bs : List ℕ} (bytes : Bytes bs) (P : Passes bs) (formula cells : List ℕ) {tokens′ words′ cells′ : List ℕ} {n count : ℕ} {o : Outcome}
+    → Holds (lexiconOfTable (P .table)) (P .within .outsideCount) formula tokens′ words′ n count
+    → ran o cells′ ≡ run (lentInput bs tokens′ n (rowsIn cells)) (getD bs (length bs - 1) 0) cells
+    → Parses bs formula cells words′ cells′ (record { outcome = o; words = count })
+ran-parses bytes P formula cells {cells′ = cells′} H e =
+    let same = e ∙ parse-runs bytes P formula cells H in
+    record {
+      equal = same;
+      words-known = λ v s z. known bytes P formula cells H;
+      rows-lie = λ v s z. rows-lie bytes cells (known bytes P formula cells H) (ap (λ (x : Outcome). ran x cells′) (sym z) ∙ same);
+    }
+
+module _ {bs formula cells words′ cells′ : List ℕ} {q : Parsed} (p : Parses bs formula cells words′ cells′ q) where
+  -- A call whose parse refuses.
+  pub call-refuses : (text : List ℕ) {r : Refusal} → q .outcome ≡ Halted r → expanded (Refusing r) cells′ text ≡ expand bs formula cells text
+  call-refuses text e =
+      sym (parsing.expand-refused bs formula cells text (sym (p .equal) ∙ ap (λ (x : Outcome). ran x cells′) e))
+
+  -- A call whose parse reaches a value.
+  pub value-reached : {v : ℕ} {s : State} → q .outcome ≡ Value v s → done v s cells′ ≡ parse bs formula cells
+  value-reached e = ap (λ (x : Outcome). ran x cells′) (sym e) ∙ p .equal

@@ -24,7 +24,7 @@ use Rattle.terms.specs.Term.{Name, outside, Term, Fields}
 use Rattle.terms.specs.Names.{Distinct, VariableName, BinderName, WellNamed, WellNamedFields}
 use Rattle.kinds.specs.Kinds.{wordKind}
 use Rattle.scanner.specs.declared.Token.{Token}
-use Rattle.expansion.specs.Places.{Has, Given, word-at, outside-name, VarPlace, var-var, var-binder, var-local, var-outside, BinderPlace, binder-binder, binder-local, Placed, placed-variable, placed-function, placed-apply, placed-rcd, placed-dot, placed-number, PlacedFields, placed-nil, placed-cons}
+use Rattle.soundness.specs.Places.{Among, Given, word-at, outside-name, VarPlace, var-var, var-binder, var-local, var-outside, BinderPlace, binder-binder, binder-local, Placed, placed-variable, placed-function, placed-apply, placed-rcd, placed-dot, placed-number, PlacedFields, placed-nil, placed-cons}
 use Rattle.soundness.proofs.Placing.{Supplied, supplied-word, supplied-outside}
 use Rattle.soundness.proofs.Placing as placing
 use Rattle.checker.specs.Passes.{Passes}
@@ -57,7 +57,7 @@ words-at (suc k) i (suc j) formula room h =
 -- ------------------------------------------------------------------ names of a derived term
 
 module _ {tokens : List Token} {N : ℕ} {G : List Given} (spell : ℕ → List ℕ) (few : N ≤ 64) (known : Each (Supplied tokens N) G)
-    (words : (t : Token) → Has tokens t → t .kind ≡ wordKind → isWord (spell (t .value)) ≡ true)
+    (words : (t : Token) → Among tokens t → t .kind ≡ wordKind → isWord (spell (t .value)) ≡ true)
     (outsides : (n : ℕ) → n < N → isWord (spell n) ≡ true) where
   word-given : {B : ℕ} {t : Token} → Supplied tokens N (word-at B t) → isWord (spell (t .value)) ≡ true
   word-given (supplied-word h e) = words _ h e

@@ -9,7 +9,8 @@ ghost use mathlib.Core.Path.{_≡_};
 ghost use lib.ListN.{length, getD};
 ghost use Rattle.expansion.specs.Run.{ran};
 ghost use Rattle.expansion.specs.Expansion.{run};
-ghost use Rattle.expander.specs.Lent.{lentInput, rowsIn};
+ghost use Rattle.expander.specs.Lent.{lentInput};
+ghost use Rattle.templates.specs.Built.{rowsIn};
 ghost use Rattle.vegzump.specs.Parse.{HoldsPassed, Runnable, Parses};
 
 // The outcome of a parse, and how many words the formula has that are neither keywords nor outside names.
@@ -50,6 +51,20 @@ fn run_tokens(table: &[u8], room: &[u64; 641], tokens: &[u32; 16384], n: usize, 
     run(table, room, root, tokens, n, cells, &mut stack, &mut frames)
 }
 
+fn length_of(numbers: &[u32]) -> usize
+    ensures { λ r. ⌜ r ≡ length (now (numbers .entry)) ⌝ }
+{
+    numbers.len()
+}
+
+// The rooms of a scan are as long as their types say: looking at them makes it known.
+fn known_rooms(tokens: &[u32; 16384], words: &[u32; 8192]) -> usize
+    ensures { λ _. ⌜ (length (now (tokens .entry)) ≡ 16384) × (length (now (words .entry)) ≡ 8192) ⌝ }
+{
+    length_of(tokens);
+    length_of(words)
+}
+
 // The scan of a formula under a table that passes, and the run of its tokens.
 fn parse_checked(
     table: &[u8],
@@ -62,6 +77,7 @@ fn parse_checked(
     requires { ⌜ HoldsPassed (now table) (now room) ⌝ }
     ensures { λ r. ⌜ Parses (now (table .entry)) (now (formula .entry)) (now (cells .entry)) (now (words .exit)) (now (cells .exit)) r ⌝ }
 {
+    known_rooms(tokens, words);
     let scanned = scanner::scan(table, formula, tokens, words);
     match scanned {
         Scanned::Unscanned(r) => halted(r),

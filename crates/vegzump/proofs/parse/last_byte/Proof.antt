@@ -1,22 +1,20 @@
+-- `last_byte`: the byte before the end, or 0.
+use mathlib.Core.Path.{sym}
+use native.Mathlib.Omega.{arith}
 use borrow.Author.Needs.{needs}
+use lib.ListN.{List·getD-eq-default}
 use Rattle.vegzump.proofs.parse.last_byte.Statement.{statement}
 use Rattle.vegzump.proofs.parse.last_byte.Tie as tie
-use Rattle.vegzump.proofs.parse.last_byte.Reads as reads
-use Rattle.vegzump.proofs.parse.last_byte.Lts as lts
 
--- src/parse.rt:36:9
 returns : tie.Need-returns
-returns c = ?
+returns c = sym (List·getD-eq-default (c .before .args .bytes .now) 0 (omega arith))
 
--- src/parse.rt:38:11
 sub-result : tie.Need-sub-result
 sub-result c = search needs
 
--- src/parse.rt:38:5
 shared-slice-read-result : tie.Need-shared-slice-read-result
 shared-slice-read-result c = search needs
 
--- src/parse.rt:32:1
 returns-2 : tie.Need-returns-2
 returns-2 c = search needs
 
