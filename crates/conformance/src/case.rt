@@ -7,10 +7,15 @@ ghost use Prim.Native.Nat.{_<_};
 // The last of document 01's causes.
 const LAST_CAUSE: u32 = 24;
 
-// How much of their rooms a case's table and formula take, from the front, and the answer expected.
+// How much of their rooms the parts of a case take, from the front: its table and formula, the cells and the text that are lent, the rows
+// (in bytes) and the text that are expected; and the answer expected.
 pub struct Sizes {
     pub table: usize,
     pub formula: usize,
+    pub cells: usize,
+    pub text: usize,
+    pub rows: usize,
+    pub written: usize,
     pub expected: Refusal,
 }
 
@@ -56,6 +61,17 @@ fn wide(b: u8) -> u32
 
 fn number_of(b: &[u8; 4]) -> u32 {
     ((wide(b[0]) * 256 + wide(b[1])) * 256 + wide(b[2])) * 256 + wide(b[3])
+}
+
+// The number at an offset of some bytes; 0 if it is not whole.
+pub fn number_at(bytes: &[u8], at: usize) -> u32 {
+    if bytes.len() < 4 {
+        return 0;
+    }
+    if bytes.len() - 4 < at {
+        return 0;
+    }
+    number_of(&[bytes[at], bytes[at + 1], bytes[at + 2], bytes[at + 3]])
 }
 
 fn read_four(file: i32) -> Four {
@@ -151,22 +167,28 @@ fn read_rest(
     let Part::Size(size) = read_part(file, formula) else {
         return Case::Broken;
     };
-    // the cells and the text that are lent, four bytes each
-    let Eight::Value(_) = read_eight(file) else {
+    let Four::Value(cells) = read_four(file) else {
+        return Case::Broken;
+    };
+    let Four::Value(lent) = read_four(file) else {
         return Case::Broken;
     };
     let Expected::Answer(expected) = read_expected(file) else {
         return Case::Broken;
     };
-    let Part::Size(_) = read_rows(file, rows) else {
+    let Part::Size(made) = read_rows(file, rows) else {
         return Case::Broken;
     };
-    let Part::Size(_) = read_part(file, text) else {
+    let Part::Size(written) = read_part(file, text) else {
         return Case::Broken;
     };
     Case::Whole(Sizes {
         table,
         formula: size,
+        cells: cells as usize,
+        text: lent as usize,
+        rows: made,
+        written,
         expected,
     })
 }

@@ -1,5 +1,5 @@
-// Runs the conformance cases of the file `cases.bin` in the folder it is started in: for each case the answer of the table check and, where
-// the table passes, that of the scanner are compared with the answer expected. A line names each case that differs, and the last line is
+// Runs the conformance cases of the file `cases.bin` in the folder it is started in: for each case the answer of the expansion, every cell
+// and every byte of the text are compared with those expected. A line names each case that differs, and the last line is
 // `CASES cases, DIFFER differ`. A file that is missing, cut or malformed gives one line that says so and nothing else, so the whole file is
 // read once before any case is compared.
 mod case;
@@ -28,7 +28,7 @@ fn tally_cases(file: i32, compares: bool) -> Tally {
         let next = case::read_case(file, &mut table, &mut formula, &mut rows, &mut text);
         match next {
             Case::Whole(sizes) => {
-                if compares && comparison::differs(cases, sizes, &table, &formula) {
+                if compares && comparison::differs(cases, sizes, &table, &formula, &rows, &text) {
                     differ += 1;
                 }
                 cases += 1;
@@ -58,7 +58,7 @@ fn tally_file(compares: bool) -> Tally {
 // Writes the last line.
 fn conclude(tally: Tally) {
     match tally {
-        Tally::Read(cases, differ) => report::total(cases, differ),
+        Tally::Read(cases, differ) => reports::total(cases, differ),
         Tally::Broken(index) => report::broken(index),
         Tally::Missing => report::missing(),
     }

@@ -1,5 +1,6 @@
 pub mod Expand
 pub mod Parse
+pub mod Replies
 pub mod Meaning
 pub mod Origins
 pub mod Hygiene

@@ -40,7 +40,13 @@ fn last_byte(bytes: &[u8]) -> u8
 }
 
 // The run of n tokens, with rooms for templates and for calls that wait.
-fn run_tokens(table: &[u8], room: &[u64; 641], tokens: &[u32; 16384], n: usize, cells: &mut [u32]) -> Outcome
+fn run_tokens(
+    table: &[u8],
+    room: &[u64; 641],
+    tokens: &[u32; 16384],
+    n: usize,
+    cells: &mut [u32],
+) -> Outcome
     requires { ⌜ Runnable (now table) (now room) (now tokens) n ⌝ }
     ensures { λ r. ⌜ ran r (now (cells .exit)) ≡ run (lentInput (now (table .entry)) (now (tokens .entry)) n (rowsIn (now (cells .entry))))
         (getD (now (table .entry)) (length (now (table .entry)) - 1) 0) (now (cells .entry)) ⌝ }

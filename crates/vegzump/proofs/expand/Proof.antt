@@ -5,6 +5,8 @@ use mathlib.Core.List.{List}
 use native.Mathlib.Omega.{arith}
 use lib.Seq.{length-take-le}
 use Rattle.layout.proofs.Split.{Bytes}
+use Rattle.answers.specs.Refusals.{numbered}
+use Rattle.vegzump.specs.Expand.{Expanded}
 use Rattle.vegzump.proofs.Joining as joining
 use Rattle.vegzump.proofs.Demands as demands
 use borrow.Author.Needs.{needs}
@@ -64,7 +66,7 @@ returns : tie.Need-returns
 returns c =
     let p = c .before .before .before .before .before in
     let e = joining.call-refuses (p .parse .ensures) _ (c .before .outcome .given .1) in
-    (e, demands.call-meets-demand-3 _ (bytes p) _ _ _ e)
+    (e, (ap (λ (x : Expanded). numbered (x .answer)) e, demands.call-meets-demand-3 _ (bytes p) _ _ _ e))
 
 same-length-2 : tie.Need-same-length-2
 same-length-2 c = search needs
@@ -78,7 +80,7 @@ returns-2 c =
     let q = p .parse .ensures in
     let v = c .before .before .before .before .before .before .before .outcome2 .given .1 in
     let e = joining.emits (bytes p) _ (q .words-known _ _ v) (joining.value-reached q v) _ (c .before .before .emit .ensures) in
-    (e, demands.call-meets-demand-3 _ (bytes p) _ _ _ e)
+    (e, (ap (λ (x : Expanded). numbered (x .answer)) e, demands.call-meets-demand-3 _ (bytes p) _ _ _ e))
 
 pub expand-spec : {M : Type 1} → statement M
 expand-spec =

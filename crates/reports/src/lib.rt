@@ -1,0 +1,59 @@
+// What the programs share: a room's front, and the lines that name an answer.
+use answers::Answer;
+use answers::Refusal;
+use libc::STDOUT_FILENO;
+
+// The first n bytes of a room, or all if it has no more.
+pub fn front(room: &[u8], n: usize) -> &[u8] {
+    if room.len() < n {
+        return room;
+    }
+    &room[..n]
+}
+
+pub fn print(line: &[u8]) {
+    io::write_all(STDOUT_FILENO, line);
+}
+
+pub fn print_number(v: u64) {
+    io::print_decimal(STDOUT_FILENO, v);
+}
+
+fn print_value(v: u64) {
+    print(b" ");
+    print_number(v);
+}
+
+fn print_values(a: u64, b: u64, c: u64) {
+    print_value(a);
+    print_value(b);
+    print_value(c);
+}
+
+// A number and its three values, each behind a space.
+pub fn print_numbers(r: Refusal) {
+    print_value(r.number as u64);
+    print_values(r.a, r.b, r.c);
+}
+
+// An answer: `ok` with the three counts, or `refused` with the number and the three values.
+pub fn print_answer(answer: Answer) {
+    match answer {
+        Answer::Accepted(cells, constructors, length) => {
+            print(b"ok");
+            print_values(cells as u64, constructors as u64, length as u64);
+        }
+        Answer::Refusing(r) => {
+            print(b"refused");
+            print_numbers(r);
+        }
+    }
+}
+
+// The last line of a run of cases.
+pub fn total(cases: u64, differ: u64) {
+    print_number(cases);
+    print(b" cases, ");
+    print_number(differ);
+    print(b" differ\n");
+}

@@ -1,0 +1,34 @@
+-- `vegzump_expand`: the answer as a reply, beside the cells and the text.
+use Prim.Native.Nat.{ℕ}
+use mathlib.Core.Path.{_≡_, ap, _∙_}
+use mathlib.Core.List.{List}
+use borrow.Author.Needs.{needs}
+use Rattle.answers.specs.declared.Answer.{Answer}
+use Rattle.answers.specs.Refusals.{numbered}
+use Rattle.vegzump.specs.declared.hosts.Reply.{Reply}
+use Rattle.vegzump.specs.Expand.{Expanded, expanded}
+use Rattle.vegzump.specs.Replies.{reply, Replied, replied, replyOf}
+use Rattle.vegzump.proofs.hosts.vegzump_expand.Statement.{statement}
+use Rattle.vegzump.proofs.hosts.vegzump_expand.Tie as tie
+
+-- a reply made of an answer, beside the same cells and text
+beside : {o : Reply} {a : Answer} {cells text : List ℕ} {x : Expanded} → o ≡ reply (numbered a) → expanded a cells text ≡ x → replied o cells text ≡ replyOf x
+beside {cells = cells} {text} e h = ap (λ (o : Reply). replied o cells text) e ∙ ap replyOf h
+
+expand-requires : tie.Need-expand-requires
+expand-requires c κs = search needs
+
+of-answer-requires : tie.Need-of-answer-requires
+of-answer-requires c κs = search needs
+
+same-length : tie.Need-same-length
+same-length c = search needs
+
+same-length-2 : tie.Need-same-length-2
+same-length-2 c = search needs
+
+returns : tie.Need-returns
+returns c = beside (c .of-answer .ensures) (c .before .before .before .before .before .expand .ensures .0)
+
+pub vegzump-expand-spec : {M : Type 1} → statement M
+vegzump-expand-spec = tie.close (tie.spec expand-requires of-answer-requires same-length same-length-2 returns)
