@@ -52,7 +52,8 @@ fn first_round(
     nulls: u64,
     sets: &mut [u64],
 ) -> bool
-    ensures { λ r. ⌜ now (sets .exit) ≡ overAll (firstStep calls nulls) (productionsBy m (now (table .entry)) (now (owners .entry)) (now (starts .entry))) (now (sets .entry)) ⌝ }
+    ensures { λ r. ⌜ now (sets .exit)
+        ≡ overAll (firstStep calls nulls) (productionsBy m (now (table .entry)) (now (owners .entry)) (now (starts .entry))) (now (sets .entry)) ⌝ }
     ensures { λ r. ⌜ (r ≡ false → now (sets .exit) ≡ now (sets .entry)) ⌝ }
 {
     let mut changed = false;
