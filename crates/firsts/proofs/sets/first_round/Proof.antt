@@ -44,7 +44,7 @@ same-length : tie.Need-same-length Inv-loop μ-loop
 same-length c = search needs
 
 returns : tie.Need-returns Inv-loop μ-loop
-returns c = (laws.over-end (c .before .loop .inv .over) (c .loop-test .left), c .before .loop .inv .same)
+returns c = record { sets-are = laws.over-end (c .before .loop .inv .over) (c .loop-test .left); same = c .before .loop .inv .same }
 
 pub first-round-spec : {M : Type 1} → statement M
 first-round-spec =

@@ -32,14 +32,14 @@ loop-again : tie.Need-loop-again Inv-loop μ-loop
 loop-again c =
     let at-loop-test = c .before .before .before in
     let at-loop = at-loop-test .before in
-    laws.rounds-next (at-loop .loop .inv) (at-loop-test .loop-test .taken) (c .before .first-round .ensures .0)
+    laws.rounds-next (at-loop .loop .inv) (at-loop-test .loop-test .taken) (c .before .first-round .ensures .sets-are)
 
 returns : tie.Need-returns Inv-loop μ-loop
 unfolding setsOf
 returns c =
     let at-loop = c .before .before .before .before in
-    c .before .first-round .ensures .1 (c .if1 .left) ∙ laws.rounds-stop (at-loop .loop .inv)
-    (sym (c .before .first-round .ensures .0) ∙ c .before .first-round .ensures .1 (c .if1 .left))
+    c .before .first-round .ensures .same (c .if1 .left) ∙ laws.rounds-stop (at-loop .loop .inv)
+    (sym (c .before .first-round .ensures .sets-are) ∙ c .before .first-round .ensures .same (c .if1 .left))
 
 returns-2 : tie.Need-returns-2 Inv-loop μ-loop
 unfolding setsOf
