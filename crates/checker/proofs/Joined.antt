@@ -6,6 +6,7 @@ use native.Mathlib.Omega.{arith}
 use lib.ListN.{length, drop}
 use Rattle.answers.specs.Checked.{Checked, ok, bad, _>>=_, _>>_, verdict}
 use Rattle.answers.specs.declared.Verdict.{Verdict}
+use Rattle.answers.specs.declared.Verdict.the-variants.{Passed}
 use Rattle.grammar.specs.Encode.{encode}
 use Rattle.grammar.specs.Fields.{fieldsOf}
 use Rattle.grammar.specs.Lookup.{fieldsAt}
@@ -22,8 +23,10 @@ use Rattle.productions.proofs.FewAlternatives.{few-alternatives}
 use Rattle.productions.proofs.NormalizedByFields.{normalized-by}
 use Rattle.productions.proofs.Places.{productions-at, few-places, whole-places}
 use Rattle.firsts.specs.Room.{productionsIn, tableRoom, HoldsGrammar}
+use Rattle.checker.specs.Check.{check}
 use Rattle.checker.specs.CheckedInto.{roomBy, roomAfter, CheckedInto}
 use Rattle.checker.specs.Passes.{grammarOf, Passes}
+use Rattle.checker.proofs.Passing.{check-exactly}
 
 -- the layout of what was decoded is right
 laid : {A : Type 0} (c : Checked (Unit {0})) (u : A) {t : A} → (c >> ok u) ≡ ok t → c ≡ ok tt
@@ -60,3 +63,14 @@ module _ {bs : List ℕ} (bytes : Bytes bs) (p : Passes bs) where
   -- Each of its productions is of one of the 64 nonterminals.
   pub passed-owned : Each (λ (q : Place). q .owner < 64) (placesOf bs)
   passed-owned = each-map (λ q w. w .small) (whole-places bs laid-out)
+
+-- What a caller has of a room after a check that passed.
+pub record Joined (bs room : List ℕ) : Type 0 where
+  pub passes : Passes bs
+  pub grammar : productionsIn bs ≡ grammarOf (passes .table)
+  pub holds : HoldsGrammar bs room
+
+pub joined : {bs : List ℕ} → Bytes bs → check bs ≡ Passed → {room₀ room : List ℕ} {r : Verdict} → CheckedInto bs room₀ room r → Joined bs room
+joined {bs} bytes h c =
+    let p : Passes bs = check-exactly bs bytes .0 h in
+    record { passes = p; grammar = passed-grammar bytes p; holds = passed-holds bytes p c }

@@ -16,7 +16,8 @@ use Rattle.answers.specs.Checked.{Checked, ok, bad}
 use Rattle.kinds.specs.Kinds.{hasKind}
 use Rattle.kinds.specs.KindsLaws.{lowest-has, lowest-first}
 use Rattle.productions.specs.Normal.{Production}
-use Rattle.firsts.specs.First.{nullables, firstSets, leftCalls, sharedBy, clash, anyPair, joinPairs, lowest, leftRecursive, clashing, lowestShared, noLeftRecursion, noClash, checkFirsts}
+use Rattle.firsts.specs.First.{nullables, firstSets, leftCalls, sharedBy, clash, anyPair, joinPairs, lowest, leftRecursive, clashing}
+use Rattle.firsts.specs.First.{lowestShared, noLeftRecursion, noClash, checkFirsts}
 use Rattle.firsts.specs.Rules.{Calls}
 use Rattle.firsts.specs.FirstRefusals.{Shares, Clashes, Lowest, LowestOr64, Never, LeftRecursive, Says12, Says13, Says}
 use Rattle.firsts.proofs.FirstSetsExactly.{sets-exactly, calls-exactly}

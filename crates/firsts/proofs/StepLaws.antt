@@ -14,6 +14,7 @@ use Rattle.kinds.specs.Kinds.{only}
 use Rattle.grammar.specs.Lookup.{fieldsAt}
 use Rattle.productions.specs.Normal.{Production}
 use Rattle.firsts.specs.First.{rounds, overAll, allPassed, nullStep, gather, firstStep, setsOf}
+use Rattle.firsts.specs.SetCalls.{Grown}
 use Rattle.productions.specs.Index.{itemsOf, Place, productionAt, productionsAt, placesFrom, productionsBy}
 use Rattle.productions.proofs.IndexLaws.{places-next, places-none}
 use Rattle.firsts.proofs.Rounds.{rounds-fixed}
@@ -121,13 +122,13 @@ or-false false b e = (refl, e)
 module _ {calls : Bool} {nulls : ℕ} {bs owners starts : List ℕ} {m : ℕ} {sets₀ : List ℕ} {j : ℕ} {sets : List ℕ} {changed : Bool}
     (c : Joining calls nulls bs owners starts m sets₀ j sets changed) where
   pub joining-next : j < m → {o s : ℕ} → o ≡ getD owners j 0 → s ≡ getD starts j 0 → {sets′ : List ℕ} {more : Bool}
-      → (sets′ ≡ firstStep calls nulls (productionAt bs o s) sets) × (more ≡ false → sets′ ≡ sets)
+      → Grown (firstStep calls nulls (productionAt bs o s) sets) sets sets′ more
       → length sets′ ≡ length sets
       → Joining calls nulls bs owners starts m sets₀ (j + 1) sets′ (changed || more)
   joining-next h eo es {more = more} e k =
       record {
-        over = over-next (c .over) h eo es (e .0);
-        same = λ f. e .1 (or-false changed more f .1) ∙ c .same (or-false changed more f .0);
+        over = over-next (c .over) h eo es (e .sets-are);
+        same = λ f. e .same (or-false changed more f .1) ∙ c .same (or-false changed more f .0);
         as-many = k ∙ c .as-many;
       }
 

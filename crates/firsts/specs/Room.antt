@@ -61,6 +61,10 @@ pub record FillRoom (bs : List ℕ) (m : ℕ) (owners starts sets room : List �
   pub index : WholeIndex bs m owners starts
   pub lent : RoomAndSets room sets
 
+-- the room of an index, with given sets, over what was there
+abbrev pub filled : List ℕ → ℕ → List ℕ → List ℕ → ℕ → List ℕ → List ℕ → List ℕ
+filled bs m owners starts nulls sets room = overwritten (roomBy bs (placesIn m owners starts) nulls sets) room
+
 -- the nullable nonterminals, and the room over what was there
 pub record Prepared (bs : List ℕ) (places : List Place) (room₀ room : List ℕ) (nulls : ℕ) : Type 0 where
   pub nulls-are : nulls ≡ nullables (productionsAt bs places)

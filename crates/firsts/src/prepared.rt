@@ -15,10 +15,9 @@ use productions::room::lay;
 ghost use mathlib.Core.Path.{_≡_};
 ghost use Rattle.answers.specs.Checked.{verdict};
 ghost use Rattle.productions.specs.Index.{placesIn, productionsBy};
-ghost use Rattle.productions.specs.Room.{overwritten};
 ghost use Rattle.firsts.specs.First.{leftCalls, leftRecursive};
 ghost use Rattle.firsts.specs.Pairs.{noClashIn};
-ghost use Rattle.firsts.specs.Room.{roomBy, WholeIndex, FillRoom, Prepared, FirstsChecked};
+ghost use Rattle.firsts.specs.Room.{filled, WholeIndex, FillRoom, Prepared, FirstsChecked};
 
 // Writes the room of a grammar with these nullable nonterminals and first sets. The productions are laid from the last to the first, so
 // that each finds the next one of its nonterminal.
@@ -32,7 +31,8 @@ fn fill(
     room: &mut [u64],
 )
     requires { ⌜ FillRoom (now table) m (now owners) (now starts) (now sets) (now room) ⌝ }
-    ensures { λ r. ⌜ now (room .exit) ≡ overwritten (roomBy (now (table .entry)) (placesIn m (now (owners .entry)) (now (starts .entry))) nulls (now (sets .entry))) (now (room .entry)) ⌝ }
+    ensures { λ r. ⌜ now (room .exit)
+        ≡ filled (now (table .entry)) m (now (owners .entry)) (now (starts .entry)) nulls (now (sets .entry)) (now (room .entry)) ⌝ }
 {
     begin(room, m, sets);
     let mut j = m;

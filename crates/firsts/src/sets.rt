@@ -4,16 +4,15 @@ use grammar::reader::byte;
 use kinds::join;
 use productions::index::offset;
 ghost use mathlib.Core.Path.{_≡_};
-ghost use mathlib.Core.Bool.{false};
 ghost use lib.Bits.{bitOr};
 ghost use lib.ListN.{getD, set};
 ghost use Rattle.firsts.specs.First.{overAll, firstStep, setsOf};
+ghost use Rattle.firsts.specs.SetCalls.{Grown};
 ghost use Rattle.productions.specs.Index.{productionAt, productionsBy};
 
 // Joins what was found to the set of nonterminal n, and tells whether that changed it.
 fn join_at(sets: &mut [u64], n: u8, found: u64) -> bool
-    ensures { λ r. ⌜ now (sets .exit) ≡ set (now (sets .entry)) n (bitOr (getD (now (sets .entry)) n 0) found) ⌝ }
-    ensures { λ r. ⌜ (r ≡ false → now (sets .exit) ≡ now (sets .entry)) ⌝ }
+    ensures { λ r. ⌜ Grown (set (now (sets .entry)) n (bitOr (getD (now (sets .entry)) n 0) found)) (now (sets .entry)) (now (sets .exit)) r ⌝ }
 {
     let i = n as usize;
     if i < sets.len() {
@@ -35,8 +34,8 @@ fn first_step(
     nulls: u64,
     sets: &mut [u64],
 ) -> bool
-    ensures { λ r. ⌜ now (sets .exit) ≡ firstStep calls nulls (productionAt (now (table .entry)) owner start) (now (sets .entry)) ⌝ }
-    ensures { λ r. ⌜ (r ≡ false → now (sets .exit) ≡ now (sets .entry)) ⌝ }
+    ensures { λ r. ⌜ Grown (firstStep calls nulls (productionAt (now (table .entry)) owner start) (now (sets .entry)))
+        (now (sets .entry)) (now (sets .exit)) r ⌝ }
 {
     let found = gather(table, start, calls, nulls, sets);
     join_at(sets, owner, found)
@@ -52,8 +51,9 @@ fn first_round(
     nulls: u64,
     sets: &mut [u64],
 ) -> bool
-    ensures { λ r. ⌜ now (sets .exit) ≡ overAll (firstStep calls nulls) (productionsBy m (now (table .entry)) (now (owners .entry)) (now (starts .entry))) (now (sets .entry)) ⌝ }
-    ensures { λ r. ⌜ (r ≡ false → now (sets .exit) ≡ now (sets .entry)) ⌝ }
+    ensures { λ r. ⌜ Grown
+        (overAll (firstStep calls nulls) (productionsBy m (now (table .entry)) (now (owners .entry)) (now (starts .entry))) (now (sets .entry)))
+        (now (sets .entry)) (now (sets .exit)) r ⌝ }
 {
     let mut changed = false;
     let mut j: usize = 0;

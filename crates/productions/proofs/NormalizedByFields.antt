@@ -11,7 +11,8 @@ use Rattle.spellings.specs.BytesLaws.{by-test}
 use Rattle.grammar.specs.Table.{variable, Table}
 use Rattle.grammar.specs.Encode.{tableFields, encode}
 use Rattle.grammar.specs.Fields.{Fields, end, cut, next, fieldsOf}
-use Rattle.layout.specs.Decode.{Built, put, putNothing, putKeyword, putOutside, putBlock, putDefinition, putAlternative, putItem, putResult, putRoot, build, itemOf, definitionOf, modeOf}
+use Rattle.layout.specs.Decode.{Built, put, putNothing, putKeyword, putOutside, putBlock, putDefinition, putAlternative, putItem, putResult, putRoot}
+use Rattle.layout.specs.Decode.{build, itemOf, definitionOf, modeOf}
 use Rattle.layout.specs.Within.{Within}
 use Rattle.layout.proofs.Split.{fields-of-bytes}
 use Rattle.layout.proofs.Order.{up-to-eight}

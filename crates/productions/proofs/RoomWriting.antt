@@ -8,8 +8,10 @@ use native.Mathlib.Omega.{arith}
 use lib.ListN.{length, getD, set, drop, length-append, length-set, length-drop, List·getD-append}
 use lib.Seq.{drop-cons, getD-append-add, getD-set-same, getD-set-other, getD-drop, drop-set-lt, drop-length, drop-append-add, drop-drop}
 use borrow.Author.Tests.{eq-eqb, ne-eqb}
-use Rattle.productions.specs.Room.{Entry, noEntry, placesNumber, flagNumber, linkNumber, placeFrom, isOf, isNullableOf, entryNumbers, roomOf, overwritten, valuesOf, begun, laid, RoomAndSets, RoomAt}
-use Rattle.productions.proofs.RoomLaws.{length-values, length-room, place-small, entry-first, entry-link, length-entries, first-part, second-part, last-part, length-parts, parts-are}
+use Rattle.productions.specs.Room.{Entry, noEntry, placesNumber, flagNumber, linkNumber, placeFrom, isOf, isNullableOf, entryNumbers, roomOf}
+use Rattle.productions.specs.Room.{overwritten, valuesOf, begun, laid, RoomAndSets, RoomAt}
+use Rattle.productions.proofs.RoomLaws.{length-values, length-room, place-small, entry-first, entry-link, length-entries, first-part}
+use Rattle.productions.proofs.RoomLaws.{second-part, last-part, length-parts, parts-are}
 
 -- ------------------------------------------------------------------ the room is begun
 

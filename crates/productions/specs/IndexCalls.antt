@@ -1,10 +1,11 @@
 -- What the functions that build the index of a table ask and promise. These mirror code: nobody needs them to believe `expand`.
 use Prim.Native.Nat.{ℕ, _≤_}
 use mathlib.Core.Path.{_≡_}
-use mathlib.Core.List.{List}
-use lib.ListN.{length}
+use mathlib.Core.List.{List, [], _∷_, _++_}
+use lib.ListN.{length, getD}
 use Rattle.grammar.specs.Fields.{fieldsOf}
-use Rattle.productions.specs.Index.{Place, placesIn, alternativeFields}
+use Rattle.layout.specs.Decode.{modeOf}
+use Rattle.productions.specs.Index.{Place, placesIn, placesKept, alternativeFields}
 
 -- two arrays with room for k productions
 pub record RoomFor (k : ℕ) (owners starts : List ℕ) : Type 0 where
@@ -20,3 +21,11 @@ pub record Index (places : List Place) (most r : ℕ) (owners starts : List ℕ)
 pub record FitsIndex (bs : List ℕ) : Type 0 where
   pub short : length bs ≤ 16384
   pub few : alternativeFields (fieldsOf bs) ≤ 256
+
+-- one place more behind others
+abbrev pub behind : List Place → ℕ → ℕ → List Place
+behind places owner start = places ++ (record { owner = owner; start = start } ∷ [])
+
+-- what the head of a definition leaves of some places
+abbrev pub redefined : List ℕ → List Place → List Place
+redefined head places = placesKept (modeOf (getD head 1 0)) (getD head 0 0) places

@@ -4,11 +4,9 @@ use grammar::front_at;
 use grammar::reader::byte;
 ghost use Prim.Native.Nat.{_+_, _≤_};
 ghost use mathlib.Core.Path.{_≡_};
-ghost use mathlib.Core.List.{[], _∷_, _++_};
 ghost use lib.ListN.{getD};
-ghost use Rattle.layout.specs.Decode.{modeOf};
-ghost use Rattle.productions.specs.Index.{placesIn, placesOf, placesKept, placesWithout};
-ghost use Rattle.productions.specs.IndexCalls.{RoomFor, Index, FitsIndex};
+ghost use Rattle.productions.specs.Index.{placesIn, placesOf, placesWithout};
+ghost use Rattle.productions.specs.IndexCalls.{RoomFor, Index, FitsIndex, behind, redefined};
 
 fn wide(x: u16) -> usize
     ensures { λ r. ⌜ r ≡ x ⌝ }
@@ -26,7 +24,8 @@ pub fn offset(starts: &[u16], j: usize) -> usize
 // Lays a production behind the first k.
 fn push(owners: &mut [u8], starts: &mut [u16], k: usize, owner: u8, start: u16)
     requires { ⌜ RoomFor (k + 1) (now owners) (now starts) ⌝ }
-    ensures { λ r. ⌜ placesIn (k + 1) (now (owners .exit)) (now (starts .exit)) ≡ placesIn k (now (owners .entry)) (now (starts .entry)) ++ (record { owner = owner; start = start } ∷ []) ⌝ }
+    ensures { λ r. ⌜ placesIn (k + 1) (now (owners .exit)) (now (starts .exit))
+        ≡ behind (placesIn k (now (owners .entry)) (now (starts .entry))) owner start ⌝ }
 {
     owners[k] = owner;
     starts[k] = start;
@@ -57,7 +56,8 @@ fn without(owners: &mut [u8], starts: &mut [u16], k: usize, n: u8) -> usize
 // The productions that the head of a definition leaves: an update drops those of its nonterminal.
 fn redefine(head: &[u8], owners: &mut [u8], starts: &mut [u16], k: usize) -> usize
     requires { ⌜ RoomFor k (now owners) (now starts) ⌝ }
-    ensures { λ r. ⌜ Index (placesKept (modeOf (getD (now (head .entry)) 1 0)) (getD (now (head .entry)) 0 0) (placesIn k (now (owners .entry)) (now (starts .entry)))) k r (now (owners .exit)) (now (starts .exit)) ⌝ }
+    ensures { λ r. ⌜ Index (redefined (now (head .entry)) (placesIn k (now (owners .entry)) (now (starts .entry))))
+        k r (now (owners .exit)) (now (starts .exit)) ⌝ }
 {
     let mode = byte(head, 1);
     if mode == 2 {

@@ -27,7 +27,11 @@ has-requires : tie.Need-has-requires Inv-loop μ-loop
 has-requires c κs = search needs
 
 returns : tie.Need-returns Inv-loop μ-loop
-returns c = laws.lowest-stop (c .before .before .before .before .loop .inv) (c .before .before .before .loop-test .taken) (laws.reach-is _ (c .before .before .set-at .ensures) (c .before .has .ensures) ∙ c .if1 .taken)
+returns c =
+    let at-loop-test = c .before .before .before in
+    let at-loop = at-loop-test .before in
+    laws.lowest-stop (at-loop .loop .inv) (at-loop-test .loop-test .taken)
+    (laws.reach-is _ (c .before .before .set-at .ensures) (c .before .has .ensures) ∙ c .if1 .taken)
 
 add-n : tie.Need-add-n Inv-loop μ-loop
 add-n c = search needs
@@ -36,7 +40,11 @@ loop-less : tie.Need-loop-less Inv-loop μ-loop
 loop-less c = search needs
 
 loop-again : tie.Need-loop-again Inv-loop μ-loop
-loop-again c = laws.lowest-next (c .before .before .before .before .loop .inv) (c .before .before .before .loop-test .taken) (laws.reach-is _ (c .before .before .set-at .ensures) (c .before .has .ensures) ∙ c .if1 .left)
+loop-again c =
+    let at-loop-test = c .before .before .before in
+    let at-loop = at-loop-test .before in
+    laws.lowest-next (at-loop .loop .inv) (at-loop-test .loop-test .taken)
+    (laws.reach-is _ (c .before .before .set-at .ensures) (c .before .has .ensures) ∙ c .if1 .left)
 
 returns-2 : tie.Need-returns-2 Inv-loop μ-loop
 returns-2 c = laws.lowest-end (c .before .loop .inv) (c .loop-test .left)

@@ -32,13 +32,26 @@ passed-requires : tie.Need-passed-requires Inv-loop μ-loop
 passed-requires c κs = search needs
 
 loop-less : tie.Need-loop-less Inv-loop μ-loop
-loop-less c = laws.step-less (c .before .before .before .before .before .before .before .before .before .args .table .now) (c .before .before .before .before .before .before .before .loop .at) (sym (c .before .before .before .step .given .1) ∙ c .before .before .before .before .before .item-at .ensures)
+loop-less c =
+    let at-step = c .before .before .before in
+    let at-item-at = at-step .before .before in
+    let at-loop = at-item-at .before .before in
+    let entry = at-loop .before .before in
+    laws.step-less (entry .args .table .now) (at-loop .loop .at) (sym (at-step .step .given .1) ∙ at-item-at .item-at .ensures)
 
 loop-again : tie.Need-loop-again Inv-loop μ-loop
-loop-again c = laws.all-next (c .before .before .before .before .before .before .before .loop .inv) (sym (c .before .before .before .step .given .1) ∙ c .before .before .before .before .before .item-at .ensures) (c .before .passed .ensures) (c .if1 .taken)
+loop-again c =
+    let at-step = c .before .before .before in
+    let at-item-at = at-step .before .before in
+    let at-loop = at-item-at .before .before in
+    laws.all-next (at-loop .loop .inv) (sym (at-step .step .given .1) ∙ at-item-at .item-at .ensures) (c .before .passed .ensures) (c .if1 .taken)
 
 returns-2 : tie.Need-returns-2 Inv-loop μ-loop
-returns-2 c = laws.all-stop (c .before .before .before .before .before .before .before .loop .inv) (sym (c .before .before .before .step .given .1) ∙ c .before .before .before .before .before .item-at .ensures) (c .before .passed .ensures) (c .if1 .left)
+returns-2 c =
+    let at-step = c .before .before .before in
+    let at-item-at = at-step .before .before in
+    let at-loop = at-item-at .before .before in
+    laws.all-stop (at-loop .loop .inv) (sym (at-step .step .given .1) ∙ at-item-at .item-at .ensures) (c .before .passed .ensures) (c .if1 .left)
 
 returns-3 : tie.Need-returns-3 Inv-loop μ-loop
 returns-3 c = laws.all-end (c .before .loop .inv) (c .loop-test .left)

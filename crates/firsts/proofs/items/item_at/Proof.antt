@@ -21,13 +21,25 @@ enum-known-front : tie.Need-enum-known-front
 enum-known-front c = search needs
 
 returns : tie.Need-returns
-returns c = laws.step-done (c .before .before .before .before .before .before .args .table .now) (c .before .before .before .before .before .before .args .at) (sym (c .before .before .front .given .1) ∙ c .before .before .before .before .front-at .ensures) (c .if1 .taken)
+returns c =
+    let at-front-at = c .before .before .before .before in
+    let entry = at-front-at .before .before in
+    laws.step-done (entry .args .table .now) (entry .args .at) (sym (c .before .before .front .given .1) ∙ at-front-at .front-at .ensures)
+    (c .if1 .taken)
 
 add-from : tie.Need-add-from
-add-from c = omega (arith, front-inside (c .before .before .before .before .before .before .args .table .now) (c .before .before .before .before .before .before .args .at) (sym (c .before .before .front .given .1) ∙ c .before .before .before .before .front-at .ensures))
+add-from c =
+    let at-front-at = c .before .before .before .before in
+    let entry = at-front-at .before .before in
+    omega
+    (arith, front-inside (entry .args .table .now) (entry .args .at) (sym (c .before .before .front .given .1) ∙ at-front-at .front-at .ensures))
 
 add-to : tie.Need-add-to
-add-to c = omega (arith, front-inside (c .before .before .before .before .before .before .args .table .now) (c .before .before .before .before .before .before .args .at) (sym (c .before .before .front .given .1) ∙ c .before .before .before .before .front-at .ensures))
+add-to c =
+    let at-front-at = c .before .before .before .before in
+    let entry = at-front-at .before .before in
+    omega
+    (arith, front-inside (entry .args .table .now) (entry .args .at) (sym (c .before .before .front .given .1) ∙ at-front-at .front-at .ensures))
 
 sub-symbol : tie.Need-sub-symbol
 sub-symbol c = search needs
@@ -36,19 +48,32 @@ part-symbol-start : tie.Need-part-symbol-start
 part-symbol-start c = search needs
 
 part-symbol-end : tie.Need-part-symbol-end
-part-symbol-end c = omega (arith, front-inside (c .before .before .before .before .before .before .args .table .now) (c .before .before .before .before .before .before .args .at) (sym (c .before .before .front .given .1) ∙ c .before .before .before .before .front-at .ensures))
+part-symbol-end c =
+    let at-front-at = c .before .before .before .before in
+    let entry = at-front-at .before .before in
+    omega
+    (arith, front-inside (entry .args .table .now) (entry .args .at) (sym (c .before .before .front .given .1) ∙ at-front-at .front-at .ensures))
 
 symbol-requires : tie.Need-symbol-requires
 symbol-requires c κs = search needs
 
 returns-2 : tie.Need-returns-2
-returns-2 c = ap (stepOf (c .before .before .before .before .args .table .now) (c .before .before .before .before .args .at)) (sym (c .enum-told .given .1) ∙ c .before .before .front-at .ensures)
+returns-2 c =
+    let entry = c .before .before .before .before in
+    ap (stepOf (entry .args .table .now) (entry .args .at)) (sym (c .enum-told .given .1) ∙ c .before .before .front-at .ensures)
 
 returns-3 : tie.Need-returns-3
-returns-3 c = ap (stepOf (c .before .before .before .before .args .table .now) (c .before .before .before .before .args .at)) (sym (c .enum-told2 .given .1) ∙ c .before .before .front-at .ensures)
+returns-3 c =
+    let entry = c .before .before .before .before in
+    ap (stepOf (entry .args .table .now) (entry .args .at)) (sym (c .enum-told2 .given .1) ∙ c .before .before .front-at .ensures)
 
 returns-4 : tie.Need-returns-4
-returns-4 c = laws.step-past (c .before .before .before .before .before .before .before .before .args .table .now) (c .before .before .before .before .before .before .before .before .args .at) (sym (c .before .before .before .before .front .given .1) ∙ c .before .before .before .before .before .before .front-at .ensures) (c .before .before .if1 .left) (c .symbol .ensures)
+returns-4 c =
+    let at-front = c .before .before .before .before in
+    let at-front-at = at-front .before .before in
+    let entry = at-front-at .before .before in
+    laws.step-past (entry .args .table .now) (entry .args .at) (sym (at-front .front .given .1) ∙ at-front-at .front-at .ensures)
+    (c .before .before .if1 .left) (c .symbol .ensures)
 
 pub item-at-spec : {M : Type 1} → statement M
 item-at-spec =

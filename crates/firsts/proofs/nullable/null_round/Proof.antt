@@ -32,7 +32,11 @@ loop-less : tie.Need-loop-less Inv-loop μ-loop
 loop-less c = search needs
 
 loop-again : tie.Need-loop-again Inv-loop μ-loop
-loop-again c = laws.over-next (c .before .before .before .before .loop .inv) (c .before .before .before .loop-test .taken) (c .before .before .byte .ensures) (c .before .offset .ensures) (c .null-step .ensures)
+loop-again c =
+    let at-loop-test = c .before .before .before in
+    let at-loop = at-loop-test .before in
+    laws.over-next (at-loop .loop .inv) (at-loop-test .loop-test .taken) (c .before .before .byte .ensures) (c .before .offset .ensures)
+    (c .null-step .ensures)
 
 returns : tie.Need-returns Inv-loop μ-loop
 returns c = laws.over-end (c .before .loop .inv) (c .loop-test .left)

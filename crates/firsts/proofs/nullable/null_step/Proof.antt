@@ -15,7 +15,11 @@ join-requires : tie.Need-join-requires
 join-requires c κs = search needs
 
 returns : tie.Need-returns
-returns c = c .join .ensures ∙ laws.null-taken (c .before .before .before .before .before .args .table .now) _ _ _ (c .before .before .before .all-passed .ensures) (c .before .before .if1 .taken) (c .before .only .ensures)
+returns c =
+    let at-all-passed = c .before .before .before in
+    let entry = at-all-passed .before .before in
+    c .join .ensures ∙ laws.null-taken (entry .args .table .now) _ _ _ (at-all-passed .all-passed .ensures) (c .before .before .if1 .taken)
+    (c .before .only .ensures)
 
 returns-2 : tie.Need-returns-2
 returns-2 c = laws.null-left (c .before .before .before .args .table .now) _ _ _ (c .before .all-passed .ensures) (c .if1 .left)

@@ -48,7 +48,8 @@ element-copy-out-lay c = search needs
 
 lay-requires : tie.Need-lay-requires Inv-loop μ-loop
 lay-requires c κs =
-    let tested = c .before .before .before .before .before .before .before in
+    let earlier = c .before .before .before .before .before .before in
+    let tested = earlier .before in
     let began = tested .before .before .before .before in
     let entry = began .before .before .before .before .before in
     laws.fill-at (entry .pre) _ (tested .before .loop .inv) (tested .loop-test .taken)

@@ -19,7 +19,8 @@ slice-aggregate-fill c = sym (ap length (c .before .sets-of .ensures) ∙ sets.l
 fill-requires : tie.Need-fill-requires
 fill-requires c κs =
     let computed = c .before .before in
-    let entry = computed .before .before .before .before .before .before .before .before in
+    let earlier = computed .before .before .before .before .before .before in
+    let entry = earlier .before .before in
     record {
       index = entry .pre;
       lent = record { size = c .fill-arg .given .0 .1; many = ap length (computed .sets-of .ensures) ∙ sets.length-sets _ _ _ };

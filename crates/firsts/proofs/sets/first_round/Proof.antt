@@ -31,13 +31,20 @@ loop-less : tie.Need-loop-less Inv-loop μ-loop
 loop-less c = search needs
 
 loop-again : tie.Need-loop-again Inv-loop μ-loop
-loop-again c = laws.joining-next (c .before .before .before .before .before .before .before .loop .inv) (c .before .before .before .before .before .before .loop-test .taken) (c .before .before .before .before .before .byte .ensures) (c .before .before .before .before .offset .ensures) (c .before .before .first-step .ensures) (c .before .before .first-step .kept .1 .1 .1 .1 .1 .0)
+loop-again c =
+    let at-first-step = c .before .before in
+    let at-offset = at-first-step .before .before in
+    let at-byte = at-offset .before in
+    let at-loop-test = at-byte .before in
+    let at-loop = at-loop-test .before in
+    laws.joining-next (at-loop .loop .inv) (at-loop-test .loop-test .taken) (at-byte .byte .ensures) (at-offset .offset .ensures)
+    (at-first-step .first-step .ensures) (at-first-step .first-step .kept .1 .1 .1 .1 .1 .0)
 
 same-length : tie.Need-same-length Inv-loop μ-loop
 same-length c = search needs
 
 returns : tie.Need-returns Inv-loop μ-loop
-returns c = (laws.over-end (c .before .loop .inv .over) (c .loop-test .left), c .before .loop .inv .same)
+returns c = record { sets-are = laws.over-end (c .before .loop .inv .over) (c .loop-test .left); same = c .before .loop .inv .same }
 
 pub first-round-spec : {M : Type 1} → statement M
 first-round-spec =

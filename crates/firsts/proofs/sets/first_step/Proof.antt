@@ -15,7 +15,14 @@ same-length : tie.Need-same-length
 same-length c = search needs
 
 returns : tie.Need-returns
-returns c = (c .before .before .join-at .ensures .0 ∙ laws.first-step-is _ _ (c .before .before .before .before .before .before .before .before .args .table .now) _ _ _ (c .before .before .before .before .gather .ensures), c .before .before .join-at .ensures .1)
+returns c =
+    let at-join-at = c .before .before in
+    let at-gather = at-join-at .before .before in
+    let entry = at-gather .before .before .before .before in
+    record {
+      sets-are = at-join-at .join-at .ensures .sets-are ∙ laws.first-step-is _ _ (entry .args .table .now) _ _ _ (at-gather .gather .ensures);
+      same = at-join-at .join-at .ensures .same;
+    }
 
 pub first-step-spec : {M : Type 1} → statement M
 first-step-spec = tie.close (tie.spec gather-requires join-at-requires same-length returns)

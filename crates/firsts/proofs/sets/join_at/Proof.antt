@@ -25,10 +25,12 @@ same-length : tie.Need-same-length
 same-length c = search needs
 
 returns : tie.Need-returns
-returns c = (ap (set (c .before .before .before .before .args .sets .now) (c .before .before .before .before .args .n)) (c .join .ensures), laws.join-kept _ _ _)
+returns c =
+    let entry = c .before .before .before .before in
+    record { sets-are = ap (set (entry .args .sets .now) (entry .args .n)) (c .join .ensures); same = laws.join-kept _ _ _ }
 
 returns-2 : tie.Need-returns-2
-returns-2 c = (laws.join-past _ _ _ (c .if1 .left), λ _. refl)
+returns-2 c = record { sets-are = laws.join-past _ _ _ (c .if1 .left); same = λ _. refl }
 
 pub join-at-spec : {M : Type 1} → statement M
 join-at-spec =

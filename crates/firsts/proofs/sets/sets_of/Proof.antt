@@ -10,7 +10,8 @@ use Rattle.firsts.proofs.sets.sets_of.Statement.{statement}
 use Rattle.firsts.proofs.sets.sets_of.Tie as tie
 
 abbrev Inv-loop : tie.InvT-loop
-Inv-loop table owners starts m calls nulls sets₀ t₀ sets t = laws.Rounds (overAll (firstStep calls nulls) (productionsBy m table owners starts)) (replicate 64 0) t sets
+Inv-loop table owners starts m calls nulls sets₀ t₀ sets t =
+    laws.Rounds (overAll (firstStep calls nulls) (productionsBy m table owners starts)) (replicate 64 0) t sets
 
 abbrev μ-loop : tie.MeasureT-loop
 μ-loop table owners starts m calls nulls sets₀ t₀ sets t = 64 - t
@@ -28,11 +29,17 @@ loop-less : tie.Need-loop-less Inv-loop μ-loop
 loop-less c = search needs
 
 loop-again : tie.Need-loop-again Inv-loop μ-loop
-loop-again c = laws.rounds-next (c .before .before .before .before .loop .inv) (c .before .before .before .loop-test .taken) (c .before .first-round .ensures .0)
+loop-again c =
+    let at-loop-test = c .before .before .before in
+    let at-loop = at-loop-test .before in
+    laws.rounds-next (at-loop .loop .inv) (at-loop-test .loop-test .taken) (c .before .first-round .ensures .sets-are)
 
 returns : tie.Need-returns Inv-loop μ-loop
 unfolding setsOf
-returns c = c .before .first-round .ensures .1 (c .if1 .left) ∙ laws.rounds-stop (c .before .before .before .before .loop .inv) (sym (c .before .first-round .ensures .0) ∙ c .before .first-round .ensures .1 (c .if1 .left))
+returns c =
+    let at-loop = c .before .before .before .before in
+    c .before .first-round .ensures .same (c .if1 .left) ∙ laws.rounds-stop (at-loop .loop .inv)
+    (sym (c .before .first-round .ensures .sets-are) ∙ c .before .first-round .ensures .same (c .if1 .left))
 
 returns-2 : tie.Need-returns-2 Inv-loop μ-loop
 unfolding setsOf

@@ -36,10 +36,16 @@ enum-known-front : tie.Need-enum-known-front Inv-loop μ-loop
 enum-known-front c = search needs
 
 add-from : tie.Need-add-from Inv-loop μ-loop
-add-from c = omega (arith, laws.building-inside (c .before .before .before .before .before .loop .inv) (sym (c .before .front .given .1) ∙ c .before .before .before .front-at .ensures))
+add-from c =
+    let at-front-at = c .before .before .before in
+    let at-loop = at-front-at .before .before in
+    omega (arith, laws.building-inside (at-loop .loop .inv) (sym (c .before .front .given .1) ∙ at-front-at .front-at .ensures))
 
 add-to : tie.Need-add-to Inv-loop μ-loop
-add-to c = omega (arith, laws.building-inside (c .before .before .before .before .before .loop .inv) (sym (c .before .front .given .1) ∙ c .before .before .before .front-at .ensures))
+add-to c =
+    let at-front-at = c .before .before .before in
+    let at-loop = at-front-at .before .before in
+    omega (arith, laws.building-inside (at-loop .loop .inv) (sym (c .before .front .given .1) ∙ at-front-at .front-at .ensures))
 
 sub-byte : tie.Need-sub-byte Inv-loop μ-loop
 sub-byte c = search needs
@@ -48,7 +54,10 @@ part-byte-start : tie.Need-part-byte-start Inv-loop μ-loop
 part-byte-start c = search needs
 
 part-byte-end : tie.Need-part-byte-end Inv-loop μ-loop
-part-byte-end c = omega (arith, laws.building-inside (c .before .before .before .before .before .before .loop .inv) (sym (c .before .before .front .given .1) ∙ c .before .before .before .before .front-at .ensures))
+part-byte-end c =
+    let at-front-at = c .before .before .before .before in
+    let at-loop = at-front-at .before .before in
+    omega (arith, laws.building-inside (at-loop .loop .inv) (sym (c .before .before .front .given .1) ∙ at-front-at .front-at .ensures))
 
 byte-requires : tie.Need-byte-requires Inv-loop μ-loop
 byte-requires c κs = search needs
@@ -60,37 +69,92 @@ part-redefine-start : tie.Need-part-redefine-start Inv-loop μ-loop
 part-redefine-start c = search needs
 
 part-redefine-end : tie.Need-part-redefine-end Inv-loop μ-loop
-part-redefine-end c = omega (arith, laws.building-inside (c .before .before .before .before .before .before .before .before .loop .inv) (sym (c .before .before .before .before .front .given .1) ∙ c .before .before .before .before .before .before .front-at .ensures))
+part-redefine-end c =
+    let at-front = c .before .before .before .before in
+    let at-front-at = at-front .before .before in
+    let at-loop = at-front-at .before .before in
+    omega (arith, laws.building-inside (at-loop .loop .inv) (sym (at-front .front .given .1) ∙ at-front-at .front-at .ensures))
 
 redefine-requires : tie.Need-redefine-requires Inv-loop μ-loop
-redefine-requires c κs = omega (arith, laws.building-few (c .before .before .before .before .before .before .before .before .before .before .before .loop .inv), c .before .redefine-arg2 .given .0 .1, c .redefine-arg3 .given .0 .1)
+redefine-requires c κs =
+    let earlier = c .before .before .before .before .before .before in
+    let at-loop = earlier .before .before .before .before .before in
+    omega (arith, laws.building-few (at-loop .loop .inv), c .before .redefine-arg2 .given .0 .1, c .redefine-arg3 .given .0 .1)
 
 cast-push : tie.Need-cast-push Inv-loop μ-loop
-cast-push c = omega (arith, laws.building-inside (c .before .before .before .before .before .before .before .before .before .loop .inv) (sym (c .before .before .before .before .before .front .given .1) ∙ c .before .before .before .before .before .before .before .front-at .ensures), c .before .before .before .before .before .before .before .before .before .loop .inv .short)
+cast-push c =
+    let at-front = c .before .before .before .before .before in
+    let at-front-at = at-front .before .before in
+    let at-loop = at-front-at .before .before in
+    omega
+    (arith, laws.building-inside (at-loop .loop .inv) (sym (at-front .front .given .1) ∙ at-front-at .front-at .ensures), at-loop .loop .inv .short)
 
 push-requires : tie.Need-push-requires Inv-loop μ-loop
-push-requires c κs = omega (arith, laws.building-room (c .before .before .before .before .before .before .before .before .before .loop .inv) (sym (c .before .before .before .before .before .front .given .1) ∙ c .before .before .before .before .before .before .before .front-at .ensures) (c .before .before .if2 .taken), c .before .push-arg .given .0 .1, c .push-arg2 .given .0 .1)
+push-requires c κs =
+    let at-front = c .before .before .before .before .before in
+    let at-front-at = at-front .before .before in
+    let at-loop = at-front-at .before .before in
+    omega (
+      arith,
+      laws.building-room (at-loop .loop .inv) (sym (at-front .front .given .1) ∙ at-front-at .front-at .ensures)
+          (c .before .before .if2 .taken),
+      c .before .push-arg .given .0 .1,
+      c .push-arg2 .given .0 .1,
+    )
 
 add-k : tie.Need-add-k Inv-loop μ-loop
-add-k c = omega (arith, laws.building-few (c .before .before .before .before .before .before .before .before .before .before .loop .inv))
+add-k c =
+    let earlier = c .before .before .before .before .before .before in
+    let at-loop = earlier .before .before .before .before in
+    omega (arith, laws.building-few (at-loop .loop .inv))
 
 loop-less : tie.Need-loop-less Inv-loop μ-loop
-loop-less c = laws.building-less (c .before .before .before .before .before .before .before .before .before .before .before .before .loop .inv) (sym (c .before .before .before .before .before .before .before .before .front .given .1) ∙ c .before .before .before .before .before .before .before .before .before .before .front-at .ensures)
+loop-less c =
+    let earlier = c .before .before .before .before .before .before in
+    let at-front = earlier .before .before in
+    let at-front-at = at-front .before .before in
+    let at-loop = at-front-at .before .before in
+    laws.building-less (at-loop .loop .inv) (sym (at-front .front .given .1) ∙ at-front-at .front-at .ensures)
 
 loop-again : tie.Need-loop-again Inv-loop μ-loop
-loop-again c = laws.building-head (c .before .before .before .before .before .before .before .before .before .before .before .before .loop .inv) (sym (c .before .before .before .before .before .before .before .before .front .given .1) ∙ c .before .before .before .before .before .before .before .before .before .before .front-at .ensures) (c .before .before .before .before .before .before .if1 .taken) (c .before .before .before .before .byte .ensures) (c .redefine .ensures)
+loop-again c =
+    let at-byte = c .before .before .before .before in
+    let at-if1 = at-byte .before .before in
+    let at-front = at-if1 .before .before in
+    let at-front-at = at-front .before .before in
+    let at-loop = at-front-at .before .before in
+    laws.building-head (at-loop .loop .inv) (sym (at-front .front .given .1) ∙ at-front-at .front-at .ensures) (at-if1 .if1 .taken)
+    (at-byte .byte .ensures) (c .redefine .ensures)
 
 loop-less-2 : tie.Need-loop-less-2 Inv-loop μ-loop
-loop-less-2 c = laws.building-less (c .before .before .before .before .before .before .before .before .before .before .loop .inv) (sym (c .before .before .before .before .before .before .front .given .1) ∙ c .before .before .before .before .before .before .before .before .front-at .ensures)
+loop-less-2 c =
+    let at-front = c .before .before .before .before .before .before in
+    let at-front-at = at-front .before .before in
+    let at-loop = at-front-at .before .before in
+    laws.building-less (at-loop .loop .inv) (sym (at-front .front .given .1) ∙ at-front-at .front-at .ensures)
 
 loop-again-2 : tie.Need-loop-again-2 Inv-loop μ-loop
-loop-again-2 c = laws.building-alternative (c .before .before .before .before .before .before .before .before .before .before .loop .inv) (sym (c .before .before .before .before .before .before .front .given .1) ∙ c .before .before .before .before .before .before .before .before .front-at .ensures) (c .before .before .before .if2 .taken) (c .push .ensures)
+loop-again-2 c =
+    let at-if2 = c .before .before .before in
+    let at-front = at-if2 .before .before .before in
+    let at-front-at = at-front .before .before in
+    let at-loop = at-front-at .before .before in
+    laws.building-alternative (at-loop .loop .inv) (sym (at-front .front .given .1) ∙ at-front-at .front-at .ensures) (at-if2 .if2 .taken)
+    (c .push .ensures)
 
 loop-less-3 : tie.Need-loop-less-3 Inv-loop μ-loop
-loop-less-3 c = laws.building-less (c .before .before .before .before .before .before .before .loop .inv) (sym (c .before .before .before .front .given .1) ∙ c .before .before .before .before .before .front-at .ensures)
+loop-less-3 c =
+    let at-front = c .before .before .before in
+    let at-front-at = at-front .before .before in
+    let at-loop = at-front-at .before .before in
+    laws.building-less (at-loop .loop .inv) (sym (at-front .front .given .1) ∙ at-front-at .front-at .ensures)
 
 loop-again-3 : tie.Need-loop-again-3 Inv-loop μ-loop
-loop-again-3 c = laws.building-other (c .before .before .before .before .before .before .before .loop .inv) (sym (c .before .before .before .front .given .1) ∙ c .before .before .before .before .before .front-at .ensures) (c .before .if1 .left) (c .if2 .left)
+loop-again-3 c =
+    let at-front = c .before .before .before in
+    let at-front-at = at-front .before .before in
+    let at-loop = at-front-at .before .before in
+    laws.building-other (at-loop .loop .inv) (sym (at-front .front .given .1) ∙ at-front-at .front-at .ensures) (c .before .if1 .left) (c .if2 .left)
 
 returns-3 : tie.Need-returns-3 Inv-loop μ-loop
 returns-3 c = laws.building-end (c .before .loop .inv) (c .loop-test .left)
