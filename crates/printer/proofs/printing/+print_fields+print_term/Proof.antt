@@ -13,10 +13,10 @@ use Rattle.printer.proofs.printing.+print_fields+print_term.Lts-print_f
 use Rattle.printer.proofs.printing.print_term.Reads as print-term
 use Rattle.printer.proofs.printing.print_term.Kinds as print-term-kinds
 use Rattle.printer.proofs.printing.+print_fields+print_term.Lts-print_term as print-term-lts
-use Rattle.printer.proofs.writing.byte_at.Reads as byte-at-reads
-use Rattle.printer.proofs.printing.label_at.Reads as label-at-reads
-use Rattle.printer.proofs.printing.open_fields.Reads as open-fields-reads
-use Rattle.printer.proofs.printing.open_term.Reads as open-term-reads
+use Rattle.writer.proofs.writing.byte_at.Reads as byte-at-reads
+use Rattle.writer.proofs.openings.label_at.Reads as label-at-reads
+use Rattle.writer.proofs.openings.open_fields.Reads as open-fields-reads
+use Rattle.writer.proofs.openings.open_term.Reads as open-term-reads
 use Rattle.rows.proofs.column.Reads as column-reads
 use Rattle.printer.proofs.printing.+print_fields+print_term.{statement}
 use Rattle.printer.proofs.printing.+print_fields+print_term.Tie.{close}
