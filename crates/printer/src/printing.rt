@@ -29,71 +29,33 @@ pub fn print_term(
     if bound == 0 {
         return byte_at(out, first, b')');
     }
+    let deep = bound - 1;
     let code = column(*cells, row, 0);
     match code {
         33 => {
-            let end = print_term(
-                out,
-                first,
-                pool,
-                cells,
-                shown,
-                bound - 1,
-                column(*cells, row, 2),
-                place,
-            );
+            let part = column(*cells, row, 2);
+            let end = print_term(out, first, pool, cells, shown, deep, part, place);
             byte_at(out, end, b')')
         }
         34 => {
-            let behind = print_term(
-                out,
-                first,
-                pool,
-                cells,
-                shown,
-                bound - 1,
-                column(*cells, row, 1),
-                place,
-            );
+            let part = column(*cells, row, 1);
+            let behind = print_term(out, first, pool, cells, shown, deep, part, place);
             let second = byte_at(out, behind, b' ');
-            let end = print_term(
-                out,
-                second,
-                pool,
-                cells,
-                shown,
-                bound - 1,
-                column(*cells, row, 2),
-                place,
-            );
+            let last = column(*cells, row, 2);
+            let end = print_term(out, second, pool, cells, shown, deep, last, place);
             byte_at(out, end, b')')
         }
         35 => {
-            let end = print_fields(
-                out,
-                first,
-                pool,
-                cells,
-                shown,
-                bound - 1,
-                column(*cells, row, 1),
-                place,
-            );
+            let part = column(*cells, row, 1);
+            let end = print_fields(out, first, pool, cells, shown, deep, part, place);
             byte_at(out, end, b')')
         }
         36 => {
-            let behind = print_term(
-                out,
-                first,
-                pool,
-                cells,
-                shown,
-                bound - 1,
-                column(*cells, row, 1),
-                place,
-            );
+            let part = column(*cells, row, 1);
+            let behind = print_term(out, first, pool, cells, shown, deep, part, place);
             let second = byte_at(out, behind, b' ');
-            let end = label_at(out, second, pool, column(*cells, row, 2));
+            let label = column(*cells, row, 2);
+            let end = label_at(out, second, pool, label);
             byte_at(out, end, b')')
         }
         _ => byte_at(out, first, b')'),
@@ -123,29 +85,14 @@ fn print_fields(
     if bound == 0 {
         return byte_at(out, first, b')');
     }
+    let deep = bound - 1;
     let code = column(*cells, row, 0);
     if code == 38 {
-        let behind = print_term(
-            out,
-            first,
-            pool,
-            cells,
-            shown,
-            bound - 1,
-            column(*cells, row, 2),
-            place,
-        );
+        let part = column(*cells, row, 2);
+        let behind = print_term(out, first, pool, cells, shown, deep, part, place);
         let second = byte_at(out, behind, b' ');
-        let end = print_fields(
-            out,
-            second,
-            pool,
-            cells,
-            shown,
-            bound - 1,
-            column(*cells, row, 3),
-            place,
-        );
+        let rest = column(*cells, row, 3);
+        let end = print_fields(out, second, pool, cells, shown, deep, rest, place);
         return byte_at(out, end, b')');
     }
     byte_at(out, first, b')')
