@@ -21,7 +21,7 @@ use Rattle.rows.proofs.SizeLaws.{size-spell}
 use Rattle.resolver.specs.declared.Resolution.{Resolution}
 use Rattle.resolver.specs.declared.Resolution.the-variants.{Loose, Numbered}
 use Rattle.resolver.specs.Numbers.{walkOf, ResolvedAs}
-use Rattle.printer.specs.Shown.{textBy, Prints}
+use Rattle.printer.specs.Printed.{textBy, Prints}
 use Rattle.emitter.specs.Emittable.{answerBy}
 
 module _ (made constructors needed room : ℕ) where
@@ -55,7 +55,8 @@ module _ (S : ℕ → List ℕ) (cells : List ℕ) (made root : ℕ) where
   sized = size-spell made noSpell S cells root
 
   -- 22
-  pub emit-large : (text : List ℕ) {r : Answer} → 16384 < sizeAt cells made root → r ≡ Refusing (refusal 22 made 0 0) → emitted textOf made T text ≡ leaves r text
+  pub emit-large : (text : List ℕ) {r : Answer} → 16384 < sizeAt cells made root → r ≡ Refusing (refusal 22 made 0 0)
+      → emitted textOf made T text ≡ leaves r text
   emit-large text h e = emitted-large textOf made T text (omega (arith, sized)) ∙ ap (λ a. leaves a text) (sym e)
 
   module _ (text : List ℕ) (small : sizeAt cells made root ≤ 16384) {numbers : List ℕ} {n : Resolution} (resolved : ResolvedAs T numbers n) where

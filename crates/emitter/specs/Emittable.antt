@@ -11,7 +11,7 @@ use Rattle.grammar.specs.Fields.{lexiconOf}
 use Rattle.terms.specs.Rows.{termAt}
 use Rattle.terms.specs.Names.{Distinct, WellNamed}
 use Rattle.rows.specs.Sizes.{WholeRows}
-use Rattle.printer.specs.Pool.{oneOf, spanned, spelledBy}
+use Rattle.writer.specs.Pool.{oneOf, spanned, spelledBy}
 
 -- Words and outside names as a scan of a passed table gives them, and the term of the rows that an expansion made.
 pub record Emittable (table formula words : List ℕ) (count : ℕ) (cells : List ℕ) (made root : ℕ) : Type 0 where

@@ -9,7 +9,7 @@ ghost use mathlib.Core.Path.{_≡_};
 ghost use Rattle.answers.specs.Refusals.{refusal};
 ghost use Rattle.terms.specs.Rows.{termAt};
 ghost use Rattle.terms.specs.Emit.{textOf, emitted};
-ghost use Rattle.printer.specs.Pool.{spelledBy};
+ghost use Rattle.writer.specs.Pool.{spelledBy};
 ghost use Rattle.emitter.specs.Emittable.{Emittable, answerBy};
 
 fn refusing(number: u8, a: usize) -> Answer
@@ -46,7 +46,11 @@ pub fn emit(
     text: &mut [u8],
 ) -> Answer
     requires { ⌜ Emittable (now table) (now formula) (now words) count (now cells) made root ⌝ }
-    ensures { λ r. ⌜ emitted textOf made (termAt made (spelledBy (now (table .entry)) (now (formula .entry)) (now (words .entry)) count) (now (cells .entry)) root) (now (text .entry)) ≡ record { answer = r; text = now (text .exit) } ⌝ }
+    ensures { λ r. ⌜
+        emitted textOf made
+        (termAt made (spelledBy (now (table .entry)) (now (formula .entry)) (now (words .entry)) count) (now (cells .entry)) root)
+        (now (text .entry)) ≡ record { answer = r; text = now (text .exit) }
+        ⌝ }
 {
     let left = size_term(cells, made, root, 16385);
     if left == 0 {

@@ -12,12 +12,14 @@ use Rattle.spellings.specs.BytesLaws.{by-test}
 use Rattle.spellings.specs.DecimalLaws.{decimal-bound}
 use Rattle.grammar.specs.Cells.{column, nameBase}
 use Rattle.terms.specs.Term.{Name, Term, Fields, size, sizeFields}
-use Rattle.terms.specs.Rows.{nameOf, Constructor, mkTermVar, mkTermFun, mkTermApp, mkTermRcd, mkTermDot, mkFieldNil, mkFieldCons, mkTermNum, constructorOf, termBy, isCons, fieldsBy, termAt, fieldsAt}
+use Rattle.terms.specs.Rows.{nameOf, Constructor, mkTermVar, mkTermFun, mkTermApp, mkTermRcd, mkTermDot, mkFieldNil, mkFieldCons, mkTermNum}
+use Rattle.terms.specs.Rows.{constructorOf, termBy, isCons, fieldsBy, termAt, fieldsAt}
 use Rattle.terms.specs.Rename.{newName, written}
 use Rattle.terms.specs.Print.{print, textSize, textSizeFields}
 use Rattle.terms.specs.Labelled.{nameShown, labelled, labelledFields}
-use Rattle.printer.specs.Shown.{spellIn, term, partText, Fits}
-use Rattle.printer.specs.Pool.{ShortSpellings}
+use Rattle.writer.specs.Openings.{spellIn}
+use Rattle.printer.specs.Printed.{term, partText, Fits}
+use Rattle.writer.specs.Pool.{ShortSpellings}
 use Rattle.rows.specs.Sizes.{noSpell, sizeAt}
 use Rattle.rows.proofs.RowLaws.{as-word, as-fresh, as-outside}
 use Rattle.rows.proofs.SizeLaws.{size-spell}
@@ -70,12 +72,14 @@ module _ (S : ℕ → List ℕ) (cells numbers : List ℕ) (short : (m : ℕ) �
     short-text : (k r p : ℕ) → textSize (labelled numbers p (termAt k S cells r)) ≤ 64 * size (termAt k S cells r)
     short-text zero r p = omega (arith, decimal-bound 0 0 (omega arith))
     short-text (suc k) r p =
-        by-term (λ q. termAt k S cells q) (λ q. fieldsAt k S cells q) (λ q n. short-text k q n) (λ q n. short-fields k q n) r p (constructorOf (column cells r 0))
+        by-term (λ q. termAt k S cells q) (λ q. fieldsAt k S cells q) (λ q n. short-text k q n) (λ q n. short-fields k q n) r p
+        (constructorOf (column cells r 0))
 
     short-fields : (k r p : ℕ) → textSizeFields (labelledFields numbers p (fieldsAt k S cells r)) ≤ 64 * sizeFields (fieldsAt k S cells r)
     short-fields zero r p = omega arith
     short-fields (suc k) r p =
-        by-fields (λ q. termAt k S cells q) (λ q. fieldsAt k S cells q) (λ q n. short-text k q n) (λ q n. short-fields k q n) r p (isCons (constructorOf (column cells r 0)))
+        by-fields (λ q. termAt k S cells q) (λ q. fieldsAt k S cells q) (λ q n. short-text k q n) (λ q n. short-fields k q n) r p
+        (isCons (constructorOf (column cells r 0)))
 
 -- a spelling of the room is short
 spelling-short : (pool : List ℕ) → ShortSpellings pool → (m : ℕ) → length (spellIn pool m) ≤ 31

@@ -1,8 +1,4 @@
-pub mod WriteLaws
-pub mod Pieces
 pub mod Texts
 pub mod PrintLaws
-pub mod PoolLaws
 pub mod BoundLaws
-pub mod SpellLaws
 pub mod TextLaws

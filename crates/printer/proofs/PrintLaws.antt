@@ -1,28 +1,23 @@
 -- Printing, constructor by constructor: what the parts' walks write, the whole writes.
-use Prim.Native.Nat.{ℕ, zero, suc, _+_, _-_, _/_, _%_, _^_, _<_, _≤_}
+use Prim.Native.Nat.{ℕ, _+_, _-_, _^_, _<_, _≤_}
 use mathlib.Core.Path.{_≡_, refl, sym, ap, _∙_}
-use mathlib.Core.Logic.{_⊎_}
 use mathlib.Core.List.{List, [], _∷_, _++_, append-assoc, append-nil}
 use native.Mathlib.Numerals.{add-one}
 use native.Mathlib.Omega.{arith}
-use lib.Dec.{eqb}
-use lib.ListN.{length, getD, length-append}
-use borrow.Author.Tests.{eqb-true, eqb-false}
-use Rattle.spellings.specs.Bytes.{bytes, decimal, digitsThen}
-use Rattle.spellings.specs.BytesLaws.{by-test}
+use lib.ListN.{length, length-append}
 use Rattle.grammar.specs.Cells.{column}
-use Rattle.terms.specs.Term.{Name, size, sizeFields}
-use Rattle.terms.specs.Rows.{nameOf, termAt, fieldsAt}
-use Rattle.terms.specs.Rename.{newName, written}
+use Rattle.terms.specs.Term.{size, sizeFields}
+use Rattle.terms.specs.Rows.{termAt, fieldsAt}
 use Rattle.terms.specs.Print.{print}
-use Rattle.terms.specs.Labelled.{nameShown, labelled, labelledFields}
+use Rattle.terms.specs.Labelled.{labelled, labelledFields}
 use Rattle.rows.specs.Sizes.{noSpell, sizeAt, sizeFieldsAt}
 use Rattle.rows.proofs.RowLaws as rows
-use Rattle.rows.proofs.RowLaws.{as-word, as-fresh, as-outside}
 use Rattle.rows.proofs.SizeLaws.{size-spell, size-some, size-some-fields}
-use Rattle.printer.specs.Shown.{opening, openingFields, spellIn, termOpening, fieldsOpening, Part, term, fields, partText, partSize, Wrote, NameFits, OpeningFits, FieldsOpeningFits, Fits, Printed}
-use Rattle.printer.proofs.Pieces.{then, as-text, Going, go-start}
-use Rattle.printer.proofs.Texts.{fieldsPrint, print-fun, print-app, print-rcd, print-dot, print-var, print-num, print-cons, print-nil, opening-part, opening-part-fields}
+use Rattle.writer.specs.Openings.{opening, openingFields, spellIn, termOpening, fieldsOpening, Wrote, OpeningFits, FieldsOpeningFits}
+use Rattle.printer.specs.Printed.{Part, term, fields, partText, partSize, Fits, Printed}
+use Rattle.writer.proofs.Pieces.{then, as-text}
+use Rattle.printer.proofs.Texts.{fieldsPrint, print-fun, print-app, print-rcd, print-dot, print-var, print-num, print-cons, print-nil}
+use Rattle.printer.proofs.Texts.{opening-part, opening-part-fields}
 
 -- ------------------------------------------------------------------ pieces of a part
 
@@ -135,7 +130,8 @@ module _ {pool cells numbers : List ℕ} {k row at p : ℕ} {out : List ℕ} {r 
     opened-shallow e = opened (text close ∷ []) (rw e (print-num 0)) (rw e refl)
 
     module _ (some : k ≡ 0 → ⊥) {code : ℕ} (c : code ≡ column cells row 0) where
-      pub opened-fun : {q : ℕ} → code ≡ 33 → q ≡ column cells row 2 → Printing pool cells numbers (term k row) at p out (part (term (k - 1) q) ∷ text close ∷ []) r (p + 1) out′
+      pub opened-fun : {q : ℕ} → code ≡ 33 → q ≡ column cells row 2
+          → Printing pool cells numbers (term k row) at p out (part (term (k - 1) q) ∷ text close ∷ []) r (p + 1) out′
       unfolding partText termOpening labelled piecesText piecesSize size
       opened-fun e eq =
           opened _ (rw (eq, rows.fun-row (spellIn pool) cells k row some c e, add-one p) (print-fun _ _))
@@ -149,7 +145,8 @@ module _ {pool cells numbers : List ℕ} {k row at p : ℕ} {out : List ℕ} {r 
           (rw (size-spell (k - 1) noSpell (spellIn pool) cells q, eq, eq′, rows.app-row (spellIn pool) cells k row some c e, add-one p) (print-app _ _))
           (rw (eq, eq′, rows.app-row noSpell cells k row some c e) (omega arith))
 
-      pub opened-rcd : {q : ℕ} → code ≡ 35 → q ≡ column cells row 1 → Printing pool cells numbers (term k row) at p out (part (fields (k - 1) q) ∷ text close ∷ []) r (p + 1) out′
+      pub opened-rcd : {q : ℕ} → code ≡ 35 → q ≡ column cells row 1
+          → Printing pool cells numbers (term k row) at p out (part (fields (k - 1) q) ∷ text close ∷ []) r (p + 1) out′
       unfolding partText termOpening labelled piecesText piecesSize size
       opened-rcd e eq =
           opened _ (rw (eq, rows.rcd-row (spellIn pool) cells k row some c e, add-one p) (print-rcd _))
@@ -162,7 +159,8 @@ module _ {pool cells numbers : List ℕ} {k row at p : ℕ} {out : List ℕ} {r 
           opened _ (rw (eq, el, rows.dot-row (spellIn pool) cells k row some c e, add-one p) (print-dot _ _))
           (rw (eq, rows.dot-row noSpell cells k row some c e) (omega arith))
 
-      pub opened-bare : (code ≡ 33 → ⊥) → (code ≡ 34 → ⊥) → (code ≡ 35 → ⊥) → (code ≡ 36 → ⊥) → Printing pool cells numbers (term k row) at p out (text close ∷ []) r (p + 1) out′
+      pub opened-bare : (code ≡ 33 → ⊥) → (code ≡ 34 → ⊥) → (code ≡ 35 → ⊥) → (code ≡ 36 → ⊥)
+          → Printing pool cells numbers (term k row) at p out (text close ∷ []) r (p + 1) out′
       unfolding partText termOpening labelled piecesText piecesSize size
       opened-bare a b d e =
           opened (text close ∷ [])
@@ -171,7 +169,8 @@ module _ {pool cells numbers : List ℕ} {k row at p : ℕ} {out : List ℕ} {r 
           (rows.bare-row noSpell cells k row some c (λ t. 1 + 0 ≡ size t) (λ v. refl) (λ n. refl) a b d e)
 
   module _ (w : Wrote out at (fieldsOpening pool cells k row) r out′) where
-    opened-fields : (ps : List Piece) → partText pool cells numbers (fields k row) p ≡ fieldsOpening pool cells k row ++ piecesText pool cells numbers ps (p + 1)
+    opened-fields : (ps : List Piece)
+        → partText pool cells numbers (fields k row) p ≡ fieldsOpening pool cells k row ++ piecesText pool cells numbers ps (p + 1)
         → 1 + piecesSize cells ps ≡ sizeFieldsAt cells k row → Printing pool cells numbers (fields k row) at p out ps r (p + 1) out′
     opened-fields ps e m = record { done = fieldsOpening pool cells k row; split = e; wrote = w; moved = omega (arith, m) }
 
@@ -212,117 +211,3 @@ module _ {pool cells numbers : List ℕ} {k row at p : ℕ} where
 
   pub fields-inside : Fits pool cells numbers (fields k row) at p → p < 16384
   fields-inside f = omega (arith, f .inside, size-some-fields (fieldsAt k noSpell cells row))
-
--- ------------------------------------------------------------------ names
-
-new-split : (k n : ℕ) (v : Name) → 0 < k → n ≡ k → nameShown k v ≡ 0x5F ∷ decimal n
-unfolding newName
-new-split zero n v h e = absurd (omega arith)
-new-split (suc k) n v h e = ap (λ m. 0x5F ∷ decimal m) (sym e)
-
--- a new name
-pub new-name : {pool : List ℕ} {x shown at n : ℕ} (out : List ℕ) → NameFits pool x shown at → 0 < shown → n ≡ shown
-    → Going out at (nameShown shown (nameOf (spellIn pool) x)) at out ((0x5F ∷ []) ∷ decimal n ∷ [])
-new-name {pool} {x} {shown} {n = n} out f h e = go-start out (new-split shown n (nameOf (spellIn pool) x) h e)
-
-not-new : (k : ℕ) (v : Name) → k ≤ 0 → nameShown k v ≡ written v
-not-new zero v h = refl
-not-new (suc k) v h = absurd (omega arith)
-
-module _ {pool : List ℕ} {x shown at : ℕ} (f : NameFits pool x shown at) (old : shown ≤ 0) where
-  -- a fresh name that has no number
-  pub fresh-name : x / 0x1000000 ≡ 2 → 0x5F ∷ 0x30 ∷ [] ≡ nameShown shown (nameOf (spellIn pool) x)
-  unfolding newName digitsThen
-  fresh-name e = sym (not-new shown (nameOf (spellIn pool) x) old ∙ ap written (as-fresh (spellIn pool) x e))
-
-  -- a name as written
-  pub plain-name : (x / 0x1000000 ≡ 2 → ⊥) → spellIn pool (x % 0x1000000) ≡ nameShown shown (nameOf (spellIn pool) x)
-  plain-name d =
-      by-test (eqb (x / 0x1000000) 1)
-      (λ e. sym (not-new shown (nameOf (spellIn pool) x) old ∙ ap written (as-word (spellIn pool) x (eqb-true (x / 0x1000000) 1 e))))
-      (λ e. sym (not-new shown (nameOf (spellIn pool) x) old ∙ ap written (as-outside (spellIn pool) x (eqb-false (x / 0x1000000) 1 e) d)))
-
--- ------------------------------------------------------------------ openings, piece by piece
-
-abbrev VAR : List ℕ
-VAR = 0x6D ∷ 0x6B ∷ 0x54 ∷ 0x65 ∷ 0x72 ∷ 0x6D ∷ 0x56 ∷ 0x61 ∷ 0x72 ∷ 0x28 ∷ []
-
-abbrev FUN : List ℕ
-FUN = 0x6D ∷ 0x6B ∷ 0x54 ∷ 0x65 ∷ 0x72 ∷ 0x6D ∷ 0x46 ∷ 0x75 ∷ 0x6E ∷ 0x28 ∷ []
-
-abbrev APP : List ℕ
-APP = 0x6D ∷ 0x6B ∷ 0x54 ∷ 0x65 ∷ 0x72 ∷ 0x6D ∷ 0x41 ∷ 0x70 ∷ 0x70 ∷ 0x28 ∷ []
-
-abbrev RCD : List ℕ
-RCD = 0x6D ∷ 0x6B ∷ 0x54 ∷ 0x65 ∷ 0x72 ∷ 0x6D ∷ 0x52 ∷ 0x63 ∷ 0x64 ∷ 0x28 ∷ []
-
-abbrev DOT : List ℕ
-DOT = 0x6D ∷ 0x6B ∷ 0x54 ∷ 0x65 ∷ 0x72 ∷ 0x6D ∷ 0x44 ∷ 0x6F ∷ 0x74 ∷ 0x28 ∷ []
-
-abbrev NUM : List ℕ
-NUM = 0x6D ∷ 0x6B ∷ 0x54 ∷ 0x65 ∷ 0x72 ∷ 0x6D ∷ 0x4E ∷ 0x75 ∷ 0x6D ∷ 0x28 ∷ []
-
-abbrev ZERO : List ℕ
-ZERO = 0x6D ∷ 0x6B ∷ 0x54 ∷ 0x65 ∷ 0x72 ∷ 0x6D ∷ 0x4E ∷ 0x75 ∷ 0x6D ∷ 0x28 ∷ 0x30 ∷ []
-
-abbrev NIL : List ℕ
-NIL = 0x6D ∷ 0x6B ∷ 0x46 ∷ 0x69 ∷ 0x65 ∷ 0x6C ∷ 0x64 ∷ 0x4E ∷ 0x69 ∷ 0x6C ∷ 0x28 ∷ []
-
-abbrev CONS : List ℕ
-CONS = 0x6D ∷ 0x6B ∷ 0x46 ∷ 0x69 ∷ 0x65 ∷ 0x6C ∷ 0x64 ∷ 0x43 ∷ 0x6F ∷ 0x6E ∷ 0x73 ∷ 0x28 ∷ []
-
-module _ {pool cells numbers : List ℕ} {k row at p : ℕ} (out : List ℕ) (f : OpeningFits pool cells numbers k row at p) where
-  abbrev Opening : List (List ℕ) → Type 0
-  Opening ps = Going out at (termOpening pool cells numbers k row p) at out ps
-
-  pub open-shallow : k ≡ 0 → Opening (ZERO ∷ [])
-  unfolding bytes termOpening termAt labelled opening digitsThen
-  open-shallow e = go-start out (rw e refl)
-
-  module _ (some : k ≡ 0 → ⊥) {code : ℕ} (c : code ≡ column cells row 0) where
-    pub open-var : code ≡ 32 → {x n : ℕ} → x ≡ column cells row 1 → n ≡ getD numbers p 0 → Opening (VAR ∷ nameShown n (nameOf (spellIn pool) x) ∷ [])
-    unfolding bytes termOpening labelled opening
-    open-var e ex en = go-start out (rw (ex, en, rows.var-row (spellIn pool) cells k row some c e) refl)
-
-    pub open-fun : code ≡ 33 → {x n : ℕ} → x ≡ column cells row 1 → n ≡ getD numbers p 0
-        → Opening (FUN ∷ nameShown n (nameOf (spellIn pool) x) ∷ space ∷ [])
-    unfolding bytes termOpening labelled opening
-    open-fun e ex en = go-start out (rw (ex, en, rows.fun-row (spellIn pool) cells k row some c e) refl)
-
-    pub open-app : code ≡ 34 → Opening (APP ∷ [])
-    unfolding bytes termOpening labelled opening
-    open-app e = go-start out (rw (rows.app-row (spellIn pool) cells k row some c e) refl)
-
-    pub open-rcd : code ≡ 35 → Opening (RCD ∷ [])
-    unfolding bytes termOpening labelled opening
-    open-rcd e = go-start out (rw (rows.rcd-row (spellIn pool) cells k row some c e) refl)
-
-    pub open-dot : code ≡ 36 → Opening (DOT ∷ [])
-    unfolding bytes termOpening labelled opening
-    open-dot e = go-start out (rw (rows.dot-row (spellIn pool) cells k row some c e) refl)
-
-    pub open-zero : (code ≡ 37) ⊎ (code ≡ 38) → Opening (ZERO ∷ [])
-    unfolding bytes termOpening labelled opening digitsThen
-    open-zero e = go-start out (rw (rows.zero-row (spellIn pool) cells k row some c e) refl)
-
-    pub open-num : (code ≡ 32 → ⊥) → (code ≡ 33 → ⊥) → (code ≡ 34 → ⊥) → (code ≡ 35 → ⊥) → (code ≡ 36 → ⊥) → (code ≡ 37 → ⊥) → (code ≡ 38 → ⊥)
-        → {x : ℕ} → x ≡ column cells row 1 → Opening (NUM ∷ decimal x ∷ [])
-    unfolding bytes termOpening labelled opening
-    open-num a b d e f g h ex = go-start out (rw (ex, rows.num-row (spellIn pool) cells k row some c a b d e f g h) refl)
-
-module _ {pool cells : List ℕ} {k row at : ℕ} (out : List ℕ) (f : FieldsOpeningFits pool cells k row at) where
-  abbrev OpeningFields : List (List ℕ) → Type 0
-  OpeningFields ps = Going out at (fieldsOpening pool cells k row) at out ps
-
-  pub open-shallow-fields : k ≡ 0 → OpeningFields (NIL ∷ [])
-  unfolding bytes fieldsOpening fieldsAt openingFields
-  open-shallow-fields e = go-start out (rw e refl)
-
-  module _ (some : k ≡ 0 → ⊥) {code : ℕ} (c : code ≡ column cells row 0) where
-    pub open-cons : code ≡ 38 → {x : ℕ} → x ≡ column cells row 1 → OpeningFields (CONS ∷ spellIn pool x ∷ space ∷ [])
-    unfolding bytes fieldsOpening openingFields
-    open-cons e ex = go-start out (rw (ex, rows.cons-row (spellIn pool) cells k row some c e) refl)
-
-    pub open-nil : (code ≡ 38 → ⊥) → OpeningFields (NIL ∷ [])
-    unfolding bytes fieldsOpening openingFields
-    open-nil e = go-start out (rw (rows.nil-row (spellIn pool) cells k row some c e) refl)

@@ -10,8 +10,9 @@ use Rattle.spellings.specs.BuffersLaws.{written-fits, written-not}
 use Rattle.terms.specs.Rows.{termAt}
 use Rattle.terms.specs.Print.{print}
 use Rattle.terms.specs.Labelled.{labelled}
-use Rattle.printer.specs.Shown.{spellIn, term, partText, textBy, Wrote, Prints}
-use Rattle.printer.specs.Pool.{Pooled}
+use Rattle.writer.specs.Openings.{spellIn, Wrote}
+use Rattle.printer.specs.Printed.{term, partText, textBy, Prints}
+use Rattle.writer.specs.Pool.{Pooled}
 
 -- a text that is too long
 pub prints-none : (out text : List ℕ) {r : ℕ} → r ≡ 0 + length out → length text < r → Prints out text text r

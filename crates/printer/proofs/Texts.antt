@@ -8,7 +8,7 @@ use Rattle.spellings.specs.Bytes.{bytes}
 use Rattle.terms.specs.Term.{Name, Term, Fields, variable, function, apply, rcd, dot, number, nil, cons, size}
 use Rattle.terms.specs.Print.{Tree, Trees, leaf, node, none, more, showThen, argumentsThen, othersThen, treeOf, treeOfFields, print}
 use Rattle.terms.specs.Labelled.{labelled, labelledFields}
-use Rattle.printer.specs.Shown.{opening, openingFields}
+use Rattle.writer.specs.Openings.{opening, openingFields}
 
 mutual
   unfolding showThen argumentsThen othersThen
@@ -16,7 +16,8 @@ mutual
   follow : (t : Tree) (s : List ℕ) → showThen t s ≡ showThen t [] ++ s
   follow (leaf x) s = sym (append-assoc x [] s)
   follow (node x ts) s =
-      ap (λ l. x ++ 0x28 ∷ l) (follow-all ts (0x29 ∷ s) ∙ sym (append-assoc (argumentsThen ts []) (0x29 ∷ []) s) ∙ ap (λ l. l ++ s) (sym (follow-all ts (0x29 ∷ []))))
+      ap (λ l. x ++ 0x28 ∷ l)
+      (follow-all ts (0x29 ∷ s) ∙ sym (append-assoc (argumentsThen ts []) (0x29 ∷ []) s) ∙ ap (λ l. l ++ s) (sym (follow-all ts (0x29 ∷ []))))
       ∙ sym (append-assoc x (0x28 ∷ argumentsThen ts (0x29 ∷ [])) s)
 
   follow-all : (ts : Trees) (s : List ℕ) → argumentsThen ts s ≡ argumentsThen ts [] ++ s
@@ -59,9 +60,16 @@ pub print-num : (n : ℕ) → print (number n) ≡ opening (number n) ++ 0x29 �
 unfolding bytes print opening treeOf showThen argumentsThen othersThen
 print-num n = refl
 
-pub print-cons : (l : List ℕ) (t : Term (List ℕ)) (f : Fields (List ℕ)) → fieldsPrint (cons l t f) ≡ openingFields (cons l t f) ++ (print t ++ (0x20 ∷ [] ++ (fieldsPrint f ++ 0x29 ∷ [])))
+pub print-cons : (l : List ℕ) (t : Term (List ℕ)) (f : Fields (List ℕ))
+    → fieldsPrint (cons l t f) ≡ openingFields (cons l t f) ++ (print t ++ (0x20 ∷ [] ++ (fieldsPrint f ++ 0x29 ∷ [])))
 unfolding bytes print openingFields treeOfFields showThen argumentsThen othersThen
-print-cons l t f = rw (follow (treeOf t) (0x20 ∷ showThen (treeOfFields f) (0x29 ∷ [])), follow (treeOfFields f) (0x29 ∷ []), append-assoc l (0x20 ∷ []) (showThen (treeOf t) [] ++ (0x20 ∷ (showThen (treeOfFields f) [] ++ 0x29 ∷ [])))) refl
+print-cons l t f =
+    rw (
+      follow (treeOf t) (0x20 ∷ showThen (treeOfFields f) (0x29 ∷ [])),
+      follow (treeOfFields f) (0x29 ∷ []),
+      append-assoc l (0x20 ∷ [])
+          (showThen (treeOf t) [] ++ (0x20 ∷ (showThen (treeOfFields f) [] ++ 0x29 ∷ []))),
+    ) refl
 
 pub print-nil : fieldsPrint nil ≡ openingFields {N = List ℕ} nil ++ 0x29 ∷ []
 unfolding bytes openingFields treeOfFields showThen argumentsThen othersThen

@@ -1,16 +1,14 @@
 // Printing a term whose new names are numbered.
-use crate::pool::fill;
 use crate::printing::print_term;
+use writer::pool::fill;
 ghost use Prim.Native.Nat.{ℕ, _≤_, _<_};
 ghost use mathlib.Core.Path.{_≡_};
 ghost use lib.ListN.{length, getD};
 ghost use Rattle.rows.specs.Sizes.{sizeAt};
-ghost use Rattle.printer.specs.Shown.{term, partText, textBy, Prints};
-ghost use Rattle.printer.specs.Pool.{ShortSpellings, spelledBy, Printable};
+ghost use Rattle.writer.specs.Pool.{ShortSpellings, spelledBy};
+ghost use Rattle.printer.specs.Printed.{term, partText, textBy, Printable, Prints};
 
-pub mod pool;
 pub mod printing;
-pub mod writing;
 
 // Numbers of 32 bits are below 2^32. Nothing is done: a read makes the fact known of all of them.
 fn wide_numbers(s: &[u32]) -> u32
@@ -42,7 +40,10 @@ fn print_into(
     text: &mut [u8],
 ) -> usize
     requires { ⌜ ShortSpellings (now pool) × (sizeAt (now cells) made root ≤ 16384) ⌝ }
-    ensures { λ r. ⌜ Prints (partText (now (pool .entry)) (now (cells .entry)) (now (shown .entry)) (term made root) 0) (now (text .entry)) (now (text .exit)) r ⌝ }
+    ensures { λ r. ⌜
+        Prints (partText (now (pool .entry)) (now (cells .entry)) (now (shown .entry)) (term made root) 0) (now (text .entry))
+        (now (text .exit)) r
+        ⌝ }
 {
     wide_numbers(cells);
     narrow_numbers(shown);
@@ -78,7 +79,11 @@ fn print_small(
     text: &mut [u8],
 ) -> usize
     requires { ⌜ Printable (now table) (now formula) (now words) count (now cells) made root × (count ≤ 256) ⌝ }
-    ensures { λ r. ⌜ Prints (textBy (spelledBy (now (table .entry)) (now (formula .entry)) (now (words .entry)) count) (now (cells .entry)) (now (shown .entry)) made root) (now (text .entry)) (now (text .exit)) r ⌝ }
+    ensures { λ r. ⌜
+        Prints
+        (textBy (spelledBy (now (table .entry)) (now (formula .entry)) (now (words .entry)) count) (now (cells .entry)) (now (shown .entry)) made root)
+        (now (text .entry)) (now (text .exit)) r
+        ⌝ }
 {
     let mut pool = [0u8; 10240];
     fill(table, formula, words, count, &mut pool);
@@ -98,7 +103,11 @@ fn print_large(
     text: &mut [u8],
 ) -> usize
     requires { ⌜ Printable (now table) (now formula) (now words) count (now cells) made root ⌝ }
-    ensures { λ r. ⌜ Prints (textBy (spelledBy (now (table .entry)) (now (formula .entry)) (now (words .entry)) count) (now (cells .entry)) (now (shown .entry)) made root) (now (text .entry)) (now (text .exit)) r ⌝ }
+    ensures { λ r. ⌜
+        Prints
+        (textBy (spelledBy (now (table .entry)) (now (formula .entry)) (now (words .entry)) count) (now (cells .entry)) (now (shown .entry)) made root)
+        (now (text .entry)) (now (text .exit)) r
+        ⌝ }
 {
     let mut pool = [0u8; 133120];
     fill(table, formula, words, count, &mut pool);
@@ -118,7 +127,11 @@ pub fn print_text(
     text: &mut [u8],
 ) -> usize
     requires { ⌜ Printable (now table) (now formula) (now words) count (now cells) made root ⌝ }
-    ensures { λ r. ⌜ Prints (textBy (spelledBy (now (table .entry)) (now (formula .entry)) (now (words .entry)) count) (now (cells .entry)) (now (shown .entry)) made root) (now (text .entry)) (now (text .exit)) r ⌝ }
+    ensures { λ r. ⌜
+        Prints
+        (textBy (spelledBy (now (table .entry)) (now (formula .entry)) (now (words .entry)) count) (now (cells .entry)) (now (shown .entry)) made root)
+        (now (text .entry)) (now (text .exit)) r
+        ⌝ }
 {
     if count <= 256 {
         return print_small(table, formula, words, count, cells, made, root, shown, text);

@@ -90,10 +90,12 @@ module _ {n : ℕ} {room₀ room : List ℕ} {p count : ℕ} (c : Counting n roo
       ap firstLoose (sym h ∙ ap (looseIn p) (sym ahead) ∙ c .loose)
 
   module _ (d : getD room p 0 ≡ 65535 → ⊥) {v : ℕ} (ev : v ≡ numberAt (take p room) (count + 1) (getD room p 0)) where
-    step-names : (k : ℕ) → nextNumber (count + 1) (getD room p 0) ≡ k → numbered (take (suc p) (set room p v)) k (Ahead (set room p v) n (suc p)) ≡ numbered [] 1 (take n room₀)
+    step-names : (k : ℕ) → nextNumber (count + 1) (getD room p 0) ≡ k
+        → numbered (take (suc p) (set room p v)) k (Ahead (set room p v) n (suc p)) ≡ numbered [] 1 (take n room₀)
     unfolding numbered
     step-names k ek =
-        ap₂ (λ a b. numbered a k (take (n - suc p) b)) (take-suc-set room p v within ∙ ap (λ x. take p room ++ x ∷ []) ev) (drop-set-lt (suc p) room p v (omega arith))
+        ap₂ (λ a b. numbered a k (take (n - suc p) b)) (take-suc-set room p v within ∙ ap (λ x. take p room ++ x ∷ []) ev)
+        (drop-set-lt (suc p) room p v (omega arith))
         ∙ ap (λ j. numbered (take p room ++ numberAt (take p room) (count + 1) (getD room p 0) ∷ []) j (Ahead room n (suc p))) (sym ek)
         ∙ ap (numbered (take p room) (count + 1)) (sym ahead)
         ∙ c .names
@@ -101,7 +103,8 @@ module _ {n : ℕ} {room₀ room : List ℕ} {p count : ℕ} (c : Counting n roo
     step-loose : looseIn (suc p) (Ahead (set room p v) n (suc p)) ≡ looseIn 0 (take n room₀)
     unfolding looseIn
     step-loose =
-        let h : looseIn p (getD room p 0 ∷ Ahead room n (suc p)) ≡ looseIn (suc p) (Ahead room n (suc p)) = rw (ne-eqb (getD room p 0) noOwner d, looseIn) refl in
+        let h : looseIn p (getD room p 0 ∷ Ahead room n (suc p)) ≡ looseIn (suc p) (Ahead room n (suc p)) = rw (ne-eqb (getD room p 0) noOwner d, looseIn)
+        refl in
         ap (λ b. looseIn (suc p) (take (n - suc p) b)) (drop-set-lt (suc p) room p v (omega arith)) ∙ sym h ∙ ap (looseIn p) (sym ahead) ∙ c .loose
 
     counting-next : (k : ℕ) → k ≤ p + 1 → nextNumber (count + 1) (getD room p 0) ≡ k + 1 → Counting n room₀ (set room p v) (p + 1) k
@@ -136,4 +139,5 @@ module _ {n : ℕ} {room₀ room : List ℕ} {p count : ℕ} (c : Counting n roo
   unfolding numbered
   counting-done =
       let z : p ≡ n = omega (arith, c .inside) in
-      sym (take-append-drop n room) ∙ ap₂ (λ a b. a ++ b) (ap (λ k. take k room) (sym z) ∙ sym (ap (numbered (take p room) (count + 1)) none-ahead) ∙ c .names) (c .behind)
+      sym (take-append-drop n room) ∙ ap₂ (λ a b. a ++ b)
+      (ap (λ k. take k room) (sym z) ∙ sym (ap (numbered (take p room) (count + 1)) none-ahead) ∙ c .names) (c .behind)

@@ -192,7 +192,8 @@ module _ {n : ℕ} {cells links : List ℕ} (k : LinkedTo n cells links) (x : �
 
 -- ------------------------------------------------------------------ one more row
 
-newest-on : {cells : List ℕ} {half h below p : ℕ} → Newest cells half h below p → (First cells below → column cells below 1 % half ≡ h → ⊥) → Newest cells half h (below + 1) p
+newest-on : {cells : List ℕ} {half h below p : ℕ} → Newest cells half h below p → (First cells below → column cells below 1 % half ≡ h → ⊥)
+    → Newest cells half h (below + 1) p
 newest-on {cells} {half} {h} {below} {p} w d =
     record {
       small = omega (arith, w .small);
@@ -206,7 +207,8 @@ newest-on {cells} {half} {h} {below} {p} w d =
     }
 
 -- a row that is no first row changes nothing
-pub linked-skip : {n : ℕ} {cells links : List ℕ} → LinkedTo n cells links → n < length links / 2 → n < 16384 → (First cells n → ⊥) → LinkedTo (n + 1) cells links
+pub linked-skip : {n : ℕ} {cells links : List ℕ} → LinkedTo n cells links → n < length links / 2 → n < 16384 → (First cells n → ⊥)
+    → LinkedTo (n + 1) cells links
 linked-skip {n} {cells} {links} k r l d =
     record {
       few = omega arith;
@@ -359,7 +361,8 @@ pub record Linking (cells links₀ links : List ℕ) (row : ℕ) : Type 0 where
   pub long : length links ≡ length links₀
   pub linked : LinkedTo row cells links
 
-module _ {cells links₀ links : List ℕ} {row : ℕ} (w : Linking cells links₀ links row) (few : length cells ≤ 65536) (fits : length cells / 4 ≤ length links₀ / 2) (l : row < length cells / 4) where
+module _ {cells links₀ links : List ℕ} {row : ℕ}
+    (w : Linking cells links₀ links row) (few : length cells ≤ 65536) (fits : length cells / 4 ≤ length links₀ / 2) (l : row < length cells / 4) where
   pub row-fits : row < length links / 2
   row-fits = omega (arith, ap (λ m. m / 2) (w .long))
 
@@ -383,7 +386,9 @@ module _ {cells links₀ links : List ℕ} {row : ℕ} (w : Linking cells links�
       let el′ : links′ ≡ linksWith links row (column cells row 1) = el ∙ ap (linksWith links row) ex in
       record {
         inside = omega arith;
-        long = ap length el ∙ length-set (set links (length links / 2 + row) (getD links (_ % (length links / 2)) 0)) _ (row + 1) ∙ length-set links (length links / 2 + row) _ ∙ w .long;
+        long =
+            ap length el ∙ length-set (set links (length links / 2 + row) (getD links (_ % (length links / 2)) 0)) _ (row + 1) ∙ length-set links
+            (length links / 2 + row) _ ∙ w .long;
         linked = linked-more (w .linked) row-fits row-small f el′;
       }
 

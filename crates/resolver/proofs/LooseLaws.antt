@@ -11,7 +11,8 @@ use borrow.Author.Tests.{ne-eqb}
 use Rattle.spellings.specs.BytesLaws.{by-test}
 use Rattle.terms.specs.Term.{Name, word, fresh, outside, Term, Fields, variable, function, apply, rcd, dot, number, nil, cons, size, sizeFields}
 use Rattle.terms.specs.Rename.{belongs, isRenamed, walk}
-use Rattle.terms.specs.Binding.{Owner, unbound, boundAt, Binder, ownerOf, Occurrence, occurrence, occurrences, occurrencesFields, isLoose, loosePlaces, stopsAtFirst}
+use Rattle.terms.specs.Binding.{Owner, unbound, boundAt, Binder, ownerOf, Occurrence, occurrence, occurrences, occurrencesFields, isLoose}
+use Rattle.terms.specs.Binding.{loosePlaces, stopsAtFirst}
 use Rattle.resolver.specs.Marks.{noOwner, ownerCode, markOf, binderMark, marks, marksFields}
 use Rattle.resolver.specs.Numbers.{looseIn}
 use Rattle.terms.proofs.Loose.{walk-stops, loose-append, loose-here, loose-further}
@@ -30,8 +31,10 @@ unfolding looseIn
 loose-both p [] ns = ap (λ n. looseIn n ns) (sym (add-zero p))
 loose-both p (m ∷ ms) ns =
     by-test (eqb m noOwner)
-    (λ e. loose-there p m (ms ++ ns) e ∙ ap (λ l. p ∷ l) (loose-both (suc p) ms ns ∙ ap (λ n. looseIn (suc p) ms ++ looseIn n ns) (omega arith)) ∙ ap (λ l. l ++ looseIn (p + length (m ∷ ms)) ns) (sym (loose-there p m ms e)))
-    (λ e. loose-not p m (ms ++ ns) e ∙ loose-both (suc p) ms ns ∙ ap (λ n. looseIn (suc p) ms ++ looseIn n ns) (omega arith) ∙ ap (λ l. l ++ looseIn (p + length (m ∷ ms)) ns) (sym (loose-not p m ms e)))
+    (λ e. loose-there p m (ms ++ ns) e ∙ ap (λ l. p ∷ l) (loose-both (suc p) ms ns ∙ ap (λ n. looseIn (suc p) ms ++ looseIn n ns) (omega arith)) ∙ ap
+    (λ l. l ++ looseIn (p + length (m ∷ ms)) ns) (sym (loose-there p m ms e)))
+    (λ e. loose-not p m (ms ++ ns) e ∙ loose-both (suc p) ms ns ∙ ap (λ n. looseIn (suc p) ms ++ looseIn n ns) (omega arith) ∙ ap
+    (λ l. l ++ looseIn (p + length (m ∷ ms)) ns) (sym (loose-not p m ms e)))
 
 -- a mark says whether a variable is loose
 mark-loose : (v : Name) (o : Owner) → ownerCode o ≤ 16384 → eqb (markOf v (ownerCode o)) noOwner ≡ isLoose v o
@@ -52,7 +55,8 @@ near-more : (around : List Binder) (b : Name) (p : ℕ) → Near around → p < 
 unfolding ownerOf
 near-more around b p h l v = by-test (belongs v b) (λ e. rw (e, ownerOf) (omega arith)) (λ e. rw (e, ownerOf) (h v))
 
-loose-variable : (around : List Binder) (p : ℕ) (v : Name) → Near around → looseIn p (markOf v (ownerCode (ownerOf around v)) ∷ []) ≡ loosePlaces (occurrence around p v ∷ [])
+loose-variable : (around : List Binder) (p : ℕ) (v : Name) → Near around
+    → looseIn p (markOf v (ownerCode (ownerOf around v)) ∷ []) ≡ loosePlaces (occurrence around p v ∷ [])
 unfolding looseIn loosePlaces
 loose-variable around p v h =
     let m = markOf v (ownerCode (ownerOf around v)) in
@@ -63,7 +67,8 @@ loose-variable around p v h =
 mutual
   unfolding marks marksFields occurrences occurrencesFields size sizeFields loosePlaces looseIn
 
-  loose-marks : (around : List Binder) (p : ℕ) (t : Term Name) → Near around → p + size t ≤ 16384 → looseIn p (marks around p t) ≡ loosePlaces (occurrences around p t)
+  loose-marks : (around : List Binder) (p : ℕ) (t : Term Name) → Near around → p + size t ≤ 16384
+      → looseIn p (marks around p t) ≡ loosePlaces (occurrences around p t)
   loose-marks around p (variable v) h l = loose-variable around p v h
   loose-marks around p (function b t) h l =
       loose-not p (binderMark (isRenamed b t)) (marks (record { name = b; place = p } ∷ around) (suc p) t) (binder-not (isRenamed b t))
@@ -77,12 +82,14 @@ mutual
   loose-marks around p (dot t s) h l = loose-marks around (suc p) t h (omega arith)
   loose-marks around p (number n) h l = refl
 
-  loose-marks-fields : (around : List Binder) (p : ℕ) (f : Fields Name) → Near around → p + sizeFields f ≤ 16384 → looseIn p (marksFields around p f) ≡ loosePlaces (occurrencesFields around p f)
+  loose-marks-fields : (around : List Binder) (p : ℕ) (f : Fields Name) → Near around → p + sizeFields f ≤ 16384
+      → looseIn p (marksFields around p f) ≡ loosePlaces (occurrencesFields around p f)
   loose-marks-fields around p nil h l = refl
   loose-marks-fields around p (cons s t f) h l =
       loose-both (suc p) (marks around (suc p) t) (marksFields around (suc p + size t) f)
       ∙ ap₂ (λ a b. a ++ b) (loose-marks around (suc p) t h (omega arith))
-      (ap (λ n. looseIn (suc p + n) (marksFields around (suc p + size t) f)) (length-marks around (suc p) t) ∙ loose-marks-fields around (suc p + size t) f h (omega arith))
+      (ap (λ n. looseIn (suc p + n) (marksFields around (suc p + size t) f)) (length-marks around (suc p) t) ∙ loose-marks-fields around (suc p + size t) f
+      h (omega arith))
       ∙ sym (loose-append (occurrences around (suc p) t) (occurrencesFields around (suc p + size t) f))
 
 -- The walk of refusal 23 stops at the first place without an owner.

@@ -34,7 +34,8 @@ module _ (spell : ℕ → List ℕ) (x : ℕ) where
       by-test (same (spell m) (spell n)) (λ e. eq-eqb m n (apart m n w (same-true (spell m) (spell n) e)) ∙ sym e)
       (λ e. ne-eqb m n (λ z. same-false (spell m) (spell n) e (ap spell z)) ∙ sym e)
 
-  pub held-outside : (x / nameBase ≡ 1 → ⊥) → (x / nameBase ≡ 2 → ⊥) → {r : ℕ} → r ≡ only (x % nameBase) → Distinct spell → Holds spell r (λ s. isOutside s (nameOf spell x))
+  pub held-outside : (x / nameBase ≡ 1 → ⊥) → (x / nameBase ≡ 2 → ⊥) → {r : ℕ} → r ≡ only (x % nameBase) → Distinct spell
+      → Holds spell r (λ s. isOutside s (nameOf spell x))
   held-outside a b er apart n l w =
       ap (λ k. hasKind k n) er ∙ has-only (x % nameBase) n ∙ ap (λ t. t && eqb n (x % nameBase)) (lt-ltb n 64 l)
       ∙ same-number apart n (x % nameBase) w ∙ sym (ap (isOutside (spell n)) (as-outside spell x a b))
@@ -71,7 +72,8 @@ module _ (spell : ℕ → List ℕ) (apart : Distinct spell) (n : ℕ) (far : 64
 
 -- ------------------------------------------------------------------ binders
 
-module _ (spell : ℕ → List ℕ) (t : Term Name) (x held : ℕ) (apart : Distinct spell) (known : WellNamed spell t) (kb : BinderName spell (nameOf spell x)) (h : Holds spell held (λ s. holds s t)) where
+module _ (spell : ℕ → List ℕ) (t : Term Name) (x held : ℕ) (apart : Distinct spell) (known : WellNamed spell t) (kb : BinderName spell
+    (nameOf spell x)) (h : Holds spell held (λ s. holds s t)) where
   word-is : x / nameBase ≡ 1 → isWord (spell (x % nameBase)) ≡ true
   word-is e = subst (BinderName spell) (as-word spell x e) kb
 
@@ -99,7 +101,8 @@ fresh-mark : (n o : ℕ) → (o ≡ 0 → ⊥) → o ≡ markOf (fresh n) o
 fresh-mark n zero d = absurd (d refl)
 fresh-mark n (suc q) d = refl
 
-module _ (spell : ℕ → List ℕ) (x : ℕ) (cells current : List ℕ) (around : List Binder) (known : VariableName spell (nameOf spell x)) (env : Around spell cells around current) where
+module _ (spell : ℕ → List ℕ) (x : ℕ) (cells current : List ℕ) (around : List Binder) (known : VariableName spell
+    (nameOf spell x)) (env : Around spell cells around current) where
   abbrev Owner : ℕ
   Owner = ownerCode (ownerOf around (nameOf spell x))
 

@@ -82,7 +82,8 @@ next-small : (c m : ℕ) → (m ≡ new → ⊥) → nextNumber c m ≡ c
 unfolding nextNumber
 next-small c m d = rw (ne-eqb m new d, nextNumber) refl
 
-variable-number : (done : List ℕ) (c : ℕ) (v : Name) (o : ℕ) → o ≤ 16384 → nameShown (numberAt done c (markOf v o)) v ≡ nameShown (elim v [ word s ↦ ownerNumber done o | fresh n ↦ ownerNumber done o | outside s ↦ 0 ]) v
+variable-number : (done : List ℕ) (c : ℕ) (v : Name) (o : ℕ) → o ≤ 16384
+    → nameShown (numberAt done c (markOf v o)) v ≡ nameShown (elim v [ word s ↦ ownerNumber done o | fresh n ↦ ownerNumber done o | outside s ↦ 0 ]) v
 unfolding numberAt
 variable-number done c (word s) o l = ap (λ n. nameShown n (word s)) (at-small done c o l)
 variable-number done c (fresh n) zero l = refl
@@ -108,7 +109,8 @@ variable-shown : (done : List ℕ) (around : List Binder) (shown : List Printed)
     → nameShown (numberAt done c (markOf v (ownerCode (ownerOf around v)))) v ≡ shownAs shown v
 unfolding numberAt
 variable-shown done around shown h l c (word s) =
-    ap (λ n. nameShown n (word s)) (at-small done c (ownerCode (ownerOf around (word s))) (omega (arith, owner-below h (word s)))) ∙ sym (shown-by done around shown h (word s))
+    ap (λ n. nameShown n (word s)) (at-small done c (ownerCode (ownerOf around (word s))) (omega (arith, owner-below h (word s)))) ∙ sym
+    (shown-by done around shown h (word s))
 variable-shown done around shown h l c (fresh n) =
     fresh-number done c n (ownerCode (ownerOf around (fresh n))) (omega (arith, owner-below h (fresh n))) ∙ sym (shown-by done around shown h (fresh n))
 variable-shown done around shown h l c (outside s) =
@@ -165,7 +167,8 @@ at-end done n p ns rest e = ap (λ l. getD l p 0) (append-assoc done (n ∷ ns) 
 snoc-length : (done : List ℕ) (n p : ℕ) → length done ≡ p → length (done ++ n ∷ []) ≡ suc p
 snoc-length done n p e = length-append done (n ∷ []) ∙ omega arith
 
-variable-numbers : (around : List Binder) (shown : List Printed) (done : List ℕ) (c p : ℕ) (v : Name) → Paired done around shown → length done ≡ p → p ≤ 16384 → TermNumbers around shown done c p (variable v)
+variable-numbers : (around : List Binder) (shown : List Printed) (done : List ℕ) (c p : ℕ) (v : Name) → Paired done around shown → length done ≡ p
+    → p ≤ 16384 → TermNumbers around shown done c p (variable v)
 unfolding marks numbered labelled renamed renames size
 variable-numbers around shown done c p v h e l =
     let m = markOf v (ownerCode (ownerOf around v)) in
@@ -267,7 +270,8 @@ module _ (around : List Binder) (shown : List Printed) (done : List ℕ) (c p : 
         as-many = ap suc (length-append (i .numbers) (j .numbers) ∙ ap₂ (λ a b. a + b) (i .as-many) (j .as-many));
         runs =
             λ ms.
-            ap₂ (λ a k. numbered (done ++ a ∷ []) k ((marks around (suc p) t ++ marks around (suc p + size t) u) ++ ms)) (none-number done (suc c)) (none-next (suc c))
+            ap₂ (λ a k. numbered (done ++ a ∷ []) k ((marks around (suc p) t ++ marks around (suc p + size t) u) ++ ms)) (none-number done (suc c))
+            (none-next (suc c))
             ∙ ap (numbered (done ++ 0 ∷ []) (suc c)) (append-assoc (marks around (suc p) t) (marks around (suc p + size t) u) ms)
             ∙ i .runs (marks around (suc p + size t) u ++ ms)
             ∙ ap (λ k. numbered ((done ++ 0 ∷ []) ++ i .numbers) k (marks around (suc p + size t) u ++ ms)) (omega arith)
@@ -292,7 +296,8 @@ module _ (around : List Binder) (shown : List Printed) (done : List ℕ) (c p : 
         as-many = ap suc (length-append (i .numbers) (j .numbers) ∙ ap₂ (λ a b. a + b) (i .as-many) (j .as-many));
         runs =
             λ ms.
-            ap₂ (λ a k. numbered (done ++ a ∷ []) k ((marks around (suc p) t ++ marksFields around (suc p + size t) f) ++ ms)) (none-number done (suc c)) (none-next (suc c))
+            ap₂ (λ a k. numbered (done ++ a ∷ []) k ((marks around (suc p) t ++ marksFields around (suc p + size t) f) ++ ms)) (none-number done (suc c))
+            (none-next (suc c))
             ∙ ap (numbered (done ++ 0 ∷ []) (suc c)) (append-assoc (marks around (suc p) t) (marksFields around (suc p + size t) f) ms)
             ∙ i .runs (marksFields around (suc p + size t) f ++ ms)
             ∙ ap (λ k. numbered ((done ++ 0 ∷ []) ++ i .numbers) k (marksFields around (suc p + size t) f ++ ms)) (omega arith)
@@ -308,7 +313,8 @@ module _ (around : List Binder) (shown : List Printed) (done : List ℕ) (c p : 
 
 -- a binder's entry, with the name that its number gives
 paired-binder : (around : List Binder) (shown : List Printed) (done : List ℕ) (c p : ℕ) (b : Name) (r : Bool) → Paired done around shown → length done ≡ p
-    → Paired (done ++ numberAt done (suc c) (binderMark r) ∷ []) (record { name = b; place = p } ∷ around) (record { origin = b; shown = binderShown r (suc c) b } ∷ shown)
+    → Paired (done ++ numberAt done (suc c) (binderMark r) ∷ []) (record { name = b; place = p } ∷ around)
+    (record { origin = b; shown = binderShown r (suc c) b } ∷ shown)
 paired-binder around shown done c p b r h e =
     let n = numberAt done (suc c) (binderMark r) in
     subst (λ x. Paired (done ++ n ∷ []) (record { name = b; place = p } ∷ around) (record { origin = b; shown = x } ∷ shown))
@@ -318,7 +324,8 @@ paired-binder around shown done c p b r h e =
 mutual
   unfolding size sizeFields
 
-  term-numbers : (around : List Binder) (shown : List Printed) (done : List ℕ) (c p : ℕ) (t : Term Name) → Paired done around shown → length done ≡ p → p + size t ≤ 16384
+  term-numbers : (around : List Binder) (shown : List Printed) (done : List ℕ) (c p : ℕ) (t : Term Name) → Paired done around shown → length done ≡ p
+      → p + size t ≤ 16384
       → TermNumbers around shown done c p t
   term-numbers around shown done c p (variable v) h e l = variable-numbers around shown done c p v h e (omega arith)
   term-numbers around shown done c p (function b t) h e l =
@@ -332,12 +339,15 @@ mutual
       (term-numbers around shown ((done ++ 0 ∷ []) ++ i .numbers) (renames t + c) (suc p + size t) u (paired-later (i .numbers) (paired-later (0 ∷ []) h))
       (length-append (done ++ 0 ∷ []) (i .numbers) ∙ ap₂ (λ a b. a + b) (snoc-length done 0 p e) (i .as-many)) (omega arith))
   term-numbers around shown done c p (rcd f) h e l =
-      rcd-numbers around shown done c p e f (field-numbers around shown (done ++ 0 ∷ []) c (suc p) f (paired-later (0 ∷ []) h) (snoc-length done 0 p e) (omega arith))
+      rcd-numbers around shown done c p e f
+      (field-numbers around shown (done ++ 0 ∷ []) c (suc p) f (paired-later (0 ∷ []) h) (snoc-length done 0 p e) (omega arith))
   term-numbers around shown done c p (dot t s) h e l =
-      dot-numbers around shown done c p e t s (term-numbers around shown (done ++ 0 ∷ []) c (suc p) t (paired-later (0 ∷ []) h) (snoc-length done 0 p e) (omega arith))
+      dot-numbers around shown done c p e t s
+      (term-numbers around shown (done ++ 0 ∷ []) c (suc p) t (paired-later (0 ∷ []) h) (snoc-length done 0 p e) (omega arith))
   term-numbers around shown done c p (number n) h e l = number-numbers around shown done c p n
 
-  field-numbers : (around : List Binder) (shown : List Printed) (done : List ℕ) (c p : ℕ) (f : Fields Name) → Paired done around shown → length done ≡ p → p + sizeFields f ≤ 16384
+  field-numbers : (around : List Binder) (shown : List Printed) (done : List ℕ) (c p : ℕ) (f : Fields Name) → Paired done around shown → length done ≡ p
+      → p + sizeFields f ≤ 16384
       → FieldNumbers around shown done c p f
   field-numbers around shown done c p nil h e l = nil-numbers around shown done c p
   field-numbers around shown done c p (cons s t f) h e l =

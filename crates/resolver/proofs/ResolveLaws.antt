@@ -19,10 +19,12 @@ use Rattle.kinds.specs.KindsLaws.{has-none, has-join}
 use Rattle.grammar.specs.Cells.{column, nameBase}
 use Rattle.grammar.proofs.ReaderLaws.{getD-past}
 use Rattle.terms.specs.Term.{Name, word, fresh, outside, Term, Fields, variable, function, apply, rcd, dot, number, nil, cons, size, sizeFields}
-use Rattle.terms.specs.Rows.{nameOf, Constructor, mkTermVar, mkTermFun, mkTermApp, mkTermRcd, mkTermDot, mkFieldNil, mkFieldCons, mkTermNum, constructorOf, termBy, isCons, fieldsBy, termAt, fieldsAt}
+use Rattle.terms.specs.Rows.{nameOf, Constructor, mkTermVar, mkTermFun, mkTermApp, mkTermRcd, mkTermDot, mkFieldNil, mkFieldCons, mkTermNum}
+use Rattle.terms.specs.Rows.{constructorOf, termBy, isCons, fieldsBy, termAt, fieldsAt}
 use Rattle.terms.specs.Rename.{isRenamed, isOutside, holds, holdsFields}
 use Rattle.terms.specs.Binding.{Binder, ownerOf}
-use Rattle.resolver.specs.Marks.{markOf, ownerCode, binderMark, marks, marksFields, slotOf, Bindable, bindable-word, bindable-fresh, Around, Holds, Walked, WalkedFields, ResolvesTerm, ResolvesFields}
+use Rattle.resolver.specs.Marks.{markOf, ownerCode, binderMark, marks, marksFields, slotOf, Bindable, bindable-word, bindable-fresh, Around}
+use Rattle.resolver.specs.Marks.{Holds, MarksVariable, MarksBinder, Walked, WalkedFields, ResolvesTerm, ResolvesFields}
 use Rattle.terms.specs.Names.{Distinct, VariableName, BinderName, WellNamed, WellNamedFields}
 use Rattle.rows.specs.Sizes.{WholeRows, noSpell}
 use Rattle.rows.proofs.ListLaws.{sets-append, set-sets}
@@ -39,7 +41,8 @@ mutual
   length-marks around p (variable v) = refl
   length-marks around p (function b t) = ap suc (length-marks (record { name = b; place = p } ∷ around) (suc p) t)
   length-marks around p (apply t u) =
-      ap suc (length-append (marks around (suc p) t) (marks around (suc p + size t) u) ∙ ap₂ (λ a b. a + b) (length-marks around (suc p) t) (length-marks around (suc p + size t) u))
+      ap suc (length-append (marks around (suc p) t) (marks around (suc p + size t) u) ∙ ap₂ (λ a b. a + b) (length-marks around (suc p) t)
+      (length-marks around (suc p + size t) u))
   length-marks around p (rcd f) = ap suc (length-marks-fields around (suc p) f)
   length-marks around p (dot t l) = ap suc (length-marks around (suc p) t)
   length-marks around p (number n) = refl
@@ -47,7 +50,8 @@ mutual
   length-marks-fields : (around : List Binder) (p : ℕ) (f : Fields Name) → length (marksFields around p f) ≡ sizeFields f
   length-marks-fields around p nil = refl
   length-marks-fields around p (cons l t f) =
-      ap suc (length-append (marks around (suc p) t) (marksFields around (suc p + size t) f) ∙ ap₂ (λ a b. a + b) (length-marks around (suc p) t) (length-marks-fields around (suc p + size t) f))
+      ap suc (length-append (marks around (suc p) t) (marksFields around (suc p + size t) f) ∙ ap₂ (λ a b. a + b) (length-marks around (suc p) t)
+      (length-marks-fields around (suc p + size t) f))
 
 -- ------------------------------------------------------------------ names
 
@@ -148,7 +152,8 @@ module _ {spell : ℕ → List ℕ} {around : List Binder} {p : ℕ} where
             w′ .marked
             ∙ ap (λ l. sets l q (marksFields around q f)) (w .marked ∙ ap (λ n. sets (set room p 0) n (marks around n t)) (add-one p))
             ∙ ap (λ n. sets (sets (set room p 0) (suc p) (marks around (suc p) t)) n (marksFields around q f)) z
-            ∙ ap (λ n. sets (sets (set room p 0) (suc p) (marks around (suc p) t)) (suc p + length (marks around (suc p) t)) (marksFields around n f)) (omega arith)
+            ∙ ap (λ n. sets (sets (set room p 0) (suc p) (marks around (suc p) t)) (suc p + length (marks around (suc p) t)) (marksFields around n f))
+            (omega arith)
             ∙ sym (sets-append (set room p 0) (suc p) (marks around (suc p) t) (marksFields around (suc p + size t) f));
       }
 
@@ -167,7 +172,8 @@ walked-as {spell} {around} {p} {held} {t} {t′} {current} {current′} {room} {
 walked-fields-as : {spell : ℕ → List ℕ} {around : List Binder} {p held : ℕ} {t t′ : Fields Name} {current current′ room room₁ room₂ : List ℕ}
     → t ≡ t′ → room₁ ≡ room₂ → WalkedFields spell around p t′ held current current′ room room₂ → WalkedFields spell around p t held current current′ room room₁
 walked-fields-as {spell} {around} {p} {held} {t} {t′} {current} {current′} {room} {room₁} {room₂} e r w =
-    subst (λ u. WalkedFields spell around p u held current current′ room room₁) (sym e) (subst (λ l. WalkedFields spell around p t′ held current current′ room l) (sym r) w)
+    subst (λ u. WalkedFields spell around p u held current current′ room room₁) (sym e)
+    (subst (λ l. WalkedFields spell around p t′ held current current′ room l) (sym r) w)
 
 -- the room before a walk, as it was written
 from-room : {spell : ℕ → List ℕ} {around : List Binder} {p held : ℕ} {t : Term Name} {current current′ room room₁ room₂ : List ℕ}
@@ -184,14 +190,15 @@ module _ (cells : List ℕ) (k row p : ℕ) where
   shallow-resolves e current room er spell around apart wh kn len env =
       walked-as (ap (λ n. termAt n spell cells row) e) er (number-walked 0 current room)
 
-  pub shallow-resolves-fields : k ≡ 0 → {room₁ : List ℕ} (current room : List ℕ) → room₁ ≡ set room p 0 → ResolvesFields cells k row p current current room room₁ 0
+  pub shallow-resolves-fields : k ≡ 0 → {room₁ : List ℕ} (current room : List ℕ) → room₁ ≡ set room p 0
+      → ResolvesFields cells k row p current current room room₁ 0
   unfolding fieldsAt
   shallow-resolves-fields e current room er spell around apart wh kn len env =
       walked-fields-as (ap (λ n. fieldsAt n spell cells row) e) er (nil-walked current room)
 
   module _ (some : k ≡ 0 → ⊥) {code : ℕ} (at : code ≡ column cells row 0) where
     pub variable-resolves : code ≡ 32 → {x m h : ℕ} {room₁ : List ℕ} (current room : List ℕ) → x ≡ column cells row 1
-        → ((spell : ℕ → List ℕ) (around : List Binder) → VariableName spell (nameOf spell x) → Around spell cells around current → m ≡ markOf (nameOf spell x) (ownerCode (ownerOf around (nameOf spell x))))
+        → MarksVariable cells current x m
         → ((spell : ℕ → List ℕ) → Distinct spell → VariableName spell (nameOf spell x) → Holds spell h (λ s. isOutside s (nameOf spell x)))
         → room₁ ≡ set room p m → ResolvesTerm cells k row p current current room room₁ h
     unfolding WellNamed
@@ -206,11 +213,12 @@ module _ (cells : List ℕ) (k row p : ℕ) where
         rows.number-row spell cells k row some at (λ t. Walked spell around p t 0 current current room room₁)
         (λ n. walked-as refl er (number-walked n current room)) v a b c d
 
-    pub function-resolves : code ≡ 33 → {x q outer held v : ℕ} {current current₁ current₂ current₃ room room₁ room₂ : List ℕ} → x ≡ column cells row 1 → q ≡ column cells row 2
+    pub function-resolves : code ≡ 33 → {x q outer held v : ℕ} {current current₁ current₂ current₃ room room₁ room₂ : List ℕ} → x ≡ column cells row 1
+        → q ≡ column cells row 2
         → current₁ ≡ set current (slotOf cells x) (p + 1) → outer ≡ getD current (slotOf cells x) 0
         → ResolvesTerm cells (k - 1) q (p + 1) current₁ current₂ room room₁ held
         → current₃ ≡ set current₂ (slotOf cells x) outer
-        → ((spell : ℕ → List ℕ) (t : Term Name) → Distinct spell → WellNamed spell t → BinderName spell (nameOf spell x) → Holds spell held (λ s. holds s t) → v ≡ binderMark (isRenamed (nameOf spell x) t))
+        → MarksBinder x held v
         → room₂ ≡ set room₁ p v → ResolvesTerm cells k row p current current₃ room room₂ held
     unfolding WellNamed
     function-resolves e {x} {q} {current = current} {current₁ = current₁} ex eq e₁ eo body e₃ mark er spell around apart wh kn len env =
@@ -221,25 +229,29 @@ module _ (cells : List ℕ) (k row p : ℕ) where
         let inner : Around spell cells (record { name = nameOf spell x; place = p } ∷ around) current₁ =
         subst (Around spell cells (record { name = nameOf spell x; place = p } ∷ around)) (sym e₁)
         (around-binder spell apart cells around current x p (bindable-of spell x (kn′ .0)) slot len env) in
-        let w = body spell (record { name = nameOf spell x; place = p } ∷ around) apart wh (kn′ .1) (ap length e₁ ∙ length-set current (slotOf cells x) (p + 1) ∙ len) inner in
+        let w = body spell (record { name = nameOf spell x; place = p } ∷ around) apart wh (kn′ .1)
+        (ap length e₁ ∙ length-set current (slotOf cells x) (p + 1) ∙ len) inner in
         walked-as t er
         (function-walked w (mark spell (termAt (k - 1) spell cells q) apart (kn′ .1) (kn′ .0) (w .holding))
         (e₃ ∙ ap₂ (λ l o. set l (slotOf cells x) o) (w .kept ∙ e₁) eo ∙ restored current (slotOf cells x) (p + 1)))
 
-    pub apply-resolves : code ≡ 34 → {q q′ p′ h₁ h₂ h : ℕ} {current current₁ current₂ room room₀ room₁ room₂ : List ℕ} → q ≡ column cells row 1 → q′ ≡ column cells row 2
+    pub apply-resolves : code ≡ 34 → {q q′ p′ h₁ h₂ h : ℕ} {current current₁ current₂ room room₀ room₁ room₂ : List ℕ} → q ≡ column cells row 1
+        → q′ ≡ column cells row 2
         → room₀ ≡ set room p 0 → ResolvesTerm cells (k - 1) q (p + 1) current current₁ room₀ room₁ h₁
         → p′ ≡ p + 1 + size (termAt (k - 1) noSpell cells q) → ResolvesTerm cells (k - 1) q′ p′ current₁ current₂ room₁ room₂ h₂
         → h ≡ bitOr h₁ h₂ → ResolvesTerm cells k row p current current₂ room room₂ h
     unfolding WellNamed
     apply-resolves e {q} {q′} {current₁ = current₁} eq eq′ e₀ first ep second eh spell around apart wh kn len env =
-        let t = rows.app-row spell cells k row some at e ∙ ap₂ (λ a b. apply (termAt (k - 1) spell cells a) (termAt (k - 1) spell cells b)) (sym eq) (sym eq′) in
+        let t = rows.app-row spell cells k row some at e ∙ ap₂ (λ a b. apply (termAt (k - 1) spell cells a) (termAt (k - 1) spell cells b)) (sym eq)
+        (sym eq′) in
         let kn′ = subst (WellNamed spell) t kn in
         let w = first spell around apart wh (kn′ .0) len env in
         let w′ = second spell around apart wh (kn′ .1) (ap length (w .kept) ∙ len) (subst (Around spell cells around) (sym (w .kept)) env) in
         walked-as t refl (apply-walked (from-room e₀ w) w′ (ep ∙ ap (λ n. p + 1 + n) (size-spell (k - 1) noSpell spell cells q)) eh)
 
     pub rcd-resolves : code ≡ 35 → {q h : ℕ} {current current₁ room room₀ room₁ : List ℕ} → q ≡ column cells row 1
-        → room₀ ≡ set room p 0 → ResolvesFields cells (k - 1) q (p + 1) current current₁ room₀ room₁ h → ResolvesTerm cells k row p current current₁ room room₁ h
+        → room₀ ≡ set room p 0 → ResolvesFields cells (k - 1) q (p + 1) current current₁ room₀ room₁ h
+        → ResolvesTerm cells k row p current current₁ room room₁ h
     unfolding WellNamed
     rcd-resolves e {q} eq e₀ first spell around apart wh kn len env =
         let t = rows.rcd-row spell cells k row some at e ∙ ap (λ a. rcd (fieldsAt (k - 1) spell cells a)) (sym eq) in
@@ -252,19 +264,23 @@ module _ (cells : List ℕ) (k row p : ℕ) where
         let t = rows.dot-row spell cells k row some at e ∙ ap (λ a. dot (termAt (k - 1) spell cells a) (spell (column cells row 2))) (sym eq) in
         walked-as t refl (dot-walked (spell (column cells row 2)) (from-room e₀ (first spell around apart wh (subst (WellNamed spell) t kn) len env)))
 
-    pub cons-resolves : code ≡ 38 → {q q′ p′ h₁ h₂ h : ℕ} {current current₁ current₂ room room₀ room₁ room₂ : List ℕ} → q ≡ column cells row 2 → q′ ≡ column cells row 3
+    pub cons-resolves : code ≡ 38 → {q q′ p′ h₁ h₂ h : ℕ} {current current₁ current₂ room room₀ room₁ room₂ : List ℕ} → q ≡ column cells row 2
+        → q′ ≡ column cells row 3
         → room₀ ≡ set room p 0 → ResolvesTerm cells (k - 1) q (p + 1) current current₁ room₀ room₁ h₁
         → p′ ≡ p + 1 + size (termAt (k - 1) noSpell cells q) → ResolvesFields cells (k - 1) q′ p′ current₁ current₂ room₁ room₂ h₂
         → h ≡ bitOr h₁ h₂ → ResolvesFields cells k row p current current₂ room room₂ h
     unfolding WellNamedFields
     cons-resolves e {q} {q′} eq eq′ e₀ first ep second eh spell around apart wh kn len env =
-        let t = rows.cons-row spell cells k row some at e ∙ ap₂ (λ a b. cons (spell (column cells row 1)) (termAt (k - 1) spell cells a) (fieldsAt (k - 1) spell cells b)) (sym eq) (sym eq′) in
+        let t = rows.cons-row spell cells k row some at e ∙ ap₂
+        (λ a b. cons (spell (column cells row 1)) (termAt (k - 1) spell cells a) (fieldsAt (k - 1) spell cells b)) (sym eq) (sym eq′) in
         let kn′ = subst (WellNamedFields spell) t kn in
         let w = first spell around apart wh (kn′ .0) len env in
         let w′ = second spell around apart wh (kn′ .1) (ap length (w .kept) ∙ len) (subst (Around spell cells around) (sym (w .kept)) env) in
-        walked-fields-as t refl (cons-walked (spell (column cells row 1)) (from-room e₀ w) w′ (ep ∙ ap (λ n. p + 1 + n) (size-spell (k - 1) noSpell spell cells q)) eh)
+        walked-fields-as t refl
+        (cons-walked (spell (column cells row 1)) (from-room e₀ w) w′ (ep ∙ ap (λ n. p + 1 + n) (size-spell (k - 1) noSpell spell cells q)) eh)
 
-    pub nil-resolves : (code ≡ 38 → ⊥) → {room₁ : List ℕ} (current room : List ℕ) → room₁ ≡ set room p 0 → ResolvesFields cells k row p current current room room₁ 0
+    pub nil-resolves : (code ≡ 38 → ⊥) → {room₁ : List ℕ} (current room : List ℕ) → room₁ ≡ set room p 0
+        → ResolvesFields cells k row p current current room room₁ 0
     nil-resolves e current room er spell around apart wh kn len env =
         walked-fields-as (rows.nil-row spell cells k row some at e) er (nil-walked current room)
 

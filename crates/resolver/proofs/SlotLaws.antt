@@ -29,7 +29,9 @@ slot-binds (suc n) cells row x h =
 -- the row of a slot has the slot's name
 pub slot-name : (cells : List ℕ) (x : ℕ) → slotOf cells x < 16384 → column cells (slotOf cells x) 1 ≡ x
 slot-name cells x h =
-    eqb-true (column cells (slotOf cells x) 1) x (and-eq-true-iff (eqb (column cells (slotOf cells x) 0) 33) (eqb (column cells (slotOf cells x) 1) x) .0 (slot-binds (length cells / 4) cells 0 x h) .1)
+    eqb-true (column cells (slotOf cells x) 1) x
+    (and-eq-true-iff (eqb (column cells (slotOf cells x) 0) 33) (eqb (column cells (slotOf cells x) 1) x) .0
+    (slot-binds (length cells / 4) cells 0 x h) .1)
 
 slot-first : (n : ℕ) (cells : List ℕ) (row x r : ℕ) → row ≤ r → r < row + n → row + n ≤ 16384 → binds cells r x ≡ true → slotFrom n cells row x < 16384
 unfolding slotFrom
@@ -47,7 +49,8 @@ slot-first (suc n) cells row x r a b m e =
 pub slot-there : (cells : List ℕ) (r : ℕ) → r < length cells / 4 → length cells ≤ 65536 → column cells r 0 ≡ 33 → slotOf cells (column cells r 1) < 16384
 slot-there cells r h m e =
     slot-first (length cells / 4) cells 0 (column cells r 1) r (omega arith) (omega arith) (omega arith)
-    (and-eq-true-iff (eqb (column cells r 0) 33) (eqb (column cells r 1) (column cells r 1)) .1 (eq-eqb (column cells r 0) 33 e, eq-eqb (column cells r 1) (column cells r 1) refl))
+    (and-eq-true-iff (eqb (column cells r 0) 33) (eqb (column cells r 1) (column cells r 1)) .1
+    (eq-eqb (column cells r 0) 33 e, eq-eqb (column cells r 1) (column cells r 1) refl))
 
 -- ------------------------------------------------------------------ names by their values
 
@@ -91,7 +94,8 @@ module _ (spell : ℕ → List ℕ) where
   owner-outer around b v e = rw (e, ownerOf) refl
 
   -- under one more binder, at a place: its slot has the place and one more
-  pub around-binder : Distinct spell → (cells : List ℕ) (around : List Binder) (current : List ℕ) (y p : ℕ) → Bindable spell y → slotOf cells y < 16384 → length current ≡ 16385
+  pub around-binder : Distinct spell → (cells : List ℕ) (around : List Binder) (current : List ℕ) (y p : ℕ) → Bindable spell y → slotOf cells y < 16384
+      → length current ≡ 16385
       → Around spell cells around current → Around spell cells (record { name = nameOf spell y; place = p } ∷ around) (set current (slotOf cells y) (p + 1))
   around-binder apart cells around current y p b l n env x a =
       by-test (eqb x y)
@@ -99,7 +103,8 @@ module _ (spell : ℕ → List ℕ) where
       let z : x ≡ y = eqb-true x y e in
       ap (λ q. getD (set current (slotOf cells y) (p + 1)) (slotOf cells q) 0) z
       ∙ getD-set-same current (slotOf cells y) (p + 1) 0 (omega arith)
-      ∙ sym (ap ownerCode (owner-own around (record { name = nameOf spell y; place = p }) (nameOf spell x) (ap (λ q. belongs (nameOf spell q) (nameOf spell y)) z ∙ belongs-same y b)) ∙ omega arith))
+      ∙ sym (ap ownerCode (owner-own around (record { name = nameOf spell y; place = p }) (nameOf spell x)
+      (ap (λ q. belongs (nameOf spell q) (nameOf spell y)) z ∙ belongs-same y b)) ∙ omega arith))
       (λ e.
       let d : x ≡ y → ⊥ = eqb-false x y e in
       let apart-slots : slotOf cells x ≡ slotOf cells y → ⊥ =

@@ -13,7 +13,7 @@ use Rattle.kinds.specs.Kinds.{hasKind}
 use Rattle.grammar.specs.Cells.{column, nameBase}
 use Rattle.terms.specs.Term.{Name, word, fresh, outside, Term, Fields, variable, function, apply, rcd, dot, number, nil, cons, size, sizeFields}
 use Rattle.terms.specs.Rows.{nameOf, termAt, fieldsAt}
-use Rattle.terms.specs.Names.{Distinct, WellNamed, WellNamedFields}
+use Rattle.terms.specs.Names.{Distinct, VariableName, BinderName, WellNamed, WellNamedFields}
 use Rattle.rows.specs.Sizes.{WholeRows}
 use Rattle.terms.specs.Rename.{isRenamed, holds, holdsFields}
 use Rattle.terms.specs.Binding.{Owner, unbound, boundAt, Binder, ownerOf}
@@ -81,6 +81,18 @@ Around spell cells around current =
 abbrev pub Holds : (ℕ → List ℕ) → ℕ → (List ℕ → Bool) → Type 0
 Holds spell held held-by = (n : ℕ) → n < 64 → isWord (spell n) ≡ true → hasKind held n ≡ held-by (spell n)
 
+-- m is the mark of a variable whose name is x, under any binders around that `current` has
+abbrev pub MarksVariable : List ℕ → List ℕ → ℕ → ℕ → Type 0
+MarksVariable cells current x m =
+    (spell : ℕ → List ℕ) (around : List Binder) → VariableName spell (nameOf spell x) → Around spell cells around current
+    → m ≡ markOf (nameOf spell x) (ownerCode (ownerOf around (nameOf spell x)))
+
+-- m is the mark of a binder whose name is x and whose body holds the outside names `held`
+abbrev pub MarksBinder : ℕ → ℕ → ℕ → Type 0
+MarksBinder x held m =
+    (spell : ℕ → List ℕ) (t : Term Name) → Distinct spell → WellNamed spell t → BinderName spell (nameOf spell x)
+    → Holds spell held (λ s. holds s t) → m ≡ binderMark (isRenamed (nameOf spell x) t)
+
 -- what a walk of a term, or of a field list, leaves
 pub record Walked (spell : ℕ → List ℕ) (around : List Binder) (p : ℕ) (t : Term Name) (held : ℕ) (current current′ room room′ : List ℕ) : Type 0 where
   pub holding : Holds spell held (λ s. holds s t)
@@ -95,10 +107,12 @@ pub record WalkedFields (spell : ℕ → List ℕ) (around : List Binder) (p : �
 -- under any binders around that `current` has
 abbrev pub ResolvesTerm : List ℕ → ℕ → ℕ → ℕ → List ℕ → List ℕ → List ℕ → List ℕ → ℕ → Type 0
 ResolvesTerm cells k row p current current′ room room′ held =
-    (spell : ℕ → List ℕ) (around : List Binder) → Distinct spell → WholeRows cells → WellNamed spell (termAt k spell cells row) → length current ≡ 16385 → Around spell cells around current
+    (spell : ℕ → List ℕ) (around : List Binder) → Distinct spell → WholeRows cells → WellNamed spell (termAt k spell cells row) → length current ≡ 16385
+    → Around spell cells around current
     → Walked spell around p (termAt k spell cells row) held current current′ room room′
 
 abbrev pub ResolvesFields : List ℕ → ℕ → ℕ → ℕ → List ℕ → List ℕ → List ℕ → List ℕ → ℕ → Type 0
 ResolvesFields cells k row p current current′ room room′ held =
-    (spell : ℕ → List ℕ) (around : List Binder) → Distinct spell → WholeRows cells → WellNamedFields spell (fieldsAt k spell cells row) → length current ≡ 16385 → Around spell cells around current
+    (spell : ℕ → List ℕ) (around : List Binder) → Distinct spell → WholeRows cells → WellNamedFields spell (fieldsAt k spell cells row)
+    → length current ≡ 16385 → Around spell cells around current
     → WalkedFields spell around p (fieldsAt k spell cells row) held current current′ room room′

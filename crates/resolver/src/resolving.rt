@@ -4,15 +4,13 @@ use rows::column;
 ghost use Prim.Native.Nat.{ℕ, _+_, _≤_, _<_};
 ghost use mathlib.Core.Path.{_≡_};
 ghost use mathlib.Core.List.{List};
-ghost use lib.ListN.{length, getD, set};
-ghost use Rattle.terms.specs.Term.{Name, Term, size, sizeFields};
-ghost use Rattle.terms.specs.Rows.{nameOf, termAt, fieldsAt};
-ghost use Rattle.terms.specs.Rename.{isRenamed, isOutside, holds};
+ghost use lib.ListN.{getD, set};
+ghost use Rattle.terms.specs.Rows.{nameOf};
+ghost use Rattle.terms.specs.Rename.{isOutside};
+ghost use Rattle.terms.specs.Names.{Distinct, VariableName};
+ghost use Rattle.rows.specs.Sizes.{sizeAt, sizeFieldsAt};
 ghost use Rattle.resolver.specs.Links.{Linked};
-ghost use Rattle.terms.specs.Binding.{Binder, ownerOf};
-ghost use Rattle.resolver.specs.Marks.{markOf, ownerCode, binderMark, slotOf, Around, Holds, ResolvesTerm, ResolvesFields};
-ghost use Rattle.terms.specs.Names.{Distinct, VariableName, BinderName, WellNamed};
-ghost use Rattle.rows.specs.Sizes.{noSpell};
+ghost use Rattle.resolver.specs.Marks.{slotOf, Holds, MarksVariable, MarksBinder, ResolvesTerm, ResolvesFields};
 
 fn put(room: &mut [u16; 16384], at: usize, v: u16)
     requires { ⌜ at < 16384 ⌝ }
@@ -24,7 +22,7 @@ fn put(room: &mut [u16; 16384], at: usize, v: u16)
 // The mark of a variable of name x.
 fn variable_mark(cells: &[u32], links: &[u16], current: &[u16; 16385], x: u32) -> u16
     requires { ⌜ Linked (now cells) (now links) ⌝ }
-    ensures { λ r. ⌜ ((spell : ℕ → List ℕ) (around : List Binder) → VariableName spell (nameOf spell x) → Around spell (now (cells .entry)) around (now (current .entry)) → r ≡ markOf (nameOf spell x) (ownerCode (ownerOf around (nameOf spell x)))) ⌝ }
+    ensures { λ r. ⌜ MarksVariable (now (cells .entry)) (now (current .entry)) x r ⌝ }
 {
     let class = x / 16777216;
     let slot = find(cells, links, cells.len() / 4, x);
@@ -43,7 +41,9 @@ fn variable_mark(cells: &[u32], links: &[u16], current: &[u16; 16385], x: u32) -
 
 // The outside names that a variable of name x holds.
 fn held_by(x: u32) -> u64
-    ensures { λ r. ⌜ ((spell : ℕ → List ℕ) → Distinct spell → VariableName spell (nameOf spell x) → Holds spell r (λ s. isOutside s (nameOf spell x))) ⌝ }
+    ensures { λ r. ⌜
+        ((spell : ℕ → List ℕ) → Distinct spell → VariableName spell (nameOf spell x) → Holds spell r (λ s. isOutside s (nameOf spell x)))
+        ⌝ }
 {
     let class = x / 16777216;
     let n = x % 16777216;
@@ -77,7 +77,7 @@ fn leave(cells: &[u32], links: &[u16], current: &mut [u16; 16385], x: u32, outer
 
 // The mark of a binder of name x whose body holds some outside names.
 fn binder_mark(x: u32, held: u64) -> u16
-    ensures { λ r. ⌜ ((spell : ℕ → List ℕ) (t : Term Name) → Distinct spell → WellNamed spell t → BinderName spell (nameOf spell x) → Holds spell held (λ s. holds s t) → r ≡ binderMark (isRenamed (nameOf spell x) t)) ⌝ }
+    ensures { λ r. ⌜ MarksBinder x held r ⌝ }
 {
     let class = x / 16777216;
     let n = x % 16777216;
@@ -106,9 +106,12 @@ pub fn resolve_term(
     marks: &mut [u16; 16384],
 ) -> u64
     requires { ⌜ Linked (now (now cells)) (now (now links)) ⌝ }
-    requires { ⌜ now place + size (termAt bound noSpell (now (now cells)) row) ≤ 16384 ⌝ }
-    ensures { λ r. ⌜ ResolvesTerm (now (now (cells .entry))) bound row (now (place .entry)) (now (current .entry)) (now (current .exit)) (now (marks .entry)) (now (marks .exit)) r ⌝ }
-    ensures { λ r. ⌜ now (place .exit) ≡ now (place .entry) + size (termAt bound noSpell (now (now (cells .entry))) row) ⌝ }
+    requires { ⌜ now place + sizeAt (now (now cells)) bound row ≤ 16384 ⌝ }
+    ensures { λ r. ⌜
+        ResolvesTerm (now (now (cells .entry))) bound row (now (place .entry)) (now (current .entry)) (now (current .exit))
+        (now (marks .entry)) (now (marks .exit)) r
+        ⌝ }
+    ensures { λ r. ⌜ now (place .exit) ≡ now (place .entry) + sizeAt (now (now (cells .entry))) bound row ⌝ }
 {
     let here = *place;
     *place = here + 1;
@@ -205,9 +208,12 @@ fn resolve_fields(
     marks: &mut [u16; 16384],
 ) -> u64
     requires { ⌜ Linked (now (now cells)) (now (now links)) ⌝ }
-    requires { ⌜ now place + sizeFields (fieldsAt bound noSpell (now (now cells)) row) ≤ 16384 ⌝ }
-    ensures { λ r. ⌜ ResolvesFields (now (now (cells .entry))) bound row (now (place .entry)) (now (current .entry)) (now (current .exit)) (now (marks .entry)) (now (marks .exit)) r ⌝ }
-    ensures { λ r. ⌜ now (place .exit) ≡ now (place .entry) + sizeFields (fieldsAt bound noSpell (now (now (cells .entry))) row) ⌝ }
+    requires { ⌜ now place + sizeFieldsAt (now (now cells)) bound row ≤ 16384 ⌝ }
+    ensures { λ r. ⌜
+        ResolvesFields (now (now (cells .entry))) bound row (now (place .entry)) (now (current .entry)) (now (current .exit))
+        (now (marks .entry)) (now (marks .exit)) r
+        ⌝ }
+    ensures { λ r. ⌜ now (place .exit) ≡ now (place .entry) + sizeFieldsAt (now (now (cells .entry))) bound row ⌝ }
 {
     let here = *place;
     *place = here + 1;

@@ -11,7 +11,8 @@ use lib.ListN.{getD}
 use borrow.Author.Tests.{lt-ltb, le-ltb, eq-eqb, ne-eqb}
 use Rattle.grammar.specs.Cells.{column, nameBase}
 use Rattle.terms.specs.Term.{Name, word, fresh, outside, Term, Fields, variable, function, apply, rcd, dot, number, nil, cons}
-use Rattle.terms.specs.Rows.{nameOf, Constructor, mkTermVar, mkTermFun, mkTermApp, mkTermRcd, mkTermDot, mkFieldNil, mkFieldCons, mkTermNum, constructorOf, termBy, isCons, fieldsBy, termAt, fieldsAt}
+use Rattle.terms.specs.Rows.{nameOf, Constructor, mkTermVar, mkTermFun, mkTermApp, mkTermRcd, mkTermDot, mkFieldNil, mkFieldCons, mkTermNum}
+use Rattle.terms.specs.Rows.{constructorOf, termBy, isCons, fieldsBy, termAt, fieldsAt}
 
 -- ------------------------------------------------------------------ codes
 
@@ -39,7 +40,9 @@ module _ (code : ℕ) where
   unfolding constructorOf
   low-code h = rw (lt-ltb code 0x20 h, constructorOf) refl
 
-  high-code : 0x20 ≤ code → constructorOf code ≡ getD (mkTermVar ∷ mkTermFun ∷ mkTermApp ∷ mkTermRcd ∷ mkTermDot ∷ mkFieldNil ∷ mkFieldCons ∷ mkTermNum ∷ []) (code - 0x20) mkTermNum
+  high-code : 0x20 ≤ code
+      → constructorOf code
+      ≡ getD (mkTermVar ∷ mkTermFun ∷ mkTermApp ∷ mkTermRcd ∷ mkTermDot ∷ mkFieldNil ∷ mkFieldCons ∷ mkTermNum ∷ []) (code - 0x20) mkTermNum
   unfolding constructorOf
   high-code h = rw (le-ltb code 0x20 h, constructorOf) refl
 
@@ -75,7 +78,8 @@ isVar mkFieldNil = false
 isVar mkFieldCons = false
 isVar mkTermNum = false
 
-var-nth : (n : ℕ) → (n ≡ 0 → ⊥) → isVar (getD (mkTermVar ∷ mkTermFun ∷ mkTermApp ∷ mkTermRcd ∷ mkTermDot ∷ mkFieldNil ∷ mkFieldCons ∷ mkTermNum ∷ []) n mkTermNum) ≡ false
+var-nth : (n : ℕ) → (n ≡ 0 → ⊥)
+    → isVar (getD (mkTermVar ∷ mkTermFun ∷ mkTermApp ∷ mkTermRcd ∷ mkTermDot ∷ mkFieldNil ∷ mkFieldCons ∷ mkTermNum ∷ []) n mkTermNum) ≡ false
 unfolding isVar
 var-nth zero h = absurd (h refl)
 var-nth (suc zero) h = refl
@@ -101,7 +105,8 @@ no-var-is : (c : Constructor) → isVar c ≡ false → c ≡ mkTermVar → ⊥
 unfolding isVar
 no-var-is c f e = true≢false (sym (ap isVar e) ∙ f)
 
-num-nth : (n : ℕ) → (n ≡ 0 → ⊥) → (n ≡ 1 → ⊥) → (n ≡ 2 → ⊥) → (n ≡ 3 → ⊥) → (n ≡ 4 → ⊥) → (n ≡ 5 → ⊥) → (n ≡ 6 → ⊥) → getD (mkTermVar ∷ mkTermFun ∷ mkTermApp ∷ mkTermRcd ∷ mkTermDot ∷ mkFieldNil ∷ mkFieldCons ∷ mkTermNum ∷ []) n mkTermNum ≡ mkTermNum
+num-nth : (n : ℕ) → (n ≡ 0 → ⊥) → (n ≡ 1 → ⊥) → (n ≡ 2 → ⊥) → (n ≡ 3 → ⊥) → (n ≡ 4 → ⊥) → (n ≡ 5 → ⊥) → (n ≡ 6 → ⊥)
+    → getD (mkTermVar ∷ mkTermFun ∷ mkTermApp ∷ mkTermRcd ∷ mkTermDot ∷ mkFieldNil ∷ mkFieldCons ∷ mkTermNum ∷ []) n mkTermNum ≡ mkTermNum
 num-nth zero a b c d e f g = absurd (a refl)
 num-nth (suc zero) a b c d e f g = absurd (b refl)
 num-nth (suc (suc zero)) a b c d e f g = absurd (c refl)
@@ -118,7 +123,8 @@ not-below code h = omega arith
 above : (code n : ℕ) → 0x20 ≤ code → code - 0x20 ≡ n → code ≡ 0x20 + n
 above code n l e = omega arith
 
-num-code : (code : ℕ) → (code ≡ 32 → ⊥) → (code ≡ 33 → ⊥) → (code ≡ 34 → ⊥) → (code ≡ 35 → ⊥) → (code ≡ 36 → ⊥) → (code ≡ 37 → ⊥) → (code ≡ 38 → ⊥) → constructorOf code ≡ mkTermNum
+num-code : (code : ℕ) → (code ≡ 32 → ⊥) → (code ≡ 33 → ⊥) → (code ≡ 34 → ⊥) → (code ≡ 35 → ⊥) → (code ≡ 36 → ⊥) → (code ≡ 37 → ⊥) → (code ≡ 38 → ⊥)
+    → constructorOf code ≡ mkTermNum
 num-code code a b c d e f g = by (decLt code 0x20)
   where
     by : Dec (code < 0x20) → constructorOf code ≡ mkTermNum
@@ -126,7 +132,8 @@ num-code code a b c d e f g = by (decLt code 0x20)
     by (no h) =
         let l : 0x20 ≤ code = not-below code h in
         high-code code l
-        ∙ num-nth (code - 0x20) (λ z. a (above code 0 l z)) (λ z. b (above code 1 l z)) (λ z. c (above code 2 l z)) (λ z. d (above code 3 l z)) (λ z. e (above code 4 l z)) (λ z. f (above code 5 l z)) (λ z. g (above code 6 l z))
+        ∙ num-nth (code - 0x20) (λ z. a (above code 0 l z)) (λ z. b (above code 1 l z)) (λ z. c (above code 2 l z)) (λ z. d (above code 3 l z))
+        (λ z. e (above code 4 l z)) (λ z. f (above code 5 l z)) (λ z. g (above code 6 l z))
 
 no-cons-nth : (n : ℕ) → (n ≡ 6 → ⊥)
     → isCons (getD (mkTermVar ∷ mkTermFun ∷ mkTermApp ∷ mkTermRcd ∷ mkTermDot ∷ mkFieldNil ∷ mkFieldCons ∷ mkTermNum ∷ []) n mkTermNum) ≡ false

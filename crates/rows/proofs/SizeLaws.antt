@@ -6,7 +6,8 @@ use mathlib.Core.List.{List}
 use native.Mathlib.Omega.{arith}
 use Rattle.grammar.specs.Cells.{column}
 use Rattle.terms.specs.Term.{Name, Term, Fields, variable, function, apply, rcd, dot, number, nil, cons, size, sizeFields}
-use Rattle.terms.specs.Rows.{Constructor, mkTermVar, mkTermFun, mkTermApp, mkTermRcd, mkTermDot, mkFieldNil, mkFieldCons, mkTermNum, constructorOf, termBy, isCons, fieldsBy, termAt, fieldsAt}
+use Rattle.terms.specs.Rows.{Constructor, mkTermVar, mkTermFun, mkTermApp, mkTermRcd, mkTermDot, mkFieldNil, mkFieldCons, mkTermNum, constructorOf}
+use Rattle.terms.specs.Rows.{termBy, isCons, fieldsBy, termAt, fieldsAt}
 use Rattle.rows.specs.Sizes.{noSpell, sizeAt, sizeFieldsAt}
 use Rattle.rows.proofs.RowLaws as rows
 
@@ -60,7 +61,8 @@ module _ (cells : List ℕ) (k row left : ℕ) (some : k ≡ 0 → ⊥) {code : 
 
 size-by : (c : Constructor) (k : ℕ) (s s′ : ℕ → List ℕ) (cells : List ℕ) (r : ℕ)
     → ((q : ℕ) → size (termAt k s cells q) ≡ size (termAt k s′ cells q)) → ((q : ℕ) → sizeFields (fieldsAt k s cells q) ≡ sizeFields (fieldsAt k s′ cells q))
-    → size (termBy c s cells r (λ q. termAt k s cells q) (λ q. fieldsAt k s cells q)) ≡ size (termBy c s′ cells r (λ q. termAt k s′ cells q) (λ q. fieldsAt k s′ cells q))
+    → size (termBy c s cells r (λ q. termAt k s cells q) (λ q. fieldsAt k s cells q))
+    ≡ size (termBy c s′ cells r (λ q. termAt k s′ cells q) (λ q. fieldsAt k s′ cells q))
 unfolding size sizeFields termBy
 size-by mkTermVar k s s′ cells r t f = refl
 size-by mkTermFun k s s′ cells r t f = ap suc (t (column cells r 2))
@@ -73,7 +75,8 @@ size-by mkTermNum k s s′ cells r t f = refl
 
 size-by-fields : (b : Bool) (k : ℕ) (s s′ : ℕ → List ℕ) (cells : List ℕ) (r : ℕ)
     → ((q : ℕ) → size (termAt k s cells q) ≡ size (termAt k s′ cells q)) → ((q : ℕ) → sizeFields (fieldsAt k s cells q) ≡ sizeFields (fieldsAt k s′ cells q))
-    → sizeFields (fieldsBy b s cells r (λ q. termAt k s cells q) (λ q. fieldsAt k s cells q)) ≡ sizeFields (fieldsBy b s′ cells r (λ q. termAt k s′ cells q) (λ q. fieldsAt k s′ cells q))
+    → sizeFields (fieldsBy b s cells r (λ q. termAt k s cells q) (λ q. fieldsAt k s cells q))
+    ≡ sizeFields (fieldsBy b s′ cells r (λ q. termAt k s′ cells q) (λ q. fieldsAt k s′ cells q))
 unfolding sizeFields fieldsBy
 size-by-fields true k s s′ cells r t f = ap₂ (λ a b. suc (a + b)) (t (column cells r 2)) (f (column cells r 3))
 size-by-fields false k s s′ cells r t f = refl

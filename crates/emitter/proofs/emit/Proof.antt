@@ -54,7 +54,8 @@ returns-2 c =
     let entry = at-size-term .before .before .before .before .before in
     let counted = at-size-term .size-term .ensures in
     let some = c .before .before .before .before .before .before .if1 .left in
-    laws.emit-loose _ _ _ _ _ (omega arith) (c .before .before .before .before .resolve .ensures _ (entry .pre .distinct) (entry .pre .wellNamed)) (c .before .before .resolution .given .1) (c .refusing2 .ensures)
+    laws.emit-loose _ _ _ _ _ (omega arith) (c .before .before .before .before .resolve .ensures _ (entry .pre .distinct) (entry .pre .wellNamed))
+    (c .before .before .resolution .given .1) (c .refusing2 .ensures)
 
 same-length : tie.Need-same-length
 same-length c = search needs
@@ -68,7 +69,8 @@ returns-3 c =
     let entry = at-size-term .before .before .before .before .before in
     let counted = at-size-term .size-term .ensures in
     let some = at-if1 .if1 .left in
-    laws.emit-text _ _ _ _ _ (omega arith) (at-resolve .resolve .ensures _ (entry .pre .distinct) (entry .pre .wellNamed)) (c .before .before .before .before .before .before .enum-told .given .1) (omega arith)
+    laws.emit-text _ _ _ _ _ (omega arith) (at-resolve .resolve .ensures _ (entry .pre .distinct) (entry .pre .wellNamed))
+    (c .before .before .before .before .before .before .enum-told .given .1) (omega arith)
     (c .before .before .before .print-text .ensures) (c .answered .ensures)
 
 pub emit-spec : {M : Type 1} → statement M

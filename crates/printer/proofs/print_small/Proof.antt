@@ -3,7 +3,7 @@ use Prim.Native.Nat.{ℕ}
 use native.Mathlib.Omega.{arith}
 use borrow.Author.Needs.{needs}
 use lib.ListN.{length-replicate}
-use Rattle.printer.proofs.PoolLaws.{pooled-none}
+use Rattle.writer.proofs.PoolLaws.{pooled-none}
 use Rattle.printer.proofs.TextLaws.{prints-spelled}
 use Rattle.printer.proofs.print_small.Statement.{statement}
 use Rattle.printer.proofs.print_small.Tie as tie

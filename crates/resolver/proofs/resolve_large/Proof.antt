@@ -12,8 +12,7 @@ slice-aggregate-link c = search needs
 
 link-requires : tie.Need-link-requires
 link-requires c κs =
-    let long = length-replicate {A = ℕ} 32768 0 in
-    let few = c .before .before .pre .whole .few in
+    let long = length-replicate {A = ℕ} 32768 0 in let few = c .before .before .pre .whole .few in
     (omega arith, ((omega arith, omega arith), ap (λ k. replicate k 0) (sym long)))
 
 slice-aggregate-resolved : tie.Need-slice-aggregate-resolved

@@ -12,8 +12,10 @@ number-requires c κs = search needs
 
 returns : tie.Need-returns
 returns c =
-    resolves-numbered (c .before .before .before .before .before .before .before .before .before .before .pre .0) (search needs)
-    (c .before .before .resolve-term .ensures .0) (c .number .ensures .0) (c .number .ensures .1)
+    let back = c .before .before .before .before .before .before in
+    let entry = back .before .before .before .before in
+    resolves-numbered (entry .pre .0) (search needs) (c .before .before .resolve-term .ensures .0) (c .number .ensures .0)
+    (c .number .ensures .1)
 
 pub resolved-spec : {M : Type 1} → statement M
 resolved-spec = tie.close (tie.spec resolve-term-requires number-requires returns)

@@ -13,13 +13,15 @@ use Rattle.printer.proofs.printing.+print_fields+print_term.Lts-print_f
 use Rattle.printer.proofs.printing.print_term.Reads as print-term
 use Rattle.printer.proofs.printing.print_term.Kinds as print-term-kinds
 use Rattle.printer.proofs.printing.+print_fields+print_term.Lts-print_term as print-term-lts
-use Rattle.printer.proofs.writing.byte_at.Reads as byte-at-reads
-use Rattle.printer.proofs.printing.label_at.Reads as label-at-reads
-use Rattle.printer.proofs.printing.open_fields.Reads as open-fields-reads
-use Rattle.printer.proofs.printing.open_term.Reads as open-term-reads
+use Rattle.writer.proofs.writing.byte_at.Reads as byte-at-reads
+use Rattle.writer.proofs.openings.label_at.Reads as label-at-reads
+use Rattle.writer.proofs.openings.open_fields.Reads as open-fields-reads
+use Rattle.writer.proofs.openings.open_term.Reads as open-term-reads
 use Rattle.rows.proofs.column.Reads as column-reads
 use Rattle.printer.proofs.printing.+print_fields+print_term.{statement}
 use Rattle.printer.proofs.printing.+print_fields+print_term.Tie.{close}
+
+-- constructor to its parts.
 
 -- constructor to its parts.
 
@@ -94,13 +96,11 @@ print-fields-returns t c =
     (laws.opened-shallow-fields (at-open-fields .open-fields .ensures) (at-if1 .if1 .taken))
     (c .before .before .byte-at .ensures))
 
+print-fields-sub-deep : (t : ℕ) → print-fields-lts.Need-sub-deep (print-fields-claims t) (print-fields-at t) print-fields.Post
+print-fields-sub-deep t c = omega (arith, c .if1 .left)
+
 print-fields-column-requires : (t : ℕ) → print-fields-lts.Need-column-requires (print-fields-claims t) (print-fields-at t) print-fields.Post
 print-fields-column-requires t c κs = search needs
-
-print-fields-sub-print-term : (t : ℕ) → print-fields-lts.Need-sub-print-term (print-fields-claims t) (print-fields-at t) print-fields.Post
-print-fields-sub-print-term t c =
-    let at-if1 = c .before .before .before .before in
-    omega (arith, at-if1 .if1 .left)
 
 print-fields-column-requires-2 : (t : ℕ) → print-fields-lts.Need-column-requires-2 (print-fields-claims t) (print-fields-at t) print-fields.Post
 print-fields-column-requires-2 t c κs = search needs
@@ -115,14 +115,14 @@ print-fields-print-term-requires t c κs =
       omega (arith, entry .pre .0),
       laws.next-fits
           (laws.opened-cons (at-open-fields .open-fields .ensures) (at-if1 .if1 .left) (at-column .column .ensures) (at-if2 .if2 .taken)
-          (c .before .column2 .ensures) refl)
+          (c .before .before .column2 .ensures) refl)
           (entry .pre .1),
     )
 
 print-fields-byte-at-requires-2 : (t : ℕ) → print-fields-lts.Need-byte-at-requires-2 (print-fields-claims t) (print-fields-at t) print-fields.Post
 print-fields-byte-at-requires-2 t c κs =
-    let at-column2 = c .before .before .before .before .before in
-    let at-if2 = at-column2 .before .before .before in
+    let at-column2 = c .before .before .before .before .before .before in
+    let at-if2 = at-column2 .before .before in
     let at-column = at-if2 .before in
     let at-if1 = at-column .before .before in
     let at-open-fields = at-if1 .before .before .before in
@@ -134,13 +134,6 @@ print-fields-byte-at-requires-2 t c κs =
     (c .before .before .before .print-term .ensures))
     (entry .pre .1)
 
-print-fields-sub-print-fields : (t : ℕ) → print-fields-lts.Need-sub-print-fields (print-fields-claims t) (print-fields-at t) print-fields.Post
-print-fields-sub-print-fields t c =
-    let back = c .before .before .before .before .before .before in
-    let back2 = back .before .before .before .before .before .before in
-    let at-if1 = back2 .before .before .before in
-    omega (arith, at-if1 .if1 .left)
-
 print-fields-column-requires-3 : (t : ℕ) → print-fields-lts.Need-column-requires-3 (print-fields-claims t) (print-fields-at t) print-fields.Post
 print-fields-column-requires-3 t c κs = search needs
 
@@ -148,8 +141,8 @@ print-fields-print-fields-requires : (t : ℕ) → print-fields-lts.Need-print-f
 print-fields-print-fields-requires t c κs =
     let at-byte-at2 = c .before .before .before .before .before .before in
     let at-print-term = at-byte-at2 .before .before .before .before in
-    let at-column2 = at-print-term .before .before in
-    let at-if2 = at-column2 .before .before .before in
+    let at-column2 = at-print-term .before .before .before in
+    let at-if2 = at-column2 .before .before in
     let at-column = at-if2 .before in
     let at-if1 = at-column .before .before in
     let at-open-fields = at-if1 .before .before .before in
@@ -159,7 +152,7 @@ print-fields-print-fields-requires t c κs =
           (laws.next-text
           (laws.next-part
           (laws.opened-cons (at-open-fields .open-fields .ensures) (at-if1 .if1 .left) (at-column .column .ensures) (at-if2 .if2 .taken)
-          (at-column2 .column2 .ensures) (c .before .column3 .ensures))
+          (at-column2 .column2 .ensures) (c .before .before .column3 .ensures))
           (at-print-term .print-term .ensures))
           (at-byte-at2 .byte-at2 .ensures))
           (entry .pre .1),
@@ -167,11 +160,11 @@ print-fields-print-fields-requires t c κs =
 
 print-fields-byte-at-requires-3 : (t : ℕ) → print-fields-lts.Need-byte-at-requires-3 (print-fields-claims t) (print-fields-at t) print-fields.Post
 print-fields-byte-at-requires-3 t c κs =
-    let at-column3 = c .before .before .before .before .before in
-    let at-byte-at2 = at-column3 .before .before .before .before .before in
+    let at-column3 = c .before .before .before .before .before .before in
+    let at-byte-at2 = at-column3 .before .before .before .before in
     let at-print-term = at-byte-at2 .before .before .before .before in
-    let at-column2 = at-print-term .before .before in
-    let at-if2 = at-column2 .before .before .before in
+    let at-column2 = at-print-term .before .before .before in
+    let at-if2 = at-column2 .before .before in
     let at-column = at-if2 .before in
     let at-if1 = at-column .before .before in
     let at-open-fields = at-if1 .before .before .before in
@@ -201,11 +194,11 @@ print-fields-same-length-2 t c =
 print-fields-returns-2 : (t : ℕ) → print-fields-lts.Need-returns-2 (print-fields-claims t) (print-fields-at t) print-fields.Post
 print-fields-returns-2 t c =
     let at-print-fields = c .before .before .before .before .before .before in
-    let at-column3 = at-print-fields .before .before in
-    let at-byte-at2 = at-column3 .before .before .before .before .before in
+    let at-column3 = at-print-fields .before .before .before in
+    let at-byte-at2 = at-column3 .before .before .before .before in
     let at-print-term = at-byte-at2 .before .before .before .before in
-    let at-column2 = at-print-term .before .before in
-    let at-if2 = at-column2 .before .before .before in
+    let at-column2 = at-print-term .before .before .before in
+    let at-if2 = at-column2 .before .before in
     let at-column = at-if2 .before in
     let at-if1 = at-column .before .before in
     let at-open-fields = at-if1 .before .before .before in
@@ -294,13 +287,11 @@ print-term-returns t c =
     (laws.opened-shallow (at-open-term .open-term .ensures) (at-if1 .if1 .taken))
     (c .before .before .byte-at .ensures))
 
+print-term-sub-deep : (t : ℕ) → print-term-lts.Need-sub-deep (print-term-claims t) (print-term-at t) print-term.Post
+print-term-sub-deep t c = omega (arith, c .if1 .left)
+
 print-term-column-requires : (t : ℕ) → print-term-lts.Need-column-requires (print-term-claims t) (print-term-at t) print-term.Post
 print-term-column-requires t c κs = search needs
-
-print-term-sub-print-term : (t : ℕ) → print-term-lts.Need-sub-print-term (print-term-claims t) (print-term-at t) print-term.Post
-print-term-sub-print-term t c =
-    let at-if1 = c .before .before .before .before in
-    omega (arith, at-if1 .if1 .left)
 
 print-term-column-requires-2 : (t : ℕ) → print-term-lts.Need-column-requires-2 (print-term-claims t) (print-term-at t) print-term.Post
 print-term-column-requires-2 t c κs = search needs
@@ -315,14 +306,14 @@ print-term-print-term-requires t c κs =
       omega (arith, entry .pre .0),
       laws.next-fits
           (laws.opened-fun (at-open-term .open-term .ensures) (at-if1 .if1 .left) (at-column .column .ensures) (at-match .match .keys1)
-          (c .before .column2 .ensures))
+          (c .before .before .column2 .ensures))
           (entry .pre .1),
     )
 
 print-term-byte-at-requires-2 : (t : ℕ) → print-term-lts.Need-byte-at-requires-2 (print-term-claims t) (print-term-at t) print-term.Post
 print-term-byte-at-requires-2 t c κs =
-    let at-column2 = c .before .before .before .before .before in
-    let at-match = at-column2 .before .before .before in
+    let at-column2 = c .before .before .before .before .before .before in
+    let at-match = at-column2 .before .before in
     let at-column = at-match .before in
     let at-if1 = at-column .before .before in
     let at-open-term = at-if1 .before .before .before in
@@ -333,11 +324,6 @@ print-term-byte-at-requires-2 t c κs =
     (at-column2 .column2 .ensures))
     (c .before .before .before .print-term .ensures))
     (entry .pre .1)
-
-print-term-sub-print-term-2 : (t : ℕ) → print-term-lts.Need-sub-print-term-2 (print-term-claims t) (print-term-at t) print-term.Post
-print-term-sub-print-term-2 t c =
-    let at-if1 = c .before .before .before .before in
-    omega (arith, at-if1 .if1 .left)
 
 print-term-column-requires-3 : (t : ℕ) → print-term-lts.Need-column-requires-3 (print-term-claims t) (print-term-at t) print-term.Post
 print-term-column-requires-3 t c κs = search needs
@@ -352,14 +338,14 @@ print-term-print-term-requires-2 t c κs =
       omega (arith, entry .pre .0),
       laws.next-fits
           (laws.opened-app (at-open-term .open-term .ensures) (at-if1 .if1 .left) (at-column .column .ensures) (at-match .match .keys2)
-          (c .before .column3 .ensures) refl)
+          (c .before .before .column3 .ensures) refl)
           (entry .pre .1),
     )
 
 print-term-byte-at-requires-3 : (t : ℕ) → print-term-lts.Need-byte-at-requires-3 (print-term-claims t) (print-term-at t) print-term.Post
 print-term-byte-at-requires-3 t c κs =
-    let at-column3 = c .before .before .before .before .before in
-    let at-match = at-column3 .before .before .before in
+    let at-column3 = c .before .before .before .before .before .before in
+    let at-match = at-column3 .before .before in
     let at-column = at-match .before in
     let at-if1 = at-column .before .before in
     let at-open-term = at-if1 .before .before .before in
@@ -371,13 +357,6 @@ print-term-byte-at-requires-3 t c κs =
     (c .before .before .before .print-term2 .ensures))
     (entry .pre .1)
 
-print-term-sub-print-term-3 : (t : ℕ) → print-term-lts.Need-sub-print-term-3 (print-term-claims t) (print-term-at t) print-term.Post
-print-term-sub-print-term-3 t c =
-    let back = c .before .before .before .before .before .before in
-    let back2 = back .before .before .before .before .before .before in
-    let at-if1 = back2 .before .before .before in
-    omega (arith, at-if1 .if1 .left)
-
 print-term-column-requires-4 : (t : ℕ) → print-term-lts.Need-column-requires-4 (print-term-claims t) (print-term-at t) print-term.Post
 print-term-column-requires-4 t c κs = search needs
 
@@ -385,8 +364,8 @@ print-term-print-term-requires-3 : (t : ℕ) → print-term-lts.Need-print-term-
 print-term-print-term-requires-3 t c κs =
     let at-byte-at3 = c .before .before .before .before .before .before in
     let at-print-term2 = at-byte-at3 .before .before .before .before in
-    let at-column3 = at-print-term2 .before .before in
-    let at-match = at-column3 .before .before .before in
+    let at-column3 = at-print-term2 .before .before .before in
+    let at-match = at-column3 .before .before in
     let at-column = at-match .before in
     let at-if1 = at-column .before .before in
     let at-open-term = at-if1 .before .before .before in
@@ -396,7 +375,7 @@ print-term-print-term-requires-3 t c κs =
           (laws.next-text
           (laws.next-part
           (laws.opened-app (at-open-term .open-term .ensures) (at-if1 .if1 .left) (at-column .column .ensures) (at-match .match .keys2)
-          (at-column3 .column3 .ensures) (c .before .column4 .ensures))
+          (at-column3 .column3 .ensures) (c .before .before .column4 .ensures))
           (at-print-term2 .print-term2 .ensures))
           (at-byte-at3 .byte-at3 .ensures))
           (entry .pre .1),
@@ -404,11 +383,11 @@ print-term-print-term-requires-3 t c κs =
 
 print-term-byte-at-requires-4 : (t : ℕ) → print-term-lts.Need-byte-at-requires-4 (print-term-claims t) (print-term-at t) print-term.Post
 print-term-byte-at-requires-4 t c κs =
-    let at-column4 = c .before .before .before .before .before in
-    let at-byte-at3 = at-column4 .before .before .before .before .before in
+    let at-column4 = c .before .before .before .before .before .before in
+    let at-byte-at3 = at-column4 .before .before .before .before in
     let at-print-term2 = at-byte-at3 .before .before .before .before in
-    let at-column3 = at-print-term2 .before .before in
-    let at-match = at-column3 .before .before .before in
+    let at-column3 = at-print-term2 .before .before .before in
+    let at-match = at-column3 .before .before in
     let at-column = at-match .before in
     let at-if1 = at-column .before .before in
     let at-open-term = at-if1 .before .before .before in
@@ -424,11 +403,6 @@ print-term-byte-at-requires-4 t c κs =
     (c .before .before .before .print-term3 .ensures))
     (entry .pre .1)
 
-print-term-sub-print-fields : (t : ℕ) → print-term-lts.Need-sub-print-fields (print-term-claims t) (print-term-at t) print-term.Post
-print-term-sub-print-fields t c =
-    let at-if1 = c .before .before .before .before in
-    omega (arith, at-if1 .if1 .left)
-
 print-term-column-requires-5 : (t : ℕ) → print-term-lts.Need-column-requires-5 (print-term-claims t) (print-term-at t) print-term.Post
 print-term-column-requires-5 t c κs = search needs
 
@@ -442,14 +416,14 @@ print-term-print-fields-requires t c κs =
       omega (arith, entry .pre .0),
       laws.next-fits
           (laws.opened-rcd (at-open-term .open-term .ensures) (at-if1 .if1 .left) (at-column .column .ensures) (at-match .match .keys3)
-          (c .before .column5 .ensures))
+          (c .before .before .column5 .ensures))
           (entry .pre .1),
     )
 
 print-term-byte-at-requires-5 : (t : ℕ) → print-term-lts.Need-byte-at-requires-5 (print-term-claims t) (print-term-at t) print-term.Post
 print-term-byte-at-requires-5 t c κs =
-    let at-column5 = c .before .before .before .before .before in
-    let at-match = at-column5 .before .before .before in
+    let at-column5 = c .before .before .before .before .before .before in
+    let at-match = at-column5 .before .before in
     let at-column = at-match .before in
     let at-if1 = at-column .before .before in
     let at-open-term = at-if1 .before .before .before in
@@ -460,11 +434,6 @@ print-term-byte-at-requires-5 t c κs =
     (at-column5 .column5 .ensures))
     (c .before .before .before .print-fields .ensures))
     (entry .pre .1)
-
-print-term-sub-print-term-4 : (t : ℕ) → print-term-lts.Need-sub-print-term-4 (print-term-claims t) (print-term-at t) print-term.Post
-print-term-sub-print-term-4 t c =
-    let at-if1 = c .before .before .before .before in
-    omega (arith, at-if1 .if1 .left)
 
 print-term-column-requires-6 : (t : ℕ) → print-term-lts.Need-column-requires-6 (print-term-claims t) (print-term-at t) print-term.Post
 print-term-column-requires-6 t c κs = search needs
@@ -479,14 +448,14 @@ print-term-print-term-requires-4 t c κs =
       omega (arith, entry .pre .0),
       laws.next-fits
           (laws.opened-dot (at-open-term .open-term .ensures) (at-if1 .if1 .left) (at-column .column .ensures) (at-match .match .keys4)
-          (c .before .column6 .ensures) refl)
+          (c .before .before .column6 .ensures) refl)
           (entry .pre .1),
     )
 
 print-term-byte-at-requires-6 : (t : ℕ) → print-term-lts.Need-byte-at-requires-6 (print-term-claims t) (print-term-at t) print-term.Post
 print-term-byte-at-requires-6 t c κs =
-    let at-column6 = c .before .before .before .before .before in
-    let at-match = at-column6 .before .before .before in
+    let at-column6 = c .before .before .before .before .before .before in
+    let at-match = at-column6 .before .before in
     let at-column = at-match .before in
     let at-if1 = at-column .before .before in
     let at-open-term = at-if1 .before .before .before in
@@ -505,8 +474,8 @@ print-term-label-at-requires : (t : ℕ) → print-term-lts.Need-label-at-requir
 print-term-label-at-requires t c κs =
     let at-byte-at6 = c .before .before .before .before .before in
     let at-print-term4 = at-byte-at6 .before .before .before .before in
-    let at-column6 = at-print-term4 .before .before in
-    let at-match = at-column6 .before .before .before in
+    let at-column6 = at-print-term4 .before .before .before in
+    let at-match = at-column6 .before .before in
     let at-column = at-match .before in
     let at-if1 = at-column .before .before in
     let at-open-term = at-if1 .before .before .before in
@@ -515,18 +484,18 @@ print-term-label-at-requires t c κs =
     (laws.next-text
     (laws.next-part
     (laws.opened-dot (at-open-term .open-term .ensures) (at-if1 .if1 .left) (at-column .column .ensures) (at-match .match .keys4)
-    (at-column6 .column6 .ensures) (c .column7 .ensures))
+    (at-column6 .column6 .ensures) (c .before .column7 .ensures))
     (at-print-term4 .print-term4 .ensures))
     (at-byte-at6 .byte-at6 .ensures))
     (entry .pre .1)
 
 print-term-byte-at-requires-7 : (t : ℕ) → print-term-lts.Need-byte-at-requires-7 (print-term-claims t) (print-term-at t) print-term.Post
 print-term-byte-at-requires-7 t c κs =
-    let at-column7 = c .before .before .before .before in
-    let at-byte-at6 = at-column7 .before .before .before .before .before in
+    let at-column7 = c .before .before .before .before .before in
+    let at-byte-at6 = at-column7 .before .before .before .before in
     let at-print-term4 = at-byte-at6 .before .before .before .before in
-    let at-column6 = at-print-term4 .before .before in
-    let at-match = at-column6 .before .before .before in
+    let at-column6 = at-print-term4 .before .before .before in
+    let at-match = at-column6 .before .before in
     let at-column = at-match .before in
     let at-if1 = at-column .before .before in
     let at-open-term = at-if1 .before .before .before in
@@ -562,8 +531,8 @@ print-term-same-length-2 t c =
 print-term-returns-2 : (t : ℕ) → print-term-lts.Need-returns-2 (print-term-claims t) (print-term-at t) print-term.Post
 print-term-returns-2 t c =
     let at-print-term = c .before .before .before .before .before .before in
-    let at-column2 = at-print-term .before .before in
-    let at-match = at-column2 .before .before .before in
+    let at-column2 = at-print-term .before .before .before in
+    let at-match = at-column2 .before .before in
     let at-column = at-match .before in
     let at-if1 = at-column .before .before in
     let at-open-term = at-if1 .before .before .before in
@@ -589,11 +558,11 @@ print-term-same-length-3 t c =
 print-term-returns-3 : (t : ℕ) → print-term-lts.Need-returns-3 (print-term-claims t) (print-term-at t) print-term.Post
 print-term-returns-3 t c =
     let at-print-term3 = c .before .before .before .before .before .before in
-    let at-column4 = at-print-term3 .before .before in
-    let at-byte-at3 = at-column4 .before .before .before .before .before in
+    let at-column4 = at-print-term3 .before .before .before in
+    let at-byte-at3 = at-column4 .before .before .before .before in
     let at-print-term2 = at-byte-at3 .before .before .before .before in
-    let at-column3 = at-print-term2 .before .before in
-    let at-match = at-column3 .before .before .before in
+    let at-column3 = at-print-term2 .before .before .before in
+    let at-match = at-column3 .before .before in
     let at-column = at-match .before in
     let at-if1 = at-column .before .before in
     let at-open-term = at-if1 .before .before .before in
@@ -620,8 +589,8 @@ print-term-same-length-4 t c =
 print-term-returns-4 : (t : ℕ) → print-term-lts.Need-returns-4 (print-term-claims t) (print-term-at t) print-term.Post
 print-term-returns-4 t c =
     let at-print-fields = c .before .before .before .before .before .before in
-    let at-column5 = at-print-fields .before .before in
-    let at-match = at-column5 .before .before .before in
+    let at-column5 = at-print-fields .before .before .before in
+    let at-match = at-column5 .before .before in
     let at-column = at-match .before in
     let at-if1 = at-column .before .before in
     let at-open-term = at-if1 .before .before .before in
@@ -646,11 +615,11 @@ print-term-same-length-5 t c =
 print-term-returns-5 : (t : ℕ) → print-term-lts.Need-returns-5 (print-term-claims t) (print-term-at t) print-term.Post
 print-term-returns-5 t c =
     let at-label-at = c .before .before .before .before .before .before in
-    let at-column7 = at-label-at .before in
-    let at-byte-at6 = at-column7 .before .before .before .before .before in
+    let at-column7 = at-label-at .before .before in
+    let at-byte-at6 = at-column7 .before .before .before .before in
     let at-print-term4 = at-byte-at6 .before .before .before .before in
-    let at-column6 = at-print-term4 .before .before in
-    let at-match = at-column6 .before .before .before in
+    let at-column6 = at-print-term4 .before .before .before in
+    let at-match = at-column6 .before .before in
     let at-column = at-match .before in
     let at-if1 = at-column .before .before in
     let at-open-term = at-if1 .before .before .before in
@@ -693,12 +662,11 @@ pub +print-fields+print-term-spec : {M : Type 1} → statement M
     (print-fields-byte-at-requires t)
     (print-fields-same-length t)
     (print-fields-returns t)
+    (print-fields-sub-deep t)
     (print-fields-column-requires t)
-    (print-fields-sub-print-term t)
     (print-fields-column-requires-2 t)
     (print-fields-print-term-requires t)
     (print-fields-byte-at-requires-2 t)
-    (print-fields-sub-print-fields t)
     (print-fields-column-requires-3 t)
     (print-fields-print-fields-requires t)
     (print-fields-byte-at-requires-3 t)
@@ -715,24 +683,20 @@ pub +print-fields+print-term-spec : {M : Type 1} → statement M
     (print-term-byte-at-requires t)
     (print-term-same-length t)
     (print-term-returns t)
+    (print-term-sub-deep t)
     (print-term-column-requires t)
-    (print-term-sub-print-term t)
     (print-term-column-requires-2 t)
     (print-term-print-term-requires t)
     (print-term-byte-at-requires-2 t)
-    (print-term-sub-print-term-2 t)
     (print-term-column-requires-3 t)
     (print-term-print-term-requires-2 t)
     (print-term-byte-at-requires-3 t)
-    (print-term-sub-print-term-3 t)
     (print-term-column-requires-4 t)
     (print-term-print-term-requires-3 t)
     (print-term-byte-at-requires-4 t)
-    (print-term-sub-print-fields t)
     (print-term-column-requires-5 t)
     (print-term-print-fields-requires t)
     (print-term-byte-at-requires-5 t)
-    (print-term-sub-print-term-4 t)
     (print-term-column-requires-6 t)
     (print-term-print-term-requires-4 t)
     (print-term-byte-at-requires-6 t)

@@ -17,7 +17,13 @@ mul-links : tie.Need-mul-links
 mul-links c = omega (arith, c .pre .0, mod-lt (c .args .x) {m = length (c .args .links .now) / 2} (omega (arith, c .pre .0)))
 
 slice-read-links : tie.Need-slice-read-links
-slice-read-links c = omega (arith, c .before .pre .0, mod-lt (c .before .args .x) {m = length (c .before .args .links .now) / 2} (omega (arith, c .before .pre .0)))
+slice-read-links c =
+    omega (
+      arith,
+      c .before .pre .0,
+      mod-lt (c .before .args .x) {m = length (c .before .args .links .now) / 2}
+          (omega (arith, c .before .pre .0)),
+    )
 
 add-links : tie.Need-add-links
 add-links c = search needs
@@ -35,10 +41,28 @@ cast-links : tie.Need-cast-links
 cast-links c = search needs
 
 mul-links-3 : tie.Need-mul-links-3
-mul-links-3 c = omega (arith, c .before .pre .0, mod-lt (c .before .args .x) {m = length (c .before .args .links .now) / 2} (omega (arith, c .before .pre .0)), length-set (c .before .args .links .now) (length (c .before .args .links .now) / 2 + c .before .args .row) (getD (c .before .args .links .now) (c .before .args .x % (length (c .before .args .links .now) / 2)) 0))
+mul-links-3 c =
+    omega (
+      arith,
+      c .before .pre .0,
+      mod-lt (c .before .args .x) {m = length (c .before .args .links .now) / 2}
+          (omega (arith, c .before .pre .0)),
+      length-set (c .before .args .links .now)
+          (length (c .before .args .links .now) / 2 + c .before .args .row)
+          (getD (c .before .args .links .now) (c .before .args .x % (length (c .before .args .links .now) / 2)) 0),
+    )
 
 slice-write-links-2 : tie.Need-slice-write-links-2
-slice-write-links-2 c = omega (arith, c .before .pre .0, mod-lt (c .before .args .x) {m = length (c .before .args .links .now) / 2} (omega (arith, c .before .pre .0)), length-set (c .before .args .links .now) (length (c .before .args .links .now) / 2 + c .before .args .row) (getD (c .before .args .links .now) (c .before .args .x % (length (c .before .args .links .now) / 2)) 0))
+slice-write-links-2 c =
+    omega (
+      arith,
+      c .before .pre .0,
+      mod-lt (c .before .args .x) {m = length (c .before .args .links .now) / 2}
+          (omega (arith, c .before .pre .0)),
+      length-set (c .before .args .links .now)
+          (length (c .before .args .links .now) / 2 + c .before .args .row)
+          (getD (c .before .args .links .now) (c .before .args .x % (length (c .before .args .links .now) / 2)) 0),
+    )
 
 same-length : tie.Need-same-length
 same-length c = search needs

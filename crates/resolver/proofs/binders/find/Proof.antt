@@ -25,34 +25,55 @@ link-at-requires : tie.Need-link-at-requires Inv-loop μ-loop
 link-at-requires c κs = search needs
 
 loop-holds : tie.Need-loop-holds Inv-loop μ-loop
-loop-holds c = (laws.chasing-start (c .before .before .before .pre) (c .before .before .before .args .x) (c .link-at .ensures), refl)
+loop-holds c = (laws.chasing-start (c .before .before .before .pre) _ (c .link-at .ensures), refl)
 
 sub-row : tie.Need-sub-row Inv-loop μ-loop
 sub-row c = search needs
 
 cast-column : tie.Need-cast-column Inv-loop μ-loop
-cast-column c = omega (arith, laws.chasing-inside (c .before .before .before .before .before .pre) (c .before .before .before .before .before .args .x) (c .before .loop .inv .0) (c .loop-test .taken))
+cast-column c =
+    omega (arith, laws.chasing-inside (c .before .before .before .before .before .pre) _ (c .before .loop .inv .0) (c .loop-test .taken))
 
 column-requires : tie.Need-column-requires Inv-loop μ-loop
 column-requires c κs = search needs
 
 returns : tie.Need-returns Inv-loop μ-loop
-returns c = (laws.chasing-found (c .before .before .before .before .before .before .before .pre) (c .before .before .before .before .before .before .before .args .x) (c .before .before .before .loop .inv .0) (c .before .before .loop-test .taken) (c .before .column .ensures) (c .if1 .taken), omega (arith, laws.chasing-inside (c .before .before .before .before .before .before .before .pre) (c .before .before .before .before .before .before .before .args .x) (c .before .before .before .loop .inv .0) (c .before .before .loop-test .taken)))
+returns c =
+    let at-loop = c .before .before .before in
+    let entry = at-loop .before .before .before .before in (
+      laws.chasing-found (entry .pre) _ (at-loop .loop .inv .0) (c .before .before .loop-test .taken) (c .before .column .ensures)
+          (c .if1 .taken),
+      omega (arith, laws.chasing-inside (entry .pre) _ (at-loop .loop .inv .0) (c .before .before .loop-test .taken)),
+    )
 
 add-link-at : tie.Need-add-link-at Inv-loop μ-loop
-add-link-at c = omega (arith, laws.chasing-inside (c .before .before .before .before .before .before .before .pre) (c .before .before .before .before .before .before .before .args .x) (c .before .before .before .loop .inv .0) (c .before .before .loop-test .taken))
+add-link-at c =
+    let back = c .before .before .before .before .before .before in
+    let entry = back .before in
+    omega (arith, laws.chasing-inside (entry .pre) _ (c .before .before .before .loop .inv .0) (c .before .before .loop-test .taken))
 
 link-at-requires-2 : tie.Need-link-at-requires-2 Inv-loop μ-loop
 link-at-requires-2 c κs = search needs
 
 loop-less : tie.Need-loop-less Inv-loop μ-loop
-loop-less c = laws.chasing-less (c .before .before .before .before .before .before .before .before .pre) (c .before .before .before .before .before .before .before .before .args .x) (c .before .before .before .before .loop .inv .0) (c .before .before .before .loop-test .taken) (c .before .before .column .ensures) (c .before .if1 .left) (c .link-at2 .ensures)
+loop-less c =
+    let back = c .before .before .before .before .before .before in
+    let entry = back .before .before in
+    laws.chasing-less (entry .pre) _ (c .before .before .before .before .loop .inv .0) (c .before .before .before .loop-test .taken)
+    (c .before .before .column .ensures) (c .before .if1 .left) (c .link-at2 .ensures)
 
 loop-again : tie.Need-loop-again Inv-loop μ-loop
-loop-again c = (laws.chasing-next (c .before .before .before .before .before .before .before .before .pre) (c .before .before .before .before .before .before .before .before .args .x) (c .before .before .before .before .loop .inv .0) (c .before .before .before .loop-test .taken) (c .before .before .column .ensures) (c .before .if1 .left) (c .link-at2 .ensures), c .before .before .before .before .loop .inv .1)
+loop-again c =
+    let at-loop = c .before .before .before .before in
+    let entry = at-loop .before .before .before .before in (
+      laws.chasing-next (entry .pre) _ (at-loop .loop .inv .0) (c .before .before .before .loop-test .taken)
+          (c .before .before .column .ensures) (c .before .if1 .left) (c .link-at2 .ensures),
+      at-loop .loop .inv .1,
+    )
 
 returns-2 : tie.Need-returns-2 Inv-loop μ-loop
-returns-2 c = (laws.chasing-end (c .before .before .before .before .before .pre) (c .before .before .before .before .before .args .x) (c .before .loop .inv .0) (c .loop-test .left), omega arith)
+returns-2 c =
+    (laws.chasing-end (c .before .before .before .before .before .pre) _ (c .before .loop .inv .0) (c .loop-test .left), omega arith)
 
 pub find-spec : {M : Type 1} → statement M
 find-spec =

@@ -20,16 +20,20 @@ abbrev μ-loop : tie.MeasureT-loop
 μ-loop cells links₀ row₀ links row = (length cells / 4) - row
 
 loop-holds : tie.Need-loop-holds Inv-loop μ-loop
-loop-holds c = laws.linking-start (c .before .before .args .cells .now) (c .before .before .args .links .now) (c .before .before .pre .1 .0 .0) (c .before .before .pre .1 .1)
+loop-holds c = laws.linking-start _ _ (c .before .before .pre .1 .0 .0) (c .before .before .pre .1 .1)
 
 cast-column : tie.Need-cast-column Inv-loop μ-loop
-cast-column c = omega (arith, laws.row-small (c .before .loop .inv) (c .before .before .before .before .pre .0) (c .before .before .before .before .pre .1 .0 .1) (c .loop-test .taken))
+cast-column c =
+    let entry = c .before .before .before .before in
+    omega (arith, laws.row-small (c .before .loop .inv) (entry .pre .0) (entry .pre .1 .0 .1) (c .loop-test .taken))
 
 column-requires : tie.Need-column-requires Inv-loop μ-loop
 column-requires c κs = search needs
 
 cast-column-2 : tie.Need-cast-column-2 Inv-loop μ-loop
-cast-column-2 c = omega (arith, laws.row-small (c .before .before .loop .inv) (c .before .before .before .before .before .pre .0) (c .before .before .before .before .before .pre .1 .0 .1) (c .before .loop-test .taken))
+cast-column-2 c =
+    let entry = c .before .before .before .before .before in
+    omega (arith, laws.row-small (c .before .before .loop .inv) (entry .pre .0) (entry .pre .1 .0 .1) (c .before .loop-test .taken))
 
 column-requires-2 : tie.Need-column-requires-2 Inv-loop μ-loop
 column-requires-2 c κs = search needs
@@ -38,34 +42,82 @@ find-requires : tie.Need-find-requires Inv-loop μ-loop
 find-requires c κs = (c .before .before .before .before .before .loop .inv) .linked
 
 add-requires : tie.Need-add-requires Inv-loop μ-loop
-add-requires c κs = (laws.row-fits (c .before .before .before .before .before .before .before .before .loop .inv) (c .before .before .before .before .before .before .before .before .before .before .before .pre .0) (c .before .before .before .before .before .before .before .before .before .before .before .pre .1 .0 .1) (c .before .before .before .before .before .before .before .loop-test .taken), laws.row-small (c .before .before .before .before .before .before .before .before .loop .inv) (c .before .before .before .before .before .before .before .before .before .before .before .pre .0) (c .before .before .before .before .before .before .before .before .before .before .before .pre .1 .0 .1) (c .before .before .before .before .before .before .before .loop-test .taken))
+add-requires c κs =
+    let back = c .before .before .before .before .before .before in
+    let at-loop-test = back .before in
+    let at-loop = at-loop-test .before in
+    let entry = at-loop .before .before .before in (
+      laws.row-fits (at-loop .loop .inv) (entry .pre .0) (entry .pre .1 .0 .1) (at-loop-test .loop-test .taken),
+      laws.row-small
+          (at-loop .loop .inv) (entry .pre .0) (entry .pre .1 .0 .1) (at-loop-test .loop-test .taken),
+    )
 
 add-row : tie.Need-add-row Inv-loop μ-loop
-add-row c = omega (arith, laws.row-small (c .before .before .before .before .before .before .before .before .before .before .before .loop .inv) (c .before .before .before .before .before .before .before .before .before .before .before .before .before .before .pre .0) (c .before .before .before .before .before .before .before .before .before .before .before .before .before .before .pre .1 .0 .1) (c .before .before .before .before .before .before .before .before .before .before .loop-test .taken))
+add-row c =
+    let back = c .before .before .before .before .before .before in
+    let at-loop-test = back .before .before .before .before in
+    let at-loop = at-loop-test .before in
+    let entry = at-loop .before .before .before in
+    omega (arith, laws.row-small (at-loop .loop .inv) (entry .pre .0) (entry .pre .1 .0 .1) (at-loop-test .loop-test .taken))
 
 loop-less : tie.Need-loop-less Inv-loop μ-loop
 loop-less c = omega arith
 
 loop-again : tie.Need-loop-again Inv-loop μ-loop
-loop-again c = laws.add-row (c .before .before .before .before .before .before .before .before .before .before .before .loop .inv) (c .before .before .before .before .before .before .before .before .before .before .before .before .before .before .pre .0) (c .before .before .before .before .before .before .before .before .before .before .before .before .before .before .pre .1 .0 .1) (c .before .before .before .before .before .before .before .before .before .before .loop-test .taken) (c .before .before .before .before .before .before .before .before .before .column .ensures) (c .before .before .before .before .before .before .before .before .column2 .ensures) (c .before .before .before .before .before .before .before .if1 .taken) (c .before .before .before .before .before .find .ensures .0) (c .before .before .before .before .if2 .taken) (c .before .before .add .ensures)
+loop-again c =
+    let back = c .before .before .before .before .before .before in
+    let at-if1 = back .before in
+    let at-column2 = at-if1 .before in
+    let at-column = at-column2 .before in
+    let at-loop-test = at-column .before in
+    let at-loop = at-loop-test .before in
+    let entry = at-loop .before .before .before in
+    laws.add-row (at-loop .loop .inv) (entry .pre .0) (entry .pre .1 .0 .1) (at-loop-test .loop-test .taken) (at-column .column .ensures)
+    (at-column2 .column2 .ensures) (at-if1 .if1 .taken) (c .before .before .before .before .before .find .ensures .0)
+    (c .before .before .before .before .if2 .taken) (c .before .before .add .ensures)
 
 add-row-2 : tie.Need-add-row-2 Inv-loop μ-loop
-add-row-2 c = omega (arith, laws.row-small (c .before .before .before .before .before .before .before .loop .inv) (c .before .before .before .before .before .before .before .before .before .before .pre .0) (c .before .before .before .before .before .before .before .before .before .before .pre .1 .0 .1) (c .before .before .before .before .before .before .loop-test .taken))
+add-row-2 c =
+    let back = c .before .before .before .before .before .before in
+    let at-loop = back .before in
+    let entry = at-loop .before .before .before in
+    omega (
+      arith,
+      laws.row-small (at-loop .loop .inv) (entry .pre .0) (entry .pre .1 .0 .1)
+          (c .before .before .before .before .before .before .loop-test .taken),
+    )
 
 loop-less-2 : tie.Need-loop-less-2 Inv-loop μ-loop
 loop-less-2 c = omega arith
 
 loop-again-2 : tie.Need-loop-again-2 Inv-loop μ-loop
-loop-again-2 c = laws.skip-found (c .before .before .before .before .before .before .before .loop .inv) (c .before .before .before .before .before .before .before .before .before .before .pre .0) (c .before .before .before .before .before .before .before .before .before .before .pre .1 .0 .1) (c .before .before .before .before .before .before .loop-test .taken) (c .before .before .before .before .column2 .ensures) (c .before .find .ensures .0) (c .if2 .left)
+loop-again-2 c =
+    let back = c .before .before .before .before .before .before in
+    let at-loop = back .before in
+    let entry = at-loop .before .before .before in
+    laws.skip-found (at-loop .loop .inv) (entry .pre .0) (entry .pre .1 .0 .1)
+    (c .before .before .before .before .before .before .loop-test .taken) (c .before .before .before .before .column2 .ensures)
+    (c .before .find .ensures .0) (c .if2 .left)
 
 add-row-3 : tie.Need-add-row-3 Inv-loop μ-loop
-add-row-3 c = omega (arith, laws.row-small (c .before .before .before .before .loop .inv) (c .before .before .before .before .before .before .before .pre .0) (c .before .before .before .before .before .before .before .pre .1 .0 .1) (c .before .before .before .loop-test .taken))
+add-row-3 c =
+    let back = c .before .before .before .before .before .before in
+    let entry = back .before in
+    omega (
+      arith,
+      laws.row-small (c .before .before .before .before .loop .inv) (entry .pre .0) (entry .pre .1 .0 .1)
+          (c .before .before .before .loop-test .taken),
+    )
 
 loop-less-3 : tie.Need-loop-less-3 Inv-loop μ-loop
 loop-less-3 c = omega arith
 
 loop-again-3 : tie.Need-loop-again-3 Inv-loop μ-loop
-loop-again-3 c = laws.skip-code (c .before .before .before .before .loop .inv) (c .before .before .before .before .before .before .before .pre .0) (c .before .before .before .before .before .before .before .pre .1 .0 .1) (c .before .before .before .loop-test .taken) (c .before .before .column .ensures) (c .if1 .left)
+loop-again-3 c =
+    let back = c .before .before .before .before .before .before in
+    let entry = back .before in
+    laws.skip-code (c .before .before .before .before .loop .inv) (entry .pre .0) (entry .pre .1 .0 .1)
+    (c .before .before .before .loop-test .taken) (c .before .before .column .ensures) (c .if1 .left)
 
 same-length : tie.Need-same-length Inv-loop μ-loop
 same-length c = (c .before .loop .inv) .long

@@ -15,13 +15,20 @@ add-result : tie.Need-add-result
 add-result c = search needs
 
 returns : tie.Need-returns
-returns c = laws.new-at (take (c .before .before .args .p) (c .before .before .args .marks .now)) (c .before .before .args .count + 1) (c .before .before .args .m) (c .if1 .taken)
+returns c =
+    laws.new-at (take (c .before .before .args .p) (c .before .before .args .marks .now)) (c .before .before .args .count + 1)
+    (c .before .before .args .m) (c .if1 .taken)
 
 returns-2 : tie.Need-returns-2
-returns-2 c = laws.none-at (take (c .before .before .before .args .p) (c .before .before .before .args .marks .now)) (c .before .before .before .args .count + 1) (c .before .before .before .args .m) (c .if2 .taken)
+returns-2 c =
+    let entry = c .before .before .before in
+    laws.none-at (take (entry .args .p) (entry .args .marks .now)) (entry .args .count + 1) (entry .args .m) (c .if2 .taken)
 
 returns-3 : tie.Need-returns-3
-returns-3 c = laws.zero-at (c .before .before .before .before .args .marks .now) (c .before .before .before .before .args .p) (c .before .before .before .before .args .count + 1) (c .before .before .before .before .args .m) (c .before .before .if1 .left) (c .before .if2 .left) (c .if3 .taken)
+returns-3 c =
+    let entry = c .before .before .before .before in
+    laws.zero-at (entry .args .marks .now) (entry .args .p) (entry .args .count + 1) (entry .args .m) (c .before .before .if1 .left)
+    (c .before .if2 .left) (c .if3 .taken)
 
 wide-requires : tie.Need-wide-requires
 wide-requires c κs = search needs
@@ -33,13 +40,24 @@ mul-result : tie.Need-mul-result
 mul-result c = search needs
 
 shared-slice-read-result : tie.Need-shared-slice-read-result
-shared-slice-read-result c = omega (arith, c .before .if4 .taken, c .before .before .before .before .before .before .before .pre .0)
+shared-slice-read-result c =
+    let back = c .before .before .before .before .before .before in
+    let entry = back .before in
+    omega (arith, c .before .if4 .taken, entry .pre .0)
 
 returns-4 : tie.Need-returns-4
-returns-4 c = laws.found-at (c .before .before .before .before .before .before .before .args .marks .now) (c .before .before .before .before .before .before .before .args .p) (c .before .before .before .before .before .before .before .args .count + 1) (c .before .before .before .before .before .before .before .args .m) (c .before .before .before .before .before .if1 .left) (c .before .before .before .before .if2 .left) (c .before .before .before .if3 .left) (c .before .before .wide .ensures) (c .before .if4 .taken)
+returns-4 c =
+    let back = c .before .before .before .before .before .before in
+    let entry = back .before in
+    laws.found-at _ _ (entry .args .count + 1) _ (c .before .before .before .before .before .if1 .left)
+    (c .before .before .before .before .if2 .left) (c .before .before .before .if3 .left) (c .before .before .wide .ensures)
+    (c .before .if4 .taken)
 
 returns-5 : tie.Need-returns-5
-returns-5 c = laws.far-at (c .before .before .before .before .before .before .args .marks .now) (c .before .before .before .before .before .before .args .p) (c .before .before .before .before .before .before .args .count + 1) (c .before .before .before .before .before .before .args .m) (c .before .before .before .before .if1 .left) (c .before .before .before .if2 .left) (c .before .before .if3 .left) (c .before .wide .ensures) (c .if4 .left) (c .before .before .before .before .before .before .pre .0)
+returns-5 c =
+    let entry = c .before .before .before .before .before .before in
+    laws.far-at _ _ (entry .args .count + 1) _ (c .before .before .before .before .if1 .left) (c .before .before .before .if2 .left)
+    (c .before .before .if3 .left) (c .before .wide .ensures) (c .if4 .left) (entry .pre .0)
 
 pub number-of-spec : {M : Type 1} → statement M
 number-of-spec =

@@ -72,13 +72,14 @@ resolve-fields-claims t = (
 )
 
 resolve-fields-add-place : (t : ℕ) → resolve-fields-lts.Need-add-place (resolve-fields-claims t) (resolve-fields-at t) resolve-fields.Post
-resolve-fields-add-place t c = omega (arith, laws.place-inside-fields (c .before .args .cells .now .now) (c .before .args .bound) (c .before .args .row) (c .before .args .place .now) (c .before .pre .1 .1))
+resolve-fields-add-place t c = omega (arith, laws.place-inside-fields _ _ _ _ (c .before .pre .1 .1))
 
 resolve-fields-put-requires : (t : ℕ) → resolve-fields-lts.Need-put-requires (resolve-fields-claims t) (resolve-fields-at t) resolve-fields.Post
-resolve-fields-put-requires t c κs = laws.place-inside-fields (c .before .before .args .cells .now .now) (c .before .before .args .bound) (c .before .before .args .row) (c .before .before .args .place .now) (c .before .before .pre .1 .1)
+resolve-fields-put-requires t c κs = laws.place-inside-fields _ _ _ _ (c .before .before .pre .1 .1)
 
 resolve-fields-returns : (t : ℕ) → resolve-fields-lts.Need-returns (resolve-fields-claims t) (resolve-fields-at t) resolve-fields.Post
-resolve-fields-returns t c = (laws.shallow-resolves-fields (c .before .before .before .before .args .cells .now .now) (c .before .before .before .before .args .bound) (c .before .before .before .before .args .row) (c .before .before .before .before .args .place .now) (c .if1 .taken) (c .before .before .before .before .args .current .now) (c .before .before .before .before .args .marks .now) (c .before .put .ensures), laws.shallow-fields-place (c .before .before .before .before .args .cells .now .now) (c .before .before .before .before .args .bound) (c .before .before .before .before .args .row) (c .before .before .before .before .args .place .now) (c .if1 .taken))
+resolve-fields-returns t c =
+    (laws.shallow-resolves-fields _ _ _ _ (c .if1 .taken) _ _ (c .before .put .ensures), laws.shallow-fields-place _ _ _ _ (c .if1 .taken))
 
 resolve-fields-column-requires : (t : ℕ) → resolve-fields-lts.Need-column-requires (resolve-fields-claims t) (resolve-fields-at t) resolve-fields.Post
 resolve-fields-column-requires t c κs = search needs
@@ -89,26 +90,92 @@ resolve-fields-sub-resolve-term t c = omega (arith, c .before .before .before .i
 resolve-fields-column-requires-2 : (t : ℕ) → resolve-fields-lts.Need-column-requires-2 (resolve-fields-claims t) (resolve-fields-at t) resolve-fields.Post
 resolve-fields-column-requires-2 t c κs = search needs
 
-resolve-fields-resolve-term-requires : (t : ℕ) → resolve-fields-lts.Need-resolve-term-requires (resolve-fields-claims t) (resolve-fields-at t) resolve-fields.Post
-resolve-fields-resolve-term-requires t c κs = (omega (arith, c .before .before .before .before .before .before .before .before .before .before .before .before .pre .0, c .before .before .before .before .before .before .before .before .if1 .left), (c .before .before .before .before .before .before .before .before .before .before .before .before .pre .1 .0, omega (arith, c .before .before .before .before .before .before .before .before .before .before .before .before .pre .1 .1, laws.cons-place (c .before .before .before .before .before .before .before .before .before .before .before .before .args .cells .now .now) (c .before .before .before .before .before .before .before .before .before .before .before .before .args .bound) (c .before .before .before .before .before .before .before .before .before .before .before .before .args .row) (c .before .before .before .before .before .before .before .before .before .before .before .before .args .place .now) (c .before .before .before .before .before .before .before .before .if1 .left) (c .before .before .before .before .before .before .column .ensures) (c .before .before .before .before .before .if2 .taken) (c .before .before .before .column2 .ensures) refl)))
+resolve-fields-resolve-term-requires : (t : ℕ)
+    → resolve-fields-lts.Need-resolve-term-requires (resolve-fields-claims t) (resolve-fields-at t) resolve-fields.Post
+resolve-fields-resolve-term-requires t c κs =
+    let back = c .before .before .before .before .before .before in
+    let at-if1 = back .before .before in
+    let entry = at-if1 .before .before .before .before in (
+      omega (arith, entry .pre .0, at-if1 .if1 .left),
+      (
+        entry .pre .1 .0,
+        omega (
+          arith,
+          entry .pre .1 .1,
+          laws.cons-place (entry .args .cells .now .now) (entry .args .bound) (entry .args .row)
+              (entry .args .place .now) (at-if1 .if1 .left) (c .before .before .before .before .before .before .column .ensures)
+              (c .before .before .before .before .before .if2 .taken) (c .before .before .before .column2 .ensures) refl,
+        ),
+      ),
+    )
 
 resolve-fields-sub-resolve-fields : (t : ℕ) → resolve-fields-lts.Need-sub-resolve-fields (resolve-fields-claims t) (resolve-fields-at t) resolve-fields.Post
-resolve-fields-sub-resolve-fields t c = omega (arith, c .before .before .before .before .before .before .before .before .before .if1 .left)
+resolve-fields-sub-resolve-fields t c =
+    let back = c .before .before .before .before .before .before in
+    let at-if1 = back .before .before .before in
+    omega (arith, at-if1 .if1 .left)
 
 resolve-fields-column-requires-3 : (t : ℕ) → resolve-fields-lts.Need-column-requires-3 (resolve-fields-claims t) (resolve-fields-at t) resolve-fields.Post
 resolve-fields-column-requires-3 t c κs = search needs
 
-resolve-fields-resolve-fields-requires : (t : ℕ) → resolve-fields-lts.Need-resolve-fields-requires (resolve-fields-claims t) (resolve-fields-at t) resolve-fields.Post
-resolve-fields-resolve-fields-requires t c κs = (omega (arith, c .before .before .before .before .before .before .before .before .before .before .before .before .before .before .before .before .before .before .pre .0, c .before .before .before .before .before .before .before .before .before .before .before .before .before .before .if1 .left), (c .before .before .before .before .before .before .before .before .before .before .before .before .before .before .before .before .before .before .pre .1 .0, omega (arith, c .before .before .before .before .before .before .before .before .before .before .before .before .before .before .before .before .before .before .pre .1 .1, c .before .before .before .before .before .resolve-term .ensures .1, laws.cons-place (c .before .before .before .before .before .before .before .before .before .before .before .before .before .before .before .before .before .before .args .cells .now .now) (c .before .before .before .before .before .before .before .before .before .before .before .before .before .before .before .before .before .before .args .bound) (c .before .before .before .before .before .before .before .before .before .before .before .before .before .before .before .before .before .before .args .row) (c .before .before .before .before .before .before .before .before .before .before .before .before .before .before .before .before .before .before .args .place .now) (c .before .before .before .before .before .before .before .before .before .before .before .before .before .before .if1 .left) (c .before .before .before .before .before .before .before .before .before .before .before .before .column .ensures) (c .before .before .before .before .before .before .before .before .before .before .before .if2 .taken) (c .before .before .before .before .before .before .before .before .before .column2 .ensures) (c .before .before .before .column3 .ensures))))
+resolve-fields-resolve-fields-requires : (t : ℕ)
+    → resolve-fields-lts.Need-resolve-fields-requires (resolve-fields-claims t) (resolve-fields-at t) resolve-fields.Post
+resolve-fields-resolve-fields-requires t c κs =
+    let back = c .before .before .before .before .before .before in
+    let at-column2 = back .before .before .before in
+    let at-if2 = at-column2 .before .before in
+    let at-column = at-if2 .before in
+    let at-if1 = at-column .before .before in
+    let entry = at-if1 .before .before .before .before in (
+      omega (arith, entry .pre .0, at-if1 .if1 .left),
+      (
+        entry .pre .1 .0,
+        omega (
+          arith,
+          entry .pre .1 .1,
+          c .before .before .before .before .before .resolve-term .ensures .1,
+          laws.cons-place
+              (entry .args .cells .now .now) (entry .args .bound) (entry .args .row) (entry .args .place .now) (at-if1 .if1 .left)
+              (at-column .column .ensures) (at-if2 .if2 .taken) (at-column2 .column2 .ensures) (c .before .before .before .column3 .ensures),
+        ),
+      ),
+    )
 
 resolve-fields-join-requires : (t : ℕ) → resolve-fields-lts.Need-join-requires (resolve-fields-claims t) (resolve-fields-at t) resolve-fields.Post
 resolve-fields-join-requires t c κs = search needs
 
 resolve-fields-returns-2 : (t : ℕ) → resolve-fields-lts.Need-returns-2 (resolve-fields-claims t) (resolve-fields-at t) resolve-fields.Post
-resolve-fields-returns-2 t c = (laws.cons-resolves (c .before .before .before .before .before .before .before .before .before .before .before .before .before .before .before .before .before .before .before .before .args .cells .now .now) (c .before .before .before .before .before .before .before .before .before .before .before .before .before .before .before .before .before .before .before .before .args .bound) (c .before .before .before .before .before .before .before .before .before .before .before .before .before .before .before .before .before .before .before .before .args .row) (c .before .before .before .before .before .before .before .before .before .before .before .before .before .before .before .before .before .before .before .before .args .place .now) (c .before .before .before .before .before .before .before .before .before .before .before .before .before .before .before .before .if1 .left) (c .before .before .before .before .before .before .before .before .before .before .before .before .before .before .column .ensures) (c .before .before .before .before .before .before .before .before .before .before .before .before .before .if2 .taken) (c .before .before .before .before .before .before .before .before .before .before .before .column2 .ensures) (c .before .before .before .before .before .column3 .ensures) (c .before .before .before .before .before .before .before .before .before .before .before .before .before .before .before .before .before .put .ensures) (c .before .before .before .before .before .before .before .resolve-term .ensures .0) (c .before .before .before .before .before .before .before .resolve-term .ensures .1) (c .before .resolve-fields .ensures .0) (c .join .ensures), omega (arith, c .before .before .before .before .before .before .before .resolve-term .ensures .1, c .before .resolve-fields .ensures .1, laws.cons-place (c .before .before .before .before .before .before .before .before .before .before .before .before .before .before .before .before .before .before .before .before .args .cells .now .now) (c .before .before .before .before .before .before .before .before .before .before .before .before .before .before .before .before .before .before .before .before .args .bound) (c .before .before .before .before .before .before .before .before .before .before .before .before .before .before .before .before .before .before .before .before .args .row) (c .before .before .before .before .before .before .before .before .before .before .before .before .before .before .before .before .before .before .before .before .args .place .now) (c .before .before .before .before .before .before .before .before .before .before .before .before .before .before .before .before .if1 .left) (c .before .before .before .before .before .before .before .before .before .before .before .before .before .before .column .ensures) (c .before .before .before .before .before .before .before .before .before .before .before .before .before .if2 .taken) (c .before .before .before .before .before .before .before .before .before .before .before .column2 .ensures) (c .before .before .before .before .before .column3 .ensures)))
+resolve-fields-returns-2 t c =
+    let at-column3 = c .before .before .before .before .before in
+    let at-resolve-term = at-column3 .before .before in
+    let at-column2 = at-resolve-term .before .before .before .before in
+    let at-if2 = at-column2 .before .before in
+    let at-column = at-if2 .before in
+    let at-if1 = at-column .before .before in
+    let at-put = at-if1 .before in
+    let entry = at-put .before .before .before in (
+      laws.cons-resolves (entry .args .cells .now .now) (entry .args .bound) (entry .args .row) (entry .args .place .now) (at-if1 .if1 .left)
+          (at-column .column .ensures) (at-if2 .if2 .taken) (at-column2 .column2 .ensures) (at-column3 .column3 .ensures) (at-put .put .ensures)
+          (at-resolve-term .resolve-term .ensures .0) (at-resolve-term .resolve-term .ensures .1) (c .before .resolve-fields .ensures .0)
+          (c .join .ensures),
+      omega (
+        arith,
+        at-resolve-term .resolve-term .ensures .1,
+        c .before .resolve-fields .ensures .1,
+        laws.cons-place (entry .args .cells .now .now)
+            (entry .args .bound) (entry .args .row) (entry .args .place .now) (at-if1 .if1 .left) (at-column .column .ensures) (at-if2 .if2 .taken)
+            (at-column2 .column2 .ensures) (at-column3 .column3 .ensures),
+      ),
+    )
 
 resolve-fields-returns-3 : (t : ℕ) → resolve-fields-lts.Need-returns-3 (resolve-fields-claims t) (resolve-fields-at t) resolve-fields.Post
-resolve-fields-returns-3 t c = (laws.nil-resolves (c .before .before .before .before .before .before .before .args .cells .now .now) (c .before .before .before .before .before .before .before .args .bound) (c .before .before .before .before .before .before .before .args .row) (c .before .before .before .before .before .before .before .args .place .now) (c .before .before .before .if1 .left) (c .before .column .ensures) (c .if2 .left) (c .before .before .before .before .before .before .before .args .current .now) (c .before .before .before .before .before .before .before .args .marks .now) (c .before .before .before .before .put .ensures), laws.nil-place (c .before .before .before .before .before .before .before .args .cells .now .now) (c .before .before .before .before .before .before .before .args .bound) (c .before .before .before .before .before .before .before .args .row) (c .before .before .before .before .before .before .before .args .place .now) (c .before .before .before .if1 .left) (c .before .column .ensures) (c .if2 .left))
+resolve-fields-returns-3 t c =
+    let at-if1 = c .before .before .before in (
+      laws.nil-resolves _ _ _ _ (at-if1 .if1 .left) (c .before .column .ensures) (c .if2 .left) _ _
+          (c .before .before .before .before .put .ensures),
+      laws.nil-place _ _ _ _ (at-if1 .if1 .left) (c .before .column .ensures)
+          (c .if2 .left),
+    )
 
 abbrev resolve-term-claims : ℕ → resolve-term-lts.Claims
 resolve-term-claims t = (
@@ -135,13 +202,17 @@ resolve-term-claims t = (
 )
 
 resolve-term-add-place : (t : ℕ) → resolve-term-lts.Need-add-place (resolve-term-claims t) (resolve-term-at t) resolve-term.Post
-resolve-term-add-place t c = omega (arith, laws.place-inside (c .before .args .cells .now .now) (c .before .args .bound) (c .before .args .row) (c .before .args .place .now) (c .before .pre .1 .1))
+resolve-term-add-place t c = omega (arith, laws.place-inside _ _ _ _ (c .before .pre .1 .1))
 
 resolve-term-put-requires : (t : ℕ) → resolve-term-lts.Need-put-requires (resolve-term-claims t) (resolve-term-at t) resolve-term.Post
-resolve-term-put-requires t c κs = laws.place-inside (c .before .before .before .args .cells .now .now) (c .before .before .before .args .bound) (c .before .before .before .args .row) (c .before .before .before .args .place .now) (c .before .before .before .pre .1 .1)
+resolve-term-put-requires t c κs = laws.place-inside _ _ _ _ (c .before .before .before .pre .1 .1)
 
 resolve-term-returns : (t : ℕ) → resolve-term-lts.Need-returns (resolve-term-claims t) (resolve-term-at t) resolve-term.Post
-resolve-term-returns t c = (laws.shallow-resolves (c .before .before .before .before .args .cells .now .now) (c .before .before .before .before .args .bound) (c .before .before .before .before .args .row) (c .before .before .before .before .args .place .now) (c .before .before .if1 .taken) (c .before .before .before .before .args .current .now) (c .before .before .before .before .args .marks .now) (c .put .ensures), laws.shallow-place (c .before .before .before .before .args .cells .now .now) (c .before .before .before .before .args .bound) (c .before .before .before .before .args .row) (c .before .before .before .before .args .place .now) (c .before .before .if1 .taken))
+resolve-term-returns t c = (
+  laws.shallow-resolves _ _ _ _ (c .before .before .if1 .taken) _ _ (c .put .ensures),
+  laws.shallow-place _ _ _ _
+      (c .before .before .if1 .taken),
+)
 
 resolve-term-column-requires : (t : ℕ) → resolve-term-lts.Need-column-requires (resolve-term-claims t) (resolve-term-at t) resolve-term.Post
 resolve-term-column-requires t c κs = search needs
@@ -150,10 +221,16 @@ resolve-term-column-requires-2 : (t : ℕ) → resolve-term-lts.Need-column-requ
 resolve-term-column-requires-2 t c κs = search needs
 
 resolve-term-variable-mark-requires : (t : ℕ) → resolve-term-lts.Need-variable-mark-requires (resolve-term-claims t) (resolve-term-at t) resolve-term.Post
-resolve-term-variable-mark-requires t c κs = c .before .before .before .before .before .before .before .before .before .before .pre .1 .0
+resolve-term-variable-mark-requires t c κs =
+    let back = c .before .before .before .before .before .before in
+    let entry = back .before .before .before .before in
+    entry .pre .1 .0
 
 resolve-term-put-requires-2 : (t : ℕ) → resolve-term-lts.Need-put-requires-2 (resolve-term-claims t) (resolve-term-at t) resolve-term.Post
-resolve-term-put-requires-2 t c κs = laws.place-inside (c .before .before .before .before .before .before .before .before .before .before .before .before .args .cells .now .now) (c .before .before .before .before .before .before .before .before .before .before .before .before .args .bound) (c .before .before .before .before .before .before .before .before .before .before .before .before .args .row) (c .before .before .before .before .before .before .before .before .before .before .before .before .args .place .now) (c .before .before .before .before .before .before .before .before .before .before .before .before .pre .1 .1)
+resolve-term-put-requires-2 t c κs =
+    let back = c .before .before .before .before .before .before in
+    let entry = back .before .before .before .before .before .before in
+    laws.place-inside _ _ _ _ (entry .pre .1 .1)
 
 resolve-term-held-by-requires : (t : ℕ) → resolve-term-lts.Need-held-by-requires (resolve-term-claims t) (resolve-term-at t) resolve-term.Post
 resolve-term-held-by-requires t c κs = search needs
@@ -162,28 +239,61 @@ resolve-term-column-requires-3 : (t : ℕ) → resolve-term-lts.Need-column-requ
 resolve-term-column-requires-3 t c κs = search needs
 
 resolve-term-enter-requires : (t : ℕ) → resolve-term-lts.Need-enter-requires (resolve-term-claims t) (resolve-term-at t) resolve-term.Post
-resolve-term-enter-requires t c κs = (c .before .before .before .before .before .before .before .before .before .before .pre .1 .0, laws.place-inside (c .before .before .before .before .before .before .before .before .before .before .args .cells .now .now) (c .before .before .before .before .before .before .before .before .before .before .args .bound) (c .before .before .before .before .before .before .before .before .before .before .args .row) (c .before .before .before .before .before .before .before .before .before .before .args .place .now) (c .before .before .before .before .before .before .before .before .before .before .pre .1 .1))
+resolve-term-enter-requires t c κs =
+    let back = c .before .before .before .before .before .before in
+    let entry = back .before .before .before .before in
+    (entry .pre .1 .0, laws.place-inside _ _ _ _ (entry .pre .1 .1))
 
 resolve-term-sub-resolve-term : (t : ℕ) → resolve-term-lts.Need-sub-resolve-term (resolve-term-claims t) (resolve-term-at t) resolve-term.Post
-resolve-term-sub-resolve-term t c = omega (arith, c .before .before .before .before .before .before .before .before .before .if1 .left)
+resolve-term-sub-resolve-term t c =
+    let back = c .before .before .before .before .before .before in
+    let at-if1 = back .before .before .before in
+    omega (arith, at-if1 .if1 .left)
 
 resolve-term-column-requires-4 : (t : ℕ) → resolve-term-lts.Need-column-requires-4 (resolve-term-claims t) (resolve-term-at t) resolve-term.Post
 resolve-term-column-requires-4 t c κs = search needs
 
 resolve-term-resolve-term-requires : (t : ℕ) → resolve-term-lts.Need-resolve-term-requires (resolve-term-claims t) (resolve-term-at t) resolve-term.Post
-resolve-term-resolve-term-requires t c κs = (omega (arith, c .before .before .before .before .before .before .before .before .before .before .before .before .before .before .before .before .pre .0, c .before .before .before .before .before .before .before .before .before .before .before .before .before .before .if1 .left), (c .before .before .before .before .before .before .before .before .before .before .before .before .before .before .before .before .pre .1 .0, omega (arith, c .before .before .before .before .before .before .before .before .before .before .before .before .before .before .before .before .pre .1 .1, laws.function-place (c .before .before .before .before .before .before .before .before .before .before .before .before .before .before .before .before .args .cells .now .now) (c .before .before .before .before .before .before .before .before .before .before .before .before .before .before .before .before .args .bound) (c .before .before .before .before .before .before .before .before .before .before .before .before .before .before .before .before .args .row) (c .before .before .before .before .before .before .before .before .before .before .before .before .before .before .before .before .args .place .now) (c .before .before .before .before .before .before .before .before .before .before .before .before .before .before .if1 .left) (c .before .before .before .before .before .before .before .before .before .before .before .before .column .ensures) (c .before .before .before .before .before .before .before .before .before .before .before .match .keys2) (c .before .before .before .column4 .ensures))))
+resolve-term-resolve-term-requires t c κs =
+    let back = c .before .before .before .before .before .before in
+    let at-match = back .before .before .before .before .before in
+    let at-column = at-match .before in
+    let at-if1 = at-column .before .before in
+    let entry = at-if1 .before .before in (
+      omega (arith, entry .pre .0, at-if1 .if1 .left),
+      (
+        entry .pre .1 .0,
+        omega (
+          arith,
+          entry .pre .1 .1,
+          laws.function-place (entry .args .cells .now .now) (entry .args .bound) (entry .args .row)
+              (entry .args .place .now) (at-if1 .if1 .left) (at-column .column .ensures) (at-match .match .keys2)
+              (c .before .before .before .column4 .ensures),
+        ),
+      ),
+    )
 
 resolve-term-leave-requires : (t : ℕ) → resolve-term-lts.Need-leave-requires (resolve-term-claims t) (resolve-term-at t) resolve-term.Post
-resolve-term-leave-requires t c κs = c .before .before .before .before .before .before .before .before .before .before .before .before .before .before .before .before .before .before .before .before .pre .1 .0
+resolve-term-leave-requires t c κs =
+    let back = c .before .before .before .before .before .before in
+    let back2 = back .before .before .before .before .before .before in
+    let back3 = back2 .before .before .before .before .before .before in
+    let entry = back3 .before .before in
+    entry .pre .1 .0
 
 resolve-term-binder-mark-requires : (t : ℕ) → resolve-term-lts.Need-binder-mark-requires (resolve-term-claims t) (resolve-term-at t) resolve-term.Post
 resolve-term-binder-mark-requires t c κs = search needs
 
 resolve-term-put-requires-3 : (t : ℕ) → resolve-term-lts.Need-put-requires-3 (resolve-term-claims t) (resolve-term-at t) resolve-term.Post
-resolve-term-put-requires-3 t c κs = laws.place-inside (c .before .before .before .before .before .before .before .before .before .before .before .before .before .before .before .before .before .before .before .before .before .before .before .args .cells .now .now) (c .before .before .before .before .before .before .before .before .before .before .before .before .before .before .before .before .before .before .before .before .before .before .before .args .bound) (c .before .before .before .before .before .before .before .before .before .before .before .before .before .before .before .before .before .before .before .before .before .before .before .args .row) (c .before .before .before .before .before .before .before .before .before .before .before .before .before .before .before .before .before .before .before .before .before .before .before .args .place .now) (c .before .before .before .before .before .before .before .before .before .before .before .before .before .before .before .before .before .before .before .before .before .before .before .pre .1 .1)
+resolve-term-put-requires-3 t c κs =
+    let back = c .before .before .before .before .before .before in
+    let back2 = back .before .before .before .before .before .before in
+    let back3 = back2 .before .before .before .before .before .before in
+    let entry = back3 .before .before .before .before .before in
+    laws.place-inside _ _ _ _ (entry .pre .1 .1)
 
 resolve-term-put-requires-4 : (t : ℕ) → resolve-term-lts.Need-put-requires-4 (resolve-term-claims t) (resolve-term-at t) resolve-term.Post
-resolve-term-put-requires-4 t c κs = laws.place-inside (c .before .before .before .before .before .before .args .cells .now .now) (c .before .before .before .before .before .before .args .bound) (c .before .before .before .before .before .before .args .row) (c .before .before .before .before .before .before .args .place .now) (c .before .before .before .before .before .before .pre .1 .1)
+resolve-term-put-requires-4 t c κs = laws.place-inside _ _ _ _ (c .before .before .before .before .before .before .pre .1 .1)
 
 resolve-term-sub-resolve-term-2 : (t : ℕ) → resolve-term-lts.Need-sub-resolve-term-2 (resolve-term-claims t) (resolve-term-at t) resolve-term.Post
 resolve-term-sub-resolve-term-2 t c = omega (arith, c .before .before .before .before .before .if1 .left)
@@ -192,22 +302,61 @@ resolve-term-column-requires-5 : (t : ℕ) → resolve-term-lts.Need-column-requ
 resolve-term-column-requires-5 t c κs = search needs
 
 resolve-term-resolve-term-requires-2 : (t : ℕ) → resolve-term-lts.Need-resolve-term-requires-2 (resolve-term-claims t) (resolve-term-at t) resolve-term.Post
-resolve-term-resolve-term-requires-2 t c κs = (omega (arith, c .before .before .before .before .before .before .before .before .before .before .before .before .pre .0, c .before .before .before .before .before .before .before .before .before .before .if1 .left), (c .before .before .before .before .before .before .before .before .before .before .before .before .pre .1 .0, omega (arith, c .before .before .before .before .before .before .before .before .before .before .before .before .pre .1 .1, laws.apply-place (c .before .before .before .before .before .before .before .before .before .before .before .before .args .cells .now .now) (c .before .before .before .before .before .before .before .before .before .before .before .before .args .bound) (c .before .before .before .before .before .before .before .before .before .before .before .before .args .row) (c .before .before .before .before .before .before .before .before .before .before .before .before .args .place .now) (c .before .before .before .before .before .before .before .before .before .before .if1 .left) (c .before .before .before .before .before .before .before .before .column .ensures) (c .before .before .before .before .before .before .before .match .keys3) (c .before .before .before .column5 .ensures) refl)))
+resolve-term-resolve-term-requires-2 t c κs =
+    let back = c .before .before .before .before .before .before in
+    let at-match = back .before in
+    let at-column = at-match .before in
+    let at-if1 = at-column .before .before in
+    let entry = at-if1 .before .before in (
+      omega (arith, entry .pre .0, at-if1 .if1 .left),
+      (
+        entry .pre .1 .0,
+        omega (
+          arith,
+          entry .pre .1 .1,
+          laws.apply-place (entry .args .cells .now .now) (entry .args .bound) (entry .args .row)
+              (entry .args .place .now) (at-if1 .if1 .left) (at-column .column .ensures) (at-match .match .keys3)
+              (c .before .before .before .column5 .ensures) refl,
+        ),
+      ),
+    )
 
 resolve-term-sub-resolve-term-3 : (t : ℕ) → resolve-term-lts.Need-sub-resolve-term-3 (resolve-term-claims t) (resolve-term-at t) resolve-term.Post
-resolve-term-sub-resolve-term-3 t c = omega (arith, c .before .before .before .before .before .before .before .before .before .before .before .if1 .left)
+resolve-term-sub-resolve-term-3 t c =
+    let back = c .before .before .before .before .before .before in
+    let at-if1 = back .before .before .before .before .before in
+    omega (arith, at-if1 .if1 .left)
 
 resolve-term-column-requires-6 : (t : ℕ) → resolve-term-lts.Need-column-requires-6 (resolve-term-claims t) (resolve-term-at t) resolve-term.Post
 resolve-term-column-requires-6 t c κs = search needs
 
 resolve-term-resolve-term-requires-3 : (t : ℕ) → resolve-term-lts.Need-resolve-term-requires-3 (resolve-term-claims t) (resolve-term-at t) resolve-term.Post
-resolve-term-resolve-term-requires-3 t c κs = (omega (arith, c .before .before .before .before .before .before .before .before .before .before .before .before .before .before .before .before .before .before .pre .0, c .before .before .before .before .before .before .before .before .before .before .before .before .before .before .before .before .if1 .left), (c .before .before .before .before .before .before .before .before .before .before .before .before .before .before .before .before .before .before .pre .1 .0, omega (arith, c .before .before .before .before .before .before .before .before .before .before .before .before .before .before .before .before .before .before .pre .1 .1, c .before .before .before .before .before .resolve-term2 .ensures .1, laws.apply-place (c .before .before .before .before .before .before .before .before .before .before .before .before .before .before .before .before .before .before .args .cells .now .now) (c .before .before .before .before .before .before .before .before .before .before .before .before .before .before .before .before .before .before .args .bound) (c .before .before .before .before .before .before .before .before .before .before .before .before .before .before .before .before .before .before .args .row) (c .before .before .before .before .before .before .before .before .before .before .before .before .before .before .before .before .before .before .args .place .now) (c .before .before .before .before .before .before .before .before .before .before .before .before .before .before .before .before .if1 .left) (c .before .before .before .before .before .before .before .before .before .before .before .before .before .before .column .ensures) (c .before .before .before .before .before .before .before .before .before .before .before .before .before .match .keys3) (c .before .before .before .before .before .before .before .before .before .column5 .ensures) (c .before .before .before .column6 .ensures))))
+resolve-term-resolve-term-requires-3 t c κs =
+    let back = c .before .before .before .before .before .before in
+    let at-column5 = back .before .before .before in
+    let at-match = at-column5 .before .before .before .before in
+    let at-column = at-match .before in
+    let at-if1 = at-column .before .before in
+    let entry = at-if1 .before .before in (
+      omega (arith, entry .pre .0, at-if1 .if1 .left),
+      (
+        entry .pre .1 .0,
+        omega (
+          arith,
+          entry .pre .1 .1,
+          c .before .before .before .before .before .resolve-term2 .ensures .1,
+          laws.apply-place
+              (entry .args .cells .now .now) (entry .args .bound) (entry .args .row) (entry .args .place .now) (at-if1 .if1 .left)
+              (at-column .column .ensures) (at-match .match .keys3) (at-column5 .column5 .ensures) (c .before .before .before .column6 .ensures),
+        ),
+      ),
+    )
 
 resolve-term-join-requires : (t : ℕ) → resolve-term-lts.Need-join-requires (resolve-term-claims t) (resolve-term-at t) resolve-term.Post
 resolve-term-join-requires t c κs = search needs
 
 resolve-term-put-requires-5 : (t : ℕ) → resolve-term-lts.Need-put-requires-5 (resolve-term-claims t) (resolve-term-at t) resolve-term.Post
-resolve-term-put-requires-5 t c κs = laws.place-inside (c .before .before .before .before .before .before .args .cells .now .now) (c .before .before .before .before .before .before .args .bound) (c .before .before .before .before .before .before .args .row) (c .before .before .before .before .before .before .args .place .now) (c .before .before .before .before .before .before .pre .1 .1)
+resolve-term-put-requires-5 t c κs = laws.place-inside _ _ _ _ (c .before .before .before .before .before .before .pre .1 .1)
 
 resolve-term-sub-resolve-fields : (t : ℕ) → resolve-term-lts.Need-sub-resolve-fields (resolve-term-claims t) (resolve-term-at t) resolve-term.Post
 resolve-term-sub-resolve-fields t c = omega (arith, c .before .before .before .before .before .if1 .left)
@@ -216,10 +365,27 @@ resolve-term-column-requires-7 : (t : ℕ) → resolve-term-lts.Need-column-requ
 resolve-term-column-requires-7 t c κs = search needs
 
 resolve-term-resolve-fields-requires : (t : ℕ) → resolve-term-lts.Need-resolve-fields-requires (resolve-term-claims t) (resolve-term-at t) resolve-term.Post
-resolve-term-resolve-fields-requires t c κs = (omega (arith, c .before .before .before .before .before .before .before .before .before .before .before .before .pre .0, c .before .before .before .before .before .before .before .before .before .before .if1 .left), (c .before .before .before .before .before .before .before .before .before .before .before .before .pre .1 .0, omega (arith, c .before .before .before .before .before .before .before .before .before .before .before .before .pre .1 .1, laws.rcd-place (c .before .before .before .before .before .before .before .before .before .before .before .before .args .cells .now .now) (c .before .before .before .before .before .before .before .before .before .before .before .before .args .bound) (c .before .before .before .before .before .before .before .before .before .before .before .before .args .row) (c .before .before .before .before .before .before .before .before .before .before .before .before .args .place .now) (c .before .before .before .before .before .before .before .before .before .before .if1 .left) (c .before .before .before .before .before .before .before .before .column .ensures) (c .before .before .before .before .before .before .before .match .keys4) (c .before .before .before .column7 .ensures))))
+resolve-term-resolve-fields-requires t c κs =
+    let back = c .before .before .before .before .before .before in
+    let at-match = back .before in
+    let at-column = at-match .before in
+    let at-if1 = at-column .before .before in
+    let entry = at-if1 .before .before in (
+      omega (arith, entry .pre .0, at-if1 .if1 .left),
+      (
+        entry .pre .1 .0,
+        omega (
+          arith,
+          entry .pre .1 .1,
+          laws.rcd-place (entry .args .cells .now .now) (entry .args .bound) (entry .args .row)
+              (entry .args .place .now) (at-if1 .if1 .left) (at-column .column .ensures) (at-match .match .keys4)
+              (c .before .before .before .column7 .ensures),
+        ),
+      ),
+    )
 
 resolve-term-put-requires-6 : (t : ℕ) → resolve-term-lts.Need-put-requires-6 (resolve-term-claims t) (resolve-term-at t) resolve-term.Post
-resolve-term-put-requires-6 t c κs = laws.place-inside (c .before .before .before .before .before .before .args .cells .now .now) (c .before .before .before .before .before .before .args .bound) (c .before .before .before .before .before .before .args .row) (c .before .before .before .before .before .before .args .place .now) (c .before .before .before .before .before .before .pre .1 .1)
+resolve-term-put-requires-6 t c κs = laws.place-inside _ _ _ _ (c .before .before .before .before .before .before .pre .1 .1)
 
 resolve-term-sub-resolve-term-4 : (t : ℕ) → resolve-term-lts.Need-sub-resolve-term-4 (resolve-term-claims t) (resolve-term-at t) resolve-term.Post
 resolve-term-sub-resolve-term-4 t c = omega (arith, c .before .before .before .before .before .if1 .left)
@@ -228,28 +394,116 @@ resolve-term-column-requires-8 : (t : ℕ) → resolve-term-lts.Need-column-requ
 resolve-term-column-requires-8 t c κs = search needs
 
 resolve-term-resolve-term-requires-4 : (t : ℕ) → resolve-term-lts.Need-resolve-term-requires-4 (resolve-term-claims t) (resolve-term-at t) resolve-term.Post
-resolve-term-resolve-term-requires-4 t c κs = (omega (arith, c .before .before .before .before .before .before .before .before .before .before .before .before .pre .0, c .before .before .before .before .before .before .before .before .before .before .if1 .left), (c .before .before .before .before .before .before .before .before .before .before .before .before .pre .1 .0, omega (arith, c .before .before .before .before .before .before .before .before .before .before .before .before .pre .1 .1, laws.dot-place (c .before .before .before .before .before .before .before .before .before .before .before .before .args .cells .now .now) (c .before .before .before .before .before .before .before .before .before .before .before .before .args .bound) (c .before .before .before .before .before .before .before .before .before .before .before .before .args .row) (c .before .before .before .before .before .before .before .before .before .before .before .before .args .place .now) (c .before .before .before .before .before .before .before .before .before .before .if1 .left) (c .before .before .before .before .before .before .before .before .column .ensures) (c .before .before .before .before .before .before .before .match .keys5) (c .before .before .before .column8 .ensures))))
+resolve-term-resolve-term-requires-4 t c κs =
+    let back = c .before .before .before .before .before .before in
+    let at-match = back .before in
+    let at-column = at-match .before in
+    let at-if1 = at-column .before .before in
+    let entry = at-if1 .before .before in (
+      omega (arith, entry .pre .0, at-if1 .if1 .left),
+      (
+        entry .pre .1 .0,
+        omega (
+          arith,
+          entry .pre .1 .1,
+          laws.dot-place (entry .args .cells .now .now) (entry .args .bound) (entry .args .row)
+              (entry .args .place .now) (at-if1 .if1 .left) (at-column .column .ensures) (at-match .match .keys5)
+              (c .before .before .before .column8 .ensures),
+        ),
+      ),
+    )
 
 resolve-term-put-requires-7 : (t : ℕ) → resolve-term-lts.Need-put-requires-7 (resolve-term-claims t) (resolve-term-at t) resolve-term.Post
-resolve-term-put-requires-7 t c κs = laws.place-inside (c .before .before .before .before .before .before .args .cells .now .now) (c .before .before .before .before .before .before .args .bound) (c .before .before .before .before .before .before .args .row) (c .before .before .before .before .before .before .args .place .now) (c .before .before .before .before .before .before .pre .1 .1)
+resolve-term-put-requires-7 t c κs = laws.place-inside _ _ _ _ (c .before .before .before .before .before .before .pre .1 .1)
 
 resolve-term-returns-2 : (t : ℕ) → resolve-term-lts.Need-returns-2 (resolve-term-claims t) (resolve-term-at t) resolve-term.Post
-resolve-term-returns-2 t c = (laws.variable-resolves (c .before .before .before .before .before .before .before .before .before .before .before .before .before .before .args .cells .now .now) (c .before .before .before .before .before .before .before .before .before .before .before .before .before .before .args .bound) (c .before .before .before .before .before .before .before .before .before .before .before .before .before .before .args .row) (c .before .before .before .before .before .before .before .before .before .before .before .before .before .before .args .place .now) (c .before .before .before .before .before .before .before .before .before .before .before .before .if1 .left) (c .before .before .before .before .before .before .before .before .before .before .column .ensures) (c .before .before .before .before .before .before .before .before .before .match .keys1) (c .before .before .before .before .before .before .before .before .before .before .before .before .before .before .args .current .now) (c .before .before .before .before .before .before .before .before .before .before .before .before .before .before .args .marks .now) (c .before .before .before .before .before .before .before .column2 .ensures) (c .before .before .before .variable-mark .ensures) (c .held-by .ensures) (c .before .put2 .ensures), laws.variable-place (c .before .before .before .before .before .before .before .before .before .before .before .before .before .before .args .cells .now .now) (c .before .before .before .before .before .before .before .before .before .before .before .before .before .before .args .bound) (c .before .before .before .before .before .before .before .before .before .before .before .before .before .before .args .row) (c .before .before .before .before .before .before .before .before .before .before .before .before .before .before .args .place .now) (c .before .before .before .before .before .before .before .before .before .before .before .before .if1 .left) (c .before .before .before .before .before .before .before .before .before .before .column .ensures) (c .before .before .before .before .before .before .before .before .before .match .keys1))
+resolve-term-returns-2 t c =
+    let back = c .before .before .before .before .before .before in
+    let at-column2 = back .before in
+    let at-match = at-column2 .before .before in
+    let at-column = at-match .before in
+    let at-if1 = at-column .before .before in (
+      laws.variable-resolves _ _ _ _ (at-if1 .if1 .left) (at-column .column .ensures) (at-match .match .keys1) _ _
+          (at-column2 .column2 .ensures) (c .before .before .before .variable-mark .ensures) (c .held-by .ensures) (c .before .put2 .ensures),
+      laws.variable-place _ _ _ _ (at-if1 .if1 .left) (at-column .column .ensures) (at-match .match .keys1),
+    )
 
 resolve-term-returns-3 : (t : ℕ) → resolve-term-lts.Need-returns-3 (resolve-term-claims t) (resolve-term-at t) resolve-term.Post
-resolve-term-returns-3 t c = (laws.function-resolves (c .before .before .before .before .before .before .before .before .before .before .before .before .before .before .before .before .before .before .before .before .before .before .before .before .args .cells .now .now) (c .before .before .before .before .before .before .before .before .before .before .before .before .before .before .before .before .before .before .before .before .before .before .before .before .args .bound) (c .before .before .before .before .before .before .before .before .before .before .before .before .before .before .before .before .before .before .before .before .before .before .before .before .args .row) (c .before .before .before .before .before .before .before .before .before .before .before .before .before .before .before .before .before .before .before .before .before .before .before .before .args .place .now) (c .before .before .before .before .before .before .before .before .before .before .before .before .before .before .before .before .before .before .before .before .before .before .if1 .left) (c .before .before .before .before .before .before .before .before .before .before .before .before .before .before .before .before .before .before .before .before .column .ensures) (c .before .before .before .before .before .before .before .before .before .before .before .before .before .before .before .before .before .before .before .match .keys2) (c .before .before .before .before .before .before .before .before .before .before .before .before .before .before .before .before .before .column3 .ensures) (c .before .before .before .before .before .before .before .before .before .before .before .column4 .ensures) (c .before .before .before .before .before .before .before .before .before .before .before .before .before .enter .ensures .0) (c .before .before .before .before .before .before .before .before .before .before .before .before .before .enter .ensures .1) (c .before .before .before .before .before .before .before .resolve-term .ensures .0) (c .before .before .before .leave .ensures) (c .before .before .binder-mark .ensures) (c .put3 .ensures), c .before .before .before .before .before .before .before .resolve-term .ensures .1 ∙ laws.function-place (c .before .before .before .before .before .before .before .before .before .before .before .before .before .before .before .before .before .before .before .before .before .before .before .before .args .cells .now .now) (c .before .before .before .before .before .before .before .before .before .before .before .before .before .before .before .before .before .before .before .before .before .before .before .before .args .bound) (c .before .before .before .before .before .before .before .before .before .before .before .before .before .before .before .before .before .before .before .before .before .before .before .before .args .row) (c .before .before .before .before .before .before .before .before .before .before .before .before .before .before .before .before .before .before .before .before .before .before .before .before .args .place .now) (c .before .before .before .before .before .before .before .before .before .before .before .before .before .before .before .before .before .before .before .before .before .before .if1 .left) (c .before .before .before .before .before .before .before .before .before .before .before .before .before .before .before .before .before .before .before .before .column .ensures) (c .before .before .before .before .before .before .before .before .before .before .before .before .before .before .before .before .before .before .before .match .keys2) (c .before .before .before .before .before .before .before .before .before .before .before .column4 .ensures))
+resolve-term-returns-3 t c =
+    let back = c .before .before .before .before .before .before in
+    let at-resolve-term = back .before in
+    let at-column4 = at-resolve-term .before .before .before .before in
+    let at-enter = at-column4 .before .before in
+    let at-column3 = at-enter .before .before .before .before in
+    let at-match = at-column3 .before .before in
+    let at-column = at-match .before in
+    let at-if1 = at-column .before .before in (
+      laws.function-resolves _ _ _ _ (at-if1 .if1 .left) (at-column .column .ensures) (at-match .match .keys2) (at-column3 .column3 .ensures)
+          (at-column4 .column4 .ensures) (at-enter .enter .ensures .0) (at-enter .enter .ensures .1) (at-resolve-term .resolve-term .ensures .0)
+          (c .before .before .before .leave .ensures) (c .before .before .binder-mark .ensures) (c .put3 .ensures),
+      at-resolve-term .resolve-term .ensures .1 ∙ laws.function-place _ _ _ _ (at-if1 .if1 .left) (at-column .column .ensures)
+          (at-match .match .keys2) (at-column4 .column4 .ensures),
+    )
 
 resolve-term-returns-4 : (t : ℕ) → resolve-term-lts.Need-returns-4 (resolve-term-claims t) (resolve-term-at t) resolve-term.Post
-resolve-term-returns-4 t c = (laws.apply-resolves (c .before .before .before .before .before .before .before .before .before .before .before .before .before .before .before .before .before .before .before .before .args .cells .now .now) (c .before .before .before .before .before .before .before .before .before .before .before .before .before .before .before .before .before .before .before .before .args .bound) (c .before .before .before .before .before .before .before .before .before .before .before .before .before .before .before .before .before .before .before .before .args .row) (c .before .before .before .before .before .before .before .before .before .before .before .before .before .before .before .before .before .before .before .before .args .place .now) (c .before .before .before .before .before .before .before .before .before .before .before .before .before .before .before .before .before .before .if1 .left) (c .before .before .before .before .before .before .before .before .before .before .before .before .before .before .before .before .column .ensures) (c .before .before .before .before .before .before .before .before .before .before .before .before .before .before .before .match .keys3) (c .before .before .before .before .before .before .before .before .before .before .before .column5 .ensures) (c .before .before .before .before .before .column6 .ensures) (c .before .before .before .before .before .before .before .before .before .before .before .before .before .put4 .ensures) (c .before .before .before .before .before .before .before .resolve-term2 .ensures .0) (c .before .before .before .before .before .before .before .resolve-term2 .ensures .1) (c .before .resolve-term3 .ensures .0) (c .join .ensures), omega (arith, c .before .before .before .before .before .before .before .resolve-term2 .ensures .1, c .before .resolve-term3 .ensures .1, laws.apply-place (c .before .before .before .before .before .before .before .before .before .before .before .before .before .before .before .before .before .before .before .before .args .cells .now .now) (c .before .before .before .before .before .before .before .before .before .before .before .before .before .before .before .before .before .before .before .before .args .bound) (c .before .before .before .before .before .before .before .before .before .before .before .before .before .before .before .before .before .before .before .before .args .row) (c .before .before .before .before .before .before .before .before .before .before .before .before .before .before .before .before .before .before .before .before .args .place .now) (c .before .before .before .before .before .before .before .before .before .before .before .before .before .before .before .before .before .before .if1 .left) (c .before .before .before .before .before .before .before .before .before .before .before .before .before .before .before .before .column .ensures) (c .before .before .before .before .before .before .before .before .before .before .before .before .before .before .before .match .keys3) (c .before .before .before .before .before .before .before .before .before .before .before .column5 .ensures) (c .before .before .before .before .before .column6 .ensures)))
+resolve-term-returns-4 t c =
+    let at-column6 = c .before .before .before .before .before in
+    let at-resolve-term2 = at-column6 .before .before in
+    let at-column5 = at-resolve-term2 .before .before .before .before in
+    let at-put4 = at-column5 .before .before in
+    let at-match = at-put4 .before .before in
+    let at-column = at-match .before in
+    let at-if1 = at-column .before .before in
+    let entry = at-if1 .before .before in (
+      laws.apply-resolves (entry .args .cells .now .now) (entry .args .bound) (entry .args .row) (entry .args .place .now)
+          (at-if1 .if1 .left) (at-column .column .ensures) (at-match .match .keys3) (at-column5 .column5 .ensures) (at-column6 .column6 .ensures)
+          (at-put4 .put4 .ensures) (at-resolve-term2 .resolve-term2 .ensures .0) (at-resolve-term2 .resolve-term2 .ensures .1)
+          (c .before .resolve-term3 .ensures .0) (c .join .ensures),
+      omega (
+        arith,
+        at-resolve-term2 .resolve-term2 .ensures .1,
+        c .before .resolve-term3 .ensures .1,
+        laws.apply-place
+            (entry .args .cells .now .now) (entry .args .bound) (entry .args .row) (entry .args .place .now) (at-if1 .if1 .left)
+            (at-column .column .ensures) (at-match .match .keys3) (at-column5 .column5 .ensures) (at-column6 .column6 .ensures),
+      ),
+    )
 
 resolve-term-returns-5 : (t : ℕ) → resolve-term-lts.Need-returns-5 (resolve-term-claims t) (resolve-term-at t) resolve-term.Post
-resolve-term-returns-5 t c = (laws.rcd-resolves (c .before .before .before .before .before .before .before .before .before .before .before .before .before .args .cells .now .now) (c .before .before .before .before .before .before .before .before .before .before .before .before .before .args .bound) (c .before .before .before .before .before .before .before .before .before .before .before .before .before .args .row) (c .before .before .before .before .before .before .before .before .before .before .before .before .before .args .place .now) (c .before .before .before .before .before .before .before .before .before .before .before .if1 .left) (c .before .before .before .before .before .before .before .before .before .column .ensures) (c .before .before .before .before .before .before .before .before .match .keys4) (c .before .before .before .before .column7 .ensures) (c .before .before .before .before .before .before .put5 .ensures) (c .resolve-fields .ensures .0), c .resolve-fields .ensures .1 ∙ laws.rcd-place (c .before .before .before .before .before .before .before .before .before .before .before .before .before .args .cells .now .now) (c .before .before .before .before .before .before .before .before .before .before .before .before .before .args .bound) (c .before .before .before .before .before .before .before .before .before .before .before .before .before .args .row) (c .before .before .before .before .before .before .before .before .before .before .before .before .before .args .place .now) (c .before .before .before .before .before .before .before .before .before .before .before .if1 .left) (c .before .before .before .before .before .before .before .before .before .column .ensures) (c .before .before .before .before .before .before .before .before .match .keys4) (c .before .before .before .before .column7 .ensures))
+resolve-term-returns-5 t c =
+    let at-column7 = c .before .before .before .before in
+    let at-match = at-column7 .before .before .before .before in
+    let at-column = at-match .before in
+    let at-if1 = at-column .before .before in (
+      laws.rcd-resolves _ _ _ _ (at-if1 .if1 .left) (at-column .column .ensures) (at-match .match .keys4) (at-column7 .column7 .ensures)
+          (c .before .before .before .before .before .before .put5 .ensures) (c .resolve-fields .ensures .0),
+      c .resolve-fields .ensures .1 ∙
+          laws.rcd-place _ _ _ _ (at-if1 .if1 .left) (at-column .column .ensures) (at-match .match .keys4) (at-column7 .column7 .ensures),
+    )
 
 resolve-term-returns-6 : (t : ℕ) → resolve-term-lts.Need-returns-6 (resolve-term-claims t) (resolve-term-at t) resolve-term.Post
-resolve-term-returns-6 t c = (laws.dot-resolves (c .before .before .before .before .before .before .before .before .before .before .before .before .before .args .cells .now .now) (c .before .before .before .before .before .before .before .before .before .before .before .before .before .args .bound) (c .before .before .before .before .before .before .before .before .before .before .before .before .before .args .row) (c .before .before .before .before .before .before .before .before .before .before .before .before .before .args .place .now) (c .before .before .before .before .before .before .before .before .before .before .before .if1 .left) (c .before .before .before .before .before .before .before .before .before .column .ensures) (c .before .before .before .before .before .before .before .before .match .keys5) (c .before .before .before .before .column8 .ensures) (c .before .before .before .before .before .before .put6 .ensures) (c .resolve-term4 .ensures .0), c .resolve-term4 .ensures .1 ∙ laws.dot-place (c .before .before .before .before .before .before .before .before .before .before .before .before .before .args .cells .now .now) (c .before .before .before .before .before .before .before .before .before .before .before .before .before .args .bound) (c .before .before .before .before .before .before .before .before .before .before .before .before .before .args .row) (c .before .before .before .before .before .before .before .before .before .before .before .before .before .args .place .now) (c .before .before .before .before .before .before .before .before .before .before .before .if1 .left) (c .before .before .before .before .before .before .before .before .before .column .ensures) (c .before .before .before .before .before .before .before .before .match .keys5) (c .before .before .before .before .column8 .ensures))
+resolve-term-returns-6 t c =
+    let at-column8 = c .before .before .before .before in
+    let at-match = at-column8 .before .before .before .before in
+    let at-column = at-match .before in
+    let at-if1 = at-column .before .before in (
+      laws.dot-resolves _ _ _ _ (at-if1 .if1 .left) (at-column .column .ensures) (at-match .match .keys5) (at-column8 .column8 .ensures)
+          (c .before .before .before .before .before .before .put6 .ensures) (c .resolve-term4 .ensures .0),
+      c .resolve-term4 .ensures .1 ∙
+          laws.dot-place _ _ _ _ (at-if1 .if1 .left) (at-column .column .ensures) (at-match .match .keys5) (at-column8 .column8 .ensures),
+    )
 
 resolve-term-returns-7 : (t : ℕ) → resolve-term-lts.Need-returns-7 (resolve-term-claims t) (resolve-term-at t) resolve-term.Post
-resolve-term-returns-7 t c = (laws.number-resolves (c .before .before .before .before .before .before .before .args .cells .now .now) (c .before .before .before .before .before .before .before .args .bound) (c .before .before .before .before .before .before .before .args .row) (c .before .before .before .before .before .before .before .args .place .now) (c .before .before .before .before .before .if1 .left) (c .before .before .before .column .ensures) (c .before .before .match .rest .0 .0 .0 .0 .1) (c .before .before .match .rest .0 .0 .0 .1) (c .before .before .match .rest .0 .0 .1) (c .before .before .match .rest .0 .1) (c .before .before .match .rest .1) (c .before .before .before .before .before .before .before .args .current .now) (c .before .before .before .before .before .before .before .args .marks .now) (c .put7 .ensures), laws.number-place (c .before .before .before .before .before .before .before .args .cells .now .now) (c .before .before .before .before .before .before .before .args .bound) (c .before .before .before .before .before .before .before .args .row) (c .before .before .before .before .before .before .before .args .place .now) (c .before .before .before .before .before .if1 .left) (c .before .before .before .column .ensures) (c .before .before .match .rest .0 .0 .0 .0 .1) (c .before .before .match .rest .0 .0 .0 .1) (c .before .before .match .rest .0 .0 .1) (c .before .before .match .rest .0 .1) (c .before .before .match .rest .1))
+resolve-term-returns-7 t c =
+    let at-column = c .before .before .before in
+    let at-if1 = at-column .before .before in (
+      laws.number-resolves _ _ _ _ (at-if1 .if1 .left) (at-column .column .ensures) (c .before .before .match .rest .0 .0 .0 .0 .1)
+          (c .before .before .match .rest .0 .0 .0 .1) (c .before .before .match .rest .0 .0 .1) (c .before .before .match .rest .0 .1)
+          (c .before .before .match .rest .1) _ _ (c .put7 .ensures),
+      laws.number-place _ _ _ _ (at-if1 .if1 .left) (at-column .column .ensures)
+          (c .before .before .match .rest .0 .0 .0 .0 .1) (c .before .before .match .rest .0 .0 .0 .1) (c .before .before .match .rest .0 .0 .1)
+          (c .before .before .match .rest .0 .1) (c .before .before .match .rest .1),
+    )
 
 pub +resolve-fields+resolve-term-spec : {M : Type 1} → statement M
 +resolve-fields+resolve-term-spec =

@@ -38,7 +38,12 @@ element-write-current c = search needs
 
 -- src/resolving.rt:75:1
 returns : tie.Need-returns
-returns c = (ap (λ n. set (c .before .before .before .before .args .current .now) n (c .before .before .before .before .args .place + 1)) (c .before .find .ensures .0), ap (λ n. getD (c .before .before .before .before .args .current .now) n 0) (c .before .find .ensures .0))
+returns c =
+    let entry = c .before .before .before .before in (
+      ap (λ n. set (entry .args .current .now) n (entry .args .place + 1)) (c .before .find .ensures .0),
+      ap
+          (λ n. getD (entry .args .current .now) n 0) (c .before .find .ensures .0),
+    )
 
 pub enter-spec : {M : Type 1} → statement M
 enter-spec =

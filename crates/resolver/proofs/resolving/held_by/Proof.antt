@@ -17,19 +17,23 @@ only-requires c κs = search needs
 
 -- src/resolving.rt:55:1
 returns : tie.Need-returns
-returns c = λ spell apart k. held-word spell (c .before .args .x) (c .match .keys1)
+returns c = λ spell apart k. held-word spell _ (c .match .keys1)
 
 -- src/resolving.rt:55:1
 returns-2 : tie.Need-returns-2
-returns-2 c = λ spell apart k. held-fresh spell (c .before .args .x) (c .match .keys2)
+returns-2 c = λ spell apart k. held-fresh spell _ (c .match .keys2)
 
 -- src/resolving.rt:55:1
 returns-3 : tie.Need-returns-3
-returns-3 c = λ spell apart k. held-outside spell (c .before .before .before .args .x) (c .before .before .match .rest .0 .1) (c .before .before .match .rest .1) (c .only .ensures) apart
+returns-3 c =
+    λ spell apart k. held-outside spell _ (c .before .before .match .rest .0 .1) (c .before .before .match .rest .1) (c .only .ensures)
+    apart
 
 -- src/resolving.rt:55:1
 returns-4 : tie.Need-returns-4
-returns-4 c = λ spell apart k. absurd (omega (arith, c .if1 .left, outside-small spell (c .before .before .args .x) (c .before .match .rest .0 .1) (c .before .match .rest .1) apart k))
+returns-4 c =
+    λ spell apart k. absurd
+    (omega (arith, c .if1 .left, outside-small spell _ (c .before .match .rest .0 .1) (c .before .match .rest .1) apart k))
 
 pub held-by-spec : {M : Type 1} → statement M
 held-by-spec = tie.close (tie.spec cast-only only-requires returns returns-2 returns-3 returns-4)

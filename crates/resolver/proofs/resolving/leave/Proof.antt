@@ -21,7 +21,9 @@ element-write-current c = search needs
 
 -- src/resolving.rt:87:1
 returns : tie.Need-returns
-returns c = ap (λ n. set (c .before .before .before .args .current .now) n (c .before .before .before .args .outer)) (c .find .ensures .0)
+returns c =
+    let entry = c .before .before .before in
+    ap (λ n. set (entry .args .current .now) n (entry .args .outer)) (c .find .ensures .0)
 
 pub leave-spec : {M : Type 1} → statement M
 leave-spec = tie.close (tie.spec find-requires mul-current element-write-current returns)

@@ -22,19 +22,31 @@ element-copy-out-inner c = search needs
 
 -- src/resolving.rt:53:17
 returns : tie.Need-returns
-returns c = λ spell around known env. fresh-loose-mark spell (c .before .before .before .before .before .before .args .x) (c .before .before .before .before .before .before .args .cells .now) (c .before .before .before .before .before .before .args .current .now) around known env (c .before .match .keys2) (ap (λ n. getD (c .before .before .before .before .before .before .args .current .now) n 0) (c .before .before .before .find .ensures .0)) (c .if1 .taken)
+returns c =
+    let entry = c .before .before .before .before .before .before in
+    λ spell around known env. fresh-loose-mark spell (entry .args .x) (entry .args .cells .now) (entry .args .current .now) around known env
+    (c .before .match .keys2) (ap (λ n. getD (entry .args .current .now) n 0) (c .before .before .before .find .ensures .0)) (c .if1 .taken)
 
 -- src/resolving.rt:42:1
 returns-2 : tie.Need-returns-2
-returns-2 c = λ spell around known env. word-mark spell (c .before .before .before .before .before .args .x) (c .before .before .before .before .before .args .cells .now) (c .before .before .before .before .before .args .current .now) around known env (c .match .keys1) (ap (λ n. getD (c .before .before .before .before .before .args .current .now) n 0) (c .before .before .find .ensures .0))
+returns-2 c =
+    let entry = c .before .before .before .before .before in
+    λ spell around known env. word-mark spell (entry .args .x) (entry .args .cells .now) (entry .args .current .now) around known env
+    (c .match .keys1) (ap (λ n. getD (entry .args .current .now) n 0) (c .before .before .find .ensures .0))
 
 -- src/resolving.rt:42:1
 returns-3 : tie.Need-returns-3
-returns-3 c = λ spell around known env. fresh-bound-mark spell (c .before .before .before .before .before .before .args .x) (c .before .before .before .before .before .before .args .cells .now) (c .before .before .before .before .before .before .args .current .now) around known env (c .before .match .keys2) (ap (λ n. getD (c .before .before .before .before .before .before .args .current .now) n 0) (c .before .before .before .find .ensures .0)) (c .if1 .left)
+returns-3 c =
+    let entry = c .before .before .before .before .before .before in
+    λ spell around known env. fresh-bound-mark spell (entry .args .x) (entry .args .cells .now) (entry .args .current .now) around known env
+    (c .before .match .keys2) (ap (λ n. getD (entry .args .current .now) n 0) (c .before .before .before .find .ensures .0)) (c .if1 .left)
 
 -- src/resolving.rt:42:1
 returns-4 : tie.Need-returns-4
-returns-4 c = λ spell around known env. outside-mark spell (c .before .before .before .before .before .args .x) (c .before .before .before .before .before .args .cells .now) (c .before .before .before .before .before .args .current .now) around known env (c .match .rest .0 .1) (c .match .rest .1)
+returns-4 c =
+    let entry = c .before .before .before .before .before in
+    λ spell around known env. outside-mark spell (entry .args .x) (entry .args .cells .now) (entry .args .current .now) around known env
+    (c .match .rest .0 .1) (c .match .rest .1)
 
 pub variable-mark-spec : {M : Type 1} → statement M
 variable-mark-spec =

@@ -1,0 +1,55 @@
+-- The text of a term by the numbers of new names at its places, as the printing walk has it. Nobody needs this to believe `expand`.
+use Prim.Native.Nat.{ℕ, _+_, _^_, _<_, _≤_}
+use mathlib.Core.Path.{_≡_}
+use mathlib.Core.List.{List, []}
+use lib.ListN.{length}
+use Rattle.spellings.specs.Buffers.{written}
+use Rattle.grammar.specs.Fields.{lexiconOf}
+use Rattle.terms.specs.Rows.{termAt, fieldsAt}
+use Rattle.terms.specs.Print.{print, showThen, treeOfFields}
+use Rattle.terms.specs.Labelled.{labelled, labelledFields}
+use Rattle.rows.specs.Sizes.{sizeAt, sizeFieldsAt}
+use Rattle.writer.specs.Openings.{spellIn, Wrote}
+use Rattle.writer.specs.Pool.{oneOf, spanned}
+
+-- what is printed of a row, by a bound of the depth: its term or its field list
+pub data Part : Type 0 where
+  term : ℕ → ℕ → Part
+  fields : ℕ → ℕ → Part
+
+-- the text of a part, whose place is p
+unfoldable pub partText : List ℕ → List ℕ → List ℕ → Part → ℕ → List ℕ
+partText pool cells numbers (term k row) p = print (labelled numbers p (termAt k (spellIn pool) cells row))
+partText pool cells numbers (fields k row) p = showThen (treeOfFields (labelledFields numbers p (fieldsAt k (spellIn pool) cells row))) []
+
+abbrev pub partSize : List ℕ → Part → ℕ
+partSize cells (term k row) = sizeAt cells k row
+partSize cells (fields k row) = sizeFieldsAt cells k row
+
+-- a part is neither too long, behind `at` bytes, nor too large, from a place on
+pub record Fits (pool cells numbers : List ℕ) (x : Part) (at place : ℕ) : Type 0 where
+  pub room : at + length (partText pool cells numbers x place) < 2 ^ 62
+  pub inside : place + partSize cells x ≤ 16384
+
+-- a part was to be written behind `at` bytes, and the places of its constructors are passed
+pub record Printed (pool cells numbers : List ℕ) (x : Part) (at place : ℕ) (out : List ℕ) (r place′ : ℕ) (out′ : List ℕ) : Type 0 where
+  pub wrote : Wrote out at (partText pool cells numbers x place) r out′
+  pub moved : place′ ≡ place + partSize cells x
+
+-- ------------------------------------------------------------------ a whole text
+
+-- the text of the term at a row, by a number of a new name for each place
+unfoldable pub textBy : (ℕ → List ℕ) → List ℕ → List ℕ → ℕ → ℕ → List ℕ
+textBy spell cells numbers made root = print (labelled numbers 0 (termAt made spell cells root))
+
+-- the answer is a text's length, and the text stands at the front of the buffer if it fits
+pub record Prints (out text text′ : List ℕ) (r : ℕ) : Type 0 where
+  pub needed : r ≡ length out
+  pub placed : text′ ≡ written out text
+
+-- what printing asks: few words, spellings that fit the room, and a term that is not too large
+pub record Printable (table formula words : List ℕ) (count : ℕ) (cells : List ℕ) (made root : ℕ) : Type 0 where
+  pub few : count ≤ 4096
+  pub outsidesFit : (m : ℕ) → length (oneOf (lexiconOf table .outsides) m) < 32
+  pub wordsFit : (j : ℕ) → j < count → length (spanned formula words j) < 32
+  pub small : sizeAt cells made root ≤ 16384

@@ -1,0 +1,5 @@
+pub mod WriteLaws
+pub mod Pieces
+pub mod OpeningLaws
+pub mod PoolLaws
+pub mod SpellLaws

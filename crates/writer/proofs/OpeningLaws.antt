@@ -1,0 +1,140 @@
+-- Names, and what a constructor's text begins with, piece by piece.
+use Prim.Native.Nat.{ℕ, zero, suc, _/_, _%_, _<_, _≤_}
+use mathlib.Core.Path.{_≡_, refl, sym, ap, _∙_}
+use mathlib.Core.Logic.{_⊎_}
+use mathlib.Core.List.{List, [], _∷_, _++_}
+use native.Mathlib.Omega.{arith}
+use lib.Dec.{eqb}
+use lib.ListN.{getD}
+use borrow.Author.Tests.{eqb-true, eqb-false}
+use Rattle.spellings.specs.Bytes.{bytes, decimal, digitsThen}
+use Rattle.spellings.specs.BytesLaws.{by-test}
+use Rattle.grammar.specs.Cells.{column}
+use Rattle.terms.specs.Term.{Name}
+use Rattle.terms.specs.Rows.{nameOf, termAt, fieldsAt}
+use Rattle.terms.specs.Rename.{newName, written}
+use Rattle.terms.specs.Print.{numeral}
+use Rattle.terms.specs.Labelled.{nameShown, labelled, labelledFields}
+use Rattle.rows.proofs.RowLaws as rows
+use Rattle.rows.proofs.RowLaws.{as-word, as-fresh, as-outside}
+use Rattle.writer.specs.Openings.{opening, openingFields, spellIn, numberOpening, termOpening, fieldsOpening, NameFits, OpeningFits, FieldsOpeningFits}
+use Rattle.writer.proofs.Pieces.{Going, go-start}
+
+-- ------------------------------------------------------------------ names
+
+new-split : (k n : ℕ) (v : Name) → 0 < k → n ≡ k → nameShown k v ≡ 0x5F ∷ decimal n
+unfolding newName
+new-split zero n v h e = absurd (omega arith)
+new-split (suc k) n v h e = ap (λ m. 0x5F ∷ decimal m) (sym e)
+
+-- a new name
+pub new-name : {pool : List ℕ} {x shown at n : ℕ} (out : List ℕ) → NameFits pool x shown at → 0 < shown → n ≡ shown
+    → Going out at (nameShown shown (nameOf (spellIn pool) x)) at out ((0x5F ∷ []) ∷ decimal n ∷ [])
+new-name {pool} {x} {shown} {n = n} out f h e = go-start out (new-split shown n (nameOf (spellIn pool) x) h e)
+
+not-new : (k : ℕ) (v : Name) → k ≤ 0 → nameShown k v ≡ written v
+not-new zero v h = refl
+not-new (suc k) v h = absurd (omega arith)
+
+module _ {pool : List ℕ} {x shown at : ℕ} (f : NameFits pool x shown at) (old : shown ≤ 0) where
+  -- a fresh name that has no number
+  pub fresh-name : x / 0x1000000 ≡ 2 → 0x5F ∷ 0x30 ∷ [] ≡ nameShown shown (nameOf (spellIn pool) x)
+  unfolding newName digitsThen
+  fresh-name e = sym (not-new shown (nameOf (spellIn pool) x) old ∙ ap written (as-fresh (spellIn pool) x e))
+
+  -- a name as written
+  pub plain-name : (x / 0x1000000 ≡ 2 → ⊥) → spellIn pool (x % 0x1000000) ≡ nameShown shown (nameOf (spellIn pool) x)
+  plain-name d =
+      by-test (eqb (x / 0x1000000) 1)
+      (λ e. sym (not-new shown (nameOf (spellIn pool) x) old ∙ ap written (as-word (spellIn pool) x (eqb-true (x / 0x1000000) 1 e))))
+      (λ e. sym (not-new shown (nameOf (spellIn pool) x) old ∙ ap written (as-outside (spellIn pool) x (eqb-false (x / 0x1000000) 1 e) d)))
+
+-- ------------------------------------------------------------------ openings, piece by piece
+
+abbrev space : List ℕ
+space = 0x20 ∷ []
+
+abbrev VAR : List ℕ
+VAR = 0x6D ∷ 0x6B ∷ 0x54 ∷ 0x65 ∷ 0x72 ∷ 0x6D ∷ 0x56 ∷ 0x61 ∷ 0x72 ∷ 0x28 ∷ []
+
+abbrev FUN : List ℕ
+FUN = 0x6D ∷ 0x6B ∷ 0x54 ∷ 0x65 ∷ 0x72 ∷ 0x6D ∷ 0x46 ∷ 0x75 ∷ 0x6E ∷ 0x28 ∷ []
+
+abbrev APP : List ℕ
+APP = 0x6D ∷ 0x6B ∷ 0x54 ∷ 0x65 ∷ 0x72 ∷ 0x6D ∷ 0x41 ∷ 0x70 ∷ 0x70 ∷ 0x28 ∷ []
+
+abbrev RCD : List ℕ
+RCD = 0x6D ∷ 0x6B ∷ 0x54 ∷ 0x65 ∷ 0x72 ∷ 0x6D ∷ 0x52 ∷ 0x63 ∷ 0x64 ∷ 0x28 ∷ []
+
+abbrev DOT : List ℕ
+DOT = 0x6D ∷ 0x6B ∷ 0x54 ∷ 0x65 ∷ 0x72 ∷ 0x6D ∷ 0x44 ∷ 0x6F ∷ 0x74 ∷ 0x28 ∷ []
+
+abbrev NUM : List ℕ
+NUM = 0x6D ∷ 0x6B ∷ 0x54 ∷ 0x65 ∷ 0x72 ∷ 0x6D ∷ 0x4E ∷ 0x75 ∷ 0x6D ∷ 0x28 ∷ []
+
+abbrev NIL : List ℕ
+NIL = 0x6D ∷ 0x6B ∷ 0x46 ∷ 0x69 ∷ 0x65 ∷ 0x6C ∷ 0x64 ∷ 0x4E ∷ 0x69 ∷ 0x6C ∷ 0x28 ∷ []
+
+abbrev CONS : List ℕ
+CONS = 0x6D ∷ 0x6B ∷ 0x46 ∷ 0x69 ∷ 0x65 ∷ 0x6C ∷ 0x64 ∷ 0x43 ∷ 0x6F ∷ 0x6E ∷ 0x73 ∷ 0x28 ∷ []
+
+-- a number: its constructor, then its digits
+pub open-number : (out : List ℕ) (n : ℕ) {at : ℕ} → Going out at (numberOpening n) at out (NUM ∷ numeral n ∷ [])
+unfolding bytes numberOpening
+open-number out n = go-start out refl
+
+module _ {pool cells numbers : List ℕ} {k row at p : ℕ} (out : List ℕ) (f : OpeningFits pool cells numbers k row at p) where
+  abbrev Opening : List (List ℕ) → Type 0
+  Opening ps = Going out at (termOpening pool cells numbers k row p) at out ps
+
+  pub open-shallow : k ≡ 0 → Opening (numberOpening 0 ∷ [])
+  unfolding termOpening termAt labelled opening numberOpening
+  open-shallow e = go-start out (rw e refl)
+
+  module _ (some : k ≡ 0 → ⊥) {code : ℕ} (c : code ≡ column cells row 0) where
+    pub open-var : code ≡ 32 → {x n : ℕ} → x ≡ column cells row 1 → n ≡ getD numbers p 0 → Opening (VAR ∷ nameShown n (nameOf (spellIn pool) x) ∷ [])
+    unfolding bytes termOpening labelled opening
+    open-var e ex en = go-start out (rw (ex, en, rows.var-row (spellIn pool) cells k row some c e) refl)
+
+    pub open-fun : code ≡ 33 → {x n : ℕ} → x ≡ column cells row 1 → n ≡ getD numbers p 0
+        → Opening (FUN ∷ nameShown n (nameOf (spellIn pool) x) ∷ space ∷ [])
+    unfolding bytes termOpening labelled opening
+    open-fun e ex en = go-start out (rw (ex, en, rows.fun-row (spellIn pool) cells k row some c e) refl)
+
+    pub open-app : code ≡ 34 → Opening (APP ∷ [])
+    unfolding bytes termOpening labelled opening
+    open-app e = go-start out (rw (rows.app-row (spellIn pool) cells k row some c e) refl)
+
+    pub open-rcd : code ≡ 35 → Opening (RCD ∷ [])
+    unfolding bytes termOpening labelled opening
+    open-rcd e = go-start out (rw (rows.rcd-row (spellIn pool) cells k row some c e) refl)
+
+    pub open-dot : code ≡ 36 → Opening (DOT ∷ [])
+    unfolding bytes termOpening labelled opening
+    open-dot e = go-start out (rw (rows.dot-row (spellIn pool) cells k row some c e) refl)
+
+    pub open-zero : (code ≡ 37) ⊎ (code ≡ 38) → Opening (numberOpening 0 ∷ [])
+    unfolding termOpening labelled opening numberOpening
+    open-zero e = go-start out (rw (rows.zero-row (spellIn pool) cells k row some c e) refl)
+
+    pub open-num : (code ≡ 32 → ⊥) → (code ≡ 33 → ⊥) → (code ≡ 34 → ⊥) → (code ≡ 35 → ⊥) → (code ≡ 36 → ⊥) → (code ≡ 37 → ⊥) → (code ≡ 38 → ⊥)
+        → {x : ℕ} → x ≡ column cells row 1 → Opening (numberOpening x ∷ [])
+    unfolding termOpening labelled opening numberOpening
+    open-num a b d e f g h ex = go-start out (rw (ex, rows.num-row (spellIn pool) cells k row some c a b d e f g h) refl)
+
+module _ {pool cells : List ℕ} {k row at : ℕ} (out : List ℕ) (f : FieldsOpeningFits pool cells k row at) where
+  abbrev OpeningFields : List (List ℕ) → Type 0
+  OpeningFields ps = Going out at (fieldsOpening pool cells k row) at out ps
+
+  pub open-shallow-fields : k ≡ 0 → OpeningFields (NIL ∷ [])
+  unfolding bytes fieldsOpening fieldsAt openingFields
+  open-shallow-fields e = go-start out (rw e refl)
+
+  module _ (some : k ≡ 0 → ⊥) {code : ℕ} (c : code ≡ column cells row 0) where
+    pub open-cons : code ≡ 38 → {x : ℕ} → x ≡ column cells row 1 → OpeningFields (CONS ∷ spellIn pool x ∷ space ∷ [])
+    unfolding bytes fieldsOpening openingFields
+    open-cons e ex = go-start out (rw (ex, rows.cons-row (spellIn pool) cells k row some c e) refl)
+
+    pub open-nil : (code ≡ 38 → ⊥) → OpeningFields (NIL ∷ [])
+    unfolding bytes fieldsOpening openingFields
+    open-nil e = go-start out (rw (rows.nil-row (spellIn pool) cells k row some c e) refl)

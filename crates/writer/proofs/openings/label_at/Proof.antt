@@ -1,0 +1,25 @@
+-- `label_at`: its spelling.
+use mathlib.Core.Path.{ap}
+use native.Mathlib.Omega.{arith}
+use borrow.Author.Needs.{needs}
+use lib.ListN.{length}
+use Rattle.writer.proofs.Pieces.{as-text}
+use Rattle.writer.proofs.openings.label_at.Statement.{statement}
+use Rattle.writer.proofs.openings.label_at.Tie as tie
+
+spelling-requires : tie.Need-spelling-requires
+spelling-requires c κs = search needs
+
+copy-at-requires : tie.Need-copy-at-requires
+copy-at-requires c κs =
+    let entry = c .before .before .before .before in
+    omega (arith, ap length (c .spelling .ensures), entry .pre)
+
+same-length : tie.Need-same-length
+same-length c = search needs
+
+returns : tie.Need-returns
+returns c = as-text (c .before .before .before .spelling .ensures) (c .before .before .copy-at .ensures)
+
+pub label-at-spec : {M : Type 1} → statement M
+label-at-spec = tie.close (tie.spec spelling-requires copy-at-requires same-length returns)

@@ -1,0 +1,128 @@
+-- `open_fields`: what the text of a field list begins with.
+use mathlib.Core.Path.{refl, _∙_}
+use borrow.Author.Needs.{needs}
+use Rattle.writer.proofs.Pieces as pieces
+use Rattle.writer.proofs.OpeningLaws as laws
+use Rattle.writer.proofs.openings.open_fields.Statement.{statement}
+use Rattle.writer.proofs.openings.open_fields.Tie as tie
+
+slice-aggregate-copy-at : tie.Need-slice-aggregate-copy-at
+slice-aggregate-copy-at c = search needs
+
+copy-at-requires : tie.Need-copy-at-requires
+copy-at-requires c κs =
+    let entry = c .before .before .before .before in
+    pieces.go-room (laws.open-shallow-fields (entry .args .out .now) (entry .pre) (c .before .before .if1 .taken)) (entry .pre .room)
+
+same-length : tie.Need-same-length
+same-length c = c .before .before .copy-at .ensures .same
+
+returns : tie.Need-returns
+returns c =
+    let at-if1 = c .before .before .before .before .before in
+    let entry = at-if1 .before .before in
+    pieces.go-last (laws.open-shallow-fields (entry .args .out .now) (entry .pre) (at-if1 .if1 .taken))
+    (c .before .before .copy-at .ensures)
+
+column-requires : tie.Need-column-requires
+column-requires c κs = search needs
+
+slice-aggregate-copy-at-2 : tie.Need-slice-aggregate-copy-at-2
+slice-aggregate-copy-at-2 c = search needs
+
+copy-at-requires-2 : tie.Need-copy-at-requires-2
+copy-at-requires-2 c κs =
+    let at-if1 = c .before .before .before .before .before in
+    let entry = at-if1 .before .before in
+    pieces.go-room (laws.open-cons (entry .args .out .now) (entry .pre) (at-if1 .if1 .left) (c .before .before .before .column .ensures)
+    (c .before .before .if2 .taken) refl) (entry .pre .room)
+
+column-requires-2 : tie.Need-column-requires-2
+column-requires-2 c κs = search needs
+
+label-at-requires : tie.Need-label-at-requires
+label-at-requires c κs =
+    let at-copy-at2 = c .before .before .before .before .before in
+    let at-if2 = at-copy-at2 .before .before .before in
+    let at-column = at-if2 .before in
+    let at-if1 = at-column .before .before in
+    let entry = at-if1 .before .before in
+    pieces.go-room (pieces.go-next
+    (laws.open-cons (entry .args .out .now) (entry .pre) (at-if1 .if1 .left) (at-column .column .ensures) (at-if2 .if2 .taken)
+    (c .column2 .ensures)) (at-copy-at2 .copy-at2 .ensures)) (entry .pre .room)
+
+byte-at-requires : tie.Need-byte-at-requires
+byte-at-requires c κs =
+    let at-column2 = c .before .before .before .before in
+    let at-copy-at2 = at-column2 .before .before .before .before .before in
+    let at-if2 = at-copy-at2 .before .before .before in
+    let at-column = at-if2 .before in
+    let at-if1 = at-column .before .before in
+    let entry = at-if1 .before .before in
+    pieces.go-room (pieces.go-next
+    (pieces.go-next (laws.open-cons (entry .args .out .now) (entry .pre) (at-if1 .if1 .left) (at-column .column .ensures)
+    (at-if2 .if2 .taken) (at-column2 .column2 .ensures)) (at-copy-at2 .copy-at2 .ensures)) (c .before .before .before .label-at .ensures))
+    (entry .pre .room)
+
+same-length-2 : tie.Need-same-length-2
+same-length-2 c =
+    let at-label-at = c .before .before .before .before .before .before in
+    let at-copy-at2 = at-label-at .before .before .before .before .before .before in
+    c .before .before .byte-at .ensures .same ∙ at-label-at .label-at .ensures .same ∙ at-copy-at2 .copy-at2 .ensures .same
+
+returns-2 : tie.Need-returns-2
+returns-2 c =
+    let at-label-at = c .before .before .before .before .before .before in
+    let at-column2 = at-label-at .before in
+    let at-copy-at2 = at-column2 .before .before .before .before .before in
+    let at-if2 = at-copy-at2 .before .before .before in
+    let at-column = at-if2 .before in
+    let at-if1 = at-column .before .before in
+    let entry = at-if1 .before .before in
+    pieces.go-last (pieces.go-next
+    (pieces.go-next (laws.open-cons (entry .args .out .now) (entry .pre) (at-if1 .if1 .left) (at-column .column .ensures)
+    (at-if2 .if2 .taken) (at-column2 .column2 .ensures)) (at-copy-at2 .copy-at2 .ensures)) (at-label-at .label-at .ensures))
+    (c .before .before .byte-at .ensures)
+
+slice-aggregate-copy-at-3 : tie.Need-slice-aggregate-copy-at-3
+slice-aggregate-copy-at-3 c = search needs
+
+copy-at-requires-3 : tie.Need-copy-at-requires-3
+copy-at-requires-3 c κs =
+    let at-if1 = c .before .before .before .before .before in
+    let entry = at-if1 .before .before in
+    pieces.go-room (laws.open-nil (entry .args .out .now) (entry .pre) (at-if1 .if1 .left) (c .before .before .before .column .ensures)
+    (c .before .before .if2 .left)) (entry .pre .room)
+
+same-length-3 : tie.Need-same-length-3
+same-length-3 c = c .before .before .copy-at3 .ensures .same
+
+returns-3 : tie.Need-returns-3
+returns-3 c =
+    let at-if2 = c .before .before .before .before .before in
+    let at-column = at-if2 .before in
+    let at-if1 = at-column .before .before in
+    let entry = at-if1 .before .before in
+    pieces.go-last (laws.open-nil (entry .args .out .now) (entry .pre) (at-if1 .if1 .left) (at-column .column .ensures) (at-if2 .if2 .left))
+    (c .before .before .copy-at3 .ensures)
+
+pub open-fields-spec : {M : Type 1} → statement M
+open-fields-spec =
+    tie.close
+    (tie.spec
+    slice-aggregate-copy-at
+    copy-at-requires
+    same-length
+    returns
+    column-requires
+    slice-aggregate-copy-at-2
+    copy-at-requires-2
+    column-requires-2
+    label-at-requires
+    byte-at-requires
+    same-length-2
+    returns-2
+    slice-aggregate-copy-at-3
+    copy-at-requires-3
+    same-length-3
+    returns-3)

@@ -1,0 +1,44 @@
+-- `open_number`: the constructor, then the number.
+use mathlib.Core.Path.{_∙_}
+use borrow.Author.Needs.{needs}
+use Rattle.writer.proofs.Pieces as pieces
+use Rattle.writer.proofs.OpeningLaws as laws
+use Rattle.writer.proofs.openings.open_number.Statement.{statement}
+use Rattle.writer.proofs.openings.open_number.Tie as tie
+
+slice-aggregate-copy-at : tie.Need-slice-aggregate-copy-at
+slice-aggregate-copy-at c = search needs
+
+copy-at-requires : tie.Need-copy-at-requires
+copy-at-requires c κs =
+    let entry = c .before .before .before in
+    pieces.go-room (laws.open-number (entry .args .out .now) (entry .args .n)) (entry .pre)
+
+number-at-requires : tie.Need-number-at-requires
+number-at-requires c κs =
+    let back = c .before .before .before .before .before .before in
+    let entry = back .before in
+    pieces.go-room (pieces.go-next (laws.open-number (entry .args .out .now) (entry .args .n))
+    (c .before .before .before .copy-at .ensures)) (entry .pre)
+
+same-length : tie.Need-same-length
+same-length c =
+    let at-copy-at = c .before .before .before .before .before .before in
+    c .before .before .number-at .ensures .same ∙ at-copy-at .copy-at .ensures .same
+
+returns : tie.Need-returns
+returns c =
+    let at-copy-at = c .before .before .before .before .before .before in
+    let entry = at-copy-at .before .before .before .before in
+    pieces.go-last (pieces.go-next (laws.open-number (entry .args .out .now) (entry .args .n)) (at-copy-at .copy-at .ensures))
+    (c .before .before .number-at .ensures)
+
+pub open-number-spec : {M : Type 1} → statement M
+open-number-spec =
+    tie.close
+    (tie.spec
+    slice-aggregate-copy-at
+    copy-at-requires
+    number-at-requires
+    same-length
+    returns)
