@@ -15,25 +15,27 @@ use Rattle.answers.specs.Refusals.{refusal}
 use Rattle.grammar.specs.Table.{Item}
 use Rattle.grammar.specs.Cells.{columns}
 use Rattle.grammar.specs.Lookup.{fieldsAt}
-use Rattle.productions.specs.Index.{itemsOf, resultOf}
+use Rattle.productions.specs.Index.{itemsOf, resultOf, wholeBody, productionAt}
+use Rattle.productions.specs.Room.{startIn}
+use Rattle.firsts.specs.Room.{productionsIn}
 use Rattle.expansion.specs.declared.State.{State}
 use Rattle.expansion.specs.declared.Outcome.{Outcome}
 use Rattle.expansion.specs.declared.Outcome.the-variants.{Value, Halted}
-use Rattle.expander.specs.declared.choice.Place.{Place}
-use Rattle.expander.specs.declared.choice.Place.the-variants.{At, Nowhere}
 use Rattle.expander.specs.declared.items.Step.{Step}
 use Rattle.expander.specs.declared.items.Step.the-variants.{Finished, Stopped, Taken, Opened}
 use Rattle.expansion.specs.Run.{Result, done, halt, Run, after, ran}
-use Rattle.expansion.specs.Expansion.{Input, endToken, nextToken, misfit, build, runItems, Choice, unfit}
+use Rattle.expansion.specs.Expansion.{Input, endToken, nextToken, misfit, build, runItems, Choice, unfit, ready}
 use Rattle.expansion.specs.Expansion.{chosen, choice, callBegun, mostCalls, runCall, mostOpen, start, ended, run}
-use Rattle.expander.specs.Lent.{tokensIn, wholeBody, TableFits}
-use Rattle.expander.specs.Chosen.{ruleOr, Below}
+use Rattle.expander.specs.Lent.{tokensIn, Held, lentInput, rowsFor}
+use Rattle.expander.specs.Chosen.{setsOf, entriesOf, chosenPlace}
 use Rattle.expander.specs.Built.{Holds}
 use Rattle.expander.specs.Steps.{body, weight, mostWeight, Steps, Onward, Advances, Stays}
 use Rattle.expander.specs.declared.calls.Begun.{Begun}
 use Rattle.expander.specs.declared.calls.Begun.the-variants.{Refused, Entered}
-use Rattle.expander.specs.Calls.{inputBy, rootItems, Begins, Entry, Enters}
+use Rattle.expander.specs.Calls.{rootItems, Begins, Stands, Entry, Enters}
 use Rattle.expander.specs.Frames.{Saved, Loaded}
+use Rattle.expander.proofs.TokenLaws.{token-count}
+use Rattle.expander.proofs.ChoiceLaws.{chosen-nowhere, chosen-here, chosen-whole, start-is}
 use Rattle.expander.proofs.FrameLaws.{Frame, resume, resume-halt, owed, Waits, Stacked, stacked-none, stacked-one, stacked-more, waits-holds}
 
 -- ------------------------------------------------------------------ the beginning of a call
@@ -75,72 +77,70 @@ module _ (I : Input) (n : ℕ) (vs : List ℕ) (s : State) (cells : List ℕ) wh
       → entered (depth - 1) I n vs s cells c ≡ runCall depth I n vs s cells
   call-enters depth f h e = ap (entered (depth - 1) I n vs s cells) e ∙ call-by depth f true (lt-ltb (s .calls) 65536 h)
 
--- by the place that is chosen
-module _ (bs owners starts : List ℕ) (m : ℕ) (firsts openings : List ℕ) (empties : List Bool) (room : List ℕ) (n rows depth nonterminal : ℕ) (s : State)
-    (may-open : depth ≡ 0 → ⊥) (may-call : s .calls < 65536) where
-  abbrev input : Input
-  input = inputBy bs owners starts m firsts openings empties room n rows
-
-  module _ (kind : ℕ) (ekind : kind ≡ getD (tokensIn room n) (s .at) endToken .kind) (p : Place)
-      (f : ruleOr bs owners starts openings empties p unfit ≡ choice (input .grammar) nonterminal kind) where
-    by-place : {q : Place} → p ≡ q → (vs cells : List ℕ)
-        → entered (depth - 1) input nonterminal vs s cells (ruleOr bs owners starts openings empties q unfit)
-        ≡ runCall depth input nonterminal vs s cells
-    by-place {q} e vs cells =
-        call-enters input nonterminal vs s cells depth may-open may-call
-        (ap (λ (x : Place). ruleOr bs owners starts openings empties x unfit) (sym e)
-        ∙ f
-        ∙ ap (λ (k : ℕ). choice (input .grammar) nonterminal k) ekind)
-
-    pub begins-nowhere : p ≡ Nowhere → {set : ℕ} → set ≡ getD firsts nonterminal 0 → {r : Refusal} → r ≡ refusal 17 (s .at) set (ones set)
-        → (vs cells : List ℕ)
-        → halt r cells ≡ runCall depth input nonterminal vs s cells
-    begins-nowhere e es er vs cells =
-        ap (λ (x : Refusal). halt x cells) (er ∙ ap (λ (k : ℕ). refusal 17 (s .at) k (ones k)) es) ∙ by-place e vs cells
-
-    pub begins-at : {j : ℕ} → p ≡ At j → {start : ℕ} → start ≡ getD starts j 0 → {t : State} → t ≡ callBegun s → (vs cells : List ℕ)
-        → body (runCall (depth - 1) input) bs start input vs t cells ≡ runCall depth input nonterminal vs s cells
-    unfolding body
-    begins-at {j} e {start} es {t} et vs cells =
-        ap (λ (a : ℕ). body (runCall (depth - 1) input) bs a input vs t cells) es
-        ∙ ap (λ (u : State). body (runCall (depth - 1) input) bs (getD starts j 0) input vs u cells) et
-        ∙ by-place e vs cells
-
 pub positive : (o : ℕ) → (o ≡ 0 → ⊥) → 0 < o
 positive zero g = absurd (g refl)
 positive (suc o) g = omega arith
 
-pub enters-at : {starts : List ℕ} {m depth : ℕ} {s : State} → (depth ≡ 0 → ⊥) → s .calls < 65536 → (p : Place) → Below m p → {j : ℕ} → p ≡ At j
-    → {start : ℕ} → start ≡ getD starts j 0 → {t : State} → t ≡ callBegun s
-    → Entry starts m depth s start t
-enters-at {m = m} {depth = depth} may-open may-call p b {j} e es et =
-    record {
-      place = j;
-      small = subst (Below m) e b;
-      start-is = es;
-      may-open = positive depth may-open;
-      may-call = may-call;
-      begun = et;
-    }
+-- by the place that is chosen
+module _ {bs room : List ℕ} (h : Held bs room) (tokens : List ℕ) (n rows depth nonterminal : ℕ) (s : State) (may-open : depth ≡ 0 → ⊥)
+    (may-call : s .calls < 65536) where
+  abbrev input : Input
+  input = lentInput bs tokens n rows
+
+  module _ {kind : ℕ} (ekind : kind ≡ getD (tokensIn tokens n) (s .at) endToken .kind) {j : ℕ}
+      (ej : j ≡ chosenPlace (entriesOf bs) nonterminal kind) where
+    same-choice : choice (input .grammar) nonterminal (nextToken input s .kind) ≡ choice (ready (productionsIn bs)) nonterminal kind
+    same-choice = ap (choice (ready (productionsIn bs)) nonterminal) (sym ekind)
+
+    firsts-are : input .grammar .firsts ≡ setsOf bs
+    unfolding ready setsOf
+    firsts-are = refl
+
+    by-choice : {c : Choice} → choice (ready (productionsIn bs)) nonterminal kind ≡ c → (vs cells : List ℕ)
+        → entered (depth - 1) input nonterminal vs s cells c ≡ runCall depth input nonterminal vs s cells
+    by-choice e vs cells = call-enters input nonterminal vs s cells depth may-open may-call (sym (same-choice ∙ e))
+
+    pub begins-nowhere : 256 ≤ j → {set : ℕ} → set ≡ getD (setsOf bs) nonterminal 0 → {r : Refusal} → r ≡ refusal 17 (s .at) set (ones set)
+        → (vs cells : List ℕ)
+        → halt r cells ≡ runCall depth input nonterminal vs s cells
+    begins-nowhere l es er vs cells =
+        ap (λ (x : Refusal). halt x cells) (er ∙ ap (λ (k : ℕ). refusal 17 (s .at) k (ones k)) (es ∙ ap (λ sets. getD sets nonterminal 0) (sym firsts-are)))
+        ∙ by-choice (chosen-nowhere h nonterminal kind ej l) vs cells
+
+    pub begins-at : j < 256 → {start : ℕ} → start ≡ startIn room j → {t : State} → t ≡ callBegun s → (vs cells : List ℕ)
+        → body (runCall (depth - 1) input) bs start input vs t cells ≡ runCall depth input nonterminal vs s cells
+    unfolding body productionAt
+    begins-at l {start} es {t} et vs cells =
+        ap (λ (u : State). body (runCall (depth - 1) input) bs start input vs u cells) et
+        ∙ ap (λ (a : ℕ). body (runCall (depth - 1) input) bs a input vs (callBegun s) cells) (es ∙ start-is h nonterminal kind ej l)
+        ∙ by-choice (chosen-here h nonterminal kind ej l) vs cells
+
+    pub enters-at : j < 256 → {start : ℕ} → start ≡ startIn room j → {t : State} → t ≡ callBegun s → Entry bs depth s start t
+    enters-at l es et =
+        record {
+          whole = ap (λ (a : ℕ). wholeBody (fieldsAt bs a)) es ∙ chosen-whole h nonterminal kind ej l;
+          may-open = positive depth may-open;
+          may-call = may-call;
+          begun = et;
+        }
 
 -- how a call went on
-pub entry-of : {starts : List ℕ} {m depth : ℕ} {s : State} (b : Begun) {start : ℕ} {t : State} → b ≡ Entered start t → Enters starts m depth s b
-    → Entry starts m depth s start t
-entry-of {starts} {m} {depth} {s} b e h = subst (Enters starts m depth s) e h
+pub entry-of : {bs : List ℕ} {depth : ℕ} {s : State} (b : Begun) {start : ℕ} {t : State} → b ≡ Entered start t → Enters bs depth s b
+    → Entry bs depth s start t
+entry-of {bs} {depth} {s} b e h = subst (Enters bs depth s) e h
 
 pub begins-as : (I : Input) (bs : List ℕ) (depth n : ℕ) (s : State) (b : Begun) {q : Begun} → b ≡ q → Begins I bs depth n s b
     → Begins I bs depth n s q
 begins-as I bs depth n s b e h = subst (Begins I bs depth n s) e h
 
 -- one more call leaves room for its items
-pub entry-weight : {starts : List ℕ} {m depth : ℕ} {s : State} {start : ℕ} {t : State} → Entry starts m depth s start t → (size : ℕ)
-    → size ≤ 16384
-    → weight t + (size - start) ≤ weight s
-entry-weight e size h = omega (arith, ap weight (e .begun), e .may-call)
+pub entry-weight : {bs : List ℕ} {depth : ℕ} {s : State} {start : ℕ} {t : State} → Entry bs depth s start t → length bs ≤ 16384
+    → weight t + (length bs - start) ≤ weight s
+entry-weight e h = omega (arith, ap weight (e .begun), e .may-call)
 
-pub entry-whole : {bs starts : List ℕ} {m depth : ℕ} {s : State} {start : ℕ} {t : State} → Entry starts m depth s start t → TableFits bs starts m
-    → wholeBody (fieldsAt bs start) ≡ true
-entry-whole {bs} e f = ap (λ (a : ℕ). wholeBody (fieldsAt bs a)) (e .start-is) ∙ f .whole (e .place) (e .small)
+-- the root's call leaves room for its items
+pub stands-start : {bs : List ℕ} {first : ℕ} {t : State} → Entry bs 1024 start first t → length bs ≤ 16384 → Stands bs first t
+stands-start e h = record { whole = e .whole; light = omega (arith, entry-weight e h) }
 
 -- no variables
 pub holds-none : Holds (replicate 16 0) 0 []
@@ -155,12 +155,12 @@ pub record Root : Type 0 where
   pub start : ℕ
   pub state : State
   pub cells : List ℕ
-  pub room : List ℕ
+  pub stack : List ℕ
   pub frames : List ℕ
 
 pub record Turn : Type 0 where
   pub cells : List ℕ
-  pub room : List ℕ
+  pub stack : List ℕ
   pub frames : List ℕ
   pub vars : List ℕ
   pub at : ℕ
@@ -183,7 +183,7 @@ left bs at level here = 40000 * (65536 - here .calls) + 16386 * level + (length 
 pub record Going (R : Root) (T : Turn) : Type 0 where
   pub sound : wholeBody (fieldsAt (R .bs) (T .at)) ≡ true
   pub as-long : length (T .cells) ≡ length (R .cells)
-  pub room-long : length (T .room) ≡ length (R .room)
+  pub stack-long : length (T .stack) ≡ length (R .stack)
   pub frames-long : length (T .frames) ≡ length (R .frames)
   pub counted : T .count ≤ length (R .bs) + T .at
   pub waiting : List Frame
@@ -199,7 +199,7 @@ abbrev pub first : Root → Turn
 first R =
     record {
       cells = R .cells;
-      room = R .room;
+      stack = R .stack;
       frames = R .frames;
       vars = replicate 16 0;
       at = R .start;
@@ -214,7 +214,7 @@ going-start R w =
     record {
       sound = w;
       as-long = refl;
-      room-long = refl;
+      stack-long = refl;
       frames-long = refl;
       counted = omega arith;
       waiting = [];
@@ -241,14 +241,14 @@ kept-below : {wt wh : ℕ} (x o y o′ : ℕ) {most : ℕ} → wt ≡ wh → o �
 kept-below x o y o′ e f h = omega arith
 
 -- the items go on, and what one of them does is known
-pub record Stepped (R : Root) (T : Turn) (step : Step) (args cells room : List ℕ) : Type 0 where
+pub record Stepped (R : Root) (T : Turn) (step : Step) (args cells stack : List ℕ) : Type 0 where
   pub going : Going R T
   pub same : length cells ≡ length (T .cells)
-  pub room-same : length room ≡ length (T .room)
+  pub stack-same : length stack ≡ length (T .stack)
   pub does : (M : List ℕ) → Holds (T .vars) (T .count) M → Steps (R .bs) (T .at) (R .input) M (T .here) (T .cells) step args cells
   pub advances : Advances (R .bs) (T .at) (T .here) step
 
-module _ {R : Root} {T : Turn} {step : Step} {args cells room : List ℕ} (d : Stepped R T step args cells room) where
+module _ {R : Root} {T : Turn} {step : Step} {args cells stack : List ℕ} (d : Stepped R T step args cells stack) where
   abbrev c : Going R T
   c = d .going
 
@@ -278,7 +278,7 @@ module _ {R : Root} {T : Turn} {step : Step} {args cells room : List ℕ} (d : S
 
     abbrev pub taken : List ℕ → Turn
     taken vars =
-        record { cells = cells; room = room; frames = T .frames; vars = vars; at = next; count = T .count + 1; level = T .level; here = t }
+        record { cells = cells; stack = stack; frames = T .frames; vars = vars; at = next; count = T .count + 1; level = T .level; here = t }
 
     pub going-taken : {vars : List ℕ} → ((M : List ℕ) → Holds (T .vars) (T .count) M → Holds vars (T .count + 1) (M ++ (x ∷ [])))
         → Going R (taken vars)
@@ -287,7 +287,7 @@ module _ {R : Root} {T : Turn} {step : Step} {args cells room : List ℕ} (d : S
         record {
           sound = o .whole;
           as-long = d .same ∙ c .as-long;
-          room-long = d .room-same ∙ c .room-long;
+          stack-long = d .stack-same ∙ c .stack-long;
           frames-long = c .frames-long;
           counted = omega (arith, c .counted, o .less);
           waiting = c .waiting;
@@ -303,18 +303,18 @@ module _ {R : Root} {T : Turn} {step : Step} {args cells room : List ℕ} (d : S
     pub taken-less : left (R .bs) next (T .level) t < left (R .bs) (T .at) (T .level) (T .here)
     taken-less = let o = taken-onward in omega (arith, o .less, o .inside, ap (λ (q : ℕ). 40000 * (65536 - q)) (o .called))
 
-  pub stepped-long : (length cells ≡ length (R .cells)) × (length room ≡ length (R .room)) × (length (T .frames) ≡ length (R .frames))
-  stepped-long = (d .same ∙ c .as-long, d .room-same ∙ c .room-long, c .frames-long)
+  pub stepped-long : (length cells ≡ length (R .cells)) × (length stack ≡ length (R .stack)) × (length (T .frames) ≡ length (R .frames))
+  stepped-long = (d .same ∙ c .as-long, d .stack-same ∙ c .stack-long, c .frames-long)
 
 -- ------------------------------------------------------------------ an item calls
 
-pub record Opening (R : Root) (T : Turn) (n g next : ℕ) (t : State) (args cells room : List ℕ) (b : Begun) : Type 0 where
+pub record Opening (R : Root) (T : Turn) (n g next : ℕ) (t : State) (args cells stack : List ℕ) (b : Begun) : Type 0 where
   pub step : Step
-  pub stepped : Stepped R T step args cells room
+  pub stepped : Stepped R T step args cells stack
   pub is : step ≡ Opened n g next t
   pub begins : Begins (R .input) (R .bs) (1023 - T .level) n t b
 
-module _ {R : Root} {T : Turn} {n g next : ℕ} {t : State} {args cells room : List ℕ} {b : Begun} (d : Opening R T n g next t args cells room b) where
+module _ {R : Root} {T : Turn} {n g next : ℕ} {t : State} {args cells stack : List ℕ} {b : Begun} (d : Opening R T n g next t args cells stack b) where
   abbrev o-going : Going R T
   o-going = d .stepped .going
 
@@ -335,14 +335,13 @@ module _ {R : Root} {T : Turn} {n g next : ℕ} {t : State} {args cells room : L
       halted (d .stepped)
       (ap (waiting-for (T .level)) (subst (Begins (R .input) (R .bs) (1023 - T .level) n t) e (d .begins) (called .0) cells) ∙ called .2)
 
-  module _ {starts : List ℕ} {m first : ℕ} {u : State} (e : b ≡ Entered first u) (enters : Enters starts m (1023 - T .level) t b)
-      (fits : TableFits (R .bs) starts m) where
-    pub opened-entry : Entry starts m (1023 - T .level) t first u
+  module _ {first : ℕ} {u : State} (e : b ≡ Entered first u) (enters : Enters (R .bs) (1023 - T .level) t b) (small : length (R .bs) ≤ 16384) where
+    pub opened-entry : Entry (R .bs) (1023 - T .level) t first u
     opened-entry = entry-of b e enters
 
     abbrev pub entered-turn : List ℕ → Turn
     entered-turn frames =
-        record { cells = cells; room = room; frames = frames; vars = args; at = first; count = g; level = T .level + 1; here = u }
+        record { cells = cells; stack = stack; frames = frames; vars = args; at = first; count = g; level = T .level + 1; here = u }
 
     pub going-opened : {frames : List ℕ} → Saved (T .frames) frames (T .level) (T .vars) (T .count) next → length frames ≡ length (T .frames)
         → Going R (entered-turn frames)
@@ -351,16 +350,16 @@ module _ {R : Root} {T : Turn} {n g next : ℕ} {t : State} {args cells room : L
         let c = o-going in
         let o = opened-onward .0 in
         record {
-          sound = entry-whole opened-entry fits;
+          sound = opened-entry .whole;
           as-long = stepped-long (d .stepped) .0;
-          room-long = stepped-long (d .stepped) .1;
+          stack-long = stepped-long (d .stepped) .1;
           frames-long = long ∙ c .frames-long;
           counted = omega (arith, opened-onward .1);
           waiting = record { next = next; values = c .M } ∷ c .waiting;
           many = omega (arith, c .many);
           few = omega (arith, opened-entry .may-open);
           stacked = stacked-more (c .many) saved (c .holds) (o .whole) (omega (arith, c .counted, o .less)) (o .inside) (c .stacked);
-          kept = omega (arith, onward-kept o (owed (R .bs) (c .waiting)) (c .kept), entry-weight opened-entry (length (R .bs)) (fits .small));
+          kept = omega (arith, onward-kept o (owed (R .bs) (c .waiting)) (c .kept), entry-weight opened-entry small);
           M = called .0;
           holds = called .1;
           rest =
@@ -378,7 +377,7 @@ module _ {R : Root} {T : Turn} {n g next : ℕ} {t : State} {args cells room : L
         let o = opened-onward .0 in
         omega (
           arith,
-          fits .small,
+          small,
           opened-entry .may-call,
           ap (λ (q : State). 40000 * (65536 - q .calls)) (opened-entry .begun),
           ap (λ (q : ℕ). 40000 * (65536 - q)) (o .called),
@@ -386,25 +385,25 @@ module _ {R : Root} {T : Turn} {n g next : ℕ} {t : State} {args cells room : L
 
 -- ------------------------------------------------------------------ no item is left
 
-pub record Finishing (R : Root) (T : Turn) (r : Outcome) (cells room : List ℕ) : Type 0 where
+pub record Finishing (R : Root) (T : Turn) (r : Outcome) (cells stack : List ℕ) : Type 0 where
   pub step : Step
   pub args : List ℕ
   pub cells₁ : List ℕ
-  pub room₁ : List ℕ
-  pub stepped : Stepped R T step args cells₁ room₁
+  pub stack₁ : List ℕ
+  pub stepped : Stepped R T step args cells₁ stack₁
   pub is : step ≡ Finished
   pub same : length cells ≡ length cells₁
-  pub room-same : length room ≡ length room₁
+  pub stack-same : length stack ≡ length stack₁
   pub gives :
       (M : List ℕ) → Holds (T .vars) (T .count) M → ran r cells ≡ build (resultOf (fieldsAt (R .bs) (T .at))) (R .input) M (T .here) cells₁
   pub stays : Stays (T .here) r
 
-module _ {R : Root} {T : Turn} {r : Outcome} {cells room : List ℕ} (d : Finishing R T r cells room) where
+module _ {R : Root} {T : Turn} {r : Outcome} {cells stack : List ℕ} (d : Finishing R T r cells stack) where
   abbrev f-going : Going R T
   f-going = d .stepped .going
 
-  pub finished-long : (length cells ≡ length (R .cells)) × (length room ≡ length (R .room)) × (length (T .frames) ≡ length (R .frames))
-  finished-long = let l = stepped-long (d .stepped) in (d .same ∙ l .0, d .room-same ∙ l .1, l .2)
+  pub finished-long : (length cells ≡ length (R .cells)) × (length stack ≡ length (R .stack)) × (length (T .frames) ≡ length (R .frames))
+  finished-long = let l = stepped-long (d .stepped) in (d .same ∙ l .0, d .stack-same ∙ l .1, l .2)
 
   gives-all : ran r cells ≡ onward R (T .level) (T .at) (f-going .M) (T .here) (T .cells)
   unfolding body runItems
@@ -468,7 +467,7 @@ module _ {R : Root} {T : Turn} {r : Outcome} {cells room : List ℕ} (d : Finish
 
       abbrev pub lower : List ℕ → Turn
       lower vars =
-          record { cells = cells; room = room; frames = T .frames; vars = vars; at = next; count = count + 1; level = T .level - 1; here = t }
+          record { cells = cells; stack = stack; frames = T .frames; vars = vars; at = next; count = count + 1; level = T .level - 1; here = t }
 
       pub going-finished : {vars : List ℕ} → Loaded (T .frames) (T .level - 1) vars → {vars′ : List ℕ}
           → ((M : List ℕ) → Holds vars count M → Holds vars′ (count + 1) (M ++ (x ∷ [])))
@@ -482,7 +481,7 @@ module _ {R : Root} {T : Turn} {r : Outcome} {cells room : List ℕ} (d : Finish
           record {
             sound = ap (λ (a : ℕ). wholeBody (fieldsAt (R .bs) a)) next-is ∙ w .whole;
             as-long = finished-long .0;
-            room-long = finished-long .1;
+            stack-long = finished-long .1;
             frames-long = c .frames-long;
             counted = omega (arith, finished-inside .1);
             waiting = fs;
@@ -521,7 +520,7 @@ module _ (I : Input) (cells : List ℕ) (n : ℕ) (count : length (I .tokens) �
   pub ended-done : {v : ℕ} {s : State} → o ≡ Value v s → n ≤ s .at → done v s cells ≡ after (ran o cells) (ended I)
   ended-done {v} {s} e h = ended-by e false (le-ltb (s .at) n h)
 
-pub rows-few : {rows size : ℕ} → rows ≡ min (size / columns) 16384 → (rows ≤ 16384) × (rows * 4 ≤ size)
+pub rows-few : {rows size : ℕ} → rows ≡ rowsFor size → (rows ≤ 16384) × (rows * 4 ≤ size)
 rows-few e = (omega arith, omega arith)
 
 pub run-is : (I : Input) (root : ℕ) (cells : List ℕ) {R : Result ℕ} → R ≡ runCall mostOpen I root [] start cells → after R (ended I) ≡ run I root cells

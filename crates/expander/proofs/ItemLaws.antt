@@ -30,7 +30,8 @@ use Rattle.expander.specs.declared.templates.Arguments.the-variants.{Lis
 use Rattle.expansion.specs.Run.{Result, done, halt, Run, after, ran}
 use Rattle.expansion.specs.Expansion.{Input, endToken, nextToken, tokenTaken, misfit, build, buildAll, wordValue, freshMade, runItem, runItems}
 use Rattle.expansion.specs.Expansion as Expansion
-use Rattle.expander.specs.Lent.{tokensIn, wholeBody}
+use Rattle.expander.specs.Lent.{tokensIn}
+use Rattle.productions.specs.Index.{wholeBody}
 use Rattle.expander.specs.Built.{withMade, Ahead, templateAt, built, Lists, Few}
 use Rattle.expander.specs.declared.templates.Built.{Built}
 use Rattle.expander.specs.declared.templates.Built.the-variants.{Made, Full}

@@ -1,4 +1,5 @@
 pub mod TokenLaws
+pub mod StartLaws
 pub mod ChoiceLaws
 pub mod VariableLaws
 pub mod TemplateLaws

@@ -14,7 +14,7 @@ use Rattle.expander.specs.declared.items.Step.{Step}
 use Rattle.expander.specs.declared.items.Step.the-variants.{Finished, Stopped, Taken, Opened}
 use Rattle.expansion.specs.Run.{Run, halt, after}
 use Rattle.expansion.specs.Expansion.{Input, build, runItems}
-use Rattle.expander.specs.Lent.{wholeBody}
+use Rattle.productions.specs.Index.{wholeBody}
 use Rattle.expander.specs.Built.{Holds}
 
 -- the items from an offset on and the result behind them, under the values of the variables; `callee` is what a call does

@@ -1,5 +1,4 @@
 // Calls: a rule is chosen, its items are done from the left, and its result is built.
-use crate::choice::Place;
 use crate::choice::choose;
 use crate::frames::count_of;
 use crate::frames::load;
@@ -14,21 +13,18 @@ use crate::tokens::misfit;
 use answers::Refusal;
 use expansion::Outcome;
 use expansion::State;
-use firsts::items::set_at;
-use productions::index::offset;
-ghost use Prim.Native.Nat.{ℕ, _+_, _-_, _*_, _/_, _≤_, min};
+use productions::room::first_set;
+use productions::room::start;
+ghost use Prim.Native.Nat.{ℕ, _≤_};
 ghost use mathlib.Core.Path.{_≡_};
-ghost use mathlib.Core.Bool.{true};
 ghost use mathlib.Core.List.{List};
-ghost use lib.ListN.{length};
+ghost use lib.ListN.{length, getD};
 ghost use Rattle.answers.specs.Refusals.{refusal};
-ghost use Rattle.grammar.specs.Lookup.{fieldsAt};
-ghost use Rattle.grammar.specs.Cells.{columns};
 ghost use Rattle.expansion.specs.Run.{after, ran};
 ghost use Rattle.expansion.specs.Expansion.{Input, callBegun, ended, run};
-ghost use Rattle.expander.specs.Lent.{TokensFit, TableFits, wholeBody};
-ghost use Rattle.expander.specs.Steps.{weight, mostWeight};
-ghost use Rattle.expander.specs.Calls.{inputBy, rootItems, Begins, Enters};
+ghost use Rattle.expander.specs.Lent.{Held, HoldsSome, lentInput, rowsFor, rowsIn, Lent};
+ghost use Rattle.expander.specs.Chosen.{setsOf};
+ghost use Rattle.expander.specs.Calls.{rootItems, Begins, Enters, Stands};
 
 // How a call begins: it refuses, or a production is entered at an offset.
 pub enum Begun {
@@ -61,24 +57,30 @@ fn with_call(s: State) -> State
     }
 }
 
+// The first set of a nonterminal, empty for what is none.
+fn kinds_of(room: &[u64; 641], nonterminal: u8) -> u64
+    ensures { λ r. ⌜ ((bs : List ℕ) → Held bs (now (room .entry)) → r ≡ getD (setsOf bs) nonterminal 0) ⌝ }
+{
+    if nonterminal < 64 {
+        first_set(room, nonterminal)
+    } else {
+        0
+    }
+}
+
 // The beginning of a call of a nonterminal, while `depth` more calls may be open: tested 19, 20, 17.
 fn begin(
-    owners: &[u8; 256],
-    starts: &[u16; 256],
-    m: usize,
-    firsts: &[u64; 64],
-    openings: &[u64; 256],
-    empties: &[bool; 256],
+    room: &[u64; 641],
     tokens: &[u32; 16384],
     n: usize,
     depth: usize,
     nonterminal: u8,
     s: State,
 ) -> Begun
-    requires { ⌜ (m ≤ 256) × (n ≤ 4096) ⌝ }
-    ensures { λ r. ⌜ ((bs : List ℕ) (rows : ℕ) → Begins (inputBy bs (now (owners .entry)) (now (starts .entry)) m (now (firsts .entry)) (now
-        (openings .entry)) (now (empties .entry)) (now (tokens .entry)) n rows) bs depth nonterminal s r) ⌝ }
-    ensures { λ r. ⌜ Enters (now (starts .entry)) m depth s r ⌝ }
+    requires { ⌜ HoldsSome (now room) × (n ≤ 4096) ⌝ }
+    ensures { λ r. ⌜ ((bs : List ℕ) (rows : ℕ) → Held bs (now (room .entry)) → Begins (lentInput bs (now (tokens .entry)) n rows) bs depth
+        nonterminal s r) ⌝ }
+    ensures { λ r. ⌜ ((bs : List ℕ) → Held bs (now (room .entry)) → Enters bs depth s r) ⌝ }
 {
     let at = s.at;
     let calls = s.calls;
@@ -89,44 +91,31 @@ fn begin(
         return Begun::Refused(limit(20, at));
     }
     let kind = kind_at(tokens, n, at);
-    let place = choose(owners, m, openings, empties, nonterminal, kind);
-    match place {
-        Place::Nowhere => Begun::Refused(misfit(at, set_at(firsts, nonterminal as usize))),
-        Place::At(j) => {
-            let start = offset(starts, j);
-            Begun::Entered(start, with_call(s))
-        }
+    let place = choose(room, nonterminal, kind);
+    if place < 256 {
+        return Begun::Entered(start(room, place), with_call(s));
     }
+    Begun::Refused(misfit(at, kinds_of(room, nonterminal)))
 }
 
 // The items of an alternative from an offset on, and its result. A call that waits for another stands in `frames`.
 fn items(
     table: &[u8],
-    owners: &[u8; 256],
-    starts: &[u16; 256],
-    m: usize,
-    firsts: &[u64; 64],
-    openings: &[u64; 256],
-    empties: &[bool; 256],
+    room: &[u64; 641],
     tokens: &[u32; 16384],
     n: usize,
-    rows: usize,
     cells: &mut [u32],
-    room: &mut [u32],
+    stack: &mut [u32],
     frames: &mut [u32],
     start: usize,
     s: State,
 ) -> Outcome
-    requires { ⌜ TableFits (now table) (now starts) m ⌝ }
-    requires { ⌜ TokensFit (now tokens) n ⌝ }
-    requires { ⌜ (rows ≤ 16384) × (rows * 4 ≤ length (now cells)) ⌝ }
-    requires { ⌜ (length (now table) ≤ length (now room)) × (18432 ≤ length (now frames)) ⌝ }
-    requires { ⌜ weight s + (length (now table) - start) ≤ mostWeight ⌝ }
-    requires { ⌜ wholeBody (fieldsAt (now table) start) ≡ true ⌝ }
-    ensures { λ r. ⌜ ran r (now (cells .exit)) ≡ rootItems (inputBy (now (table .entry)) (now (owners .entry)) (now (starts .entry)) m (now
-        (firsts .entry)) (now (openings .entry)) (now (empties .entry)) (now (tokens .entry)) n rows) (now (table .entry)) start s (now
-        (cells .entry)) ⌝ }
+    requires { ⌜ Lent (now table) (now room) (now tokens) n (now stack) (now frames) ⌝ }
+    requires { ⌜ Stands (now table) start s ⌝ }
+    ensures { λ r. ⌜ ran r (now (cells .exit)) ≡ rootItems (lentInput (now (table .entry)) (now (tokens .entry)) n (rowsIn (now (cells
+        .entry)))) (now (table .entry)) start s (now (cells .entry)) ⌝ }
 {
+    let rows = rows_of(cells.len());
     let mut vars = [0u32; 16];
     let mut args = [0u32; 16];
     let mut at = start;
@@ -145,11 +134,11 @@ fn items(
             &mut args,
             here,
             cells,
-            room,
+            stack,
         );
         match step {
             Step::Finished => {
-                let outcome = finish(table, at, &vars, count, rows, here, cells, room);
+                let outcome = finish(table, at, &vars, count, rows, here, cells, stack);
                 match outcome {
                     Outcome::Halted(r) => {
                         return Outcome::Halted(r);
@@ -178,19 +167,7 @@ fn items(
                 here = t;
             }
             Step::Opened(callee, given, after, t) => {
-                let begun = begin(
-                    owners,
-                    starts,
-                    m,
-                    firsts,
-                    openings,
-                    empties,
-                    tokens,
-                    n,
-                    1023 - level,
-                    callee,
-                    t,
-                );
+                let begun = begin(room, tokens, n, 1023 - level, callee, t);
                 match begun {
                     Begun::Refused(r) => {
                         return Outcome::Halted(r);
@@ -211,7 +188,7 @@ fn items(
 
 // How many rows some numbers make, 16,384 at most.
 fn rows_of(numbers: usize) -> usize
-    ensures { λ r. ⌜ r ≡ min (numbers / columns) 16384 ⌝ }
+    ensures { λ r. ⌜ r ≡ rowsFor numbers ⌝ }
 {
     let rows = numbers / 4;
     if rows < 16384 { rows } else { 16384 }
@@ -233,41 +210,27 @@ fn ended(n: usize, outcome: Outcome) -> Outcome
     }
 }
 
-// The expansion of a formula's tokens: a call of the root that leaves no token over. It works from the table's bytes, from the index
-// of its grammar with the sets that the check handed on, and from the room of the tokens; it does not check the table. `room` takes a
-// template that is being evaluated and `frames` the calls that wait; what they hold before and after is of no account.
+// The expansion of a formula's tokens: a call of the root that leaves no token over. It works from the table's bytes, from the room in
+// which the check has laid its grammar, and from the room of the tokens; it does not check the table. `stack` takes a template that is
+// being evaluated and `frames` the calls that wait; what they hold before and after is of no account.
 // Ruled out are, among others, an expander that copies inner phrases unopened, one that answers invented counts of cells, and one
 // that claims 20 or 21 at its first step.
 pub fn run(
     table: &[u8],
-    owners: &[u8; 256],
-    starts: &[u16; 256],
-    m: usize,
+    room: &[u64; 641],
     root: u8,
-    firsts: &[u64; 64],
-    openings: &[u64; 256],
-    empties: &[bool; 256],
     tokens: &[u32; 16384],
     n: usize,
     cells: &mut [u32],
-    room: &mut [u32],
+    stack: &mut [u32],
     frames: &mut [u32],
 ) -> Outcome
-    requires { ⌜ TableFits (now table) (now starts) m ⌝ }
-    requires { ⌜ TokensFit (now tokens) n ⌝ }
-    requires { ⌜ (length (now table) ≤ length (now room)) × (18432 ≤ length (now frames)) ⌝ }
-    ensures { λ r. ⌜ ran r (now (cells .exit)) ≡ run (inputBy (now (table .entry)) (now (owners .entry)) (now (starts .entry)) m (now
-        (firsts .entry)) (now (openings .entry)) (now (empties .entry)) (now (tokens .entry)) n (min (length (now (cells .entry)) / columns)
-        16384)) root (now (cells .entry)) ⌝ }
+    requires { ⌜ Lent (now table) (now room) (now tokens) n (now stack) (now frames) ⌝ }
+    ensures { λ r. ⌜ ran r (now (cells .exit)) ≡ run (lentInput (now (table .entry)) (now (tokens .entry)) n (rowsIn (now (cells .entry))))
+        root (now (cells .entry)) ⌝ }
 {
-    let rows = rows_of(cells.len());
     let begun = begin(
-        owners,
-        starts,
-        m,
-        firsts,
-        openings,
-        empties,
+        room,
         tokens,
         n,
         1024,
@@ -282,23 +245,7 @@ pub fn run(
     match begun {
         Begun::Refused(r) => Outcome::Halted(r),
         Begun::Entered(start, t) => {
-            let outcome = items(
-                table,
-                owners,
-                starts,
-                m,
-                firsts,
-                openings,
-                empties,
-                tokens,
-                n,
-                rows,
-                cells,
-                room,
-                frames,
-                start,
-                t,
-            );
+            let outcome = items(table, room, tokens, n, cells, stack, frames, start, t);
             ended(n, outcome)
         }
     }

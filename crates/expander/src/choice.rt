@@ -1,83 +1,44 @@
-// The rule that a call takes, by its place in the index.
+// The production that a call takes, by its place in the room of a grammar.
 use crate::tokens::has_kind;
-ghost use Prim.Native.Nat.{ℕ, _≤_};
+use productions::room::first;
+use productions::room::first_place;
+use productions::room::next_place;
+use productions::room::nullable_place;
+ghost use Prim.Native.Nat.{ℕ, _<_};
 ghost use mathlib.Core.Path.{_≡_};
-ghost use mathlib.Core.Bool.{Bool};
 ghost use mathlib.Core.List.{List};
-ghost use Rattle.kinds.specs.Kinds.{hasKind};
-ghost use Rattle.expansion.specs.Expansion.{Choice, firstRule, choice};
-ghost use Rattle.expander.specs.Lent.{rulesFrom, grammarBy};
-ghost use Rattle.expander.specs.Chosen.{ruleOr, Below};
+ghost use Rattle.productions.specs.Room.{placeFrom};
+ghost use Rattle.expander.specs.Lent.{Held, HoldsSome};
+ghost use Rattle.expander.specs.Chosen.{entriesOf, opensOf, chosenPlace};
 
-// A place in the index, if there is one.
-pub enum Place {
-    At(usize),
-    Nowhere,
-}
-
-// The first production of nonterminal n whose first set holds a kind.
-fn opened(owners: &[u8; 256], m: usize, openings: &[u64; 256], n: u8, kind: u32) -> Place
-    requires { ⌜ m ≤ 256 ⌝ }
-    ensures { λ r. ⌜ ((bs starts : List ℕ) (empties : List Bool) (other : Choice) → ruleOr bs (now (owners .entry)) starts (now (openings
-        .entry)) empties r other ≡ firstRule (λ r. hasKind (r .first) kind) n (rulesFrom m bs (now (owners .entry)) starts (now (openings
-        .entry)) empties 0) other) ⌝ }
-    ensures { λ r. ⌜ Below m r ⌝ }
+// The place of the first production of nonterminal n whose first set holds a kind, 256 if there is none.
+fn opened(room: &[u64; 641], n: u8, kind: u32) -> usize
+    requires { ⌜ HoldsSome (now room) × (n < 64) ⌝ }
+    ensures { λ r. ⌜ ((bs : List ℕ) → Held bs (now (room .entry)) → r ≡ placeFrom (opensOf n kind) (entriesOf bs) 0) ⌝ }
 {
-    let mut j: usize = 0;
-    while j < m {
-        if owners[j] == n {
-            let fits = has_kind(openings[j], kind);
-            if fits {
-                return Place::At(j);
-            }
-            j += 1;
-        } else {
-            j += 1;
+    let mut j = first_place(room, n);
+    while j < 256 {
+        let fits = has_kind(first(room, j), kind);
+        if fits {
+            return j;
         }
+        j = next_place(room, j);
     }
-    Place::Nowhere
+    256
 }
 
-// The first production of nonterminal n that may read nothing.
-fn nullable(owners: &[u8; 256], m: usize, empties: &[bool; 256], n: u8) -> Place
-    requires { ⌜ m ≤ 256 ⌝ }
-    ensures { λ r. ⌜ ((bs starts openings : List ℕ) (other : Choice) → ruleOr bs (now (owners .entry)) starts openings (now (empties
-        .entry)) r other ≡ firstRule (λ r. r .nullable) n (rulesFrom m bs (now (owners .entry)) starts openings (now (empties .entry)) 0)
-        other) ⌝ }
-    ensures { λ r. ⌜ Below m r ⌝ }
+// The place of the production whose first set holds the kind of the next token, else of the nullable one; 256 if there is neither. It
+// looks at the productions of the nonterminal only.
+pub fn choose(room: &[u64; 641], n: u8, kind: u32) -> usize
+    requires { ⌜ HoldsSome (now room) ⌝ }
+    ensures { λ r. ⌜ ((bs : List ℕ) → Held bs (now (room .entry)) → r ≡ chosenPlace (entriesOf bs) n kind) ⌝ }
 {
-    let mut j: usize = 0;
-    while j < m {
-        if owners[j] == n {
-            let fits = empties[j];
-            if fits {
-                return Place::At(j);
-            }
-            j += 1;
-        } else {
-            j += 1;
-        }
+    if 64 <= n {
+        return 256;
     }
-    Place::Nowhere
-}
-
-// The production whose first set holds the kind of the next token, else the nullable one.
-pub fn choose(
-    owners: &[u8; 256],
-    m: usize,
-    openings: &[u64; 256],
-    empties: &[bool; 256],
-    n: u8,
-    kind: u32,
-) -> Place
-    requires { ⌜ m ≤ 256 ⌝ }
-    ensures { λ r. ⌜ ((bs starts firsts : List ℕ) → ruleOr bs (now (owners .entry)) starts (now (openings .entry)) (now (empties .entry)) r
-        Choice.unfit ≡ choice (grammarBy m bs (now (owners .entry)) starts firsts (now (openings .entry)) (now (empties .entry))) n kind) ⌝ }
-    ensures { λ r. ⌜ Below m r ⌝ }
-{
-    let first = opened(owners, m, openings, n, kind);
-    match first {
-        Place::At(j) => Place::At(j),
-        Place::Nowhere => nullable(owners, m, empties, n),
+    let j = opened(room, n, kind);
+    if j < 256 {
+        return j;
     }
+    nullable_place(room, n)
 }

@@ -4,3 +4,4 @@ pub mod FirstRefusals
 pub mod Symbols
 pub mod Pairs
 pub mod Rooms
+pub mod Room

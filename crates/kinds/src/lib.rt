@@ -18,6 +18,24 @@ pub fn has(m: u64, k: u8) -> bool
     if k < 64 { (m >> k) & 1 == 1 } else { false }
 }
 
+// The set of one kind as a room of numbers holds it; the empty set for what is no kind.
+pub fn set_of_kind(kind: u32) -> u64
+    ensures { λ r. ⌜ r ≡ only kind ⌝ }
+{
+    if kind < 64 { only(kind as u8) } else { 0 }
+}
+
+// Whether a kind as a room of numbers holds it is in a set.
+pub fn has_kind(set: u64, kind: u32) -> bool
+    ensures { λ r. ⌜ r ≡ hasKind set kind ⌝ }
+{
+    if kind < 64 {
+        has(set, kind as u8)
+    } else {
+        false
+    }
+}
+
 // The kinds that are in a or in b.
 pub fn join(a: u64, b: u64) -> u64
     ensures { λ r. ⌜ r ≡ bitOr a b ⌝ }

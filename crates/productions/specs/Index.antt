@@ -1,14 +1,14 @@
 -- The index of a grammar in a lent table: each production by its nonterminal and the offset of its first item. The code works from
 -- the table's bytes and the index; these definitions say what they stand for, for any bytes. Document 01, "Normalizing".
 use Prim.Native.Nat.{ℕ, zero, suc, _+_}
-use mathlib.Core.Bool.{true, false}
-use mathlib.Core.List.{List, [], _∷_, _++_}
+use mathlib.Core.Bool.{Bool, true, false, _&&_}
+use mathlib.Core.List.{List, [], _∷_, _++_, map}
 use lib.Dec.{eqb}
-use lib.ListN.{getD}
-use Rattle.grammar.specs.Table.{Template, variable, Item}
-use Rattle.grammar.specs.Fields.{Fields, end, cut, next}
+use lib.ListN.{length, getD, drop}
+use Rattle.grammar.specs.Table.{Template, variable, Item, Mode, add, extend, update}
+use Rattle.grammar.specs.Fields.{Fields, end, cut, next, fieldsOf}
 use Rattle.grammar.specs.Lookup.{fieldsAt}
-use Rattle.layout.specs.Prefix.{templatesOf, found, firstOf}
+use Rattle.layout.specs.Prefix.{templatesOf, isTemplates, isTemplate, found, firstOf}
 use Rattle.layout.specs.Decode.{modeOf, itemOf}
 use Rattle.productions.specs.Normal.{Production, kept}
 
@@ -55,6 +55,54 @@ normalizedBy (next at tag v fs) n g =
             | true ↦ normalizedBy fs n (g ++ (record { owner = n; items = itemsOf fs; result = resultOf fs } ∷ []))
             | false ↦ normalizedBy fs n g
           ]
+    ]
+
+-- ------------------------------------------------------------------ where the productions stand
+
+-- a production by place: its nonterminal, and the offset of its first item, or of its result if it has none
+pub record Place : Type 0 where
+  pub owner : ℕ
+  pub start : ℕ
+
+unfoldable pub placesWithout : ℕ → List Place → List Place
+placesWithout n [] = []
+placesWithout n (p ∷ ps) = elim (eqb (p .owner) n) [ true ↦ placesWithout n ps | false ↦ p ∷ placesWithout n ps ]
+
+abbrev pub placesKept : Mode → ℕ → List Place → List Place
+placesKept add n ps = ps
+placesKept extend n ps = ps
+placesKept update n ps = placesWithout n ps
+
+-- the places of the productions of `normalizedBy`, field by field
+unfoldable pub placesBy : Fields → ℕ → List Place → List Place
+placesBy (end at) n ps = ps
+placesBy (cut at) n ps = ps
+placesBy (next at tag v fs) n ps =
+    elim (eqb tag 4) [
+      | true ↦ placesBy fs (getD v 0 0) (placesKept (modeOf (getD v 1 0)) (getD v 0 0) ps)
+      | false ↦
+          elim (eqb tag 5) [
+            | true ↦ placesBy fs n (ps ++ (record { owner = n; start = at + 3 + length v } ∷ []))
+            | false ↦ placesBy fs n ps
+          ]
+    ]
+
+-- the places of a table's productions
+abbrev pub placesOf : List ℕ → List Place
+placesOf bs = placesBy (fieldsOf bs) 0 []
+
+-- the productions at places
+abbrev pub productionsAt : List ℕ → List Place → List Production
+productionsAt bs ps = map (λ p. productionAt bs (p .owner) (p .start)) ps
+
+-- the fields of an alternative have whole templates: those of each call, and one as the result
+unfoldable pub wholeBody : Fields → Bool
+wholeBody (end at) = true
+wholeBody (cut at) = true
+wholeBody (next at tag v fs) =
+    elim (eqb tag 6) [
+      | true ↦ isTemplates (templatesOf (drop 2 v)) && wholeBody fs
+      | false ↦ elim (eqb tag 7) [ true ↦ isTemplate (templatesOf v) | false ↦ true ]
     ]
 
 -- how many fields begin an alternative

@@ -10,7 +10,7 @@ use lib.Seq.{sets, getD-at}
 use borrow.Author.Tests.{eqb-true, ltb-true, ltb-false}
 use Rattle.spellings.specs.Bytes.{indexOf}
 use Rattle.spellings.specs.BytesLaws.{by-test, index-found}
-use Rattle.kinds.specs.Kinds.{wordKind, noKind}
+use Rattle.kinds.specs.Kinds.{wordKind}
 use Rattle.grammar.specs.declared.Found.{Found}
 use Rattle.grammar.specs.declared.Found.the-variants.{At, Absent}
 use Rattle.grammar.specs.Fields.{Lexicon, afterLeading, lexiconOf}
@@ -20,10 +20,13 @@ use Rattle.scanner.specs.declared.Token.{Token}
 use Rattle.scanner.specs.declared.Step.the-variants.{Emit}
 use Rattle.scanner.specs.Scan.{isNew, wordsWith, kindOf, numberOr, spellingOf, token, spelledToken, stepOf}
 use Rattle.scanner.specs.Rooms.{placeThen, countWith, wordsFrom, wordsIn}
-use Rattle.scanner.specs.Tiling.{Stands, a-word, a-number, a-symbol, bytesOf}
+use Rattle.scanner.specs.Tiling.{bytesOf}
+use Rattle.scanner.specs.Tiling.{Stands, a-keyword, a-keyword-symbol, an-outside-name, a-word-again, a-new-word, a-number, a-symbol}
 use Rattle.scanner.specs.Links.{Linked, linksWith, linksAfter, Plain, Ready}
-use Rattle.scanner.proofs.LexemeLaws.{kind-found, word-only, spelling-found, spelling-number}
-use Rattle.scanner.proofs.StepLaws.{Told, step-told, token-word}
+use Rattle.scanner.proofs.FoundLaws.{none-found}
+use Rattle.scanner.proofs.LexemeLaws.{kind-found, spelling-found, spelling-number}
+use Rattle.scanner.proofs.StepLaws.{token-word}
+use Rattle.scanner.proofs.StandLaws.{word-taken, Emits, step-told}
 use Rattle.scanner.proofs.WordLaws.{both, words-length, words-stored, with-new, with-old, count-new, count-old}
 use Rattle.scanner.proofs.LinkLaws.{linked-none, linked-more, links-new, links-old}
 
@@ -73,15 +76,16 @@ module _ (lex : Lexicon) (few : length (lex .outsides) ≤ 64) (words : List (Li
           }
 
 -- a token of the kind of a word is no keyword
-stands-plain : (lex : Lexicon) (rest : List ℕ) (t : Token) → Stands lex rest t → t .kind ≡ wordKind
+stands-plain : {lex : Lexicon} {at : ℕ} {rest : List ℕ} {met met′ : List (List ℕ)} {t : Token} → Stands lex at rest met t met′
+    → t .kind ≡ wordKind
     → foundIn (take (t .size) rest) (lex .keywords) ≡ Absent
-stands-plain lex rest t (a-word l n h k) e = by-found (foundIn (take (t .size) rest) (lex .keywords)) refl
-  where
-    by-found : (f : Found) → f ≡ foundIn (take (t .size) rest) (lex .keywords) → foundIn (take (t .size) rest) (lex .keywords) ≡ Absent
-    by-found (At j) p = absurd (omega (arith, kind-found lex (take (t .size) rest) wordKind (At j) p, k, e))
-    by-found Absent p = sym p
-stands-plain lex rest t (a-number d n k v h) e = absurd (omega (arith, k, e))
-stands-plain lex rest t (a-symbol y n k) e = absurd (word-only lex (take (t .size) rest) noKind (λ z. omega (arith, z)) (sym k ∙ e))
+stands-plain (a-keyword w f) e = absurd (omega (arith, e))
+stands-plain (a-keyword-symbol y f) e = absurd (omega (arith, e))
+stands-plain (an-outside-name w n f) e = rw (word-taken w) (sym (none-found n))
+stands-plain (a-word-again w n o f) e = rw (word-taken w) (sym (none-found n))
+stands-plain (a-new-word w n o f) e = rw (word-taken w) (sym (none-found n))
+stands-plain (a-number d) e = absurd (omega (arith, e))
+stands-plain (a-symbol y n) e = absurd (omega (arith, e))
 
 -- ------------------------------------------------------------------ between two tokens
 
@@ -94,12 +98,12 @@ ready-start table names formula room e =
 module _ {table : List ℕ} {names : ℕ} {formula room : List ℕ} {count : ℕ} {links : List ℕ} (r : Ready table names formula room count links)
     {at : ℕ} {t : Token} (h : at < length formula) (e : Emit t ≡ stepOf (lexiconOf table) (wordsIn formula room count) at (drop at formula))
     (more : count < 4096) (long : length room ≡ 8192) where
-  told : Told (lexiconOf table) (wordsIn formula room count) at (drop at formula) (Emit t)
+  told : Emits (lexiconOf table) (wordsIn formula room count) at (drop at formula) t
   told =
-      step-told (lexiconOf table) (wordsIn formula room count) at (drop at formula) (Emit t) (omega (arith, length-drop at formula)) e
+      step-told (lexiconOf table) (few-outsides table) (wordsIn formula room count) at (drop at formula) (Emit t) (omega (arith, length-drop at formula)) e
 
   bytes-is : bytesOf formula t ≡ take (t .size) (drop at formula)
-  bytes-is = ap (λ (i : ℕ). take (t .size) (drop i formula)) (told .0)
+  bytes-is = ap (λ (i : ℕ). take (t .size) (drop i formula)) (told .placed)
 
   stored : wordsIn formula (sets room (count * 2) (placeThen count t [])) (countWith count t) ≡ wordsWith (wordsIn formula room count) (bytesOf formula t) t
   stored = words-stored formula room count t (omega arith)
@@ -120,10 +124,10 @@ module _ {table : List ℕ} {names : ℕ} {formula room : List ℕ} {count : ℕ
       let new : isNew (length (wordsIn formula room count)) t ≡ true = ap (λ (k : ℕ). isNew k t) counted ∙ n in
       let kind : t .kind ≡ wordKind = new-kind count t n in
       let value : t .value ≡ spellingOf (lexiconOf table) (wordsIn formula room count) (bytesOf formula t)
-      = told .2 kind ∙ ap (spellingOf (lexiconOf table) (wordsIn formula room count)) (sym bytes-is) in
+      = told .valued kind ∙ ap (spellingOf (lexiconOf table) (wordsIn formula room count)) (sym bytes-is) in
       let f = fresh (lexiconOf table) (few-outsides table) (wordsIn formula room count) (bytesOf formula t) t new value in
       let k : foundIn (bytesOf formula t) (lexiconOf table .keywords) ≡ Absent
-      = ap (λ (v : List ℕ). foundIn v (lexiconOf table .keywords)) bytes-is ∙ stands-plain (lexiconOf table) (drop at formula) t (told .1) kind in
+      = ap (λ (v : List ℕ). foundIn v (lexiconOf table .keywords)) bytes-is ∙ stands-plain (told .stands) kind in
       let w : wordsWith (wordsIn formula room count) (bytesOf formula t) t ≡ wordsIn formula room count ++ (bytesOf formula t ∷ [])
       = with-new (wordsIn formula room count) (bytesOf formula t) t new in
       let c : countWith count t ≡ count + 1 = sym (count-new room count t n) in (

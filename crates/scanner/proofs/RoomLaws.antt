@@ -1,24 +1,21 @@
 -- What stands in the rooms after a scan: token i in row i, and the places of the words. For those who read the rooms.
 use Prim.Native.Nat.{ℕ, zero, suc, _+_, _*_, _<_, _≤_}
-use mathlib.Core.Path.{_≡_, refl, sym, ap, _∙_}
+use mathlib.Core.Path.{_≡_, refl, sym, ap, ap₂, _∙_}
 use mathlib.Core.List.{List, [], _∷_}
+use native.Mathlib.Nat.{add-zero, zero-add}
 use native.Mathlib.Numerals.{add-one, add-two, add-three}
 use native.Mathlib.Omega.{arith}
 use lib.ListN.{length, getD, set, take, drop, length-set}
 use lib.Seq.{sets, length-sets, getD-set-same, getD-set-other}
 use Rattle.grammar.specs.Fields.{Lexicon}
 use Rattle.scanner.specs.declared.Token.{Token}
-use Rattle.scanner.specs.Scan.{Lexed, token, withToken, isNew, wordsWith, scan}
-use Rattle.scanner.specs.Rooms.{rowThen, rows, placeThen, countWith, places, wordsFrom, wordsIn}
+use Rattle.scanner.specs.Scan.{Lexed, token, endToken, withToken, isNew, wordsWith, scan}
+use Rattle.scanner.specs.Rooms.{rowThen, rows, rowOf, tokensFrom, tokensIn, placeThen, countWith, places, wordsFrom, wordsIn}
 use Rattle.scanner.proofs.WordLaws.{words-length, words-stored}
 use Rattle.scanner.proofs.ScanLoop.{fill-rows, fill-places, count-grows}
 use Rattle.scanner.proofs.TokenLaws.{Kept, scan-kept}
 
 -- ------------------------------------------------------------------ tokens
-
--- row i of a room, as a token
-abbrev pub rowOf : List ℕ → ℕ → Token
-rowOf room i = token (getD room (i * 4) 0) (getD room (i * 4 + 1) 0) (getD room (i * 4 + 2) 0) (getD room (i * 4 + 3) 0)
 
 -- stores behind an index leave it
 sets-front : (vs room : List ℕ) (i j : ℕ) → j < i → getD (sets room i vs) j 0 ≡ getD room j 0
@@ -81,12 +78,50 @@ row-at (t ∷ ts) room n (suc i) d h k =
     ∙ row-at ts (sets room (n * 4) (rowThen t [])) (n + 1) i d (omega arith)
     (omega (arith, length-sets room (n * 4) (rowThen t [])))
 
+-- the tokens of a room, row by row
+tokens-by-row : (ts : List Token) (room : List ℕ) (j : ℕ) → ((i : ℕ) → i < length ts → rowOf room (j + i) ≡ getD ts i endToken)
+    → tokensFrom (length ts) room j ≡ ts
+unfolding tokensFrom
+tokens-by-row [] room j h = refl
+tokens-by-row (t ∷ ts) room j h =
+    ap₂ (λ (u : Token) (us : List Token). u ∷ us) (ap (rowOf room) (sym (add-zero j)) ∙ h 0 (omega arith))
+    (tokens-by-row ts room (j + 1)
+    (λ i l. let z : j + 1 + i ≡ j + suc i = omega arith in ap (rowOf room) z ∙ h (suc i) (omega arith)))
+
+-- The tokens that are stored are those that the room holds.
+pub tokens-stored : (ts : List Token) (room : List ℕ) → length ts * 4 ≤ length room → tokensIn (sets room 0 (rows ts)) (length ts) ≡ ts
+tokens-stored ts room h =
+    tokens-by-row ts (sets room 0 (rows ts)) 0 (λ i l. row-at ts room 0 i endToken l (omega arith))
+
+module _ (room : List ℕ) where
+  token-from : (n i at : ℕ) → at < n → getD (tokensFrom n room i) at endToken ≡ rowOf room (i + at)
+  unfolding tokensFrom
+  token-from zero i at h = absurd (omega arith)
+  token-from (suc n) i zero h = ap (rowOf room) (sym (add-zero i))
+  token-from (suc n) i (suc at) h =
+      let z : i + 1 + at ≡ i + suc at = omega arith in
+      token-from n (i + 1) at (omega arith) ∙ ap (rowOf room) z
+
+  past-from : (n i at : ℕ) → n ≤ at → getD (tokensFrom n room i) at endToken ≡ endToken
+  unfolding tokensFrom
+  past-from zero i at h = refl
+  past-from (suc n) i zero h = absurd (omega arith)
+  past-from (suc n) i (suc at) h = past-from n (i + 1) at (omega arith)
+
+  -- a token that a room holds, and the end of the tokens
+  pub token-in : (n at : ℕ) → at < n → rowOf room at ≡ getD (tokensIn room n) at endToken
+  token-in n at h = ap (rowOf room) (sym (zero-add at)) ∙ sym (token-from n 0 at h)
+
+  pub token-past : (n at : ℕ) → n ≤ at → endToken ≡ getD (tokensIn room n) at endToken
+  token-past n at h = sym (past-from n 0 at h)
+
 -- ------------------------------------------------------------------ words
 
-module _ (lex : Lexicon) (formula : List ℕ) where
+module _ (lex : Lexicon) (few : length (lex .outsides) ≤ 64) (formula : List ℕ) where
   NamedFrom : ℕ → ℕ → List (List ℕ) → Lexed → Type 0
   NamedFrom at n words l =
-      (room : List ℕ) (count : ℕ) → length room ≡ 8192 → count ≤ n → wordsIn formula room count ≡ words
+      (room : List ℕ) (count : ℕ) → ((m : ℕ) → m ≤ length formula → m ≤ 4096 → m * 2 ≤ length room) → n ≤ at → count ≤ n
+      → wordsIn formula room count ≡ words
       → wordsIn formula (sets room (count * 2) (places count (l .tokens))) (length (l .words)) ≡ l .words
 
   named-none : (room : List ℕ) (count : ℕ) (words : List (List ℕ)) → wordsIn formula room count ≡ words
@@ -96,18 +131,20 @@ module _ (lex : Lexicon) (formula : List ℕ) where
       let z : length words ≡ count = sym (ap length e) ∙ words-length count formula room 0 in
       ap (wordsIn formula room) z ∙ e
 
-  named-token : (at n : ℕ) (words : List (List ℕ)) (t : Token) (l : Lexed) → n < 4096 → t .at ≡ at
+  named-token : (at n : ℕ) (words : List (List ℕ)) (t : Token) (l : Lexed) → at < length formula → n < 4096 → 0 < t .size
+      → t .at ≡ at
       → NamedFrom (at + t .size) (n + 1) (wordsWith words (take (t .size) (drop at formula)) t) l
       → NamedFrom at n words (withToken t l)
   unfolding NamedFrom
-  named-token at n words t l m a p room count long few e =
+  named-token at n words t l h m some a p room count long later fewer e =
       let w : wordsIn formula (sets room (count * 2) (placeThen count t [])) (countWith count t) ≡ wordsWith words (take (t .size) (drop at formula)) t
-      = words-stored formula room count t (omega arith)
+      = words-stored formula room count t (omega (arith, long (n + 1) (omega arith) (omega arith)))
       ∙ ap (λ (i : ℕ). wordsWith (wordsIn formula room count) (take (t .size) (drop i formula)) t) a
       ∙ ap (λ (ws : List (List ℕ)). wordsWith ws (take (t .size) (drop at formula)) t) e in
       ap (λ (r : List ℕ). wordsIn formula r (length (l .words))) (fill-places count room t (l .tokens))
       ∙ p (sets room (count * 2) (placeThen count t [])) (countWith count t)
-      (length-sets room (count * 2) (placeThen count t []) ∙ long)
+      (λ j b d. omega (arith, long j b d, length-sets room (count * 2) (placeThen count t [])))
+      (omega arith)
       (omega (arith, count-grows count t (isNew count t) refl))
       w
 
@@ -115,14 +152,14 @@ module _ (lex : Lexicon) (formula : List ℕ) where
   unfolding NamedFrom
   named-kept =
       record {
-        ends = λ n words h room count long few e. named-none room count words e;
-        stops = λ at n words number a room count long few e. named-none room count words e;
-        skips = λ at n words l h s p. p;
-        emits = λ at n words t l h m told p. named-token at n words t l m (told .0) p;
+        ends = λ n words h room count long later fewer e. named-none room count words e;
+        stops = λ at n words r h room count long later fewer e. named-none room count words e;
+        skips = λ at n words l h s p room count long later. p room count long (omega arith);
+        emits = λ at n words t l h m told inside p. named-token at n words t l h m (inside .0) (told .placed) p;
       }
 
   -- The places that a scan stores name its words in the formula.
-  pub words-named : (room : List ℕ) → length room ≡ 8192
+  pub words-named : (room : List ℕ) → ((m : ℕ) → m ≤ length formula → m ≤ 4096 → m * 2 ≤ length room)
       → wordsIn formula (sets room 0 (places 0 (scan lex formula .tokens))) (length (scan lex formula .words)) ≡ scan lex formula .words
   unfolding NamedFrom wordsFrom
-  words-named room long = scan-kept lex formula NamedFrom named-kept room 0 long (omega arith) refl
+  words-named room long = scan-kept lex few formula NamedFrom named-kept room 0 long (omega arith) (omega arith) refl

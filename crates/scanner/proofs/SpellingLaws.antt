@@ -15,12 +15,14 @@ use Rattle.grammar.specs.declared.Found.the-variants.{At, Absent}
 use Rattle.grammar.specs.Fields.{Lexicon}
 use Rattle.grammar.specs.Lookup.{foundIn}
 use Rattle.grammar.proofs.LookupLaws.{found-within, found-spells}
-use Rattle.kinds.specs.Kinds.{wordKind, noKind}
+use Rattle.kinds.specs.Kinds.{wordKind}
 use Rattle.scanner.specs.declared.Token.{Token}
 use Rattle.scanner.specs.Scan.{Lexed, isNew, wordsWith, spellingOf, scan}
-use Rattle.scanner.specs.Tiling.{Stands, a-word, a-number, a-symbol, bytesOf, spelled}
-use Rattle.scanner.proofs.LexemeLaws.{word-only, spelling-found}
+use Rattle.scanner.specs.Tiling.{WordFront, bytesOf, spelled}
+use Rattle.scanner.specs.Tiling.{Stands, a-keyword, a-keyword-symbol, an-outside-name, a-word-again, a-new-word, a-number, a-symbol}
+use Rattle.scanner.proofs.LexemeLaws.{spelling-found}
 use Rattle.scanner.proofs.WordLaws.{index-self, with-new, with-old}
+use Rattle.scanner.proofs.StandLaws.{word-taken, Emits}
 use Rattle.scanner.proofs.TokenLaws.{Kept, scan-kept}
 
 -- ------------------------------------------------------------------ words
@@ -33,10 +35,19 @@ run-word (b ∷ bs) l h =
     let n : suc (length (run isWordByte bs)) ≤ 31 = omega (arith, ap length r) in
     ap isWord r ∙ rw (l, every-run isWordByte bs, le-leb _ 31 n) refl
 
-pub stands-word : (lex : Lexicon) (rest : List ℕ) (t : Token) → Stands lex rest t → t .kind ≡ wordKind → isWord (take (t .size) rest) ≡ true
-stands-word lex rest t (a-word l n h k) e = ap (λ (m : ℕ). isWord (take m rest)) n ∙ ap isWord (sym (run-prefix isWordByte rest)) ∙ run-word rest l (omega (arith, h, n))
-stands-word lex rest t (a-number d n k v h) e = absurd (omega (arith, k, e))
-stands-word lex rest t (a-symbol y n k) e = absurd (word-only lex (take (t .size) rest) noKind (λ z. omega (arith, z)) (sym k ∙ e))
+pub front-word : {rest s : List ℕ} → WordFront rest s → isWord s ≡ true
+front-word {rest} w = rw (w .whole) (run-word rest (w .begins) (omega (arith, w .short, ap length (w .whole))))
+
+pub stands-word : {lex : Lexicon} {at : ℕ} {rest : List ℕ} {met met′ : List (List ℕ)} {t : Token} → Stands lex at rest met t met′
+    → t .kind ≡ wordKind
+    → isWord (take (t .size) rest) ≡ true
+stands-word (a-keyword w f) e = absurd (omega (arith, e))
+stands-word (a-keyword-symbol y f) e = absurd (omega (arith, e))
+stands-word (an-outside-name w n f) e = rw (word-taken w) (front-word w)
+stands-word (a-word-again w n o f) e = rw (word-taken w) (front-word w)
+stands-word (a-new-word w n o f) e = rw (word-taken w) (front-word w)
+stands-word (a-number d) e = absurd (omega (arith, e))
+stands-word (a-symbol y n) e = absurd (omega (arith, e))
 
 -- ------------------------------------------------------------------ spelling numbers
 
@@ -81,7 +92,8 @@ placed words s t k v = by-test (ltb (indexOf s words) (length words)) old new
     new e =
         let z : indexOf s words ≡ length words = omega (arith, ltb-false (indexOf s words) (length words) e, index-le s words) in
         let w : wordsWith words s t ≡ words ++ (s ∷ []) = with-new words s t (new-is (length words) t k (v ∙ ap (λ (i : ℕ). 64 + i) z)) in
-        let i : indexOf s (words ++ (s ∷ [])) ≡ length words = index-rest s words (s ∷ []) z ∙ ap (λ (i : ℕ). length words + i) (index-self s) ∙ add-zero (length words) in
+        let i : indexOf s (words ++ (s ∷ [])) ≡ length words
+        = index-rest s words (s ∷ []) z ∙ ap (λ (i : ℕ). length words + i) (index-self s) ∙ add-zero (length words) in
         record { same-place = ap (indexOf s) w ∙ i ∙ sym z; there = rw w (omega (arith, i, length-append words (s ∷ []))) }
 
 -- a word's spelling number by the words then met is its spelling number by all words
@@ -114,16 +126,15 @@ module _ (lex : Lexicon) (few : length (lex .outsides) ≤ 64) where
         × (l .words ≡ words ++ more)
         × Every (λ t. t .kind ≡ wordKind → Spelled lex formula (l .words) t) (l .tokens)
 
-    spelled-token : (at : ℕ) (words more : List (List ℕ)) (t : Token) (W : List (List ℕ)) → t .at ≡ at → Stands lex (drop at formula) t
-        → (t .kind ≡ wordKind → t .value ≡ spellingOf lex words (take (t .size) (drop at formula)))
+    spelled-token : (at : ℕ) (words more : List (List ℕ)) (t : Token) (W : List (List ℕ)) → Emits lex words at (drop at formula) t
         → W ≡ wordsWith words (take (t .size) (drop at formula)) t ++ more
         → t .kind ≡ wordKind
         → Spelled lex formula W t
-    spelled-token at words more t W a stands value w k =
-        let b : bytesOf formula t ≡ take (t .size) (drop at formula) = ap (λ (i : ℕ). take (t .size) (drop i formula)) a in
-        let p = stays words more (take (t .size) (drop at formula)) t _ refl k (value k) in
+    spelled-token at words more t W told w k =
+        let b : bytesOf formula t ≡ take (t .size) (drop at formula) = ap (λ (i : ℕ). take (t .size) (drop i formula)) (told .placed) in
+        let p = stays words more (take (t .size) (drop at formula)) t _ refl k (told .valued k) in
         record {
-          is-word = ap isWord b ∙ stands-word lex (drop at formula) t stands k;
+          is-word = ap isWord b ∙ stands-word (told .stands) k;
           numbered = rw (b, w) (p .0);
           known = rw w (p .1);
         }
@@ -133,20 +144,20 @@ module _ (lex : Lexicon) (few : length (lex .outsides) ≤ 64) where
     spelled-kept =
         record {
           ends = λ n words h. ([], sym (append-nil words), tt);
-          stops = λ at n words number a. ([], sym (append-nil words), tt);
+          stops = λ at n words r h. ([], sym (append-nil words), tt);
           skips = λ at n words l h s p. p;
           emits =
-              λ at n words t l h m told p.
+              λ at n words t l h m told inside p.
               let g = grown words (take (t .size) (drop at formula)) t in (
                 g .0 ++ p .0,
                 p .1 ∙ ap (λ (ws : List (List ℕ)). ws ++ p .0) (g .1) ∙ append-assoc words (g .0) (p .0),
-                (spelled-token at words (p .0) t (l .words) (told .0) (told .1) (told .2) (p .1), p .2),
+                (spelled-token at words (p .0) t (l .words) told (p .1), p .2),
               );
         }
 
     pub scan-spelled : Every (λ t. t .kind ≡ wordKind → Spelled lex formula (scan lex formula .words) t) (scan lex formula .tokens)
     unfolding SpelledFrom
-    scan-spelled = scan-kept lex formula SpelledFrom spelled-kept .2
+    scan-spelled = scan-kept lex few formula SpelledFrom spelled-kept .2
 
     -- what a word token's number stands for
     pub spelled-number : (W : List (List ℕ)) (t : Token) → Spelled lex formula W t → spelled lex W (t .value) ≡ bytesOf formula t

@@ -8,7 +8,7 @@ use native.Mathlib.Omega.{arith}
 use lib.Dec.{leb}
 use lib.ListN.{length, getD, take, drop, length-take, length-drop}
 use lib.Seq.{take-all, getD-drop}
-use borrow.Author.Tests.{leb-true, eq-eqb, ne-eqb}
+use borrow.Author.Tests.{leb-true, leb-false, le-leb, eq-eqb, ne-eqb}
 use Rattle.spellings.specs.Bytes.{isLetter, isDigit, isWordByte, isSeparator, isSymbol, run, largest, valueOf}
 use Rattle.spellings.specs.BytesLaws.{run-taken, run-prefix, run-length, letter-word-byte}
 use Rattle.grammar.specs.Fields.{Lexicon}
@@ -19,7 +19,7 @@ use Rattle.scanner.specs.declared.Lexeme.the-variants.{Separator, Word, 
 use Rattle.scanner.specs.declared.Step.{Step}
 use Rattle.scanner.specs.declared.Step.the-variants.{Skip, Stop, Emit}
 use Rattle.scanner.specs.Scan.{wordLexeme, numberLexeme, lexemeOf, kindOf, spellingOf, token, spelledToken, stepBy, stepOf}
-use Rattle.scanner.specs.Tiling.{Stands, a-word, a-number, a-symbol}
+use Rattle.scanner.specs.Unscanned.{Faulty, bad-byte, long-word, large-number}
 use Rattle.scanner.proofs.LexemeLaws as lexemes
 
 -- ------------------------------------------------------------------ the lexeme at the front
@@ -31,7 +31,7 @@ Fits rest (Word n) = (isLetter (getD rest 0 0) ≡ true) × (n ≡ length (run i
 Fits rest (Number n v) =
     (isDigit (getD rest 0 0) ≡ true) × (n ≡ length (run isDigit rest)) × (v ≡ valueOf (run isDigit rest)) × (v ≤ largest)
 Fits rest Symbol = isSymbol (getD rest 0 0) ≡ true
-Fits rest Fault = Unit {0}
+Fits rest Fault = Faulty rest
 
 word-fits : (rest : List ℕ) (b : Bool) → isLetter (getD rest 0 0) ≡ true → leb (length (run isWordByte rest)) 31 ≡ b
     → Fits rest (wordLexeme (length (run isWordByte rest)))
@@ -40,7 +40,7 @@ word-fits rest true l e =
     subst (Fits rest) (sym (lexemes.word-fits (length (run isWordByte rest)) h)) (l, refl, h)
 word-fits rest false l e =
     let z : wordLexeme (length (run isWordByte rest)) ≡ Fault = rw (e, wordLexeme) refl in
-    subst (Fits rest) (sym z) tt
+    subst (Fits rest) (sym z) (long-word l (leb-false (length (run isWordByte rest)) 31 e))
 
 number-fits : (rest : List ℕ) (b : Bool) → isDigit (getD rest 0 0) ≡ true → leb (valueOf (run isDigit rest)) largest ≡ b
     → Fits rest (numberLexeme (run isDigit rest))
@@ -49,7 +49,14 @@ number-fits rest true d e =
     subst (Fits rest) (sym z) (d, refl, refl, leb-true (valueOf (run isDigit rest)) largest e)
 number-fits rest false d e =
     let z : numberLexeme (run isDigit rest) ≡ Fault = rw (e, numberLexeme) refl in
-    subst (Fits rest) (sym z) tt
+    subst (Fits rest) (sym z) (large-number d (leb-false (valueOf (run isDigit rest)) largest e))
+
+-- a byte that may be in a formula and is neither a letter nor a digit is a symbol
+no-symbol : (b : ℕ) → isLetter b ≡ false → isDigit b ≡ false → isSymbol b ≡ false → 33 ≤ b → b ≤ 126 → ⊥
+no-symbol b l d y low high =
+    let t : isSymbol b ≡ true = rw (le-leb 33 b low, le-leb b 126 high, l, d) refl in
+    let z : _≡_ {A = ℕ} 0 1 = cc in
+    omega arith
 
 fits-by : (rest : List ℕ) (separator letter digit symbol : Bool) → isSeparator (getD rest 0 0) ≡ separator
     → isLetter (getD rest 0 0) ≡ letter → isDigit (getD rest 0 0) ≡ digit → isSymbol (getD rest 0 0) ≡ symbol
@@ -63,7 +70,8 @@ fits-by rest false false true symbol s l d y =
 fits-by rest false false false true s l d y =
     subst (Fits rest) (sym (lexemes.lexeme-is rest false false false true refl s l d y)) y
 fits-by rest false false false false s l d y =
-    subst (Fits rest) (sym (lexemes.lexeme-is rest false false false false refl s l d y)) tt
+    subst (Fits rest) (sym (lexemes.lexeme-is rest false false false false refl s l d y))
+    (bad-byte s (no-symbol (getD rest 0 0) l d y))
 
 pub lexeme-fits : (rest : List ℕ) (l : Lexeme) → l ≡ lexemeOf rest → Fits rest l
 lexeme-fits rest l e = subst (Fits rest) (sym e) (fits-by rest _ _ _ _ refl refl refl refl)
@@ -104,49 +112,6 @@ pub step-lies : (lex : Lexicon) (words : List (List ℕ)) (at : ℕ) (rest : Lis
 step-lies lex words at rest r h e =
     subst (Lies at rest) (step-by lex words at rest refl ∙ sym e)
     (lies-by lex words at rest (lexemeOf rest) h (lexeme-fits rest (lexemeOf rest) refl))
-
--- a step says what stands at the front; a word's value is its spelling number
-abbrev pub Told : Lexicon → List (List ℕ) → ℕ → List ℕ → Step → Type 0
-Told lex words at rest Skip = isSeparator (getD rest 0 0) ≡ true
-Told lex words at rest Stop = Unit {0}
-Told lex words at rest (Emit t) =
-    (t .at ≡ at) × Stands lex rest t × (t .kind ≡ wordKind → t .value ≡ spellingOf lex words (take (t .size) rest))
-
-told-spelled : (lex : Lexicon) (words : List (List ℕ)) (at : ℕ) (rest : List ℕ) (n kind : ℕ) → n ≤ length rest
-    → spelledToken lex words at (take n rest) kind .kind ≡ wordKind
-    → spelledToken lex words at (take n rest) kind .value ≡ spellingOf lex words (take (length (take n rest)) rest)
-told-spelled lex words at rest n kind h e =
-    let z : length (take n rest) ≡ n = omega (arith, length-take n rest) in
-    ap (λ (t : Bool). elim t [ true ↦ spellingOf lex words (take n rest) | false ↦ 0 ]) (eq-eqb kind wordKind e)
-    ∙ ap (λ (k : ℕ). spellingOf lex words (take k rest)) (sym z)
-
-told-by : (lex : Lexicon) (words : List (List ℕ)) (at : ℕ) (rest : List ℕ) (l : Lexeme) → 0 < length rest → Fits rest l
-    → Told lex words at rest (stepBy lex words at rest l)
-told-by lex words at rest Separator h f = f
-told-by lex words at rest (Word n) h f =
-    let k : n ≤ length rest = omega (arith, f .1, run-length isWordByte rest) in
-    let z : length (take n rest) ≡ n = omega (arith, length-take n rest) in (
-      refl,
-      a-word (f .0) (z ∙ f .1) (omega (arith, f .2, z)) (ap (λ (k : ℕ). kindOf lex (take k rest) wordKind) (sym z)),
-      told-spelled lex words at rest n (kindOf lex (take n rest) wordKind) k,
-    )
-told-by lex words at rest (Number n v) h f =
-    let d : take n rest ≡ run isDigit rest = ap (λ (k : ℕ). take k rest) (f .1) ∙ sym (run-prefix isDigit rest) in
-    (refl, a-number (f .0) (f .1) refl (f .2 ∙ ap valueOf (sym d)) (f .3), λ e. absurd (omega (arith, e)))
-told-by lex words at rest Symbol h f =
-    let z : length (take 1 rest) ≡ 1 = omega (arith, length-take 1 rest) in (
-      refl,
-      a-symbol f z (ap (λ (k : ℕ). kindOf lex (take k rest) noKind) (sym z)),
-      told-spelled lex words at rest 1 (kindOf lex (take 1 rest) noKind) h,
-    )
-told-by lex words at rest Fault h f = tt
-
-pub step-told : (lex : Lexicon) (words : List (List ℕ)) (at : ℕ) (rest : List ℕ) (r : Step) → 0 < length rest
-    → r ≡ stepOf lex words at rest
-    → Told lex words at rest r
-step-told lex words at rest r h e =
-    subst (Told lex words at rest) (step-by lex words at rest refl ∙ sym e)
-    (told-by lex words at rest (lexemeOf rest) h (lexeme-fits rest (lexemeOf rest) refl))
 
 -- ------------------------------------------------------------------ the steps as the code takes them
 

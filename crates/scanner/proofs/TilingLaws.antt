@@ -1,7 +1,7 @@
 -- The tokens of a scan tile the formula, and the answer counts them.
 use Prim.Native.Nat.{ℕ, suc, _+_, _≤_}
 use mathlib.Core.Path.{_≡_, refl, sym, ap, subst}
-use mathlib.Core.List.{List}
+use mathlib.Core.List.{List, []}
 use native.Mathlib.Nat.{add-zero}
 use native.Mathlib.Omega.{arith}
 use lib.ListN.{length}
@@ -9,7 +9,7 @@ use Rattle.grammar.specs.Fields.{Lexicon}
 use Rattle.scanner.specs.declared.Scanned.{Scanned}
 use Rattle.scanner.specs.declared.Scanned.the-variants.{Tokens, Unscanned}
 use Rattle.scanner.specs.Scan.{Lexed, scan}
-use Rattle.scanner.specs.Tiling.{Tiled, finished, a-separator, a-token}
+use Rattle.scanner.specs.Tiling.{Tiled, here, past-separator, past-token}
 use Rattle.scanner.proofs.TokenLaws.{Kept, scan-kept}
 
 -- ------------------------------------------------------------------ tiling
@@ -23,25 +23,26 @@ unrefused : (r : Scanned) {A B : Type 0} → (A → B) → Unrefused r A → Unr
 unrefused (Tokens n count) f a = f a
 unrefused (Unscanned r) f a = tt
 
-module _ (lex : Lexicon) (formula : List ℕ) where
+module _ (lex : Lexicon) (few : length (lex .outsides) ≤ 64) (formula : List ℕ) where
   TiledFrom : ℕ → ℕ → List (List ℕ) → Lexed → Type 0
-  TiledFrom at n words l = Unrefused (l .answer) (Tiled lex formula at (l .tokens))
+  TiledFrom at n words l = Unrefused (l .answer) (Tiled lex formula at words (l .tokens) (length formula) (l .words))
 
   tiled-kept : Kept lex formula TiledFrom
   unfolding TiledFrom
   tiled-kept =
       record {
-        ends = λ n words h. finished refl;
-        stops = λ at n words number a. tt;
-        skips = λ at n words l h s p. unrefused (l .answer) (a-separator h s) p;
-        emits = λ at n words t l h m told p. unrefused (l .answer) (a-token h (told .0) (told .1)) p;
+        ends = λ n words h. here;
+        stops = λ at n words r h. tt;
+        skips = λ at n words l h s p. unrefused (l .answer) (past-separator h s) p;
+        emits = λ at n words t l h m told inside p. unrefused (l .answer) (past-token h (told .stands)) p;
       }
 
-  pub scan-tiled : {n count : ℕ} → scan lex formula .answer ≡ Tokens n count → Tiled lex formula 0 (scan lex formula .tokens)
+  pub scan-tiled : {n count : ℕ} → scan lex formula .answer ≡ Tokens n count
+      → Tiled lex formula 0 [] (scan lex formula .tokens) (length formula) (scan lex formula .words)
   unfolding TiledFrom
   scan-tiled e =
-      subst (λ (r : Scanned). Unrefused r (Tiled lex formula 0 (scan lex formula .tokens))) e
-      (scan-kept lex formula TiledFrom tiled-kept)
+      subst (λ (r : Scanned). Unrefused r (Tiled lex formula 0 [] (scan lex formula .tokens) (length formula) (scan lex formula .words))) e
+      (scan-kept lex few formula TiledFrom tiled-kept)
 
   -- ------------------------------------------------------------------ counts
 
@@ -54,10 +55,10 @@ module _ (lex : Lexicon) (formula : List ℕ) where
   counted-kept =
       record {
         ends = λ n words h. (ap (λ (k : ℕ). Tokens k (length words)) (sym (add-zero n)), omega arith);
-        stops = λ at n words number a. tt;
+        stops = λ at n words r h. tt;
         skips = λ at n words l h s p. p;
         emits =
-            λ at n words t l h m told p.
+            λ at n words t l h m told inside p.
             let z : n + 1 + length (l .tokens) ≡ n + suc (length (l .tokens)) = omega arith in
             subst (λ (k : ℕ). Unrefused (l .answer) ((l .answer ≡ Tokens k (length (l .words))) × (k ≤ 4096))) z p;
       }
@@ -70,7 +71,7 @@ module _ (lex : Lexicon) (formula : List ℕ) where
       let l : Lexed = scan lex formula in
       let p : (Tokens n count ≡ Tokens (0 + length (l .tokens)) (length (l .words))) × (0 + length (l .tokens) ≤ 4096)
       = subst (λ (r : Scanned). Unrefused r ((r ≡ Tokens (0 + length (l .tokens)) (length (l .words))) × (0 + length (l .tokens) ≤ 4096))) e
-      (scan-kept lex formula CountedFrom counted-kept) in
+      (scan-kept lex few formula CountedFrom counted-kept) in
       let q : Tokens n count ≡ Tokens (0 + length (l .tokens)) (length (l .words)) = p .0 in
       let a : n ≡ 0 + length (l .tokens) = cc in
       let b : count ≡ length (l .words) = cc in

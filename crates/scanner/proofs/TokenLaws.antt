@@ -8,6 +8,7 @@ use lib.Dec.{ltb, leb}
 use lib.ListN.{length, getD, take, drop, length-drop, drop-of-length-le}
 use lib.Seq.{drop-drop}
 use borrow.Author.Tests.{ltb-true, ltb-false, leb-true, leb-false}
+use Rattle.answers.specs.declared.Refusal.{Refusal}
 use Rattle.answers.specs.Refusals.{refusal}
 use Rattle.spellings.specs.Bytes.{isSeparator}
 use Rattle.spellings.specs.BytesLaws.{by-test}
@@ -17,24 +18,35 @@ use Rattle.scanner.specs.declared.Step.{Step}
 use Rattle.scanner.specs.declared.Step.the-variants.{Skip, Stop, Emit}
 use Rattle.scanner.specs.declared.Scanned.the-variants.{Tokens, Unscanned}
 use Rattle.scanner.specs.Scan.{Lexed, ended, withToken, wordsWith, mostTokens, longestFormula, stepOf, lexFrom, scan}
-use Rattle.scanner.proofs.StepLaws.{front-byte, Lies, Told, step-lies, step-told}
+use Rattle.scanner.specs.Unscanned.{Faulty}
+use Rattle.scanner.proofs.StepLaws.{front-byte, Lies, step-lies}
+use Rattle.scanner.proofs.StandLaws.{Emits, Told, step-told}
 use Rattle.scanner.proofs.ScanLoop.{emitted, after, lex-step, lex-end, scan-short, scan-long}
 
 -- ------------------------------------------------------------------ one recursion for all facts
 
+-- why a scan stops at an offset, after n tokens and the words met
+pub data Halts (lex : Lexicon) (formula : List ℕ) (at n : ℕ) (words : List (List ℕ)) : Refusal → Type 0 where
+  at-once : longestFormula < length formula → Halts lex formula at n words (refusal 14 0 0 0)
+  at-fault : at < length formula → n ≤ 4096 → Faulty (drop at formula) → Halts lex formula at n words (refusal 15 at 0 0)
+  at-token : {t : Token} → at < length formula → n ≡ 4096 → Emits lex words at (drop at formula) t
+      → Halts lex formula at n words (refusal 16 0 0 0)
+
 -- A fact of what is left at an offset, after n tokens and the words met, that each step hands on.
 pub record Kept (lex : Lexicon) (formula : List ℕ) (P : ℕ → ℕ → List (List ℕ) → Lexed → Type 0) : Type 0 where
   pub ends : (n : ℕ) (words : List (List ℕ)) → n ≤ 4096 → P (length formula) n words (ended (Tokens n (length words)) words)
-  pub stops : (at n : ℕ) (words : List (List ℕ)) (number a : ℕ) → P at n words (ended (Unscanned (refusal number a 0 0)) words)
+  pub stops : (at n : ℕ) (words : List (List ℕ)) (r : Refusal) → Halts lex formula at n words r → P at n words (ended (Unscanned r) words)
   pub skips : (at n : ℕ) (words : List (List ℕ)) (l : Lexed) → at < length formula → isSeparator (getD formula at 0) ≡ true
       → P (at + 1) n words l
       → P at n words l
   pub emits : (at n : ℕ) (words : List (List ℕ)) (t : Token) (l : Lexed) → at < length formula → n < 4096
-      → Told lex words at (drop at formula) (Emit t)
+      → Emits lex words at (drop at formula) t
+      → (0 < t .size) × (at + t .size ≤ length formula)
       → P (at + t .size) (n + 1) (wordsWith words (take (t .size) (drop at formula)) t) l
       → P at n words (withToken t l)
 
-module _ (lex : Lexicon) (formula : List ℕ) (P : ℕ → ℕ → List (List ℕ) → Lexed → Type 0) (keeps : Kept lex formula P) where
+module _ (lex : Lexicon) (few : length (lex .outsides) ≤ 64) (formula : List ℕ) (P : ℕ → ℕ → List (List ℕ) → Lexed → Type 0)
+    (keeps : Kept lex formula P) where
   at-end : (k at n : ℕ) (words : List (List ℕ)) → n ≤ 4096 → at ≡ length formula → P at n words (lexFrom k lex at (drop at formula) n words)
   at-end k at n words h e =
       let past : length formula ≤ at = omega arith in
@@ -44,12 +56,13 @@ module _ (lex : Lexicon) (formula : List ℕ) (P : ℕ → ℕ → List (List �
       (subst (λ (a : ℕ). P a n words (ended (Tokens n (length words)) words)) (sym e) (keeps .ends n words h))
 
   kept-emit : (k at n : ℕ) (words : List (List ℕ)) (t : Token) → at < length formula → ltb n mostTokens ≡ true
-      → Told lex words at (drop at formula) (Emit t)
+      → Emits lex words at (drop at formula) t
+      → (0 < t .size) × (at + t .size ≤ length formula)
       → P (at + t .size) (n + 1) (wordsWith words (take (t .size) (drop at formula)) t)
       (lexFrom k lex (at + t .size) (drop (at + t .size) formula) (n + 1) (wordsWith words (take (t .size) (drop at formula)) t))
       → P at n words (emitted k lex at (drop at formula) n words t true)
-  kept-emit k at n words t h e told p =
-      keeps .emits at n words t _ h (ltb-true n mostTokens e) told
+  kept-emit k at n words t h e told inside p =
+      keeps .emits at n words t _ h (ltb-true n mostTokens e) told inside
       (subst
       (λ (r : List ℕ).
       P (at + t .size) (n + 1) (wordsWith words (take (t .size) (drop at formula)) t)
@@ -69,17 +82,17 @@ module _ (lex : Lexicon) (formula : List ℕ) (P : ℕ → ℕ → List (List �
       keeps .skips at n words _ h (ap isSeparator (sym z) ∙ told)
       (subst (λ (r : List ℕ). P (at + 1) n words (lexFrom k lex (at + 1) r n words)) (sym (drop-drop 1 at formula))
       (rec (at + 1) n words (omega arith) (omega arith) m))
-  kept-step k at n words Stop h m enough e told lies rec = keeps .stops at n words 15 at
+  kept-step k at n words Stop h m enough e told lies rec = keeps .stops at n words (refusal 15 at 0 0) (at-fault h m told)
   kept-step k at n words (Emit t) h m enough e told lies rec =
       by-test (ltb n mostTokens)
       (λ more.
       subst (λ (b : Bool). P at n words (emitted k lex at (drop at formula) n words t b)) (sym more)
-      (kept-emit k at n words t h more told
+      (kept-emit k at n words t h more told (lies .1, omega (arith, lies .2, length-drop at formula))
       (rec (at + t .size) (n + 1) _ (omega (arith, lies .1)) (omega (arith, lies .2, length-drop at formula))
       (omega (arith, ltb-true n mostTokens more)))))
       (λ more.
       subst (λ (b : Bool). P at n words (emitted k lex at (drop at formula) n words t b)) (sym more)
-      (keeps .stops at n words 16 0))
+      (keeps .stops at n words (refusal 16 0 0 0) (at-token h (omega (arith, ltb-false n mostTokens more)) told)))
 
   kept : (k at n : ℕ) (words : List (List ℕ)) → length formula ≤ at + k → at ≤ length formula → n ≤ 4096
       → P at n words (lexFrom k lex at (drop at formula) n words)
@@ -91,7 +104,7 @@ module _ (lex : Lexicon) (formula : List ℕ) (P : ℕ → ℕ → List (List �
       let some : 0 < length (drop at formula) = omega (arith, length-drop at formula) in
       subst (P at n words) (sym (lex-step k lex at (drop at formula) n words _ some refl))
       (kept-step k at n words (stepOf lex words at (drop at formula)) l m enough refl
-      (step-told lex words at (drop at formula) _ some refl)
+      (step-told lex few words at (drop at formula) _ some refl)
       (step-lies lex words at (drop at formula) _ some refl)
       (kept k)))
       (λ none. at-end (suc k) at n words m (omega (arith, ltb-false at (length formula) none)))
@@ -103,4 +116,6 @@ module _ (lex : Lexicon) (formula : List ℕ) (P : ℕ → ℕ → List (List �
       (λ fits.
       subst (P 0 0 []) (sym (scan-short lex formula (leb-true (length formula) longestFormula fits)))
       (kept (length formula) 0 0 [] (omega arith) (omega arith) (omega arith)))
-      (λ long. subst (P 0 0 []) (sym (scan-long lex formula (leb-false (length formula) longestFormula long))) (keeps .stops 0 0 [] 14 0))
+      (λ over.
+      let long : longestFormula < length formula = leb-false (length formula) longestFormula over in
+      subst (P 0 0 []) (sym (scan-long lex formula long)) (keeps .stops 0 0 [] (refusal 14 0 0 0) (at-once long)))

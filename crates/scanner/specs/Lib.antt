@@ -1,4 +1,5 @@
 pub mod Scan
 pub mod Rooms
 pub mod Tiling
+pub mod Unscanned
 pub mod Links

@@ -1,13 +1,13 @@
 -- How a scan fills the rooms that are lent to it.
-use Prim.Native.Nat.{ℕ, zero, suc, _+_, _*_}
+use Prim.Native.Nat.{ℕ, zero, suc, _+_, _*_, _^_, _<_, _≤_}
 use mathlib.Core.Bool.{true, false}
 use mathlib.Core.List.{List, [], _∷_}
-use lib.ListN.{getD, take, drop}
+use lib.ListN.{length, getD, take, drop}
 use lib.Seq.{sets}
 use Rattle.scanner.specs.declared.Token.{Token}
 use Rattle.scanner.specs.declared.Scanned.{Scanned}
 use Rattle.grammar.specs.Fields.{Lexicon}
-use Rattle.scanner.specs.Scan.{isNew, scan}
+use Rattle.scanner.specs.Scan.{token, isNew, scan}
 
 -- ------------------------------------------------------------------ tokens and words as numbers
 
@@ -18,6 +18,17 @@ rowThen t follow = t .kind ∷ t .at ∷ t .size ∷ t .value ∷ follow
 unfoldable pub rows : List Token → List ℕ
 rows [] = []
 rows (t ∷ ts) = rowThen t (rows ts)
+
+-- token i of a room, k tokens from token i on, and the first n
+abbrev pub rowOf : List ℕ → ℕ → Token
+rowOf room i = token (getD room (i * 4) 0) (getD room (i * 4 + 1) 0) (getD room (i * 4 + 2) 0) (getD room (i * 4 + 3) 0)
+
+unfoldable pub tokensFrom : ℕ → List ℕ → ℕ → List Token
+tokensFrom zero room i = []
+tokensFrom (suc k) room i = rowOf room i ∷ tokensFrom k room (i + 1)
+
+abbrev pub tokensIn : List ℕ → ℕ → List Token
+tokensIn room n = tokensFrom n room 0
 
 -- a word not met before is two numbers, its offset and its length; `count` words were met before this token
 abbrev pub placeThen : ℕ → Token → List ℕ → List ℕ
@@ -39,6 +50,19 @@ wordsFrom (suc k) formula room i =
 
 abbrev pub wordsIn : List ℕ → List ℕ → ℕ → List (List ℕ)
 wordsIn formula room count = wordsFrom count formula room 0
+
+-- ------------------------------------------------------------------ how long the rooms are
+
+-- There is room for as many tokens and words as the formula has bytes, up to 4,096.
+pub record RoomFor (formula tokens words : List ℕ) : Type 0 where
+  pub for-tokens : (n : ℕ) → n ≤ length formula → n ≤ 4096 → n * 4 ≤ length tokens
+  pub for-words : (n : ℕ) → n ≤ length formula → n ≤ 4096 → n * 2 ≤ length words
+
+-- What those who read n tokens off a room ask: they lie in it, they are at most 4,096, and each value leaves room for a name's class.
+pub record TokensFit (room : List ℕ) (n : ℕ) : Type 0 where
+  pub long : n * 4 ≤ length room
+  pub few : n ≤ 4096
+  pub values : (i : ℕ) → i < n → getD room (i * 4 + 3) 0 < 2 ^ 30
 
 -- ------------------------------------------------------------------ the rooms after a scan
 

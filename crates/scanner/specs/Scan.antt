@@ -66,6 +66,10 @@ spellingOf lex words s = numberOr lex s (64 + indexOf s words)
 abbrev pub token : ℕ → ℕ → ℕ → ℕ → Token
 token kind at size value = record { kind = kind; at = at; size = size; value = value }
 
+-- past the last token there is one of no kind
+abbrev pub endToken : Token
+endToken = token noKind 0 0 0
+
 -- the token at the offset `at` that is spelled s and is not a number: a word has its spelling number, any other the value 0
 abbrev pub spelledToken : Lexicon → List (List ℕ) → ℕ → List ℕ → ℕ → Token
 spelledToken lex words at s kind =

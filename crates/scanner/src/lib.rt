@@ -1,4 +1,6 @@
 // The scanner: from the bytes of a formula to its tokens.
+pub mod tokens;
+
 use answers::Refusal;
 use grammar::Found;
 use grammar::reader::part;

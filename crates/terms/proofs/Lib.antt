@@ -8,5 +8,6 @@ pub mod Loose
 pub mod NewNames
 pub mod FreeVariables
 pub mod TextLength
+pub mod EmitLaws
 pub mod Statements
 mod Examples

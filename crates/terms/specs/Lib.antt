@@ -5,3 +5,6 @@ pub mod Binding
 pub mod Reading
 pub mod Parts
 pub mod Rows
+pub mod Emit
+pub mod Names
+pub mod Labelled

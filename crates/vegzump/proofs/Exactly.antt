@@ -30,7 +30,7 @@ use Rattle.vegzump.proofs.Stages.{Finish, too-big, is-loose, too-long, 
 use Rattle.soundness.proofs.Building.{Ends}
 use Rattle.soundness.proofs.Normalizing.{table-fits}
 use Rattle.expansion.specs.Stopping.{Refuses}
-use Rattle.vegzump.proofs.ScanExactly.{unscanned-exactly}
+use Rattle.scanner.proofs.ScannerTheorems as scanner
 use Rattle.soundness.proofs.StopSound.{run-halts}
 use Rattle.soundness.proofs.StopComplete.{refuses-halts}
 use Rattle.vegzump.proofs.CellsLeft.{Leaves, left-not, run-leaves}
@@ -300,7 +300,7 @@ module _ (t : Table) (within : Within t) (meets : Meets t) (formula cells text :
   cause-last E (prints s l b) r e = never e
 
   cause-of : {x : Expanded} → Stage t within meets formula cells text x → x ≡ X → (r : Refusal) → x .answer ≡ Refusing r → Cause t formula cells text r
-  cause-of (in-scan {r = q} e l h) w r a = subst (Cause t formula cells text) (same-refusal a) (unscanned (unscanned-exactly (lexiconOfTable t) formula q .0 e))
+  cause-of (in-scan {r = q} e l h) w r a = subst (Cause t formula cells text) (same-refusal a) (unscanned (scanner.refused-exactly (lexiconOfTable t) (within .outsideCount) formula q .0 e))
   cause-of (in-parse {r = q} T e l h) w r a =
       let s = stopped-exactly q .0 (ap (λ (y : Expanded). y .answer) (sym w), l, h) in
       subst (Cause t formula cells text) (same-refusal a) (stopped (s .0) (s .1))
@@ -311,7 +311,7 @@ module _ (t : Table) (within : Within t) (meets : Meets t) (formula cells text :
   unscanned-answer r e = ap (λ a. scanned t (scanOf t formula) a cells text .answer) e
 
   answer-of : {r : Refusal} → Cause t formula cells text r → X .answer ≡ Refusing r
-  answer-of {r} (unscanned u) = unscanned-answer r (unscanned-exactly (lexiconOfTable t) formula r .1 u)
+  answer-of {r} (unscanned u) = unscanned-answer r (scanner.refused-exactly (lexiconOfTable t) (within .outsideCount) formula r .1 u)
   answer-of {r} (stopped T s) = stopped-exactly r .1 (T, s) .0
   answer-of (Meaning.too-large E b) = large-answer (reached E .1) b
   answer-of (Meaning.is-loose E s l) = loose-answer (reached E .1) s l

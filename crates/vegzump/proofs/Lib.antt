@@ -4,5 +4,4 @@ pub mod Answers
 pub mod Exactly
 pub mod Stages
 pub mod CellsLeft
-pub mod ScanExactly
 pub mod Listed

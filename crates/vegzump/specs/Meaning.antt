@@ -24,7 +24,7 @@ use Rattle.terms.specs.Parts.{constructors, shape}
 use Rattle.terms.specs.Binding.{Owner, unbound, boundAt, Calls, Binder, Occurrence, occurrences, loosePlaces, origins, constructorsInAll, nestingAll}
 use Rattle.terms.specs.Reading.{readText}
 use Rattle.vegzump.specs.Expand.{largestTerm, lexiconOfTable, spell, mostCells}
-use Rattle.vegzump.specs.Unscanned.{Unscans}
+use Rattle.scanner.specs.Unscanned.{Unscans}
 use Rattle.expansion.specs.Stopping.{Refuses}
 use Rattle.expansion.specs.Places.{given, Placed}
 

@@ -1,15 +1,14 @@
 -- `run`: a call of the root, and nothing left over.
-use Prim.Native.Nat.{ℕ, _/_, min}
-use mathlib.Core.Path.{_≡_, ap, _∙_}
+use Prim.Native.Nat.{ℕ}
+use mathlib.Core.Path.{_≡_, _∙_}
 use mathlib.Core.List.{[]}
-use native.Mathlib.Omega.{arith}
-use lib.ListN.{length}
 use borrow.Author.Needs.{needs}
-use Rattle.grammar.specs.Cells.{columns}
 use Rattle.expander.specs.declared.calls.Begun.{Begun}
 use Rattle.expansion.specs.Run.{Result, after}
 use Rattle.expansion.specs.Expansion.{Input, runCall, mostOpen, start, ended, run}
-use Rattle.expander.specs.Calls.{inputBy, Begins}
+use Rattle.expander.specs.Lent.{lentInput, rowsIn}
+use Rattle.expander.specs.Calls.{Begins, Entry}
+use Rattle.expander.specs.declared.calls.Begun.the-variants.{Entered}
 use Rattle.expander.proofs.TokenLaws.{token-count}
 use Rattle.expander.proofs.CallLaws as laws
 use Rattle.expander.proofs.calls.run.Statement.{statement}
@@ -18,34 +17,25 @@ use Rattle.expander.proofs.calls.run.Tie as tie
 -- after the beginning of the root's call
 module _ (p : tie.After-begin) where
   abbrev entry : tie.Start
-  entry = p .before .before .before .before .before .before
+  entry = p .before .before .before .before .before
 
-  abbrev input : ℕ → Input
-  input rows =
-      inputBy (entry .args .table .now) (entry .args .owners .now) (entry .args .starts .now) (entry .args .m) (entry .args .firsts .now)
-      (entry .args .openings .now) (entry .args .empties .now) (entry .args .tokens .now) (entry .args .n) rows
+  abbrev input : Input
+  input = lentInput (entry .args .table .now) (entry .args .tokens .now) (entry .args .n) (rowsIn (entry .args .cells .now))
 
-  abbrev rows : ℕ
-  rows = p .before .rows-of .result
-
-  begins : {q : Begun} → p .begin .result ≡ q → Begins (input rows) (entry .args .table .now) 1024 (entry .args .root) start q
+  begins : {q : Begun} → p .begin .result ≡ q → Begins input (entry .args .table .now) 1024 (entry .args .root) start q
   begins e =
-      laws.begins-as (input rows) (entry .args .table .now) 1024 (entry .args .root) start (p .begin .result) e
-      (p .begin .ensures .0 (entry .args .table .now) rows)
+      laws.begins-as input (entry .args .table .now) 1024 (entry .args .root) start (p .begin .result) e
+      (p .begin .ensures .0 (entry .args .table .now) (rowsIn (entry .args .cells .now)) (entry .pre .table))
 
-  runs : {R : Result ℕ} → R ≡ runCall mostOpen (input rows) (entry .args .root) [] start (entry .args .cells .now)
-      → after R (ended (input rows)) ≡ run (input (min (length (entry .args .cells .now) / columns) 16384)) (entry .args .root) (entry .args .cells .now)
-  runs e =
-      laws.run-is (input rows) (entry .args .root) (entry .args .cells .now) e
-      ∙ ap (λ (k : ℕ). run (input k) (entry .args .root) (entry .args .cells .now)) (p .before .rows-of .ensures)
+  enters : {first : ℕ} {t : _} → p .begin .result ≡ Entered first t → Entry (entry .args .table .now) 1024 start first t
+  enters e = laws.entry-of (p .begin .result) e (p .begin .ensures .1 (entry .args .table .now) (entry .pre .table))
 
-rows-of-requires : tie.Need-rows-of-requires
-rows-of-requires c κs = search needs
+  runs : {R : Result ℕ} → R ≡ runCall mostOpen input (entry .args .root) [] start (entry .args .cells .now)
+      → after R (ended input) ≡ run input (entry .args .root) (entry .args .cells .now)
+  runs e = laws.run-is input (entry .args .root) (entry .args .cells .now) e
 
 begin-requires : tie.Need-begin-requires
-begin-requires c κs =
-    let entry-place = c .before .before .before .before .before in
-    (entry-place .pre .0 .few, entry-place .pre .1 .0 .few)
+begin-requires c κs = search needs
 
 enum-known-begun : tie.Need-enum-known-begun
 enum-known-begun c = search needs
@@ -57,27 +47,7 @@ items-requires : tie.Need-items-requires
 items-requires c κs =
     let begun2-place = c .before .before .before .before in
     let begin-place = begun2-place .before .before in
-    let rows-of-place = begin-place .before in
-    let entry-place = rows-of-place .before .before .before .before .before in (
-      entry-place .pre .0,
-      (
-        entry-place .pre .1 .0,
-        (
-          laws.rows-few (rows-of-place .rows-of .ensures),
-          (
-            entry-place .pre
-                .1 .1,
-            (
-              laws.entry-weight (laws.entry-of (begin-place .begin .result) (begun2-place .begun2 .given .1) (begin-place
-                  .begin .ensures .1)) (length (entry-place .args .table .now)) (entry-place .pre .0 .small),
-              laws.entry-whole
-                  (laws.entry-of (begin-place .begin .result) (begun2-place .begun2 .given .1) (begin-place .begin .ensures .1))
-                  (entry-place .pre .0),
-            ),
-          ),
-        ),
-      ),
-    )
+    (entry begin-place .pre, laws.stands-start (enters begin-place (begun2-place .begun2 .given .1)) (entry begin-place .pre .table .grammar .small))
 
 ended-requires : tie.Need-ended-requires
 ended-requires c κs = search needs
@@ -85,39 +55,30 @@ ended-requires c κs = search needs
 returns : tie.Need-returns
 returns c =
     let begin-place = c .before .before .before in
-    let entry-place = begin-place .before .before .before .before .before .before in
-    runs begin-place (begins begin-place (c .before .begun .given .1) [] (entry-place .args .cells .now))
+    runs begin-place (begins begin-place (c .before .begun .given .1) [] (entry begin-place .args .cells .now))
 
 same-length : tie.Need-same-length
-same-length c =
-    let items-place = c .before .before .before .before .before .before .before in
-    items-place .items .kept .1 .1 .1 .1 .1 .1 .1 .1 .1 .1 .0
+same-length c = search needs
 
 same-length-2 : tie.Need-same-length-2
-same-length-2 c =
-    let items-place = c .before .before .before .before .before .before .before in
-    items-place .items .kept .1 .1 .1 .1 .1 .1 .1 .1 .1 .1 .1 .0
+same-length-2 c = search needs
 
 same-length-3 : tie.Need-same-length-3
-same-length-3 c =
-    let items-place = c .before .before .before .before .before .before .before in
-    items-place .items .kept .1 .1 .1 .1 .1 .1 .1 .1 .1 .1 .1 .1 .0
+same-length-3 c = search needs
 
 returns-2 : tie.Need-returns-2
 returns-2 c =
     let items-place = c .before .before .before .before .before .before .before in
     let begun2-place = items-place .before .before .before .before .before in
     let begin-place = begun2-place .before .before in
-    let entry-place = begin-place .before .before .before .before .before .before in
-    c .ended .ensures (input begin-place (rows begin-place)) (items-place .items .last .1 .1 .1 .1 .1 .1 .1 .1 .1 .1 .0)
-    (token-count (entry-place .args .tokens .now) (entry-place .args .n) 0) ∙ runs begin-place (items-place .items
-    .ensures ∙ begins begin-place (begun2-place .begun2 .given .1) [] (entry-place .args .cells .now))
+    let lent = entry begin-place .args in
+    c .ended .ensures (input begin-place) (items-place .items .last .1 .1 .1 .1 .0) (token-count (lent .tokens .now) (lent .n) 0)
+    ∙ runs begin-place (items-place .items .ensures ∙ begins begin-place (begun2-place .begun2 .given .1) [] (lent .cells .now))
 
 pub run-spec : {M : Type 1} → statement M
 run-spec =
     tie.close
     (tie.spec
-    rows-of-requires
     begin-requires
     enum-known-begun
     enum-known-begun-2

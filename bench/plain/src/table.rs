@@ -1,0 +1,265 @@
+//! The fields of a table, and refusals 1 to 6 and 10.
+
+use crate::{refusal, Refusal};
+use std::collections::hash_map::{Entry, HashMap};
+
+pub const KEYWORD: u8 = 1;
+pub const NAME: u8 = 2;
+pub const BLOCK: u8 = 3;
+pub const DEFINITION: u8 = 4;
+pub const ALTERNATIVE: u8 = 5;
+pub const ITEM: u8 = 6;
+pub const RESULT: u8 = 7;
+pub const ROOT: u8 = 8;
+
+pub const ITEM_KEYWORD: u8 = 0;
+pub const ITEM_IDE: u8 = 1;
+pub const ITEM_NUMBER: u8 = 2;
+pub const ITEM_LOCAL: u8 = 3;
+pub const ITEM_CALL: u8 = 4;
+
+pub const TERM: u8 = 4;
+pub const FIELDS: u8 = 5;
+pub const BINDER: u8 = 2;
+pub const VAR: u8 = 1;
+pub const LABEL: u8 = 3;
+
+/// The argument sorts of the constructors 20 to 27.
+pub const ARGUMENTS: [&[u8]; 8] = [&[1], &[2, 4], &[4, 4], &[5], &[4, 3], &[], &[3, 4, 5], &[6]];
+
+/// Kinds of tokens: a word, a number, keyword k as k + 2; 64 is what fits nothing.
+pub const WORD: u8 = 0;
+pub const NUMBER: u8 = 1;
+pub const FIRST_KEYWORD: u8 = 2;
+pub const NO_KIND: u8 = 64;
+
+/// What a word means: its kind, and its spelling number where it is no keyword.
+#[derive(Clone, Copy)]
+pub struct Meaning {
+    pub kind: u8,
+    pub spelling: u32,
+}
+
+/// The words and symbols that have a meaning, and the words by spelling number (outside names from 0, formula words from 64).
+pub struct Spellings<'a> {
+    pub keywords: usize,
+    pub names: usize,
+    pub symbols: [u8; 128],
+    pub words: HashMap<&'a [u8], Meaning>,
+    pub spelled: Vec<&'a [u8]>,
+}
+
+#[derive(Clone, Copy)]
+pub struct Field<'a> {
+    pub place: usize,
+    pub tag: u8,
+    pub value: &'a [u8],
+}
+
+/// The field at `place`; none if it runs past the end.
+pub fn field_at(table: &[u8], place: usize) -> Option<Field<'_>> {
+    let head = table.get(place..place + 3)?;
+    let length = usize::from(u16::from_be_bytes([head[1], head[2]]));
+    let value = table.get(place + 3..place + 3 + length)?;
+    Some(Field { place, tag: head[0], value })
+}
+
+impl Field<'_> {
+    pub fn end(&self) -> usize {
+        self.place + 3 + self.value.len()
+    }
+}
+
+/// Bytes by class: separators, letters (and digits, underscore inside a word), digits, symbols.
+#[derive(Clone, Copy, PartialEq, Eq)]
+pub enum Class {
+    Bad,
+    Separator,
+    Letter,
+    Digit,
+    Symbol,
+}
+
+pub const CLASSES: [Class; 256] = {
+    let mut classes = [Class::Bad; 256];
+    let mut byte = 0;
+    while byte < 256 {
+        classes[byte] = match byte as u8 {
+            9 | 10 | 13 | 32 => Class::Separator,
+            b'a'..=b'z' | b'A'..=b'Z' => Class::Letter,
+            b'0'..=b'9' => Class::Digit,
+            33..=126 => Class::Symbol,
+            _ => Class::Bad,
+        };
+        byte += 1;
+    }
+    classes
+};
+
+pub fn class(byte: u8) -> Class {
+    CLASSES[usize::from(byte)]
+}
+
+pub fn goes_on(byte: u8) -> bool {
+    matches!(class(byte), Class::Letter | Class::Digit) || byte == b'_'
+}
+
+fn is_word(spelling: &[u8]) -> bool {
+    let long = spelling.len() > 31;
+    !long && spelling.first().is_some_and(|&b| class(b) == Class::Letter) && spelling.iter().all(|&b| goes_on(b))
+}
+
+fn is_symbol(spelling: &[u8]) -> bool {
+    matches!(spelling, &[byte] if class(byte) == Class::Symbol)
+}
+
+/// Where the reader stands: what may come next depends on it.
+#[derive(Clone, Copy, PartialEq, Eq)]
+enum Stage {
+    Keywords,
+    Names,
+    Block,
+    /// After a definition, before its first alternative.
+    Definition,
+    /// Inside an alternative, with so many items.
+    Alternative(usize),
+    /// After a whole alternative.
+    Alternatives,
+    Root,
+}
+
+/// Reads the whole table: 1, then field by field 2, 3, 4, 5, 6, 10, then what is missing at the end.
+pub fn read(table: &[u8]) -> Result<Spellings<'_>, Refusal> {
+    if table.len() > 16_384 {
+        return Err(refusal(1, 0));
+    }
+    let mut spellings = Spellings { keywords: 0, names: 0, symbols: [NO_KIND; 128], words: HashMap::new(), spelled: Vec::new() };
+    let (mut blocks, mut alternatives) = (0, 0);
+    let mut stage = Stage::Keywords;
+    let mut place = 0;
+    while place < table.len() {
+        let Some(field) = field_at(table, place) else { return Err(refusal(2, place)) };
+        if !known(&field) {
+            return Err(refusal(3, place));
+        }
+        let Some(next) = step(stage, field.tag) else { return Err(refusal(4, place)) };
+        stage = next;
+        match field.tag {
+            KEYWORD => keyword(&field, &mut spellings)?,
+            NAME => name(&field, &mut spellings)?,
+            BLOCK => counted(&mut blocks, 16, place)?,
+            ALTERNATIVE => counted(&mut alternatives, 256, place)?,
+            ITEM => {
+                if matches!(stage, Stage::Alternative(items) if items > 12) {
+                    return Err(refusal(6, place));
+                }
+                if field.value[0] == ITEM_CALL && whole_templates(&field.value[2..]).is_none() {
+                    return Err(refusal(10, place));
+                }
+            }
+            RESULT if whole_templates(field.value) != Some(1) => return Err(refusal(10, place)),
+            _ => {}
+        }
+        place = field.end();
+    }
+    if stage != Stage::Root {
+        return Err(refusal(4, place));
+    }
+    // Formula words are numbered from 64, wherever the outside names end.
+    spellings.spelled.resize(64, &[]);
+    Ok(spellings)
+}
+
+/// Whether tag, length and values are known (3).
+fn known(field: &Field) -> bool {
+    match (field.tag, field.value) {
+        (KEYWORD | NAME | RESULT, _) => true,
+        (BLOCK | ALTERNATIVE, []) => true,
+        (DEFINITION, [nonterminal, mode, sorts @ ..]) => {
+            *nonterminal < 64 && *mode < 3 && (1..=5).contains(&sorts.len()) && sorts.iter().all(|&s| s < 7)
+        }
+        (ITEM, [ITEM_KEYWORD, _]) => true,
+        (ITEM, [ITEM_IDE, sort]) => (1..=3).contains(sort),
+        (ITEM, [ITEM_NUMBER | ITEM_LOCAL, operand]) => *operand == 0,
+        (ITEM, [ITEM_CALL, nonterminal, ..]) => *nonterminal < 64,
+        (ROOT, [nonterminal]) => *nonterminal < 64,
+        _ => false,
+    }
+}
+
+/// Where the reader stands after a field; none if the field is out of order (4).
+fn step(stage: Stage, tag: u8) -> Option<Stage> {
+    use Stage::*;
+    match (tag, stage) {
+        (KEYWORD, Keywords) => Some(Keywords),
+        (NAME, Keywords | Names) => Some(Names),
+        (BLOCK, Keywords | Names | Block | Alternatives) => Some(Block),
+        (DEFINITION, Block | Alternatives) => Some(Definition),
+        (ALTERNATIVE, Definition | Alternatives) => Some(Alternative(0)),
+        (ITEM, Alternative(items)) => Some(Alternative(items + 1)),
+        (RESULT, Alternative(_)) => Some(Alternatives),
+        (ROOT, Keywords | Names | Block | Alternatives) => Some(Root),
+        _ => None,
+    }
+}
+
+fn counted(count: &mut usize, most: usize, place: usize) -> Result<(), Refusal> {
+    *count += 1;
+    if *count > most { Err(refusal(6, place)) } else { Ok(()) }
+}
+
+fn keyword<'a>(field: &Field<'a>, spellings: &mut Spellings<'a>) -> Result<(), Refusal> {
+    let kind = FIRST_KEYWORD + spellings.keywords as u8;
+    let is_new = if is_symbol(field.value) {
+        let slot = &mut spellings.symbols[usize::from(field.value[0])];
+        std::mem::replace(slot, kind) == NO_KIND
+    } else {
+        is_word(field.value) && spellings.words.insert(field.value, Meaning { kind, spelling: u32::MAX }).is_none()
+    };
+    if !is_new {
+        return Err(refusal(5, field.place));
+    }
+    counted(&mut spellings.keywords, 62, field.place)
+}
+
+fn name<'a>(field: &Field<'a>, spellings: &mut Spellings<'a>) -> Result<(), Refusal> {
+    if !is_word(field.value) {
+        return Err(refusal(5, field.place));
+    }
+    let spelling = spellings.names as u32;
+    match spellings.words.entry(field.value) {
+        Entry::Vacant(entry) => {
+            entry.insert(Meaning { kind: WORD, spelling });
+        }
+        // A keyword may be an outside name as well, once.
+        Entry::Occupied(mut entry) => {
+            let meaning = entry.get_mut();
+            if meaning.spelling != u32::MAX {
+                return Err(refusal(5, field.place));
+            }
+            meaning.spelling = spelling;
+        }
+    }
+    spellings.spelled.push(field.value);
+    counted(&mut spellings.names, 64, field.place)
+}
+
+/// How many templates the bytes are; none if a byte is unknown or the last template is cut.
+fn whole_templates(bytes: &[u8]) -> Option<usize> {
+    let (mut templates, mut owed, mut at) = (0, 0, 0);
+    while let Some(&byte) = bytes.get(at) {
+        if owed == 0 {
+            templates += 1;
+            owed = 1;
+        }
+        at += 1;
+        owed -= 1;
+        match byte {
+            0x00..=0x0f => {}
+            0x10 | 0x11 => at += 1,
+            0x20..=0x27 => owed += ARGUMENTS[usize::from(byte - 0x20)].len(),
+            _ => return None,
+        }
+    }
+    if owed == 0 && at == bytes.len() { Some(templates) } else { None }
+}

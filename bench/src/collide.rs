@@ -1,0 +1,94 @@
+//! Words that collide in a hash: hostile to whoever finds words by it.
+
+use std::collections::HashMap;
+
+#[derive(Clone, Copy)]
+pub enum Hash {
+    /// Each byte b takes h to h * multiplier + b, modulo 2^32.
+    Polynomial { multiplier: u32 },
+    /// The scanner's (crates/scanner/src/trees.rt): each byte is a product and a fold of a state of 64 bits. The low bits of the hash choose a
+    /// tree, further bits a branch at each node.
+    Folded,
+}
+
+/// So many words of at most 14 bytes that collide; 4,096 at most.
+pub fn words(hash: Hash, count: usize) -> Vec<String> {
+    assert!(count <= 4_096);
+    match hash {
+        Hash::Polynomial { multiplier } => of_one_polynomial(multiplier, count),
+        Hash::Folded => of_one_tree(count),
+    }
+}
+
+/// Letters and digits by number; the first is a letter.
+fn spelled<const N: usize>(mut number: usize) -> [u8; N] {
+    const LETTERS: &[u8; 62] = b"abcdefghijklmnopqrstuvwxyzABCDEFGHIJKLMNOPQRSTUVWXYZ0123456789";
+    let mut letters = 52;
+    [0; N].map(|_| {
+        let letter = LETTERS[number % letters];
+        number /= letters;
+        letters = 62;
+        letter
+    })
+}
+
+fn text(bytes: &[u8]) -> String {
+    String::from_utf8_lossy(bytes).into_owned()
+}
+
+fn polynomial(multiplier: u32, word: &[u8]) -> u32 {
+    word.iter().fold(0, |hash: u32, &byte| hash.wrapping_mul(multiplier).wrapping_add(byte.into()))
+}
+
+/// Words that are equal in the whole hash, so that they share a bucket and every further bit, whatever the hash begins with: two parts, each one of 64
+/// blocks of seven bytes that have one hash. A block is found by meeting in the middle: the hash that its last three bytes must have is looked
+/// up for each of its first four.
+fn of_one_polynomial(multiplier: u32, count: usize) -> Vec<String> {
+    let mut ends: HashMap<u32, [u8; 3]> = HashMap::new();
+    for number in 0..52 * 62 * 62 {
+        let end = spelled::<3>(number);
+        ends.entry(polynomial(multiplier, &end)).or_insert(end);
+    }
+    let power = multiplier.wrapping_pow(3);
+    let target = polynomial(multiplier, b"collide");
+    let blocks: Vec<String> = (0..52 * 62 * 62 * 62)
+        .filter_map(|number| {
+            let begin = spelled::<4>(number);
+            let end = ends.get(&target.wrapping_sub(polynomial(multiplier, &begin).wrapping_mul(power)))?;
+            Some(text(&[&begin[..], end].concat()))
+        })
+        .take(64)
+        .collect();
+    assert_eq!(blocks.len(), 64, "too few blocks of one hash");
+    (0..count).map(|n| blocks[n / 64].clone() + &blocks[n % 64]).collect()
+}
+
+fn folded(word: &[u8]) -> u64 {
+    word.iter().chain(&[0]).fold(11_400_714_819_323_198_485, |hash: u64, &byte| {
+        let product = ((hash ^ u64::from(byte)) & 0xffff_ffff) * 2_654_435_761;
+        product << 32 | hash >> 32 ^ product >> 32
+    })
+}
+
+/// Words whose hashes share the eleven bits that choose a tree. The hash has no structure that is of use here: one word in 2,048 fits.
+fn of_one_tree(count: usize) -> Vec<String> {
+    let words = (0..).map(spelled::<6>).filter(|word| folded(word) & 2_047 == 5);
+    words.take(count).map(|word| text(&word)).collect()
+}
+
+#[cfg(test)]
+mod tests {
+    use super::*;
+
+    #[test]
+    fn words_collide() {
+        for multiplier in [31, 16_777_619] {
+            let words = words(Hash::Polynomial { multiplier }, 4_096);
+            let hashes: Vec<u32> = words.iter().map(|word| polynomial(multiplier, word.as_bytes())).collect();
+            assert!(hashes.iter().all(|&hash| hash == hashes[0]));
+            let different: std::collections::HashSet<_> = words.iter().collect();
+            assert_eq!(different.len(), 4_096);
+        }
+        assert!(words(Hash::Folded, 100).iter().all(|word| folded(word.as_bytes()) % 2_048 == 5));
+    }
+}

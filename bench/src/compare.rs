@@ -1,0 +1,79 @@
+//! Both implementations on one input: answer, every cell and every byte of text.
+
+use crate::cases::Case;
+use crate::sides::Side;
+use plain::Answer;
+
+/// Counts inputs and those that differ; the first few that do are shown, in the line format of the conformance cases.
+#[derive(Default)]
+pub struct Comparison {
+    pub inputs: usize,
+    pub differ: usize,
+    /// How often each number was answered.
+    pub numbers: [usize; 25],
+}
+
+pub struct Found {
+    pub answer: Answer,
+    pub cells: Vec<u32>,
+    pub text: Vec<u8>,
+}
+
+fn run(side: Side, table: &[u8], formula: &[u8], cells: usize, text: usize) -> Found {
+    let (mut cells, mut text) = (vec![0xaaaa_aaaa; cells], vec![0xee; text]);
+    let answer = side.expand(table, formula, &mut cells, &mut text);
+    Found { answer, cells, text }
+}
+
+fn hex(bytes: &[u8]) -> String {
+    if bytes.is_empty() { "-".into() } else { bytes.iter().map(|byte| format!("{byte:02x}")).collect() }
+}
+
+impl Comparison {
+    /// One input with so many cells and bytes of text lent.
+    pub fn input(&mut self, label: &str, table: &[u8], formula: &[u8], cells: usize, text: usize) -> Found {
+        let plain = run(Side::Plain, table, formula, cells, text);
+        let archive = run(Side::Archive, table, formula, cells, text);
+        let checks = (Side::Archive.check(table), Side::Plain.check(table));
+        let same = archive.answer == plain.answer && archive.cells == plain.cells && archive.text == plain.text && checks.0 == checks.1;
+        self.inputs += 1;
+        self.numbers[usize::from(plain.answer.number)] += 1;
+        if !same {
+            self.differ += 1;
+            if self.differ <= 10 {
+                println!("DIFFERS: {label} {} {} {cells} {text}", hex(table), hex(formula));
+                Self::report(&archive, &plain, checks);
+            }
+        }
+        plain
+    }
+
+    fn report(archive: &Found, plain: &Found, checks: (Answer, Answer)) {
+        println!("  archive {:?}, check {:?}", archive.answer, checks.0);
+        println!("  plain   {:?}, check {:?}", plain.answer, checks.1);
+        if let Some(at) = (0..plain.cells.len()).find(|&i| archive.cells[i] != plain.cells[i]) {
+            println!("  cell {at}: archive {:x}, plain {:x}", archive.cells[at], plain.cells[at]);
+        }
+        if let Some(at) = (0..plain.text.len()).find(|&i| archive.text[i] != plain.text[i]) {
+            println!("  byte {at} of the text: archive {:02x}, plain {:02x}", archive.text[at], plain.text[at]);
+        }
+    }
+
+    /// A conformance case: both sides, and the stored answer.
+    pub fn case(&mut self, label: &str, case: &Case) {
+        let found = self.input(label, &case.table, &case.formula, case.cells_lent, case.text_lent);
+        let (mut cells, mut text) = (vec![0xaaaa_aaaa; case.cells_lent], vec![0xee; case.text_lent]);
+        cells[..case.cells.len()].copy_from_slice(&case.cells);
+        text[..case.text.len()].copy_from_slice(&case.text);
+        if found.answer != case.answer || found.cells != cells || found.text != text {
+            self.differ += 1;
+            println!("DIFFERS: the stored answer of {label} is {:?}, found {:?}", case.answer, found.answer);
+        }
+    }
+
+    /// How often each number was answered, in one line.
+    pub fn answered(&self) -> String {
+        let each = self.numbers.iter().enumerate().filter(|(_, &count)| count > 0);
+        each.map(|(number, count)| format!("{number}: {count}")).collect::<Vec<_>>().join(", ")
+    }
+}

@@ -1,0 +1,253 @@
+//! The proved archive beside the plain implementation: the same answers, cells and text on every input, the times of both, and how they grow.
+//! `bench/run` builds and runs it.
+
+mod cases;
+mod collide;
+mod compare;
+mod draw;
+mod inputs;
+mod sides;
+mod tables;
+mod times;
+
+use compare::Comparison;
+use draw::Draws;
+use inputs::Input;
+use sides::Side;
+use std::process::{Command, ExitCode};
+use std::time::{Duration, Instant};
+use times::{shown, Room};
+
+const USAGE: &str = "\
+usage: bench/run [compare] [times] [growth] [counts] [--draws N] [--seed N] [--cases FILE] [--budget MS] [--hash MULTIPLIER]
+  compare   the conformance cases, the inputs that are measured, and N drawn inputs (100,000; seed 1)
+  times     best times of both, archive over plain, for each input; MS milliseconds (300) for each
+  growth    times at one, two, four and eight times a size
+  counts    instructions of both, by valgrind's callgrind
+Without a word: compare, times, growth. --hash is the multiplier (31) of the polynomial hash for which colliding words are made.";
+
+struct Options {
+    parts: Vec<String>,
+    draws: usize,
+    seed: u64,
+    cases: String,
+    budget: Duration,
+    hash: u32,
+    /// One call on a side, with the files that have table and formula, for callgrind.
+    once: Option<(Side, String, String)>,
+}
+
+fn options() -> Option<Options> {
+    let mut options = Options {
+        parts: Vec::new(),
+        draws: 100_000,
+        seed: 1,
+        cases: concat!(env!("CARGO_MANIFEST_DIR"), "/../crates/conformance/data/cases.bin").into(),
+        budget: Duration::from_millis(300),
+        hash: 31,
+        once: None,
+    };
+    let mut words = std::env::args().skip(1);
+    while let Some(word) = words.next() {
+        match word.as_str() {
+            "compare" | "times" | "growth" | "counts" => options.parts.push(word),
+            "--draws" => options.draws = words.next()?.replace(',', "").parse().ok()?,
+            "--seed" => options.seed = words.next()?.parse().ok()?,
+            "--cases" => options.cases = words.next()?,
+            "--budget" => options.budget = Duration::from_millis(words.next()?.parse().ok()?),
+            "--hash" => options.hash = words.next()?.parse().ok()?,
+            "--once" => {
+                let side = if words.next()? == "archive" { Side::Archive } else { Side::Plain };
+                options.once = Some((side, words.next()?, words.next()?));
+            }
+            _ => return None,
+        }
+    }
+    if options.parts.is_empty() {
+        options.parts = ["compare", "times", "growth"].map(String::from).to_vec();
+    }
+    Some(options)
+}
+
+fn main() -> ExitCode {
+    let Some(options) = options() else {
+        eprintln!("{USAGE}");
+        return ExitCode::from(2);
+    };
+    // The archive's own stack, and as much again for what runs here.
+    let all = std::thread::Builder::new().stack_size(2 * vegzump::STACK).spawn(move || run(&options));
+    all.ok().and_then(|thread| thread.join().ok()).unwrap_or(ExitCode::FAILURE)
+}
+
+fn run(options: &Options) -> ExitCode {
+    if let Some((side, table, formula)) = &options.once {
+        return once(*side, table, formula).map_or(ExitCode::FAILURE, |_| ExitCode::SUCCESS);
+    }
+    let list = inputs::list(options.hash);
+    let mut well = true;
+    for part in &options.parts {
+        match part.as_str() {
+            "compare" => well &= compare(options, &list),
+            "times" => times(options, &list),
+            "growth" => growth(options),
+            _ => well &= counts(&list),
+        }
+        println!();
+    }
+    if well { ExitCode::SUCCESS } else { ExitCode::FAILURE }
+}
+
+// ---- equal answers ----
+
+fn compare(options: &Options, list: &[Input]) -> bool {
+    let start = Instant::now();
+    let Ok(cases) = cases::read(&options.cases) else {
+        println!("no conformance cases at {}", options.cases);
+        return false;
+    };
+    let mut of_cases = Comparison::default();
+    for (number, case) in cases.iter().enumerate() {
+        of_cases.case(&format!("case-{number}"), case);
+    }
+    println!("conformance cases: {} compared, {} differ", of_cases.inputs, of_cases.differ);
+
+    let mut of_inputs = Comparison::default();
+    let series = inputs::growth(options.hash);
+    for input in list.iter().chain(series.iter().flat_map(|series| series.inputs.iter().map(|(_, input)| input))) {
+        let found = of_inputs.input("input", &input.table, &input.formula, 4 * vegzump::ROWS, 1 << 21);
+        if found.answer.number != input.number {
+            of_inputs.differ += 1;
+            println!("DIFFERS: {} is answered {:?}", input.name, found.answer);
+        }
+    }
+    println!("measured inputs: {} compared, {} differ", of_inputs.inputs, of_inputs.differ);
+
+    let mut of_draws = Comparison::default();
+    let mut passing: Vec<Vec<u8>> = cases.iter().map(|case| case.table.clone()).filter(|table| plain::check(table).number == 0).collect();
+    passing.sort();
+    passing.dedup();
+    let mut draws = Draws::new(options.seed);
+    let mut room = Room::new();
+    for number in 0..options.draws {
+        let drawn = draw::draw(&mut draws, &passing);
+        let (cells, text) = lent(&mut draws, &drawn, &mut room);
+        of_draws.input(&format!("drawn-{}-{number}", options.seed), &drawn.table, &drawn.formula, cells, text);
+    }
+    println!("drawn inputs, seed {}: {} compared, {} differ", options.seed, of_draws.inputs, of_draws.differ);
+    println!("  answers by number: {}", of_draws.answered());
+    println!("  {:.1} s", start.elapsed().as_secs_f64());
+    of_cases.differ + of_inputs.differ + of_draws.differ == 0
+}
+
+/// How many cells and bytes of text are lent: enough, just enough, too little or none.
+fn lent(draws: &mut Draws, drawn: &draw::Drawn, room: &mut Room) -> (usize, usize) {
+    room.cells.fill(0);
+    let whole = plain::expand(&drawn.table, &drawn.formula, &mut room.cells, &mut room.text);
+    let (made, length) = match whole.number {
+        0 => (whole.a as usize, whole.c as usize),
+        22 => (whole.a as usize, 0),
+        // The rows made by what refuses later are those with a code.
+        _ => (room.cells.chunks_exact(4).position(|row| row[0] == 0).unwrap_or(vegzump::ROWS), 0),
+    };
+    let cells = match draws.below(20) {
+        0 => 0,
+        1 => (4 * made).saturating_sub(1),
+        2 => 4 * made.saturating_sub(1),
+        3 => draws.below(4 * made + 8),
+        4 => 4 * made + 3,
+        5 if draws.percent(2) => 4 * (vegzump::ROWS + draws.below(3)) - 1,
+        6..=9 => 4 * made + 4 + draws.below(20),
+        _ => 4 * made,
+    };
+    let text = match draws.below(20) {
+        0 => 0,
+        1 | 2 => length.saturating_sub(1),
+        3 => draws.below(length + 2),
+        4..=8 => length + 1 + draws.below(9),
+        _ => length,
+    };
+    (cells, text)
+}
+
+// ---- times ----
+
+fn tokens(input: &Input) -> usize {
+    // Runs of letters, digits and underscores are one token in these formulas, every other byte that is no space is one of its own.
+    let in_word = |byte: u8| byte.is_ascii_alphanumeric() || byte == b'_';
+    let starts = |at: usize| !in_word(input.formula[at]) || at == 0 || !in_word(input.formula[at - 1]);
+    (0..input.formula.len()).filter(|&at| input.formula[at] != b' ' && starts(at)).count()
+}
+
+fn times(options: &Options, list: &[Input]) {
+    let mut room = Room::new();
+    println!("| Input | table bytes | tokens | archive, µs | plain Rust, µs | ratio |\n|---|---|---|---|---|---|");
+    let (mut worst, mut worst_long) = (0.0f64, 0.0f64);
+    for input in list {
+        let [archive, plain] = times::best(input, &mut room, options.budget);
+        let (bytes, tokens, ratio) = (input.table.len(), tokens(input), archive / plain);
+        println!("| {} | {bytes} | {tokens} | {} | {} | {ratio:.2} |", input.name, shown(archive), shown(plain));
+        worst = worst.max(ratio);
+        if tokens > 1_000 {
+            worst_long = worst_long.max(ratio);
+        }
+    }
+    println!("\nThe largest ratio is {worst:.2}, and {worst_long:.2} of inputs over 1,000 tokens.");
+}
+
+fn growth(options: &Options) {
+    let mut room = Room::new();
+    println!("| Growing | sizes | archive, µs | plain Rust, µs | archive, 8 times | plain, 8 times |\n|---|---|---|---|---|---|");
+    for series in inputs::growth(options.hash) {
+        let all = series.inputs.each_ref().map(|(_, input)| times::best(input, &mut room, options.budget / 2));
+        let sizes = series.inputs.each_ref().map(|(size, _)| size.to_string()).join(", ");
+        let side = |side: usize| all.map(|times| shown(times[side])).join(", ");
+        let factor = |side: usize| all[3][side] / all[0][side];
+        println!("| {} | {sizes} | {} | {} | {:.1} | {:.1} |", series.name, side(0), side(1), factor(0), factor(1));
+    }
+}
+
+// ---- instructions ----
+
+/// One call that is counted, after one that is not.
+fn once(side: Side, table: &str, formula: &str) -> std::io::Result<()> {
+    let (table, formula, mut room) = (std::fs::read(table)?, std::fs::read(formula)?, Room::new());
+    side.expand(&table, &formula, &mut room.cells, &mut room.text);
+    measured(side, &table, &formula, &mut room);
+    Ok(())
+}
+
+/// What callgrind counts.
+#[no_mangle]
+#[inline(never)]
+extern "Rust" fn measured(side: Side, table: &[u8], formula: &[u8], room: &mut Room) -> plain::Answer {
+    side.expand(table, formula, &mut room.cells, &mut room.text)
+}
+
+fn collected(side: &str, input: &Input) -> Option<u64> {
+    let folder = std::env::temp_dir();
+    let files = ["table", "formula"].map(|part| folder.join(format!("vegzump-bench-{}-{part}", std::process::id())));
+    std::fs::write(&files[0], &input.table).ok()?;
+    std::fs::write(&files[1], &input.formula).ok()?;
+    let said = Command::new("valgrind")
+        .args(["--tool=callgrind", "--toggle-collect=measured", "--callgrind-out-file=/dev/null"])
+        .arg(std::env::current_exe().ok()?)
+        .args(["--once", side])
+        .args(&files)
+        .output();
+    files.iter().for_each(|file| drop(std::fs::remove_file(file)));
+    let said = String::from_utf8_lossy(&said.ok()?.stderr).into_owned();
+    let line = said.lines().find(|line| line.contains("Collected :"))?;
+    line.split_whitespace().last()?.parse().ok()
+}
+
+fn counts(list: &[Input]) -> bool {
+    println!("| Input | archive, instructions | plain Rust, instructions | ratio |\n|---|---|---|---|");
+    for input in list {
+        let (Some(archive), Some(plain)) = (collected("archive", input), collected("plain", input)) else {
+            println!("valgrind is not installed, or gave no count");
+            return false;
+        };
+        println!("| {} | {archive} | {plain} | {:.2} |", input.name, archive as f64 / plain as f64);
+    }
+    true
+}

@@ -1,0 +1,58 @@
+//! The archive's C names over the plain implementation. `bench/standin/build DIR` makes `DIR/libvegzump.a` of it. It proves nothing: the host
+//! tests and the benchmark can be tried on it where the archive is not built.
+
+use std::slice;
+
+#[repr(C)]
+pub struct Answer {
+    number: u8,
+    a: u64,
+    b: u64,
+    c: u64,
+}
+
+fn answer(found: plain::Answer) -> Answer {
+    Answer { number: found.number, a: found.a, b: found.b, c: found.c }
+}
+
+/// # Safety
+/// `from` is valid for `length` bytes, or the length is 0.
+unsafe fn bytes<'a>(from: *const u8, length: usize) -> &'a [u8] {
+    // A length past all memory is refused before a byte is read, so the slice may be shorter.
+    if length == 0 { &[] } else { slice::from_raw_parts(from, length.min(1 << 17)) }
+}
+
+/// # Safety
+/// `from` is valid for `length` parts, or the length is 0.
+unsafe fn room<'a, T>(from: *mut T, length: usize) -> &'a mut [T] {
+    if length == 0 { &mut [] } else { slice::from_raw_parts_mut(from, length) }
+}
+
+/// # Safety
+/// As the header asks.
+#[no_mangle]
+pub unsafe extern "C" fn vegzump_check(table: *const u8, table_len: usize) -> Answer {
+    answer(plain::check(bytes(table, table_len)))
+}
+
+/// # Safety
+/// As the header asks.
+#[no_mangle]
+pub unsafe extern "C" fn vegzump_expand(
+    table: *const u8,
+    table_len: usize,
+    formula: *const u8,
+    formula_len: usize,
+    cells: *mut u32,
+    cells_len: usize,
+    text: *mut u8,
+    text_len: usize,
+) -> Answer {
+    let (cells, text) = (room(cells, cells_len), room(text, text_len));
+    let found = plain::expand(bytes(table, table_len), bytes(formula, formula_len), cells, text);
+    #[cfg(feature = "wrong")]
+    if found.number == 0 && found.a == 3 {
+        text[0] = b'X';
+    }
+    answer(found)
+}

@@ -1,0 +1,79 @@
+-- The steps of the last step joined: the answer and the buffer are those of `emitted`.
+use Prim.Native.Nat.{ℕ, _<_, _≤_}
+use mathlib.Core.Path.{_≡_, sym, ap, ap₂, _∙_}
+use mathlib.Core.List.{List}
+use native.Mathlib.Omega.{arith}
+use native.Mathlib.Decide.{decLe}
+use lib.ListN.{length}
+use borrow.Author.Tests.{le-leb, lt-leb}
+use Rattle.answers.specs.declared.Answer.{Answer}
+use Rattle.answers.specs.declared.Answer.the-variants.{Accepted, Refusing}
+use Rattle.answers.specs.Refusals.{refusal}
+use Rattle.spellings.specs.Buffers.{written}
+use Rattle.spellings.specs.BuffersLaws.{written-fits, written-not}
+use Rattle.terms.specs.Term.{Name, Term, size}
+use Rattle.terms.specs.Rows.{termAt}
+use Rattle.terms.specs.Print.{print}
+use Rattle.terms.specs.Emit.{textOf, fitted, emitted}
+use Rattle.terms.proofs.EmitLaws.{leaves, fitted-long, fitted-whole, emitted-large, emitted-loose, emitted-fitted}
+use Rattle.rows.specs.Sizes.{noSpell, sizeAt}
+use Rattle.rows.proofs.SizeLaws.{size-spell}
+use Rattle.resolver.specs.declared.Resolution.{Resolution}
+use Rattle.resolver.specs.declared.Resolution.the-variants.{Loose, Numbered}
+use Rattle.resolver.specs.Numbers.{walkOf, ResolvedAs}
+use Rattle.printer.specs.Shown.{textBy, Prints}
+use Rattle.emitter.specs.Emittable.{answerBy}
+
+module _ (made constructors needed room : ℕ) where
+  pub answer-long : room < needed → Refusing (refusal 24 needed 0 0) ≡ answerBy made constructors needed room
+  unfolding answerBy
+  answer-long h = sym (rw (lt-leb needed room h, answerBy))
+
+  pub answer-whole : needed ≤ room → Accepted made constructors needed ≡ answerBy made constructors needed room
+  unfolding answerBy
+  answer-whole h = sym (rw (le-leb needed room h, answerBy))
+
+-- what is written, if it fits, and the answer by its length
+fitted-by : (made constructors : ℕ) (out text : List ℕ)
+    → fitted made constructors out text ≡ leaves (answerBy made constructors (length out) (length text)) (written out text)
+fitted-by made constructors out text = by (decLe (length out) (length text))
+  where
+    by : Dec (length out ≤ length text) → fitted made constructors out text ≡ leaves (answerBy made constructors (length out) (length text)) (written out text)
+    by (yes h) =
+        fitted-whole made constructors out text h
+        ∙ ap₂ leaves (answer-whole made constructors (length out) (length text) h) (sym (written-fits out text h))
+    by (no n) =
+        let h : length text < length out = omega arith in
+        fitted-long made constructors out text h
+        ∙ ap₂ leaves (answer-long made constructors (length out) (length text) h) (sym (written-not out text h))
+
+module _ (S : ℕ → List ℕ) (cells : List ℕ) (made root : ℕ) where
+  abbrev T : Term Name
+  T = termAt made S cells root
+
+  sized : sizeAt cells made root ≡ size T
+  sized = size-spell made noSpell S cells root
+
+  -- 22
+  pub emit-large : (text : List ℕ) {r : Answer} → 16384 < sizeAt cells made root → r ≡ Refusing (refusal 22 made 0 0) → emitted textOf made T text ≡ leaves r text
+  emit-large text h e = emitted-large textOf made T text (omega (arith, sized)) ∙ ap (λ a. leaves a text) (sym e)
+
+  module _ (text : List ℕ) (small : sizeAt cells made root ≤ 16384) {numbers : List ℕ} {n : Resolution} (resolved : ResolvedAs T numbers n) where
+    -- 23
+    pub emit-loose : {p : ℕ} {r : Answer} → n ≡ Loose p → r ≡ Refusing (refusal 23 p 0 0) → emitted textOf made T text ≡ leaves r text
+    emit-loose en e =
+        emitted-loose textOf made T text (omega (arith, sized)) (resolved .answer ∙ ap (λ w. walkOf w (size T)) en)
+        ∙ ap (λ a. leaves a text) (sym e)
+
+    -- 24 or the text: what the walk prints is the text
+    pub emit-text : {text′ : List ℕ} {constructors needed : ℕ} {r : Answer} → n ≡ Numbered → constructors ≡ sizeAt cells made root
+        → Prints (textBy S cells numbers made root) text text′ needed → r ≡ answerBy made constructors needed (length text)
+        → emitted textOf made T text ≡ leaves r text′
+    unfolding textBy
+    emit-text {r = r} en ec p er =
+        let same : textBy S cells numbers made root ≡ textOf T = ap print (resolved .named en) in
+        let answer : answerBy made (size T) (length (textOf T)) (length text) ≡ r =
+        ap₂ (λ c l. answerBy made c l (length text)) (sym (ec ∙ sized)) (ap length (sym same) ∙ sym (p .needed)) ∙ sym er in
+        emitted-fitted textOf made T text (omega (arith, sized)) (resolved .answer ∙ ap (λ w. walkOf w (size T)) en)
+        ∙ fitted-by made (size T) (textOf T) text
+        ∙ ap₂ leaves answer (ap (λ out. written out text) (sym same) ∙ sym (p .placed))

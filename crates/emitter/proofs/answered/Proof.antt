@@ -1,0 +1,18 @@
+-- `answered`: the text fits or not.
+use mathlib.Core.Path.{_∙_}
+use borrow.Author.Needs.{needs}
+use Rattle.emitter.proofs.EmitterLaws as laws
+use Rattle.emitter.proofs.answered.Statement.{statement}
+use Rattle.emitter.proofs.answered.Tie as tie
+
+refusing-requires : tie.Need-refusing-requires
+refusing-requires c κs = search needs
+
+returns : tie.Need-returns
+returns c = c .refusing .ensures ∙ laws.answer-long _ _ _ _ (c .before .if1 .taken)
+
+returns-2 : tie.Need-returns-2
+returns-2 c = laws.answer-whole _ _ _ _ (c .if1 .left)
+
+pub answered-spec : {M : Type 1} → statement M
+answered-spec = tie.close (tie.spec refusing-requires returns returns-2)

@@ -1,0 +1,76 @@
+// The last step of an expansion: refusals 22, 23 and 24, or the text of its term.
+use answers::Answer;
+use answers::Refusal;
+use printer::print_text;
+use resolver::Resolution;
+use resolver::resolve;
+use rows::sizes::size_term;
+ghost use mathlib.Core.Path.{_≡_};
+ghost use Rattle.answers.specs.Refusals.{refusal};
+ghost use Rattle.terms.specs.Rows.{termAt};
+ghost use Rattle.terms.specs.Emit.{textOf, emitted};
+ghost use Rattle.printer.specs.Pool.{spelledBy};
+ghost use Rattle.emitter.specs.Emittable.{Emittable, answerBy};
+
+fn refusing(number: u8, a: usize) -> Answer
+    ensures { λ r. ⌜ r ≡ Answer.Refusing (refusal number a 0 0) ⌝ }
+{
+    Answer::Refusing(Refusal {
+        number,
+        a: a as u64,
+        b: 0,
+        c: 0,
+    })
+}
+
+// The answer where `needed` bytes are to go into a room.
+fn answered(made: usize, size: usize, needed: usize, room: usize) -> Answer
+    ensures { λ r. ⌜ r ≡ answerBy made size needed room ⌝ }
+{
+    if room < needed {
+        return refusing(24, needed);
+    }
+    Answer::Accepted(made, size, needed)
+}
+
+// Refusals 22, 23 and 24, or the text of the term at a row, at the front of `text`. `cells` are the rows made; `words` has the offset and
+// the length of each of the formula's `count` words. On a refusal the text is as it was; bytes behind a text are as before.
+pub fn emit(
+    table: &[u8],
+    formula: &[u8],
+    words: &[u32; 8192],
+    count: usize,
+    cells: &[u32],
+    made: usize,
+    root: u32,
+    text: &mut [u8],
+) -> Answer
+    requires { ⌜ Emittable (now table) (now formula) (now words) count (now cells) made root ⌝ }
+    ensures { λ r. ⌜ emitted textOf made (termAt made (spelledBy (now (table .entry)) (now (formula .entry)) (now (words .entry)) count) (now (cells .entry)) root) (now (text .entry)) ≡ record { answer = r; text = now (text .exit) } ⌝ }
+{
+    let left = size_term(cells, made, root, 16385);
+    if left == 0 {
+        return refusing(22, made);
+    }
+    let size = 16385 - left;
+    let mut marks = [0u16; 16384];
+    let resolution = resolve(cells, made, root, size, &mut marks);
+    match resolution {
+        Resolution::Loose(p) => refusing(23, p),
+        Resolution::Numbered => {
+            let room = text.len();
+            let needed = print_text(
+                table,
+                formula,
+                words,
+                count,
+                cells,
+                made,
+                root,
+                &marks,
+                text,
+            );
+            answered(made, size, needed, room)
+        }
+    }
+}

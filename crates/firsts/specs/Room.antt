@@ -1,0 +1,43 @@
+-- What the room of a table holds, for any bytes: the productions in it, with their first sets and nullability. The room mirrors code:
+-- nobody needs it to believe `expand`.
+use Prim.Native.Nat.{ℕ, _≤_}
+use mathlib.Core.Path.{_≡_}
+use mathlib.Core.Bool.{true, false}
+use mathlib.Core.List.{List, _++_, map}
+use lib.ListN.{length}
+use Rattle.grammar.specs.Lookup.{fieldsAt}
+use Rattle.layout.specs.Within.{Each}
+use Rattle.productions.specs.Normal.{Production}
+use Rattle.productions.specs.Index.{itemsOf, Place, placesOf, productionsAt, wholeBody}
+use Rattle.productions.specs.Room.{Entry, roomOf}
+use Rattle.firsts.specs.First.{nullables, firstSets, allPassed, gather}
+
+-- a production at a place, with the sets of its grammar
+abbrev pub entryAt : List ℕ → ℕ → List ℕ → Place → Entry
+entryAt bs nulls sets p =
+    record {
+      owner = p .owner;
+      start = p .start;
+      first = gather false nulls sets (itemsOf (fieldsAt bs (p .start))) 0;
+      nullable = allPassed nulls (itemsOf (fieldsAt bs (p .start)));
+    }
+
+abbrev pub roomBy : List ℕ → List Place → ℕ → List ℕ → List ℕ
+roomBy bs places nulls sets = roomOf sets (map (entryAt bs nulls sets) places)
+
+-- the productions of a table's bytes
+abbrev pub productionsIn : List ℕ → List Production
+productionsIn bs = productionsAt bs (placesOf bs)
+
+-- the room of a table's bytes
+unfoldable pub tableRoom : List ℕ → List ℕ
+tableRoom bs =
+    roomBy bs (placesOf bs) (nullables (productionsIn bs)) (firstSets (nullables (productionsIn bs)) (productionsIn bs))
+
+-- a room that holds the grammar of a table, each production a whole alternative
+pub record HoldsGrammar (bs room : List ℕ) : Type 0 where
+  pub small : length bs ≤ 16384
+  pub few : length (placesOf bs) ≤ 256
+  pub rest : List ℕ
+  pub held : room ≡ tableRoom bs ++ rest
+  pub whole : Each (λ (p : Place). wholeBody (fieldsAt bs (p .start)) ≡ true) (placesOf bs)

@@ -1,0 +1,21 @@
+-- `has_kind`: what is no kind is in no set.
+use mathlib.Core.Path.{sym}
+use Rattle.kinds.specs.KindsLaws.{has-above}
+use borrow.Author.Needs.{needs}
+use Rattle.kinds.proofs.has_kind.Statement.{statement}
+use Rattle.kinds.proofs.has_kind.Tie as tie
+
+cast-has : tie.Need-cast-has
+cast-has c = search needs
+
+has-requires : tie.Need-has-requires
+has-requires c κs = search needs
+
+returns : tie.Need-returns
+returns c = search needs
+
+returns-2 : tie.Need-returns-2
+returns-2 c = sym (has-above 64 (c .before .args .set) (c .before .args .kind) (c .before .fits .set .fits) (c .if1 .left))
+
+pub has-kind-spec : {M : Type 1} → statement M
+has-kind-spec = tie.close (tie.spec cast-has has-requires returns returns-2)

@@ -1,0 +1,36 @@
+-- A whole text: measured first, then written if it fits.
+use Prim.Native.Nat.{ℕ, _+_, _<_, _≤_}
+use mathlib.Core.Path.{_≡_, sym, ap, _∙_}
+use mathlib.Core.List.{List, _++_}
+use native.Mathlib.Nat.{zero-add}
+use native.Mathlib.Omega.{arith}
+use lib.ListN.{length, drop}
+use lib.Seq.{sets-eq}
+use Rattle.spellings.specs.BuffersLaws.{written-fits, written-not}
+use Rattle.terms.specs.Rows.{termAt}
+use Rattle.terms.specs.Print.{print}
+use Rattle.terms.specs.Labelled.{labelled}
+use Rattle.printer.specs.Shown.{spellIn, termText, textBy, Wrote, Prints}
+use Rattle.printer.specs.Pool.{Pooled}
+
+-- a text that is too long
+pub prints-none : (out text : List ℕ) {r : ℕ} → r ≡ 0 + length out → length text < r → Prints out text text r
+prints-none out text e l = record { needed = e ∙ zero-add (length out); placed = sym (written-not out text (omega arith)) }
+
+-- a text that fits
+pub prints-whole : {out text text′ : List ℕ} {n r : ℕ} → n ≡ 0 + length out → n ≤ length text → Wrote text 0 out r text′ → Prints out text text′ r
+prints-whole {out} {text} e l w =
+    let fits : length out ≤ length text = omega arith in
+    let z : 0 + length out ≡ length out = zero-add (length out) in
+    record {
+      needed = w .end ∙ z;
+      placed = w .put (omega arith) ∙ sets-eq out text 0 (omega arith) ∙ ap (λ n. out ++ drop n text) z ∙ sym (written-fits out text fits);
+    }
+
+-- the text by what the room spells
+pub prints-spelled : (cells numbers : List ℕ) (made root : ℕ) {pool text text′ : List ℕ} {S : ℕ → List ℕ} {r : ℕ}
+    → Pooled pool S → Prints (termText pool cells numbers made root 0) text text′ r → Prints (textBy S cells numbers made root) text text′ r
+unfolding termText textBy
+prints-spelled cells numbers made root {pool} {S = S} h p =
+    let spelled : spellIn pool ≡ S = λ i m. h .spelled m i in
+    rw spelled at p

@@ -1,0 +1,58 @@
+-- Writes into what remains of a buffer: a byte, and bytes by a writer to whom the rest is lent.
+use Prim.Native.Nat.{ℕ, zero, suc, _+_, _-_, _*_, _≤_, _<_, min}
+use mathlib.Core.Path.{_≡_, refl, sym, ap, subst, _∙_}
+use mathlib.Core.List.{List, [], _∷_, _++_, append-assoc, append-nil}
+use native.Mathlib.Omega.{arith}
+use Rattle.grammar.proofs.ReaderLaws.{getD-past}
+use lib.ListN.{length, getD, set, take, drop, length-set, length-drop, drop-of-length-le}
+use lib.Seq.{sets, sets-eq, take-all, drop-drop}
+use borrow.Rule.Slice.PartMut.{putMid, midOf, same-len-mid}
+use Rattle.spellings.specs.Buffers.{written}
+use Rattle.spellings.specs.BuffersLaws.{written-fits, length-written}
+use Rattle.printer.specs.Shown.{Wrote, spellIn}
+
+pub byte-in : (out : List ℕ) (at b : ℕ) → Wrote out at (b ∷ []) (at + 1) (set out at b)
+byte-in out at b = record { end = refl; same = length-set out at b; put = λ h. refl }
+
+pub byte-out : (out : List ℕ) (at b : ℕ) → length out ≤ at → Wrote out at (b ∷ []) (at + 1) out
+byte-out out at b l = record { end = refl; same = refl; put = λ h. absurd (omega arith) }
+
+module _ (out s : List ℕ) (at from : ℕ) (ef : from ≡ min at (length out)) where
+  rest : length out - from ≡ length (drop from out)
+  rest = sym (length-drop from out)
+
+  whole : midOf from (length out - from) out ≡ drop from out
+  whole = take-all (length out - from) (drop from out) (omega (arith, rest))
+
+  fits-all : at + length s ≤ length out → putMid from (length out - from) out (s ++ drop (length s) (drop from out)) ≡ sets out at s
+  fits-all h =
+      let e : from ≡ at = omega arith in
+      let all : length (drop from out) ≤ length out - from = omega (arith, rest) in
+      let none : drop (length out - from) (drop from out) ≡ [] = drop-of-length-le (drop from out) all in
+      ap (λ l. take from out ++ ((s ++ drop (length s) (drop from out)) ++ l)) none
+      ∙ ap (λ l. take from out ++ l) (append-nil (s ++ drop (length s) (drop from out)) ∙ ap (λ l. s ++ l) (drop-drop (length s) from out))
+      ∙ sym (append-assoc (take from out) s (drop (from + length s) out))
+      ∙ ap (λ n. take n out ++ s ++ drop (n + length s) out) e
+      ∙ sym (sets-eq s out at h)
+
+  -- a writer to whom the rest was lent, and that wrote s there if it fits
+  pub lent : {r : ℕ} {last : List ℕ} → r ≡ length s → last ≡ written s (midOf from (length out - from) out)
+      → Wrote out at s (at + r) (putMid from (length out - from) out last)
+  lent {r} {last} er el =
+      record {
+        end = ap (λ n. at + n) er;
+        same = same-len-mid from (length out - from) out last (ap length el ∙ length-written s (midOf from (length out - from) out));
+        put =
+            λ h.
+            let room : length s ≤ length (drop from out) = omega (arith, rest) in
+            ap (putMid from (length out - from) out) (el ∙ ap (written s) whole ∙ written-fits s (drop from out) room) ∙ fits-all h;
+      }
+
+-- the spelling of a number, read off the room
+pub spelled : (pool : List ℕ) (n : ℕ) {m : ℕ} {r : List ℕ} → m ≡ getD pool (n * 32) 0 → r ≡ take m (drop (n * 32 + 1) pool) → r ≡ spellIn pool n
+unfolding spellIn
+spelled pool n e h = h ∙ ap (λ k. take k (drop (n * 32 + 1) pool)) e
+
+pub spelled-past : (pool : List ℕ) (n : ℕ) {r : List ℕ} → length pool ≤ n * 32 → r ≡ take 0 (drop 0 pool) → r ≡ spellIn pool n
+unfolding spellIn
+spelled-past pool n l h = h ∙ ap (λ k. take k (drop (n * 32 + 1) pool)) (sym (getD-past pool (n * 32) 0 l))

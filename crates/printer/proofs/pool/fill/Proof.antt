@@ -1,0 +1,105 @@
+-- `fill`: the outside names, then word by word.
+use Prim.Native.Nat.{_-_, _+_, _*_, _≤_}
+use mathlib.Core.Path.{_≡_, refl, sym, ap, _∙_}
+use native.Mathlib.Omega.{arith}
+use borrow.Author.Needs.{needs}
+use lib.ListN.{length}
+use Rattle.grammar.specs.Fields.{lexiconOf}
+use Rattle.printer.proofs.PoolLaws as laws
+use Rattle.printer.proofs.pool.fill.Statement.{statement}
+use Rattle.printer.proofs.pool.fill.Tie as tie
+use Rattle.printer.proofs.pool.fill.Reads as reads
+use Rattle.printer.proofs.pool.fill.Lts as lts
+use Rattle.grammar.proofs.reader.part.Reads as part-reads
+use Rattle.printer.proofs.pool.fill_outsides.Reads as fill-outsides-reads
+use Rattle.printer.proofs.pool.offset.Reads as offset-reads
+use Rattle.printer.proofs.pool.store.Reads as store-reads
+
+abbrev Inv-loop : tie.InvT-loop
+Inv-loop table formula words count pool₀ i₀ pool i = laws.Storing (lexiconOf table .outsides) formula words pool₀ pool count i
+
+abbrev μ-loop : tie.MeasureT-loop
+μ-loop table formula words count pool₀ i₀ pool i = count - i
+
+fill-outsides-requires : tie.Need-fill-outsides-requires Inv-loop μ-loop
+fill-outsides-requires c κs = (omega (arith, c .before .before .before .before .pre .0 .0), (c .before .before .before .before .pre .1 .0, c .before .before .before .before .pre .1 .1 .0))
+
+loop-holds : tie.Need-loop-holds Inv-loop μ-loop
+loop-holds c = laws.storing-start (c .before .before .before .before .before .before .before .args .table .now) (c .before .before .before .before .before .before .before .args .formula .now) (c .before .before .before .before .before .before .before .args .words .now) (c .before .before .before .before .before .before .before .args .count) (c .before .before .fill-outsides .ensures)
+
+mul-offset : tie.Need-mul-offset Inv-loop μ-loop
+mul-offset c = omega (arith, c .before .before .before .before .before .before .before .before .before .pre .0 .1, c .loop-test .taken)
+
+mul-offset-2 : tie.Need-mul-offset-2 Inv-loop μ-loop
+mul-offset-2 c = omega (arith, c .before .before .before .before .before .before .before .before .before .pre .0 .1, c .loop-test .taken)
+
+element-copy-out-offset : tie.Need-element-copy-out-offset Inv-loop μ-loop
+element-copy-out-offset c = omega (arith, c .before .before .before .before .before .before .before .before .before .pre .0 .1, c .loop-test .taken)
+
+offset-requires : tie.Need-offset-requires Inv-loop μ-loop
+offset-requires c κs = search needs
+
+mul-offset-3 : tie.Need-mul-offset-3 Inv-loop μ-loop
+mul-offset-3 c = omega (arith, c .before .before .before .before .before .before .before .before .before .before .before .pre .0 .1, c .before .before .loop-test .taken)
+
+add-offset : tie.Need-add-offset Inv-loop μ-loop
+add-offset c = omega (arith, c .before .before .before .before .before .before .before .before .before .before .before .pre .0 .1, c .before .before .loop-test .taken)
+
+mul-offset-4 : tie.Need-mul-offset-4 Inv-loop μ-loop
+mul-offset-4 c = omega (arith, c .before .before .before .before .before .before .before .before .before .before .before .pre .0 .1, c .before .before .loop-test .taken)
+
+element-copy-out-offset-2 : tie.Need-element-copy-out-offset-2 Inv-loop μ-loop
+element-copy-out-offset-2 c = omega (arith, c .before .before .before .before .before .before .before .before .before .before .before .pre .0 .1, c .before .before .loop-test .taken)
+
+offset-requires-2 : tie.Need-offset-requires-2 Inv-loop μ-loop
+offset-requires-2 c κs = search needs
+
+add-store : tie.Need-add-store Inv-loop μ-loop
+add-store c = omega (arith, c .before .before .before .before .before .before .before .before .before .before .before .before .before .before .pre .0 .1, c .before .before .before .before .before .loop-test .taken)
+
+part-requires : tie.Need-part-requires Inv-loop μ-loop
+part-requires c κs = search needs
+
+store-requires : tie.Need-store-requires Inv-loop μ-loop
+store-requires c κs = (((laws.word-short (lexiconOf (c .before .before .before .before .before .before .before .before .before .before .before .before .before .before .before .args .table .now) .outsides) (c .before .before .before .before .before .before .before .before .before .before .before .before .before .before .before .args .formula .now) (c .before .before .before .before .before .before .before .before .before .before .before .before .before .before .before .args .words .now) (c .before .before .before .before .before .before .before .loop .i) (c .before .before .before .before .before .before .before .before .before .before .before .before .before .before .before .args .count) (c .before .before .before .before .before .before .before .before .before .before .before .before .before .before .before .pre .1 .1 .1) (c .before .before .before .before .before .before .loop-test .taken) (laws.word-is (lexiconOf (c .before .before .before .before .before .before .before .before .before .before .before .before .before .before .before .args .table .now) .outsides) (c .before .before .before .before .before .before .before .before .before .before .before .before .before .before .before .args .formula .now) (c .before .before .before .before .before .before .before .before .before .before .before .before .before .before .before .args .words .now) (c .before .before .before .before .before .before .before .loop .i) (c .before .before .before .before .offset .ensures) (c .before .before .offset2 .ensures) (c .part .ensures))), (omega (arith, c .before .before .before .before .before .before .loop-test .taken, (c .before .before .before .before .before .before .before .loop .inv) .long, c .before .before .before .before .before .before .before .before .before .before .fill-outsides .kept .1 .0, c .before .before .before .before .before .before .before .before .before .before .before .before .before .before .before .pre .0 .0))), omega (arith, c .before .before .before .before .before .before .loop-test .taken, c .before .before .before .before .before .before .before .before .before .before .before .before .before .before .before .pre .0 .1))
+
+add-i : tie.Need-add-i Inv-loop μ-loop
+add-i c = omega (arith, c .before .before .before .before .before .before .before .before .before .before .before .before .before .before .before .before .before .before .pre .0 .1, c .before .before .before .before .before .before .before .before .before .loop-test .taken)
+
+loop-less : tie.Need-loop-less Inv-loop μ-loop
+loop-less c = omega (arith, c .before .before .before .before .before .before .before .before .before .before .before .before .before .before .before .before .before .before .pre .0 .1, c .before .before .before .before .before .before .before .before .before .loop-test .taken)
+
+loop-again : tie.Need-loop-again Inv-loop μ-loop
+loop-again c = laws.storing-next (c .before .before .before .before .before .before .before .before .before .before .loop .inv) (c .before .before .before .before .before .before .before .before .before .loop-test .taken) (laws.word-is (lexiconOf (c .before .before .before .before .before .before .before .before .before .before .before .before .before .before .before .before .before .before .args .table .now) .outsides) (c .before .before .before .before .before .before .before .before .before .before .before .before .before .before .before .before .before .before .args .formula .now) (c .before .before .before .before .before .before .before .before .before .before .before .before .before .before .before .before .before .before .args .words .now) (c .before .before .before .before .before .before .before .before .before .before .loop .i) (c .before .before .before .before .before .before .before .offset .ensures) (c .before .before .before .before .before .offset2 .ensures) (c .before .before .before .part .ensures)) (laws.word-short (lexiconOf (c .before .before .before .before .before .before .before .before .before .before .before .before .before .before .before .before .before .before .args .table .now) .outsides) (c .before .before .before .before .before .before .before .before .before .before .before .before .before .before .before .before .before .before .args .formula .now) (c .before .before .before .before .before .before .before .before .before .before .before .before .before .before .before .before .before .before .args .words .now) (c .before .before .before .before .before .before .before .before .before .before .loop .i) (c .before .before .before .before .before .before .before .before .before .before .before .before .before .before .before .before .before .before .args .count) (c .before .before .before .before .before .before .before .before .before .before .before .before .before .before .before .before .before .before .pre .1 .1 .1) (c .before .before .before .before .before .before .before .before .before .loop-test .taken) (laws.word-is (lexiconOf (c .before .before .before .before .before .before .before .before .before .before .before .before .before .before .before .before .before .before .args .table .now) .outsides) (c .before .before .before .before .before .before .before .before .before .before .before .before .before .before .before .before .before .before .args .formula .now) (c .before .before .before .before .before .before .before .before .before .before .before .before .before .before .before .before .before .before .args .words .now) (c .before .before .before .before .before .before .before .before .before .before .loop .i) (c .before .before .before .before .before .before .before .offset .ensures) (c .before .before .before .before .before .offset2 .ensures) (c .before .before .before .part .ensures))) (omega (arith, c .before .before .before .before .before .before .before .before .before .loop-test .taken, (c .before .before .before .before .before .before .before .before .before .before .loop .inv) .long, c .before .before .before .before .before .before .before .before .before .before .before .before .before .fill-outsides .kept .1 .0, c .before .before .before .before .before .before .before .before .before .before .before .before .before .before .before .before .before .before .pre .0 .0)) (c .before .before .store .ensures)
+
+same-length : tie.Need-same-length Inv-loop μ-loop
+same-length c = (c .before .loop .inv) .long ∙ c .before .before .before .before .fill-outsides .kept .1 .0
+
+returns : tie.Need-returns Inv-loop μ-loop
+returns c = laws.storing-end (c .before .loop .inv) (c .loop-test .left)
+
+pub fill-spec : {M : Type 1} → statement M
+fill-spec =
+    tie.close
+    (tie.spec
+    Inv-loop
+    μ-loop
+    fill-outsides-requires
+    loop-holds
+    mul-offset
+    mul-offset-2
+    element-copy-out-offset
+    offset-requires
+    mul-offset-3
+    add-offset
+    mul-offset-4
+    element-copy-out-offset-2
+    offset-requires-2
+    add-store
+    part-requires
+    store-requires
+    add-i
+    loop-less
+    loop-again
+    same-length
+    returns)

@@ -1,0 +1,34 @@
+-- `spelling`: a length, and the bytes behind it.
+use mathlib.Core.Path.{_∙_}
+use borrow.Author.Needs.{needs}
+use Rattle.printer.proofs.WriteLaws.{spelled}
+use borrow.Author.Needs.{needs}
+use Rattle.printer.proofs.pool.spelling.Statement.{statement}
+use Rattle.printer.proofs.pool.spelling.Tie as tie
+use Rattle.printer.proofs.pool.spelling.Reads as reads
+use Rattle.printer.proofs.pool.spelling.Lts as lts
+use Rattle.grammar.proofs.reader.byte.Reads as byte-reads
+use Rattle.grammar.proofs.reader.part.Reads as part-reads
+use Rattle.printer.proofs.pool.wide.Reads as wide-reads
+
+mul-i : tie.Need-mul-i
+mul-i c = search needs
+
+add-part : tie.Need-add-part
+add-part c = search needs
+
+byte-requires : tie.Need-byte-requires
+byte-requires c κs = search needs
+
+wide-requires : tie.Need-wide-requires
+wide-requires c κs = search needs
+
+part-requires : tie.Need-part-requires
+part-requires c κs = search needs
+
+returns : tie.Need-returns
+returns c = spelled (c .before .before .before .before .args .pool .now) (c .before .before .before .before .args .n) (c .before .wide .ensures ∙ c .before .before .byte .ensures) (c .part .ensures)
+
+pub spelling-spec : {M : Type 1} → statement M
+spelling-spec =
+    tie.close (tie.spec mul-i add-part byte-requires wide-requires part-requires returns)

@@ -1,0 +1,35 @@
+-- `store`: the length, then the bytes.
+use native.Mathlib.Omega.{arith}
+use borrow.Author.Needs.{needs}
+use Rattle.printer.proofs.PoolLaws as laws
+use borrow.Author.Needs.{needs}
+use Rattle.printer.proofs.pool.store.Statement.{statement}
+use Rattle.printer.proofs.pool.store.Tie as tie
+use Rattle.printer.proofs.pool.store.Reads as reads
+use Rattle.printer.proofs.pool.store.Lts as lts
+use Rattle.printer.proofs.writing.byte_at.Reads as byte-at-reads
+use Rattle.printer.proofs.writing.copy_at.Reads as copy-at-reads
+use Rattle.printer.proofs.pool.narrow.Reads as narrow-reads
+
+mul-at : tie.Need-mul-at
+mul-at c = search needs
+
+narrow-requires : tie.Need-narrow-requires
+narrow-requires c κs = search needs
+
+byte-at-requires : tie.Need-byte-at-requires
+byte-at-requires c κs = search needs
+
+copy-at-requires : tie.Need-copy-at-requires
+copy-at-requires c κs = search needs
+
+same-length : tie.Need-same-length
+same-length c = search needs
+
+returns : tie.Need-returns
+returns c = laws.stored-both (c .before .before .before .before .before .before .before .narrow .ensures) (c .before .before .before .before .before .before .byte-at .ensures) (c .before .before .copy-at .ensures) (omega (arith, c .before .before .before .before .before .before .before .before .before .before .before .pre .0 .0, c .before .before .before .before .before .before .before .before .before .before .before .pre .0 .1))
+
+pub store-spec : {M : Type 1} → statement M
+store-spec =
+    tie.close
+    (tie.spec mul-at narrow-requires byte-at-requires copy-at-requires same-length returns)

@@ -1,0 +1,43 @@
+-- `print_large`: the spellings, then the text.
+use Prim.Native.Nat.{ℕ}
+use native.Mathlib.Omega.{arith}
+use borrow.Author.Needs.{needs}
+use lib.ListN.{length-replicate}
+use Rattle.printer.proofs.PoolLaws.{pooled-none}
+use Rattle.printer.proofs.TextLaws.{prints-spelled}
+use Rattle.printer.proofs.print_large.Statement.{statement}
+use Rattle.printer.proofs.print_large.Tie as tie
+
+slice-aggregate-fill : tie.Need-slice-aggregate-fill
+slice-aggregate-fill c = search needs
+
+fill-requires : tie.Need-fill-requires
+fill-requires c κs =
+    let pre = c .before .before .before .before .before .pre in
+    ((omega (arith, length-replicate {A = ℕ} 133120 0, pre .few), pre .few), (pooled-none 133120, (pre .outsidesFit, pre .wordsFit)))
+
+slice-aggregate-print-into : tie.Need-slice-aggregate-print-into
+slice-aggregate-print-into c = search needs
+
+print-into-requires : tie.Need-print-into-requires
+print-into-requires c κs =
+    let back = c .before .before .before .before .before .before in
+    let entry = back .before .before .before in
+    (c .before .before .before .fill .ensures .small, entry .pre .small)
+
+same-length : tie.Need-same-length
+same-length c = search needs
+
+returns : tie.Need-returns
+returns c = prints-spelled _ _ _ _ (c .before .before .before .before .before .before .fill .ensures) (c .before .before .print-into .ensures)
+
+pub print-large-spec : {M : Type 1} → statement M
+print-large-spec =
+    tie.close
+    (tie.spec
+    slice-aggregate-fill
+    fill-requires
+    slice-aggregate-print-into
+    print-into-requires
+    same-length
+    returns)

@@ -1,0 +1,43 @@
+-- `decimal_at`: the rest of the buffer is lent to `write_decimal`.
+use borrow.Author.Needs.{needs}
+use Rattle.spellings.specs.Bytes.{decimal}
+use Rattle.printer.proofs.WriteLaws.{lent}
+use Rattle.printer.proofs.writing.decimal_at.Statement.{statement}
+use Rattle.printer.proofs.writing.decimal_at.Tie as tie
+
+within-requires : tie.Need-within-requires
+within-requires c κs = search needs
+
+sub-write-decimal : tie.Need-sub-write-decimal
+sub-write-decimal c = search needs
+
+part-write-decimal-start : tie.Need-part-write-decimal-start
+part-write-decimal-start c = search needs
+
+part-write-decimal-end : tie.Need-part-write-decimal-end
+part-write-decimal-end c = search needs
+
+write-decimal-requires : tie.Need-write-decimal-requires
+write-decimal-requires c κs = search needs
+
+add-result : tie.Need-add-result
+add-result c = search needs
+
+same-length : tie.Need-same-length
+same-length c = search needs
+
+returns : tie.Need-returns
+returns c = lent (c .before .before .before .before .before .before .args .out .now) (decimal (c .before .before .before .before .before .before .args .n)) (c .before .before .before .before .before .before .args .at) (c .before .before .before .before .within .result) (c .before .before .before .before .within .ensures) (c .before .before .write-decimal .ensures .0) (c .before .before .write-decimal .ensures .1)
+
+pub decimal-at-spec : {M : Type 1} → statement M
+decimal-at-spec =
+    tie.close
+    (tie.spec
+    within-requires
+    sub-write-decimal
+    part-write-decimal-start
+    part-write-decimal-end
+    write-decimal-requires
+    add-result
+    same-length
+    returns)

@@ -1,0 +1,51 @@
+-- The spellings of a table's outside names and of a formula's words, in a room of 32 bytes a spelling number.
+-- Nobody needs this to believe `expand`.
+use Prim.Native.Nat.{ℕ, _+_, _-_, _*_, _<_, _≤_}
+use mathlib.Core.Path.{_≡_}
+use mathlib.Core.Bool.{true, false}
+use mathlib.Core.List.{List, []}
+use lib.Dec.{ltb}
+use lib.ListN.{length, getD, take, drop}
+use Rattle.grammar.specs.Fields.{lexiconOf}
+use Rattle.rows.specs.Sizes.{sizeAt}
+use Rattle.printer.specs.Shown.{spellIn}
+
+-- the word whose offset and length are the i-th two numbers of a room
+abbrev pub spanned : List ℕ → List ℕ → ℕ → List ℕ
+spanned formula room i = take (getD room (i * 2 + 1) 0) (drop (getD room (i * 2) 0) formula)
+
+-- no spelling of a room is longer than 31 bytes
+abbrev pub ShortSpellings : List ℕ → Type 0
+ShortSpellings pool = (m : ℕ) → getD pool (m * 32) 0 < 32
+
+-- a room has the spelling S n at each number n
+pub record Pooled (pool : List ℕ) (S : ℕ → List ℕ) : Type 0 where
+  pub small : ShortSpellings pool
+  pub spelled : (m : ℕ) → spellIn pool m ≡ S m
+
+abbrev pub noneOf : ℕ → List ℕ
+noneOf m = []
+
+abbrev pub oneOf : List (List ℕ) → ℕ → List ℕ
+oneOf vs m = getD vs m []
+
+-- the words of a formula as a list
+pub record Words (formula room : List ℕ) (count : ℕ) (words : List (List ℕ)) : Type 0 where
+  pub many : length words ≡ count
+  pub each : (i : ℕ) → i < count → getD words i [] ≡ spanned formula room i
+
+-- the outside names and the first i words
+unfoldable pub filledTo : List (List ℕ) → List ℕ → List ℕ → ℕ → ℕ → List ℕ
+filledTo outsides formula room i m =
+    elim (ltb m 64) [ true ↦ getD outsides m [] | false ↦ elim (ltb (m - 64) i) [ true ↦ spanned formula room (m - 64) | false ↦ [] ] ]
+
+-- the spelling of a spelling number, by a table, a formula and the places of its words
+abbrev pub spelledBy : List ℕ → List ℕ → List ℕ → ℕ → ℕ → List ℕ
+spelledBy table formula words count = filledTo (lexiconOf table .outsides) formula words count
+
+-- what printing asks: few words, spellings that fit the room, and a term that is not too large
+pub record Printable (table formula words : List ℕ) (count : ℕ) (cells : List ℕ) (made root : ℕ) : Type 0 where
+  pub few : count ≤ 4096
+  pub outsidesFit : (m : ℕ) → length (oneOf (lexiconOf table .outsides) m) < 32
+  pub wordsFit : (j : ℕ) → j < count → length (spanned formula words j) < 32
+  pub small : sizeAt cells made root ≤ 16384

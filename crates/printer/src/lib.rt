@@ -1,0 +1,127 @@
+// Printing a term whose new names are numbered.
+use crate::pool::fill;
+use crate::printing::print_term;
+ghost use Prim.Native.Nat.{ℕ, _≤_, _<_};
+ghost use mathlib.Core.Path.{_≡_};
+ghost use lib.ListN.{length, getD};
+ghost use Rattle.rows.specs.Sizes.{sizeAt};
+ghost use Rattle.printer.specs.Shown.{termText, textBy, Prints};
+ghost use Rattle.printer.specs.Pool.{ShortSpellings, spelledBy, Printable};
+
+pub mod pool;
+pub mod printing;
+pub mod writing;
+
+// Numbers of 32 bits are below 2^32. Nothing is done: a read makes the fact known of all of them.
+fn wide_numbers(s: &[u32]) -> u32
+    ensures { λ _. ⌜ ((i : ℕ) → getD (now (s .entry)) i 0 < 4294967296) ⌝ }
+{
+    if 0 < s.len() {
+        return s[0];
+    }
+    0
+}
+
+// The same of numbers of 16 bits.
+fn narrow_numbers(s: &[u16]) -> u16
+    ensures { λ _. ⌜ ((i : ℕ) → getD (now (s .entry)) i 0 < 65536) ⌝ }
+{
+    if 0 < s.len() {
+        return s[0];
+    }
+    0
+}
+
+// The text of the term at a row, at the front of a buffer, if it fits; the answer is its length.
+fn print_into(
+    pool: &[u8],
+    cells: &[u32],
+    shown: &[u16; 16384],
+    made: usize,
+    root: u32,
+    text: &mut [u8],
+) -> usize
+    requires { ⌜ ShortSpellings (now pool) × (sizeAt (now cells) made root ≤ 16384) ⌝ }
+    ensures { λ r. ⌜ Prints (termText (now (pool .entry)) (now (cells .entry)) (now (shown .entry)) made root 0) (now (text .entry)) (now (text .exit)) r ⌝ }
+{
+    wide_numbers(cells);
+    narrow_numbers(shown);
+    let mut none = [0u8; 1];
+    let mut place: usize = 0;
+    let needed = print_term(
+        &mut none[..0],
+        0,
+        &pool,
+        &cells,
+        shown,
+        made,
+        root,
+        &mut place,
+    );
+    if text.len() < needed {
+        return needed;
+    }
+    let mut again: usize = 0;
+    print_term(text, 0, &pool, &cells, shown, made, root, &mut again)
+}
+
+// The text with the spellings of a table and a formula, with room for a few words.
+fn print_small(
+    table: &[u8],
+    formula: &[u8],
+    words: &[u32; 8192],
+    count: usize,
+    cells: &[u32],
+    made: usize,
+    root: u32,
+    shown: &[u16; 16384],
+    text: &mut [u8],
+) -> usize
+    requires { ⌜ Printable (now table) (now formula) (now words) count (now cells) made root × (count ≤ 256) ⌝ }
+    ensures { λ r. ⌜ Prints (textBy (spelledBy (now (table .entry)) (now (formula .entry)) (now (words .entry)) count) (now (cells .entry)) (now (shown .entry)) made root) (now (text .entry)) (now (text .exit)) r ⌝ }
+{
+    let mut pool = [0u8; 10240];
+    fill(table, formula, words, count, &mut pool);
+    print_into(&pool, cells, shown, made, root, text)
+}
+
+// The same, with room for all words that a formula may have.
+fn print_large(
+    table: &[u8],
+    formula: &[u8],
+    words: &[u32; 8192],
+    count: usize,
+    cells: &[u32],
+    made: usize,
+    root: u32,
+    shown: &[u16; 16384],
+    text: &mut [u8],
+) -> usize
+    requires { ⌜ Printable (now table) (now formula) (now words) count (now cells) made root ⌝ }
+    ensures { λ r. ⌜ Prints (textBy (spelledBy (now (table .entry)) (now (formula .entry)) (now (words .entry)) count) (now (cells .entry)) (now (shown .entry)) made root) (now (text .entry)) (now (text .exit)) r ⌝ }
+{
+    let mut pool = [0u8; 133120];
+    fill(table, formula, words, count, &mut pool);
+    print_into(&pool, cells, shown, made, root, text)
+}
+
+// The text of the term at a row, at the front of a buffer, if it fits; the answer is its length. `shown` has the numbers of new names.
+pub fn print_text(
+    table: &[u8],
+    formula: &[u8],
+    words: &[u32; 8192],
+    count: usize,
+    cells: &[u32],
+    made: usize,
+    root: u32,
+    shown: &[u16; 16384],
+    text: &mut [u8],
+) -> usize
+    requires { ⌜ Printable (now table) (now formula) (now words) count (now cells) made root ⌝ }
+    ensures { λ r. ⌜ Prints (textBy (spelledBy (now (table .entry)) (now (formula .entry)) (now (words .entry)) count) (now (cells .entry)) (now (shown .entry)) made root) (now (text .entry)) (now (text .exit)) r ⌝ }
+{
+    if count <= 256 {
+        return print_small(table, formula, words, count, cells, made, root, shown, text);
+    }
+    print_large(table, formula, words, count, cells, made, root, shown, text)
+}

@@ -1,0 +1,101 @@
+// Spellings, in a room of 32 bytes a spelling number.
+use crate::writing::byte_at;
+use crate::writing::copy_at;
+use grammar::reader::byte;
+use grammar::reader::part;
+ghost use Prim.Native.Nat.{ℕ, _+_, _*_, _≤_, _<_};
+ghost use mathlib.Core.Path.{_≡_};
+ghost use mathlib.Core.List.{_∷_};
+ghost use lib.ListN.{length};
+ghost use lib.Seq.{sets};
+ghost use Rattle.grammar.specs.Fields.{lexiconOf};
+ghost use Rattle.printer.specs.Shown.{spellIn};
+ghost use Rattle.printer.specs.Pool.{Pooled, noneOf, oneOf, spanned, filledTo};
+
+fn wide(x: u8) -> usize
+    ensures { λ r. ⌜ r ≡ x ⌝ }
+{
+    x as usize
+}
+
+// The spelling of a spelling number.
+pub fn spelling(pool: &[u8], n: u32) -> &[u8]
+    ensures { λ r. ⌜ now r ≡ spellIn (now (pool .entry)) n ⌝ }
+{
+    let i = (n as usize) * 32;
+    part(pool, i + 1, wide(byte(pool, i)))
+}
+
+fn narrow(n: usize) -> u8
+    requires { ⌜ n < 256 ⌝ }
+    ensures { λ r. ⌜ r ≡ n ⌝ }
+{
+    n as u8
+}
+
+// Stores a spelling at a number.
+fn store(pool: &mut [u8], i: usize, s: &[u8])
+    requires { ⌜ (length (now s) < 32) × (i * 32 + 32 ≤ length (now pool)) ⌝ }
+    requires { ⌜ i < 8192 ⌝ }
+    ensures { λ _. ⌜ now (pool .exit) ≡ sets (now (pool .entry)) (i * 32) (length (now (s .entry)) ∷ now (s .entry)) ⌝ }
+{
+    let at = i * 32;
+    let first = byte_at(pool, at, narrow(s.len()));
+    copy_at(pool, first, s);
+}
+
+// The table's outside names.
+fn fill_outsides(table: &[u8], pool: &mut [u8])
+    requires { ⌜ 2048 ≤ length (now pool) ⌝ }
+    requires { ⌜ Pooled (now pool) noneOf ⌝ }
+    requires { ⌜ ((m : ℕ) → length (oneOf (lexiconOf (now table) .outsides) m) < 32) ⌝ }
+    ensures { λ _. ⌜ Pooled (now (pool .exit)) (oneOf (lexiconOf (now (table .entry)) .outsides)) ⌝ }
+{
+    let start = grammar::after_leading(table, 1);
+    let mut at = start;
+    let mut i: usize = 0;
+    while i < 64 {
+        let front = grammar::front_at(table, at);
+        match front {
+            grammar::Front::Nothing => {
+                return;
+            }
+            grammar::Front::Short => {
+                return;
+            }
+            grammar::Front::Field(t, size) => {
+                if t != 2 {
+                    return;
+                }
+                let from = at + 3;
+                store(pool, i, part(table, from, size));
+                at = from + size;
+                i += 1;
+            }
+        }
+    }
+}
+
+fn offset(x: u32) -> usize
+    ensures { λ r. ⌜ r ≡ x ⌝ }
+{
+    x as usize
+}
+
+// The table's outside names, and the formula's words, whose offsets and lengths stand in `words`.
+pub fn fill(table: &[u8], formula: &[u8], words: &[u32; 8192], count: usize, pool: &mut [u8])
+    requires { ⌜ (2048 + count * 32 ≤ length (now pool)) × (count ≤ 4096) ⌝ }
+    requires { ⌜ Pooled (now pool) noneOf ⌝ }
+    requires { ⌜ ((m : ℕ) → length (oneOf (lexiconOf (now table) .outsides) m) < 32) ⌝ }
+    requires { ⌜ ((j : ℕ) → j < count → length (spanned (now formula) (now words) j) < 32) ⌝ }
+    ensures { λ _. ⌜ Pooled (now (pool .exit)) (filledTo (lexiconOf (now (table .entry)) .outsides) (now (formula .entry)) (now (words .entry)) count) ⌝ }
+{
+    fill_outsides(table, pool);
+    let mut i: usize = 0;
+    while i < count {
+        let at = offset(words[i * 2]);
+        let size = offset(words[i * 2 + 1]);
+        store(pool, i + 64, part(formula, at, size));
+        i += 1;
+    }
+}

@@ -1,0 +1,13 @@
+-- `is_nullable`: the highest part of the link.
+use borrow.Author.Needs.{needs}
+use Rattle.productions.proofs.room.is_nullable.Statement.{statement}
+use Rattle.productions.proofs.room.is_nullable.Tie as tie
+
+link-requires : tie.Need-link-requires
+link-requires c κs = search needs
+
+returns : tie.Need-returns
+returns c = cc
+
+pub is-nullable-spec : {M : Type 1} → statement M
+is-nullable-spec = tie.close (tie.spec link-requires returns)

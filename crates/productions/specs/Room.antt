@@ -1,0 +1,102 @@
+-- How the grammar of a table lies in one lent room of 641 numbers. The room mirrors code: nobody needs it to believe `expand`.
+--
+--   0            how many productions there are
+--   1 + n        the first set of nonterminal n
+--   65 + n       the place of its first production, and 512 times that of its nullable one
+--   129 + 2 j    the first set of production j
+--   130 + 2 j    the offset of its first item, 2^16 times the place of the next production of its nonterminal, and 2^25 if it is nullable
+--
+-- A place that is not there is 256.
+use Prim.Native.Nat.{ℕ, zero, suc, _+_, _*_, _/_, _%_, _<_, _≤_}
+use mathlib.Core.Path.{_≡_}
+use mathlib.Core.Bool.{Bool, true, false, _&&_}
+use mathlib.Core.List.{List, [], _∷_, _++_}
+use lib.Dec.{eqb}
+use lib.ListN.{length, getD}
+
+-- a production in the room: its nonterminal, the offset of its first item or result, its first set, and whether it is nullable
+pub record Entry : Type 0 where
+  pub owner : ℕ
+  pub start : ℕ
+  pub first : ℕ
+  pub nullable : Bool
+
+abbrev pub roomSize : ℕ
+roomSize = 641
+
+abbrev pub noPlace : ℕ
+noPlace = 256
+
+-- the place of the first entry that passes a test, where the entries stand from place j on
+unfoldable pub placeFrom : (Entry → Bool) → List Entry → ℕ → ℕ
+placeFrom test [] j = noPlace
+placeFrom test (e ∷ es) j = elim (test e) [ true ↦ j | false ↦ placeFrom test es (j + 1) ]
+
+abbrev pub isOf : ℕ → Entry → Bool
+isOf n e = eqb (e .owner) n
+
+abbrev pub isNullableOf : ℕ → Entry → Bool
+isNullableOf n e = eqb (e .owner) n && e .nullable
+
+-- the values of f at k numbers from n on
+unfoldable pub valuesOf : (ℕ → ℕ) → ℕ → ℕ → List ℕ
+valuesOf f zero n = []
+valuesOf f (suc k) n = f n ∷ valuesOf f k (n + 1)
+
+-- where the productions of nonterminal n are
+abbrev pub placesNumber : List Entry → ℕ → ℕ
+placesNumber es n = placeFrom (isOf n) es 0 + 512 * placeFrom (isNullableOf n) es 0
+
+abbrev pub flagNumber : Bool → ℕ
+flagNumber true = 1
+flagNumber false = 0
+
+-- an entry at place j, before the entries es
+abbrev pub linkNumber : Entry → List Entry → ℕ → ℕ
+linkNumber e es j = e .start + 65536 * placeFrom (isOf (e .owner)) es (j + 1) + 33554432 * flagNumber (e .nullable)
+
+unfoldable pub entryNumbers : List Entry → ℕ → List ℕ
+entryNumbers [] j = []
+entryNumbers (e ∷ es) j = e .first ∷ linkNumber e es j ∷ entryNumbers es (j + 1)
+
+-- the room of some entries, with the first sets of the nonterminals
+unfoldable pub roomOf : List ℕ → List Entry → List ℕ
+roomOf sets es =
+    length es ∷ (valuesOf (λ n. getD sets n 0) 64 0 ++ (valuesOf (placesNumber es) 64 0 ++ entryNumbers es 0))
+
+-- what stands past the last entry
+abbrev pub noEntry : Entry
+noEntry = record { owner = 0; start = 0; first = 0; nullable = false }
+
+-- a room with some entries at its front, as many as there may be, each at an offset that fits
+pub record HoldsEntries (sets : List ℕ) (es : List Entry) (room : List ℕ) : Type 0 where
+  pub rest : List ℕ
+  pub held : room ≡ roomOf sets es ++ rest
+  pub few : length es ≤ 256
+  pub near : (j : ℕ) → getD es j noEntry .start < 65536
+
+-- ------------------------------------------------------------------ what is read off a room
+
+abbrev pub countIn : List ℕ → ℕ
+countIn room = getD room 0 0
+
+abbrev pub firstSetIn : List ℕ → ℕ → ℕ
+firstSetIn room n = getD room (1 + n) 0
+
+abbrev pub firstPlaceIn : List ℕ → ℕ → ℕ
+firstPlaceIn room n = getD room (65 + n) 0 % 512
+
+abbrev pub nullablePlaceIn : List ℕ → ℕ → ℕ
+nullablePlaceIn room n = getD room (65 + n) 0 / 512
+
+abbrev pub firstIn : List ℕ → ℕ → ℕ
+firstIn room j = getD room (129 + 2 * j) 0
+
+abbrev pub startIn : List ℕ → ℕ → ℕ
+startIn room j = getD room (130 + 2 * j) 0 % 65536
+
+abbrev pub nextPlaceIn : List ℕ → ℕ → ℕ
+nextPlaceIn room j = getD room (130 + 2 * j) 0 / 65536 % 512
+
+abbrev pub nullableIn : List ℕ → ℕ → Bool
+nullableIn room j = eqb (getD room (130 + 2 * j) 0 / 33554432) 1

@@ -1,0 +1,396 @@
+-- Laws of the links between rows that bind: what a search finds, and that one more row keeps them.
+use Prim.Native.Nat.{ℕ, zero, suc, _+_, _-_, _/_, _%_, _<_, _≤_}
+use mathlib.Core.Path.{_≡_, refl, sym, ap, subst, _∙_}
+use mathlib.Core.Bool.{Bool, true, false, _&&_, and-eq-true-iff}
+use mathlib.Core.List.{List}
+use native.Mathlib.Nat.{mod-lt}
+use native.Mathlib.Omega.{arith}
+use lib.Dec.{eqb, ltb}
+use lib.ListN.{length, getD, set, replicate, length-set, length-replicate, getD-replicate}
+use lib.Seq.{getD-set-same, getD-set-other}
+use borrow.Author.Tests.{eq-eqb, ne-eqb, eqb-true, eqb-false, ltb-true, ltb-false}
+use Rattle.spellings.specs.BytesLaws.{by-test}
+use Rattle.grammar.specs.Cells.{column}
+use Rattle.resolver.specs.Marks.{binds, slotFrom}
+use Rattle.resolver.specs.Links.{First, Newest, LinkedTo, Linked, linksWith}
+
+-- ------------------------------------------------------------------ first rows
+
+no-clash : (b : Bool) → b ≡ true → b ≡ false → ⊥
+no-clash b p q = let z : _≡_ {A = ℕ} 0 1 = cc in omega arith
+
+module _ (cells : List ℕ) (x : ℕ) where
+  pub slot-le : (n row : ℕ) → row + n ≤ 16384 → slotFrom n cells row x ≤ 16384
+  unfolding slotFrom
+  slot-le zero row l = omega arith
+  slot-le (suc n) row l =
+      by-test (binds cells row x) (λ e. rw (e, slotFrom) (omega arith)) (λ e. rw (e, slotFrom) (slot-le n (suc row) (omega arith)))
+
+  -- the first of some rows, and one more row behind them
+  slot-more : (n row : ℕ) → row + n ≤ 16384 → slotFrom n cells row x < 16384 → slotFrom (suc n) cells row x ≡ slotFrom n cells row x
+  unfolding slotFrom
+  slot-more zero row l h = absurd (omega arith)
+  slot-more (suc n) row l h =
+      by-test (binds cells row x) (λ e. rw (e, slotFrom) refl)
+      (λ e. rw (e, slotFrom) ((slot-more n (suc row) (omega arith) (rw (e, slotFrom) at h))))
+
+  slot-last : (n row : ℕ) → slotFrom n cells row x ≡ 16384 → row + n < 16384 → binds cells (row + n) x ≡ true → slotFrom (suc n) cells row x ≡ row + n
+  unfolding slotFrom
+  slot-last zero row h l b =
+      let z : row + 0 ≡ row = omega arith in
+      let b′ : binds cells row x ≡ true = ap (λ r. binds cells r x) (sym z) ∙ b in
+      rw (b′, slotFrom) (sym z)
+  slot-last (suc n) row h l b =
+      by-test (binds cells row x)
+      (λ e.
+      let g : slotFrom (suc n) cells row x ≡ row = rw (e, slotFrom) refl in
+      absurd (omega (arith, g, h)))
+      (λ e.
+      let z : row + suc n ≡ suc row + n = omega arith in
+      rw (e, slotFrom) (slot-last n (suc row) (rw (e, slotFrom) at h) (omega arith) (ap (λ r. binds cells r x) (sym z) ∙ b) ∙ sym z))
+
+  slot-none : (n row : ℕ) → slotFrom n cells row x ≡ 16384 → binds cells (row + n) x ≡ false → slotFrom (suc n) cells row x ≡ 16384
+  unfolding slotFrom
+  slot-none zero row h b =
+      let z : row + 0 ≡ row = omega arith in
+      let b′ : binds cells row x ≡ false = ap (λ r. binds cells r x) (sym z) ∙ b in
+      rw (b′, slotFrom) refl
+  slot-none (suc n) row h b =
+      by-test (binds cells row x)
+      (λ e. let g : slotFrom (suc n) cells row x ≡ row = rw (e, slotFrom) refl in rw (e, slotFrom) (sym g ∙ h))
+      (λ e.
+      let z : row + suc n ≡ suc row + n = omega arith in
+      rw (e, slotFrom) (slot-none n (suc row) (rw (e, slotFrom) at h) (ap (λ r. binds cells r x) (sym z) ∙ b)))
+
+  last-of-all : (n : ℕ) → slotFrom n cells 0 x ≡ 16384 → n < 16384 → binds cells n x ≡ true → slotFrom (suc n) cells 0 x ≡ n
+  last-of-all n h l b =
+      let z : 0 + n ≡ n = omega arith in
+      slot-last n 0 h (omega arith) (ap (λ r. binds cells r x) z ∙ b) ∙ z
+
+  none-of-all : (n : ℕ) → slotFrom n cells 0 x ≡ 16384 → binds cells n x ≡ false → slotFrom (suc n) cells 0 x ≡ 16384
+  none-of-all n h b = let z : 0 + n ≡ n = omega arith in slot-none n 0 h (ap (λ r. binds cells r x) z ∙ b)
+
+  -- found among n rows, or not: one row more decides
+  slot-grows : (n : ℕ) → n < 16384 → (slotFrom n cells 0 x < 16384 → ⊥) → slotFrom n cells 0 x ≡ 16384
+  slot-grows n l h = omega (arith, slot-le n 0 (omega arith))
+
+binds-name : (cells : List ℕ) (row x : ℕ) → binds cells row x ≡ true → column cells row 1 ≡ x
+binds-name cells row x e = eqb-true (column cells row 1) x (and-eq-true-iff (eqb (column cells row 0) 33) (eqb (column cells row 1) x) .0 e .1)
+
+binds-code : (cells : List ℕ) (row x : ℕ) → binds cells row x ≡ true → column cells row 0 ≡ 33
+binds-code cells row x e = eqb-true (column cells row 0) 33 (and-eq-true-iff (eqb (column cells row 0) 33) (eqb (column cells row 1) x) .0 e .0)
+
+pub binds-row : (cells : List ℕ) (row x : ℕ) → column cells row 0 ≡ 33 → column cells row 1 ≡ x → binds cells row x ≡ true
+binds-row cells row x a b =
+    and-eq-true-iff (eqb (column cells row 0) 33) (eqb (column cells row 1) x) .1 (eq-eqb (column cells row 0) 33 a, eq-eqb (column cells row 1) x b)
+
+-- the slot of x among n rows is a first row, of name x
+pub record SlotIs (cells : List ℕ) (x n r : ℕ) : Type 0 where
+  pub inside : r < n
+  pub named : column cells r 1 ≡ x
+  pub is-first : First cells r
+
+slot-is : (cells : List ℕ) (x n : ℕ) → n ≤ 16384 → slotFrom n cells 0 x < 16384 → SlotIs cells x n (slotFrom n cells 0 x)
+unfolding slotFrom
+slot-is cells x zero l h = absurd (omega arith)
+slot-is cells x (suc n) l h =
+    by-test (ltb (slotFrom n cells 0 x) 16384)
+    (λ e.
+    let g : slotFrom n cells 0 x < 16384 = ltb-true (slotFrom n cells 0 x) 16384 e in
+    let s : SlotIs cells x n (slotFrom n cells 0 x) = slot-is cells x n (omega arith) g in
+    rw (slot-more cells x n 0 (omega arith) g) (record { inside = omega (arith, s .inside); named = s .named; is-first = s .is-first }))
+    (λ e.
+    let g : slotFrom n cells 0 x ≡ 16384 = slot-grows cells x n (omega arith) (λ k. omega (arith, ltb-false (slotFrom n cells 0 x) 16384 e)) in
+    by-test (binds cells n x)
+    (λ b.
+    let nm : column cells n 1 ≡ x = binds-name cells n x b in
+    rw (last-of-all cells x n g (omega arith) b)
+    (record {
+      inside = omega arith;
+      named = nm;
+      is-first = record { binding = ap (binds cells n) nm ∙ b; earliest = ap (slotFrom n cells 0) nm ∙ g };
+    }))
+    (λ b.
+    let z : slotFrom (suc n) cells 0 x ≡ 16384 = none-of-all cells x n g b in
+    absurd (omega (arith, z))))
+
+-- a first row is the slot of its name among all rows behind it
+slot-stays : (cells : List ℕ) (x r n : ℕ) → slotFrom (suc r) cells 0 x ≡ r → suc (r + n) ≤ 16384 → slotFrom (suc (r + n)) cells 0 x ≡ r
+slot-stays cells x r zero e l = let z : suc (r + 0) ≡ suc r = omega arith in ap (λ k. slotFrom k cells 0 x) z ∙ e
+slot-stays cells x r (suc n) e l =
+    let z : suc (r + suc n) ≡ suc (suc (r + n)) = omega arith in
+    let s : slotFrom (suc (r + n)) cells 0 x ≡ r = slot-stays cells x r n e (omega arith) in
+    ap (λ k. slotFrom k cells 0 x) z ∙ slot-more cells x (suc (r + n)) 0 (omega arith) (omega arith) ∙ s
+
+first-slot : {cells : List ℕ} {r : ℕ} → First cells r → (n : ℕ) → r < n → n ≤ 16384 → slotFrom n cells 0 (column cells r 1) ≡ r
+first-slot {cells} {r} f n l m =
+    let z : n ≡ suc (r + (n - suc r)) = omega arith in
+    ap (λ k. slotFrom k cells 0 (column cells r 1)) z
+    ∙ slot-stays cells (column cells r 1) r (n - suc r) (last-of-all cells (column cells r 1) r (f .earliest) (omega arith) (f .binding)) (omega arith)
+
+-- ------------------------------------------------------------------ the search
+
+-- every first row of name x is older than where p leads, and that one is a first row with the hash of x
+pub record Chasing (n : ℕ) (cells : List ℕ) (half x p : ℕ) : Type 0 where
+  pub small : p ≤ n
+  pub all : (j : ℕ) → j < n → First cells j → column cells j 1 ≡ x → j < p
+  pub first : (q : ℕ) → p ≡ suc q → First cells q
+  pub hashed : (q : ℕ) → p ≡ suc q → column cells q 1 % half ≡ x % half
+
+module _ {n : ℕ} {cells links : List ℕ} (k : LinkedTo n cells links) (x : ℕ) where
+  abbrev Half : ℕ
+  Half = length links / 2
+
+  pub hash-small : x % Half < Half
+  hash-small = mod-lt x (k .some)
+
+  pub chasing-start : {p : ℕ} → p ≡ getD links (x % Half) 0 → Chasing n cells Half x p
+  chasing-start e =
+      let w : Newest cells Half (x % Half) n (getD links (x % Half) 0) = k .heads (x % Half) hash-small in
+      rw e (record { small = w .small; all = λ j l f h. w .all j l f (ap (λ y. y % Half) h); first = w .first; hashed = w .hashed })
+
+  module _ {p : ℕ} (c : Chasing n cells Half x p) where
+    pub chasing-end : p ≤ 0 → 16384 ≡ slotFrom n cells 0 x
+    chasing-end h =
+        by-test (ltb (slotFrom n cells 0 x) 16384)
+        (λ e.
+        let s : SlotIs cells x n (slotFrom n cells 0 x) = slot-is cells x n (k .few) (ltb-true (slotFrom n cells 0 x) 16384 e) in
+        absurd (omega (arith, c .all (slotFrom n cells 0 x) (s .inside) (s .is-first) (s .named))))
+        (λ e. omega (arith, slot-le cells x n 0 (omega (arith, k .few)), ltb-false (slotFrom n cells 0 x) 16384 e))
+
+    module _ (h : 0 < p) where
+      at-first : First cells (p - 1)
+      at-first = c .first (p - 1) (omega arith)
+
+      pub chasing-inside : p - 1 < 16384
+      chasing-inside = omega (arith, c .small, k .few)
+
+      pub chasing-found : {y : ℕ} → y ≡ column cells (p - 1) 1 → y ≡ x → p - 1 ≡ slotFrom n cells 0 x
+      chasing-found e f =
+          sym (first-slot at-first n (omega (arith, c .small)) (k .few)) ∙ ap (slotFrom n cells 0) (sym e ∙ f)
+
+      module _ {y : ℕ} (ey : y ≡ column cells (p - 1) 1) (d : y ≡ x → ⊥) {next : ℕ} (en : next ≡ getD links (Half + (p - 1)) 0) where
+        newest : Newest cells Half (column cells (p - 1) 1 % Half) (p - 1) (getD links (Half + (p - 1)) 0)
+        newest = k .nexts (p - 1) (omega (arith, c .small)) at-first
+
+        pub chasing-less : next < p
+        chasing-less = omega (arith, en, newest .small)
+
+        pub chasing-next : Chasing n cells Half x next
+        chasing-next =
+            let hs : column cells (p - 1) 1 % Half ≡ x % Half = c .hashed (p - 1) (omega arith) in
+            rw en
+            (record {
+              small = omega (arith, newest .small, c .small);
+              all =
+                  λ j l f e.
+                  let other : j ≡ p - 1 → ⊥ = λ z. d (ey ∙ ap (λ r. column cells r 1) (sym z) ∙ e) in
+                  newest .all j (omega (arith, c .all j l f e, other)) f (ap (λ v. v % Half) e ∙ sym hs);
+              first = newest .first;
+              hashed = λ q e. newest .hashed q e ∙ hs;
+            })
+
+-- ------------------------------------------------------------------ one more row
+
+newest-on : {cells : List ℕ} {half h below p : ℕ} → Newest cells half h below p → (First cells below → column cells below 1 % half ≡ h → ⊥) → Newest cells half h (below + 1) p
+newest-on {cells} {half} {h} {below} {p} w d =
+    record {
+      small = omega (arith, w .small);
+      all =
+          λ j l f e.
+          by-test (eqb j below)
+          (λ t. let z : j ≡ below = eqb-true j below t in absurd (d (subst (First cells) z f) (ap (λ r. column cells r 1 % half) (sym z) ∙ e)))
+          (λ t. w .all j (omega (arith, eqb-false j below t)) f e);
+      first = w .first;
+      hashed = w .hashed;
+    }
+
+-- a row that is no first row changes nothing
+pub linked-skip : {n : ℕ} {cells links : List ℕ} → LinkedTo n cells links → n < length links / 2 → n < 16384 → (First cells n → ⊥) → LinkedTo (n + 1) cells links
+linked-skip {n} {cells} {links} k r l d =
+    record {
+      few = omega arith;
+      some = k .some;
+      room = omega arith;
+      heads = λ h b. newest-on (k .heads h b) (λ f e. d f);
+      nexts =
+          λ i b f.
+          by-test (eqb i n)
+          (λ t. absurd (d (subst (First cells) (eqb-true i n t) f)))
+          (λ t. k .nexts i (omega (arith, eqb-false i n t)) f);
+    }
+
+module _ {n : ℕ} {cells links : List ℕ} (k : LinkedTo n cells links) (r : n < length links / 2) (l : n < 16384) (f : First cells n) where
+  x : ℕ
+  x = column cells n 1
+
+  half : ℕ
+  half = length links / 2
+
+  links₁ : List ℕ
+  unfolding x half
+  links₁ = set links (half + n) (getD links (x % half) 0)
+
+  links₂ : List ℕ
+  unfolding x half links₁
+  links₂ = set links₁ (x % half) (n + 1)
+
+  double : half + half ≤ length links
+  unfolding half
+  double = omega arith
+
+  hx : x % half < half
+  unfolding x half
+  hx = mod-lt (column cells n 1) (k .some)
+
+  rn : n < half
+  unfolding half
+  rn = r
+
+  long : length links₂ ≡ length links
+  unfolding links₁ links₂
+  long = length-set links₁ (x % half) (n + 1) ∙ length-set links (half + n) (getD links (x % half) 0)
+
+  half-same : length links₂ / 2 ≡ half
+  unfolding half
+  half-same = ap (λ m. m / 2) long
+
+  head-same : getD links₂ (x % half) 0 ≡ n + 1
+  unfolding links₁ links₂
+  head-same =
+      getD-set-same links₁ (x % half) (n + 1) 0 (omega (arith, hx, double, length-set links (half + n) (getD links (x % half) 0)))
+
+  head-other : (h : ℕ) → h < half → (h ≡ x % half → ⊥) → getD links₂ h 0 ≡ getD links h 0
+  unfolding links₁ links₂
+  head-other h b d =
+      getD-set-other links₁ (x % half) h (n + 1) 0 d
+      ∙ getD-set-other links (half + n) h (getD links (x % half) 0) 0 (λ e. omega (arith, e))
+
+  next-same : getD links₂ (half + n) 0 ≡ getD links (x % half) 0
+  unfolding links₁ links₂
+  next-same =
+      getD-set-other links₁ (x % half) (half + n) (n + 1) 0 (λ e. omega (arith, e, hx))
+      ∙ getD-set-same links (half + n) (getD links (x % half) 0) 0 (omega (arith, double, rn))
+
+  next-other : (i : ℕ) → i < n → getD links₂ (half + i) 0 ≡ getD links (half + i) 0
+  unfolding links₁ links₂
+  next-other i b =
+      getD-set-other links₁ (x % half) (half + i) (n + 1) 0 (λ e. omega (arith, e, hx))
+      ∙ getD-set-other links (half + n) (half + i) (getD links (x % half) 0) 0 (λ e. omega (arith, e))
+
+  old-head : (h : ℕ) → h < half → Newest cells half h n (getD links h 0)
+  unfolding half
+  old-head h b = k .heads h b
+
+  old-next : (i : ℕ) → i < n → First cells i → Newest cells half (column cells i 1 % half) i (getD links (half + i) 0)
+  unfolding half
+  old-next i b g = k .nexts i b g
+
+  newest-same : Newest cells half (x % half) (n + 1) (getD links₂ (x % half) 0)
+  unfolding x
+  newest-same =
+      rw head-same
+      (record {
+        small = omega arith;
+        all = λ j b g e. omega arith;
+        first = λ q e. subst (First cells) (omega arith) f;
+        hashed = λ q e. let z : q ≡ n = omega arith in ap (λ i. column cells i 1 % half) z;
+      })
+
+  newest-other : (h : ℕ) → h < half → (h ≡ x % half → ⊥) → Newest cells half h (n + 1) (getD links₂ h 0)
+  unfolding x
+  newest-other h b d = rw (head-other h b d) (newest-on (old-head h b) (λ g e. d (sym e)))
+
+  heads : (h : ℕ) → h < half → Newest cells half h (n + 1) (getD links₂ h 0)
+  heads h b =
+      by-test (eqb h (x % half))
+      (λ e. subst (λ j. Newest cells half j (n + 1) (getD links₂ j 0)) (sym (eqb-true h (x % half) e)) newest-same)
+      (λ e. newest-other h b (eqb-false h (x % half) e))
+
+  nexts : (i : ℕ) → i < n + 1 → First cells i → Newest cells half (column cells i 1 % half) i (getD links₂ (half + i) 0)
+  unfolding x
+  nexts i b g =
+      by-test (eqb i n)
+      (λ e.
+      let z : n ≡ i = sym (eqb-true i n e) in
+      subst (λ j. Newest cells half (column cells j 1 % half) j (getD links₂ (half + j) 0)) z
+      (rw next-same (old-head (x % half) hx)))
+      (λ e.
+      let b′ : i < n = omega (arith, eqb-false i n e) in
+      rw (next-other i b′) (old-next i b′ g))
+
+  linked-by : LinkedTo (n + 1) cells links₂
+  linked-by =
+      record {
+        few = omega arith;
+        some = omega (arith, half-same, hx);
+        room = omega (arith, half-same, rn);
+        heads = λ h b. rw half-same (heads h (omega (arith, half-same)));
+        nexts = λ i b g. rw half-same (nexts i b g);
+      }
+
+  pub linked-more : {links′ : List ℕ} → links′ ≡ linksWith links n (column cells n 1) → LinkedTo (n + 1) cells links′
+  unfolding links₁ links₂ x half
+  linked-more e = rw e linked-by
+
+-- ------------------------------------------------------------------ the loop
+
+pub linked-none : (cells links : List ℕ) → 0 < length links / 2 → links ≡ replicate (length links) 0 → LinkedTo 0 cells links
+linked-none cells links s e =
+    record {
+      few = omega arith;
+      some = s;
+      room = omega arith;
+      heads =
+          λ h b.
+          let z : getD links h 0 ≡ 0 = ap (λ l. getD l h 0) e ∙ getD-replicate {A = ℕ} (length links) h 0 0 (omega arith) in
+          record {
+            small = omega (arith, z);
+            all = λ j l. absurd (omega arith);
+            first = λ q w. absurd (omega (arith, z, w));
+            hashed = λ q w. absurd (omega (arith, z, w));
+          };
+      nexts = λ i l. absurd (omega arith);
+    }
+
+-- rows before `row` are linked
+pub record Linking (cells links₀ links : List ℕ) (row : ℕ) : Type 0 where
+  pub inside : row ≤ length cells / 4
+  pub long : length links ≡ length links₀
+  pub linked : LinkedTo row cells links
+
+module _ {cells links₀ links : List ℕ} {row : ℕ} (w : Linking cells links₀ links row) (few : length cells ≤ 65536) (fits : length cells / 4 ≤ length links₀ / 2) (l : row < length cells / 4) where
+  pub row-fits : row < length links / 2
+  row-fits = omega (arith, ap (λ m. m / 2) (w .long))
+
+  pub row-small : row < 16384
+  row-small = omega arith
+
+  skip : (First cells row → ⊥) → Linking cells links₀ links (row + 1)
+  skip d = record { inside = omega arith; long = w .long; linked = linked-skip (w .linked) row-fits row-small d }
+
+  pub skip-code : {code : ℕ} → code ≡ column cells row 0 → (code ≡ 33 → ⊥) → Linking cells links₀ links (row + 1)
+  skip-code e d = skip (λ f. d (e ∙ binds-code cells row (column cells row 1) (f .binding)))
+
+  pub skip-found : {x there : ℕ} → x ≡ column cells row 1 → there ≡ slotFrom row cells 0 x → (there ≡ 16384 → ⊥) → Linking cells links₀ links (row + 1)
+  skip-found ex et d = skip (λ f. d (et ∙ ap (slotFrom row cells 0) ex ∙ f .earliest))
+
+  pub add-row : {code x there : ℕ} → code ≡ column cells row 0 → x ≡ column cells row 1 → code ≡ 33 → there ≡ slotFrom row cells 0 x → there ≡ 16384
+      → {links′ : List ℕ} → links′ ≡ linksWith links row x → Linking cells links₀ links′ (row + 1)
+  add-row ec ex e et t {links′} el =
+      let f : First cells row =
+      record { binding = binds-row cells row (column cells row 1) (sym ec ∙ e) refl; earliest = ap (slotFrom row cells 0) (sym ex) ∙ sym et ∙ t } in
+      let el′ : links′ ≡ linksWith links row (column cells row 1) = el ∙ ap (linksWith links row) ex in
+      record {
+        inside = omega arith;
+        long = ap length el ∙ length-set (set links (length links / 2 + row) (getD links (_ % (length links / 2)) 0)) _ (row + 1) ∙ length-set links (length links / 2 + row) _ ∙ w .long;
+        linked = linked-more (w .linked) row-fits row-small f el′;
+      }
+
+pub linking-start : (cells links : List ℕ) → 0 < length links / 2 → links ≡ replicate (length links) 0 → Linking cells links links 0
+linking-start cells links s e = record { inside = omega arith; long = refl; linked = linked-none cells links s e }
+
+pub linking-end : {cells links₀ links : List ℕ} {row : ℕ} → Linking cells links₀ links row → length cells ≤ 65536 → length cells / 4 ≤ row → Linked cells links
+linking-end {cells} {links₀} {links} {row} w few l =
+    let z : row ≡ length cells / 4 = omega (arith, w .inside) in
+    record { few = few; linked = subst (λ n. LinkedTo n cells links) z (w .linked) }

@@ -1,0 +1,327 @@
+-- Resolution, constructor by constructor: what the parts' walks give, the whole gives.
+use Prim.Native.Nat.{ℕ, zero, suc, _+_, _-_, _*_, _/_, _%_, _≤_, _<_}
+use mathlib.Core.Path.{_≡_, refl, sym, ap, ap₂, subst, _∙_}
+use mathlib.Core.Bool.{Bool, true, false, _||_}
+use mathlib.Core.List.{List, [], _∷_, _++_}
+use native.Mathlib.Nat.{add-zero}
+use native.Mathlib.Numerals.{add-one}
+use native.Mathlib.Omega.{arith}
+use native.Mathlib.Decide.{decLt}
+use lib.Bits.{bitOr}
+use lib.Dec.{eqb}
+use lib.ListN.{length, getD, set, length-set, length-append}
+use lib.Seq.{sets, set-comm}
+use borrow.Author.Tests.{eqb-true, eqb-false}
+use Rattle.spellings.specs.Bytes.{isWord}
+use Rattle.spellings.specs.BytesLaws.{by-test}
+use Rattle.kinds.specs.Kinds.{hasKind}
+use Rattle.kinds.specs.KindsLaws.{has-none, has-join}
+use Rattle.grammar.specs.Cells.{column, nameBase}
+use Rattle.grammar.proofs.ReaderLaws.{getD-past}
+use Rattle.terms.specs.Term.{Name, word, fresh, outside, Term, Fields, variable, function, apply, rcd, dot, number, nil, cons, size, sizeFields}
+use Rattle.terms.specs.Rows.{nameOf, Constructor, mkTermVar, mkTermFun, mkTermApp, mkTermRcd, mkTermDot, mkFieldNil, mkFieldCons, mkTermNum, constructorOf, termBy, isCons, fieldsBy, termAt, fieldsAt}
+use Rattle.terms.specs.Rename.{isRenamed, isOutside, holds, holdsFields}
+use Rattle.terms.specs.Binding.{Binder, ownerOf}
+use Rattle.resolver.specs.Marks.{markOf, ownerCode, binderMark, marks, marksFields, slotOf, Bindable, bindable-word, bindable-fresh, Around, Holds, Walked, WalkedFields, ResolvesTerm, ResolvesFields}
+use Rattle.terms.specs.Names.{Distinct, VariableName, BinderName, WellNamed, WellNamedFields}
+use Rattle.rows.specs.Sizes.{WholeRows, noSpell}
+use Rattle.rows.proofs.ListLaws.{sets-append, set-sets}
+use Rattle.rows.proofs.RowLaws as rows
+use Rattle.rows.proofs.SizeLaws.{size-spell, size-some, size-some-fields}
+use Rattle.resolver.proofs.SlotLaws.{slot-there, around-binder, restored}
+
+-- ------------------------------------------------------------------ marks
+
+mutual
+  unfolding marks marksFields size sizeFields
+
+  pub length-marks : (around : List Binder) (p : ℕ) (t : Term Name) → length (marks around p t) ≡ size t
+  length-marks around p (variable v) = refl
+  length-marks around p (function b t) = ap suc (length-marks (record { name = b; place = p } ∷ around) (suc p) t)
+  length-marks around p (apply t u) =
+      ap suc (length-append (marks around (suc p) t) (marks around (suc p + size t) u) ∙ ap₂ (λ a b. a + b) (length-marks around (suc p) t) (length-marks around (suc p + size t) u))
+  length-marks around p (rcd f) = ap suc (length-marks-fields around (suc p) f)
+  length-marks around p (dot t l) = ap suc (length-marks around (suc p) t)
+  length-marks around p (number n) = refl
+
+  length-marks-fields : (around : List Binder) (p : ℕ) (f : Fields Name) → length (marksFields around p f) ≡ sizeFields f
+  length-marks-fields around p nil = refl
+  length-marks-fields around p (cons l t f) =
+      ap suc (length-append (marks around (suc p) t) (marksFields around (suc p + size t) f) ∙ ap₂ (λ a b. a + b) (length-marks around (suc p) t) (length-marks-fields around (suc p + size t) f))
+
+-- ------------------------------------------------------------------ names
+
+named-at : (spell : ℕ → List ℕ) (x c : ℕ) → x / nameBase ≡ c → x ≡ c * nameBase + x % nameBase
+named-at spell x c e = omega arith
+
+pub bindable-of : (spell : ℕ → List ℕ) (x : ℕ) → BinderName spell (nameOf spell x) → Bindable spell x
+unfolding nameOf
+bindable-of spell x h =
+    by-test (eqb (x / nameBase) 1)
+    (λ e.
+    subst (Bindable spell) (sym (named-at spell x 1 (eqb-true (x / nameBase) 1 e)))
+    (bindable-word {n = x % nameBase} (omega arith) (rw (e, nameOf) at h)))
+    (λ e.
+    by-test (eqb (x / nameBase) 2)
+    (λ f. subst (Bindable spell) (sym (named-at spell x 2 (eqb-true (x / nameBase) 2 f))) (bindable-fresh {n = x % nameBase} (omega arith)))
+    (λ f. absurd (rw (e, nameOf, f) at h)))
+
+row-inside : (cells : List ℕ) (row : ℕ) → WholeRows cells → column cells row 0 ≡ 33 → row < length cells / 4
+row-inside cells row w e = by (decLt (row * 4 + 0) (length cells))
+  where
+    by : Dec (row * 4 + 0 < length cells) → row < length cells / 4
+    by (yes h) = omega (arith, w .whole)
+    by (no h) = absurd (omega (arith, e, getD-past cells (row * 4 + 0) 0 (omega arith)))
+
+-- ------------------------------------------------------------------ constructors
+
+module _ {spell : ℕ → List ℕ} {around : List Binder} {p : ℕ} where
+  -- a term with no part and no name
+  number-walked : (n : ℕ) (current room : List ℕ) → Walked spell around p (number n) 0 current current room (set room p 0)
+  unfolding holds marks
+  number-walked n current room = record { holding = λ m h w. has-none m; kept = refl; marked = refl }
+
+  nil-walked : (current room : List ℕ) → WalkedFields spell around p nil 0 current current room (set room p 0)
+  unfolding holdsFields marksFields
+  nil-walked current room = record { holding = λ m h w. has-none m; kept = refl; marked = refl }
+
+  function-walked : {b : Name} {t : Term Name} {held v : ℕ} {current current₁ current₂ current₃ room room₁ : List ℕ}
+      → Walked spell (record { name = b; place = p } ∷ around) (p + 1) t held current₁ current₂ room room₁
+      → v ≡ binderMark (isRenamed b t) → current₃ ≡ current
+      → Walked spell around p (function b t) held current current₃ room (set room₁ p v)
+  unfolding holds marks
+  function-walked {b} {t} {v = v} {room = room} w e c =
+      let body = marks (record { name = b; place = p } ∷ around) in
+      record {
+        holding = w .holding;
+        kept = c;
+        marked =
+            ap₂ (λ l n. set l p n) (w .marked ∙ ap (λ n. sets room n (body n t)) (add-one p)) e
+            ∙ set-sets room p (suc p) (binderMark (isRenamed b t)) (body (suc p) t) (omega arith);
+      }
+
+  apply-walked : {t u : Term Name} {h₁ h₂ h q : ℕ} {current current₁ current₂ room room₁ room₂ : List ℕ}
+      → Walked spell around (p + 1) t h₁ current current₁ (set room p 0) room₁
+      → Walked spell around q u h₂ current₁ current₂ room₁ room₂
+      → q ≡ p + 1 + size t → h ≡ bitOr h₁ h₂
+      → Walked spell around p (apply t u) h current current₂ room room₂
+  unfolding holds marks
+  apply-walked {t} {u} {h₁} {h₂} {h} {q} {room = room} w w′ eq eh =
+      let z : q ≡ suc p + length (marks around (suc p) t) = omega (arith, length-marks around (suc p) t) in
+      record {
+        holding = λ n l d. ap (λ m. hasKind m n) eh ∙ has-join h₁ h₂ n ∙ ap₂ _||_ (w .holding n l d) (w′ .holding n l d);
+        kept = w′ .kept ∙ w .kept;
+        marked =
+            w′ .marked
+            ∙ ap (λ l. sets l q (marks around q u)) (w .marked ∙ ap (λ n. sets (set room p 0) n (marks around n t)) (add-one p))
+            ∙ ap (λ n. sets (sets (set room p 0) (suc p) (marks around (suc p) t)) n (marks around q u)) z
+            ∙ ap (λ n. sets (sets (set room p 0) (suc p) (marks around (suc p) t)) (suc p + length (marks around (suc p) t)) (marks around n u)) (omega arith)
+            ∙ sym (sets-append (set room p 0) (suc p) (marks around (suc p) t) (marks around (suc p + size t) u));
+      }
+
+  rcd-walked : {f : Fields Name} {h : ℕ} {current current₁ room room₁ : List ℕ}
+      → WalkedFields spell around (p + 1) f h current current₁ (set room p 0) room₁
+      → Walked spell around p (rcd f) h current current₁ room room₁
+  unfolding holds marks
+  rcd-walked {f} {room = room} w =
+      record { holding = w .holding; kept = w .kept; marked = w .marked ∙ ap (λ n. sets (set room p 0) n (marksFields around n f)) (add-one p) }
+
+  dot-walked : {t : Term Name} (l : List ℕ) {h : ℕ} {current current₁ room room₁ : List ℕ}
+      → Walked spell around (p + 1) t h current current₁ (set room p 0) room₁
+      → Walked spell around p (dot t l) h current current₁ room room₁
+  unfolding holds marks
+  dot-walked {t} l {room = room} w =
+      record { holding = w .holding; kept = w .kept; marked = w .marked ∙ ap (λ n. sets (set room p 0) n (marks around n t)) (add-one p) }
+
+  cons-walked : (l : List ℕ) {t : Term Name} {f : Fields Name} {h₁ h₂ h q : ℕ} {current current₁ current₂ room room₁ room₂ : List ℕ}
+      → Walked spell around (p + 1) t h₁ current current₁ (set room p 0) room₁
+      → WalkedFields spell around q f h₂ current₁ current₂ room₁ room₂
+      → q ≡ p + 1 + size t → h ≡ bitOr h₁ h₂
+      → WalkedFields spell around p (cons l t f) h current current₂ room room₂
+  unfolding holdsFields marksFields
+  cons-walked l {t} {f} {h₁} {h₂} {h} {q} {room = room} w w′ eq eh =
+      let z : q ≡ suc p + length (marks around (suc p) t) = omega (arith, length-marks around (suc p) t) in
+      record {
+        holding = λ n l d. ap (λ m. hasKind m n) eh ∙ has-join h₁ h₂ n ∙ ap₂ _||_ (w .holding n l d) (w′ .holding n l d);
+        kept = w′ .kept ∙ w .kept;
+        marked =
+            w′ .marked
+            ∙ ap (λ l. sets l q (marksFields around q f)) (w .marked ∙ ap (λ n. sets (set room p 0) n (marks around n t)) (add-one p))
+            ∙ ap (λ n. sets (sets (set room p 0) (suc p) (marks around (suc p) t)) n (marksFields around q f)) z
+            ∙ ap (λ n. sets (sets (set room p 0) (suc p) (marks around (suc p) t)) (suc p + length (marks around (suc p) t)) (marksFields around n f)) (omega arith)
+            ∙ sym (sets-append (set room p 0) (suc p) (marks around (suc p) t) (marksFields around (suc p + size t) f));
+      }
+
+  variable-walked : {v : Name} {m h : ℕ} (current room : List ℕ) → m ≡ markOf v (ownerCode (ownerOf around v)) → Holds spell h (λ s. isOutside s v)
+      → Walked spell around p (variable v) h current current room (set room p m)
+  unfolding holds marks
+  variable-walked current room e h = record { holding = h; kept = refl; marked = ap (set room p) e }
+
+-- ------------------------------------------------------------------ rows
+
+walked-as : {spell : ℕ → List ℕ} {around : List Binder} {p held : ℕ} {t t′ : Term Name} {current current′ room room₁ room₂ : List ℕ}
+    → t ≡ t′ → room₁ ≡ room₂ → Walked spell around p t′ held current current′ room room₂ → Walked spell around p t held current current′ room room₁
+walked-as {spell} {around} {p} {held} {t} {t′} {current} {current′} {room} {room₁} {room₂} e r w =
+    subst (λ u. Walked spell around p u held current current′ room room₁) (sym e) (subst (λ l. Walked spell around p t′ held current current′ room l) (sym r) w)
+
+walked-fields-as : {spell : ℕ → List ℕ} {around : List Binder} {p held : ℕ} {t t′ : Fields Name} {current current′ room room₁ room₂ : List ℕ}
+    → t ≡ t′ → room₁ ≡ room₂ → WalkedFields spell around p t′ held current current′ room room₂ → WalkedFields spell around p t held current current′ room room₁
+walked-fields-as {spell} {around} {p} {held} {t} {t′} {current} {current′} {room} {room₁} {room₂} e r w =
+    subst (λ u. WalkedFields spell around p u held current current′ room room₁) (sym e) (subst (λ l. WalkedFields spell around p t′ held current current′ room l) (sym r) w)
+
+-- the room before a walk, as it was written
+from-room : {spell : ℕ → List ℕ} {around : List Binder} {p held : ℕ} {t : Term Name} {current current′ room room₁ room₂ : List ℕ}
+    → room₁ ≡ room₂ → Walked spell around p t held current current′ room₁ room → Walked spell around p t held current current′ room₂ room
+from-room {spell} {around} {p} {held} {t} {current} {current′} {room} e w = subst (λ l. Walked spell around p t held current current′ l room) e w
+
+from-room-fields : {spell : ℕ → List ℕ} {around : List Binder} {p held : ℕ} {t : Fields Name} {current current′ room room₁ room₂ : List ℕ}
+    → room₁ ≡ room₂ → WalkedFields spell around p t held current current′ room₁ room → WalkedFields spell around p t held current current′ room₂ room
+from-room-fields {spell} {around} {p} {held} {t} {current} {current′} {room} e w = subst (λ l. WalkedFields spell around p t held current current′ l room) e w
+
+module _ (cells : List ℕ) (k row p : ℕ) where
+  pub shallow-resolves : k ≡ 0 → {room₁ : List ℕ} (current room : List ℕ) → room₁ ≡ set room p 0 → ResolvesTerm cells k row p current current room room₁ 0
+  unfolding termAt
+  shallow-resolves e current room er spell around apart wh kn len env =
+      walked-as (ap (λ n. termAt n spell cells row) e) er (number-walked 0 current room)
+
+  pub shallow-resolves-fields : k ≡ 0 → {room₁ : List ℕ} (current room : List ℕ) → room₁ ≡ set room p 0 → ResolvesFields cells k row p current current room room₁ 0
+  unfolding fieldsAt
+  shallow-resolves-fields e current room er spell around apart wh kn len env =
+      walked-fields-as (ap (λ n. fieldsAt n spell cells row) e) er (nil-walked current room)
+
+  module _ (some : k ≡ 0 → ⊥) {code : ℕ} (at : code ≡ column cells row 0) where
+    pub variable-resolves : code ≡ 32 → {x m h : ℕ} {room₁ : List ℕ} (current room : List ℕ) → x ≡ column cells row 1
+        → ((spell : ℕ → List ℕ) (around : List Binder) → VariableName spell (nameOf spell x) → Around spell cells around current → m ≡ markOf (nameOf spell x) (ownerCode (ownerOf around (nameOf spell x))))
+        → ((spell : ℕ → List ℕ) → Distinct spell → VariableName spell (nameOf spell x) → Holds spell h (λ s. isOutside s (nameOf spell x)))
+        → room₁ ≡ set room p m → ResolvesTerm cells k row p current current room room₁ h
+    unfolding WellNamed
+    variable-resolves e current room ex em eh er spell around apart wh kn len env =
+        let t = rows.var-row spell cells k row some at e ∙ ap (λ n. variable (nameOf spell n)) (sym ex) in
+        let kn′ = subst (WellNamed spell) t kn in
+        walked-as t er (variable-walked current room (em spell around kn′ env) (eh spell apart kn′))
+
+    pub number-resolves : (code ≡ 32 → ⊥) → (code ≡ 33 → ⊥) → (code ≡ 34 → ⊥) → (code ≡ 35 → ⊥) → (code ≡ 36 → ⊥) → {room₁ : List ℕ} (current room : List ℕ)
+        → room₁ ≡ set room p 0 → ResolvesTerm cells k row p current current room room₁ 0
+    number-resolves v a b c d {room₁} current room er spell around apart wh kn len env =
+        rows.number-row spell cells k row some at (λ t. Walked spell around p t 0 current current room room₁)
+        (λ n. walked-as refl er (number-walked n current room)) v a b c d
+
+    pub function-resolves : code ≡ 33 → {x q outer held v : ℕ} {current current₁ current₂ current₃ room room₁ room₂ : List ℕ} → x ≡ column cells row 1 → q ≡ column cells row 2
+        → current₁ ≡ set current (slotOf cells x) (p + 1) → outer ≡ getD current (slotOf cells x) 0
+        → ResolvesTerm cells (k - 1) q (p + 1) current₁ current₂ room room₁ held
+        → current₃ ≡ set current₂ (slotOf cells x) outer
+        → ((spell : ℕ → List ℕ) (t : Term Name) → Distinct spell → WellNamed spell t → BinderName spell (nameOf spell x) → Holds spell held (λ s. holds s t) → v ≡ binderMark (isRenamed (nameOf spell x) t))
+        → room₂ ≡ set room₁ p v → ResolvesTerm cells k row p current current₃ room room₂ held
+    unfolding WellNamed
+    function-resolves e {x} {q} {current = current} {current₁ = current₁} ex eq e₁ eo body e₃ mark er spell around apart wh kn len env =
+        let t = rows.fun-row spell cells k row some at e ∙ ap₂ (λ n r. function (nameOf spell n) (termAt (k - 1) spell cells r)) (sym ex) (sym eq) in
+        let kn′ = subst (WellNamed spell) t kn in
+        let slot : slotOf cells x < 16384 =
+        subst (λ n. slotOf cells n < 16384) (sym ex) (slot-there cells row (row-inside cells row wh (sym at ∙ e)) (wh .few) (sym at ∙ e)) in
+        let inner : Around spell cells (record { name = nameOf spell x; place = p } ∷ around) current₁ =
+        subst (Around spell cells (record { name = nameOf spell x; place = p } ∷ around)) (sym e₁)
+        (around-binder spell apart cells around current x p (bindable-of spell x (kn′ .0)) slot len env) in
+        let w = body spell (record { name = nameOf spell x; place = p } ∷ around) apart wh (kn′ .1) (ap length e₁ ∙ length-set current (slotOf cells x) (p + 1) ∙ len) inner in
+        walked-as t er
+        (function-walked w (mark spell (termAt (k - 1) spell cells q) apart (kn′ .1) (kn′ .0) (w .holding))
+        (e₃ ∙ ap₂ (λ l o. set l (slotOf cells x) o) (w .kept ∙ e₁) eo ∙ restored current (slotOf cells x) (p + 1)))
+
+    pub apply-resolves : code ≡ 34 → {q q′ p′ h₁ h₂ h : ℕ} {current current₁ current₂ room room₀ room₁ room₂ : List ℕ} → q ≡ column cells row 1 → q′ ≡ column cells row 2
+        → room₀ ≡ set room p 0 → ResolvesTerm cells (k - 1) q (p + 1) current current₁ room₀ room₁ h₁
+        → p′ ≡ p + 1 + size (termAt (k - 1) noSpell cells q) → ResolvesTerm cells (k - 1) q′ p′ current₁ current₂ room₁ room₂ h₂
+        → h ≡ bitOr h₁ h₂ → ResolvesTerm cells k row p current current₂ room room₂ h
+    unfolding WellNamed
+    apply-resolves e {q} {q′} {current₁ = current₁} eq eq′ e₀ first ep second eh spell around apart wh kn len env =
+        let t = rows.app-row spell cells k row some at e ∙ ap₂ (λ a b. apply (termAt (k - 1) spell cells a) (termAt (k - 1) spell cells b)) (sym eq) (sym eq′) in
+        let kn′ = subst (WellNamed spell) t kn in
+        let w = first spell around apart wh (kn′ .0) len env in
+        let w′ = second spell around apart wh (kn′ .1) (ap length (w .kept) ∙ len) (subst (Around spell cells around) (sym (w .kept)) env) in
+        walked-as t refl (apply-walked (from-room e₀ w) w′ (ep ∙ ap (λ n. p + 1 + n) (size-spell (k - 1) noSpell spell cells q)) eh)
+
+    pub rcd-resolves : code ≡ 35 → {q h : ℕ} {current current₁ room room₀ room₁ : List ℕ} → q ≡ column cells row 1
+        → room₀ ≡ set room p 0 → ResolvesFields cells (k - 1) q (p + 1) current current₁ room₀ room₁ h → ResolvesTerm cells k row p current current₁ room room₁ h
+    unfolding WellNamed
+    rcd-resolves e {q} eq e₀ first spell around apart wh kn len env =
+        let t = rows.rcd-row spell cells k row some at e ∙ ap (λ a. rcd (fieldsAt (k - 1) spell cells a)) (sym eq) in
+        walked-as t refl (rcd-walked (from-room-fields e₀ (first spell around apart wh (subst (WellNamed spell) t kn) len env)))
+
+    pub dot-resolves : code ≡ 36 → {q h : ℕ} {current current₁ room room₀ room₁ : List ℕ} → q ≡ column cells row 1
+        → room₀ ≡ set room p 0 → ResolvesTerm cells (k - 1) q (p + 1) current current₁ room₀ room₁ h → ResolvesTerm cells k row p current current₁ room room₁ h
+    unfolding WellNamed
+    dot-resolves e {q} eq e₀ first spell around apart wh kn len env =
+        let t = rows.dot-row spell cells k row some at e ∙ ap (λ a. dot (termAt (k - 1) spell cells a) (spell (column cells row 2))) (sym eq) in
+        walked-as t refl (dot-walked (spell (column cells row 2)) (from-room e₀ (first spell around apart wh (subst (WellNamed spell) t kn) len env)))
+
+    pub cons-resolves : code ≡ 38 → {q q′ p′ h₁ h₂ h : ℕ} {current current₁ current₂ room room₀ room₁ room₂ : List ℕ} → q ≡ column cells row 2 → q′ ≡ column cells row 3
+        → room₀ ≡ set room p 0 → ResolvesTerm cells (k - 1) q (p + 1) current current₁ room₀ room₁ h₁
+        → p′ ≡ p + 1 + size (termAt (k - 1) noSpell cells q) → ResolvesFields cells (k - 1) q′ p′ current₁ current₂ room₁ room₂ h₂
+        → h ≡ bitOr h₁ h₂ → ResolvesFields cells k row p current current₂ room room₂ h
+    unfolding WellNamedFields
+    cons-resolves e {q} {q′} eq eq′ e₀ first ep second eh spell around apart wh kn len env =
+        let t = rows.cons-row spell cells k row some at e ∙ ap₂ (λ a b. cons (spell (column cells row 1)) (termAt (k - 1) spell cells a) (fieldsAt (k - 1) spell cells b)) (sym eq) (sym eq′) in
+        let kn′ = subst (WellNamedFields spell) t kn in
+        let w = first spell around apart wh (kn′ .0) len env in
+        let w′ = second spell around apart wh (kn′ .1) (ap length (w .kept) ∙ len) (subst (Around spell cells around) (sym (w .kept)) env) in
+        walked-fields-as t refl (cons-walked (spell (column cells row 1)) (from-room e₀ w) w′ (ep ∙ ap (λ n. p + 1 + n) (size-spell (k - 1) noSpell spell cells q)) eh)
+
+    pub nil-resolves : (code ≡ 38 → ⊥) → {room₁ : List ℕ} (current room : List ℕ) → room₁ ≡ set room p 0 → ResolvesFields cells k row p current current room room₁ 0
+    nil-resolves e current room er spell around apart wh kn len env =
+        walked-fields-as (rows.nil-row spell cells k row some at e) er (nil-walked current room)
+
+-- ------------------------------------------------------------------ places
+
+abbrev T : List ℕ → ℕ → ℕ → Term Name
+T cells k row = termAt k noSpell cells row
+
+abbrev F : List ℕ → ℕ → ℕ → Fields Name
+F cells k row = fieldsAt k noSpell cells row
+
+module _ (cells : List ℕ) (k row p : ℕ) where
+  pub shallow-place : k ≡ 0 → p + 1 ≡ p + size (T cells k row)
+  unfolding size termAt
+  shallow-place e = rw e refl
+
+  pub shallow-fields-place : k ≡ 0 → p + 1 ≡ p + sizeFields (F cells k row)
+  unfolding sizeFields fieldsAt
+  shallow-fields-place e = rw e refl
+
+  module _ (some : k ≡ 0 → ⊥) {code : ℕ} (at : code ≡ column cells row 0) where
+    pub variable-place : code ≡ 32 → p + 1 ≡ p + size (T cells k row)
+    unfolding size
+    variable-place e = rw (rows.var-row noSpell cells k row some at e) refl
+
+    pub function-place : code ≡ 33 → {q : ℕ} → q ≡ column cells row 2 → p + 1 + size (T cells (k - 1) q) ≡ p + size (T cells k row)
+    unfolding size
+    function-place e eq = rw (eq, rows.fun-row noSpell cells k row some at e) (omega arith)
+
+    pub apply-place : code ≡ 34 → {q q′ : ℕ} → q ≡ column cells row 1 → q′ ≡ column cells row 2
+        → p + 1 + size (T cells (k - 1) q) + size (T cells (k - 1) q′) ≡ p + size (T cells k row)
+    unfolding size
+    apply-place e eq eq′ = rw (eq, eq′, rows.app-row noSpell cells k row some at e) (omega arith)
+
+    pub rcd-place : code ≡ 35 → {q : ℕ} → q ≡ column cells row 1 → p + 1 + sizeFields (F cells (k - 1) q) ≡ p + size (T cells k row)
+    unfolding size
+    rcd-place e eq = rw (eq, rows.rcd-row noSpell cells k row some at e) (omega arith)
+
+    pub dot-place : code ≡ 36 → {q : ℕ} → q ≡ column cells row 1 → p + 1 + size (T cells (k - 1) q) ≡ p + size (T cells k row)
+    unfolding size
+    dot-place e eq = rw (eq, rows.dot-row noSpell cells k row some at e) (omega arith)
+
+    pub number-place : (code ≡ 32 → ⊥) → (code ≡ 33 → ⊥) → (code ≡ 34 → ⊥) → (code ≡ 35 → ⊥) → (code ≡ 36 → ⊥) → p + 1 ≡ p + size (T cells k row)
+    unfolding size
+    number-place v a b c d = rows.number-row noSpell cells k row some at (λ t. p + 1 ≡ p + size t) (λ n. refl) v a b c d
+
+    pub cons-place : code ≡ 38 → {q q′ : ℕ} → q ≡ column cells row 2 → q′ ≡ column cells row 3
+        → p + 1 + size (T cells (k - 1) q) + sizeFields (F cells (k - 1) q′) ≡ p + sizeFields (F cells k row)
+    unfolding sizeFields
+    cons-place e eq eq′ = rw (eq, eq′, rows.cons-row noSpell cells k row some at e) (omega arith)
+
+    pub nil-place : (code ≡ 38 → ⊥) → p + 1 ≡ p + sizeFields (F cells k row)
+    unfolding sizeFields
+    nil-place e = rw (rows.nil-row noSpell cells k row some at e) refl
+
+pub place-inside : (cells : List ℕ) (k row p : ℕ) → p + size (termAt k noSpell cells row) ≤ 16384 → p < 16384
+place-inside cells k row p h = omega (arith, size-some (T cells k row))
+
+pub place-inside-fields : (cells : List ℕ) (k row p : ℕ) → p + sizeFields (fieldsAt k noSpell cells row) ≤ 16384 → p < 16384
+place-inside-fields cells k row p h = omega (arith, size-some-fields (F cells k row))

@@ -1,0 +1,113 @@
+-- The slots of names, and the environment of a walk under binders.
+use Prim.Native.Nat.{ℕ, zero, suc, _+_, _-_, _*_, _/_, _%_, _≤_, _<_}
+use mathlib.Core.Path.{_≡_, refl, sym, ap, subst, _∙_}
+use mathlib.Core.Bool.{Bool, true, false, _&&_, and-eq-true-iff}
+use mathlib.Core.List.{List, [], _∷_}
+use native.Mathlib.Omega.{arith}
+use lib.Dec.{eqb}
+use lib.ListN.{length, getD, set}
+use lib.Seq.{getD-set-same, getD-set-other, set-getD, set-set}
+use borrow.Author.Tests.{eq-eqb, ne-eqb, eqb-true, eqb-false}
+use Rattle.spellings.specs.Bytes.{same, isWord}
+use Rattle.spellings.specs.BytesLaws.{by-test, same-true, same-refl}
+use Rattle.grammar.specs.Cells.{column, nameBase}
+use Rattle.terms.specs.Term.{Name, word, fresh, outside}
+use Rattle.terms.specs.Rows.{nameOf}
+use Rattle.terms.specs.Rename.{belongs}
+use Rattle.terms.specs.Binding.{Owner, unbound, boundAt, Binder, ownerOf}
+use Rattle.resolver.specs.Marks.{ownerCode, binds, slotFrom, slotOf, Bindable, bindable-word, bindable-fresh, Around}
+use Rattle.terms.specs.Names.{Distinct}
+
+-- ------------------------------------------------------------------ slots
+
+slot-binds : (n : ℕ) (cells : List ℕ) (row x : ℕ) → slotFrom n cells row x < 16384 → binds cells (slotFrom n cells row x) x ≡ true
+unfolding slotFrom
+slot-binds zero cells row x h = absurd (omega arith)
+slot-binds (suc n) cells row x h =
+    by-test (binds cells row x) (λ e. rw (e, slotFrom) e) (λ e. rw (e, slotFrom) (slot-binds n cells (suc row) x (rw (e, slotFrom) at h)))
+
+-- the row of a slot has the slot's name
+pub slot-name : (cells : List ℕ) (x : ℕ) → slotOf cells x < 16384 → column cells (slotOf cells x) 1 ≡ x
+slot-name cells x h =
+    eqb-true (column cells (slotOf cells x) 1) x (and-eq-true-iff (eqb (column cells (slotOf cells x) 0) 33) (eqb (column cells (slotOf cells x) 1) x) .0 (slot-binds (length cells / 4) cells 0 x h) .1)
+
+slot-first : (n : ℕ) (cells : List ℕ) (row x r : ℕ) → row ≤ r → r < row + n → row + n ≤ 16384 → binds cells r x ≡ true → slotFrom n cells row x < 16384
+unfolding slotFrom
+slot-first zero cells row x r a b m e = absurd (omega arith)
+slot-first (suc n) cells row x r a b m e =
+    by-test (binds cells row x) (λ t. rw (t, slotFrom) (omega arith))
+    (λ f.
+    let other : row ≡ r → ⊥ = λ z. absurd (clash (binds cells r x) e (ap (λ q. binds cells q x) (sym z) ∙ f)) in
+    rw (f, slotFrom) (slot-first n cells (suc row) x r (omega (arith, other)) (omega arith) (omega arith) e))
+  where
+    clash : (b : Bool) → b ≡ true → b ≡ false → ⊥
+    clash b p q = let z : _≡_ {A = ℕ} 0 1 = cc in omega arith
+
+-- a name that a row binds has a slot
+pub slot-there : (cells : List ℕ) (r : ℕ) → r < length cells / 4 → length cells ≤ 65536 → column cells r 0 ≡ 33 → slotOf cells (column cells r 1) < 16384
+slot-there cells r h m e =
+    slot-first (length cells / 4) cells 0 (column cells r 1) r (omega arith) (omega arith) (omega arith)
+    (and-eq-true-iff (eqb (column cells r 0) 33) (eqb (column cells r 1) (column cells r 1)) .1 (eq-eqb (column cells r 0) 33 e, eq-eqb (column cells r 1) (column cells r 1) refl))
+
+-- ------------------------------------------------------------------ names by their values
+
+module _ (spell : ℕ → List ℕ) where
+  named-word : (n : ℕ) → n < nameBase → nameOf spell (1 * nameBase + n) ≡ word (spell n)
+  unfolding nameOf
+  named-word n h =
+      let c : (1 * nameBase + n) / nameBase ≡ 1 = omega arith in
+      let d : (1 * nameBase + n) % nameBase ≡ n = omega arith in
+      rw (c, nameOf) (ap (λ m. word (spell m)) d)
+
+  named-fresh : (n : ℕ) → n < nameBase → nameOf spell (2 * nameBase + n) ≡ fresh n
+  unfolding nameOf
+  named-fresh n h =
+      let c : (2 * nameBase + n) / nameBase ≡ 2 = omega arith in
+      let d : (2 * nameBase + n) % nameBase ≡ n = omega arith in
+      rw (c, nameOf) (rw c (ap fresh d))
+
+  -- a name belongs to a binder exactly if their values are equal
+  pub belongs-same : (x : ℕ) → Bindable spell x → belongs (nameOf spell x) (nameOf spell x) ≡ true
+  belongs-same _ (bindable-word {n = n} h w) = rw (named-word n h) (same-refl (spell n))
+  belongs-same _ (bindable-fresh {n = n} h) = rw (named-fresh n h) (eq-eqb n n refl)
+
+  pub belongs-other : Distinct spell → (x y : ℕ) → Bindable spell x → Bindable spell y → (x ≡ y → ⊥) → belongs (nameOf spell x) (nameOf spell y) ≡ false
+  belongs-other apart _ _ (bindable-word {n = n} h w) (bindable-word {n = m} k v) d =
+      rw (named-word n h, named-word m k)
+      (by-test (same (spell n) (spell m)) (λ e. absurd (d (ap (λ i. 1 * nameBase + i) (apart n m w (same-true (spell n) (spell m) e))))) (λ e. e))
+  belongs-other apart _ _ (bindable-word {n = n} h w) (bindable-fresh {n = m} k) d = rw (named-word n h, named-fresh m k) refl
+  belongs-other apart _ _ (bindable-fresh {n = n} h) (bindable-word {n = m} k v) d = rw (named-fresh n h, named-word m k) refl
+  belongs-other apart _ _ (bindable-fresh {n = n} h) (bindable-fresh {n = m} k) d =
+      rw (named-fresh n h, named-fresh m k) (ne-eqb n m (λ e. d (ap (λ i. 2 * nameBase + i) e)))
+
+  -- ------------------------------------------------------------------ the environment
+
+  owner-own : (around : List Binder) (b : Binder) (v : Name) → belongs v (b .name) ≡ true → ownerOf (b ∷ around) v ≡ boundAt (b .place)
+  unfolding ownerOf
+  owner-own around b v e = rw (e, ownerOf) refl
+
+  owner-outer : (around : List Binder) (b : Binder) (v : Name) → belongs v (b .name) ≡ false → ownerOf (b ∷ around) v ≡ ownerOf around v
+  unfolding ownerOf
+  owner-outer around b v e = rw (e, ownerOf) refl
+
+  -- under one more binder, at a place: its slot has the place and one more
+  pub around-binder : Distinct spell → (cells : List ℕ) (around : List Binder) (current : List ℕ) (y p : ℕ) → Bindable spell y → slotOf cells y < 16384 → length current ≡ 16385
+      → Around spell cells around current → Around spell cells (record { name = nameOf spell y; place = p } ∷ around) (set current (slotOf cells y) (p + 1))
+  around-binder apart cells around current y p b l n env x a =
+      by-test (eqb x y)
+      (λ e.
+      let z : x ≡ y = eqb-true x y e in
+      ap (λ q. getD (set current (slotOf cells y) (p + 1)) (slotOf cells q) 0) z
+      ∙ getD-set-same current (slotOf cells y) (p + 1) 0 (omega arith)
+      ∙ sym (ap ownerCode (owner-own around (record { name = nameOf spell y; place = p }) (nameOf spell x) (ap (λ q. belongs (nameOf spell q) (nameOf spell y)) z ∙ belongs-same y b)) ∙ omega arith))
+      (λ e.
+      let d : x ≡ y → ⊥ = eqb-false x y e in
+      let apart-slots : slotOf cells x ≡ slotOf cells y → ⊥ =
+      λ s. d (sym (slot-name cells x (omega arith)) ∙ ap (λ r. column cells r 1) s ∙ slot-name cells y l) in
+      getD-set-other current (slotOf cells y) (slotOf cells x) (p + 1) 0 apart-slots
+      ∙ env x a
+      ∙ sym (ap ownerCode (owner-outer around (record { name = nameOf spell y; place = p }) (nameOf spell x) (belongs-other apart x y a b d))))
+
+-- left again, the slot is as before
+pub restored : (current : List ℕ) (s v : ℕ) → set (set current s v) s (getD current s 0) ≡ current
+restored current s v = set-set current s v (getD current s 0) ∙ set-getD current s 0

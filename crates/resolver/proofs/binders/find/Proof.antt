@@ -1,0 +1,74 @@
+-- `find`: every first row of the name is older than where the links have led.
+use Prim.Native.Nat.{_/_, _-_}
+use mathlib.Core.Path.{_≡_, refl, sym, ap, _∙_}
+use native.Mathlib.Omega.{arith}
+use lib.ListN.{length}
+use borrow.Author.Needs.{needs}
+use Rattle.resolver.proofs.LinkLaws as laws
+use Rattle.resolver.proofs.binders.find.Statement.{statement}
+use Rattle.resolver.proofs.binders.find.Tie as tie
+use Rattle.resolver.proofs.binders.find.Reads as reads
+use Rattle.resolver.proofs.binders.find.Lts as lts
+use Rattle.resolver.proofs.binders.link_at.Reads as link-at-reads
+use Rattle.rows.proofs.column.Reads as column-reads
+
+abbrev Inv-loop : tie.InvT-loop
+Inv-loop cells links n x half p₀ p = laws.Chasing n cells (length links / 2) x p × (half ≡ length links / 2)
+
+abbrev μ-loop : tie.MeasureT-loop
+μ-loop cells links n x half p₀ p = p
+
+rem-link-at : tie.Need-rem-link-at Inv-loop μ-loop
+rem-link-at c = omega (arith, (c .before .before .pre) .some)
+
+link-at-requires : tie.Need-link-at-requires Inv-loop μ-loop
+link-at-requires c κs = search needs
+
+loop-holds : tie.Need-loop-holds Inv-loop μ-loop
+loop-holds c = (laws.chasing-start (c .before .before .before .pre) (c .before .before .before .args .x) (c .link-at .ensures), refl)
+
+sub-row : tie.Need-sub-row Inv-loop μ-loop
+sub-row c = search needs
+
+cast-column : tie.Need-cast-column Inv-loop μ-loop
+cast-column c = omega (arith, laws.chasing-inside (c .before .before .before .before .before .pre) (c .before .before .before .before .before .args .x) (c .before .loop .inv .0) (c .loop-test .taken))
+
+column-requires : tie.Need-column-requires Inv-loop μ-loop
+column-requires c κs = search needs
+
+returns : tie.Need-returns Inv-loop μ-loop
+returns c = (laws.chasing-found (c .before .before .before .before .before .before .before .pre) (c .before .before .before .before .before .before .before .args .x) (c .before .before .before .loop .inv .0) (c .before .before .loop-test .taken) (c .before .column .ensures) (c .if1 .taken), omega (arith, laws.chasing-inside (c .before .before .before .before .before .before .before .pre) (c .before .before .before .before .before .before .before .args .x) (c .before .before .before .loop .inv .0) (c .before .before .loop-test .taken)))
+
+add-link-at : tie.Need-add-link-at Inv-loop μ-loop
+add-link-at c = omega (arith, laws.chasing-inside (c .before .before .before .before .before .before .before .pre) (c .before .before .before .before .before .before .before .args .x) (c .before .before .before .loop .inv .0) (c .before .before .loop-test .taken))
+
+link-at-requires-2 : tie.Need-link-at-requires-2 Inv-loop μ-loop
+link-at-requires-2 c κs = search needs
+
+loop-less : tie.Need-loop-less Inv-loop μ-loop
+loop-less c = laws.chasing-less (c .before .before .before .before .before .before .before .before .pre) (c .before .before .before .before .before .before .before .before .args .x) (c .before .before .before .before .loop .inv .0) (c .before .before .before .loop-test .taken) (c .before .before .column .ensures) (c .before .if1 .left) (c .link-at2 .ensures)
+
+loop-again : tie.Need-loop-again Inv-loop μ-loop
+loop-again c = (laws.chasing-next (c .before .before .before .before .before .before .before .before .pre) (c .before .before .before .before .before .before .before .before .args .x) (c .before .before .before .before .loop .inv .0) (c .before .before .before .loop-test .taken) (c .before .before .column .ensures) (c .before .if1 .left) (c .link-at2 .ensures), c .before .before .before .before .loop .inv .1)
+
+returns-2 : tie.Need-returns-2 Inv-loop μ-loop
+returns-2 c = (laws.chasing-end (c .before .before .before .before .before .pre) (c .before .before .before .before .before .args .x) (c .before .loop .inv .0) (c .loop-test .left), omega arith)
+
+pub find-spec : {M : Type 1} → statement M
+find-spec =
+    tie.close
+    (tie.spec
+    Inv-loop
+    μ-loop
+    rem-link-at
+    link-at-requires
+    loop-holds
+    sub-row
+    cast-column
+    column-requires
+    returns
+    add-link-at
+    link-at-requires-2
+    loop-less
+    loop-again
+    returns-2)

@@ -1,0 +1,99 @@
+-- `link`: rows before the present one are linked.
+use Prim.Native.Nat.{_/_, _-_}
+use mathlib.Core.Path.{_≡_, refl, sym, ap, _∙_}
+use native.Mathlib.Omega.{arith}
+use lib.ListN.{length}
+use borrow.Author.Needs.{needs}
+use Rattle.resolver.proofs.LinkLaws as laws
+use Rattle.resolver.proofs.binders.link.Statement.{statement}
+use Rattle.resolver.proofs.binders.link.Tie as tie
+use Rattle.resolver.proofs.binders.link.Reads as reads
+use Rattle.resolver.proofs.binders.link.Lts as lts
+use Rattle.resolver.proofs.binders.add.Reads as add-reads
+use Rattle.resolver.proofs.binders.find.Reads as find-reads
+use Rattle.rows.proofs.column.Reads as column-reads
+
+abbrev Inv-loop : tie.InvT-loop
+Inv-loop cells links₀ row₀ links row = laws.Linking cells links₀ links row
+
+abbrev μ-loop : tie.MeasureT-loop
+μ-loop cells links₀ row₀ links row = (length cells / 4) - row
+
+loop-holds : tie.Need-loop-holds Inv-loop μ-loop
+loop-holds c = laws.linking-start (c .before .before .args .cells .now) (c .before .before .args .links .now) (c .before .before .pre .1 .0 .0) (c .before .before .pre .1 .1)
+
+cast-column : tie.Need-cast-column Inv-loop μ-loop
+cast-column c = omega (arith, laws.row-small (c .before .loop .inv) (c .before .before .before .before .pre .0) (c .before .before .before .before .pre .1 .0 .1) (c .loop-test .taken))
+
+column-requires : tie.Need-column-requires Inv-loop μ-loop
+column-requires c κs = search needs
+
+cast-column-2 : tie.Need-cast-column-2 Inv-loop μ-loop
+cast-column-2 c = omega (arith, laws.row-small (c .before .before .loop .inv) (c .before .before .before .before .before .pre .0) (c .before .before .before .before .before .pre .1 .0 .1) (c .before .loop-test .taken))
+
+column-requires-2 : tie.Need-column-requires-2 Inv-loop μ-loop
+column-requires-2 c κs = search needs
+
+find-requires : tie.Need-find-requires Inv-loop μ-loop
+find-requires c κs = (c .before .before .before .before .before .loop .inv) .linked
+
+add-requires : tie.Need-add-requires Inv-loop μ-loop
+add-requires c κs = (laws.row-fits (c .before .before .before .before .before .before .before .before .loop .inv) (c .before .before .before .before .before .before .before .before .before .before .before .pre .0) (c .before .before .before .before .before .before .before .before .before .before .before .pre .1 .0 .1) (c .before .before .before .before .before .before .before .loop-test .taken), laws.row-small (c .before .before .before .before .before .before .before .before .loop .inv) (c .before .before .before .before .before .before .before .before .before .before .before .pre .0) (c .before .before .before .before .before .before .before .before .before .before .before .pre .1 .0 .1) (c .before .before .before .before .before .before .before .loop-test .taken))
+
+add-row : tie.Need-add-row Inv-loop μ-loop
+add-row c = omega (arith, laws.row-small (c .before .before .before .before .before .before .before .before .before .before .before .loop .inv) (c .before .before .before .before .before .before .before .before .before .before .before .before .before .before .pre .0) (c .before .before .before .before .before .before .before .before .before .before .before .before .before .before .pre .1 .0 .1) (c .before .before .before .before .before .before .before .before .before .before .loop-test .taken))
+
+loop-less : tie.Need-loop-less Inv-loop μ-loop
+loop-less c = omega arith
+
+loop-again : tie.Need-loop-again Inv-loop μ-loop
+loop-again c = laws.add-row (c .before .before .before .before .before .before .before .before .before .before .before .loop .inv) (c .before .before .before .before .before .before .before .before .before .before .before .before .before .before .pre .0) (c .before .before .before .before .before .before .before .before .before .before .before .before .before .before .pre .1 .0 .1) (c .before .before .before .before .before .before .before .before .before .before .loop-test .taken) (c .before .before .before .before .before .before .before .before .before .column .ensures) (c .before .before .before .before .before .before .before .before .column2 .ensures) (c .before .before .before .before .before .before .before .if1 .taken) (c .before .before .before .before .before .find .ensures .0) (c .before .before .before .before .if2 .taken) (c .before .before .add .ensures)
+
+add-row-2 : tie.Need-add-row-2 Inv-loop μ-loop
+add-row-2 c = omega (arith, laws.row-small (c .before .before .before .before .before .before .before .loop .inv) (c .before .before .before .before .before .before .before .before .before .before .pre .0) (c .before .before .before .before .before .before .before .before .before .before .pre .1 .0 .1) (c .before .before .before .before .before .before .loop-test .taken))
+
+loop-less-2 : tie.Need-loop-less-2 Inv-loop μ-loop
+loop-less-2 c = omega arith
+
+loop-again-2 : tie.Need-loop-again-2 Inv-loop μ-loop
+loop-again-2 c = laws.skip-found (c .before .before .before .before .before .before .before .loop .inv) (c .before .before .before .before .before .before .before .before .before .before .pre .0) (c .before .before .before .before .before .before .before .before .before .before .pre .1 .0 .1) (c .before .before .before .before .before .before .loop-test .taken) (c .before .before .before .before .column2 .ensures) (c .before .find .ensures .0) (c .if2 .left)
+
+add-row-3 : tie.Need-add-row-3 Inv-loop μ-loop
+add-row-3 c = omega (arith, laws.row-small (c .before .before .before .before .loop .inv) (c .before .before .before .before .before .before .before .pre .0) (c .before .before .before .before .before .before .before .pre .1 .0 .1) (c .before .before .before .loop-test .taken))
+
+loop-less-3 : tie.Need-loop-less-3 Inv-loop μ-loop
+loop-less-3 c = omega arith
+
+loop-again-3 : tie.Need-loop-again-3 Inv-loop μ-loop
+loop-again-3 c = laws.skip-code (c .before .before .before .before .loop .inv) (c .before .before .before .before .before .before .before .pre .0) (c .before .before .before .before .before .before .before .pre .1 .0 .1) (c .before .before .before .loop-test .taken) (c .before .before .column .ensures) (c .if1 .left)
+
+same-length : tie.Need-same-length Inv-loop μ-loop
+same-length c = (c .before .loop .inv) .long
+
+returns : tie.Need-returns Inv-loop μ-loop
+returns c = laws.linking-end (c .before .loop .inv) (c .before .before .before .before .pre .0) (c .loop-test .left)
+
+pub link-spec : {M : Type 1} → statement M
+link-spec =
+    tie.close
+    (tie.spec
+    Inv-loop
+    μ-loop
+    loop-holds
+    cast-column
+    column-requires
+    cast-column-2
+    column-requires-2
+    find-requires
+    add-requires
+    add-row
+    loop-less
+    loop-again
+    add-row-2
+    loop-less-2
+    loop-again-2
+    add-row-3
+    loop-less-3
+    loop-again-3
+    same-length
+    returns)

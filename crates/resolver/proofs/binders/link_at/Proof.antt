@@ -1,0 +1,28 @@
+-- `link_at`: a link, or 0 past the end.
+use mathlib.Core.Path.{sym}
+use Rattle.grammar.proofs.ReaderLaws.{getD-past}
+use borrow.Author.Needs.{needs}
+use borrow.Author.Needs.{needs}
+use Rattle.resolver.proofs.binders.link_at.Statement.{statement}
+use Rattle.resolver.proofs.binders.link_at.Tie as tie
+use Rattle.resolver.proofs.binders.link_at.Reads as reads
+use Rattle.resolver.proofs.binders.link_at.Lts as lts
+use Rattle.resolver.proofs.binders.wide.Reads as wide-reads
+
+mul-wide : tie.Need-mul-wide
+mul-wide c = search needs
+
+shared-slice-read-wide : tie.Need-shared-slice-read-wide
+shared-slice-read-wide c = search needs
+
+wide-requires : tie.Need-wide-requires
+wide-requires c κs = search needs
+
+returns : tie.Need-returns
+returns c = search needs
+
+returns-2 : tie.Need-returns-2
+returns-2 c = sym (getD-past (c .before .before .args .links .now) (c .before .before .args .i) 0 (c .if1 .left))
+
+pub link-at-spec : {M : Type 1} → statement M
+link-at-spec = tie.close (tie.spec mul-wide shared-slice-read-wide wide-requires returns returns-2)

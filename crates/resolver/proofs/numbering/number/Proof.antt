@@ -1,0 +1,92 @@
+-- `number`: mark by mark from the left.
+use Prim.Native.Nat.{ℕ, _-_}
+use mathlib.Core.Path.{_≡_}
+use native.Mathlib.Omega.{arith}
+use borrow.Author.Needs.{needs}
+use Rattle.resolver.proofs.CountLaws as laws
+use Rattle.resolver.proofs.numbering.number.Statement.{statement}
+use Rattle.resolver.proofs.numbering.number.Tie as tie
+use Rattle.resolver.proofs.numbering.number.Reads as reads
+use Rattle.resolver.proofs.numbering.number.Lts as lts
+use Rattle.resolver.proofs.numbering.number_of.Reads as number-of-reads
+
+abbrev Inv-loop : tie.InvT-loop
+Inv-loop marks₀ n p₀ count₀ marks p count = laws.Counting n marks₀ marks p count
+
+abbrev μ-loop : tie.MeasureT-loop
+μ-loop marks₀ n p₀ count₀ marks p count = n - p
+
+loop-holds : tie.Need-loop-holds Inv-loop μ-loop
+loop-holds c = laws.counting-start (c .before .args .n) (c .before .args .marks .now)
+
+mul-m : tie.Need-mul-m Inv-loop μ-loop
+mul-m c = omega (arith, (c .before .loop .inv) .inside, (c .before .loop .inv) .few, (c .before .loop .inv) .long, c .loop-test .taken, c .before .before .before .pre .0, c .before .before .before .pre .1)
+
+slice-read-m : tie.Need-slice-read-m Inv-loop μ-loop
+slice-read-m c = omega (arith, (c .before .before .loop .inv) .inside, (c .before .before .loop .inv) .few, (c .before .before .loop .inv) .long, c .before .loop-test .taken, c .before .before .before .before .pre .0, c .before .before .before .before .pre .1)
+
+same-length : tie.Need-same-length Inv-loop μ-loop
+same-length c = (c .before .before .before .loop .inv) .long
+
+returns : tie.Need-returns Inv-loop μ-loop
+returns c = (laws.counting-loose (c .before .before .before .loop .inv) (c .before .before .loop-test .taken) (c .before .before .before .before .before .pre .0) (c .if1 .taken), λ e. absurd (let z : _≡_ {A = ℕ} 0 1 = cc in omega arith))
+
+number-of-requires : tie.Need-number-of-requires Inv-loop μ-loop
+number-of-requires c κs = (omega (arith, (c .before .before .before .before .loop .inv) .inside, (c .before .before .before .before .loop .inv) .few, (c .before .before .before .before .loop .inv) .long, c .before .before .before .loop-test .taken, c .before .before .before .before .before .before .pre .0, c .before .before .before .before .before .before .pre .1), omega (arith, (c .before .before .before .before .loop .inv) .inside, (c .before .before .before .before .loop .inv) .few, (c .before .before .before .before .loop .inv) .long, c .before .before .before .loop-test .taken, c .before .before .before .before .before .before .pre .0, c .before .before .before .before .before .before .pre .1))
+
+mul-marks : tie.Need-mul-marks Inv-loop μ-loop
+mul-marks c = omega (arith, (c .before .before .before .before .before .loop .inv) .inside, (c .before .before .before .before .before .loop .inv) .few, (c .before .before .before .before .before .loop .inv) .long, c .before .before .before .before .loop-test .taken, c .before .before .before .before .before .before .before .pre .0, c .before .before .before .before .before .before .before .pre .1)
+
+slice-write-marks : tie.Need-slice-write-marks Inv-loop μ-loop
+slice-write-marks c = omega (arith, (c .before .before .before .before .before .loop .inv) .inside, (c .before .before .before .before .before .loop .inv) .few, (c .before .before .before .before .before .loop .inv) .long, c .before .before .before .before .loop-test .taken, c .before .before .before .before .before .before .before .pre .0, c .before .before .before .before .before .before .before .pre .1)
+
+add-count : tie.Need-add-count Inv-loop μ-loop
+add-count c = omega (arith, (c .before .before .before .before .before .before .loop .inv) .inside, (c .before .before .before .before .before .before .loop .inv) .few, (c .before .before .before .before .before .before .loop .inv) .long, c .before .before .before .before .before .loop-test .taken, c .before .before .before .before .before .before .before .before .pre .0, c .before .before .before .before .before .before .before .before .pre .1)
+
+add-p : tie.Need-add-p Inv-loop μ-loop
+add-p c = omega (arith, (c .before .before .before .before .before .before .loop .inv) .inside, (c .before .before .before .before .before .before .loop .inv) .few, (c .before .before .before .before .before .before .loop .inv) .long, c .before .before .before .before .before .loop-test .taken, c .before .before .before .before .before .before .before .before .pre .0, c .before .before .before .before .before .before .before .before .pre .1)
+
+loop-less : tie.Need-loop-less Inv-loop μ-loop
+loop-less c = omega (arith, (c .before .before .before .before .before .before .loop .inv) .inside, (c .before .before .before .before .before .before .loop .inv) .few, (c .before .before .before .before .before .before .loop .inv) .long, c .before .before .before .before .before .loop-test .taken, c .before .before .before .before .before .before .before .before .pre .0, c .before .before .before .before .before .before .before .before .pre .1)
+
+loop-again : tie.Need-loop-again Inv-loop μ-loop
+loop-again c = laws.counting-new (c .before .before .before .before .before .before .loop .inv) (c .before .before .before .before .before .loop-test .taken) (c .before .before .before .before .before .before .before .before .pre .0) (c .before .before .before .if1 .left) (c .before .number-of .ensures) (c .if2 .taken)
+
+add-p-2 : tie.Need-add-p-2 Inv-loop μ-loop
+add-p-2 c = omega (arith, (c .before .before .before .before .before .before .loop .inv) .inside, (c .before .before .before .before .before .before .loop .inv) .few, (c .before .before .before .before .before .before .loop .inv) .long, c .before .before .before .before .before .loop-test .taken, c .before .before .before .before .before .before .before .before .pre .0, c .before .before .before .before .before .before .before .before .pre .1)
+
+loop-less-2 : tie.Need-loop-less-2 Inv-loop μ-loop
+loop-less-2 c = omega (arith, (c .before .before .before .before .before .before .loop .inv) .inside, (c .before .before .before .before .before .before .loop .inv) .few, (c .before .before .before .before .before .before .loop .inv) .long, c .before .before .before .before .before .loop-test .taken, c .before .before .before .before .before .before .before .before .pre .0, c .before .before .before .before .before .before .before .before .pre .1)
+
+loop-again-2 : tie.Need-loop-again-2 Inv-loop μ-loop
+loop-again-2 c = laws.counting-old (c .before .before .before .before .before .before .loop .inv) (c .before .before .before .before .before .loop-test .taken) (c .before .before .before .before .before .before .before .before .pre .0) (c .before .before .before .if1 .left) (c .before .number-of .ensures) (c .if2 .left)
+
+same-length-2 : tie.Need-same-length-2 Inv-loop μ-loop
+same-length-2 c = (c .before .loop .inv) .long
+
+returns-2 : tie.Need-returns-2 Inv-loop μ-loop
+returns-2 c = (laws.counting-named (c .before .loop .inv) (c .loop-test .left), λ e. laws.counting-done (c .before .loop .inv) (c .loop-test .left))
+
+pub number-spec : {M : Type 1} → statement M
+number-spec =
+    tie.close
+    (tie.spec
+    Inv-loop
+    μ-loop
+    loop-holds
+    mul-m
+    slice-read-m
+    same-length
+    returns
+    number-of-requires
+    mul-marks
+    slice-write-marks
+    add-count
+    add-p
+    loop-less
+    loop-again
+    add-p-2
+    loop-less-2
+    loop-again-2
+    same-length-2
+    returns-2)

@@ -1,0 +1,35 @@
+use native.Mathlib.Omega.{arith}
+use Rattle.resolver.proofs.NameLaws.{held-word, held-fresh, held-outside, outside-small}
+use borrow.Author.Needs.{needs}
+use Rattle.resolver.proofs.resolving.held_by.Statement.{statement}
+use Rattle.resolver.proofs.resolving.held_by.Tie as tie
+use Rattle.resolver.proofs.resolving.held_by.Reads as reads
+use Rattle.resolver.proofs.resolving.held_by.Lts as lts
+use Rattle.kinds.proofs.only.Reads as only-reads
+
+-- src/resolving.rt:63:38
+cast-only : tie.Need-cast-only
+cast-only c = search needs
+
+-- src/resolving.rt:63:26
+only-requires : tie.Need-only-requires
+only-requires c κs = search needs
+
+-- src/resolving.rt:55:1
+returns : tie.Need-returns
+returns c = λ spell apart k. held-word spell (c .before .args .x) (c .match .keys1)
+
+-- src/resolving.rt:55:1
+returns-2 : tie.Need-returns-2
+returns-2 c = λ spell apart k. held-fresh spell (c .before .args .x) (c .match .keys2)
+
+-- src/resolving.rt:55:1
+returns-3 : tie.Need-returns-3
+returns-3 c = λ spell apart k. held-outside spell (c .before .before .before .args .x) (c .before .before .match .rest .0 .1) (c .before .before .match .rest .1) (c .only .ensures) apart
+
+-- src/resolving.rt:55:1
+returns-4 : tie.Need-returns-4
+returns-4 c = λ spell apart k. absurd (omega (arith, c .if1 .left, outside-small spell (c .before .before .args .x) (c .before .match .rest .0 .1) (c .before .match .rest .1) apart k))
+
+pub held-by-spec : {M : Type 1} → statement M
+held-by-spec = tie.close (tie.spec cast-only only-requires returns returns-2 returns-3 returns-4)

@@ -1,0 +1,65 @@
+-- From marks to the numbers of new names, from the left: a binder that is renamed takes the next number, a variable that has a binder its
+-- binder's number, all else 0. Nobody needs this to believe `expand`.
+use Prim.Native.Nat.{ℕ, zero, suc, _+_, _≤_}
+use mathlib.Core.Path.{_≡_}
+use mathlib.Core.Bool.{true, false}
+use mathlib.Core.List.{List, [], _∷_, _++_}
+use lib.Dec.{eqb}
+use lib.ListN.{getD}
+use Rattle.terms.specs.Term.{Name, Term, size}
+use Rattle.terms.specs.Rows.{termAt}
+use Rattle.terms.specs.Names.{Distinct, WellNamed}
+use Rattle.terms.specs.Rename.{Walk, loose, reached, walk, rename}
+use Rattle.terms.specs.Labelled.{labelled}
+use Rattle.rows.specs.Sizes.{sizeAt, WholeRows}
+use Rattle.resolver.specs.Marks.{new, noOwner}
+use Rattle.resolver.specs.declared.Resolution.{Resolution}
+use Rattle.resolver.specs.declared.Resolution.the-variants.{Loose, Numbered}
+
+abbrev pub ownerNumber : List ℕ → ℕ → ℕ
+ownerNumber done zero = 0
+ownerNumber done (suc q) = getD done q 0
+
+-- the number at a place with the mark m, where `done` has the numbers of the places before and c is the next new one
+unfoldable pub numberAt : List ℕ → ℕ → ℕ → ℕ
+numberAt done c m = elim (eqb m new) [ true ↦ c | false ↦ elim (eqb m noOwner) [ true ↦ 0 | false ↦ ownerNumber done m ] ]
+
+unfoldable pub nextNumber : ℕ → ℕ → ℕ
+nextNumber c m = elim (eqb m new) [ true ↦ suc c | false ↦ c ]
+
+unfoldable pub numbered : List ℕ → ℕ → List ℕ → List ℕ
+numbered done c [] = done
+numbered done c (m ∷ ms) = numbered (done ++ numberAt done c m ∷ []) (nextNumber c m) ms
+
+-- the places of the fresh variables that have no owner, from the left; the first mark's place is p
+unfoldable pub looseIn : ℕ → List ℕ → List ℕ
+looseIn p [] = []
+looseIn p (m ∷ ms) = elim (eqb m noOwner) [ true ↦ p ∷ looseIn (suc p) ms | false ↦ looseIn (suc p) ms ]
+
+-- the first place without an owner, if there is one
+abbrev pub firstLoose : List ℕ → Resolution
+firstLoose [] = Numbered
+firstLoose (p ∷ ps) = Loose p
+
+-- ------------------------------------------------------------------ a resolution
+
+-- what a resolution asks: whole rows, and a term of `count` constructors, not too many
+pub record Resolvable (cells : List ℕ) (made root count : ℕ) : Type 0 where
+  pub whole : WholeRows cells
+  pub counted : count ≡ sizeAt cells made root
+  pub few : count ≤ 16384
+
+-- the walk of a term that an answer stands for
+abbrev pub walkOf : Resolution → ℕ → Walk
+walkOf (Loose p) end = loose p
+walkOf Numbered end = reached end
+
+-- The answer is that of the walk for 23; where all are bound, the room has the number of each new name at its place.
+pub record ResolvedAs (t : Term Name) (room : List ℕ) (r : Resolution) : Type 0 where
+  pub answer : walk [] 0 t ≡ walkOf r (size t)
+  pub named : r ≡ Numbered → labelled room 0 t ≡ rename t
+
+-- this of the term at a row, under any spellings that give it proper names
+abbrev pub Resolves : List ℕ → ℕ → ℕ → List ℕ → Resolution → Type 0
+Resolves cells made root room r =
+    (spell : ℕ → List ℕ) → Distinct spell → WellNamed spell (termAt made spell cells root) → ResolvedAs (termAt made spell cells root) room r

@@ -1,0 +1,77 @@
+// Binders by name: the first row whose mkTermFun binds a name stands for all binders of that name.
+use rows::column;
+ghost use Prim.Native.Nat.{_+_, _/_, _≤_, _<_};
+ghost use mathlib.Core.Path.{_≡_};
+ghost use lib.ListN.{length, getD, replicate};
+ghost use Rattle.resolver.specs.Marks.{slotFrom};
+ghost use Rattle.resolver.specs.Links.{LinkedTo, Linked, linksWith};
+
+fn wide(x: u16) -> usize
+    ensures { λ r. ⌜ (r ≡ x) × (r < 65536) ⌝ }
+{
+    x as usize
+}
+
+// The link at a place, 0 past the end.
+fn link_at(links: &[u16], i: usize) -> usize
+    ensures { λ r. ⌜ r ≡ getD (now (links .entry)) i 0 ⌝ }
+{
+    if i < links.len() {
+        return wide(links[i]);
+    }
+    0
+}
+
+// The first of n linked rows that binds x, or 16,384.
+pub fn find(cells: &[u32], links: &[u16], n: usize, x: u32) -> usize
+    requires { ⌜ LinkedTo n (now cells) (now links) ⌝ }
+    ensures { λ r. ⌜ (r ≡ slotFrom n (now (cells .entry)) 0 x) × (r ≤ 16384) ⌝ }
+{
+    let half = links.len() / 2;
+    let mut p = link_at(links, (x as usize) % half);
+    while 0 < p {
+        let row = p - 1;
+        let y = column(cells, row as u32, 1);
+        if y == x {
+            return row;
+        }
+        p = link_at(links, half + row);
+    }
+    16384
+}
+
+// Links a row that is the first to bind x.
+fn add(links: &mut [u16], row: usize, x: u32)
+    requires { ⌜ (row < length (now links) / 2) × (row < 16384) ⌝ }
+    ensures { λ _. ⌜ now (links .exit) ≡ linksWith (now (links .entry)) row x ⌝ }
+{
+    let half = links.len() / 2;
+    let h = (x as usize) % half;
+    links[half + row] = links[h];
+    links[h] = (row + 1) as u16;
+}
+
+// Links all rows; the links are 0 before.
+pub fn link(cells: &[u32], links: &mut [u16])
+    requires { ⌜ length (now cells) ≤ 65536 ⌝ }
+    requires { ⌜ (0 < length (now links) / 2) × (length (now cells) / 4 ≤ length (now links) / 2) ⌝ }
+    requires { ⌜ now links ≡ replicate (length (now links)) 0 ⌝ }
+    ensures { λ _. ⌜ Linked (now (cells .entry)) (now (links .exit)) ⌝ }
+{
+    let mut row: usize = 0;
+    while row < cells.len() / 4 {
+        let code = column(cells, row as u32, 0);
+        let x = column(cells, row as u32, 1);
+        if code == 33 {
+            let there = find(cells, links, row, x);
+            if there == 16384 {
+                add(links, row, x);
+                row += 1;
+            } else {
+                row += 1;
+            }
+        } else {
+            row += 1;
+        }
+    }
+}

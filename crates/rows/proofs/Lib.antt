@@ -1,0 +1,3 @@
+pub mod ListLaws
+pub mod RowLaws
+pub mod SizeLaws

@@ -1,0 +1,195 @@
+-- `size_term` and `size_fields`: the code of a row decides, and the depth bound falls from a constructor to its parts.
+use native.Mathlib.Omega.{arith}
+use borrow.Author.Needs.{needs}
+use Rattle.rows.proofs.SizeLaws as laws
+use Prim.Native.Nat.{ℕ, _<_}
+use borrow.Fn.Kinds.{In}
+use borrow.Fn.PlainCycle.{Measures, is, falls, and}
+use Rattle.rows.proofs.sizes.size_fields.Reads as size-fields
+use Rattle.rows.proofs.sizes.size_fields.Kinds as size-fields-kinds
+use Rattle.rows.proofs.sizes.+size_fields+size_term.Lts-size_fields as size-fields-lts
+use Rattle.rows.proofs.sizes.size_term.Reads as size-term
+use Rattle.rows.proofs.sizes.size_term.Kinds as size-term-kinds
+use Rattle.rows.proofs.sizes.+size_fields+size_term.Lts-size_term as size-term-lts
+use Rattle.rows.proofs.column.Reads as column-reads
+use Rattle.rows.proofs.sizes.+size_fields+size_term.{statement}
+use Rattle.rows.proofs.sizes.+size_fields+size_term.Tie.{close}
+
+abbrev μ-size-fields : Measures 1 size-fields-kinds.ps ℕ
+μ-size-fields κs a = a .1 .0
+
+abbrev μ-size-term : Measures 1 size-term-kinds.ps ℕ
+μ-size-term κs a = a .1 .0
+
+abbrev size-fields-at : ℕ → In 1 size-fields-kinds.ps
+size-fields-at t =
+    and 1 size-fields-kinds.ps (is 1 size-fields-kinds.ps μ-size-fields t) size-fields.Pre
+
+abbrev size-fields-below : ℕ → In 1 size-fields-kinds.ps
+size-fields-below t =
+    and 1 size-fields-kinds.ps (falls 1 size-fields-kinds.ps _<_ μ-size-fields t) size-fields.Pre
+
+abbrev size-term-at : ℕ → In 1 size-term-kinds.ps
+size-term-at t = and 1 size-term-kinds.ps (is 1 size-term-kinds.ps μ-size-term t) size-term.Pre
+
+abbrev size-term-below : ℕ → In 1 size-term-kinds.ps
+size-term-below t =
+    and 1 size-term-kinds.ps (falls 1 size-term-kinds.ps _<_ μ-size-term t) size-term.Pre
+
+abbrev claims : ℕ → size-fields-lts.Claims
+claims t = (
+  column-reads.Asked,
+  column-reads.Learnt,
+  size-term-below t,
+  size-term.Post,
+  size-fields-below t,
+  size-fields.Post,
+)
+
+size-fields-returns : (t : ℕ) → size-fields-lts.Need-returns (claims t) (size-fields-at t) size-fields.Post
+size-fields-returns t c = omega arith
+
+size-fields-sub-rest : (t : ℕ) → size-fields-lts.Need-sub-rest (claims t) (size-fields-at t) size-fields.Post
+size-fields-sub-rest t c = search needs
+
+size-fields-returns-2 : (t : ℕ) → size-fields-lts.Need-returns-2 (claims t) (size-fields-at t) size-fields.Post
+size-fields-returns-2 t c = laws.shallow-fields _ _ _ _ (c .if2 .taken)
+
+size-fields-sub-deep : (t : ℕ) → size-fields-lts.Need-sub-deep (claims t) (size-fields-at t) size-fields.Post
+size-fields-sub-deep t c = search needs
+
+size-fields-column-requires : (t : ℕ) → size-fields-lts.Need-column-requires (claims t) (size-fields-at t) size-fields.Post
+size-fields-column-requires t c κs = search needs
+
+size-fields-column-requires-2 : (t : ℕ) → size-fields-lts.Need-column-requires-2 (claims t) (size-fields-at t) size-fields.Post
+size-fields-column-requires-2 t c κs = search needs
+
+size-fields-size-term-requires : (t : ℕ) → size-fields-lts.Need-size-term-requires (claims t) (size-fields-at t) size-fields.Post
+size-fields-size-term-requires t c κs = (omega arith, tt)
+
+size-fields-column-requires-3 : (t : ℕ) → size-fields-lts.Need-column-requires-3 (claims t) (size-fields-at t) size-fields.Post
+size-fields-column-requires-3 t c κs = search needs
+
+size-fields-size-fields-requires : (t : ℕ) → size-fields-lts.Need-size-fields-requires (claims t) (size-fields-at t) size-fields.Post
+size-fields-size-fields-requires t c κs = (omega arith, tt)
+
+size-fields-returns-3 : (t : ℕ) → size-fields-lts.Need-returns-3 (claims t) (size-fields-at t) size-fields.Post
+size-fields-returns-3 t c =
+    laws.cons-left _ _ _ _ (c .before .before .before .before .before .before .if2 .left)
+    (c .before .before .before .before .before .column .ensures) (c .before .before .before .before .if3 .taken)
+    (c .before .before .before .column2 .ensures) (c .before .column3 .ensures) (c .before .before .size-term .ensures)
+    (c .size-fields .ensures)
+
+size-fields-returns-4 : (t : ℕ) → size-fields-lts.Need-returns-4 (claims t) (size-fields-at t) size-fields.Post
+size-fields-returns-4 t c = laws.nil-left _ _ _ _ (c .before .before .if2 .left) (c .before .column .ensures) (c .if3 .left)
+
+size-term-returns : (t : ℕ) → size-term-lts.Need-returns (claims t) (size-term-at t) size-term.Post
+size-term-returns t c = omega arith
+
+size-term-sub-rest : (t : ℕ) → size-term-lts.Need-sub-rest (claims t) (size-term-at t) size-term.Post
+size-term-sub-rest t c = search needs
+
+size-term-returns-2 : (t : ℕ) → size-term-lts.Need-returns-2 (claims t) (size-term-at t) size-term.Post
+size-term-returns-2 t c = laws.shallow _ _ _ _ (c .if2 .taken)
+
+size-term-sub-deep : (t : ℕ) → size-term-lts.Need-sub-deep (claims t) (size-term-at t) size-term.Post
+size-term-sub-deep t c = search needs
+
+size-term-column-requires : (t : ℕ) → size-term-lts.Need-column-requires (claims t) (size-term-at t) size-term.Post
+size-term-column-requires t c κs = search needs
+
+size-term-column-requires-2 : (t : ℕ) → size-term-lts.Need-column-requires-2 (claims t) (size-term-at t) size-term.Post
+size-term-column-requires-2 t c κs = search needs
+
+size-term-size-term-requires : (t : ℕ) → size-term-lts.Need-size-term-requires (claims t) (size-term-at t) size-term.Post
+size-term-size-term-requires t c κs = (omega arith, tt)
+
+size-term-column-requires-3 : (t : ℕ) → size-term-lts.Need-column-requires-3 (claims t) (size-term-at t) size-term.Post
+size-term-column-requires-3 t c κs = search needs
+
+size-term-size-term-requires-2 : (t : ℕ) → size-term-lts.Need-size-term-requires-2 (claims t) (size-term-at t) size-term.Post
+size-term-size-term-requires-2 t c κs = (omega arith, tt)
+
+size-term-column-requires-4 : (t : ℕ) → size-term-lts.Need-column-requires-4 (claims t) (size-term-at t) size-term.Post
+size-term-column-requires-4 t c κs = search needs
+
+size-term-size-term-requires-3 : (t : ℕ) → size-term-lts.Need-size-term-requires-3 (claims t) (size-term-at t) size-term.Post
+size-term-size-term-requires-3 t c κs = (omega arith, tt)
+
+size-term-column-requires-5 : (t : ℕ) → size-term-lts.Need-column-requires-5 (claims t) (size-term-at t) size-term.Post
+size-term-column-requires-5 t c κs = search needs
+
+size-term-size-fields-requires : (t : ℕ) → size-term-lts.Need-size-fields-requires (claims t) (size-term-at t) size-term.Post
+size-term-size-fields-requires t c κs = (omega arith, tt)
+
+size-term-column-requires-6 : (t : ℕ) → size-term-lts.Need-column-requires-6 (claims t) (size-term-at t) size-term.Post
+size-term-column-requires-6 t c κs = search needs
+
+size-term-size-term-requires-4 : (t : ℕ) → size-term-lts.Need-size-term-requires-4 (claims t) (size-term-at t) size-term.Post
+size-term-size-term-requires-4 t c κs = (omega arith, tt)
+
+size-term-returns-3 : (t : ℕ) → size-term-lts.Need-returns-3 (claims t) (size-term-at t) size-term.Post
+size-term-returns-3 t c =
+    laws.fun-left _ _ _ _ (c .before .before .before .before .if2 .left) (c .before .before .before .column .ensures)
+    (c .before .before .match .keys1) (c .before .column2 .ensures) (c .size-term .ensures)
+
+size-term-returns-4 : (t : ℕ) → size-term-lts.Need-returns-4 (claims t) (size-term-at t) size-term.Post
+size-term-returns-4 t c =
+    laws.app-left _ _ _ _ (c .before .before .before .before .before .before .if2 .left)
+    (c .before .before .before .before .before .column .ensures) (c .before .before .before .before .match .keys2)
+    (c .before .before .before .column3 .ensures) (c .before .column4 .ensures) (c .before .before .size-term2 .ensures)
+    (c .size-term3 .ensures)
+
+size-term-returns-5 : (t : ℕ) → size-term-lts.Need-returns-5 (claims t) (size-term-at t) size-term.Post
+size-term-returns-5 t c =
+    laws.rcd-left _ _ _ _ (c .before .before .before .before .if2 .left) (c .before .before .before .column .ensures)
+    (c .before .before .match .keys3) (c .before .column5 .ensures) (c .size-fields .ensures)
+
+size-term-returns-6 : (t : ℕ) → size-term-lts.Need-returns-6 (claims t) (size-term-at t) size-term.Post
+size-term-returns-6 t c =
+    laws.dot-left _ _ _ _ (c .before .before .before .before .if2 .left) (c .before .before .before .column .ensures)
+    (c .before .before .match .keys4) (c .before .column6 .ensures) (c .size-term4 .ensures)
+
+size-term-returns-7 : (t : ℕ) → size-term-lts.Need-returns-7 (claims t) (size-term-at t) size-term.Post
+size-term-returns-7 t c =
+    laws.bare-left _ _ _ _ (c .before .before .if2 .left) (c .before .column .ensures) (c .match .rest .0 .0 .0 .1)
+    (c .match .rest .0 .0 .1) (c .match .rest .0 .1) (c .match .rest .1)
+
+pub +size-fields+size-term-spec : {M : Type 1} → statement M
++size-fields+size-term-spec = close μ-size-fields μ-size-term (λ t. size-fields-lts.spec (claims t)
+    (size-fields-at t)
+    size-fields.Post
+    (size-fields-returns t)
+    (size-fields-sub-rest t)
+    (size-fields-returns-2 t)
+    (size-fields-sub-deep t)
+    (size-fields-column-requires t)
+    (size-fields-column-requires-2 t)
+    (size-fields-size-term-requires t)
+    (size-fields-column-requires-3 t)
+    (size-fields-size-fields-requires t)
+    (size-fields-returns-3 t)
+    (size-fields-returns-4 t))
+    λ t. size-term-lts.spec (claims t)
+    (size-term-at t)
+    size-term.Post
+    (size-term-returns t)
+    (size-term-sub-rest t)
+    (size-term-returns-2 t)
+    (size-term-sub-deep t)
+    (size-term-column-requires t)
+    (size-term-column-requires-2 t)
+    (size-term-size-term-requires t)
+    (size-term-column-requires-3 t)
+    (size-term-size-term-requires-2 t)
+    (size-term-column-requires-4 t)
+    (size-term-size-term-requires-3 t)
+    (size-term-column-requires-5 t)
+    (size-term-size-fields-requires t)
+    (size-term-column-requires-6 t)
+    (size-term-size-term-requires-4 t)
+    (size-term-returns-3 t)
+    (size-term-returns-4 t)
+    (size-term-returns-5 t)
+    (size-term-returns-6 t)
+    (size-term-returns-7 t)

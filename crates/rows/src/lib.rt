@@ -1,0 +1,15 @@
+// Rows of cells as terms: what stands in a row, and the size of the tree below it.
+ghost use Prim.Native.Nat.{_<_};
+ghost use mathlib.Core.Path.{_≡_};
+ghost use Rattle.grammar.specs.Cells.{column};
+
+pub mod sizes;
+
+// The number in a column of a row; what is not there reads as 0.
+pub fn column(cells: &[u32], row: u32, k: usize) -> u32
+    requires { ⌜ k < 4 ⌝ }
+    ensures { λ r. ⌜ r ≡ column (now (cells .entry)) row k ⌝ }
+{
+    let i = (row as usize) * 4 + k;
+    if i < cells.len() { cells[i] } else { 0 }
+}

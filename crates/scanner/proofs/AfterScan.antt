@@ -1,0 +1,151 @@
+-- What holds after a call of `scan` that was not refused, for the calls that read its rooms.
+use Prim.Native.Nat.{ℕ, suc, _+_, _*_, _^_, _<_, _≤_}
+use mathlib.Core.Path.{_≡_, refl, sym, ap, _∙_}
+use mathlib.Core.List.{List, [], _∷_, _++_}
+use native.Mathlib.Omega.{arith}
+use lib.Dec.{lit≤, ltb}
+use lib.ListN.{length, getD, take, drop, length-append, List·getD-eq-default}
+use lib.Seq.{sets, length-sets}
+use borrow.Author.Tests.{ltb-true, ltb-false}
+use Rattle.spellings.specs.Bytes.{largest}
+use Rattle.spellings.specs.BytesLaws.{by-test}
+use Rattle.kinds.specs.Kinds.{wordKind}
+use Rattle.answers.specs.declared.Refusal.{Refusal}
+use Rattle.grammar.specs.Fields.{Lexicon}
+use Rattle.scanner.specs.declared.Token.{Token}
+use Rattle.scanner.specs.declared.Scanned.{Scanned}
+use Rattle.scanner.specs.declared.Scanned.the-variants.{Tokens, Unscanned}
+use Rattle.scanner.specs.Scan.{Lexed, endToken, wordsWith, scan}
+use Rattle.scanner.specs.Rooms.{rows, rowOf, tokensIn, places, wordsIn, RoomFor, TokensFit, filled, scanInto}
+use Rattle.scanner.specs.Tiling.{Stands, a-keyword, a-keyword-symbol, an-outside-name, a-word-again, a-new-word, a-number, a-symbol}
+use Rattle.scanner.proofs.TokenLaws.{Kept, scan-kept}
+use Rattle.scanner.proofs.SpellingLaws.{Every, every-at, scan-spelled}
+use Rattle.scanner.proofs.TilingLaws.{scan-counted}
+use Rattle.scanner.proofs.RoomLaws.{token-in, tokens-stored, words-named}
+
+-- ------------------------------------------------------------------ how many, and how large
+
+largest-fits : largest + 1 ≤ 2 ^ 30
+largest-fits = lit≤ tt
+
+-- a token's value, by its rule
+value-small : {lex : Lexicon} {at : ℕ} {rest : List ℕ} {met met′ : List (List ℕ)} {t : Token} → length (lex .outsides) ≤ 64
+    → length met ≤ 4096
+    → Stands lex at rest met t met′
+    → t .value ≤ largest
+value-small few h (a-keyword w f) = omega arith
+value-small few h (a-keyword-symbol y f) = omega arith
+value-small few h (an-outside-name w n f) = omega (arith, f .there)
+value-small few h (a-word-again w n o f) = omega (arith, f .there)
+value-small few h (a-new-word w n o f) = omega arith
+value-small few h (a-number d) = d .small
+value-small few h (a-symbol y n) = omega arith
+
+-- a token adds one word at most
+one-more : {lex : Lexicon} {at : ℕ} {rest : List ℕ} {met met′ : List (List ℕ)} {t : Token} → Stands lex at rest met t met′
+    → length met′ ≤ length met + 1
+one-more (a-keyword w f) = omega arith
+one-more (a-keyword-symbol y f) = omega arith
+one-more (an-outside-name w n f) = omega arith
+one-more (a-word-again w n o f) = omega arith
+one-more {met = met} (a-new-word {s = s} w n o f) = omega (arith, length-append met (s ∷ []))
+one-more (a-number d) = omega arith
+one-more (a-symbol y n) = omega arith
+
+module _ (lex : Lexicon) (few : length (lex .outsides) ≤ 64) (formula : List ℕ) where
+  -- at most as many tokens as bytes and at most 4,096, small values, and at most as many words as tokens
+  record Sized (n : ℕ) (l : Lexed) : Type 0 where
+    bytes : n + length (l .tokens) ≤ length formula
+    tokens : n + length (l .tokens) ≤ 4096
+    values : Every (λ t. t .value ≤ largest) (l .tokens)
+    words : length (l .words) ≤ n + length (l .tokens)
+
+  SizedFrom : ℕ → ℕ → List (List ℕ) → Lexed → Type 0
+  SizedFrom at n words l = n ≤ at → at ≤ length formula → n ≤ 4096 → length words ≤ n → Sized n l
+
+  sized-kept : Kept lex formula SizedFrom
+  unfolding SizedFrom
+  sized-kept =
+      record {
+        ends = λ n words h a b d c. record { bytes = omega arith; tokens = omega arith; values = tt; words = omega arith };
+        stops = λ at n words r h a b d c. record { bytes = omega arith; tokens = omega arith; values = tt; words = omega arith };
+        skips = λ at n words l h s p a b d c. p (omega arith) (omega arith) d c;
+        emits =
+            λ at n words t l h m told inside p a b d c.
+            let q : Sized (n + 1) l = p (omega (arith, inside .0)) (inside .1) (omega arith) (omega (arith, one-more (told .stands))) in
+            record {
+              bytes = omega (arith, q .bytes);
+              tokens = omega (arith, q .tokens);
+              values = (value-small few (omega arith) (told .stands), q .values);
+              words = omega (arith, q .words);
+            };
+      }
+
+  scan-sized : Sized 0 (scan lex formula)
+  unfolding SizedFrom
+  scan-sized = scan-kept lex few formula SizedFrom sized-kept (omega arith) (omega arith) (omega arith) (omega arith)
+
+  -- ------------------------------------------------------------------ the rooms after a scan
+
+  -- the rooms of an accepted scan hold its tokens and its words
+  pub record Holds (tokens words : List ℕ) (n count : ℕ) : Type 0 where
+    pub answered : scan lex formula .answer ≡ Tokens n count
+    pub tokens-are : tokensIn tokens n ≡ scan lex formula .tokens
+    pub tokens-fit : TokensFit tokens n
+    pub words-are : wordsIn formula words count ≡ scan lex formula .words
+    pub few-words : count ≤ n
+
+  module _ {tokens words : List ℕ} (room : RoomFor formula tokens words) where
+    stored : {n count : ℕ} → scan lex formula .answer ≡ Tokens n count
+        → Holds (sets tokens 0 (rows (scan lex formula .tokens))) (sets words 0 (places 0 (scan lex formula .tokens))) n count
+    stored {n} {count} e =
+        let ts : List Token = scan lex formula .tokens in
+        let c = scan-counted lex few formula e in
+        let enough : length ts * 4 ≤ length tokens = room .for-tokens (length ts) (omega (arith, scan-sized .bytes)) (omega (arith, c .0, c .2)) in
+        let t : tokensIn (sets tokens 0 (rows ts)) n ≡ ts = rw (c .0) (tokens-stored ts tokens enough) in
+        record {
+          answered = e;
+          tokens-are = t;
+          tokens-fit =
+              record {
+                long = omega (arith, c .0, length-sets tokens 0 (rows ts));
+                few = c .2;
+                values =
+                    λ i l.
+                    let r : rowOf (sets tokens 0 (rows ts)) i ≡ getD ts i endToken
+                    = token-in (sets tokens 0 (rows ts)) n i l ∙ ap (λ (us : List Token). getD us i endToken) t in
+                    let small = every-at _ ts i endToken (scan-sized .values) (omega (arith, c .0)) in
+                    omega (arith, ap (λ (u : Token). u .value) r, small, largest-fits);
+              };
+          words-are = rw (c .1) (words-named lex few formula words (room .for-words));
+          few-words = omega (arith, c .0, c .1, scan-sized .words);
+        }
+
+    module _ {tokens′ words′ : List ℕ} where
+      -- A scan that is not refused leaves rooms that hold its tokens and its words.
+      pub scan-holds : {n count : ℕ} → filled (Tokens n count) tokens′ words′ ≡ scanInto lex formula tokens words → Holds tokens′ words′ n count
+      unfolding scanInto
+      scan-holds {n} {count} e =
+          let a : scan lex formula .answer ≡ Tokens n count = cc in
+          let t : tokens′ ≡ sets tokens 0 (rows (scan lex formula .tokens)) = cc in
+          let w : words′ ≡ sets words 0 (places 0 (scan lex formula .tokens)) = cc in
+          rw (t, w) (stored a)
+
+      -- A scan that is refused answers what the definition does.
+      pub scan-refused : {r : Refusal} → filled (Unscanned r) tokens′ words′ ≡ scanInto lex formula tokens words
+          → scan lex formula .answer ≡ Unscanned r
+      unfolding scanInto
+      scan-refused e = cc
+
+  -- The words of a formula have numbers below 4,160.
+  pub word-numbers-small : (i : ℕ) → getD (scan lex formula .tokens) i endToken .kind ≡ wordKind
+      → getD (scan lex formula .tokens) i endToken .value < 4160
+  word-numbers-small i k =
+      by-test (ltb i (length (scan lex formula .tokens)))
+      (λ e.
+      let s = every-at _ (scan lex formula .tokens) i endToken (scan-spelled lex few formula) (ltb-true i _ e) k in
+      omega (arith, s .known, scan-sized .words, scan-sized .tokens))
+      (λ e.
+      let z : getD (scan lex formula .tokens) i endToken ≡ endToken
+      = List·getD-eq-default (scan lex formula .tokens) endToken (ltb-false i _ e) in
+      absurd (omega (arith, sym (ap (λ (t : Token). t .kind) z) ∙ k)))

@@ -1,0 +1,26 @@
+-- `kind_at`: a token of the room, or the end.
+use mathlib.Core.Path.{ap}
+use Rattle.scanner.specs.declared.Token.{Token}
+use Rattle.scanner.proofs.RoomLaws as rooms
+use borrow.Author.Needs.{needs}
+use Rattle.scanner.proofs.tokens.kind_at.Statement.{statement}
+use Rattle.scanner.proofs.tokens.kind_at.Tie as tie
+
+mul-result : tie.Need-mul-result
+mul-result c = search needs
+
+mul-result-2 : tie.Need-mul-result-2
+mul-result-2 c = search needs
+
+shared-slice-read-result : tie.Need-shared-slice-read-result
+shared-slice-read-result c = search needs
+
+returns : tie.Need-returns
+returns c = ap (λ (t : Token). t .kind) (rooms.token-in _ _ _ (c .before .if1 .taken))
+
+returns-2 : tie.Need-returns-2
+returns-2 c = ap (λ (t : Token). t .kind) (rooms.token-past _ _ _ (c .if1 .left))
+
+pub kind-at-spec : {M : Type 1} → statement M
+kind-at-spec =
+    tie.close (tie.spec mul-result mul-result-2 shared-slice-read-result returns returns-2)

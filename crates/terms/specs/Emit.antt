@@ -1,0 +1,68 @@
+-- The last step of an expansion: the tests on its term, what is written of the term, and whether that fits into the buffer lent for it.
+-- Document 01, "Causes, by number": "Last 22, 23, 24", and what is returned on acceptance.
+use Prim.Native.Nat.{ℕ}
+use mathlib.Core.Bool.{true, false}
+use mathlib.Core.List.{List, [], _∷_, _++_}
+use lib.Dec.{leb}
+use lib.ListN.{length, drop}
+use Rattle.answers.specs.declared.Answer.{Answer}
+use Rattle.answers.specs.declared.Answer.the-variants.{Accepted, Refusing}
+use Rattle.answers.specs.Refusals.{refusal}
+use Rattle.answers.specs.Checked.{Checked, ok, bad, _>>=_, need}
+use Rattle.terms.specs.Term.{Name, Term, size}
+use Rattle.terms.specs.Rename.{Walk, loose, reached, walk, rename}
+use Rattle.terms.specs.Print.{print}
+
+-- ------------------------------------------------------------------ the tests on a term
+
+-- the most constructors of a term
+abbrev pub largestTerm : ℕ
+largestTerm = 16384
+
+-- 22, where so many cells were made
+abbrev pub sizeTest : ℕ → Term Name → Checked (Unit {0})
+sizeTest made t = need (leb (size t) largestTerm) 22 made
+
+-- 23: the first fresh variable under no binder made with it
+abbrev pub noneLoose : Walk → Checked (Unit {0})
+noneLoose (loose p) = bad (refusal 23 p 0 0)
+noneLoose (reached p) = ok tt
+
+abbrev pub bindingTest : Term Name → Checked (Unit {0})
+bindingTest t = noneLoose (walk [] 0 t)
+
+-- the tests in order
+abbrev pub termTests : ℕ → List (Term Name → Checked (Unit {0}))
+termTests made = sizeTest made ∷ bindingTest ∷ []
+
+-- a term passes all tests, or the first that it fails refuses it; no test is made behind one that refuses
+unfoldable pub passing : List (Term Name → Checked (Unit {0})) → Term Name → Checked (Unit {0})
+passing [] t = ok tt
+passing (test ∷ rest) t = test t >>= λ u. passing rest t
+
+-- ------------------------------------------------------------------ what is written
+
+-- the text of a term: one way to write a term into a lent buffer
+abbrev pub textOf : Term Name → List ℕ
+textOf t = print (rename t)
+
+-- the answer, and the buffer at exit
+pub record Emitted : Type 0 where
+  pub answer : Answer
+  pub text : List ℕ
+
+-- what is written of a term of so many constructors stands at the front of the buffer, if it fits; if not, 24, and nothing is written
+abbrev pub fitted : ℕ → ℕ → List ℕ → List ℕ → Emitted
+fitted made constructors out text =
+    elim (leb (length out) (length text)) [
+      | false ↦ record { answer = Refusing (refusal 24 (length out) 0 0); text = text }
+      | true ↦ record { answer = Accepted made constructors (length out); text = out ++ drop (length out) text }
+    ]
+
+abbrev pub emittedIf : Checked (Unit {0}) → (Term Name → List ℕ) → ℕ → Term Name → List ℕ → Emitted
+emittedIf (bad r) write made t text = record { answer = Refusing r; text = text }
+emittedIf (ok u) write made t text = fitted made (size t) (write t) text
+
+-- The last step for a term after so many cells were made: its answer, and the buffer with what `write` gives of the term.
+unfoldable pub emitted : (Term Name → List ℕ) → ℕ → Term Name → List ℕ → Emitted
+emitted write made t text = emittedIf (passing (termTests made) t) write made t text

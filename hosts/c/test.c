@@ -1,0 +1,278 @@
+/* The archive from C: the conformance cases (cases.bin), lengths round every limit, nothing at all, several threads. Each part that is passed lies in
+   a heap block of exactly its size, so that a memory checker sees any byte read or written outside.
+
+   Usage: test CASES [THREADS]. The last line is `CASES cases, N failures`. */
+#include "vegzump.h"
+#include <inttypes.h>
+#include <pthread.h>
+#include <stdio.h>
+#include <stdlib.h>
+#include <string.h>
+
+/* A host's stack for a call: what the header states and a little for the test itself. */
+#define STACK (VEGZUMP_STACK + (1u << 20))
+
+static pthread_mutex_t lock = PTHREAD_MUTEX_INITIALIZER;
+static int failures;
+
+static void fail(const char *what, long n) {
+    pthread_mutex_lock(&lock);
+    failures++;
+    printf("%s %ld\n", what, n);
+    pthread_mutex_unlock(&lock);
+}
+
+static void expect(const char *what, long n, vegzump_answer found, unsigned number, uint64_t a, uint64_t b, uint64_t c) {
+    if (found.number == number && found.a == a && found.b == b && found.c == c) return;
+    pthread_mutex_lock(&lock);
+    failures++;
+    printf("%s %ld: expected %u %" PRIu64 " %" PRIu64 " %" PRIu64 ", found %u %" PRIu64 " %" PRIu64 " %" PRIu64 "\n", what, n, number, a, b, c,
+           found.number, found.a, found.b, found.c);
+    pthread_mutex_unlock(&lock);
+}
+
+static void *block(size_t bytes, int fill) {
+    void *p = malloc(bytes);
+    if (bytes && !p) exit(2);
+    if (bytes) memset(p, fill, bytes);
+    return p;
+}
+
+static int holds(const void *p, size_t bytes, int fill) {
+    for (size_t i = 0; i < bytes; i++)
+        if (((const uint8_t *)p)[i] != fill) return 0;
+    return 1;
+}
+
+/* ---- the conformance cases ---- */
+
+static uint8_t *cases;
+static size_t cases_size;
+
+typedef struct {
+    size_t at;
+} reader;
+
+static uint64_t number(reader *r, int bytes) {
+    uint64_t v = 0;
+    while (bytes--) v = v << 8 | (r->at < cases_size ? cases[r->at++] : 0);
+    return v;
+}
+
+static uint8_t *part(reader *r, size_t *size) {
+    *size = number(r, 4);
+    if (*size > cases_size - r->at) exit(2);
+    uint8_t *p = block(*size, 0);
+    if (*size) memcpy(p, cases + r->at, *size);
+    r->at += *size;
+    return p;
+}
+
+static long every_case(void) {
+    reader r = {0};
+    long n = 0;
+    for (; r.at < cases_size; n++) {
+        size_t table_len, formula_len, written_len;
+        uint8_t *table = part(&r, &table_len), *formula = part(&r, &formula_len);
+        size_t cells_len = number(&r, 4), text_len = number(&r, 4);
+        unsigned owed = number(&r, 4);
+        uint64_t a = number(&r, 8), b = number(&r, 8), c = number(&r, 8);
+        uint32_t *cells = block(4 * cells_len, 0xAA), *cells_owed = block(4 * cells_len, 0xAA);
+        uint8_t *text = block(text_len, 0xEE), *text_owed = block(text_len, 0xEE);
+        size_t made = number(&r, 4);
+        for (size_t i = 0; i < made; i++) cells_owed[i] = number(&r, 4);
+        uint8_t *written = part(&r, &written_len);
+        if (written_len) memcpy(text_owed, written, written_len);
+
+        expect("case", n, vegzump_expand(table, table_len, formula, formula_len, cells, cells_len, text, text_len), owed, a, b, c);
+        if (cells_len && memcmp(cells, cells_owed, 4 * cells_len)) fail("cells of case", n);
+        if (text_len && memcmp(text, text_owed, text_len)) fail("text of case", n);
+        if (owed >= 1 && owed <= 13)
+            expect("check of case", n, vegzump_check(table, table_len), owed, a, b, c);
+        else
+            expect("check of case", n, vegzump_check(table, table_len), 0, 0, 0, 0);
+        free(table), free(formula), free(cells), free(cells_owed), free(text), free(text_owed), free(written);
+    }
+    return n;
+}
+
+/* ---- tables ---- */
+
+static size_t field(uint8_t *table, size_t at, uint8_t tag, const void *value, size_t size) {
+    table[at] = tag;
+    table[at + 1] = size >> 8;
+    table[at + 2] = size & 255;
+    memcpy(table + at + 3, value, size);
+    return at + 3 + size;
+}
+
+/* A table of `length` bytes: a word gives applications nested to the left, `levels` deep, with a variable at every end. */
+static uint8_t *table_of_length(size_t length, size_t *levels) {
+    *levels = (length - 30) / 3;
+    size_t spare = length - 30 - 3 * *levels, size = 3 * *levels + 2;
+    uint8_t *table = block(length, 0), *template = block(size, 0x22);
+    for (size_t i = *levels; i < size; i += 2) template[i] = 0x20, template[i + 1] = 0;
+    size_t at = field(table, 0, 2, "abc", 1 + spare);
+    at = field(table, at, 3, "", 0);
+    at = field(table, at, 4, "\0\0\4", 3);
+    at = field(table, at, 5, "", 0);
+    at = field(table, at, 6, "\1\1", 2);
+    at = field(table, at, 7, template, size);
+    at = field(table, at, 8, "\0", 1);
+    if (at != length) exit(2);
+    free(template);
+    return table;
+}
+
+/* Any number of words, eight at a time; the term is a lone outside name. */
+static size_t table_of_words(uint8_t table[200]) {
+    size_t at = field(table, 0, 2, "T", 1);
+    at = field(table, at, 3, "", 0);
+    at = field(table, at, 4, "\0\0\4", 3);
+    at = field(table, at, 5, "", 0);
+    for (int i = 0; i < 8; i++) at = field(table, at, 6, "\1\1", 2);
+    at = field(table, at, 6, "\4\0", 2);
+    at = field(table, at, 7, "\10", 1);
+    at = field(table, at, 5, "", 0);
+    at = field(table, at, 7, "\x20\x10\0", 3);
+    return field(table, at, 8, "\0", 1);
+}
+
+/* ---- lengths round the limits ---- */
+
+static void table_lengths(void) {
+    for (size_t length = VEGZUMP_TABLE_BYTES - 2; length <= VEGZUMP_TABLE_BYTES + 2; length++) {
+        size_t levels;
+        uint8_t *table = table_of_length(length, &levels);
+        int is_long = length > VEGZUMP_TABLE_BYTES;
+        size_t made = 2 * levels + 1, cells_len = 4 * made, text_len = 12 * made;
+        uint32_t *cells = block(4 * cells_len, 7);
+        uint8_t *text = block(text_len, 7);
+        expect("check of a table of", length, vegzump_check(table, length), is_long, 0, 0, 0);
+        vegzump_answer found = vegzump_expand(table, length, (const uint8_t *)"x", 1, cells, cells_len, text, text_len);
+        if (is_long) {
+            expect("table of", length, found, 1, 0, 0, 0);
+            if (!holds(cells, 4 * cells_len, 7) || !holds(text, text_len, 7)) fail("room at a table of", length);
+        } else {
+            expect("table of", length, found, 0, made, made, text_len);
+            if (memcmp(text + text_len - 13, "mkTermVar(x))", 13)) fail("text of a table of", length);
+        }
+        free(table), free(cells), free(text);
+    }
+    /* The length is looked at before any byte. */
+    uint8_t one = 0;
+    expect("huge table", 0, vegzump_check(&one, SIZE_MAX / 2), 1, 0, 0, 0);
+    expect("huge table", 1, vegzump_expand(&one, SIZE_MAX / 2, NULL, 0, NULL, 0, NULL, 0), 1, 0, 0, 0);
+}
+
+static void formula_lengths(void) {
+    uint8_t table[200];
+    size_t table_len = table_of_words(table);
+    for (size_t length = VEGZUMP_FORMULA_BYTES - 2; length <= VEGZUMP_FORMULA_BYTES + 2; length++) {
+        uint8_t *formula = block(length, ' '), *text = block(16, 7);
+        uint32_t *cells = block(32, 7);
+        vegzump_answer found = vegzump_expand(table, table_len, formula, length, cells, 8, text, 16);
+        if (length > VEGZUMP_FORMULA_BYTES) {
+            expect("formula of", length, found, 14, 0, 0, 0);
+            if (!holds(cells, 32, 7) || !holds(text, 16, 7)) fail("room at a formula of", length);
+        } else {
+            expect("formula of", length, found, 0, 1, 1, 12);
+            if (cells[0] != 0x20 || cells[1] != 3u << 24 || cells[2] || cells[3] || !holds(cells + 4, 16, 7)) fail("cells at a formula of", length);
+            if (memcmp(text, "mkTermVar(T)", 12) || !holds(text + 12, 4, 7)) fail("text at a formula of", length);
+        }
+        free(formula), free(text), free(cells);
+    }
+    for (size_t tokens = 4095; tokens <= 4098; tokens++) {
+        uint8_t *formula = block(2 * tokens, ' ');
+        for (size_t i = 0; i < tokens; i++) formula[2 * i] = 'a' + i % 26;
+        uint32_t cells[4];
+        uint8_t text[12];
+        vegzump_answer found = vegzump_expand(table, table_len, formula, 2 * tokens, cells, 4, text, 12);
+        if (tokens == 4095) expect("tokens", tokens, found, 17, 4095, 1, 1);
+        else if (tokens == 4096) expect("tokens", tokens, found, 0, 1, 1, 12);
+        else expect("tokens", tokens, found, 16, 0, 0, 0);
+        free(formula);
+    }
+    uint8_t one = 0;
+    expect("huge formula", 0, vegzump_expand(table, table_len, &one, SIZE_MAX / 2, NULL, 0, NULL, 0), 14, 0, 0, 0);
+}
+
+static void rooms(void) {
+    size_t length = VEGZUMP_TABLE_BYTES, levels;
+    uint8_t *table = table_of_length(length, &levels);
+    const uint8_t *x = (const uint8_t *)"x";
+    size_t made = 2 * levels + 1, cells_len = 4 * made, text_len = 12 * made;
+    for (size_t spare = 0; spare < 4; spare++) { /* three spare numbers are no row */
+        size_t lent = cells_len - 4 + spare;
+        uint32_t *cells = block(4 * lent, 7);
+        uint8_t *text = block(text_len, 7);
+        expect("rows", lent, vegzump_expand(table, length, x, 1, cells, lent, text, text_len), 21, 1, 0, 0);
+        if (!holds(cells + cells_len - 4, 4 * spare, 7) || !holds(text, text_len, 7)) fail("room at rows", lent);
+        free(cells), free(text);
+    }
+    for (size_t lent = text_len - 2; lent <= text_len + 1; lent++) {
+        uint32_t *cells = block(4 * cells_len, 7);
+        uint8_t *text = block(lent, 7);
+        vegzump_answer found = vegzump_expand(table, length, x, 1, cells, cells_len, text, lent);
+        if (lent < text_len) {
+            expect("text", lent, found, 24, text_len, 0, 0);
+            if (!holds(text, lent, 7)) fail("room at text", lent);
+        } else {
+            expect("text", lent, found, 0, made, made, text_len);
+            if (!holds(text + text_len, lent - text_len, 7)) fail("room at text", lent);
+        }
+        free(cells), free(text);
+    }
+    /* More rows than are ever made. */
+    size_t most = 4 * (VEGZUMP_ROWS + 9);
+    uint32_t *cells = block(4 * most, 7);
+    uint8_t *text = block(text_len, 7);
+    expect("many rows", most, vegzump_expand(table, length, x, 1, cells, most, text, text_len), 0, made, made, text_len);
+    if (!holds(cells + cells_len, 4 * (most - cells_len), 7)) fail("room at many rows", most);
+    free(cells), free(text), free(table);
+}
+
+static void nothing_at_all(void) {
+    uint8_t one = 0, table[200];
+    uint32_t cells[4];
+    size_t table_len = table_of_words(table);
+    expect("empty", 0, vegzump_check(&one, 0), 4, 0, 0, 0);
+    expect("empty", 1, vegzump_check(NULL, 0), 4, 0, 0, 0);
+    expect("empty", 2, vegzump_expand(NULL, 0, NULL, 0, NULL, 0, NULL, 0), 4, 0, 0, 0);
+    expect("empty", 3, vegzump_expand(table, table_len, NULL, 0, NULL, 0, NULL, 0), 21, 0, 0, 0);
+    expect("empty", 4, vegzump_expand(table, table_len, NULL, 0, cells, 4, NULL, 0), 24, 12, 0, 0);
+}
+
+static void *all(void *count) {
+    *(long *)count = every_case();
+    table_lengths();
+    formula_lengths();
+    rooms();
+    nothing_at_all();
+    return NULL;
+}
+
+int main(int argc, char **argv) {
+    int threads = argc > 2 ? atoi(argv[2]) : 4;
+    FILE *f = fopen(argc > 1 ? argv[1] : "crates/conformance/data/cases.bin", "rb");
+    if (!f || threads < 1 || threads > 64) return puts("usage: test CASES [THREADS]"), 2;
+    fseek(f, 0, SEEK_END);
+    cases_size = ftell(f);
+    rewind(f);
+    cases = block(cases_size, 0);
+    if (!cases_size || fread(cases, 1, cases_size, f) != cases_size) return puts("no cases"), 2;
+    fclose(f);
+    if (sizeof(vegzump_answer) != 32 || offsetof(vegzump_answer, a) != 8) fail("layout of the answer", sizeof(vegzump_answer));
+
+    pthread_attr_t attr;
+    pthread_t id[64];
+    long count[64];
+    pthread_attr_init(&attr);
+    if (pthread_attr_setstacksize(&attr, STACK)) return puts("no stack"), 2;
+    for (int i = 0; i < threads; i++)
+        if (pthread_create(&id[i], &attr, all, &count[i])) return puts("no thread"), 2;
+    for (int i = 0; i < threads; i++) pthread_join(id[i], NULL);
+    free(cases);
+    printf("%ld cases on %d threads, %d failures\n", count[0], threads, failures);
+    return failures != 0;
+}

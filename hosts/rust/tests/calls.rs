@@ -1,0 +1,227 @@
+//! The archive from Rust: the conformance cases, lengths round every limit, nothing at all, several threads.
+
+use std::{env, fs, thread};
+use vegzump::{check, expand, expand_whole, Refusal, FORMULA_BYTES, ROWS, ROW_CELLS, STACK, TABLE_BYTES};
+
+/// Runs on a thread with the stack that the header states; what else runs there has a megabyte.
+fn with_stack<T: Send + 'static>(test: impl FnOnce() -> T + Send + 'static) -> thread::JoinHandle<T> {
+    thread::Builder::new().stack_size(STACK + (1 << 20)).spawn(test).unwrap()
+}
+
+struct Reader<'a>(&'a [u8]);
+
+impl<'a> Reader<'a> {
+    fn bytes(&mut self, n: usize) -> &'a [u8] {
+        let (part, rest) = self.0.split_at(n);
+        self.0 = rest;
+        part
+    }
+    fn number(&mut self, n: usize) -> u64 {
+        self.bytes(n).iter().fold(0, |value, &byte| value << 8 | u64::from(byte))
+    }
+    fn part(&mut self) -> &'a [u8] {
+        let n = self.number(4) as usize;
+        self.bytes(n)
+    }
+}
+
+/// The number and the values of an answer as document 01 has them.
+fn numbered(table: &[u8], formula: &[u8], cells: &mut [u32], text: &mut [u8]) -> (u8, [u64; 3]) {
+    match expand(table, formula, cells, text) {
+        Ok(accepted) => (0, [accepted.cells as u64, accepted.constructors as u64, accepted.text as u64]),
+        Err(refusal) => refusal.numbered(),
+    }
+}
+
+fn cases_path() -> String {
+    let default = concat!(env!("CARGO_MANIFEST_DIR"), "/../../crates/conformance/data/cases.bin");
+    env::var("VEGZUMP_CASES").unwrap_or_else(|_| default.into())
+}
+
+/// Every case of cases.bin: answer, every cell and every byte of text.
+fn every_case() -> usize {
+    let bytes = fs::read(cases_path()).unwrap();
+    let mut reader = Reader(&bytes);
+    let mut cases = 0;
+    while !reader.0.is_empty() {
+        let (table, formula) = (reader.part(), reader.part());
+        let (cells_lent, text_lent) = (reader.number(4) as usize, reader.number(4) as usize);
+        let owed = (reader.number(4) as u8, [reader.number(8), reader.number(8), reader.number(8)]);
+        let (mut cells_owed, mut text_owed) = (vec![0xaaaa_aaaa; cells_lent], vec![0xee; text_lent]);
+        for cell in 0..reader.number(4) as usize {
+            cells_owed[cell] = reader.number(4) as u32;
+        }
+        let written = reader.part();
+        text_owed[..written.len()].copy_from_slice(written);
+        let (mut cells, mut text) = (vec![0xaaaa_aaaa; cells_lent], vec![0xee; text_lent]);
+        assert_eq!(numbered(table, formula, &mut cells, &mut text), owed, "case {cases}");
+        assert!(cells == cells_owed, "cells of case {cases}");
+        assert!(text == text_owed, "text of case {cases}");
+        match check(table) {
+            Ok(()) => assert!(!(1..=13).contains(&owed.0), "check of case {cases}"),
+            Err(refusal) => assert_eq!(refusal.numbered(), owed, "check of case {cases}"),
+        }
+        cases += 1;
+    }
+    cases
+}
+
+/// The numbers of the crate are those of the header.
+#[test]
+fn as_the_header_says() {
+    let header = fs::read_to_string(concat!(env!("CARGO_MANIFEST_DIR"), "/../../include/vegzump.h")).unwrap();
+    let stated = |name: &str| -> usize {
+        let line = header.lines().find(|line| line.starts_with(&format!("#define {name} "))).unwrap();
+        line.split_whitespace().nth(2).unwrap().trim_end_matches('u').parse().unwrap()
+    };
+    let names = ["STACK", "TABLE_BYTES", "FORMULA_BYTES", "ROWS", "ROW_CELLS"];
+    let found = names.map(|name| stated(&format!("VEGZUMP_{name}")));
+    assert_eq!(found, [STACK, TABLE_BYTES, FORMULA_BYTES, ROWS, ROW_CELLS]);
+}
+
+#[test]
+fn conformance_cases() {
+    let cases = with_stack(every_case).join().unwrap();
+    assert!(cases > 0);
+}
+
+#[test]
+fn several_threads() {
+    let threads: Vec<_> = (0..4).map(|_| with_stack(every_case)).collect();
+    let counts: Vec<_> = threads.into_iter().map(|thread| thread.join().unwrap()).collect();
+    assert!(counts.iter().all(|&count| count == counts[0] && count > 0));
+}
+
+fn field(table: &mut Vec<u8>, tag: u8, value: &[u8]) {
+    table.push(tag);
+    table.extend_from_slice(&(value.len() as u16).to_be_bytes());
+    table.extend_from_slice(value);
+}
+
+/// A table of so many bytes: a word `x` gives applications nested to the left, `levels` deep, with mkTermVar(x) at every end.
+fn table_of_length(length: usize) -> (Vec<u8>, usize) {
+    let levels = (length - 30) / 3;
+    let spare = length - 30 - 3 * levels;
+    let mut template = vec![0x22; levels];
+    template.extend([0x20, 0].repeat(levels + 1));
+    let mut table = Vec::new();
+    field(&mut table, 2, &b"abc"[..1 + spare]);
+    field(&mut table, 3, &[]);
+    field(&mut table, 4, &[0, 0, 4]);
+    field(&mut table, 5, &[]);
+    field(&mut table, 6, &[1, 1]);
+    field(&mut table, 7, &template);
+    field(&mut table, 8, &[0]);
+    assert_eq!(table.len(), length);
+    (table, levels)
+}
+
+/// A table whose formulas are any number of words, eight at a time; the term is a lone outside name.
+fn table_of_words() -> Vec<u8> {
+    let mut table = Vec::new();
+    field(&mut table, 2, b"T");
+    field(&mut table, 3, &[]);
+    field(&mut table, 4, &[0, 0, 4]);
+    field(&mut table, 5, &[]);
+    for _ in 0..8 {
+        field(&mut table, 6, &[1, 1]);
+    }
+    field(&mut table, 6, &[4, 0]);
+    field(&mut table, 7, &[8]);
+    field(&mut table, 5, &[]);
+    field(&mut table, 7, &[0x20, 0x10, 0]);
+    field(&mut table, 8, &[0]);
+    table
+}
+
+#[test]
+fn table_lengths() {
+    with_stack(|| {
+        for length in [TABLE_BYTES - 2, TABLE_BYTES - 1, TABLE_BYTES] {
+            let (table, levels) = table_of_length(length);
+            assert_eq!(check(&table), Ok(()));
+            let expansion = expand_whole(&table, b"x").unwrap();
+            let made = 2 * levels + 1;
+            assert_eq!((expansion.rows.len(), expansion.constructors, expansion.text.len()), (made, made, 12 * made));
+        }
+        for length in [TABLE_BYTES + 1, TABLE_BYTES + 2, 2 * TABLE_BYTES, 65_536, 100_000] {
+            let mut table = table_of_length(TABLE_BYTES).0;
+            table.resize(length, 0);
+            assert_eq!(check(&table), Err(Refusal::TableTooLong));
+            assert_eq!(expand(&table, b"x", &mut [], &mut []), Err(Refusal::TableTooLong));
+        }
+    })
+    .join()
+    .unwrap();
+}
+
+#[test]
+fn formula_lengths() {
+    let (table, text) = (table_of_words(), b"mkTermVar(T)");
+    for length in [FORMULA_BYTES - 1, FORMULA_BYTES, FORMULA_BYTES + 1, FORMULA_BYTES + 2, 200_000] {
+        let (mut cells, mut room) = ([7; 8], [7; 16]);
+        let found = numbered(&table, &vec![b' '; length], &mut cells, &mut room);
+        if length > FORMULA_BYTES {
+            assert_eq!((found, cells, room), ((14, [0; 3]), [7; 8], [7; 16]));
+        } else {
+            assert_eq!((found, &room[..12], &room[12..]), ((0, [1, 1, 12]), &text[..], &[7; 4][..]));
+            assert_eq!(cells, [0x20, 3 << 24, 0, 0, 7, 7, 7, 7]);
+        }
+    }
+}
+
+#[test]
+fn token_counts() {
+    let table = table_of_words();
+    for count in [4_088, 4_095, 4_096, 4_097, 4_098] {
+        let (mut cells, mut room) = ([7; 4], [7; 12]);
+        let found = numbered(&table, &b"a ".repeat(count), &mut cells, &mut room);
+        let owed = match count {
+            4_088 | 4_096 => (0, [1, 1, 12]),
+            4_095 => (17, [4_095, 1, 1]),
+            _ => (16, [0; 3]),
+        };
+        assert_eq!(found, owed, "{count} tokens");
+    }
+}
+
+#[test]
+fn rows_and_text_too_small() {
+    with_stack(|| {
+        let (table, levels) = table_of_length(TABLE_BYTES);
+        let made = 2 * levels + 1;
+        let (mut cells, mut text) = (vec![7; made * ROW_CELLS], vec![7; 12 * made]);
+        let whole = numbered(&table, b"x", &mut cells, &mut text);
+        assert_eq!(whole, (0, [made as u64, made as u64, 12 * made as u64]));
+        let (all_cells, all_text) = (cells.clone(), text.clone());
+        // Three spare numbers are no row.
+        for spare in 0..4 {
+            let lent = (made - 1) * ROW_CELLS + spare;
+            let (mut cells, mut text) = (vec![7; lent], vec![7; 12 * made]);
+            assert_eq!(numbered(&table, b"x", &mut cells, &mut text), (21, [1, 0, 0]));
+            assert_eq!(cells[..(made - 1) * ROW_CELLS], all_cells[..(made - 1) * ROW_CELLS]);
+            assert!(cells[(made - 1) * ROW_CELLS..].iter().all(|&cell| cell == 7) && text.iter().all(|&byte| byte == 7));
+        }
+        for short in [1, 2, 12 * made] {
+            let (mut cells, mut text) = (vec![7; made * ROW_CELLS], vec![7; 12 * made - short]);
+            assert_eq!(numbered(&table, b"x", &mut cells, &mut text), (24, [12 * made as u64, 0, 0]));
+            assert!(cells == all_cells && text.iter().all(|&byte| byte == 7));
+        }
+        // More room than is ever used.
+        let (mut cells, mut text) = (vec![7; (ROWS + 9) * ROW_CELLS], vec![7; 12 * made + 9]);
+        assert_eq!(numbered(&table, b"x", &mut cells, &mut text), whole);
+        assert!(cells[..all_cells.len()] == all_cells && cells[all_cells.len()..].iter().all(|&cell| cell == 7));
+        assert!(text[..all_text.len()] == all_text && text[all_text.len()..].iter().all(|&byte| byte == 7));
+    })
+    .join()
+    .unwrap();
+}
+
+#[test]
+fn nothing_at_all() {
+    assert_eq!(check(&[]), Err(Refusal::FieldOutOfOrder { place: 0 }));
+    assert_eq!(expand(&[], &[], &mut [], &mut []), Err(Refusal::FieldOutOfOrder { place: 0 }));
+    let table = table_of_words();
+    assert_eq!(expand(&table, &[], &mut [], &mut []), Err(Refusal::NoRow { token: 0 }));
+    assert_eq!(expand(&table, &[], &mut [0; 4], &mut []), Err(Refusal::TextTooLong { needed: 12 }));
+}

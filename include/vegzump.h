@@ -1,0 +1,84 @@
+/* Vegzump for C and C++: a phrase expander, proved. Link target/staticlib/libvegzump.a (`rt staticlib vegzump`), x86-64 Linux.
+
+   What each call answers and writes is proved for every input. What no proof covers: this header and the compiler's back end (both tested by
+   hosts/c/test.c), and what the caller has to see to:
+
+   - A pointer is valid for the length given with it. With length 0 it may be anything, NULL too.
+   - `cells` and `text`, which are written, overlap neither each other nor `table` nor `formula`. `table` and `formula` may overlap.
+   - The thread has stack enough: VEGZUMP_STACK at the worst, VEGZUMP_STACK_ORDINARY for formulas of ordinary size (tests/stack measures both).
+
+   Any bytes of any length are a right input. The calls have no global state, allocate nothing, read no file and never block or fail otherwise than
+   by the answer, so they may run on several threads at once, each with cells and text of its own. */
+#ifndef VEGZUMP_H
+#define VEGZUMP_H
+
+#include <stddef.h>
+#include <stdint.h>
+
+#ifdef __cplusplus
+extern "C" {
+#endif
+
+/* Bytes of stack: at every limit of the language, and for the formulas of a kitchen's day. MEASURED: see tests/stack. */
+#define VEGZUMP_STACK 3670016u
+#define VEGZUMP_STACK_ORDINARY 307200u
+
+/* As much as a call ever reads or makes. Longer tables and formulas are refused; more cells or text may be lent, and are left as they were. */
+#define VEGZUMP_TABLE_BYTES 16384u
+#define VEGZUMP_FORMULA_BYTES 65535u
+#define VEGZUMP_ROWS 16384u    /* of four cells each */
+#define VEGZUMP_ROW_CELLS 4u
+
+/* number is 0 on acceptance, else the cause of a refusal; values that are not listed are 0. A place is the offset of a field's tag in the table, or the
+   table's length if something is missing at its end; an index counts the formula's tokens from 0.
+
+     0  accepted                          a cells made, b constructors of the term, c length of the text (all 0 for vegzump_check)
+   Of the table:
+     1  over 16,384 bytes
+     2  field runs past the end           a place
+     3  unknown tag, length or value      a place
+     4  field out of order, or missing    a place
+     5  bad or repeated spelling          a place
+     6  too many of a kind                a place
+     7  add of a number in use            a place
+     8  extend or update without an earlier definition of the same signature, or twice in one block    a place
+     9  undefined nonterminal, keyword, name or variable    a place
+    10  template cut, left over, or an unknown byte in it   a place
+    11  wrong sort or count of arguments; a root that is no Term or has parameters    a place
+    12  left recursion                    a lowest such nonterminal
+    13  two alternatives share an opening, or both are nullable    a nonterminal, b lowest bit shared (64 if none)
+   Of the formula:
+    14  over 65,535 bytes
+    15  bad byte, long word, large number a offset of its start
+    16  over 4,096 tokens
+    17  token does not fit                a index (the token count at the end), b what would have fitted (bit 0 a word, bit 1 a number, bit k + 2
+                                            keyword k), c how many kinds that is
+    18  token left over                   a index
+    19  1,025 open calls                  a index
+    20  65,537 calls                      a index
+    21  no row for the next cell          a index
+   Of the term and its text:
+    22  over 16,384 constructors          a cells made
+    23  a fresh variable under no binder of its own    a its place among the constructors, from the left, from 0
+    24  text longer than its room         a length needed */
+typedef struct vegzump_answer {
+    uint8_t number;
+    uint64_t a, b, c;
+} vegzump_answer;
+
+/* Checks a phrase table: number 0, or a refusal 1 to 13. */
+vegzump_answer vegzump_check(const uint8_t *table, size_t table_len);
+
+/* Checks the table, expands the formula and prints its term.
+
+   cells_len counts 32-bit numbers, four a row. Each constructor made is a row: its code, then its arguments, spare ones 0; an argument is a row
+   (from 0), a name (class x 2^24 + number; class 1 a word of the formula, 2 fresh, 3 an outside name), a label's spelling number or a number's
+   value. Rows are written from the front, and rows made stay when a later step refuses. The text is written from the front on acceptance only,
+   without a closing 0. All that lies past what is written is as it was. */
+vegzump_answer vegzump_expand(const uint8_t *table, size_t table_len, const uint8_t *formula, size_t formula_len,
+                              uint32_t *cells, size_t cells_len, uint8_t *text, size_t text_len);
+
+#ifdef __cplusplus
+}
+#endif
+#endif

@@ -1,0 +1,1 @@
+"""Phrase tables as text. Nothing here is proved, and nothing proved depends on it."""

@@ -1,0 +1,79 @@
+"""A refusal with the table and the formula that it is about, and how their parts are named and shown."""
+from typing import List, NamedTuple, Optional
+
+from . import reading
+from .grammar import Alternative, Grammar
+from .pack import Packed
+from .reading import Token
+from .source import counted, marked
+from .table import KEYWORD, Field, read_fields, spellings
+
+
+class Refusal(NamedTuple):
+    number: int
+    a: int
+    b: int
+    c: int
+
+
+class Case:
+    """A refusal with what it is about."""
+
+    def __init__(self, packed: Packed, formula: Optional[bytes], refusal: Refusal):
+        self.packed, self.formula, self.refusal = packed, formula, refusal
+        self.data, self.a, self.b, self.c = packed.data, refusal.a, refusal.b, refusal.c
+        self.grammar = Grammar(packed.data)
+        self.fields = {f.place: f for f in read_fields(packed.data)}
+        self.keywords = spellings(list(self.fields.values()), KEYWORD)
+        self.tokens: List[Token] = reading.scan(formula, self.grammar) if formula is not None else []
+
+    def field(self) -> Optional[Field]:
+        return self.fields.get(self.a)
+
+    def alternative(self) -> Optional[Alternative]:
+        return self.grammar.alternative_of(self.a)
+
+    def nonterminal(self, number: int) -> str:
+        return "`%s`" % self.packed.nonterminals.get(number, "n%d" % number)
+
+    def variable(self, a: Alternative, number: int) -> str:
+        return "`%s`" % self.packed.variables.get(a.field.place, {}).get(number, "v%d" % number)
+
+    def where(self, place: int) -> str:
+        """Where a field stands: a line of the notation, or a byte of the table."""
+        spot = self.packed.spots.get(place)
+        return str(spot) if spot else "byte %d of the table" % place
+
+    def shown(self, place: int) -> List[str]:
+        """A field as it is written."""
+        spot, f = self.packed.spots.get(place), self.fields.get(place)
+        if spot:
+            return [spot.marked()]
+        return ["    " + self.data[place:place + 3 + len(f.value)][:24].hex(" ")] if f else []
+
+    def at(self, place: int, said: str, *hints: str) -> List[str]:
+        """What is to be said of a field, with its place and its text; hints follow."""
+        return ["%s: %s" % (self.where(place), said)] + self.shown(place) + list(hints)
+
+    def word(self, index: int) -> List[str]:
+        """The token of the formula with this index, marked in its line."""
+        if self.formula is None:
+            return ["at token %d of the formula, counted from 0" % index]
+        if index > len(self.tokens):
+            return []
+        if index == len(self.tokens):
+            return self.place(len(self.formula.rstrip()), 1, "the end of the formula, behind %s" % counted(index, "token"))
+        t = self.tokens[index]
+        return self.place(t.start, len(t.text), "`%s`, token %d of the formula, counted from 0" % (t.text.decode("ascii"), index))
+
+    def place(self, offset: int, width: int, what: str) -> List[str]:
+        """A stretch of the formula, marked in its line."""
+        before = self.formula[:offset].split(b"\n")
+        left = before[-1].decode("utf-8", "replace")
+        right = self.formula[offset:].split(b"\n", 1)[0].decode("utf-8", "replace")
+        return ["formula, line %d, column %d: %s" % (len(before), len(left) + 1, what), marked(left + right, len(left), width)]
+
+    def kinds(self, bits: int) -> List[str]:
+        """The token kinds of a set: bit 0 a word, bit 1 a number, bit k + 2 keyword k."""
+        names = ["a word", "a number"] + ["`%s`" % k for k in self.keywords]
+        return [names[i] if i < len(names) else "keyword %d" % (i - 2) for i in range(64) if bits >> i & 1]

@@ -1,0 +1,27 @@
+"""The causes of document 01 in plain words, by number."""
+
+CAUSES = {
+    1: "the table has more than 16,384 bytes",
+    2: "a field runs past the end of the table",
+    3: "the table has a tag, a length or a value that is not known",
+    4: "a part of the table is out of order, or missing",
+    5: "a keyword or an outside name is badly spelled, or stands twice",
+    6: "there are more of these than allowed",
+    7: "`==` adds a nonterminal that is defined already",
+    8: "`|==` or `:=` finds nothing that it could extend or update",
+    9: "something is used here that is not defined, in this block or an earlier one",
+    10: "a template is cut, has bytes left over, or has an unknown byte",
+    11: "a sort or a count of arguments is wrong",
+    12: "left recursion: a nonterminal reaches itself before any token is read",
+    13: "two alternatives of a nonterminal cannot be told apart by the next token",
+    14: "the formula has more than 65,535 bytes",
+    15: "the formula has a byte, a word or a number that may not stand in it",
+    16: "the formula has more than 4,096 tokens",
+    17: "this token does not fit here",
+    18: "the formula could have ended before this token",
+    19: "phrases are nested too deeply: more than 1,024 calls are open at once",
+    20: "the formula needs more than 65,536 calls",
+    21: "there is no room for another cell of the term",
+    22: "the term has more than 16,384 constructors",
+    23: "a fresh name is used as a variable where no binder made with it is around",
+    24: "the text is longer than its buffer"}

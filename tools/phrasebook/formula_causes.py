@@ -1,0 +1,110 @@
+"""The causes that lie in a formula or its term, 14 to 24, in words."""
+from typing import Any, List, Optional, Union
+
+from . import reading
+from .case import Case
+from .reading import Fresh, Reading, Stop
+from .source import counted, listed
+from .table import TemplateFault
+
+LISTED_TOKENS = 12
+
+
+def formula_size(case: Case) -> List[str]:
+    return ["it has %d bytes" % len(case.formula)] if case.formula is not None else []
+
+
+def token_count(case: Case) -> List[str]:
+    return ["it has %s" % counted(len(case.tokens), "token")] if case.formula is not None else []
+
+
+def bad_token(case: Case) -> List[str]:
+    if case.formula is None:
+        return ["at byte %d of the formula, counted from 0" % case.a]
+    text = reading.token_at(case.formula, case.a)
+    why = reading.fault_of(text) if text else None
+    return case.place(case.a, len(text), why) if why else []
+
+
+def read_again(case: Case, rows: int) -> Union[Stop, Any]:
+    """What a second reading comes to: a stop, a term, or nothing if there is no formula or no table to read it by."""
+    if case.grammar.root is None or case.formula is None:
+        return None
+    try:
+        return Reading(case.grammar, case.tokens, rows).whole()
+    except Stop as s:
+        return s
+    except TemplateFault:
+        return None
+
+
+def stopped(case: Case, rows: int = reading.MOST_ROWS) -> Optional[Stop]:
+    """The stop of a second reading, if it is the refusal's own."""
+    s = read_again(case, rows)
+    return s if isinstance(s, Stop) and (s.number, s.token) == (case.refusal.number, case.a) else None
+
+
+def reading_what(case: Case, stop: Optional[Stop]) -> List[str]:
+    """The item at which the reading stopped."""
+    if stop is None:
+        return []
+    if stop.item is None:
+        return ["reading %s, the root" % case.nonterminal(case.grammar.root)]
+    name = case.nonterminal(stop.alternative.definition.nonterminal)
+    return case.at(stop.item.place, "reading this item of %s" % name)
+
+
+def tokens_of(case: Case, bits: int) -> str:
+    """The tokens of a set, or as many as can be read at a glance."""
+    kinds = case.kinds(bits)
+    if len(kinds) > LISTED_TOKENS + 1:
+        kinds = kinds[:LISTED_TOKENS] + ["%d more" % (len(kinds) - LISTED_TOKENS)]
+    return listed(kinds) if kinds else "nothing"
+
+
+def misfit(case: Case) -> List[str]:
+    said = ["expected: %s" % tokens_of(case, case.b)]
+    return case.word(case.a) + said + keyword_hint(case) + reading_what(case, stopped(case))
+
+
+def keyword_hint(case: Case) -> List[str]:
+    """Why a word does not fit where a word is expected."""
+    token = case.tokens[case.a] if case.a < len(case.tokens) else None
+    if token is None or not case.b & 1 or not token.text.isalpha() or token.bit == reading.WORD_BIT:
+        return []
+    return ["`%s` is a keyword of this table, and so it is no word" % token.text.decode("ascii")]
+
+
+def left_over(case: Case) -> List[str]:
+    stop = stopped(case)
+    said = ["what stands before it is a whole formula, and it cannot go on with this token"]
+    return case.word(case.a) + said + (["it could go on with: %s" % tokens_of(case, stop.others)] if stop else [])
+
+
+def calls_open(case: Case) -> List[str]:
+    stop = stopped(case)
+    inner = " > ".join(case.nonterminal(c.nonterminal) for c in stop.calls[-4:]) if stop else ""
+    return case.word(case.a) + (["the innermost calls open: " + inner] if inner else []) + reading_what(case, stop)
+
+
+def out_of_rows(case: Case) -> List[str]:
+    stop = stopped(case, reading.PROGRAM_ROWS) or stopped(case)
+    return case.word(case.a) + ["the limit is the rows lent, and 16,384 at most; the program `phrase` lends 4,096"] + reading_what(case, stop)
+
+
+def loose_name(case: Case) -> List[str]:
+    out = ["the variable is constructor %d of the term, counted from the left from 0" % case.a]
+    node = reading.node_at(read_again(case, reading.MOST_ROWS), case.a)
+    if node is None or not node.arguments or not isinstance(node.arguments[0], Fresh):
+        return out
+    a = case.grammar.alternative_of(node.field.place)
+    return out + case.at(node.field.place, "made by this template of %s" % case.nonterminal(a.definition.nonterminal)) + case.at(
+        node.arguments[0].item.place, "with the name of this local: a mkTermFun with that name has to stand around it")
+
+
+def large_term(case: Case) -> List[str]:
+    return ["it was made of %s; a part that stands at several places counts at each" % counted(case.a, "cell")]
+
+
+def long_text(case: Case) -> List[str]:
+    return ["it has %s; the program `phrase` lends 65,536" % counted(case.a, "byte")]

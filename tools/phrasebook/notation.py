@@ -1,0 +1,339 @@
+"""Reading the notation: from text to a tree of its parts, each with the spot where it stands.
+
+The notation is that of Figure 2 of 001, with lines for what the figure leaves to the text:
+
+    file        = { section }
+    section     = "use" FILE                                   all that another file has, before what follows
+                | "keywords" WORD ...                          to the end of the line; a word may stand in quotes
+                | "names" WORD ...                             to the end of the line
+                | "grammar" { definition } "end"
+                | "root" NONTERMINAL
+    definition  = NONTERMINAL [ "(" { NAME ":" SORT } ")" ] ":" SORT ("==" | "|==" | ":=") alternative { "|" alternative }
+    alternative = { item } "=>" result
+    item        = [ NAME "=" ] ( KEYWORD in quotes | "ide" [ ":" SORT ] | "number" | "local" | NONTERMINAL [ arguments ] )
+    result      = template | NONTERMINAL [ arguments ]         a nonterminal here is a last item, and its value the result
+    template    = NAME | CONSTRUCTOR arguments | "global" "(" WORD ")" | "label" "(" WORD ")"
+    arguments   = "(" { template } ")"
+"""
+import os
+import re
+from dataclasses import dataclass, field
+from typing import List, NamedTuple, Optional, Tuple
+
+from .source import Spot, Trouble, is_table, listed, near, read_file
+from .table import BY_NAME, MODES, SORTS
+
+LEXEME = re.compile(r'"""|"[^"]*"|=>|\|==|==|:=|<<|>>|[A-Za-z][A-Za-z0-9_]*|\S')
+RAW_WORD = re.compile(r'"""|"[^"\s]+"|\S+')
+NAME_FORM = re.compile(r"[A-Za-z][A-Za-z0-9_]*")
+SECTIONS = ("use", "keywords", "names", "grammar", "root")
+WORD_LINES = ("use", "keywords", "names")
+RESERVED = set(BY_NAME) | {"ide", "number", "local", "global", "label", "end", "pIde"} | set(SECTIONS)
+
+
+class Token(NamedTuple):
+    text: str
+    spot: Spot
+
+    def is_name(self) -> bool:
+        return NAME_FORM.fullmatch(self.text) is not None
+
+    def is_keyword(self) -> bool:
+        return self.text.startswith('"')
+
+
+@dataclass
+class Template:
+    """A template as written: a name alone, or a head with arguments."""
+    head: Token
+    arguments: Optional[List["Template"]]
+    spot: Spot
+
+
+@dataclass
+class Item:
+    spot: Spot
+    name: Optional[Token]
+    what: Token
+    sort: Optional[int] = None
+    arguments: List[Template] = field(default_factory=list)
+
+
+@dataclass
+class Alternative:
+    spot: Spot
+    items: List[Item]
+    result: Template
+
+
+@dataclass
+class Definition:
+    name: Token
+    mode: int
+    result: int
+    parameters: List[Tuple[Token, int]]
+    alternatives: List[Alternative]
+
+
+@dataclass
+class Block:
+    spot: Spot
+    definitions: List[Definition]
+
+
+@dataclass
+class Notation:
+    path: str
+    keywords: List[Token] = field(default_factory=list)
+    names: List[Token] = field(default_factory=list)
+    blocks: List[Block] = field(default_factory=list)
+    root: Optional[Token] = None
+
+
+def decoded(path: str, data: bytes) -> List[str]:
+    """The lines of a notation's bytes."""
+    if is_table(path, data):
+        raise Trouble("%s: this is a table, not a notation: `phrases show` shows it" % path)
+    lines = []
+    for at, line in enumerate(data.split(b"\n"), 1):
+        control = [i for i, b in enumerate(line.rstrip(b"\r")) if b < 32 and b != 9]
+        if control:
+            raise Trouble("%s:%d: byte %02x in column %d is no text" % (path, at, line[control[0]], control[0] + 1))
+        try:
+            lines.append(line.decode("utf-8").rstrip("\r"))
+        except UnicodeDecodeError as e:
+            raise Trouble("%s:%d: byte %02x in column %d is not UTF-8 text" % (path, at, line[e.start], e.start + 1))
+    return lines
+
+
+def raw_words(path: str, number: int, line: str) -> List[Token]:
+    """The words of a line whose words are anything between blanks, up to a remark."""
+    out = []
+    for m in RAW_WORD.finditer(line):
+        if m.group().startswith("#"):
+            break
+        out.append(Token(m.group(), Spot(path, number, m.start() + 1, len(m.group()), line)))
+    return out
+
+
+def lexemes(path: str, number: int, line: str) -> List[Token]:
+    out = []
+    for m in LEXEME.finditer(line):
+        text, spot = m.group(), Spot(path, number, m.start() + 1, len(m.group()), line)
+        if text == "#":
+            break
+        if text == '"':
+            raise Trouble("a keyword opens here with a quote, and no quote closes it in this line", spot)
+        if text == '""':
+            raise Trouble("a keyword has at least one character between its quotes", spot)
+        out.append(Token(text, spot))
+    return out
+
+
+def tokens(path: str, lines: List[str]) -> List[Token]:
+    out = []
+    for number, line in enumerate(lines, 1):
+        first = (line.split(None, 1) or [""])[0]
+        out += raw_words(path, number, line) if first in WORD_LINES else lexemes(path, number, line)
+    return out
+
+
+def quoted(word: Token) -> Token:
+    """A keyword as it stands in an alternative."""
+    is_quoted = len(word.text) > 2 and word.text[0] == word.text[-1] == '"'
+    return word if is_quoted else Token('"%s"' % word.text, word.spot)
+
+
+class Parser:
+    """Reads one file, and the files that it uses before it."""
+
+    def __init__(self, path: str, into: Notation, using: Tuple[str, ...], used: set):
+        self.path, self.into, self.using, self.used = path, into, using, used
+        self.rooted = False
+        lines = decoded(path, read_file(path))
+        self.tokens, self.at = tokens(path, lines), 0
+        last = self.tokens[-1].spot if self.tokens else Spot(path, 1, 1, 0, "")
+        self.end = Token("", last._replace(column=last.column + last.width, width=1))
+
+    def peek(self, ahead: int = 0) -> Token:
+        return self.tokens[self.at + ahead] if self.at + ahead < len(self.tokens) else self.end
+
+    def take(self) -> Token:
+        token = self.peek()
+        self.at += 1
+        return token
+
+    def span(self, first: Spot) -> Spot:
+        """From a spot to the last token taken, or to the end of the line if that stands in a later one."""
+        last = self.tokens[self.at - 1].spot
+        end = last.column + last.width if last.line == first.line else len(first.text.rstrip()) + 1
+        return first._replace(width=end - first.column)
+
+    def expect(self, text: str, why: str) -> Token:
+        if self.peek().text != text:
+            raise self.surprise("`%s`, %s" % (text, why))
+        return self.take()
+
+    def surprise(self, expected: str, hint: str = "") -> Trouble:
+        """What to say if the next token is not what was expected."""
+        found = self.peek()
+        if found.text == ",":
+            return Trouble("no commas: parameters and arguments are separated by blanks", found.spot)
+        if found.text in ("<<", ">>"):
+            return Trouble("patterns in << >> are left out of this notation: write the result with constructors", found.spot)
+        if found.text == "pIde":
+            return Trouble("pIde is left out of this notation, as patterns are", found.spot)
+        shown = "`%s`" % found.text if found.text else "the end of the file"
+        return Trouble("found %s, expected %s%s" % (shown, expected, hint), found.spot)
+
+    def own_name(self, what: str) -> Token:
+        """A name that the author chooses."""
+        if not self.peek().is_name():
+            raise self.surprise("the name of %s" % what)
+        if self.peek().text in RESERVED:
+            raise Trouble("`%s` is a word of the notation and cannot be the name of %s" % (self.peek().text, what), self.peek().spot)
+        return self.take()
+
+    def sort(self) -> int:
+        token = self.peek()
+        if token.text not in SORTS:
+            raise self.surprise("a sort (%s)" % ", ".join(SORTS), near(token.text, SORTS))
+        return SORTS.index(self.take().text)
+
+    def file(self) -> None:
+        while self.peek().text:
+            token = self.peek()
+            if token.text not in SECTIONS:
+                raise self.surprise(listed(SECTIONS), near(token.text, SECTIONS))
+            getattr(self, "section_" + self.take().text)(token)
+
+    def same_line(self, first: Token) -> List[Token]:
+        out = []
+        while self.peek().text and self.peek().spot.line == first.spot.line:
+            out.append(self.take())
+        return out
+
+    def section_use(self, first: Token) -> None:
+        words = self.same_line(first)
+        if len(words) != 1:
+            raise Trouble("one file is named behind use", first.spot)
+        path = os.path.join(os.path.dirname(self.path), words[0].text)
+        here = os.path.realpath(path)
+        if here in self.using:
+            raise Trouble("%s is used by itself, by way of this line" % words[0].text, words[0].spot)
+        if here in self.used:
+            return
+        if not os.path.isfile(path):
+            raise Trouble("the file %s is not there" % path, words[0].spot)
+        read_into(path, self.into, self.using, self.used)
+
+    def section_keywords(self, first: Token) -> None:
+        self.into.keywords += [quoted(t) for t in self.same_line(first)]
+
+    def section_names(self, first: Token) -> None:
+        self.into.names += self.same_line(first)
+
+    def section_root(self, first: Token) -> None:
+        if self.rooted:
+            raise Trouble("this file has a root already", first.spot)
+        self.into.root, self.rooted = self.own_name("a nonterminal"), True
+
+    def section_grammar(self, first: Token) -> None:
+        block = Block(first.spot, [])
+        self.into.blocks.append(block)
+        while self.peek().text != "end":
+            if not self.peek().text or self.peek().text in SECTIONS:
+                raise self.surprise("`end`: the grammar of line %d is still open" % first.spot.line)
+            if self.peek().text == "|" or self.peek(1).text not in (":", "("):
+                raise self.surprise("a definition as `term:Term ==`, a further alternative of one behind `|`, or `end`")
+            block.definitions.append(self.definition())
+        self.take()
+
+    def definition(self) -> Definition:
+        name = self.own_name("a nonterminal")
+        parameters = self.parameters() if self.peek().text == "(" else []
+        self.expect(":", "then the sort of what `%s` gives, as in `%s:Term ==`" % (name.text, name.text))
+        result = self.sort()
+        if self.peek().text not in MODES:
+            raise self.surprise("`==` (adds), `|==` (extends) or `:=` (updates)")
+        mode = MODES.index(self.take().text)
+        alternatives = [self.alternative()]
+        while self.peek().text == "|":
+            self.take()
+            alternatives.append(self.alternative())
+        return Definition(name, mode, result, parameters, alternatives)
+
+    def parameters(self) -> List[Tuple[Token, int]]:
+        out: List[Tuple[Token, int]] = []
+        self.take()
+        while self.peek().text != ")":
+            name = self.own_name("a parameter")
+            if name.text in [n.text for n, _ in out]:
+                raise Trouble("two parameters are called `%s`" % name.text, name.spot)
+            self.expect(":", "then the sort of the parameter, as in `%s:Term`" % name.text)
+            out.append((name, self.sort()))
+        self.take()
+        return out
+
+    def alternative(self) -> Alternative:
+        spot, items = self.peek().spot, []
+        while self.peek().text != "=>":
+            if self.peek().text in ("|", "end", ""):
+                raise self.surprise("`=>` and what this alternative gives")
+            items.append(self.item())
+        self.take()
+        return Alternative(spot, items, self.template())
+
+    def item(self) -> Item:
+        spot, name = self.peek().spot, None
+        if self.peek(1).text == "=":
+            name = self.own_name("a variable")
+            self.take()
+        what = self.peek()
+        if not what.is_keyword() and (not what.is_name() or what.text == "pIde"):
+            raise self.surprise("an item (a keyword in quotes, ide, number, local or a nonterminal) or `=>`")
+        self.take()
+        item = Item(spot, name, what)
+        self.item_rest(item)
+        item.spot = self.span(spot)
+        return item
+
+    def item_rest(self, item: Item) -> None:
+        """The sort of ide, or the arguments of a call."""
+        what = item.what
+        if what.text == "ide" and self.peek().text == ":":
+            self.take()
+            item.sort = self.sort()
+        elif not what.is_keyword() and self.peek().text == "(":
+            item.arguments = self.arguments()
+
+    def template(self) -> Template:
+        if not self.peek().is_name():
+            raise self.surprise("a variable, a constructor, global(..), label(..) or a nonterminal")
+        head = self.take()
+        if self.peek().text == "<<":
+            raise self.surprise("a result")
+        arguments = self.arguments() if self.peek().text == "(" else None
+        return Template(head, arguments, self.span(head.spot))
+
+    def arguments(self) -> List[Template]:
+        out, opening = [], self.take()
+        while self.peek().text != ")":
+            if not self.peek().text:
+                raise Trouble("this parenthesis is never closed", opening.spot)
+            out.append(self.template())
+        self.take()
+        return out
+
+
+def read_into(path: str, into: Notation, using: Tuple[str, ...], used: set) -> None:
+    here = os.path.realpath(path)
+    used.add(here)
+    Parser(path, into, using + (here,), used).file()
+
+
+def read(path: str) -> Notation:
+    """The notation of a file and of the files that it uses."""
+    out = Notation(path)
+    read_into(path, out, (), set())
+    return out
