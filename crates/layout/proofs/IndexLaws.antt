@@ -1,4 +1,5 @@
--- Laws of the index of spellings: what a search in it finds, and that one spelling more keeps it.
+-- Laws of the index of spellings: what a search in it finds, and that one spelling more keeps it. Of the hash they use only that equal
+-- spellings have equal ones, and that it fits 32 bits.
 use Prim.Native.Nat.{ℕ, zero, suc, _+_, _-_, _*_, _%_, _<_, _≤_}
 use mathlib.Core.Path.{_≡_, refl, sym, ap, ap₂, subst, _∙_}
 use mathlib.Core.Bool.{Bool, true, false, _||_}
@@ -29,11 +30,13 @@ repeated-among tag v (f ∷ fs) =
 
 -- ------------------------------------------------------------------ the hash
 
+-- hashes fit 32 bits
 pub hash-small : (v : List ℕ) (h : ℕ) → h < 4294967296 → hashFrom h v < 4294967296
 unfolding hashFrom
 hash-small [] h e = e
 hash-small (b ∷ bs) h e = hash-small bs ((h * 16777619 + b) % 4294967296) (omega arith)
 
+-- so does that of a spelling
 pub hash-below : (v : List ℕ) → hashOf v < 4294967296
 unfolding hashOf
 hash-below v = hash-small v 0 (omega arith)
@@ -43,15 +46,18 @@ pub record Hashing (v : List ℕ) (i h : ℕ) : Type 0 where
   pub small : h < 4294967296
   pub rest : hashFrom h (drop i v) ≡ hashOf v
 
+-- no byte yet
 pub hashing-start : {v : List ℕ} → Hashing v 0 0
 unfolding hashOf
 hashing-start = record { small = omega arith; rest = refl }
 
+-- one byte more
 pub hashing-next : {v : List ℕ} {i h : ℕ} → Hashing v i h → i < length v → Hashing v (i + 1) ((h * 16777619 + getD v i 0) % 4294967296)
 unfolding hashFrom
 hashing-next {v} {i} {h} c l =
     record { small = omega arith; rest = sym (ap (hashFrom h) (drop-at-index v i l)) ∙ c .rest }
 
+-- all bytes
 pub hashing-end : {v : List ℕ} {i h : ℕ} → Hashing v i h → length v ≤ i → h ≡ hashOf v
 unfolding hashFrom
 hashing-end {v} {i} {h} c l = sym (ap (hashFrom h) (drop-of-length-le v l)) ∙ c .rest
@@ -64,6 +70,7 @@ pub entry-other :
     → stored ≡ getD room (entry n + 1) 0 → (stored ≡ h → ⊥) → false ≡ same w v
 entry-other {w = w} v e f s d = sym (differ-same w v (λ q. d (s ∙ e .hashed ∙ ap hashOf q ∙ sym f)))
 
+-- one with the same hash is compared by its bytes
 pub entry-same :
     {table room : List ℕ} {n p : ℕ} {w lent : List ℕ} (v : List ℕ) → Entered table room n w p → {from size : ℕ}
     → from ≡ getD room (entry n + 2) 0 → size ≡ getD room (entry n + 3) 0 → lent ≡ take size (drop from table) → same lent v ≡ same w v
@@ -77,6 +84,7 @@ pub record Searching (table room v : List ℕ) (words : List (List ℕ)) (p : �
   pub leads : Leads table room (hashOf v % 64) left p
   pub rest : isAmong v left ≡ isAmong v words
 
+-- the search begins with all spellings of the bucket
 pub searching-start :
     {table room v : List ℕ} {words : List (List ℕ)} {h p : ℕ} → Indexed table room words → h ≡ hashOf v → p ≡ getD room (h % 64) 0
     → Searching table room v words p
@@ -122,6 +130,7 @@ module _ (table room v : List ℕ) where
       record { first = w; behind = ws; onward = p; entered = e; leads = l; among = refl }
 
 module _ {table room v : List ℕ} {words : List (List ℕ)} {p : ℕ} (s : Searching table room v words p) where
+  -- nothing is left: the spelling is not among them
   pub searching-end : p ≤ 0 → false ≡ isAmong v words
   searching-end h = sym (none-among table room v (s .left) (s .leads) (omega arith)) ∙ s .rest
 
@@ -130,11 +139,13 @@ module _ {table room v : List ℕ} {words : List (List ℕ)} {p : ℕ} (s : Sear
     next : Next table room v (s .left) p
     next = next-of table room v (s .left) (s .leads) h
 
+    -- the spelling here is the one
     pub searching-found : here ≡ true → true ≡ isAmong v words
     searching-found e =
         let n = next in
         ap (λ t. t || isAmong v (n .behind)) (sym e ∙ c (n .first) (n .onward) (n .entered)) ∙ sym (n .among) ∙ s .rest
 
+    -- it is not: those behind it are left
     pub searching-next : {q : ℕ} → here ≡ false → q ≡ getD room (entry p) 0 → Searching table room v words q
     searching-next {q} e f =
         let n = next in
@@ -185,6 +196,7 @@ zeros (suc k) (suc n) = zeros k n
 pub indexed-none : {table : List ℕ} → Indexed table (replicate 320 0) []
 indexed-none {table} = record { leads = λ b h. subst (Leads table (replicate 320 0) b []) (sym (zeros 320 b)) leads-none }
 
+-- and nothing leads anywhere
 pub falling-none : Falling (replicate 320 0)
 falling-none = record { heads = λ b h. omega (arith, zeros 320 b); links = λ n h k. omega (arith, zeros 320 (entry n)) }
 
@@ -201,6 +213,7 @@ module _ (room : List ℕ) (long : length room ≡ 320) (n h from size : ℕ) (f
   r₄ : List ℕ
   r₄ = set r₃ (entry n + 3) size
 
+  -- the room keeps its length
   pub with-length : length (roomWith room n h from size) ≡ 320
   with-length = simp length-set long
 
@@ -265,6 +278,7 @@ module _ (room : List ℕ) (long : length room ≡ 320) (n h from size : ℕ) (f
             (arith, outside (entry m) (λ q. d (omega arith)) (λ q. omega arith) (λ q. omega arith) (λ q. omega arith) (λ q. omega arith), f .links m l k));
       }
 
+  -- the room has one spelling more
   pub indexed-more :
       {table v : List ℕ} {words : List (List ℕ)} → n ≡ suc (length words) → h ≡ hashOf v → take size (drop from table) ≡ v
       → Indexed table room words → Indexed table (roomWith room n h from size) (v ∷ words)
@@ -303,6 +317,7 @@ entered-none room count from v e = ap (λ t. entered room t count from v) (sym e
 storedAt : List ℕ → ℕ → ℕ → ℕ → ℕ → ℕ → List ℕ
 storedAt room at n h from size = set (set (set (set (set room at (getD room (h % 64) 0)) (at + 1) h) (at + 2) from) (at + 3) size) (h % 64) n
 
+-- five stores
 pub entered-some :
     (room : List ℕ) {spelled : Bool} (count from : ℕ) (v : List ℕ) {h : ℕ} → spelled ≡ true → h ≡ hashOf v
     → set
@@ -333,6 +348,7 @@ has-none =
     record { long = length-replicate {A = ℕ} 320 0; falling = falling-none; indexed = indexed-none; counted = refl }
 
 module _ {table : List ℕ} {tag : ℕ} {before : List Field} {count : ℕ} {room : List ℕ} (x : Has table tag before count room) where
+  -- a field of the tag is entered, any other is not
   pub has-next :
       (t : ℕ) (v : List ℕ) (from : ℕ) → take (length v) (drop from table) ≡ v → (here : Bool) → eqb t tag ≡ here → (here ≡ true → count < 64)
       → Has table tag (field t v ∷ before) (count + oneIf here) (entered room here count from v)

@@ -27,6 +27,7 @@ use Rattle.layout.specs.Layout.{isKnown, follows, isRepeated, isSpelled,
 pub passes : {t test : Bool} → t ≡ test → not t ≡ false → test ≡ true
 passes {t} e f = sym e ∙ not-false t f
 
+-- and one that failed
 pub fails : {t test : Bool} → t ≡ test → not t ≡ true → test ≡ false
 fails {t} e f = sym e ∙ not-true t f
 
@@ -58,34 +59,42 @@ module _ {tag : ℕ} (v : List ℕ) where
   known-at : {t : ℕ} → tag ≡ t → isKnown t v ≡ isKnown tag v
   known-at e = ap (λ x. isKnown x v) (sym e)
 
+  -- a keyword
   pub known-keyword : tag ≡ 1 → true ≡ isKnown tag v
   unfolding isKnown
   known-keyword e = known-at e
 
+  -- an outside name
   pub known-outside : tag ≡ 2 → true ≡ isKnown tag v
   unfolding isKnown
   known-outside e = known-at e
 
+  -- a block is empty
   pub known-block : tag ≡ 3 → isEmpty v ≡ isKnown tag v
   unfolding isKnown
   known-block e = simp or-false at (known-at e)
 
+  -- a head
   pub known-head : tag ≡ 4 → isHead v ≡ isKnown tag v
   unfolding isKnown
   known-head e = simp or-false at (known-at e)
 
+  -- an alternative is empty
   pub known-alternative : tag ≡ 5 → isEmpty v ≡ isKnown tag v
   unfolding isKnown
   known-alternative e = simp or-false at (known-at e)
 
+  -- an item
   pub known-item : tag ≡ 6 → isItem v ≡ isKnown tag v
   unfolding isKnown
   known-item e = simp or-false at (known-at e)
 
+  -- a result
   pub known-result : tag ≡ 7 → true ≡ isKnown tag v
   unfolding isKnown
   known-result e = known-at e
 
+  -- the root
   pub known-root : tag ≡ 8 → isRoot v ≡ isKnown tag v
   unfolding isKnown
   known-root e = known-at e
@@ -104,6 +113,7 @@ module _ {tag : ℕ} (v : List ℕ) where
 pub record Sorts (v : List ℕ) (from i : ℕ) : Type 0 where
   pub rest : every isSort (drop i v) ≡ every isSort (drop from v)
 
+-- none yet
 pub sorts-start : (v : List ℕ) (from : ℕ) → Sorts v from from
 sorts-start v from = record { rest = refl }
 
@@ -115,13 +125,16 @@ module _ {v : List ℕ} {from i : ℕ} (r : Sorts v from i) where
   sorts-front : i < length v → every isSort (drop i v) ≡ (isSort (getD v i 0) && every isSort (drop (i + 1) v))
   sorts-front h = ap (every isSort) (drop-at-index v i h) ∙ every-front isSort (getD v i 0) (drop (i + 1) v)
 
+  -- one byte more is a sort
   pub sorts-next : i < length v → {known : Bool} → known ≡ isSort (getD v i 0) → not known ≡ false → Sorts v from (i + 1)
   sorts-next h e f =
       record { rest = sym (sorts-front h ∙ ap (λ (t : Bool). t && every isSort (drop (i + 1) v)) (passes e f)) ∙ r .rest }
 
+  -- one byte is none
   pub sorts-stop : i < length v → {known : Bool} → known ≡ isSort (getD v i 0) → not known ≡ true → false ≡ every isSort (drop from v)
   sorts-stop h e f = sym (sorts-front h ∙ ap (λ (t : Bool). t && every isSort (drop (i + 1) v)) (fails e f)) ∙ r .rest
 
+  -- all bytes are
   pub sorts-end : length v ≤ i → true ≡ every isSort (drop from v)
   unfolding every
   sorts-end h = sym (ap (every isSort) (drop-of-length-le v h)) ∙ r .rest
@@ -142,6 +155,7 @@ pub record Room (tag : ℕ) (s : Progress) : Type 0 where
   pub alternatives : (not (eqb tag 5) || ltb (s .alternatives) 256) ≡ true
   pub items : (not (eqb tag 6) || ltb (s .items) 12) ≡ true
 
+-- from the one test
 pub room-of : (tag : ℕ) (s : Progress) → hasRoom tag s ≡ true → Room tag s
 unfolding hasRoom
 room-of tag s e =
@@ -158,24 +172,29 @@ unfolding passed
 items-by tag s begins e =
     ap (λ (t : Bool). elim t as (λ x. ℕ) [ true ↦ 0 | false ↦ s .items + oneIf (eqb tag 6) ]) e
 
+-- an alternative begins with none
 pub items-begin : (tag : ℕ) (s : Progress) → tag ≡ 5 → passed tag s .items ≡ 0
 items-begin tag s e = items-by tag s true (eq-eqb tag 5 e)
 
+-- an item counts
 pub items-more : (tag : ℕ) (s : Progress) → (tag ≡ 5 → ⊥) → passed tag s .items ≡ s .items + oneIf (eqb tag 6)
 items-more tag s h = items-by tag s false (ne-eqb tag 5 h)
 
 -- ------------------------------------------------------------------ spellings and templates, by the tag
 
 module _ (tag : ℕ) (v : List ℕ) (before : List Field) where
+  -- a keyword
   pub spelled-keyword : tag ≡ 1 → isSpelled tag v before ≡ (isKeyword v && not (isRepeated 1 v before))
   unfolding isSpelled
   spelled-keyword e =
       ap (λ (t : ℕ). isSpelled t v before) e ∙ and-true (isKeyword v && not (isRepeated 1 v before))
 
+  -- an outside name
   pub spelled-outside : tag ≡ 2 → isSpelled tag v before ≡ (isWord v && not (isRepeated 2 v before))
   unfolding isSpelled
   spelled-outside e = ap (λ (t : ℕ). isSpelled t v before) e
 
+  -- any other field
   pub spelled-other : (tag ≡ 1 → ⊥) → (tag ≡ 2 → ⊥) → isSpelled tag v before ≡ true
   unfolding isSpelled
   spelled-other f g =
@@ -184,15 +203,18 @@ module _ (tag : ℕ) (v : List ℕ) (before : List Field) where
       && (not (ne-eqb tag 2 g i) || (isWord v && not (isRepeated 2 v before)))
 
 module _ (tag : ℕ) (v : List ℕ) where
+  -- an item
   pub whole-item : tag ≡ 6 → isWhole tag v ≡ (not (eqb (getD v 0 0) 4) || isTemplates (templatesOf (drop 2 v)))
   unfolding isWhole
   whole-item e =
       ap (λ (t : ℕ). isWhole t v) e ∙ and-true (not (eqb (getD v 0 0) 4) || isTemplates (templatesOf (drop 2 v)))
 
+  -- a result
   pub whole-result : tag ≡ 7 → isWhole tag v ≡ isTemplate (templatesOf v)
   unfolding isWhole
   whole-result e = ap (λ (t : ℕ). isWhole t v) e
 
+  -- any other field
   pub whole-other : (tag ≡ 6 → ⊥) → (tag ≡ 7 → ⊥) → isWhole tag v ≡ true
   unfolding isWhole
   whole-other f g =
@@ -228,6 +250,7 @@ module _ (before : List Field) (at tag : ℕ) (v : List ℕ) (s : Progress) wher
   by-flags true true true true false = refl
   by-flags true true true true true = refl
 
+  -- one field by the outcomes of its tests
   pub field-by : (known ordered spelled room whole : Bool)
       → isKnown tag v ≡ known
       → follows tag (s .last) ≡ ordered
@@ -242,8 +265,10 @@ module _ (before : List Field) (at tag : ℕ) (v : List ℕ) (s : Progress) wher
 
 -- ------------------------------------------------------------------ the end
 
+-- the root is last
 pub end-root : (last at : ℕ) → last ≡ 8 → verdict (need (eqb last 8) 4 at) ≡ Passed
 end-root last at e = ap (λ (t : Bool). verdict (need t 4 at)) (eq-eqb last 8 e)
 
+-- it is missing
 pub end-other : (last at : ℕ) → (last ≡ 8 → ⊥) → verdict (need (eqb last 8) 4 at) ≡ Refused (refusal 4 at 0 0)
 end-other last at h = ap (λ (t : Bool). verdict (need t 4 at)) (ne-eqb last 8 h)

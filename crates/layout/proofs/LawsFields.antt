@@ -71,6 +71,7 @@ lent-is table from n =
 
 -- ------------------------------------------------------------------ the turns of the check
 
+-- refusal 1
 pub layout-long : (table : List ℕ) → longestTable < length table → Refused (refusal 1 0 0 0) ≡ verdict (layout table)
 unfolding layout
 layout-long table h = rw (lt-leb (length table) longestTable h, layout) refl
@@ -93,6 +94,7 @@ fields-next : (at tag : ℕ) (v : List ℕ) (fs : Fields) (before : List encode.
 unfolding checkFields
 fields-next at tag v fs before s r e = ap (λ x. x >>= λ t. checkFields fs (field tag v ∷ before) t) e
 
+-- the answers of the code are those of the check
 pub checked-ok : (x : Checked Progress) (s : Progress) → Further s ≡ checking x → x ≡ ok s
 checked-ok (ok t) s e = cc
 checked-ok (bad r) s e = let z : _≡_ {A = ℕ} 0 1 = cc in absurd (omega arith)
@@ -110,6 +112,7 @@ pub record Turn (table : List ℕ) (at : ℕ) (s : Progress) : Type 0 where
 pub none-before : (table : List ℕ) → fieldsBefore table 0 ≡ []
 none-before table = before-is table 0 ∙ past table 0 0 [] (omega arith)
 
+-- at the first field
 pub turn-start : {table : List ℕ} {s : Progress} → s ≡ start → Turn table 0 s
 turn-start {table} e =
     record {
@@ -121,10 +124,12 @@ module _ {table : List ℕ} {at : ℕ} {s : Progress} (c : Turn table at s) (h :
   answer : (x : Checked (Unit {0})) → checkFields (fieldsAt table at) (fieldsBefore table at) s ≡ x → verdict x ≡ verdict (layout table)
   answer x e = ap verdict (sym e ∙ c .rest ∙ sym (layout-short table h))
 
+  -- at the end
   pub turn-end : Nothing ≡ frontOf (drop at table) → verdict (need (eqb (s .last) 8) 4 at) ≡ verdict (layout table)
   turn-end e =
       answer _ (ap (λ fs. checkFields fs (fieldsBefore table at) s) (fields-at table at e) ∙ fields-end at (fieldsBefore table at) s)
 
+  -- at a field that runs past it
   pub turn-cut : Short ≡ frontOf (drop at table) → Refused (refusal 2 at 0 0) ≡ verdict (layout table)
   turn-cut e =
       answer _ (ap (λ fs. checkFields fs (fieldsBefore table at) s) (fields-at table at e) ∙ fields-cut at (fieldsBefore table at) s)
@@ -142,6 +147,7 @@ module _ {table : List ℕ} {at : ℕ} {s : Progress} (c : Turn table at s) {t n
       (ap (λ w. checkField (fieldsBefore table at) at t w s) (sym (lent-is table (at + 3) n)) ∙ f))
       ∙ c .rest
 
+  -- a field is refused
   pub turn-stopped : length table ≤ longestTable → {r : Refusal}
       → Stopped r
       ≡ checking (checkField (fieldsBefore table at) at t (take (at + 3 + n - (at + 3)) (drop (at + 3) table)) s)
@@ -154,6 +160,7 @@ module _ {table : List ℕ} {at : ℕ} {s : Progress} (c : Turn table at s) {t n
       c .divides (at + 3 + n) (omega arith) ∙ one-more table (at + 3 + n) at (fieldsBefore table at) e (omega arith)
       ∙ past table (at + 3 + n) (at + 3 + n) _ (omega arith)
 
+  -- it passes
   pub turn-next : {u : Progress}
       → Further u
       ≡ checking (checkField (fieldsBefore table at) at t (take (at + 3 + n - (at + 3)) (drop (at + 3) table)) s)

@@ -22,6 +22,7 @@ unfolding templatesOf
 name-first b n bs e =
     chosen (isNameTag b) (inFront (nameBy (eqb b 0x10) n) (templatesOf bs)) (byteInFront b (templatesOf (n ∷ bs))) e
 
+-- a tag alone is cut
 pub name-last : (b : ℕ) → isNameTag b ≡ true → templatesOf (b ∷ []) ≡ fault
 unfolding templatesOf
 name-last b e = chosen (isNameTag b) fault (byteInFront b (parsed none)) e
@@ -37,15 +38,18 @@ module _ (b : ℕ) (rest : Parsed) where
   built : Parsed
   built = elim (isConstructor b) [ true ↦ constructed b rest | false ↦ fault ]
 
+  -- a variable
   pub variable-first : ltb b 0x10 ≡ true → byteInFront b rest ≡ inFront (variable b) rest
   unfolding built
   variable-first e = chosen (ltb b 0x10) (inFront (variable b) rest) built e
 
+  -- a constructor
   pub constructor-first : ltb b 0x10 ≡ false → isConstructor b ≡ true → byteInFront b rest ≡ constructed b rest
   unfolding built
   constructor-first e f =
       other (ltb b 0x10) (inFront (variable b) rest) built e ∙ chosen (isConstructor b) (constructed b rest) fault f
 
+  -- an unknown byte
   pub unknown-first : ltb b 0x10 ≡ false → isConstructor b ≡ false → byteInFront b rest ≡ fault
   unfolding built
   unknown-first e f = other (ltb b 0x10) (inFront (variable b) rest) built e ∙ other (isConstructor b) (constructed b rest) fault f

@@ -27,16 +27,19 @@ pub record Loading (sig room₀ room : List ℕ) (top j : ℕ) : Type 0 where
   pub opened : places room top ≡ drop j sig
 
 module _ {sig room₀ : List ℕ} where
+  -- no signature has no parameters
   pub params-none : length sig ≡ 0 → Loaded sig room₀ 0
   unfolding places
   params-none e = record { small = omega arith; loaded = sym (drop-of-length-le sig {i = 1} (omega arith)) }
 
+  -- no place yet
   pub loading-start : (length sig ≡ 0 → ⊥) → Loading sig room₀ room₀ 0 (length sig)
   unfolding places
   loading-start h =
       record
       { as-many = refl; height = omega arith; least = omega arith; opened = sym (drop-of-length-le sig {i = length sig} (omega arith)) }
 
+  -- one place more, from the last parameter on
   pub loading-next :
       {room : List ℕ} {top j x : ℕ} → length sig ≤ length room₀ → Loading sig room₀ room top j → 1 < j → x ≡ getD sig (j - 1) 0
       → Loading sig room₀ (set room top x) (top + 1) (j - 1)
@@ -53,6 +56,7 @@ module _ {sig room₀ : List ℕ} where
             ∙ sym (drop-cons sig (j - 1) 0 (omega (arith, l .height)));
       }
 
+  -- all places
   pub loading-end : {room : List ℕ} {top j : ℕ} → Loading sig room₀ room top j → j ≤ 1 → Loaded sig room top
   loading-end {room} {top} {j} l h =
       let one : j ≡ 1 = omega (arith, l .least) in
@@ -67,9 +71,11 @@ pub record Copying (sig L₀ L : List ℕ) (n i : ℕ) : Type 0 where
   pub copied : take n L ≡ take n (drop 1 sig)
 
 module _ {sig L₀ : List ℕ} where
+  -- no sort yet
   pub copying-start : Copying sig L₀ L₀ 0 1
   copying-start = record { as-many = refl; next = refl; most = omega arith; copied = refl }
 
+  -- one sort more
   pub copying-next :
       {L : List ℕ} {n i x : ℕ} → length sig ≤ length L₀ → Copying sig L₀ L n i → i < length sig → x ≡ getD sig i 0
       → Copying sig L₀ (set L n x) i (i + 1)
@@ -89,6 +95,7 @@ module _ {sig L₀ : List ℕ} where
             ∙ ap (λ k. take k (drop 1 sig)) (sym far);
       }
 
+  -- all sorts
   pub copying-end : {L : List ℕ} {n i : ℕ} → Copying sig L₀ L n i → length sig ≤ i → take n L ≡ drop 1 sig
   copying-end {L} {n} {i} c h =
       let rest : length (drop 1 sig) ≡ length sig - 1 = length-drop 1 sig in
@@ -96,6 +103,7 @@ module _ {sig L₀ : List ℕ} where
 
 -- one sort more behind those of n variables, and none where there are 16
 module _ (L : List ℕ) (n s : ℕ) (e : length L ≡ 16) where
+  -- there is room
   pub sort-added : n < 16 → take (n + 1) (set L n s) ≡ take 16 (take n L ++ (s ∷ []))
   sort-added h =
       let few : length (take n L ++ (s ∷ [])) ≤ 16 = omega (arith, length-append (take n L) (s ∷ []), length-take n L) in
@@ -103,6 +111,7 @@ module _ (L : List ℕ) (n s : ℕ) (e : length L ≡ 16) where
       ∙ take-suc-set L n s (omega arith)
       ∙ sym (take-all 16 (take n L ++ (s ∷ [])) few)
 
+  -- there is none
   pub sort-left : 16 ≤ n → take n L ≡ take 16 (take n L ++ (s ∷ []))
   sort-left h =
       let all : take n L ≡ L = take-all n L (omega arith) in
@@ -131,6 +140,7 @@ module _ (bs : List ℕ) (X : Context) (n : ℕ) (arguments : List ℕ) {h : ℕ
       λ x. unlessFault (getD (signatureAt bs x) 0 0) (templatesFault (X .outsides) (X .sorts) arguments (drop 1 (signatureAt bs x))) in
       ap (choose (Unsorted 9) (good h)) (sym d) ∙ ap (λ x. choose (Unsorted 9) (good x) (eqb x 0)) e
 
+  -- the nonterminal has no head
   pub call-undefined : h ≡ 0 → Unsorted 9 ≡ callAt bs X n arguments
   call-undefined z = call-by true (eq-eqb h 0 z)
 
@@ -143,9 +153,11 @@ module _ (bs : List ℕ) (X : Context) (n : ℕ) (arguments : List ℕ) {h : ℕ
         ∙ ap (λ s. unlessFault (getD s 0 0) (templatesFault (X .outsides) (X .sorts) arguments (drop 1 s))) q
         ∙ call-by false (ne-eqb h 0 z)
 
+    -- the arguments have a fault
     pub call-unfit : (fault ≡ 0 → ⊥) → Unsorted fault ≡ callAt bs X n arguments
     call-unfit k = call-fault false (ne-eqb fault 0 k)
 
+    -- they have none
     pub call-fit : {s : ℕ} → fault ≡ 0 → s ≡ getD signature 0 0 → As s ≡ callAt bs X n arguments
     call-fit k g = ap As g ∙ call-fault true (eq-eqb fault 0 k)
 
@@ -165,22 +177,27 @@ module _ (bs : List ℕ) (X : Context) (v : List ℕ) {kind operand : ℕ} (e : 
   unfolding itemAt itemBy itemTests
   item-is g = sym (ap₂ itemBy (sym e ∙ g) (sym f))
 
+  -- a keyword that is defined
   pub item-keyword : {w : ℕ} → w ≡ operand → kind ≡ 0 → w < X .keywords → As 0 ≡ itemAt bs X v
   unfolding itemBy itemTests
   item-keyword w g h = ap (choose (As unit) (Unsorted 9)) (sym (lt-ltb operand (X .keywords) (omega arith))) ∙ item-is g
 
+  -- one that is not
   pub item-unknown : {w : ℕ} → w ≡ operand → kind ≡ 0 → X .keywords ≤ w → Unsorted 9 ≡ itemAt bs X v
   unfolding itemBy itemTests
   item-unknown w g h = ap (choose (As unit) (Unsorted 9)) (sym (le-ltb operand (X .keywords) (omega arith))) ∙ item-is g
 
+  -- an identifier at a sort
   pub item-ide : kind ≡ 1 → As operand ≡ itemAt bs X v
   unfolding itemBy itemTests
   item-ide g = item-is g
 
+  -- a local is a Binder
   pub item-local : kind ≡ 3 → As 2 ≡ itemAt bs X v
   unfolding itemBy itemTests
   item-local g = item-is g
 
+  -- a call
   pub item-call : {arguments : List ℕ} → kind ≡ 4 → arguments ≡ take (length v) (drop 2 v) → callAt bs X operand arguments ≡ itemAt bs X v
   unfolding itemBy itemTests
   item-call g a =

@@ -108,7 +108,10 @@ module _ (G : Scope) where
   -- an alternative's items and its result, then what follows
   bodies-items : {is : List Item} → Each ItemWithin is → {t : Template} → TemplateWithin t → (k : List Field) (S : Signature) (L : List ℕ) (at : ℕ)
       → bodiesBy (spread at (itemsThen is (field 7 (templateThen t []) ∷ k))) G S L
-      ≡ (checkItems G L at is >>= λ L′. checkResult G L′ (S .result) (at + itemsSize is) t >> bodiesBy (spread (at + itemsSize is + fieldSize (templateThen t [])) k) G S [])
+      ≡ (checkItems G L at is
+      >>= λ L′.
+      checkResult G L′ (S .result) (at + itemsSize is) t
+      >> bodiesBy (spread (at + itemsSize is + fieldSize (templateThen t [])) k) G S [])
   unfolding spread itemsThen itemsSize bodiesBy checkItems
   bodies-items each-none {t} w k S L at =
       ap (λ u. checkResult G L (S .result) at u >> bodiesBy (spread (at + fieldSize (templateThen t [])) k) G S []) (result-read w)

@@ -24,6 +24,7 @@ pub record Collecting (bs : List ℕ) (block from : ℕ) (H₀ : List ℕ) (at :
   pub as-many : length H ≡ length H₀
   pub rest : collectFrom (fieldsAt bs at) bs block H ≡ collectFrom (fieldsAt bs from) bs block H₀
 
+-- no field yet
 pub collecting-start : {bs : List ℕ} {block from : ℕ} {H₀ : List ℕ} → Collecting bs block from H₀ from H₀
 collecting-start = record { as-many = refl; rest = refl }
 
@@ -50,15 +51,18 @@ module _ {bs : List ℕ} {block from : ℕ} {H₀ : List ℕ} {at : ℕ} {H : Li
   left : {r : Front} → r ≡ frontOf (drop at bs) → collectFrom (opened bs at r) bs block H ≡ collectFrom (fieldsAt bs from) bs block H₀
   left e = ap (λ fs. collectFrom fs bs block H) (sym (fields-at bs at e)) ∙ c .rest
 
+  -- at the end
   pub collecting-nothing : Nothing ≡ frontOf (drop at bs) → collected Passed H ≡ collectFrom (fieldsAt bs from) bs block H₀
   unfolding collectFrom
   collecting-nothing e = left e
 
+  -- at a field that runs past the end
   pub collecting-short : Short ≡ frontOf (drop at bs) → collected Passed H ≡ collectFrom (fieldsAt bs from) bs block H₀
   unfolding collectFrom
   collecting-short e = left e
 
   module _ {tag n : ℕ} (e : Field tag n ≡ frontOf (drop at bs)) where
+    -- at the next block or the root
     pub collecting-ends : endsBlock tag ≡ true → collected Passed H ≡ collectFrom (fieldsAt bs from) bs block H₀
     collecting-ends f = sym (collect-field bs block at tag _ _ H true (eqb tag 4) (eqb (faultOf bs at block H) 0) f refl refl) ∙ left e
 
@@ -78,6 +82,7 @@ module _ {bs : List ℕ} {block from : ℕ} {H₀ : List ℕ} {at : ℕ} {H : Li
       heads-are : (clean : Bool) → eqb tag 4 ≡ true → eqb fault 0 ≡ clean → H′ ≡ choose (withHead bs at H) H clean
       heads-are clean p q = d .heads ∙ ap₂ (λ x y. choose (choose (withHead bs at H) H y) H x) p q
 
+      -- at a head that is refused
       pub collecting-fault :
           {r : Verdict} → r ≡ Refused (refusal fault at 0 0) → (fault ≡ 0 → ⊥) → collected r H′ ≡ collectFrom (fieldsAt bs from) bs block H₀
       collecting-fault q z =
@@ -87,6 +92,7 @@ module _ {bs : List ℕ} {block from : ℕ} {H₀ : List ℕ} {at : ℕ} {H : Li
           ∙ field-is true false p (ap (λ x. eqb x 0) (sym (head-fault p)) ∙ ne-eqb fault 0 z))
           (λ p. absurd (z (d .faulty ∙ ap (choose (faultOf bs at block H) 0) p)))
 
+      -- one field more
       pub collecting-next : length H′ ≡ length H → fault ≡ 0 → Collecting bs block from H₀ (at + 3 + n) H′
       collecting-next l z =
           record {

@@ -39,20 +39,24 @@ module _ (bs : List ℕ) (at : ℕ) {hi lo : ℕ} (e : hi ≡ getD bs (at + 1) 0
       ∙ ap (take 5) (drop-two (hi * 256 + lo) (drop (at + 3) bs))
       ∙ ap (λ l. take 5 (take (hi * 256 + lo - 2) l)) (drop-drop 2 (at + 3) bs ∙ ap (λ k. drop k bs) (add-assoc at 3 2))
 
+  -- too short a head has none
   pub signature-none : hi * 256 + lo < 2 → take 0 (drop (at + 5) bs) ≡ signatureAt bs at
   signature-none h =
       let z : 0 ≡ hi * 256 + lo - 2 = omega arith in
       ap (λ k. take 5 (take k (drop (at + 5) bs))) z ∙ sym signature-is
 
+  -- up to the length that it states
   pub signature-some : hi * 256 + lo < 7 → take (hi * 256 + lo - 2) (drop (at + 5) bs) ≡ signatureAt bs at
   signature-some h =
       let n : ℕ = hi * 256 + lo - 2 in
       let l : List ℕ = drop (at + 5) bs in
       sym (take-all 5 (take n l) (omega (arith, length-take n l))) ∙ sym signature-is
 
+  -- five bytes at most
   pub signature-most : 7 ≤ hi * 256 + lo → take 5 (drop (at + 5) bs) ≡ signatureAt bs at
   signature-most h = sym (take-take 5 (hi * 256 + lo - 2) (drop (at + 5) bs) (omega arith)) ∙ sym signature-is
 
+-- a signature is a result and four parameters at most
 pub signature-short : (bs : List ℕ) (at : ℕ) → length (signatureAt bs at) ≤ 5
 unfolding signatureAt
 signature-short bs at = omega (arith, length-take 5 (drop 2 (valueAt bs at)))
@@ -70,6 +74,7 @@ module _ (bs H : List ℕ) (at block : ℕ) {n mode h : ℕ} (e : n ≡ getD bs 
       let k : getD H (getD bs (at + 3) 0) 0 ≡ h = ap (λ i. getD H i 0) (sym e) ∙ sym g in
       ap₂ (λ m x. faultBy (eqb m 1 || eqb m 2) (leb x block && ltb 0 x && same (signatureAt bs x) (signatureAt bs at)) (eqb x 0)) (sym f) k
 
+  -- extend and update
   pub fault-earlier :
       {s s′ : List ℕ} {alike : Bool} → (eqb mode 1 || eqb mode 2) ≡ true → s ≡ signatureAt bs h → s′ ≡ signatureAt bs at → alike ≡ same s s′
       → (good : Bool) → (leb h block && ltb 0 h && alike) ≡ good → choose 0 8 good ≡ faultOf bs at block H
@@ -79,6 +84,7 @@ module _ (bs H : List ℕ) (at block : ℕ) {n mode h : ℕ} (e : n ≡ getD bs 
       let b : test ≡ good = ap (λ x. leb h block && ltb 0 h && x) (sym (a ∙ ap₂ same p q)) ∙ k in
       sym (fault-is ∙ ap (λ x. faultBy x test (eqb h 0)) m ∙ ap (choose 0 8) b)
 
+  -- add
   pub fault-new : (eqb mode 1 || eqb mode 2) ≡ false → (new : Bool) → eqb h 0 ≡ new → choose 0 7 new ≡ faultOf bs at block H
   unfolding faultBy
   fault-new m new k =
@@ -103,6 +109,7 @@ module _ (bs : List ℕ) (at tag block : ℕ) (H : List ℕ) where
           heads = q ∙ sym (ap₂ (λ x y. choose (choose (withHead bs at H) H y) H x) (eq-eqb tag 4 e) c);
         }
 
+    -- a head that is refused is not kept
     pub head-refused : (fault ≡ 0 → ⊥) → Defined bs at tag block H fault H
     head-refused h = head-by false (ne-eqb fault 0 h) refl
 
@@ -110,6 +117,7 @@ module _ (bs : List ℕ) (at tag block : ℕ) (H : List ℕ) where
       put : {H′ : List ℕ} → H′ ≡ set H n at → Defined bs at tag block H 0 H′
       put {H′} p = subst (λ x. Defined bs at tag block H x H′) z (head-by true (eq-eqb fault 0 z) (p ∙ ap (λ i. set H i at) q))
 
+      -- one that is not refused is
       pub head-put : Defined bs at tag block H 0 (set H n at)
       head-put = put refl
 

@@ -39,6 +39,7 @@ pub record Head (v : List ℕ) : Type 0 where
   pub low : nonterminal < 64
   pub few : length params ≤ 4
 
+-- a value that passes as a head is one
 pub head-known : (v : List ℕ) → isKnown 4 v ≡ true → Head v
 unfolding definitionOf headValue
 head-known v e =
@@ -77,12 +78,15 @@ module _ (bs : List ℕ) (at : ℕ) {v : List ℕ} (p : v ≡ valueAt bs at) (h 
       ∙ ap (λ w. getD w i 0) (sym p ∙ h .shape)
       ∙ e
 
+  -- its nonterminal
   pub head-nonterminal : getD bs (at + 3) 0 ≡ h .nonterminal
   head-nonterminal = ap (λ k. getD bs k 0) (sym (add-zero (at + 3))) ∙ byte-at 0 (h .nonterminal) (omega arith) refl
 
+  -- its mode
   pub head-mode : getD bs (at + 4) 0 ≡ modeCode (h .mode)
   head-mode = ap (λ k. getD bs k 0) (sym (add-assoc at 3 1)) ∙ byte-at 1 (modeCode (h .mode)) (omega arith) refl
 
+  -- its signature
   pub head-signature : signatureAt bs at ≡ bytesOf (headOf v .signature)
   unfolding signatureAt definitionOf
   head-signature =
@@ -91,13 +95,16 @@ module _ (bs : List ℕ) (at : ℕ) {v : List ℕ} (p : v ≡ valueAt bs at) (h 
       ∙ take-all 5 (h .result ∷ h .params) (omega (arith, h .few))
       ∙ ap (λ w. bytesOf (headOf w .signature)) (sym (h .shape))
 
+-- as the definition has them
 pub head-of-nonterminal : {v : List ℕ} (h : Head v) → headOf v .nonterminal ≡ h .nonterminal
 unfolding definitionOf
 head-of-nonterminal h = ap (λ w. headOf w .nonterminal) (h .shape)
 
+-- as the definition has it
 pub head-of-mode : {v : List ℕ} (h : Head v) → headOf v .mode ≡ h .mode
 head-of-mode h = ap (λ w. headOf w .mode) (h .shape) ∙ mode-of (h .mode) (h .nonterminal) (h .result) (h .params)
 
+-- four parameters at most
 pub head-few : {v : List ℕ} (h : Head v) → length (headOf v .signature .params) ≤ 4
 unfolding definitionOf
 head-few h = subst⁻¹ (λ w. length (headOf w .signature .params) ≤ 4) (h .shape) (h .few)
@@ -223,6 +230,7 @@ module _ (bs : List ℕ) (E own : Env) (block : ℕ) (H : List ℕ) (c : Collect
       ∙ need-outcome-8 good
       ∙ ap outcome (fault-earlier bs H at block (sym (head-nonterminal bs at p h)) (coded refl) refl m refl refl refl good refl)
 
+  -- the refusal of a head is that of its definition
   pub head-same :
       consistent (headOf v .mode) E own (headOf v) at
       ≡ choose (ok tt) (bad (refusal (faultOf bs at block H) at 0 0)) (eqb (faultOf bs at block H) 0)
@@ -293,6 +301,7 @@ module _ (bs : List ℕ) (E own : Env) (block : ℕ) (H : List ℕ) (c : Collect
         (λ q. ap (λ x. leb x block) (this-head j q) ∙ lt-leb at block l ∙ ap not (sym (defined-here e own j (this j q))))
         (λ q. ap (λ x. leb x block) (that-head j q) ∙ c .here j k ∙ ap not (sym (defined-later e own j (that j q))))
 
+    -- the heads show one entry more
     pub head-more : Collects bs E (entryOf (headOf v) ∷ own) block (withHead bs at H)
     unfolding e heads
     head-more = record { size = length-set H (getD bs (at + 3) 0) at ∙ c .size; knows = knows-more; here = here-more }

@@ -59,6 +59,7 @@ module _ (bs H : List ℕ) (n : ℕ) {h : ℕ} (e : h ≡ getD H n 0) where
 pub verdict-none : (at fault : ℕ) → fault ≡ 0 → Passed ≡ verdictOf at fault
 verdict-none at fault e = ap (choose Passed (Refused (refusal fault at 0 0))) (sym (eq-eqb fault 0 e))
 
+-- and of one
 pub verdict-some : (at fault : ℕ) → (fault ≡ 0 → ⊥) → Refused (refusal fault at 0 0) ≡ verdictOf at fault
 verdict-some at fault e = ap (choose Passed (Refused (refusal fault at 0 0))) (sym (ne-eqb fault 0 e))
 
@@ -86,16 +87,19 @@ module _ (k : Known) (tag at : ℕ) where
   unfolding countingBy
   count-keyword e = counting-at e
 
+  -- one outside name more
   pub count-outside :
       tag ≡ 2 → record { keywords = k .keywords; outsides = k .outsides + 1; head = k .head; variables = k .variables } ≡ counting k tag at
   unfolding countingBy
   count-outside e = counting-at e
 
+  -- another head
   pub count-head :
       tag ≡ 4 → record { keywords = k .keywords; outsides = k .outsides; head = at; variables = k .variables } ≡ counting k tag at
   unfolding countingBy
   count-head e = counting-at e
 
+  -- none of these
   pub count-other : ((Unit {0} × (tag ≡ 1 → ⊥)) × (tag ≡ 2 → ⊥)) × (tag ≡ 4 → ⊥) → k ≡ counting k tag at
   unfolding countingBy
   count-other (((u, a), b), c) =
@@ -239,6 +243,7 @@ pub sorts-long : (bs : List ℕ) → longestTable < length bs → Passed ≡ sor
 unfolding sortsOf
 sorts-long bs h = ap (choose (sortsFrom (fieldsOf bs) bs (unknown (replicate 64 0))) Passed) (sym (lt-leb (length bs) longestTable h))
 
+-- of any other table the fields give the answer
 pub sorts-short : (bs : List ℕ) → length bs ≤ longestTable → sortsFrom (fieldsAt bs 0) bs (unknown (replicate 64 0)) ≡ sortsOf bs
 unfolding sortsOf
 sorts-short bs h =
@@ -254,6 +259,7 @@ pub record Sorting (bs H₀ L₀ stack₀ H L stack : List ℕ) (at : ℕ) (k : 
   pub outsides : k .outsides ≤ at
   pub rest : sortsFrom (fieldsAt bs at) bs (context k H L) ≡ sortsFrom (fieldsAt bs 0) bs (unknown H₀)
 
+-- at the first field nothing is known
 pub sorting-start :
     {bs H₀ L₀ stack₀ : List ℕ}
     → Sorting bs H₀ L₀ stack₀ H₀ L₀ stack₀ 0 (record { keywords = 0; outsides = 0; head = 0; variables = 0 })
@@ -264,10 +270,12 @@ module _ {bs H₀ L₀ stack₀ H L stack : List ℕ} {at : ℕ} {k : Known} (s 
   left : {r : Front} → r ≡ frontOf (drop at bs) → sortsFrom (opened bs at r) bs (context k H L) ≡ sortsFrom (fieldsAt bs 0) bs (unknown H₀)
   left e = ap (λ fs. sortsFrom fs bs (context k H L)) (sym (fields-at bs at e)) ∙ s .rest
 
+  -- at the end
   pub sorting-nothing : Nothing ≡ frontOf (drop at bs) → Passed ≡ sortsFrom (fieldsAt bs 0) bs (unknown H₀)
   unfolding sortsFrom
   sorting-nothing e = left e
 
+  -- at a field that runs past the end
   pub sorting-short : Short ≡ frontOf (drop at bs) → Passed ≡ sortsFrom (fieldsAt bs 0) bs (unknown H₀)
   unfolding sortsFrom
   sorting-short e = left e
@@ -284,9 +292,11 @@ module _ {bs H₀ L₀ stack₀ H L stack : List ℕ} {at : ℕ} {k : Known} (s 
     step-gives : {r : Step} → step ≡ r → goOn (stepped r H′ L′) (λ X. sortsFrom (fieldsAt bs (at + 3 + n)) bs X) ≡ sortsFrom (fieldsAt bs 0) bs (unknown H₀)
     step-gives h = ap (λ x. goOn (stepped x H′ L′) (λ X. sortsFrom (fieldsAt bs (at + 3 + n)) bs X)) (sym h) ∙ at-field
 
+    -- a field stops the check
     pub sorting-stop : {c : Verdict} → step ≡ Stop c → c ≡ sortsFrom (fieldsAt bs 0) bs (unknown H₀)
     sorting-stop h = step-gives h
 
+    -- the check goes on behind it
     pub sorting-next :
         {k′ : Known} {stack′ : List ℕ} → step ≡ Next k′ → length H′ ≡ length H → length L′ ≡ length L → length stack′ ≡ length stack
         → Sorting bs H₀ L₀ stack₀ H′ L′ stack′ (at + 3 + n) k′

@@ -32,13 +32,16 @@ module _ (L : List ℕ) {b : ℕ} where
   pub variable-sort : {s w : ℕ} → s ≡ getD L w 0 → w ≡ b → b < 16 → s ≡ headSort b L
   variable-sort e f h = e ∙ ap (λ i. getD L i 0) f ∙ sym (head-variable L b (lt-ltb b 16 h))
 
+  -- an outside name is a Var
   pub name-sort : b ≡ 16 → var ≡ headSort b L
   name-sort h = sym (head-sort L b false true (eqb b 17) (le-ltb b 16 (omega arith)) (eq-eqb b 16 h) refl)
 
+  -- or a Label
   pub label-sort : b ≡ 17 → label ≡ headSort b L
   label-sort h =
       sym (head-sort L b false false true (le-ltb b 16 (omega arith)) (ne-eqb b 16 (λ k. omega arith)) (eq-eqb b 17 h))
 
+  -- a constructor gives its result
   pub constructor-sort : {s : ℕ} → s ≡ constructor b .result → 16 ≤ b → (b ≡ 16 → ⊥) → (b ≡ 17 → ⊥) → s ≡ headSort b L
   constructor-sort e h f g = e ∙ sym (head-constructor L b (omega arith))
 
@@ -51,6 +54,7 @@ places-below room i x (suc k) h =
     ap (λ y. y ∷ places (set room i x) k) (getD-set-other room i k x 0 (λ e. omega arith))
     ∙ ap (λ l. getD room k 0 ∷ l) (places-below room i x k (omega arith))
 
+-- one place more on top
 pub places-set : (room : List ℕ) (i x : ℕ) → i < length room → places (set room i x) (i + 1) ≡ x ∷ places room i
 unfolding places
 places-set room i x h =
@@ -58,6 +62,7 @@ places-set room i x h =
     ∙ ap (λ y. y ∷ places (set room i x) i) (getD-set-same room i x 0 h)
     ∙ ap (λ l. x ∷ l) (places-below room i x i (omega arith))
 
+-- no constructor has more than three arguments
 pub params-small : (b : ℕ) → length (headParams b) ≤ 3
 params-small b =
     by-test (ltb b 32) (λ e. omega (arith, ap length (params-none b (ltb-true b 32 e))))
@@ -71,6 +76,7 @@ pub record Opening (room₀ : List ℕ) (start b : ℕ) (room : List ℕ) (top k
   pub opened : places room top ≡ drop k (constructor b .params) ++ places room₀ start
 
 module _ {room₀ : List ℕ} {start b : ℕ} where
+  -- all places are left to open
   pub opening-start : {k : ℕ} → k ≡ arity b → Opening room₀ start b room₀ start k
   opening-start {k} e =
       record {
@@ -84,6 +90,7 @@ module _ {room₀ : List ℕ} {start b : ℕ} where
   pub opening-room : {room : List ℕ} {top k : ℕ} → start + 3 ≤ length room₀ → Opening room₀ start b room top k → 0 < k → top < length room
   opening-room h o p = omega (arith, arity-small b, o .as-many, o .height, o .most)
 
+  -- one place more
   pub opening-next :
       {room : List ℕ} {top k x : ℕ} → start + 3 ≤ length room₀ → Opening room₀ start b room top k → 0 < k
       → x ≡ getD (constructor b .params) (k - 1) unit → Opening room₀ start b (set room top x) (top + 1) (k - 1)
@@ -102,6 +109,7 @@ module _ {room₀ : List ℕ} {start b : ℕ} where
             ∙ ap (λ l. l ++ places room₀ start) (sym (drop-cons params (k - 1) unit (omega (arith, o .most))));
       }
 
+  -- all places
   pub opening-end : {room : List ℕ} {top k : ℕ} → Opening room₀ start b room top k → k ≤ 0 → 32 ≤ b → Opened b room₀ start room top
   opening-end {room} {top} {k} o h p =
       let z : k ≡ 0 = omega arith in
@@ -112,6 +120,7 @@ module _ {room₀ : List ℕ} {start b : ℕ} where
             o .opened ∙ ap (λ j. drop j (constructor b .params) ++ places room₀ start) z ∙ ap (λ l. l ++ places room₀ start) (sym e);
       }
 
+  -- a byte below hex 20 opens none
   pub opening-none : b < 32 → Opened b room₀ start room₀ start
   opening-none h =
       let e : headParams b ≡ [] = params-none b h in
@@ -215,6 +224,7 @@ pub record Testing (v L : List ℕ) (N : ℕ) (room₀ : List ℕ) (start : ℕ)
   pub closed : closedBytes name (drop i v) N (length L) ≡ closedBytes false v N (length L)
   pub fills : fillLeft name (drop i v) L (placesAt room height) ≡ fillBytes false v L (places room₀ start)
 
+-- no byte yet
 pub testing-start :
     {v L room₀ : List ℕ} {N start : ℕ} → start + 2 * length v + 3 ≤ length room₀ → Testing v L N room₀ start room₀ (start + 1) false 0
 testing-start {v} {L} {room₀} {N} {start} h =
@@ -249,6 +259,7 @@ module _ {v L room₀ room : List ℕ} {N start height i : ℕ} {name : Bool} (t
     pub testing-open : not (isClosedByte name n N (length L)) ≡ true → 9 ≡ templatesFault N L v (places room₀ start)
     testing-open k = fault-by N L v (places room₀ start) false _ (sym (closed-step false (not-true _ k))) refl
 
+    -- one byte more
     pub testing-next :
         {room′ : List ℕ} {height′ : ℕ} → not (isClosedByte name n N (length L)) ≡ false → length room′ ≡ length room
         → Filled name b L room height room′ height′ → Testing v L N room₀ start room′ height′ (namesNext name b) (i + 1)
@@ -272,8 +283,10 @@ module _ {v L room₀ room : List ℕ} {N start height i : ℕ} {name : Bool} (t
       fault-by N L v (places room₀ start) true filled (sym (ap (λ l. closedBytes name l N (length L)) (sym (ended v h)) ∙ t .closed))
       (sym (left-end name L room height ∙ ap (λ l. fillLeft name l L (placesAt room height)) (sym (ended v h)) ∙ t .fills) ∙ e)
 
+  -- every place is filled
   pub testing-filled : length v ≤ i → height ≡ 1 → 0 ≡ templatesFault N L v (places room₀ start)
   testing-filled h e = testing-end h true (eq-eqb height 1 e)
 
+  -- some place is not, or a template did not fit
   pub testing-unfilled : length v ≤ i → (height ≡ 1 → ⊥) → 11 ≡ templatesFault N L v (places room₀ start)
   testing-unfilled h e = testing-end h false (ne-eqb height 1 e)
