@@ -1,8 +1,7 @@
 -- The check of a table from what the layers below answer, for the code.
-use Prim.Native.Nat.{ℕ, _≤_}
+use Prim.Native.Nat.{ℕ}
 use mathlib.Core.Path.{_≡_, refl, sym, _∙_, ap}
 use mathlib.Core.List.{List, []}
-use lib.ListN.{length}
 use Rattle.answers.specs.declared.Refusal.{Refusal}
 use Rattle.answers.specs.declared.Verdict.{Verdict}
 use Rattle.answers.specs.declared.Verdict.the-variants.{Passed, Refused}
@@ -19,11 +18,15 @@ use Rattle.sorts.specs.CheckSorts.{checkSorts}
 use Rattle.sorts.specs.ByBytes.{sortsOf}
 use Rattle.sorts.proofs.SortTheorems.{bytes-checked}
 use Rattle.firsts.specs.First.{checkFirsts}
-use Rattle.productions.specs.Normal.{Production}
-use Rattle.productions.specs.Index.{normalizedBy, alternativeFields}
+use Rattle.productions.specs.Index.{normalizedBy, placesIn, placesOf, productionsAt}
+use Rattle.productions.specs.IndexCalls.{Index, FitsIndex}
+use Rattle.productions.specs.Room.{overwritten}
 use Rattle.productions.proofs.FewAlternatives.{few-alternatives}
+use Rattle.productions.proofs.Places.{productions-at, whole-places}
+use Rattle.firsts.specs.Room.{productionsIn, grammarRoom, tableRoom, WholeIndex, FirstsChecked}
 use Rattle.productions.proofs.NormalizedByFields.{normalized-by}
 use Rattle.checker.specs.Check.{passedTable, check}
+use Rattle.checker.specs.CheckedInto.{roomBy, roomAfter, CheckedInto}
 use Rattle.checker.specs.Passes.{grammarOf}
 use Rattle.checker.proofs.Passing.{never, refused-by-layout, refused-by-sorts}
 
@@ -46,6 +49,14 @@ module _ (bs : List ℕ) where
   refused-layout r e =
       refused-by-layout bs r (ap (λ c. c >> ok (tableOf (build (fieldsOf bs)))) (refused-bad (layout bs) r e))
 
+  pub into-layout : (r : Refusal) → verdict (layout bs) ≡ Refused r → (room : List ℕ) → CheckedInto bs room room (Refused r)
+  unfolding decode roomAfter
+  into-layout r e room =
+      record {
+        answer = sym (refused-layout r e);
+        held = sym (ap (λ c. roomBy (c >> ok (tableOf (build (fieldsOf bs))) >>= λ t. checkSorts t) bs room) (refused-bad (layout bs) r e));
+      }
+
   module _ (bytes : Bytes bs) (laid : verdict (layout bs) ≡ Passed) where
     -- the table that the bytes are
     pub encoded : (t : Table) × (bs ≡ encode t) × Within t
@@ -60,20 +71,56 @@ module _ (bs : List ℕ) where
     pub refused-sorts : (r : Refusal) → sortsOf bs ≡ Refused r → check bs ≡ Refused r
     refused-sorts r e = refused-by-sorts bs (encoded .0) r decoded (refused-bad (checkSorts (encoded .0)) r (sym sorts-here ∙ e))
 
-    -- how many productions there are at most
-    pub few : (length bs ≤ 16384) × (alternativeFields (fieldsOf bs) ≤ 256)
+    room-left : (r : Refusal) → sortsOf bs ≡ Refused r → (room : List ℕ) → room ≡ roomAfter bs room
+    unfolding roomAfter
+    room-left r e room =
+        sym
+        (ap (λ d. roomBy (d >>= λ t. checkSorts t) bs room) decoded
+        ∙ ap (λ c. roomBy c bs room) (refused-bad (checkSorts (encoded .0)) r (sym sorts-here ∙ e)))
+
+    pub into-sorts : (r : Refusal) → sortsOf bs ≡ Refused r → (room : List ℕ) → CheckedInto bs room room (Refused r)
+    into-sorts r e room = record { answer = sym (refused-sorts r e); held = room-left r e room }
+
+    -- the table fits its index
+    pub few : FitsIndex bs
     few = few-alternatives bs (passed-ok (layout bs) laid)
 
-    -- the productions of an index that was built from the fields
-    pub indexed : {g : List Production} → g ≡ normalizedBy (fieldsOf bs) 0 [] → g ≡ grammarOf (encoded .0)
-    indexed e = e ∙ ap (λ b. normalizedBy (fieldsOf b) 0 []) (encoded .1) ∙ normalized-by (encoded .0) (encoded .2)
+    -- an index that was built is whole
+    pub whole-index : {m : ℕ} {owners starts : List ℕ} → Index (placesOf bs) 256 m owners starts → WholeIndex bs m owners starts
+    whole-index i =
+        record {
+          short = few .short;
+          few = i .few;
+          whole = rw (i .entries) (whole-places bs (passed-ok (layout bs) laid));
+        }
 
-    module _ (sorted : sortsOf bs ≡ Passed) {g : List Production} (e : g ≡ normalizedBy (fieldsOf bs) 0 []) where
-      pub by-firsts : check bs ≡ verdict (checkFirsts g)
+    -- the productions of the table's bytes are its grammar
+    pub indexed : productionsIn bs ≡ grammarOf (encoded .0)
+    indexed = productions-at bs ∙ ap (λ b. normalizedBy (fieldsOf b) 0 []) (encoded .1) ∙ normalized-by (encoded .0) (encoded .2)
+
+    module _ (sorted : sortsOf bs ≡ Passed) where
+      sorts-ok : checkSorts (encoded .0) ≡ ok tt
+      sorts-ok = passed-ok (checkSorts (encoded .0)) (sym sorts-here ∙ sorted)
+
+      pub by-firsts : check bs ≡ verdict (checkFirsts (productionsIn bs))
       unfolding check passedTable
       by-firsts =
           let t = encoded .0 in
           ap (λ d. verdict (d >>= λ u. checkSorts u >> checkFirsts (grammarOf u) >> ok u)) decoded
-          ∙ ap (λ c. verdict (c >> checkFirsts (grammarOf t) >> ok t)) (passed-ok (checkSorts t) (sym sorts-here ∙ sorted))
+          ∙ ap (λ c. verdict (c >> checkFirsts (grammarOf t) >> ok t)) sorts-ok
           ∙ verdict-then (checkFirsts (grammarOf t)) t
-          ∙ ap (λ h. verdict (checkFirsts h)) (sym (indexed e))
+          ∙ ap (λ h. verdict (checkFirsts h)) (sym indexed)
+
+      room-written : (room : List ℕ) → roomAfter bs room ≡ overwritten (tableRoom bs) room
+      unfolding roomAfter
+      room-written room =
+          ap (λ d. roomBy (d >>= λ t. checkSorts t) bs room) decoded ∙ ap (λ c. roomBy c bs room) sorts-ok
+
+      pub into-firsts : {m : ℕ} {owners starts : List ℕ} → Index (placesOf bs) 256 m owners starts → {room₀ room : List ℕ} {r : Verdict}
+          → FirstsChecked bs (placesIn m owners starts) room₀ room r → CheckedInto bs room₀ room r
+      unfolding tableRoom
+      into-firsts i {room₀} f =
+          record {
+            answer = f .answer ∙ ap (λ ps. verdict (checkFirsts (productionsAt bs ps))) (i .entries) ∙ sym by-firsts;
+            held = f .held ∙ ap (λ ps. overwritten (grammarRoom bs ps) room₀) (i .entries) ∙ sym (room-written room₀);
+          }

@@ -1,3 +1,4 @@
 pub mod Passing
 pub mod TableTheorems
 pub mod CheckLaws
+pub mod Joined

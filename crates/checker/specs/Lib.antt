@@ -1,3 +1,3 @@
 pub mod Check
 pub mod Passes
-pub mod Handed
+pub mod CheckedInto

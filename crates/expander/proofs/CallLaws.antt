@@ -13,7 +13,6 @@ use borrow.Author.Tests.{lt-ltb, le-ltb}
 use Rattle.answers.specs.declared.Refusal.{Refusal}
 use Rattle.answers.specs.Refusals.{refusal}
 use Rattle.grammar.specs.Table.{Item}
-use Rattle.grammar.specs.Cells.{columns}
 use Rattle.grammar.specs.Lookup.{fieldsAt}
 use Rattle.productions.specs.Index.{itemsOf, resultOf, wholeBody, productionAt}
 use Rattle.productions.specs.Room.{startIn}
@@ -26,15 +25,15 @@ use Rattle.expander.specs.declared.items.Step.the-variants.{Finished, St
 use Rattle.expansion.specs.Run.{Result, done, halt, Run, after, ran}
 use Rattle.expansion.specs.Expansion.{Input, endToken, nextToken, misfit, build, runItems, Choice, unfit, ready}
 use Rattle.expansion.specs.Expansion.{chosen, choice, callBegun, mostCalls, runCall, mostOpen, start, ended, run}
-use Rattle.expander.specs.Lent.{tokensIn, Held, lentInput, rowsFor}
+use Rattle.scanner.specs.Rooms.{tokensIn}
+use Rattle.expander.specs.Lent.{Held, lentInput}
 use Rattle.expander.specs.Chosen.{setsOf, entriesOf, chosenPlace}
-use Rattle.expander.specs.Built.{Holds}
+use Rattle.templates.specs.Built.{Holds}
 use Rattle.expander.specs.Steps.{body, weight, mostWeight, Steps, Onward, Advances, Stays}
 use Rattle.expander.specs.declared.calls.Begun.{Begun}
 use Rattle.expander.specs.declared.calls.Begun.the-variants.{Refused, Entered}
 use Rattle.expander.specs.Calls.{rootItems, Begins, Stands, Entry, Enters}
 use Rattle.expander.specs.Frames.{Saved, Loaded}
-use Rattle.expander.proofs.TokenLaws.{token-count}
 use Rattle.expander.proofs.ChoiceLaws.{chosen-nowhere, chosen-here, chosen-whole, start-is}
 use Rattle.expander.proofs.FrameLaws.{Frame, resume, resume-halt, owed, Waits, Stacked, stacked-none, stacked-one, stacked-more, waits-holds}
 
@@ -519,9 +518,6 @@ module _ (I : Input) (cells : List ℕ) (n : ℕ) (count : length (I .tokens) �
 
   pub ended-done : {v : ℕ} {s : State} → o ≡ Value v s → n ≤ s .at → done v s cells ≡ after (ran o cells) (ended I)
   ended-done {v} {s} e h = ended-by e false (le-ltb (s .at) n h)
-
-pub rows-few : {rows size : ℕ} → rows ≡ rowsFor size → (rows ≤ 16384) × (rows * 4 ≤ size)
-rows-few e = (omega arith, omega arith)
 
 pub run-is : (I : Input) (root : ℕ) (cells : List ℕ) {R : Result ℕ} → R ≡ runCall mostOpen I root [] start cells → after R (ended I) ≡ run I root cells
 unfolding run

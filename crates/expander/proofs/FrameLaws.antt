@@ -12,7 +12,7 @@ use Rattle.grammar.specs.Lookup.{fieldsAt}
 use Rattle.expansion.specs.Run.{Result, halt, after}
 use Rattle.expansion.specs.Expansion.{Input, runCall}
 use Rattle.productions.specs.Index.{wholeBody}
-use Rattle.expander.specs.Built.{Holds}
+use Rattle.templates.specs.Built.{Holds}
 use Rattle.expander.specs.Steps.{body}
 use Rattle.expander.specs.Frames.{Saved, Loaded}
 

@@ -25,16 +25,16 @@ use Rattle.expansion.specs.declared.State.{State}
 use Rattle.expansion.specs.declared.Outcome.{Outcome}
 use Rattle.expansion.specs.declared.Outcome.the-variants.{Value, Halted}
 use Rattle.expander.specs.declared.items.Step.the-variants.{Opened}
-use Rattle.expander.specs.declared.templates.Arguments.{Arguments}
-use Rattle.expander.specs.declared.templates.Arguments.the-variants.{Listed, Overfull}
+use Rattle.templates.specs.declared.Arguments.{Arguments}
+use Rattle.templates.specs.declared.Arguments.the-variants.{Listed, Overfull}
 use Rattle.expansion.specs.Run.{Result, done, halt, Run, after, ran}
 use Rattle.expansion.specs.Expansion.{Input, endToken, nextToken, tokenTaken, misfit, build, buildAll, wordValue, freshMade, runItem, runItems}
 use Rattle.expansion.specs.Expansion as Expansion
-use Rattle.expander.specs.Lent.{tokensIn}
+use Rattle.scanner.specs.Rooms.{tokensIn}
 use Rattle.productions.specs.Index.{wholeBody}
-use Rattle.expander.specs.Built.{withMade, Ahead, templateAt, built, Lists, Few}
-use Rattle.expander.specs.declared.templates.Built.{Built}
-use Rattle.expander.specs.declared.templates.Built.the-variants.{Made, Full}
+use Rattle.templates.specs.Built.{withMade, Ahead, templateAt, built, Lists, Few}
+use Rattle.templates.specs.declared.Built.{Built}
+use Rattle.templates.specs.declared.Built.the-variants.{Made, Full}
 use Rattle.expander.specs.Steps.{body, Steps, ItemAt, Onward, Spends}
 
 -- ------------------------------------------------------------------ an item by its kind and operand

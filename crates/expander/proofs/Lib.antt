@@ -1,11 +1,6 @@
 pub mod TokenLaws
 pub mod StartLaws
 pub mod ChoiceLaws
-pub mod VariableLaws
-pub mod TemplateLaws
-pub mod StackLaws
-pub mod BuildLaws
-pub mod ArgumentLaws
 pub mod ItemLaws
 pub mod FrameLaws
 pub mod CallLaws

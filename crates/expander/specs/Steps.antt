@@ -1,11 +1,14 @@
--- What the code that does the items of an alternative answers, and the bound that its counters keep.
-use Prim.Native.Nat.{ℕ, _+_, _-_, _*_, _<_, _≤_}
+-- What the code that does the items of an alternative asks and answers, and the bound that its counters keep. These definitions mirror
+-- code: nobody needs them to believe `expand`.
+use Prim.Native.Nat.{ℕ, _+_, _-_, _*_, _^_, _<_, _≤_}
 use mathlib.Core.Path.{_≡_}
 use mathlib.Core.Bool.{true}
 use mathlib.Core.List.{List, [], _∷_, _++_}
-use lib.ListN.{length}
+use lib.ListN.{length, drop}
 use Rattle.grammar.specs.Fields.{next}
 use Rattle.grammar.specs.Lookup.{fieldsAt}
+use Rattle.layout.specs.Prefix.{templatesOf, isTemplates}
+use Rattle.scanner.specs.Rooms.{TokensFit}
 use Rattle.productions.specs.Index.{itemsOf, resultOf}
 use Rattle.expansion.specs.declared.State.{State}
 use Rattle.expansion.specs.declared.Outcome.{Outcome}
@@ -15,12 +18,48 @@ use Rattle.expander.specs.declared.items.Step.the-variants.{Finished, St
 use Rattle.expansion.specs.Run.{Run, halt, after}
 use Rattle.expansion.specs.Expansion.{Input, build, runItems}
 use Rattle.productions.specs.Index.{wholeBody}
-use Rattle.expander.specs.Built.{Holds}
+use Rattle.templates.specs.Built.{Holds}
+use Rattle.expander.specs.declared.items.Variables.{Variables}
 
 -- the items from an offset on and the result behind them, under the values of the variables; `callee` is what a call does
 unfoldable pub body : (ℕ → List ℕ → Run ℕ) → List ℕ → ℕ → Input → List ℕ → Run ℕ
 body callee bs at I M s cells =
     after (runItems callee I (itemsOf (fieldsAt bs at)) M s cells) (λ M′. build (resultOf (fieldsAt bs at)) I M′)
+
+-- ------------------------------------------------------------------ what is asked
+
+-- the values of the variables
+abbrev pub Named : Variables → List ℕ → Type 0
+Named vars M = Holds (vars .values) (vars .count) M
+
+-- a table, or the value of one of its fields, is small, and the stack is as long
+pub record Small (v stack : List ℕ) : Type 0 where
+  pub few : length v ≤ 16384
+  pub stack-long : length v ≤ length stack
+
+-- the tokens fit, and so do the counters
+pub record MayRead (tokens : List ℕ) (n : ℕ) (s : State) : Type 0 where
+  pub tokens-fit : TokensFit tokens n
+  pub token-small : s .at < 2 ^ 32
+  pub fresh-small : s .fresh < 2 ^ 31
+
+-- the value of an item's field has whole templates
+pub record MayDo (v tokens : List ℕ) (n : ℕ) (s : State) (stack : List ℕ) : Type 0 where
+  pub small : Small v stack
+  pub may-read : MayRead tokens n s
+  pub whole : isTemplates (templatesOf (drop 2 v)) ≡ true
+
+-- a whole alternative stands at an offset
+pub record MayStep (bs : List ℕ) (at : ℕ) (tokens : List ℕ) (n : ℕ) (s : State) (stack : List ℕ) : Type 0 where
+  pub small : Small bs stack
+  pub may-read : MayRead tokens n s
+  pub whole : wholeBody (fieldsAt bs at) ≡ true
+
+-- its items end there
+pub record MayFinish (bs : List ℕ) (at : ℕ) (stack : List ℕ) : Type 0 where
+  pub small : Small bs stack
+  pub no-item : itemsOf (fieldsAt bs at) ≡ []
+  pub whole : wholeBody (fieldsAt bs at) ≡ true
 
 -- ------------------------------------------------------------------ counters
 

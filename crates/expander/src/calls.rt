@@ -5,16 +5,17 @@ use crate::frames::load;
 use crate::frames::next_of;
 use crate::frames::save;
 use crate::items::Step;
+use crate::items::Variables;
 use crate::items::finish;
 use crate::items::item_step;
-use crate::templates::put;
-use crate::tokens::kind_at;
 use crate::tokens::misfit;
 use answers::Refusal;
 use expansion::Outcome;
 use expansion::State;
 use productions::room::first_set;
 use productions::room::start;
+use scanner::tokens::kind_at;
+use templates::put;
 ghost use Prim.Native.Nat.{ℕ, _≤_};
 ghost use mathlib.Core.Path.{_≡_};
 ghost use mathlib.Core.List.{List};
@@ -22,7 +23,8 @@ ghost use lib.ListN.{length, getD};
 ghost use Rattle.answers.specs.Refusals.{refusal};
 ghost use Rattle.expansion.specs.Run.{after, ran};
 ghost use Rattle.expansion.specs.Expansion.{Input, callBegun, ended, run};
-ghost use Rattle.expander.specs.Lent.{Held, HoldsSome, lentInput, rowsFor, rowsIn, Lent};
+ghost use Rattle.templates.specs.Built.{rowsIn};
+ghost use Rattle.expander.specs.Lent.{Held, MayBegin, lentInput, Lent};
 ghost use Rattle.expander.specs.Chosen.{setsOf};
 ghost use Rattle.expander.specs.Calls.{rootItems, Begins, Enters, Stands};
 
@@ -71,13 +73,13 @@ fn kinds_of(room: &[u64; 641], nonterminal: u8) -> u64
 // The beginning of a call of a nonterminal, while `depth` more calls may be open: tested 19, 20, 17.
 fn begin(
     room: &[u64; 641],
-    tokens: &[u32; 16384],
+    tokens: &[u32],
     n: usize,
     depth: usize,
     nonterminal: u8,
     s: State,
 ) -> Begun
-    requires { ⌜ HoldsSome (now room) × (n ≤ 4096) ⌝ }
+    requires { ⌜ MayBegin (now room) (now tokens) n ⌝ }
     ensures { λ r. ⌜ ((bs : List ℕ) (rows : ℕ) → Held bs (now (room .entry)) → Begins (lentInput bs (now (tokens .entry)) n rows) bs depth
         nonterminal s r) ⌝ }
     ensures { λ r. ⌜ ((bs : List ℕ) → Held bs (now (room .entry)) → Enters bs depth s r) ⌝ }
@@ -102,7 +104,7 @@ fn begin(
 fn items(
     table: &[u8],
     room: &[u64; 641],
-    tokens: &[u32; 16384],
+    tokens: &[u32],
     n: usize,
     cells: &mut [u32],
     stack: &mut [u32],
@@ -115,7 +117,6 @@ fn items(
     ensures { λ r. ⌜ ran r (now (cells .exit)) ≡ rootItems (lentInput (now (table .entry)) (now (tokens .entry)) n (rowsIn (now (cells
         .entry)))) (now (table .entry)) start s (now (cells .entry)) ⌝ }
 {
-    let rows = rows_of(cells.len());
     let mut vars = [0u32; 16];
     let mut args = [0u32; 16];
     let mut at = start;
@@ -128,9 +129,10 @@ fn items(
             at,
             tokens,
             n,
-            &vars,
-            count,
-            rows,
+            Variables {
+                values: vars,
+                count,
+            },
             &mut args,
             here,
             cells,
@@ -138,7 +140,17 @@ fn items(
         );
         match step {
             Step::Finished => {
-                let outcome = finish(table, at, &vars, count, rows, here, cells, stack);
+                let outcome = finish(
+                    table,
+                    at,
+                    Variables {
+                        values: vars,
+                        count,
+                    },
+                    here,
+                    cells,
+                    stack,
+                );
                 match outcome {
                     Outcome::Halted(r) => {
                         return Outcome::Halted(r);
@@ -186,14 +198,6 @@ fn items(
     }
 }
 
-// How many rows some numbers make, 16,384 at most.
-fn rows_of(numbers: usize) -> usize
-    ensures { λ r. ⌜ r ≡ rowsFor numbers ⌝ }
-{
-    let rows = numbers / 4;
-    if rows < 16384 { rows } else { 16384 }
-}
-
 // Nothing is left over behind the root's call: else refusal 18.
 fn ended(n: usize, outcome: Outcome) -> Outcome
     ensures { λ r. ⌜ ((I : Input) (cells : List ℕ) → length (I .tokens) ≡ n → ran r cells ≡ after (ran outcome cells) (ended I)) ⌝ }
@@ -219,7 +223,7 @@ pub fn run(
     table: &[u8],
     room: &[u64; 641],
     root: u8,
-    tokens: &[u32; 16384],
+    tokens: &[u32],
     n: usize,
     cells: &mut [u32],
     stack: &mut [u32],

@@ -1,5 +1,5 @@
 // The production that a call takes, by its place in the room of a grammar.
-use crate::tokens::has_kind;
+use kinds::has_kind;
 use productions::room::first;
 use productions::room::first_place;
 use productions::room::next_place;

@@ -1,33 +1,34 @@
 // The items of an alternative, read off the table's bytes, and its result.
-use crate::templates::Arguments;
-use crate::templates::Built;
-use crate::templates::build;
-use crate::templates::build_arguments;
-use crate::templates::pick;
 use crate::tokens::take;
-use crate::tokens::value_at;
 use answers::Refusal;
 use expansion::Outcome;
 use expansion::State;
 use grammar::Front;
 use grammar::front_at;
 use grammar::reader::byte;
-ghost use Prim.Native.Nat.{ℕ, _+_, _*_, _^_, _<_, _≤_};
+use scanner::tokens::value_at;
+use templates::Arguments;
+use templates::Built;
+use templates::FRESH;
+use templates::WORD;
+use templates::build;
+use templates::build_arguments;
+use templates::pick;
+use templates::rows_of;
+ghost use Prim.Native.Nat.{ℕ, _^_, _<_};
 ghost use mathlib.Core.Path.{_≡_};
-ghost use mathlib.Core.Bool.{true};
-ghost use mathlib.Core.List.{List, []};
-ghost use lib.ListN.{length, getD, drop};
+ghost use mathlib.Core.List.{List};
+ghost use lib.ListN.{getD};
 ghost use Rattle.answers.specs.Refusals.{refusal};
 ghost use Rattle.grammar.specs.Lookup.{fieldsAt};
-ghost use Rattle.layout.specs.Prefix.{isTemplates, templatesOf};
+ghost use Rattle.grammar.specs.Table.{Template};
 ghost use Rattle.layout.specs.Decode.{itemOf};
-ghost use Rattle.productions.specs.Index.{itemsOf, resultOf, wholeBody};
+ghost use Rattle.scanner.specs.Rooms.{tokensIn};
+ghost use Rattle.productions.specs.Index.{resultOf};
 ghost use Rattle.expansion.specs.Run.{Run, ran};
 ghost use Rattle.expansion.specs.Expansion.{Input, wordValue, freshMade, build, runItem};
-ghost use Rattle.expander.specs.Lent.{tokensIn, TokensFit};
-ghost use Rattle.grammar.specs.Table.{Template};
-ghost use Rattle.expander.specs.Built.{Holds, withMade, built};
-ghost use Rattle.expander.specs.Steps.{Stays, ItemAt, Steps, Advances, Spends};
+ghost use Rattle.templates.specs.Built.{rowsIn, withMade, built};
+ghost use Rattle.expander.specs.Steps.{Named, MayRead, MayDo, MayStep, MayFinish, Stays, ItemAt, Steps, Advances, Spends};
 
 // What is done at an offset: there is no item, the item refuses, it gives a value (with the offset behind it and where the expansion
 // then stands), or it calls a nonterminal with a number of arguments.
@@ -38,12 +39,18 @@ pub enum Step {
     Opened(u8, usize, usize, State),
 }
 
+// The values of the variables of an alternative, and how many there are; the seventeenth and later ones are named by no template.
+pub struct Variables {
+    pub values: [u32; 16],
+    pub count: usize,
+}
+
 // A word read at a sort: a label is its spelling number, any other a name.
 fn word_value(sort: u8, v: u32) -> u32
     requires { ⌜ v < 2 ^ 30 ⌝ }
     ensures { λ r. ⌜ r ≡ wordValue sort v ⌝ }
 {
-    if sort == 3 { v } else { 16777216 + v }
+    if sort == 3 { v } else { WORD + v }
 }
 
 // A fresh name.
@@ -54,7 +61,7 @@ fn fresh_name(s: State) -> Outcome
 {
     let fresh = s.fresh;
     Outcome::Value(
-        33554432 + fresh,
+        FRESH + fresh,
         State {
             at: s.at,
             fresh: fresh + 1,
@@ -65,9 +72,8 @@ fn fresh_name(s: State) -> Outcome
 }
 
 // An item that is no call, by its kind and operand.
-fn read_item(kind: u8, operand: u8, tokens: &[u32; 16384], n: usize, s: State) -> Outcome
-    requires { ⌜ TokensFit (now tokens) n ⌝ }
-    requires { ⌜ (s .at < 2 ^ 32) × (s .fresh < 2 ^ 31) ⌝ }
+fn read_item(kind: u8, operand: u8, tokens: &[u32], n: usize, s: State) -> Outcome
+    requires { ⌜ MayRead (now tokens) n s ⌝ }
     ensures { λ r. ⌜ ((v : List ℕ) (C : ℕ → List ℕ → Run ℕ) (I : Input) (M cells : List ℕ) → I .tokens ≡ tokensIn (now (tokens .entry)) n →
         kind ≡ getD v 0 0 → operand ≡ getD v 1 0 → (kind ≡ 4 → ⊥) → ran r cells ≡ runItem C I (itemOf v) M s cells) ⌝ }
     ensures { λ r. ⌜ Spends s r ⌝ }
@@ -98,31 +104,27 @@ fn no_row(s: State) -> Refusal
 fn do_item(
     v: &[u8],
     next: usize,
-    tokens: &[u32; 16384],
+    tokens: &[u32],
     n: usize,
-    env: &[u32; 16],
-    k: usize,
-    rows: usize,
+    vars: Variables,
     out: &mut [u32; 16],
     s: State,
     cells: &mut [u32],
-    room: &mut [u32],
+    stack: &mut [u32],
 ) -> Step
-    requires { ⌜ (length (now v) ≤ 16384) × (length (now v) ≤ length (now room)) ⌝ }
-    requires { ⌜ TokensFit (now tokens) n ⌝ }
-    requires { ⌜ isTemplates (templatesOf (drop 2 (now v))) ≡ true ⌝ }
-    requires { ⌜ (rows ≤ 16384) × (rows * 4 ≤ length (now cells)) ⌝ }
-    requires { ⌜ (s .at < 2 ^ 32) × (s .fresh < 2 ^ 31) ⌝ }
+    requires { ⌜ MayDo (now v) (now tokens) n s (now stack) ⌝ }
     ensures { λ r. ⌜ ((bs : List ℕ) (at : ℕ) (I : Input) (M : List ℕ) → ItemAt bs at (now (v .entry)) next → I .tokens ≡ tokensIn (now
-        (tokens .entry)) n → I .rows ≡ rows → Holds (now (env .entry)) k M → Steps bs at I M s (now (cells .entry)) r (now (out .exit)) (now
-        (cells .exit))) ⌝ }
+        (tokens .entry)) n → I .rows ≡ rowsIn (now (cells .entry)) → Named vars M → Steps bs at I M s (now (cells .entry)) r (now (out
+        .exit)) (now (cells .exit))) ⌝ }
     ensures { λ r. ⌜ ((bs : List ℕ) (at : ℕ) → ItemAt bs at (now (v .entry)) next → Advances bs at s r) ⌝ }
 {
     let kind = byte(v, 0);
     let operand = byte(v, 1);
     if kind == 4 {
+        let rows = rows_of(cells.len());
+        let count = vars.count;
         let made = s.made;
-        let listed = build_arguments(v, 2, env, k, rows, made, out, cells, room);
+        let listed = build_arguments(v, 2, &vars.values, count, rows, made, out, cells, stack);
         match listed {
             Arguments::Overfull => {
                 return Step::Stopped(no_row(s));
@@ -143,23 +145,17 @@ fn do_item(
 pub fn item_step(
     table: &[u8],
     at: usize,
-    tokens: &[u32; 16384],
+    tokens: &[u32],
     n: usize,
-    env: &[u32; 16],
-    k: usize,
-    rows: usize,
+    vars: Variables,
     out: &mut [u32; 16],
     s: State,
     cells: &mut [u32],
-    room: &mut [u32],
+    stack: &mut [u32],
 ) -> Step
-    requires { ⌜ (length (now table) ≤ 16384) × (length (now table) ≤ length (now room)) ⌝ }
-    requires { ⌜ TokensFit (now tokens) n ⌝ }
-    requires { ⌜ wholeBody (fieldsAt (now table) at) ≡ true ⌝ }
-    requires { ⌜ (rows ≤ 16384) × (rows * 4 ≤ length (now cells)) ⌝ }
-    requires { ⌜ (s .at < 2 ^ 32) × (s .fresh < 2 ^ 31) ⌝ }
-    ensures { λ r. ⌜ ((I : Input) (M : List ℕ) → I .tokens ≡ tokensIn (now (tokens .entry)) n → I .rows ≡ rows → Holds (now (env .entry)) k
-        M → Steps (now (table .entry)) at I M s (now (cells .entry)) r (now (out .exit)) (now (cells .exit))) ⌝ }
+    requires { ⌜ MayStep (now table) at (now tokens) n s (now stack) ⌝ }
+    ensures { λ r. ⌜ ((I : Input) (M : List ℕ) → I .tokens ≡ tokensIn (now (tokens .entry)) n → I .rows ≡ rowsIn (now (cells .entry)) →
+        Named vars M → Steps (now (table .entry)) at I M s (now (cells .entry)) r (now (out .exit)) (now (cells .exit))) ⌝ }
     ensures { λ r. ⌜ Advances (now (table .entry)) at s r ⌝ }
 {
     let front = front_at(table, at);
@@ -177,13 +173,11 @@ pub fn item_step(
                 next,
                 tokens,
                 n,
-                env,
-                k,
-                rows,
+                vars,
                 out,
                 s,
                 cells,
-                room,
+                stack,
             )
         }
     }
@@ -213,43 +207,51 @@ fn outcome_of(b: Built, s: State) -> Outcome
 }
 
 // The first variable, which stands for a result that is not there.
-fn first_variable(env: &[u32; 16], k: usize, s: State) -> Outcome
-    ensures { λ r. ⌜ ((I : Input) (M cells : List ℕ) → Holds (now (env .entry)) k M → ran r cells ≡ build (Template.variable 0) I M s cells) ⌝ }
+fn first_variable(vars: Variables, s: State) -> Outcome
+    ensures { λ r. ⌜ ((I : Input) (M cells : List ℕ) → Named vars M → ran r cells ≡ build (Template.variable 0) I M s cells) ⌝ }
     ensures { λ r. ⌜ Stays s r ⌝ }
 {
-    Outcome::Value(pick(env, k, 0), s)
+    let count = vars.count;
+    Outcome::Value(pick(&vars.values, count, 0), s)
 }
 
 // The result of the alternative whose items end at an offset.
 pub fn finish(
     table: &[u8],
     at: usize,
-    env: &[u32; 16],
-    k: usize,
-    rows: usize,
+    vars: Variables,
     s: State,
     cells: &mut [u32],
-    room: &mut [u32],
+    stack: &mut [u32],
 ) -> Outcome
-    requires { ⌜ (length (now table) ≤ 16384) × (length (now table) ≤ length (now room)) ⌝ }
-    requires { ⌜ (itemsOf (fieldsAt (now table) at) ≡ []) × (wholeBody (fieldsAt (now table) at) ≡ true) ⌝ }
-    requires { ⌜ (rows ≤ 16384) × (rows * 4 ≤ length (now cells)) ⌝ }
-    ensures { λ r. ⌜ ((I : Input) (M : List ℕ) → I .rows ≡ rows → Holds (now (env .entry)) k M → ran r (now (cells .exit)) ≡ build (resultOf
-        (fieldsAt (now (table .entry)) at)) I M s (now (cells .entry))) ⌝ }
+    requires { ⌜ MayFinish (now table) at (now stack) ⌝ }
+    ensures { λ r. ⌜ ((I : Input) (M : List ℕ) → I .rows ≡ rowsIn (now (cells .entry)) → Named vars M → ran r (now (cells .exit)) ≡ build
+        (resultOf (fieldsAt (now (table .entry)) at)) I M s (now (cells .entry))) ⌝ }
     ensures { λ r. ⌜ Stays s r ⌝ }
 {
     let front = front_at(table, at);
     match front {
-        Front::Nothing => first_variable(env, k, s),
-        Front::Short => first_variable(env, k, s),
+        Front::Nothing => first_variable(vars, s),
+        Front::Short => first_variable(vars, s),
         Front::Field(tag, size) => {
             if tag != 7 {
-                return first_variable(env, k, s);
+                return first_variable(vars, s);
             }
             let from = at + 3;
             let to = from + size;
+            let rows = rows_of(cells.len());
+            let count = vars.count;
             let made = s.made;
-            let value = build(&table[from..to], 0, env, k, rows, made, cells, room);
+            let value = build(
+                &table[from..to],
+                0,
+                &vars.values,
+                count,
+                rows,
+                made,
+                cells,
+                stack,
+            );
             outcome_of(value, s)
         }
     }

@@ -3,5 +3,4 @@ pub mod calls;
 pub mod choice;
 pub mod frames;
 pub mod items;
-pub mod templates;
 pub mod tokens;

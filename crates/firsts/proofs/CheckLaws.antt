@@ -1,160 +1,68 @@
--- Laws of the rooms that are filled production by production, and of the verdict on a grammar.
+-- Laws of the check of first sets: what the room holds, and the verdicts of 12 and 13.
 use Prim.Native.Nat.{ℕ, zero, suc, _+_, _<_, _≤_}
 use mathlib.Core.Path.{_≡_, refl, sym, ap, _∙_}
 use mathlib.Core.Bool.{Bool, true, false}
 use mathlib.Core.List.{List, [], _∷_, _++_, map}
-use native.Mathlib.Nat.{add-zero, zero-add}
-use native.Mathlib.Numerals.{add-one}
+use native.Mathlib.Decide.{decLt}
 use native.Mathlib.Omega.{arith}
 use lib.Count.{trailingZeros}
 use lib.Dec.{ltb}
-use lib.ListN.{length, getD, set, drop, length-set}
-use lib.Seq.{drop-cons, set-at, append-snoc}
+use lib.ListN.{length, getD, drop, List·getD-eq-default}
 use borrow.Author.Tests.{lt-ltb, le-ltb}
 use Rattle.answers.specs.Refusals.{refusal}
 use Rattle.answers.specs.Checked.{Checked, ok, bad, _>>_, verdict}
 use Rattle.answers.specs.declared.Refusal.{Refusal}
 use Rattle.answers.specs.declared.Verdict.the-variants.{Passed, Refused}
-use Rattle.grammar.specs.Lookup.{fieldsAt}
+use Rattle.layout.specs.Within.{Each, each-none, each-more}
 use Rattle.productions.specs.Normal.{Production}
-use Rattle.firsts.specs.First.{nullables, firstSets, leftCalls, leftRecursive, firstOf, allPassed, gather, setsOf, clashing, noLeftRecursion, noClash, checkFirsts}
-use Rattle.productions.specs.Index.{itemsOf, productionAt, productionsFrom, productionsBy}
-use Rattle.firsts.specs.Pairs.{valuesFrom, sharedAt, joinPairsFrom, clashingBy, noClashBy}
-use Rattle.firsts.specs.Rooms.{Prepared}
-use Rattle.productions.proofs.ProductionsLaws.{placed}
-use Rattle.firsts.proofs.PairsLaws.{Fitting, clashing-is, shared-is}
+use Rattle.productions.specs.Index.{Place, placesIn, productionsAt, Whole}
+use Rattle.productions.specs.Room.{Entry, noEntry, roomOf, overwritten, HoldsEntries}
+use Rattle.firsts.specs.First.{nullables, firstSets, leftCalls, leftRecursive, setsOf, noLeftRecursion, noClash, checkFirsts}
+use Rattle.firsts.specs.Pairs.{clashingIn, allSharedIn, noClashIn}
+use Rattle.firsts.specs.Room.{entryAt, roomBy, grammarRoom, WholeIndex, Prepared}
+use Rattle.firsts.proofs.FillLaws.{length-entries}
+use Rattle.firsts.proofs.HeldPairs.{no-clash-is}
 
--- ------------------------------------------------------------------ values in their places
+-- ------------------------------------------------------------------ the room
 
-module _ {A : Type 0} (v : ℕ → A) where
-  length-values : (k j : ℕ) → length (valuesFrom v k j) ≡ k
-  unfolding valuesFrom
-  length-values zero j = refl
-  length-values (suc k) j = ap suc (length-values k (j + 1))
+-- the nullables, the first sets and the room, from what was computed
+pub prepared : (bs : List ℕ) (places : List Place) {room₀ room : List ℕ} {nulls : ℕ} {sets : List ℕ}
+    → nulls ≡ nullables (productionsAt bs places) → sets ≡ setsOf false nulls (productionsAt bs places)
+    → room ≡ overwritten (roomBy bs places nulls sets) room₀ → Prepared bs places room₀ room nulls
+prepared bs places {room₀} {nulls = nulls} en es er =
+    record {
+      nulls-are = en;
+      held =
+          er
+          ∙ ap (λ s. overwritten (roomBy bs places nulls s) room₀) es
+          ∙ ap (λ n. overwritten (roomBy bs places n (setsOf false n (productionsAt bs places))) room₀) en;
+    }
 
-  values-snoc : (k j : ℕ) → valuesFrom v (suc k) j ≡ valuesFrom v k j ++ (v (j + k) ∷ [])
-  unfolding valuesFrom
-  values-snoc zero j = rw add-zero refl
-  values-snoc (suc k) j =
-      let z : j + 1 + k ≡ j + suc k = omega arith in
-      ap (λ (l : List A). v j ∷ l) (values-snoc k (j + 1) ∙ ap (λ (n : ℕ). valuesFrom v k (j + 1) ++ (v n ∷ [])) z)
+-- an offset in a table that is not too long
+near-entries : {bs : List ℕ} (nulls : ℕ) (sets : List ℕ) → length bs ≤ 16384 → {ps : List Place} → Each (Whole bs) ps → (j : ℕ)
+    → getD (map (entryAt bs nulls sets) ps) j noEntry .start < 65536
+near-entries nulls sets short each-none j = omega arith
+near-entries nulls sets short (each-more w ws) zero = omega (arith, w .inside)
+near-entries nulls sets short (each-more w ws) (suc j) = near-entries nulls sets short ws j
 
-  getD-values : (k i j : ℕ) (rest : List A) (d : A) → j < k → getD (valuesFrom v k i ++ rest) j d ≡ v (i + j)
-  unfolding valuesFrom
-  getD-values zero i j rest d h = absurd (omega arith)
-  getD-values (suc k) i zero rest d h = rw add-zero refl
-  getD-values (suc k) i (suc j) rest d h =
-      let z : i + 1 + j ≡ i + suc j = omega arith in
-      getD-values k (i + 1) j rest d (omega arith) ∙ ap v z
-
--- the first j of m places of a room are filled
-pub record Filling {A : Type 0} (v : ℕ → A) (m : ℕ) (room₀ : List A) (j : ℕ) (room : List A) : Type 0 where
-  pub small : j ≤ m
-  pub fits : m ≤ length room₀
-  pub as-many : length room ≡ length room₀
-  pub filled : room ≡ valuesFrom v j 0 ++ drop j room₀
-
-pub filling-start : {A : Type 0} (v : ℕ → A) (m : ℕ) (room₀ : List A) → m ≤ length room₀ → Filling v m room₀ 0 room₀
-unfolding valuesFrom
-filling-start v m room₀ h = record { small = omega arith; fits = h; as-many = refl; filled = refl }
-
-module _ {A : Type 0} {v : ℕ → A} {m : ℕ} {room₀ : List A} {j : ℕ} {room : List A} (c : Filling v m room₀ j room) where
-  put : (x : A) → j < m → set room j x ≡ valuesFrom v j 0 ++ x ∷ drop (suc j) room₀
-  put x h =
-      ap (λ (l : List A). set l j x)
-      (c .filled ∙ ap (λ (l : List A). valuesFrom v j 0 ++ l) (drop-cons room₀ j x (omega (arith, c .fits))))
-      ∙ set-at (valuesFrom v j 0) (getD room₀ j x) (drop (suc j) room₀) x j (length-values v j 0)
-
-  pub filling-next : j < m → {x : A} → x ≡ v j → Filling v m room₀ (j + 1) (set room j x)
-  filling-next h {x} e =
-      record {
-        small = omega arith;
-        fits = c .fits;
-        as-many = length-set room j x ∙ c .as-many;
-        filled =
-            put x h
-            ∙ ap (λ (y : A). valuesFrom v j 0 ++ y ∷ drop (suc j) room₀) (e ∙ sym (ap v (zero-add j)))
-            ∙ sym (append-snoc (valuesFrom v j 0) (v (0 + j)) (drop (suc j) room₀))
-            ∙ ap (λ (l : List A). l ++ drop (suc j) room₀) (sym (values-snoc v j 0))
-            ∙ ap (λ (k : ℕ). valuesFrom v k 0 ++ drop k room₀) (sym (add-one j));
-      }
-
-  pub filling-end : m ≤ j → room ≡ valuesFrom v m 0 ++ drop m room₀
-  filling-end h =
-      let z : j ≡ m = omega (arith, c .small) in
-      c .filled ∙ ap (λ (k : ℕ). valuesFrom v k 0 ++ drop k room₀) z
-
--- ------------------------------------------------------------------ the rooms of a grammar
-
-module _ (bs owners starts : List ℕ) where
-  length-productions : (k j : ℕ) → length (productionsFrom k bs owners starts j) ≡ k
-  unfolding productionsFrom
-  length-productions zero j = refl
-  length-productions (suc k) j = ap suc (length-productions k (j + 1))
-
-  map-productions : {A : Type 0} (f : Production → A) (k j : ℕ)
-      → valuesFrom (λ i. f (placed bs owners starts i)) k j ≡ map f (productionsFrom k bs owners starts j)
-  unfolding productionsFrom valuesFrom
-  map-productions f zero j = refl
-  map-productions f (suc k) j = ap (λ (l : List _). f (placed bs owners starts j) ∷ l) (map-productions f k (j + 1))
-
-  -- a room with a value of each production
-  room-is : {A : Type 0} (f : Production → A) (m : ℕ) (room₀ : List A)
-      → valuesFrom (λ i. f (placed bs owners starts i)) m 0 ++ drop m room₀
-      ≡ map f (productionsBy m bs owners starts) ++ drop (length (productionsBy m bs owners starts)) room₀
-  room-is f m room₀ =
-      ap (λ (l : List _). l ++ drop m room₀) (map-productions f m 0)
-      ∙ ap (λ (k : ℕ). map f (productionsBy m bs owners starts) ++ drop k room₀) (sym (length-productions m 0))
-
-  module _ (m : ℕ) {nulls : ℕ} (en : nulls ≡ nullables (productionsBy m bs owners starts)) {firsts : List ℕ}
-      (ef : firsts ≡ setsOf false nulls (productionsBy m bs owners starts))
-      {openings₀ openings : List ℕ}
-      (eo :
-      openings
-      ≡ valuesFrom (λ j. gather false nulls firsts (itemsOf (fieldsAt bs (getD starts j 0))) 0) m 0 ++ drop m openings₀)
-      {empties₀ empties : List Bool}
-      (ee : empties ≡ valuesFrom (λ j. allPassed nulls (itemsOf (fieldsAt bs (getD starts j 0)))) m 0 ++ drop m empties₀) where
-    pub prepared : Prepared (productionsBy m bs owners starts) nulls firsts openings₀ openings empties₀ empties
-    unfolding productionAt
-    prepared =
-        let g : List Production = productionsBy m bs owners starts in
-        record {
-          nulls-are = en;
-          firsts-are = ef ∙ ap (λ (n : ℕ). setsOf false n g) en;
-          openings-are =
-              eo
-              ∙ room-is (firstOf nulls firsts) m openings₀
-              ∙ ap (λ (n : ℕ). map (firstOf n firsts) g ++ drop (length g) openings₀) en
-              ∙ ap (λ (s : List ℕ). map (firstOf (nullables g) s) g ++ drop (length g) openings₀)
-              (ef ∙ ap (λ (n : ℕ). setsOf false n g) en);
-          empties-are =
-              ee
-              ∙ room-is (λ p. allPassed nulls (p .items)) m empties₀
-              ∙ ap (λ (n : ℕ). map (λ (p : Production). allPassed n (p .items)) g ++ drop (length g) empties₀) en;
-        }
-
-  pub fitting : (m : ℕ) {nulls : ℕ} {firsts openings₀ openings : List ℕ} {empties₀ empties : List Bool}
-      → Prepared (productionsBy m bs owners starts) nulls firsts openings₀ openings empties₀ empties
-      → Fitting bs owners starts m (nullables (productionsBy m bs owners starts))
-      (firstSets (nullables (productionsBy m bs owners starts)) (productionsBy m bs owners starts))
-      openings
-      empties
-  fitting m {openings₀ = openings₀} {empties₀ = empties₀} c =
-      let g : List Production = productionsBy m bs owners starts in
-      record {
-        first =
-            λ j h.
-            ap (λ (l : List ℕ). getD l j 0)
-            (c .openings-are ∙ sym (room-is (firstOf (nullables g) (firstSets (nullables g) g)) m openings₀))
-            ∙ getD-values (λ i. firstOf (nullables g) (firstSets (nullables g) g) (placed bs owners starts i)) m 0 j (drop m openings₀) 0 h
-            ∙ ap (λ (k : ℕ). firstOf (nullables g) (firstSets (nullables g) g) (placed bs owners starts k)) (zero-add j);
-        empty =
-            λ j h.
-            ap (λ (l : List Bool). getD l j false)
-            (c .empties-are ∙ sym (room-is (λ p. allPassed (nullables g) (p .items)) m empties₀))
-            ∙ getD-values (λ i. allPassed (nullables g) (placed bs owners starts i .items)) m 0 j (drop m empties₀) false h
-            ∙ ap (λ (k : ℕ). allPassed (nullables g) (placed bs owners starts k .items)) (zero-add j);
-      }
+-- A room over what was there holds the entries of the grammar.
+pub holds-entries : {bs : List ℕ} {m : ℕ} {owners starts : List ℕ} → WholeIndex bs m owners starts → {room₀ room : List ℕ} {nulls : ℕ}
+    → (p : Prepared bs (placesIn m owners starts) room₀ room nulls)
+    → HoldsEntries (firstSets (nullables (productionsAt bs (placesIn m owners starts))) (productionsAt bs (placesIn m owners starts)))
+    (map
+    (entryAt bs (nullables (productionsAt bs (placesIn m owners starts)))
+    (firstSets (nullables (productionsAt bs (placesIn m owners starts))) (productionsAt bs (placesIn m owners starts))))
+    (placesIn m owners starts))
+    room
+holds-entries {bs} {m} {owners} {starts} w p =
+    let g : List Production = productionsAt bs (placesIn m owners starts) in
+    let f : Place → Entry = entryAt bs (nullables g) (firstSets (nullables g) g) in
+    record {
+      rest = _;
+      held = p .held;
+      few = omega (arith, w .few, length-entries f m owners starts);
+      near = near-entries _ _ (w .short) (w .whole);
+    }
 
 -- ------------------------------------------------------------------ verdicts
 
@@ -166,32 +74,20 @@ abbrev clashOf : ℕ → ℕ → Refusal
 clashOf n s = refusal 13 n (trailingZeros 64 s) 0
 
 -- refusal 13 or none, by the lowest nonterminal with a clash
-module _ (m : ℕ) (owners openings : List ℕ) (empties : List Bool) {n : ℕ} (e : n ≡ clashingBy m owners openings empties) where
-  clash-tests : (b : Bool) → ltb n 64 ≡ b
-      → verdict (refusedIf b (clashOf n (joinPairsFrom (sharedAt owners openings n) m 0 0)))
-      ≡ verdict (noClashBy m owners openings empties)
-  unfolding noClashBy
+module _ (room : List ℕ) {n : ℕ} (e : n ≡ clashingIn room) where
+  clash-tests : (b : Bool) → ltb n 64 ≡ b → verdict (refusedIf b (clashOf n (allSharedIn room n))) ≡ verdict (noClashIn room)
+  unfolding noClashIn
   clash-tests b f =
-      ap (λ (x : Bool). verdict (refusedIf x (clashOf n (joinPairsFrom (sharedAt owners openings n) m 0 0)))) (sym f)
-      ∙ ap (λ (k : ℕ). verdict (refusedIf (ltb k 64) (clashOf k (joinPairsFrom (sharedAt owners openings k) m 0 0)))) e
+      ap (λ (x : Bool). verdict (refusedIf x (clashOf n (allSharedIn room n)))) (sym f)
+      ∙ ap (λ (k : ℕ). verdict (refusedIf (ltb k 64) (clashOf k (allSharedIn room k)))) e
 
-  pub clash-refused : n < 64 → {s k : ℕ} → s ≡ joinPairsFrom (sharedAt owners openings n) m 0 0 → k ≡ trailingZeros 64 s
-      → Refused (refusal 13 n k 0) ≡ verdict (noClashBy m owners openings empties)
-  clash-refused h es ek =
-      ap (λ (k : ℕ). Refused (refusal 13 n k 0)) (ek ∙ ap (trailingZeros 64) es) ∙ clash-tests true (lt-ltb n 64 h)
+  pub clash-refused : n < 64 → {s k : ℕ} → s ≡ allSharedIn room n → k ≡ trailingZeros 64 s → {r : Refusal} → r ≡ refusal 13 n k 0
+      → Refused r ≡ verdict (noClashIn room)
+  clash-refused h es ek er =
+      ap Refused (er ∙ ap (λ (k : ℕ). refusal 13 n k 0) (ek ∙ ap (trailingZeros 64) es)) ∙ clash-tests true (lt-ltb n 64 h)
 
-  pub clash-passed : 64 ≤ n → Passed ≡ verdict (noClashBy m owners openings empties)
+  pub clash-passed : 64 ≤ n → Passed ≡ verdict (noClashIn room)
   clash-passed h = clash-tests false (le-ltb n 64 h)
-
-no-clash-is : {bs owners starts : List ℕ} {m nulls : ℕ} {firsts openings : List ℕ} {empties : List Bool}
-    → Fitting bs owners starts m nulls firsts openings empties
-    → noClashBy m owners openings empties ≡ noClash nulls firsts (productionsBy m bs owners starts)
-unfolding noClashBy noClash
-no-clash-is {bs} {owners} {starts} {m} {nulls} {firsts} {openings} c =
-    let g : List Production = productionsBy m bs owners starts in
-    ap (λ (n : ℕ). refusedIf (ltb n 64) (clashOf n (joinPairsFrom (sharedAt owners openings n) m 0 0))) (clashing-is c)
-    ∙ ap (λ (s : ℕ). refusedIf (ltb (clashing nulls firsts g) 64) (clashOf (clashing nulls firsts g) s))
-    (shared-is c (clashing nulls firsts g))
 
 -- refusal 12, or what is said of clashes
 module _ (g : List Production) {nulls : ℕ} (en : nulls ≡ nullables g) {n : ℕ} (e : n ≡ leftRecursive (leftCalls nulls g)) where
@@ -206,18 +102,17 @@ module _ (g : List Production) {nulls : ℕ} (en : nulls ≡ nullables g) {n : �
       (λ (k : ℕ). verdict (refusedIf (ltb k 64) (refusal 12 k 0 0) >> noClash (nullables g) (firstSets (nullables g) g) g))
       (e ∙ ap (λ (x : ℕ). leftRecursive (leftCalls x g)) en)
 
-  pub check-recursive : n < 64 → Refused (refusal 12 n 0 0) ≡ verdict (checkFirsts g)
-  check-recursive h = check-tests true (lt-ltb n 64 h)
+  pub check-recursive : n < 64 → {r : Refusal} → r ≡ refusal 12 n 0 0 → Refused r ≡ verdict (checkFirsts g)
+  check-recursive h er = ap Refused er ∙ check-tests true (lt-ltb n 64 h)
 
   check-other : 64 ≤ n → verdict (noClash (nullables g) (firstSets (nullables g) g) g) ≡ verdict (checkFirsts g)
   check-other h = check-tests false (le-ltb n 64 h)
 
-pub check-clashes : (bs owners starts : List ℕ) (m : ℕ) {nulls : ℕ} {firsts openings₀ openings : List ℕ} {empties₀ empties : List Bool}
-    → Prepared (productionsBy m bs owners starts) nulls firsts openings₀ openings empties₀ empties
-    → {n : ℕ}
-    → n ≡ leftRecursive (leftCalls nulls (productionsBy m bs owners starts))
-    → 64 ≤ n
-    → verdict (noClashBy m owners openings empties) ≡ verdict (checkFirsts (productionsBy m bs owners starts))
-check-clashes bs owners starts m c e h =
-    ap verdict (no-clash-is (fitting bs owners starts m c))
-    ∙ check-other (productionsBy m bs owners starts) (c .nulls-are) e h
+-- where 12 is not given, the room decides 13
+pub check-clashes : {bs : List ℕ} {m : ℕ} {owners starts : List ℕ} → WholeIndex bs m owners starts → {room₀ room : List ℕ} {nulls : ℕ}
+    → Prepared bs (placesIn m owners starts) room₀ room nulls → {n : ℕ}
+    → n ≡ leftRecursive (leftCalls nulls (productionsAt bs (placesIn m owners starts))) → 64 ≤ n
+    → verdict (noClashIn room) ≡ verdict (checkFirsts (productionsAt bs (placesIn m owners starts)))
+check-clashes {bs} {m} {owners} {starts} w p e h =
+    let g : List Production = productionsAt bs (placesIn m owners starts) in
+    ap verdict (no-clash-is bs (nullables g) (placesIn m owners starts) (holds-entries w p)) ∙ check-other g (p .nulls-are) e h

@@ -1,8 +1,10 @@
 pub mod CheckLaws
 pub mod Clashing
 pub mod Examples
+pub mod FillLaws
 pub mod FirstSetsExactly
 pub mod FirstsTheorems
+pub mod HeldPairs
 pub mod ItemsLaws
 pub mod NullablesExactly
 pub mod OneChoice

@@ -14,23 +14,23 @@ use Rattle.kinds.specs.Kinds.{only}
 use Rattle.grammar.specs.Lookup.{fieldsAt}
 use Rattle.productions.specs.Normal.{Production}
 use Rattle.firsts.specs.First.{rounds, overAll, allPassed, nullStep, gather, firstStep, setsOf}
-use Rattle.productions.specs.Index.{itemsOf, productionAt, productionsFrom, productionsBy}
-use Rattle.productions.proofs.ProductionsLaws.{placed, productions-next, productions-none}
+use Rattle.productions.specs.Index.{itemsOf, Place, productionAt, productionsAt, placesFrom, productionsBy}
+use Rattle.productions.proofs.IndexLaws.{places-next, places-none}
 use Rattle.firsts.proofs.Rounds.{rounds-fixed}
 
 -- ------------------------------------------------------------------ a loop over the productions
 
 -- the steps of the productions from number j on lead from x to where those of all lead from x₀
 pub record Over {A : Type 0} (f : Production → A → A) (bs owners starts : List ℕ) (m : ℕ) (x₀ : A) (j : ℕ) (x : A) : Type 0 where
-  pub rest : overAll f (productionsFrom (m - j) bs owners starts j) x ≡ overAll f (productionsBy m bs owners starts) x₀
+  pub rest : overAll f (productionsAt bs (placesFrom (m - j) owners starts j)) x ≡ overAll f (productionsBy m bs owners starts) x₀
 
 pub over-start : {A : Type 0} (f : Production → A → A) (bs owners starts : List ℕ) (m : ℕ) (x₀ : A) → Over f bs owners starts m x₀ 0 x₀
 over-start f bs owners starts m x₀ = record { rest = rw sub-zero refl }
 
 module _ {A : Type 0} {f : Production → A → A} {bs owners starts : List ℕ} {m : ℕ} {x₀ : A} {j : ℕ} {x : A} (c : Over f bs owners starts m x₀ j x) where
-  over-one : {g : List Production} → productionsFrom (m - j) bs owners starts j ≡ g
-      → overAll f g x ≡ overAll f (productionsBy m bs owners starts) x₀
-  over-one e = ap (λ (g : List Production). overAll f g x) (sym e) ∙ c .rest
+  over-one : (ps : List Place) → placesFrom (m - j) owners starts j ≡ ps
+      → overAll f (productionsAt bs ps) x ≡ overAll f (productionsBy m bs owners starts) x₀
+  over-one ps e = ap (λ (ps : List Place). overAll f (productionsAt bs ps) x) (sym e) ∙ c .rest
 
   pub over-next : j < m → {o s : ℕ} → o ≡ getD owners j 0 → s ≡ getD starts j 0 → {y : A} → y ≡ f (productionAt bs o s) x
       → Over f bs owners starts m x₀ (j + 1) y
@@ -38,16 +38,16 @@ module _ {A : Type 0} {f : Production → A → A} {bs owners starts : List ℕ}
   over-next h {s = s} eo es ey =
       record {
         rest =
-            ap (overAll f (productionsFrom (m - (j + 1)) bs owners starts (j + 1)))
+            ap (overAll f (productionsAt bs (placesFrom (m - (j + 1)) owners starts (j + 1))))
             (ey
             ∙ ap (λ (o : ℕ). f (productionAt bs o s) x) eo
             ∙ ap (λ (s : ℕ). f (productionAt bs (getD owners j 0) s) x) es)
-            ∙ over-one (productions-next bs owners starts m j h);
+            ∙ over-one _ (places-next owners starts m j h);
       }
 
   pub over-end : m ≤ j → x ≡ overAll f (productionsBy m bs owners starts) x₀
   unfolding overAll
-  over-end h = over-one (productions-none bs owners starts m j h)
+  over-end h = over-one [] (places-none owners starts m j h)
 
 -- ------------------------------------------------------------------ rounds
 

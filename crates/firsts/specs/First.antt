@@ -122,12 +122,12 @@ clash nulls firsts n p q =
     (eqb (p .owner) n && eqb (q .owner) n)
     && (ltb 0 (sharedBy nulls firsts n p q) || (allPassed nulls (p .items) && allPassed nulls (q .items)))
 
--- a test of one production with each of others, and of each pair of a grammar
-unfoldable pub anyWith : (Production → Bool) → List Production → Bool
+-- a test of one with each of others, and of each pair
+unfoldable pub anyWith : {A : Type 0} → (A → Bool) → List A → Bool
 anyWith t [] = false
 anyWith t (q ∷ g) = t q || anyWith t g
 
-unfoldable pub anyPair : (Production → Production → Bool) → List Production → Bool
+unfoldable pub anyPair : {A : Type 0} → (A → A → Bool) → List A → Bool
 anyPair t [] = false
 anyPair t (p ∷ g) = anyWith (t p) g || anyPair t g
 
@@ -136,11 +136,11 @@ abbrev pub clashing : ℕ → List ℕ → List Production → ℕ
 clashing nulls firsts g = lowest 64 (λ n. anyPair (clash nulls firsts n) g) 0
 
 -- what any two productions of a grammar share, together
-unfoldable pub joinWith : (Production → ℕ) → List Production → ℕ → ℕ
+unfoldable pub joinWith : {A : Type 0} → (A → ℕ) → List A → ℕ → ℕ
 joinWith f [] found = found
 joinWith f (q ∷ g) found = joinWith f g (bitOr found (f q))
 
-unfoldable pub joinPairs : (Production → Production → ℕ) → List Production → ℕ → ℕ
+unfoldable pub joinPairs : {A : Type 0} → (A → A → ℕ) → List A → ℕ → ℕ
 joinPairs f [] found = found
 joinPairs f (p ∷ g) found = joinPairs f g (joinWith (f p) g found)
 

@@ -1,60 +1,46 @@
--- The search for a clash by the places of an index: `owners` has the nonterminal of each production, `openings` its first set,
--- `empties` whether all its items may read nothing. Where these are right, it is the search over the productions themselves.
-use Prim.Native.Nat.{ℕ, zero, suc, _+_}
+-- The search for a clash by the links of a room: over the productions of each nonterminal, place by place. Where the room holds a grammar it is
+-- the search over the productions themselves. These mirror code: nobody needs them to believe `expand`.
+use Prim.Native.Nat.{ℕ, zero, suc, _-_}
 use mathlib.Core.Bool.{Bool, true, false, _&&_, _||_}
 use mathlib.Core.List.{List, [], _∷_}
-use lib.Bits.{bitOr, bitAnd}
+use lib.Bits.{bitAnd}
 use lib.Count.{trailingZeros}
-use lib.Dec.{eqb, ltb}
-use lib.ListN.{getD}
+use lib.Dec.{ltb}
 use Rattle.answers.specs.Refusals.{refusal}
 use Rattle.answers.specs.Checked.{Checked, ok, bad}
-use Rattle.firsts.specs.First.{lowest}
+use Rattle.productions.specs.Room.{noPlace, firstPlaceIn, firstIn, nextPlaceIn, nullableIn}
+use Rattle.firsts.specs.First.{lowest, anyPair, joinPairs}
 
--- the values at the k places from j on
-unfoldable pub valuesFrom : {A : Type 0} → (ℕ → A) → ℕ → ℕ → List A
-valuesFrom v zero j = []
-valuesFrom v (suc k) j = v j ∷ valuesFrom v k (j + 1)
+-- the place that the link at place i leads to; a link that does not lead on ends the search
+abbrev pub afterIn : List ℕ → ℕ → ℕ
+afterIn room i = elim (ltb i (nextPlaceIn room i)) [ true ↦ nextPlaceIn room i | false ↦ noPlace ]
 
--- both productions are of n
-abbrev pub bothOf : List ℕ → ℕ → ℕ → ℕ → Bool
-bothOf owners n i j = eqb (getD owners i 0) n && eqb (getD owners j 0) n
+-- the places that are linked from place i on, k at most
+unfoldable pub linkedFrom : ℕ → List ℕ → ℕ → List ℕ
+linkedFrom zero room i = []
+linkedFrom (suc k) room i = elim (ltb i noPlace) [ true ↦ i ∷ linkedFrom k room (afterIn room i) | false ↦ [] ]
 
--- the kinds that two productions of n share
-abbrev pub sharedAt : List ℕ → List ℕ → ℕ → ℕ → ℕ → ℕ
-sharedAt owners openings n i j =
-    elim (bothOf owners n i j) [ true ↦ bitAnd (getD openings i 0) (getD openings j 0) | false ↦ 0 ]
+abbrev pub linked : List ℕ → ℕ → List ℕ
+linked room i = linkedFrom (noPlace - i) room i
 
--- two productions of n share a kind, or are both nullable
-abbrev pub clashAt : List ℕ → List ℕ → List Bool → ℕ → ℕ → ℕ → Bool
-clashAt owners openings empties n i j =
-    bothOf owners n i j && (ltb 0 (sharedAt owners openings n i j) || (getD empties i false && getD empties j false))
+-- the kinds that two productions share
+abbrev pub sharedIn : List ℕ → ℕ → ℕ → ℕ
+sharedIn room i j = bitAnd (firstIn room i) (firstIn room j)
 
--- a test of the k places from j on, and of each pair of the k places from i on
-unfoldable pub anyFrom : (ℕ → Bool) → ℕ → ℕ → Bool
-anyFrom t zero j = false
-anyFrom t (suc k) j = t j || anyFrom t k (j + 1)
+-- two productions share a kind, or are both nullable
+abbrev pub clashIn : List ℕ → ℕ → ℕ → Bool
+clashIn room i j = ltb 0 (sharedIn room i j) || (nullableIn room i && nullableIn room j)
 
-unfoldable pub anyPairFrom : (ℕ → ℕ → Bool) → ℕ → ℕ → Bool
-anyPairFrom t zero i = false
-anyPairFrom t (suc k) i = anyFrom (t i) k (i + 1) || anyPairFrom t k (i + 1)
+-- the lowest nonterminal of which two productions clash, 64 if there is none
+abbrev pub clashingIn : List ℕ → ℕ
+clashingIn room = lowest 64 (λ n. anyPair (clashIn room) (linked room (firstPlaceIn room n))) 0
 
--- the lowest nonterminal of which two of the m productions clash, 64 if there is none
-abbrev pub clashingBy : ℕ → List ℕ → List ℕ → List Bool → ℕ
-clashingBy m owners openings empties = lowest 64 (λ n. anyPairFrom (clashAt owners openings empties n) m 0) 0
+-- what any two productions of n share, together
+abbrev pub allSharedIn : List ℕ → ℕ → ℕ
+allSharedIn room n = joinPairs (sharedIn room) (linked room (firstPlaceIn room n)) 0
 
--- what the k places from j on give, and each pair of the k places from i on, together
-unfoldable pub joinFrom : (ℕ → ℕ) → ℕ → ℕ → ℕ → ℕ
-joinFrom f zero j found = found
-joinFrom f (suc k) j found = joinFrom f k (j + 1) (bitOr found (f j))
-
-unfoldable pub joinPairsFrom : (ℕ → ℕ → ℕ) → ℕ → ℕ → ℕ → ℕ
-joinPairsFrom f zero i found = found
-joinPairsFrom f (suc k) i found = joinPairsFrom f k (i + 1) (joinFrom (f i) k (i + 1) found)
-
--- refusal 13, by the places
-unfoldable pub noClashBy : ℕ → List ℕ → List ℕ → List Bool → Checked (Unit {0})
-noClashBy m owners openings empties =
-    let n : ℕ = clashingBy m owners openings empties in
-    elim (ltb n 64)
-    [ true ↦ bad (refusal 13 n (trailingZeros 64 (joinPairsFrom (sharedAt owners openings n) m 0 0)) 0) | false ↦ ok tt ]
+-- refusal 13, by the room
+unfoldable pub noClashIn : List ℕ → Checked (Unit {0})
+noClashIn room =
+    let n : ℕ = clashingIn room in
+    elim (ltb n 64) [ true ↦ bad (refusal 13 n (trailingZeros 64 (allSharedIn room n)) 0) | false ↦ ok tt ]

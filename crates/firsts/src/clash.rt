@@ -1,17 +1,15 @@
-// Left recursion and clashes: refusals 12 and 13. The clash search works from the nonterminal of each production, its first set, and
-// whether all its items may read nothing.
+// Left recursion and clashes: refusals 12 and 13. The clash search goes over the productions of each nonterminal, by the links of the room.
 use super::items::set_at;
-use grammar::reader::byte;
 use kinds::has;
 use kinds::join;
 use kinds::meet;
-ghost use Prim.Native.Nat.{_+_, _<_};
+use productions::room::first;
+use productions::room::first_place;
+use productions::room::is_nullable;
+use productions::room::next_place;
 ghost use mathlib.Core.Path.{_≡_};
-ghost use mathlib.Core.Bool.{true, false};
-ghost use lib.Dec.{eqb};
-ghost use lib.ListN.{getD};
 ghost use Rattle.firsts.specs.First.{leftRecursive};
-ghost use Rattle.firsts.specs.Pairs.{bothOf, sharedAt, clashAt, clashingBy, joinPairsFrom};
+ghost use Rattle.firsts.specs.Pairs.{afterIn, sharedIn, clashIn, clashingIn, allSharedIn};
 
 // The lowest nonterminal that reaches itself by left calls, 64 if none does.
 pub fn left_recursive(calls: &[u64]) -> u8
@@ -29,71 +27,48 @@ pub fn left_recursive(calls: &[u64]) -> u8
     n
 }
 
-// What is told at a place, false past the end.
-fn flag(flags: &[bool], j: usize) -> bool
-    ensures { λ r. ⌜ r ≡ getD (now (flags .entry)) j false ⌝ }
+// The place that the link at place i leads to; 256 if it leads to none, or not on.
+fn after(room: &[u64; 641], i: usize) -> usize
+    ensures { λ r. ⌜ r ≡ afterIn (now (room .entry)) i ⌝ }
 {
-    if j < flags.len() { flags[j] } else { false }
+    let next = next_place(room, i);
+    if i < next { next } else { 256 }
 }
 
-// Whether the productions at two places are both of nonterminal n.
-fn both_of(owners: &[u8], n: u8, i: usize, j: usize) -> bool
-    ensures { λ r. ⌜ r ≡ bothOf (now (owners .entry)) n i j ⌝ }
+// The kinds that two productions share.
+fn shared_by(room: &[u64; 641], i: usize, j: usize) -> u64
+    ensures { λ r. ⌜ r ≡ sharedIn (now (room .entry)) i j ⌝ }
 {
-    let a = byte(owners, i);
-    let b = byte(owners, j);
-    (a == n) & (b == n)
+    meet(first(room, i), first(room, j))
 }
 
-// The kinds that two productions of n share.
-fn shared_at(owners: &[u8], openings: &[u64], n: u8, i: usize, j: usize) -> u64
-    ensures { λ r. ⌜ r ≡ sharedAt (now (owners .entry)) (now (openings .entry)) n i j ⌝ }
+// Whether two productions share a kind, or are both nullable.
+fn clash(room: &[u64; 641], i: usize, j: usize) -> bool
+    ensures { λ r. ⌜ r ≡ clashIn (now (room .entry)) i j ⌝ }
 {
-    let both = both_of(owners, n, i, j);
-    if both {
-        meet(set_at(openings, i), set_at(openings, j))
-    } else {
-        0
-    }
-}
-
-// Whether two productions of n share a kind, or are both nullable.
-fn clash_at(owners: &[u8], openings: &[u64], empties: &[bool], n: u8, i: usize, j: usize) -> bool
-    ensures { λ r. ⌜ r ≡ clashAt (now (owners .entry)) (now (openings .entry)) (now (empties .entry)) n i j ⌝ }
-{
-    let both = both_of(owners, n, i, j);
-    let shared = shared_at(owners, openings, n, i, j);
-    let a = flag(empties, i);
-    let b = flag(empties, j);
-    both & ((0 < shared) | (a & b))
-}
-
-// The first place to compare with place i: the next one, or the end if the production at i is not of n.
-fn partner(owners: &[u8], n: u8, i: usize, m: usize) -> usize
-    requires { ⌜ i < m ⌝ }
-    ensures { λ r. ⌜ r ≡ elim (eqb (getD (now (owners .entry)) i 0) n) [ true ↦ i + 1 | false ↦ m ] ⌝ }
-{
-    let a = byte(owners, i);
-    if a == n { i + 1 } else { m }
+    let shared = shared_by(room, i, j);
+    let a = is_nullable(room, i);
+    let b = is_nullable(room, j);
+    (0 < shared) | (a & b)
 }
 
 // The lowest nonterminal of which two productions clash, 64 if there is none: the search ends at the first clash.
-pub fn clashing(owners: &[u8], m: usize, openings: &[u64], empties: &[bool]) -> u8
-    ensures { λ r. ⌜ r ≡ clashingBy m (now (owners .entry)) (now (openings .entry)) (now (empties .entry)) ⌝ }
+pub fn clashing(room: &[u64; 641]) -> u8
+    ensures { λ r. ⌜ r ≡ clashingIn (now (room .entry)) ⌝ }
 {
     let mut n: u8 = 0;
     'search: while n < 64 {
-        let mut i: usize = 0;
-        while i < m {
-            let mut j = partner(owners, n, i, m);
-            while j < m {
-                let found = clash_at(owners, openings, empties, n, i, j);
+        let mut i = first_place(room, n);
+        while i < 256 {
+            let mut j = after(room, i);
+            while j < 256 {
+                let found = clash(room, i, j);
                 if found {
                     break 'search;
                 }
-                j += 1;
+                j = after(room, j);
             }
-            i += 1;
+            i = after(room, i);
         }
         n += 1;
     }
@@ -101,19 +76,19 @@ pub fn clashing(owners: &[u8], m: usize, openings: &[u64], empties: &[bool]) -> 
 }
 
 // The kinds that any two productions of n share.
-pub fn shared(owners: &[u8], m: usize, openings: &[u64], n: u8) -> u64
-    ensures { λ r. ⌜ r ≡ joinPairsFrom (sharedAt (now (owners .entry)) (now (openings .entry)) n) m 0 0 ⌝ }
+pub fn shared(room: &[u64; 641], n: u8) -> u64
+    ensures { λ r. ⌜ r ≡ allSharedIn (now (room .entry)) n ⌝ }
 {
     let mut found: u64 = 0;
-    let mut i: usize = 0;
-    while i < m {
-        let mut j = partner(owners, n, i, m);
-        while j < m {
-            let more = shared_at(owners, openings, n, i, j);
+    let mut i = first_place(room, n);
+    while i < 256 {
+        let mut j = after(room, i);
+        while j < 256 {
+            let more = shared_by(room, i, j);
             found = join(found, more);
-            j += 1;
+            j = after(room, j);
         }
-        i += 1;
+        i = after(room, i);
     }
     found
 }

@@ -1,4 +1,4 @@
-// Normalizing, nullable nonterminals, first sets and left recursion: refusals 12 and 13.
+// Nullable nonterminals, first sets and left recursion: refusals 12 and 13.
 pub mod clash;
 pub mod items;
 pub mod nullable;

@@ -1,4 +1,4 @@
-// The check of a grammar's first sets, refusals 12 and 13, and the rooms in which it hands on what an expansion needs.
+// The check of a grammar's first sets, with the room that an expansion reads: refusals 12 and 13.
 use super::clash::clashing;
 use super::clash::left_recursive;
 use super::clash::shared;
@@ -6,55 +6,62 @@ use super::items::all_passed;
 use super::items::gather;
 use super::nullable::nullables;
 use super::sets::sets_of;
-use answers::Refusal;
 use answers::Verdict;
+use answers::refuse;
 use kinds::lowest;
 use productions::index::offset;
-ghost use Prim.Native.Nat.{_≤_};
+use productions::room::begin;
+use productions::room::lay;
 ghost use mathlib.Core.Path.{_≡_};
-ghost use mathlib.Core.Bool.{false};
-ghost use mathlib.Core.List.{_++_};
-ghost use lib.ListN.{length, getD, drop};
-ghost use Rattle.answers.specs.Refusals.{refusal};
 ghost use Rattle.answers.specs.Checked.{verdict};
-ghost use Rattle.answers.specs.declared.Verdict.the-variants.{Refused};
-ghost use Rattle.grammar.specs.Lookup.{fieldsAt};
-ghost use Rattle.firsts.specs.First.{nullables, leftCalls, leftRecursive, allPassed, gather, checkFirsts};
-ghost use Rattle.productions.specs.Index.{itemsOf, productionsBy};
-ghost use Rattle.firsts.specs.Pairs.{valuesFrom, noClashBy};
-ghost use Rattle.firsts.specs.Rooms.{Prepared};
+ghost use Rattle.productions.specs.Index.{placesIn, productionsBy};
+ghost use Rattle.productions.specs.Room.{overwritten};
+ghost use Rattle.firsts.specs.First.{leftCalls, leftRecursive};
+ghost use Rattle.firsts.specs.Pairs.{noClashIn};
+ghost use Rattle.firsts.specs.Room.{roomBy, WholeIndex, FillRoom, Prepared, FirstsChecked};
 
-// The first set of each production, in its place.
-fn fill_openings(
+// Writes the room of a grammar with these nullable nonterminals and first sets. The productions are laid from the last to the first, so
+// that each finds the next one of its nonterminal.
+fn fill(
     table: &[u8],
-    starts: &[u16],
+    owners: &[u8; 256],
+    starts: &[u16; 256],
     m: usize,
     nulls: u64,
-    firsts: &[u64],
-    openings: &mut [u64],
+    sets: &[u64],
+    room: &mut [u64],
 )
-    requires { ⌜ m ≤ length (now openings) ⌝ }
-    ensures { λ r. ⌜ now (openings .exit) ≡ valuesFrom (λ j. gather false nulls (now (firsts .entry)) (itemsOf (fieldsAt (now (table .entry)) (getD (now (starts .entry)) j 0))) 0) m 0 ++ drop m (now (openings .entry)) ⌝ }
+    requires { ⌜ FillRoom (now table) m (now owners) (now starts) (now sets) (now room) ⌝ }
+    ensures { λ r. ⌜ now (room .exit) ≡ overwritten (roomBy (now (table .entry)) (placesIn m (now (owners .entry)) (now (starts .entry))) nulls (now (sets .entry))) (now (room .entry)) ⌝ }
 {
-    let mut j: usize = 0;
-    while j < m {
+    begin(room, m, sets);
+    let mut j = m;
+    while 0 < j {
+        j -= 1;
+        let owner = owners[j];
         let start = offset(starts, j);
-        openings[j] = gather(table, start, false, nulls, firsts);
-        j += 1;
+        let first = gather(table, start, false, nulls, sets);
+        let nullable = all_passed(table, start, nulls);
+        lay(room, j, owner, starts[j], first, nullable);
     }
 }
 
-// Whether all items of each production may read nothing, in its place.
-fn fill_empties(table: &[u8], starts: &[u16], m: usize, nulls: u64, empties: &mut [bool])
-    requires { ⌜ m ≤ length (now empties) ⌝ }
-    ensures { λ r. ⌜ now (empties .exit) ≡ valuesFrom (λ j. allPassed nulls (itemsOf (fieldsAt (now (table .entry)) (getD (now (starts .entry)) j 0)))) m 0 ++ drop m (now (empties .entry)) ⌝ }
+// The nullable nonterminals, with what an expansion needs of a grammar in the room.
+fn prepare(
+    table: &[u8],
+    owners: &[u8; 256],
+    starts: &[u16; 256],
+    m: usize,
+    room: &mut [u64; 641],
+) -> u64
+    requires { ⌜ WholeIndex (now table) m (now owners) (now starts) ⌝ }
+    ensures { λ r. ⌜ Prepared (now (table .entry)) (placesIn m (now (owners .entry)) (now (starts .entry))) (now (room .entry)) (now (room .exit)) r ⌝ }
 {
-    let mut j: usize = 0;
-    while j < m {
-        let start = offset(starts, j);
-        empties[j] = all_passed(table, start, nulls);
-        j += 1;
-    }
+    let nulls = nullables(table, owners, starts, m);
+    let mut sets = [0u64; 64];
+    sets_of(table, owners, starts, m, false, nulls, &mut sets);
+    fill(table, owners, starts, m, nulls, &sets, room);
+    nulls
 }
 
 // The lowest nonterminal that is left recursive, 64 if there is none.
@@ -66,72 +73,36 @@ fn recursion(table: &[u8], owners: &[u8], starts: &[u16], m: usize, nulls: u64) 
     left_recursive(&calls)
 }
 
-fn refused(number: u8, n: u8, kind: u32) -> Verdict
-    ensures { λ r. ⌜ r ≡ Refused (refusal number n kind 0) ⌝ }
-{
-    Verdict::Refused(Refusal {
-        number,
-        a: n as u64,
-        b: kind as u64,
-        c: 0,
-    })
-}
-
 // Whether two productions of one nonterminal clash: refusal 13.
-fn check_clash(owners: &[u8], m: usize, openings: &[u64], empties: &[bool]) -> Verdict
-    ensures { λ r. ⌜ r ≡ verdict (noClashBy m (now (owners .entry)) (now (openings .entry)) (now (empties .entry))) ⌝ }
+fn check_clash(room: &[u64; 641]) -> Verdict
+    ensures { λ r. ⌜ r ≡ verdict (noClashIn (now (room .entry))) ⌝ }
 {
-    let n = clashing(owners, m, openings, empties);
+    let n = clashing(room);
     if n < 64 {
-        let kinds = shared(owners, m, openings, n);
-        refused(13, n, lowest(kinds))
+        let kinds = shared(room, n);
+        Verdict::Refused(refuse(13, n as u64, lowest(kinds) as u64, 0))
     } else {
         Verdict::Passed
     }
 }
 
-// What an expansion needs of a grammar, into lent rooms.
-pub fn prepare(
-    table: &[u8],
-    owners: &[u8],
-    starts: &[u16],
-    m: usize,
-    nulls: &mut u64,
-    firsts: &mut [u64; 64],
-    openings: &mut [u64; 256],
-    empties: &mut [bool; 256],
-)
-    requires { ⌜ m ≤ 256 ⌝ }
-    ensures { λ r. ⌜ Prepared (productionsBy m (now (table .entry)) (now (owners .entry)) (now (starts .entry))) (now (nulls .exit)) (now (firsts .exit)) (now (openings .entry)) (now (openings .exit)) (now (empties .entry)) (now (empties .exit)) ⌝ }
-{
-    let set = nullables(table, owners, starts, m);
-    *nulls = set;
-    sets_of(table, owners, starts, m, false, set, firsts);
-    fill_openings(table, starts, m, set, firsts, openings);
-    fill_empties(table, starts, m, set, empties);
-}
-
-// Whether a grammar can be read by its next token: refusal 12 or 13, with what an expansion needs of it in lent rooms. This rules out
+// Whether a grammar can be read by its next token: refusal 12 or 13, with what an expansion needs of it in the room. This rules out
 // that two nullable productions pass, and that a clash is told before left recursion, or with the kinds of one pair alone.
 pub fn check_firsts(
     table: &[u8],
-    owners: &[u8],
-    starts: &[u16],
+    owners: &[u8; 256],
+    starts: &[u16; 256],
     m: usize,
-    nulls: &mut u64,
-    firsts: &mut [u64; 64],
-    openings: &mut [u64; 256],
-    empties: &mut [bool; 256],
+    room: &mut [u64; 641],
 ) -> Verdict
-    requires { ⌜ m ≤ 256 ⌝ }
-    ensures { λ r. ⌜ r ≡ verdict (checkFirsts (productionsBy m (now (table .entry)) (now (owners .entry)) (now (starts .entry)))) ⌝ }
-    ensures { λ r. ⌜ Prepared (productionsBy m (now (table .entry)) (now (owners .entry)) (now (starts .entry))) (now (nulls .exit)) (now (firsts .exit)) (now (openings .entry)) (now (openings .exit)) (now (empties .entry)) (now (empties .exit)) ⌝ }
+    requires { ⌜ WholeIndex (now table) m (now owners) (now starts) ⌝ }
+    ensures { λ r. ⌜ FirstsChecked (now (table .entry)) (placesIn m (now (owners .entry)) (now (starts .entry))) (now (room .entry)) (now (room .exit)) r ⌝ }
 {
-    prepare(table, owners, starts, m, nulls, firsts, openings, empties);
-    let n = recursion(table, owners, starts, m, *nulls);
+    let nulls = prepare(table, owners, starts, m, room);
+    let n = recursion(table, owners, starts, m, nulls);
     if n < 64 {
-        refused(12, n, 0)
+        Verdict::Refused(refuse(12, n as u64, 0, 0))
     } else {
-        check_clash(owners, m, openings, empties)
+        check_clash(room)
     }
 }

@@ -1,7 +1,7 @@
 -- Laws of the tests on one field: values, counts, and the first test that fails.
 use Prim.Native.Nat.{ℕ, _+_, _<_, _≤_}
-use mathlib.Core.Path.{_≡_, refl, sym, ap, _∙_}
-use mathlib.Core.Bool.{Bool, true, false, not, _&&_, _||_, and-eq-true-iff, and-true}
+use mathlib.Core.Path.{_≡_, refl, sym, ap, ap₂, _∙_}
+use mathlib.Core.Bool.{Bool, true, false, not, _&&_, _||_, and-eq-true-iff, and-true, or-false}
 use mathlib.Core.List.{List, _∷_}
 use native.Mathlib.Omega.{arith}
 use mir.Syntax.{w16}
@@ -18,6 +18,7 @@ use Rattle.grammar.specs.Sorts.{isSort}
 use Rattle.grammar.specs.Encode.{Field}
 use Rattle.layout.specs.declared.Progress.{Progress}
 use Rattle.layout.specs.Prefix.{templatesOf, isTemplates, isTemplate}
+use Rattle.layout.specs.Layout.{isEmpty, isHead, isItem, isRoot}
 use Rattle.layout.specs.Layout.{isKnown, follows, isRepeated, isSpelled, hasRoom, oneIf, passed, isWhole, checkField}
 
 -- ------------------------------------------------------------------ tests
@@ -39,6 +40,65 @@ itemBy v kind operand sort =
     || (eqb kind 2 && eqb (length v) 2 && eqb operand 0)
     || (eqb kind 3 && eqb (length v) 2 && eqb operand 0)
     || (eqb kind 4 && leb 2 (length v) && leb operand 63)
+
+-- a definition's head, by the test of its length and its first two bytes
+pub head-by :
+    (v : List ℕ) {first second : ℕ} → first ≡ getD v 0 0 → second ≡ getD v 1 0 → (sized : Bool)
+    → (leb 3 (length v) && leb (length v) 7 && leb first 63 && leb second 2) ≡ sized → (sized && every isSort (drop 2 v)) ≡ isHead v
+unfolding isHead
+head-by v e f sized q =
+    ap (λ t. t && every isSort (drop 2 v)) (sym q ∙ ap₂ (λ x y. leb 3 (length v) && leb (length v) 7 && leb x 63 && leb y 2) e f)
+
+-- the test for a known tag, by the tests of the tag
+knownTests : List ℕ → Bool → Bool → Bool → Bool → Bool → Bool → Bool → Bool → Bool
+knownTests v a b c d e f g h = a || b || (c && isEmpty v) || (d && isHead v) || (e && isEmpty v) || (f && isItem v) || g || (h && isRoot v)
+
+-- a known tag, one by one
+module _ {tag : ℕ} (v : List ℕ) where
+  known-at : {t : ℕ} → tag ≡ t → isKnown t v ≡ isKnown tag v
+  known-at e = ap (λ x. isKnown x v) (sym e)
+
+  pub known-keyword : tag ≡ 1 → true ≡ isKnown tag v
+  unfolding isKnown
+  known-keyword e = known-at e
+
+  pub known-outside : tag ≡ 2 → true ≡ isKnown tag v
+  unfolding isKnown
+  known-outside e = known-at e
+
+  pub known-block : tag ≡ 3 → isEmpty v ≡ isKnown tag v
+  unfolding isKnown
+  known-block e = simp or-false at (known-at e)
+
+  pub known-head : tag ≡ 4 → isHead v ≡ isKnown tag v
+  unfolding isKnown
+  known-head e = simp or-false at (known-at e)
+
+  pub known-alternative : tag ≡ 5 → isEmpty v ≡ isKnown tag v
+  unfolding isKnown
+  known-alternative e = simp or-false at (known-at e)
+
+  pub known-item : tag ≡ 6 → isItem v ≡ isKnown tag v
+  unfolding isKnown
+  known-item e = simp or-false at (known-at e)
+
+  pub known-result : tag ≡ 7 → true ≡ isKnown tag v
+  unfolding isKnown
+  known-result e = known-at e
+
+  pub known-root : tag ≡ 8 → isRoot v ≡ isKnown tag v
+  unfolding isKnown
+  known-root e = known-at e
+
+  -- any other tag
+  pub known-none :
+      (((((((Unit {0} × (tag ≡ 1 → ⊥)) × (tag ≡ 2 → ⊥)) × (tag ≡ 3 → ⊥)) × (tag ≡ 4 → ⊥)) × (tag ≡ 5 → ⊥)) × (tag ≡ 6 → ⊥)) × (tag ≡ 7 → ⊥))
+      × (tag ≡ 8 → ⊥) → false ≡ isKnown tag v
+  unfolding isKnown knownTests
+  known-none ((((((((u, a), b), c), d), e), f), g), h) =
+      sym
+      (λ i. knownTests v (ne-eqb tag 1 a i) (ne-eqb tag 2 b i) (ne-eqb tag 3 c i) (ne-eqb tag 4 d i) (ne-eqb tag 5 e i) (ne-eqb tag 6 f i)
+      (ne-eqb tag 7 g i) (ne-eqb tag 8 h i))
 
 -- the bytes before i are sorts
 pub record Sorts (v : List ℕ) (from i : ℕ) : Type 0 where

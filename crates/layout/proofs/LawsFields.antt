@@ -1,7 +1,7 @@
--- Laws of a table's fields one after the other: those before an offset, the search among them, and the turns of the check.
+-- Laws of a table's fields one after the other: those before an offset, and the turns of the check.
 use Prim.Native.Nat.{ℕ, _+_, _-_, _<_, _≤_}
 use mathlib.Core.Path.{_≡_, refl, sym, ap, _∙_}
-use mathlib.Core.Bool.{Bool, true, false, _&&_, _||_, or-false, or-true}
+use mathlib.Core.Bool.{Bool, true, false}
 use mathlib.Core.List.{List, [], _∷_}
 use native.Mathlib.Omega.{arith}
 use lib.Dec.{eqb, ltb}
@@ -11,8 +11,6 @@ use Rattle.answers.specs.declared.Refusal.{Refusal}
 use Rattle.answers.specs.declared.Verdict.the-variants.{Refused}
 use Rattle.answers.specs.Refusals.{refusal}
 use Rattle.answers.specs.Checked.{Checked, ok, bad, need, verdict, _>>=_}
-use Rattle.spellings.specs.Bytes.{same}
-use Rattle.spellings.specs.BytesLaws.{by-test}
 use Rattle.grammar.specs.declared.Front.{Front}
 use Rattle.grammar.specs.declared.Front.the-variants.{Nothing, Short, Field}
 use Rattle.grammar.specs.Encode.{field}
@@ -22,7 +20,7 @@ use Rattle.grammar.specs.Lookup.{frontOf, fieldsAt}
 use Rattle.grammar.proofs.LookupLaws.{opened, fields-at, fields-of}
 use Rattle.layout.specs.declared.Progress.{Progress}
 use Rattle.layout.specs.declared.Checking.the-variants.{Further, Stopped}
-use Rattle.layout.specs.Layout.{isRepeated, checkField, checkFields, start, layout, longestTable}
+use Rattle.layout.specs.Layout.{checkField, checkFields, start, layout, longestTable}
 use Rattle.layout.specs.Before.{earlier, fieldsBefore, checking}
 
 -- ------------------------------------------------------------------ the fields before an offset
@@ -71,94 +69,6 @@ lent-is table from n =
     let z : from + n - from ≡ n = omega arith in
     ap (λ (k : ℕ). take k (drop from table)) z
 
--- ------------------------------------------------------------------ the search for a repeated spelling
-
-module _ (tag : ℕ) (v : List ℕ) where
-  repeated-front : (f : encode.Field) (fs : List encode.Field)
-      → isRepeated tag v (f ∷ fs) ≡ (eqb (f .tag) tag && same (f .value) v || isRepeated tag v fs)
-  unfolding isRepeated
-  repeated-front f fs = refl
-
-  repeated-none : isRepeated tag v [] ≡ false
-  unfolding isRepeated
-  repeated-none = refl
-
-  regroup : (x h r : Bool) → (x || (h || r)) ≡ ((x || (h || false)) || r)
-  regroup true h r = refl
-  regroup false true r = refl
-  regroup false false r = refl
-
-  -- a spelling is repeated in the fields or in what came before them
-  repeated-earlier : (to : ℕ) (fs : Fields) (before : List encode.Field)
-      → isRepeated tag v (earlier to fs before) ≡ (isRepeated tag v (earlier to fs []) || isRepeated tag v before)
-  unfolding isRepeated earlier
-  repeated-earlier to (end at) before = refl
-  repeated-earlier to (cut at) before = refl
-  repeated-earlier to (next at t w fs) before =
-      by-test (ltb at to)
-      (λ e.
-      ap (isRepeated tag v) (earlier-by to at t w fs before true e)
-      ∙ repeated-earlier to fs (field t w ∷ before)
-      ∙ regroup (isRepeated tag v (earlier to fs [])) (eqb t tag && same w v) (isRepeated tag v before)
-      ∙ sym
-      (ap (λ (x : Bool). x || isRepeated tag v before)
-      (ap (isRepeated tag v) (earlier-by to at t w fs [] true e) ∙ repeated-earlier to fs (field t w ∷ []))))
-      (λ e.
-      ap (isRepeated tag v) (earlier-by to at t w fs before false e)
-      ∙ sym (ap (λ l. isRepeated tag v l || isRepeated tag v before) (earlier-by to at t w fs [] false e)))
-
--- the fields before `at` do not have the tag and value
-pub record Scanning (table : List ℕ) (to tag : ℕ) (v : List ℕ) (at : ℕ) : Type 0 where
-  pub rest : isRepeated tag v (earlier to (fieldsAt table at) []) ≡ isRepeated tag v (fieldsBefore table to)
-
-pub scanning-start : (table : List ℕ) (to tag : ℕ) (v : List ℕ) → Scanning table to tag v 0
-scanning-start table to tag v = record { rest = sym (ap (isRepeated tag v) (before-is table to)) }
-
-module _ {table : List ℕ} {to tag : ℕ} {v : List ℕ} {at : ℕ} (c : Scanning table to tag v at) where
-  none-left : (fs : List encode.Field) → earlier to (fieldsAt table at) [] ≡ fs → fs ≡ []
-      → false ≡ isRepeated tag v (fieldsBefore table to)
-  none-left fs e f = sym (ap (isRepeated tag v) (e ∙ f) ∙ repeated-none tag v) ∙ c .rest
-
-  pub scanning-end : to ≤ at → false ≡ isRepeated tag v (fieldsBefore table to)
-  scanning-end h = none-left _ (past table to at [] h) refl
-
-  pub scanning-nothing : Nothing ≡ frontOf (drop at table) → false ≡ isRepeated tag v (fieldsBefore table to)
-  scanning-nothing e = none-left _ (ap (λ fs. earlier to fs []) (fields-at table at e)) (earlier-end to at [])
-
-  pub scanning-short : Short ≡ frontOf (drop at table) → false ≡ isRepeated tag v (fieldsBefore table to)
-  scanning-short e = none-left _ (ap (λ fs. earlier to fs []) (fields-at table at e)) (earlier-cut to at [])
-
-  module _ (h : at < to) {t n : ℕ} (e : Field t n ≡ frontOf (drop at table)) where
-    -- the field here, with its value as the code lends it, or one further on
-    found-by : {equal : Bool} → equal ≡ same (take (at + 3 + n - (at + 3)) (drop (at + 3) table)) v → (here : Bool)
-        → (eqb t tag && equal) ≡ here
-        → (isRepeated tag v (earlier to (fieldsAt table (at + 3 + n)) []) || (here || false))
-        ≡ isRepeated tag v (fieldsBefore table to)
-    found-by {equal} q here f =
-        sym
-        (ap (isRepeated tag v) (one-more table to at [] e h)
-        ∙ repeated-earlier tag v to (fieldsAt table (at + 3 + n)) (field t (take n (drop (at + 3) table)) ∷ [])
-        ∙ ap (λ (x : Bool). isRepeated tag v (earlier to (fieldsAt table (at + 3 + n)) []) || x)
-        (repeated-front tag v (field t (take n (drop (at + 3) table))) []
-        ∙ (λ i. (eqb t tag && same (sym (lent-is table (at + 3) n) i) v) || repeated-none tag v i)
-        ∙ ap (λ (x : Bool). (eqb t tag && x) || false) (sym q)
-        ∙ ap (λ (x : Bool). x || false) f))
-        ∙ c .rest
-
-    pub scanning-found : {equal : Bool} → equal ≡ same (take (at + 3 + n - (at + 3)) (drop (at + 3) table)) v
-        → (eqb t tag && equal) ≡ true
-        → true ≡ isRepeated tag v (fieldsBefore table to)
-    scanning-found q f =
-        sym (or-true (isRepeated tag v (earlier to (fieldsAt table (at + 3 + n)) []))) ∙ found-by q true f
-
-    pub scanning-next : {equal : Bool} → equal ≡ same (take (at + 3 + n - (at + 3)) (drop (at + 3) table)) v
-        → (eqb t tag && equal) ≡ false
-        → Scanning table to tag v (at + 3 + n)
-    scanning-next q f =
-        record {
-          rest = sym (or-false (isRepeated tag v (earlier to (fieldsAt table (at + 3 + n)) []))) ∙ found-by q false f;
-        }
-
 -- ------------------------------------------------------------------ the turns of the check
 
 pub layout-long : (table : List ℕ) → longestTable < length table → Refused (refusal 1 0 0 0) ≡ verdict (layout table)
@@ -183,7 +93,7 @@ fields-next : (at tag : ℕ) (v : List ℕ) (fs : Fields) (before : List encode.
 unfolding checkFields
 fields-next at tag v fs before s r e = ap (λ x. x >>= λ t. checkFields fs (field tag v ∷ before) t) e
 
-checked-ok : (x : Checked Progress) (s : Progress) → Further s ≡ checking x → x ≡ ok s
+pub checked-ok : (x : Checked Progress) (s : Progress) → Further s ≡ checking x → x ≡ ok s
 checked-ok (ok t) s e = cc
 checked-ok (bad r) s e = let z : _≡_ {A = ℕ} 0 1 = cc in absurd (omega arith)
 
@@ -196,14 +106,15 @@ pub record Turn (table : List ℕ) (at : ℕ) (s : Progress) : Type 0 where
   pub divides : (to : ℕ) → at ≤ to → fieldsBefore table to ≡ earlier to (fieldsAt table at) (fieldsBefore table at)
   pub rest : checkFields (fieldsAt table at) (fieldsBefore table at) s ≡ checkFields (fieldsOf table) [] start
 
-none-before : (table : List ℕ) → fieldsBefore table 0 ≡ []
+-- no field stands before the first
+pub none-before : (table : List ℕ) → fieldsBefore table 0 ≡ []
 none-before table = before-is table 0 ∙ past table 0 0 [] (omega arith)
 
-pub turn-start : (table : List ℕ) → Turn table 0 start
-turn-start table =
+pub turn-start : {table : List ℕ} {s : Progress} → s ≡ start → Turn table 0 s
+turn-start {table} e =
     record {
       divides = λ to h. before-is table to ∙ ap (earlier to (fieldsAt table 0)) (sym (none-before table));
-      rest = λ i. checkFields (sym (fields-of table) i) (none-before table i) start;
+      rest = λ i. checkFields (sym (fields-of table) i) (none-before table i) (e i);
     }
 
 module _ {table : List ℕ} {at : ℕ} {s : Progress} (c : Turn table at s) (h : length table ≤ longestTable) where
@@ -237,7 +148,8 @@ module _ {table : List ℕ} {at : ℕ} {s : Progress} (c : Turn table at s) {t n
       → Refused r ≡ verdict (layout table)
   turn-stopped h {r} f = ap verdict (field-is (bad r) (checked-bad _ r f) ∙ sym (layout-short table h))
 
-  before-next : fieldsBefore table (at + 3 + n) ≡ field t (take n (drop (at + 3) table)) ∷ fieldsBefore table at
+  -- the fields before the next one
+  pub before-next : fieldsBefore table (at + 3 + n) ≡ field t (take n (drop (at + 3) table)) ∷ fieldsBefore table at
   before-next =
       c .divides (at + 3 + n) (omega arith) ∙ one-more table (at + 3 + n) at (fieldsBefore table at) e (omega arith)
       ∙ past table (at + 3 + n) (at + 3 + n) _ (omega arith)

@@ -13,7 +13,8 @@ use Rattle.spellings.proofs.Loops.{drop-at-index}
 use Rattle.grammar.proofs.ReaderLaws.{arity-few}
 use Rattle.grammar.specs.Sorts.{isConstructor, arity}
 use Rattle.grammar.specs.Table.{Template, Templates, variable, none, more}
-use Rattle.layout.specs.Prefix.{Parsed, fault, parsed, inFront, Taken, short, taken, alsoTaken, takeTemplates, applied, constructed, isNameTag, nameBy, templatesOf}
+use Rattle.layout.specs.Prefix.{Parsed, fault, parsed, inFront, Taken, short, taken, alsoTaken, takeTemplates, applied, constructed, isNameTag}
+use Rattle.layout.specs.Prefix.{nameBy, templatesOf}
 use Rattle.layout.proofs.PrefixLaws.{name-first, name-last, byte-first, variable-first, constructor-first, unknown-first}
 use Rattle.layout.specs.Within.{count}
 use Rattle.layout.specs.Layout.{oneIf}

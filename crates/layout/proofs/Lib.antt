@@ -15,3 +15,5 @@ pub mod LayoutTheorems
 pub mod Laws
 pub mod LawsTemplates
 pub mod LawsFields
+pub mod IndexLaws
+pub mod RememberedLaws

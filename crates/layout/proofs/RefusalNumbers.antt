@@ -58,7 +58,9 @@ layout-numbered : (bs : List ℕ) → Numbered (layout bs)
 unfolding layout
 layout-numbered bs = by (leb (length bs) longestTable)
   where
-    by : (t : Bool) → Numbered {A = Unit {0}} (elim t as (λ t. Checked (Unit {0})) [ false ↦ bad (refusal 1 0 0 0) | true ↦ checkFields (fieldsOf bs) [] start ])
+    by :
+        (t : Bool)
+        → Numbered {A = Unit {0}} (elim t as (λ t. Checked (Unit {0})) [ false ↦ bad (refusal 1 0 0 0) | true ↦ checkFields (fieldsOf bs) [] start ])
     by true = fields-numbered (fieldsOf bs) [] start
     by false = refl
 

@@ -10,9 +10,11 @@ use Rattle.spellings.specs.BytesLaws.{by-test}
 use Rattle.grammar.specs.Sorts.{isConstructor, arity}
 use Rattle.grammar.specs.Table.{Template, Templates, make, none, more}
 use Rattle.grammar.specs.Encode.{templateThen, templatesThen}
-use Rattle.layout.specs.Prefix.{Parsed, fault, parsed, inFront, Taken, short, taken, alsoTaken, takeTemplates, applied, constructed, byteInFront, isNameTag, nameBy, templatesOf}
+use Rattle.layout.specs.Prefix.{Parsed, fault, parsed, inFront, Taken, short, taken, alsoTaken, takeTemplates, applied, constructed}
+use Rattle.layout.specs.Prefix.{byteInFront, isNameTag, nameBy, templatesOf}
 use Rattle.layout.proofs.PrefixLaws.{name-first, name-last, byte-first, variable-first, constructor-first, unknown-first}
-use Rattle.layout.specs.Within.{count, TemplateWithin, variable-within, outside-within, label-within, make-within, TemplatesWithin, none-within, more-within}
+use Rattle.layout.specs.Within.{count, TemplateWithin, variable-within, outside-within, label-within, make-within, TemplatesWithin, none-within}
+use Rattle.layout.specs.Within.{more-within}
 use Rattle.layout.proofs.Split.{Bytes}
 
 -- a byte that is neither 10 nor 11 is no name's tag

@@ -14,7 +14,8 @@ use Rattle.grammar.specs.Encode.{templateThen, templatesThen, itemValue, modeCo
 use Rattle.layout.specs.Prefix.{Parsed, fault, parsed, templatesOf, isTemplates, isTemplate, found, firstOf}
 use Rattle.layout.specs.Layout.{isEmpty, isHead, isItem, isRoot, isKnown, isWhole}
 use Rattle.layout.specs.Decode.{modeOf, itemOf, definitionOf}
-use Rattle.layout.specs.Within.{Each, each-none, each-more, TemplateWithin, TemplatesWithin, ItemWithin, keyword-within, ide-within, number-within, local-within, call-within, AlternativeWithin, DefinitionWithin}
+use Rattle.layout.specs.Within.{Each, each-none, each-more, TemplateWithin, TemplatesWithin, ItemWithin, keyword-within, ide-within}
+use Rattle.layout.specs.Within.{number-within, local-within, call-within, AlternativeWithin, DefinitionWithin}
 use Rattle.layout.proofs.Split.{Bytes, dropped-bytes}
 use Rattle.layout.proofs.Templates.{Forms, forms, more-parts, read-template, read-templates}
 

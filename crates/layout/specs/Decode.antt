@@ -4,7 +4,8 @@ use mathlib.Core.List.{List, [], _∷_}
 use lib.ListN.{getD, drop}
 use Rattle.answers.specs.Checked.{Checked, ok, bad, _>>=_, _>>_}
 use Rattle.grammar.specs.Sorts.{gives}
-use Rattle.grammar.specs.Table.{Template, Templates, variable, none, Item, keyword, ide, number, local, call, Alternative, Mode, add, extend, update, Definition, Table}
+use Rattle.grammar.specs.Table.{Template, Templates, variable, none, Item, keyword, ide, number, local, call, Alternative, Mode, add, extend, update}
+use Rattle.grammar.specs.Table.{Definition, Table}
 use Rattle.grammar.specs.Fields.{Fields, end, cut, next, fieldsOf}
 use Rattle.layout.specs.Prefix.{templatesOf, found, firstOf}
 use Rattle.layout.specs.Layout.{layout}
@@ -71,7 +72,9 @@ putDefinition v b = built (b .keywords) (b .outsides) (b .blocks) (b .root) (def
 
 -- the items and the result read are this alternative's
 abbrev pub putAlternative : List ℕ → Built → Built
-putAlternative v b = built (b .keywords) (b .outsides) (b .blocks) (b .root) (b .definitions) (record { items = b .items; result = b .result } ∷ b .alternatives) [] (variable 0)
+putAlternative v b =
+    built (b .keywords) (b .outsides) (b .blocks) (b .root) (b .definitions) (record { items = b .items; result = b .result } ∷ b .alternatives) []
+    (variable 0)
 
 abbrev pub putItem : List ℕ → Built → Built
 putItem v b = built (b .keywords) (b .outsides) (b .blocks) (b .root) (b .definitions) (b .alternatives) (itemOf v ∷ b .items) (b .result)

@@ -1,3 +1,4 @@
+pub mod Index
 pub mod Prefix
 pub mod Layout
 pub mod Decode

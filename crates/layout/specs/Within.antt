@@ -6,7 +6,8 @@ use mathlib.Core.List.{List, [], _∷_}
 use lib.ListN.{length}
 use Rattle.spellings.specs.Bytes.{isWord, isKeyword}
 use Rattle.grammar.specs.Sorts.{arity}
-use Rattle.grammar.specs.Table.{Template, Templates, variable, outside, outsideLabel, make, none, more, Item, keyword, ide, number, local, call, Alternative, Definition, Table}
+use Rattle.grammar.specs.Table.{Template, Templates, variable, outside, outsideLabel, make, none, more, Item, keyword, ide, number, local, call}
+use Rattle.grammar.specs.Table.{Alternative, Definition, Table}
 use Rattle.grammar.specs.Encode.{encode}
 use Rattle.layout.specs.Layout.{longestTable}
 

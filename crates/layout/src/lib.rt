@@ -1,4 +1,6 @@
 // The layout of a phrase table: refusals 1 to 6 and 10, and decoding.
+mod index;
+
 use answers::Refusal;
 use answers::Verdict;
 use grammar::Front;
@@ -6,11 +8,14 @@ use grammar::front_at;
 use grammar::reader::arity_of;
 use grammar::reader::byte;
 use grammar::sorts::Sort;
-use spellings::equal;
+use index::enter;
+use index::is_among;
 use spellings::is_keyword_spelling;
 use spellings::is_word;
 ghost use mathlib.Core.Path.{_≡_};
 ghost use mathlib.Core.Bool.{true};
+ghost use mathlib.Core.List.{List};
+ghost use Rattle.grammar.specs.Encode.{Field};
 ghost use Prim.Native.Nat.{_-_};
 ghost use lib.Dec.{eqb};
 ghost use lib.ListN.{drop};
@@ -19,8 +24,9 @@ ghost use Rattle.answers.specs.Checked.{need, verdict};
 ghost use Rattle.spellings.specs.Bytes.{every};
 ghost use Rattle.grammar.specs.Sorts.{isSort};
 ghost use Rattle.layout.specs.Prefix.{templatesOf};
-ghost use Rattle.layout.specs.Layout.{isHead, isItem, isRoot, isKnown, follows, isRepeated, isSpelled, hasRoom, oneIf, passed, isWhole, checkField, layout};
+ghost use Rattle.layout.specs.Layout.{isHead, isItem, isRoot, isKnown, follows, isSpelled, hasRoom, oneIf, passed, isWhole, checkField, start, layout};
 ghost use Rattle.layout.specs.Before.{fieldsBefore, checking};
+ghost use Rattle.layout.specs.Index.{spelledBy, Falling, Indexed, Remembered};
 ghost use Rattle.layout.specs.Due.{headSize, arguments, isWholly};
 
 // What has been read of a table: the last field's tag (0 at the start), the keywords, outside names, blocks and alternatives so
@@ -61,7 +67,11 @@ fn are_sorts(v: &[u8], from: usize) -> bool
 fn is_head(v: &[u8]) -> bool
     ensures { λ r. ⌜ r ≡ isHead (now (v .entry)) ⌝ }
 {
-    (3 <= v.len()) & (v.len() <= 7) & (byte(v, 0) <= 63) & (byte(v, 1) <= 2) & are_sorts(v, 2)
+    let sized = (3 <= v.len()) & (v.len() <= 7) & (byte(v, 0) <= 63) & (byte(v, 1) <= 2);
+    if !sized {
+        return false;
+    }
+    are_sorts(v, 2)
 }
 
 // An item's kind and operand; only a call has more bytes.
@@ -89,14 +99,17 @@ fn is_root(v: &[u8]) -> bool
 fn is_known(tag: u8, v: &[u8]) -> bool
     ensures { λ r. ⌜ r ≡ isKnown tag (now (v .entry)) ⌝ }
 {
-    (tag == 1)
-        | (tag == 2)
-        | ((tag == 3) & (v.len() == 0))
-        | ((tag == 4) & is_head(v))
-        | ((tag == 5) & (v.len() == 0))
-        | ((tag == 6) & is_item(v))
-        | (tag == 7)
-        | ((tag == 8) & is_root(v))
+    match tag {
+        1 => true,
+        2 => true,
+        3 => v.len() == 0,
+        4 => is_head(v),
+        5 => v.len() == 0,
+        6 => is_item(v),
+        7 => true,
+        8 => is_root(v),
+        _ => false,
+    }
 }
 
 // ---------------------------------------------------------------- 4: order
@@ -117,44 +130,17 @@ fn may_follow(tag: u8, last: u8) -> bool
 
 // ---------------------------------------------------------------- 5: spellings
 
-// Whether a field of this tag and value begins before an offset. It is asked only where spellings may stand, so at most 126 are
-// compared, and those of other lengths not byte by byte.
-fn is_repeated(table: &[u8], to: usize, tag: u8, v: &[u8]) -> bool
-    ensures { λ r. ⌜ r ≡ isRepeated tag (now (v .entry)) (fieldsBefore (now (table .entry)) to) ⌝ }
-{
-    let mut at: usize = 0;
-    while at < to {
-        let front = front_at(table, at);
-        match front {
-            Front::Nothing => {
-                return false;
-            }
-            Front::Short => {
-                return false;
-            }
-            Front::Field(t, size) => {
-                let from = at + 3;
-                let next = from + size;
-                let here = (t == tag) & equal(&table[from..next], v);
-                if here {
-                    return true;
-                }
-                at = next;
-            }
-        }
-    }
-    false
-}
-
-// A keyword or an outside name is spelled as it must be and stands once under its tag.
-fn is_spelled(table: &[u8], at: usize, tag: u8, v: &[u8]) -> bool
-    ensures { λ r. ⌜ r ≡ isSpelled tag (now (v .entry)) (fieldsBefore (now (table .entry)) at) ⌝ }
+// A keyword or an outside name is spelled as it must be and stands once under its tag; the rooms have those before it.
+fn is_spelled(keywords: &[u32; 320], outsides: &[u32; 320], table: &[u8], tag: u8, v: &[u8]) -> bool
+    requires { ⌜ Falling (now keywords) × Falling (now outsides) ⌝ }
+    ensures { λ r. ⌜ ((before : List Field) → Indexed (now (table .entry)) (now (keywords .entry)) (spelledBy 1 before)
+        → Indexed (now (table .entry)) (now (outsides .entry)) (spelledBy 2 before) → r ≡ isSpelled tag (now (v .entry)) before) ⌝ }
 {
     if tag == 1 {
-        return is_keyword_spelling(v) & !is_repeated(table, at, 1, v);
+        return is_keyword_spelling(v) & !is_among(keywords, table, v);
     }
     if tag == 2 {
-        return is_word(v) & !is_repeated(table, at, 2, v);
+        return is_word(v) & !is_among(outsides, table, v);
     }
     true
 }
@@ -283,8 +269,17 @@ fn stopped(number: u8, at: usize) -> Checking
     })
 }
 
-// One field of a table at an offset, after those that begin before it.
-fn check_field(table: &[u8], at: usize, tag: u8, v: &[u8], s: Progress) -> Checking
+// One field of a table at an offset, after those that begin before it, whose spellings the rooms have.
+fn check_field(
+    keywords: &[u32; 320],
+    outsides: &[u32; 320],
+    table: &[u8],
+    at: usize,
+    tag: u8,
+    v: &[u8],
+    s: Progress,
+) -> Checking
+    requires { ⌜ Remembered (now table) at s (now keywords) (now outsides) ⌝ }
     ensures { λ r. ⌜ r ≡ checking (checkField (fieldsBefore (now (table .entry)) at) at tag (now (v .entry)) s) ⌝ }
 {
     let known = is_known(tag, v);
@@ -295,7 +290,7 @@ fn check_field(table: &[u8], at: usize, tag: u8, v: &[u8], s: Progress) -> Check
     if !ordered {
         return stopped(4, at);
     }
-    let spelled = is_spelled(table, at, tag, v);
+    let spelled = is_spelled(keywords, outsides, table, tag, v);
     if !spelled {
         return stopped(5, at);
     }
@@ -331,6 +326,20 @@ fn check_end(at: usize, s: Progress) -> Verdict
     refused(4, at)
 }
 
+// What has been read where a table begins.
+fn nothing_read() -> Progress
+    ensures { λ r. ⌜ r ≡ start ⌝ }
+{
+    Progress {
+        last: 0,
+        keywords: 0,
+        outsides: 0,
+        blocks: 0,
+        alternatives: 0,
+        items: 0,
+    }
+}
+
 // The layout of a table: refusals 1 to 6 and 10.
 pub fn check_layout(table: &[u8]) -> Verdict
     ensures { λ r. ⌜ r ≡ verdict (layout (now (table .entry))) ⌝ }
@@ -338,15 +347,10 @@ pub fn check_layout(table: &[u8]) -> Verdict
     if 16_384 < table.len() {
         return refused(1, 0);
     }
+    let mut keywords = [0u32; 320];
+    let mut outsides = [0u32; 320];
     let mut at: usize = 0;
-    let mut s = Progress {
-        last: 0,
-        keywords: 0,
-        outsides: 0,
-        blocks: 0,
-        alternatives: 0,
-        items: 0,
-    };
+    let mut s = nothing_read();
     loop {
         let front = front_at(table, at);
         match front {
@@ -359,12 +363,15 @@ pub fn check_layout(table: &[u8]) -> Verdict
             Front::Field(tag, size) => {
                 let from = at + 3;
                 let to = from + size;
-                let checked = check_field(table, at, tag, &table[from..to], s);
+                let v = &table[from..to];
+                let checked = check_field(&keywords, &outsides, table, at, tag, v, s);
                 match checked {
                     Checking::Stopped(r) => {
                         return Verdict::Refused(r);
                     }
                     Checking::Further(t) => {
+                        enter(&mut keywords, tag == 1, s.keywords as usize, from, v);
+                        enter(&mut outsides, tag == 2, s.outsides as usize, from, v);
                         s = t;
                         at = to;
                     }

@@ -16,6 +16,7 @@ use Rattle.layout.proofs.Accept.{accepted}
 use Rattle.layout.proofs.Inverse.{layout-parts}
 use Rattle.layout.proofs.Laws.{room-of}
 use Rattle.productions.specs.Index.{alternativeFields}
+use Rattle.productions.specs.IndexCalls.{FitsIndex}
 
 -- where there is room, one more is not too many
 one-more : (n : ℕ) (b : Bool) → (not b || ltb n 256) ≡ true → n ≤ 256 → n + oneIf b ≤ 256
@@ -42,7 +43,7 @@ few-fields (next at tag v fs) before s l h =
     one-more (s .alternatives) (eqb tag 5) (room-of tag s (passes .0 .room) .alternatives) l in
     omega (arith, count-field at tag v fs, few-fields fs (field tag v ∷ before) (passed tag s) room (passes .1))
 
-pub few-alternatives : (bs : List ℕ) → layout bs ≡ ok tt → (length bs ≤ 16384) × (alternativeFields (fieldsOf bs) ≤ 256)
+pub few-alternatives : (bs : List ℕ) → layout bs ≡ ok tt → FitsIndex bs
 few-alternatives bs h =
     let parts = layout-parts bs h in
-    (parts .0, omega (arith, few-fields (fieldsOf bs) [] start (omega arith) (parts .1)))
+    record { short = parts .0; few = omega (arith, few-fields (fieldsOf bs) [] start (omega arith) (parts .1)) }

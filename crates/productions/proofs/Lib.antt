@@ -1,5 +1,6 @@
 pub mod FewAlternatives
 pub mod IndexLaws
 pub mod NormalizedByFields
-pub mod ProductionsLaws
+pub mod Places
 pub mod RoomLaws
+pub mod RoomWriting

@@ -1,12 +1,13 @@
 -- What each reader gives of the room of some entries, whatever stands behind it.
-use Prim.Native.Nat.{ℕ, zero, suc, _+_, _*_, _/_, _%_, _<_, _≤_}
+use Prim.Native.Nat.{ℕ, zero, suc, _+_, _*_, _-_, _/_, _%_, _<_, _≤_}
 use mathlib.Core.Path.{_≡_, refl, sym, ap, _∙_}
 use mathlib.Core.Bool.{Bool, true, false}
 use mathlib.Core.List.{List, [], _∷_, _++_, append-assoc}
+use native.Mathlib.Decide.{decLt}
 use native.Mathlib.Omega.{arith}
 use lib.Dec.{eqb}
-use lib.ListN.{length, getD, drop, length-drop, List·getD-append}
-use lib.Seq.{getD-append-add}
+use lib.ListN.{length, getD, drop, length-append, length-drop, List·getD-append}
+use lib.Seq.{getD-append-add, ext-getD}
 use Rattle.productions.specs.Room.{Entry, noEntry, HoldsEntries, placeFrom, isOf, isNullableOf, valuesOf, placesNumber, flagNumber}
 use Rattle.productions.specs.Room.{linkNumber, entryNumbers, roomOf, countIn, firstSetIn, firstPlaceIn, nullablePlaceIn}
 use Rattle.productions.specs.Room.{firstIn, startIn, nextPlaceIn, nullableIn}
@@ -40,7 +41,7 @@ place-small test (e ∷ es) j h = by (test e) (place-small test es (j + 1) (omeg
 
 -- ------------------------------------------------------------------ entries
 
-entry-first : (es : List Entry) (k j : ℕ) → j < length es → getD (entryNumbers es k) (2 * j) 0 ≡ getD es j noEntry .first
+pub entry-first : (es : List Entry) (k j : ℕ) → j < length es → getD (entryNumbers es k) (2 * j) 0 ≡ getD es j noEntry .first
 unfolding entryNumbers
 entry-first [] k j h = absurd (omega arith)
 entry-first (e ∷ es) k zero h = refl
@@ -48,7 +49,7 @@ entry-first (e ∷ es) k (suc j) h =
     let z : 2 * suc j ≡ suc (suc (2 * j)) = omega arith in
     ap (λ i. getD (entryNumbers (e ∷ es) k) i 0) z ∙ entry-first es (k + 1) j (omega arith)
 
-entry-link : (es : List Entry) (k j : ℕ) → j < length es
+pub entry-link : (es : List Entry) (k j : ℕ) → j < length es
     → getD (entryNumbers es k) (2 * j + 1) 0 ≡ linkNumber (getD es j noEntry) (drop (j + 1) es) (k + j)
 unfolding entryNumbers
 entry-link [] k j h = absurd (omega arith)
@@ -62,16 +63,95 @@ entry-link (e ∷ es) k (suc j) h =
     ∙ ap (linkNumber (getD es j noEntry) (drop (j + 1) es)) x
     ∙ ap (λ i. linkNumber (getD es j noEntry) (drop i (e ∷ es)) (k + suc j)) (sym y)
 
-length-entries : (es : List Entry) (k : ℕ) → length (entryNumbers es k) ≡ 2 * length es
+pub length-entries : (es : List Entry) (k : ℕ) → length (entryNumbers es k) ≡ 2 * length es
 unfolding entryNumbers
 length-entries [] k = refl
 length-entries (e ∷ es) k = omega (arith, length-entries es (k + 1))
 
+-- ------------------------------------------------------------------ a room in four parts
+
+module _ (c : ℕ) (f g : ℕ → ℕ) (tail : List ℕ) where
+  abbrev pub fourParts : List ℕ
+  fourParts = c ∷ (valuesOf f 64 0 ++ (valuesOf g 64 0 ++ tail))
+
+  -- behind the count
+  behind-count : (i : ℕ) → getD fourParts (1 + i) 0 ≡ getD (valuesOf f 64 0 ++ (valuesOf g 64 0 ++ tail)) i 0
+  behind-count i =
+      let z : 1 + i ≡ suc i = omega arith in
+      ap (λ k. getD fourParts k 0) z
+
+  -- behind the first values
+  behind-first : (i : ℕ) → getD fourParts (65 + i) 0 ≡ getD (valuesOf g 64 0 ++ tail) i 0
+  behind-first i =
+      let z : 65 + i ≡ 1 + (length (valuesOf f 64 0) + i) = omega (arith, length-values f 64 0) in
+      ap (λ k. getD fourParts k 0) z
+      ∙ behind-count (length (valuesOf f 64 0) + i)
+      ∙ getD-append-add (valuesOf f 64 0) (valuesOf g 64 0 ++ tail) i 0
+
+  pub first-part : (n : ℕ) → n < 64 → getD fourParts (1 + n) 0 ≡ f n
+  first-part n h =
+      let y : 0 + n ≡ n = omega arith in
+      behind-count n
+      ∙ List·getD-append (valuesOf f 64 0) (valuesOf g 64 0 ++ tail) 0 n (omega (arith, length-values f 64 0))
+      ∙ getD-values f 64 0 n h
+      ∙ ap f y
+
+  pub second-part : (n : ℕ) → n < 64 → getD fourParts (65 + n) 0 ≡ g n
+  second-part n h =
+      let y : 0 + n ≡ n = omega arith in
+      behind-first n
+      ∙ List·getD-append (valuesOf g 64 0) tail 0 n (omega (arith, length-values g 64 0))
+      ∙ getD-values g 64 0 n h
+      ∙ ap g y
+
+  pub last-part : (i : ℕ) → getD fourParts (129 + i) 0 ≡ getD tail i 0
+  last-part i =
+      let z : 129 + i ≡ 65 + (length (valuesOf g 64 0) + i) = omega (arith, length-values g 64 0) in
+      ap (λ k. getD fourParts k 0) z
+      ∙ behind-first (length (valuesOf g 64 0) + i)
+      ∙ getD-append-add (valuesOf g 64 0) tail i 0
+
+  pub length-parts : length fourParts ≡ 129 + length tail
+  length-parts =
+      omega (
+        arith,
+        length-append (valuesOf f 64 0) (valuesOf g 64 0 ++ tail),
+        length-append (valuesOf g 64 0) tail,
+        length-values f 64 0,
+        length-values g 64 0,
+      )
+
+  -- A room is these parts if each of its numbers is.
+  module _ (room : List ℕ) (many : length room ≡ 129 + length tail) (count : getD room 0 0 ≡ c)
+      (firsts : (n : ℕ) → n < 64 → getD room (1 + n) 0 ≡ f n)
+      (seconds : (n : ℕ) → n < 64 → getD room (65 + n) 0 ≡ g n)
+      (lasts : (i : ℕ) → getD room (129 + i) 0 ≡ getD tail i 0) where
+    moved : (i k : ℕ) → i ≡ k → getD room k 0 ≡ getD fourParts k 0 → getD room i 0 ≡ getD fourParts i 0
+    moved i k z e = rw z e
+
+    same-number : (i : ℕ) → Dec (i < 1) → Dec (i < 65) → Dec (i < 129) → getD room i 0 ≡ getD fourParts i 0
+    same-number i (yes a) b d = moved i 0 (omega arith) count
+    same-number i (no a) (yes b) d = moved i (1 + (i - 1)) (omega arith) (firsts (i - 1) (omega arith) ∙ sym (first-part (i - 1) (omega arith)))
+    same-number i (no a) (no b) (yes d) =
+        moved i (65 + (i - 65)) (omega arith) (seconds (i - 65) (omega arith) ∙ sym (second-part (i - 65) (omega arith)))
+    same-number i (no a) (no b) (no d) = moved i (129 + (i - 129)) (omega arith) (lasts (i - 129) ∙ sym (last-part (i - 129)))
+
+    pub parts-are : room ≡ fourParts
+    parts-are = ext-getD 0 room fourParts (many ∙ sym length-parts) (λ i h. same-number i (decLt i 1) (decLt i 65) (decLt i 129))
+
+pub length-room : (sets : List ℕ) (es : List Entry) → length (roomOf sets es) ≡ 129 + 2 * length es
+unfolding roomOf
+length-room sets es =
+    length-parts (length es) (λ n. getD sets n 0) (placesNumber es) (entryNumbers es 0) ∙ ap (λ k. 129 + k) (length-entries es 0)
+
 -- ------------------------------------------------------------------ the numbers of a room
 
 module _ {sets : List ℕ} {es : List Entry} {room : List ℕ} (h : HoldsEntries sets es room) where
+  abbrev setOf : ℕ → ℕ
+  setOf n = getD sets n 0
+
   -- its parts in order
-  parts : room ≡ length es ∷ (valuesOf (λ n. getD sets n 0) 64 0 ++ (valuesOf (placesNumber es) 64 0 ++ (entryNumbers es 0 ++ h .rest)))
+  parts : room ≡ fourParts (length es) setOf (placesNumber es) (entryNumbers es 0 ++ h .rest)
   unfolding roomOf
   parts = h .held ∙ simp append-assoc
 
@@ -79,26 +159,8 @@ module _ {sets : List ℕ} {es : List Entry} {room : List ℕ} (h : HoldsEntries
   pub count-in : countIn room ≡ length es
   count-in = ap countIn parts
 
-  -- behind the count
-  at-set : (i : ℕ) → getD room (1 + i) 0
-      ≡ getD (valuesOf (λ n. getD sets n 0) 64 0 ++ (valuesOf (placesNumber es) 64 0 ++ (entryNumbers es 0 ++ h .rest))) i 0
-  at-set i =
-      let z : 1 + i ≡ suc i = omega arith in
-      ap (λ k. getD room k 0) z ∙ ap (λ r. getD r (suc i) 0) parts
-
-  -- behind the first sets
-  at-places : (i : ℕ) → getD room (65 + i) 0 ≡ getD (valuesOf (placesNumber es) 64 0 ++ (entryNumbers es 0 ++ h .rest)) i 0
-  at-places i =
-      let A : List ℕ = valuesOf (λ n. getD sets n 0) 64 0 in
-      let z : 65 + i ≡ 1 + (length A + i) = omega (arith, length-values (λ n. getD sets n 0) 64 0) in
-      ap (λ k. getD room k 0) z ∙ at-set (length A + i) ∙ getD-append-add A _ i 0
-
-  -- behind the places of the nonterminals
   at-entries : (i : ℕ) → getD room (129 + i) 0 ≡ getD (entryNumbers es 0 ++ h .rest) i 0
-  at-entries i =
-      let B : List ℕ = valuesOf (placesNumber es) 64 0 in
-      let z : 129 + i ≡ 65 + (length B + i) = omega (arith, length-values (placesNumber es) 64 0) in
-      ap (λ k. getD room k 0) z ∙ at-places (length B + i) ∙ getD-append-add B _ i 0
+  at-entries i = ap (λ r. getD r (129 + i) 0) parts ∙ last-part (length es) setOf (placesNumber es) (entryNumbers es 0 ++ h .rest) i
 
   -- ------------------------------------------------------------------ of a nonterminal
 
@@ -106,19 +168,11 @@ module _ {sets : List ℕ} {es : List Entry} {room : List ℕ} (h : HoldsEntries
     -- Its first set.
     pub first-set-in : firstSetIn room n ≡ getD sets n 0
     first-set-in =
-        let y : 0 + n ≡ n = omega arith in
-        at-set n
-        ∙ List·getD-append (valuesOf (λ n. getD sets n 0) 64 0) _ 0 n (omega (arith, length-values (λ n. getD sets n 0) 64 0))
-        ∙ getD-values (λ n. getD sets n 0) 64 0 n small
-        ∙ ap (λ i. getD sets i 0) y
+        ap (λ r. getD r (1 + n) 0) parts ∙ first-part (length es) setOf (placesNumber es) (entryNumbers es 0 ++ h .rest) n small
 
-    places-in : getD room (65 + n) 0 ≡ placesNumber es n
+    pub places-in : getD room (65 + n) 0 ≡ placesNumber es n
     places-in =
-        let y : 0 + n ≡ n = omega arith in
-        at-places n
-        ∙ List·getD-append (valuesOf (placesNumber es) 64 0) _ 0 n (omega (arith, length-values (placesNumber es) 64 0))
-        ∙ getD-values (placesNumber es) 64 0 n small
-        ∙ ap (placesNumber es) y
+        ap (λ r. getD r (65 + n) 0) parts ∙ second-part (length es) setOf (placesNumber es) (entryNumbers es 0 ++ h .rest) n small
 
     -- Where its first production is.
     pub first-place-in : firstPlaceIn room n ≡ placeFrom (isOf n) es 0

@@ -1,6 +1,7 @@
 -- The index of a grammar in a lent table: each production by its nonterminal and the offset of its first item. The code works from
 -- the table's bytes and the index; these definitions say what they stand for, for any bytes. Document 01, "Normalizing".
-use Prim.Native.Nat.{ℕ, zero, suc, _+_}
+use Prim.Native.Nat.{ℕ, zero, suc, _+_, _<_, _≤_}
+use mathlib.Core.Path.{_≡_}
 use mathlib.Core.Bool.{Bool, true, false, _&&_}
 use mathlib.Core.List.{List, [], _∷_, _++_, map}
 use lib.Dec.{eqb}
@@ -31,16 +32,6 @@ resultOf (next at tag v fs) =
 -- the production of nonterminal n whose first item, or result if it has none, stands at an offset
 unfoldable pub productionAt : List ℕ → ℕ → ℕ → Production
 productionAt bs n at = record { owner = n; items = itemsOf (fieldsAt bs at); result = resultOf (fieldsAt bs at) }
-
--- the k productions of an index from number j on: `owners` has their nonterminals, `starts` their offsets
-unfoldable pub productionsFrom : ℕ → List ℕ → List ℕ → List ℕ → ℕ → List Production
-productionsFrom zero bs owners starts j = []
-productionsFrom (suc k) bs owners starts j =
-    productionAt bs (getD owners j 0) (getD starts j 0) ∷ productionsFrom k bs owners starts (j + 1)
-
--- an index of m productions
-abbrev pub productionsBy : ℕ → List ℕ → List ℕ → List ℕ → List Production
-productionsBy m bs owners starts = productionsFrom m bs owners starts 0
 
 -- The normalized grammar of a table, field by field from the left: a definition's head names the nonterminal n of the alternatives
 -- that follow, and an update drops those that it had; each alternative is one production more.
@@ -95,6 +86,18 @@ placesOf bs = placesBy (fieldsOf bs) 0 []
 abbrev pub productionsAt : List ℕ → List Place → List Production
 productionsAt bs ps = map (λ p. productionAt bs (p .owner) (p .start)) ps
 
+-- an index of places: `owners` has their nonterminals, `starts` their offsets; the k places from number j on, and the first m
+unfoldable pub placesFrom : ℕ → List ℕ → List ℕ → ℕ → List Place
+placesFrom zero owners starts j = []
+placesFrom (suc k) owners starts j =
+    record { owner = getD owners j 0; start = getD starts j 0 } ∷ placesFrom k owners starts (j + 1)
+
+abbrev pub placesIn : ℕ → List ℕ → List ℕ → List Place
+placesIn m owners starts = placesFrom m owners starts 0
+
+abbrev pub productionsBy : ℕ → List ℕ → List ℕ → List ℕ → List Production
+productionsBy m bs owners starts = productionsAt bs (placesIn m owners starts)
+
 -- the fields of an alternative have whole templates: those of each call, and one as the result
 unfoldable pub wholeBody : Fields → Bool
 wholeBody (end at) = true
@@ -104,6 +107,12 @@ wholeBody (next at tag v fs) =
       | true ↦ isTemplates (templatesOf (drop 2 v)) && wholeBody fs
       | false ↦ elim (eqb tag 7) [ true ↦ isTemplate (templatesOf v) | false ↦ true ]
     ]
+
+-- a place in a table: of a nonterminal, and a whole alternative stands there
+pub record Whole (bs : List ℕ) (p : Place) : Type 0 where
+  pub small : p .owner < 64
+  pub inside : p .start ≤ length bs
+  pub whole : wholeBody (fieldsAt bs (p .start)) ≡ true
 
 -- how many fields begin an alternative
 unfoldable pub alternativeFields : Fields → ℕ

@@ -1,3 +1,4 @@
 pub mod Normal
 pub mod Index
+pub mod IndexCalls
 pub mod Room

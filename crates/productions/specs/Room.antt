@@ -12,7 +12,7 @@ use mathlib.Core.Path.{_≡_}
 use mathlib.Core.Bool.{Bool, true, false, _&&_}
 use mathlib.Core.List.{List, [], _∷_, _++_}
 use lib.Dec.{eqb}
-use lib.ListN.{length, getD}
+use lib.ListN.{length, getD, set, drop}
 
 -- a production in the room: its nonterminal, the offset of its first item or result, its first set, and whether it is nullable
 pub record Entry : Type 0 where
@@ -63,6 +63,35 @@ entryNumbers (e ∷ es) j = e .first ∷ linkNumber e es j ∷ entryNumbers es (
 unfoldable pub roomOf : List ℕ → List Entry → List ℕ
 roomOf sets es =
     length es ∷ (valuesOf (λ n. getD sets n 0) 64 0 ++ (valuesOf (placesNumber es) 64 0 ++ entryNumbers es 0))
+
+-- numbers written at the front of a room
+abbrev pub overwritten : List ℕ → List ℕ → List ℕ
+overwritten new old = new ++ drop (length new) old
+
+-- a room begun: the count, the first sets and no places
+unfoldable pub begun : ℕ → List ℕ → List ℕ → List ℕ
+begun m sets room =
+    m ∷ (valuesOf (λ n. getD sets n 0) 64 0 ++ (valuesOf (placesNumber []) 64 0 ++ drop 129 room))
+
+-- a whole room, with a first set for each nonterminal
+pub record RoomAndSets (room sets : List ℕ) : Type 0 where
+  pub size : length room ≡ roomSize
+  pub many : length sets ≡ 64
+
+-- a whole room, and a place that there may be, of a nonterminal
+pub record RoomAt (j owner : ℕ) (room : List ℕ) : Type 0 where
+  pub size : length room ≡ roomSize
+  pub near : j < 256
+  pub small : owner < 64
+
+-- an entry laid at place j, in front of those behind it
+unfoldable pub laid : Entry → ℕ → List ℕ → List ℕ
+laid e j room =
+    set
+    (set (set room (129 + 2 * j) (e .first)) (130 + 2 * j)
+    (e .start + 65536 * (getD room (65 + e .owner) 0 % 512) + 33554432 * flagNumber (e .nullable)))
+    (65 + e .owner)
+    (j + 512 * (elim (e .nullable) [ true ↦ j | false ↦ getD room (65 + e .owner) 0 / 512 ]))
 
 -- what stands past the last entry
 abbrev pub noEntry : Entry

@@ -2,14 +2,13 @@
 use grammar::Front;
 use grammar::front_at;
 use grammar::reader::byte;
-ghost use Prim.Native.Nat.{ℕ, _+_, _<_, _≤_};
+ghost use Prim.Native.Nat.{_+_, _≤_};
 ghost use mathlib.Core.Path.{_≡_};
-ghost use mathlib.Core.List.{List, [], _∷_, _++_};
-ghost use lib.ListN.{length, getD};
-ghost use Rattle.grammar.specs.Fields.{fieldsOf};
+ghost use mathlib.Core.List.{[], _∷_, _++_};
+ghost use lib.ListN.{getD};
 ghost use Rattle.layout.specs.Decode.{modeOf};
-ghost use Rattle.productions.specs.Normal.{without, kept};
-ghost use Rattle.productions.specs.Index.{productionAt, productionsBy, normalizedBy, alternativeFields};
+ghost use Rattle.productions.specs.Index.{placesIn, placesOf, placesKept, placesWithout};
+ghost use Rattle.productions.specs.IndexCalls.{RoomFor, Index, FitsIndex};
 
 fn wide(x: u16) -> usize
     ensures { λ r. ⌜ r ≡ x ⌝ }
@@ -26,8 +25,8 @@ pub fn offset(starts: &[u16], j: usize) -> usize
 
 // Lays a production behind the first k.
 fn push(owners: &mut [u8], starts: &mut [u16], k: usize, owner: u8, start: u16)
-    requires { ⌜ (k < length (now owners)) × (k < length (now starts)) ⌝ }
-    ensures { λ r. ⌜ ((bs : List ℕ) → productionsBy (k + 1) bs (now (owners .exit)) (now (starts .exit)) ≡ productionsBy k bs (now (owners .entry)) (now (starts .entry)) ++ (productionAt bs owner start ∷ [])) ⌝ }
+    requires { ⌜ RoomFor (k + 1) (now owners) (now starts) ⌝ }
+    ensures { λ r. ⌜ placesIn (k + 1) (now (owners .exit)) (now (starts .exit)) ≡ placesIn k (now (owners .entry)) (now (starts .entry)) ++ (record { owner = owner; start = start } ∷ []) ⌝ }
 {
     owners[k] = owner;
     starts[k] = start;
@@ -35,9 +34,8 @@ fn push(owners: &mut [u8], starts: &mut [u16], k: usize, owner: u8, start: u16)
 
 // Drops the productions of nonterminal n among the first k, and tells how many are left.
 fn without(owners: &mut [u8], starts: &mut [u16], k: usize, n: u8) -> usize
-    requires { ⌜ (k ≤ length (now owners)) × (k ≤ length (now starts)) ⌝ }
-    ensures { λ r. ⌜ ((bs : List ℕ) → productionsBy r bs (now (owners .exit)) (now (starts .exit)) ≡ without n (productionsBy k bs (now (owners .entry)) (now (starts .entry)))) ⌝ }
-    ensures { λ r. ⌜ r ≤ k ⌝ }
+    requires { ⌜ RoomFor k (now owners) (now starts) ⌝ }
+    ensures { λ r. ⌜ Index (placesWithout n (placesIn k (now (owners .entry)) (now (starts .entry)))) k r (now (owners .exit)) (now (starts .exit)) ⌝ }
 {
     let mut i: usize = 0;
     let mut w: usize = 0;
@@ -58,9 +56,8 @@ fn without(owners: &mut [u8], starts: &mut [u16], k: usize, n: u8) -> usize
 
 // The productions that the head of a definition leaves: an update drops those of its nonterminal.
 fn redefine(head: &[u8], owners: &mut [u8], starts: &mut [u16], k: usize) -> usize
-    requires { ⌜ (k ≤ length (now owners)) × (k ≤ length (now starts)) ⌝ }
-    ensures { λ r. ⌜ ((bs : List ℕ) → productionsBy r bs (now (owners .exit)) (now (starts .exit)) ≡ kept (modeOf (getD (now (head .entry)) 1 0)) (getD (now (head .entry)) 0 0) (productionsBy k bs (now (owners .entry)) (now (starts .entry)))) ⌝ }
-    ensures { λ r. ⌜ r ≤ k ⌝ }
+    requires { ⌜ RoomFor k (now owners) (now starts) ⌝ }
+    ensures { λ r. ⌜ Index (placesKept (modeOf (getD (now (head .entry)) 1 0)) (getD (now (head .entry)) 0 0) (placesIn k (now (owners .entry)) (now (starts .entry)))) k r (now (owners .exit)) (now (starts .exit)) ⌝ }
 {
     let mode = byte(head, 1);
     if mode == 2 {
@@ -71,12 +68,11 @@ fn redefine(head: &[u8], owners: &mut [u8], starts: &mut [u16], k: usize) -> usi
     }
 }
 
-// The index of the normalized grammar of a table, and how many productions it has. This rules out that an extension replaces, and that
+// The places of the productions of a table, in two arrays, and how many there are. This rules out that an extension replaces, and that
 // an update adds.
 pub fn build_index(table: &[u8], owners: &mut [u8; 256], starts: &mut [u16; 256]) -> usize
-    requires { ⌜ (length (now table) ≤ 16384) × (alternativeFields (fieldsOf (now table)) ≤ 256) ⌝ }
-    ensures { λ r. ⌜ productionsBy r (now (table .entry)) (now (owners .exit)) (now (starts .exit)) ≡ normalizedBy (fieldsOf (now (table .entry))) 0 [] ⌝ }
-    ensures { λ r. ⌜ r ≤ 256 ⌝ }
+    requires { ⌜ FitsIndex (now table) ⌝ }
+    ensures { λ r. ⌜ Index (placesOf (now (table .entry))) 256 r (now (owners .exit)) (now (starts .exit)) ⌝ }
 {
     let mut at: usize = 0;
     let mut n: u8 = 0;

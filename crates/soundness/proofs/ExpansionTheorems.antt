@@ -38,6 +38,7 @@ use Rattle.expansion.proofs.Unique.{parses-one}
 use Rattle.soundness.specs.Passing.{Passing, Lexemes}
 use Rattle.soundness.proofs.Building.{Ends}
 use Rattle.soundness.proofs.Typing.{gives-exists, give-all-exist, items-typed}
+use Rattle.soundness.proofs.RowsMade.{Leaves, run-leaves-rows}
 use Rattle.soundness.proofs.Setting.{Setting}
 use Rattle.soundness.proofs.Normalizing.{scopeOf, table-fits}
 use Rattle.soundness.proofs.Sound.{run-sound}
@@ -52,7 +53,7 @@ pub scanned-is-small : (lex : Lexicon) → length (lex .outsides) ≤ 64 → (fo
 scanned-is-small = scanned-small
 
 module _ (t : Table) (T : Passing t) where
-  firsts-passed : checkFirsts (grammarOf t) ≡ ok tt
+  pub firsts-passed : checkFirsts (grammarOf t) ≡ ok tt
   firsts-passed = passes-exactly (grammarOf t) .1 (T .meets .not-left-recursive, T .meets .without-clash)
 
   -- ------------------------------------------------------------------ sorts
@@ -134,6 +135,10 @@ module _ (t : Table) (T : Passing t) where
       pub accepted-as-derived : {u : Term Name} (P : Reads u) (v : ℕ) (s : State) (cells′ : List ℕ) → Answers (done v s cells′)
           → (termAt (s .made) (R .spell) cells′ v ≡ u) × (s .made ≡ rowsIn (P .derived))
       accepted-as-derived P v s cells′ e = let a = accepts (setting rows) P cells room v s cells′ e in (a .term-is, a .made-are)
+
+      -- The term of an accepted expansion lies in the rows that it made, which are no more than there are.
+      pub accepted-leaves : {v : ℕ} {s : State} {cells′ : List ℕ} → Answers (done v s cells′) → Leaves (setting rows) cells v s cells′
+      accepted-leaves = run-leaves-rows (setting rows) cells room
 
       -- An expansion halts with a refusal exactly if the rules stop with it: the number, and all its values.
       pub refused-exactly : (r : Refusal) → ((cells′ : List ℕ) × Answers (halt r cells′)) ↔ Refuses (grammarOf t) (R .spell) rows (R .tokens) (t .root) r

@@ -9,4 +9,5 @@ pub mod StopSound
 pub mod StopComplete
 pub mod Placing
 pub mod Scanned
+pub mod RowsMade
 pub mod ExpansionTheorems

@@ -5,3 +5,7 @@ pub mod Stages
 pub mod Owners
 pub mod CellsLeft
 pub mod Listed
+pub mod Naming
+pub mod Parsing
+pub mod Root
+pub mod Joining

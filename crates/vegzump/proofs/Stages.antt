@@ -110,7 +110,7 @@ every-has : (P : Token → Type 0) {ts : List Token} {w : Token} → Among ts w 
 every-has P among-first p = p .0
 every-has P (among-later a) p = every-has P a (p .1)
 
-each-getD : {A : Type 0} {P : A → Type 0} {xs : List A} → Each P xs → (n : ℕ) (d : A) → n < length xs → P (getD xs n d)
+pub each-getD : {A : Type 0} {P : A → Type 0} {xs : List A} → Each P xs → (n : ℕ) (d : A) → n < length xs → P (getD xs n d)
 each-getD each-none n d l = absurd (omega arith)
 each-getD (each-more h hs) zero d l = h
 each-getD (each-more h hs) (suc n) d l = each-getD hs n d (omega arith)
@@ -150,7 +150,7 @@ module _ (t : Table) (T : Passing t) (formula : List ℕ) where
           small = subst (λ (l : Lexed). SmallWords (l .tokens)) (scanned-as S) (expansion.scanned-is-small lex few formula);
         }
 
-    spelled-at : (w : Token) → Among ts w → w .kind ≡ wordKind → Spelled lex formula ws w
+    pub spelled-at : (w : Token) → Among ts w → w .kind ≡ wordKind → Spelled lex formula ws w
     spelled-at w a k =
         every-has (λ v. v .kind ≡ wordKind → Spelled lex formula ws v) a
         (subst (λ (l : Lexed). Every (λ v. v .kind ≡ wordKind → Spelled lex formula (l .words) v) (l .tokens)) (scanned-as S) (scan-spelled lex few formula)) k

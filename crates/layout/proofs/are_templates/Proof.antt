@@ -13,17 +13,24 @@ Inv-loop v from single due₀ i₀ due i = laws.Due v from single due i
 abbrev μ-loop : tie.MeasureT-loop
 μ-loop v from single due₀ i₀ due i = length v - i
 
+abbrev start : tie.At-loop Inv-loop μ-loop → tie.Start Inv-loop μ-loop
+start p = p .before .before .before
+
 -- a whole template's first bytes stand here
 room : (c : tie.Else1 Inv-loop μ-loop)
-    → (0 < c .before .head-size .result) × (c .before .head-size .result ≤ length (c .before .before .before .before .before .before .before .args .v .now) - c .before .before .before .before .loop .i)
-room c = laws.due-room (c .before .before .before .before .loop .inv) (c .before .before .before .loop-test .taken) (c .before .head-size .ensures) (c .if1 .left)
+    → (0 < c .before .head-size .result)
+    × (c .before .head-size .result ≤ length (start (c .before .before .before .before) .args .v .now) - c .before .before .before .before .loop .i)
+room c =
+    laws.due-room (c .before .before .before .before .loop .inv) (c .before .before .before .loop-test .taken) (c .before .head-size .ensures)
+    (c .if1 .left)
 
 next : (c : tie.After-argument-count Inv-loop μ-loop)
-    → let a = c .before .before .before .before .before .before .before .before .before .args in
+    → let a = start (c .before .before .before .before .before .before) .args in
     laws.Due (a .v .now) (a .from) (a .single) (c .before .less-one .result + c .argument-count .result)
     (c .before .before .before .before .before .before .loop .i + c .before .before .before .head-size .result)
 next c =
-    laws.due-next (c .before .before .before .before .before .before .loop .inv) (c .before .before .before .before .before .loop-test .taken) (c .before .before .before .head-size .ensures) (c .before .before .if1 .left)
+    laws.due-next (c .before .before .before .before .before .before .loop .inv) (c .before .before .before .before .before .loop-test .taken)
+    (c .before .before .before .head-size .ensures) (c .before .before .if1 .left)
     (c .before .less-one .ensures) (c .argument-count .ensures)
 
 one-if-requires : tie.Need-one-if-requires Inv-loop μ-loop
@@ -45,7 +52,9 @@ sub-if1 : tie.Need-sub-if1 Inv-loop μ-loop
 sub-if1 c = omega arith
 
 returns : tie.Need-returns Inv-loop μ-loop
-returns c = laws.due-stop (c .before .before .before .before .loop .inv) (c .before .before .before .loop-test .taken) (c .before .head-size .ensures) (c .if1 .taken)
+returns c =
+    laws.due-stop (c .before .before .before .before .loop .inv) (c .before .before .before .loop-test .taken) (c .before .head-size .ensures)
+    (c .if1 .taken)
 
 less-one-requires : tie.Need-less-one-requires Inv-loop μ-loop
 less-one-requires c κs = search needs

@@ -1,24 +1,45 @@
 -- `check_field`: the first test that fails, in order.
+use borrow.Author.Needs.{needs}
 use mathlib.Core.Path.{_≡_, refl, sym, ap, _∙_}
 use mathlib.Core.Bool.{true, false}
 use Rattle.layout.specs.declared.Checking.the-variants.{Further}
 use Rattle.layout.specs.Layout.{isKnown, follows, isSpelled, hasRoom}
 use Rattle.layout.specs.Before.{fieldsBefore, checking}
 use Rattle.layout.proofs.Laws as laws
-use borrow.Author.Needs.{needs}
 use Rattle.layout.proofs.check_field.Statement.{statement}
 use Rattle.layout.proofs.check_field.Tie as tie
 
-known : (c : tie.Else1) → let a = c .before .before .before .before .args in isKnown (a .tag) (a .v .now) ≡ true
+-- after each test: the one before
+abbrev start : tie.Else1 → tie.Start
+start c = c .before .before .before .before
+
+abbrev second : tie.Else2 → tie.Else1
+second c = c .before .before
+
+abbrev third : tie.Else3 → tie.Else2
+third c = c .before .before
+
+abbrev fourth : tie.Else4 → tie.Else3
+fourth c = c .before .before
+
+-- what each test told
+known : (c : tie.Else1) → isKnown (start c .args .tag) (start c .args .v .now) ≡ true
 known c = laws.passes (c .before .is-known .ensures) (c .if1 .left)
 
-ordered : (c : tie.Else2) → let a = c .before .before .before .before .before .before .args in follows (a .tag) (a .s .last) ≡ true
+ordered : (c : tie.Else2) → follows (start (second c) .args .tag) (start (second c) .args .s .last) ≡ true
 ordered c = laws.passes (c .before .may-follow .ensures) (c .if2 .left)
 
-spelled : (c : tie.Else3) → let a = c .before .before .before .before .before .before .before .before .args in isSpelled (a .tag) (a .v .now) (fieldsBefore (a .table .now) (a .at)) ≡ true
-spelled c = laws.passes (c .before .is-spelled .ensures) (c .if3 .left)
+spelling :
+    (p : tie.After-is-spelled)
+    → let a = start (second (p .before)) .args in p .is-spelled .result ≡ isSpelled (a .tag) (a .v .now) (fieldsBefore (a .table .now) (a .at))
+spelling p =
+    let s = start (second (p .before)) in
+    p .is-spelled .ensures (fieldsBefore (s .args .table .now) (s .args .at)) (s .pre .keywords .indexed) (s .pre .outsides .indexed)
 
-room : (c : tie.Else4) → let a = c .before .before .before .before .before .before .before .before .before .before .args in hasRoom (a .tag) (a .s) ≡ true
+spelled : (c : tie.Else3) → let a = start (second (third c)) .args in isSpelled (a .tag) (a .v .now) (fieldsBefore (a .table .now) (a .at)) ≡ true
+spelled c = laws.passes (spelling (c .before)) (c .if3 .left)
+
+room : (c : tie.Else4) → let a = start (second (third (fourth c))) .args in hasRoom (a .tag) (a .s) ≡ true
 room c = laws.passes (c .before .has-room .ensures) (c .if4 .left)
 
 is-known-requires : tie.Need-is-known-requires
@@ -33,11 +54,7 @@ returns c =
     ∙ sym
     (ap checking
     (laws.field-by _ _ _ _ _ false _ _ _ _
-    (laws.fails (c .before .before .is-known .ensures) (c .before .if1 .taken))
-    refl
-    refl
-    refl
-    refl))
+    (laws.fails (c .before .before .is-known .ensures) (c .before .if1 .taken)) refl refl refl refl))
 
 may-follow-requires : tie.Need-may-follow-requires
 may-follow-requires c κs = search needs
@@ -51,14 +68,10 @@ returns-2 c =
     ∙ sym
     (ap checking
     (laws.field-by _ _ _ _ _ true false _ _ _
-    (known (c .before .before .before))
-    (laws.fails (c .before .before .may-follow .ensures) (c .before .if2 .taken))
-    refl
-    refl
-    refl))
+    (known (c .before .before .before)) (laws.fails (c .before .before .may-follow .ensures) (c .before .if2 .taken)) refl refl refl))
 
 is-spelled-requires : tie.Need-is-spelled-requires
-is-spelled-requires c κs = search needs
+is-spelled-requires c κs = (start (c .before .before) .pre .keywords .falling, start (c .before .before) .pre .outsides .falling)
 
 stopped-requires-3 : tie.Need-stopped-requires-3
 stopped-requires-3 c κs = search needs
@@ -69,11 +82,8 @@ returns-3 c =
     ∙ sym
     (ap checking
     (laws.field-by _ _ _ _ _ true true false _ _
-    (known (c .before .before .before .before .before))
-    (ordered (c .before .before .before))
-    (laws.fails (c .before .before .is-spelled .ensures) (c .before .if3 .taken))
-    refl
-    refl))
+    (known (second (c .before .before .before))) (ordered (c .before .before .before))
+    (laws.fails (spelling (c .before .before)) (c .before .if3 .taken)) refl refl))
 
 has-room-requires : tie.Need-has-room-requires
 has-room-requires c κs = search needs
@@ -87,11 +97,8 @@ returns-4 c =
     ∙ sym
     (ap checking
     (laws.field-by _ _ _ _ _ true true true false _
-    (known (c .before .before .before .before .before .before .before))
-    (ordered (c .before .before .before .before .before))
-    (spelled (c .before .before .before))
-    (laws.fails (c .before .before .has-room .ensures) (c .before .if4 .taken))
-    refl))
+    (known (second (third (c .before .before .before)))) (ordered (third (c .before .before .before))) (spelled (c .before .before .before))
+    (laws.fails (c .before .before .has-room .ensures) (c .before .if4 .taken)) refl))
 
 is-whole-requires : tie.Need-is-whole-requires
 is-whole-requires c κs = search needs
@@ -105,10 +112,8 @@ returns-5 c =
     ∙ sym
     (ap checking
     (laws.field-by _ _ _ _ _ true true true true false
-    (known (c .before .before .before .before .before .before .before .before .before))
-    (ordered (c .before .before .before .before .before .before .before))
-    (spelled (c .before .before .before .before .before))
-    (room (c .before .before .before))
+    (known (second (third (fourth (c .before .before .before))))) (ordered (third (fourth (c .before .before .before))))
+    (spelled (fourth (c .before .before .before))) (room (c .before .before .before))
     (laws.fails (c .before .before .is-whole .ensures) (c .before .if5 .taken))))
 
 further-requires : tie.Need-further-requires
@@ -116,14 +121,11 @@ further-requires c κs = room (c .before .before)
 
 returns-6 : tie.Need-returns-6
 returns-6 c =
+    let p = c .before .before .before in
     ap Further (c .further .ensures)
     ∙ sym
     (ap checking
-    (laws.field-by _ _ _ _ _ true true true true true
-    (known (c .before .before .before .before .before .before .before .before .before))
-    (ordered (c .before .before .before .before .before .before .before))
-    (spelled (c .before .before .before .before .before))
-    (room (c .before .before .before))
+    (laws.field-by _ _ _ _ _ true true true true true (known (second (third (fourth p)))) (ordered (third (fourth p))) (spelled (fourth p)) (room p)
     (laws.passes (c .before .before .is-whole .ensures) (c .before .if5 .left))))
 
 pub check-field-spec : {M : Type 1} → statement M

@@ -1,30 +1,71 @@
 -- `check_layout`: the fields that are left give what all of them give.
-use Prim.Native.Nat.{_+_, _-_, _≤_}
+use borrow.Author.Needs.{needs}
+use Prim.Native.Nat.{ℕ, _+_, _-_, _≤_}
 use mathlib.Core.Path.{_≡_, sym, _∙_}
-use native.Mathlib.Omega.{arith}
-use lib.ListN.{length, drop}
+use mathlib.Core.List.{List}
+use lib.ListN.{length, take, drop, length-take}
 use Rattle.grammar.specs.declared.Front.the-variants.{Field}
 use Rattle.grammar.specs.Lookup.{frontOf}
 use Rattle.grammar.proofs.LookupLaws.{front-inside}
+use Rattle.layout.specs.declared.Checking.the-variants.{Further}
+use Rattle.layout.specs.Layout.{checkField}
+use Rattle.layout.specs.Before.{fieldsBefore, checking}
+use Rattle.layout.specs.Index.{Remembered}
+use Rattle.layout.proofs.RememberedLaws.{remembered-start, keyword-room, outside-room, remembered-next}
 use Rattle.layout.proofs.LawsFields as laws
-use borrow.Author.Needs.{needs}
+use native.Mathlib.Omega.{arith}
 use Rattle.layout.proofs.check_layout.Statement.{statement}
 use Rattle.layout.proofs.check_layout.Tie as tie
 
 abbrev Inv-loop : tie.InvT-loop
-Inv-loop table at₀ s₀ at s = laws.Turn table at s
+Inv-loop table keywords₀ outsides₀ at₀ s₀ keywords outsides at s = laws.Turn table at s × Remembered table at s keywords outsides
 
 abbrev μ-loop : tie.MeasureT-loop
-μ-loop table at₀ s₀ at s = length table - at
+μ-loop table keywords₀ outsides₀ at₀ s₀ keywords outsides at s = length table - at
 
--- the field here, which lies within the table
-front-is : (c : tie.After-known-told Inv-loop μ-loop)
-    → Field (c .before .front .given .0 .0) (c .before .front .given .0 .1 .0) ≡ frontOf (drop (c .before .before .before .before .loop .at) (c .before .before .before .before .before .before .before .args .table .now))
-front-is c = sym (c .before .front .given .1) ∙ c .before .before .before .front-at .ensures
+-- a whole field stands here
+module _ (p : tie.After-known-told Inv-loop μ-loop) where
+  abbrev turn : tie.At-loop Inv-loop μ-loop
+  turn = p .before .before .before .before
 
-inside : (c : tie.After-known-told Inv-loop μ-loop)
-    → c .before .before .before .before .loop .at + (3 + c .before .front .given .0 .1 .0) ≤ length (c .before .before .before .before .before .before .before .args .table .now)
-inside c = front-inside _ _ (front-is c)
+  abbrev table : List ℕ
+  table = turn .before .before .before .before .args .table .now
+
+  abbrev at : ℕ
+  at = turn .loop .at
+
+  abbrev size : ℕ
+  size = p .before .front .given .0 .1 .0
+
+  stands : Field (p .before .front .given .0 .0) size ≡ frontOf (drop at table)
+  stands = sym (p .before .front .given .1) ∙ p .before .before .before .front-at .ensures
+
+  inside : at + (3 + size) ≤ length table
+  inside = front-inside table at stands
+
+  -- its value as the code lends it
+  abbrev lent : List ℕ
+  lent = take (at + 3 + size - (at + 3)) (drop (at + 3) table)
+
+  place : at + 3 ≤ 65536
+  place = omega (arith, inside, turn .before .before .if1 .left)
+
+  small : length lent ≤ 65536
+  small = omega (arith, length-take (at + 3 + size - (at + 3)) (drop (at + 3) table), inside, turn .before .before .if1 .left)
+
+-- it is checked, and accepted
+abbrev field : tie.After-check-field Inv-loop μ-loop → tie.After-known-told Inv-loop μ-loop
+field p = p .before .before .before .before
+
+abbrev accepted : tie.After-known-told3 Inv-loop μ-loop → tie.After-check-field Inv-loop μ-loop
+accepted p = p .before .before .before
+
+further :
+    (q : tie.After-known-told3 Inv-loop μ-loop)
+    → let p = field (accepted q) in
+    Further (q .before .checked2 .given .0 .0)
+    ≡ checking (checkField (fieldsBefore (table p) (at p)) (at p) (p .before .front .given .0 .0) (lent p) (turn p .loop .s))
+further q = sym (q .before .checked2 .given .1) ∙ accepted q .check-field .ensures
 
 refused-requires : tie.Need-refused-requires Inv-loop μ-loop
 refused-requires c κs = search needs
@@ -32,8 +73,11 @@ refused-requires c κs = search needs
 returns : tie.Need-returns Inv-loop μ-loop
 returns c = c .refused .ensures ∙ laws.layout-long _ (c .before .if1 .taken)
 
+nothing-read-requires : tie.Need-nothing-read-requires Inv-loop μ-loop
+nothing-read-requires c κs = search needs
+
 loop-holds : tie.Need-loop-holds Inv-loop μ-loop
-loop-holds c = laws.turn-start _
+loop-holds c = (laws.turn-start (c .nothing-read .ensures), remembered-start (c .nothing-read .ensures))
 
 front-at-requires : tie.Need-front-at-requires Inv-loop μ-loop
 front-at-requires c κs = search needs
@@ -46,8 +90,9 @@ check-end-requires c κs = search needs
 
 returns-2 : tie.Need-returns-2 Inv-loop μ-loop
 returns-2 c =
+    let p = c .before .before .before .before in
     c .check-end .ensures
-    ∙ laws.turn-end (c .before .before .before .before .loop .inv) (c .before .before .before .before .before .if1 .left) (sym (c .before .enum-told .given .1) ∙ c .before .before .before .front-at .ensures)
+    ∙ laws.turn-end (p .loop .inv .0) (p .before .before .if1 .left) (sym (c .before .enum-told .given .1) ∙ c .before .before .before .front-at .ensures)
 
 enum-told-2 : tie.Need-enum-told-2 Inv-loop μ-loop
 enum-told-2 c = search needs
@@ -57,8 +102,9 @@ refused-requires-2 c κs = search needs
 
 returns-3 : tie.Need-returns-3 Inv-loop μ-loop
 returns-3 c =
+    let p = c .before .before .before .before in
     c .refused2 .ensures
-    ∙ laws.turn-cut (c .before .before .before .before .loop .inv) (c .before .before .before .before .before .if1 .left) (sym (c .before .enum-told2 .given .1) ∙ c .before .before .before .front-at .ensures)
+    ∙ laws.turn-cut (p .loop .inv .0) (p .before .before .if1 .left) (sym (c .before .enum-told2 .given .1) ∙ c .before .before .before .front-at .ensures)
 
 enum-known-front : tie.Need-enum-known-front Inv-loop μ-loop
 enum-known-front c = search needs
@@ -69,36 +115,57 @@ add-from c = omega (arith, inside c)
 add-to : tie.Need-add-to Inv-loop μ-loop
 add-to c = omega (arith, inside c)
 
-sub-check-field : tie.Need-sub-check-field Inv-loop μ-loop
-sub-check-field c = search needs
+sub-v : tie.Need-sub-v Inv-loop μ-loop
+sub-v c = search needs
 
-part-check-field-start : tie.Need-part-check-field-start Inv-loop μ-loop
-part-check-field-start c = search needs
+part-v-start : tie.Need-part-v-start Inv-loop μ-loop
+part-v-start c = search needs
 
-part-check-field-end : tie.Need-part-check-field-end Inv-loop μ-loop
-part-check-field-end c = omega (arith, inside c)
+part-v-end : tie.Need-part-v-end Inv-loop μ-loop
+part-v-end c = omega (arith, inside c)
 
 check-field-requires : tie.Need-check-field-requires Inv-loop μ-loop
-check-field-requires c κs = search needs
+check-field-requires c κs = turn (c .before .before .before) .loop .inv .1
 
 enum-known-checked : tie.Need-enum-known-checked Inv-loop μ-loop
 enum-known-checked c = search needs
 
 returns-4 : tie.Need-returns-4 Inv-loop μ-loop
 returns-4 c =
-    laws.turn-stopped (c .before .before .before .before .before .before .before .before .before .loop .inv) (front-is (c .before .before .before .before .before)) (c .before .before .before .before .before .before .before .before .before .before .if1 .left)
-    (sym (c .before .checked .given .1) ∙ c .before .before .before .check-field .ensures)
+    let p = c .before .before .before in
+    laws.turn-stopped (turn (field p) .loop .inv .0) (stands (field p)) (turn (field p) .before .before .if1 .left)
+    (sym (c .before .checked .given .1) ∙ p .check-field .ensures)
 
 enum-known-checked-2 : tie.Need-enum-known-checked-2 Inv-loop μ-loop
 enum-known-checked-2 c = search needs
 
+cast-enter : tie.Need-cast-enter Inv-loop μ-loop
+cast-enter c = search needs
+
+enter-requires : tie.Need-enter-requires Inv-loop μ-loop
+enter-requires c κs =
+    let p = field (accepted (c .before .before)) in
+    (keyword-room (turn p .loop .inv .0) (turn p .loop .inv .1) (stands p) (further (c .before .before)), place p, small p)
+
+cast-enter-2 : tie.Need-cast-enter-2 Inv-loop μ-loop
+cast-enter-2 c = search needs
+
+enter-requires-2 : tie.Need-enter-requires-2 Inv-loop μ-loop
+enter-requires-2 c κs =
+    let q = c .before .before .before .before .before in
+    let p = field (accepted q) in
+    (outside-room (turn p .loop .inv .0) (turn p .loop .inv .1) (stands p) (further q), place p, small p)
+
 loop-less : tie.Need-loop-less Inv-loop μ-loop
-loop-less c = omega (arith, inside (c .before .before .before .before .before))
+loop-less c = omega (arith, inside (field (accepted (c .before .before .before .before .before .before))))
 
 loop-again : tie.Need-loop-again Inv-loop μ-loop
 loop-again c =
-    laws.turn-next (c .before .before .before .before .before .before .before .before .before .loop .inv) (front-is (c .before .before .before .before .before))
-    (sym (c .before .checked2 .given .1) ∙ c .before .before .before .check-field .ensures)
+    let q = c .before .before .before .before .before .before in
+    let p = field (accepted q) in (
+      laws.turn-next (turn p .loop .inv .0) (stands p) (further q),
+      remembered-next (turn p .loop .inv .0) (turn p .loop .inv .1) (stands p) (further q) (c .before .before .before .enter .ensures) (c .enter2 .ensures),
+    )
 
 pub check-layout-spec : {M : Type 1} → statement M
 check-layout-spec =
@@ -108,6 +175,7 @@ check-layout-spec =
     μ-loop
     refused-requires
     returns
+    nothing-read-requires
     loop-holds
     front-at-requires
     enum-told
@@ -119,12 +187,16 @@ check-layout-spec =
     enum-known-front
     add-from
     add-to
-    sub-check-field
-    part-check-field-start
-    part-check-field-end
+    sub-v
+    part-v-start
+    part-v-end
     check-field-requires
     enum-known-checked
     returns-4
     enum-known-checked-2
+    cast-enter
+    enter-requires
+    cast-enter-2
+    enter-requires-2
     loop-less
     loop-again)

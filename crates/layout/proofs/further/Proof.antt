@@ -8,6 +8,19 @@ use borrow.Author.Needs.{needs}
 use Rattle.layout.proofs.further.Statement.{statement}
 use Rattle.layout.proofs.further.Tie as tie
 
+-- the four sums one after the other, back to the start
+abbrev start : tie.After-one-if → tie.Start
+start p = p .before
+
+abbrev first : tie.After-one-if2 → tie.After-one-if
+first p = p .before .before
+
+abbrev second : tie.After-one-if3 → tie.After-one-if2
+second p = p .before .before
+
+abbrev third : tie.After-one-if4 → tie.After-one-if3
+third p = p .before .before
+
 one-if-requires : tie.Need-one-if-requires
 one-if-requires c κs = search needs
 
@@ -21,24 +34,25 @@ one-if-requires-2 c κs = search needs
 
 add-t8 : tie.Need-add-t8
 add-t8 c =
-    laws.fitting _ 64 (eqb (c .before .before .before .before .args .tag) 2)
-    (laws.room-of _ _ (c .before .before .before .before .pre) .outsides) (lit< tt) (omega arith) (c .before .one-if2 .ensures)
+    laws.fitting _ 64 (eqb (start (first (c .before)) .args .tag) 2)
+    (laws.room-of _ _ (start (first (c .before)) .pre) .outsides) (lit< tt) (omega arith) (c .before .one-if2 .ensures)
 
 one-if-requires-3 : tie.Need-one-if-requires-3
 one-if-requires-3 c κs = search needs
 
 add-t11 : tie.Need-add-t11
 add-t11 c =
-    laws.fitting _ 16 (eqb (c .before .before .before .before .before .before .args .tag) 3)
-    (laws.room-of _ _ (c .before .before .before .before .before .before .pre) .blocks) (lit< tt) (omega arith) (c .before .one-if3 .ensures)
+    laws.fitting _ 16 (eqb (start (first (second (c .before))) .args .tag) 3)
+    (laws.room-of _ _ (start (first (second (c .before))) .pre) .blocks) (lit< tt) (omega arith) (c .before .one-if3 .ensures)
 
 one-if-requires-4 : tie.Need-one-if-requires-4
 one-if-requires-4 c κs = search needs
 
 add-t14 : tie.Need-add-t14
 add-t14 c =
-    laws.fitting _ 256 (eqb (c .before .before .before .before .before .before .before .before .args .tag) 5)
-    (laws.room-of _ _ (c .before .before .before .before .before .before .before .before .pre) .alternatives) (lit< tt) (omega arith) (c .before .one-if4 .ensures)
+    laws.fitting _ 256 (eqb (start (first (second (third (c .before)))) .args .tag) 5)
+    (laws.room-of _ _ (start (first (second (third (c .before)))) .pre) .alternatives) (lit< tt) (omega arith)
+    (c .before .one-if4 .ensures)
 
 items-after-requires : tie.Need-items-after-requires
 items-after-requires c κs = search needs
@@ -46,14 +60,15 @@ items-after-requires c κs = search needs
 returns : tie.Need-returns
 unfolding passed
 returns c =
-    let a = c .before .before .before .before .before .before .before .before .before .args in
+    let p = c .before .before in
+    let a = start (first (second (third p))) .args in
     λ i.
     record {
       last = a .tag;
-      keywords = a .s .keywords + c .before .before .before .before .before .before .before .before .one-if .ensures i;
-      outsides = a .s .outsides + c .before .before .before .before .before .before .one-if2 .ensures i;
-      blocks = a .s .blocks + c .before .before .before .before .one-if3 .ensures i;
-      alternatives = a .s .alternatives + c .before .before .one-if4 .ensures i;
+      keywords = a .s .keywords + first (second (third p)) .one-if .ensures i;
+      outsides = a .s .outsides + second (third p) .one-if2 .ensures i;
+      blocks = a .s .blocks + third p .one-if3 .ensures i;
+      alternatives = a .s .alternatives + p .one-if4 .ensures i;
       items = c .items-after .ensures i;
     }
 

@@ -1,9 +1,9 @@
--- `is_head`: the tests as they stand, over the bytes and the sorts.
-use mathlib.Core.Bool.{_&&_}
-use lib.Dec.{leb}
-use lib.ListN.{length}
-use Rattle.layout.specs.Layout.{isHead}
+-- `is_head`: the length and the first two bytes, then the sorts.
 use borrow.Author.Needs.{needs}
+use mathlib.Core.Path.{_∙_}
+use mathlib.Core.Bool.{true, false}
+use borrow.Author.Tests.{not-true, not-false}
+use Rattle.layout.proofs.Laws as laws
 use Rattle.layout.proofs.is_head.Statement.{statement}
 use Rattle.layout.proofs.is_head.Tie as tie
 
@@ -13,19 +13,17 @@ byte-requires c κs = search needs
 byte-requires-2 : tie.Need-byte-requires-2
 byte-requires-2 c κs = search needs
 
+returns : tie.Need-returns
+returns c = laws.head-by _ (c .before .before .byte .ensures) (c .before .byte2 .ensures) false (not-true _ (c .if1 .taken))
+
 are-sorts-requires : tie.Need-are-sorts-requires
 are-sorts-requires c κs = search needs
 
-returns : tie.Need-returns
-unfolding isHead
-returns c =
-    let v = c .before .before .before .before .args .v .now in
-    λ i.
-    leb 3 (length v)
-    && leb (length v) 7
-    && leb (c .before .before .byte .ensures i) 63
-    && leb (c .before .byte2 .ensures i) 2
-    && c .are-sorts .ensures i
+returns-2 : tie.Need-returns-2
+returns-2 c =
+    c .are-sorts .ensures ∙ laws.head-by _ (c .before .before .before .byte .ensures) (c .before .before .byte2 .ensures) true
+    (not-false _ (c .before .if1 .left))
 
 pub is-head-spec : {M : Type 1} → statement M
-is-head-spec = tie.close (tie.spec byte-requires byte-requires-2 are-sorts-requires returns)
+is-head-spec =
+    tie.close (tie.spec byte-requires byte-requires-2 returns are-sorts-requires returns-2)

@@ -1,8 +1,7 @@
--- `is_known`: the tests as they stand, over those for a head, an item and a root.
-use mathlib.Core.Bool.{_&&_, _||_}
-use lib.Dec.{eqb}
-use Rattle.layout.specs.Layout.{isKnown, isEmpty}
+-- `is_known`: by the tag.
 use borrow.Author.Needs.{needs}
+use mathlib.Core.Path.{_∙_}
+use Rattle.layout.proofs.Laws as laws
 use Rattle.layout.proofs.is_known.Statement.{statement}
 use Rattle.layout.proofs.is_known.Tie as tie
 
@@ -16,18 +15,45 @@ is-root-requires : tie.Need-is-root-requires
 is-root-requires c κs = search needs
 
 returns : tie.Need-returns
-unfolding isKnown
-returns c =
-    let a = c .before .before .before .before .args in
-    λ i.
-    eqb (a .tag) 1
-    || eqb (a .tag) 2
-    || (eqb (a .tag) 3 && isEmpty (a .v .now))
-    || (eqb (a .tag) 4 && c .before .before .is-head .ensures i)
-    || (eqb (a .tag) 5 && isEmpty (a .v .now))
-    || (eqb (a .tag) 6 && c .before .is-item .ensures i)
-    || eqb (a .tag) 7
-    || (eqb (a .tag) 8 && c .is-root .ensures i)
+returns c = laws.known-keyword _ (c .match .keys1)
+
+returns-2 : tie.Need-returns-2
+returns-2 c = laws.known-outside _ (c .match .keys2)
+
+returns-3 : tie.Need-returns-3
+returns-3 c = laws.known-block _ (c .match .keys3)
+
+returns-4 : tie.Need-returns-4
+returns-4 c = c .is-head .ensures ∙ laws.known-head _ (c .before .match .keys4)
+
+returns-5 : tie.Need-returns-5
+returns-5 c = laws.known-alternative _ (c .match .keys5)
+
+returns-6 : tie.Need-returns-6
+returns-6 c = c .is-item .ensures ∙ laws.known-item _ (c .before .match .keys6)
+
+returns-7 : tie.Need-returns-7
+returns-7 c = laws.known-result _ (c .match .keys7)
+
+returns-8 : tie.Need-returns-8
+returns-8 c = c .is-root .ensures ∙ laws.known-root _ (c .before .match .keys8)
+
+returns-9 : tie.Need-returns-9
+returns-9 c = laws.known-none _ (c .match .rest)
 
 pub is-known-spec : {M : Type 1} → statement M
-is-known-spec = tie.close (tie.spec is-head-requires is-item-requires is-root-requires returns)
+is-known-spec =
+    tie.close
+    (tie.spec
+    is-head-requires
+    is-item-requires
+    is-root-requires
+    returns
+    returns-2
+    returns-3
+    returns-4
+    returns-5
+    returns-6
+    returns-7
+    returns-8
+    returns-9)

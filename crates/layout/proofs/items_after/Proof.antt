@@ -15,7 +15,9 @@ one-if-requires : tie.Need-one-if-requires
 one-if-requires c κs = search needs
 
 add-result : tie.Need-add-result
-add-result c = laws.fitting _ 12 (eqb (c .before .before .before .args .tag) 6) (laws.room-of _ _ (c .before .before .before .pre) .items) (lit< tt) (omega arith) (c .before .one-if .ensures)
+add-result c =
+    laws.fitting _ 12 (eqb (c .before .before .before .args .tag) 6) (laws.room-of _ _ (c .before .before .before .pre) .items) (lit< tt)
+    (omega arith) (c .before .one-if .ensures)
 
 returns-2 : tie.Need-returns-2
 returns-2 c = ap (λ k. c .before .before .before .args .s .items + k) (c .before .one-if .ensures) ∙ sym (laws.items-more _ _ (c .before .before .if1 .left))

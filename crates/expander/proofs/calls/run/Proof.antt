@@ -6,7 +6,8 @@ use borrow.Author.Needs.{needs}
 use Rattle.expander.specs.declared.calls.Begun.{Begun}
 use Rattle.expansion.specs.Run.{Result, after}
 use Rattle.expansion.specs.Expansion.{Input, runCall, mostOpen, start, ended, run}
-use Rattle.expander.specs.Lent.{lentInput, rowsIn}
+use Rattle.templates.specs.Built.{rowsIn}
+use Rattle.expander.specs.Lent.{lentInput}
 use Rattle.expander.specs.Calls.{Begins, Entry}
 use Rattle.expander.specs.declared.calls.Begun.the-variants.{Entered}
 use Rattle.expander.proofs.TokenLaws.{token-count}
@@ -17,7 +18,7 @@ use Rattle.expander.proofs.calls.run.Tie as tie
 -- after the beginning of the root's call
 module _ (p : tie.After-begin) where
   abbrev entry : tie.Start
-  entry = p .before .before .before .before .before
+  entry = p .before .before .before .before .before .before
 
   abbrev input : Input
   input = lentInput (entry .args .table .now) (entry .args .tokens .now) (entry .args .n) (rowsIn (entry .args .cells .now))
@@ -72,7 +73,7 @@ returns-2 c =
     let begun2-place = items-place .before .before .before .before .before in
     let begin-place = begun2-place .before .before in
     let lent = entry begin-place .args in
-    c .ended .ensures (input begin-place) (items-place .items .last .1 .1 .1 .1 .0) (token-count (lent .tokens .now) (lent .n) 0)
+    c .ended .ensures (input begin-place) (items-place .items .last .1 .1 .1 .1 .0) (token-count (lent .tokens .now) (lent .n))
     ∙ runs begin-place (items-place .items .ensures ∙ begins begin-place (begun2-place .begun2 .given .1) [] (lent .cells .now))
 
 pub run-spec : {M : Type 1} → statement M

@@ -1,15 +1,43 @@
 -- `finish`: what stands behind the items decides.
-use Prim.Native.Nat.{_+_, _-_}
-use mathlib.Core.Path.{sym, ap, _∙_}
+use Prim.Native.Nat.{ℕ, _+_, _≤_}
+use mathlib.Core.Path.{_≡_, sym, ap, _∙_}
+use mathlib.Core.List.{List}
 use native.Mathlib.Nat.{le-trans}
 use native.Mathlib.Omega.{arith}
+use lib.ListN.{length, drop}
 use borrow.Author.Needs.{needs}
+use Rattle.grammar.specs.declared.Front.the-variants.{Field}
 use Rattle.grammar.specs.Table.{Template}
+use Rattle.grammar.specs.Lookup.{frontOf, fieldsAt}
 use Rattle.grammar.proofs.LookupLaws.{front-inside}
-use Rattle.expansion.specs.Expansion.{build}
+use Rattle.productions.specs.Index.{resultOf}
+use Rattle.expansion.specs.Run.{Result}
+use Rattle.expansion.specs.Expansion.{Input, build}
+use Rattle.templates.proofs.VariableLaws.{rooms-fit}
 use Rattle.expander.proofs.ItemLaws as laws
 use Rattle.expander.proofs.items.finish.Statement.{statement}
 use Rattle.expander.proofs.items.finish.Tie as tie
+
+-- after a field is looked at
+module _ (p : tie.After-front-at) where
+  abbrev entry : tie.Start
+  entry = p .before .before .before .before
+
+  -- what a template gives is what the result gives
+  module _ (I : Input) (M : List ℕ) where
+    abbrev gives : Template → Result ℕ
+    gives t = build t I M (entry .args .s) (entry .args .cells .now)
+
+    as-result : {t : Template} → t ≡ resultOf (fieldsAt (entry .args .table .now) (entry .args .at)) → {r : Result ℕ} → r ≡ gives t
+        → r ≡ gives (resultOf (fieldsAt (entry .args .table .now) (entry .args .at)))
+    as-result e f = f ∙ ap gives e
+
+  module _ {t n : ℕ} (e : p .front-at .result ≡ Field t n) where
+    stands : Field t n ≡ frontOf (drop (entry .args .at) (entry .args .table .now))
+    stands = sym e ∙ p .front-at .ensures
+
+    inside : entry .args .at + (3 + n) ≤ length (entry .args .table .now)
+    inside = front-inside (entry .args .table .now) (entry .args .at) stands
 
 front-at-requires : tie.Need-front-at-requires
 front-at-requires c κs = search needs
@@ -35,35 +63,24 @@ first-variable-requires-3 c κs = search needs
 returns : tie.Need-returns
 returns c =
     let front-place = c .before .before .before in
-    let front-at-place = front-place .before .before in
-    let entry-place = front-at-place .before .before .before .before in (
-      λ I M e g. c .first-variable3 .ensures .0 I M (entry-place .args .cells .now) g ∙ ap (λ (t : Template). build t I M (entry-place .args .s)
-          (entry-place .args .cells .now)) (laws.other-result (entry-place .args .table .now) (entry-place .args .at) (sym (front-place .front .given .1)
-          ∙ front-at-place .front-at .ensures) (entry-place .pre .1 .0 .0) (c .before .if1 .taken)),
+    let p = front-place .before .before in (
+      λ I M e g. as-result p I M (laws.other-result _ _ (stands p (front-place .front .given .1)) (entry p .pre .no-item) (c .before .if1 .taken))
+          (c .first-variable3 .ensures .0 I M (entry p .args .cells .now) g),
       c .first-variable3 .ensures .1,
     )
 
 add-from : tie.Need-add-from
 add-from c =
-    let front-at-place = c .before .before .before .before in
-    let entry-place = front-at-place .before .before .before .before in
-    omega (
-      arith,
-      front-inside (entry-place .args .table .now) (entry-place .args .at) (sym (c .before .before .front .given .1) ∙ front-at-place
-          .front-at .ensures),
-      entry-place .good .0,
-    )
+    let p = c .before .before .before .before in
+    omega (arith, inside p (c .before .before .front .given .1), entry p .good .0)
 
 add-to : tie.Need-add-to
 add-to c =
-    let front-at-place = c .before .before .before .before in
-    let entry-place = front-at-place .before .before .before .before in
-    omega (
-      arith,
-      front-inside (entry-place .args .table .now) (entry-place .args .at) (sym (c .before .before .front .given .1) ∙ front-at-place
-          .front-at .ensures),
-      entry-place .good .0,
-    )
+    let p = c .before .before .before .before in
+    omega (arith, inside p (c .before .before .front .given .1), entry p .good .0)
+
+rows-of-requires : tie.Need-rows-of-requires
+rows-of-requires c κs = search needs
 
 sub-build : tie.Need-sub-build
 sub-build c = search needs
@@ -73,33 +90,20 @@ part-build-start c = search needs
 
 part-build-end : tie.Need-part-build-end
 part-build-end c =
-    let front-at-place = c .before .before .before .before in
-    let entry-place = front-at-place .before .before .before .before in
-    omega (
-      arith,
-      front-inside (entry-place .args .table .now) (entry-place .args .at) (sym (c .before .before .front .given .1) ∙ front-at-place
-          .front-at .ensures),
-      entry-place .good .0,
-    )
+    let p = c .before .before .before .before .before in
+    omega (arith, inside p (c .before .before .before .front .given .1), entry p .good .0)
 
 build-requires : tie.Need-build-requires
 build-requires c κs =
-    let if1-place = c .before .before .before in
+    let rows-place = c .before .before .before .before .before in
+    let if1-place = rows-place .before in
     let front-place = if1-place .before .before in
-    let front-at-place = front-place .before .before in
-    let entry-place = front-at-place .before .before .before .before in (
-      laws.result-ahead (entry-place .args .table .now) (entry-place .args .at) (sym (front-place .front .given .1) ∙ front-at-place .front-at
-          .ensures) (entry-place .pre .1 .0 .0) (if1-place .if1 .left) (entry-place .pre .1 .0 .1),
-      (
-        entry-place .pre .1 .1,
-        (
-          le-trans (laws.value-shorter
-              (entry-place .args .table .now) (entry-place .args .at) (sym (front-place .front .given .1) ∙ front-at-place .front-at .ensures)) (entry-place
-              .pre .0 .0),
-          le-trans (laws.value-shorter (entry-place .args .table .now) (entry-place .args .at) (sym (front-place .front .given .1) ∙
-              front-at-place .front-at .ensures)) (entry-place .pre .0 .1),
-        ),
-      ),
+    let p = front-place .before .before in
+    let may = entry p .pre in
+    let here = stands p (front-place .front .given .1) in
+    let shorter = laws.value-shorter _ _ here in (
+      laws.result-ahead _ _ here (may .no-item) (if1-place .if1 .left) (may .whole),
+      rooms-fit (le-trans shorter (may .small .few)) (le-trans shorter (may .small .stack-long)) (rows-place .rows-of .ensures),
     )
 
 outcome-of-requires : tie.Need-outcome-of-requires
@@ -107,21 +111,17 @@ outcome-of-requires c κs = search needs
 
 returns-2 : tie.Need-returns-2
 returns-2 c =
-    let front-at-place = c .before .before .before in
-    let entry-place = front-at-place .before .before .before .before in (
-      λ I M e g. c .first-variable .ensures .0 I M (entry-place .args .cells .now) g ∙ ap (λ (t : Template). build t I M (entry-place .args .s)
-          (entry-place .args .cells .now)) (laws.end-result (entry-place .args .table .now) (entry-place .args .at) (sym (c .before .enum-told .given .1)
-          ∙ front-at-place .front-at .ensures)),
+    let p = c .before .before .before in (
+      λ I M e g. as-result p I M (laws.end-result _ _ (sym (c .before .enum-told .given .1) ∙ p .front-at .ensures))
+          (c .first-variable .ensures .0 I M (entry p .args .cells .now) g),
       c .first-variable .ensures .1,
     )
 
 returns-3 : tie.Need-returns-3
 returns-3 c =
-    let front-at-place = c .before .before .before in
-    let entry-place = front-at-place .before .before .before .before in (
-      λ I M e g. c .first-variable2 .ensures .0 I M (entry-place .args .cells .now) g ∙ ap (λ (t : Template). build t I M (entry-place .args .s)
-          (entry-place .args .cells .now)) (laws.cut-result (entry-place .args .table .now) (entry-place .args .at) (sym (c .before .enum-told2 .given .1)
-          ∙ front-at-place .front-at .ensures)),
+    let p = c .before .before .before in (
+      λ I M e g. as-result p I M (laws.cut-result _ _ (sym (c .before .enum-told2 .given .1) ∙ p .front-at .ensures))
+          (c .first-variable2 .ensures .0 I M (entry p .args .cells .now) g),
       c .first-variable2 .ensures .1,
     )
 
@@ -138,14 +138,13 @@ same-length-2 c =
 returns-4 : tie.Need-returns-4
 returns-4 c =
     let build-place = c .before .before .before .before .before in
-    let if1-place = build-place .before .before .before .before in
+    let rows-place = build-place .before .before .before .before .before .before in
+    let if1-place = rows-place .before in
     let front-place = if1-place .before .before in
-    let front-at-place = front-place .before .before in
-    let entry-place = front-at-place .before .before .before .before in (
-      λ I M e g. c .outcome-of .ensures .0 (build-place .build .last .1 .1 .1 .1 .1 .1 .0) ∙ build-place .build .ensures .0 I (entry-place .args .s)
-          M e g ∙ ap (λ (t : Template). build t I M (entry-place .args .s) (entry-place .args .cells .now)) (laws.result-is (entry-place .args .table
-          .now) (entry-place .args .at) (sym (front-place .front .given .1) ∙ front-at-place .front-at .ensures) (entry-place .pre .1 .0 .0) (if1-place
-          .if1 .left)),
+    let p = front-place .before .before in (
+      λ I M e g. as-result p I M (laws.result-is _ _ (stands p (front-place .front .given .1)) (entry p .pre .no-item) (if1-place .if1 .left))
+          (c .outcome-of .ensures .0 (build-place .build .last .1 .1 .1 .1 .1 .1 .0)
+          ∙ build-place .build .ensures .0 I (entry p .args .s) M (e ∙ sym (rows-place .rows-of .ensures)) g),
       c .outcome-of .ensures .1,
     )
 
@@ -163,6 +162,7 @@ finish-spec =
     returns
     add-from
     add-to
+    rows-of-requires
     sub-build
     part-build-start
     part-build-end

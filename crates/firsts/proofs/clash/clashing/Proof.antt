@@ -1,63 +1,72 @@
 -- `clashing`: no lower nonterminal has a clash, and the pairs that are left decide.
 use Prim.Native.Nat.{_-_}
 use mathlib.Core.Path.{refl}
-use borrow.Author.Needs.{needs}
-use Rattle.firsts.specs.Pairs.{anyPairFrom, clashAt}
+use Rattle.productions.specs.Room.{firstPlaceIn}
+use Rattle.firsts.specs.First.{anyPair}
+use Rattle.firsts.specs.Pairs.{linked, clashIn}
 use Rattle.firsts.proofs.PairsLaws as laws
+use borrow.Author.Needs.{needs}
 use Rattle.firsts.proofs.clash.clashing.Statement.{statement}
 use Rattle.firsts.proofs.clash.clashing.Tie as tie
 
 abbrev Inv-loop2 : tie.InvT-loop2
-Inv-loop2 owners m openings empties n i j₀ j = laws.Column (clashAt owners openings empties n) m i j
+Inv-loop2 room n i j₀ j = laws.Column (clashIn room) room (firstPlaceIn room n) i j
 
 abbrev μ-loop2 : tie.MeasureT-loop2
-μ-loop2 owners m openings empties n i j₀ j = m - j
+μ-loop2 room n i j₀ j = 256 - j
 
 abbrev Inv-loop : tie.InvT-loop
-Inv-loop owners m openings empties n i₀ i = laws.Row (clashAt owners openings empties n) m i
+Inv-loop room n i₀ i = laws.Row (clashIn room) room (firstPlaceIn room n) i
 
 abbrev μ-loop : tie.MeasureT-loop
-μ-loop owners m openings empties n i₀ i = m - i
+μ-loop room n i₀ i = 256 - i
 
 abbrev Inv-search : tie.InvT-search
-Inv-search owners m openings empties n₀ n = laws.Lowest (λ k. anyPairFrom (clashAt owners openings empties k) m 0) n
+Inv-search room n₀ n = laws.Lowest (λ k. anyPair (clashIn room) (linked room (firstPlaceIn room k))) n
 
 abbrev μ-search : tie.MeasureT-search
-μ-search owners m openings empties n₀ n = 64 - n
+μ-search room n₀ n = 64 - n
 
 search-holds : tie.Need-search-holds Inv-loop2 μ-loop2 Inv-loop μ-loop Inv-search μ-search
 search-holds c = record { small = search needs; rest = refl }
 
-loop-holds : tie.Need-loop-holds Inv-loop2 μ-loop2 Inv-loop μ-loop Inv-search μ-search
-loop-holds c = laws.row-start _ _
+first-place-requires :
+    tie.Need-first-place-requires Inv-loop2 μ-loop2 Inv-loop μ-loop Inv-search μ-search
+first-place-requires c κs = search needs
 
-partner-requires : tie.Need-partner-requires Inv-loop2 μ-loop2 Inv-loop μ-loop Inv-search μ-search
-partner-requires c κs = search needs
+loop-holds : tie.Need-loop-holds Inv-loop2 μ-loop2 Inv-loop μ-loop Inv-search μ-search
+loop-holds c = laws.row-start _ _ (c .first-place .ensures)
+
+after-requires : tie.Need-after-requires Inv-loop2 μ-loop2 Inv-loop μ-loop Inv-search μ-search
+after-requires c κs = search needs
 
 loop2-holds : tie.Need-loop2-holds Inv-loop2 μ-loop2 Inv-loop μ-loop Inv-search μ-search
-loop2-holds c = laws.column-start (c .before .before .loop .inv) (c .before .loop-test .taken) _ (laws.clash-skip (c .before .before .before .before .before .before .before .before .args .owners .now) (c .before .before .before .before .before .before .before .before .args .openings .now) (c .before .before .before .before .before .before .before .before .args .empties .now) (c .before .before .before .before .search .n) (c .before .before .loop .i)) (c .partner .ensures)
+loop2-holds c = laws.column-start (c .before .before .loop .inv) (c .before .loop-test .taken) (c .after .ensures)
 
-clash-at-requires :
-    tie.Need-clash-at-requires Inv-loop2 μ-loop2 Inv-loop μ-loop Inv-search μ-search
-clash-at-requires c κs = search needs
+clash-requires : tie.Need-clash-requires Inv-loop2 μ-loop2 Inv-loop μ-loop Inv-search μ-search
+clash-requires c κs = search needs
 
-add-j : tie.Need-add-j Inv-loop2 μ-loop2 Inv-loop μ-loop Inv-search μ-search
-add-j c = search needs
+after-requires-2 : tie.Need-after-requires-2 Inv-loop2 μ-loop2 Inv-loop μ-loop Inv-search μ-search
+after-requires-2 c κs = search needs
 
 loop2-less : tie.Need-loop2-less Inv-loop2 μ-loop2 Inv-loop μ-loop Inv-search μ-search
-loop2-less c = search needs
+loop2-less c = laws.column-less (c .before .before .before .before .loop2 .inv) (c .before .before .before .loop2-test .taken) (c .after2 .ensures)
 
 loop2-again : tie.Need-loop2-again Inv-loop2 μ-loop2 Inv-loop μ-loop Inv-search μ-search
-loop2-again c = laws.column-next (c .before .before .before .loop2 .inv) (c .before .before .loop2-test .taken) (c .before .clash-at .ensures) (c .if1 .left)
+loop2-again c =
+    let tested = c .before .before .before in
+    laws.column-next (tested .before .loop2 .inv) (tested .loop2-test .taken) (c .before .before .clash .ensures) (c .before .if1 .left) (c .after2 .ensures)
 
-add-i : tie.Need-add-i Inv-loop2 μ-loop2 Inv-loop μ-loop Inv-search μ-search
-add-i c = search needs
+after-requires-3 : tie.Need-after-requires-3 Inv-loop2 μ-loop2 Inv-loop μ-loop Inv-search μ-search
+after-requires-3 c κs = search needs
 
 loop-less : tie.Need-loop-less Inv-loop2 μ-loop2 Inv-loop μ-loop Inv-search μ-search
-loop-less c = search needs
+loop-less c =
+    let tested = c .before .before .before .before in
+    laws.row-less (tested .before .loop .inv) (tested .loop-test .taken) (c .after3 .ensures)
 
 loop-again : tie.Need-loop-again Inv-loop2 μ-loop2 Inv-loop μ-loop Inv-search μ-search
-loop-again c = laws.column-end (c .before .loop2 .inv) (c .loop2-test .left)
+loop-again c = laws.column-end (c .before .before .loop2 .inv) (c .before .loop2-test .left) (c .after3 .ensures)
 
 add-n : tie.Need-add-n Inv-loop2 μ-loop2 Inv-loop μ-loop Inv-search μ-search
 add-n c = search needs
@@ -66,13 +75,19 @@ search-less : tie.Need-search-less Inv-loop2 μ-loop2 Inv-loop μ-loop Inv-searc
 search-less c = search needs
 
 search-again : tie.Need-search-again Inv-loop2 μ-loop2 Inv-loop μ-loop Inv-search μ-search
-search-again c = laws.lowest-next (c .before .before .before .search .inv) (c .before .before .search-test .taken) (laws.row-end (c .before .loop .inv) (c .loop-test .left))
+search-again c =
+    let tested = c .before .before .before in
+    laws.lowest-next (tested .before .search .inv) (tested .search-test .taken) (laws.row-end (c .before .loop .inv) (c .loop-test .left))
 
 returns : tie.Need-returns Inv-loop2 μ-loop2 Inv-loop μ-loop Inv-search μ-search
 returns c = laws.lowest-end (c .before .search .inv) (c .search-test .left)
 
 returns-2 : tie.Need-returns-2 Inv-loop2 μ-loop2 Inv-loop μ-loop Inv-search μ-search
-returns-2 c = laws.lowest-stop (c .before .before .before .before .before .before .before .before .search .inv) (c .before .before .before .before .before .before .before .search-test .taken) (laws.column-found (c .before .before .before .loop2 .inv) (c .before .before .loop2-test .taken) (c .before .clash-at .ensures) (c .if1 .taken))
+returns-2 c =
+    let column = c .before .before in
+    let search = column .before .before .before .before .before .before in
+    laws.lowest-stop (search .before .search .inv) (search .search-test .taken)
+    (laws.column-found (column .before .loop2 .inv) (column .loop2-test .taken) (c .before .clash .ensures) (c .if1 .taken))
 
 pub clashing-spec : {M : Type 1} → statement M
 clashing-spec =
@@ -85,14 +100,15 @@ clashing-spec =
     Inv-search
     μ-search
     search-holds
+    first-place-requires
     loop-holds
-    partner-requires
+    after-requires
     loop2-holds
-    clash-at-requires
-    add-j
+    clash-requires
+    after-requires-2
     loop2-less
     loop2-again
-    add-i
+    after-requires-3
     loop-less
     loop-again
     add-n

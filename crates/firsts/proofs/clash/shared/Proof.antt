@@ -1,55 +1,64 @@
 -- `shared`: what is found, and the pairs that are left.
 use Prim.Native.Nat.{_-_}
-use borrow.Author.Needs.{needs}
-use Rattle.firsts.specs.Pairs.{sharedAt}
+use Rattle.productions.specs.Room.{firstPlaceIn}
+use Rattle.firsts.specs.Pairs.{sharedIn}
 use Rattle.firsts.proofs.PairsLaws as laws
+use borrow.Author.Needs.{needs}
 use Rattle.firsts.proofs.clash.shared.Statement.{statement}
 use Rattle.firsts.proofs.clash.shared.Tie as tie
 
 abbrev Inv-loop2 : tie.InvT-loop2
-Inv-loop2 owners m openings n found₀ i j₀ found j = laws.JoinColumn (sharedAt owners openings n) m i j found
+Inv-loop2 room n found₀ i j₀ found j = laws.JoinColumn (sharedIn room) room (firstPlaceIn room n) i j found
 
 abbrev μ-loop2 : tie.MeasureT-loop2
-μ-loop2 owners m openings n found₀ i j₀ found j = m - j
+μ-loop2 room n found₀ i j₀ found j = 256 - j
 
 abbrev Inv-loop : tie.InvT-loop
-Inv-loop owners m openings n found₀ i₀ found i = laws.JoinRow (sharedAt owners openings n) m i found
+Inv-loop room n found₀ i₀ found i = laws.JoinRow (sharedIn room) room (firstPlaceIn room n) i found
 
 abbrev μ-loop : tie.MeasureT-loop
-μ-loop owners m openings n found₀ i₀ found i = m - i
+μ-loop room n found₀ i₀ found i = 256 - i
+
+first-place-requires : tie.Need-first-place-requires Inv-loop2 μ-loop2 Inv-loop μ-loop
+first-place-requires c κs = search needs
 
 loop-holds : tie.Need-loop-holds Inv-loop2 μ-loop2 Inv-loop μ-loop
-loop-holds c = laws.join-row-start _ _
+loop-holds c = laws.join-row-start _ _ (c .first-place .ensures)
 
-partner-requires : tie.Need-partner-requires Inv-loop2 μ-loop2 Inv-loop μ-loop
-partner-requires c κs = search needs
+after-requires : tie.Need-after-requires Inv-loop2 μ-loop2 Inv-loop μ-loop
+after-requires c κs = search needs
 
 loop2-holds : tie.Need-loop2-holds Inv-loop2 μ-loop2 Inv-loop μ-loop
-loop2-holds c = laws.join-column-start (c .before .before .loop .inv) (c .before .loop-test .taken) _ (laws.shared-skip (c .before .before .before .before .before .args .owners .now) (c .before .before .before .before .before .args .openings .now) (c .before .before .before .before .before .args .n) (c .before .before .loop .i)) (c .partner .ensures)
+loop2-holds c = laws.join-column-start (c .before .before .loop .inv) (c .before .loop-test .taken) (c .after .ensures)
 
-shared-at-requires : tie.Need-shared-at-requires Inv-loop2 μ-loop2 Inv-loop μ-loop
-shared-at-requires c κs = search needs
+shared-by-requires : tie.Need-shared-by-requires Inv-loop2 μ-loop2 Inv-loop μ-loop
+shared-by-requires c κs = search needs
 
 join-requires : tie.Need-join-requires Inv-loop2 μ-loop2 Inv-loop μ-loop
 join-requires c κs = search needs
 
-add-j : tie.Need-add-j Inv-loop2 μ-loop2 Inv-loop μ-loop
-add-j c = search needs
+after-requires-2 : tie.Need-after-requires-2 Inv-loop2 μ-loop2 Inv-loop μ-loop
+after-requires-2 c κs = search needs
 
 loop2-less : tie.Need-loop2-less Inv-loop2 μ-loop2 Inv-loop μ-loop
-loop2-less c = search needs
+loop2-less c = laws.join-column-less (c .before .before .before .before .loop2 .inv) (c .before .before .before .loop2-test .taken) (c .after2 .ensures)
 
 loop2-again : tie.Need-loop2-again Inv-loop2 μ-loop2 Inv-loop μ-loop
-loop2-again c = laws.join-column-next (c .before .before .before .loop2 .inv) (c .before .before .loop2-test .taken) (c .before .shared-at .ensures) (c .join .ensures)
+loop2-again c =
+    let tested = c .before .before .before in
+    laws.join-column-next (tested .before .loop2 .inv) (tested .loop2-test .taken) (c .before .before .shared-by .ensures) (c .before .join .ensures)
+    (c .after2 .ensures)
 
-add-i : tie.Need-add-i Inv-loop2 μ-loop2 Inv-loop μ-loop
-add-i c = search needs
+after-requires-3 : tie.Need-after-requires-3 Inv-loop2 μ-loop2 Inv-loop μ-loop
+after-requires-3 c κs = search needs
 
 loop-less : tie.Need-loop-less Inv-loop2 μ-loop2 Inv-loop μ-loop
-loop-less c = search needs
+loop-less c =
+    let tested = c .before .before .before .before in
+    laws.join-row-less (tested .before .loop .inv) (tested .loop-test .taken) (c .after3 .ensures)
 
 loop-again : tie.Need-loop-again Inv-loop2 μ-loop2 Inv-loop μ-loop
-loop-again c = laws.join-column-end (c .before .loop2 .inv) (c .loop2-test .left)
+loop-again c = laws.join-column-end (c .before .before .loop2 .inv) (c .before .loop2-test .left) (c .after3 .ensures)
 
 returns : tie.Need-returns Inv-loop2 μ-loop2 Inv-loop μ-loop
 returns c = laws.join-row-end (c .before .loop .inv) (c .loop-test .left)
@@ -62,15 +71,16 @@ shared-spec =
     μ-loop2
     Inv-loop
     μ-loop
+    first-place-requires
     loop-holds
-    partner-requires
+    after-requires
     loop2-holds
-    shared-at-requires
+    shared-by-requires
     join-requires
-    add-j
+    after-requires-2
     loop2-less
     loop2-again
-    add-i
+    after-requires-3
     loop-less
     loop-again
     returns)

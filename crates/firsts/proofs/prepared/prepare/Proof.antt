@@ -1,6 +1,9 @@
--- `prepare`: each room is filled from those before it.
-use borrow.Author.Needs.{needs}
+-- `prepare`: the room is filled from the sets.
+use mathlib.Core.Path.{_∙_, ap, sym}
+use lib.ListN.{length}
+use Rattle.firsts.proofs.StepLaws as sets
 use Rattle.firsts.proofs.CheckLaws as laws
+use borrow.Author.Needs.{needs}
 use Rattle.firsts.proofs.prepared.prepare.Statement.{statement}
 use Rattle.firsts.proofs.prepared.prepare.Tie as tie
 
@@ -10,21 +13,24 @@ nullables-requires c κs = search needs
 sets-of-requires : tie.Need-sets-of-requires
 sets-of-requires c κs = search needs
 
-fill-openings-requires : tie.Need-fill-openings-requires
-fill-openings-requires c κs = search needs
+slice-aggregate-fill : tie.Need-slice-aggregate-fill
+slice-aggregate-fill c = sym (ap length (c .before .sets-of .ensures) ∙ sets.length-sets _ _ _)
 
-fill-empties-requires : tie.Need-fill-empties-requires
-fill-empties-requires c κs = search needs
+fill-requires : tie.Need-fill-requires
+fill-requires c κs =
+    let computed = c .before .before in
+    let entry = computed .before .before .before .before .before .before .before .before in
+    record {
+      index = entry .pre;
+      lent = record { size = c .fill-arg .given .0 .1; many = ap length (computed .sets-of .ensures) ∙ sets.length-sets _ _ _ };
+    }
 
 returns : tie.Need-returns
-returns c = laws.prepared (c .before .before .before .before .before .before .before .before .before .before .before .before .args .table .now) (c .before .before .before .before .before .before .before .before .before .before .before .before .args .owners .now) (c .before .before .before .before .before .before .before .before .before .before .before .before .args .starts .now) _ (c .before .before .before .before .before .before .before .before .nullables .ensures) (c .before .before .before .before .before .before .sets-of .ensures) (c .before .before .fill-openings .ensures) (c .fill-empties .ensures)
+returns c =
+    let computed = c .before .before .before in
+    laws.prepared _ _ (computed .before .before .before .before .nullables .ensures) (computed .sets-of .ensures) (c .fill .ensures)
 
 pub prepare-spec : {M : Type 1} → statement M
 prepare-spec =
     tie.close
-    (tie.spec
-    nullables-requires
-    sets-of-requires
-    fill-openings-requires
-    fill-empties-requires
-    returns)
+    (tie.spec nullables-requires sets-of-requires slice-aggregate-fill fill-requires returns)

@@ -24,13 +24,13 @@ enum-told : tie.Need-enum-told Inv-loop μ-loop
 enum-told c = search needs
 
 returns : tie.Need-returns Inv-loop μ-loop
-returns c = (laws.building-nothing (c .before .before .before .before .loop .inv) (sym (c .enum-told .given .1) ∙ c .before .before .front-at .ensures), laws.building-few (c .before .before .before .before .loop .inv))
+returns c = laws.building-nothing (c .before .before .before .before .loop .inv) (sym (c .enum-told .given .1) ∙ c .before .before .front-at .ensures)
 
 enum-told-2 : tie.Need-enum-told-2 Inv-loop μ-loop
 enum-told-2 c = search needs
 
 returns-2 : tie.Need-returns-2 Inv-loop μ-loop
-returns-2 c = (laws.building-short (c .before .before .before .before .loop .inv) (sym (c .enum-told2 .given .1) ∙ c .before .before .front-at .ensures), laws.building-few (c .before .before .before .before .loop .inv))
+returns-2 c = laws.building-short (c .before .before .before .before .loop .inv) (sym (c .enum-told2 .given .1) ∙ c .before .before .front-at .ensures)
 
 enum-known-front : tie.Need-enum-known-front Inv-loop μ-loop
 enum-known-front c = search needs
@@ -93,7 +93,7 @@ loop-again-3 : tie.Need-loop-again-3 Inv-loop μ-loop
 loop-again-3 c = laws.building-other (c .before .before .before .before .before .before .before .loop .inv) (sym (c .before .before .before .front .given .1) ∙ c .before .before .before .before .before .front-at .ensures) (c .before .if1 .left) (c .if2 .left)
 
 returns-3 : tie.Need-returns-3 Inv-loop μ-loop
-returns-3 c = (laws.building-end (c .before .loop .inv) (c .loop-test .left), laws.building-few (c .before .loop .inv))
+returns-3 c = laws.building-end (c .before .loop .inv) (c .loop-test .left)
 
 pub build-index-spec : {M : Type 1} → statement M
 build-index-spec =

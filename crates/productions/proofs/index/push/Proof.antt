@@ -20,7 +20,7 @@ same-length-2 : tie.Need-same-length-2
 same-length-2 c = search needs
 
 returns : tie.Need-returns
-returns c = λ bs. laws.push-is bs _ _ _ _ _ (c .pre .0) (c .pre .1)
+returns c = laws.push-is _ _ _ _ _ (c .pre)
 
 pub push-spec : {M : Type 1} → statement M
 push-spec =

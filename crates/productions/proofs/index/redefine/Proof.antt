@@ -20,10 +20,17 @@ same-length-2 : tie.Need-same-length-2
 same-length-2 c = search needs
 
 returns : tie.Need-returns
-returns c = (laws.redefine-update (c .before .before .before .before .before .before .before .before .before .before .before .before .before .args .head .now) (c .before .before .before .before .before .before .before .before .before .before .before .before .before .args .owners .now) (c .before .before .before .before .before .before .before .before .before .before .before .before .before .args .starts .now) _ (c .before .before .before .before .before .before .before .before .before .byte .ensures) (c .before .before .before .before .before .before .before .before .if1 .taken) (c .before .before .before .before .before .before .before .byte2 .ensures) (c .before .before .before .before .without .ensures .0), c .before .before .before .before .without .ensures .1)
+returns c =
+    let called = c .before .before .before .before in
+    let tested = called .before .before .before .before in
+    let entry = tested .before .before .before .before .before .args in
+    laws.redefine-update (entry .head .now) (entry .owners .now) (entry .starts .now) (tested .before .byte .ensures) (tested .if1 .taken)
+    (called .before .before .before .byte2 .ensures) (called .without .ensures)
 
 returns-2 : tie.Need-returns-2
-returns-2 c = (laws.redefine-other (c .before .before .before .before .before .args .head .now) (c .before .before .before .before .before .args .owners .now) (c .before .before .before .before .before .args .starts .now) _ (c .before .byte .ensures) (c .if1 .left), search needs)
+returns-2 c =
+    let entry = c .before .before .before .before .before .args in
+    laws.redefine-other (entry .head .now) (entry .owners .now) (entry .starts .now) (c .before .byte .ensures) (c .if1 .left)
 
 pub redefine-spec : {M : Type 1} → statement M
 redefine-spec =

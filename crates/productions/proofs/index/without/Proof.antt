@@ -12,7 +12,7 @@ abbrev μ-loop : tie.MeasureT-loop
 μ-loop owners₀ starts₀ k n i₀ w₀ owners starts i w = k - i
 
 loop-holds : tie.Need-loop-holds Inv-loop μ-loop
-loop-holds c = laws.dropping-start _ _ _ _ (c .pre .0) (c .pre .1)
+loop-holds c = laws.dropping-start _ _ _ _ (c .pre)
 
 slice-read-owner : tie.Need-slice-read-owner Inv-loop μ-loop
 slice-read-owner c = search needs
@@ -60,7 +60,7 @@ same-length-2 : tie.Need-same-length-2 Inv-loop μ-loop
 same-length-2 c = c .before .loop .inv .starts-many
 
 returns : tie.Need-returns Inv-loop μ-loop
-returns c = (laws.dropping-end (c .before .loop .inv) (c .loop-test .left), search needs)
+returns c = laws.dropping-end (c .before .loop .inv) (c .loop-test .left)
 
 pub without-spec : {M : Type 1} → statement M
 without-spec =

@@ -1,0 +1,62 @@
+-- What an expansion may take from a table that passes: the room holds its grammar.
+use Prim.Native.Nat.{ℕ, _<_}
+use mathlib.Core.Path.{_≡_, refl, _∙_, ap}
+use mathlib.Core.List.{List, []}
+use native.Mathlib.Omega.{arith}
+use lib.ListN.{length, drop}
+use Rattle.answers.specs.Checked.{Checked, ok, bad, _>>=_, _>>_, verdict}
+use Rattle.answers.specs.declared.Verdict.{Verdict}
+use Rattle.grammar.specs.Encode.{encode}
+use Rattle.grammar.specs.Fields.{fieldsOf}
+use Rattle.grammar.specs.Lookup.{fieldsAt}
+use Rattle.layout.specs.Layout.{layout}
+use Rattle.layout.specs.Decode.{tableOf, build, decode}
+use Rattle.layout.proofs.Split.{Bytes}
+use Rattle.layout.proofs.Spelled.{each-map}
+use Rattle.layout.proofs.LayoutTheorems.{decode-exactly}
+use Rattle.sorts.specs.CheckSorts.{checkSorts}
+use Rattle.sorts.proofs.SortTheorems.{sorts-exactly}
+use Rattle.layout.specs.Within.{Each}
+use Rattle.productions.specs.Index.{Place, placesOf, normalizedBy, wholeBody}
+use Rattle.productions.proofs.FewAlternatives.{few-alternatives}
+use Rattle.productions.proofs.NormalizedByFields.{normalized-by}
+use Rattle.productions.proofs.Places.{productions-at, few-places, whole-places}
+use Rattle.firsts.specs.Room.{productionsIn, tableRoom, HoldsGrammar}
+use Rattle.checker.specs.CheckedInto.{roomBy, roomAfter, CheckedInto}
+use Rattle.checker.specs.Passes.{grammarOf, Passes}
+
+-- the layout of what was decoded is right
+laid : {A : Type 0} (c : Checked (Unit {0})) (u : A) {t : A} → (c >> ok u) ≡ ok t → c ≡ ok tt
+laid (ok a) u e = refl
+laid (bad r) u e = let z : _≡_ {A = ℕ} 0 1 = cc in absurd (omega arith)
+
+module _ {bs : List ℕ} (bytes : Bytes bs) (p : Passes bs) where
+  decoded : decode bs ≡ ok (p .table)
+  decoded = decode-exactly bs bytes (p .table) .1 (p .encoded, p .within)
+
+  laid-out : layout bs ≡ ok tt
+  unfolding decode
+  laid-out = laid (layout bs) (tableOf (build (fieldsOf bs))) decoded
+
+  -- The productions of its bytes are the grammar of the table.
+  pub passed-grammar : productionsIn bs ≡ grammarOf (p .table)
+  passed-grammar = productions-at bs ∙ ap (λ b. normalizedBy (fieldsOf b) 0 []) (p .encoded) ∙ normalized-by (p .table) (p .within)
+
+  -- The room after its check holds its grammar, each production a whole alternative.
+  pub passed-holds : {room₀ room : List ℕ} {r : Verdict} → CheckedInto bs room₀ room r → HoldsGrammar bs room
+  unfolding roomAfter
+  passed-holds {room₀} c =
+      record {
+        small = few-alternatives bs laid-out .short;
+        few = few-places bs laid-out;
+        rest = drop (length (tableRoom bs)) room₀;
+        held =
+            c .held
+            ∙ ap (λ d. roomBy (d >>= λ t. checkSorts t) bs room₀) decoded
+            ∙ ap (λ c. roomBy c bs room₀) (sorts-exactly (p .table) (p .within) .1 (p .meets .sorted));
+        whole = each-map (λ q w. w .whole) (whole-places bs laid-out);
+      }
+
+  -- Each of its productions is of one of the 64 nonterminals.
+  pub passed-owned : Each (λ (q : Place). q .owner < 64) (placesOf bs)
+  passed-owned = each-map (λ q w. w .small) (whole-places bs laid-out)

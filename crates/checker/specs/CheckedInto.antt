@@ -1,0 +1,23 @@
+-- What the check of a table answers and leaves in the room that is lent. The room mirrors code: nobody needs it to believe `expand`.
+use Prim.Native.Nat.{ℕ}
+use mathlib.Core.Path.{_≡_}
+use mathlib.Core.List.{List}
+use Rattle.answers.specs.declared.Verdict.{Verdict}
+use Rattle.answers.specs.Checked.{Checked, ok, bad, _>>=_}
+use Rattle.layout.specs.Decode.{decode}
+use Rattle.sorts.specs.CheckSorts.{checkSorts}
+use Rattle.productions.specs.Room.{overwritten}
+use Rattle.firsts.specs.Room.{tableRoom}
+use Rattle.checker.specs.Check.{check}
+
+abbrev pub roomBy : Checked (Unit {0}) → List ℕ → List ℕ → List ℕ
+roomBy (ok u) bs room = overwritten (tableRoom bs) room
+roomBy (bad r) bs room = room
+
+-- the room of a table over what was there, where layout and sorts are right; else what was there
+unfoldable pub roomAfter : List ℕ → List ℕ → List ℕ
+roomAfter bs room = roomBy (decode bs >>= λ t. checkSorts t) bs room
+
+pub record CheckedInto (bs room₀ room : List ℕ) (r : Verdict) : Type 0 where
+  pub answer : r ≡ check bs
+  pub held : room ≡ roomAfter bs room₀

@@ -1,0 +1,20 @@
+-- `after`: a link that leads on is followed.
+use mathlib.Core.Path.{refl, sym, _∙_}
+use borrow.Author.Tests.{lt-ltb, le-ltb}
+use Rattle.firsts.specs.Pairs.{afterIn}
+use Rattle.firsts.proofs.PairsLaws as laws
+use borrow.Author.Needs.{needs}
+use Rattle.firsts.proofs.clash.after.Statement.{statement}
+use Rattle.firsts.proofs.clash.after.Tie as tie
+
+next-place-requires : tie.Need-next-place-requires
+next-place-requires c κs = search needs
+
+returns : tie.Need-returns
+returns c = laws.after-on (c .before .before .args .room .now) _ (c .before .next-place .ensures) (c .if1 .taken)
+
+returns-2 : tie.Need-returns-2
+returns-2 c = laws.after-end (c .before .before .args .room .now) _ (c .before .next-place .ensures) (c .if1 .left)
+
+pub after-spec : {M : Type 1} → statement M
+after-spec = tie.close (tie.spec next-place-requires returns returns-2)

@@ -1,0 +1,101 @@
+-- `fill`: the entries behind the next one are laid.
+use native.Mathlib.Omega.{arith}
+use mathlib.Core.Path.{_∙_, sym}
+use mathlib.Core.List.{map}
+use Rattle.productions.specs.Index.{placesIn}
+use Rattle.productions.proofs.RoomWriting.{Filling}
+use Rattle.firsts.specs.Room.{entryAt}
+use Rattle.firsts.proofs.FillLaws as laws
+use borrow.Author.Needs.{needs}
+use Rattle.firsts.proofs.prepared.fill.Statement.{statement}
+use Rattle.firsts.proofs.prepared.fill.Tie as tie
+
+abbrev Inv-loop : tie.InvT-loop
+Inv-loop table owners starts m nulls sets room₀ j₀ room j = Filling sets (map (entryAt table nulls sets) (placesIn m owners starts)) room₀ j room
+
+abbrev μ-loop : tie.MeasureT-loop
+μ-loop table owners starts m nulls sets room₀ j₀ room j = j
+
+begin-requires : tie.Need-begin-requires Inv-loop μ-loop
+begin-requires c κs = search needs
+
+loop-holds : tie.Need-loop-holds Inv-loop μ-loop
+loop-holds c =
+    let began = c .before .before in
+    let entry = began .before .before .before .before .before in
+    laws.fill-start (entry .pre) _ (began .begin .ensures)
+
+sub-j : tie.Need-sub-j Inv-loop μ-loop
+sub-j c = search needs
+
+element-copy-out-owner : tie.Need-element-copy-out-owner Inv-loop μ-loop
+element-copy-out-owner c = search needs
+
+offset-requires : tie.Need-offset-requires Inv-loop μ-loop
+offset-requires c κs = search needs
+
+gather-requires : tie.Need-gather-requires Inv-loop μ-loop
+gather-requires c κs = search needs
+
+all-passed-requires : tie.Need-all-passed-requires Inv-loop μ-loop
+all-passed-requires c κs = search needs
+
+mul-lay : tie.Need-mul-lay Inv-loop μ-loop
+mul-lay c = search needs
+
+element-copy-out-lay : tie.Need-element-copy-out-lay Inv-loop μ-loop
+element-copy-out-lay c = search needs
+
+lay-requires : tie.Need-lay-requires Inv-loop μ-loop
+lay-requires c κs =
+    let tested = c .before .before .before .before .before .before .before in
+    let began = tested .before .before .before .before in
+    let entry = began .before .before .before .before .before in
+    laws.fill-at (entry .pre) _ (tested .before .loop .inv) (tested .loop-test .taken)
+
+loop-less : tie.Need-loop-less Inv-loop μ-loop
+loop-less c = search needs
+
+loop-again : tie.Need-loop-again Inv-loop μ-loop
+loop-again c =
+    let laid = c .before .before in
+    let passed = laid .before .before .before in
+    let offset = passed .before .before in
+    let tested = offset .before .before .before in
+    let began = tested .before .before .before .before in
+    let entry = began .before .before .before .before .before in
+    laws.fill-next (entry .pre) _ (tested .before .loop .inv) (tested .loop-test .taken) (offset .offset .ensures)
+    (passed .before .gather .ensures) (passed .all-passed .ensures) (laid .lay .ensures)
+
+same-length : tie.Need-same-length Inv-loop μ-loop
+same-length c =
+    let began = c .before .before .before .before in
+    let entry = began .before .before .before .before .before in
+    c .before .loop .inv .size ∙ sym (entry .pre .lent .size)
+
+returns : tie.Need-returns Inv-loop μ-loop
+returns c =
+    let began = c .before .before .before .before in
+    let entry = began .before .before .before .before .before in
+    laws.fill-end (entry .pre) _ (began .begin .ensures) (c .before .loop .inv) (c .loop-test .left)
+
+pub fill-spec : {M : Type 1} → statement M
+fill-spec =
+    tie.close
+    (tie.spec
+    Inv-loop
+    μ-loop
+    begin-requires
+    loop-holds
+    sub-j
+    element-copy-out-owner
+    offset-requires
+    gather-requires
+    all-passed-requires
+    mul-lay
+    element-copy-out-lay
+    lay-requires
+    loop-less
+    loop-again
+    same-length
+    returns)

@@ -1,0 +1,360 @@
+-- Laws of the index of spellings: what a search in it finds, and that one spelling more keeps it.
+use Prim.Native.Nat.{ℕ, zero, suc, _+_, _-_, _*_, _%_, _<_, _≤_}
+use mathlib.Core.Path.{_≡_, refl, sym, ap, ap₂, subst, _∙_}
+use mathlib.Core.Bool.{Bool, true, false, _||_}
+use mathlib.Core.List.{List, [], _∷_}
+use native.Mathlib.Nat.{add-zero}
+use native.Mathlib.Omega.{arith}
+use lib.Dec.{eqb, ltb}
+use lib.ListN.{length, getD, take, drop, set, replicate, length-set, length-replicate, drop-of-length-le}
+use lib.Seq.{getD-set-same, getD-set-other}
+use borrow.Author.Tests.{eqb-true, eqb-false, eq-eqb}
+use Rattle.spellings.specs.Bytes.{same}
+use Rattle.spellings.specs.BytesLaws.{by-test, differ-same}
+use Rattle.spellings.proofs.Loops.{drop-at-index}
+use Rattle.grammar.specs.Encode.{Field, field}
+use Rattle.layout.specs.Layout.{isRepeated, oneIf}
+use Rattle.layout.specs.Index.{spelledBy, isAmong, hashFrom, hashOf, entry, Entered, Leads, leads-none, leads-past, leads-here}
+use Rattle.layout.specs.Index.{Indexed, Falling, roomWith, entered, Has}
+
+-- ------------------------------------------------------------------ what is looked for
+
+-- a field is repeated exactly if its value is among those of its tag
+pub repeated-among : (tag : ℕ) (v : List ℕ) (before : List Field) → isAmong v (spelledBy tag before) ≡ isRepeated tag v before
+unfolding isRepeated isAmong spelledBy
+repeated-among tag v [] = refl
+repeated-among tag v (f ∷ fs) =
+    by-test (eqb (f .tag) tag) (λ e. rw (e, spelledBy) (ap (λ t. same (f .value) v || t) (repeated-among tag v fs)))
+    (λ e. rw (e, spelledBy) (repeated-among tag v fs))
+
+-- ------------------------------------------------------------------ the hash
+
+pub hash-small : (v : List ℕ) (h : ℕ) → h < 4294967296 → hashFrom h v < 4294967296
+unfolding hashFrom
+hash-small [] h e = e
+hash-small (b ∷ bs) h e = hash-small bs ((h * 16777619 + b) % 4294967296) (omega arith)
+
+pub hash-below : (v : List ℕ) → hashOf v < 4294967296
+unfolding hashOf
+hash-below v = hash-small v 0 (omega arith)
+
+-- the first i bytes have the hash h
+pub record Hashing (v : List ℕ) (i h : ℕ) : Type 0 where
+  pub small : h < 4294967296
+  pub rest : hashFrom h (drop i v) ≡ hashOf v
+
+pub hashing-start : {v : List ℕ} → Hashing v 0 0
+unfolding hashOf
+hashing-start = record { small = omega arith; rest = refl }
+
+pub hashing-next : {v : List ℕ} {i h : ℕ} → Hashing v i h → i < length v → Hashing v (i + 1) ((h * 16777619 + getD v i 0) % 4294967296)
+unfolding hashFrom
+hashing-next {v} {i} {h} c l =
+    record { small = omega arith; rest = sym (ap (hashFrom h) (drop-at-index v i l)) ∙ c .rest }
+
+pub hashing-end : {v : List ℕ} {i h : ℕ} → Hashing v i h → length v ≤ i → h ≡ hashOf v
+unfolding hashFrom
+hashing-end {v} {i} {h} c l = sym (ap (hashFrom h) (drop-of-length-le v l)) ∙ c .rest
+
+-- ------------------------------------------------------------------ one entry
+
+-- an entry with another hash is another spelling; one with the same hash is compared
+pub entry-other :
+    {table room : List ℕ} {n p : ℕ} {w : List ℕ} (v : List ℕ) → Entered table room n w p → {h stored : ℕ} → h ≡ hashOf v
+    → stored ≡ getD room (entry n + 1) 0 → (stored ≡ h → ⊥) → false ≡ same w v
+entry-other {w = w} v e f s d = sym (differ-same w v (λ q. d (s ∙ e .hashed ∙ ap hashOf q ∙ sym f)))
+
+pub entry-same :
+    {table room : List ℕ} {n p : ℕ} {w lent : List ℕ} (v : List ℕ) → Entered table room n w p → {from size : ℕ}
+    → from ≡ getD room (entry n + 2) 0 → size ≡ getD room (entry n + 3) 0 → lent ≡ take size (drop from table) → same lent v ≡ same w v
+entry-same {table} v e f s l = ap (λ x. same x v) (l ∙ ap₂ (λ k a. take k (drop a table)) s f ∙ e .placed)
+
+-- ------------------------------------------------------------------ the search
+
+-- the spellings that are left are those that p leads to
+pub record Searching (table room v : List ℕ) (words : List (List ℕ)) (p : ℕ) : Type 0 where
+  pub left : List (List ℕ)
+  pub leads : Leads table room (hashOf v % 64) left p
+  pub rest : isAmong v left ≡ isAmong v words
+
+pub searching-start :
+    {table room v : List ℕ} {words : List (List ℕ)} {h p : ℕ} → Indexed table room words → h ≡ hashOf v → p ≡ getD room (h % 64) 0
+    → Searching table room v words p
+searching-start {table} {room} {v} {words} {h} {p} x e f =
+    record {
+      left = words;
+      leads =
+          subst (Leads table room (hashOf v % 64) words) (sym (f ∙ ap (λ k. getD room (k % 64) 0) e)) (x .leads (hashOf v % 64) (omega arith));
+      rest = refl;
+    }
+
+module _ (table room v : List ℕ) where
+  -- nothing is left in the bucket
+  none-among : (ws : List (List ℕ)) {p : ℕ} → Leads table room (hashOf v % 64) ws p → p ≡ 0 → isAmong v ws ≡ false
+  unfolding isAmong
+  none-among [] leads-none e = refl
+  none-among (w ∷ ws) (leads-past d l) e = rw (differ-same w v (λ q. d (ap (λ x. hashOf x % 64) q))) (none-among ws l e)
+  none-among (w ∷ ws) (leads-here n l) e = absurd (omega arith)
+
+  -- the spelling that p leads to, and those behind it
+  pub record Next (ws : List (List ℕ)) (p : ℕ) : Type 0 where
+    pub first : List ℕ
+    pub behind : List (List ℕ)
+    pub onward : ℕ
+    pub entered : Entered table room p first onward
+    pub leads : Leads table room (hashOf v % 64) behind onward
+    pub among : isAmong v ws ≡ (same first v || isAmong v behind)
+
+  next-of : (ws : List (List ℕ)) {p : ℕ} → Leads table room (hashOf v % 64) ws p → 0 < p → Next ws p
+  unfolding isAmong
+  next-of [] leads-none h = absurd (omega arith)
+  next-of (w ∷ ws) (leads-past d l) h =
+      let n = next-of ws l h in
+      record {
+        first = n .first;
+        behind = n .behind;
+        onward = n .onward;
+        entered = n .entered;
+        leads = n .leads;
+        among = rw (differ-same w v (λ q. d (ap (λ x. hashOf x % 64) q))) (n .among);
+      }
+  next-of (w ∷ ws) (leads-here {p = p} e l) h =
+      record { first = w; behind = ws; onward = p; entered = e; leads = l; among = refl }
+
+module _ {table room v : List ℕ} {words : List (List ℕ)} {p : ℕ} (s : Searching table room v words p) where
+  pub searching-end : p ≤ 0 → false ≡ isAmong v words
+  searching-end h = sym (none-among table room v (s .left) (s .leads) (omega arith)) ∙ s .rest
+
+  -- at a spelling, by the code's comparison
+  module _ (h : 0 < p) {here : Bool} (c : (w : List ℕ) (q : ℕ) → Entered table room p w q → here ≡ same w v) where
+    next : Next table room v (s .left) p
+    next = next-of table room v (s .left) (s .leads) h
+
+    pub searching-found : here ≡ true → true ≡ isAmong v words
+    searching-found e =
+        let n = next in
+        ap (λ t. t || isAmong v (n .behind)) (sym e ∙ c (n .first) (n .onward) (n .entered)) ∙ sym (n .among) ∙ s .rest
+
+    pub searching-next : {q : ℕ} → here ≡ false → q ≡ getD room (entry p) 0 → Searching table room v words q
+    searching-next {q} e f =
+        let n = next in
+        record {
+          left = n .behind;
+          leads = subst (Leads table room (hashOf v % 64) (n .behind)) (sym (f ∙ n .entered .onward)) (n .leads);
+          rest =
+              ap (λ t. t || isAmong v (n .behind)) (sym e ∙ c (n .first) (n .onward) (n .entered)) ∙ sym (n .among) ∙ s .rest;
+        }
+
+-- the search as the code makes it, for any spellings that the room has
+pub record Walking (table room v : List ℕ) (p : ℕ) : Type 0 where
+  pub small : p ≤ 64
+  pub search : (words : List (List ℕ)) → Indexed table room words → Searching table room v words p
+
+-- ------------------------------------------------------------------ one spelling more
+
+leads-small : (table room : List ℕ) (b : ℕ) (ws : List (List ℕ)) {p : ℕ} → Leads table room b ws p → p ≤ length ws
+leads-small table room b [] leads-none = omega arith
+leads-small table room b (w ∷ ws) (leads-past d l) = omega (arith, leads-small table room b ws l)
+leads-small table room b (w ∷ ws) (leads-here e l) = omega arith
+
+-- rooms that agree on the entries of some spellings lead through them alike
+leads-kept :
+    (table room room′ : List ℕ) (b : ℕ) (ws : List (List ℕ)) {p : ℕ}
+    → ((n i : ℕ) → 0 < n → n ≤ length ws → i < 4 → getD room′ (entry n + i) 0 ≡ getD room (entry n + i) 0)
+    → Leads table room b ws p → Leads table room′ b ws p
+leads-kept table room room′ b [] same-entries leads-none = leads-none
+leads-kept table room room′ b (w ∷ ws) same-entries (leads-past d l) =
+    leads-past d (leads-kept table room room′ b ws (λ n i h k. same-entries n i h (omega arith)) l)
+leads-kept table room room′ b (w ∷ ws) same-entries (leads-here e l) =
+    let n : ℕ = suc (length ws) in
+    let at : (i : ℕ) → i < 4 → getD room′ (entry n + i) 0 ≡ getD room (entry n + i) 0 = λ i. same-entries n i (omega arith) (omega arith) in
+    leads-here
+    (record {
+      onward = ap (λ k. getD room′ k 0) (sym (add-zero (entry n))) ∙ at 0 (omega arith) ∙ ap (λ k. getD room k 0) (add-zero (entry n)) ∙ e .onward;
+      hashed = at 1 (omega arith) ∙ e .hashed;
+      placed = ap₂ (λ k a. take k (drop a table)) (at 3 (omega arith)) (at 2 (omega arith)) ∙ e .placed;
+    })
+    (leads-kept table room room′ b ws (λ n i h k. same-entries n i h (omega arith)) l)
+
+-- a room of zeros has no spelling
+zeros : (k n : ℕ) → getD {A = ℕ} (replicate k 0) n 0 ≡ 0
+zeros zero n = refl
+zeros (suc k) zero = refl
+zeros (suc k) (suc n) = zeros k n
+
+pub indexed-none : {table : List ℕ} → Indexed table (replicate 320 0) []
+indexed-none {table} = record { leads = λ b h. subst (Leads table (replicate 320 0) b []) (sym (zeros 320 b)) leads-none }
+
+pub falling-none : Falling (replicate 320 0)
+falling-none = record { heads = λ b h. omega (arith, zeros 320 b); links = λ n h k. omega (arith, zeros 320 (entry n)) }
+
+module _ (room : List ℕ) (long : length room ≡ 320) (n h from size : ℕ) (few : n ≤ 64) (one : 0 < n) where
+  r₁ : List ℕ
+  r₁ = set room (entry n) (getD room (h % 64) 0)
+
+  r₂ : List ℕ
+  r₂ = set r₁ (entry n + 1) h
+
+  r₃ : List ℕ
+  r₃ = set r₂ (entry n + 2) from
+
+  r₄ : List ℕ
+  r₄ = set r₃ (entry n + 3) size
+
+  pub with-length : length (roomWith room n h from size) ≡ 320
+  with-length = simp length-set long
+
+  -- a number that is not written
+  outside :
+      (j : ℕ) → (j ≡ entry n → ⊥) → (j ≡ entry n + 1 → ⊥) → (j ≡ entry n + 2 → ⊥) → (j ≡ entry n + 3 → ⊥) → (j ≡ h % 64 → ⊥)
+      → getD (roomWith room n h from size) j 0 ≡ getD room j 0
+  unfolding r₁ r₂ r₃ r₄
+  outside j p q r s t =
+      getD-set-other r₄ (h % 64) j n 0 t
+      ∙ getD-set-other r₃ (entry n + 3) j size 0 s
+      ∙ getD-set-other r₂ (entry n + 2) j from 0 r
+      ∙ getD-set-other r₁ (entry n + 1) j h 0 q
+      ∙ getD-set-other room (entry n) j (getD room (h % 64) 0) 0 p
+
+  at-head : getD (roomWith room n h from size) (h % 64) 0 ≡ n
+  unfolding r₁ r₂ r₃ r₄
+  at-head = getD-set-same r₄ (h % 64) n 0 (simp length-set (omega arith))
+
+  at-onward : getD (roomWith room n h from size) (entry n) 0 ≡ getD room (h % 64) 0
+  unfolding r₁ r₂ r₃ r₄
+  at-onward =
+      getD-set-other r₄ (h % 64) (entry n) n 0 (λ e. omega arith)
+      ∙ getD-set-other r₃ (entry n + 3) (entry n) size 0 (λ e. omega arith)
+      ∙ getD-set-other r₂ (entry n + 2) (entry n) from 0 (λ e. omega arith)
+      ∙ getD-set-other r₁ (entry n + 1) (entry n) h 0 (λ e. omega arith)
+      ∙ getD-set-same room (entry n) (getD room (h % 64) 0) 0 (omega arith)
+
+  at-hash : getD (roomWith room n h from size) (entry n + 1) 0 ≡ h
+  unfolding r₁ r₂ r₃ r₄
+  at-hash =
+      getD-set-other r₄ (h % 64) (entry n + 1) n 0 (λ e. omega arith)
+      ∙ getD-set-other r₃ (entry n + 3) (entry n + 1) size 0 (λ e. omega arith)
+      ∙ getD-set-other r₂ (entry n + 2) (entry n + 1) from 0 (λ e. omega arith)
+      ∙ getD-set-same r₁ (entry n + 1) h 0 (simp length-set (omega arith))
+
+  at-place : getD (roomWith room n h from size) (entry n + 2) 0 ≡ from
+  unfolding r₁ r₂ r₃ r₄
+  at-place =
+      getD-set-other r₄ (h % 64) (entry n + 2) n 0 (λ e. omega arith)
+      ∙ getD-set-other r₃ (entry n + 3) (entry n + 2) size 0 (λ e. omega arith)
+      ∙ getD-set-same r₂ (entry n + 2) from 0 (simp length-set (omega arith))
+
+  at-size : getD (roomWith room n h from size) (entry n + 3) 0 ≡ size
+  unfolding r₁ r₂ r₃ r₄
+  at-size =
+      getD-set-other r₄ (h % 64) (entry n + 3) n 0 (λ e. omega arith) ∙ getD-set-same r₃ (entry n + 3) size 0 (simp length-set (omega arith))
+
+  -- links still lead to older spellings
+  pub falling-more : Falling room → getD room (h % 64) 0 < n → Falling (roomWith room n h from size)
+  falling-more f small =
+      record {
+        heads = λ j l.
+            by-test (eqb j (h % 64)) (λ e. omega (arith, ap (λ k. getD (roomWith room n h from size) k 0) (eqb-true j (h % 64) e), at-head))
+            (λ e.
+            omega (arith, outside j (λ q. omega arith) (λ q. omega arith) (λ q. omega arith) (λ q. omega arith) (eqb-false j (h % 64) e), f .heads j l));
+        links = λ m l k.
+            by-test (eqb m n) (λ e. omega (arith, ap (λ x. getD (roomWith room n h from size) (entry x) 0) (eqb-true m n e), at-onward, eqb-true m n e))
+            (λ e.
+            let d : m ≡ n → ⊥ = eqb-false m n e in
+            omega
+            (arith, outside (entry m) (λ q. d (omega arith)) (λ q. omega arith) (λ q. omega arith) (λ q. omega arith) (λ q. omega arith), f .links m l k));
+      }
+
+  pub indexed-more :
+      {table v : List ℕ} {words : List (List ℕ)} → n ≡ suc (length words) → h ≡ hashOf v → take size (drop from table) ≡ v
+      → Indexed table room words → Indexed table (roomWith room n h from size) (v ∷ words)
+  indexed-more {table} {v} {words} count e p x =
+      let room′ : List ℕ = roomWith room n h from size in
+      let kept : (m i : ℕ) → 0 < m → m ≤ length words → i < 4 → getD room′ (entry m + i) 0 ≡ getD room (entry m + i) 0 =
+      λ m i l k j.
+      outside (entry m + i) (λ q. omega arith) (λ q. omega arith) (λ q. omega arith) (λ q. omega arith) (λ q. omega arith) in
+      record {
+        leads = λ j l.
+            by-test (eqb j (h % 64))
+            (λ q.
+            let here : j ≡ h % 64 = eqb-true j (h % 64) q in
+            subst (Leads table room′ j (v ∷ words)) (sym (ap (λ k. getD room′ k 0) here ∙ at-head ∙ count))
+            (leads-here
+            (record {
+              onward = ap (λ k. getD room′ (entry k) 0) (sym count) ∙ at-onward ∙ ap (λ k. getD room k 0) (sym here);
+              hashed = ap (λ k. getD room′ (entry k + 1) 0) (sym count) ∙ at-hash ∙ e;
+              placed =
+                  ap₂ (λ k a. take k (drop a table)) (ap (λ k. getD room′ (entry k + 3) 0) (sym count) ∙ at-size)
+                  (ap (λ k. getD room′ (entry k + 2) 0) (sym count) ∙ at-place)
+                  ∙ p;
+            })
+            (leads-kept table room room′ j words kept (x .leads j l))))
+            (λ q.
+            let other : j ≡ h % 64 → ⊥ = eqb-false j (h % 64) q in
+            subst (Leads table room′ j (v ∷ words))
+            (sym (outside j (λ q. omega arith) (λ q. omega arith) (λ q. omega arith) (λ q. omega arith) other))
+            (leads-past (λ z. other (sym z ∙ ap (λ k. k % 64) (sym e))) (leads-kept table room room′ j words kept (x .leads j l))));
+      }
+
+-- what the code stores
+pub entered-none : (room : List ℕ) {spelled : Bool} (count from : ℕ) (v : List ℕ) → spelled ≡ false → room ≡ entered room spelled count from v
+entered-none room count from v e = ap (λ t. entered room t count from v) (sym e)
+
+storedAt : List ℕ → ℕ → ℕ → ℕ → ℕ → ℕ → List ℕ
+storedAt room at n h from size = set (set (set (set (set room at (getD room (h % 64) 0)) (at + 1) h) (at + 2) from) (at + 3) size) (h % 64) n
+
+pub entered-some :
+    (room : List ℕ) {spelled : Bool} (count from : ℕ) (v : List ℕ) {h : ℕ} → spelled ≡ true → h ≡ hashOf v
+    → set
+    (set (set (set (set room (64 + 4 * count) (getD room (h % 64) 0)) (64 + 4 * count + 1) h) (64 + 4 * count + 2) from) (64 + 4 * count + 3)
+    (length v))
+    (h % 64) (count + 1)
+    ≡ entered room spelled count from v
+unfolding storedAt
+entered-some room count from v {h} e f =
+    let at : 64 + 4 * count ≡ entry (count + 1) = omega arith in
+    ap₂ (λ a x. storedAt room a (count + 1) x from (length v)) at f ∙ ap (λ t. entered room t count from v) (sym e)
+
+-- ------------------------------------------------------------------ one field more
+
+-- fields of other tags are not entered
+spelled-other : (tag t : ℕ) (v : List ℕ) (before : List Field) → eqb t tag ≡ false → spelledBy tag (field t v ∷ before) ≡ spelledBy tag before
+unfolding spelledBy
+spelled-other tag t v before e = rw (e, spelledBy) refl
+
+spelled-here : (tag t : ℕ) (v : List ℕ) (before : List Field) → eqb t tag ≡ true → spelledBy tag (field t v ∷ before) ≡ v ∷ spelledBy tag before
+unfolding spelledBy
+spelled-here tag t v before e = rw (e, spelledBy) refl
+
+-- no field yet
+pub has-none : {table : List ℕ} {tag : ℕ} → Has table tag [] 0 (replicate 320 0)
+unfolding spelledBy
+has-none =
+    record { long = length-replicate {A = ℕ} 320 0; falling = falling-none; indexed = indexed-none; counted = refl }
+
+module _ {table : List ℕ} {tag : ℕ} {before : List Field} {count : ℕ} {room : List ℕ} (x : Has table tag before count room) where
+  pub has-next :
+      (t : ℕ) (v : List ℕ) (from : ℕ) → take (length v) (drop from table) ≡ v → (here : Bool) → eqb t tag ≡ here → (here ≡ true → count < 64)
+      → Has table tag (field t v ∷ before) (count + oneIf here) (entered room here count from v)
+  has-next t v from p true e few =
+      let n : ℕ = count + 1 in
+      let h : ℕ = hashOf v in
+      let words : List (List ℕ) = spelledBy tag before in
+      let small : count < 64 = few refl in
+      let number : n ≡ suc (length words) = omega (arith, x .counted) in
+      let head : getD room (h % 64) 0 ≤ length words = leads-small table room (h % 64) words (x .indexed .leads (h % 64) (omega arith)) in
+      record {
+        long = with-length room (x .long) n h from (length v) (omega arith) (omega arith);
+        falling = falling-more room (x .long) n h from (length v) (omega arith) (omega arith) (x .falling) (omega (arith, x .counted));
+        indexed =
+            subst (Indexed table (roomWith room n h from (length v))) (sym (spelled-here tag t v before e))
+            (indexed-more room (x .long) n h from (length v) (omega arith) (omega arith) number refl p (x .indexed));
+        counted = ap length (spelled-here tag t v before e) ∙ omega (arith, x .counted);
+      }
+  has-next t v from p false e few =
+      record {
+        long = x .long;
+        falling = x .falling;
+        indexed = subst (Indexed table room) (sym (spelled-other tag t v before e)) (x .indexed);
+        counted = ap length (spelled-other tag t v before e) ∙ omega (arith, x .counted);
+      }

@@ -1,0 +1,125 @@
+-- `enter`: five stores.
+use borrow.Author.Needs.{needs}
+use Prim.Native.Nat.{_<_}
+use borrow.Author.Tests.{not-true, not-false}
+use Rattle.layout.proofs.IndexLaws as laws
+use native.Mathlib.Omega.{arith}
+use Rattle.layout.proofs.index.enter.Statement.{statement}
+use Rattle.layout.proofs.index.enter.Tie as tie
+
+-- there is a spelling to enter
+module _ (p : tie.After-hash) where
+  abbrev start : tie.Start
+  start = p .before .before .before
+
+  few : start .args .count < 64
+  few = start .pre .0 (not-false _ (p .before .if1 .left))
+
+returns : tie.Need-returns
+returns c =
+    let a = c .before .before .args in
+    laws.entered-none (a .room .now) (a .count) (a .from) (a .v .now) (not-true (a .spelled) (c .if1 .taken))
+
+hash-requires : tie.Need-hash-requires
+hash-requires c κs = search needs
+
+mul-at : tie.Need-mul-at
+mul-at c = omega (arith, few c)
+
+add-at : tie.Need-add-at
+add-at c = omega (arith, few c)
+
+mul-room : tie.Need-mul-room
+mul-room c = search needs
+
+element-copy-out-room : tie.Need-element-copy-out-room
+element-copy-out-room c = search needs
+
+mul-room-2 : tie.Need-mul-room-2
+mul-room-2 c = omega (arith, few (c .before))
+
+element-write-room : tie.Need-element-write-room
+element-write-room c = omega (arith, few (c .before))
+
+cast-room : tie.Need-cast-room
+cast-room c = omega (arith, laws.hash-below (start (c .before) .args .v .now), c .before .hash .ensures)
+
+add-room : tie.Need-add-room
+add-room c = omega (arith, few (c .before))
+
+mul-room-3 : tie.Need-mul-room-3
+mul-room-3 c = omega (arith, few (c .before))
+
+element-write-room-2 : tie.Need-element-write-room-2
+element-write-room-2 c = omega (arith, few (c .before))
+
+cast-room-2 : tie.Need-cast-room-2
+cast-room-2 c = search needs
+
+add-room-2 : tie.Need-add-room-2
+add-room-2 c = omega (arith, few (c .before))
+
+mul-room-4 : tie.Need-mul-room-4
+mul-room-4 c = omega (arith, few (c .before))
+
+element-write-room-3 : tie.Need-element-write-room-3
+element-write-room-3 c = omega (arith, few (c .before))
+
+cast-room-3 : tie.Need-cast-room-3
+cast-room-3 c = search needs
+
+add-room-3 : tie.Need-add-room-3
+add-room-3 c = omega (arith, few (c .before))
+
+mul-room-5 : tie.Need-mul-room-5
+mul-room-5 c = omega (arith, few (c .before))
+
+element-write-room-4 : tie.Need-element-write-room-4
+element-write-room-4 c = omega (arith, few (c .before))
+
+add-room-4 : tie.Need-add-room-4
+add-room-4 c = omega (arith, few (c .before))
+
+cast-room-4 : tie.Need-cast-room-4
+cast-room-4 c = omega (arith, few (c .before))
+
+mul-room-6 : tie.Need-mul-room-6
+mul-room-6 c = search needs
+
+element-write-room-5 : tie.Need-element-write-room-5
+element-write-room-5 c = search needs
+
+returns-2 : tie.Need-returns-2
+returns-2 c =
+    let a = start (c .before) .args in
+    laws.entered-some (a .room .now) (a .count) (a .from) (a .v .now) (not-false (a .spelled) (c .before .before .if1 .left)) (c .before .hash .ensures)
+
+pub enter-spec : {M : Type 1} → statement M
+enter-spec =
+    tie.close
+    (tie.spec
+    returns
+    hash-requires
+    mul-at
+    add-at
+    mul-room
+    element-copy-out-room
+    mul-room-2
+    element-write-room
+    cast-room
+    add-room
+    mul-room-3
+    element-write-room-2
+    cast-room-2
+    add-room-2
+    mul-room-4
+    element-write-room-3
+    cast-room-3
+    add-room-3
+    mul-room-5
+    element-write-room-4
+    add-room-4
+    cast-room-4
+    mul-room-6
+    element-write-room-5
+    returns-2)

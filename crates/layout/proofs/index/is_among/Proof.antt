@@ -1,0 +1,119 @@
+-- `is_among`: the spellings that are left give what all of them give.
+use borrow.Author.Needs.{needs}
+use Prim.Native.Nat.{ℕ, _+_, _*_, _%_, _<_}
+use mathlib.Core.Path.{_≡_}
+use mathlib.Core.List.{List}
+use lib.ListN.{getD}
+use Rattle.spellings.specs.Bytes.{same}
+use Rattle.layout.specs.Index.{Entered}
+use Rattle.layout.proofs.IndexLaws as laws
+use native.Mathlib.Omega.{arith}
+use Rattle.layout.proofs.index.is_among.Statement.{statement}
+use Rattle.layout.proofs.index.is_among.Tie as tie
+
+abbrev Inv-loop : tie.InvT-loop
+Inv-loop room table v h p₀ p = laws.Walking table room v p
+
+abbrev μ-loop : tie.MeasureT-loop
+μ-loop room table v h p₀ p = p
+
+-- the hash is known
+module _ (p : tie.After-wide Inv-loop μ-loop) where
+  abbrev hashed : tie.After-hash Inv-loop μ-loop
+  hashed = p .before .before
+
+  abbrev start : tie.Start Inv-loop μ-loop
+  start = hashed .before .before .before
+
+-- a spelling of the bucket
+module _ (p : tie.After-is-entry Inv-loop μ-loop) where
+  abbrev turn : tie.At-loop Inv-loop μ-loop
+  turn = p .before .before
+
+  here :
+      (w : List ℕ) (q : ℕ) → Entered (start (turn .before) .args .table .now) (start (turn .before) .args .room .now) (turn .loop .p) w q
+      → p .is-entry .result ≡ same w (start (turn .before) .args .v .now)
+  here w q e = p .is-entry .ensures w q e (hashed (turn .before) .hash .ensures)
+
+  falls : getD (start (turn .before) .args .room .now) (60 + 4 * turn .loop .p) 0 < turn .loop .p
+  falls = start (turn .before) .pre .links (turn .loop .p) (p .before .loop-test .taken) (turn .loop .inv .small)
+
+hash-requires : tie.Need-hash-requires Inv-loop μ-loop
+hash-requires c κs = search needs
+
+mul-wide : tie.Need-mul-wide Inv-loop μ-loop
+mul-wide c = omega arith
+
+element-copy-out-wide : tie.Need-element-copy-out-wide Inv-loop μ-loop
+element-copy-out-wide c = omega arith
+
+wide-requires : tie.Need-wide-requires Inv-loop μ-loop
+wide-requires c κs = search needs
+
+loop-holds : tie.Need-loop-holds Inv-loop μ-loop
+loop-holds c =
+    record {
+      small = omega (arith, c .wide .ensures, start c .pre .heads (hashed c .hash .result % 64) (omega arith));
+      search = λ words x. laws.searching-start x (hashed c .hash .ensures) (c .wide .ensures);
+    }
+
+is-entry-requires : tie.Need-is-entry-requires Inv-loop μ-loop
+is-entry-requires c κs = c .before .loop .inv .small
+
+returns : tie.Need-returns Inv-loop μ-loop
+returns c =
+    λ words x. laws.searching-found (turn (c .before) .loop .inv .search words x) (c .before .before .loop-test .taken) (here (c .before))
+    (c .if1 .taken)
+
+mul-wide-2 : tie.Need-mul-wide-2 Inv-loop μ-loop
+mul-wide-2 c = omega (arith, turn (c .before) .loop .inv .small)
+
+add-wide : tie.Need-add-wide Inv-loop μ-loop
+add-wide c = omega (arith, turn (c .before) .loop .inv .small)
+
+mul-wide-3 : tie.Need-mul-wide-3 Inv-loop μ-loop
+mul-wide-3 c = omega (arith, turn (c .before) .loop .inv .small)
+
+element-copy-out-wide-2 : tie.Need-element-copy-out-wide-2 Inv-loop μ-loop
+element-copy-out-wide-2 c = omega (arith, turn (c .before) .loop .inv .small)
+
+wide-requires-2 : tie.Need-wide-requires-2 Inv-loop μ-loop
+wide-requires-2 c κs = search needs
+
+loop-less : tie.Need-loop-less Inv-loop μ-loop
+loop-less c = omega (arith, c .wide2 .ensures, falls (c .before .before .before))
+
+loop-again : tie.Need-loop-again Inv-loop μ-loop
+loop-again c =
+    let p = c .before .before .before in
+    record {
+      small = omega (arith, c .wide2 .ensures, falls p, turn p .loop .inv .small);
+      search =
+          λ words x. laws.searching-next (turn p .loop .inv .search words x) (p .before .loop-test .taken) (here p) (c .before .before .if1 .left)
+          (c .wide2 .ensures);
+    }
+
+returns-2 : tie.Need-returns-2 Inv-loop μ-loop
+returns-2 c = λ words x. laws.searching-end (c .before .loop .inv .search words x) (c .loop-test .left)
+
+pub is-among-spec : {M : Type 1} → statement M
+is-among-spec =
+    tie.close
+    (tie.spec
+    Inv-loop
+    μ-loop
+    hash-requires
+    mul-wide
+    element-copy-out-wide
+    wide-requires
+    loop-holds
+    is-entry-requires
+    returns
+    mul-wide-2
+    add-wide
+    mul-wide-3
+    element-copy-out-wide-2
+    wide-requires-2
+    loop-less
+    loop-again
+    returns-2)

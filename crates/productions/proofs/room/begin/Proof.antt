@@ -1,0 +1,82 @@
+-- `begin`: the numbers before the next nonterminal's are written.
+use Prim.Native.Nat.{_-_}
+use mathlib.Core.Path.{_∙_, sym}
+use native.Mathlib.Omega.{arith}
+use lib.ListN.{length-set}
+use Rattle.productions.proofs.RoomWriting as laws
+use borrow.Author.Needs.{needs}
+use Rattle.productions.proofs.room.begin.Statement.{statement}
+use Rattle.productions.proofs.room.begin.Tie as tie
+
+abbrev Inv-loop : tie.InvT-loop
+Inv-loop room₀ m sets n₀ room n = laws.Beginning m sets room₀ n room
+
+abbrev μ-loop : tie.MeasureT-loop
+μ-loop room₀ m sets n₀ room n = 64 - n
+
+slice-write-room : tie.Need-slice-write-room Inv-loop μ-loop
+slice-write-room c = search needs
+
+loop-holds : tie.Need-loop-holds Inv-loop μ-loop
+loop-holds c = laws.beginning-start _ _ (c .args .room .now) (c .pre)
+
+mul-room : tie.Need-mul-room Inv-loop μ-loop
+mul-room c = search needs
+
+shared-slice-read-room : tie.Need-shared-slice-read-room Inv-loop μ-loop
+shared-slice-read-room c = search needs
+
+add-room : tie.Need-add-room Inv-loop μ-loop
+add-room c = search needs
+
+mul-room-2 : tie.Need-mul-room-2 Inv-loop μ-loop
+mul-room-2 c = search needs
+
+slice-write-room-2 : tie.Need-slice-write-room-2 Inv-loop μ-loop
+slice-write-room-2 c = search needs
+
+add-room-2 : tie.Need-add-room-2 Inv-loop μ-loop
+add-room-2 c = search needs
+
+mul-room-3 : tie.Need-mul-room-3 Inv-loop μ-loop
+mul-room-3 c = search needs
+
+slice-write-room-3 : tie.Need-slice-write-room-3 Inv-loop μ-loop
+slice-write-room-3 c = simp length-set (omega arith)
+
+add-n : tie.Need-add-n Inv-loop μ-loop
+add-n c = search needs
+
+loop-less : tie.Need-loop-less Inv-loop μ-loop
+loop-less c = search needs
+
+loop-again : tie.Need-loop-again Inv-loop μ-loop
+loop-again c = laws.beginning-next (c .before .before .loop .inv) (c .before .loop-test .taken)
+
+same-length : tie.Need-same-length Inv-loop μ-loop
+same-length c = c .before .loop .inv .size ∙ sym (c .before .before .pre .size)
+
+returns : tie.Need-returns Inv-loop μ-loop
+returns c = laws.beginning-end _ (c .before .before .args .room .now) (c .before .loop .inv) (c .loop-test .left)
+
+pub begin-spec : {M : Type 1} → statement M
+begin-spec =
+    tie.close
+    (tie.spec
+    Inv-loop
+    μ-loop
+    slice-write-room
+    loop-holds
+    mul-room
+    shared-slice-read-room
+    add-room
+    mul-room-2
+    slice-write-room-2
+    add-room-2
+    mul-room-3
+    slice-write-room-3
+    add-n
+    loop-less
+    loop-again
+    same-length
+    returns)

@@ -1,0 +1,5 @@
+pub mod VariableLaws
+pub mod TemplateLaws
+pub mod StackLaws
+pub mod BuildLaws
+pub mod ArgumentLaws

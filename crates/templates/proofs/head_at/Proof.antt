@@ -1,0 +1,83 @@
+-- `head_at`: by the first byte.
+use mathlib.Core.Path.{refl, sym, ap, _∙_}
+use Rattle.templates.proofs.TemplateLaws.{ahead-inside}
+use native.Mathlib.Omega.{arith}
+use borrow.Author.Needs.{needs}
+use Rattle.templates.proofs.BuildLaws as laws
+use Rattle.templates.proofs.head_at.Statement.{statement}
+use Rattle.templates.proofs.head_at.Tie as tie
+
+byte-requires : tie.Need-byte-requires
+byte-requires c κs = search needs
+
+cast-pick : tie.Need-cast-pick
+cast-pick c = search needs
+
+pick-requires : tie.Need-pick-requires
+pick-requires c κs = search needs
+
+add-t10 : tie.Need-add-t10
+add-t10 c =
+    let entry-place = c .before .before .before .before in
+    omega (
+      arith,
+      (laws.variable-head (entry-place .pre) (c .before .before .byte .ensures) (c .before .if1 .taken) (c .pick .ensures)) .1 .inside,
+      entry-place .good,
+    )
+
+returns : tie.Need-returns
+returns c =
+    let entry-place = c .before .before .before .before in
+    laws.variable-head (entry-place .pre) (c .before .before .byte .ensures) (c .before .if1 .taken) (c .pick .ensures)
+
+add-byte : tie.Need-add-byte
+add-byte c =
+    let entry-place = c .before .before .before .before in
+    omega (arith, ahead-inside _ _ (entry-place .pre), entry-place .good)
+
+byte-requires-2 : tie.Need-byte-requires-2
+byte-requires-2 c κs = search needs
+
+name-value-requires : tie.Need-name-value-requires
+name-value-requires c κs = search needs
+
+add-t11 : tie.Need-add-t11
+add-t11 c =
+    let if1-place = c .before .before .before in
+    let byte-place = if1-place .before in
+    let entry-place = byte-place .before .before in
+    omega (
+      arith,
+      (laws.name-head (entry-place .pre) (byte-place .byte .ensures) (if1-place .if1 .left) (c .before .before .if2 .taken) (c .before
+          .byte2 .ensures) (c .name-value .ensures) {env = entry-place .args .env .now} {k = entry-place .args .k}) .1 .inside,
+      entry-place .good,
+    )
+
+returns-2 : tie.Need-returns-2
+returns-2 c =
+    let if1-place = c .before .before .before in
+    let byte-place = if1-place .before in
+    let entry-place = byte-place .before .before in
+    laws.name-head (entry-place .pre) (byte-place .byte .ensures) (if1-place .if1 .left) (c .before .before .if2 .taken) (c .before .byte2 .ensures)
+    (c .name-value .ensures)
+
+returns-3 : tie.Need-returns-3
+returns-3 c =
+    let entry-place = c .before .before .before .before in
+    (λ M g. tt, laws.node-head (entry-place .pre) (c .before .before .byte .ensures) (c .if2 .left) (search needs))
+
+pub head-at-spec : {M : Type 1} → statement M
+head-at-spec =
+    tie.close
+    (tie.spec
+    byte-requires
+    cast-pick
+    pick-requires
+    add-t10
+    returns
+    add-byte
+    byte-requires-2
+    name-value-requires
+    add-t11
+    returns-2
+    returns-3)

@@ -1,0 +1,17 @@
+-- `name_value`: the tag decides.
+use borrow.Author.Needs.{needs}
+use Rattle.templates.proofs.VariableLaws as laws
+use Rattle.templates.proofs.name_value.Statement.{statement}
+use Rattle.templates.proofs.name_value.Tie as tie
+
+add-result : tie.Need-add-result
+add-result c = search needs
+
+returns : tie.Need-returns
+returns c = λ I M s cells. laws.name-var (c .before .args .tag) (c .before .args .n) I M s cells (c .if1 .taken)
+
+returns-2 : tie.Need-returns-2
+returns-2 c = λ I M s cells. laws.name-label (c .before .args .tag) (c .before .args .n) I M s cells (c .if1 .left)
+
+pub name-value-spec : {M : Type 1} → statement M
+name-value-spec = tie.close (tie.spec add-result returns returns-2)

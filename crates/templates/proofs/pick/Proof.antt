@@ -1,0 +1,20 @@
+-- `pick`: a value in the array, or past the last one.
+use borrow.Author.Needs.{needs}
+use Rattle.templates.proofs.VariableLaws as laws
+use Rattle.templates.proofs.pick.Statement.{statement}
+use Rattle.templates.proofs.pick.Tie as tie
+
+mul-result : tie.Need-mul-result
+mul-result c = search needs
+
+element-copy-out-result : tie.Need-element-copy-out-result
+element-copy-out-result c = search needs
+
+returns : tie.Need-returns
+returns c = λ M h. laws.picked (c .before .before .args .env .now) M (c .before .before .args .k) h (c .before .before .args .i) (c .before .before .pre) (c .before .if1 .taken)
+
+returns-2 : tie.Need-returns-2
+returns-2 c = λ M h. laws.not-picked (c .before .args .env .now) M (c .before .args .k) h (c .before .args .i) (c .if1 .left)
+
+pub pick-spec : {M : Type 1} → statement M
+pick-spec = tie.close (tie.spec mul-result element-copy-out-result returns returns-2)

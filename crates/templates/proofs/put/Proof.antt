@@ -1,0 +1,20 @@
+-- `put`: a value in the array, or one that no template names.
+use borrow.Author.Needs.{needs}
+use Rattle.templates.proofs.VariableLaws as laws
+use Rattle.templates.proofs.put.Statement.{statement}
+use Rattle.templates.proofs.put.Tie as tie
+
+mul-env : tie.Need-mul-env
+mul-env c = search needs
+
+element-write-env : tie.Need-element-write-env
+element-write-env c = search needs
+
+returns : tie.Need-returns
+returns c = λ M h. laws.put-inside (c .before .args .env .now) M (c .before .args .k) h (c .before .args .v) (c .if1 .taken)
+
+returns-2 : tie.Need-returns-2
+returns-2 c = λ M h. laws.put-outside (c .before .args .env .now) M (c .before .args .k) h (c .before .args .v) (c .if1 .left)
+
+pub put-spec : {M : Type 1} → statement M
+put-spec = tie.close (tie.spec mul-env element-write-env returns returns-2)

@@ -1,0 +1,278 @@
+// Templates, evaluated from their bytes in prefix form: each constructor makes one cell, arguments first, left to right. A cell is a row
+// of lent numbers.
+use grammar::reader::arity_of;
+use grammar::reader::byte;
+ghost use Prim.Native.Nat.{ℕ, _+_, _*_, _/_, _%_, _<_, _≤_};
+ghost use mathlib.Core.Path.{_≡_};
+ghost use mathlib.Core.List.{List, [], _∷_, _++_};
+ghost use lib.ListN.{length, getD, take, drop};
+ghost use lib.Seq.{sets};
+ghost use Rattle.grammar.specs.Table.{Template};
+ghost use Rattle.grammar.specs.Cells.{columns, withRow};
+ghost use Rattle.layout.specs.Prefix.{nameBy, templatesOf, isTemplates, found};
+ghost use lib.Dec.{eqb};
+ghost use mathlib.Core.Bool.{true};
+ghost use Rattle.expansion.specs.declared.State.{State};
+ghost use Rattle.expansion.specs.Run.{done};
+ghost use Rattle.expansion.specs.Expansion.{Input, build, buildAll};
+ghost use Rattle.templates.specs.Built.{mostCells, rowsFor, RoomsFit, Holds, withMade, Ahead, Evaluates, Behind, Lists, Few};
+ghost use Rattle.templates.specs.Heads.{Leads, Heads, Takes};
+
+// The numbers of a row, and how many rows there may be.
+pub const COLUMNS: usize = 4;
+
+pub const MOST_CELLS: usize = 16384;
+
+// The numbers from which names count: those of formula words, fresh names, outside names.
+pub const WORD: u32 = 0x1000000;
+
+pub const FRESH: u32 = 0x2000000;
+
+pub const OUTSIDE: u32 = 0x3000000;
+
+// What a template gives: its value, the offset behind it and the cells then made; or no row is left for a cell.
+pub enum Built {
+    Made(u32, usize, usize),
+    Full,
+}
+
+// What stands in front of a template: a value and the offset behind it, or a constructor.
+pub enum Head {
+    Leaf(u32, usize),
+    Node(u8),
+}
+
+// What a call's arguments give: how many there are and the cells then made; or no row is left for a cell.
+pub enum Arguments {
+    Listed(usize, usize),
+    Overfull,
+}
+
+// How many rows some numbers make, 16,384 at most.
+pub fn rows_of(numbers: usize) -> usize
+    ensures { λ r. ⌜ r ≡ rowsFor numbers ⌝ }
+{
+    let rows = numbers / COLUMNS;
+    if rows < MOST_CELLS { rows } else { MOST_CELLS }
+}
+
+// The value of variable i of k.
+pub fn pick(env: &[u32; 16], k: usize, i: usize) -> u32
+    requires { ⌜ i < 16 ⌝ }
+    ensures { λ r. ⌜ ((M : List ℕ) → Holds (now (env .entry)) k M → r ≡ getD M i 0) ⌝ }
+{
+    if i < k { env[i] } else { 0 }
+}
+
+// One more value behind k. The seventeenth and later ones are named by no template.
+pub fn put(env: &mut [u32; 16], k: usize, v: u32)
+    ensures { λ r. ⌜ ((M : List ℕ) → Holds (now (env .entry)) k M → Holds (now (env .exit)) (k + 1) (M ++ (v ∷ []))) ⌝ }
+{
+    if k < 16 {
+        env[k] = v;
+    }
+}
+
+// The value of an outside name: as Var, or as Label.
+fn name_value(tag: u8, n: u8) -> u32
+    ensures { λ r. ⌜ ((I : Input) (M : List ℕ) (s : State) (cells : List ℕ) → build (nameBy (eqb tag 0x10) n) I M s cells ≡ done r s cells) ⌝ }
+{
+    if tag == 16 {
+        OUTSIDE + n as u32
+    } else {
+        n as u32
+    }
+}
+
+// A row: a constructor's code and its arguments.
+fn store_row(cells: &mut [u32], row: usize, code: u8, args: [u32; 3])
+    requires { ⌜ (row ≤ mostCells) × (row * columns + columns ≤ length (now cells)) ⌝ }
+    ensures { λ r. ⌜ now (cells .exit) ≡ sets (now (cells .entry)) (row * columns) (code ∷ args) ⌝ }
+{
+    let i = row * COLUMNS;
+    cells[i] = code as u32;
+    cells[i + 1] = args[0];
+    cells[i + 2] = args[1];
+    cells[i + 3] = args[2];
+}
+
+// What the template at an offset begins with, under k variables.
+fn head_at(v: &[u8], at: usize, env: &[u32; 16], k: usize) -> Head
+    requires { ⌜ Ahead (now v) at ⌝ }
+    ensures { λ r. ⌜ ((M : List ℕ) → Holds (now (env .entry)) k M → Leads (now (v .entry)) at M r) ⌝ }
+    ensures { λ r. ⌜ Heads (now (v .entry)) at r ⌝ }
+{
+    let b = byte(v, at);
+    if b < 16 {
+        return Head::Leaf(pick(env, k, b as usize), at + 1);
+    }
+    if b < 32 {
+        let n = byte(v, at + 1);
+        return Head::Leaf(name_value(b, n), at + 2);
+    }
+    Head::Node(b)
+}
+
+// An open constructor in one number: its code, and where the one around it has its first argument.
+fn opening(code: u8, around: usize) -> u32
+    requires { ⌜ around ≤ 16384 ⌝ }
+    ensures { λ r. ⌜ r ≡ code + 256 * around ⌝ }
+{
+    code as u32 + 256 * around as u32
+}
+
+fn code_of(w: u32) -> u8
+    ensures { λ r. ⌜ r ≡ w % 256 ⌝ }
+{
+    (w % 256) as u8
+}
+
+fn around_of(w: u32) -> usize
+    ensures { λ r. ⌜ r ≡ w / 256 ⌝ }
+{
+    (w / 256) as usize
+}
+
+// Number i of the n that stand from a place on; 0 past them.
+fn given_at(stack: &[u32], pos: usize, n: usize, i: usize) -> u32
+    requires { ⌜ pos + n ≤ length (now stack) ⌝ }
+    ensures { λ r. ⌜ r ≡ getD (take n (drop pos (now (stack .entry)))) i 0 ⌝ }
+{
+    if i < n { stack[pos + i] } else { 0 }
+}
+
+// The row of a constructor whose n arguments stand from a place on.
+fn store_cell(cells: &mut [u32], row: usize, code: u8, stack: &[u32], pos: usize, n: usize)
+    requires { ⌜ (row ≤ mostCells) × (row * columns + columns ≤ length (now cells)) ⌝ }
+    requires { ⌜ pos + n ≤ length (now stack) ⌝ }
+    ensures { λ r. ⌜ now (cells .exit) ≡ withRow (now (cells .entry)) row code (take n (drop pos (now (stack .entry)))) ⌝ }
+{
+    let args = [
+        given_at(stack, pos, n, 0),
+        given_at(stack, pos, n, 1),
+        given_at(stack, pos, n, 2),
+    ];
+    store_row(cells, row, code, args);
+}
+
+// The template of a constructor at an offset. The stack holds the open constructors, each with its arguments so far behind it; `pos` is
+// where those of the innermost one begin, and `top` where they end.
+fn build_node(
+    v: &[u8],
+    from: usize,
+    code: u8,
+    env: &[u32; 16],
+    k: usize,
+    rows: usize,
+    made: usize,
+    cells: &mut [u32],
+    stack: &mut [u32],
+) -> Built
+    requires { ⌜ Takes (now v) from code ⌝ }
+    requires { ⌜ RoomsFit (now v) rows (now cells) (now stack) ⌝ }
+    ensures { λ r. ⌜ Evaluates (now (v .entry)) from (now (env .entry)) k rows made (now (cells .entry)) r (now (cells .exit)) ⌝ }
+    ensures { λ r. ⌜ Behind (now (v .entry)) from r ⌝ }
+{
+    stack[0] = opening(code, 0);
+    let mut at = from + 1;
+    let mut count = made;
+    let mut pos: usize = 1;
+    let mut top: usize = 1;
+    loop {
+        let w = stack[pos - 1];
+        let inner = code_of(w);
+        let n = arity_of(inner);
+        if top - pos < n {
+            let head = head_at(v, at, env, k);
+            match head {
+                Head::Leaf(x, next) => {
+                    stack[top] = x;
+                    top += 1;
+                    at = next;
+                }
+                Head::Node(b) => {
+                    stack[top] = opening(b, pos);
+                    top += 1;
+                    pos = top;
+                    at += 1;
+                }
+            }
+        } else {
+            if rows <= count {
+                return Built::Full;
+            }
+            store_cell(cells, count, inner, stack, pos, n);
+            let around = around_of(w);
+            if around == 0 {
+                return Built::Made(count as u32, at, count + 1);
+            }
+            stack[pos - 1] = count as u32;
+            count += 1;
+            top = pos;
+            pos = around;
+        }
+    }
+}
+
+// The template at an offset of a field's value, under k variables, with `made` cells made.
+pub fn build(
+    v: &[u8],
+    at: usize,
+    env: &[u32; 16],
+    k: usize,
+    rows: usize,
+    made: usize,
+    cells: &mut [u32],
+    stack: &mut [u32],
+) -> Built
+    requires { ⌜ Ahead (now v) at ⌝ }
+    requires { ⌜ RoomsFit (now v) rows (now cells) (now stack) ⌝ }
+    ensures { λ r. ⌜ Evaluates (now (v .entry)) at (now (env .entry)) k rows made (now (cells .entry)) r (now (cells .exit)) ⌝ }
+    ensures { λ r. ⌜ Behind (now (v .entry)) at r ⌝ }
+{
+    let head = head_at(v, at, env, k);
+    match head {
+        Head::Leaf(x, next) => Built::Made(x, next, made),
+        Head::Node(b) => build_node(v, at, b, env, k, rows, made, cells, stack),
+    }
+}
+
+// The templates of a call, from an offset of its item's value on; `out` takes their values.
+pub fn build_arguments(
+    v: &[u8],
+    start: usize,
+    env: &[u32; 16],
+    k: usize,
+    rows: usize,
+    made: usize,
+    out: &mut [u32; 16],
+    cells: &mut [u32],
+    stack: &mut [u32],
+) -> Arguments
+    requires { ⌜ isTemplates (templatesOf (drop start (now v))) ≡ true ⌝ }
+    requires { ⌜ RoomsFit (now v) rows (now cells) (now stack) ⌝ }
+    ensures { λ r. ⌜ ((I : Input) (s : State) (M : List ℕ) → I .rows ≡ rows → Holds (now (env .entry)) k M → Lists s r (now (out .exit))
+        (now (cells .exit)) (buildAll (found (templatesOf (drop start (now (v .entry))))) I M (withMade s made) (now (cells .entry)))) ⌝ }
+    ensures { λ r. ⌜ Few (length (now (v .entry))) r ⌝ }
+{
+    let mut list = [0u32; 16];
+    let mut at = start;
+    let mut n: usize = 0;
+    let mut count = made;
+    while at < v.len() {
+        let part = build(v, at, env, k, rows, count, cells, stack);
+        match part {
+            Built::Full => {
+                return Arguments::Overfull;
+            }
+            Built::Made(x, after, more) => {
+                put(&mut list, n, x);
+                at = after;
+                count = more;
+                n += 1;
+            }
+        }
+    }
+    *out = list;
+    Arguments::Listed(n, count)
+}

@@ -1,0 +1,111 @@
+// Check, scan and run in one: from the bytes of a table and a formula to the value of the root's call, or a refusal 1 to 21.
+use answers::Refusal;
+use answers::Verdict;
+use expander::calls::run;
+use expansion::Outcome;
+use scanner::Scanned;
+ghost use Prim.Native.Nat.{_-_};
+ghost use mathlib.Core.Path.{_≡_};
+ghost use lib.ListN.{length, getD};
+ghost use Rattle.expansion.specs.Run.{ran};
+ghost use Rattle.expansion.specs.Expansion.{run};
+ghost use Rattle.expander.specs.Lent.{lentInput};
+ghost use Rattle.templates.specs.Built.{rowsIn};
+ghost use Rattle.vegzump.specs.Parse.{HoldsPassed, Runnable, Parses};
+
+// The outcome of a parse, and how many words the formula has that are neither keywords nor outside names.
+pub struct Parsed {
+    pub outcome: Outcome,
+    pub words: usize,
+}
+
+// A refusal before the run.
+fn halted(r: Refusal) -> Parsed
+    ensures { λ p. ⌜ p ≡ record { outcome = Outcome.Halted r; words = 0 } ⌝ }
+{
+    Parsed {
+        outcome: Outcome::Halted(r),
+        words: 0,
+    }
+}
+
+// The last byte of some bytes, 0 if there are none.
+fn last_byte(bytes: &[u8]) -> u8
+    ensures { λ r. ⌜ r ≡ getD (now (bytes .entry)) (length (now (bytes .entry)) - 1) 0 ⌝ }
+{
+    if bytes.len() == 0 {
+        return 0;
+    }
+    bytes[bytes.len() - 1]
+}
+
+// The run of n tokens, with rooms for templates and for calls that wait.
+fn run_tokens(table: &[u8], room: &[u64; 641], tokens: &[u32; 16384], n: usize, cells: &mut [u32]) -> Outcome
+    requires { ⌜ Runnable (now table) (now room) (now tokens) n ⌝ }
+    ensures { λ r. ⌜ ran r (now (cells .exit)) ≡ run (lentInput (now (table .entry)) (now (tokens .entry)) n (rowsIn (now (cells .entry))))
+        (getD (now (table .entry)) (length (now (table .entry)) - 1) 0) (now (cells .entry)) ⌝ }
+{
+    let mut stack = [0u32; 16384];
+    let mut frames = [0u32; 18432];
+    let root = last_byte(table);
+    run(table, room, root, tokens, n, cells, &mut stack, &mut frames)
+}
+
+fn length_of(numbers: &[u32]) -> usize
+    ensures { λ r. ⌜ r ≡ length (now (numbers .entry)) ⌝ }
+{
+    numbers.len()
+}
+
+// The rooms of a scan are as long as their types say: looking at them makes it known.
+fn known_rooms(tokens: &[u32; 16384], words: &[u32; 8192]) -> usize
+    ensures { λ _. ⌜ (length (now (tokens .entry)) ≡ 16384) × (length (now (words .entry)) ≡ 8192) ⌝ }
+{
+    length_of(tokens);
+    length_of(words)
+}
+
+// The scan of a formula under a table that passes, and the run of its tokens.
+fn parse_checked(
+    table: &[u8],
+    room: &[u64; 641],
+    formula: &[u8],
+    tokens: &mut [u32; 16384],
+    words: &mut [u32; 8192],
+    cells: &mut [u32],
+) -> Parsed
+    requires { ⌜ HoldsPassed (now table) (now room) ⌝ }
+    ensures { λ r. ⌜ Parses (now (table .entry)) (now (formula .entry)) (now (cells .entry)) (now (words .exit)) (now (cells .exit)) r ⌝ }
+{
+    known_rooms(tokens, words);
+    let scanned = scanner::scan(table, formula, tokens, words);
+    match scanned {
+        Scanned::Unscanned(r) => halted(r),
+        Scanned::Tokens(n, count) => {
+            let outcome = run_tokens(table, room, tokens, n, cells);
+            Parsed {
+                outcome,
+                words: count,
+            }
+        }
+    }
+}
+
+// Checks a table, scans a formula and runs its tokens. The promise rules out, among others, an expander that copies inner phrases
+// unopened, and one that runs a table that does not pass.
+pub fn parse(
+    table: &[u8],
+    formula: &[u8],
+    tokens: &mut [u32; 16384],
+    words: &mut [u32; 8192],
+    cells: &mut [u32],
+) -> Parsed
+    ensures { λ r. ⌜ Parses (now (table .entry)) (now (formula .entry)) (now (cells .entry)) (now (words .exit)) (now (cells .exit)) r ⌝ }
+{
+    let mut room = [0u64; 641];
+    let verdict = checker::check_into(table, &mut room);
+    match verdict {
+        Verdict::Refused(r) => halted(r),
+        Verdict::Passed => parse_checked(table, &room, formula, tokens, words, cells),
+    }
+}
