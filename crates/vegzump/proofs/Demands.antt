@@ -3,7 +3,7 @@
 -- refusals 14 to 24, acceptance), specs/Origins and specs/Hygiene (demand 3); below them the rules of the scanner (Tiling, Unscanned), of 001's
 -- Figure 3 and of where an expansion stops (expansion: Figure3, Costs, Stopping, Places), and of a table that passes (checker: Passes).
 use Prim.Native.Nat.{ℕ, _≤_, _<_}
-use mathlib.Core.Path.{_≡_, refl, ap, subst⁻¹}
+use mathlib.Core.Path.{_≡_, subst⁻¹}
 use mathlib.Core.Logic.{_↔_}
 use mathlib.Core.List.{List, _++_}
 use lib.ListN.{length, getD, drop}
@@ -11,14 +11,12 @@ use Rattle.answers.specs.declared.Refusal.{Refusal}
 use Rattle.answers.specs.declared.Answer.{Answer}
 use Rattle.answers.specs.declared.Answer.the-variants.{Accepted, Refusing}
 use Rattle.answers.specs.declared.Verdict.the-variants.{Refused}
-use Rattle.answers.specs.Checked.{Checked, ok, bad, verdict}
-use Rattle.grammar.specs.Table.{Template, Item, Table}
+use Rattle.grammar.specs.Table.{Template, Item}
 use Rattle.sorts.specs.Judgements.{Sorted, Body}
 use Rattle.scanner.specs.declared.Token.{Token}
 use Rattle.scanner.specs.Unscanned.{Unscans}
-use Rattle.checker.specs.Check.{passedTable, check}
+use Rattle.checker.specs.Check.{check}
 use Rattle.checker.specs.Passes.{grammarOf, Passes}
-use Rattle.checker.proofs.TableTheorems.{check-exactly}
 use Rattle.expansion.specs.Figure3.{Value, Gives, Derives}
 use Rattle.expansion.specs.ValueSorts.{Typed, Matches}
 use Rattle.soundness.specs.Passing.{Passing}
@@ -28,7 +26,7 @@ use Rattle.terms.specs.Term.{Name, Term}
 use Rattle.terms.specs.Rows.{termAt}
 use Rattle.terms.specs.Rename.{rename}
 use Rattle.terms.specs.Print.{print}
-use Rattle.vegzump.specs.Expand.{Expanded, expanded, refused, lexiconOfTable, checkedFirst, expand}
+use Rattle.vegzump.specs.Expand.{Expanded, expanded, refused, lexiconOfTable, expand}
 use Rattle.vegzump.specs.Meaning.{spellOf, Means, rowsLent, textLength, Cause, Accepts, Left}
 use Rattle.vegzump.specs.Hygiene.{Demand3}
 use Rattle.vegzump.proofs.Stages.{expand-passed, means-one}
@@ -56,13 +54,7 @@ module _ (table : List ℕ) (bytes : (i : ℕ) → getD table i 0 < 256) (formul
 
   -- A table that does not pass gets exactly the refusal of its check, and nothing that was lent changes.
   pub not-passed : (Passes table → ⊥) → (r : Refusal) × (check table ≡ Refused r) × (X ≡ refused r cells text)
-  unfolding check expand
-  not-passed n = go (passedTable table) refl
-    where
-      go : (c : Checked Table) → passedTable table ≡ c
-          → (r : Refusal) × (check table ≡ Refused r) × (checkedFirst (passedTable table) formula cells text ≡ refused r cells text)
-      go (ok t) e = absurd (n (check-exactly table bytes .0 (ap verdict e)))
-      go (bad r) e = (r, ap verdict e, ap (λ d. checkedFirst d formula cells text) e)
+  not-passed = exactly.not-passed table bytes formula cells text
 
   -- ------------------------------------------------------------------ demand 2: a table that passes
 
@@ -111,8 +103,8 @@ module _ (table : List ℕ) (bytes : (i : ℕ) → getD table i 0 < 256) (formul
     -- ------------------------------------------------------------------ 001, Theorem 1
 
     -- Parsing respects typing: under variables of their sorts, an alternative of sort B derives a value of sort B.
-    pub parsing-respects-typing : {spell : ℕ → List ℕ} {M M′ : List Value} {s s′ : List Token} {i i′ : ℕ} {items : List Item} {result : Template} {L : List ℕ} {B : ℕ} {v : Value}
-        → Body (scopeOf (P .table) (P .meets .sorted)) L items result B → Matches M L
+    pub parsing-respects-typing : {spell : ℕ → List ℕ} {M M′ : List Value} {s s′ : List Token} {i i′ B : ℕ} {items : List Item} {result : Template}
+        {L : List ℕ} {v : Value} → Body (scopeOf (P .table) (P .meets .sorted)) L items result B → Matches M L
         → Derives (grammarOf (P .table)) spell M s i items M′ s′ i′ → Gives spell M′ result v → Typed v B
     parsing-respects-typing = expansion.parsing-respects-typing (P .table) T
 

@@ -4,14 +4,19 @@ use mathlib.Core.Path.{_≡_, refl, sym, ap, subst, subst⁻¹, _∙_}
 use mathlib.Core.Logic.{_↔_}
 use mathlib.Core.List.{List, [], _∷_, _++_}
 use native.Mathlib.Omega.{arith}
-use lib.ListN.{length, drop}
+use lib.ListN.{length, getD, drop}
 use Rattle.answers.specs.declared.Refusal.{Refusal}
 use Rattle.answers.specs.declared.Answer.the-variants.{Accepted, Refusing}
+use Rattle.answers.specs.declared.Verdict.the-variants.{Refused}
 use Rattle.answers.specs.Refusals.{refusal}
+use Rattle.answers.specs.Checked.{Checked, ok, bad, verdict}
 use Rattle.grammar.specs.Table.{Table}
 use Rattle.scanner.specs.Unscanned.{Unscans}
 use Rattle.scanner.specs.Scan.{Lexed}
 use Rattle.scanner.specs.declared.Token.{Token}
+use Rattle.checker.specs.Check.{passedTable, check}
+use Rattle.checker.specs.Passes.{Passes}
+use Rattle.checker.proofs.TableTheorems.{check-exactly}
 use Rattle.expansion.specs.Run.{Result}
 use Rattle.soundness.specs.Passing.{Passing}
 use Rattle.terms.specs.Term.{Name, Term, size}
@@ -20,7 +25,7 @@ use Rattle.terms.specs.Rename.{rename}
 use Rattle.terms.specs.Print.{print}
 use Rattle.terms.specs.Emit.{largestTerm}
 use Rattle.terms.specs.Binding.{occurrences, loosePlaces}
-use Rattle.vegzump.specs.Expand.{Expanded, lexiconOfTable, inputOf, expandTable}
+use Rattle.vegzump.specs.Expand.{Expanded, refused, lexiconOfTable, inputOf, expandTable, checkedFirst, expand}
 use Rattle.vegzump.specs.Meaning.{Scans, spellOf, Means, rowsLent, MeansWithin, cellsOf, Cause, unscanned, stopped, Accepts, Left}
 use Rattle.vegzump.specs.Meaning as Meaning
 use Rattle.vegzump.proofs.Owners.{occurs, Says, loose-says, none-places, first-places}
@@ -78,6 +83,18 @@ module _ {made : ℕ} {u : Term Name} {cells text : List ℕ} where
   prints-answer (is-loose s l) h k m = differ l k
   prints-answer (too-long s l b) h k m = absurd (omega arith)
   prints-answer (prints s l b) h k m = refl
+
+-- ------------------------------------------------------------------ a table that does not pass
+
+module _ (table : List ℕ) (bytes : (i : ℕ) → getD table i 0 < 256) (formula cells text : List ℕ) where
+  pub not-passed : (Passes table → ⊥) → (r : Refusal) × (check table ≡ Refused r) × (expand table formula cells text ≡ refused r cells text)
+  unfolding check expand
+  not-passed n = go (passedTable table) refl
+    where
+      go : (c : Checked Table) → passedTable table ≡ c
+          → (r : Refusal) × (check table ≡ Refused r) × (checkedFirst (passedTable table) formula cells text ≡ refused r cells text)
+      go (ok t) e = absurd (n (check-exactly table bytes .0 (ap verdict e)))
+      go (bad r) e = (r, ap verdict e, ap (λ d. checkedFirst d formula cells text) e)
 
 -- ------------------------------------------------------------------ an expansion
 
