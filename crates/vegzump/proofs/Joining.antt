@@ -33,7 +33,7 @@ use Rattle.checker.specs.Passes.{grammarOf, Passes}
 use Rattle.checker.proofs.TableTheorems.{check-exactly}
 use Rattle.checker.proofs.Joined.{passed-grammar, passed-holds, passed-owned}
 use Rattle.rows.specs.Sizes.{WholeRows}
-use Rattle.printer.specs.Pool.{spelledBy}
+use Rattle.writer.specs.Pool.{spelledBy}
 use Rattle.terms.specs.Term.{Name, Term}
 use Rattle.terms.specs.Rows.{termAt}
 use Rattle.terms.specs.Names.{WellNamed}

@@ -17,8 +17,8 @@ use Rattle.scanner.specs.Tiling.{spelled}
 use Rattle.scanner.specs.declared.Scanned.the-variants.{Tokens}
 use Rattle.scanner.proofs.WordsOfScan.{scan-plain}
 use Rattle.scanner.proofs.ScannerTheorems.{tokens-counted}
-use Rattle.printer.specs.Pool.{oneOf, spanned, spelledBy, Words}
-use Rattle.printer.proofs.SpellLaws.{Once, word-length, short-words, apart-lists, spelled-lists}
+use Rattle.writer.specs.Pool.{oneOf, spanned, spelledBy, Words}
+use Rattle.writer.proofs.SpellLaws.{Once, word-length, short-words, apart-lists, spelled-lists}
 use Rattle.terms.specs.Rows.{spell}
 use Rattle.terms.specs.Term.{Name, outside, Term, Fields}
 use Rattle.terms.specs.Names.{Distinct, VariableName, BinderName, WellNamed, WellNamedFields}
