@@ -33,9 +33,12 @@ use Rattle.expander.specs.Steps.{body, weight, mostWeight, Steps, Onward
 use Rattle.expander.specs.declared.calls.Begun.{Begun}
 use Rattle.expander.specs.declared.calls.Begun.the-variants.{Refused, Entered}
 use Rattle.expander.specs.Calls.{rootItems, Begins, Stands, Entry, Enters}
-use Rattle.expander.specs.Frames.{Saved, Loaded}
-use Rattle.expander.proofs.ChoiceLaws.{chosen-nowhere, chosen-here, chosen-whole, start-is}
-use Rattle.expander.proofs.FrameLaws.{Frame, resume, resume-halt, owed, Waits, Stacked, stacked-none, stacked-one, stacked-more, waits-holds}
+use Rattle.expander.specs.Frames.{frameSize, longFrames, mostWaiting, Fits, Saved, Loaded, Frame, resume, owed, Waits, Stacked}
+use Rattle.expander.specs.Frames.{stacked-none, stacked-one, Standing, Goes}
+use Rattle.expander.specs.declared.calls.Progress.{Progress}
+use Rattle.expander.specs.declared.calls.Progress.the-variants.{Ended, Paused}
+use Rattle.expander.proofs.ChoiceLaws.{chosen-nowhere, chosen-here, chosen-whole, chosen-inside, start-is}
+use Rattle.expander.proofs.FrameLaws.{resume-halt, stacked-same, stacked-more, waits-saved, waits-holds}
 
 -- ------------------------------------------------------------------ the beginning of a call
 
@@ -118,6 +121,7 @@ module _ {bs room : List ℕ} (h : Held bs room) (tokens : List ℕ) (n rows dep
     enters-at l es et =
         record {
           whole = ap (λ (a : ℕ). wholeBody (fieldsAt bs a)) es ∙ chosen-whole h nonterminal kind ej l;
+          inside = omega (arith, es, chosen-inside h nonterminal kind ej l);
           may-open = positive depth may-open;
           may-call = may-call;
           begun = et;
@@ -137,22 +141,54 @@ pub entry-weight : {bs : List ℕ} {depth : ℕ} {s : State} {start : ℕ} {t : 
     → weight t + (length bs - start) ≤ weight s
 entry-weight e h = omega (arith, ap weight (e .begun), e .may-call)
 
--- the root's call leaves room for its items
-pub stands-start : {bs : List ℕ} {first : ℕ} {t : State} → Entry bs 1024 start first t → length bs ≤ 16384 → Stands bs first t
-stands-start e h = record { whole = e .whole; light = omega (arith, entry-weight e h) }
-
 -- no variables
 pub holds-none : Holds (replicate 16 0) 0 []
 holds-none = record { long = refl; count = refl; same = λ i a b. absurd (omega arith) }
 
+-- the root's call leaves room for its items
+pub stands-start : {bs : List ℕ} {first : ℕ} {t : State} → Entry bs mostOpen start first t → length bs ≤ 16384 → Stands bs first t
+stands-start e h = record { whole = e .whole; inside = e .inside; light = omega (arith, entry-weight e h) }
+
+-- the root's alternative, saved at the lowest level
+pub standing-root : {I : Input} {bs : List ℕ} {first : ℕ} {s : State} → Stands bs first s → (cells : List ℕ) {old frames : List ℕ} → Fits frames 0
+    → Saved old frames 0 (replicate 16 0) 0 first
+    → Standing I bs frames 0 s cells (rootItems I bs first s cells)
+unfolding resume owed
+standing-root {first = first} t cells fits saved =
+    record {
+      fits = fits;
+      current = record { next = first; values = [] };
+      waiting = [];
+      many = refl;
+      on-top = waits-saved saved holds-none (t .whole) (t .inside);
+      counted = omega arith;
+      stacked = stacked-none;
+      light = omega (arith, t .light);
+      rest = refl;
+    }
+
+-- as many rows, and it stands as before
+pub standing-rows : {bs : List ℕ} (tokens : List ℕ) (n : ℕ) {frames : List ℕ} {level : ℕ} {here : State} {cells : List ℕ} {R : Result ℕ} {j k : ℕ} → j ≡ k
+    → Standing (lentInput bs tokens n j) bs frames level here cells R
+    → Standing (lentInput bs tokens n k) bs frames level here cells R
+standing-rows {bs} tokens n {frames} {level} {here} {cells} {R} e s =
+    subst (λ (i : ℕ). Standing (lentInput bs tokens n i) bs frames level here cells R) e s
+
+-- what a loop gave, by how it ended
+module _ (I : Input) (bs : List ℕ) (R : Result ℕ) (frames cells : List ℕ) (p : Progress) (g : Goes I bs R frames cells p) where
+  pub goes-ended : {o : Outcome} → p ≡ Ended o → ran o cells ≡ R
+  goes-ended e = subst (Goes I bs R frames cells) e g
+
+  pub goes-paused : {level : ℕ} {here : State} → p ≡ Paused level here → Standing I bs frames level here cells R × (length frames < longFrames)
+  goes-paused e = subst (Goes I bs R frames cells) e g
+
 -- ------------------------------------------------------------------ the items of the calls that are open, one by one
 
--- what the loop over the items starts from, and where it stands
+-- what the loop over the items starts from and what it is to give, and where it stands
 pub record Root : Type 0 where
   pub bs : List ℕ
   pub input : Input
-  pub start : ℕ
-  pub state : State
+  pub result : Result ℕ
   pub cells : List ℕ
   pub stack : List ℕ
   pub frames : List ℕ
@@ -167,12 +203,9 @@ pub record Turn : Type 0 where
   pub level : ℕ
   pub here : State
 
-abbrev pub whole : Root → Result ℕ
-whole R = rootItems (R .input) (R .bs) (R .start) (R .state) (R .cells)
-
 -- the items and the result from an offset on, under the values of the variables, while `level` calls wait
 abbrev onward : Root → ℕ → ℕ → List ℕ → Run ℕ
-onward R level at M = body (runCall (1023 - level) (R .input)) (R .bs) at (R .input) M
+onward R level at M = body (runCall (mostWaiting - level) (R .input)) (R .bs) at (R .input) M
 
 -- Calls left, then calls that wait, then bytes left: what falls with each turn.
 abbrev pub left : List ℕ → ℕ → ℕ → State → ℕ
@@ -181,55 +214,72 @@ left bs at level here = 40000 * (65536 - here .calls) + 16386 * level + (length 
 -- What is left of the items, and of the calls that wait, gives what the whole gives.
 pub record Going (R : Root) (T : Turn) : Type 0 where
   pub sound : wholeBody (fieldsAt (R .bs) (T .at)) ≡ true
+  pub inside : T .at ≤ length (R .bs)
   pub as-long : length (T .cells) ≡ length (R .cells)
   pub stack-long : length (T .stack) ≡ length (R .stack)
   pub frames-long : length (T .frames) ≡ length (R .frames)
   pub counted : T .count ≤ length (R .bs) + T .at
   pub waiting : List Frame
   pub many : length waiting ≡ T .level
-  pub few : T .level ≤ 1023
+  pub few : T .level ≤ mostWaiting
+  pub slot : T .level * frameSize + frameSize ≤ length (T .frames)
   pub stacked : Stacked (R .bs) (T .frames) waiting
-  pub kept : weight (T .here) + (length (R .bs) - T .at) + owed (R .bs) waiting ≤ weight (R .state) + (length (R .bs) - R .start)
+  pub kept : weight (T .here) + (length (R .bs) - T .at) + owed (R .bs) waiting ≤ mostWeight
   pub M : List ℕ
   pub holds : Holds (T .vars) (T .count) M
-  pub rest : resume (R .input) (R .bs) waiting (onward R (T .level) (T .at) M (T .here) (T .cells)) ≡ whole R
+  pub rest : resume (R .input) (R .bs) waiting (onward R (T .level) (T .at) M (T .here) (T .cells)) ≡ R .result
 
-abbrev pub first : Root → Turn
-first R =
+-- the call at a level of the room is loaded
+pub going-start : {R : Root} {level : ℕ} {here : State} → Standing (R .input) (R .bs) (R .frames) level here (R .cells) (R .result)
+    → {vars : List ℕ}
+    → Loaded (R .frames) level vars
+    → {count : ℕ}
+    → count ≡ getD (R .frames) (level * frameSize + 16) 0
+    → {at : ℕ}
+    → at ≡ getD (R .frames) (level * frameSize + 17) 0
+    → Going R
+    (record { cells = R .cells; stack = R .stack; frames = R .frames; vars = vars; at = at; count = count; level = level; here = here })
+going-start {R} {level} {here} s loaded ec {at} ea =
+    let w = s .on-top in
+    let e : at ≡ s .current .next = ea ∙ w .next-is in
     record {
-      cells = R .cells;
-      stack = R .stack;
-      frames = R .frames;
-      vars = replicate 16 0;
-      at = R .start;
-      count = 0;
-      level = 0;
-      here = R .state;
-    }
-
-pub going-start : (R : Root) → wholeBody (fieldsAt (R .bs) (R .start)) ≡ true → Going R (first R)
-unfolding resume owed
-going-start R w =
-    record {
-      sound = w;
+      sound = ap (λ (a : ℕ). wholeBody (fieldsAt (R .bs) a)) e ∙ w .whole;
+      inside = omega (arith, e, w .inside);
       as-long = refl;
       stack-long = refl;
       frames-long = refl;
-      counted = omega arith;
-      waiting = [];
-      many = refl;
-      few = omega arith;
-      stacked = stacked-none;
-      kept = omega arith;
-      M = [];
-      holds = holds-none;
-      rest = refl;
+      counted = omega (arith, e, ec, w .counted, s .counted);
+      waiting = s .waiting;
+      many = s .many;
+      few = s .fits .few;
+      slot = s .fits .inside;
+      stacked = s .stacked;
+      kept = omega (arith, s .light, ap (λ (a : ℕ). length (R .bs) - a) e);
+      M = s .current .values;
+      holds = waits-holds w loaded ec;
+      rest = ap (λ (a : ℕ). resume (R .input) (R .bs) (s .waiting) (onward R level a (s .current .values) here (R .cells))) e ∙ s .rest;
+    }
+
+-- a room that is too short: the call that goes on is saved too
+pub going-paused : {R : Root} {T : Turn} → Going R T → {frames : List ℕ} → Saved (T .frames) frames (T .level) (T .vars) (T .count) (T .at)
+    → length frames ≡ length (T .frames)
+    → Standing (R .input) (R .bs) frames (T .level) (T .here) (T .cells) (R .result)
+going-paused c saved long =
+    record {
+      fits = record { few = c .few; inside = omega (arith, c .slot, long) };
+      current = record { next = _; values = c .M };
+      waiting = c .waiting;
+      many = c .many;
+      on-top = waits-saved saved (c .holds) (c .sound) (c .inside);
+      counted = omega (arith, c .counted, c .holds .count);
+      stacked = stacked-same (λ i l. saved .same i (omega (arith, c .many))) (c .stacked);
+      light = c .kept;
+      rest = c .rest;
     }
 
 -- the counters are small
-pub going-bounds : {R : Root} {T : Turn} → Going R T → weight (R .state) + (length (R .bs) - R .start) ≤ mostWeight
-    → (T .here .at < 2 ^ 32) × (T .here .fresh < 2 ^ 31)
-going-bounds c h = let l = le-trans (c .kept) h in (omega (arith, l), omega (arith, l))
+pub going-bounds : {R : Root} {T : Turn} → Going R T → (T .here .at < 2 ^ 32) × (T .here .fresh < 2 ^ 31)
+going-bounds c = (omega (arith, c .kept), omega (arith, c .kept))
 
 -- an item takes no more than it leaves behind
 onward-kept : {bs : List ℕ} {at next : ℕ} {s t : State} → Onward bs at next s t → (more : ℕ) {most : ℕ} → weight s + (length bs - at) + more ≤ most
@@ -252,19 +302,19 @@ module _ {R : Root} {T : Turn} {step : Step} {args cells stack : List ℕ} (d : 
   c = d .going
 
   abbrev C : ℕ → List ℕ → Run ℕ
-  C = runCall (1023 - T .level) (R .input)
+  C = runCall (mostWaiting - T .level) (R .input)
 
   steps : {q : Step} → step ≡ q → Steps (R .bs) (T .at) (R .input) (c .M) (T .here) (T .cells) q args cells
   steps e = subst (λ (x : Step). Steps (R .bs) (T .at) (R .input) (c .M) (T .here) (T .cells) x args cells) e (d .does (c .M) (c .holds))
 
   -- a result in place of the items that are left
-  instead : {r : Result ℕ} → r ≡ onward R (T .level) (T .at) (c .M) (T .here) (T .cells) → resume (R .input) (R .bs) (c .waiting) r ≡ whole R
+  instead : {r : Result ℕ} → r ≡ onward R (T .level) (T .at) (c .M) (T .here) (T .cells) → resume (R .input) (R .bs) (c .waiting) r ≡ R .result
   instead e = ap (resume (R .input) (R .bs) (c .waiting)) e ∙ c .rest
 
-  halted : {r : Refusal} {cs : List ℕ} → halt r cs ≡ onward R (T .level) (T .at) (c .M) (T .here) (T .cells) → halt r cs ≡ whole R
+  halted : {r : Refusal} {cs : List ℕ} → halt r cs ≡ onward R (T .level) (T .at) (c .M) (T .here) (T .cells) → halt r cs ≡ R .result
   halted {r} {cs} e = sym (resume-halt (R .input) (R .bs) (c .waiting) r cs) ∙ instead e
 
-  pub going-stopped : {r : Refusal} → step ≡ Stopped r → halt r cells ≡ whole R
+  pub going-stopped : {r : Refusal} → step ≡ Stopped r → halt r cells ≡ R .result
   going-stopped e = halted (sym (steps e C))
 
   pub going-none : step ≡ Finished → itemsOf (fieldsAt (R .bs) (T .at)) ≡ []
@@ -285,6 +335,7 @@ module _ {R : Root} {T : Turn} {step : Step} {args cells stack : List ℕ} (d : 
         let o = taken-onward in
         record {
           sound = o .whole;
+          inside = o .inside;
           as-long = d .same ∙ c .as-long;
           stack-long = d .stack-same ∙ c .stack-long;
           frames-long = c .frames-long;
@@ -292,6 +343,7 @@ module _ {R : Root} {T : Turn} {step : Step} {args cells stack : List ℕ} (d : 
           waiting = c .waiting;
           many = c .many;
           few = c .few;
+          slot = c .slot;
           stacked = c .stacked;
           kept = onward-kept o (owed (R .bs) (c .waiting)) (c .kept);
           M = c .M ++ (x ∷ []);
@@ -311,7 +363,7 @@ pub record Opening (R : Root) (T : Turn) (n g next : ℕ) (t : State) (args cell
   pub step : Step
   pub stepped : Stepped R T step args cells stack
   pub is : step ≡ Opened n g next t
-  pub begins : Begins (R .input) (R .bs) (1023 - T .level) n t b
+  pub begins : Begins (R .input) (R .bs) (mostWaiting - T .level) n t b
 
 module _ {R : Root} {T : Turn} {n g next : ℕ} {t : State} {args cells stack : List ℕ} {b : Begun} (d : Opening R T n g next t args cells stack b) where
   abbrev o-going : Going R T
@@ -326,16 +378,16 @@ module _ {R : Root} {T : Turn} {n g next : ℕ} {t : State} {args cells stack : 
 
   -- its arguments, and what it does with them
   called : (vs : List ℕ) × Holds args g vs
-      × (waiting-for (T .level) (runCall (1023 - T .level) (R .input) n vs t cells) ≡ onward R (T .level) (T .at) (o-going .M) (T .here) (T .cells))
+      × (waiting-for (T .level) (runCall (mostWaiting - T .level) (R .input) n vs t cells) ≡ onward R (T .level) (T .at) (o-going .M) (T .here) (T .cells))
   called = let q = steps (d .stepped) (d .is) in (q .0, q .1, sym (q .2 (C (d .stepped))))
 
-  pub going-refused : {r : Refusal} → b ≡ Refused r → halt r cells ≡ whole R
+  pub going-refused : {r : Refusal} → b ≡ Refused r → halt r cells ≡ R .result
   going-refused e =
       halted (d .stepped)
-      (ap (waiting-for (T .level)) (subst (Begins (R .input) (R .bs) (1023 - T .level) n t) e (d .begins) (called .0) cells) ∙ called .2)
+      (ap (waiting-for (T .level)) (subst (Begins (R .input) (R .bs) (mostWaiting - T .level) n t) e (d .begins) (called .0) cells) ∙ called .2)
 
-  module _ {first : ℕ} {u : State} (e : b ≡ Entered first u) (enters : Enters (R .bs) (1023 - T .level) t b) (small : length (R .bs) ≤ 16384) where
-    pub opened-entry : Entry (R .bs) (1023 - T .level) t first u
+  module _ {first : ℕ} {u : State} (e : b ≡ Entered first u) (enters : Enters (R .bs) (mostWaiting - T .level) t b) (small : length (R .bs) ≤ 16384) where
+    pub opened-entry : Entry (R .bs) (mostWaiting - T .level) t first u
     opened-entry = entry-of b e enters
 
     abbrev pub entered-turn : List ℕ → Turn
@@ -343,13 +395,15 @@ module _ {R : Root} {T : Turn} {n g next : ℕ} {t : State} {args cells stack : 
         record { cells = cells; stack = stack; frames = frames; vars = args; at = first; count = g; level = T .level + 1; here = u }
 
     pub going-opened : {frames : List ℕ} → Saved (T .frames) frames (T .level) (T .vars) (T .count) next → length frames ≡ length (T .frames)
+        → (T .level + 2) * frameSize ≤ length (T .frames)
         → Going R (entered-turn frames)
     unfolding resume owed
-    going-opened saved long =
+    going-opened saved long spare =
         let c = o-going in
         let o = opened-onward .0 in
         record {
           sound = opened-entry .whole;
+          inside = opened-entry .inside;
           as-long = stepped-long (d .stepped) .0;
           stack-long = stepped-long (d .stepped) .1;
           frames-long = long ∙ c .frames-long;
@@ -357,17 +411,18 @@ module _ {R : Root} {T : Turn} {n g next : ℕ} {t : State} {args cells stack : 
           waiting = record { next = next; values = c .M } ∷ c .waiting;
           many = omega (arith, c .many);
           few = omega (arith, opened-entry .may-open);
+          slot = omega (arith, spare, long);
           stacked = stacked-more (c .many) saved (c .holds) (o .whole) (omega (arith, c .counted, o .less)) (o .inside) (c .stacked);
           kept = omega (arith, onward-kept o (owed (R .bs) (c .waiting)) (c .kept), entry-weight opened-entry small);
           M = called .0;
           holds = called .1;
           rest =
-              let z : 1023 - (T .level + 1) ≡ 1023 - T .level - 1 = omega arith in
+              let z : mostWaiting - (T .level + 1) ≡ mostWaiting - T .level - 1 = omega arith in
               ap (λ (k : ℕ). resume (R .input) (R .bs) (c .waiting) (waiting-for k (onward R (T .level + 1) first (called .0) u cells))) (c .many)
               ∙ instead (d .stepped)
               (ap (waiting-for (T .level))
               (ap (λ (k : ℕ). body (runCall k (R .input)) (R .bs) first (R .input) (called .0) u cells) z
-              ∙ subst (Begins (R .input) (R .bs) (1023 - T .level) n t) e (d .begins) (called .0) cells)
+              ∙ subst (Begins (R .input) (R .bs) (mostWaiting - T .level) n t) e (d .begins) (called .0) cells)
               ∙ called .2);
         }
 
@@ -414,39 +469,41 @@ module _ {R : Root} {T : Turn} {r : Outcome} {cells stack : List ℕ} (d : Finis
       after (runItems (C (d .stepped)) (R .input) is (f-going .M) (T .here) (T .cells)) (λ M. build (resultOf (fieldsAt (R .bs) (T .at))) (R .input) M))
       (sym (going-none (d .stepped) (d .is)))
 
-  pub finished-halted : {x : Refusal} → r ≡ Halted x → halt x cells ≡ whole R
+  pub finished-halted : {x : Refusal} → r ≡ Halted x → halt x cells ≡ R .result
   finished-halted e = halted (d .stepped) (ap (λ (o : Outcome). ran o cells) (sym e) ∙ gives-all)
 
   module _ {x : ℕ} {t : State} (e : r ≡ Value x t) where
-    valued : resume (R .input) (R .bs) (f-going .waiting) (done x t cells) ≡ whole R
+    valued : resume (R .input) (R .bs) (f-going .waiting) (done x t cells) ≡ R .result
     valued = instead (d .stepped) (ap (λ (o : Outcome). ran o cells) (sym e) ∙ gives-all)
 
     unmoved : (t .at ≡ T .here .at) × (t .fresh ≡ T .here .fresh) × (t .calls ≡ T .here .calls)
     unmoved = subst (Stays (T .here)) e (d .stays)
 
     -- no call waits
-    pub finished-root : T .level ≡ 0 → done x t cells ≡ whole R
+    pub finished-root : T .level ≡ 0 → done x t cells ≡ R .result
     unfolding resume
     finished-root z = by (f-going .waiting) refl
       where
-        by : (fs : List Frame) → f-going .waiting ≡ fs → done x t cells ≡ whole R
+        by : (fs : List Frame) → f-going .waiting ≡ fs → done x t cells ≡ R .result
         by [] ef = ap (λ (fs : List Frame). resume (R .input) (R .bs) fs (done x t cells)) (sym ef) ∙ valued
         by (f ∷ fs) ef = absurd (omega (arith, f-going .many, ap length ef))
 
     -- the innermost of those that wait goes on
-    module _ (below : T .level ≡ 0 → ⊥) {count next : ℕ} (ec : count ≡ getD (T .frames) ((T .level - 1) * 18 + 16) 0)
-        (en : next ≡ getD (T .frames) ((T .level - 1) * 18 + 17) 0) where
+    module _ (below : T .level ≡ 0 → ⊥) {count next : ℕ} (ec : count ≡ getD (T .frames) ((T .level - 1) * frameSize + 16) 0)
+        (en : next ≡ getD (T .frames) ((T .level - 1) * frameSize + 17) 0) where
       pub top-frame : (f : Frame) × (fs : List Frame) × (f-going .waiting ≡ f ∷ fs) × (length fs ≡ T .level - 1)
           × Waits (R .bs) (T .frames) (T .level - 1) f × Stacked (R .bs) (T .frames) fs
+          × (length (f .values) < length (R .bs) + f .next)
       top-frame = by (f-going .waiting) refl (f-going .stacked)
         where
           by : (ws : List Frame) → f-going .waiting ≡ ws → Stacked (R .bs) (T .frames) ws
               → (f : Frame) × (fs : List Frame) × (f-going .waiting ≡ f ∷ fs) × (length fs ≡ T .level - 1)
               × Waits (R .bs) (T .frames) (T .level - 1) f × Stacked (R .bs) (T .frames) fs
+              × (length (f .values) < length (R .bs) + f .next)
           by [] ef stacked-none = absurd (below (sym (f-going .many) ∙ ap length ef))
-          by (f ∷ fs) ef (stacked-one w st) =
+          by (f ∷ fs) ef (stacked-one w few st) =
               let l : length fs ≡ T .level - 1 = omega (arith, f-going .many, ap length ef) in
-              (f, fs, ef, l, subst (λ (k : ℕ). Waits (R .bs) (T .frames) k f) l w, st)
+              (f, fs, ef, l, subst (λ (k : ℕ). Waits (R .bs) (T .frames) k f) l w, st, few)
 
       next-is : next ≡ top-frame .0 .next
       next-is = en ∙ top-frame .4 .next-is
@@ -454,7 +511,7 @@ module _ {R : Root} {T : Turn} {r : Outcome} {cells stack : List ℕ} (d : Finis
       pub finished-inside : (next ≤ length (R .bs)) × (count < length (R .bs) + next)
       finished-inside =
           let w = top-frame .4 in
-          (omega (arith, next-is, w .inside), omega (arith, next-is, ec, w .counted, w .few))
+          (omega (arith, next-is, w .inside), omega (arith, next-is, ec, w .counted, top-frame .6))
 
       pub finished-less : length (R .bs) ≤ 16384 → left (R .bs) next (T .level - 1) t < left (R .bs) (T .at) (T .level) (T .here)
       finished-less small =
@@ -479,6 +536,7 @@ module _ {R : Root} {T : Turn} {r : Outcome} {cells stack : List ℕ} (d : Finis
           let w = top-frame .4 in
           record {
             sound = ap (λ (a : ℕ). wholeBody (fieldsAt (R .bs) a)) next-is ∙ w .whole;
+            inside = finished-inside .0;
             as-long = finished-long .0;
             stack-long = finished-long .1;
             frames-long = c .frames-long;
@@ -486,6 +544,7 @@ module _ {R : Root} {T : Turn} {r : Outcome} {cells stack : List ℕ} (d : Finis
             waiting = fs;
             many = top-frame .3;
             few = omega (arith, c .few);
+            slot = omega (arith, c .slot);
             stacked = top-frame .5;
             kept =
                 kept-below (length (R .bs) - T .at) (owed (R .bs) (c .waiting)) (length (R .bs) - next) (owed (R .bs) fs) weight-same

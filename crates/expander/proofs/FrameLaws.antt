@@ -9,12 +9,13 @@ use lib.ListN.{length, getD, set, length-set, replicate}
 use lib.Seq.{getD-set-same, getD-set-other}
 use Rattle.answers.specs.declared.Refusal.{Refusal}
 use Rattle.grammar.specs.Lookup.{fieldsAt}
-use Rattle.expansion.specs.Run.{Result, halt, after}
-use Rattle.expansion.specs.Expansion.{Input, runCall}
 use Rattle.productions.specs.Index.{wholeBody}
+use Rattle.expansion.specs.declared.State.{State}
+use Rattle.expansion.specs.Run.{Result, halt}
+use Rattle.expansion.specs.Expansion.{Input}
 use Rattle.templates.specs.Built.{Holds}
-use Rattle.expander.specs.Steps.{body}
-use Rattle.expander.specs.Frames.{Saved, Loaded}
+use Rattle.expander.specs.Frames.{frameSize, shortFrames, Fits, Saved, Loaded, Frame, resume, Waits, Stacked, stacked-none, stacked-one}
+use Rattle.expander.specs.Frames.{Standing}
 
 -- ------------------------------------------------------------------ 16 variables, copied one by one
 
@@ -45,26 +46,26 @@ saving-next {old} {new} {base} {vars} {i} c h room =
         ∙ ap (λ (k : ℕ). getD vars k 0) (sym e)
     by j l (no n) = getD-set-other new (base + i) (base + j) (getD vars i 0) 0 (λ e. n (omega arith)) ∙ c .values j (omega arith)
 
-pub saving-end : {old new : List ℕ} {level : ℕ} {vars : List ℕ} {i : ℕ} → Saving old new (level * 18) vars i → 16 ≤ i → level * 18 + 18 ≤ length old
+pub saving-end : {old new : List ℕ} {level : ℕ} {vars : List ℕ} {i : ℕ} → Saving old new (level * frameSize) vars i → 16 ≤ i → level * frameSize + frameSize ≤ length old
     → (count next : ℕ)
-    → Saved old (set (set new (level * 18 + 16) count) (level * 18 + 17) next) level vars count next
+    → Saved old (set (set new (level * frameSize + 16) count) (level * frameSize + 17) next) level vars count next
 saving-end {old} {new} {level} {vars} {i} c h room count next =
     record {
       same = λ j l. kept j (λ e. omega arith) (λ e. omega arith) ∙ c .same j l;
-      values = λ j l. kept (level * 18 + j) (λ e. omega arith) (λ e. omega arith) ∙ c .values j (omega arith);
+      values = λ j l. kept (level * frameSize + j) (λ e. omega arith) (λ e. omega arith) ∙ c .values j (omega arith);
       counted =
-          getD-set-other (set new (level * 18 + 16) count) (level * 18 + 17) (level * 18 + 16) next 0 (λ e. omega arith)
-          ∙ getD-set-same new (level * 18 + 16) count 0 (omega (arith, c .long));
+          getD-set-other (set new (level * frameSize + 16) count) (level * frameSize + 17) (level * frameSize + 16) next 0 (λ e. omega arith)
+          ∙ getD-set-same new (level * frameSize + 16) count 0 (omega (arith, c .long));
       next-is =
-          getD-set-same (set new (level * 18 + 16) count) (level * 18 + 17) next 0
-          (omega (arith, c .long, length-set new (level * 18 + 16) count));
+          getD-set-same (set new (level * frameSize + 16) count) (level * frameSize + 17) next 0
+          (omega (arith, c .long, length-set new (level * frameSize + 16) count));
     }
   where
-    kept : (j : ℕ) → (j ≡ level * 18 + 16 → ⊥) → (j ≡ level * 18 + 17 → ⊥)
-        → getD (set (set new (level * 18 + 16) count) (level * 18 + 17) next) j 0 ≡ getD new j 0
+    kept : (j : ℕ) → (j ≡ level * frameSize + 16 → ⊥) → (j ≡ level * frameSize + 17 → ⊥)
+        → getD (set (set new (level * frameSize + 16) count) (level * frameSize + 17) next) j 0 ≡ getD new j 0
     kept j a b =
-        getD-set-other (set new (level * 18 + 16) count) (level * 18 + 17) j next 0 b
-        ∙ getD-set-other new (level * 18 + 16) j count 0 a
+        getD-set-other (set new (level * frameSize + 16) count) (level * frameSize + 17) j next 0 b
+        ∙ getD-set-other new (level * frameSize + 16) j count 0 a
 
 pub record Loading (frames : List ℕ) (base : ℕ) (vars : List ℕ) (i : ℕ) : Type 0 where
   pub long : length vars ≡ 16
@@ -90,63 +91,48 @@ loading-next {frames} {base} {vars} {i} c h =
         ∙ ap (λ (k : ℕ). getD frames (base + k) 0) (sym e)
     by j l (no n) = getD-set-other vars i j (getD frames (base + i) 0) 0 n ∙ c .values j (omega arith)
 
-pub loading-end : {frames : List ℕ} {level : ℕ} {vars : List ℕ} {i : ℕ} → Loading frames (level * 18) vars i → 16 ≤ i → Loaded frames level vars
+pub loading-end : {frames : List ℕ} {level : ℕ} {vars : List ℕ} {i : ℕ} → Loading frames (level * frameSize) vars i → 16 ≤ i → Loaded frames level vars
 loading-end c h = record { long = c .long; values = λ j l. c .values j (omega arith) }
 
 -- ------------------------------------------------------------------ the calls that wait
-
--- a call that waits: where its items go on, and the values of its variables
-pub record Frame : Type 0 where
-  pub next : ℕ
-  pub values : List ℕ
-
--- what the calls that wait, the innermost first, make of what the call above them gives
-unfoldable pub resume : Input → List ℕ → List Frame → Result ℕ → Result ℕ
-resume I bs [] r = r
-resume I bs (f ∷ fs) r =
-    resume I bs fs (after r (λ x. body (runCall (1023 - length fs) I) bs (f .next) I (f .values ++ (x ∷ []))))
 
 pub resume-halt : (I : Input) (bs : List ℕ) (fs : List Frame) (r : Refusal) (cells : List ℕ) → resume I bs fs (halt r cells) ≡ halt r cells
 unfolding resume
 resume-halt I bs [] r cells = refl
 resume-halt I bs (f ∷ fs) r cells = resume-halt I bs fs r cells
 
--- the bytes of the alternatives that they go on with
-unfoldable pub owed : List ℕ → List Frame → ℕ
-owed bs [] = 0
-owed bs (f ∷ fs) = (length bs - f .next) + owed bs fs
-
--- a call that waits stands at a level of the room
-pub record Waits (bs frames : List ℕ) (level : ℕ) (f : Frame) : Type 0 where
-  pub counted : getD frames (level * 18 + 16) 0 ≡ length (f .values)
-  pub next-is : getD frames (level * 18 + 17) 0 ≡ f .next
-  pub held : (i : ℕ) → i < 16 → i < length (f .values) → getD frames (level * 18 + i) 0 ≡ getD (f .values) i 0
-  pub whole : wholeBody (fieldsAt bs (f .next)) ≡ true
-  pub few : length (f .values) < length bs + f .next
-  pub inside : f .next ≤ length bs
-
-pub data Stacked (bs frames : List ℕ) : List Frame → Type 0 where
-  stacked-none : Stacked bs frames []
-  stacked-one : {f : Frame} {fs : List Frame} → Waits bs frames (length fs) f → Stacked bs frames fs → Stacked bs frames (f ∷ fs)
-
 waits-same : {bs old new : List ℕ} {level : ℕ} {f : Frame} → Waits bs old level f
-    → ((i : ℕ) → i < level * 18 + 18 → getD new i 0 ≡ getD old i 0)
+    → ((i : ℕ) → i < level * frameSize + frameSize → getD new i 0 ≡ getD old i 0)
     → Waits bs new level f
 waits-same {level = level} w h =
     record {
-      counted = h (level * 18 + 16) (omega arith) ∙ w .counted;
-      next-is = h (level * 18 + 17) (omega arith) ∙ w .next-is;
-      held = λ i a b. h (level * 18 + i) (omega arith) ∙ w .held i a b;
+      counted = h (level * frameSize + 16) (omega arith) ∙ w .counted;
+      next-is = h (level * frameSize + 17) (omega arith) ∙ w .next-is;
+      held = λ i a b. h (level * frameSize + i) (omega arith) ∙ w .held i a b;
       whole = w .whole;
-      few = w .few;
       inside = w .inside;
     }
 
 -- what stands above them changes nothing
-pub stacked-same : {bs old new : List ℕ} {fs : List Frame} → ((i : ℕ) → i < length fs * 18 → getD new i 0 ≡ getD old i 0) → Stacked bs old fs
+pub stacked-same : {bs old new : List ℕ} {fs : List Frame} → ((i : ℕ) → i < length fs * frameSize → getD new i 0 ≡ getD old i 0) → Stacked bs old fs
     → Stacked bs new fs
 stacked-same h stacked-none = stacked-none
-stacked-same h (stacked-one w s) = stacked-one (waits-same w (λ i l. h i (omega arith))) (stacked-same (λ i l. h i (omega arith)) s)
+stacked-same h (stacked-one w few s) = stacked-one (waits-same w (λ i l. h i (omega arith))) few (stacked-same (λ i l. h i (omega arith)) s)
+
+-- a call that is saved
+pub waits-saved : {bs old new vars : List ℕ} {count next level : ℕ} {M : List ℕ} → Saved old new level vars count next
+    → Holds vars count M
+    → wholeBody (fieldsAt bs next) ≡ true
+    → next ≤ length bs
+    → Waits bs new level (record { next = next; values = M })
+waits-saved v g w inside =
+    record {
+      counted = v .counted ∙ sym (g .count);
+      next-is = v .next-is;
+      held = λ i a b. v .values i a ∙ g .same i a (omega (arith, g .count));
+      whole = w;
+      inside = inside;
+    }
 
 -- one more waits
 pub stacked-more : {bs old new vars : List ℕ} {count next level : ℕ} {M : List ℕ} {fs : List Frame} → length fs ≡ level
@@ -157,22 +143,15 @@ pub stacked-more : {bs old new vars : List ℕ} {count next level : ℕ} {M : Li
     → next ≤ length bs
     → Stacked bs old fs
     → Stacked bs new (record { next = next; values = M } ∷ fs)
-stacked-more {bs} {old} {new} {count = count} {next = next} {level = level} {M = M} e v g w few inside s =
+stacked-more {bs} {old} {new} {next = next} {M = M} e v g w few inside s =
     stacked-one
-    (subst (λ (n : ℕ). Waits bs new n (record { next = next; values = M })) (sym e)
-    (record {
-      counted = v .counted ∙ sym (g .count);
-      next-is = v .next-is;
-      held = λ i a b. v .values i a ∙ g .same i a (omega (arith, g .count));
-      whole = w;
-      few = omega (arith, g .count);
-      inside = inside;
-    }))
+    (subst (λ (n : ℕ). Waits bs new n (record { next = next; values = M })) (sym e) (waits-saved v g w inside))
+    (omega (arith, g .count))
     (stacked-same (λ i l. v .same i (omega arith)) s)
 
 -- the variables of the innermost, read back
 pub waits-holds : {bs frames vars : List ℕ} {level : ℕ} {f : Frame} {count : ℕ} → Waits bs frames level f → Loaded frames level vars
-    → count ≡ getD frames (level * 18 + 16) 0
+    → count ≡ getD frames (level * frameSize + 16) 0
     → Holds vars count (f .values)
 waits-holds w l e =
     record {
@@ -180,3 +159,45 @@ waits-holds w l e =
       count = sym (e ∙ w .counted);
       same = λ i a b. l .values i a ∙ w .held i a (omega (arith, e, w .counted));
     }
+
+-- ------------------------------------------------------------------ where an expansion stands
+
+-- the same in another room, as far as the calls stand
+pub standing-same : {I : Input} {bs old new : List ℕ} {level : ℕ} {here : State} {cells : List ℕ} {R : Result ℕ} → Fits new level
+    → ((i : ℕ) → i < level * frameSize + frameSize → getD new i 0 ≡ getD old i 0)
+    → Standing I bs old level here cells R
+    → Standing I bs new level here cells R
+standing-same f h s =
+    record {
+      fits = f;
+      current = s .current;
+      waiting = s .waiting;
+      many = s .many;
+      on-top = waits-same (s .on-top) h;
+      counted = s .counted;
+      stacked = stacked-same (λ i l. h i (omega (arith, s .many))) (s .stacked);
+      light = s .light;
+      rest = s .rest;
+    }
+
+-- a room of frames copied into a longer one
+pub record Copying (short old frames : List ℕ) (i : ℕ) : Type 0 where
+  pub long : length frames ≡ length old
+  pub small : i ≤ shortFrames
+  pub values : (j : ℕ) → j < i → getD frames j 0 ≡ getD short j 0
+
+pub copying-next : {short old frames : List ℕ} {i : ℕ} → Copying short old frames i → i < shortFrames → shortFrames ≤ length old
+    → Copying short old (set frames i (getD short i 0)) (i + 1)
+copying-next {short} {old} {frames} {i} c h fits =
+    record {
+      long = length-set frames i (getD short i 0) ∙ c .long;
+      small = omega arith;
+      values = λ j l. by j l (ℕ-discrete j i);
+    }
+  where
+    by : (j : ℕ) → j < i + 1 → Dec (j ≡ i) → getD (set frames i (getD short i 0)) j 0 ≡ getD short j 0
+    by j l (yes e) =
+        ap (λ (k : ℕ). getD (set frames i (getD short i 0)) k 0) e
+        ∙ getD-set-same frames i (getD short i 0) 0 (omega (arith, c .long))
+        ∙ ap (λ (k : ℕ). getD short k 0) (sym e)
+    by j l (no n) = getD-set-other frames i j (getD short i 0) 0 n ∙ c .values j (omega arith)

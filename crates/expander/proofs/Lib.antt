@@ -1,5 +1,4 @@
 pub mod TokenLaws
-pub mod StartLaws
 pub mod ChoiceLaws
 pub mod ItemLaws
 pub mod FrameLaws

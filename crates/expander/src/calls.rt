@@ -1,5 +1,7 @@
 // Calls: a rule is chosen, its items are done from the left, and its result is built.
 use crate::choice::choose;
+use crate::frames::FRAME;
+use crate::frames::copy;
 use crate::frames::count_of;
 use crate::frames::load;
 use crate::frames::next_of;
@@ -10,6 +12,7 @@ use crate::items::finish;
 use crate::items::item_step;
 use crate::tokens::misfit;
 use answers::Refusal;
+use answers::refuse;
 use expansion::Outcome;
 use expansion::State;
 use productions::room::first_set;
@@ -21,12 +24,20 @@ ghost use mathlib.Core.Path.{_≡_};
 ghost use mathlib.Core.List.{List};
 ghost use lib.ListN.{length, getD};
 ghost use Rattle.answers.specs.Refusals.{refusal};
-ghost use Rattle.expansion.specs.Run.{after, ran};
-ghost use Rattle.expansion.specs.Expansion.{Input, callBegun, ended, run};
+ghost use Rattle.expansion.specs.Run.{Result, after, ran};
+ghost use Rattle.expansion.specs.Expansion.{Input, callBegun, mostCalls, ended, run};
 ghost use Rattle.templates.specs.Built.{rowsIn};
 ghost use Rattle.expander.specs.Lent.{Held, MayBegin, lentInput, Lent};
+ghost use Rattle.expander.specs.Frames.{Standing, Goes};
 ghost use Rattle.expander.specs.Chosen.{setsOf};
-ghost use Rattle.expander.specs.Calls.{rootItems, Begins, Enters, Stands};
+ghost use Rattle.expander.specs.Calls.{rootItems, Begins, Enters, Stands, MayGo, MayGoOn};
+
+// How many calls may be open at once, how many may wait, and how many may be begun in all.
+const MOST_OPEN: usize = 1024;
+
+const MOST_WAITING: usize = 1023;
+
+const MOST_CALLS: u32 = 65536;
 
 // How a call begins: it refuses, or a production is entered at an offset.
 pub enum Begun {
@@ -34,21 +45,15 @@ pub enum Begun {
     Entered(usize, State),
 }
 
-// A limit is met: refusal 19 or 20.
-fn limit(number: u8, at: usize) -> Refusal
-    ensures { λ r. ⌜ r ≡ refusal number at 0 0 ⌝ }
-{
-    Refusal {
-        number,
-        a: at as u64,
-        b: 0,
-        c: 0,
-    }
+// How far the items of a call go: to an outcome, or to a level that the room of the frames does not hold.
+pub enum Progress {
+    Ended(Outcome),
+    Paused(usize, State),
 }
 
 // The state with one more call begun.
 fn with_call(s: State) -> State
-    requires { ⌜ s .calls ≤ 65536 ⌝ }
+    requires { ⌜ s .calls ≤ mostCalls ⌝ }
     ensures { λ r. ⌜ r ≡ callBegun s ⌝ }
 {
     State {
@@ -87,10 +92,10 @@ fn begin(
     let at = s.at;
     let calls = s.calls;
     if depth == 0 {
-        return Begun::Refused(limit(19, at));
+        return Begun::Refused(refuse(19, at as u64, 0, 0));
     }
-    if 65536 <= calls {
-        return Begun::Refused(limit(20, at));
+    if MOST_CALLS <= calls {
+        return Begun::Refused(refuse(20, at as u64, 0, 0));
     }
     let kind = kind_at(tokens, n, at);
     let place = choose(room, nonterminal, kind);
@@ -100,7 +105,8 @@ fn begin(
     Begun::Refused(misfit(at, kinds_of(room, nonterminal)))
 }
 
-// The items of an alternative from an offset on, and its result. A call that waits for another stands in `frames`.
+// The items of the call at a level of `frames`, its result, and so on with the calls that wait below it. The call that goes on is kept
+// apart from its frame; where another is called it is saved, and where the room has no two levels more it pauses.
 fn items(
     table: &[u8],
     room: &[u64; 641],
@@ -109,19 +115,19 @@ fn items(
     cells: &mut [u32],
     stack: &mut [u32],
     frames: &mut [u32],
-    start: usize,
+    from: usize,
     s: State,
-) -> Outcome
-    requires { ⌜ Lent (now table) (now room) (now tokens) n (now stack) (now frames) ⌝ }
-    requires { ⌜ Stands (now table) start s ⌝ }
-    ensures { λ r. ⌜ ran r (now (cells .exit)) ≡ rootItems (lentInput (now (table .entry)) (now (tokens .entry)) n (rowsIn (now (cells
-        .entry)))) (now (table .entry)) start s (now (cells .entry)) ⌝ }
+) -> Progress
+    requires { ⌜ MayGo (now table) (now room) (now tokens) n (now cells) (now stack) (now frames) from s ⌝ }
+    ensures { λ r. ⌜ ((R : Result ℕ) → Standing (lentInput (now (table .entry)) (now (tokens .entry)) n (rowsIn (now (cells .entry)))) (now
+        (table .entry)) (now (frames .entry)) from s (now (cells .entry)) R → Goes (lentInput (now (table .entry)) (now (tokens .entry)) n
+        (rowsIn (now (cells .entry)))) (now (table .entry)) R (now (frames .exit)) (now (cells .exit)) r) ⌝ }
 {
-    let mut vars = [0u32; 16];
+    let mut vars = load(frames, from);
+    let mut count = count_of(frames, from);
+    let mut at = next_of(frames, from);
     let mut args = [0u32; 16];
-    let mut at = start;
-    let mut count: usize = 0;
-    let mut level: usize = 0;
+    let mut level = from;
     let mut here = s;
     loop {
         let step = item_step(
@@ -153,11 +159,11 @@ fn items(
                 );
                 match outcome {
                     Outcome::Halted(r) => {
-                        return Outcome::Halted(r);
+                        return Progress::Ended(Outcome::Halted(r));
                     }
                     Outcome::Value(x, t) => {
                         if level == 0 {
-                            return Outcome::Value(x, t);
+                            return Progress::Ended(Outcome::Value(x, t));
                         }
                         level -= 1;
                         vars = load(frames, level);
@@ -170,7 +176,7 @@ fn items(
                 }
             }
             Step::Stopped(r) => {
-                return Outcome::Halted(r);
+                return Progress::Ended(Outcome::Halted(r));
             }
             Step::Taken(x, after, t) => {
                 put(&mut vars, count, x);
@@ -179,10 +185,10 @@ fn items(
                 here = t;
             }
             Step::Opened(callee, given, after, t) => {
-                let begun = begin(room, tokens, n, 1023 - level, callee, t);
+                let begun = begin(room, tokens, n, MOST_WAITING - level, callee, t);
                 match begun {
                     Begun::Refused(r) => {
-                        return Outcome::Halted(r);
+                        return Progress::Ended(Outcome::Halted(r));
                     }
                     Begun::Entered(first, u) => {
                         save(frames, level, &vars, count, after);
@@ -191,10 +197,75 @@ fn items(
                         count = given;
                         at = first;
                         here = u;
+                        if frames.len() < (level + 2) * FRAME {
+                            save(frames, level, &vars, count, at);
+                            return Progress::Paused(level, here);
+                        }
                     }
                 }
             }
         }
+    }
+}
+
+// The same, from a short room on, in a room for all the calls that may be open: there it does not pause.
+fn deep_items(
+    table: &[u8],
+    room: &[u64; 641],
+    tokens: &[u32],
+    n: usize,
+    cells: &mut [u32],
+    stack: &mut [u32],
+    short: &[u32; 576],
+    from: usize,
+    s: State,
+) -> Outcome
+    requires { ⌜ MayGoOn (now table) (now room) (now tokens) n (now cells) (now stack) (now short) from s ⌝ }
+    ensures { λ r. ⌜ ((R : Result ℕ) → Standing (lentInput (now (table .entry)) (now (tokens .entry)) n (rowsIn (now (cells .entry)))) (now
+        (table .entry)) (now (short .entry)) from s (now (cells .entry)) R → ran r (now (cells .exit)) ≡ R) ⌝ }
+{
+    let mut frames = [0u32; 18450];
+    copy(&mut frames, short);
+    let progress = items(table, room, tokens, n, cells, stack, &mut frames, from, s);
+    match progress {
+        Progress::Ended(o) => o,
+        Progress::Paused(_, t) => Outcome::Halted(refuse(19, t.at as u64, 0, 0)),
+    }
+}
+
+// The items of the root's alternative from an offset on, and its result: in a short room first, which is zeroed at less cost.
+fn root_items(
+    table: &[u8],
+    room: &[u64; 641],
+    tokens: &[u32],
+    n: usize,
+    cells: &mut [u32],
+    stack: &mut [u32],
+    start: usize,
+    s: State,
+) -> Outcome
+    requires { ⌜ Lent (now table) (now room) (now tokens) n (now stack) ⌝ }
+    requires { ⌜ Stands (now table) start s ⌝ }
+    ensures { λ r. ⌜ ran r (now (cells .exit)) ≡ rootItems (lentInput (now (table .entry)) (now (tokens .entry)) n (rowsIn (now (cells
+        .entry)))) (now (table .entry)) start s (now (cells .entry)) ⌝ }
+{
+    let vars = [0u32; 16];
+    let mut frames = [0u32; 576];
+    save(&mut frames, 0, &vars, 0, start);
+    let progress = items(table, room, tokens, n, cells, stack, &mut frames, 0, s);
+    match progress {
+        Progress::Ended(o) => o,
+        Progress::Paused(level, t) => deep_items(
+            table,
+            room,
+            tokens,
+            n,
+            cells,
+            stack,
+            &frames,
+            level,
+            t,
+        ),
     }
 }
 
@@ -207,7 +278,7 @@ fn ended(n: usize, outcome: Outcome) -> Outcome
         Outcome::Value(v, s) => {
             let at = s.at;
             if at < n {
-                return Outcome::Halted(limit(18, at));
+                return Outcome::Halted(refuse(18, at as u64, 0, 0));
             }
             Outcome::Value(v, s)
         }
@@ -216,7 +287,7 @@ fn ended(n: usize, outcome: Outcome) -> Outcome
 
 // The expansion of a formula's tokens: a call of the root that leaves no token over. It works from the table's bytes, from the room in
 // which the check has laid its grammar, and from the room of the tokens; it does not check the table. `stack` takes a template that is
-// being evaluated and `frames` the calls that wait; what they hold before and after is of no account.
+// being evaluated; what it holds before and after is of no account.
 // Ruled out are, among others, an expander that copies inner phrases unopened, one that answers invented counts of cells, and one
 // that claims 20 or 21 at its first step.
 pub fn run(
@@ -227,9 +298,8 @@ pub fn run(
     n: usize,
     cells: &mut [u32],
     stack: &mut [u32],
-    frames: &mut [u32],
 ) -> Outcome
-    requires { ⌜ Lent (now table) (now room) (now tokens) n (now stack) (now frames) ⌝ }
+    requires { ⌜ Lent (now table) (now room) (now tokens) n (now stack) ⌝ }
     ensures { λ r. ⌜ ran r (now (cells .exit)) ≡ run (lentInput (now (table .entry)) (now (tokens .entry)) n (rowsIn (now (cells .entry))))
         root (now (cells .entry)) ⌝ }
 {
@@ -237,7 +307,7 @@ pub fn run(
         room,
         tokens,
         n,
-        1024,
+        MOST_OPEN,
         root,
         State {
             at: 0,
@@ -249,7 +319,7 @@ pub fn run(
     match begun {
         Begun::Refused(r) => Outcome::Halted(r),
         Begun::Entered(start, t) => {
-            let outcome = items(table, room, tokens, n, cells, stack, frames, start, t);
+            let outcome = root_items(table, room, tokens, n, cells, stack, start, t);
             ended(n, outcome)
         }
     }

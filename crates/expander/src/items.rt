@@ -1,6 +1,7 @@
 // The items of an alternative, read off the table's bytes, and its result.
 use crate::tokens::take;
 use answers::Refusal;
+use answers::refuse;
 use expansion::Outcome;
 use expansion::State;
 use grammar::Front;
@@ -92,12 +93,7 @@ fn read_item(kind: u8, operand: u8, tokens: &[u32], n: usize, s: State) -> Outco
 fn no_row(s: State) -> Refusal
     ensures { λ r. ⌜ r ≡ refusal 21 (s .at) 0 0 ⌝ }
 {
-    Refusal {
-        number: 21,
-        a: s.at as u64,
-        b: 0,
-        c: 0,
-    }
+    refuse(21, s.at as u64, 0, 0)
 }
 
 // An item, by the value of its field: `next` is the offset behind it, and `out` takes a call's arguments.

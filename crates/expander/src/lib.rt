@@ -1,6 +1,6 @@
 // The expander: from tokens to cells.
 pub mod calls;
-pub mod choice;
-pub mod frames;
-pub mod items;
-pub mod tokens;
+mod choice;
+mod frames;
+mod items;
+mod tokens;

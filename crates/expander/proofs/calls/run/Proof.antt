@@ -18,7 +18,7 @@ use Rattle.expander.proofs.calls.run.Tie as tie
 -- after the beginning of the root's call
 module _ (p : tie.After-begin) where
   abbrev entry : tie.Start
-  entry = p .before .before .before .before .before .before
+  entry = p .before .before .before .before .before
 
   abbrev input : Input
   input = lentInput (entry .args .table .now) (entry .args .tokens .now) (entry .args .n) (rowsIn (entry .args .cells .now))
@@ -44,19 +44,19 @@ enum-known-begun c = search needs
 enum-known-begun-2 : tie.Need-enum-known-begun-2
 enum-known-begun-2 c = search needs
 
-items-requires : tie.Need-items-requires
-items-requires c κs =
-    let begun2-place = c .before .before .before .before in
-    let begin-place = begun2-place .before .before in
-    (entry begin-place .pre, laws.stands-start (enters begin-place (begun2-place .begun2 .given .1)) (entry begin-place .pre .table .grammar .small))
+root-items-requires : tie.Need-root-items-requires
+root-items-requires c κs =
+    let begun-place = c .before .before .before in
+    let p = begun-place .before .before in
+    (entry p .pre, laws.stands-start (enters p (begun-place .begun2 .given .1)) (entry p .pre .table .grammar .small))
 
 ended-requires : tie.Need-ended-requires
 ended-requires c κs = search needs
 
 returns : tie.Need-returns
 returns c =
-    let begin-place = c .before .before .before in
-    runs begin-place (begins begin-place (c .before .begun .given .1) [] (entry begin-place .args .cells .now))
+    let p = c .before .before .before in
+    runs p (begins p (c .before .begun .given .1) [] (entry p .args .cells .now))
 
 same-length : tie.Need-same-length
 same-length c = search needs
@@ -64,17 +64,14 @@ same-length c = search needs
 same-length-2 : tie.Need-same-length-2
 same-length-2 c = search needs
 
-same-length-3 : tie.Need-same-length-3
-same-length-3 c = search needs
-
 returns-2 : tie.Need-returns-2
 returns-2 c =
-    let items-place = c .before .before .before .before .before .before .before in
-    let begun2-place = items-place .before .before .before .before .before in
-    let begin-place = begun2-place .before .before in
-    let lent = entry begin-place .args in
-    c .ended .ensures (input begin-place) (items-place .items .last .1 .1 .1 .1 .0) (token-count (lent .tokens .now) (lent .n))
-    ∙ runs begin-place (items-place .items .ensures ∙ begins begin-place (begun2-place .begun2 .given .1) [] (lent .cells .now))
+    let root-place = c .before .before .before .before .before in
+    let begun-place = root-place .before .before .before .before in
+    let p = begun-place .before .before in
+    let lent = entry p .args in
+    c .ended .ensures (input p) (root-place .root-items .last .1 .1 .1 .1 .0) (token-count (lent .tokens .now) (lent .n))
+    ∙ runs p (root-place .root-items .ensures ∙ begins p (begun-place .begun2 .given .1) [] (lent .cells .now))
 
 pub run-spec : {M : Type 1} → statement M
 run-spec =
@@ -83,10 +80,9 @@ run-spec =
     begin-requires
     enum-known-begun
     enum-known-begun-2
-    items-requires
+    root-items-requires
     ended-requires
     returns
     same-length
     same-length-2
-    same-length-3
     returns-2)

@@ -1,0 +1,128 @@
+-- `deep_items`: the calls stand in the long room as in the short one, and there it ends.
+use Prim.Native.Nat.{ℕ}
+use mathlib.Core.Path.{_≡_, _∙_}
+use mathlib.Core.List.{List}
+use native.Mathlib.Omega.{arith}
+use lib.ListN.{length}
+use borrow.Author.Needs.{needs}
+use Rattle.expansion.specs.Run.{Result}
+use Rattle.expansion.specs.Expansion.{Input}
+use Rattle.templates.specs.Built.{rowsIn}
+use Rattle.expander.specs.Lent.{lentInput}
+use Rattle.expander.specs.Frames.{longFrames, Fits, Standing, Goes}
+use Rattle.expander.proofs.FrameLaws.{standing-same}
+use Rattle.expander.proofs.CallLaws as laws
+use Rattle.expander.proofs.calls.deep_items.Statement.{statement}
+use Rattle.expander.proofs.calls.deep_items.Tie as tie
+
+-- after the copy
+module _ (p : tie.After-copy) where
+  abbrev entry : tie.Start
+  entry = p .before .before .before .before .before .before
+
+  abbrev input : Input
+  input = lentInput (entry .args .table .now) (entry .args .tokens .now) (entry .args .n) (rowsIn (entry .args .cells .now))
+
+  abbrev Stands : List ℕ → Result ℕ → Type 0
+  Stands frames R = Standing input (entry .args .table .now) frames (entry .args .from) (entry .args .s) (entry .args .cells .now) R
+
+  long : length (p .copy .last .0) ≡ longFrames
+  long = p .copy .kept .0
+
+  copied : {R : Result ℕ} → Stands (entry .args .short .now) R → Stands (p .copy .last .0) R
+  copied s =
+      standing-same (record { few = s .fits .few; inside = omega (arith, long, s .fits .few) })
+      (λ i l. p .copy .ensures i (omega (arith, entry .pre .frames-short, s .fits .inside))) s
+
+-- after the items
+module _ (q : tie.After-items) where
+  abbrev q-copy : tie.After-copy
+  q-copy = q .before .before .before .before .before
+
+  abbrev cells′ : List ℕ
+  cells′ = q .items .last .1 .1 .1 .1 .0
+
+  abbrev frames′ : List ℕ
+  frames′ = q .items .last .1 .1 .1 .1 .1 .1 .0
+
+  went : {R : Result ℕ} → Stands q-copy (entry q-copy .args .short .now) R
+      → Goes (input q-copy) (entry q-copy .args .table .now) R frames′ cells′ (q .items .result)
+  went {R} s = q .items .ensures R (copied q-copy s)
+
+  same : length frames′ ≡ longFrames
+  same = q .items .kept .1 .1 .1 .1 .1 .1 .0 ∙ long q-copy
+
+copy-requires : tie.Need-copy-requires
+copy-requires c κs = search needs
+
+slice-aggregate-copy : tie.Need-slice-aggregate-copy
+slice-aggregate-copy c = search needs
+
+slice-aggregate-items : tie.Need-slice-aggregate-items
+slice-aggregate-items c = search needs
+
+items-requires : tie.Need-items-requires
+items-requires c κs =
+    let p = c .before .before .before .before in
+    let may = entry p .pre in
+    record {
+      lent = may .lent;
+      result = may .result;
+      standing = copied p (may .standing);
+      next-fits = omega (arith, long p, may .standing .fits .few);
+    }
+
+enum-known-progress : tie.Need-enum-known-progress
+enum-known-progress c = search needs
+
+enum-known-progress-2 : tie.Need-enum-known-progress-2
+enum-known-progress-2 c = search needs
+
+refuse-requires : tie.Need-refuse-requires
+refuse-requires c κs = search needs
+
+same-length : tie.Need-same-length
+same-length c = search needs
+
+same-length-2 : tie.Need-same-length-2
+same-length-2 c = search needs
+
+returns : tie.Need-returns
+returns c =
+    let match-place = c .before .before in
+    let q = match-place .before .before .before .before .before .before in
+    λ R s. laws.goes-ended _ _ R (frames′ q) (cells′ q) (q .items .result) (went q s) (c .before .progress .given .1)
+
+same-length-3 : tie.Need-same-length-3
+same-length-3 c = search needs
+
+same-length-4 : tie.Need-same-length-4
+same-length-4 c = search needs
+
+-- it does not pause
+returns-2 : tie.Need-returns-2
+returns-2 c =
+    let progress-place = c .before .before in
+    let match-place = progress-place .before in
+    let q = match-place .before .before .before .before .before .before in
+    λ R s.
+    let paused = laws.goes-paused _ _ R (frames′ q) (cells′ q) (q .items .result) (went q s) (progress-place .progress2 .given .1) in
+    absurd (omega (arith, paused .1, same q))
+
+pub deep-items-spec : {M : Type 1} → statement M
+deep-items-spec =
+    tie.close
+    (tie.spec
+    slice-aggregate-copy
+    copy-requires
+    slice-aggregate-items
+    items-requires
+    enum-known-progress
+    enum-known-progress-2
+    refuse-requires
+    same-length
+    same-length-2
+    returns
+    same-length-3
+    same-length-4
+    returns-2)

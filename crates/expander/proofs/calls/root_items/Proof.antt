@@ -1,0 +1,144 @@
+-- `root_items`: the root's alternative stands at the lowest level of a short room; where it pauses it goes on in a long one.
+use Prim.Native.Nat.{ℕ}
+use mathlib.Core.Path.{_≡_, sym, ap, _∙_}
+use mathlib.Core.List.{List}
+use native.Mathlib.Omega.{arith}
+use lib.ListN.{length}
+use borrow.Author.Needs.{needs}
+use Rattle.expansion.specs.declared.State.{State}
+use Rattle.expansion.specs.Run.{Result}
+use Rattle.expansion.specs.Expansion.{Input}
+use Rattle.templates.specs.Built.{rowsFor, rowsIn}
+use Rattle.expander.specs.Lent.{lentInput}
+use Rattle.expander.specs.Frames.{shortFrames, Fits, Standing, Goes}
+use Rattle.expander.specs.Calls.{rootItems}
+use Rattle.expander.specs.declared.calls.Progress.the-variants.{Paused}
+use Rattle.expander.proofs.CallLaws as laws
+use Rattle.expander.proofs.calls.root_items.Statement.{statement}
+use Rattle.expander.proofs.calls.root_items.Tie as tie
+
+-- after the root's alternative is saved
+module _ (p : tie.After-save) where
+  abbrev saved : tie.After-vars
+  saved = p .before
+
+  abbrev entry : tie.Start
+  entry = saved .before .before .before .before .before .before
+
+  abbrev input : Input
+  input = lentInput (entry .args .table .now) (entry .args .tokens .now) (entry .args .n) (rowsIn (entry .args .cells .now))
+
+  abbrev result : Result ℕ
+  result = rootItems input (entry .args .table .now) (entry .args .start) (entry .args .s) (entry .args .cells .now)
+
+  long : length (p .save .last .0) ≡ shortFrames
+  long = p .save .kept .0
+
+  fits : Fits (p .save .last .0) 0
+  fits = record { few = omega arith; inside = omega (arith, long) }
+
+  standing : Standing input (entry .args .table .now) (p .save .last .0) 0 (entry .args .s) (entry .args .cells .now) result
+  standing = laws.standing-root (entry .pre .1) (entry .args .cells .now) fits (p .save .ensures)
+
+-- after the items
+module _ (q : tie.After-items) where
+  abbrev q-save : tie.After-save
+  q-save = q .before .before .before .before .before
+
+  abbrev cells′ : List ℕ
+  cells′ = q .items .last .1 .1 .1 .1 .0
+
+  abbrev frames′ : List ℕ
+  frames′ = q .items .last .1 .1 .1 .1 .1 .1 .0
+
+  went : Goes (input q-save) (entry q-save .args .table .now) (result q-save) frames′ cells′ (q .items .result)
+  went = q .items .ensures (result q-save) (standing q-save)
+
+  paused : {level : ℕ} {here : State} → q .items .result ≡ Paused level here
+      → Standing (lentInput (entry q-save .args .table .now) (entry q-save .args .tokens .now) (entry q-save .args .n) (rowsIn cells′))
+      (entry q-save .args .table .now) frames′ level here cells′ (result q-save)
+  paused e =
+      laws.standing-rows (entry q-save .args .tokens .now) (entry q-save .args .n) (ap rowsFor (sym (q .items .kept .1 .1 .1 .1 .0)))
+      (laws.goes-paused _ _ (result q-save) frames′ cells′ (q .items .result) went e .0)
+
+slice-aggregate-save : tie.Need-slice-aggregate-save
+slice-aggregate-save c = search needs
+
+save-requires : tie.Need-save-requires
+save-requires c κs = search needs
+
+slice-aggregate-items : tie.Need-slice-aggregate-items
+slice-aggregate-items c = search needs
+
+items-requires : tie.Need-items-requires
+items-requires c κs =
+    let p = c .before .before .before .before in
+    record { lent = entry p .pre .0; result = result p; standing = standing p; next-fits = omega (arith, long p) }
+
+enum-known-progress : tie.Need-enum-known-progress
+enum-known-progress c = search needs
+
+enum-known-progress-2 : tie.Need-enum-known-progress-2
+enum-known-progress-2 c = search needs
+
+deep-items-requires : tie.Need-deep-items-requires
+deep-items-requires c κs =
+    let progress-place = c .before .before .before .before in
+    let match-place = progress-place .before in
+    let q = match-place .before .before .before .before .before .before in
+    let lent = entry (q-save q) .pre .0 in
+    record {
+      lent =
+          record {
+            table = lent .table;
+            tokens-fit = lent .tokens-fit;
+            stack-long = omega (arith, lent .stack-long, q .items .kept .1 .1 .1 .1 .1 .0);
+          };
+      result = result (q-save q);
+      standing = paused q (progress-place .progress2 .given .1);
+      frames-short = q .items .kept .1 .1 .1 .1 .1 .1 .0 ∙ long (q-save q);
+    }
+
+same-length : tie.Need-same-length
+same-length c = search needs
+
+same-length-2 : tie.Need-same-length-2
+same-length-2 c = search needs
+
+returns : tie.Need-returns
+returns c =
+    let match-place = c .before .before in
+    let q = match-place .before .before .before .before .before .before in
+    laws.goes-ended _ _ (result (q-save q)) (frames′ q) (cells′ q) (q .items .result) (went q) (c .before .progress .given .1)
+
+same-length-3 : tie.Need-same-length-3
+same-length-3 c = search needs
+
+same-length-4 : tie.Need-same-length-4
+same-length-4 c = search needs
+
+returns-2 : tie.Need-returns-2
+returns-2 c =
+    let deep-place = c .before .before .before .before in
+    let progress-place = deep-place .before .before .before .before .before in
+    let match-place = progress-place .before in
+    let q = match-place .before .before .before .before .before .before in
+    deep-place .deep-items .ensures (result (q-save q)) (paused q (progress-place .progress2 .given .1))
+
+pub root-items-spec : {M : Type 1} → statement M
+root-items-spec =
+    tie.close
+    (tie.spec
+    slice-aggregate-save
+    save-requires
+    slice-aggregate-items
+    items-requires
+    enum-known-progress
+    enum-known-progress-2
+    deep-items-requires
+    same-length
+    same-length-2
+    returns
+    same-length-3
+    same-length-4
+    returns-2)
