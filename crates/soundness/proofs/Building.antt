@@ -19,7 +19,8 @@ use Rattle.expansion.specs.Run.{Result, done, halt, Run, after}
 use Rattle.expansion.specs.Expansion.{Input, cellMade, cell, build, buildAll}
 use Rattle.expansion.specs.Figure3.{Value, Constructs, Gives, by-variable, by-global, by-label, by-constructor, GiveAll, give-none, give-more}
 use Rattle.expansion.specs.Costs.{rowsOf, rowsOfAll}
-use Rattle.expansion.proofs.Shows.{Grown, grown-not, grown-trans, Shows, shows-var, shows-label, ShowAll, show-none, show-more, shows-later, all-later, shows-bound, row-grown, row-shows, outside-named}
+use Rattle.expansion.proofs.Shows.{Grown, grown-not, grown-trans, Shows, shows-var, shows-label, ShowAll, show-none, show-more, shows-later, all-later}
+use Rattle.expansion.proofs.Shows.{shows-bound, row-grown, row-shows, outside-named}
 
 -- ------------------------------------------------------------------ how a run ends
 
@@ -79,7 +80,8 @@ module _ (spell : ℕ → List ℕ) (I : Input) where
   nothing-made s cells h =
       record { grown = grown-not (s .made) cells; at-kept = refl; fresh-kept = refl; calls-kept = refl; made-is = omega arith; fits = h }
 
-  made-trans : {m n : ℕ} {s s′ s″ : State} {cells cells′ cells″ : List ℕ} → Made (I .rows) m s cells s′ cells′ → Made (I .rows) n s′ cells′ s″ cells″ → Made (I .rows) (m + n) s cells s″ cells″
+  made-trans : {m n : ℕ} {s s′ s″ : State} {cells cells′ cells″ : List ℕ} → Made (I .rows) m s cells s′ cells′ → Made (I .rows) n s′ cells′ s″ cells″
+      → Made (I .rows) (m + n) s cells s″ cells″
   made-trans h k =
       record {
         grown = grown-trans (h .grown) (k .grown);
@@ -90,7 +92,8 @@ module _ (spell : ℕ → List ℕ) (I : Input) where
         fits = k .fits;
       }
 
-  cell-ends : {c : ℕ} {xs : List ℕ} {vs : List Value} {v : Value} (s : State) (cells : List ℕ) → I .rows * 4 ≤ length cells → Constructs c vs v → ShowAll spell (s .made) cells xs vs
+  cell-ends : {c : ℕ} {xs : List ℕ} {vs : List Value} {v : Value} (s : State) (cells : List ℕ) → I .rows * 4 ≤ length cells → Constructs c vs v
+      → ShowAll spell (s .made) cells xs vs
       → Ends (Built 1 s cells v) (Full (I .rows) (s .made + 1)) (cell I c xs s cells)
   cell-ends {c} {xs} {vs} {v} s cells room k a = go (ltb (s .made) (I .rows)) refl
     where
@@ -99,7 +102,15 @@ module _ (spell : ℕ → List ℕ) (I : Input) where
           (elim b [ true ↦ done (s .made) (cellMade s) (withRow cells (s .made) c xs) | false ↦ halt (refusal 21 (s .at) 0 0) cells ])
       go true e =
           let l : s .made < I .rows = ltb-true (s .made) (I .rows) e in (
-            record { grown = row-grown (s .made) cells c xs (omega arith); at-kept = refl; fresh-kept = refl; calls-kept = refl; made-is = refl; fits = omega arith },
+            record {
+              grown = row-grown (s .made) cells c xs
+                  (omega arith);
+              at-kept = refl;
+              fresh-kept = refl;
+              calls-kept = refl;
+              made-is = refl;
+              fits = omega arith;
+            },
             row-shows spell (s .made) cells (omega arith) k a,
           )
       go false e = record { is-21 = refl; beyond = omega (arith, ltb-false (s .made) (I .rows) e) }
@@ -114,7 +125,8 @@ module _ (spell : ℕ → List ℕ) (I : Input) where
         → Gives spell M t v → Sorted N L t A → N ≤ nameBase → I .rows * 4 ≤ length cells → s .made ≤ I .rows → ShowAll spell (s .made) cells xs M
         → Ends (Built (rowsOf t) s cells v) (Full (I .rows) (s .made + rowsOf t)) (build t I xs s cells)
     build-ends (Table.variable i) s cells (by-variable b) w small room fit a = (nothing-made s cells fit, shows-bound a b)
-    build-ends (Table.outside n) s cells by-global (Judgements.by-global l) small room fit a = (nothing-made s cells fit, shows-var (outside-named spell n (omega arith)))
+    build-ends (Table.outside n) s cells by-global (Judgements.by-global l) small room fit a =
+        (nothing-made s cells fit, shows-var (outside-named spell n (omega arith)))
     build-ends (Table.outsideLabel n) s cells by-label w small room fit a = (nothing-made s cells fit, shows-label)
     build-ends (Table.make c ts) {v = v} {xs = xs} s cells (by-constructor {vs = vs} g k) (Judgements.by-constructor lo hi w) small room fit a =
         let n : ℕ = rowsOfAll ts in

@@ -24,10 +24,13 @@ use Rattle.terms.specs.Term.{Name, Term, word, fresh}
 use Rattle.terms.specs.Rows.{termAt, nameOf}
 use Rattle.expansion.specs.declared.State.{State}
 use Rattle.expansion.specs.Run.{Result, done, halt, Run, after}
-use Rattle.expansion.specs.Expansion.{Input, ready, choice, endToken, nextToken, tokenTaken, take, buildAll, build, wordValue, runItem, runItems, callBegun, mostCalls, runCall, mostOpen, start, ended, run}
-use Rattle.expansion.specs.Figure3.{Value, binder, label, num, term, Gives, GiveAll, Taken, as-var, as-binder, as-label, by-keyword, by-ide, by-number, by-local, Derives, by-end, by-terminal, by-call, Parses}
+use Rattle.expansion.specs.Expansion.{Input, ready, choice, endToken, nextToken, tokenTaken, take, buildAll, build, wordValue, runItem, runItems, callBegun}
+use Rattle.expansion.specs.Expansion.{mostCalls, runCall, mostOpen, start, ended, run}
+use Rattle.expansion.specs.Figure3.{Value, binder, label, num, term, Gives, GiveAll, Taken, as-var, as-binder, as-label, by-keyword, by-ide, by-number}
+use Rattle.expansion.specs.Figure3.{by-local, Derives, by-end, by-terminal, by-call, Parses}
 use Rattle.expansion.specs.Costs.{rowsOf, rowsOfAll, openIn, callsIn, rowsIn, Affords}
-use Rattle.expansion.proofs.Shows.{Grown, grown-not, grown-trans, Shows, shows-unit, shows-var, shows-binder, shows-label, shows-num, shows-term, ShowAll, show-none, show-more, all-later, all-and, word-named, fresh-named}
+use Rattle.expansion.proofs.Shows.{Grown, grown-not, grown-trans, Shows, shows-unit, shows-var, shows-binder, shows-label, shows-num, shows-term, ShowAll}
+use Rattle.expansion.proofs.Shows.{show-none, show-more, all-later, all-and, word-named, fresh-named}
 use Rattle.soundness.proofs.Setting.{Setting, root-body}
 use Rattle.soundness.proofs.Building.{Ends, ends-after, ends-map, Full, Built, BuiltAll, build-ends, build-all-ends}
 use Rattle.soundness.proofs.Typing.{FitAll, taken-of, result-sorted}
@@ -46,10 +49,12 @@ token-is tokens at {t} {s} e =
     let n : _≡_ {A = ℕ} 0 (suc (length s)) = ap length (sym (drop-of-length-le tokens (ltb-false at (length tokens) b)) ∙ e) in
     absurd (omega arith))
 
-pub take-done : (I : Input) (kind : ℕ) (value : ℕ → ℕ) (s : State) (cells : List ℕ) → nextToken I s .kind ≡ kind → take I kind value s cells ≡ done (value (nextToken I s .value)) (tokenTaken s) cells
+pub take-done : (I : Input) (kind : ℕ) (value : ℕ → ℕ) (s : State) (cells : List ℕ) → nextToken I s .kind ≡ kind
+    → take I kind value s cells ≡ done (value (nextToken I s .value)) (tokenTaken s) cells
 take-done I kind value s cells e = rw (eq-eqb (nextToken I s .kind) kind e, take) refl
 
-pub items-after : (C : ℕ → List ℕ → Run ℕ) (I : Input) (i : Item) (is : List Item) (xs : List ℕ) (s : State) (cells : List ℕ) (x : ℕ) (s′ : State) (cells′ : List ℕ)
+pub items-after : (C : ℕ → List ℕ → Run ℕ) (I : Input) (i : Item) (is : List Item) (xs : List ℕ) (s : State) (cells : List ℕ) (x : ℕ) (s′ : State)
+    (cells′ : List ℕ)
     → runItem C I i xs s cells ≡ done x s′ cells′ → runItems C I (i ∷ is) xs s cells ≡ runItems C I is (xs ++ (x ∷ [])) s′ cells′
 unfolding runItems
 items-after C I i is xs s cells x s′ cells′ e = ap (λ r. after r (λ y. runItems C I is (xs ++ (y ∷ [])))) e
@@ -117,7 +122,8 @@ module _ {g : List Production} (X : Setting g) where
         → Ends (Reached k d o c n t′ i′ M′ (s .calls) (s .made) cells) (Beyond rows d o (s .calls + c) (s .made + n)) (runItems (runCall d I) I is xs s cells)
 
   -- a token taken, and the items after it
-  token-along : {o c n : ℕ} {t : Token} {s₀ s′ : List Token} {i i′ : ℕ} {is : List Item} {M M′ : List Value} {v : Value} (item : Item) (kind : ℕ) (value : ℕ → ℕ)
+  token-along : {o c n : ℕ} {t : Token} {s₀ s′ : List Token} {i i′ : ℕ} {is : List Item} {M M′ : List Value} {v : Value} (item : Item) (kind : ℕ)
+      (value : ℕ → ℕ)
       → ((C : ℕ → List ℕ → Run ℕ) (xs : List ℕ) → runItem C I item xs ≡ take I kind value)
       → t .kind ≡ kind
       → ((s : State) (cells : List ℕ) → nextToken I s ≡ t → Shows spell (s .made) cells (value (nextToken I s .value)) v)
@@ -127,7 +133,8 @@ module _ {g : List Production} (X : Setting g) where
     where
       go : (d k : ℕ) (r : Template) (B : ℕ) (L xs : List ℕ) (s : State) (cells : List ℕ) → Body (F .scope) L (item ∷ is) r B → from s ≡ t ∷ s₀ → s .fresh ≡ i
           → Kept rows (k + length (item ∷ is)) s cells → ShowAll spell (s .made) cells xs M
-          → Ends (Reached k d o c n s′ i′ M′ (s .calls) (s .made) cells) (Beyond rows d o (s .calls + c) (s .made + n)) (runItems (runCall d I) I (item ∷ is) xs s cells)
+          → Ends (Reached k d o c n s′ i′ M′ (s .calls) (s .made) cells) (Beyond rows d o (s .calls + c) (s .made + n))
+          (runItems (runCall d I) I (item ∷ is) xs s cells)
       go d k r B L xs s cells (by-binding w b) p f h a =
           let q = token-is tokens (s .at) p in
           let x : ℕ = value (nextToken I s .value) in
@@ -138,7 +145,8 @@ module _ {g : List Production} (X : Setting g) where
           (A .along d k r B _ (xs ++ (x ∷ [])) (tokenTaken s) cells b (q .1) f
           (record { room = h .room; fits = h .fits; names = omega (arith, h .names); begun = h .begun }) (all-and a (shown s cells (q .0))))
 
-  word-shown : (s : State) (t : Token) → nextToken I s ≡ t → t .kind ≡ wordKind → nameOf spell (Rattle.grammar.specs.Cells.wordName (nextToken I s .value)) ≡ word (spell (t .value))
+  word-shown : (s : State) (t : Token) → nextToken I s ≡ t → t .kind ≡ wordKind
+      → nameOf spell (Rattle.grammar.specs.Cells.wordName (nextToken I s .value)) ≡ word (spell (t .value))
   word-shown s t q e = word-named spell (nextToken I s .value) (X .small (s .at) (ap (λ u. u .kind) q ∙ e)) ∙ ap (λ u. word (spell (u .value))) q
 
   -- a call beside the derivation of its production
@@ -164,7 +172,8 @@ module _ {g : List Production} (X : Setting g) where
           (record { room = h .room; fits = h .fits; names = omega (arith, h .names, q .itemCount); begun = omega arith }) a)
           (λ ys s₁ c₁ y.
           ends-map (Built spell I (rowsOf (p .result)) s₁ c₁ v) (Full rows (s₁ .made + rowsOf (p .result)))
-          (Gave k (suc d) (o + 1) (c + 1) cost t′ i′ v (s .calls) (s .made) cells) (Beyond rows (suc d) (o + 1) (s .calls + (c + 1)) (s .made + cost)) (build (p .result) I ys s₁ c₁)
+          (Gave k (suc d) (o + 1) (c + 1) cost t′ i′ v (s .calls) (s .made) cells) (Beyond rows (suc d) (o + 1) (s .calls + (c + 1)) (s .made + cost))
+          (build (p .result) I ys s₁ c₁)
           (build-ends spell I (p .result) s₁ c₁ gives (w .2) (omega (arith, F .outsideCount)) (y .0 .kept .room) (y .0 .kept .fits) (y .1))
           (λ x s₂ c₂ b. (
             record {
@@ -186,7 +195,8 @@ module _ {g : List Production} (X : Setting g) where
       call-along zero = too-deep refl (omega arith)
       call-along (suc d) = go (ltb (s .calls) mostCalls) refl (choice-picks g m (taken-of taken .small) (from s))
         where
-          go : (b : Bool) → ltb (s .calls) mostCalls ≡ b → Picks g m (from s) (choice (ready g) m (kindOf (from s))) → Called (suc d) (runCall (suc d) I m xs s cells)
+          go : (b : Bool) → ltb (s .calls) mostCalls ≡ b → Picks g m (from s) (choice (ready g) m (kindOf (from s)))
+              → Called (suc d) (runCall (suc d) I m xs s cells)
           go false l q = subst⁻¹ (λ z. Called (suc d) z) (call-full d I m xs s cells l) (too-many refl (omega (arith, ltb-false (s .calls) mostCalls l)))
           go true l (picks p′ w z) =
               let same : p′ ≡ p = taken-one g (X .passed) w (subst⁻¹ (λ u. Taken g m u p) e taken) in
@@ -196,13 +206,15 @@ module _ {g : List Production} (X : Setting g) where
           go true l (picks-none f z) = absurd (f p (subst⁻¹ (λ u. Taken g m u p) e taken))
 
   -- a fresh name, and the items after it
-  local-along : {o c n : ℕ} {t t′ : List Token} {i i′ : ℕ} {is : List Item} {M M′ : List Value} → Along o c n t (i + 1) is (M ++ (binder (fresh i) ∷ [])) M′ t′ i′
+  local-along : {o c n : ℕ} {t t′ : List Token} {i i′ : ℕ} {is : List Item} {M M′ : List Value}
+      → Along o c n t (i + 1) is (M ++ (binder (fresh i) ∷ [])) M′ t′ i′
       → Along o c n t i (local ∷ is) M M′ t′ i′
   local-along {o} {c} {n} {t} {t′} {i} {i′} {is} {M} {M′} A = record { along = go }
     where
       go : (d k : ℕ) (r : Template) (B : ℕ) (L xs : List ℕ) (s : State) (cells : List ℕ) → Body (F .scope) L (local ∷ is) r B → from s ≡ t → s .fresh ≡ i
           → Kept rows (k + length (local ∷ is)) s cells → ShowAll spell (s .made) cells xs M
-          → Ends (Reached k d o c n t′ i′ M′ (s .calls) (s .made) cells) (Beyond rows d o (s .calls + c) (s .made + n)) (runItems (runCall d I) I (local ∷ is) xs s cells)
+          → Ends (Reached k d o c n t′ i′ M′ (s .calls) (s .made) cells) (Beyond rows d o (s .calls + c) (s .made + n))
+          (runItems (runCall d I) I (local ∷ is) xs s cells)
       go d k r B L xs s cells (by-binding w b) p f h a =
           subst⁻¹ (λ z. Ends (Reached k d o c n t′ i′ M′ (s .calls) (s .made) cells) (Beyond rows d o (s .calls + c) (s .made + n)) z)
           (items-after (runCall d I) I local is xs s cells _ _ cells refl)
@@ -211,8 +223,10 @@ module _ {g : List Production} (X : Setting g) where
           (all-and a (shows-binder (fresh-named spell (s .fresh) (omega (arith, h .names, h .begun)) ∙ ap fresh f))))
 
   -- a call with its arguments, and the items after it
-  call-item-along : {o c n o′ c′ n′ m : ℕ} {t t₁ t′ : List Token} {i i₁ i′ : ℕ} {is : List Item} {ts : Templates} {M M₁ M′ vs : List Value} {v : Value} (p : Production)
-      → GiveAll spell M ts vs → Taken g m t p → Along o c n t i (p .items) vs M₁ t₁ i₁ → Gives spell M₁ (p .result) v → Along o′ c′ n′ t₁ i₁ is (M ++ (v ∷ [])) M′ t′ i′
+  call-item-along : {o c n o′ c′ n′ m : ℕ} {t t₁ t′ : List Token} {i i₁ i′ : ℕ} {is : List Item} {ts : Templates} {M M₁ M′ vs : List Value} {v : Value}
+      (p : Production)
+      → GiveAll spell M ts vs → Taken g m t p → Along o c n t i (p .items) vs M₁ t₁ i₁ → Gives spell M₁ (p .result) v
+      → Along o′ c′ n′ t₁ i₁ is (M ++ (v ∷ [])) M′ t′ i′
       → Along (max (o + 1) o′) (c + 1 + c′) (rowsOfAll ts + n + rowsOf (p .result) + n′) t i (call m ts ∷ is) M M′ t′ i′
   unfolding runItems
   call-item-along {o} {c} {n} {o′} {c′} {n′} {m} {t} {t₁} {t′} {i} {i₁} {i′} {is} {ts} {M} {M₁} {M′} {vs} {v} p gs taken A gives A′ = record { along = go }
@@ -234,7 +248,8 @@ module _ {g : List Production} (X : Setting g) where
           (Beyond rows d (o + 1) (s₁ .calls + (c + 1)) (s₁ .made + (n + rowsOf (p .result))))
           (Gave k d (o + 1) (c + 1) cells-of t₁ i₁ v (s .calls) (s .made) cells) (Beyond rows d (o + 1) (s .calls + (c + 1)) (s .made + cells-of))
           (runCall d I m ys s₁ c₁)
-          (call-along p taken A gives k ys s₁ c₁ (ap (λ at. drop at tokens) (b .0 .at-kept) ∙ e) (b .0 .fresh-kept ∙ f) (kept-less (kept-made h (b .0))) (b .1) d)
+          (call-along p taken A gives k ys s₁ c₁ (ap (λ at. drop at tokens) (b .0 .at-kept) ∙ e) (b .0 .fresh-kept ∙ f) (kept-less (kept-made h (b .0)))
+          (b .1) d)
           (λ x s₂ c₂ y. (
             record {
               grown = grown-trans (b .0 .grown) (y .0 .grown);
@@ -255,7 +270,8 @@ module _ {g : List Production} (X : Setting g) where
           → Ends (Reached k d (max (o + 1) o′) (c + 1 + c′) (cells-of + n′) t′ i′ M′ (s .calls) (s .made) cells)
           (Beyond rows d (max (o + 1) o′) (s .calls + (c + 1 + c′)) (s .made + (cells-of + n′))) (runItems (runCall d I) I (call m ts ∷ is) xs s cells)
       go d k r B L xs s cells (by-binding (Judgements.by-call w z) b) e f h a =
-          ends-after (Gave (k + length is) d (o + 1) (c + 1) cells-of t₁ i₁ v (s .calls) (s .made) cells) (Beyond rows d (o + 1) (s .calls + (c + 1)) (s .made + cells-of))
+          ends-after (Gave (k + length is) d (o + 1) (c + 1) cells-of t₁ i₁ v (s .calls) (s .made) cells)
+          (Beyond rows d (o + 1) (s .calls + (c + 1)) (s .made + cells-of))
           (Reached k d (max (o + 1) o′) (c + 1 + c′) (cells-of + n′) t′ i′ M′ (s .calls) (s .made) cells)
           (Beyond rows d (max (o + 1) o′) (s .calls + (c + 1 + c′)) (s .made + (cells-of + n′)))
           (runItem (runCall d I) I (call m ts) xs s cells) (λ x. runItems (runCall d I) I is (xs ++ (x ∷ [])))
@@ -299,7 +315,8 @@ module _ {g : List Production} (X : Setting g) where
           a,
         );
       }
-  items-along (by-terminal (by-keyword {k = k} e) D) = token-along (keyword k) (keywordKind k) (λ v. 0) (λ C xs. refl) e (λ s cells q. shows-unit) (items-along D)
+  items-along (by-terminal (by-keyword {k = k} e) D) =
+      token-along (keyword k) (keywordKind k) (λ v. 0) (λ C xs. refl) e (λ s cells q. shows-unit) (items-along D)
   items-along (by-terminal (by-ide {t = t} e as-var) D) =
       token-along (ide Sorts.var) wordKind (wordValue Sorts.var) (λ C xs. refl) e (λ s cells q. shows-var (word-shown s t q e)) (items-along D)
   items-along (by-terminal (by-ide {t = t} e as-binder) D) =
@@ -328,13 +345,15 @@ module _ {g : List Production} (X : Setting g) where
   -- the call of the root beside its derivation
   pub root-along : {M : List Value} {t : List Token} {i : ℕ} (D : Derives g spell [] tokens 1 (call (X .root) none ∷ []) M t i)
       → (cells : List ℕ) → rows * 4 ≤ length cells
-      → Ends (λ x s c. Reached 0 mostOpen (openIn D) (callsIn D) (rowsIn D) t i M 0 0 cells (x ∷ []) s c) (Beyond rows mostOpen (openIn D) (callsIn D) (rowsIn D))
+      → Ends (λ x s c. Reached 0 mostOpen (openIn D) (callsIn D) (rowsIn D) t i M 0 0 cells (x ∷ []) s c)
+      (Beyond rows mostOpen (openIn D) (callsIn D) (rowsIn D))
       (runCall mostOpen I (X .root) [] start cells)
   root-along {M} {t} {i} D cells room =
       let W = Reached 0 mostOpen (openIn D) (callsIn D) (rowsIn D) t i M 0 0 cells in
       let K = Beyond rows mostOpen (openIn D) (callsIn D) (rowsIn D) in
       root-ends W K mostOpen cells
-      (ends-map W (Beyond rows mostOpen (openIn D) (0 + callsIn D) (0 + rowsIn D)) W K (runItems (runCall mostOpen I) I (call (X .root) none ∷ []) [] start cells)
+      (ends-map W (Beyond rows mostOpen (openIn D) (0 + callsIn D) (0 + rowsIn D)) W K
+      (runItems (runCall mostOpen I) I (call (X .root) none ∷ []) [] start cells)
       (items-along D .along mostOpen 0 (make 0x25 none) Sorts.fields [] [] start cells (root-body X) refl refl
       (record { room = room; fits = omega arith; names = omega arith; begun = omega arith }) show-none)
       (λ xs s c u. u) (beyond-more (omega arith) (omega arith) (omega arith)))
@@ -371,7 +390,12 @@ module _ {g : List Production} (X : Setting g) where
         (record {
           term-is = shown-first (y .1);
           affords =
-              record { few-open = omega (arith, y .0 .deep); few-calls = omega (arith, y .0 .calls-are, y .0 .kept .begun); few-rows = omega (arith, y .0 .made-are, y .0 .kept .fits) };
+              record {
+                few-open = omega (arith, y .0 .deep);
+                few-calls = omega (arith, y .0 .calls-are, y .0 .kept .begun);
+                few-rows = omega
+                    (arith, y .0 .made-are, y .0 .kept .fits);
+              };
           made-are = omega (arith, y .0 .made-are);
         }))
         (λ r u. u)
@@ -382,7 +406,8 @@ module _ {g : List Production} (X : Setting g) where
     within-not h (too-large e l) = omega (arith, h .few-rows, l)
 
     -- accepted beside the derivation
-    pub accepts : (cells : List ℕ) → rows * 4 ≤ length cells → (v : ℕ) (s : State) (cells′ : List ℕ) → run I (X .root) cells ≡ done v s cells′ → Accepts v s cells′
+    pub accepts : (cells : List ℕ) → rows * 4 ≤ length cells → (v : ℕ) (s : State) (cells′ : List ℕ) → run I (X .root) cells ≡ done v s cells′
+        → Accepts v s cells′
     accepts cells room v s cells′ e = subst (λ z. Ends Accepts Exceeds z) e (run-along cells room)
 
     -- a derivation within the limits is accepted
@@ -390,6 +415,7 @@ module _ {g : List Production} (X : Setting g) where
         → (v : ℕ) × (s : State) × (cells′ : List ℕ) × (run I (X .root) cells ≡ done v s cells′)
     accepted cells room h = go (run I (X .root) cells) refl (run-along cells room)
       where
-        go : (x : Result ℕ) → run I (X .root) cells ≡ x → Ends Accepts Exceeds x → (v : ℕ) × (s : State) × (cells′ : List ℕ) × (run I (X .root) cells ≡ done v s cells′)
+        go : (x : Result ℕ) → run I (X .root) cells ≡ x → Ends Accepts Exceeds x
+            → (v : ℕ) × (s : State) × (cells′ : List ℕ) × (run I (X .root) cells ≡ done v s cells′)
         go (done v s cells′) e a = (v, s, cells′, e)
         go (halt r cells′) e q = absurd (within-not h q)

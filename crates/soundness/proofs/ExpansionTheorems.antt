@@ -59,7 +59,8 @@ module _ (t : Table) (T : Passing t) where
   -- ------------------------------------------------------------------ sorts
 
   -- Parsing respects typing (001, Theorem 1): under variables of their sorts, an alternative of sort B derives a value of sort B.
-  pub parsing-respects-typing : {spell : ℕ → List ℕ} {M M′ : List Value} {s s′ : List Token} {i i′ : ℕ} {items : List Item} {result : Template} {L : List ℕ} {B : ℕ} {v : Value}
+  pub parsing-respects-typing : {spell : ℕ → List ℕ} {M M′ : List Value} {s s′ : List Token} {i i′ B : ℕ} {items : List Item}
+      {result : Template} {L : List ℕ} {v : Value}
       → Body (scopeOf t (T .meets .sorted)) L items result B
       → Matches M L
       → Derives (grammarOf t) spell M s i items M′ s′ i′

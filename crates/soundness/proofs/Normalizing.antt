@@ -11,7 +11,9 @@ use Rattle.grammar.specs.Sorts.{Signature}
 use Rattle.grammar.specs.Table.{Template, Item, Alternative, Mode, add, extend, update, Definition, Table}
 use Rattle.layout.specs.Within.{Each, each-none, each-more, AlternativeWithin, DefinitionWithin, Within}
 use Rattle.sorts.specs.CheckSorts.{Env, entryOf, Scope}
-use Rattle.sorts.specs.Judgements.{Newest, newest-first, newest-later, Absent, absent-empty, absent-entry, ItemSorted, by-keyword, by-ide, by-number, by-local, by-call, Body, by-result, by-binding, Bodies, no-alternative, by-choice, Defines, no-definition, by-add, by-extend, by-update, Ok, ok-empty, ok-definition, scope, Sequence, no-grammar, by-grammar, WellSorted}
+use Rattle.sorts.specs.Judgements.{Newest, newest-first, newest-later, Absent, absent-empty, absent-entry, ItemSorted, by-keyword, by-ide, by-number, by-local}
+use Rattle.sorts.specs.Judgements.{by-call, Body, by-result, by-binding, Bodies, no-alternative, by-choice, Defines, no-definition, by-add, by-extend}
+use Rattle.sorts.specs.Judgements.{by-update, Ok, ok-empty, ok-definition, scope, Sequence, no-grammar, by-grammar, WellSorted}
 use Rattle.sorts.proofs.Environments.{newest-defined, newest-signature, absent-undefined}
 use Rattle.productions.specs.Normal.{Production, productionsOf, without, kept, definedAll, normalizedFrom, normalized}
 use Rattle.firsts.specs.Rules.{In, in-first, in-later}
@@ -61,7 +63,8 @@ entry-more d E same n S h =
     by-test (eqb (d .nonterminal) n)
     (λ e.
     let q : d .nonterminal ≡ n = eqb-true (d .nonterminal) n e in
-    let r : Newest (entryOf d ∷ E) (d .nonterminal) S = subst (λ X. Newest (entryOf d ∷ E) (d .nonterminal) X) (same S (subst (λ m. Newest E m S) (sym q) h)) newest-first in
+    let r : Newest (entryOf d ∷ E) (d .nonterminal) S = subst (λ X. Newest (entryOf d ∷ E) (d .nonterminal) X)
+    (same S (subst (λ m. Newest E m S) (sym q) h)) newest-first in
     subst (λ m. Newest (entryOf d ∷ E) m S) q r)
     (λ e. newest-later (eqb-false (d .nonterminal) n e) h)
 
@@ -114,20 +117,23 @@ module _ (K N : ℕ) where
       (fits-more m hs)
 
   module _ {E : Env} where
-    alternatives-fit : {n : ℕ} {S : Signature} {rest : List Alternative} → Newest E n S → Bodies (scope K N E) S rest → Each AlternativeWithin rest → Each (Fit (scope K N E)) (productionsOf n rest)
+    alternatives-fit : {n : ℕ} {S : Signature} {rest : List Alternative} → Newest E n S → Bodies (scope K N E) S rest → Each AlternativeWithin rest
+        → Each (Fit (scope K N E)) (productionsOf n rest)
     unfolding productionsOf
     alternatives-fit w no-alternative each-none = each-none
     alternatives-fit {S = S} w (by-choice b bs) (each-more a more) =
         each-more (record { signature = S; newest = w; body = b; items = a .items; itemCount = a .itemCount; result = a .result }) (alternatives-fit w bs more)
 
-    definitions-fit : {g : List Production} {ds : List Definition} → Each (Fit (scope K N E)) g → Each (λ d. Newest E (d .nonterminal) (d .signature)) ds → Ok (scope K N E) ds → Each DefinitionWithin ds
+    definitions-fit : {g : List Production} {ds : List Definition} → Each (Fit (scope K N E)) g → Each (λ d. Newest E (d .nonterminal) (d .signature)) ds
+        → Ok (scope K N E) ds → Each DefinitionWithin ds
         → Each (Fit (scope K N E)) (definedAll g ds)
     unfolding definedAll
     definitions-fit h each-none ok-empty each-none = h
     definitions-fit h (each-more {x = d} w ws) (ok-definition b o) (each-more z zs) =
         definitions-fit (each-append (each-kept (d .mode) (d .nonterminal) h) (alternatives-fit w b (z .alternatives))) ws o zs
 
-  sequence-fits : {E E′ : Env} {g : List Production} {bs : List (List Definition)} → Sequence K N E bs E′ → Each (Each DefinitionWithin) bs → Each (Fit (scope K N E)) g
+  sequence-fits : {E E′ : Env} {g : List Production} {bs : List (List Definition)} → Sequence K N E bs E′ → Each (Each DefinitionWithin) bs
+      → Each (Fit (scope K N E)) g
       → Each (Fit (scope K N E′)) (normalizedFrom g bs)
   unfolding normalizedFrom
   sequence-fits no-grammar each-none h = h

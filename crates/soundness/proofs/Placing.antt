@@ -15,9 +15,14 @@ use Rattle.scanner.specs.declared.Token.{Token}
 use Rattle.productions.specs.Normal.{Production}
 use Rattle.terms.specs.Term.{Name, Term, Fields}
 use Rattle.terms.specs.Binding.{isWordName, isWorded, isWordedFields}
-use Rattle.expansion.specs.Figure3.{Value, unit, var, binder, label, num, term, fields, Constructs, Bound, bound-first, bound-later, Gives, by-variable, by-global, by-label, by-constructor, GiveAll, give-none, give-more, as-var, as-binder, as-label, ReadsAs, by-keyword, by-ide, by-number, by-local, Derives, by-end, by-terminal, by-call, Parses}
+use Rattle.expansion.specs.Figure3.{Value, unit, var, binder, label, num, term, fields, Constructs, Bound, bound-first, bound-later, Gives, by-variable}
+use Rattle.expansion.specs.Figure3.{by-global, by-label, by-constructor, GiveAll, give-none, give-more, as-var, as-binder, as-label, ReadsAs, by-keyword}
+use Rattle.expansion.specs.Figure3.{by-ide, by-number, by-local, Derives, by-end, by-terminal, by-call, Parses}
 use Rattle.expansion.specs.Figure3 as Figure3
-use Rattle.soundness.specs.Places.{Given, word-at, fresh-name, number-at, outside-name, outside-label, namedIn, namedInAll, givenAt, givenIn, Among, among-first, among-later, VarPlace, var-var, var-binder, var-local, var-outside, BinderPlace, binder-binder, binder-local, LabelPlace, label-label, label-outside, NumPlace, num-number, Placed, placed-variable, placed-function, placed-apply, placed-rcd, placed-dot, placed-number, PlacedFields, placed-nil, placed-cons}
+use Rattle.soundness.specs.Places.{Given, word-at, fresh-name, number-at, outside-name, outside-label, namedIn, namedInAll, givenAt, givenIn, Among}
+use Rattle.soundness.specs.Places.{among-first, among-later, VarPlace, var-var, var-binder, var-local, var-outside, BinderPlace, binder-binder}
+use Rattle.soundness.specs.Places.{binder-local, LabelPlace, label-label, label-outside, NumPlace, num-number, Placed, placed-variable, placed-function}
+use Rattle.soundness.specs.Places.{placed-apply, placed-rcd, placed-dot, placed-number, PlacedFields, placed-nil, placed-cons}
 use Rattle.soundness.proofs.Typing.{FitAll, taken-of, result-sorted}
 use Rattle.soundness.proofs.Setting.{Setting, root-body}
 
@@ -64,7 +69,8 @@ module _ (G : List Given) (spell : ℕ → List ℕ) where
   constructs-from Figure3.mkTermRcd (each-more (from-fields f) each-none) = from-term (placed-rcd f)
   constructs-from Figure3.mkTermDot (each-more (from-term t) (each-more (from-label l) each-none)) = from-term (placed-dot t l)
   constructs-from Figure3.mkFieldNil each-none = from-fields placed-nil
-  constructs-from Figure3.mkFieldCons (each-more (from-label l) (each-more (from-term t) (each-more (from-fields f) each-none))) = from-fields (placed-cons l t f)
+  constructs-from Figure3.mkFieldCons (each-more (from-label l) (each-more (from-term t) (each-more (from-fields f) each-none))) =
+      from-fields (placed-cons l t f)
   constructs-from Figure3.mkTermNum (each-more (from-num n) each-none) = from-term (placed-number n)
 
   first-of : {x : Given} {xs : List Given} → Each (Among G) (x ∷ xs) → Among G x
@@ -87,7 +93,8 @@ module _ (G : List Given) (spell : ℕ → List ℕ) where
       all-from none a give-none = each-none
       all-from (more t ts) a (give-more g gs) = let q = each-split (namedIn t) a in each-more (gives-from t (q .0) g) (all-from ts (q .1) gs)
 
-  terminal-from : {g : List Production} {s s′ : List Token} {i i′ : ℕ} {p : Item} {v : Value} (e : ReadsAs g spell s i p s′ i′ v) → Each (Among G) (givenAt e) → From v
+  terminal-from : {g : List Production} {s s′ : List Token} {i i′ : ℕ} {p : Item} {v : Value} (e : ReadsAs g spell s i p s′ i′ v) → Each (Among G) (givenAt e)
+      → From v
   unfolding givenAt
   terminal-from (by-keyword e) a = from-unit
   terminal-from (by-ide e as-var) a = from-var (var-var (first-of a))

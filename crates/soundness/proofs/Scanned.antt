@@ -34,7 +34,8 @@ unfolding lexFrom
 few-from zero lex at rest n words l = omega arith
 few-from (suc k) lex at [] n words l = omega arith
 few-from (suc k) lex at (b ∷ bs) n words l =
-    go (stepOf lex words at (b ∷ bs)) (few-from k lex (at + 1) bs n words l) (λ t h. few-from k lex (at + t .size) (drop (t .size) (b ∷ bs)) (n + 1) (wordsWith words (take (t .size) (b ∷ bs)) t) h)
+    go (stepOf lex words at (b ∷ bs)) (few-from k lex (at + 1) bs n words l)
+    (λ t h. few-from k lex (at + t .size) (drop (t .size) (b ∷ bs)) (n + 1) (wordsWith words (take (t .size) (b ∷ bs)) t) h)
   where
     emitted : Token → Lexed
     emitted t = withToken t (lexFrom k lex (at + t .size) (drop (t .size) (b ∷ bs)) (n + 1) (wordsWith words (take (t .size) (b ∷ bs)) t))
@@ -62,7 +63,9 @@ few-words : (lex : Lexicon) (formula : List ℕ) → length (scan lex formula .w
 unfolding scan
 few-words lex formula = go (leb (length formula) longestFormula)
   where
-    go : (b : Bool) → length ((elim b as (λ x. Lexed) [ true ↦ lexFrom (length formula) lex 0 formula 0 [] | false ↦ ended (Unscanned (refusal 14 0 0 0)) [] ]) .words) ≤ mostTokens
+    go : (b : Bool)
+        → length
+        ((elim b as (λ x. Lexed) [ true ↦ lexFrom (length formula) lex 0 formula 0 [] | false ↦ ended (Unscanned (refusal 14 0 0 0)) [] ]) .words) ≤ mostTokens
     go true = omega (arith, few-from (length formula) lex 0 formula 0 [] (omega arith))
     go false = omega arith
 

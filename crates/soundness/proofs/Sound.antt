@@ -25,11 +25,14 @@ use Rattle.terms.specs.Term.{Name, Term}
 use Rattle.terms.specs.Rows.{termAt}
 use Rattle.expansion.specs.declared.State.{State}
 use Rattle.expansion.specs.Run.{Result, done, halt, Run, after}
-use Rattle.expansion.specs.Expansion.{Input, ready, Rule, unfit, chosen, choice, endToken, nextToken, tokenTaken, take, misfit, buildAll, build, wordValue, runItem, runItems, callBegun, mostCalls, runCall, mostOpen, start, ended, run}
-use Rattle.expansion.specs.Figure3.{Value, unit, binder, label, num, term, Gives, give-none, Taken, as-var, as-binder, as-label, by-keyword, by-ide, by-number, by-local, Derives, by-end, by-terminal, by-call, Parses}
+use Rattle.expansion.specs.Expansion.{Input, ready, Rule, unfit, chosen, choice, endToken, nextToken, tokenTaken, take, misfit, buildAll, build, wordValue}
+use Rattle.expansion.specs.Expansion.{runItem, runItems, callBegun, mostCalls, runCall, mostOpen, start, ended, run}
+use Rattle.expansion.specs.Figure3.{Value, unit, binder, label, num, term, Gives, give-none, Taken, as-var, as-binder, as-label, by-keyword, by-ide, by-number}
+use Rattle.expansion.specs.Figure3.{by-local, Derives, by-end, by-terminal, by-call, Parses}
 use Rattle.expansion.specs.Parsing.{input}
 use Rattle.expansion.specs.Costs.{rowsOf, rowsOfAll}
-use Rattle.expansion.proofs.Shows.{Grown, grown-not, grown-trans, Shows, shows-unit, shows-var, shows-binder, shows-label, shows-num, shows-term, ShowAll, show-none, all-later, all-and, word-named, fresh-named}
+use Rattle.expansion.proofs.Shows.{Grown, grown-not, grown-trans, Shows, shows-unit, shows-var, shows-binder, shows-label, shows-num, shows-term, ShowAll}
+use Rattle.expansion.proofs.Shows.{show-none, all-later, all-and, word-named, fresh-named}
 use Rattle.soundness.proofs.Setting.{Setting, no-arguments}
 use Rattle.soundness.proofs.Building.{Ends, ends-after, ends-map, Made, Full, Built, BuiltAll, build-ends, build-all-ends}
 use Rattle.expansion.specs.ValueSorts.{Typed, typed-unit, typed-var, typed-binder, typed-label, typed-num, typed-term, Matches, matches-none}
@@ -115,7 +118,8 @@ module _ {g : List Production} (X : Setting g) where
     pub shows : Shows spell (s′ .made) cells′ x value
     pub grown : Grown (s .made) cells (s′ .made) cells′
     pub kept : Kept rows k s′ cells′
-    pub step : (is : List Item) (M′ : List Value) (t : List Token) (j : ℕ) → Derives g spell (M ++ (value ∷ [])) (from s′) (s′ .fresh) is M′ t j → Derives g spell M (from s) (s .fresh) (i ∷ is) M′ t j
+    pub step : (is : List Item) (M′ : List Value) (t : List Token) (j : ℕ) → Derives g spell (M ++ (value ∷ [])) (from s′) (s′ .fresh) is M′ t j
+        → Derives g spell M (from s) (s .fresh) (i ∷ is) M′ t j
 
   -- a call derived
   pub record Called (k n : ℕ) (vs : List Value) (s : State) (cells : List ℕ) (x : ℕ) (s′ : State) (cells′ : List ℕ) : Type 0 where
@@ -144,7 +148,8 @@ module _ {g : List Production} (X : Setting g) where
   take-ends P kind value s cells f = go (eqb (nextToken I s .kind) kind) refl
     where
       go : (b : Bool) → eqb (nextToken I s .kind) kind ≡ b
-          → Ends P Any (elim b [ true ↦ done (value (nextToken I s .value)) (tokenTaken s) cells | false ↦ misfit (Rattle.kinds.specs.Kinds.only kind) s cells ])
+          → Ends P Any
+          (elim b [ true ↦ done (value (nextToken I s .value)) (tokenTaken s) cells | false ↦ misfit (Rattle.kinds.specs.Kinds.only kind) s cells ])
       go true e = f (eqb-true (nextToken I s .kind) kind e)
       go false e = tt
 
@@ -154,7 +159,8 @@ module _ {g : List Production} (X : Setting g) where
   -- a token taken as the value v
   taken-as : {k : ℕ} {i : Item} {A kind : ℕ} {M : List Value} {s : State} {cells : List ℕ} (x : ℕ) (v : Value) → nextToken I s .kind ≡ kind → kind < 64
       → Kept rows (k + 1) s cells → Typed v A → Shows spell (s .made) cells x v
-      → ((is : List Item) (M′ : List Value) (t : List Token) (j : ℕ) → Derives g spell (M ++ (v ∷ [])) (drop (s .at + 1) tokens) (s .fresh) is M′ t j → Derives g spell M (nextToken I s ∷ drop (s .at + 1) tokens) (s .fresh) (i ∷ is) M′ t j)
+      → ((is : List Item) (M′ : List Value) (t : List Token) (j : ℕ) → Derives g spell (M ++ (v ∷ [])) (drop (s .at + 1) tokens) (s .fresh) is M′ t j
+      → Derives g spell M (nextToken I s ∷ drop (s .at + 1) tokens) (s .fresh) (i ∷ is) M′ t j)
       → Stepped k i A M s cells x (tokenTaken s) cells
   taken-as {i = i} {M = M} {s = s} {cells = cells} x v e l h w z f =
       let h′ : drop (s .at) tokens ≡ nextToken I s ∷ drop (s .at + 1) tokens = token-here tokens (s .at) (token-before tokens (s .at) e l) in
@@ -175,7 +181,8 @@ module _ {g : List Production} (X : Setting g) where
   at-ide P (suc (suc (suc (suc B)))) l h a b c = absurd (omega arith)
 
   module _ (C : ℕ → List ℕ → Run ℕ) (callee : Callee C) where
-    pub item-sound : (k : ℕ) {i : Item} {A : ℕ} {M : List Value} {L xs : List ℕ} (s : State) (cells : List ℕ) → ItemSorted (F .scope) L i A → ItemWithin i → Matches M L
+    pub item-sound : (k : ℕ) {i : Item} {A : ℕ} {M : List Value} {L xs : List ℕ} (s : State) (cells : List ℕ) → ItemSorted (F .scope) L i A → ItemWithin i
+        → Matches M L
         → Kept rows (k + 1) s cells → ShowAll spell (s .made) cells xs M → Ends (Stepped k i A M s cells) Any (runItem C I i xs s cells)
     item-sound k {M = M} s cells (Judgements.by-keyword {k = w} l) z m h a =
         take-ends (Stepped k (keyword w) Sorts.unit M s cells) (keywordKind w) (λ v. 0) s cells
@@ -183,9 +190,11 @@ module _ {g : List Production} (X : Setting g) where
     item-sound k {M = M} {L = L} {xs = xs} s cells (Judgements.by-ide {B = B} l u) z m h a =
         at-ide (λ B. Ends (Stepped k (ide B) B M s cells) Any (runItem C I (ide B) xs s cells)) B l u
         (take-ends (Stepped k (ide Sorts.var) Sorts.var M s cells) wordKind (wordValue Sorts.var) s cells
-        (λ e. taken-as _ _ e (omega arith) h typed-var (shows-var (word-named spell (nextToken I s .value) (X .small (s .at) e))) (λ is M′ t j d. by-terminal (by-ide e as-var) d)))
+        (λ e. taken-as _ _ e (omega arith) h typed-var (shows-var (word-named spell (nextToken I s .value) (X .small (s .at) e)))
+        (λ is M′ t j d. by-terminal (by-ide e as-var) d)))
         (take-ends (Stepped k (ide Sorts.binder) Sorts.binder M s cells) wordKind (wordValue Sorts.binder) s cells
-        (λ e. taken-as _ _ e (omega arith) h typed-binder (shows-binder (word-named spell (nextToken I s .value) (X .small (s .at) e))) (λ is M′ t j d. by-terminal (by-ide e as-binder) d)))
+        (λ e. taken-as _ _ e (omega arith) h typed-binder (shows-binder (word-named spell (nextToken I s .value) (X .small (s .at) e)))
+        (λ is M′ t j d. by-terminal (by-ide e as-binder) d)))
         (take-ends (Stepped k (ide Sorts.label) Sorts.label M s cells) wordKind (wordValue Sorts.label) s cells
         (λ e. taken-as _ _ e (omega arith) h typed-label shows-label (λ is M′ t j d. by-terminal (by-ide e as-label) d)))
     item-sound k {M = M} s cells Judgements.by-number z m h a =
@@ -202,7 +211,8 @@ module _ {g : List Production} (X : Setting g) where
         }
     item-sound k {A = A} {M = M} {L = L} {xs = xs} s cells (Judgements.by-call {n = n} {S = S} {ts = ts} w f) (call-within l ws) m h a =
         let vs = give-all-exist spell m ts f in
-        ends-after (BuiltAll spell I (rowsOfAll ts) s cells (vs .0)) (Full rows (s .made + rowsOfAll ts)) (Stepped k (call n ts) A M s cells) Any (buildAll ts I xs s cells) (λ ys. C n ys)
+        ends-after (BuiltAll spell I (rowsOfAll ts) s cells (vs .0)) (Full rows (s .made + rowsOfAll ts)) (Stepped k (call n ts) A M s cells) Any
+        (buildAll ts I xs s cells) (λ ys. C n ys)
         (build-all-ends spell I ts s cells (vs .1) f (omega (arith, F .outsideCount)) (h .room) (h .fits) a)
         (λ ys s₁ c₁ b.
         ends-map (Called k n (vs .0) s₁ c₁) Any (Stepped k (call n ts) A M s cells) Any (C n ys s₁ c₁)
@@ -214,13 +224,16 @@ module _ {g : List Production} (X : Setting g) where
           shows = d .shows;
           grown = grown-trans (b .0 .grown) (d .grown);
           kept = d .kept;
-          step = λ is M′ t j e. subst₂ (λ at i. Derives g spell M (drop at tokens) i (call n ts ∷ is) M′ t j) (b .0 .at-kept) (b .0 .fresh-kept) (by-call (vs .1) (d .taken) (d .derived) (d .given) e);
+          step =
+              λ is M′ t j e. subst₂ (λ at i. Derives g spell M (drop at tokens) i (call n ts ∷ is) M′ t j) (b .0 .at-kept) (b .0 .fresh-kept)
+              (by-call (vs .1) (d .taken) (d .derived) (d .given) e);
         })
         (λ r u. u))
         (λ r u. tt)
 
     -- the items derived, and the result sorted under their variables
-    pub record Derived (k : ℕ) (is : List Item) (r : Template) (B : ℕ) (M : List Value) (s : State) (cells : List ℕ) (xs : List ℕ) (s′ : State) (cells′ : List ℕ) : Type 0 where
+    pub record Derived (k : ℕ) (is : List Item) (r : Template) (B : ℕ) (M : List Value) (s : State) (cells : List ℕ) (xs : List ℕ) (s′ : State)
+        (cells′ : List ℕ) : Type 0 where
       pub variables : List Value
       pub derived : Derives g spell M (from s) (s .fresh) is variables (from s′) (s′ .fresh)
       pub sorts : List ℕ
@@ -232,7 +245,8 @@ module _ {g : List Production} (X : Setting g) where
       pub grown : Grown (s .made) cells (s′ .made) cells′
       pub kept : Kept rows k s′ cells′
 
-    pub items-sound : (k : ℕ) (is : List Item) {r : Template} {B : ℕ} {M : List Value} {L xs : List ℕ} (s : State) (cells : List ℕ) → Body (F .scope) L is r B → Each ItemWithin is → Matches M L
+    pub items-sound : (k : ℕ) (is : List Item) {r : Template} {B : ℕ} {M : List Value} {L xs : List ℕ} (s : State) (cells : List ℕ) → Body (F .scope) L is r B
+        → Each ItemWithin is → Matches M L
         → Kept rows (k + length is) s cells → ShowAll spell (s .made) cells xs M → Ends (Derived k is r B M s cells) Any (runItems C I is xs s cells)
     unfolding runItems
     items-sound k [] {M = M} {L = L} s cells (by-result {A = A} w f) each-none m h a =
@@ -249,7 +263,8 @@ module _ {g : List Production} (X : Setting g) where
           kept = record { room = h .room; fits = h .fits; names = omega (arith, h .names); begun = h .begun };
         }
     items-sound k (i ∷ is) {r = r} {B = B} {M = M} {xs = xs} s cells (by-binding {A = A} w b) (each-more z zs) m h a =
-        ends-after (Stepped (k + length is) i A M s cells) Any (Derived k (i ∷ is) r B M s cells) Any (runItem C I i xs s cells) (λ x. runItems C I is (xs ++ (x ∷ [])))
+        ends-after (Stepped (k + length is) i A M s cells) Any (Derived k (i ∷ is) r B M s cells) Any (runItem C I i xs s cells)
+        (λ x. runItems C I is (xs ++ (x ∷ [])))
         (item-sound (k + length is) s cells w z m (record { room = h .room; fits = h .fits; names = omega (arith, h .names); begun = h .begun }) a)
         (λ x s₁ c₁ p.
         ends-map (Derived k is r B (M ++ (p .value ∷ [])) s₁ c₁) Any (Derived k (i ∷ is) r B M s cells) Any (runItems C I is (xs ++ (x ∷ [])) s₁ c₁)
@@ -288,14 +303,17 @@ module _ {g : List Production} (X : Setting g) where
           (record { room = h .room; fits = h .fits; names = omega (arith, h .names, q .itemCount); begun = omega arith }) a)
           (λ ys s₁ c₁ e.
           let v = gives-exists spell (e .matches) (p .result) (e .sorted) in
-          ends-map (Built spell I (rowsOf (p .result)) s₁ c₁ (v .0)) (Full rows (s₁ .made + rowsOf (p .result))) (Called k n vs s cells) Any (build (p .result) I ys s₁ c₁)
+          ends-map (Built spell I (rowsOf (p .result)) s₁ c₁ (v .0)) (Full rows (s₁ .made + rowsOf (p .result))) (Called k n vs s cells) Any
+          (build (p .result) I ys s₁ c₁)
           (build-ends spell I (p .result) s₁ c₁ (v .1) (e .sorted) (omega (arith, F .outsideCount)) (e .kept .room) (e .kept .fits) (e .shows))
           (λ x s₂ c₂ b.
           record {
             production = p;
             taken = t;
             variables = e .variables;
-            derived = subst₂ (λ at i. Derives g spell vs (from s) (s .fresh) (p .items) (e .variables) (drop at tokens) i) (sym (b .0 .at-kept)) (sym (b .0 .fresh-kept)) (e .derived);
+            derived =
+                subst₂ (λ at i. Derives g spell vs (from s) (s .fresh) (p .items) (e .variables) (drop at tokens) i) (sym (b .0 .at-kept))
+                (sym (b .0 .fresh-kept)) (e .derived);
             value = v .0;
             given = v .1;
             shows = b .1;

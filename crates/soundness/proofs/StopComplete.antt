@@ -24,7 +24,8 @@ use Rattle.firsts.specs.First.{checkFirsts}
 use Rattle.firsts.specs.Rules.{Reads, reads-keyword, reads-word, reads-number}
 use Rattle.expansion.specs.declared.State.{State}
 use Rattle.expansion.specs.Run.{Result, done, halt, Run, after}
-use Rattle.expansion.specs.Expansion.{Input, ready, choice, nextToken, buildAll, build, wordValue, runItem, runItems, callBegun, mostCalls, runCall, mostOpen, start, ended, run}
+use Rattle.expansion.specs.Expansion.{Input, ready, choice, nextToken, buildAll, build, wordValue, runItem, runItems, callBegun, mostCalls, runCall, mostOpen}
+use Rattle.expansion.specs.Expansion.{start, ended, run}
 use Rattle.expansion.specs.Expansion as Expansion
 use Rattle.expansion.specs.Figure3.{Value, Gives, GiveAll, Next, Taken, Derives}
 use Rattle.expansion.specs.Costs.{rowsOf, rowsOfAll, openIn, callsIn, rowsIn, Affords}
@@ -37,7 +38,8 @@ use Rattle.expansion.proofs.Choosing.{kindOf, kind-next, Picks, picks, picks-no
 use Rattle.soundness.proofs.Sound.{Kept, kept-made, kept-less, call-full, call-unfit, call-chosen}
 use Rattle.soundness.proofs.Complete.{Beyond, items-along, items-after, Reached, root-along}
 use Rattle.soundness.proofs.Complete as Complete
-use Rattle.soundness.specs.Stopping.{indexOf, firstSet, takes, makes, begins, Fails, no-token, no-row, too-deep, too-many, no-choice, Stops, at-token, at-arguments, at-call, past-item, Enters, at-start, in-items, at-result, Refuses, stops, left-over}
+use Rattle.soundness.specs.Stopping.{indexOf, firstSet, takes, makes, begins, Fails, no-token, no-row, too-deep, too-many, no-choice, Stops, at-token}
+use Rattle.soundness.specs.Stopping.{at-arguments, at-call, past-item, Enters, at-start, in-items, at-result, Refuses, stops, left-over}
 use Rattle.soundness.proofs.StopLaws.{build-stays, build-all-stays, index-is, take-halts, Bounded, item-bounded, items-bounded, call-bounded}
 
 -- halted with this refusal
@@ -85,11 +87,13 @@ module _ {g : List Production} (X : Setting g) where
   index s p = index-is X s (p .place) (p .bounded)
 
   record Halts (o c m : ℕ) (t : List Token) (i : ℕ) (is : List Item) (M : List Value) (r : Refusal) : Type 0 where
-    halts : (d k : ℕ) (result : Template) (B : ℕ) (L xs : List ℕ) (s : State) (cells : List ℕ) → d + o ≡ mostOpen → Body (F .scope) L is result B → Each ItemWithin is → At c m t i s
+    halts : (d k : ℕ) (result : Template) (B : ℕ) (L xs : List ℕ) (s : State) (cells : List ℕ) → d + o ≡ mostOpen → Body (F .scope) L is result B
+        → Each ItemWithin is → At c m t i s
         → Kept rows (k + length is) s cells → ShowAll spell (s .made) cells xs M → HaltsWith r (runItems (runCall d J) J is xs s cells)
 
   record Calls (o c m n : ℕ) (vs : List Value) (t : List Token) (i : ℕ) (r : Refusal) : Type 0 where
-    calls : (d k : ℕ) (ys : List ℕ) (s : State) (cells : List ℕ) → d + o ≡ mostOpen → n < 64 → At c m t i s → Kept rows k s cells → ShowAll spell (s .made) cells ys vs
+    calls : (d k : ℕ) (ys : List ℕ) (s : State) (cells : List ℕ) → d + o ≡ mostOpen → n < 64 → At c m t i s → Kept rows k s cells
+        → ShowAll spell (s .made) cells ys vs
         → HaltsWith r (runCall d J n ys s cells)
 
   kept-item : (k n : ℕ) {s : State} {cells : List ℕ} → Kept rows (k + suc n) s cells → Kept rows (k + n + 1) s cells
@@ -98,7 +102,8 @@ module _ {g : List Production} (X : Setting g) where
   -- ------------------------------------------------------------------ steps that fail
 
   -- an item that reads takes a token of its kind
-  reads-take : {j : Item} {k : ℕ} → Reads j k → (C : ℕ → List ℕ → Run ℕ) (xs : List ℕ) → (k < 64) × (value : ℕ → ℕ) × (runItem C J j xs ≡ Expansion.take J k value)
+  reads-take : {j : Item} {k : ℕ} → Reads j k → (C : ℕ → List ℕ → Run ℕ) (xs : List ℕ)
+      → (k < 64) × (value : ℕ → ℕ) × (runItem C J j xs ≡ Expansion.take J k value)
   reads-take (reads-keyword l) C xs = (omega arith, λ v. 0, refl)
   reads-take (reads-word {s = B}) C xs = (omega arith, wordValue B, refl)
   reads-take reads-number C xs = (omega arith, λ v. v, refl)
@@ -112,14 +117,19 @@ module _ {g : List Production} (X : Setting g) where
             ∙ ap (λ (a : ℕ). halt (refusal 17 a (only k) (ones (only k))) cells) (sym (index s p)),
       )
 
-  arguments-fail : {o c m i : ℕ} {t : List Token} {r : Refusal} {ts : Templates} {M vs : List Value} {L Bs xs : List ℕ} (s : State) (cells : List ℕ) → GiveAll spell M ts vs → Fill (F .scope .outsides) L ts Bs
-      → Fails g spell rows tokens o c m t (makes (rowsOfAll ts)) r → At c m t i s → rows * 4 ≤ length cells → s .made ≤ rows → ShowAll spell (s .made) cells xs M → HaltsWith r (buildAll ts J xs s cells)
+  arguments-fail : {o c m i : ℕ} {t : List Token} {r : Refusal} {ts : Templates} {M vs : List Value} {L Bs xs : List ℕ} (s : State) (cells : List ℕ)
+      → GiveAll spell M ts vs → Fill (F .scope .outsides) L ts Bs
+      → Fails g spell rows tokens o c m t (makes (rowsOfAll ts)) r → At c m t i s → rows * 4 ≤ length cells → s .made ≤ rows
+      → ShowAll spell (s .made) cells xs M → HaltsWith r (buildAll ts J xs s cells)
   arguments-fail {t = t} {ts = ts} {vs = vs} {xs = xs} s cells gs f (no-row l) p room fits a =
       go (buildAll ts J xs s cells)
-      (ends-both (BuiltAll spell J (rowsOfAll ts) s cells vs) (λ ys s₁ c₁. s₁ .at ≡ s .at) (Full rows (s .made + rowsOfAll ts)) (λ r. r ≡ refusal 21 (s .at) 0 0) (buildAll ts J xs s cells)
+      (ends-both (BuiltAll spell J (rowsOfAll ts) s cells vs) (λ ys s₁ c₁. s₁ .at ≡ s .at) (Full rows (s .made + rowsOfAll ts))
+      (λ r. r ≡ refusal 21 (s .at) 0 0) (buildAll ts J xs s cells)
       (build-all-ends spell J ts s cells gs f (omega (arith, F .outsideCount)) room fits a) (build-all-stays J ts xs s cells))
     where
-      go : (x : Result (List ℕ)) → Ends (λ ys s₁ c₁. BuiltAll spell J (rowsOfAll ts) s cells vs ys s₁ c₁ × (s₁ .at ≡ s .at)) (λ r. Full rows (s .made + rowsOfAll ts) r × (r ≡ refusal 21 (s .at) 0 0)) x
+      go : (x : Result (List ℕ))
+          → Ends (λ ys s₁ c₁. BuiltAll spell J (rowsOfAll ts) s cells vs ys s₁ c₁ × (s₁ .at ≡ s .at))
+          (λ r. Full rows (s .made + rowsOfAll ts) r × (r ≡ refusal 21 (s .at) 0 0)) x
           → HaltsWith (refusal 21 (indexOf tokens t) 0 0) x
       go (done ys s₁ c₁) y = absurd (omega (arith, y .0 .0 .made-is, y .0 .0 .fits, l, p .made))
       go (halt q c₁) u = (c₁, ap (λ w. halt w c₁) (u .1 ∙ ap (λ (a : ℕ). refusal 21 a 0 0) (sym (index s p))))
@@ -128,25 +138,32 @@ module _ {g : List Production} (X : Setting g) where
   unfolding runCall ready
   start-fails {o} {c} {m} {n} {i} {t} {vs} (too-deep l) = record { calls = go }
     where
-      go : (d k : ℕ) (ys : List ℕ) (s : State) (cells : List ℕ) → d + o ≡ mostOpen → n < 64 → At c m t i s → Kept rows k s cells → ShowAll spell (s .made) cells ys vs
+      go : (d k : ℕ) (ys : List ℕ) (s : State) (cells : List ℕ) → d + o ≡ mostOpen → n < 64 → At c m t i s → Kept rows k s cells
+          → ShowAll spell (s .made) cells ys vs
           → HaltsWith (refusal 19 (indexOf tokens t) 0 0) (runCall d J n ys s cells)
       go zero k ys s cells e b p h a = (cells, ap (λ (x : ℕ). halt (refusal 19 x 0 0) cells) (sym (index s p)))
       go (suc d) k ys s cells e b p h a = absurd (omega arith)
   start-fails {o} {c} {m} {n} {i} {t} {vs} (too-many l q) = record { calls = go }
     where
-      go : (d k : ℕ) (ys : List ℕ) (s : State) (cells : List ℕ) → d + o ≡ mostOpen → n < 64 → At c m t i s → Kept rows k s cells → ShowAll spell (s .made) cells ys vs
+      go : (d k : ℕ) (ys : List ℕ) (s : State) (cells : List ℕ) → d + o ≡ mostOpen → n < 64 → At c m t i s → Kept rows k s cells
+          → ShowAll spell (s .made) cells ys vs
           → HaltsWith (refusal 20 (indexOf tokens t) 0 0) (runCall d J n ys s cells)
       go zero k ys s cells e b p h a = absurd (omega arith)
-      go (suc d) k ys s cells e b p h a =
-          (cells, call-full d J n ys s cells (le-ltb (s .calls) mostCalls (omega (arith, p .calls))) ∙ ap (λ (x : ℕ). halt (refusal 20 x 0 0) cells) (sym (index s p)))
+      go (suc d) k ys s cells e b p h a = (
+        cells,
+        call-full d J n ys s cells (le-ltb (s .calls) mostCalls (omega (arith, p .calls))) ∙ ap (λ (x : ℕ). halt (refusal 20 x 0 0) cells)
+            (sym (index s p)),
+      )
   start-fails {o} {c} {m} {n} {i} {t} {vs} (no-choice l q f) = record { calls = go }
     where
-      go : (d k : ℕ) (ys : List ℕ) (s : State) (cells : List ℕ) → d + o ≡ mostOpen → n < 64 → At c m t i s → Kept rows k s cells → ShowAll spell (s .made) cells ys vs
+      go : (d k : ℕ) (ys : List ℕ) (s : State) (cells : List ℕ) → d + o ≡ mostOpen → n < 64 → At c m t i s → Kept rows k s cells
+          → ShowAll spell (s .made) cells ys vs
           → HaltsWith (refusal 17 (indexOf tokens t) (firstSet g n) (ones (firstSet g n))) (runCall d J n ys s cells)
       go zero k ys s cells e b p h a = absurd (omega arith)
       go (suc d) k ys s cells e b p h a = by (choice-picks g n b (rest s))
         where
-          by : Picks g n (rest s) (choice (ready g) n (kindOf (rest s))) → HaltsWith (refusal 17 (indexOf tokens t) (firstSet g n) (ones (firstSet g n))) (runCall (suc d) J n ys s cells)
+          by : Picks g n (rest s) (choice (ready g) n (kindOf (rest s)))
+              → HaltsWith (refusal 17 (indexOf tokens t) (firstSet g n) (ones (firstSet g n))) (runCall (suc d) J n ys s cells)
           by (picks w z u) = absurd (f w (subst (λ v. Taken g n v w) (p .place) z))
           by (picks-none z u) = (
             cells,
@@ -158,18 +175,21 @@ module _ {g : List Production} (X : Setting g) where
 
   module _ (o c m n i : ℕ) (t : List Token) (vs : List Value) (p : Production) (taken : Taken g n t p) where
     enter : (r : Refusal) (d : ℕ) (ys : List ℕ) (s : State) (cells : List ℕ) → At c m t i s → c < mostCalls
-        → HaltsWith r (after (runItems (runCall d J) J (p .items) ys (callBegun s) cells) (λ M. build (p .result) J M)) → HaltsWith r (runCall (suc d) J n ys s cells)
+        → HaltsWith r (after (runItems (runCall d J) J (p .items) ys (callBegun s) cells) (λ M. build (p .result) J M))
+        → HaltsWith r (runCall (suc d) J n ys s cells)
     enter r d ys s cells q l h = by (choice-picks g n (taken-of taken .small) (rest s))
       where
         by : Picks g n (rest s) (choice (ready g) n (kindOf (rest s))) → HaltsWith r (runCall (suc d) J n ys s cells)
         by (picks p′ w z) =
             let picked : choice (ready g) n (nextToken J s .kind) ≡ Expansion.chosen (rule g p) =
-            ap (choice (ready g) n) (kind-next (s .at) tokens) ∙ z ∙ ap (λ u. Expansion.chosen (rule g u)) (taken-one g (X .passed) (subst (λ u. Taken g n u p′) (q .place) w) taken) in
+            ap (choice (ready g) n) (kind-next (s .at) tokens) ∙ z ∙ ap (λ u. Expansion.chosen (rule g u))
+            (taken-one g (X .passed) (subst (λ u. Taken g n u p′) (q .place) w) taken) in
             (h .0, call-chosen d J n ys s cells (rule g p) (lt-ltb (s .calls) mostCalls (omega (arith, q .calls))) picked ∙ h .1)
         by (picks-none z u) = absurd (z p (subst⁻¹ (λ u. Taken g n u p) (q .place) taken))
 
     begun-kept : {k : ℕ} {s : State} {cells : List ℕ} → s .calls < mostCalls → Kept rows k s cells → Kept rows (k + length (p .items)) (callBegun s) cells
-    begun-kept l h = record { room = h .room; fits = h .fits; names = omega (arith, h .names, F .each p (taken-of taken .member) .itemCount); begun = omega arith }
+    begun-kept l h =
+        record { room = h .room; fits = h .fits; names = omega (arith, h .names, F .each p (taken-of taken .member) .itemCount); begun = omega arith }
 
     begun-at : {s : State} → At c m t i s → At (c + 1) m t i (callBegun s)
     begun-at q = record { place = q .place; bounded = q .bounded; counter = q .counter; calls = omega (arith, q .calls); made = q .made }
@@ -177,7 +197,8 @@ module _ {g : List Production} (X : Setting g) where
     items-fail : {r : Refusal} → o < mostOpen → c < mostCalls → Halts (o + 1) (c + 1) m t i (p .items) vs r → Calls o c m n vs t i r
     items-fail {r} l b H = record { calls = go }
       where
-        go : (d k : ℕ) (ys : List ℕ) (s : State) (cells : List ℕ) → d + o ≡ mostOpen → n < 64 → At c m t i s → Kept rows k s cells → ShowAll spell (s .made) cells ys vs
+        go : (d k : ℕ) (ys : List ℕ) (s : State) (cells : List ℕ) → d + o ≡ mostOpen → n < 64 → At c m t i s → Kept rows k s cells
+            → ShowAll spell (s .made) cells ys vs
             → HaltsWith r (runCall d J n ys s cells)
         go zero k ys s cells e z q h a = absurd (omega arith)
         go (suc d) k ys s cells e z q h a =
@@ -187,11 +208,13 @@ module _ {g : List Production} (X : Setting g) where
             (H .halts d k (p .result) (f .signature .result) (f .signature .params) ys (callBegun s) cells (omega (arith, e)) (f .body) (f .items) (begun-at q)
             (begun-kept (omega (arith, q .calls)) h) a))
 
-    result-fails : {r : Refusal} {i′ : ℕ} {M : List Value} {v : Value} {t′ : List Token} (D : Derives g spell vs t i (p .items) M t′ i′) → Affords rows (o + 1) (c + 1) m D → Gives spell M (p .result) v
+    result-fails : {r : Refusal} {i′ : ℕ} {M : List Value} {v : Value} {t′ : List Token} (D : Derives g spell vs t i (p .items) M t′ i′)
+        → Affords rows (o + 1) (c + 1) m D → Gives spell M (p .result) v
         → Fails g spell rows tokens (o + 1) (c + 1 + callsIn D) (m + rowsIn D) t′ (makes (rowsOf (p .result))) r → Calls o c m n vs t i r
     result-fails {i′ = i′} {M = M} {v = v} {t′ = t′} D A gives (no-row l) = record { calls = go }
       where
-        go : (d k : ℕ) (ys : List ℕ) (s : State) (cells : List ℕ) → d + o ≡ mostOpen → n < 64 → At c m t i s → Kept rows k s cells → ShowAll spell (s .made) cells ys vs
+        go : (d k : ℕ) (ys : List ℕ) (s : State) (cells : List ℕ) → d + o ≡ mostOpen → n < 64 → At c m t i s → Kept rows k s cells
+            → ShowAll spell (s .made) cells ys vs
             → HaltsWith (refusal 21 (indexOf tokens t′) 0 0) (runCall d J n ys s cells)
         go zero k ys s cells e z q h a = absurd (omega (arith, A .few-open))
         go (suc d) k ys s cells e z q h a =
@@ -200,8 +223,10 @@ module _ {g : List Production} (X : Setting g) where
             enter (refusal 21 (indexOf tokens t′) 0 0) d ys s cells q (omega (arith, A .few-calls))
             (by (runItems (runCall d J) J (p .items) ys (callBegun s) cells)
             (ends-both (Reached X k d (openIn D) (callsIn D) (rowsIn D) t′ i′ M (callBegun s .calls) (s .made) cells) (λ zs s₁ c₁. s₁ .at ≤ length tokens)
-            (Beyond rows d (openIn D) (callBegun s .calls + callsIn D) (s .made + rowsIn D)) (λ r. Unit {0}) (runItems (runCall d J) J (p .items) ys (callBegun s) cells)
-            (items-along X D .along d k (p .result) (f .signature .result) (f .signature .params) ys (callBegun s) cells (f .body) (q .place) (q .counter) (begun-kept b h) a)
+            (Beyond rows d (openIn D) (callBegun s .calls + callsIn D) (s .made + rowsIn D)) (λ r. Unit {0})
+            (runItems (runCall d J) J (p .items) ys (callBegun s) cells)
+            (items-along X D .along d k (p .result) (f .signature .result) (f .signature .params) ys (callBegun s) cells (f .body) (q .place) (q .counter)
+            (begun-kept b h) a)
             (items-bounded X (runCall d J) (call-bounded X d) (p .items) ys (callBegun s) cells (f .body) (f .items) (q .bounded))))
           where
             never : {q : Refusal} → Beyond rows d (openIn D) (callBegun s .calls + callsIn D) (s .made + rowsIn D) q → ⊥
@@ -210,17 +235,22 @@ module _ {g : List Production} (X : Setting g) where
             never (Complete.too-large x y) = omega (arith, A .few-rows, q .made, y)
 
             by : (x : Result (List ℕ))
-                → Ends (λ zs s₁ c₁. Reached X k d (openIn D) (callsIn D) (rowsIn D) t′ i′ M (callBegun s .calls) (s .made) cells zs s₁ c₁ × (s₁ .at ≤ length tokens))
+                → Ends
+                (λ zs s₁ c₁. Reached X k d (openIn D) (callsIn D) (rowsIn D) t′ i′ M (callBegun s .calls) (s .made) cells zs s₁ c₁ × (s₁ .at ≤ length tokens))
                 (λ r. Beyond rows d (openIn D) (callBegun s .calls + callsIn D) (s .made + rowsIn D) r × Unit {0}) x
                 → HaltsWith (refusal 21 (indexOf tokens t′) 0 0) (after x (λ M. build (p .result) J M))
             by (halt w c₁) u = absurd (never (u .0))
             by (done zs s₁ c₁) u =
                 let w = result-sorted (F .each p (taken-of taken .member) .body) in
                 last (build (p .result) J zs s₁ c₁)
-                (ends-both (Built spell J (rowsOf (p .result)) s₁ c₁ v) (λ x s₂ c₂. s₂ .at ≡ s₁ .at) (Full rows (s₁ .made + rowsOf (p .result))) (λ r. r ≡ refusal 21 (s₁ .at) 0 0) (build (p .result) J zs s₁ c₁)
-                (build-ends spell J (p .result) {v = v} s₁ c₁ gives (w .2) (omega (arith, F .outsideCount)) (u .0 .0 .kept .room) (u .0 .0 .kept .fits) (u .0 .1)) (build-stays J (p .result) zs s₁ c₁))
+                (ends-both (Built spell J (rowsOf (p .result)) s₁ c₁ v) (λ x s₂ c₂. s₂ .at ≡ s₁ .at) (Full rows (s₁ .made + rowsOf (p .result)))
+                (λ r. r ≡ refusal 21 (s₁ .at) 0 0) (build (p .result) J zs s₁ c₁)
+                (build-ends spell J (p .result) {v = v} s₁ c₁ gives (w .2) (omega (arith, F .outsideCount)) (u .0 .0 .kept .room) (u .0 .0 .kept .fits)
+                (u .0 .1)) (build-stays J (p .result) zs s₁ c₁))
               where
-                last : (x : Result ℕ) → Ends (λ x s₂ c₂. Built spell J (rowsOf (p .result)) s₁ c₁ v x s₂ c₂ × (s₂ .at ≡ s₁ .at)) (λ r. Full rows (s₁ .made + rowsOf (p .result)) r × (r ≡ refusal 21 (s₁ .at) 0 0)) x
+                last : (x : Result ℕ)
+                    → Ends (λ x s₂ c₂. Built spell J (rowsOf (p .result)) s₁ c₁ v x s₂ c₂ × (s₂ .at ≡ s₁ .at))
+                    (λ r. Full rows (s₁ .made + rowsOf (p .result)) r × (r ≡ refusal 21 (s₁ .at) 0 0)) x
                     → HaltsWith (refusal 21 (indexOf tokens t′) 0 0) x
                 last (done x s₂ c₂) y = absurd (omega (arith, y .0 .0 .made-is, y .0 .0 .fits, u .0 .0 .made-are, l, q .made))
                 last (halt w c₂) y =
@@ -228,18 +258,22 @@ module _ {g : List Production} (X : Setting g) where
 
   -- ------------------------------------------------------------------ items
 
-  call-fails : {o c m n i : ℕ} {t : List Token} {ts : Templates} {M vs : List Value} (is : List Item) {r : Refusal} → GiveAll spell M ts vs → m + rowsOfAll ts ≤ rows
+  call-fails : {o c m n i : ℕ} {t : List Token} {ts : Templates} {M vs : List Value} (is : List Item) {r : Refusal} → GiveAll spell M ts vs
+      → m + rowsOfAll ts ≤ rows
       → Calls o c (m + rowsOfAll ts) n vs t i r → Halts o c m t i (call n ts ∷ is) M r
   unfolding runItems
   call-fails {o} {c} {m} {n} {i} {t} {ts} {M} {vs} is {r} gs l C = record { halts = go }
     where
-      go : (d k : ℕ) (result : Template) (B : ℕ) (L xs : List ℕ) (s : State) (cells : List ℕ) → d + o ≡ mostOpen → Body (F .scope) L (call n ts ∷ is) result B → Each ItemWithin (call n ts ∷ is)
-          → At c m t i s → Kept rows (k + length (call n ts ∷ is)) s cells → ShowAll spell (s .made) cells xs M → HaltsWith r (runItems (runCall d J) J (call n ts ∷ is) xs s cells)
+      go : (d k : ℕ) (result : Template) (B : ℕ) (L xs : List ℕ) (s : State) (cells : List ℕ) → d + o ≡ mostOpen → Body (F .scope) L (call n ts ∷ is) result B
+          → Each ItemWithin (call n ts ∷ is)
+          → At c m t i s → Kept rows (k + length (call n ts ∷ is)) s cells → ShowAll spell (s .made) cells xs M
+          → HaltsWith r (runItems (runCall d J) J (call n ts ∷ is) xs s cells)
       go d k result B L xs s cells e (by-binding (Judgements.by-call w z) b) (each-more (call-within y ws) zs) p h a =
           halts-after r (runItem (runCall d J) J (call n ts) xs s cells) (λ x. runItems (runCall d J) J is (xs ++ (x ∷ [])))
           (by (buildAll ts J xs s cells) (build-all-ends spell J ts s cells gs z (omega (arith, F .outsideCount)) (h .room) (h .fits) a))
         where
-          by : (x : Result (List ℕ)) → Ends (BuiltAll spell J (rowsOfAll ts) s cells vs) (Full rows (s .made + rowsOfAll ts)) x → HaltsWith r (after x (λ ys. runCall d J n ys))
+          by : (x : Result (List ℕ)) → Ends (BuiltAll spell J (rowsOfAll ts) s cells vs) (Full rows (s .made + rowsOfAll ts)) x
+              → HaltsWith r (after x (λ ys. runCall d J n ys))
           by (halt q c₁) u = absurd (omega (arith, u .beyond, p .made, l))
           by (done ys s₁ c₁) u =
               C .calls d (k + length is) ys s₁ c₁ e (omega (arith, y))
@@ -257,8 +291,10 @@ module _ {g : List Production} (X : Setting g) where
   unfolding runItems
   arguments-halt {o} {c} {m} {n} {i} {t} {ts} {M} {vs} is {r} gs f = record { halts = go }
     where
-      go : (d k : ℕ) (result : Template) (B : ℕ) (L xs : List ℕ) (s : State) (cells : List ℕ) → d + o ≡ mostOpen → Body (F .scope) L (call n ts ∷ is) result B → Each ItemWithin (call n ts ∷ is)
-          → At c m t i s → Kept rows (k + length (call n ts ∷ is)) s cells → ShowAll spell (s .made) cells xs M → HaltsWith r (runItems (runCall d J) J (call n ts ∷ is) xs s cells)
+      go : (d k : ℕ) (result : Template) (B : ℕ) (L xs : List ℕ) (s : State) (cells : List ℕ) → d + o ≡ mostOpen → Body (F .scope) L (call n ts ∷ is) result B
+          → Each ItemWithin (call n ts ∷ is)
+          → At c m t i s → Kept rows (k + length (call n ts ∷ is)) s cells → ShowAll spell (s .made) cells xs M
+          → HaltsWith r (runItems (runCall d J) J (call n ts ∷ is) xs s cells)
       go d k result B L xs s cells e (by-binding (Judgements.by-call w z) b) ws p h a =
           halts-after r (runItem (runCall d J) J (call n ts) xs s cells) (λ x. runItems (runCall d J) J is (xs ++ (x ∷ [])))
           (halts-after r (buildAll ts J xs s cells) (λ ys. runCall d J n ys) (arguments-fail s cells gs z f p (h .room) (h .fits) a))
@@ -269,19 +305,24 @@ module _ {g : List Production} (X : Setting g) where
   token-halts {j = j} is {r} w f =
       record {
         halts = λ d k result B L xs s cells e b ws p h a.
-            halts-after r (runItem (runCall d J) J j xs s cells) (λ x. runItems (runCall d J) J is (xs ++ (x ∷ []))) (token-fails (runCall d J) xs s cells w f p);
+            halts-after r (runItem (runCall d J) J j xs s cells) (λ x. runItems (runCall d J) J is (xs ++ (x ∷ [])))
+            (token-fails (runCall d J) xs s cells w f p);
       }
 
-  past-halts : {o c m i i′ : ℕ} {t t′ : List Token} {j : Item} {is : List Item} {M M′ : List Value} {r : Refusal} (D : Derives g spell M t i (j ∷ []) M′ t′ i′) → Affords rows o c m D
+  past-halts : {o c m i i′ : ℕ} {t t′ : List Token} {j : Item} {is : List Item} {M M′ : List Value} {r : Refusal} (D : Derives g spell M t i (j ∷ []) M′ t′ i′)
+      → Affords rows o c m D
       → Halts o (c + callsIn D) (m + rowsIn D) t′ i′ is M′ r → Halts o c m t i (j ∷ is) M r
   unfolding runItems
   past-halts {o} {c} {m} {i} {i′} {t} {t′} {j} {is} {M} {M′} {r} D A H = record { halts = go }
     where
-      go : (d k : ℕ) (result : Template) (B : ℕ) (L xs : List ℕ) (s : State) (cells : List ℕ) → d + o ≡ mostOpen → Body (F .scope) L (j ∷ is) result B → Each ItemWithin (j ∷ is)
-          → At c m t i s → Kept rows (k + length (j ∷ is)) s cells → ShowAll spell (s .made) cells xs M → HaltsWith r (runItems (runCall d J) J (j ∷ is) xs s cells)
+      go : (d k : ℕ) (result : Template) (B : ℕ) (L xs : List ℕ) (s : State) (cells : List ℕ) → d + o ≡ mostOpen → Body (F .scope) L (j ∷ is) result B
+          → Each ItemWithin (j ∷ is)
+          → At c m t i s → Kept rows (k + length (j ∷ is)) s cells → ShowAll spell (s .made) cells xs M
+          → HaltsWith r (runItems (runCall d J) J (j ∷ is) xs s cells)
       go d k result B L xs s cells e (by-binding {A = S} w b) (each-more z zs) p h a =
           by (runItem (runCall d J) J j xs s cells)
-          (items-along X D .along d (k + length is) (make 0x25 none) Sorts.fields L xs s cells (item-body X w) (p .place) (p .counter) (kept-item k (length is) h) a)
+          (items-along X D .along d (k + length is) (make 0x25 none) Sorts.fields L xs s cells (item-body X w) (p .place) (p .counter)
+          (kept-item k (length is) h) a)
           (item-bounded X (runCall d J) (call-bounded X d) xs s cells w z (p .bounded))
         where
           never : {q : Refusal} → Beyond rows d (openIn D) (s .calls + callsIn D) (s .made + rowsIn D) q → ⊥
@@ -306,7 +347,8 @@ module _ {g : List Production} (X : Setting g) where
               (u .0 .kept) (u .1)
 
   mutual
-    stops-halts : {o c m i : ℕ} {M : List Value} {t : List Token} {is : List Item} {r : Refusal} → Stops g spell rows tokens o c m M t i is r → Halts o c m t i is M r
+    stops-halts : {o c m i : ℕ} {M : List Value} {t : List Token} {is : List Item} {r : Refusal} → Stops g spell rows tokens o c m M t i is r
+        → Halts o c m t i is M r
     stops-halts (at-token {ps = is} w f) = token-halts is w f
     stops-halts (at-arguments {ps = is} gs f) = arguments-halt is gs f
     stops-halts (at-call {ps = is} gs l e) = call-fails is gs l (enters-calls e)

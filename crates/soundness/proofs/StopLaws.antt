@@ -22,7 +22,8 @@ use Rattle.productions.specs.Normal.{Production}
 use Rattle.firsts.specs.Rules.{Reads, reads-keyword, reads-word, reads-number}
 use Rattle.expansion.specs.declared.State.{State}
 use Rattle.expansion.specs.Run.{Result, done, halt, Run, after}
-use Rattle.expansion.specs.Expansion.{Input, ready, unfit, chosen, choice, nextToken, tokenTaken, take, misfit, cellMade, cell, build, buildAll, wordValue, runItem, runItems, callBegun, mostCalls, runCall}
+use Rattle.expansion.specs.Expansion.{Input, ready, unfit, chosen, choice, nextToken, tokenTaken, take, misfit, cellMade, cell, build, buildAll, wordValue}
+use Rattle.expansion.specs.Expansion.{runItem, runItems, callBegun, mostCalls, runCall}
 use Rattle.expansion.specs.Figure3.{Next, next, Taken}
 use Rattle.expansion.specs.Parsing.{input}
 use Rattle.soundness.proofs.Setting.{Setting}
@@ -39,7 +40,8 @@ module _ (I : Input) where
   abbrev pub Stays : {A : Type 0} → State → Result A → Type 0
   Stays s x = Ends (λ a s′ c. s′ .at ≡ s .at) (λ r. r ≡ refusal 21 (s .at) 0 0) x
 
-  stays-after : {A B : Type 0} (s : State) (x : Result A) (k : A → Run B) → Stays s x → ((a : A) (s′ : State) (c : List ℕ) → Stays s′ (k a s′ c)) → Stays s (after x k)
+  stays-after : {A B : Type 0} (s : State) (x : Result A) (k : A → Run B) → Stays s x → ((a : A) (s′ : State) (c : List ℕ) → Stays s′ (k a s′ c))
+      → Stays s (after x k)
   stays-after s (halt r c) k h f = h
   stays-after {B = B} s (done a s′ c) k h f = go (k a s′ c) (f a s′ c)
     where
@@ -50,7 +52,9 @@ module _ (I : Input) where
   cell-stays : (code : ℕ) (xs : List ℕ) (s : State) (cells : List ℕ) → Stays s (cell I code xs s cells)
   cell-stays code xs s cells = go (ltb (s .made) (I .rows))
     where
-      go : (b : Bool) → Stays {A = ℕ} s (elim b as (λ x. Result ℕ) [ true ↦ done (s .made) (cellMade s) (withRow cells (s .made) code xs) | false ↦ halt (refusal 21 (s .at) 0 0) cells ])
+      go : (b : Bool)
+          → Stays {A = ℕ} s
+          (elim b as (λ x. Result ℕ) [ true ↦ done (s .made) (cellMade s) (withRow cells (s .made) code xs) | false ↦ halt (refusal 21 (s .at) 0 0) cells ])
       go true = refl
       go false = refl
 
@@ -61,7 +65,8 @@ module _ (I : Input) where
     build-stays (Table.variable i) M s cells = refl
     build-stays (Table.outside n) M s cells = refl
     build-stays (Table.outsideLabel n) M s cells = refl
-    build-stays (Table.make c ts) M s cells = stays-after s (buildAll ts I M s cells) (λ vs. cell I c vs) (build-all-stays ts M s cells) (λ vs s′ c′. cell-stays c vs s′ c′)
+    build-stays (Table.make c ts) M s cells =
+        stays-after s (buildAll ts I M s cells) (λ vs. cell I c vs) (build-all-stays ts M s cells) (λ vs s′ c′. cell-stays c vs s′ c′)
 
     pub build-all-stays : (ts : Templates) (M : List ℕ) (s : State) (cells : List ℕ) → Stays s (buildAll ts I M s cells)
     build-all-stays none M s cells = refl
@@ -121,7 +126,8 @@ module _ {g : List Production} (X : Setting g) where
   abbrev pub Bounded : {A : Type 0} → Result A → Type 0
   Bounded x = Ends (λ a s c. s .at ≤ length tokens) (λ r. Unit {0}) x
 
-  bounded-after : {A B : Type 0} (x : Result A) (k : A → Run B) → Bounded x → ((a : A) (s : State) (c : List ℕ) → s .at ≤ length tokens → Bounded (k a s c)) → Bounded (after x k)
+  bounded-after : {A B : Type 0} (x : Result A) (k : A → Run B) → Bounded x → ((a : A) (s : State) (c : List ℕ) → s .at ≤ length tokens → Bounded (k a s c))
+      → Bounded (after x k)
   bounded-after (done a s c) k h f = f a s c h
   bounded-after (halt r c) k h f = tt
 
@@ -137,7 +143,8 @@ module _ {g : List Production} (X : Setting g) where
       go true e = omega (arith, token-before tokens (s .at) (eqb-true (nextToken J s .kind) kind e) l)
       go false e = tt
 
-  module _ (C : ℕ → List ℕ → Run ℕ) (callee : (n : ℕ) (vs : List ℕ) (s : State) (cells : List ℕ) → n < 64 → s .at ≤ length tokens → Bounded (C n vs s cells)) where
+  module _ (C : ℕ → List ℕ → Run ℕ)
+      (callee : (n : ℕ) (vs : List ℕ) (s : State) (cells : List ℕ) → n < 64 → s .at ≤ length tokens → Bounded (C n vs s cells)) where
     pub item-bounded : {i : Item} {A : ℕ} {L : List ℕ} (xs : List ℕ) (s : State) (cells : List ℕ) → ItemSorted (F .scope) L i A → ItemWithin i
         → s .at ≤ length tokens → Bounded (runItem C J i xs s cells)
     item-bounded xs s cells (Judgements.by-keyword {k = k} l) z h = take-bounded (keywordKind k) (λ v. 0) s cells (omega (arith, l, F .keywordCount))
@@ -145,21 +152,24 @@ module _ {g : List Production} (X : Setting g) where
     item-bounded xs s cells Judgements.by-number z h = take-bounded numberKind (λ v. v) s cells (omega arith)
     item-bounded xs s cells Judgements.by-local z h = h
     item-bounded xs s cells (Judgements.by-call {n = n} {ts = ts} w f) (call-within l ws) h =
-        bounded-after (buildAll ts J xs s cells) (λ vs. C n vs) (stays-bounded s (buildAll ts J xs s cells) h (build-all-stays J ts xs s cells)) (λ vs s′ c′ b. callee n vs s′ c′ (omega arith) b)
+        bounded-after (buildAll ts J xs s cells) (λ vs. C n vs) (stays-bounded s (buildAll ts J xs s cells) h (build-all-stays J ts xs s cells))
+        (λ vs s′ c′ b. callee n vs s′ c′ (omega arith) b)
 
     pub items-bounded : (is : List Item) {r : Template} {B : ℕ} {L : List ℕ} (xs : List ℕ) (s : State) (cells : List ℕ) → Body (F .scope) L is r B
         → Each ItemWithin is → s .at ≤ length tokens → Bounded (runItems C J is xs s cells)
     unfolding runItems
     items-bounded [] xs s cells b z h = h
     items-bounded (i ∷ is) xs s cells (by-binding w b) (each-more z zs) h =
-        bounded-after (runItem C J i xs s cells) (λ v. runItems C J is (xs ++ (v ∷ []))) (item-bounded xs s cells w z h) (λ v s′ c′ l. items-bounded is (xs ++ (v ∷ [])) s′ c′ b zs l)
+        bounded-after (runItem C J i xs s cells) (λ v. runItems C J is (xs ++ (v ∷ []))) (item-bounded xs s cells w z h)
+        (λ v s′ c′ l. items-bounded is (xs ++ (v ∷ [])) s′ c′ b zs l)
 
   pub call-bounded : (d n : ℕ) (vs : List ℕ) (s : State) (cells : List ℕ) → n < 64 → s .at ≤ length tokens → Bounded (runCall d J n vs s cells)
   unfolding runCall
   call-bounded zero n vs s cells l h = tt
   call-bounded (suc d) n vs s cells l h = go (call-bounded d) (ltb (s .calls) mostCalls) refl (choice-picks g n l (rest s))
     where
-      go : ((m : ℕ) (ws : List ℕ) (s′ : State) (c′ : List ℕ) → m < 64 → s′ .at ≤ length tokens → Bounded (runCall d J m ws s′ c′)) → (b : Bool) → ltb (s .calls) mostCalls ≡ b
+      go : ((m : ℕ) (ws : List ℕ) (s′ : State) (c′ : List ℕ) → m < 64 → s′ .at ≤ length tokens → Bounded (runCall d J m ws s′ c′)) → (b : Bool)
+          → ltb (s .calls) mostCalls ≡ b
           → Picks g n (rest s) (choice (ready g) n (kindOf (rest s))) → Bounded (runCall (suc d) J n vs s cells)
       go f false e q = subst⁻¹ (λ x. Bounded x) (call-full d J n vs s cells e) tt
       go f true e (picks p t z) =

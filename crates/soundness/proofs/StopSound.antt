@@ -24,7 +24,8 @@ use Rattle.firsts.specs.First.{checkFirsts}
 use Rattle.firsts.specs.Rules.{Reads, reads-keyword, reads-word, reads-number}
 use Rattle.expansion.specs.declared.State.{State}
 use Rattle.expansion.specs.Run.{Result, done, halt, Run, after}
-use Rattle.expansion.specs.Expansion.{Input, ready, choice, nextToken, tokenTaken, take, misfit, buildAll, build, wordValue, runItem, runItems, callBegun, mostCalls, runCall, mostOpen, start, ended, run}
+use Rattle.expansion.specs.Expansion.{Input, ready, choice, nextToken, tokenTaken, take, misfit, buildAll, build, wordValue, runItem, runItems, callBegun}
+use Rattle.expansion.specs.Expansion.{mostCalls, runCall, mostOpen, start, ended, run}
 use Rattle.expansion.specs.Figure3.{Value, Gives, GiveAll, give-none, Taken, Derives, by-end}
 use Rattle.expansion.specs.ValueSorts.{Matches, matches-none}
 use Rattle.expansion.specs.Costs.{rowsOf, rowsOfAll, openIn, callsIn, rowsIn, Affords}
@@ -34,10 +35,13 @@ use Rattle.soundness.proofs.Setting.{Setting, no-arguments, item-body, 
 use Rattle.soundness.proofs.Building.{Ends, after-by, ends-both, ends-after, ends-map, Made, Full, Built, BuiltAll, build-ends, build-all-ends}
 use Rattle.soundness.proofs.Typing.{matches-and, give-all-exist, gives-exists, FitAll, body-of, taken-of}
 use Rattle.expansion.proofs.Choosing.{kindOf, kind-next, Picks, picks, picks-none, choice-picks, rule}
-use Rattle.soundness.proofs.Sound.{token-here, Kept, kept-made, kept-less, call-full, call-unfit, call-chosen, Stepped, Called, Derived, Any, item-sound, items-sound, call-sound, Root, root-called, root-derived}
+use Rattle.soundness.proofs.Sound.{token-here, Kept, kept-made, kept-less, call-full, call-unfit, call-chosen, Stepped, Called, Derived, Any, item-sound}
+use Rattle.soundness.proofs.Sound.{items-sound, call-sound, Root, root-called, root-derived}
 use Rattle.soundness.proofs.Complete.{Beyond, items-along, items-after, Reached, root-along}
-use Rattle.soundness.specs.Stopping.{indexOf, firstSet, takes, makes, begins, Fails, no-token, no-row, too-deep, too-many, no-choice, Stops, at-token, at-arguments, at-call, past-item, Enters, at-start, in-items, at-result, Refuses, stops, left-over}
-use Rattle.soundness.proofs.StopLaws.{Stays, build-stays, build-all-stays, reads-small, index-is, kind-of-next, Bounded, item-bounded, items-bounded, call-bounded}
+use Rattle.soundness.specs.Stopping.{indexOf, firstSet, takes, makes, begins, Fails, no-token, no-row, too-deep, too-many, no-choice, Stops, at-token}
+use Rattle.soundness.specs.Stopping.{at-arguments, at-call, past-item, Enters, at-start, in-items, at-result, Refuses, stops, left-over}
+use Rattle.soundness.proofs.StopLaws.{Stays, build-stays, build-all-stays, reads-small, index-is, kind-of-next, Bounded, item-bounded, items-bounded}
+use Rattle.soundness.proofs.StopLaws.{call-bounded}
 
 module _ {g : List Production} (X : Setting g) where
   abbrev F : FitAll g
@@ -74,26 +78,31 @@ module _ {g : List Production} (X : Setting g) where
   -- what is asked of a callee
   abbrev Halting : ℕ → Type 0
   Halting d =
-      (o k n : ℕ) (S : Signature) (vs : List Value) (xs : List ℕ) (s : State) (cells : List ℕ) → d + o ≡ mostOpen → Newest (F .scope .env) n S → n < 64 → Matches vs (S .params)
+      (o k n : ℕ) (S : Signature) (vs : List Value) (xs : List ℕ) (s : State) (cells : List ℕ) → d + o ≡ mostOpen → Newest
+      (F .scope .env) n S → n < 64 → Matches vs (S .params)
       → s .at ≤ length tokens → Kept rows k s cells → ShowAll spell (s .made) cells xs vs → Ends Fine (EntersAt o n vs s) (runCall d J n xs s cells)
 
-  take-halts : (o : ℕ) (M : List Value) {j : Item} (is : List Item) (kind : ℕ) (value : ℕ → ℕ) (s : State) (cells : List ℕ) → Reads j kind → s .at ≤ length tokens
+  take-halts : (o : ℕ) (M : List Value) {j : Item} (is : List Item) (kind : ℕ) (value : ℕ → ℕ) (s : State) (cells : List ℕ) → Reads j kind
+      → s .at ≤ length tokens
       → Ends Fine (StopsAt o M (j ∷ is) s) (take J kind value s cells)
   take-halts o M {j} is kind value s cells w l = go (eqb (nextToken J s .kind) kind) refl
     where
       go : (b : Bool) → eqb (nextToken J s .kind) kind ≡ b
-          → Ends {A = ℕ} Fine (StopsAt o M (j ∷ is) s) (elim b as (λ x. Result ℕ) [ true ↦ done (value (nextToken J s .value)) (tokenTaken s) cells | false ↦ misfit (only kind) s cells ])
+          → Ends {A = ℕ} Fine (StopsAt o M (j ∷ is) s)
+          (elim b as (λ x. Result ℕ) [ true ↦ done (value (nextToken J s .value)) (tokenTaken s) cells | false ↦ misfit (only kind) s cells ])
       go true e = tt
       go false e =
           at-token w
           (subst (λ (a : ℕ). Fails g spell rows tokens o (s .calls) (s .made) (rest s) (takes kind) (refusal 17 a (only kind) (ones (only kind)))) (here s l)
           (no-token (λ n. eqb-false (nextToken J s .kind) kind e (kind-of-next X s n))))
 
-  full-row : (o c m : ℕ) {n : ℕ} (s : State) → s .at ≤ length tokens → rows < m + n → Fails g spell rows tokens o c m (rest s) (makes n) (refusal 21 (s .at) 0 0)
+  full-row : (o c m : ℕ) {n : ℕ} (s : State) → s .at ≤ length tokens → rows < m + n
+      → Fails g spell rows tokens o c m (rest s) (makes n) (refusal 21 (s .at) 0 0)
   full-row o c m {n} s l h = subst (λ (a : ℕ). Fails g spell rows tokens o c m (rest s) (makes n) (refusal 21 a 0 0)) (here s l) (no-row h)
 
   -- a call of a state after its arguments is one of the state before them
-  enters-stops : {o n : ℕ} {M vs : List Value} {ts : Templates} (is : List Item) {s s₁ : State} {cells c₁ : List ℕ} → GiveAll spell M ts vs → Made rows (rowsOfAll ts) s cells s₁ c₁
+  enters-stops : {o n : ℕ} {M vs : List Value} {ts : Templates} (is : List Item) {s s₁ : State} {cells c₁ : List ℕ} → GiveAll spell M ts vs
+      → Made rows (rowsOfAll ts) s cells s₁ c₁
       → (r : Refusal) → EntersAt o n vs s₁ r → StopsAt o M (call n ts ∷ is) s r
   enters-stops {o} {n} {vs = vs} {ts = ts} is {s = s} {s₁ = s₁} gs b r e =
       let fits : s .made + rowsOfAll ts ≤ rows = omega (arith, b .fits, b .made-is) in
@@ -102,28 +111,35 @@ module _ {g : List Production} (X : Setting g) where
       (subst₂ (λ c m. Enters g spell rows tokens o c m n vs (rest s₁) (s₁ .fresh) r) (b .calls-kept) (b .made-is) e))
 
   module _ (d o : ℕ) (left : d + o ≡ mostOpen) (halting : Halting d) where
-    item-halts : (k : ℕ) {i : Item} {A : ℕ} {M : List Value} {L xs : List ℕ} (is : List Item) (s : State) (cells : List ℕ) → ItemSorted (F .scope) L i A → ItemWithin i → Matches M L
+    item-halts : (k : ℕ) {i : Item} {A : ℕ} {M : List Value} {L xs : List ℕ} (is : List Item) (s : State) (cells : List ℕ) → ItemSorted (F .scope) L i A
+        → ItemWithin i → Matches M L
         → s .at ≤ length tokens → Kept rows (k + 1) s cells → ShowAll spell (s .made) cells xs M
         → Ends Fine (StopsAt o M (i ∷ is) s) (runItem (runCall d J) J i xs s cells)
-    item-halts k {M = M} is s cells (Judgements.by-keyword {k = w} l) z m b h a = take-halts o M is (keywordKind w) (λ v. 0) s cells (reads-keyword (omega (arith, l, F .keywordCount))) b
+    item-halts k {M = M} is s cells (Judgements.by-keyword {k = w} l) z m b h a =
+        take-halts o M is (keywordKind w) (λ v. 0) s cells (reads-keyword (omega (arith, l, F .keywordCount))) b
     item-halts k {M = M} is s cells (Judgements.by-ide {B = B} l u) z m b h a = take-halts o M is wordKind (wordValue B) s cells reads-word b
     item-halts k {M = M} is s cells Judgements.by-number z m b h a = take-halts o M is numberKind (λ v. v) s cells reads-number b
     item-halts k is s cells Judgements.by-local z m b h a = tt
     item-halts k {M = M} {xs = xs} is s cells (Judgements.by-call {n = n} {S = S} {ts = ts} w f) (call-within l ws) m b h a =
         let vs = give-all-exist spell m ts f in
-        ends-after (λ ys s₁ c₁. BuiltAll spell J (rowsOfAll ts) s cells (vs .0) ys s₁ c₁ × (s₁ .at ≡ s .at)) (λ r. Full rows (s .made + rowsOfAll ts) r × (r ≡ refusal 21 (s .at) 0 0))
+        ends-after (λ ys s₁ c₁. BuiltAll spell J (rowsOfAll ts) s cells (vs .0) ys s₁ c₁ × (s₁ .at ≡ s .at))
+        (λ r. Full rows (s .made + rowsOfAll ts) r × (r ≡ refusal 21 (s .at) 0 0))
         Fine (StopsAt o M (call n ts ∷ is) s) (buildAll ts J xs s cells) (λ ys. runCall d J n ys)
-        (ends-both (BuiltAll spell J (rowsOfAll ts) s cells (vs .0)) (λ ys s₁ c₁. s₁ .at ≡ s .at) (Full rows (s .made + rowsOfAll ts)) (λ r. r ≡ refusal 21 (s .at) 0 0) (buildAll ts J xs s cells)
+        (ends-both (BuiltAll spell J (rowsOfAll ts) s cells (vs .0)) (λ ys s₁ c₁. s₁ .at ≡ s .at) (Full rows (s .made + rowsOfAll ts))
+        (λ r. r ≡ refusal 21 (s .at) 0 0) (buildAll ts J xs s cells)
         (build-all-ends spell J ts s cells (vs .1) f (omega (arith, F .outsideCount)) (h .room) (h .fits) a) (build-all-stays J ts xs s cells))
         (λ ys s₁ c₁ y.
         ends-map Fine (EntersAt o n (vs .0) s₁) Fine (StopsAt o M (call n ts ∷ is) s) (runCall d J n ys s₁ c₁)
         (halting o k n S (vs .0) ys s₁ c₁ left w (omega arith) (vs .2) (omega (arith, y .1)) (kept-less (kept-made h (y .0 .0))) (y .0 .1))
         (λ x s₂ c₂ u. u) (enters-stops is (vs .1) (y .0 .0)))
-        (λ r u. at-arguments (vs .1) (subst⁻¹ (λ q. Fails g spell rows tokens o (s .calls) (s .made) (rest s) (makes (rowsOfAll ts)) q) (u .1) (full-row o (s .calls) (s .made) s b (u .0 .beyond))))
+        (λ r u. at-arguments (vs .1)
+        (subst⁻¹ (λ q. Fails g spell rows tokens o (s .calls) (s .made) (rest s) (makes (rowsOfAll ts)) q) (u .1)
+        (full-row o (s .calls) (s .made) s b (u .0 .beyond))))
 
     -- an item derived has cost what its derivation costs
     item-costs : (k : ℕ) {i : Item} {A : ℕ} {M : List Value} {L : List ℕ} (xs : List ℕ) (s : State) (cells : List ℕ) → ItemSorted (F .scope) L i A
-        → Kept rows (k + 1) s cells → ShowAll spell (s .made) cells xs M → (x : ℕ) (s₁ : State) (c₁ : List ℕ) → runItem (runCall d J) J i xs s cells ≡ done x s₁ c₁
+        → Kept rows (k + 1) s cells → ShowAll spell (s .made) cells xs M → (x : ℕ) (s₁ : State) (c₁ : List ℕ)
+        → runItem (runCall d J) J i xs s cells ≡ done x s₁ c₁
         → {M₁ : List Value} (D : Derives g spell M (rest s) (s .fresh) (i ∷ []) M₁ (rest s₁) (s₁ .fresh))
         → (s₁ .calls ≡ s .calls + callsIn D) × (s₁ .made ≡ s .made + rowsIn D) × (openIn D ≤ d)
     unfolding runItems
@@ -134,7 +150,8 @@ module _ {g : List Production} (X : Setting g) where
         (items-along X D .along d k (make 0x25 none) Sorts.fields L xs s cells (item-body X w) refl refl h a) in
         (q .0 .calls-are, q .0 .made-are, q .0 .deep)
 
-    items-halt : (k : ℕ) (is : List Item) {r : Template} {B : ℕ} {M : List Value} {L xs : List ℕ} (s : State) (cells : List ℕ) → Body (F .scope) L is r B → Each ItemWithin is → Matches M L
+    items-halt : (k : ℕ) (is : List Item) {r : Template} {B : ℕ} {M : List Value} {L xs : List ℕ} (s : State) (cells : List ℕ) → Body (F .scope) L is r B
+        → Each ItemWithin is → Matches M L
         → s .at ≤ length tokens → Kept rows (k + length is) s cells → ShowAll spell (s .made) cells xs M
         → Ends Fine (StopsAt o M is s) (runItems (runCall d J) J is xs s cells)
     unfolding runItems
@@ -155,14 +172,16 @@ module _ {g : List Production} (X : Setting g) where
         (items-halt k is s₁ c₁ b zs (matches-and m (p .typed)) n₁ (p .kept) (all-and (all-later (p .grown) a) (p .shows)))
         (λ ys s₂ c₂ u. u)
         (λ r u.
-        past-item {o = o} {c = s .calls} {m = s .made} D (record { few-open = omega (arith, q .2); few-calls = omega (arith, q .0, p .kept .begun); few-rows = omega (arith, q .1, p .kept .fits) })
+        past-item {o = o} {c = s .calls} {m = s .made} D
+        (record { few-open = omega (arith, q .2); few-calls = omega (arith, q .0, p .kept .begun); few-rows = omega (arith, q .1, p .kept .fits) })
         (subst₂ (λ c m. Stops g spell rows tokens o c m (M ++ (p .value ∷ [])) (rest s₁) (s₁ .fresh) is r) (q .0) (q .1) u)))
         (λ q c₁ e. subst (λ z. Ends Fine (StopsAt o M (i ∷ is) s) z) e (item-halts (k + length is) is s cells w z m n h′ a))
 
   -- ------------------------------------------------------------------ calls
 
   module _ (d o : ℕ) (left : suc d + o ≡ mostOpen) (halting : Halting d) (k n : ℕ) (S : Signature) (vs : List Value) (xs : List ℕ) (s : State) (cells : List ℕ)
-      (w : Newest (F .scope .env) n S) (l : n < 64) (m : Matches vs (S .params)) (b : s .at ≤ length tokens) (h : Kept rows k s cells) (a : ShowAll spell (s .made) cells xs vs) where
+      (w : Newest (F .scope .env) n S) (l : n < 64) (m : Matches vs (S .params)) (b : s .at ≤ length tokens) (h : Kept rows k s cells)
+      (a : ShowAll spell (s .made) cells xs vs) where
     abbrev Goal : Result ℕ → Type 0
     Goal z = Ends Fine (EntersAt o n vs s) z
 
@@ -191,11 +210,19 @@ module _ {g : List Production} (X : Setting g) where
         (items-bounded X (runCall d J) (call-bounded X d) (p .items) xs (callBegun s) cells body (q .items) b) in
         let v = gives-exists spell (y .matches) (p .result) (y .sorted) in
         let A : Affords rows (o + 1) (s .calls + 1) (s .made) D =
-        record { few-open = omega (arith, z .0 .deep, left); few-calls = omega (arith, z .0 .calls-are, y .kept .begun); few-rows = omega (arith, z .0 .made-are, y .kept .fits) } in
-        ends-map (λ x s₂ c₂. Built spell J (rowsOf (p .result)) s₁ c₁ (v .0) x s₂ c₂ × (s₂ .at ≡ s₁ .at)) (λ r. Full rows (s₁ .made + rowsOf (p .result)) r × (r ≡ refusal 21 (s₁ .at) 0 0)) Fine K
+        record {
+          few-open = omega (arith, z .0 .deep, left);
+          few-calls = omega (arith, z .0 .calls-are, y .kept .begun);
+          few-rows = omega
+              (arith, z .0 .made-are, y .kept .fits);
+        } in
+        ends-map (λ x s₂ c₂. Built spell J (rowsOf (p .result)) s₁ c₁ (v .0) x s₂ c₂ × (s₂ .at ≡ s₁ .at))
+        (λ r. Full rows (s₁ .made + rowsOf (p .result)) r × (r ≡ refusal 21 (s₁ .at) 0 0)) Fine K
         (build (p .result) J ys s₁ c₁)
-        (ends-both (Built spell J (rowsOf (p .result)) s₁ c₁ (v .0)) (λ x s₂ c₂. s₂ .at ≡ s₁ .at) (Full rows (s₁ .made + rowsOf (p .result))) (λ r. r ≡ refusal 21 (s₁ .at) 0 0) (build (p .result) J ys s₁ c₁)
-        (build-ends spell J (p .result) {v = v .0} s₁ c₁ (v .1) (y .sorted) (omega (arith, F .outsideCount)) (y .kept .room) (y .kept .fits) (y .shows)) (build-stays J (p .result) ys s₁ c₁))
+        (ends-both (Built spell J (rowsOf (p .result)) s₁ c₁ (v .0)) (λ x s₂ c₂. s₂ .at ≡ s₁ .at) (Full rows (s₁ .made + rowsOf (p .result)))
+        (λ r. r ≡ refusal 21 (s₁ .at) 0 0) (build (p .result) J ys s₁ c₁)
+        (build-ends spell J (p .result) {v = v .0} s₁ c₁ (v .1) (y .sorted) (omega (arith, F .outsideCount)) (y .kept .room) (y .kept .fits) (y .shows))
+        (build-stays J (p .result) ys s₁ c₁))
         (λ x s₂ c₂ u. tt)
         (λ r u.
         at-result {v = v .0} t D A (v .1)
@@ -213,20 +240,23 @@ module _ {g : List Production} (X : Setting g) where
         go : (c : Bool) → ltb (s .calls) mostCalls ≡ c → Picks g n (rest s) (choice (ready g) n (kindOf (rest s))) → Goal (runCall (suc d) J n xs s cells)
         go false e q =
             subst⁻¹ (λ r. Goal r) (call-full d J n xs s cells e)
-            (at-start (subst (λ (i : ℕ). Fails g spell rows tokens o (s .calls) (s .made) (rest s) (begins n) (refusal 20 i 0 0)) (here s b) (too-many deeper (ltb-false (s .calls) mostCalls e))))
+            (at-start (subst (λ (i : ℕ). Fails g spell rows tokens o (s .calls) (s .made) (rest s) (begins n) (refusal 20 i 0 0)) (here s b)
+            (too-many deeper (ltb-false (s .calls) mostCalls e))))
         go true e (picks p t f) =
             subst⁻¹ (λ r. Goal r) (call-chosen d J n xs s cells (rule g p) e (ap (choice (ready g) n) (kind-next (s .at) tokens) ∙ f))
             (production-halts p t (ltb-true (s .calls) mostCalls e))
         go true e (picks-none f c) =
             subst⁻¹ (λ r. Goal r) (call-unfit d J n xs s cells e (ap (choice (ready g) n) (kind-next (s .at) tokens) ∙ c))
             (at-start
-            (subst (λ (i : ℕ). Fails g spell rows tokens o (s .calls) (s .made) (rest s) (begins n) (refusal 17 i (firstSet g n) (ones (firstSet g n)))) (here s b)
+            (subst (λ (i : ℕ). Fails g spell rows tokens o (s .calls) (s .made) (rest s) (begins n) (refusal 17 i (firstSet g n) (ones (firstSet g n))))
+            (here s b)
             (no-choice deeper (ltb-true (s .calls) mostCalls e) f)))
 
   pub call-halts : (d : ℕ) → Halting d
   unfolding runCall
   call-halts zero o k n S vs xs s cells e w l m b h a =
-      at-start (subst (λ (i : ℕ). Fails g spell rows tokens o (s .calls) (s .made) (rest s) (begins n) (refusal 19 i 0 0)) (here s b) (too-deep (omega (arith, e))))
+      at-start (subst (λ (i : ℕ). Fails g spell rows tokens o (s .calls) (s .made) (rest s) (begins n) (refusal 19 i 0 0)) (here s b)
+      (too-deep (omega (arith, e))))
   call-halts (suc d) o k n S vs xs s cells e w l m b h a = call-step d o e (call-halts d) k n S vs xs s cells w l m b h a
 
   -- ------------------------------------------------------------------ the whole formula
@@ -246,7 +276,11 @@ module _ {g : List Production} (X : Setting g) where
       (Beyond rows mostOpen (openIn D) (callsIn D) (rowsIn D)) z) q (root-along X D cells room) in
       subst (λ (i : ℕ). Refuses g spell rows tokens (X .root) (refusal 18 i 0 0)) (index-is X s e b)
       (left-over D
-      (record { few-open = omega (arith, z .0 .deep); few-calls = omega (arith, z .0 .calls-are, z .0 .kept .begun); few-rows = omega (arith, z .0 .made-are, z .0 .kept .fits) }))
+      (record {
+        few-open = omega (arith, z .0 .deep);
+        few-calls = omega (arith, z .0 .calls-are, z .0 .kept .begun);
+        few-rows = omega (arith, z .0 .made-are, z .0 .kept .fits);
+      }))
 
   pub run-halts : (cells : List ℕ) → rows * 4 ≤ length cells → Ends Fine (Refuses g spell rows tokens (X .root)) (run J (X .root) cells)
   unfolding run
@@ -254,7 +288,8 @@ module _ {g : List Production} (X : Setting g) where
       after-by Fine (Refuses g spell rows tokens (X .root)) (runCall mostOpen J (X .root) [] start cells) (ended J)
       (λ v s c₁ q.
       over v s c₁ q (subst (λ z. Ends (Root X cells) (Any X) z) q (root-called X cells room))
-      (subst (λ y. Ends {A = ℕ} (λ a s c. s .at ≤ length tokens) (λ r. Unit {0}) y) q (call-bounded X mostOpen (X .root) [] start cells (X .root-small) (omega arith))))
+      (subst (λ y. Ends {A = ℕ} (λ a s c. s .at ≤ length tokens) (λ r. Unit {0}) y) q
+      (call-bounded X mostOpen (X .root) [] start cells (X .root-small) (omega arith))))
       (λ r c₁ q.
       root-stops
       (subst (λ z. Ends Fine (EntersAt 0 (X .root) [] start) z) q
@@ -266,6 +301,7 @@ module _ {g : List Production} (X : Setting g) where
       over v s c₁ q y b = go (ltb (s .at) (length tokens)) refl
         where
           go : (c : Bool) → ltb (s .at) (length tokens) ≡ c
-              → Ends {A = ℕ} Fine (Refuses g spell rows tokens (X .root)) (elim c as (λ x. Result ℕ) [ true ↦ halt (refusal 18 (s .at) 0 0) c₁ | false ↦ done v s c₁ ])
+              → Ends {A = ℕ} Fine (Refuses g spell rows tokens (X .root))
+              (elim c as (λ x. Result ℕ) [ true ↦ halt (refusal 18 (s .at) 0 0) c₁ | false ↦ done v s c₁ ])
           go true e = leftover cells v s c₁ room q y b (token-here tokens (s .at) (ltb-true (s .at) (length tokens) e))
           go false e = tt

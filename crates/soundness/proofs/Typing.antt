@@ -9,15 +9,19 @@ use Rattle.grammar.specs.Table.{Template, Templates, none, more, Item}
 use Rattle.grammar.specs.Table as Table
 use Rattle.layout.specs.Within.{Each, TemplateWithin, ItemWithin}
 use Rattle.sorts.specs.CheckSorts.{Scope, signatureOf}
-use Rattle.sorts.specs.Judgements.{Has, has-first, has-later, Newest, Fits, fits-equal, fits-binder, Sorted, Fill, fill-none, fill-more, ItemSorted, Body, by-result, by-binding}
+use Rattle.sorts.specs.Judgements.{Has, has-first, has-later, Newest, Fits, fits-equal, fits-binder, Sorted, Fill, fill-none, fill-more, ItemSorted, Body}
+use Rattle.sorts.specs.Judgements.{by-result, by-binding}
 use Rattle.sorts.specs.Judgements as Judgements
 use Rattle.sorts.proofs.Environments.{newest-signature}
 use Rattle.scanner.specs.declared.Token.{Token}
 use Rattle.productions.specs.Normal.{Production}
 use Rattle.firsts.specs.Rules.{In, Of}
-use Rattle.expansion.specs.Figure3.{Value, Constructs, Bound, bound-first, bound-later, Gives, by-variable, by-global, by-label, by-constructor, GiveAll, give-none, give-more, Taken, taken-opened, taken-nullable, WordAs, as-var, as-binder, as-label, ReadsAs, by-keyword, by-ide, by-number, by-local, Derives, by-end, by-terminal, by-call}
+use Rattle.expansion.specs.Figure3.{Value, Constructs, Bound, bound-first, bound-later, Gives, by-variable, by-global, by-label, by-constructor, GiveAll}
+use Rattle.expansion.specs.Figure3.{give-none, give-more, Taken, taken-opened, taken-nullable, WordAs, as-var, as-binder, as-label, ReadsAs, by-keyword, by-ide}
+use Rattle.expansion.specs.Figure3.{by-number, by-local, Derives, by-end, by-terminal, by-call}
 use Rattle.expansion.specs.Figure3 as Figure3
-use Rattle.expansion.specs.ValueSorts.{Typed, typed-unit, typed-var, typed-binder, typed-either, typed-label, typed-term, typed-fields, typed-num, Matches, matches-none, matches-more}
+use Rattle.expansion.specs.ValueSorts.{Typed, typed-unit, typed-var, typed-binder, typed-either, typed-label, typed-term, typed-fields, typed-num, Matches}
+use Rattle.expansion.specs.ValueSorts.{matches-none, matches-more}
 
 -- ------------------------------------------------------------------ values of a sort
 
@@ -62,7 +66,8 @@ constructs-by (suc (suc zero)) l (matches-more typed-term (matches-more typed-te
 constructs-by (suc (suc (suc zero))) l (matches-more typed-fields matches-none) = (_, Figure3.mkTermRcd)
 constructs-by (suc (suc (suc (suc zero)))) l (matches-more typed-term (matches-more typed-label matches-none)) = (_, Figure3.mkTermDot)
 constructs-by (suc (suc (suc (suc (suc zero))))) l matches-none = (_, Figure3.mkFieldNil)
-constructs-by (suc (suc (suc (suc (suc (suc zero)))))) l (matches-more typed-label (matches-more typed-term (matches-more typed-fields matches-none))) = (_, Figure3.mkFieldCons)
+constructs-by (suc (suc (suc (suc (suc (suc zero)))))) l (matches-more typed-label (matches-more typed-term (matches-more typed-fields matches-none))) =
+    (_, Figure3.mkFieldCons)
 constructs-by (suc (suc (suc (suc (suc (suc (suc zero))))))) l (matches-more typed-num matches-none) = (_, Figure3.mkTermNum)
 constructs-by (suc (suc (suc (suc (suc (suc (suc (suc k)))))))) l h = absurd (omega arith)
 
@@ -144,7 +149,8 @@ taken-of (taken-nullable o k z) = o
 
 module _ {g : List Production} (F : FitAll g) where
   -- a production of n has the signature of n
-  pub body-of : {n : ℕ} {S : Signature} {p : Production} → Of g n p → Newest (F .scope .env) n S → Body (F .scope) (S .params) (p .items) (p .result) (S .result)
+  pub body-of : {n : ℕ} {S : Signature} {p : Production} → Of g n p → Newest (F .scope .env) n S
+      → Body (F .scope) (S .params) (p .items) (p .result) (S .result)
   body-of {n} {S} {p} o w =
       let q = F .each p (o .member) in
       let e : q .signature ≡ S = sym (newest-signature (q .newest)) ∙ ap (signatureOf (F .scope .env)) (o .owned) ∙ newest-signature w in
