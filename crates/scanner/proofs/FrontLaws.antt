@@ -9,7 +9,7 @@ use lib.ListN.{length, getD}
 use borrow.Author.Tests.{ne-eqb, le-leb, lt-leb, leb-true, not-true}
 use Rattle.spellings.specs.Bytes.{isLetter, isDigit, isWordByte, isSeparator, isSymbol, run, largest, valueOf}
 use Rattle.spellings.specs.BytesLaws.{by-test}
-use Rattle.scanner.specs.declared.Lexeme.the-variants.{Separator, Word, Number, Symbol, Fault}
+use Rattle.scanner.specs.Scan.{Separator, Word, Number, Symbol, Fault}
 use Rattle.scanner.specs.Scan.{wordLexeme, numberLexeme, lexemeOf}
 use Rattle.scanner.specs.Unscanned.{Faulty, bad-byte, long-word, large-number}
 use Rattle.scanner.proofs.LexemeLaws.{word-fits, word-long, lexeme-is}
@@ -96,6 +96,11 @@ module _ (rest : List ℕ) where
       let f : numberLexeme (run isDigit rest) ≡ Number (length (run isDigit rest)) (valueOf (run isDigit rest))
       = rw (le-leb (valueOf (run isDigit rest)) largest h, numberLexeme) refl in
       sym (lexeme-is rest false false true _ refl s (digit-no-letter (getD rest 0 0) d) d refl ∙ f)
+
+  pub lexeme-digits : isDigit (getD rest 0 0) ≡ true → lexemeOf rest ≡ numberLexeme (run isDigit rest)
+  lexeme-digits d =
+      let s : isSeparator (getD rest 0 0) ≡ false = separator-low (getD rest 0 0) (omega (arith, digit-range (getD rest 0 0) d .0)) in
+      lexeme-is rest false false true _ refl s (digit-no-letter (getD rest 0 0) d) d refl
 
   pub lexeme-symbol : isSymbol (getD rest 0 0) ≡ true → Symbol ≡ lexemeOf rest
   lexeme-symbol y =

@@ -19,8 +19,8 @@ use Rattle.grammar.specs.Fields.{Lexicon, leading, afterLeading, lexiconOf}
 use Rattle.grammar.specs.Lookup.{fieldsAt, foundIn}
 use Rattle.grammar.proofs.LookupLaws.{keywords-at, outsides-at, found-within}
 use Rattle.kinds.specs.Kinds.{wordKind, keywordKind}
-use Rattle.scanner.specs.declared.Lexeme.{Lexeme}
-use Rattle.scanner.specs.declared.Lexeme.the-variants.{Separator, Word, Number, Symbol, Fault}
+use Rattle.scanner.specs.Scan.{Lexeme}
+use Rattle.scanner.specs.Scan.{Separator, Word, Number, Symbol, Fault}
 use Rattle.scanner.specs.Scan.{wordLexeme, numberLexeme, lexemeOf, kindOf, numberOr, spellingOf}
 
 -- ------------------------------------------------------------------ words and numbers
@@ -31,7 +31,7 @@ word-fits n h = rw (le-leb n 31 h, wordLexeme) refl
 pub word-long : (n : ℕ) → 31 < n → wordLexeme n ≡ Fault
 word-long n h = rw (lt-leb n 31 h, wordLexeme) refl
 
-abbrev numberBy : ℕ → number.Number → Lexeme
+abbrev pub numberBy : ℕ → number.Number → Lexeme
 numberBy n (Value v) = Number n v
 numberBy n TooLarge = Fault
 

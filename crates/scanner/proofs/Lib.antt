@@ -1,13 +1,15 @@
 pub mod Examples
 pub mod LexemeLaws
 pub mod WordLaws
-pub mod LinkLaws
+pub mod TreeLaws
+pub mod LexiconLaws
+pub mod MadeLaws
 pub mod FoundLaws
 pub mod StepLaws
 pub mod FrontLaws
 pub mod StandLaws
-pub mod ReadyLaws
 pub mod ScanLoop
+pub mod ScanningLaws
 pub mod TokenLaws
 pub mod TilingLaws
 pub mod SpellingLaws

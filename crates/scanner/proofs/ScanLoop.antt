@@ -9,14 +9,13 @@ use lib.ListN.{length, take, drop, length-drop, drop-of-length-le}
 use lib.Seq.{sets, drop-drop}
 use borrow.Author.Tests.{le-leb, lt-leb, lt-ltb, le-ltb}
 use Rattle.answers.specs.Refusals.{refusal}
-use Rattle.grammar.specs.Fields.{Lexicon, lexiconOf}
+use Rattle.grammar.specs.Fields.{Lexicon}
 use Rattle.scanner.specs.declared.Token.{Token}
 use Rattle.scanner.specs.declared.Step.{Step}
 use Rattle.scanner.specs.declared.Step.the-variants.{Skip, Stop, Emit}
 use Rattle.scanner.specs.declared.Scanned.the-variants.{Tokens, Unscanned}
 use Rattle.scanner.specs.Scan.{Lexed, ended, withToken, isNew, wordsWith, mostTokens, longestFormula, stepOf, lexFrom, scan}
 use Rattle.scanner.specs.Rooms.{rowThen, rows, placeThen, countWith, places, wordsFrom, wordsIn, Filled, filled, scanInto}
-use Rattle.scanner.specs.Links.{Ready}
 use Rattle.scanner.proofs.StepLaws.{step-lies}
 use Rattle.scanner.proofs.WordLaws.{words-length, words-stored}
 
@@ -103,6 +102,7 @@ pub record Turn (lex : Lexicon) (formula tokens₀ words₀ tokens words : List 
   pub enough : length formula ≤ at + fuel
   pub small : n ≤ 4096
   pub few : count ≤ n
+  pub passed : n ≤ at
   pub rest :
       fillFrom n count tokens words (lexFrom fuel lex at (drop at formula) n (wordsIn formula words count))
       ≡ scanInto lex formula tokens₀ words₀
@@ -135,6 +135,7 @@ turn-start lex formula tokens words h =
       enough = omega arith;
       small = omega arith;
       few = omega arith;
+      passed = omega arith;
       rest = into lex formula tokens words _ (scan-short lex formula h);
     }
 
@@ -161,6 +162,7 @@ module _ {lex : Lexicon} {formula tokens₀ words₀ tokens words : List ℕ} {a
         enough = omega (arith, c .enough);
         small = c .small;
         few = c .few;
+        passed = omega (arith, c .passed);
         rest = rw drop-drop at (rest-by h Skip e);
       }
 
@@ -190,7 +192,7 @@ module _ {lex : Lexicon} {formula tokens₀ words₀ tokens words : List ℕ} {a
     unfolding rows places
     turn-full z = rest-emit false (le-ltb n mostTokens (omega arith))
 
-    module _ (z : n ≡ 4096 → ⊥) (room : length words ≡ 8192) where
+    module _ (z : n ≡ 4096 → ⊥) (room : count * 2 + 2 ≤ length words) where
       -- the rooms with the token and its word
       tokens₁ : List ℕ
       tokens₁ = sets tokens (n * 4) (rowThen t [])
@@ -208,7 +210,7 @@ module _ {lex : Lexicon} {formula tokens₀ words₀ tokens words : List ℕ} {a
       left-is =
           let w : wordsIn formula (sets words (count * 2) (placeThen count t [])) (countWith count t)
           ≡ wordsWith (wordsIn formula words count) (take (t .size) (drop (t .at) formula)) t
-          = words-stored formula words count t (omega (arith, room, c .few, less)) in
+          = words-stored formula words count t (omega (arith, room)) in
           ap₂ (λ (r : List ℕ) (ws : List (List ℕ)). lexFrom (c .fuel - 1) lex (at + t .size) r (n + 1) ws) (drop-drop (t .size) at formula)
           (ap (λ (k : ℕ). wordsWith (wordsIn formula words count) (take (t .size) (drop k formula)) t) (sym (lies .0)) ∙ sym w)
 
@@ -236,6 +238,7 @@ module _ {lex : Lexicon} {formula tokens₀ words₀ tokens words : List ℕ} {a
             enough = omega (arith, c .enough, en);
             small = omega (arith, less);
             few = omega (arith, c .few, count-grows count t (isNew count t) refl);
+            passed = omega (arith, c .passed, en);
             rest = rw (et, ew, ec) rest-next;
           }
 
@@ -248,8 +251,3 @@ module _ {lex : Lexicon} {formula tokens₀ words₀ tokens words : List ℕ} {a
       (ap (λ (r : List ℕ). lexFrom (c .fuel) lex at r n (wordsIn formula words count)) (drop-of-length-le formula h)
       ∙ lex-end (c .fuel) lex at n (wordsIn formula words count)))
       ∙ c .rest
-
--- the loop with what is known of the words
-pub record Scanning (table : List ℕ) (names : ℕ) (formula tokens₀ words₀ tokens words links : List ℕ) (at n count : ℕ) : Type 0 where
-  pub turn : Turn (lexiconOf table) formula tokens₀ words₀ tokens words at n count
-  pub ready : Ready table names formula words count links

@@ -14,8 +14,8 @@ use Rattle.grammar.specs.Fields.{Lexicon}
 use Rattle.grammar.specs.Lookup.{foundIn}
 use Rattle.kinds.specs.Kinds.{wordKind, numberKind, keywordKind, noKind}
 use Rattle.scanner.specs.declared.Token.{Token}
-use Rattle.scanner.specs.declared.Lexeme.{Lexeme}
-use Rattle.scanner.specs.declared.Lexeme.the-variants.{Separator, Word, Number, Symbol, Fault}
+use Rattle.scanner.specs.Scan.{Lexeme}
+use Rattle.scanner.specs.Scan.{Separator, Word, Number, Symbol, Fault}
 use Rattle.scanner.specs.declared.Step.{Step}
 use Rattle.scanner.specs.declared.Step.the-variants.{Skip, Stop, Emit}
 use Rattle.scanner.specs.Scan.{lexemeOf, kindOf, spellingOf, token, spelledToken, isNew, wordsWith, stepBy, stepOf}
@@ -185,7 +185,7 @@ take-again (suc n) [] = refl
 take-again (suc n) (b ∷ bs) = ap (λ (l : List ℕ). b ∷ l) (take-again n bs)
 
 -- the symbol at the front
-one-byte : (rest : List ℕ) → 0 < length rest → take 1 rest ≡ getD rest 0 0 ∷ []
+pub one-byte : (rest : List ℕ) → 0 < length rest → take 1 rest ≡ getD rest 0 0 ∷ []
 one-byte [] h = absurd (omega arith)
 one-byte (b ∷ bs) h = refl
 

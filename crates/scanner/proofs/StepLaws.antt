@@ -14,8 +14,8 @@ use Rattle.spellings.specs.BytesLaws.{run-taken, run-prefix, run-length, letter
 use Rattle.grammar.specs.Fields.{Lexicon}
 use Rattle.kinds.specs.Kinds.{wordKind, noKind}
 use Rattle.scanner.specs.declared.Token.{Token}
-use Rattle.scanner.specs.declared.Lexeme.{Lexeme}
-use Rattle.scanner.specs.declared.Lexeme.the-variants.{Separator, Word, Number, Symbol, Fault}
+use Rattle.scanner.specs.Scan.{Lexeme}
+use Rattle.scanner.specs.Scan.{Separator, Word, Number, Symbol, Fault}
 use Rattle.scanner.specs.declared.Step.{Step}
 use Rattle.scanner.specs.declared.Step.the-variants.{Skip, Stop, Emit}
 use Rattle.scanner.specs.Scan.{wordLexeme, numberLexeme, lexemeOf, kindOf, spellingOf, token, spelledToken, stepBy, stepOf}
@@ -52,7 +52,7 @@ number-fits rest false d e =
     subst (Fits rest) (sym z) (large-number d (leb-false (valueOf (run isDigit rest)) largest e))
 
 -- a byte that may be in a formula and is neither a letter nor a digit is a symbol
-no-symbol : (b : ℕ) → isLetter b ≡ false → isDigit b ≡ false → isSymbol b ≡ false → 33 ≤ b → b ≤ 126 → ⊥
+pub no-symbol : (b : ℕ) → isLetter b ≡ false → isDigit b ≡ false → isSymbol b ≡ false → 33 ≤ b → b ≤ 126 → ⊥
 no-symbol b l d y low high =
     let t : isSymbol b ≡ true = rw (le-leb 33 b low, le-leb b 126 high, l, d) refl in
     let z : _≡_ {A = ℕ} 0 1 = cc in

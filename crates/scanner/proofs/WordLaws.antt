@@ -12,7 +12,7 @@ use Rattle.spellings.specs.Bytes.{same, indexOf}
 use Rattle.spellings.specs.BytesLaws.{same-refl, index-le}
 use Rattle.scanner.specs.declared.Token.{Token}
 use Rattle.scanner.specs.Scan.{isNew, wordsWith}
-use Rattle.scanner.specs.Rooms.{rowThen, placeThen, countWith, wordsFrom, wordsIn}
+use Rattle.scanner.specs.Rooms.{rowThen, placeThen, countWith, wordAt, wordsFrom, wordsIn}
 
 -- both parts of a test that passes
 pub both : (a b : Bool) → (a && b) ≡ true → (a ≡ true) × (b ≡ true)
@@ -68,6 +68,16 @@ words-at (suc k) formula room i (suc j) h =
     words-at k formula room (i + 1) j (omega arith)
     ∙ ap (λ (n : ℕ). take (getD room (n * 2 + 1) 0) (drop (getD room (n * 2) 0) formula)) z
 
+pub word-listed : (count : ℕ) (text room : List ℕ) (j : ℕ) → j < count → getD (wordsIn text room count) j [] ≡ wordAt text room j
+word-listed count text room j h = let z : 0 + j ≡ j = omega arith in words-at count text room 0 j h ∙ ap (wordAt text room) z
+
+-- a word as the code reads it
+pub word-read : (text room s : List ℕ) (i : ℕ) {at size : ℕ} {v : List ℕ} {b : Bool} → at ≡ getD room (i * 2) 0 → size ≡ getD room (i * 2 + 1) 0
+    → v ≡ take size (drop at text)
+    → b ≡ same v s
+    → b ≡ same (wordAt text room i) s
+word-read text room s i ea es ev eb = eb ∙ ap (λ (w : List ℕ). same w s) (ev ∙ rw (ea, es) refl)
+
 -- word i as the code compares it
 pub word-same : (formula room s : List ℕ) (count i : ℕ) {at size : ℕ} {b : Bool} → i < count → at ≡ getD room (i * 2) 0
     → size ≡ getD room (i * 2 + 1) 0
@@ -102,8 +112,16 @@ words-same (suc k) formula room i j v h =
     let b : getD (set room j v) (i * 2) 0 ≡ getD room (i * 2) 0 = getD-set-other room j (i * 2) v 0 (omega arith) in
     rw (a, b, words-same k formula room (i + 1) j v (omega arith)) refl
 
+-- rooms with the same places have the same words
+pub words-alike : (k : ℕ) (text room room′ : List ℕ) (i : ℕ) → ((j : ℕ) → j < (i + k) * 2 → getD room′ j 0 ≡ getD room j 0)
+    → wordsFrom k text room′ i ≡ wordsFrom k text room i
+unfolding wordsFrom
+words-alike zero text room room′ i h = refl
+words-alike (suc k) text room room′ i h =
+    rw (h (i * 2 + 1) (omega arith), h (i * 2) (omega arith), words-alike k text room room′ (i + 1) (λ j l. h j (omega arith))) refl
+
 -- the words after the place of one more is stored behind them
-words-added : (formula room : List ℕ) (count at size : ℕ) → count * 2 + 1 < length room
+pub words-added : (formula room : List ℕ) (count at size : ℕ) → count * 2 + 1 < length room
     → wordsIn formula (sets room (count * 2) (at ∷ size ∷ [])) (count + 1)
     ≡ wordsIn formula room count ++ (take size (drop at formula) ∷ [])
 words-added formula room count at size h =

@@ -2,4 +2,6 @@ pub mod Scan
 pub mod Rooms
 pub mod Tiling
 pub mod Unscanned
-pub mod Links
+pub mod Trees
+pub mod LexiconRoom
+pub mod Stepping

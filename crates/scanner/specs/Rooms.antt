@@ -42,11 +42,13 @@ unfoldable pub places : ℕ → List Token → List ℕ
 places count [] = []
 places count (t ∷ ts) = placeThen count t (places (countWith count t) ts)
 
--- the words that a room of places names in a formula, k of them from word i on
+-- the words that a room of places names in a formula: word i, k of them from word i on, and the first
+abbrev pub wordAt : List ℕ → List ℕ → ℕ → List ℕ
+wordAt formula room i = take (getD room (i * 2 + 1) 0) (drop (getD room (i * 2) 0) formula)
+
 unfoldable pub wordsFrom : ℕ → List ℕ → List ℕ → ℕ → List (List ℕ)
 wordsFrom zero formula room i = []
-wordsFrom (suc k) formula room i =
-    take (getD room (i * 2 + 1) 0) (drop (getD room (i * 2) 0) formula) ∷ wordsFrom k formula room (i + 1)
+wordsFrom (suc k) formula room i = wordAt formula room i ∷ wordsFrom k formula room (i + 1)
 
 abbrev pub wordsIn : List ℕ → List ℕ → ℕ → List (List ℕ)
 wordsIn formula room count = wordsFrom count formula room 0
@@ -57,6 +59,11 @@ wordsIn formula room count = wordsFrom count formula room 0
 pub record RoomFor (formula tokens words : List ℕ) : Type 0 where
   pub for-tokens : (n : ℕ) → n ≤ length formula → n ≤ 4096 → n * 4 ≤ length tokens
   pub for-words : (n : ℕ) → n ≤ length formula → n ≤ 4096 → n * 2 ≤ length words
+
+-- What a scan asks of what it is given: the offsets of a table fit a number of a room, and there is room.
+pub record Lent (table formula tokens words : List ℕ) : Type 0 where
+  pub short : length table < 2 ^ 32
+  pub room : RoomFor formula tokens words
 
 -- What those who read n tokens off a room ask: they lie in it, they are at most 4,096, and each value leaves room for a name's class.
 pub record TokensFit (room : List ℕ) (n : ℕ) : Type 0 where

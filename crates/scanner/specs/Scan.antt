@@ -6,8 +6,6 @@ use mathlib.Core.List.{List, [], _∷_, _++_}
 use lib.Dec.{eqb, leb, ltb}
 use lib.ListN.{length, getD, take, drop}
 use Rattle.scanner.specs.declared.Token.{Token}
-use Rattle.scanner.specs.declared.Lexeme.{Lexeme}
-use Rattle.scanner.specs.declared.Lexeme.the-variants.{Separator, Word, Number, Symbol, Fault}
 use Rattle.scanner.specs.declared.Step.{Step}
 use Rattle.scanner.specs.declared.Step.the-variants.{Skip, Stop, Emit}
 use Rattle.scanner.specs.declared.Scanned.{Scanned}
@@ -20,6 +18,14 @@ use Rattle.grammar.specs.Fields.{Lexicon}
 use Rattle.grammar.specs.Lookup.{foundIn}
 
 -- ------------------------------------------------------------------ the lexeme at the front
+
+-- what stands at the front of a run of bytes: a separator, a word or a number (with its length), one symbol byte, or a fault
+pub data Lexeme : Type 0 where
+  Separator : Lexeme
+  Word : ℕ → Lexeme
+  Number : ℕ → ℕ → Lexeme
+  Symbol : Lexeme
+  Fault : Lexeme
 
 -- a word of n bytes, if it is not too long
 abbrev pub wordLexeme : ℕ → Lexeme

@@ -1,20 +1,17 @@
--- `store_word`: two stores and a link if the word is new.
-use mathlib.Core.Path.{sym, ap, _∙_}
+-- `store_word`: a word that is new has a link free for it.
 use native.Mathlib.Omega.{arith}
 use lib.ListN.{length-set}
+use Rattle.scanner.proofs.TreeLaws.{free-inside}
+use Rattle.scanner.proofs.MadeLaws as laws
 use borrow.Author.Needs.{needs}
-use Rattle.scanner.specs.Links.{linksWith}
-use Rattle.scanner.specs.Tiling.{bytesOf}
-use Rattle.scanner.proofs.WordLaws as laws
-use Rattle.scanner.proofs.LinkLaws as links
 use Rattle.scanner.proofs.store_word.Statement.{statement}
 use Rattle.scanner.proofs.store_word.Tie as tie
 
-cast-next : tie.Need-cast-next
-cast-next c = search needs
+enum-told : tie.Need-enum-told
+enum-told c = search needs
 
-add-next : tie.Need-add-next
-add-next c = search needs
+enum-known-spot : tie.Need-enum-known-spot
+enum-known-spot c = search needs
 
 mul-i : tie.Need-mul-i
 mul-i c = search needs
@@ -32,66 +29,61 @@ mul-words-2 : tie.Need-mul-words-2
 mul-words-2 c = search needs
 
 slice-write-words-2 : tie.Need-slice-write-words-2
-slice-write-words-2 c = simp length-set (omega (arith, c .before .before .before .before .before .pre))
+slice-write-words-2 c = simp length-set (omega arith)
 
-cast-part : tie.Need-cast-part
-cast-part c = search needs
+add-links : tie.Need-add-links
+add-links c = search needs
 
-cast-part-2 : tie.Need-cast-part-2
-cast-part-2 c = search needs
+cast-links : tie.Need-cast-links
+cast-links c = search needs
 
-part-requires : tie.Need-part-requires
-part-requires c κs = search needs
+mul-links : tie.Need-mul-links
+mul-links c = omega (arith, free-inside _ (c .before .spot .given .1) (c .before .before .before .pre .1))
 
-link-word-requires : tie.Need-link-word-requires
-link-word-requires c κs = search needs
+slice-write-links : tie.Need-slice-write-links
+slice-write-links c = free-inside _ (c .before .spot .given .1) (c .before .before .before .pre .1)
 
 add-result : tie.Need-add-result
 add-result c = search needs
 
-same-length : tie.Need-same-length
-same-length c = simp length-set
-
 returns : tie.Need-returns
 returns c =
-    let given = c .before .before .before .before .before .before .before .before .before .before .args in
-    let new = c .before .before .before .before .before .if1 .taken in
-    let linked = c .link-word .ensures ∙ ap (linksWith (given .links .now) (given .count)) (c .before .before .part .ensures) in (
-      laws.count-new (given .words .now) (given .count) (given .t) new,
-      (
-        laws.place-new (given .words .now) (given .count) (given .t) new,
-        linked ∙ sym (links.links-new (given .links .now) (given .count) (bytesOf (given .formula .now) (given .t)) (given .t) new),
-      ),
-    )
+    let start = c .before .before in
+    let args = start .args in
+    let stored = laws.node-stored (args .words .now) (args .links .now) (args .count) (args .t) (args .spot) (start .pre .0) (c .enum-told .given .1) in
+    (stored .0, (stored .1, stored .2))
+
+same-length : tie.Need-same-length
+same-length c = search needs
+
+same-length-2 : tie.Need-same-length-2
+same-length-2 c = search needs
 
 returns-2 : tie.Need-returns-2
 returns-2 c =
-    let given = c .before .before .before .before .before .args in
-    let old = c .if1 .left in (
-      laws.count-old (given .words .now) (given .count) (given .t) old,
-      (
-        laws.place-old (given .words .now) (given .count) (given .t) old,
-        sym (links.links-old (given .links .now) (given .count) (bytesOf (given .formula .now) (given .t)) (given .t) old),
-      ),
-    )
+    let start = c .before .before .before in
+    let args = start .args in
+    let stored = laws.free-stored (args .words .now) (args .links .now) (args .count) (args .t) (args .spot) (start .pre .0) (c .before .spot .given .1) in
+    (stored .0, (stored .1, stored .2))
 
 pub store-word-spec : {M : Type 1} → statement M
 store-word-spec =
     tie.close
     (tie.spec
-    cast-next
-    add-next
+    enum-told
+    enum-known-spot
     mul-i
     mul-words
     slice-write-words
     add-words
     mul-words-2
     slice-write-words-2
-    cast-part
-    cast-part-2
-    part-requires
-    link-word-requires
+    add-links
+    cast-links
+    mul-links
+    slice-write-links
     add-result
-    same-length
     returns
+    same-length
+    same-length-2
     returns-2)

@@ -1,0 +1,95 @@
+-- `mark_step`: by the class of the byte.
+use mathlib.Core.Path.{sym, _∙_}
+use native.Mathlib.Omega.{arith}
+use lib.ListN.{getD}
+use Rattle.scanner.proofs.MadeLaws as laws
+use borrow.Author.Needs.{needs}
+use Rattle.scanner.proofs.mark_step.Statement.{statement}
+use Rattle.scanner.proofs.mark_step.Tie as tie
+
+shared-slice-read-b : tie.Need-shared-slice-read-b
+shared-slice-read-b c = search needs
+
+is-separator-requires : tie.Need-is-separator-requires
+is-separator-requires c κs = search needs
+
+returns : tie.Need-returns
+returns c =
+    let separates = c .before in
+    let start = separates .before .before .before .before .before .before in
+    laws.separator-at (start .args .formula .now) (start .args .at) (sym (separates .is-separator .ensures) ∙ c .if1 .taken)
+
+is-digit-requires : tie.Need-is-digit-requires
+is-digit-requires c κs = search needs
+
+number-step-requires : tie.Need-number-step-requires
+number-step-requires c κs = (omega arith, omega arith, sym (c .before .is-digit .ensures) ∙ c .if2 .taken)
+
+returns-2 : tie.Need-returns-2
+returns-2 c = c .number-step .ensures _
+
+is-symbol-requires : tie.Need-is-symbol-requires
+is-symbol-requires c κs = search needs
+
+cast-t12 : tie.Need-cast-t12
+cast-t12 c =
+    let separates = c .before .before .before .before .before in
+    let start = separates .before .before .before .before .before .before in
+    omega (arith, laws.symbol-below (start .pre .0 .0) (getD (start .args .formula .now) (start .args .at) 0) (sym (c .before .is-symbol .ensures) ∙ c .if3 .taken))
+
+add-t13 : tie.Need-add-t13
+add-t13 c =
+    let separates = c .before .before .before .before .before in
+    let start = separates .before .before .before .before .before .before in
+    omega (arith, laws.symbol-below (start .pre .0 .0) (getD (start .args .formula .now) (start .args .at) 0) (sym (c .before .is-symbol .ensures) ∙ c .if3 .taken))
+
+mul-t14 : tie.Need-mul-t14
+mul-t14 c =
+    let separates = c .before .before .before .before .before in
+    let start = separates .before .before .before .before .before .before in
+    omega (arith, laws.symbol-inside (start .pre .0 .0) (getD (start .args .formula .now) (start .args .at) 0) (sym (c .before .is-symbol .ensures) ∙ c .if3 .taken))
+
+shared-slice-read-t16 : tie.Need-shared-slice-read-t16
+shared-slice-read-t16 c =
+    let separates = c .before .before .before .before .before .before in
+    let start = separates .before .before .before .before .before .before in
+    laws.symbol-inside (start .pre .0 .0) (getD (start .args .formula .now) (start .args .at) 0) (sym (c .before .before .is-symbol .ensures) ∙ c .before .if3 .taken)
+
+cast-t17 : tie.Need-cast-t17
+cast-t17 c = search needs
+
+returns-3 : tie.Need-returns-3
+returns-3 c =
+    let separates = c .before .before .before .before .before .before in
+    let start = separates .before .before .before .before .before .before in
+    laws.symbol-at (start .pre .0 .0) (start .args .formula .now) (start .args .at) (omega arith)
+    (sym (c .before .before .is-symbol .ensures) ∙ c .before .if3 .taken)
+
+returns-4 : tie.Need-returns-4
+returns-4 c =
+    let separates = c .before .before .before .before .before in
+    let start = separates .before .before .before .before .before .before in
+    let digit = c .before .before .before in
+    laws.bad-at (start .args .formula .now) (start .args .at) (sym (separates .is-separator .ensures) ∙ digit .before .if1 .left)
+    (start .pre .0 .1)
+    (sym (digit .is-digit .ensures) ∙ c .before .before .if2 .left)
+    (sym (c .before .is-symbol .ensures) ∙ c .if3 .left)
+
+pub mark-step-spec : {M : Type 1} → statement M
+mark-step-spec =
+    tie.close
+    (tie.spec
+    shared-slice-read-b
+    is-separator-requires
+    returns
+    is-digit-requires
+    number-step-requires
+    returns-2
+    is-symbol-requires
+    cast-t12
+    add-t13
+    mul-t14
+    shared-slice-read-t16
+    cast-t17
+    returns-3
+    returns-4)

@@ -1,0 +1,69 @@
+-- `name_of`: where the search among keywords and outside names ended.
+use native.Mathlib.Omega.{arith}
+use Rattle.scanner.proofs.MadeLaws as laws
+use borrow.Author.Needs.{needs}
+use Rattle.scanner.proofs.name_of.Statement.{statement}
+use Rattle.scanner.proofs.name_of.Tie as tie
+
+shared-slice-read-keywords : tie.Need-shared-slice-read-keywords
+shared-slice-read-keywords c = search needs
+
+shared-slice-read-wide : tie.Need-shared-slice-read-wide
+shared-slice-read-wide c = search needs
+
+wide-requires : tie.Need-wide-requires
+wide-requires c κs = search needs
+
+find-requires : tie.Need-find-requires
+find-requires c κs =
+    let start = c .before .before .before .before .before .before .before in
+    (rw (c .wide .ensures) (laws.lexical-planted (start .pre .0)), start .pre .1)
+
+enum-known-spot : tie.Need-enum-known-spot
+enum-known-spot c = search needs
+
+cast-k : tie.Need-cast-k
+cast-k c =
+    let found = c .before .before .before in
+    let read = found .before in
+    let start = read .before .before .before .before .before .before .before in
+    omega (arith, (laws.node-fits (start .pre .0) (start .args .s .now) (read .wide .ensures) (found .find .result) (found .find .ensures) (c .before .spot .given .1)))
+
+returns : tie.Need-returns
+returns c =
+    let found = c .before .before .before .before in
+    let read = found .before in
+    let start = read .before .before .before .before .before .before .before in
+    (laws.node-keyword (start .pre .0) (start .args .s .now) (read .wide .ensures) (found .find .result) (found .find .ensures) (c .before .before .spot .given .1) (c .if1 .taken))
+
+enum-told : tie.Need-enum-told
+enum-told c = search needs
+
+returns-2 : tie.Need-returns-2
+returns-2 c =
+    let found = c .before .before .before .before in
+    let read = found .before in
+    let start = read .before .before .before .before .before .before .before in
+    (laws.node-outside (start .pre .0) (start .args .s .now) (read .wide .ensures) (found .find .result) (found .find .ensures) (c .before .before .spot .given .1) (c .if1 .left))
+
+returns-3 : tie.Need-returns-3
+returns-3 c =
+    let found = c .before .before in
+    let read = found .before in
+    let start = read .before .before .before .before .before .before .before in
+    (laws.node-none (start .pre .0) (start .args .s .now) (read .wide .ensures) (found .find .result) (found .find .ensures) (c .enum-told .given .1))
+
+pub name-of-spec : {M : Type 1} → statement M
+name-of-spec =
+    tie.close
+    (tie.spec
+    shared-slice-read-keywords
+    shared-slice-read-wide
+    wide-requires
+    find-requires
+    enum-known-spot
+    cast-k
+    returns
+    enum-told
+    returns-2
+    returns-3)

@@ -1,0 +1,79 @@
+-- `number_step`: the digits at the front.
+use mathlib.Core.Path.{sym, _∙_}
+use native.Mathlib.Omega.{arith}
+use Rattle.scanner.proofs.MadeLaws as laws
+use borrow.Author.Needs.{needs}
+use Rattle.scanner.proofs.number_step.Statement.{statement}
+use Rattle.scanner.proofs.number_step.Tie as tie
+
+sub-rest : tie.Need-sub-rest
+sub-rest c = search needs
+
+part-rest-start : tie.Need-part-rest-start
+part-rest-start c = search needs
+
+part-rest-end : tie.Need-part-rest-end
+part-rest-end c = search needs
+
+digit-run-requires : tie.Need-digit-run-requires
+digit-run-requires c κs = search needs
+
+slice-aggregate-value : tie.Need-slice-aggregate-value
+slice-aggregate-value c =
+    let digits = c .before in
+    let start = digits .before .before .before in
+    laws.digits-counted (start .args .formula .now) (start .args .at) (digits .digit-run .ensures)
+
+value-requires : tie.Need-value-requires
+value-requires c κs = search needs
+
+enum-known-number : tie.Need-enum-known-number
+enum-known-number c = search needs
+
+cast-t13 : tie.Need-cast-t13
+cast-t13 c = search needs
+
+cast-t14 : tie.Need-cast-t14
+cast-t14 c =
+    let valued = c .before .before .before in
+    let digits = valued .before .before in
+    let start = digits .before .before .before in
+    omega (arith, laws.number-small (start .args .formula .now) (start .args .at) (digits .digit-run .ensures))
+
+enum-told : tie.Need-enum-told
+enum-told c = search needs
+
+returns : tie.Need-returns
+returns c =
+    let valued = c .before .before .before in
+    let digits = valued .before .before in
+    let start = digits .before .before .before in
+    λ lex.
+    laws.number-at (start .args .formula .now) (start .args .at) (digits .digit-run .ensures) (start .pre .2) lex
+    (sym (c .before .number .given .1) ∙ valued .value .ensures)
+
+returns-2 : tie.Need-returns-2
+returns-2 c =
+    let valued = c .before .before in
+    let digits = valued .before .before in
+    let start = digits .before .before .before in
+    λ lex.
+    laws.large-at (start .args .formula .now) (start .args .at) (digits .digit-run .ensures) (start .pre .2) lex
+    (sym (c .enum-told .given .1) ∙ valued .value .ensures)
+
+pub number-step-spec : {M : Type 1} → statement M
+number-step-spec =
+    tie.close
+    (tie.spec
+    sub-rest
+    part-rest-start
+    part-rest-end
+    digit-run-requires
+    slice-aggregate-value
+    value-requires
+    enum-known-number
+    cast-t13
+    cast-t14
+    enum-told
+    returns
+    returns-2)

@@ -1,0 +1,95 @@
+-- `own_word`: where the search among the words met ended.
+use mathlib.Core.Path.{sym, ap, _∙_}
+use native.Mathlib.Omega.{arith}
+use Rattle.scanner.specs.Trees.{hashOf}
+use Rattle.scanner.proofs.MadeLaws as laws
+use borrow.Author.Needs.{needs}
+use Rattle.scanner.proofs.own_word.Statement.{statement}
+use Rattle.scanner.proofs.own_word.Tie as tie
+
+part-requires : tie.Need-part-requires
+part-requires c κs = search needs
+
+find-requires : tie.Need-find-requires
+find-requires c κs =
+    let asked = c .before .before .before .before .pre .0 in
+    (asked .0, asked .1 ∙ ap hashOf (sym (c .part .ensures)))
+
+enum-known-spot : tie.Need-enum-known-spot
+enum-known-spot c = search needs
+
+cast-emit : tie.Need-cast-emit
+cast-emit c =
+    let found = c .before .before .before in
+    let read = found .before in
+    let start = read .before .before .before .before in
+    let args = start .args in
+    omega (
+      arith,
+      start .pre .1,
+      laws.own-small (args .mask) (args .formula .now) (args .words .now) (args .count) (args .links .now) _ _ (read .part .ensures) (found .find .result)
+          (found .find .ensures) (c .before .spot .given .1),
+    )
+
+add-emit : tie.Need-add-emit
+add-emit c =
+    let found = c .before .before .before in
+    let read = found .before in
+    let start = read .before .before .before .before in
+    let args = start .args in
+    omega (
+      arith,
+      start .pre .1,
+      laws.own-small (args .mask) (args .formula .now) (args .words .now) (args .count) (args .links .now) _ _ (read .part .ensures) (found .find .result)
+          (found .find .ensures) (c .before .spot .given .1),
+    )
+
+emit-requires : tie.Need-emit-requires
+emit-requires c κs = search needs
+
+enum-known-spot-2 : tie.Need-enum-known-spot-2
+enum-known-spot-2 c = search needs
+
+cast-emit-2 : tie.Need-cast-emit-2
+cast-emit-2 c = search needs
+
+add-emit-2 : tie.Need-add-emit-2
+add-emit-2 c = search needs
+
+emit-requires-2 : tie.Need-emit-requires-2
+emit-requires-2 c κs = search needs
+
+returns : tie.Need-returns
+returns c =
+    let found = c .before .before .before .before in
+    let read = found .before in
+    let start = read .before .before .before .before in
+    let args = start .args in
+    laws.own-node (args .mask) (args .formula .now) (args .words .now) (args .count) (args .links .now) _ _ (read .part .ensures) (found .find .result)
+    (found .find .ensures) (c .before .before .spot .given .1) (c .emit .ensures)
+
+returns-2 : tie.Need-returns-2
+returns-2 c =
+    let found = c .before .before .before .before in
+    let read = found .before in
+    let start = read .before .before .before .before in
+    let args = start .args in
+    laws.own-free (args .mask) (args .formula .now) (args .words .now) (args .count) (args .links .now) _ _ (read .part .ensures) (found .find .result)
+    (found .find .ensures) (c .before .before .spot2 .given .1) (c .emit2 .ensures)
+
+pub own-word-spec : {M : Type 1} → statement M
+own-word-spec =
+    tie.close
+    (tie.spec
+    part-requires
+    find-requires
+    enum-known-spot
+    cast-emit
+    add-emit
+    emit-requires
+    enum-known-spot-2
+    cast-emit-2
+    add-emit-2
+    emit-requires-2
+    returns
+    returns-2)

@@ -1,0 +1,252 @@
+-- `scan_loop`: what is left of the formula gives what the whole gives.
+use Prim.Native.Nat.{_-_}
+use mathlib.Core.Path.{ap, _∙_}
+use native.Mathlib.Omega.{arith}
+use lib.ListN.{length}
+use Rattle.scanner.specs.Rooms.{filled}
+use Rattle.scanner.proofs.ScanLoop as loop
+use Rattle.scanner.proofs.ScanningLaws as laws
+use borrow.Author.Needs.{needs}
+use Rattle.scanner.proofs.scan_loop.Statement.{statement}
+use Rattle.scanner.proofs.scan_loop.Tie as tie
+
+abbrev Inv-loop : tie.InvT-loop
+Inv-loop table room tree formula tokens₀ words₀ links₀ mask at₀ n₀ count₀ tokens words links at n count =
+    laws.Scanning table room tree formula tokens₀ words₀ links₀ tokens words links mask at n count
+
+abbrev μ-loop : tie.MeasureT-loop
+μ-loop table room tree formula tokens₀ words₀ links₀ mask at₀ n₀ count₀ tokens words links at n count =
+    length formula - at
+
+loop-holds : tie.Need-loop-holds Inv-loop μ-loop
+loop-holds c =
+    let asked = c .before .before .before .before .before .before .before .pre in
+    laws.scanning-start (asked .0) (asked .1) (asked .2)
+
+step-at-requires : tie.Need-step-at-requires Inv-loop μ-loop
+step-at-requires c κs =
+    let test = c .before .before in
+    let inv = test .before .loop .inv in
+    (inv .ready, (test .loop-test .taken, inv .short))
+
+enum-told : tie.Need-enum-told Inv-loop μ-loop
+enum-told c = search needs
+
+add-at : tie.Need-add-at Inv-loop μ-loop
+add-at c = search needs
+
+loop-less : tie.Need-loop-less Inv-loop μ-loop
+loop-less c = search needs
+
+loop-again : tie.Need-loop-again Inv-loop μ-loop
+loop-again c =
+    let stepped = c .before .before in
+    let test = stepped .before .before .before in
+    let inv = test .before .loop .inv in
+    laws.scanning-skip inv (test .loop-test .taken) (stepped .step-at .ensures) (c .enum-told .given .1)
+
+enum-told-2 : tie.Need-enum-told-2 Inv-loop μ-loop
+enum-told-2 c = search needs
+
+bad-lexeme-requires : tie.Need-bad-lexeme-requires Inv-loop μ-loop
+bad-lexeme-requires c κs = search needs
+
+same-length : tie.Need-same-length Inv-loop μ-loop
+same-length c =
+    let test = c .before .before .before .before .before .before in
+    test .before .loop .inv .tokens-same
+
+same-length-2 : tie.Need-same-length-2 Inv-loop μ-loop
+same-length-2 c =
+    let test = c .before .before .before .before .before .before in
+    test .before .loop .inv .words-same
+
+same-length-3 : tie.Need-same-length-3 Inv-loop μ-loop
+same-length-3 c =
+    let test = c .before .before .before .before .before .before in
+    test .before .loop .inv .links-same
+
+returns : tie.Need-returns Inv-loop μ-loop
+returns c =
+    let stepped = c .before .before .before in
+    let test = stepped .before .before .before in
+    let inv = test .before .loop .inv in
+    let turn = test .before .loop in
+    ap (λ r. filled r (turn .tokens) (turn .words)) (c .bad-lexeme .ensures)
+    ∙ loop.turn-stop (inv .turn) (test .loop-test .taken)
+    (laws.stop-eq inv (test .loop-test .taken) (stepped .step-at .ensures) (c .before .enum-told2 .given .1))
+
+enum-known-step : tie.Need-enum-known-step Inv-loop μ-loop
+enum-known-step c = search needs
+
+unscanned-requires : tie.Need-unscanned-requires Inv-loop μ-loop
+unscanned-requires c κs = search needs
+
+same-length-4 : tie.Need-same-length-4 Inv-loop μ-loop
+same-length-4 c =
+    let told = c .before .before .before in
+    let test = told .before .before .before .before .before in
+    test .before .loop .inv .tokens-same
+
+same-length-5 : tie.Need-same-length-5 Inv-loop μ-loop
+same-length-5 c =
+    let told = c .before .before .before in
+    let test = told .before .before .before .before .before in
+    test .before .loop .inv .words-same
+
+same-length-6 : tie.Need-same-length-6 Inv-loop μ-loop
+same-length-6 c =
+    let told = c .before .before .before in
+    let test = told .before .before .before .before .before in
+    test .before .loop .inv .links-same
+
+returns-2 : tie.Need-returns-2 Inv-loop μ-loop
+returns-2 c =
+    let full = c .before in
+    let told = full .before .before in
+    let stepped = told .before .before in
+    let test = stepped .before .before .before in
+    let inv = test .before .loop .inv in
+    let more = test .loop-test .taken in
+    let step = stepped .step-at .ensures in
+    let emits = told .step .given .1 in
+    let turn = test .before .loop in
+    ap (λ r. filled r (turn .tokens) (turn .words)) (c .unscanned .ensures)
+    ∙ loop.turn-full (inv .turn) more (laws.emit-eq inv more step emits) (full .if1 .taken)
+
+store-token-requires : tie.Need-store-token-requires Inv-loop μ-loop
+store-token-requires c κs =
+    let full = c .before in
+    let told = full .before .before in
+    let stepped = told .before .before in
+    let test = stepped .before .before .before in
+    let inv = test .before .loop .inv in
+    let more = test .loop-test .taken in
+    let step = stepped .step-at .ensures in
+    let emits = told .step .given .1 in
+    laws.row-inside inv more step emits (full .if1 .left)
+
+store-word-requires : tie.Need-store-word-requires Inv-loop μ-loop
+store-word-requires c κs =
+    let full = c .before .before .before .before .before .before in
+    let told = full .before .before in
+    let stepped = told .before .before in
+    let test = stepped .before .before .before in
+    let inv = test .before .loop .inv in
+    let more = test .loop-test .taken in
+    let step = stepped .step-at .ensures in
+    let emits = told .step .given .1 in
+    let below = full .if1 .left in (
+      laws.spot-agrees inv more step emits,
+      laws.spot-linkable inv more step emits,
+      laws.place-inside inv more step emits below,
+      laws.few-inside inv more step emits below,
+    )
+
+add-n : tie.Need-add-n Inv-loop μ-loop
+add-n c =
+    let stored = c .before .before .before .before in
+    let row = stored .before .before .before .before .before in
+    let full = row .before .before in
+    let told = full .before .before in
+    let stepped = told .before .before in
+    let test = stepped .before .before .before in
+    let inv = test .before .loop .inv in
+    let more = test .loop-test .taken in
+    let step = stepped .step-at .ensures in
+    let emits = told .step .given .1 in
+    omega (arith, inv .turn .small)
+
+cast-at : tie.Need-cast-at Inv-loop μ-loop
+cast-at c = search needs
+
+add-at-2 : tie.Need-add-at-2 Inv-loop μ-loop
+add-at-2 c =
+    let stored = c .before .before .before .before .before in
+    let row = stored .before .before .before .before .before in
+    let full = row .before .before in
+    let told = full .before .before in
+    let stepped = told .before .before in
+    let test = stepped .before .before .before in
+    let inv = test .before .loop .inv in
+    let more = test .loop-test .taken in
+    let step = stepped .step-at .ensures in
+    let emits = told .step .given .1 in
+    omega (arith, laws.token-inside inv more step emits, inv .short)
+
+loop-less-2 : tie.Need-loop-less-2 Inv-loop μ-loop
+loop-less-2 c =
+    let stored = c .before .before .before .before .before in
+    let row = stored .before .before .before .before .before in
+    let full = row .before .before in
+    let told = full .before .before in
+    let stepped = told .before .before in
+    let test = stepped .before .before .before in
+    let inv = test .before .loop .inv in
+    let more = test .loop-test .taken in
+    let step = stepped .step-at .ensures in
+    let emits = told .step .given .1 in
+    loop.turn-less (inv .turn) more (laws.emit-eq inv more step emits)
+
+loop-again-2 : tie.Need-loop-again-2 Inv-loop μ-loop
+loop-again-2 c =
+    let stored = c .before .before .before .before .before in
+    let row = stored .before .before .before .before .before in
+    let full = row .before .before in
+    let told = full .before .before in
+    let stepped = told .before .before in
+    let test = stepped .before .before .before in
+    let inv = test .before .loop .inv in
+    let more = test .loop-test .taken in
+    let step = stepped .step-at .ensures in
+    let emits = told .step .given .1 in
+    let after = stored .store-word .ensures in
+    laws.scanning-emit inv more step emits (full .if1 .left) (row .store-token .ensures) (after .1 .0) (after .1 .1) (after .0)
+
+same-length-7 : tie.Need-same-length-7 Inv-loop μ-loop
+same-length-7 c = c .before .loop .inv .tokens-same
+
+same-length-8 : tie.Need-same-length-8 Inv-loop μ-loop
+same-length-8 c = c .before .loop .inv .words-same
+
+same-length-9 : tie.Need-same-length-9 Inv-loop μ-loop
+same-length-9 c = c .before .loop .inv .links-same
+
+returns-3 : tie.Need-returns-3 Inv-loop μ-loop
+returns-3 c = loop.turn-end (c .before .loop .inv .turn) (c .loop-test .left)
+
+pub scan-loop-spec : {M : Type 1} → statement M
+scan-loop-spec =
+    tie.close
+    (tie.spec
+    Inv-loop
+    μ-loop
+    loop-holds
+    step-at-requires
+    enum-told
+    add-at
+    loop-less
+    loop-again
+    enum-told-2
+    bad-lexeme-requires
+    same-length
+    same-length-2
+    same-length-3
+    returns
+    enum-known-step
+    unscanned-requires
+    same-length-4
+    same-length-5
+    same-length-6
+    returns-2
+    store-token-requires
+    store-word-requires
+    add-n
+    cast-at
+    add-at-2
+    loop-less-2
+    loop-again-2
+    same-length-7
+    same-length-8
+    same-length-9
+    returns-3)

@@ -1,0 +1,122 @@
+-- `word_step`: a word by the table, or by the words met.
+use mathlib.Core.Path.{ap, _∙_}
+use native.Mathlib.Omega.{arith}
+use Rattle.grammar.proofs.LookupLaws.{few-outsides}
+use Rattle.scanner.specs.Trees.{hashOf}
+use Rattle.scanner.proofs.MadeLaws as laws
+use borrow.Author.Needs.{needs}
+use Rattle.scanner.proofs.word_step.Statement.{statement}
+use Rattle.scanner.proofs.word_step.Tie as tie
+
+word-at-requires : tie.Need-word-at-requires
+word-at-requires c κs = search needs
+
+returns : tie.Need-returns
+returns c =
+    let read = c .before in
+    let start = read .before .before .before .before .before .before .before in
+    let asked = start .pre .1 in
+    laws.long-made (start .args .table .now) (start .args .formula .now) (start .args .at) (asked .0) (asked .2) (read .word-at .ensures)
+    (c .if1 .taken)
+
+part-requires : tie.Need-part-requires
+part-requires c κs = search needs
+
+name-of-requires : tie.Need-name-of-requires
+name-of-requires c κs =
+    let part = c in
+    let short = part .before in
+    let read = short .before in
+    let start = read .before .before .before .before .before .before .before in
+    let asked = start .pre .1 in
+    let here = laws.word-here (asked .0) (asked .2) (read .word-at .ensures) (short .if1 .left) (part .part .ensures) in
+    (start .pre .0 .lexical, laws.here-hash here)
+
+enum-known-name : tie.Need-enum-known-name
+enum-known-name c = search needs
+
+add-emit : tie.Need-add-emit
+add-emit c =
+    let part = c .before .before .before .before in
+    let short = part .before in
+    let read = short .before in
+    let start = read .before .before .before .before .before .before .before in
+    let asked = start .pre .1 in
+    let here = laws.word-here (asked .0) (asked .2) (read .word-at .ensures) (short .if1 .left) (part .part .ensures) in
+    let named = c .before .before .before in
+    omega (arith, laws.keyword-small (start .args .table .now) (part .part .result .now) (named .name-of .ensures) (c .before .name .given .1))
+
+emit-requires : tie.Need-emit-requires
+emit-requires c κs = search needs
+
+enum-known-name-2 : tie.Need-enum-known-name-2
+enum-known-name-2 c = search needs
+
+emit-requires-2 : tie.Need-emit-requires-2
+emit-requires-2 c κs = search needs
+
+enum-told : tie.Need-enum-told
+enum-told c = search needs
+
+own-word-requires : tie.Need-own-word-requires
+own-word-requires c κs =
+    let part = c .before .before .before in
+    let short = part .before in
+    let read = short .before in
+    let start = read .before .before .before .before .before .before .before in
+    let asked = start .pre .1 in
+    let here = laws.word-here (asked .0) (asked .2) (read .word-at .ensures) (short .if1 .left) (part .part .ensures) in
+    let hash = laws.here-hash here ∙ ap hashOf (part .part .ensures) in
+    ((laws.ready-planted (start .pre .0), hash), (omega arith, omega (arith, short .if1 .left), omega (arith, start .pre .0 .few)))
+
+returns-2 : tie.Need-returns-2
+returns-2 c =
+    let part = c .before .before .before .before .before in
+    let short = part .before in
+    let read = short .before in
+    let start = read .before .before .before .before .before .before .before in
+    let asked = start .pre .1 in
+    let here = laws.word-here (asked .0) (asked .2) (read .word-at .ensures) (short .if1 .left) (part .part .ensures) in
+    let named = c .before .before .before .before in
+    laws.keyword-made here (few-outsides (start .args .table .now)) (named .name-of .ensures) (c .before .before .name .given .1) (c .emit .ensures)
+
+returns-3 : tie.Need-returns-3
+returns-3 c =
+    let part = c .before .before .before .before .before in
+    let short = part .before in
+    let read = short .before in
+    let start = read .before .before .before .before .before .before .before in
+    let asked = start .pre .1 in
+    let here = laws.word-here (asked .0) (asked .2) (read .word-at .ensures) (short .if1 .left) (part .part .ensures) in
+    let named = c .before .before .before .before in
+    laws.outside-made here (few-outsides (start .args .table .now)) (named .name-of .ensures) (c .before .before .name2 .given .1) (c .emit2 .ensures)
+
+returns-4 : tie.Need-returns-4
+returns-4 c =
+    let part = c .before .before .before .before in
+    let short = part .before in
+    let read = short .before in
+    let start = read .before .before .before .before .before .before .before in
+    let asked = start .pre .1 in
+    let here = laws.word-here (asked .0) (asked .2) (read .word-at .ensures) (short .if1 .left) (part .part .ensures) in
+    let named = c .before .before .before in
+    laws.other-made here (few-outsides (start .args .table .now)) (named .name-of .ensures) (c .before .enum-told .given .1) (c .own-word .ensures)
+
+pub word-step-spec : {M : Type 1} → statement M
+word-step-spec =
+    tie.close
+    (tie.spec
+    word-at-requires
+    returns
+    part-requires
+    name-of-requires
+    enum-known-name
+    add-emit
+    emit-requires
+    enum-known-name-2
+    emit-requires-2
+    enum-told
+    own-word-requires
+    returns-2
+    returns-3
+    returns-4)

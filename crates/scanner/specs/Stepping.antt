@@ -1,0 +1,71 @@
+-- What the functions of one step of the scan promise. Nobody needs these definitions to believe `scan`: the contracts of private
+-- functions cite them, and its own does not.
+use Prim.Native.Nat.{ℕ, _+_, _*_, _<_, _≤_}
+use mathlib.Core.Path.{_≡_}
+use mathlib.Core.Bool.{true, false}
+use mathlib.Core.List.{List, []}
+use lib.ListN.{length, getD, take}
+use Rattle.grammar.specs.Fields.{Lexicon}
+use Rattle.kinds.specs.Kinds.{wordKind}
+use Rattle.scanner.specs.declared.Token.{Token}
+use Rattle.scanner.specs.declared.Step.{Step}
+use Rattle.scanner.specs.declared.Step.the-variants.{Emit}
+use Rattle.scanner.specs.declared.Name.{Name}
+use Rattle.scanner.specs.declared.Name.the-variants.{Keyword, Outside, Other}
+use Rattle.scanner.specs.declared.Made.{Made}
+use Rattle.scanner.specs.declared.trees.Spot.{Spot}
+use Rattle.scanner.specs.declared.trees.Spot.the-variants.{Node, Free}
+use Rattle.scanner.specs.Scan.{token, isNew, stepOf}
+use Rattle.scanner.specs.Tiling.{FirstAt, NotIn}
+use Rattle.scanner.specs.Rooms.{wordsIn}
+use Rattle.scanner.specs.Trees.{Tree, FreeFor}
+use Rattle.scanner.specs.LexiconRoom.{Lexical}
+
+-- what a word is by a lexicon
+pub data Named (lex : Lexicon) (s : List ℕ) : Name → Type 0 where
+  a-keyword : {k : ℕ} → FirstAt s (lex .keywords) k → Named lex s (Keyword k)
+  an-outside : {k : ℕ} → NotIn s (lex .keywords) → FirstAt s (lex .outsides) k → Named lex s (Outside k)
+  neither : NotIn s (lex .keywords) → NotIn s (lex .outsides) → Named lex s Other
+
+abbrev pub made : Step → Spot → Made
+made step spot = record { step = step; spot = spot }
+
+-- a word of the formula's own: met before, or new and free to be linked
+pub data OwnWord (mask : ℕ) (met : List (List ℕ)) (links : List ℕ) (at size : ℕ) (s : List ℕ) : Made → Type 0 where
+  met-before : {k : ℕ} → FirstAt s met k → OwnWord mask met links at size s (made (Emit (token wordKind at size (64 + k))) (Node 0))
+  first-met : {slot : ℕ} → FreeFor mask met links s slot
+      → OwnWord mask met links at size s (made (Emit (token wordKind at size (64 + length met))) (Free slot))
+
+-- a step at what is no word, whatever words were met
+pub record Marks (lex : Lexicon) (at : ℕ) (rest : List ℕ) (r : Step) : Type 0 where
+  pub step-is : (met : List (List ℕ)) → r ≡ stepOf lex met at rest
+  pub no-word : (t : Token) → r ≡ Emit t → t .kind ≡ wordKind → ⊥
+
+-- a token is a new word exactly if there is a link free for it
+abbrev pub Agrees : ℕ → Token → Spot → Type 0
+Agrees count t (Node i) = isNew count t ≡ false
+Agrees count t (Free slot) = isNew count t ≡ true
+
+abbrev pub FreeIn : ℕ → List (List ℕ) → List ℕ → List ℕ → Spot → Type 0
+FreeIn mask met links s (Node i) = Unit {0}
+FreeIn mask met links s (Free slot) = FreeFor mask met links s slot
+
+-- a step, and for a token where its word is linked
+pub record Stepped (lex : Lexicon) (mask : ℕ) (met : List (List ℕ)) (links : List ℕ) (at : ℕ) (rest : List ℕ) (r : Made) : Type 0 where
+  pub step-is : r .step ≡ stepOf lex met at rest
+  pub agrees : (t : Token) → r .step ≡ Emit t → Agrees (length met) t (r .spot)
+  pub free : (t : Token) → r .step ≡ Emit t → FreeIn mask met links (take (t .size) rest) (r .spot)
+
+-- what the scan knows between two tokens: the lexicon, the words met, and room for as many as there may be
+pub record Ready (table room tree formula words links : List ℕ) (mask count : ℕ) : Type 0 where
+  pub lexical : Lexical table room tree
+  pub met : Tree mask (wordsIn formula words count) links
+  pub few : count ≤ 4096
+  pub placed : count * 2 ≤ length words
+  pub linked : mask + 1 + count * 2 ≤ length links
+
+-- the rooms for the links of a scan, before it
+pub record Scannable (formula links : List ℕ) (mask : ℕ) : Type 0 where
+  pub short : length formula < 65536
+  pub unlinked : (i : ℕ) → getD links i 0 ≡ 0
+  pub enough : (n : ℕ) → n ≤ length formula → n ≤ 4096 → mask + 1 + n * 2 ≤ length links
