@@ -1,5 +1,5 @@
 -- What an expansion may take from a table that passes: the room holds its grammar.
-use Prim.Native.Nat.{ℕ, _<_}
+use Prim.Native.Nat.{ℕ}
 use mathlib.Core.Path.{_≡_, refl, _∙_, ap}
 use mathlib.Core.List.{List, []}
 use native.Mathlib.Omega.{arith}
@@ -60,9 +60,9 @@ module _ {bs : List ℕ} (bytes : Bytes bs) (p : Passes bs) where
         whole = each-map (λ q w. w .whole) (whole-places bs laid-out);
       }
 
-  -- Each of its productions is of one of the 64 nonterminals.
-  pub passed-owned : Each (λ (q : Place). q .owner < 64) (placesOf bs)
-  passed-owned = each-map (λ q w. w .small) (whole-places bs laid-out)
+  -- Each of its productions is of one of the 64 nonterminals, and stands whole in the table.
+  pub passed-places : Each (Whole bs) (placesOf bs)
+  passed-places = whole-places bs laid-out
 
 -- What a caller has of a room after a check that passed.
 pub record Joined (bs room : List ℕ) : Type 0 where
