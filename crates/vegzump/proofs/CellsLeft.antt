@@ -16,7 +16,8 @@ use Rattle.grammar.specs.Table as Table
 use Rattle.grammar.specs.Cells.{columns, withRow}
 use Rattle.expansion.specs.declared.State.{State}
 use Rattle.expansion.specs.Run.{Result, done, halt, Run, after}
-use Rattle.expansion.specs.Expansion.{Input, Choice, unfit, chosen, choice, nextToken, tokenTaken, take, misfit, cellMade, cell, build, buildAll, runItem, runItems, callBegun, mostCalls, runCall, mostOpen, start, ended, run}
+use Rattle.expansion.specs.Expansion.{Input, Choice, unfit, chosen, choice, nextToken, tokenTaken, take, misfit, cellMade, cell, build, buildAll, runItem}
+use Rattle.expansion.specs.Expansion.{runItems, callBegun, mostCalls, runCall, mostOpen, start, ended, run}
 use Rattle.expansion.specs.Expansion as Expansion
 use Rattle.vegzump.specs.Meaning.{Left}
 
@@ -69,7 +70,8 @@ module _ (I : Input) where
   cell-leaves code xs s cells h = go (ltb (s .made) (I .rows)) refl
     where
       go : (b : Bool) → ltb (s .made) (I .rows) ≡ b
-          → Leaves {A = ℕ} (I .rows) (s .made) cells (elim b as (λ x. Result ℕ) [ true ↦ done (s .made) (cellMade s) (withRow cells (s .made) code xs) | false ↦ halt (refusal 21 (s .at) 0 0) cells ])
+          → Leaves {A = ℕ} (I .rows) (s .made) cells
+          (elim b as (λ x. Result ℕ) [ true ↦ done (s .made) (cellMade s) (withRow cells (s .made) code xs) | false ↦ halt (refusal 21 (s .at) 0 0) cells ])
       go true e = (omega arith, omega (arith, ltb-true (s .made) (I .rows) e), row-left (s .made) cells code xs)
       go false e = (s .made, omega arith, h, left-not (s .made) cells)
 
@@ -77,7 +79,8 @@ module _ (I : Input) where
   take-leaves kind value s cells h = go (eqb (nextToken I s .kind) kind)
     where
       go : (b : Bool)
-          → Leaves {A = ℕ} (I .rows) (s .made) cells (elim b as (λ x. Result ℕ) [ true ↦ done (value (nextToken I s .value)) (tokenTaken s) cells | false ↦ misfit (only kind) s cells ])
+          → Leaves {A = ℕ} (I .rows) (s .made) cells
+          (elim b as (λ x. Result ℕ) [ true ↦ done (value (nextToken I s .value)) (tokenTaken s) cells | false ↦ misfit (only kind) s cells ])
       go true = stays s (tokenTaken s) cells refl h
       go false = (s .made, omega arith, h, left-not (s .made) cells)
 
@@ -89,14 +92,16 @@ module _ (I : Input) where
     build-leaves (Table.outside n) M s cells h = stays s s cells refl h
     build-leaves (Table.outsideLabel n) M s cells h = stays s s cells refl h
     build-leaves (Table.make c ts) M s cells h =
-        leaves-after (I .rows) (s .made) cells (buildAll ts I M s cells) (λ vs. cell I c vs) (build-all-leaves ts M s cells h) (λ vs s′ cells′ l. cell-leaves c vs s′ cells′ l)
+        leaves-after (I .rows) (s .made) cells (buildAll ts I M s cells) (λ vs. cell I c vs) (build-all-leaves ts M s cells h)
+        (λ vs s′ cells′ l. cell-leaves c vs s′ cells′ l)
 
     build-all-leaves : (ts : Templates) (M : List ℕ) → Leaving (buildAll ts I M)
     build-all-leaves none M s cells h = stays s s cells refl h
     build-all-leaves (more t ts) M s cells h =
         leaves-after (I .rows) (s .made) cells (build t I M s cells) _ (build-leaves t M s cells h)
         (λ v s′ cells′ l.
-        leaves-after (I .rows) (s′ .made) cells′ (buildAll ts I M s′ cells′) _ (build-all-leaves ts M s′ cells′ l) (λ vs s″ cells″ m. stays s″ s″ cells″ refl m))
+        leaves-after (I .rows) (s′ .made) cells′ (buildAll ts I M s′ cells′) _ (build-all-leaves ts M s′ cells′ l)
+        (λ vs s″ cells″ m. stays s″ s″ cells″ refl m))
 
   module _ (callee : ℕ → List ℕ → Run ℕ) (calls : (n : ℕ) (vs : List ℕ) → Leaving (callee n vs)) where
     item-leaves : (i : Item) (M : List ℕ) → Leaving (runItem callee I i M)
@@ -105,7 +110,8 @@ module _ (I : Input) where
     item-leaves Table.number M s cells h = take-leaves numberKind (λ v. v) s cells h
     item-leaves Table.local M s cells h = stays s (record { at = s .at; fresh = s .fresh + 1; calls = s .calls; made = s .made }) cells refl h
     item-leaves (Table.call n ts) M s cells h =
-        leaves-after (I .rows) (s .made) cells (buildAll ts I M s cells) (λ vs. callee n vs) (build-all-leaves ts M s cells h) (λ vs s′ cells′ l. calls n vs s′ cells′ l)
+        leaves-after (I .rows) (s .made) cells (buildAll ts I M s cells) (λ vs. callee n vs) (build-all-leaves ts M s cells h)
+        (λ vs s′ cells′ l. calls n vs s′ cells′ l)
 
     items-leave : (is : List Item) (M : List ℕ) → Leaving (runItems callee I is M)
     unfolding runItems

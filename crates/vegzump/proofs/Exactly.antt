@@ -29,7 +29,8 @@ use Rattle.vegzump.specs.Expand.{Expanded, refused, lexiconOfTable, inpu
 use Rattle.vegzump.specs.Meaning.{Scans, spellOf, Means, rowsLent, MeansWithin, cellsOf, Cause, unscanned, stopped, Accepts, Left}
 use Rattle.vegzump.specs.Meaning as Meaning
 use Rattle.vegzump.proofs.Owners.{occurs, Says, loose-says, none-places, first-places}
-use Rattle.vegzump.proofs.Stages.{Finish, too-big, is-loose, too-long, prints, scanned-as, means-one, RunsTo, Stage, in-scan, in-parse, at-last, stages, unscanned-ends, stopped-ends, meant-ends}
+use Rattle.vegzump.proofs.Stages.{Finish, too-big, is-loose, too-long, prints, scanned-as, means-one, RunsTo, Stage, in-scan, in-parse, at-last, stages}
+use Rattle.vegzump.proofs.Stages.{unscanned-ends, stopped-ends, meant-ends}
 use Rattle.vegzump.proofs.CellsLeft.{Leaves, left-not, run-leaves}
 
 -- ------------------------------------------------------------------ answers
@@ -62,7 +63,8 @@ module _ {made : ℕ} {u : Term Name} {cells text : List ℕ} where
   loose-answer (too-long s l b) h k = differ k l
   loose-answer (prints s l b) h k = differ k l
 
-  long-answer : {x : Expanded} → Finish made u cells text x → size u ≤ largestTerm → loosePlaces (occurrences [] 0 u) ≡ [] → length text < length (print (rename u))
+  long-answer : {x : Expanded} → Finish made u cells text x → size u ≤ largestTerm → loosePlaces (occurrences [] 0 u) ≡ []
+      → length text < length (print (rename u))
       → x .answer ≡ Refusing (refusal 24 (length (print (rename u))) 0 0)
   long-answer (too-big b) h k l = absurd (omega arith)
   long-answer (is-loose s l) h k m = differ l k
@@ -77,7 +79,8 @@ module _ {made : ℕ} {u : Term Name} {cells text : List ℕ} where
   prints-of (too-long s l b) e = never (sym e)
   prints-of (prints s l b) e = (s, l, b, sym e, refl)
 
-  prints-answer : {x : Expanded} → Finish made u cells text x → size u ≤ largestTerm → loosePlaces (occurrences [] 0 u) ≡ [] → length (print (rename u)) ≤ length text
+  prints-answer : {x : Expanded} → Finish made u cells text x → size u ≤ largestTerm → loosePlaces (occurrences [] 0 u) ≡ []
+      → length (print (rename u)) ≤ length text
       → x .answer ≡ Accepted made (size u) (length (print (rename u)))
   prints-answer (too-big b) h k l = absurd (omega arith)
   prints-answer (is-loose s l) h k m = differ l k
@@ -108,9 +111,11 @@ module _ (t : Table) (T : Passing t) (formula cells text : List ℕ) where
       → x .answer ≡ Refusing r → Cause t formula cells text r
   cause-last E (too-big b) r e = subst (Cause t formula cells text) (same-refusal e) (Meaning.too-large E b)
   cause-last {u = u} E (is-loose s l) r e =
-      subst (Cause t formula cells text) (same-refusal e) (Meaning.is-loose E s (occurs [] 0 u) (subst (Says (occurrences [] 0 u)) l (loose-says (occurrences [] 0 u))))
+      subst (Cause t formula cells text) (same-refusal e)
+      (Meaning.is-loose E s (occurs [] 0 u) (subst (Says (occurrences [] 0 u)) l (loose-says (occurrences [] 0 u))))
   cause-last {u = u} E (too-long s l b) r e =
-      subst (Cause t formula cells text) (same-refusal e) (Meaning.too-long E s (occurs [] 0 u) (subst (Says (occurrences [] 0 u)) l (loose-says (occurrences [] 0 u))) b)
+      subst (Cause t formula cells text) (same-refusal e)
+      (Meaning.too-long E s (occurs [] 0 u) (subst (Says (occurrences [] 0 u)) l (loose-says (occurrences [] 0 u))) b)
   cause-last E (prints s l b) r e = never e
 
   cause-of : {x : Expanded} → Stage t T formula cells text x → (r : Refusal) → x .answer ≡ Refusing r → Cause t formula cells text r
@@ -198,7 +203,8 @@ module _ (t : Table) (T : Passing t) (formula cells text : List ℕ) where
         ∙ means-one t T formula (E .means) M,
   )
 
-  pub accepted-cells : (a b c : ℕ) → X .answer ≡ Accepted a b c → {u : Term Name} (M : Means t formula u) → (v : ℕ) × (termAt a (spellOf t (M .words)) (X .cells) v ≡ u)
+  pub accepted-cells : (a b c : ℕ) → X .answer ≡ Accepted a b c → {u : Term Name} (M : Means t formula u)
+      → (v : ℕ) × (termAt a (spellOf t (M .words)) (X .cells) v ≡ u)
   accepted-cells = cells-of (stages t T formula cells text)
 
   -- ------------------------------------------------------------------ what is left as it was
@@ -232,7 +238,13 @@ module _ (t : Table) (T : Passing t) (formula cells text : List ℕ) where
   keeps-of (in-parse {ts = ts} S e h) = let q = ran ts e in record { rows = q .0; few = q .2; left = q .3; counted = λ a b c q. never (sym q) }
   keeps-of (at-last {s = s} E R f) =
       let q = ran (E .means .tokens) (R .runs) in
-      record { rows = s .made; few = q .1; left = subst⁻¹ (Left (s .made) cells) (finish-cells f) (q .2); counted = λ a b c h. finish-count f a b c h ∙ sym (R .made-is) }
+      record {
+        rows = s .made;
+        few = q .1;
+        left = subst⁻¹ (Left (s .made) cells) (finish-cells f) (q .2);
+        counted = λ a b c h. finish-count f a b c h ∙ sym
+            (R .made-is);
+      }
 
   pub keeps : Keeps X
   keeps = keeps-of (stages t T formula cells text)

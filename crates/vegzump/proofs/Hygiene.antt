@@ -14,7 +14,8 @@ use Rattle.scanner.specs.Unscanned.{Unscans, too-long, a-fault, too-many}
 use Rattle.productions.specs.Normal.{Production}
 use Rattle.checker.specs.Passes.{Passes}
 use Rattle.expansion.specs.Figure3.{Value}
-use Rattle.soundness.specs.Stopping.{Step, Fails, Stops, Enters, Refuses, stops, left-over, at-token, at-arguments, at-call, past-item, at-start, in-items, at-result}
+use Rattle.soundness.specs.Stopping.{Step, Fails, Stops, Enters, Refuses, stops, left-over, at-token, at-arguments, at-call, past-item, at-start, in-items}
+use Rattle.soundness.specs.Stopping.{at-result}
 use Rattle.soundness.specs.Stopping as Stopping
 use Rattle.soundness.specs.Passing.{Passing}
 use Rattle.soundness.proofs.Placing.{parses-placed}
@@ -28,7 +29,8 @@ use Rattle.vegzump.specs.Meaning.{Means, cellsOf}
 use Rattle.vegzump.specs.Hygiene.{Hygienic, Ends, refuses, Demand3}
 use Rattle.vegzump.specs.Hygiene as Hygiene
 use Rattle.vegzump.proofs.Owners.{Says, occurs, loose-says, all-owned}
-use Rattle.vegzump.proofs.Stages.{expand-passed, Finish, too-big, is-loose, prints, words-as-written, outsides-as-listed, worded, means-one, Stage, in-scan, in-parse, at-last, stages}
+use Rattle.vegzump.proofs.Stages.{expand-passed, Finish, too-big, is-loose, prints, words-as-written, outsides-as-listed, worded, means-one, Stage}
+use Rattle.vegzump.proofs.Stages.{in-scan, in-parse, at-last, stages}
 use Rattle.vegzump.proofs.Stages as Stages
 
 -- ------------------------------------------------------------------ the numbers of refusals
@@ -50,7 +52,8 @@ module _ {g : List Production} {spell : ℕ → List ℕ} {rows : ℕ} {tokens :
   fails-between (Stopping.no-choice l h n) = (omega arith, omega arith)
 
   mutual
-    stops-between : {o c m i : ℕ} {M : List Value} {s : List Token} {ps : List Item} {r : Refusal} → Stops g spell rows tokens o c m M s i ps r → Between 14 24 r
+    stops-between : {o c m i : ℕ} {M : List Value} {s : List Token} {ps : List Item} {r : Refusal} → Stops g spell rows tokens o c m M s i ps r
+        → Between 14 24 r
     stops-between (at-token w f) = fails-between f
     stops-between (at-arguments gs f) = fails-between f
     stops-between (at-call gs l e) = enters-between e

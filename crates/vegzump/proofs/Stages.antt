@@ -138,7 +138,8 @@ module _ (t : Table) (T : Passing t) (formula : List ℕ) where
       let q = scanner.accepted-exactly lex few formula ts ws .0 same in
       record { short = q .0; tiled = q .1; few = q .2 }
 
-  pub unscans-exactly : (r : Refusal) → (scan lex formula .answer ≡ Unscanned r → Unscans lex formula r) × (Unscans lex formula r → scan lex formula .answer ≡ Unscanned r)
+  pub unscans-exactly : (r : Refusal)
+      → (scan lex formula .answer ≡ Unscanned r → Unscans lex formula r) × (Unscans lex formula r → scan lex formula .answer ≡ Unscanned r)
   unscans-exactly r = scanner.refused-exactly lex few formula r
 
   module _ {ts : List Token} {ws : List (List ℕ)} (S : Scans t formula ts ws) where
@@ -232,7 +233,8 @@ module _ (t : Table) (T : Passing t) (formula : List ℕ) where
     by-run {ts} {ws} S (done v s cells′) e =
         let m = meant S v s cells′ e in
         let u : Term Name = termAt (s .made) (spellOf t ws) cells′ v in
-        at-last (m .0) (m .1) (subst (λ n. Finish n u cells′ text (withCells cells′ (emitted textOf (s .made) u text))) (m .1 .made-is) (finishes (s .made) u cells′ text))
+        at-last (m .0) (m .1)
+        (subst (λ n. Finish n u cells′ text (withCells cells′ (emitted textOf (s .made) u text))) (m .1 .made-is) (finishes (s .made) u cells′ text))
 
     by-scan : (a : Scanned) → scan lex formula .answer ≡ a → Stage (scanned t (scan lex formula) a cells text)
     by-scan (Unscanned r) e = in-scan (unscans-exactly r .0 e)
@@ -257,7 +259,8 @@ module _ (t : Table) (T : Passing t) (formula : List ℕ) where
         → (cells′ : List ℕ) × (expandTable t formula cells text ≡ refused r cells′ text)
     stopped-ends {r} S h = let q = stops-exactly S r .1 h in (q .0, run-ends S (halt r (q .0)) (q .1))
 
-    pub meant-ends : {u : Term Name} (E : MeansWithin t formula cells u) → (cells′ : List ℕ) × Finish (cellsOf E) u cells′ text (expandTable t formula cells text)
+    pub meant-ends : {u : Term Name} (E : MeansWithin t formula cells u)
+        → (cells′ : List ℕ) × Finish (cellsOf E) u cells′ text (expandTable t formula cells text)
     meant-ends {u} E =
         let q = run-to-end E in
         let e : expandTable t formula cells text ≡ withCells (q .2) (emitted textOf (cellsOf E) u text)
