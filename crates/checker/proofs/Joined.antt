@@ -18,7 +18,7 @@ use Rattle.layout.proofs.LayoutTheorems.{decode-exactly}
 use Rattle.sorts.specs.CheckSorts.{checkSorts}
 use Rattle.sorts.proofs.SortTheorems.{sorts-exactly}
 use Rattle.layout.specs.Within.{Each}
-use Rattle.productions.specs.Index.{Place, placesOf, normalizedBy, wholeBody}
+use Rattle.productions.specs.Index.{Whole, placesOf, normalizedBy}
 use Rattle.productions.proofs.FewAlternatives.{few-alternatives}
 use Rattle.productions.proofs.NormalizedByFields.{normalized-by}
 use Rattle.productions.proofs.Places.{productions-at, few-places, whole-places}

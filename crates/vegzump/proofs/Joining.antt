@@ -31,7 +31,7 @@ use Rattle.checker.specs.Check.{passedTable, check}
 use Rattle.checker.specs.CheckedInto.{CheckedInto}
 use Rattle.checker.specs.Passes.{grammarOf, Passes}
 use Rattle.checker.proofs.TableTheorems.{check-exactly}
-use Rattle.checker.proofs.Joined.{passed-grammar, passed-holds, passed-owned}
+use Rattle.checker.proofs.Joined.{passed-grammar, passed-holds, passed-places}
 use Rattle.rows.specs.Sizes.{WholeRows}
 use Rattle.writer.specs.Pool.{spelledBy}
 use Rattle.terms.specs.Term.{Name, Term}
@@ -66,7 +66,7 @@ module _ {bs : List ℕ} (bytes : Bytes bs) where
   pub checked-passes : {room₀ room : List ℕ} {r : Verdict} → CheckedInto bs room₀ room r → r ≡ Passed → HoldsPassed bs room
   checked-passes c e =
       let P : Passes bs = check-exactly bs bytes .0 (sym (c .answer) ∙ e) in
-      record { passes = P; held = record { grammar = passed-holds bytes P c; owned = passed-owned bytes P } }
+      record { passes = P; held = record { grammar = passed-holds bytes P c; places = passed-places bytes P } }
 
   module _ (P : Passes bs) (formula cells : List ℕ) where
     abbrev lex : Lexicon

@@ -39,6 +39,15 @@ pub record HoldsPassed (bs room : List ℕ) : Type 0 where
   pub passes : Passes bs
   pub held : Held bs room
 
+-- a room for the tokens of a formula
+pub record TokenRoom (formula tokens : List ℕ) : Type 0 where
+  pub for-tokens : (n : ℕ) → n ≤ length formula → n ≤ 4096 → n * 4 ≤ length tokens
+
+-- what a parse after the check asks
+pub record Parseable (bs room formula tokens : List ℕ) : Type 0 where
+  pub checked : HoldsPassed bs room
+  pub tokens-room : TokenRoom formula tokens
+
 -- and a room of tokens fits
 pub record Runnable (bs room tokens : List ℕ) (n : ℕ) : Type 0 where
   pub held : Held bs room

@@ -11,7 +11,7 @@ ghost use Rattle.expansion.specs.Run.{ran};
 ghost use Rattle.expansion.specs.Expansion.{run};
 ghost use Rattle.expander.specs.Lent.{lentInput};
 ghost use Rattle.templates.specs.Built.{rowsIn};
-ghost use Rattle.vegzump.specs.Parse.{HoldsPassed, Runnable, Parses};
+ghost use Rattle.vegzump.specs.Parse.{Runnable, TokenRoom, Parseable, Parses};
 
 // The outcome of a parse, and how many words the formula has that are neither keywords nor outside names.
 pub struct Parsed {
@@ -39,11 +39,11 @@ fn last_byte(bytes: &[u8]) -> u8
     bytes[bytes.len() - 1]
 }
 
-// The run of n tokens, with rooms for templates and for calls that wait.
+// The run of n tokens, with a room for the templates of a table of its size.
 fn run_tokens(
     table: &[u8],
     room: &[u64; 641],
-    tokens: &[u32; 16384],
+    tokens: &[u32],
     n: usize,
     cells: &mut [u32],
 ) -> Outcome
@@ -51,10 +51,13 @@ fn run_tokens(
     ensures { λ r. ⌜ ran r (now (cells .exit)) ≡ run (lentInput (now (table .entry)) (now (tokens .entry)) n (rowsIn (now (cells .entry))))
         (getD (now (table .entry)) (length (now (table .entry)) - 1) 0) (now (cells .entry)) ⌝ }
 {
-    let mut stack = [0u32; 16384];
-    let mut frames = [0u32; 18432];
     let root = last_byte(table);
-    run(table, room, root, tokens, n, cells, &mut stack, &mut frames)
+    if table.len() <= 1024 {
+        let mut stack = [0u32; 1024];
+        return run(table, room, root, tokens, n, cells, &mut stack);
+    }
+    let mut stack = [0u32; 16384];
+    run(table, room, root, tokens, n, cells, &mut stack)
 }
 
 fn length_of(numbers: &[u32]) -> usize
@@ -63,11 +66,10 @@ fn length_of(numbers: &[u32]) -> usize
     numbers.len()
 }
 
-// The rooms of a scan are as long as their types say: looking at them makes it known.
-fn known_rooms(tokens: &[u32; 16384], words: &[u32; 8192]) -> usize
-    ensures { λ _. ⌜ (length (now (tokens .entry)) ≡ 16384) × (length (now (words .entry)) ≡ 8192) ⌝ }
+// The room of the words is as long as its type says: looking at it makes that known.
+fn known_words(words: &[u32; 8192]) -> usize
+    ensures { λ _. ⌜ length (now (words .entry)) ≡ 8192 ⌝ }
 {
-    length_of(tokens);
     length_of(words)
 }
 
@@ -76,14 +78,14 @@ fn parse_checked(
     table: &[u8],
     room: &[u64; 641],
     formula: &[u8],
-    tokens: &mut [u32; 16384],
+    tokens: &mut [u32],
     words: &mut [u32; 8192],
     cells: &mut [u32],
 ) -> Parsed
-    requires { ⌜ HoldsPassed (now table) (now room) ⌝ }
+    requires { ⌜ Parseable (now table) (now room) (now formula) (now tokens) ⌝ }
     ensures { λ r. ⌜ Parses (now (table .entry)) (now (formula .entry)) (now (cells .entry)) (now (words .exit)) (now (cells .exit)) r ⌝ }
 {
-    known_rooms(tokens, words);
+    known_words(words);
     let scanned = scanner::scan(table, formula, tokens, words);
     match scanned {
         Scanned::Unscanned(r) => halted(r),
@@ -97,15 +99,15 @@ fn parse_checked(
     }
 }
 
-// Checks a table, scans a formula and runs its tokens. The promise rules out, among others, an expander that copies inner phrases
-// unopened, and one that runs a table that does not pass.
-pub fn parse(
+// Checks a table, scans a formula and runs its tokens, with a room that takes all tokens of the formula.
+pub fn parse_in(
     table: &[u8],
     formula: &[u8],
-    tokens: &mut [u32; 16384],
+    tokens: &mut [u32],
     words: &mut [u32; 8192],
     cells: &mut [u32],
 ) -> Parsed
+    requires { ⌜ TokenRoom (now formula) (now tokens) ⌝ }
     ensures { λ r. ⌜ Parses (now (table .entry)) (now (formula .entry)) (now (cells .entry)) (now (words .exit)) (now (cells .exit)) r ⌝ }
 {
     let mut room = [0u64; 641];

@@ -16,13 +16,13 @@ use Rattle.vegzump.proofs.parse.parse_checked.Reads as reads
 use Rattle.vegzump.proofs.parse.parse_checked.Lts as lts
 use Rattle.scanner.proofs.scan.Reads as scan-reads
 use Rattle.vegzump.proofs.parse.halted.Reads as halted-reads
-use Rattle.vegzump.proofs.parse.known_rooms.Reads as known-rooms-reads
+use Rattle.vegzump.proofs.parse.known_words.Reads as known-words-reads
 use Rattle.vegzump.proofs.parse.run_tokens.Reads as run-tokens-reads
 
 abbrev claims : lts.Claims
 claims = (
-  known-rooms-reads.Asked,
-  known-rooms-reads.Learnt,
+  known-words-reads.Asked,
+  known-words-reads.Learnt,
   scan-reads.Asked,
   scan-reads.Learnt,
   halted-reads.Asked,
@@ -31,35 +31,43 @@ claims = (
   run-tokens-reads.Learnt,
 )
 
--- the formula has been scanned
-module _ (p : lts.After-scan claims reads.Pre reads.Post) where
-  abbrev sized : lts.After-known-rooms claims reads.Pre reads.Post
-  sized = p .before .before .before
-
+-- the room of the words is known
+module _ (p : lts.After-known-words claims reads.Pre reads.Post) where
   abbrev start : lts.Start claims reads.Pre reads.Post
-  start = sized .before .before .before .before .before .before
+  start = p .before .before .before .before .before .before
 
   bytes : Bytes (start .args .table .now)
-  bytes i = omega (arith, sized .before .before .before .before .before .shared-slice-known .given i)
+  bytes i = omega (arith, p .before .before .before .before .before .shared-slice-known .given i)
 
   rooms : RoomFor (start .args .formula .now) (start .args .tokens .now) (start .args .words .now)
   rooms =
       record {
-        for-tokens = λ n a b. omega (arith, sized .known-rooms .ensures .0);
-        for-words = λ n a b. omega (arith, sized .known-rooms .ensures .1);
+        for-tokens = start .pre .tokens-room .for-tokens;
+        for-words = λ n a b. omega (arith, p .known-words .ensures);
       }
+
+-- the formula has been scanned
+module _ (p : lts.After-scan claims reads.Pre reads.Post) where
+  abbrev known : lts.After-known-words claims reads.Pre reads.Post
+  known = p .before .before .before
+
+  abbrev entry : lts.Start claims reads.Pre reads.Post
+  entry = start known
 
   -- the rooms hold the tokens and the words
   filled-by : {n count : ℕ} → p .scan .result ≡ Tokens n count
-      → Holds (lexiconOfTable (start .pre .passes .table)) (start .pre .passes .within .outsideCount) (start .args .formula .now)
+      → Holds (lexiconOfTable (entry .pre .checked .passes .table)) (entry .pre .checked .passes .within .outsideCount) (entry .args .formula .now)
       (p .scan .last .1 .1 .0) (p .scan .last .1 .1 .1 .0) n count
-  filled-by e = joining.scan-fills bytes (start .pre .passes) (start .args .formula .now) (start .args .cells .now) rooms (p .scan .ensures) e
+  filled-by e =
+      joining.scan-fills (bytes known) (entry .pre .checked .passes) (entry .args .formula .now) (entry .args .cells .now) (rooms known) (p .scan .ensures) e
 
-known-rooms-requires : tie.Need-known-rooms-requires
-known-rooms-requires c κs = search needs
+known-words-requires : tie.Need-known-words-requires
+known-words-requires c κs = search needs
 
 scan-requires : tie.Need-scan-requires
-scan-requires c κs = search needs
+scan-requires c κs =
+    let k = c .before .before in
+    record { short = omega (arith, start k .pre .checked .held .grammar .small); room = rooms k }
 
 enum-known-scanned : tie.Need-enum-known-scanned
 enum-known-scanned c = search needs
@@ -72,36 +80,49 @@ enum-known-scanned-2 c = search needs
 
 run-tokens-requires : tie.Need-run-tokens-requires
 run-tokens-requires c κs =
-    let p = c .before .before .before .before .before in
-    record { held = start p .pre .held; tokens-fit = filled-by p (c .before .before .before .scanned2 .given .1) .tokens-fit }
+    let told = c .before .before .before in
+    let p = told .before .before .before .before in
+    record { held = entry p .pre .checked .held; tokens-fit = filled-by p (told .scanned2 .given .1) .tokens-fit }
 
 returns : tie.Need-returns
 returns c =
-    let p = c .before .before .before .before in
-    let a = start p .args in
+    let told = c .before .before in
+    let p = told .before .before .before .before in
+    let a = entry p .args in
     joining.refused-parses _ (c .halted .ensures)
-    (joining.parse-stops (bytes p) (start p .pre .passes) (a .formula .now) (a .cells .now) (rooms p) (p .scan .ensures) (c .before .before .scanned .given .1))
+    (joining.parse-stops (bytes (known p)) (entry p .pre .checked .passes) (a .formula .now) (a .cells .now) (rooms (known p)) (p .scan .ensures)
+    (told .scanned .given .1))
+
+returns-2 : tie.Need-returns-2
+returns-2 c =
+    let ran = c .before .before in
+    let told = ran .before .before .before .before in
+    let p = told .before .before .before .before in
+    let a = entry p .args in
+    joining.ran-parses (bytes (known p)) (entry p .pre .checked .passes) (a .formula .now) (a .cells .now) (filled-by p (told .scanned2 .given .1))
+    (ran .run-tokens .ensures)
 
 same-length : tie.Need-same-length
 same-length c = search needs
 
-returns-2 : tie.Need-returns-2
-returns-2 c =
-    let s = c .before .before .before .before .before .before in
-    let p = s .before .before in
-    let a = start p .args in
-    joining.ran-parses (bytes p) (start p .pre .passes) (a .formula .now) (a .cells .now) (filled-by p (s .scanned2 .given .1)) (c .before .before .run-tokens .ensures)
+same-length-2 : tie.Need-same-length-2
+same-length-2 c = search needs
+
+same-length-3 : tie.Need-same-length-3
+same-length-3 c = search needs
 
 pub parse-checked-spec : {M : Type 1} → statement M
 parse-checked-spec =
     tie.close
     (tie.spec
-    known-rooms-requires
+    known-words-requires
     scan-requires
     enum-known-scanned
     halted-requires
     enum-known-scanned-2
     run-tokens-requires
-    returns
     same-length
+    returns
+    same-length-2
+    same-length-3
     returns-2)

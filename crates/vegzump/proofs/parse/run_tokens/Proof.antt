@@ -9,9 +9,6 @@ last-byte-requires c κs = search needs
 slice-aggregate-run : tie.Need-slice-aggregate-run
 slice-aggregate-run c = search needs
 
-slice-aggregate-run-2 : tie.Need-slice-aggregate-run-2
-slice-aggregate-run-2 c = search needs
-
 run-requires : tie.Need-run-requires
 run-requires c κs = search needs
 
@@ -20,9 +17,25 @@ same-length c = search needs
 
 returns : tie.Need-returns
 returns c =
-    let p = c .before .before .before .before in
+    let p = c .before .before .before in
     let ran = p .run .ensures in
-    let last = p .before .before .before .before .before .last-byte .ensures in
+    let last = p .before .before .before .before .last-byte .ensures in
+    cc
+
+slice-aggregate-run-2 : tie.Need-slice-aggregate-run-2
+slice-aggregate-run-2 c = search needs
+
+run-requires-2 : tie.Need-run-requires-2
+run-requires-2 c κs = search needs
+
+same-length-2 : tie.Need-same-length-2
+same-length-2 c = search needs
+
+returns-2 : tie.Need-returns-2
+returns-2 c =
+    let p = c .before .before .before in
+    let ran = p .run2 .ensures in
+    let last = p .before .before .before .before .last-byte .ensures in
     cc
 
 pub run-tokens-spec : {M : Type 1} → statement M
@@ -31,7 +44,10 @@ run-tokens-spec =
     (tie.spec
     last-byte-requires
     slice-aggregate-run
-    slice-aggregate-run-2
     run-requires
     same-length
-    returns)
+    returns
+    slice-aggregate-run-2
+    run-requires-2
+    same-length-2
+    returns-2)

@@ -1,14 +1,14 @@
--- `parse`: the check refuses, or the formula is scanned and run.
+-- `parse_in`: the check refuses, or the formula is scanned and run.
 use mathlib.Core.Path.{sym, _∙_}
 use native.Mathlib.Omega.{arith}
 use Rattle.layout.proofs.Split.{Bytes}
 use Rattle.vegzump.proofs.Joining as joining
 use Rattle.vegzump.proofs.Parsing as parsing
 use borrow.Author.Needs.{needs}
-use Rattle.vegzump.proofs.parse.parse.Statement.{statement}
-use Rattle.vegzump.proofs.parse.parse.Tie as tie
-use Rattle.vegzump.proofs.parse.parse.Reads as reads
-use Rattle.vegzump.proofs.parse.parse.Lts as lts
+use Rattle.vegzump.proofs.parse.parse_in.Statement.{statement}
+use Rattle.vegzump.proofs.parse.parse_in.Tie as tie
+use Rattle.vegzump.proofs.parse.parse_in.Reads as reads
+use Rattle.vegzump.proofs.parse.parse_in.Lts as lts
 use Rattle.checker.proofs.check_into.Reads as check-into-reads
 use Rattle.vegzump.proofs.parse.halted.Reads as halted-reads
 use Rattle.vegzump.proofs.parse.parse_checked.Reads as parse-checked-reads
@@ -26,10 +26,10 @@ claims = (
 -- the table has been checked
 module _ (p : lts.After-check-into claims reads.Pre reads.Post) where
   abbrev start : lts.Start claims reads.Pre reads.Post
-  start = p .before .before .before .before .before
+  start = p .before .before .before .before .before .before
 
   bytes : Bytes (start .args .table .now)
-  bytes i = omega (arith, p .before .before .before .before .shared-slice-known .given i)
+  bytes i = omega (arith, p .before .before .before .before .before .shared-slice-known .given i)
 
 check-into-requires : tie.Need-check-into-requires
 check-into-requires c κs = search needs
@@ -46,7 +46,10 @@ enum-told c = search needs
 parse-checked-requires : tie.Need-parse-checked-requires
 parse-checked-requires c κs =
     let p = c .before .before .before .before .before .before in
-    joining.checked-passes (bytes p) (p .check-into .ensures) (c .before .before .before .before .enum-told .given .1)
+    record {
+      checked = joining.checked-passes (bytes p) (p .check-into .ensures) (c .before .before .before .before .enum-told .given .1);
+      tokens-room = start p .pre;
+    }
 
 returns : tie.Need-returns
 returns c =
@@ -54,14 +57,17 @@ returns c =
     joining.refused-parses _ (c .halted .ensures)
     (sym (parsing.parse-refused _ _ _ (sym (p .check-into .ensures .answer) ∙ c .before .before .verdict .given .1)))
 
-same-length : tie.Need-same-length
-same-length c = search needs
-
 returns-2 : tie.Need-returns-2
 returns-2 c = search needs
 
-pub parse-spec : {M : Type 1} → statement M
-parse-spec =
+same-length : tie.Need-same-length
+same-length c = search needs
+
+same-length-2 : tie.Need-same-length-2
+same-length-2 c = search needs
+
+pub parse-in-spec : {M : Type 1} → statement M
+parse-in-spec =
     tie.close
     (tie.spec
     check-into-requires
@@ -71,4 +77,5 @@ parse-spec =
     parse-checked-requires
     returns
     same-length
+    same-length-2
     returns-2)

@@ -1,0 +1,108 @@
+-- `expand_in`: the parse refuses, or the last step is done on the rows made.
+use mathlib.Core.Path.{sym}
+use native.Mathlib.Omega.{arith}
+use lib.Seq.{length-take-le}
+use Rattle.layout.proofs.Split.{Bytes}
+use Rattle.vegzump.proofs.Joining as joining
+use borrow.Author.Needs.{needs}
+use Rattle.vegzump.proofs.expand_in.Statement.{statement}
+use Rattle.vegzump.proofs.expand_in.Tie as tie
+use Rattle.vegzump.proofs.expand_in.Reads as reads
+use Rattle.vegzump.proofs.expand_in.Lts as lts
+use Rattle.emitter.proofs.emit.Reads as emit-reads
+use Rattle.vegzump.proofs.parse.parse_in.Reads as parse-in-reads
+
+abbrev claims : lts.Claims
+claims = (parse-in-reads.Asked, parse-in-reads.Learnt, emit-reads.Asked, emit-reads.Learnt)
+
+-- the formula has been parsed
+module _ (p : lts.After-parse-in claims reads.Pre reads.Post) where
+  abbrev known : lts.After-shared-slice-known claims reads.Pre reads.Post
+  known = p .before .before .before .before .before .before .before .before
+
+  bytes : Bytes (known .before .args .table .now)
+  bytes i = omega (arith, known .shared-slice-known .given i)
+
+parse-in-requires : tie.Need-parse-in-requires
+parse-in-requires c κs = search needs
+
+enum-known-outcome : tie.Need-enum-known-outcome
+enum-known-outcome c = search needs
+
+enum-known-outcome-2 : tie.Need-enum-known-outcome-2
+enum-known-outcome-2 c = search needs
+
+mul-end : tie.Need-mul-end
+mul-end c =
+    let told = c .before in
+    let p = told .before .before .before .before .before .before in
+    omega (arith, p .parse-in .ensures .rows-lie _ _ (told .outcome2 .given .1) .few)
+
+slice-reshare-prefix-emit : tie.Need-slice-reshare-prefix-emit
+slice-reshare-prefix-emit c =
+    let told = c .before .before in
+    let p = told .before .before .before .before .before .before in
+    p .parse-in .ensures .rows-lie _ _ (told .outcome2 .given .1) .inside
+
+slice-aggregate-emit : tie.Need-slice-aggregate-emit
+slice-aggregate-emit c =
+    let told = c .before .before .before in
+    let p = told .before .before .before .before .before .before in
+    sym (length-take-le _ _ (p .parse-in .ensures .rows-lie _ _ (told .outcome2 .given .1) .inside))
+
+emit-requires : tie.Need-emit-requires
+emit-requires c κs =
+    let told = c .before .before .before .before in
+    let p = told .before .before .before .before .before .before in
+    let q = p .parse-in .ensures in
+    let e = told .outcome2 .given .1 in
+    joining.emittable (bytes p) _ (q .words-known _ _ e) (joining.value-reached q e)
+
+returns : tie.Need-returns
+returns c =
+    let told = c .before in
+    let p = told .before .before .before .before .before .before in
+    joining.call-refuses (p .parse-in .ensures) _ (told .outcome .given .1)
+
+returns-2 : tie.Need-returns-2
+returns-2 c =
+    let emitted = c .before .before in
+    let told = emitted .before .before .before .before .before in
+    let p = told .before .before .before .before .before .before in
+    let q = p .parse-in .ensures in
+    let v = told .outcome2 .given .1 in
+    joining.emits (bytes p) _ (q .words-known _ _ v) (joining.value-reached q v) _ (emitted .emit .ensures)
+
+same-length : tie.Need-same-length
+same-length c = search needs
+
+same-length-2 : tie.Need-same-length-2
+same-length-2 c = search needs
+
+same-length-3 : tie.Need-same-length-3
+same-length-3 c = search needs
+
+same-length-4 : tie.Need-same-length-4
+same-length-4 c = search needs
+
+same-length-5 : tie.Need-same-length-5
+same-length-5 c = search needs
+
+pub expand-in-spec : {M : Type 1} → statement M
+expand-in-spec =
+    tie.close
+    (tie.spec
+    parse-in-requires
+    enum-known-outcome
+    enum-known-outcome-2
+    mul-end
+    slice-reshare-prefix-emit
+    slice-aggregate-emit
+    emit-requires
+    same-length
+    same-length-2
+    returns
+    same-length-3
+    same-length-4
+    same-length-5
+    returns-2)
