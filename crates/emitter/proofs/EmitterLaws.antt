@@ -10,7 +10,7 @@ use Rattle.answers.specs.declared.Answer.{Answer}
 use Rattle.answers.specs.declared.Answer.the-variants.{Accepted, Refusing}
 use Rattle.answers.specs.Refusals.{refusal}
 use Rattle.spellings.specs.Buffers.{written}
-use Rattle.spellings.specs.BuffersLaws.{written-fits, written-not}
+use Rattle.spellings.proofs.BuffersLaws.{written-fits, written-not}
 use Rattle.terms.specs.Term.{Name, Term, size}
 use Rattle.terms.specs.Rows.{termAt}
 use Rattle.terms.specs.Print.{print}

@@ -9,7 +9,7 @@ use native.Mathlib.Omega.{arith}
 use lib.Dec.{eqb, ltb}
 use borrow.Author.Tests.{lt-ltb, ltb-true, eq-eqb, eqb-true}
 use Rattle.kinds.specs.Kinds.{hasKind}
-use Rattle.kinds.specs.KindsLaws.{has-none, has-meet}
+use Rattle.kinds.proofs.KindsLaws.{has-none, has-meet}
 use Rattle.grammar.specs.Table.{Item}
 use Rattle.productions.specs.Normal.{Production}
 use Rattle.firsts.specs.First.{nullables, firstSets, firstOf, allPassed, sharedBy, clash, anyPair, joinPairs}

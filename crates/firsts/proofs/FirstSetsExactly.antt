@@ -14,7 +14,7 @@ use lib.ListN.{length, getD, replicate, length-set, length-replicate, getD-repli
 use lib.Seq.{set-out, getD-set-same, getD-set-other}
 use borrow.Author.Tests.{lt-ltb, le-ltb, eq-eqb, ne-eqb, eqb-true, ltb-true}
 use Rattle.kinds.specs.Kinds.{hasKind, only, keywordKind, wordKind, numberKind}
-use Rattle.kinds.specs.KindsLaws.{has-none, has-join, has-only, has-own}
+use Rattle.kinds.proofs.KindsLaws.{has-none, has-join, has-only, has-own}
 use Rattle.grammar.specs.Table.{Item, keyword, ide, number, local, call}
 use Rattle.productions.specs.Normal.{Production}
 use Rattle.firsts.specs.First.{isPassed, nullables, own, through, joined, gather, firstStep, setsOf}

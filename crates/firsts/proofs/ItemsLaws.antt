@@ -8,7 +8,7 @@ use lib.Dec.{eqb}
 use borrow.Author.Tests.{eq-eqb, ne-eqb}
 use lib.ListN.{length, getD, take, drop, List·getD-map}
 use Rattle.kinds.specs.Kinds.{only, keywordKind}
-use Rattle.kinds.specs.KindsLaws.{only-none}
+use Rattle.kinds.proofs.KindsLaws.{only-none}
 use Rattle.grammar.specs.Table.{Item, keyword, ide, number, local, call}
 use Rattle.grammar.specs.declared.Front.{Front}
 use Rattle.grammar.specs.declared.Front.the-variants.{Nothing, Short, Field}

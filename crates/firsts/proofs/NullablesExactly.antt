@@ -5,7 +5,7 @@ use mathlib.Core.Bool.{Bool, true, false, _&&_, _||_, false≢true, and-eq-true-
 use mathlib.Core.Logic.{_↔_}
 use mathlib.Core.List.{List, [], _∷_}
 use Rattle.kinds.specs.Kinds.{hasKind, only}
-use Rattle.kinds.specs.KindsLaws.{has-none, has-join, has-only}
+use Rattle.kinds.proofs.KindsLaws.{has-none, has-join, has-only}
 use Rattle.grammar.specs.Table.{Item, keyword, ide, number, local, call}
 use Rattle.productions.specs.Normal.{Production}
 use Rattle.firsts.specs.First.{isPassed, allPassed, nullStep, nullables}

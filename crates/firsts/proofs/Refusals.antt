@@ -14,7 +14,7 @@ use Rattle.answers.specs.declared.Refusal.{Refusal}
 use Rattle.answers.specs.Refusals.{refusal}
 use Rattle.answers.specs.Checked.{Checked, ok, bad}
 use Rattle.kinds.specs.Kinds.{hasKind}
-use Rattle.kinds.specs.KindsLaws.{lowest-has, lowest-first}
+use Rattle.kinds.proofs.KindsLaws.{lowest-has, lowest-first}
 use Rattle.productions.specs.Normal.{Production}
 use Rattle.firsts.specs.First.{nullables, firstSets, leftCalls, sharedBy, clash, anyPair, joinPairs, lowest, leftRecursive, clashing}
 use Rattle.firsts.specs.First.{lowestShared, noLeftRecursion, noClash, checkFirsts}

@@ -10,7 +10,7 @@ use native.Mathlib.Omega.{arith}
 use lib.Bits.{bitOr}
 use lib.Count.{trailingZeros}
 use Rattle.kinds.specs.Kinds.{hasKind}
-use Rattle.kinds.specs.KindsLaws.{has-none, has-join, lowest-bound, lowest-has}
+use Rattle.kinds.proofs.KindsLaws.{has-none, has-join, lowest-bound, lowest-has}
 use Rattle.productions.specs.Normal.{Production}
 use Rattle.firsts.specs.First.{lowest, anyWith, anyPair, joinWith, joinPairs}
 use Rattle.firsts.specs.Rules.{In, in-first, in-later}

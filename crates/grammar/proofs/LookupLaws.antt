@@ -10,7 +10,7 @@ use lib.ListN.{length, getD, take, drop, length-drop, length-take, drop-of-lengt
 use lib.Seq.{getD-drop, drop-drop, take-nil}
 use borrow.Author.Tests.{lt-ltb, ltb-true, eq-eqb, ne-eqb, le-leb, lt-leb, leb-true, eqb-true, eqb-false}
 use Rattle.spellings.specs.Bytes.{same, indexOf}
-use Rattle.spellings.specs.BytesLaws.{index-found}
+use Rattle.spellings.proofs.BytesLaws.{index-found}
 use Rattle.grammar.specs.declared.Front.{Front}
 use Rattle.grammar.specs.declared.Front.the-variants.{Nothing, Short, Field}
 use Rattle.grammar.specs.declared.Found.{Found}

@@ -6,7 +6,7 @@ use native.Mathlib.Omega.{arith}
 use lib.Dec.{leb, ltb}
 use lib.ListN.{length, getD, List·getD-map}
 use borrow.Author.Tests.{leb-true, ltb-true, ltb-false}
-use Rattle.spellings.specs.BytesLaws.{by-test, every-at}
+use Rattle.spellings.proofs.BytesLaws.{by-test, every-at}
 use Rattle.spellings.specs.Bytes.{every}
 use Rattle.grammar.specs.Sorts.{Signature, gives, unit, constructors, constructor, arity}
 use Rattle.grammar.proofs.ReaderLaws.{getD-past, arities, arity-at, arity-high}

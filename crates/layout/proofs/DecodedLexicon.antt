@@ -9,7 +9,7 @@ use lib.ListN.{length, take}
 use lib.Seq.{take-all}
 use borrow.Author.Tests.{leb-true}
 use Rattle.answers.specs.Checked.{ok}
-use Rattle.spellings.specs.BytesLaws.{by-test}
+use Rattle.spellings.proofs.BytesLaws.{by-test}
 use Rattle.grammar.specs.Table.{Table}
 use Rattle.grammar.specs.Encode.{Field, field}
 use Rattle.grammar.specs.Fields.{Fields, end, cut, next, fieldsOf, leading, afterLeading, Lexicon, lexiconOf}

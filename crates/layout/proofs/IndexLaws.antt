@@ -11,7 +11,7 @@ use lib.ListN.{length, getD, take, drop, set, replicate, length-set, length-repl
 use lib.Seq.{getD-set-same, getD-set-other}
 use borrow.Author.Tests.{eqb-true, eqb-false, eq-eqb}
 use Rattle.spellings.specs.Bytes.{same}
-use Rattle.spellings.specs.BytesLaws.{by-test, differ-same}
+use Rattle.spellings.proofs.BytesLaws.{by-test, differ-same}
 use Rattle.spellings.proofs.Loops.{drop-at-index}
 use Rattle.grammar.specs.Encode.{Field, field}
 use Rattle.layout.specs.Layout.{isRepeated, oneIf}

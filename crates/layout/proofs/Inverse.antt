@@ -8,7 +8,7 @@ use lib.ListN.{length}
 use borrow.Author.Tests.{le-leb, leb-true}
 use Rattle.answers.specs.Refusals.{refusal}
 use Rattle.answers.specs.Checked.{Checked, ok, bad, _>>_}
-use Rattle.spellings.specs.BytesLaws.{by-test}
+use Rattle.spellings.proofs.BytesLaws.{by-test}
 use Rattle.grammar.specs.Table.{Table}
 use Rattle.grammar.specs.Encode.{fieldBytes, tableFields, encode}
 use Rattle.grammar.specs.Fields.{fieldsOf}

@@ -8,7 +8,7 @@ use lib.Dec.{eqb, leb, ltb, leb·zero}
 use lib.ListN.{length, getD, drop, length-drop, drop-of-length-le}
 use lib.Seq.{drop-drop}
 use borrow.Author.Tests.{le-leb, lt-leb, eq-eqb, ne-eqb, le-ltb, ltb-true, ltb-false, eqb-true, eqb-false, leb-true, leb-false}
-use Rattle.spellings.specs.BytesLaws.{by-test}
+use Rattle.spellings.proofs.BytesLaws.{by-test}
 use Rattle.spellings.proofs.Loops.{drop-at-index}
 use Rattle.grammar.proofs.ReaderLaws.{arity-few}
 use Rattle.grammar.specs.Sorts.{isConstructor, arity}

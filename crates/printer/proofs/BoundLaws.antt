@@ -8,8 +8,8 @@ use lib.Dec.{eqb}
 use lib.ListN.{length, getD, take, drop, length-take}
 use borrow.Author.Tests.{eqb-true, eqb-false}
 use Rattle.spellings.specs.Bytes.{decimal}
-use Rattle.spellings.specs.BytesLaws.{by-test}
-use Rattle.spellings.specs.DecimalLaws.{decimal-bound}
+use Rattle.spellings.proofs.BytesLaws.{by-test}
+use Rattle.spellings.proofs.DecimalLaws.{decimal-bound}
 use Rattle.grammar.specs.Cells.{column, nameBase}
 use Rattle.terms.specs.Term.{Name, Term, Fields, size, sizeFields}
 use Rattle.terms.specs.Rows.{nameOf, Constructor, mkTermVar, mkTermFun, mkTermApp, mkTermRcd, mkTermDot, mkFieldNil, mkFieldCons, mkTermNum}

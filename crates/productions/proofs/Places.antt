@@ -9,7 +9,7 @@ use lib.Dec.{eqb, leb}
 use lib.ListN.{length, getD, take, drop, length-append, length-take, length-drop, drop-of-length-le}
 use borrow.Author.Tests.{eq-eqb, ne-eqb, eqb-true, eqb-false, leb-true}
 use Rattle.spellings.specs.Bytes.{every}
-use Rattle.spellings.specs.BytesLaws.{by-test}
+use Rattle.spellings.proofs.BytesLaws.{by-test}
 use Rattle.answers.specs.Checked.{ok}
 use Rattle.grammar.specs.Encode.{Field, field}
 use Rattle.grammar.specs.Fields.{Fields, end, cut, next, fieldsOf}

@@ -8,9 +8,9 @@ use native.Mathlib.Omega.{arith}
 use lib.Dec.{eqb, ltb}
 use borrow.Author.Tests.{eq-eqb, ne-eqb, eqb-true, eqb-false, lt-ltb}
 use Rattle.spellings.specs.Bytes.{same, isWord}
-use Rattle.spellings.specs.BytesLaws.{by-test, same-true, same-refl, same-false}
+use Rattle.spellings.proofs.BytesLaws.{by-test, same-true, same-refl, same-false}
 use Rattle.kinds.specs.Kinds.{hasKind, only}
-use Rattle.kinds.specs.KindsLaws.{has-none, has-only}
+use Rattle.kinds.proofs.KindsLaws.{has-none, has-only}
 use Rattle.grammar.specs.Cells.{nameBase}
 use Rattle.terms.specs.Term.{Name, word, fresh, outside, Term, Fields, variable, function, apply, rcd, dot, number, nil, cons}
 use Rattle.terms.specs.Rows.{nameOf}

@@ -9,7 +9,7 @@ use lib.ListN.{length, getD, length-append, List·getD-append}
 use lib.Seq.{getD-at}
 use borrow.Author.Tests.{eq-eqb, ne-eqb, eqb-true}
 use Rattle.spellings.specs.Bytes.{same}
-use Rattle.spellings.specs.BytesLaws.{by-test, same-true}
+use Rattle.spellings.proofs.BytesLaws.{by-test, same-true}
 use Rattle.terms.specs.Term.{Name, word, fresh, outside, Term, Fields, variable, function, apply, rcd, dot, number, nil, cons, size, sizeFields}
 use Rattle.terms.specs.Rename.{belongs, isRenamed, one, renames, renamesFields, newName, written, Printed, shownAs, binderShown, renamed, renamedFields, rename}
 use Rattle.terms.specs.Binding.{Owner, unbound, boundAt, Binder, ownerOf}

@@ -13,9 +13,9 @@ use lib.ListN.{length, getD, set, length-set, length-append}
 use lib.Seq.{sets, set-comm}
 use borrow.Author.Tests.{eqb-true, eqb-false}
 use Rattle.spellings.specs.Bytes.{isWord}
-use Rattle.spellings.specs.BytesLaws.{by-test}
+use Rattle.spellings.proofs.BytesLaws.{by-test}
 use Rattle.kinds.specs.Kinds.{hasKind}
-use Rattle.kinds.specs.KindsLaws.{has-none, has-join}
+use Rattle.kinds.proofs.KindsLaws.{has-none, has-join}
 use Rattle.grammar.specs.Cells.{column, nameBase}
 use Rattle.grammar.proofs.ReaderLaws.{getD-past}
 use Rattle.terms.specs.Term.{Name, word, fresh, outside, Term, Fields, variable, function, apply, rcd, dot, number, nil, cons, size, sizeFields}

@@ -9,7 +9,7 @@ use lib.ListN.{length, getD, set}
 use lib.Seq.{getD-set-same, getD-set-other, set-getD, set-set}
 use borrow.Author.Tests.{eq-eqb, ne-eqb, eqb-true, eqb-false}
 use Rattle.spellings.specs.Bytes.{same, isWord}
-use Rattle.spellings.specs.BytesLaws.{by-test, same-true, same-refl}
+use Rattle.spellings.proofs.BytesLaws.{by-test, same-true, same-refl}
 use Rattle.grammar.specs.Cells.{column, nameBase}
 use Rattle.terms.specs.Term.{Name, word, fresh, outside}
 use Rattle.terms.specs.Rows.{nameOf}

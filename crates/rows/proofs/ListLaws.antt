@@ -8,7 +8,7 @@ use lib.Dec.{ltb}
 use lib.ListN.{length, getD, set, take, drop, replicate, length-replicate, getD-replicate}
 use lib.Seq.{sets, sets-eq, set-comm, take-at}
 use borrow.Author.Tests.{ltb-true, ltb-false}
-use Rattle.spellings.specs.BytesLaws.{by-test}
+use Rattle.spellings.proofs.BytesLaws.{by-test}
 use Rattle.grammar.proofs.ReaderLaws.{getD-past}
 
 -- a room of zeros reads as 0 everywhere

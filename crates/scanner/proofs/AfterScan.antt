@@ -8,7 +8,7 @@ use lib.ListN.{length, getD, take, drop, length-append, List·getD-eq-default}
 use lib.Seq.{sets, length-sets}
 use borrow.Author.Tests.{ltb-true, ltb-false}
 use Rattle.spellings.specs.Bytes.{largest}
-use Rattle.spellings.specs.BytesLaws.{by-test}
+use Rattle.spellings.proofs.BytesLaws.{by-test}
 use Rattle.kinds.specs.Kinds.{wordKind}
 use Rattle.answers.specs.declared.Refusal.{Refusal}
 use Rattle.grammar.specs.Fields.{Lexicon}

@@ -8,7 +8,7 @@ use lib.Dec.{ltb}
 use lib.ListN.{length}
 use borrow.Author.Tests.{lt-ltb, le-ltb, ltb-true, ltb-false}
 use Rattle.spellings.specs.Bytes.{indexOf}
-use Rattle.spellings.specs.BytesLaws.{by-test, index-le, index-found, index-first, index-at, same-false}
+use Rattle.spellings.proofs.BytesLaws.{by-test, index-le, index-found, index-first, index-at, same-false}
 use Rattle.grammar.specs.declared.Found.{Found}
 use Rattle.grammar.specs.declared.Found.the-variants.{At, Absent}
 use Rattle.grammar.specs.Lookup.{foundIn}

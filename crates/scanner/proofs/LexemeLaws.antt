@@ -9,7 +9,7 @@ use lib.ListN.{length, getD, take, drop, length-take, length-drop, drop-of-lengt
 use lib.Seq.{take-all, take-nil}
 use borrow.Author.Tests.{le-leb, lt-leb}
 use Rattle.spellings.specs.Bytes.{isLetter, isDigit, isWordByte, isSeparator, isSymbol, run, indexOf, largest, valueOf}
-use Rattle.spellings.specs.BytesLaws.{run-prefix, run-length}
+use Rattle.spellings.proofs.BytesLaws.{run-prefix, run-length}
 use Rattle.spellings.specs.Numbers.{numberOf}
 use Rattle.spellings.specs.declared.Number as number
 use Rattle.spellings.specs.declared.Number.the-variants.{Value, TooLarge}

@@ -8,7 +8,7 @@ use lib.ListN.{length, getD, set, take, drop, length-set, length-append, drop-of
 use lib.Seq.{sets, length-sets, take-nil, drop-cons, getD-set-same, getD-set-other}
 use borrow.Author.Tests.{eq-eqb, ne-eqb}
 use Rattle.spellings.specs.Bytes.{same}
-use Rattle.spellings.specs.BytesLaws.{by-test, same-true, same-false, equal-same, differ-same}
+use Rattle.spellings.proofs.BytesLaws.{by-test, same-true, same-false, equal-same, differ-same}
 use Rattle.grammar.specs.declared.Front.{Front}
 use Rattle.grammar.specs.declared.Front.the-variants.{Nothing, Short, Field}
 use Rattle.grammar.specs.Fields.{Fields, Lexicon, next, leading, afterLeading, lexiconOf}

@@ -9,7 +9,7 @@ use lib.ListN.{length, getD, set, take, drop, length-drop, length-append}
 use lib.Seq.{sets, length-take-le}
 use borrow.Author.Tests.{eq-eqb, ne-eqb, ltb-true, ltb-false}
 use Rattle.spellings.specs.Bytes.{isLetter, isDigit, isWordByte, isSeparator, isSymbol, run, indexOf, largest, valueOf}
-use Rattle.spellings.specs.BytesLaws.{by-test, index-le, index-front, index-rest, run-prefix, run-length}
+use Rattle.spellings.proofs.BytesLaws.{by-test, index-le, index-front, index-rest, run-prefix, run-length}
 use Rattle.grammar.specs.Fields.{Lexicon, lexiconOf}
 use Rattle.grammar.proofs.LookupLaws.{few-keywords, few-outsides}
 use Rattle.kinds.specs.Kinds.{wordKind, numberKind, keywordKind, noKind}

@@ -9,7 +9,7 @@ use lib.Dec.{ltb}
 use lib.ListN.{length, getD, take, drop, length-append}
 use borrow.Author.Tests.{ltb-true, ltb-false, le-leb, le-ltb, lt-ltb, ne-eqb, eq-eqb}
 use Rattle.spellings.specs.Bytes.{isLetter, isWordByte, run, isWord, indexOf}
-use Rattle.spellings.specs.BytesLaws.{by-test, run-taken, run-prefix, every-run, letter-word-byte, index-le, index-found, index-front, index-rest}
+use Rattle.spellings.proofs.BytesLaws.{by-test, run-taken, run-prefix, every-run, letter-word-byte, index-le, index-found, index-front, index-rest}
 use Rattle.grammar.specs.declared.Found.{Found}
 use Rattle.grammar.specs.declared.Found.the-variants.{At, Absent}
 use Rattle.grammar.specs.Fields.{Lexicon}

@@ -10,7 +10,7 @@ use lib.ListN.{length, getD, take, drop, length-take, length-drop}
 use lib.Seq.{take-all, getD-drop}
 use borrow.Author.Tests.{leb-true, leb-false, le-leb, eq-eqb, ne-eqb}
 use Rattle.spellings.specs.Bytes.{isLetter, isDigit, isWordByte, isSeparator, isSymbol, run, largest, valueOf}
-use Rattle.spellings.specs.BytesLaws.{run-taken, run-prefix, run-length, letter-word-byte}
+use Rattle.spellings.proofs.BytesLaws.{run-taken, run-prefix, run-length, letter-word-byte}
 use Rattle.grammar.specs.Fields.{Lexicon}
 use Rattle.kinds.specs.Kinds.{wordKind, noKind}
 use Rattle.scanner.specs.declared.Token.{Token}

@@ -11,7 +11,7 @@ use lib.ListN.{length, getD, set, take, drop, drop-of-length-le, length-set, len
 use lib.Seq.{getD-set-same, getD-set-other, getD-at}
 use borrow.Author.Tests.{eqb-true, eqb-false, ltb-true, ltb-false}
 use Rattle.spellings.specs.Bytes.{same, indexOf, run, isWordByte}
-use Rattle.spellings.specs.BytesLaws.{by-test, same-true, same-false, index-le, index-found, index-front, index-rest, run-taken, run-left}
+use Rattle.spellings.proofs.BytesLaws.{by-test, same-true, same-false, index-le, index-found, index-front, index-rest, run-taken, run-left}
 use Rattle.spellings.proofs.Loops.{drop-at-index}
 use Rattle.scanner.specs.Trees.{mixed, hashFrom, seed, hashOf, Hashed}
 use Rattle.scanner.specs.Trees.{rootOf, turnsOf, branchOf, Leads, there, further, Linked, Tree, Planted, Extends, FreeFor, FoundAt}

@@ -9,7 +9,7 @@ use native.Mathlib.Omega.{arith}
 use lib.ListN.{length, getD, set, take, drop, length-set}
 use lib.Seq.{sets, getD-set-same, getD-set-other}
 use Rattle.spellings.specs.Bytes.{same, indexOf}
-use Rattle.spellings.specs.BytesLaws.{same-refl, index-le}
+use Rattle.spellings.proofs.BytesLaws.{same-refl, index-le}
 use Rattle.scanner.specs.declared.Token.{Token}
 use Rattle.scanner.specs.Scan.{isNew, wordsWith}
 use Rattle.scanner.specs.Rooms.{rowThen, placeThen, countWith, wordAt, wordsFrom, wordsIn}

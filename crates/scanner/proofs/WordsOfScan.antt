@@ -9,7 +9,7 @@ use lib.ListN.{length, getD, take, drop, length-append, List·getD-append}
 use lib.Seq.{getD-at}
 use borrow.Author.Tests.{ltb-true, ltb-false}
 use Rattle.spellings.specs.Bytes.{isWord}
-use Rattle.spellings.specs.BytesLaws.{by-test}
+use Rattle.spellings.proofs.BytesLaws.{by-test}
 use Rattle.grammar.specs.Fields.{Lexicon}
 use Rattle.scanner.specs.declared.Token.{Token}
 use Rattle.scanner.specs.Scan.{Lexed, scan}

@@ -9,7 +9,7 @@ use lib.ListN.{length, getD, drop}
 use borrow.Author.Tests.{lt-leb}
 use Rattle.answers.specs.Refusals.{refusal}
 use Rattle.answers.specs.Checked.{Checked, ok, bad, _>>_, need, verdict}
-use Rattle.spellings.specs.BytesLaws.{by-test}
+use Rattle.spellings.proofs.BytesLaws.{by-test}
 use Rattle.grammar.specs.Sorts.{Signature, term, fits}
 use Rattle.grammar.specs.Table.{Template, Templates, none, more, Item, call}
 use Rattle.grammar.specs.Encode.{templateThen, templatesThen, itemValue}

@@ -5,7 +5,7 @@ use mathlib.Core.Bool.{true, false, true≢false}
 use mathlib.Core.List.{List, [], _∷_}
 use lib.Dec.{eqb}
 use borrow.Author.Tests.{eqb-true, eqb-false, eq-eqb, ne-eqb}
-use Rattle.spellings.specs.BytesLaws.{by-test, same-true, same-refl}
+use Rattle.spellings.proofs.BytesLaws.{by-test, same-true, same-refl}
 use Rattle.grammar.specs.Sorts.{Signature, gives}
 use Rattle.sorts.specs.CheckSorts.{Entry, Env, isDefined, signatureOf, sameSignature}
 use Rattle.sorts.specs.Judgements.{Newest, newest-first, newest-later, Absent, absent-empty, absent-entry}

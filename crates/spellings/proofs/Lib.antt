@@ -1,2 +1,5 @@
+pub mod DecimalLaws
+pub mod BytesLaws
+pub mod BuffersLaws
 pub mod Loops
 pub mod Writes

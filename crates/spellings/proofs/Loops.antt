@@ -10,7 +10,7 @@ use lib.ListN.{length, getD, drop, drop-of-length-le}
 use lib.Seq.{drop-cons}
 use borrow.Author.Tests.{le-leb, lt-leb, eq-eqb, ne-eqb}
 use Rattle.spellings.specs.Bytes.{run, same, largest, valueFrom, valueOf}
-use Rattle.spellings.specs.BytesLaws.{run-taken, run-left}
+use Rattle.spellings.proofs.BytesLaws.{run-taken, run-left}
 use Rattle.spellings.specs.Numbers.{limited, numberOf}
 use Rattle.spellings.specs.declared.Number.the-variants.{Value, TooLarge}
 

@@ -8,9 +8,9 @@ use native.Mathlib.Omega.{arith}
 use lib.ListN.{length, getD, set, take, drop, length-set}
 use lib.Seq.{drop-set-lt, getD-set-same, take-suc, append-snoc, set-at, length-take-le, take-length}
 use Rattle.spellings.specs.Bytes.{digitsThen, decimal}
-use Rattle.spellings.specs.DecimalLaws.{digits-one, digits-more}
+use Rattle.spellings.proofs.DecimalLaws.{digits-one, digits-more}
 use Rattle.spellings.specs.Buffers.{written}
-use Rattle.spellings.specs.BuffersLaws.{written-fits}
+use Rattle.spellings.proofs.BuffersLaws.{written-fits}
 use Rattle.spellings.proofs.Loops.{drop-at-index}
 
 -- ------------------------------------------------------------------ the number of digits

@@ -5,7 +5,7 @@ use mathlib.Core.Logic.{_↔_}
 use mathlib.Core.Bool.{Bool, true, false, true≢false}
 use mathlib.Core.List.{List, [], _∷_, _++_}
 use native.Mathlib.Omega.{arith}
-use Rattle.spellings.specs.BytesLaws.{by-test}
+use Rattle.spellings.proofs.BytesLaws.{by-test}
 use Rattle.layout.specs.Within.{Each, each-none, each-more}
 use Rattle.terms.specs.Term.{Name, word, fresh, outside, Term, Fields, variable, function, apply, rcd, dot, number, nil, cons, size}
 use Rattle.terms.specs.Rename.{belongs}

@@ -8,7 +8,7 @@ use lib.Dec.{eqb}
 use lib.ListN.{getD}
 use borrow.Author.Tests.{eqb-true, eqb-false}
 use Rattle.spellings.specs.Bytes.{bytes, decimal, digitsThen}
-use Rattle.spellings.specs.BytesLaws.{by-test}
+use Rattle.spellings.proofs.BytesLaws.{by-test}
 use Rattle.grammar.specs.Cells.{column}
 use Rattle.terms.specs.Term.{Name}
 use Rattle.terms.specs.Rows.{nameOf, termAt, fieldsAt}

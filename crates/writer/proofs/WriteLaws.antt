@@ -8,7 +8,7 @@ use lib.ListN.{length, getD, set, take, drop, length-set, length-drop, drop-of-l
 use lib.Seq.{sets, sets-eq, take-all, drop-drop}
 use borrow.Rule.Slice.PartMut.{putMid, midOf, same-len-mid}
 use Rattle.spellings.specs.Buffers.{written}
-use Rattle.spellings.specs.BuffersLaws.{written-fits, length-written}
+use Rattle.spellings.proofs.BuffersLaws.{written-fits, length-written}
 use Rattle.writer.specs.Openings.{Wrote, spellIn}
 
 pub byte-in : (out : List ℕ) (at b : ℕ) → Wrote out at (b ∷ []) (at + 1) (set out at b)

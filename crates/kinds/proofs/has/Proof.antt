@@ -4,7 +4,7 @@ use mathlib.Core.Path.{sym, ap}
 use lib.Bits.{and-mask}
 use lib.Dec.{eqb}
 use Rattle.kinds.specs.Kinds.{hasKind}
-use Rattle.kinds.specs.KindsLaws.{has-above}
+use Rattle.kinds.proofs.KindsLaws.{has-above}
 use borrow.Author.Needs.{needs}
 use Rattle.kinds.proofs.has.Statement.{statement}
 use Rattle.kinds.proofs.has.Tie as tie

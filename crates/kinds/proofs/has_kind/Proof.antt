@@ -1,6 +1,6 @@
 -- `has_kind`: what is no kind is in no set.
 use mathlib.Core.Path.{sym}
-use Rattle.kinds.specs.KindsLaws.{has-above}
+use Rattle.kinds.proofs.KindsLaws.{has-above}
 use borrow.Author.Needs.{needs}
 use Rattle.kinds.proofs.has_kind.Statement.{statement}
 use Rattle.kinds.proofs.has_kind.Tie as tie

@@ -3,7 +3,7 @@ use mathlib.Core.Path.{sym, _∙_}
 use native.Mathlib.Nat.{one-mul}
 use lib.Dec.{lit<}
 use lib.Pow.{shl-exact}
-use Rattle.kinds.specs.KindsLaws.{only-kind, only-none}
+use Rattle.kinds.proofs.KindsLaws.{only-kind, only-none}
 use borrow.Author.Needs.{needs}
 use Rattle.kinds.proofs.only.Statement.{statement}
 use Rattle.kinds.proofs.only.Tie as tie

@@ -1,6 +1,6 @@
 -- `set_of_kind`: what is no kind has no set.
 use mathlib.Core.Path.{sym}
-use Rattle.kinds.specs.KindsLaws.{only-none}
+use Rattle.kinds.proofs.KindsLaws.{only-none}
 use borrow.Author.Needs.{needs}
 use Rattle.kinds.proofs.set_of_kind.Statement.{statement}
 use Rattle.kinds.proofs.set_of_kind.Tie as tie

@@ -3,7 +3,7 @@ use Prim.Native.Nat.{_-_}
 use mathlib.Core.Path.{refl, sym}
 use lib.ListN.{length}
 use borrow.Author.Needs.{needs}
-use Rattle.spellings.specs.BuffersLaws.{written-not}
+use Rattle.spellings.proofs.BuffersLaws.{written-not}
 use Rattle.spellings.proofs.Writes as writes
 use Rattle.spellings.proofs.copy_into.Statement.{statement}
 use Rattle.spellings.proofs.copy_into.Tie as tie

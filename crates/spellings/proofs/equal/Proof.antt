@@ -3,7 +3,7 @@ use Prim.Native.Nat.{_-_}
 use mathlib.Core.Path.{sym}
 use lib.ListN.{length}
 use borrow.Author.Needs.{needs}
-use Rattle.spellings.specs.BytesLaws.{length-same}
+use Rattle.spellings.proofs.BytesLaws.{length-same}
 use Rattle.spellings.proofs.Loops as loops
 use Rattle.spellings.proofs.equal.Statement.{statement}
 use Rattle.spellings.proofs.equal.Tie as tie

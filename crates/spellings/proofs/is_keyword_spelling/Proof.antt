@@ -1,7 +1,7 @@
 -- `is_keyword_spelling`: one byte is a letter or a symbol, any other number of them a word.
 use mathlib.Core.Path.{sym, ap₂, _∙_}
 use mathlib.Core.Bool.{_||_}
-use Rattle.spellings.specs.BytesLaws.{is-keyword-one, is-keyword-word}
+use Rattle.spellings.proofs.BytesLaws.{is-keyword-one, is-keyword-word}
 use borrow.Author.Needs.{needs}
 use Rattle.spellings.proofs.is_keyword_spelling.Statement.{statement}
 use Rattle.spellings.proofs.is_keyword_spelling.Tie as tie

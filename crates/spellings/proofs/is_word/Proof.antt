@@ -3,7 +3,7 @@ use mathlib.Core.Path.{sym, ap₂, _∙_}
 use mathlib.Core.Bool.{_&&_}
 use lib.Dec.{eqb, leb}
 use lib.ListN.{length}
-use Rattle.spellings.specs.BytesLaws.{is-word-empty, is-word-by}
+use Rattle.spellings.proofs.BytesLaws.{is-word-empty, is-word-by}
 use borrow.Author.Needs.{needs}
 use Rattle.spellings.proofs.is_word.Statement.{statement}
 use Rattle.spellings.proofs.is_word.Tie as tie

@@ -3,7 +3,7 @@ use mathlib.Core.Path.{sym}
 use native.Mathlib.Omega.{arith}
 use borrow.Author.Needs.{needs}
 use Rattle.spellings.specs.Bytes.{decimal}
-use Rattle.spellings.specs.BuffersLaws.{written-not}
+use Rattle.spellings.proofs.BuffersLaws.{written-not}
 use Rattle.spellings.proofs.Writes as writes
 use Rattle.spellings.proofs.write_decimal.Statement.{statement}
 use Rattle.spellings.proofs.write_decimal.Tie as tie
