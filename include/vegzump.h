@@ -19,7 +19,7 @@
 extern "C" {
 #endif
 
-/* Bytes of stack: at every limit of the language, and for the formulas of a kitchen's day. MEASURED: see tests/stack. */
+/* Bytes of stack: at every limit of the language, and for the formulas of a kitchen's day. As tests/stack measures them. */
 #define VEGZUMP_STACK 3670016u
 #define VEGZUMP_STACK_ORDINARY 409600u
 
