@@ -22,9 +22,11 @@ use Rattle.expansion.specs.declared.Outcome.{Outcome}
 use Rattle.expansion.specs.declared.Outcome.the-variants.{Value, Halted}
 use Rattle.expander.specs.declared.items.Step.{Step}
 use Rattle.expander.specs.declared.items.Step.the-variants.{Finished, Stopped, Taken, Opened}
-use Rattle.expansion.specs.Run.{Result, done, halt, Run, after, ran}
-use Rattle.expansion.specs.Expansion.{Input, endToken, nextToken, misfit, build, runItems, Choice, unfit, ready}
-use Rattle.expansion.specs.Expansion.{chosen, choice, callBegun, mostCalls, runCall, mostOpen, start, ended, run}
+use Rattle.expansion.specs.Run.{Result, done, halt, Run, after}
+use Rattle.expansion.specs.Outcomes.{ran}
+use Rattle.expansion.specs.Expansion.{Input, nextToken, misfit, build, runItems, Choice, unfit, ready, chosen, choice, callBegun, runCall, start, ended, run}
+use Rattle.scanner.specs.Tokens.{endToken}
+use Rattle.expansion.specs.Limits.{mostCalls, mostOpen}
 use Rattle.scanner.specs.Rooms.{tokensIn}
 use Rattle.expander.specs.Lent.{Held, lentInput}
 use Rattle.expander.specs.Chosen.{setsOf, entriesOf, chosenPlace}

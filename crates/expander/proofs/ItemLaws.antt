@@ -13,25 +13,26 @@ use Rattle.kinds.specs.Kinds.{only}
 use Rattle.grammar.specs.declared.Front.the-variants.{Nothing, Short, Field}
 use Rattle.grammar.specs.Table.{Template, Templates, variable, none, more, Item, keyword, ide, number, local, call}
 use Rattle.grammar.specs.Sorts.{label}
-use Rattle.grammar.specs.Cells.{wordName}
+use Rattle.terms.specs.Cells.{wordName}
 use Rattle.grammar.specs.Fields.{Fields, next}
 use Rattle.grammar.specs.Lookup.{frontOf, fieldsAt}
 use Rattle.grammar.proofs.LookupLaws.{fields-at, front-inside}
 use Rattle.layout.specs.Prefix.{Parsed, fault, parsed, templatesOf, isTemplates, isTemplate, found}
 use Rattle.layout.specs.Decode.{itemOf}
 use Rattle.scanner.specs.declared.Token.{Token}
-use Rattle.productions.specs.Index.{itemsOf, resultOf}
+use Rattle.productions.specs.Index.{itemsOf, resultOf, wholeBody}
 use Rattle.expansion.specs.declared.State.{State}
 use Rattle.expansion.specs.declared.Outcome.{Outcome}
 use Rattle.expansion.specs.declared.Outcome.the-variants.{Value, Halted}
 use Rattle.expander.specs.declared.items.Step.the-variants.{Opened}
 use Rattle.templates.specs.declared.Arguments.{Arguments}
 use Rattle.templates.specs.declared.Arguments.the-variants.{Listed, Overfull}
-use Rattle.expansion.specs.Run.{Result, done, halt, Run, after, ran}
-use Rattle.expansion.specs.Expansion.{Input, endToken, nextToken, tokenTaken, misfit, build, buildAll, wordValue, freshMade, runItem, runItems}
+use Rattle.expansion.specs.Run.{Result, done, halt, Run, after}
+use Rattle.expansion.specs.Outcomes.{ran}
+use Rattle.expansion.specs.Expansion.{Input, nextToken, tokenTaken, misfit, build, buildAll, wordValue, freshMade, runItem, runItems}
+use Rattle.scanner.specs.Tokens.{endToken}
 use Rattle.expansion.specs.Expansion as Expansion
 use Rattle.scanner.specs.Rooms.{tokensIn}
-use Rattle.productions.specs.Index.{wholeBody}
 use Rattle.templates.specs.Built.{withMade, Ahead, templateAt, built, Lists, Few}
 use Rattle.templates.specs.declared.Built.{Built}
 use Rattle.templates.specs.declared.Built.the-variants.{Made, Full}
@@ -67,7 +68,7 @@ module _ (v : List ℕ) (kind operand : ℕ) (ek : kind ≡ getD v 0 0) (eo : op
     runs : {i : Item} → i ≡ itemOf v → {R : Result ℕ} → R ≡ runItem C I i M s cells → R ≡ runItem C I (itemOf v) M s cells
     runs e f = f ∙ ap (λ (i : Item). runItem C I i M s cells) e
 
-    pub keyword-read : kind ≡ 0 → {R : Result ℕ} → R ≡ Expansion.take I (operand + 2) (λ x. 0) s cells → R ≡ runItem C I (itemOf v) M s cells
+    pub keyword-read : kind ≡ 0 → {R : Result ℕ} → R ≡ Expansion.takeToken I (operand + 2) (λ x. 0) s cells → R ≡ runItem C I (itemOf v) M s cells
     keyword-read e f = runs (item-is 0 e) f
 
     pub local-read : kind ≡ 3 → {R : Result ℕ} → R ≡ freshMade s cells → R ≡ runItem C I (itemOf v) M s cells
@@ -77,20 +78,20 @@ module _ (v : List ℕ) (kind operand : ℕ) (ek : kind ≡ getD v 0 0) (eo : op
       value-is : value ≡ nextToken I s .value
       value-is = ev ∙ sym (ap (λ (ts : List Token). getD ts (s .at) endToken .value) et)
 
-      retaken : (k w : ℕ) (f : ℕ → ℕ) → w ≡ f (nextToken I s .value) → Expansion.take I k (λ x. w) s cells ≡ Expansion.take I k f s cells
+      retaken : (k w : ℕ) (f : ℕ → ℕ) → w ≡ f (nextToken I s .value) → Expansion.takeToken I k (λ x. w) s cells ≡ Expansion.takeToken I k f s cells
       retaken k w f e =
           ap
           (λ (x : ℕ).
           elim (eqb (nextToken I s .kind) k) [ true ↦ done x (tokenTaken s) cells | false ↦ misfit (only k) s cells ])
           e
 
-      pub word-read : kind ≡ 1 → {w : ℕ} → w ≡ wordValue operand value → {R : Result ℕ} → R ≡ Expansion.take I 0 (λ x. w) s cells
+      pub word-read : kind ≡ 1 → {w : ℕ} → w ≡ wordValue operand value → {R : Result ℕ} → R ≡ Expansion.takeToken I 0 (λ x. w) s cells
           → R ≡ runItem C I (itemOf v) M s cells
       word-read e {w} ew f =
           runs (item-is 1 e) (f ∙ retaken 0 w (wordValue operand) (ew ∙ ap (wordValue operand) value-is))
 
       pub number-read : (kind ≡ 0 → ⊥) → (kind ≡ 1 → ⊥) → (kind ≡ 3 → ⊥) → (kind ≡ 4 → ⊥) → {R : Result ℕ}
-          → R ≡ Expansion.take I 1 (λ x. value) s cells
+          → R ≡ Expansion.takeToken I 1 (λ x. value) s cells
           → R ≡ runItem C I (itemOf v) M s cells
       number-read n0 n1 n3 n4 f = runs (item-other n0 n1 n3 n4) (f ∙ retaken 1 value (λ x. x) value-is)
 

@@ -10,7 +10,8 @@ use Rattle.expansion.specs.declared.State.{State}
 use Rattle.expander.specs.declared.calls.Begun.{Begun}
 use Rattle.expander.specs.declared.calls.Begun.the-variants.{Refused, Entered}
 use Rattle.expansion.specs.Run.{Result, halt}
-use Rattle.expansion.specs.Expansion.{Input, callBegun, mostCalls, runCall}
+use Rattle.expansion.specs.Expansion.{Input, callBegun, runCall}
+use Rattle.expansion.specs.Limits.{mostCalls}
 use Rattle.templates.specs.Built.{rowsIn}
 use Rattle.expander.specs.Lent.{lentInput, Lent}
 use Rattle.expander.specs.Steps.{body, weight, mostWeight}

@@ -17,7 +17,8 @@ use Rattle.layout.specs.Within.{Each, each-none, each-more}
 use Rattle.productions.specs.Normal.{Production}
 use Rattle.productions.specs.Index.{Place, placesIn, productionsAt, Whole}
 use Rattle.productions.specs.Room.{Entry, noEntry, roomOf, overwritten, HoldsEntries}
-use Rattle.firsts.specs.First.{nullables, firstSets, leftCalls, leftRecursive, setsOf, noLeftRecursion, noClash, checkFirsts}
+use Rattle.firsts.specs.First.{leftRecursive, noLeftRecursion, noClash, checkFirsts}
+use Rattle.firsts.specs.FirstSets.{nullables, firstSets, leftCalls, setsOf}
 use Rattle.firsts.specs.Pairs.{clashingIn, allSharedIn, noClashIn}
 use Rattle.firsts.specs.Room.{entryAt, roomBy, grammarRoom, WholeIndex, Prepared}
 use Rattle.firsts.proofs.FillLaws.{length-entries}

@@ -12,7 +12,7 @@ use Rattle.productions.specs.Index.{itemsOf, Place, placesFrom, placesIn, Whole
 use Rattle.productions.specs.Room.{Entry, noEntry, roomOf, begun, laid, overwritten, RoomAt}
 use Rattle.productions.proofs.IndexLaws.{placeAt, length-places}
 use Rattle.productions.proofs.RoomWriting.{Filling, filling-start, filling-next, filling-end}
-use Rattle.firsts.specs.First.{allPassed, gather}
+use Rattle.firsts.specs.FirstSets.{allPassed, gather}
 use Rattle.firsts.specs.Room.{entryAt, roomBy, WholeIndex, FillRoom}
 
 -- ------------------------------------------------------------------ the entries of an index

@@ -17,7 +17,8 @@ use Rattle.productions.specs.Normal.{Production}
 use Rattle.productions.specs.Index.{Place, productionAt, productionsAt}
 use Rattle.productions.specs.Room.{Entry, noEntry, HoldsEntries, placeFrom, isOf, firstPlaceIn, firstIn, nextPlaceIn, nullableIn}
 use Rattle.productions.proofs.RoomLaws.{first-place-in, first-in, next-place-in, nullable-in}
-use Rattle.firsts.specs.First.{allPassed, sharedBy, clash, lowest, clashing, noClash, anyWith, anyPair, joinWith, joinPairs}
+use Rattle.firsts.specs.First.{sharedBy, clash, lowest, clashing, noClash, anyWith, anyPair, joinWith, joinPairs}
+use Rattle.firsts.specs.FirstSets.{allPassed}
 use Rattle.firsts.specs.Pairs.{afterIn, linked, sharedIn, clashIn, clashingIn, allSharedIn, noClashIn}
 use Rattle.firsts.specs.Room.{entryAt}
 use Rattle.firsts.proofs.PairsLaws.{linked-next, linked-none}

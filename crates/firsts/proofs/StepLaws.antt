@@ -13,7 +13,7 @@ use borrow.Author.Tests.{eqb-true, not-false}
 use Rattle.kinds.specs.Kinds.{only}
 use Rattle.grammar.specs.Lookup.{fieldsAt}
 use Rattle.productions.specs.Normal.{Production}
-use Rattle.firsts.specs.First.{rounds, overAll, allPassed, nullStep, gather, firstStep, setsOf}
+use Rattle.firsts.specs.FirstSets.{rounds, overAll, allPassed, nullStep, gather, firstStep, setsOf}
 use Rattle.firsts.specs.SetCalls.{Grown}
 use Rattle.productions.specs.Index.{itemsOf, Place, productionAt, productionsAt, placesFrom, productionsBy}
 use Rattle.productions.proofs.IndexLaws.{places-next, places-none}

@@ -5,3 +5,5 @@ pub mod Symbols
 pub mod Pairs
 pub mod Room
 pub mod SetCalls
+pub mod FirstSets
+pub mod Clashes

@@ -13,7 +13,7 @@ ghost use Rattle.kinds.specs.Kinds.{keywordKind, only};
 ghost use Rattle.grammar.specs.Lookup.{frontOf, fieldsAt};
 ghost use Rattle.layout.specs.Decode.{itemOf};
 ghost use Rattle.firsts.specs.Symbols.{symbolOf, withSymbol, stepOf};
-ghost use Rattle.firsts.specs.First.{isPassed, allPassed, own, through, joined, gather};
+ghost use Rattle.firsts.specs.FirstSets.{isPassed, allPassed, own, through, joined, gather};
 ghost use Rattle.productions.specs.Index.{itemsOf};
 
 // The symbol of the item that is the value of a field.

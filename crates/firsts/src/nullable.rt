@@ -5,7 +5,7 @@ use kinds::join;
 use kinds::only;
 use productions::index::offset;
 ghost use mathlib.Core.Path.{_≡_};
-ghost use Rattle.firsts.specs.First.{overAll, nullStep, nullables};
+ghost use Rattle.firsts.specs.FirstSets.{overAll, nullStep, nullables};
 ghost use Rattle.productions.specs.Index.{productionAt, productionsBy};
 
 // A production whose items may all read nothing makes its nonterminal nullable.

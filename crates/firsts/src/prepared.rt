@@ -15,7 +15,8 @@ use productions::room::lay;
 ghost use mathlib.Core.Path.{_≡_};
 ghost use Rattle.answers.specs.Checked.{verdict};
 ghost use Rattle.productions.specs.Index.{placesIn, productionsBy};
-ghost use Rattle.firsts.specs.First.{leftCalls, leftRecursive};
+ghost use Rattle.firsts.specs.First.{leftRecursive};
+ghost use Rattle.firsts.specs.FirstSets.{leftCalls};
 ghost use Rattle.firsts.specs.Pairs.{noClashIn};
 ghost use Rattle.firsts.specs.Room.{filled, WholeIndex, FillRoom, Prepared, FirstsChecked};
 

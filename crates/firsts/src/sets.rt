@@ -6,7 +6,7 @@ use productions::index::offset;
 ghost use mathlib.Core.Path.{_≡_};
 ghost use lib.Bits.{bitOr};
 ghost use lib.ListN.{getD, set};
-ghost use Rattle.firsts.specs.First.{overAll, firstStep, setsOf};
+ghost use Rattle.firsts.specs.FirstSets.{overAll, firstStep, setsOf};
 ghost use Rattle.firsts.specs.SetCalls.{Grown};
 ghost use Rattle.productions.specs.Index.{productionAt, productionsBy};
 

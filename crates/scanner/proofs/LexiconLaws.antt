@@ -11,10 +11,12 @@ use Rattle.spellings.specs.Bytes.{same}
 use Rattle.spellings.proofs.BytesLaws.{by-test, same-true, same-false, equal-same, differ-same}
 use Rattle.grammar.specs.declared.Front.{Front}
 use Rattle.grammar.specs.declared.Front.the-variants.{Nothing, Short, Field}
-use Rattle.grammar.specs.Fields.{Fields, Lexicon, next, leading, afterLeading, lexiconOf}
+use Rattle.grammar.specs.Fields.{Fields, next}
+use Rattle.grammar.specs.Table.{Lexicon}
+use Rattle.grammar.specs.Lookup.{leading, afterLeading, lexiconOf, frontOf, fieldsAt}
 use Rattle.grammar.specs.declared.Found.{Found}
 use Rattle.grammar.specs.declared.Found.the-variants.{At, Absent}
-use Rattle.grammar.specs.Lookup.{frontOf, fieldsAt, foundIn}
+use Rattle.grammar.specs.Found.{foundIn}
 use Rattle.kinds.specs.Kinds.{keywordKind, noKind}
 use Rattle.scanner.specs.Scan.{kindOf}
 use Rattle.grammar.proofs.LookupLaws.{Stops, front-inside, fields-at, found-nil, found-here, found-later, keywords-at, outsides-at, few-keywords}

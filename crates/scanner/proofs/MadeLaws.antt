@@ -10,14 +10,14 @@ use lib.Seq.{sets, length-take-le}
 use borrow.Author.Tests.{eq-eqb, ne-eqb, ltb-true, ltb-false}
 use Rattle.spellings.specs.Bytes.{isLetter, isDigit, isWordByte, isSeparator, isSymbol, run, indexOf, largest, valueOf}
 use Rattle.spellings.proofs.BytesLaws.{by-test, index-le, index-front, index-rest, run-prefix, run-length}
-use Rattle.grammar.specs.Fields.{Lexicon, lexiconOf}
+use Rattle.grammar.specs.Table.{Lexicon}
+use Rattle.grammar.specs.Lookup.{lexiconOf}
 use Rattle.grammar.proofs.LookupLaws.{few-keywords, few-outsides}
 use Rattle.kinds.specs.Kinds.{wordKind, numberKind, keywordKind, noKind}
 use Rattle.spellings.specs.Numbers.{numberOf}
 use Rattle.spellings.specs.declared.Number.the-variants.{Value, TooLarge}
 use Rattle.scanner.specs.declared.Token.{Token}
-use Rattle.scanner.specs.Scan.{Lexeme}
-use Rattle.scanner.specs.Scan.{Separator, Word, Number, Symbol, Fault}
+use Rattle.scanner.specs.Scan.{Lexeme, Separator, Word, Number, Symbol, Fault, numberLexeme, lexemeOf, isNew, stepOf, kindOf}
 use Rattle.scanner.specs.declared.Step.{Step}
 use Rattle.scanner.specs.declared.Step.the-variants.{Skip, Stop, Emit}
 use Rattle.scanner.specs.declared.Made.{Made}
@@ -25,7 +25,7 @@ use Rattle.scanner.specs.declared.Name.{Name}
 use Rattle.scanner.specs.declared.Name.the-variants.{Keyword, Outside, Other}
 use Rattle.scanner.specs.declared.trees.Spot.{Spot}
 use Rattle.scanner.specs.declared.trees.Spot.the-variants.{Node, Free}
-use Rattle.scanner.specs.Scan.{numberLexeme, lexemeOf, token, isNew, stepOf, kindOf}
+use Rattle.scanner.specs.Tokens.{token}
 use Rattle.scanner.specs.Tiling.{WordFront, NumberFront, SymbolFront, FirstAt, NotIn, Stands}
 use Rattle.scanner.specs.Tiling as rule
 use Rattle.scanner.specs.Unscanned.{Faulty, bad-byte, long-word}

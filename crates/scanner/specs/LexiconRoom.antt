@@ -5,8 +5,9 @@ use mathlib.Core.Path.{_≡_}
 use mathlib.Core.List.{List, [], _∷_, _++_}
 use lib.ListN.{length, getD, drop}
 use Rattle.grammar.specs.declared.Found.the-variants.{At, Absent}
-use Rattle.grammar.specs.Fields.{Lexicon, lexiconOf}
-use Rattle.grammar.specs.Lookup.{foundIn}
+use Rattle.grammar.specs.Table.{Lexicon}
+use Rattle.grammar.specs.Lookup.{lexiconOf}
+use Rattle.grammar.specs.Found.{foundIn}
 use Rattle.kinds.specs.Kinds.{keywordKind, noKind}
 use Rattle.scanner.specs.Scan.{kindOf}
 use Rattle.scanner.specs.Rooms.{wordsIn}

@@ -5,3 +5,4 @@ pub mod Unscanned
 pub mod Trees
 pub mod LexiconRoom
 pub mod Stepping
+pub mod Tokens

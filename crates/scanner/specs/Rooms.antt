@@ -6,8 +6,9 @@ use lib.ListN.{length, getD, take, drop}
 use lib.Seq.{sets}
 use Rattle.scanner.specs.declared.Token.{Token}
 use Rattle.scanner.specs.declared.Scanned.{Scanned}
-use Rattle.grammar.specs.Fields.{Lexicon}
-use Rattle.scanner.specs.Scan.{token, isNew, scan}
+use Rattle.grammar.specs.Table.{Lexicon}
+use Rattle.scanner.specs.Scan.{isNew, scan}
+use Rattle.scanner.specs.Tokens.{token}
 
 -- ------------------------------------------------------------------ tokens and words as numbers
 

@@ -5,7 +5,7 @@ use mathlib.Core.Path.{_≡_}
 use mathlib.Core.Bool.{true, false}
 use mathlib.Core.List.{List, []}
 use lib.ListN.{length, getD, take}
-use Rattle.grammar.specs.Fields.{Lexicon}
+use Rattle.grammar.specs.Table.{Lexicon}
 use Rattle.kinds.specs.Kinds.{wordKind}
 use Rattle.scanner.specs.declared.Token.{Token}
 use Rattle.scanner.specs.declared.Step.{Step}
@@ -15,7 +15,8 @@ use Rattle.scanner.specs.declared.Name.the-variants.{Keyword, Outside, O
 use Rattle.scanner.specs.declared.Made.{Made}
 use Rattle.scanner.specs.declared.trees.Spot.{Spot}
 use Rattle.scanner.specs.declared.trees.Spot.the-variants.{Node, Free}
-use Rattle.scanner.specs.Scan.{token, isNew, stepOf}
+use Rattle.scanner.specs.Scan.{isNew, stepOf}
+use Rattle.scanner.specs.Tokens.{token}
 use Rattle.scanner.specs.Tiling.{FirstAt, NotIn}
 use Rattle.scanner.specs.Rooms.{wordsIn}
 use Rattle.scanner.specs.Trees.{Tree, FreeFor}

@@ -12,7 +12,7 @@ use Rattle.answers.specs.Checked.{Checked, ok, bad, _>>_, need, verdict}
 use Rattle.spellings.proofs.BytesLaws.{by-test}
 use Rattle.grammar.specs.Sorts.{Signature, term, fits}
 use Rattle.grammar.specs.Table.{Template, Templates, none, more, Item, call}
-use Rattle.grammar.specs.Encode.{templateThen, templatesThen, itemValue}
+use Rattle.grammar.specs.Values.{templateThen, templatesThen, itemValue}
 use Rattle.layout.specs.Prefix.{templatesOf, found, firstOf}
 use Rattle.layout.specs.Decode.{itemOf}
 use Rattle.layout.specs.Layout.{isKnown, isWhole}
@@ -22,7 +22,8 @@ use Rattle.layout.proofs.Templates.{read-templates, read-template}
 use Rattle.layout.proofs.Values.{item-value, item-read, result-value, result-read}
 use Rattle.sorts.specs.declared.Sorted.{Sorted}
 use Rattle.sorts.specs.declared.Sorted.the-variants.{As, Unsorted}
-use Rattle.sorts.specs.CheckSorts.{Scope, isDefined, signatureOf, isClosed, areClosed, isSorted, sortOf, fill, checkItem, checkResult, checkRoot}
+use Rattle.sorts.specs.CheckSorts.{isDefined, signatureOf, isClosed, areClosed, isSorted, sortOf, fill, checkItem, checkResult, checkRoot}
+use Rattle.sorts.specs.Scopes.{Scope}
 use Rattle.sorts.specs.TemplateBytes.{fillBytes, templatesFault}
 use Rattle.sorts.specs.ByBytes.{signatureAt, Context, unlessFault, callAt, itemAt, resultAt, rootAt, verdictOf}
 use Rattle.sorts.proofs.TemplateInduction.{choose}

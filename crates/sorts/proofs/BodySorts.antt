@@ -9,10 +9,11 @@ use borrow.Author.Tests.{ltb-true, lt-ltb}
 use Rattle.answers.specs.Checked.{Checked, ok, _>>_, need}
 use Rattle.grammar.specs.Sorts.{Signature, unit, fits}
 use Rattle.grammar.specs.Table.{Template, Item, keyword, ide, number, local, call, Alternative, Definition}
-use Rattle.grammar.specs.Encode.{headValue}
+use Rattle.grammar.specs.Values.{headValue}
 use Rattle.layout.specs.Within.{Each, each-none, each-more, TemplateWithin, ItemWithin, ide-within, call-within, AlternativeWithin, DefinitionWithin}
 use Rattle.sorts.specs.Sizes.{fieldSize, itemsSize, definitionSize}
-use Rattle.sorts.specs.CheckSorts.{Scope, isDefined, signatureOf, isClosed, areClosed, sortOf, isSorted, fill, checkItem, checkItems, checkResult, checkAlternative, checkAlternatives, checkBodies}
+use Rattle.sorts.specs.CheckSorts.{isDefined, signatureOf, isClosed, areClosed, sortOf, isSorted, fill, checkItem, checkItems, checkResult, checkAlternative, checkAlternatives, checkBodies}
+use Rattle.sorts.specs.Scopes.{Scope}
 use Rattle.sorts.specs.Judgements.{ItemSorted, by-keyword, by-ide, by-number, by-local, by-call, Body, by-result, by-binding, Bodies, no-alternative, by-choice, Ok, ok-empty, ok-definition}
 use Rattle.sorts.proofs.Accepting.{Accepts, need-passed, need-passes, needs-passed, needs-passes, bind-passed, bind-passes, then-passed, then-passes}
 use Rattle.sorts.proofs.Environments.{defined-newest, newest-defined, newest-signature}

@@ -10,9 +10,10 @@ use Rattle.answers.specs.Checked.{Checked, ok, bad, _>>=_, _>>_, need}
 use Rattle.grammar.specs.Sorts.{Signature, gives, unit}
 use Rattle.grammar.specs.Table.{Template, Item, Alternative, Mode, add, extend, update, Definition, Table}
 use lib.Dec.{eqb}
-use Rattle.grammar.specs.Fields.{Fields, next, fieldsOf, leading, afterLeading}
-use Rattle.grammar.specs.Encode.{Field, field, templateThen, itemValue, modeCode, headValue, spellingsThen, itemsThen, alternativesThen}
-use Rattle.grammar.specs.Encode.{definitionsThen, blocksThen, tableFields, encode}
+use Rattle.grammar.specs.Fields.{Fields, next, fieldsOf}
+use Rattle.grammar.specs.Lookup.{leading, afterLeading}
+use Rattle.grammar.specs.Encode.{spellingsThen, itemsThen, alternativesThen, definitionsThen, blocksThen, tableFields, encode}
+use Rattle.grammar.specs.Values.{Field, field, templateThen, itemValue, modeCode, headValue}
 use Rattle.layout.specs.Decode.{modeOf, itemOf, definitionOf}
 use Rattle.layout.specs.Prefix.{templatesOf, found, firstOf}
 use Rattle.layout.specs.Within.{Each, each-none, each-more, TemplateWithin, ItemWithin, AlternativeWithin, DefinitionWithin, Within}
@@ -22,7 +23,8 @@ use Rattle.layout.proofs.Values.{item-read, result-read}
 use Rattle.layout.proofs.Inverse.{decode-encoded}
 use Rattle.layout.proofs.DecodedLexicon.{leading-decoded}
 use Rattle.sorts.specs.Sizes.{fieldSize, spellingsSize, itemsSize, alternativeSize, alternativesSize, definitionSize, definitionsSize}
-use Rattle.sorts.specs.CheckSorts.{Env, entryOf, consistent, collect, Scope, checkItem, checkItems, checkResult, checkAlternative}
+use Rattle.sorts.specs.CheckSorts.{consistent, collect, checkItem, checkItems, checkResult, checkAlternative}
+use Rattle.sorts.specs.Scopes.{Env, entryOf, Scope}
 use Rattle.sorts.specs.CheckSorts.{checkAlternatives, checkBodies, checkBlocks, blocksSize, checkRoot, checkSorts}
 use Rattle.sorts.specs.ByFields.{headOf, collectBy, bodiesBy, blocksBy, checkSortsBy}
 

@@ -13,8 +13,9 @@ use Rattle.answers.specs.declared.Verdict.{Verdict}
 use Rattle.answers.specs.declared.Verdict.the-variants.{Passed, Refused}
 use Rattle.answers.specs.Checked.{Checked, ok, bad, _>>=_, _>>_, verdict}
 use Rattle.grammar.specs.Sorts.{Signature, gives, unit}
-use Rattle.grammar.specs.Encode.{Field, field}
-use Rattle.grammar.specs.Fields.{Fields, end, cut, next, fieldsOf, leading, afterLeading}
+use Rattle.grammar.specs.Values.{Field, field}
+use Rattle.grammar.specs.Fields.{Fields, end, cut, next, fieldsOf}
+use Rattle.grammar.specs.Lookup.{leading, afterLeading}
 use Rattle.grammar.proofs.LookupLaws.{fields-of}
 use Rattle.layout.specs.declared.Progress.{Progress}
 use Rattle.layout.specs.Prefix.{templatesOf, found, firstOf}
@@ -24,7 +25,8 @@ use Rattle.layout.proofs.Accept.{Passes, accepted, by-tag}
 use Rattle.layout.proofs.Laws.{room-of}
 use Rattle.layout.proofs.Values.{root-value}
 use Rattle.layout.proofs.Inverse.{layout-parts}
-use Rattle.sorts.specs.CheckSorts.{Env, isDefined, checkResult}
+use Rattle.sorts.specs.CheckSorts.{isDefined, checkResult}
+use Rattle.sorts.specs.Scopes.{Env}
 use Rattle.sorts.specs.Judgements.{scope}
 use Rattle.sorts.specs.ByFields.{headOf, collectBy, bodiesBy, blocksBy, checkSortsBy}
 use Rattle.sorts.specs.declared.Sorted.{Sorted}

@@ -12,12 +12,13 @@ use Rattle.answers.specs.declared.Verdict.the-variants.{Passed, Refused}
 use Rattle.answers.specs.Refusals.{refusal}
 use Rattle.answers.specs.Checked.{Checked, ok, bad, _>>_}
 use Rattle.spellings.proofs.BytesLaws.{by-test}
-use Rattle.grammar.specs.Encode.{Field, field}
+use Rattle.grammar.specs.Values.{Field, field}
 use Rattle.grammar.specs.Fields.{Fields, end, cut, next}
 use Rattle.layout.specs.declared.Progress.{Progress}
 use Rattle.layout.specs.Layout.{isKnown, passed, checkFields}
 use Rattle.layout.proofs.Accept.{accepted}
-use Rattle.sorts.specs.CheckSorts.{Env, entryOf, consistent}
+use Rattle.sorts.specs.CheckSorts.{consistent}
+use Rattle.sorts.specs.Scopes.{Env, entryOf}
 use Rattle.sorts.specs.ByFields.{endsBlock, headOf, collectBy}
 use Rattle.sorts.specs.ByBytes.{faultOf, withHead, Collected, collected, collectFrom}
 use Rattle.sorts.proofs.TemplateInduction.{choose}

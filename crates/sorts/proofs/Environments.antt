@@ -7,7 +7,8 @@ use lib.Dec.{eqb}
 use borrow.Author.Tests.{eqb-true, eqb-false, eq-eqb, ne-eqb}
 use Rattle.spellings.proofs.BytesLaws.{by-test, same-true, same-refl}
 use Rattle.grammar.specs.Sorts.{Signature, gives}
-use Rattle.sorts.specs.CheckSorts.{Entry, Env, isDefined, signatureOf, sameSignature}
+use Rattle.sorts.specs.CheckSorts.{isDefined, signatureOf, sameSignature}
+use Rattle.sorts.specs.Scopes.{Entry, Env}
 use Rattle.sorts.specs.Judgements.{Newest, newest-first, newest-later, Absent, absent-empty, absent-entry}
 
 -- the first entry is the one asked for, or the others are looked at

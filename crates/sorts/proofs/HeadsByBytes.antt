@@ -15,12 +15,13 @@ use Rattle.spellings.specs.Bytes.{same}
 use Rattle.spellings.proofs.BytesLaws.{by-test}
 use Rattle.grammar.specs.Sorts.{Signature}
 use Rattle.grammar.specs.Table.{variable, Mode, add, extend, update, Definition}
-use Rattle.grammar.specs.Encode.{modeCode, headValue}
+use Rattle.grammar.specs.Values.{modeCode, headValue}
 use Rattle.layout.specs.Decode.{definitionOf}
 use Rattle.layout.specs.Layout.{isKnown}
 use Rattle.layout.specs.Within.{each-none, each-more, variable-within}
 use Rattle.layout.proofs.Values.{head-value}
-use Rattle.sorts.specs.CheckSorts.{Entry, Env, entryOf, isDefined, signatureOf, sameSignature, isNew, isAsBefore, consistent}
+use Rattle.sorts.specs.CheckSorts.{isDefined, signatureOf, sameSignature, isNew, isAsBefore, consistent}
+use Rattle.sorts.specs.Scopes.{Entry, Env, entryOf}
 use Rattle.sorts.specs.ByFields.{headOf}
 use Rattle.sorts.specs.ByBytes.{valueAt, signatureAt, faultOf, withHead}
 use Rattle.sorts.proofs.TemplateInduction.{choose}

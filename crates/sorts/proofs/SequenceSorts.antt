@@ -12,7 +12,8 @@ use Rattle.grammar.specs.Sorts.{Signature, term}
 use Rattle.grammar.specs.Table.{Mode, add, extend, update, Definition, Table}
 use Rattle.layout.specs.Within.{Each, each-none, each-more, DefinitionWithin, Within}
 use Rattle.sorts.specs.Sizes.{definitionSize, definitionsSize}
-use Rattle.sorts.specs.CheckSorts.{Env, Scope, entryOf, isDefined, signatureOf, sameSignature, isAsBefore, isNew, consistent, collect, checkBodies, checkBlocks, checkRoot, checkSorts}
+use Rattle.sorts.specs.CheckSorts.{isDefined, signatureOf, sameSignature, isAsBefore, isNew, consistent, collect, checkBodies, checkBlocks, checkRoot, checkSorts}
+use Rattle.sorts.specs.Scopes.{Env, Scope, entryOf}
 use Rattle.sorts.specs.Judgements.{Newest, Absent, Defines, no-definition, by-add, by-extend, by-update, scope, Sequence, no-grammar, by-grammar, WellSorted}
 use Rattle.sorts.proofs.Accepting.{Accepts, need-passed, need-passes, needs-passed, needs-passes, bind-passed, bind-passes, then-passed, then-passes}
 use Rattle.sorts.proofs.Environments.{defined-newest, newest-defined, newest-signature, undefined-absent, absent-undefined, same-signature, signature-same}

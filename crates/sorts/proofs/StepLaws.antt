@@ -16,7 +16,7 @@ use Rattle.grammar.specs.declared.Front.the-variants.{Nothing, Short, Field}
 use Rattle.grammar.specs.Fields.{Fields, fieldsOf}
 use Rattle.grammar.specs.Lookup.{frontOf, fieldsAt}
 use Rattle.grammar.proofs.LookupLaws.{opened, fields-at, fields-of}
-use Rattle.layout.specs.Layout.{longestTable}
+use Rattle.grammar.specs.Values.{longestTable}
 use Rattle.sorts.specs.declared.Known.{Known}
 use Rattle.sorts.specs.declared.Sorted.{Sorted}
 use Rattle.sorts.specs.declared.Sorted.the-variants.{As, Unsorted}
@@ -24,8 +24,7 @@ use Rattle.sorts.specs.declared.Step.{Step}
 use Rattle.sorts.specs.declared.Step.the-variants.{Next, Stop}
 use Rattle.sorts.specs.ByBytes.{signatureAt, collected, collectFrom, collectAt, context, unknown, itemAt, resultAt, rootAt}
 use Rattle.sorts.specs.ByBytes.{Stepped, going, stopped, stepped, verdictOf, afterVerdict, afterBlock, afterItem, itemStep, stepAt, stepOf}
-use Rattle.sorts.specs.ByBytes.{withSorts, counting, counted}
-use Rattle.sorts.specs.ByBytes.{goOn, sortsFrom, sortsOf, Counts, ItemChecked, FieldChecked}
+use Rattle.sorts.specs.ByBytes.{withSorts, counting, counted, goOn, sortsFrom, sortsOf, Counts, ItemChecked, FieldChecked}
 use Rattle.sorts.proofs.TemplateInduction.{choose}
 
 -- ------------------------------------------------------------------ the root

@@ -10,7 +10,8 @@ use borrow.Author.Tests.{eqb-true, eq-eqb, ltb-true, lt-ltb}
 use Rattle.grammar.specs.Sorts.{unit, var, binder, fits, constructor}
 use Rattle.grammar.specs.Table.{Template, Templates, variable, outside, outsideLabel, make, none, more}
 use Rattle.layout.specs.Within.{TemplateWithin, make-within, TemplatesWithin, more-within}
-use Rattle.sorts.specs.CheckSorts.{Scope, isClosed, areClosed, sortOf, isSorted, fill}
+use Rattle.sorts.specs.CheckSorts.{isClosed, areClosed, sortOf, isSorted, fill}
+use Rattle.sorts.specs.Scopes.{Scope}
 use Rattle.sorts.specs.Judgements.{Has, has-first, has-later, Fits, fits-equal, fits-binder, Sorted, by-variable, by-global, by-label, by-constructor, Fill, fill-none, fill-more}
 
 -- ------------------------------------------------------------------ tests

@@ -10,7 +10,8 @@ use borrow.Author.Tests.{ltb-true, leb-true, eqb-true, le-ltb, lt-ltb, lt-leb, l
 use Rattle.grammar.specs.Sorts.{unit, var, label, fits, constructor, arity, isConstructor}
 use Rattle.grammar.specs.Table.{Templates, variable, make, none, more}
 use Rattle.layout.specs.Prefix.{parsed, Taken, short, taken, alsoTaken, takeTemplates, isNameTag, nameBy, templatesOf}
-use Rattle.sorts.specs.CheckSorts.{Scope, isClosed, areClosed, sortOf, isSorted, fill}
+use Rattle.sorts.specs.CheckSorts.{isClosed, areClosed, sortOf, isSorted, fill}
+use Rattle.sorts.specs.Scopes.{Scope}
 use Rattle.sorts.proofs.TemplateSorts.{either, both}
 use Rattle.sorts.specs.TemplateBytes.{closedBytes, headSort, headParams, fillBytes}
 use Rattle.sorts.proofs.TemplateInduction.{Whole, Read, whole, choose}

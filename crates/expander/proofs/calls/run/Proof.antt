@@ -5,7 +5,8 @@ use mathlib.Core.List.{[]}
 use borrow.Author.Needs.{needs}
 use Rattle.expander.specs.declared.calls.Begun.{Begun}
 use Rattle.expansion.specs.Run.{Result, after}
-use Rattle.expansion.specs.Expansion.{Input, runCall, mostOpen, start, ended, run}
+use Rattle.expansion.specs.Expansion.{Input, runCall, start, ended, run}
+use Rattle.expansion.specs.Limits.{mostOpen}
 use Rattle.templates.specs.Built.{rowsIn}
 use Rattle.expander.specs.Lent.{lentInput}
 use Rattle.expander.specs.Calls.{Begins, Entry}

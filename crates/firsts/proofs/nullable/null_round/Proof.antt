@@ -2,7 +2,7 @@
 use Prim.Native.Nat.{_-_}
 use lib.ListN.{set}
 use borrow.Author.Needs.{needs}
-use Rattle.firsts.specs.First.{nullStep}
+use Rattle.firsts.specs.FirstSets.{nullStep}
 use Rattle.firsts.proofs.StepLaws as laws
 use Rattle.firsts.proofs.nullable.null_round.Statement.{statement}
 use Rattle.firsts.proofs.nullable.null_round.Tie as tie

@@ -3,7 +3,7 @@ use Prim.Native.Nat.{_-_}
 use mathlib.Core.Path.{_∙_, refl, sym}
 use lib.ListN.{set}
 use borrow.Author.Needs.{needs}
-use Rattle.firsts.specs.First.{nullStep, nullables, overAll}
+use Rattle.firsts.specs.FirstSets.{nullStep, nullables, overAll}
 use Rattle.productions.specs.Index.{productionsBy}
 use Rattle.firsts.proofs.StepLaws as laws
 use Rattle.firsts.proofs.nullable.nullables.Statement.{statement}

@@ -3,7 +3,7 @@ use Prim.Native.Nat.{_-_}
 use mathlib.Core.Path.{_∙_, refl, sym}
 use lib.ListN.{replicate}
 use borrow.Author.Needs.{needs}
-use Rattle.firsts.specs.First.{firstStep, overAll, setsOf}
+use Rattle.firsts.specs.FirstSets.{firstStep, overAll, setsOf}
 use Rattle.productions.specs.Index.{productionsBy}
 use Rattle.firsts.proofs.StepLaws as laws
 use Rattle.firsts.proofs.sets.sets_of.Statement.{statement}

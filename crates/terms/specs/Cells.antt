@@ -1,5 +1,5 @@
 -- How cells lie in lent numbers, and the numbers that stand for names. Document 01, "Formula".
-use Prim.Native.Nat.{ℕ, _+_, _*_, _/_, _%_, _^_}
+use Prim.Native.Nat.{ℕ, _+_, _*_}
 use mathlib.Core.List.{List, [], _∷_, _++_}
 use lib.ListN.{getD, take}
 use lib.Seq.{sets}
@@ -28,3 +28,7 @@ freshName n = 2 * nameBase + n
 
 abbrev pub outsideName : ℕ → ℕ
 outsideName n = 3 * nameBase + n
+
+-- the most cells that an expansion makes
+abbrev pub mostCells : ℕ
+mostCells = 16384
