@@ -2,8 +2,8 @@
 use borrow.Author.Needs.{needs}
 use lib.Seq.{length-take-le}
 use mathlib.Core.Path.{sym}
-use Rattle.conformance.proofs.case.read_bytes.Statement.{statement}
-use Rattle.conformance.proofs.case.read_bytes.Tie as tie
+use Rattle.cases.proofs.case.read_bytes.Statement.{statement}
+use Rattle.cases.proofs.case.read_bytes.Tie as tie
 
 returns : tie.Need-returns
 returns c = search needs

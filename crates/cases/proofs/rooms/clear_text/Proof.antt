@@ -2,8 +2,8 @@
 use Prim.Native.Nat.{_≤_, _-_}
 use native.Mathlib.Omega.{arith}
 use borrow.Author.Needs.{needs}
-use Rattle.conformance.proofs.comparison.clear_text.Statement.{statement}
-use Rattle.conformance.proofs.comparison.clear_text.Tie as tie
+use Rattle.cases.proofs.rooms.clear_text.Statement.{statement}
+use Rattle.cases.proofs.rooms.clear_text.Tie as tie
 
 abbrev Inv-loop : tie.InvT-loop
 Inv-loop text₀ i₀ text i = i ≤ 300000

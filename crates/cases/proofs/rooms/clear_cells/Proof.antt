@@ -2,8 +2,8 @@
 use Prim.Native.Nat.{_≤_, _-_}
 use native.Mathlib.Omega.{arith}
 use borrow.Author.Needs.{needs}
-use Rattle.conformance.proofs.comparison.clear_cells.Statement.{statement}
-use Rattle.conformance.proofs.comparison.clear_cells.Tie as tie
+use Rattle.cases.proofs.rooms.clear_cells.Statement.{statement}
+use Rattle.cases.proofs.rooms.clear_cells.Tie as tie
 
 abbrev Inv-loop : tie.InvT-loop
 Inv-loop cells₀ i₀ cells i = i ≤ 80000
