@@ -2,6 +2,4 @@ pub mod Scan
 pub mod Rooms
 pub mod Tiling
 pub mod Unscanned
-pub mod Trees
-pub mod LexiconRoom
 pub mod Stepping
