@@ -12,7 +12,8 @@ use Rattle.scanner.specs.declared.Token.{Token}
 use Rattle.scanner.specs.Scan.{Lexed, withToken, isNew, wordsWith, scan}
 use Rattle.scanner.specs.Tokens.{token, endToken}
 use Rattle.scanner.specs.Rooms.{rowThen, rows, rowOf, tokensFrom, tokensIn, placeThen, countWith, places, wordsFrom, wordsIn}
-use Rattle.scanner.proofs.WordLaws.{words-length, words-stored}
+use Rattle.scanner.proofs.WordLaws.{words-stored}
+use Rattle.lexicon.proofs.PlaceLaws.{words-length}
 use Rattle.scanner.proofs.ScanLoop.{fill-rows, fill-places, count-grows}
 use Rattle.scanner.proofs.TokenLaws.{Kept, scan-kept}
 

@@ -18,7 +18,8 @@ use Rattle.scanner.specs.Scan.{Lexed, ended, withToken, isNew, wordsWith
 use Rattle.scanner.specs.Tokens.{mostTokens, longestFormula}
 use Rattle.scanner.specs.Rooms.{rowThen, rows, placeThen, countWith, places, wordsFrom, wordsIn, Filled, filled, scanInto}
 use Rattle.scanner.proofs.StepLaws.{step-lies}
-use Rattle.scanner.proofs.WordLaws.{words-length, words-stored}
+use Rattle.scanner.proofs.WordLaws.{words-stored}
+use Rattle.lexicon.proofs.PlaceLaws.{words-length}
 
 -- ------------------------------------------------------------------ what one step does to what is left
 

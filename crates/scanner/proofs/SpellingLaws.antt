@@ -21,7 +21,8 @@ use Rattle.scanner.specs.Scan.{Lexed, isNew, wordsWith, spellingOf, scan
 use Rattle.scanner.specs.Tiling.{WordFront, Stands, a-keyword, a-keyword-symbol, an-outside-name, a-word-again, a-new-word, a-number, a-symbol}
 use Rattle.scanner.specs.Tokens.{bytesOf, spelled}
 use Rattle.scanner.proofs.LexemeLaws.{spelling-found}
-use Rattle.scanner.proofs.WordLaws.{index-self, with-new, with-old}
+use Rattle.scanner.proofs.WordLaws.{with-new, with-old}
+use Rattle.lexicon.proofs.PlaceLaws.{index-self}
 use Rattle.scanner.proofs.StandLaws.{word-taken, Emits}
 use Rattle.scanner.proofs.TokenLaws.{Kept, scan-kept}
 

@@ -13,14 +13,14 @@ use Rattle.scanner.specs.declared.Step.the-variants.{Emit}
 use Rattle.scanner.specs.declared.Name.{Name}
 use Rattle.scanner.specs.declared.Name.the-variants.{Keyword, Outside, Other}
 use Rattle.scanner.specs.declared.Made.{Made}
-use Rattle.scanner.specs.declared.trees.Spot.{Spot}
-use Rattle.scanner.specs.declared.trees.Spot.the-variants.{Node, Free}
+use Rattle.lexicon.specs.declared.trees.Spot.{Spot}
+use Rattle.lexicon.specs.declared.trees.Spot.the-variants.{Node, Free}
 use Rattle.scanner.specs.Scan.{isNew, stepOf}
 use Rattle.scanner.specs.Tokens.{token}
 use Rattle.scanner.specs.Tiling.{FirstAt, NotIn}
 use Rattle.scanner.specs.Rooms.{wordsIn}
-use Rattle.scanner.specs.Trees.{Tree, FreeFor}
-use Rattle.scanner.specs.LexiconRoom.{Lexical}
+use Rattle.lexicon.specs.Trees.{Tree, FreeFor}
+use Rattle.lexicon.specs.LexiconRoom.{Lexical}
 
 -- what a word is by a lexicon
 pub data Named (lex : Lexicon) (s : List ℕ) : Name → Type 0 where
