@@ -20,23 +20,33 @@ use Rattle.productions.specs.Room.{Entry, noEntry, roomOf, overwritten, HoldsEn
 use Rattle.firsts.specs.First.{leftRecursive, noLeftRecursion, noClash, checkFirsts}
 use Rattle.firsts.specs.FirstSets.{nullables, firstSets, leftCalls, setsOf}
 use Rattle.firsts.specs.Pairs.{clashingIn, allSharedIn, noClashIn}
+use Rattle.firsts.specs.SetCalls.{BothSets}
 use Rattle.firsts.specs.Room.{entryAt, roomBy, grammarRoom, WholeIndex, Prepared}
 use Rattle.firsts.proofs.FillLaws.{length-entries}
 use Rattle.firsts.proofs.HeldPairs.{no-clash-is}
+use Rattle.firsts.proofs.StepLaws.{length-sets}
 
 -- ------------------------------------------------------------------ the room
 
--- the nullables, the first sets and the room, from what was computed
-pub prepared : (bs : List ℕ) (places : List Place) {room₀ room : List ℕ} {nulls : ℕ} {sets : List ℕ}
-    → nulls ≡ nullables (productionsAt bs places) → sets ≡ setsOf false nulls (productionsAt bs places)
-    → room ≡ overwritten (roomBy bs places nulls sets) room₀ → Prepared bs places room₀ room nulls
-prepared bs places {room₀} {nulls = nulls} en es er =
+-- there are 64 sets of each
+module _ {nulls : ℕ} {g : List Production} {kinds calls : List ℕ} (e : BothSets nulls g kinds calls) where
+  pub kinds-many : length kinds ≡ 64
+  kinds-many = ap length (e .kinds-are) ∙ length-sets false nulls g
+
+  pub kinds-size : 64 ≡ length kinds
+  kinds-size = sym kinds-many
+
+  pub calls-size : 64 ≡ length calls
+  calls-size = sym (ap length (e .calls-are) ∙ length-sets true nulls g)
+
+-- left recursion and the room, from what was computed
+pub prepared : (bs : List ℕ) (places : List Place) {room₀ room : List ℕ} {nulls : ℕ} {sets calls : List ℕ}
+    → nulls ≡ nullables (productionsAt bs places) → BothSets nulls (productionsAt bs places) sets calls
+    → room ≡ overwritten (roomBy bs places nulls sets) room₀ → {n : ℕ} → n ≡ leftRecursive calls → Prepared bs places room₀ room n
+prepared bs places {room₀} {nulls = nulls} en e er el =
     record {
-      nulls-are = en;
-      held =
-          er
-          ∙ ap (λ s. overwritten (roomBy bs places nulls s) room₀) es
-          ∙ ap (λ n. overwritten (roomBy bs places n (setsOf false n (productionsAt bs places))) room₀) en;
+      recursive = el ∙ rw (e .calls-are, en) refl;
+      held = er ∙ rw (e .kinds-are, en) refl;
     }
 
 -- an offset in a table that is not too long
@@ -47,8 +57,8 @@ near-entries nulls sets short (each-more w ws) zero = omega (arith, w .inside)
 near-entries nulls sets short (each-more w ws) (suc j) = near-entries nulls sets short ws j
 
 -- A room over what was there holds the entries of the grammar.
-pub holds-entries : {bs : List ℕ} {m : ℕ} {owners starts : List ℕ} → WholeIndex bs m owners starts → {room₀ room : List ℕ} {nulls : ℕ}
-    → (p : Prepared bs (placesIn m owners starts) room₀ room nulls)
+pub holds-entries : {bs : List ℕ} {m : ℕ} {owners starts : List ℕ} → WholeIndex bs m owners starts → {room₀ room : List ℕ} {n : ℕ}
+    → (p : Prepared bs (placesIn m owners starts) room₀ room n)
     → HoldsEntries (firstSets (nullables (productionsAt bs (placesIn m owners starts))) (productionsAt bs (placesIn m owners starts)))
     (map
     (entryAt bs (nullables (productionsAt bs (placesIn m owners starts)))
@@ -91,7 +101,7 @@ module _ (room : List ℕ) {n : ℕ} (e : n ≡ clashingIn room) where
   clash-passed h = clash-tests false (le-ltb n 64 h)
 
 -- refusal 12, or what is said of clashes
-module _ (g : List Production) {nulls : ℕ} (en : nulls ≡ nullables g) {n : ℕ} (e : n ≡ leftRecursive (leftCalls nulls g)) where
+module _ (g : List Production) {n : ℕ} (e : n ≡ leftRecursive (leftCalls (nullables g) g)) where
   check-tests : (b : Bool) → ltb n 64 ≡ b
       → verdict (refusedIf b (refusal 12 n 0 0) >> noClash (nullables g) (firstSets (nullables g) g) g) ≡ verdict (checkFirsts g)
   unfolding noLeftRecursion checkFirsts
@@ -101,7 +111,7 @@ module _ (g : List Production) {nulls : ℕ} (en : nulls ≡ nullables g) {n : �
       (sym f)
       ∙ ap
       (λ (k : ℕ). verdict (refusedIf (ltb k 64) (refusal 12 k 0 0) >> noClash (nullables g) (firstSets (nullables g) g) g))
-      (e ∙ ap (λ (x : ℕ). leftRecursive (leftCalls x g)) en)
+      e
 
   pub check-recursive : n < 64 → {r : Refusal} → r ≡ refusal 12 n 0 0 → Refused r ≡ verdict (checkFirsts g)
   check-recursive h er = ap Refused er ∙ check-tests true (lt-ltb n 64 h)
@@ -110,10 +120,9 @@ module _ (g : List Production) {nulls : ℕ} (en : nulls ≡ nullables g) {n : �
   check-other h = check-tests false (le-ltb n 64 h)
 
 -- where 12 is not given, the room decides 13
-pub check-clashes : {bs : List ℕ} {m : ℕ} {owners starts : List ℕ} → WholeIndex bs m owners starts → {room₀ room : List ℕ} {nulls : ℕ}
-    → Prepared bs (placesIn m owners starts) room₀ room nulls → {n : ℕ}
-    → n ≡ leftRecursive (leftCalls nulls (productionsAt bs (placesIn m owners starts))) → 64 ≤ n
+pub check-clashes : {bs : List ℕ} {m : ℕ} {owners starts : List ℕ} → WholeIndex bs m owners starts → {room₀ room : List ℕ} {n : ℕ}
+    → Prepared bs (placesIn m owners starts) room₀ room n → 64 ≤ n
     → verdict (noClashIn room) ≡ verdict (checkFirsts (productionsAt bs (placesIn m owners starts)))
-check-clashes {bs} {m} {owners} {starts} w p e h =
+check-clashes {bs} {m} {owners} {starts} w p h =
     let g : List Production = productionsAt bs (placesIn m owners starts) in
-    ap verdict (no-clash-is bs (nullables g) (placesIn m owners starts) (holds-entries w p)) ∙ check-other g (p .nulls-are) e h
+    ap verdict (no-clash-is bs (nullables g) (placesIn m owners starts) (holds-entries w p)) ∙ check-other g (p .recursive) h

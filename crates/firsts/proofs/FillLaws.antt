@@ -1,7 +1,6 @@
 -- Laws of filling the room of a grammar.
 use Prim.Native.Nat.{ℕ, zero, suc, _+_, _-_, _<_, _≤_}
 use mathlib.Core.Path.{_≡_, refl, sym, ap, _∙_, subst}
-use mathlib.Core.Bool.{Bool, false}
 use mathlib.Core.List.{List, [], _∷_, map}
 use native.Mathlib.Nat.{add-zero, zero-add}
 use native.Mathlib.Omega.{arith}
@@ -12,7 +11,8 @@ use Rattle.productions.specs.Index.{itemsOf, Place, placesFrom, placesIn, Whole
 use Rattle.productions.specs.Room.{Entry, noEntry, roomOf, begun, laid, overwritten, RoomAt}
 use Rattle.productions.proofs.IndexLaws.{placeAt, length-places}
 use Rattle.productions.proofs.RoomWriting.{Filling, filling-start, filling-next, filling-end}
-use Rattle.firsts.specs.FirstSets.{allPassed, gather}
+use Rattle.firsts.specs.declared.Gathered.{Gathered}
+use Rattle.firsts.specs.SetCalls.{gathered}
 use Rattle.firsts.specs.Room.{entryAt, roomBy, WholeIndex, FillRoom}
 
 -- ------------------------------------------------------------------ the entries of an index
@@ -68,19 +68,18 @@ module _ {bs : List ℕ} {m : ℕ} {owners starts sets room₀ : List ℕ} (pre 
         }
 
     -- the entry that the code has
-    pub fill-next : {start : ℕ} → start ≡ getD starts (j - 1) 0 → {first : ℕ}
-        → first ≡ gather false nulls sets (itemsOf (fieldsAt bs start)) 0 → {nullable : Bool}
-        → nullable ≡ allPassed nulls (itemsOf (fieldsAt bs start)) → {room′ : List ℕ}
+    pub fill-next : {start : ℕ} → start ≡ getD starts (j - 1) 0 → {found : Gathered} → found ≡ gathered nulls sets sets (itemsOf (fieldsAt bs start))
+        → {room′ : List ℕ}
         → room′
-        ≡ laid (record { owner = getD owners (j - 1) 0; start = getD starts (j - 1) 0; first = first; nullable = nullable }) (j - 1) room
+        ≡ laid (record { owner = getD owners (j - 1) 0; start = getD starts (j - 1) 0; first = found .kinds; nullable = found .nullable }) (j - 1) room
         → Filling sets entries room₁ (j - 1) room′
-    fill-next {start} es ef en {room′} er =
+    fill-next {start} es ef {room′} er =
         let z : 0 + (j - 1) ≡ j - 1 = omega arith in
         let here : entryAt bs nulls sets (placeAt owners starts (j - 1)) ≡ getD entries (j - 1) noEntry =
         sym (map-at (entryAt bs nulls sets) m owners starts 0 (j - 1) (omega (arith, c .low, many)) ∙ rw z refl) in
         let f : Filling sets entries room₁ (j - 1) (laid (entryAt bs nulls sets (placeAt owners starts (j - 1))) (j - 1) room) =
         filling-next c positive here (owner-small (pre .index) (j - 1) (omega (arith, c .low, many))) in
-        subst (Filling sets entries room₁ (j - 1)) (sym (er ∙ rw (ef, en, es) refl)) f
+        subst (Filling sets entries room₁ (j - 1)) (sym (er ∙ rw (ef, es) refl)) f
 
   pub fill-end : {room₁ : List ℕ} → room₁ ≡ begun m sets room₀ → {j : ℕ} {room : List ℕ} → Filling sets entries room₁ j room → j ≤ 0
       → room ≡ overwritten (roomBy bs (placesIn m owners starts) nulls sets) room₀

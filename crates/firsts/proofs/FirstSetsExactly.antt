@@ -17,17 +17,18 @@ use Rattle.kinds.specs.Kinds.{hasKind, only, keywordKind, wordKind, numberKind}
 use Rattle.kinds.proofs.KindsLaws.{has-none, has-join, has-only, has-own}
 use Rattle.grammar.specs.Table.{Item, keyword, ide, number, local, call}
 use Rattle.productions.specs.Normal.{Production}
-use Rattle.firsts.specs.FirstSets.{isPassed, nullables, own, through, joined, gather, firstStep, setsOf}
+use Rattle.firsts.specs.FirstSets.{overAll, isPassed, nullables, own, through, joined, gather, firstStep, setsOf}
 use Rattle.firsts.specs.Rules.{Of, First, first-own, first-call, first-past, FirstOf, Reads, reads-keyword, reads-word, reads-number, Calls, calls}
-use Rattle.firsts.proofs.Rounds.{Numbers, Within, Each, admit, least, least-within, least-closed, least-seen, or-left, or-right, or-split}
+use Rattle.firsts.proofs.Rounds.{Numbers, nothing, Within, Each, admit, least, least-within, least-closed, least-seen, over-seen}
+use Rattle.firsts.proofs.Rounds.{or-left, or-right, or-split}
 use Rattle.firsts.proofs.NullablesExactly.{null-item-exactly}
 
 -- ------------------------------------------------------------------ the test of items, with bit b of all sets as a set
 
-abbrev bitOfAll : ℕ → List ℕ → Numbers
+abbrev pub bitOfAll : ℕ → List ℕ → Numbers
 bitOfAll b sets n = hasKind (getD sets n 0) b
 
-abbrev called : Numbers → Item → Bool
+abbrev pub called : Numbers → Item → Bool
 called s (keyword k) = false
 called s (ide b) = false
 called s number = false
@@ -35,11 +36,11 @@ called s local = false
 called s (call n ts) = s n
 
 -- an item gives b, by itself or by its nonterminal
-abbrev given : Bool → ℕ → Numbers → Item → Bool
+abbrev pub given : Bool → ℕ → Numbers → Item → Bool
 given c b s i = hasKind (own c i) b || called s i
 
 -- an item gives b, and those before it are passed
-firstIn : Bool → ℕ → ℕ → Numbers → List Item → Bool
+unfoldable pub firstIn : Bool → ℕ → ℕ → Numbers → List Item → Bool
 firstIn c nulls b s [] = false
 firstIn c nulls b s (i ∷ is) = given c b s i || (isPassed nulls i && firstIn c nulls b s is)
 
@@ -50,7 +51,7 @@ called-seen b sets number = has-none b
 called-seen b sets local = has-none b
 called-seen b sets (call n ts) = refl
 
-called-more : (s t : Numbers) → Within s t → (i : Item) → called s i ≡ true → called t i ≡ true
+pub called-more : (s t : Numbers) → Within s t → (i : Item) → called s i ≡ true → called t i ≡ true
 called-more s t h (keyword k) e = e
 called-more s t h (ide b) e = e
 called-more s t h number e = e
@@ -68,7 +69,7 @@ and-more false h e = e
 -- ------------------------------------------------------------------ the computed sets are the least, bit by bit
 
 module _ (c : Bool) (nulls b : ℕ) where
-  first-more : (s t : Numbers) → Within s t → (is : List Item) → firstIn c nulls b s is ≡ true → firstIn c nulls b t is ≡ true
+  pub first-more : (s t : Numbers) → Within s t → (is : List Item) → firstIn c nulls b s is ≡ true → firstIn c nulls b t is ≡ true
   unfolding firstIn
   first-more s t h [] e = e
   first-more s t h (i ∷ is) e =
@@ -121,15 +122,27 @@ module _ (c : Bool) (nulls b : ℕ) where
       by n (yes e) (no l) =
           rw (set-out sets (p .owner) grown (omega arith), le-ltb n 64 (omega arith), and-false given-it) (sym (or-false _))
 
-  sets-seen : (g : List Production) → bitOfAll b (setsOf c nulls g) ≡ least (firstIn c nulls b) g
-  unfolding setsOf
-  sets-seen g =
-      least-seen (λ sets. length sets ≡ 64) (bitOfAll b) (firstIn c nulls b) (firstStep c nulls) step-length step-seen
-      g (replicate 64 0) (length-replicate {A = ℕ} 64 0) (fun-ext (λ n. by n (decLt n 64)))
+  none-seen : bitOfAll b (replicate 64 0) ≡ nothing
+  none-seen = fun-ext (λ n. by n (decLt n 64))
     where
       by : (n : ℕ) → Dec (n < 64) → hasKind (getD (replicate 64 0) n 0) b ≡ false
       by n (yes l) = rw (getD-replicate {A = ℕ} 64 n 0 0 l) (has-none b)
       by n (no l) = rw (List·getD-eq-default {A = ℕ} (replicate 64 0) 0 {n = n} (omega (arith, length-replicate {A = ℕ} 64 0))) (has-none b)
+
+  -- bit b of all sets is the least set that the productions keep
+  pub sets-seen : (g : List Production) → bitOfAll b (setsOf c nulls g) ≡ least (firstIn c nulls b) g
+  unfolding setsOf
+  sets-seen g =
+      least-seen (λ sets. length sets ≡ 64) (bitOfAll b) (firstIn c nulls b) (firstStep c nulls) step-length step-seen
+      g (replicate 64 0) (length-replicate {A = ℕ} 64 0) none-seen
+
+  -- and after one round it is that of one round
+  pub round-seen : (g : List Production)
+      → bitOfAll b (overAll (firstStep c nulls) g (replicate 64 0)) ≡ overAll (admit (firstIn c nulls b)) g nothing
+  round-seen g =
+      over-seen (λ sets. length sets ≡ 64) (bitOfAll b) (firstIn c nulls b) (firstStep c nulls) step-length step-seen
+      g (replicate 64 0) (length-replicate {A = ℕ} 64 0)
+      ∙ ap (overAll (admit (firstIn c nulls b)) g) none-seen
 
 -- ------------------------------------------------------------------ the rules
 
@@ -182,7 +195,7 @@ module _ (c : Bool) (Own : Item → ℕ → Type 0) (own-exactly : (i : Item) (b
 none-has : (b : ℕ) → hasKind 0 b ≡ true → ⊥
 none-has b e = false≢true (sym (has-none b) ∙ e)
 
-only-has : (j b : ℕ) → hasKind (only j) b ≡ true → (b ≡ j) × (b < 64)
+pub only-has : (j b : ℕ) → hasKind (only j) b ≡ true → (b ≡ j) × (b < 64)
 only-has j b e = let t = and-eq-true-iff (ltb b 64) (eqb b j) .0 (sym (has-only j b) ∙ e) in (eqb-true b j (t .1), ltb-true b 64 (t .0))
 
 pub reads-exactly : (i : Item) (b : ℕ) → (hasKind (own false i) b ≡ true) ↔ Reads i b

@@ -20,6 +20,8 @@ use Rattle.firsts.specs.declared.Symbol.{Symbol}
 use Rattle.firsts.specs.declared.Symbol.the-variants.{Keyword, Word, Number, Local, Call}
 use Rattle.firsts.specs.declared.Step.{Step}
 use Rattle.firsts.specs.declared.Step.the-variants.{Done, Past}
+use Rattle.firsts.specs.declared.Gathered.{Gathered}
+use Rattle.firsts.specs.SetCalls.{gathered}
 use Rattle.firsts.specs.Symbols.{symbolOf, withSymbol, fieldStep, stepOf}
 use Rattle.firsts.specs.FirstSets.{isPassed, allPassed, own, through, joined, gather}
 use Rattle.productions.specs.Index.{itemsOf}
@@ -247,3 +249,39 @@ module _ {bs : List ℕ} {calls : Bool} {nulls : ℕ} {sets : List ℕ} {start f
     gather-stop t =
         ap (λ (x : Bool). elim x [ true ↦ gather calls nulls sets (itemsOf (fieldsAt bs after)) more | false ↦ more ]) (sym t)
         ∙ gather-one
+
+-- what both arrays get, and whether all items are nullable
+pub record Walking (bs : List ℕ) (nulls : ℕ) (kinds calls : List ℕ) (start read called at : ℕ) : Type 0 where
+  pub reading : Gathering bs false nulls kinds start read at
+  pub calling : Gathering bs true nulls calls start called at
+  pub passing : AllPassing bs nulls start at
+
+pub walk-start : (bs : List ℕ) (nulls : ℕ) (kinds calls : List ℕ) (start : ℕ) → Walking bs nulls kinds calls start 0 0 start
+walk-start bs nulls kinds calls start = record { reading = record { rest = refl }; calling = record { rest = refl }; passing = record { rest = refl } }
+
+module _ {bs : List ℕ} {nulls : ℕ} {kinds calls : List ℕ} {start read called at : ℕ} (c : Walking bs nulls kinds calls start read called at) where
+  abbrev whole : Gathered
+  whole = gathered nulls kinds calls (itemsOf (fieldsAt bs start))
+
+  together : {k l : ℕ} {b : Bool} → k ≡ whole .kinds → l ≡ whole .calls → b ≡ whole .nullable → {r : Gathered}
+      → r ≡ record { kinds = k; calls = l; nullable = b } → r ≡ whole
+  together ek el eb er = er ∙ rw (ek, el, eb) refl
+
+  pub walk-done : Done ≡ stepOf bs at (frontOf (drop at bs)) → {r : Gathered} → r ≡ record { kinds = read; calls = called; nullable = true } → r ≡ whole
+  walk-done e = together (gather-done (c .reading) e) (gather-done (c .calling) e) (all-done (c .passing) e)
+
+  -- behind an item less is left
+  pub walk-less : {s : Symbol} {after : ℕ} → Past s after ≡ stepOf bs at (frontOf (drop at bs)) → length bs - after < length bs - at
+  walk-less = step-less bs at
+
+  pub walk-end : length bs ≤ at → {r : Gathered} → r ≡ record { kinds = read; calls = called; nullable = true } → r ≡ whole
+  walk-end h = together (gather-end (c .reading) h) (gather-end (c .calling) h) (all-end (c .passing) h)
+
+  module _ {s : Symbol} {after : ℕ} (e : Past s after ≡ stepOf bs at (frontOf (drop at bs))) {k l : ℕ} (ek : k ≡ joined false kinds (withSymbol s) read)
+      (el : l ≡ joined true calls (withSymbol s) called) {b : Bool} (eb : b ≡ isPassed nulls (withSymbol s)) where
+    pub walk-next : b ≡ true → Walking bs nulls kinds calls start k l after
+    walk-next t =
+        record { reading = gather-next (c .reading) e ek eb t; calling = gather-next (c .calling) e el eb t; passing = all-next (c .passing) e eb t }
+
+    pub walk-stop : b ≡ false → {r : Gathered} → r ≡ record { kinds = k; calls = l; nullable = false } → r ≡ whole
+    walk-stop t = together (gather-stop (c .reading) e ek eb t) (gather-stop (c .calling) e el eb t) (all-stop (c .passing) e eb t)

@@ -1,5 +1,7 @@
 pub mod CheckLaws
 pub mod Clashing
+pub mod ClosedSets
+pub mod ClosureLaws
 pub mod Examples
 pub mod FillLaws
 pub mod FirstSetsExactly

@@ -137,7 +137,7 @@ module _ (passes : Numbers → List Item → Bool) (g : List Production) (P : �
           let t = and-eq-true-iff _ _ .0 (a .1) in
           keeps s hs n p (record { member = member; owned = sym (eqb-true n (p .owner) (t .1)); small = ltb-true n 64 (t .0) }) (a .0)
 
-  over-within : (h : List Production) → ((p : Production) → In h p → In g p) → (s : Numbers) → Each P s
+  pub over-within : (h : List Production) → ((p : Production) → In h p → In g p) → (s : Numbers) → Each P s
       → Each P (overAll (admit passes) h s)
   unfolding overAll
   over-within [] i s hs = hs
@@ -192,6 +192,17 @@ module _ (passes : Numbers → List Item → Bool)
       ap (λ (s : Numbers). s n) (sym (settled (overAll (admit passes) g) (over-adds g) (over-high g) nothing))
       ∙ (rw (← (o .owned)) (over-admits (o .member) (least passes g) e (rw (o .owned) (o .small))))
 
+  -- one round admits what passes where nothing is in
+  pub round-admits : {g : List Production} {n : ℕ} {p : Production} → Of g n p → passes nothing (p .items) ≡ true
+      → overAll (admit passes) g nothing n ≡ true
+  round-admits o e = rw (← (o .owned)) (over-admits (o .member) nothing e (rw (o .owned) (o .small)))
+
+  -- and nothing that is not in the least set
+  pub round-within : (g : List Production) → Within (overAll (admit passes) g nothing) (least passes g)
+  round-within g =
+      over-within passes g (λ n. least passes g n ≡ true) (λ s hs n p o e. least-closed g o (more s (least passes g) hs (p .items) e))
+      g (λ q m. m) nothing (λ n e. absurd (false≢true e))
+
 -- ------------------------------------------------------------------ rounds on another state, seen as sets
 
 module _ {A : Type 0} (Good : A → Type 0) (view : A → Numbers) (passes : Numbers → List Item → Bool) (step : Production → A → A)
@@ -202,7 +213,7 @@ module _ {A : Type 0} (Good : A → Type 0) (view : A → Numbers) (passes : Num
   over-stays [] x h = h
   over-stays (p ∷ g) x h = over-stays g (step p x) (stays p x h)
 
-  over-seen : (g : List Production) (x : A) → Good x → view (overAll step g x) ≡ overAll (admit passes) g (view x)
+  pub over-seen : (g : List Production) (x : A) → Good x → view (overAll step g x) ≡ overAll (admit passes) g (view x)
   unfolding overAll
   over-seen [] x h = refl
   over-seen (p ∷ g) x h = over-seen g (step p x) (stays p x h) ∙ ap (overAll (admit passes) g) (seen p x h)

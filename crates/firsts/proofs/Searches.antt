@@ -110,7 +110,7 @@ pairs-seen f (p ∷ g) found b =
 
 -- ------------------------------------------------------------------ a set that is not empty
 
-below-power : (m : ℕ) → m < 2 ^ m
+pub below-power : (m : ℕ) → m < 2 ^ m
 below-power zero = omega arith
 below-power (suc m) = omega (arith, below-power m, pow-suc 2 m)
 

@@ -14,7 +14,8 @@ use Rattle.kinds.specs.Kinds.{only}
 use Rattle.grammar.specs.Lookup.{fieldsAt}
 use Rattle.productions.specs.Normal.{Production}
 use Rattle.firsts.specs.FirstSets.{rounds, overAll, allPassed, nullStep, gather, firstStep, setsOf}
-use Rattle.firsts.specs.SetCalls.{Grown}
+use Rattle.firsts.specs.declared.Gathered.{Gathered}
+use Rattle.firsts.specs.SetCalls.{gathered, StepTaken, RoundTaken, SetsLent}
 use Rattle.productions.specs.Index.{itemsOf, Place, productionAt, productionsAt, placesFrom, productionsBy}
 use Rattle.productions.proofs.IndexLaws.{places-next, places-none}
 use Rattle.firsts.proofs.Rounds.{rounds-fixed}
@@ -99,44 +100,23 @@ module _ (bs : List ℕ) (owner start nulls : ℕ) where
 pub join-past : (sets : List ℕ) (n v : ℕ) → length sets ≤ n → sets ≡ set sets n v
 join-past sets n v h = sym (set-out sets n v h)
 
--- a set that stays the same leaves them all
-pub join-kept : (sets : List ℕ) (n v : ℕ) → not (eqb v (getD sets n 0)) ≡ false → set sets n v ≡ sets
-join-kept sets n v e = ap (set sets n) (eqb-true v (getD sets n 0) (not-false _ e)) ∙ set-getD sets n 0
-
-pub first-step-is : (calls : Bool) (nulls : ℕ) (bs : List ℕ) (owner start : ℕ) (sets : List ℕ) {found : ℕ}
-    → found ≡ gather calls nulls sets (itemsOf (fieldsAt bs start)) 0
-    → set sets owner (bitOr (getD sets owner 0) found) ≡ firstStep calls nulls (productionAt bs owner start) sets
+-- the sets of the nonterminal of one production
+pub step-is : (nulls : ℕ) (bs : List ℕ) (owner start : ℕ) (kinds calls : List ℕ) {found : Gathered}
+    → found ≡ gathered nulls kinds calls (itemsOf (fieldsAt bs start)) → {kinds′ calls′ : List ℕ}
+    → kinds′ ≡ set kinds owner (bitOr (getD kinds owner 0) (found .kinds)) → calls′ ≡ set calls owner (bitOr (getD calls owner 0) (found .calls))
+    → StepTaken nulls (productionAt bs owner start) kinds calls kinds′ calls′
 unfolding firstStep productionAt
-first-step-is calls nulls bs owner start sets e = ap (λ (v : ℕ). set sets owner (bitOr (getD sets owner 0) v)) e
-
--- the sets after the productions before number j, and whether one of these changed them
-pub record Joining (calls : Bool) (nulls : ℕ) (bs owners starts : List ℕ) (m : ℕ) (sets₀ : List ℕ) (j : ℕ) (sets : List ℕ) (changed : Bool) : Type 0 where
-  pub over : Over (firstStep calls nulls) bs owners starts m sets₀ j sets
-  pub same : changed ≡ false → sets ≡ sets₀
-  pub as-many : length sets ≡ length sets₀
-
-or-false : (a b : Bool) → (a || b) ≡ false → (a ≡ false) × (b ≡ false)
-or-false true b e = absurd (true≢false e)
-or-false false b e = (refl, e)
-
-module _ {calls : Bool} {nulls : ℕ} {bs owners starts : List ℕ} {m : ℕ} {sets₀ : List ℕ} {j : ℕ} {sets : List ℕ} {changed : Bool}
-    (c : Joining calls nulls bs owners starts m sets₀ j sets changed) where
-  pub joining-next : j < m → {o s : ℕ} → o ≡ getD owners j 0 → s ≡ getD starts j 0 → {sets′ : List ℕ} {more : Bool}
-      → Grown (firstStep calls nulls (productionAt bs o s) sets) sets sets′ more
-      → length sets′ ≡ length sets
-      → Joining calls nulls bs owners starts m sets₀ (j + 1) sets′ (changed || more)
-  joining-next h eo es {more = more} e k =
-      record {
-        over = over-next (c .over) h eo es (e .sets-are);
-        same = λ f. e .same (or-false changed more f .1) ∙ c .same (or-false changed more f .0);
-        as-many = k ∙ c .as-many;
-      }
+step-is nulls bs owner start kinds calls e ek el = record { kinds-are = ek ∙ rw e refl; calls-are = el ∙ rw e refl }
 
 -- there are always as many sets
-length-over : (calls : Bool) (nulls : ℕ) (g : List Production) (sets : List ℕ) → length (overAll (firstStep calls nulls) g sets) ≡ length sets
-unfolding overAll firstStep
+length-step : (calls : Bool) (nulls : ℕ) (p : Production) (sets : List ℕ) → length (firstStep calls nulls p sets) ≡ length sets
+unfolding firstStep
+length-step calls nulls p sets = length-set sets (p .owner) _
+
+pub length-over : (calls : Bool) (nulls : ℕ) (g : List Production) (sets : List ℕ) → length (overAll (firstStep calls nulls) g sets) ≡ length sets
+unfolding overAll
 length-over calls nulls [] sets = refl
-length-over calls nulls (p ∷ g) sets = length-over calls nulls g _ ∙ length-set sets (p .owner) _
+length-over calls nulls (p ∷ g) sets = length-over calls nulls g _ ∙ length-step calls nulls p sets
 
 length-rounds : (k : ℕ) (f : List ℕ → List ℕ) → ((sets : List ℕ) → length (f sets) ≡ length sets) → (sets : List ℕ)
     → length (rounds k f sets) ≡ length sets
@@ -148,3 +128,42 @@ pub length-sets : (calls : Bool) (nulls : ℕ) (g : List Production) → length 
 unfolding setsOf
 length-sets calls nulls g =
     length-rounds 64 (overAll (firstStep calls nulls) g) (length-over calls nulls g) (replicate 64 0) ∙ length-replicate {A = ℕ} 64 0
+
+-- the sets after the productions before number j
+pub record Joining (nulls : ℕ) (bs owners starts : List ℕ) (m : ℕ) (kinds₀ calls₀ : List ℕ) (j : ℕ) (kinds calls : List ℕ) : Type 0 where
+  pub kinds-over : Over (firstStep false nulls) bs owners starts m kinds₀ j kinds
+  pub calls-over : Over (firstStep true nulls) bs owners starts m calls₀ j calls
+  pub kinds-many : length kinds ≡ length kinds₀
+  pub calls-many : length calls ≡ length calls₀
+
+pub joining-start : (nulls : ℕ) (bs owners starts : List ℕ) (m : ℕ) (kinds calls : List ℕ) → Joining nulls bs owners starts m kinds calls 0 kinds calls
+joining-start nulls bs owners starts m kinds calls =
+    record {
+      kinds-over = over-start (firstStep false nulls) bs owners starts m kinds;
+      calls-over = over-start (firstStep true nulls) bs owners starts m calls;
+      kinds-many = refl;
+      calls-many = refl;
+    }
+
+module _ {nulls : ℕ} {bs owners starts : List ℕ} {m : ℕ} {kinds₀ calls₀ : List ℕ} {j : ℕ} {kinds calls : List ℕ}
+    (c : Joining nulls bs owners starts m kinds₀ calls₀ j kinds calls) where
+  pub joining-next : j < m → {o s : ℕ} → o ≡ getD owners j 0 → s ≡ getD starts j 0 → {kinds′ calls′ : List ℕ}
+      → StepTaken nulls (productionAt bs o s) kinds calls kinds′ calls′ → Joining nulls bs owners starts m kinds₀ calls₀ (j + 1) kinds′ calls′
+  joining-next h eo es e =
+      record {
+        kinds-over = over-next (c .kinds-over) h eo es (e .kinds-are);
+        calls-over = over-next (c .calls-over) h eo es (e .calls-are);
+        kinds-many = ap length (e .kinds-are) ∙ length-step false nulls _ kinds ∙ c .kinds-many;
+        calls-many = ap length (e .calls-are) ∙ length-step true nulls _ calls ∙ c .calls-many;
+      }
+
+  pub joining-end : m ≤ j → RoundTaken nulls (productionsBy m bs owners starts) kinds₀ calls₀ kinds calls
+  joining-end h = record { kinds-are = over-end (c .kinds-over) h; calls-are = over-end (c .calls-over) h }
+
+-- the sets of one round from empty ones
+pub round-lent : {nulls : ℕ} {g : List Production} {kinds calls : List ℕ} → RoundTaken nulls g (replicate 64 0) (replicate 64 0) kinds calls
+    → SetsLent calls kinds
+round-lent {nulls} {g} r =
+    let many : (c : Bool) → length (overAll (firstStep c nulls) g (replicate 64 0)) ≡ 64 =
+    λ c. length-over c nulls g (replicate 64 0) ∙ length-replicate {A = ℕ} 64 0 in
+    record { calls-many = ap length (r .calls-are) ∙ many true; kinds-many = ap length (r .kinds-are) ∙ many false }

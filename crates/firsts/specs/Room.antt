@@ -12,8 +12,8 @@ use Rattle.layout.specs.Within.{Each}
 use Rattle.productions.specs.Normal.{Production}
 use Rattle.productions.specs.Index.{itemsOf, Place, placesOf, productionsAt, wholeBody, placesIn, Whole}
 use Rattle.productions.specs.Room.{Entry, roomOf, overwritten, RoomAndSets}
-use Rattle.firsts.specs.First.{checkFirsts}
-use Rattle.firsts.specs.FirstSets.{nullables, firstSets, allPassed, gather}
+use Rattle.firsts.specs.First.{leftRecursive, checkFirsts}
+use Rattle.firsts.specs.FirstSets.{nullables, firstSets, leftCalls, allPassed, gather}
 
 -- a production at a place, with the sets of its grammar
 abbrev pub entryAt : List ℕ → ℕ → List ℕ → Place → Entry
@@ -66,9 +66,9 @@ pub record FillRoom (bs : List ℕ) (m : ℕ) (owners starts sets room : List �
 abbrev pub filled : List ℕ → ℕ → List ℕ → List ℕ → ℕ → List ℕ → List ℕ → List ℕ
 filled bs m owners starts nulls sets room = overwritten (roomBy bs (placesIn m owners starts) nulls sets) room
 
--- the nullable nonterminals, and the room over what was there
-pub record Prepared (bs : List ℕ) (places : List Place) (room₀ room : List ℕ) (nulls : ℕ) : Type 0 where
-  pub nulls-are : nulls ≡ nullables (productionsAt bs places)
+-- the lowest left recursive nonterminal, and the room over what was there
+pub record Prepared (bs : List ℕ) (places : List Place) (room₀ room : List ℕ) (n : ℕ) : Type 0 where
+  pub recursive : n ≡ leftRecursive (leftCalls (nullables (productionsAt bs places)) (productionsAt bs places))
   pub held : room ≡ overwritten (grammarRoom bs places) room₀
 
 -- the verdict of 12 and 13, and the room over what was there

@@ -1,10 +1,90 @@
 -- What the functions that compute sets promise. These mirror code: nobody needs them to believe `expand`.
-use Prim.Native.Nat.{ℕ}
+--
+-- First sets and left calls come from one round over the productions and a closure of what it found: nonterminals are taken one by one as
+-- callees, and what a callee gives is joined to what each caller gives. After all of them the sets are those that rounds would settle.
+use Prim.Native.Nat.{ℕ, _+_, _<_, _≤_}
 use mathlib.Core.Path.{_≡_}
-use mathlib.Core.Bool.{Bool, false}
+use mathlib.Core.Bool.{Bool, true, false}
 use mathlib.Core.List.{List}
+use lib.Bits.{bitOr}
+use lib.ListN.{length, getD}
+use Rattle.kinds.specs.Kinds.{hasKind}
+use Rattle.grammar.specs.Table.{Item}
+use Rattle.productions.specs.Normal.{Production}
+use Rattle.firsts.specs.declared.Gathered.{Gathered}
+use Rattle.firsts.specs.FirstSets.{overAll, allPassed, gather, firstStep, setsOf}
 
--- the sets are the new ones, and where nothing is told to have changed they are the old ones
-pub record Grown (new sets₀ sets : List ℕ) (changed : Bool) : Type 0 where
-  pub sets-are : sets ≡ new
-  pub same : changed ≡ false → sets ≡ sets₀
+-- what the items of a production give, where the sets of the nonterminals are `kinds` and `calls`, and whether all may read nothing
+abbrev pub gathered : ℕ → List ℕ → List ℕ → List Item → Gathered
+gathered nulls kinds calls is = record { kinds = gather false nulls kinds is 0; calls = gather true nulls calls is 0; nullable = allPassed nulls is }
+
+-- one production joined to the sets of its nonterminal
+pub record StepTaken (nulls : ℕ) (p : Production) (kinds₀ calls₀ kinds calls : List ℕ) : Type 0 where
+  pub kinds-are : kinds ≡ firstStep false nulls p kinds₀
+  pub calls-are : calls ≡ firstStep true nulls p calls₀
+
+-- one round over all productions
+pub record RoundTaken (nulls : ℕ) (g : List Production) (kinds₀ calls₀ kinds calls : List ℕ) : Type 0 where
+  pub kinds-are : kinds ≡ overAll (firstStep false nulls) g kinds₀
+  pub calls-are : calls ≡ overAll (firstStep true nulls) g calls₀
+
+-- the first sets and the left calls
+pub record BothSets (nulls : ℕ) (g : List Production) (kinds calls : List ℕ) : Type 0 where
+  pub kinds-are : kinds ≡ setsOf false nulls g
+  pub calls-are : calls ≡ setsOf true nulls g
+
+-- ------------------------------------------------------------------ the closure
+
+-- b is in the set of nonterminal n
+abbrev pub holds : List ℕ → ℕ → ℕ → Bool
+holds sets n b = hasKind (getD sets n 0) b
+
+-- a set for each nonterminal, twice
+pub record SetsLent (calls kinds : List ℕ) : Type 0 where
+  pub calls-many : length calls ≡ 64
+  pub kinds-many : length kinds ≡ 64
+
+-- the nonterminals from `many` on have empty sets
+pub record UsedBelow (many : ℕ) (calls kinds : List ℕ) : Type 0 where
+  pub small : many ≤ 64
+  pub no-calls : (n : ℕ) → many ≤ n → getD calls n 0 ≡ 0
+  pub no-kinds : (n : ℕ) → many ≤ n → getD kinds n 0 ≡ 0
+
+-- the same, for the next callee
+pub record StepLent (many : ℕ) (calls kinds : List ℕ) : Type 0 where
+  pub lent : SetsLent calls kinds
+  pub small : many ≤ 64
+
+-- a set, with more joined to it or not
+abbrev pub joinedIf : Bool → ℕ → ℕ → ℕ
+joinedIf true set more = bitOr set more
+joinedIf false set more = set
+
+-- what nonterminal n gives with k as a callee: its own set, joined with that of k if n calls k
+abbrev pub withCallee : List ℕ → List ℕ → ℕ → ℕ → ℕ
+withCallee calls sets k n = joinedIf (hasKind (getD calls n 0) k) (getD sets n 0) (getD sets k 0)
+
+-- the sets of the first n nonterminals, with k as a callee; the others as they were
+pub record CalleeJoined (k n : ℕ) (calls sets new : List ℕ) : Type 0 where
+  pub as-many : length new ≡ length sets
+  pub done : (i : ℕ) → i < n → getD new i 0 ≡ withCallee calls sets k i
+  pub left : (i : ℕ) → n ≤ i → getD new i 0 ≡ getD sets i 0
+
+-- the same for both arrays
+pub record CalleeTaken (k n : ℕ) (calls₀ kinds₀ calls kinds : List ℕ) : Type 0 where
+  pub calls-joined : CalleeJoined k n calls₀ calls₀ calls
+  pub kinds-joined : CalleeJoined k n calls₀ kinds₀ kinds
+
+-- the sets₀ closed over the calls₀, with the callees below a limit: what was there, what the callees give, and nothing else
+pub record ClosedBelow (limit : ℕ) (calls₀ sets₀ calls sets : List ℕ) : Type 0 where
+  pub as-many : length sets ≡ length sets₀
+  pub kept : (n b : ℕ) → holds sets₀ n b ≡ true → holds sets n b ≡ true
+  pub through : (n k b : ℕ) → k < limit → holds calls n k ≡ true → holds sets k b ≡ true → holds sets n b ≡ true
+  pub least : (R S : ℕ → ℕ → Bool) → ((n k : ℕ) → holds calls₀ n k ≡ true → R n k ≡ true) → ((n b : ℕ) → holds sets₀ n b ≡ true → S n b ≡ true)
+      → ((n k m : ℕ) → R n k ≡ true → R k m ≡ true → R n m ≡ true) → ((n k b : ℕ) → R n k ≡ true → S k b ≡ true → S n b ≡ true)
+      → (n b : ℕ) → holds sets n b ≡ true → S n b ≡ true
+
+-- the calls closed over themselves, and the kinds over the calls
+pub record ClosedBoth (limit : ℕ) (calls₀ kinds₀ calls kinds : List ℕ) : Type 0 where
+  pub calls-closed : ClosedBelow limit calls₀ calls₀ calls calls
+  pub kinds-closed : ClosedBelow limit calls₀ kinds₀ calls kinds

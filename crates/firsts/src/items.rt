@@ -1,4 +1,5 @@
 // The items of an alternative, read off the table's bytes, and what each gives to nullables and to first sets.
+use crate::Gathered;
 use crate::Step;
 use crate::Symbol;
 use grammar::Front;
@@ -13,7 +14,8 @@ ghost use Rattle.kinds.specs.Kinds.{keywordKind, only};
 ghost use Rattle.grammar.specs.Lookup.{frontOf, fieldsAt};
 ghost use Rattle.layout.specs.Decode.{itemOf};
 ghost use Rattle.firsts.specs.Symbols.{symbolOf, withSymbol, stepOf};
-ghost use Rattle.firsts.specs.FirstSets.{isPassed, allPassed, own, through, joined, gather};
+ghost use Rattle.firsts.specs.FirstSets.{isPassed, allPassed, own, through, joined};
+ghost use Rattle.firsts.specs.SetCalls.{gathered};
 ghost use Rattle.productions.specs.Index.{itemsOf};
 
 // The symbol of the item that is the value of a field.
@@ -145,28 +147,41 @@ fn joined(s: Symbol, calls: bool, sets: &[u64], found: u64) -> u64
     join(join(found, own(s, calls)), through(s, sets))
 }
 
-// What the items of the alternative at an offset give, up to the first that is not nullable, with that one.
-pub fn gather(table: &[u8], start: usize, calls: bool, nulls: u64, sets: &[u64]) -> u64
-    ensures { λ r. ⌜ r ≡ gather calls nulls (now (sets .entry)) (itemsOf (fieldsAt (now (table .entry)) start)) 0 ⌝ }
+fn found(kinds: u64, calls: u64, nullable: bool) -> Gathered
+    ensures { λ r. ⌜ r ≡ record { kinds = kinds; calls = calls; nullable = nullable } ⌝ }
 {
-    let mut found: u64 = 0;
+    Gathered {
+        kinds,
+        calls,
+        nullable,
+    }
+}
+
+// What the items of the alternative at an offset give to the sets of its nonterminal, up to the first that is not nullable, with that
+// one; and whether all of them are nullable.
+pub fn gather(table: &[u8], start: usize, nulls: u64, kinds: &[u64], calls: &[u64]) -> Gathered
+    ensures { λ r. ⌜ r ≡ gathered nulls (now (kinds .entry)) (now (calls .entry)) (itemsOf (fieldsAt (now (table .entry)) start)) ⌝ }
+{
+    let mut read: u64 = 0;
+    let mut called: u64 = 0;
     let mut at = start;
     while at < table.len() {
         let step = item_at(table, at);
         match step {
             Step::Done => {
-                return found;
+                return found(read, called, true);
             }
             Step::Past(s, next) => {
-                found = joined(s, calls, sets, found);
+                read = joined(s, false, kinds, read);
+                called = joined(s, true, calls, called);
                 let goes = passed(s, nulls);
                 if goes {
                     at = next;
                 } else {
-                    return found;
+                    return found(read, called, false);
                 }
             }
         }
     }
-    found
+    found(read, called, true)
 }

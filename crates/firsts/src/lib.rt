@@ -19,3 +19,11 @@ pub enum Step {
     Done,
     Past(Symbol, usize),
 }
+
+// What the items of a production give to the sets of its nonterminal, the kinds to its first set and the nonterminals to its left calls;
+// and whether all of them are nullable.
+pub struct Gathered {
+    pub kinds: u64,
+    pub calls: u64,
+    pub nullable: bool,
+}

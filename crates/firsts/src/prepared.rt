@@ -2,7 +2,6 @@
 use super::clash::clashing;
 use super::clash::left_recursive;
 use super::clash::shared;
-use super::items::all_passed;
 use super::items::gather;
 use super::nullable::nullables;
 use super::sets::sets_of;
@@ -14,9 +13,7 @@ use productions::room::begin;
 use productions::room::lay;
 ghost use mathlib.Core.Path.{_≡_};
 ghost use Rattle.answers.specs.Checked.{verdict};
-ghost use Rattle.productions.specs.Index.{placesIn, productionsBy};
-ghost use Rattle.firsts.specs.First.{leftRecursive};
-ghost use Rattle.firsts.specs.FirstSets.{leftCalls};
+ghost use Rattle.productions.specs.Index.{placesIn};
 ghost use Rattle.firsts.specs.Pairs.{noClashIn};
 ghost use Rattle.firsts.specs.Room.{filled, WholeIndex, FillRoom, Prepared, FirstsChecked};
 
@@ -41,36 +38,27 @@ fn fill(
         j -= 1;
         let owner = owners[j];
         let start = offset(starts, j);
-        let first = gather(table, start, false, nulls, sets);
-        let nullable = all_passed(table, start, nulls);
-        lay(room, j, owner, starts[j], first, nullable);
+        let found = gather(table, start, nulls, sets, sets);
+        lay(room, j, owner, starts[j], found.kinds, found.nullable);
     }
 }
 
-// The nullable nonterminals, with what an expansion needs of a grammar in the room.
+// The lowest nonterminal that is left recursive, 64 if there is none, with what an expansion needs of a grammar in the room.
 fn prepare(
     table: &[u8],
     owners: &[u8; 256],
     starts: &[u16; 256],
     m: usize,
     room: &mut [u64; 641],
-) -> u64
+) -> u8
     requires { ⌜ WholeIndex (now table) m (now owners) (now starts) ⌝ }
     ensures { λ r. ⌜ Prepared (now (table .entry)) (placesIn m (now (owners .entry)) (now (starts .entry))) (now (room .entry)) (now (room .exit)) r ⌝ }
 {
     let nulls = nullables(table, owners, starts, m);
     let mut sets = [0u64; 64];
-    sets_of(table, owners, starts, m, false, nulls, &mut sets);
-    fill(table, owners, starts, m, nulls, &sets, room);
-    nulls
-}
-
-// The lowest nonterminal that is left recursive, 64 if there is none.
-fn recursion(table: &[u8], owners: &[u8], starts: &[u16], m: usize, nulls: u64) -> u8
-    ensures { λ r. ⌜ r ≡ leftRecursive (leftCalls nulls (productionsBy m (now (table .entry)) (now (owners .entry)) (now (starts .entry)))) ⌝ }
-{
     let mut calls = [0u64; 64];
-    sets_of(table, owners, starts, m, true, nulls, &mut calls);
+    sets_of(table, owners, starts, m, nulls, &mut sets, &mut calls);
+    fill(table, owners, starts, m, nulls, &sets, room);
     left_recursive(&calls)
 }
 
@@ -99,8 +87,7 @@ pub fn check_firsts(
     requires { ⌜ WholeIndex (now table) m (now owners) (now starts) ⌝ }
     ensures { λ r. ⌜ FirstsChecked (now (table .entry)) (placesIn m (now (owners .entry)) (now (starts .entry))) (now (room .entry)) (now (room .exit)) r ⌝ }
 {
-    let nulls = prepare(table, owners, starts, m, room);
-    let n = recursion(table, owners, starts, m, nulls);
+    let n = prepare(table, owners, starts, m, room);
     if n < 64 {
         Verdict::Refused(refuse(12, n as u64, 0, 0))
     } else {

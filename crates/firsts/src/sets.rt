@@ -1,44 +1,45 @@
-// The first sets of a grammar and its left calls, a set for each of the 64 nonterminals, by rounds over its productions.
+// The first sets of a grammar and its left calls, a set for each of the 64 nonterminals. One round over the productions finds what each
+// nonterminal gives by itself and whom it calls; then the sets are closed over the calls: one nonterminal after the other is taken as a
+// callee, and what it gives is joined to what its callers give.
 use super::items::gather;
+use super::items::set_at;
 use grammar::reader::byte;
+use kinds::has;
 use kinds::join;
 use productions::index::offset;
 ghost use mathlib.Core.Path.{_≡_};
 ghost use lib.Bits.{bitOr};
 ghost use lib.ListN.{getD, set};
-ghost use Rattle.firsts.specs.FirstSets.{overAll, firstStep, setsOf};
-ghost use Rattle.firsts.specs.SetCalls.{Grown};
+ghost use Rattle.kinds.specs.Kinds.{hasKind};
+ghost use Rattle.firsts.specs.SetCalls.{StepTaken, RoundTaken, BothSets, joinedIf, SetsLent, StepLent, UsedBelow, CalleeTaken, ClosedBoth};
 ghost use Rattle.productions.specs.Index.{productionAt, productionsBy};
 
-// Joins what was found to the set of nonterminal n, and tells whether that changed it.
-fn join_at(sets: &mut [u64], n: u8, found: u64) -> bool
-    ensures { λ r. ⌜ Grown (set (now (sets .entry)) n (bitOr (getD (now (sets .entry)) n 0) found)) (now (sets .entry)) (now (sets .exit)) r ⌝ }
+// Joins what was found to the set of nonterminal n.
+fn join_at(sets: &mut [u64], n: u8, found: u64)
+    ensures { λ r. ⌜ now (sets .exit) ≡ set (now (sets .entry)) n (bitOr (getD (now (sets .entry)) n 0) found) ⌝ }
 {
     let i = n as usize;
     if i < sets.len() {
         let old = sets[i];
-        let new = join(old, found);
-        sets[i] = new;
-        new != old
-    } else {
-        false
+        sets[i] = join(old, found);
     }
 }
 
-// What a production gives is joined to the set of its nonterminal.
+// What a production gives is joined to the sets of its nonterminal.
 fn first_step(
     table: &[u8],
     owner: u8,
     start: usize,
-    calls: bool,
     nulls: u64,
-    sets: &mut [u64],
-) -> bool
-    ensures { λ r. ⌜ Grown (firstStep calls nulls (productionAt (now (table .entry)) owner start) (now (sets .entry)))
-        (now (sets .entry)) (now (sets .exit)) r ⌝ }
+    kinds: &mut [u64],
+    calls: &mut [u64],
+)
+    ensures { λ r. ⌜ StepTaken nulls (productionAt (now (table .entry)) owner start)
+        (now (kinds .entry)) (now (calls .entry)) (now (kinds .exit)) (now (calls .exit)) ⌝ }
 {
-    let found = gather(table, start, calls, nulls, sets);
-    join_at(sets, owner, found)
+    let found = gather(table, start, nulls, kinds, calls);
+    join_at(kinds, owner, found.kinds);
+    join_at(calls, owner, found.calls);
 }
 
 // One round: a step for each production, in order.
@@ -47,47 +48,97 @@ fn first_round(
     owners: &[u8],
     starts: &[u16],
     m: usize,
-    calls: bool,
     nulls: u64,
-    sets: &mut [u64],
-) -> bool
-    ensures { λ r. ⌜ Grown
-        (overAll (firstStep calls nulls) (productionsBy m (now (table .entry)) (now (owners .entry)) (now (starts .entry))) (now (sets .entry)))
-        (now (sets .entry)) (now (sets .exit)) r ⌝ }
+    kinds: &mut [u64],
+    calls: &mut [u64],
+)
+    ensures { λ r. ⌜ RoundTaken nulls (productionsBy m (now (table .entry)) (now (owners .entry)) (now (starts .entry)))
+        (now (kinds .entry)) (now (calls .entry)) (now (kinds .exit)) (now (calls .exit)) ⌝ }
 {
-    let mut changed = false;
     let mut j: usize = 0;
     while j < m {
         let owner = byte(owners, j);
         let start = offset(starts, j);
-        let more = first_step(table, owner, start, calls, nulls, sets);
-        changed = changed | more;
+        first_step(table, owner, start, nulls, kinds, calls);
         j += 1;
     }
-    changed
 }
 
-// The sets of all nonterminals: rounds until one changes nothing, 64 at most. This rules out that what stands behind a nullable item
-// is lost, and that the rounds end while a set still grows.
+// A set, with more joined to it if k is among the calls.
+fn with_callee(calls: u64, k: u8, set: u64, more: u64) -> u64
+    ensures { λ r. ⌜ r ≡ joinedIf (hasKind calls k) set more ⌝ }
+{
+    let called = has(calls, k);
+    if called { join(set, more) } else { set }
+}
+
+// Joins what k gives to what each nonterminal below `many` gives that calls k.
+fn take_callee(calls: &mut [u64], kinds: &mut [u64], many: u8, k: u8)
+    requires { ⌜ StepLent many (now calls) (now kinds) ⌝ }
+    ensures { λ r. ⌜ CalleeTaken k many (now (calls .entry)) (now (kinds .entry)) (now (calls .exit)) (now (kinds .exit)) ⌝ }
+{
+    let more_calls = set_at(calls, k as usize);
+    let more_kinds = set_at(kinds, k as usize);
+    let mut n: u8 = 0;
+    while n < many {
+        let i = n as usize;
+        let old = calls[i];
+        let given = kinds[i];
+        calls[i] = with_callee(old, k, old, more_calls);
+        kinds[i] = with_callee(old, k, given, more_kinds);
+        n += 1;
+    }
+}
+
+// One more than the highest nonterminal with a set that is not empty.
+fn used(calls: &[u64], kinds: &[u64]) -> u8
+    requires { ⌜ SetsLent (now calls) (now kinds) ⌝ }
+    ensures { λ r. ⌜ UsedBelow r (now (calls .entry)) (now (kinds .entry)) ⌝ }
+{
+    let mut n: u8 = 64;
+    while 0 < n {
+        let i = (n - 1) as usize;
+        let called = calls[i];
+        if 0 < called {
+            return n;
+        }
+        let given = kinds[i];
+        if 0 < given {
+            return n;
+        }
+        n -= 1;
+    }
+    0
+}
+
+// Closes the calls over themselves, and the kinds over the calls. This rules out that a callee's callee is lost.
+fn close(calls: &mut [u64], kinds: &mut [u64])
+    requires { ⌜ SetsLent (now calls) (now kinds) ⌝ }
+    ensures { λ r. ⌜ ClosedBoth 64 (now (calls .entry)) (now (kinds .entry)) (now (calls .exit)) (now (kinds .exit)) ⌝ }
+{
+    let many = used(calls, kinds);
+    let mut k: u8 = 0;
+    while k < many {
+        take_callee(calls, kinds, many, k);
+        k += 1;
+    }
+}
+
+// The sets of all nonterminals. This rules out that what stands behind a nullable item is lost, and that a set still grows at the end.
 pub fn sets_of(
     table: &[u8],
     owners: &[u8],
     starts: &[u16],
     m: usize,
-    calls: bool,
     nulls: u64,
-    sets: &mut [u64; 64],
+    kinds: &mut [u64; 64],
+    calls: &mut [u64; 64],
 )
-    ensures { λ r. ⌜ now (sets .exit) ≡ setsOf calls nulls (productionsBy m (now (table .entry)) (now (owners .entry)) (now (starts .entry))) ⌝ }
+    ensures { λ r. ⌜ BothSets nulls (productionsBy m (now (table .entry)) (now (owners .entry)) (now (starts .entry)))
+        (now (kinds .exit)) (now (calls .exit)) ⌝ }
 {
-    *sets = [0u64; 64];
-    let mut t: usize = 0;
-    while t < 64 {
-        let more = first_round(table, owners, starts, m, calls, nulls, sets);
-        if more {
-            t += 1;
-        } else {
-            return;
-        }
-    }
+    *kinds = [0u64; 64];
+    *calls = [0u64; 64];
+    first_round(table, owners, starts, m, nulls, kinds, calls);
+    close(calls, kinds);
 }

@@ -8,9 +8,6 @@ use Rattle.firsts.proofs.prepared.check_firsts.Tie as tie
 prepare-requires : tie.Need-prepare-requires
 prepare-requires c κs = search needs
 
-recursion-requires : tie.Need-recursion-requires
-recursion-requires c κs = search needs
-
 cast-refuse : tie.Need-cast-refuse
 cast-refuse c = search needs
 
@@ -23,19 +20,19 @@ check-clash-requires c κs = search needs
 returns : tie.Need-returns
 returns c =
     let tested = c .before in
-    let prepared = tested .before .before .before .before in
+    let prepared = tested .before in
     record {
-      answer = laws.check-recursive _ (prepared .prepare .ensures .nulls-are) (tested .before .recursion .ensures) (tested .if1 .taken) (c .refuse .ensures);
+      answer = laws.check-recursive _ (prepared .prepare .ensures .recursive) (tested .if1 .taken) (c .refuse .ensures);
       held = prepared .prepare .ensures .held;
     }
 
 returns-2 : tie.Need-returns-2
 returns-2 c =
     let tested = c .before .before in
-    let prepared = tested .before .before .before .before in
+    let prepared = tested .before in
     let entry = prepared .before .before .before in
     record {
-      answer = c .check-clash .ensures ∙ laws.check-clashes (entry .pre) (prepared .prepare .ensures) (tested .before .recursion .ensures) (tested .if1 .left);
+      answer = c .check-clash .ensures ∙ laws.check-clashes (entry .pre) (prepared .prepare .ensures) (tested .if1 .left);
       held = prepared .prepare .ensures .held;
     }
 
@@ -44,7 +41,6 @@ check-firsts-spec =
     tie.close
     (tie.spec
     prepare-requires
-    recursion-requires
     cast-refuse
     refuse-requires
     check-clash-requires

@@ -37,9 +37,6 @@ offset-requires c κs = search needs
 gather-requires : tie.Need-gather-requires Inv-loop μ-loop
 gather-requires c κs = search needs
 
-all-passed-requires : tie.Need-all-passed-requires Inv-loop μ-loop
-all-passed-requires c κs = search needs
-
 mul-lay : tie.Need-mul-lay Inv-loop μ-loop
 mul-lay c = search needs
 
@@ -48,8 +45,8 @@ element-copy-out-lay c = search needs
 
 lay-requires : tie.Need-lay-requires Inv-loop μ-loop
 lay-requires c κs =
-    let earlier = c .before .before .before .before .before .before in
-    let tested = earlier .before in
+    let got = c .before .before .before in
+    let tested = got .before .before .before in
     let began = tested .before .before .before .before in
     let entry = began .before .before .before .before .before in
     laws.fill-at (entry .pre) _ (tested .before .loop .inv) (tested .loop-test .taken)
@@ -60,13 +57,13 @@ loop-less c = search needs
 loop-again : tie.Need-loop-again Inv-loop μ-loop
 loop-again c =
     let laid = c .before .before in
-    let passed = laid .before .before .before in
-    let offset = passed .before .before in
+    let got = laid .before .before .before in
+    let offset = got .before in
     let tested = offset .before .before .before in
     let began = tested .before .before .before .before in
     let entry = began .before .before .before .before .before in
-    laws.fill-next (entry .pre) _ (tested .before .loop .inv) (tested .loop-test .taken) (offset .offset .ensures)
-    (passed .before .gather .ensures) (passed .all-passed .ensures) (laid .lay .ensures)
+    laws.fill-next (entry .pre) _ (tested .before .loop .inv) (tested .loop-test .taken) (offset .offset .ensures) (got .gather .ensures)
+    (laid .lay .ensures)
 
 same-length : tie.Need-same-length Inv-loop μ-loop
 same-length c =
@@ -92,7 +89,6 @@ fill-spec =
     element-copy-out-owner
     offset-requires
     gather-requires
-    all-passed-requires
     mul-lay
     element-copy-out-lay
     lay-requires

@@ -1,7 +1,4 @@
--- `prepare`: the room is filled from the sets.
-use mathlib.Core.Path.{_∙_, ap, sym}
-use lib.ListN.{length}
-use Rattle.firsts.proofs.StepLaws as sets
+-- `prepare`: the room is filled from the first sets, and the left calls decide.
 use Rattle.firsts.proofs.CheckLaws as laws
 use borrow.Author.Needs.{needs}
 use Rattle.firsts.proofs.prepared.prepare.Statement.{statement}
@@ -14,24 +11,36 @@ sets-of-requires : tie.Need-sets-of-requires
 sets-of-requires c κs = search needs
 
 slice-aggregate-fill : tie.Need-slice-aggregate-fill
-slice-aggregate-fill c = sym (ap length (c .before .sets-of .ensures) ∙ sets.length-sets _ _ _)
+slice-aggregate-fill c = laws.kinds-size (c .before .sets-of .ensures)
 
 fill-requires : tie.Need-fill-requires
 fill-requires c κs =
     let computed = c .before .before in
-    let earlier = computed .before .before .before .before .before .before in
-    let entry = earlier .before .before in
-    record {
-      index = entry .pre;
-      lent = record { size = c .fill-arg .given .0 .1; many = ap length (computed .sets-of .ensures) ∙ sets.length-sets _ _ _ };
-    }
+    let earlier = computed .before .before .before .before .before in
+    let entry = earlier .before .before .before .before in
+    record { index = entry .pre; lent = record { size = c .fill-arg .given .0 .1; many = laws.kinds-many (computed .sets-of .ensures) } }
+
+slice-aggregate-left-recursive : tie.Need-slice-aggregate-left-recursive
+slice-aggregate-left-recursive c = laws.calls-size (c .before .before .before .before .sets-of .ensures)
+
+left-recursive-requires : tie.Need-left-recursive-requires
+left-recursive-requires c κs = search needs
 
 returns : tie.Need-returns
 returns c =
-    let computed = c .before .before .before in
-    laws.prepared _ _ (computed .before .before .before .before .nullables .ensures) (computed .sets-of .ensures) (c .fill .ensures)
+    let filled = c .before .before in
+    let computed = filled .before .before .before in
+    laws.prepared _ _ (computed .before .before .before .before .before .nullables .ensures) (computed .sets-of .ensures) (filled .fill .ensures)
+    (c .left-recursive .ensures)
 
 pub prepare-spec : {M : Type 1} → statement M
 prepare-spec =
     tie.close
-    (tie.spec nullables-requires sets-of-requires slice-aggregate-fill fill-requires returns)
+    (tie.spec
+    nullables-requires
+    sets-of-requires
+    slice-aggregate-fill
+    fill-requires
+    slice-aggregate-left-recursive
+    left-recursive-requires
+    returns)

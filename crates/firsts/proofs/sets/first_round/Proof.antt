@@ -7,13 +7,13 @@ use Rattle.firsts.proofs.sets.first_round.Statement.{statement}
 use Rattle.firsts.proofs.sets.first_round.Tie as tie
 
 abbrev Inv-loop : tie.InvT-loop
-Inv-loop table owners starts m calls nulls sets₀ changed₀ j₀ sets changed j = laws.Joining calls nulls table owners starts m sets₀ j sets changed
+Inv-loop table owners starts m nulls kinds₀ calls₀ j₀ kinds calls j = laws.Joining nulls table owners starts m kinds₀ calls₀ j kinds calls
 
 abbrev μ-loop : tie.MeasureT-loop
-μ-loop table owners starts m calls nulls sets₀ changed₀ j₀ sets changed j = m - j
+μ-loop table owners starts m nulls kinds₀ calls₀ j₀ kinds calls j = m - j
 
 loop-holds : tie.Need-loop-holds Inv-loop μ-loop
-loop-holds c = record { over = laws.over-start _ _ _ _ _ _; same = λ _. refl; as-many = refl }
+loop-holds c = laws.joining-start _ _ _ _ _ _ _
 
 byte-requires : tie.Need-byte-requires Inv-loop μ-loop
 byte-requires c κs = search needs
@@ -32,19 +32,19 @@ loop-less c = search needs
 
 loop-again : tie.Need-loop-again Inv-loop μ-loop
 loop-again c =
-    let at-first-step = c .before .before in
-    let at-offset = at-first-step .before .before in
-    let at-byte = at-offset .before in
-    let at-loop-test = at-byte .before in
-    let at-loop = at-loop-test .before in
-    laws.joining-next (at-loop .loop .inv) (at-loop-test .loop-test .taken) (at-byte .byte .ensures) (at-offset .offset .ensures)
-    (at-first-step .first-step .ensures) (at-first-step .first-step .kept .1 .1 .1 .1 .1 .0)
+    let stepped = c .before .before .before .before in
+    let got = stepped .before .before .before in
+    let tested = got .before .before in
+    laws.joining-next (tested .before .loop .inv) (tested .loop-test .taken) (got .before .byte .ensures) (got .offset .ensures) (stepped .first-step .ensures)
 
 same-length : tie.Need-same-length Inv-loop μ-loop
-same-length c = search needs
+same-length c = c .before .loop .inv .kinds-many
+
+same-length-2 : tie.Need-same-length-2 Inv-loop μ-loop
+same-length-2 c = c .before .loop .inv .calls-many
 
 returns : tie.Need-returns Inv-loop μ-loop
-returns c = record { sets-are = laws.over-end (c .before .loop .inv .over) (c .loop-test .left); same = c .before .loop .inv .same }
+returns c = laws.joining-end (c .before .loop .inv) (c .loop-test .left)
 
 pub first-round-spec : {M : Type 1} → statement M
 first-round-spec =
@@ -60,4 +60,5 @@ first-round-spec =
     loop-less
     loop-again
     same-length
+    same-length-2
     returns)

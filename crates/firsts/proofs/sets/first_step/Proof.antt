@@ -1,4 +1,4 @@
--- `first_step`: what the items give is joined to the set of the nonterminal.
+-- `first_step`: what the items give is joined to the sets of the nonterminal.
 use mathlib.Core.Path.{_∙_}
 use borrow.Author.Needs.{needs}
 use Rattle.firsts.proofs.StepLaws as laws
@@ -11,18 +11,22 @@ gather-requires c κs = search needs
 join-at-requires : tie.Need-join-at-requires
 join-at-requires c κs = search needs
 
+join-at-requires-2 : tie.Need-join-at-requires-2
+join-at-requires-2 c κs = search needs
+
 same-length : tie.Need-same-length
 same-length c = search needs
 
+same-length-2 : tie.Need-same-length-2
+same-length-2 c = search needs
+
 returns : tie.Need-returns
 returns c =
-    let at-join-at = c .before .before in
-    let at-gather = at-join-at .before .before in
-    let entry = at-gather .before .before .before .before in
-    record {
-      sets-are = at-join-at .join-at .ensures .sets-are ∙ laws.first-step-is _ _ (entry .args .table .now) _ _ _ (at-gather .gather .ensures);
-      same = at-join-at .join-at .ensures .same;
-    }
+    let second = c .before .before in
+    let first = second .before .before .before .before in
+    let gathered = first .before .before in
+    let entry = gathered .before .before .before .before .before .before in
+    laws.step-is _ (entry .args .table .now) _ _ _ _ (gathered .gather .ensures) (first .join-at .ensures) (second .join-at2 .ensures)
 
 pub first-step-spec : {M : Type 1} → statement M
-first-step-spec = tie.close (tie.spec gather-requires join-at-requires same-length returns)
+first-step-spec = tie.close (tie.spec gather-requires join-at-requires join-at-requires-2 same-length same-length-2 returns)

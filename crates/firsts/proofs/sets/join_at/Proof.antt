@@ -1,8 +1,8 @@
 -- `join_at`: one set is replaced; past the last there is none.
-use mathlib.Core.Path.{ap, refl}
+use mathlib.Core.Path.{ap}
 use lib.ListN.{set}
-use borrow.Author.Needs.{needs}
 use Rattle.firsts.proofs.StepLaws as laws
+use borrow.Author.Needs.{needs}
 use Rattle.firsts.proofs.sets.join_at.Statement.{statement}
 use Rattle.firsts.proofs.sets.join_at.Tie as tie
 
@@ -25,12 +25,10 @@ same-length : tie.Need-same-length
 same-length c = search needs
 
 returns : tie.Need-returns
-returns c =
-    let entry = c .before .before .before .before in
-    record { sets-are = ap (set (entry .args .sets .now) (entry .args .n)) (c .join .ensures); same = laws.join-kept _ _ _ }
+returns c = ap (set (c .before .before .before .before .args .sets .now) (c .before .before .before .before .args .n)) (c .join .ensures)
 
 returns-2 : tie.Need-returns-2
-returns-2 c = record { sets-are = laws.join-past _ _ _ (c .if1 .left); same = λ _. refl }
+returns-2 c = laws.join-past _ _ _ (c .if1 .left)
 
 pub join-at-spec : {M : Type 1} → statement M
 join-at-spec =

@@ -1,0 +1,62 @@
+-- `close`: the sets are closed over the callees below k.
+use Prim.Native.Nat.{_-_}
+use Rattle.firsts.specs.SetCalls.{ClosedBoth}
+use borrow.Author.Needs.{needs}
+use Rattle.firsts.proofs.ClosureLaws as laws
+use Rattle.firsts.proofs.sets.close.Statement.{statement}
+use Rattle.firsts.proofs.sets.close.Tie as tie
+
+abbrev Inv-loop : tie.InvT-loop
+Inv-loop calls₀ kinds₀ many k₀ calls kinds k = ClosedBoth k calls₀ kinds₀ calls kinds
+
+abbrev μ-loop : tie.MeasureT-loop
+μ-loop calls₀ kinds₀ many k₀ calls kinds k = many - k
+
+used-requires : tie.Need-used-requires Inv-loop μ-loop
+used-requires c κs = search needs
+
+loop-holds : tie.Need-loop-holds Inv-loop μ-loop
+loop-holds c = laws.both-start _ _
+
+take-callee-requires : tie.Need-take-callee-requires Inv-loop μ-loop
+take-callee-requires c κs =
+    let tested = c .before .before in
+    let counted = tested .before .before in
+    laws.both-lent (counted .used .ensures) (tested .before .loop .inv) (counted .before .before .before .before .before .pre)
+
+add-k : tie.Need-add-k Inv-loop μ-loop
+add-k c = search needs
+
+loop-less : tie.Need-loop-less Inv-loop μ-loop
+loop-less c = search needs
+
+loop-again : tie.Need-loop-again Inv-loop μ-loop
+loop-again c =
+    let taken = c .before .before .before .before in
+    let looped = taken .before .before .before .before in
+    laws.both-next (looped .before .used .ensures) (looped .loop .inv) (taken .take-callee .ensures)
+
+same-length : tie.Need-same-length Inv-loop μ-loop
+same-length c = c .before .loop .inv .calls-closed .as-many
+
+same-length-2 : tie.Need-same-length-2 Inv-loop μ-loop
+same-length-2 c = c .before .loop .inv .kinds-closed .as-many
+
+returns : tie.Need-returns Inv-loop μ-loop
+returns c = laws.both-end (c .before .before .used .ensures) (c .before .loop .inv) (c .loop-test .left)
+
+pub close-spec : {M : Type 1} → statement M
+close-spec =
+    tie.close
+    (tie.spec
+    Inv-loop
+    μ-loop
+    used-requires
+    loop-holds
+    take-callee-requires
+    add-k
+    loop-less
+    loop-again
+    same-length
+    same-length-2
+    returns)

@@ -1,0 +1,21 @@
+-- `with_callee`: by the test.
+use mathlib.Core.Path.{_∙_}
+use Rattle.firsts.proofs.ClosureLaws as laws
+use borrow.Author.Needs.{needs}
+use Rattle.firsts.proofs.sets.with_callee.Statement.{statement}
+use Rattle.firsts.proofs.sets.with_callee.Tie as tie
+
+has-requires : tie.Need-has-requires
+has-requires c κs = search needs
+
+join-requires : tie.Need-join-requires
+join-requires c κs = search needs
+
+returns : tie.Need-returns
+returns c = c .join .ensures ∙ laws.joined-by _ _ (c .before .before .has .ensures) (c .before .if1 .taken)
+
+returns-2 : tie.Need-returns-2
+returns-2 c = laws.joined-by _ _ (c .before .has .ensures) (c .if1 .left)
+
+pub with-callee-spec : {M : Type 1} → statement M
+with-callee-spec = tie.close (tie.spec has-requires join-requires returns returns-2)
