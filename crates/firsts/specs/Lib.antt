@@ -5,3 +5,4 @@ pub mod Symbols
 pub mod Pairs
 pub mod Room
 pub mod SetCalls
+pub mod Needs
