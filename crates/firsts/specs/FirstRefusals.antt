@@ -7,7 +7,7 @@ use Rattle.answers.specs.declared.Refusal.{Refusal}
 use Rattle.answers.specs.Refusals.{refusal}
 use Rattle.answers.specs.Checked.{Checked, ok, bad}
 use Rattle.productions.specs.Normal.{Production}
-use Rattle.firsts.specs.Rules.{In, NullItems, First, Reads, LeftReaches}
+use Rattle.firsts.specs.Rules.{IsNonterminal, In, NullItems, First, Reads, LeftReaches}
 
 -- ------------------------------------------------------------------ two productions of one nonterminal
 
@@ -16,12 +16,12 @@ pub data Before : List Production → Production → Production → Type 0 where
   before-first : {p q : Production} {g : List Production} → In g q → Before (p ∷ g) p q
   before-later : {p q r : Production} {g : List Production} → Before g p q → Before (r ∷ g) p q
 
--- two productions of the nonterminal n, a number below 64
+-- two productions of the nonterminal n
 pub record Two (g : List Production) (n : ℕ) (p q : Production) : Type 0 where
   pub apart : Before g p q
   pub first-owned : p .owner ≡ n
   pub second-owned : q .owner ≡ n
-  pub small : n < 64
+  pub small : IsNonterminal n
 
 -- two productions of n share kind b
 pub record Shares (g : List Production) (n b : ℕ) : Type 0 where
