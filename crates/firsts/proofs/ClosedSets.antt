@@ -23,6 +23,13 @@ use Rattle.firsts.proofs.FirstSetsExactly.{called, given, firstIn, call
 use Rattle.firsts.proofs.Searches.{below-power}
 use Rattle.firsts.proofs.StepLaws.{length-sets, length-over}
 
+-- Two sets with the same kinds are one, whatever their size.
+pub same-set : (s t : ℕ) → ((b : ℕ) → hasKind s b ≡ hasKind t b) → s ≡ t
+same-set s t e =
+    let ls : s ≤ s + t = omega arith in
+    let lt : t ≤ s + t = omega arith in
+    same-kinds (s + t) s t (omega (arith, below-power s, pow-mono ls)) (omega (arith, below-power t, pow-mono lt)) (λ b l. e b)
+
 -- ------------------------------------------------------------------ the items of a production
 
 -- an item that gives k to the left calls calls k
@@ -155,15 +162,7 @@ module _ (nulls : ℕ) (g : List Production) where
         by false false f h = refl
 
     same-sets : sets ≡ setsOf c nulls g
-    same-sets = ext-getD 0 sets (setsOf c nulls g) (closed-many ∙ sym (length-sets c nulls g)) (λ n l. same-set n)
-      where
-        same-set : (n : ℕ) → getD sets n 0 ≡ getD (setsOf c nulls g) n 0
-        same-set n =
-            let s : ℕ = getD sets n 0 in
-            let t : ℕ = getD (setsOf c nulls g) n 0 in
-            let ls : s ≤ s + t = omega arith in
-            let lt : t ≤ s + t = omega arith in
-            same-kinds (s + t) s t (omega (arith, below-power s, pow-mono ls)) (omega (arith, below-power t, pow-mono lt)) (λ b l. same-bits n b)
+    same-sets = ext-getD 0 sets (setsOf c nulls g) (closed-many ∙ sym (length-sets c nulls g)) (λ n l. same-set _ _ (same-bits n))
 
   -- One round and the closure give the sets that the rounds settle.
   pub closed-sets : {kinds₀ calls₀ : List ℕ} → RoundTaken nulls g (replicate 64 0) (replicate 64 0) kinds₀ calls₀ → {kinds calls : List ℕ}

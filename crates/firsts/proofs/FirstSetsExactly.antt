@@ -96,7 +96,7 @@ module _ (c : Bool) (nulls b : ℕ) where
           ∙ or-assoc (hasKind found b) (given c b (bitOfAll b sets) i) (firstIn c nulls b (bitOfAll b sets) is))
       by false e rest = rw (e, gather) (joined-seen sets i found ∙ ap (λ t. hasKind found b || t) (sym (or-false _)))
 
-  items-seen : (sets : List ℕ) (is : List Item) → hasKind (gather c nulls sets is 0) b ≡ firstIn c nulls b (bitOfAll b sets) is
+  pub items-seen : (sets : List ℕ) (is : List Item) → hasKind (gather c nulls sets is 0) b ≡ firstIn c nulls b (bitOfAll b sets) is
   items-seen sets is = gather-seen sets is 0 ∙ ap (λ t. t || firstIn c nulls b (bitOfAll b sets) is) (has-none b)
 
   step-length : (p : Production) (sets : List ℕ) → length sets ≡ 64 → length (firstStep c nulls p sets) ≡ 64

@@ -8,6 +8,7 @@ pub mod FirstSetsExactly
 pub mod FirstsTheorems
 pub mod HeldPairs
 pub mod ItemsLaws
+pub mod NeedsLaws
 pub mod NullablesExactly
 pub mod OneChoice
 pub mod PairsLaws

@@ -78,22 +78,6 @@ module _ {A : Type 0} {f : A → A} {x₀ : A} {t : ℕ} {x : A} (r : Rounds f x
       let z : 64 - t ≡ 0 = omega arith in
       sym (ap (λ (k : ℕ). rounds k f x) z) ∙ r .rest
 
--- ------------------------------------------------------------------ nullables
-
-module _ (bs : List ℕ) (owner start nulls : ℕ) where
-  null-tests : (b : Bool) → b ≡ allPassed nulls (itemsOf (fieldsAt bs start))
-      → (elim b [ true ↦ bitOr nulls (only owner) | false ↦ nulls ]) ≡ nullStep (productionAt bs owner start) nulls
-  unfolding nullStep productionAt
-  null-tests b e = ap (λ (x : Bool). elim x [ true ↦ bitOr nulls (only owner) | false ↦ nulls ]) e
-
-  pub null-taken : {b : Bool} → b ≡ allPassed nulls (itemsOf (fieldsAt bs start)) → b ≡ true → {o : ℕ} → o ≡ only owner
-      → bitOr nulls o ≡ nullStep (productionAt bs owner start) nulls
-  null-taken e t eo = ap (bitOr nulls) eo ∙ null-tests true (sym t ∙ e)
-
-  pub null-left : {b : Bool} → b ≡ allPassed nulls (itemsOf (fieldsAt bs start)) → b ≡ false
-      → nulls ≡ nullStep (productionAt bs owner start) nulls
-  null-left e t = null-tests false (sym t ∙ e)
-
 -- ------------------------------------------------------------------ first sets and left calls
 
 -- past the last set nothing is joined

@@ -7,16 +7,24 @@ use Rattle.kinds.specs.Kinds.{wordKind, numberKind, keywordKind}
 use Rattle.grammar.specs.Table.{Templates, Item, keyword, ide, number, local, call}
 use Rattle.productions.specs.Normal.{Production}
 
+-- The numbers that a table has for nonterminals and keywords. Document 01, "Phrase table": a definition and a call name a nonterminal
+-- 0 to 63, and keywords are numbered from 0, at most 62 of them.
+abbrev pub IsNonterminal : ℕ → Type 0
+IsNonterminal n = n < 64
+
+abbrev pub IsKeyword : ℕ → Type 0
+IsKeyword k = k < 62
+
 -- p is a production of g
 pub data In : List Production → Production → Type 0 where
   in-first : {p : Production} {g : List Production} → In (p ∷ g) p
   in-later : {p q : Production} {g : List Production} → In g p → In (q ∷ g) p
 
--- p is a production of the nonterminal n, a number below 64
+-- p is a production of the nonterminal n
 pub record Of (g : List Production) (n : ℕ) (p : Production) : Type 0 where
   pub member : In g p
   pub owned : p .owner ≡ n
-  pub small : n < 64
+  pub small : IsNonterminal n
 
 -- ------------------------------------------------------------------ nullable
 
@@ -46,15 +54,15 @@ pub record FirstOf (g : List Production) (own : Item → ℕ → Type 0) (n b : 
   pub of : Of g n production
   pub first : First g own (production .items) b
 
--- the kind that an item reads; there are at most 62 keywords
+-- the kind that an item reads
 pub data Reads : Item → ℕ → Type 0 where
-  reads-keyword : {k : ℕ} → k < 62 → Reads (keyword k) (keywordKind k)
+  reads-keyword : {k : ℕ} → IsKeyword k → Reads (keyword k) (keywordKind k)
   reads-word : {s : ℕ} → Reads (ide s) wordKind
   reads-number : Reads number numberKind
 
 -- the nonterminal that an item calls
 pub data Calls : Item → ℕ → Type 0 where
-  calls : {n : ℕ} {ts : Templates} → n < 64 → Calls (call n ts) n
+  calls : {n : ℕ} {ts : Templates} → IsNonterminal n → Calls (call n ts) n
 
 -- kind b opens n: b is in the first set of n
 abbrev pub Opens : List Production → ℕ → ℕ → Type 0

@@ -14,7 +14,7 @@ ghost use Rattle.kinds.specs.Kinds.{keywordKind, only};
 ghost use Rattle.grammar.specs.Lookup.{frontOf, fieldsAt};
 ghost use Rattle.layout.specs.Decode.{itemOf};
 ghost use Rattle.firsts.specs.Symbols.{symbolOf, withSymbol, stepOf};
-ghost use Rattle.firsts.specs.FirstSets.{isPassed, allPassed, own, through, joined};
+ghost use Rattle.firsts.specs.FirstSets.{isPassed, own, through, joined};
 ghost use Rattle.firsts.specs.SetCalls.{gathered};
 ghost use Rattle.productions.specs.Index.{itemsOf};
 
@@ -64,30 +64,6 @@ fn passed(s: Symbol, nulls: u64) -> bool
         Symbol::Local => true,
         Symbol::Call(n) => has(nulls, n),
     }
-}
-
-// Whether every item of the alternative at an offset may read nothing.
-pub fn all_passed(table: &[u8], start: usize, nulls: u64) -> bool
-    ensures { λ r. ⌜ r ≡ allPassed nulls (itemsOf (fieldsAt (now (table .entry)) start)) ⌝ }
-{
-    let mut at = start;
-    while at < table.len() {
-        let step = item_at(table, at);
-        match step {
-            Step::Done => {
-                return true;
-            }
-            Step::Past(s, next) => {
-                let goes = passed(s, nulls);
-                if goes {
-                    at = next;
-                } else {
-                    return false;
-                }
-            }
-        }
-    }
-    true
 }
 
 // The set of the kind of keyword k.

@@ -1,35 +1,68 @@
-// The nullable nonterminals of a grammar, bit n for nonterminal n, by rounds over its productions.
-use super::items::all_passed;
+// The nullable nonterminals of a grammar, bit n for nonterminal n. What each production needs to be nullable is gathered once; the rounds
+// then look at these needs alone.
+use super::items::gather;
+use super::items::set_at;
 use grammar::reader::byte;
 use kinds::join;
 use kinds::only;
 use productions::index::offset;
 ghost use mathlib.Core.Path.{_≡_};
-ghost use Rattle.firsts.specs.FirstSets.{overAll, nullStep, nullables};
-ghost use Rattle.productions.specs.Index.{productionAt, productionsBy};
+ghost use Rattle.productions.specs.Index.{productionsBy};
+ghost use Rattle.firsts.specs.FirstSets.{nullables};
+ghost use Rattle.firsts.specs.Needs.{needStep, needRound, NeedsLent, NeedsHeld};
+ghost use Rattle.firsts.specs.Room.{WholeIndex};
 
-// A production whose items may all read nothing makes its nonterminal nullable.
-fn null_step(table: &[u8], owner: u8, start: usize, nulls: u64) -> u64
-    ensures { λ r. ⌜ r ≡ nullStep (productionAt (now (table .entry)) owner start) nulls ⌝ }
+// Holds the nonterminal and the needs of each production that has only locals and calls, and tells how many there are.
+fn needs_of(
+    table: &[u8],
+    owners: &[u8],
+    starts: &[u16],
+    m: usize,
+    whose: &mut [u8],
+    needs: &mut [u64],
+) -> usize
+    requires { ⌜ NeedsLent m (now whose) (now needs) ⌝ }
+    ensures { λ r. ⌜ NeedsHeld (productionsBy m (now (table .entry)) (now (owners .entry)) (now (starts .entry))) r (now (whose .exit)) (now (needs .exit)) ⌝ }
 {
-    let empty = all_passed(table, start, nulls);
-    if empty {
+    let none = [0u64; 0];
+    let mut k: usize = 0;
+    let mut j: usize = 0;
+    while j < m {
+        let owner = byte(owners, j);
+        let start = offset(starts, j);
+        let found = gather(table, start, 18446744073709551615, &none, &none);
+        if found.nullable {
+            whose[k] = owner;
+            needs[k] = found.calls;
+            k += 1;
+            j += 1;
+        } else {
+            j += 1;
+        }
+    }
+    k
+}
+
+// A production whose needs are all nullable makes its nonterminal nullable.
+fn null_step(owner: u8, needs: u64, nulls: u64) -> u64
+    ensures { λ r. ⌜ r ≡ needStep owner needs nulls ⌝ }
+{
+    let with = join(nulls, needs);
+    if with == nulls {
         join(nulls, only(owner))
     } else {
         nulls
     }
 }
 
-// One round: a step for each production, in order.
-fn null_round(table: &[u8], owners: &[u8], starts: &[u16], m: usize, nulls: u64) -> u64
-    ensures { λ r. ⌜ r ≡ overAll nullStep (productionsBy m (now (table .entry)) (now (owners .entry)) (now (starts .entry))) nulls ⌝ }
+// One round: a step for each production that is held, in order.
+fn null_round(whose: &[u8], needs: &[u64], k: usize, nulls: u64) -> u64
+    ensures { λ r. ⌜ r ≡ needRound k (now (whose .entry)) (now (needs .entry)) nulls ⌝ }
 {
     let mut set = nulls;
     let mut j: usize = 0;
-    while j < m {
-        let owner = byte(owners, j);
-        let start = offset(starts, j);
-        set = null_step(table, owner, start, set);
+    while j < k {
+        set = null_step(byte(whose, j), set_at(needs, j), set);
         j += 1;
     }
     set
@@ -37,13 +70,17 @@ fn null_round(table: &[u8], owners: &[u8], starts: &[u16], m: usize, nulls: u64)
 
 // The nullable nonterminals: rounds until one changes nothing, 64 at most. This rules out that a call never passes, and that one round
 // is taken for all.
-pub fn nullables(table: &[u8], owners: &[u8], starts: &[u16], m: usize) -> u64
+pub fn nullables(table: &[u8], owners: &[u8; 256], starts: &[u16; 256], m: usize) -> u64
+    requires { ⌜ WholeIndex (now table) m (now owners) (now starts) ⌝ }
     ensures { λ r. ⌜ r ≡ nullables (productionsBy m (now (table .entry)) (now (owners .entry)) (now (starts .entry))) ⌝ }
 {
+    let mut whose = [0u8; 256];
+    let mut needs = [0u64; 256];
+    let k = needs_of(table, owners, starts, m, &mut whose, &mut needs);
     let mut set: u64 = 0;
     let mut t: usize = 0;
     while t < 64 {
-        let more = null_round(table, owners, starts, m, set);
+        let more = null_round(&whose, &needs, k, set);
         if more == set {
             return set;
         }

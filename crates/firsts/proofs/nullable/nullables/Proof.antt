@@ -1,29 +1,42 @@
 -- `nullables`: the rounds that are left lead to the same set, and none is left to do after one that changes nothing.
 use Prim.Native.Nat.{_-_}
-use mathlib.Core.Path.{_∙_, refl, sym}
-use lib.ListN.{set}
 use borrow.Author.Needs.{needs}
-use Rattle.firsts.specs.FirstSets.{nullStep, nullables, overAll}
 use Rattle.productions.specs.Index.{productionsBy}
-use Rattle.firsts.proofs.StepLaws as laws
+use Rattle.firsts.proofs.NeedsLaws as laws
 use Rattle.firsts.proofs.nullable.nullables.Statement.{statement}
 use Rattle.firsts.proofs.nullable.nullables.Tie as tie
 
 abbrev Inv-loop : tie.InvT-loop
-Inv-loop table owners starts m set₀ t₀ set t = laws.Rounds (overAll nullStep (productionsBy m table owners starts)) 0 t set
+Inv-loop table owners starts m whose needs k set₀ t₀ set t = laws.NullRounds (productionsBy m table owners starts) t set
 
 abbrev μ-loop : tie.MeasureT-loop
-μ-loop table owners starts m set₀ t₀ set t = 64 - t
+μ-loop table owners starts m whose needs k set₀ t₀ set t = 64 - t
+
+slice-aggregate-needs-of : tie.Need-slice-aggregate-needs-of Inv-loop μ-loop
+slice-aggregate-needs-of c = search needs
+
+slice-aggregate-needs-of-2 : tie.Need-slice-aggregate-needs-of-2 Inv-loop μ-loop
+slice-aggregate-needs-of-2 c = search needs
+
+needs-of-requires : tie.Need-needs-of-requires Inv-loop μ-loop
+needs-of-requires c κs = laws.needs-lent (c .before .before .before .before .before .pre .few)
 
 loop-holds : tie.Need-loop-holds Inv-loop μ-loop
-loop-holds c = record { small = search needs; rest = refl }
+loop-holds c = laws.null-start _
+
+slice-aggregate-null-round : tie.Need-slice-aggregate-null-round Inv-loop μ-loop
+slice-aggregate-null-round c = search needs
+
+slice-aggregate-null-round-2 : tie.Need-slice-aggregate-null-round-2 Inv-loop μ-loop
+slice-aggregate-null-round-2 c = search needs
 
 null-round-requires : tie.Need-null-round-requires Inv-loop μ-loop
 null-round-requires c κs = search needs
 
 returns : tie.Need-returns Inv-loop μ-loop
-unfolding nullables
-returns c = laws.rounds-stop (c .before .before .before .loop .inv) (sym (c .before .null-round .ensures) ∙ c .if1 .taken)
+returns c =
+    let looped = c .before .before .before .before .before in
+    laws.null-stop (looped .before .before .before .needs-of .ensures) (looped .loop .inv) (c .before .null-round .ensures) (c .if1 .taken)
 
 add-t : tie.Need-add-t Inv-loop μ-loop
 add-t c = search needs
@@ -32,11 +45,13 @@ loop-less : tie.Need-loop-less Inv-loop μ-loop
 loop-less c = search needs
 
 loop-again : tie.Need-loop-again Inv-loop μ-loop
-loop-again c = laws.rounds-next (c .before .before .before .loop .inv) (c .before .before .loop-test .taken) (c .before .null-round .ensures)
+loop-again c =
+    let tested = c .before .before .before .before in
+    let looped = tested .before in
+    laws.null-next (looped .before .before .before .needs-of .ensures) (looped .loop .inv) (tested .loop-test .taken) (c .before .null-round .ensures)
 
 returns-2 : tie.Need-returns-2 Inv-loop μ-loop
-unfolding nullables
-returns-2 c = laws.rounds-end (c .before .loop .inv) (c .loop-test .left)
+returns-2 c = laws.null-end (c .before .loop .inv) (c .loop-test .left)
 
 pub nullables-spec : {M : Type 1} → statement M
 nullables-spec =
@@ -44,7 +59,12 @@ nullables-spec =
     (tie.spec
     Inv-loop
     μ-loop
+    slice-aggregate-needs-of
+    slice-aggregate-needs-of-2
+    needs-of-requires
     loop-holds
+    slice-aggregate-null-round
+    slice-aggregate-null-round-2
     null-round-requires
     returns
     add-t

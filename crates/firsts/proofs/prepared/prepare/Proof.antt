@@ -17,7 +17,7 @@ fill-requires : tie.Need-fill-requires
 fill-requires c κs =
     let computed = c .before .before in
     let earlier = computed .before .before .before .before .before in
-    let entry = earlier .before .before .before .before in
+    let entry = earlier .before .before in
     record { index = entry .pre; lent = record { size = c .fill-arg .given .0 .1; many = laws.kinds-many (computed .sets-of .ensures) } }
 
 slice-aggregate-left-recursive : tie.Need-slice-aggregate-left-recursive

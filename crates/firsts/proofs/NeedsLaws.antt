@@ -1,0 +1,317 @@
+-- Laws of the needs of productions: a production is nullable exactly if it has only locals and calls, and all its needs are nullable.
+use Prim.Native.Nat.{ℕ, zero, suc, _+_, _-_, _^_, _<_, _≤_}
+use mathlib.Core.Path.{_≡_, refl, sym, ap, _∙_, fun-ext}
+use mathlib.Core.Bool.{Bool, true, false, _&&_, _||_, false≢true, and-eq-true-iff, or-false}
+use mathlib.Core.Logic.{⊎-elim, dite}
+use mathlib.Core.List.{List, [], _∷_}
+use native.Mathlib.Nat.{pow-suc}
+use native.Mathlib.Decide.{decLt}
+use native.Mathlib.Omega.{arith}
+use lib.Bits.{bitOr}
+use lib.Dec.{eqb}
+use lib.ListN.{length, getD, set, replicate, length-set, length-replicate}
+use lib.Pow.{pow-mono}
+use lib.Seq.{getD-set-same, getD-set-other}
+use borrow.Author.Tests.{eq-eqb, ne-eqb, eqb-true}
+use Rattle.kinds.specs.Kinds.{hasKind, only}
+use Rattle.kinds.proofs.KindsLaws.{has-none, has-join, has-own, has-above, only-bound, same-kinds}
+use Rattle.grammar.specs.Table.{Item, keyword, ide, number, local, call}
+use Rattle.grammar.specs.Lookup.{fieldsAt}
+use Rattle.productions.specs.Normal.{Production}
+use Rattle.productions.specs.Index.{itemsOf, productionAt, productionsBy}
+use Rattle.firsts.specs.declared.Gathered.{Gathered}
+use Rattle.firsts.specs.FirstSets.{overAll, isPassed, allPassed, own, nullStep, nullables, gather}
+use Rattle.firsts.specs.SetCalls.{joinedIf, gathered}
+use Rattle.firsts.specs.Needs.{everyOne, Nonterminals, needStep, needRound, NeedsLent, NeedsHeld}
+use Rattle.firsts.proofs.Rounds.{nothing, or-left, or-right, or-split}
+use Rattle.firsts.proofs.FirstSetsExactly.{firstIn, given, bitOfAll, items-seen, only-has}
+use Rattle.firsts.proofs.ClosureLaws.{joined-by}
+use Rattle.firsts.proofs.ClosedSets.{same-set}
+use Rattle.firsts.proofs.StepLaws.{Over, over-start, over-next, over-end, Rounds, rounds-next, rounds-stop, rounds-end}
+
+-- ------------------------------------------------------------------ sets of nonterminals
+
+pub none-high : Nonterminals 0
+none-high = record { none-above = λ n l. has-none n }
+
+step-high : (owner needs : ℕ) {nulls : ℕ} → Nonterminals nulls → Nonterminals (needStep owner needs nulls)
+step-high owner needs {nulls} h = record { none-above = λ n l. by n l (eqb (bitOr nulls needs) nulls) }
+  where
+    by : (n : ℕ) → 64 ≤ n → (b : Bool) → hasKind (joinedIf b nulls (only owner)) n ≡ false
+    by n l true = has-join nulls (only owner) n ∙ rw (h .none-above n l) (has-above 64 (only owner) n (only-bound owner) l)
+    by n l false = h .none-above n l
+
+pub round-high : (k : ℕ) (owners needs : List ℕ) {nulls : ℕ} → Nonterminals nulls → Nonterminals (needRound k owners needs nulls)
+unfolding needRound
+round-high zero owners needs h = h
+round-high (suc k) owners needs h = step-high (getD owners k 0) (getD needs k 0) (round-high k owners needs h)
+
+-- a nonterminal in a set is below 64
+small-in : {s : ℕ} → Nonterminals s → (n : ℕ) → hasKind s n ≡ true → n < 64
+small-in {s} h n e = by (decLt n 64)
+  where
+    by : Dec (n < 64) → n < 64
+    by (yes l) = l
+    by (no l) = absurd (false≢true (sym (h .none-above n (omega arith)) ∙ e))
+
+-- a test of each number below k
+allBelow : ℕ → (ℕ → Bool) → Bool
+allBelow zero t = true
+allBelow (suc k) t = t k && allBelow k t
+
+each-below : (k : ℕ) (t : ℕ → Bool) → allBelow k t ≡ true → (n : ℕ) → n < k → t n ≡ true
+unfolding allBelow
+each-below zero t e n l = absurd (omega arith)
+each-below (suc k) t e n l =
+    let both = and-eq-true-iff (t k) (allBelow k t) .0 e in
+    dite (decLt n k) (λ h. each-below k t (both .1) n h) (λ h. let z : n ≡ k = omega arith in rw z (both .0))
+
+-- all are in the set of all
+every-has : (n : ℕ) → n < 64 → hasKind everyOne n ≡ true
+unfolding hasKind allBelow
+every-has = each-below 64 (hasKind everyOne) refl
+
+every-small : (n : ℕ) → hasKind everyOne n ≡ true → n < 64
+every-small = small-in (record { none-above = λ n l. has-above 64 everyOne n (omega arith) l })
+
+-- joining adds nothing exactly if all is in already
+joins-none : (s t : ℕ) → ((n : ℕ) → hasKind t n ≡ true → hasKind s n ≡ true) → eqb (bitOr s t) s ≡ true
+joins-none s t h = eq-eqb (bitOr s t) s (same-set (bitOr s t) s (λ n. has-join s t n ∙ by (hasKind s n) (hasKind t n) (h n)))
+  where
+    by : (a b : Bool) → (b ≡ true → a ≡ true) → (a || b) ≡ a
+    by true b f = refl
+    by false true f = sym (f refl)
+    by false false f = refl
+
+joined-in : (s t : ℕ) → eqb (bitOr s t) s ≡ true → (n : ℕ) → hasKind t n ≡ true → hasKind s n ≡ true
+joined-in s t e n f =
+    ap (λ x. hasKind x n) (sym (eqb-true (bitOr s t) s e)) ∙ has-join s t n ∙ or-right (hasKind s n) f
+
+-- ------------------------------------------------------------------ the items of a production
+
+-- an item that is passed is passed with all nonterminals nullable
+passed-every : {nulls : ℕ} → Nonterminals nulls → (i : Item) → isPassed nulls i ≡ true → isPassed everyOne i ≡ true
+passed-every h (keyword k) e = e
+passed-every h (ide s) e = e
+passed-every h number e = e
+passed-every h local e = e
+passed-every h (call n ts) e = every-has n (small-in h n e)
+
+-- what an item calls, where it is passed
+passed-needs : (nulls b : ℕ) (i : Item) → isPassed nulls i ≡ true → given true b nothing i ≡ true → hasKind nulls b ≡ true
+passed-needs nulls b (keyword k) e f = absurd (false≢true e)
+passed-needs nulls b (ide s) e f = absurd (false≢true e)
+passed-needs nulls b number e f = absurd (false≢true e)
+passed-needs nulls b local e f = absurd (⊎-elim (λ p. false≢true (sym (has-none b) ∙ p)) (λ p. false≢true p) (or-split (hasKind 0 b) f))
+passed-needs nulls b (call n ts) e f = rw (only-has n b (⊎-elim (λ p. p) (λ p. absurd (false≢true p)) (or-split (hasKind (only n) b) f)) .0) e
+
+needs-passed : (nulls : ℕ) (i : Item) → isPassed everyOne i ≡ true → ((b : ℕ) → given true b nothing i ≡ true → hasKind nulls b ≡ true)
+    → isPassed nulls i ≡ true
+needs-passed nulls (keyword k) e h = e
+needs-passed nulls (ide s) e h = e
+needs-passed nulls number e h = e
+needs-passed nulls local e h = e
+needs-passed nulls (call n ts) e h = h n (or-left _ (has-own n (every-small n e)))
+
+abbrev Needed : ℕ → List Item → Type 0
+Needed nulls is = (b : ℕ) → firstIn true everyOne b nothing is ≡ true → hasKind nulls b ≡ true
+
+all-every : {nulls : ℕ} → Nonterminals nulls → (is : List Item) → allPassed nulls is ≡ true → allPassed everyOne is ≡ true
+unfolding allPassed
+all-every h [] e = e
+all-every h (i ∷ is) e =
+    let p = and-eq-true-iff _ _ .0 e in
+    and-eq-true-iff _ _ .1 (passed-every h i (p .0), all-every h is (p .1))
+
+all-needed : (nulls : ℕ) (is : List Item) → allPassed nulls is ≡ true → Needed nulls is
+unfolding allPassed firstIn
+all-needed nulls [] e b f = absurd (false≢true f)
+all-needed nulls (i ∷ is) e b f =
+    let p = and-eq-true-iff (isPassed nulls i) (allPassed nulls is) .0 e in
+    ⊎-elim (passed-needs nulls b i (p .0)) (λ q. all-needed nulls is (p .1) b (and-eq-true-iff (isPassed everyOne i) _ .0 q .1))
+    (or-split (given true b nothing i) f)
+
+needed-all : (nulls : ℕ) (is : List Item) → allPassed everyOne is ≡ true → Needed nulls is → allPassed nulls is ≡ true
+unfolding allPassed firstIn
+needed-all nulls [] e h = e
+needed-all nulls (i ∷ is) e h =
+    let p = and-eq-true-iff (isPassed everyOne i) (allPassed everyOne is) .0 e in
+    and-eq-true-iff _ _ .1 (
+      needs-passed nulls i (p .0) (λ b q. h b (or-left _ q)),
+      needed-all nulls is (p .1) (λ b q. h b (or-right (given true b nothing i) (and-eq-true-iff _ _ .1 (p .0, q)))),
+    )
+
+-- ------------------------------------------------------------------ a step
+
+module _ (is : List Item) where
+  abbrev needsOf : ℕ
+  needsOf = gather true everyOne [] is 0
+
+  needs-seen : (b : ℕ) → hasKind needsOf b ≡ firstIn true everyOne b nothing is
+  needs-seen b = items-seen true everyOne b [] is ∙ ap (λ s. firstIn true everyOne b s is) (fun-ext (λ n. has-none b))
+
+  -- with only locals and calls, the needs decide
+  test-is : allPassed everyOne is ≡ true → (nulls : ℕ) → eqb (bitOr nulls needsOf) nulls ≡ allPassed nulls is
+  test-is e nulls = by _ _ refl refl
+    where
+      by : (a b : Bool) → eqb (bitOr nulls needsOf) nulls ≡ a → allPassed nulls is ≡ b → eqb (bitOr nulls needsOf) nulls ≡ allPassed nulls is
+      by true b ea eb = ea ∙ sym (needed-all nulls is e (λ n f. joined-in nulls needsOf ea n (needs-seen n ∙ f)))
+      by false true ea eb = joins-none nulls needsOf (λ n f. all-needed nulls is eb n (sym (needs-seen n) ∙ f)) ∙ sym eb
+      by false false ea eb = ea ∙ sym eb
+
+-- the test of the definition, with the code's
+by-cases : (owner nulls : ℕ) (b : Bool) → joinedIf b nulls (only owner) ≡ (elim b [ true ↦ bitOr nulls (only owner) | false ↦ nulls ])
+by-cases owner nulls true = refl
+by-cases owner nulls false = refl
+
+module _ (bs : List ℕ) (owner start : ℕ) {found : Gathered} (ef : found ≡ gathered everyOne [] [] (itemsOf (fieldsAt bs start))) where
+  abbrev items : List Item
+  items = itemsOf (fieldsAt bs start)
+
+  pub held-step : found .nullable ≡ true → (nulls : ℕ) → needStep owner (found .calls) nulls ≡ nullStep (productionAt bs owner start) nulls
+  unfolding nullStep productionAt
+  held-step e nulls =
+      ap (λ (x : Gathered). needStep owner (x .calls) nulls) ef
+      ∙ ap (λ (b : Bool). joinedIf b nulls (only owner)) (test-is items (sym (ap (λ (x : Gathered). x .nullable) ef) ∙ e) nulls)
+      ∙ by-cases owner nulls (allPassed nulls items)
+
+  pub other-step : found .nullable ≡ false → {nulls : ℕ} → Nonterminals nulls → nulls ≡ nullStep (productionAt bs owner start) nulls
+  unfolding nullStep productionAt
+  other-step e {nulls} h =
+      ap (λ (b : Bool). joinedIf b nulls (only owner)) (sym (by (allPassed nulls items) refl)) ∙ by-cases owner nulls (allPassed nulls items)
+    where
+      by : (b : Bool) → allPassed nulls items ≡ b → allPassed nulls items ≡ false
+      by true f =
+          absurd (false≢true (sym e ∙ ap (λ (x : Gathered). x .nullable) ef ∙ all-every h items f))
+      by false f = f
+
+-- ------------------------------------------------------------------ the productions that are held
+
+-- what is written behind the first k changes nothing for these
+round-kept : (i : ℕ) {k : ℕ} → i ≤ k → (owners needs : List ℕ) (o v nulls : ℕ)
+    → needRound i (set owners k o) (set needs k v) nulls ≡ needRound i owners needs nulls
+unfolding needRound
+round-kept zero l owners needs o v nulls = refl
+round-kept (suc i) {k} l owners needs o v nulls =
+    let ne : (i ≡ k → ⊥) = λ e. omega arith in
+    rw (getD-set-other owners k i o 0 ne, getD-set-other needs k i v 0 ne, round-kept i {k = k} (omega arith) owners needs o v nulls) refl
+
+-- one production more
+round-one : (k : ℕ) (owners needs : List ℕ) (o v nulls : ℕ) → k < length owners → k < length needs
+    → needRound (suc k) (set owners k o) (set needs k v) nulls ≡ needStep o v (needRound k owners needs nulls)
+unfolding needRound
+round-one k owners needs o v nulls h l =
+    rw (getD-set-same owners k o 0 h, getD-set-same needs k v 0 l, round-kept k {k = k} (omega arith) owners needs o v nulls) refl
+
+-- the productions before number j are held, k of them, as far as they have only locals and calls
+pub record Holding (bs owners starts : List ℕ) (m : ℕ) (whose₀ needs₀ : List ℕ) (k j : ℕ) (whose needs : List ℕ) : Type 0 where
+  pub few : k ≤ j
+  pub lent : NeedsLent m whose needs
+  pub whose-many : length whose ≡ length whose₀
+  pub needs-many : length needs ≡ length needs₀
+  pub over : (nulls : ℕ) → Nonterminals nulls → Over nullStep bs owners starts m nulls j (needRound k whose needs nulls)
+
+-- room for 256 is enough
+pub needs-lent : {m : ℕ} → m ≤ 256 → NeedsLent m (replicate 256 0) (replicate 256 0)
+needs-lent h = record { owners-many = omega (arith, h, length-replicate {A = ℕ} 256 0); needs-many = omega (arith, h, length-replicate {A = ℕ} 256 0) }
+
+pub holding-start : (bs owners starts : List ℕ) (m : ℕ) {whose needs : List ℕ} → NeedsLent m whose needs
+    → Holding bs owners starts m whose needs 0 0 whose needs
+unfolding needRound
+holding-start bs owners starts m l =
+    record { few = omega arith; lent = l; whose-many = refl; needs-many = refl; over = λ nulls h. over-start nullStep bs owners starts m nulls }
+
+module _ {bs owners starts : List ℕ} {m : ℕ} {whose₀ needs₀ : List ℕ} {k j : ℕ} {whose needs : List ℕ}
+    (c : Holding bs owners starts m whose₀ needs₀ k j whose needs) where
+  pub holding-whose : j < m → k < length whose
+  holding-whose h = omega (arith, c .few, c .lent .owners-many)
+
+  pub holding-needs : j < m → k < length needs
+  holding-needs h = omega (arith, c .few, c .lent .needs-many)
+
+  module _ (h : j < m) {o s : ℕ} (eo : o ≡ getD owners j 0) (es : s ≡ getD starts j 0) {found : Gathered}
+      (ef : found ≡ gathered everyOne [] [] (itemsOf (fieldsAt bs s))) where
+    pub holding-held : found .nullable ≡ true → Holding bs owners starts m whose₀ needs₀ (k + 1) (j + 1) (set whose k o) (set needs k (found .calls))
+    holding-held e =
+        let z : k + 1 ≡ suc k = omega arith in
+        record {
+          few = omega (arith, c .few);
+          lent =
+              record {
+                owners-many = omega (arith, c .lent .owners-many, length-set whose k o);
+                needs-many = omega (arith, c .lent .needs-many, length-set needs k (found .calls));
+              };
+          whose-many = length-set whose k o ∙ c .whose-many;
+          needs-many = length-set needs k (found .calls) ∙ c .needs-many;
+          over =
+              λ nulls n.
+              over-next (c .over nulls n) h eo es
+              (rw z (round-one k whose needs o (found .calls) nulls (holding-whose h) (holding-needs h))
+              ∙ held-step bs o s ef e (needRound k whose needs nulls));
+        }
+
+    pub holding-other : found .nullable ≡ false → Holding bs owners starts m whose₀ needs₀ k (j + 1) whose needs
+    holding-other e =
+        record {
+          few = omega (arith, c .few);
+          lent = c .lent;
+          whose-many = c .whose-many;
+          needs-many = c .needs-many;
+          over = λ nulls n. over-next (c .over nulls n) h eo es (other-step bs o s ef e (round-high k whose needs n));
+        }
+
+  pub holding-end : m ≤ j → NeedsHeld (productionsBy m bs owners starts) k whose needs
+  holding-end h = record { same = λ nulls n. over-end (c .over nulls n) h }
+
+-- ------------------------------------------------------------------ the rounds
+
+-- the productions before number j of the k that are held are done
+pub record NeedRounds (owners needs : List ℕ) (nulls k j set : ℕ) : Type 0 where
+  pub within : j ≤ k
+  pub done : set ≡ needRound j owners needs nulls
+
+pub need-start : (owners needs : List ℕ) (nulls k : ℕ) → NeedRounds owners needs nulls k 0 nulls
+unfolding needRound
+need-start owners needs nulls k = record { within = omega arith; done = refl }
+
+module _ {owners needs : List ℕ} {nulls k j set : ℕ} (c : NeedRounds owners needs nulls k j set) where
+  pub need-next : j < k → {o v r : ℕ} → o ≡ getD owners j 0 → v ≡ getD needs j 0 → r ≡ needStep o v set → NeedRounds owners needs nulls k (j + 1) r
+  unfolding needRound
+  need-next h eo ev er =
+      let z : j + 1 ≡ suc j = omega arith in
+      record { within = omega arith; done = rw z (er ∙ rw (c .done, eo, ev) refl) }
+
+  pub need-end : k ≤ j → set ≡ needRound k owners needs nulls
+  need-end h = let z : j ≡ k = omega (arith, c .within) in rw z at (c .done)
+
+pub need-taken : (owner needs nulls : ℕ) {both : ℕ} → both ≡ bitOr nulls needs → both ≡ nulls → {o : ℕ} → o ≡ only owner → {r : ℕ} → r ≡ bitOr nulls o
+    → r ≡ needStep owner needs nulls
+need-taken owner needs nulls e f eo er =
+    er ∙ ap (bitOr nulls) eo ∙ ap (λ (b : Bool). joinedIf b nulls (only owner)) (sym (eq-eqb (bitOr nulls needs) nulls (sym e ∙ f)))
+
+pub need-left : (owner needs nulls : ℕ) {both : ℕ} → both ≡ bitOr nulls needs → (both ≡ nulls → ⊥) → nulls ≡ needStep owner needs nulls
+need-left owner needs nulls e f = ap (λ (b : Bool). joinedIf b nulls (only owner)) (sym (ne-eqb (bitOr nulls needs) nulls (λ g. f (e ∙ g))))
+
+-- after t rounds
+pub record NullRounds (g : List Production) (t nulls : ℕ) : Type 0 where
+  pub rounds : Rounds (overAll nullStep g) 0 t nulls
+  pub high : Nonterminals nulls
+
+pub null-start : (g : List Production) → NullRounds g 0 0
+null-start g = record { rounds = record { small = omega arith; rest = refl }; high = none-high }
+
+module _ {g : List Production} {k : ℕ} {owners needs : List ℕ} (held : NeedsHeld g k owners needs) {t nulls : ℕ} (c : NullRounds g t nulls) where
+  pub null-next : t < 64 → {more : ℕ} → more ≡ needRound k owners needs nulls → NullRounds g (t + 1) more
+  null-next l e =
+      record {
+        rounds = rounds-next (c .rounds) l (e ∙ held .same nulls (c .high));
+        high = rw e (round-high k owners needs (c .high));
+      }
+
+  pub null-stop : {more : ℕ} → more ≡ needRound k owners needs nulls → more ≡ nulls → nulls ≡ nullables g
+  unfolding nullables
+  null-stop e f = rounds-stop (c .rounds) (sym (e ∙ held .same nulls (c .high)) ∙ f)
+
+pub null-end : {g : List Production} {t nulls : ℕ} → NullRounds g t nulls → 64 ≤ t → nulls ≡ nullables g
+unfolding nullables
+null-end c l = rounds-end (c .rounds) l
