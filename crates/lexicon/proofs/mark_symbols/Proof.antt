@@ -1,5 +1,4 @@
 -- `mark_symbols`: the symbols are marked by the keywords passed, the last first.
-use native.Mathlib.Omega.{arith}
 use Rattle.lexicon.proofs.LexiconLaws as laws
 use borrow.Author.Needs.{needs}
 use Rattle.lexicon.proofs.mark_symbols.Statement.{statement}
@@ -58,10 +57,11 @@ loop-less c = search needs
 loop-again : tie.Need-loop-again Inv-loop μ-loop
 loop-again c =
     let marked = c .before .before in
-    let size = marked .before .before .before in
+    let part-place = marked .before in
+    let size = part-place .before .before in
     let at = size .before .before in
     let test = at .before .before in
-    laws.marking-next (test .before .loop .inv) (test .loop-test .taken) (at .wide .ensures) (size .wide2 .ensures) (marked .before .part .ensures)
+    laws.marking-next (test .before .loop .inv) (test .loop-test .taken) (at .wide .ensures) (size .wide2 .ensures) (part-place .part .ensures)
     (marked .mark .ensures)
 
 same-length : tie.Need-same-length Inv-loop μ-loop

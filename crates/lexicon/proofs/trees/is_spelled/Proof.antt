@@ -39,9 +39,10 @@ equal-requires c κs = search needs
 
 returns : tie.Need-returns
 returns c =
-    let places = c .before .before .before .before in
+    let wide2-place = c .before .before in
+    let places = wide2-place .before .before in
     let args = places .before .before .before .before .before .args in
-    laws.word-read _ (args .places .now) _ (args .i) (places .wide .ensures) (c .before .before .wide2 .ensures) (c .before .part .ensures) (c .equal .ensures)
+    laws.word-read _ (args .places .now) _ (args .i) (places .wide .ensures) (wide2-place .wide2 .ensures) (c .before .part .ensures) (c .equal .ensures)
 
 pub is-spelled-spec : {M : Type 1} → statement M
 is-spelled-spec =
