@@ -9,12 +9,8 @@ use native.Mathlib.Omega.{arith}
 use lib.ListN.{length, getD, set, take, drop, length-set}
 use lib.Seq.{sets, getD-set-same, getD-set-other}
 use Rattle.spellings.specs.Bytes.{same, indexOf}
-use Rattle.spellings.proofs.BytesLaws.{same-refl, index-le}
+use Rattle.spellings.proofs.BytesLaws.{index-le}
 use Rattle.lexicon.specs.Places.{wordAt, wordsFrom, wordsIn}
-
-pub index-self : (s : List ℕ) → indexOf s (s ∷ []) ≡ 0
-unfolding indexOf
-index-self s = rw (same-refl s, indexOf) refl
 
 pub place-stored : (room : List ℕ) (i a b : ℕ) → set (set room i a) (i + 1) b ≡ sets room i (a ∷ b ∷ [])
 place-stored room i a b = rw add-one refl

@@ -11,7 +11,7 @@ use lib.ListN.{length, getD, set, drop, replicate, drop-of-length-le, length-set
 use lib.Seq.{getD-set-same, getD-set-other, getD-at}
 use borrow.Author.Tests.{eqb-true, eqb-false, ltb-true, ltb-false}
 use Rattle.spellings.specs.Bytes.{same, indexOf, run, isWordByte}
-use Rattle.spellings.proofs.BytesLaws.{by-test, same-true, same-false, index-le, index-found, index-front, index-rest, run-taken, run-left}
+use Rattle.spellings.proofs.BytesLaws.{by-test, same-true, same-false, index-le, index-self, index-found, index-front, index-rest, run-taken, run-left}
 use Rattle.spellings.proofs.Loops.{drop-at-index}
 use Rattle.lexicon.specs.Trees.{mixed, hashFrom, seed, hashOf, Hashed}
 use Rattle.lexicon.specs.Trees.{rootOf, turnsOf, branchOf, Leads, there, further, Linked, Tree, Planted, Extends, FreeFor, FoundAt}
@@ -19,7 +19,7 @@ use Rattle.lexicon.specs.Trees.{Searched, Linkable, linksWith}
 use Rattle.lexicon.specs.declared.trees.Spot.{Spot}
 use Rattle.lexicon.specs.declared.trees.Spot.the-variants.{Node, Free}
 use Rattle.lexicon.specs.Places.{wordAt, wordsIn}
-use Rattle.lexicon.proofs.PlaceLaws.{index-self, words-length, word-same}
+use Rattle.lexicon.proofs.PlaceLaws.{words-length, word-same}
 
 -- ------------------------------------------------------------------ hashes
 

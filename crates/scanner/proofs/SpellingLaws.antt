@@ -9,7 +9,7 @@ use lib.Dec.{ltb}
 use lib.ListN.{length, getD, take, drop, length-append}
 use borrow.Author.Tests.{ltb-true, ltb-false, le-leb, le-ltb, lt-ltb, ne-eqb, eq-eqb}
 use Rattle.spellings.specs.Bytes.{isLetter, isWordByte, run, isWord, indexOf}
-use Rattle.spellings.proofs.BytesLaws.{by-test, run-taken, every-run, letter-word-byte, index-le, index-found, index-front, index-rest}
+use Rattle.spellings.proofs.BytesLaws.{by-test, run-taken, every-run, letter-word-byte, index-le, index-found, index-front, index-rest, index-self}
 use Rattle.grammar.specs.declared.Found.{Found}
 use Rattle.grammar.specs.declared.Found.the-variants.{At, Absent}
 use Rattle.grammar.specs.Fields.{Lexicon}
@@ -22,7 +22,6 @@ use Rattle.scanner.specs.Tiling.{WordFront, bytesOf, spelled}
 use Rattle.scanner.specs.Tiling.{Stands, a-keyword, a-keyword-symbol, an-outside-name, a-word-again, a-new-word, a-number, a-symbol}
 use Rattle.scanner.proofs.LexemeLaws.{spelling-found}
 use Rattle.scanner.proofs.WordLaws.{with-new, with-old}
-use Rattle.lexicon.proofs.PlaceLaws.{index-self}
 use Rattle.scanner.proofs.StandLaws.{word-taken, Emits}
 use Rattle.scanner.proofs.TokenLaws.{Kept, scan-kept}
 

@@ -161,6 +161,11 @@ index-miss : (w v : List ℕ) (vs : List (List ℕ)) → same v w ≡ false → 
 unfolding indexOf
 index-miss w v vs e = rw (e, indexOf) refl
 
+-- a spelling stands at once in the list of it alone
+pub index-self : (s : List ℕ) → indexOf s (s ∷ []) ≡ 0
+unfolding indexOf
+index-self s = rw (same-refl s, indexOf) refl
+
 module _ (w : List ℕ) where
   pub index-le : (vs : List (List ℕ)) → indexOf w vs ≤ length vs
   unfolding indexOf

@@ -9,7 +9,7 @@ use Rattle.scanner.proofs.name_of.Tie as tie
 abbrev after-find : tie.After-spot → tie.After-find
 after-find p = p .before .before
 
-abbrev at-start : tie.After-wide → tie.Start
+abbrev at-start : tie.After-wide-number → tie.Start
 at-start p =
     let q = p .before .before .before in
     q .before .before .before .before
@@ -17,16 +17,16 @@ at-start p =
 shared-slice-read-keywords : tie.Need-shared-slice-read-keywords
 shared-slice-read-keywords c = search needs
 
-shared-slice-read-wide : tie.Need-shared-slice-read-wide
-shared-slice-read-wide c = search needs
+shared-slice-read-wide-number : tie.Need-shared-slice-read-wide-number
+shared-slice-read-wide-number c = search needs
 
-wide-requires : tie.Need-wide-requires
-wide-requires c κs = search needs
+wide-number-requires : tie.Need-wide-number-requires
+wide-number-requires c κs = search needs
 
 find-requires : tie.Need-find-requires
 find-requires c κs =
     let start = at-start c in
-    (rw (c .wide .ensures) (laws.lexical-planted (start .pre .0)), start .pre .1)
+    (rw (c .wide-number .ensures) (laws.lexical-planted (start .pre .0)), start .pre .1)
 
 enum-known-spot : tie.Need-enum-known-spot
 enum-known-spot c = search needs
@@ -37,7 +37,7 @@ cast-k c =
     let read = found .before in
     let start = at-start read in
     let found-there = found .find .ensures in
-    omega (arith, laws.node-fits (start .pre .0) (start .args .s .now) (read .wide .ensures) (found .find .result) found-there (c .before .spot .given .1))
+    omega (arith, laws.node-fits (start .pre .0) (start .args .s .now) (read .wide-number .ensures) (found .find .result) found-there (c .before .spot .given .1))
 
 returns : tie.Need-returns
 returns c =
@@ -45,7 +45,7 @@ returns c =
     let found = after-find spot-place in
     let read = found .before in
     let start = at-start read in
-    laws.node-keyword (start .pre .0) (start .args .s .now) (read .wide .ensures) (found .find .result) (found .find .ensures) (spot-place .spot .given .1)
+    laws.node-keyword (start .pre .0) (start .args .s .now) (read .wide-number .ensures) (found .find .result) (found .find .ensures) (spot-place .spot .given .1)
     (c .if1 .taken)
 
 enum-told : tie.Need-enum-told
@@ -57,7 +57,7 @@ returns-2 c =
     let found = after-find spot-place in
     let read = found .before in
     let start = at-start read in
-    laws.node-outside (start .pre .0) (start .args .s .now) (read .wide .ensures) (found .find .result) (found .find .ensures) (spot-place .spot .given .1)
+    laws.node-outside (start .pre .0) (start .args .s .now) (read .wide-number .ensures) (found .find .result) (found .find .ensures) (spot-place .spot .given .1)
     (c .if1 .left)
 
 returns-3 : tie.Need-returns-3
@@ -65,15 +65,15 @@ returns-3 c =
     let found = c .before .before in
     let read = found .before in
     let start = at-start read in
-    laws.node-none (start .pre .0) (start .args .s .now) (read .wide .ensures) (found .find .result) (found .find .ensures) (c .enum-told .given .1)
+    laws.node-none (start .pre .0) (start .args .s .now) (read .wide-number .ensures) (found .find .result) (found .find .ensures) (c .enum-told .given .1)
 
 pub name-of-spec : {M : Type 1} → statement M
 name-of-spec =
     tie.close
     (tie.spec
     shared-slice-read-keywords
-    shared-slice-read-wide
-    wide-requires
+    shared-slice-read-wide-number
+    wide-number-requires
     find-requires
     enum-known-spot
     cast-k

@@ -100,9 +100,10 @@ returns c =
     let turn′ = at-loop stepped in
     let inv = turn′ .loop .inv in
     let turn = turn′ .loop in
+    let more = test .loop-test .taken in
     cc (
       c .bad-lexeme .ensures,
-      loop.turn-stop (inv .turn) (test .loop-test .taken) (laws.stop-eq inv (test .loop-test .taken) (stepped .step-at .ensures) (c .before .enum-told2 .given .1)),
+      loop.turn-stop (inv .turn) more (laws.stop-eq inv more (stepped .step-at .ensures) (c .before .enum-told2 .given .1)),
     )
 
 enum-known-step : tie.Need-enum-known-step Inv-loop μ-loop

@@ -24,23 +24,23 @@ at-loop p = p .before .before .before
 abbrev in-loop : tie.Else1 Inv-loop μ-loop → tie.In-loop Inv-loop μ-loop
 in-loop p = p .before .before
 
-mul-wide : tie.Need-mul-wide Inv-loop μ-loop
-mul-wide c =
+mul-wide-number : tie.Need-mul-wide-number Inv-loop μ-loop
+mul-wide-number c =
     let start = at-start c in
     omega (arith, laws.root-inside (start .pre .0) (start .args .s .now) (start .args .hash))
 
-shared-slice-read-wide : tie.Need-shared-slice-read-wide Inv-loop μ-loop
-shared-slice-read-wide c =
+shared-slice-read-wide-number : tie.Need-shared-slice-read-wide-number Inv-loop μ-loop
+shared-slice-read-wide-number c =
     let start = at-start (c .before) in
     laws.root-inside (start .pre .0) (start .args .s .now) (start .args .hash)
 
-wide-requires : tie.Need-wide-requires Inv-loop μ-loop
-wide-requires c κs = search needs
+wide-number-requires : tie.Need-wide-number-requires Inv-loop μ-loop
+wide-number-requires c κs = search needs
 
 loop-holds : tie.Need-loop-holds Inv-loop μ-loop
 loop-holds c =
     let start = at-start (c .before .before) in
-    laws.chasing-start (start .pre .0) _ (start .pre .1) refl refl (c .wide .ensures)
+    laws.chasing-start (start .pre .0) _ (start .pre .1) refl refl (c .wide-number .ensures)
 
 sub-i : tie.Need-sub-i Inv-loop μ-loop
 sub-i c = search needs
@@ -74,18 +74,18 @@ add-slot-3 c =
     let turn-test = in-loop c in
     omega (arith, laws.branch-inside ((at-loop c) .loop .inv) (turn-test .loop-test .taken))
 
-mul-wide-2 : tie.Need-mul-wide-2 Inv-loop μ-loop
-mul-wide-2 c =
+mul-wide-number-2 : tie.Need-mul-wide-number-2 Inv-loop μ-loop
+mul-wide-number-2 c =
     let turn-test = in-loop c in
     omega (arith, laws.branch-inside ((at-loop c) .loop .inv) (turn-test .loop-test .taken))
 
-shared-slice-read-wide-2 : tie.Need-shared-slice-read-wide-2 Inv-loop μ-loop
-shared-slice-read-wide-2 c =
+shared-slice-read-wide-number-2 : tie.Need-shared-slice-read-wide-number-2 Inv-loop μ-loop
+shared-slice-read-wide-number-2 c =
     let turn-test = in-loop (c .before) in
     omega (arith, laws.branch-inside (turn-test .before .loop .inv) (turn-test .loop-test .taken))
 
-wide-requires-2 : tie.Need-wide-requires-2 Inv-loop μ-loop
-wide-requires-2 c κs = search needs
+wide-number-requires-2 : tie.Need-wide-number-requires-2 Inv-loop μ-loop
+wide-number-requires-2 c κs = search needs
 
 loop-less : tie.Need-loop-less Inv-loop μ-loop
 loop-less c =
@@ -101,7 +101,7 @@ loop-again c =
     let turn-test = in-loop else1 in
     let inv = (at-loop else1) .loop .inv in
     laws.chasing-next inv (turn-test .loop-test .taken) (is-spelled-place .is-spelled .ensures)
-    (else1 .if1 .left) refl refl (c .wide2 .ensures)
+    (else1 .if1 .left) refl refl (c .wide-number2 .ensures)
 
 returns-2 : tie.Need-returns-2 Inv-loop μ-loop
 returns-2 c = laws.chasing-end (c .before .loop .inv) (c .loop-test .left)
@@ -112,9 +112,9 @@ find-spec =
     (tie.spec
     Inv-loop
     μ-loop
-    mul-wide
-    shared-slice-read-wide
-    wide-requires
+    mul-wide-number
+    shared-slice-read-wide-number
+    wide-number-requires
     loop-holds
     sub-i
     is-spelled-requires
@@ -123,9 +123,9 @@ find-spec =
     mul-slot
     add-slot-2
     add-slot-3
-    mul-wide-2
-    shared-slice-read-wide-2
-    wide-requires-2
+    mul-wide-number-2
+    shared-slice-read-wide-number-2
+    wide-number-requires-2
     loop-less
     loop-again
     returns-2)
