@@ -143,7 +143,7 @@ unfolding templatesThen templateThen
 forms-applied c l h bs ts f short k = tt
 forms-applied c l h bs ts f (taken us vs) k =
     let parts = join-parts us vs (subst TemplatesWithin (k .1) (f .1)) in (
-      ap (λ v. c ∷ v) (f .0 ∙ ap (λ w. templatesThen w []) (k .1) ∙ join-then us vs []),
+      cc (f .0, k .1, join-then us vs []),
       more-within (make-within l h (k .0) (parts .0)) (parts .1),
     )
 
