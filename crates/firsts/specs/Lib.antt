@@ -6,3 +6,5 @@ pub mod Pairs
 pub mod Room
 pub mod SetCalls
 pub mod Needs
+pub mod FirstSets
+pub mod Clashes

@@ -34,9 +34,9 @@ use Rattle.expansion.proofs.Choosing.{kindOf, kind-next, Picks, picks, picks-no
 use Rattle.soundness.proofs.Sound.{Kept, kept-made, kept-less, call-full, call-unfit, call-chosen}
 use Rattle.soundness.proofs.Complete.{Beyond, items-along, Reached, root-along}
 use Rattle.soundness.proofs.Complete as Complete
-use Rattle.soundness.specs.Stopping.{indexOf, firstSet, takes, makes, begins, Fails, no-token, no-row, too-deep, too-many, no-choice, Stops, at-token}
+use Rattle.soundness.specs.Stopping.{indexOf, takes, makes, begins, Fails, no-token, no-row, too-deep, too-many, no-choice, Stops, at-token}
 use Rattle.soundness.specs.Stopping.{at-arguments, at-call, past-item, Enters, at-start, in-items, at-result, Refuses, stops, left-over}
-use Rattle.soundness.proofs.StopLaws.{build-stays, build-all-stays, index-is, take-halts, item-bounded, items-bounded, call-bounded}
+use Rattle.soundness.proofs.StopLaws.{first-set-one, build-stays, build-all-stays, index-is, take-halts, item-bounded, items-bounded, call-bounded}
 
 -- halted with this refusal
 abbrev pub HaltsWith : {A : Type 0} → Refusal → Result A → Type 0
@@ -148,22 +148,23 @@ module _ {g : List Production} (X : Setting g) where
         cells,
         cc (call-full d J n ys s cells (le-ltb (s .calls) mostCalls (omega (arith, p .calls))), index s p),
       )
-  start-fails {o} {c} {m} {n} {i} {t} {vs} (no-choice l q f) = record { calls = go }
+  start-fails {o} {c} {m} {n} {i} {t} {vs} (no-choice {set = set} l q f w) = record { calls = go }
     where
       go : (d k : ℕ) (ys : List ℕ) (s : State) (cells : List ℕ) → d + o ≡ mostOpen → n < 64 → At c m t i s → Kept rows k s cells
           → ShowAll spell (s .made) cells ys vs
-          → HaltsWith (refusal 17 (indexOf tokens t) (firstSet g n) (ones (firstSet g n))) (runCall d J n ys s cells)
+          → HaltsWith (refusal 17 (indexOf tokens t) set (ones set)) (runCall d J n ys s cells)
       go zero k ys s cells e b p h a = absurd (omega arith)
       go (suc d) k ys s cells e b p h a = by (choice-picks g n b (rest s))
         where
           by : Picks g n (rest s) (choice (ready g) n (kindOf (rest s)))
-              → HaltsWith (refusal 17 (indexOf tokens t) (firstSet g n) (ones (firstSet g n))) (runCall (suc d) J n ys s cells)
-          by (picks w z u) = absurd (f w (rw (← (p .place)) z))
+              → HaltsWith (refusal 17 (indexOf tokens t) set (ones set)) (runCall (suc d) J n ys s cells)
+          by (picks x z u) = absurd (f x (rw (← (p .place)) z))
           by (picks-none z u) = (
             cells,
             cc (
               call-unfit d J n ys s cells (lt-ltb (s .calls) mostCalls (omega (arith, p .calls))) (ap (choice (ready g) n) (kind-next (s .at) tokens) ∙ u),
               index s p,
+              first-set-one w,
             ),
           )
 

@@ -1,15 +1,17 @@
 -- Steps of an expansion: templates halt with 21 at the token where they stand, and a place never runs past the tokens.
-use Prim.Native.Nat.{ℕ, zero, suc, _≤_, _<_}
+use Prim.Native.Nat.{ℕ, zero, suc, _+_, _^_, _≤_, _<_}
 use mathlib.Core.Path.{_≡_, refl, sym, ap, subst, subst⁻¹, _∙_}
 use mathlib.Core.Bool.{Bool, true, false}
 use mathlib.Core.List.{List, [], _∷_, _++_}
 use native.Mathlib.Omega.{arith}
 use lib.Dec.{eqb, ltb}
-use lib.ListN.{length, drop, length-drop}
+use native.Mathlib.Nat.{pow-suc}
+use lib.ListN.{length, getD, drop, length-drop}
 use lib.Count.{ones}
 use borrow.Author.Tests.{eqb-true, ne-eqb}
 use Rattle.answers.specs.Refusals.{refusal}
-use Rattle.kinds.specs.Kinds.{wordKind, numberKind, keywordKind, only}
+use Rattle.kinds.specs.Kinds.{wordKind, numberKind, keywordKind, hasKind, only}
+use Rattle.kinds.proofs.KindsLaws.{same-kinds}
 use Rattle.grammar.specs.Table.{Template, Templates, none, more, Item}
 use Rattle.grammar.specs.Table as Table
 use Rattle.terms.specs.Cells.{withRow}
@@ -18,6 +20,8 @@ use Rattle.sorts.specs.Judgements.{ItemSorted, Body, by-binding}
 use Rattle.sorts.specs.Judgements as Judgements
 use Rattle.scanner.specs.declared.Token.{Token}
 use Rattle.productions.specs.Normal.{Production}
+use Rattle.firsts.specs.FirstSets.{nullables, firstSets}
+use Rattle.firsts.proofs.FirstsTheorems.{opens-exactly}
 use Rattle.firsts.specs.Rules.{Reads, reads-keyword, reads-word, reads-number}
 use Rattle.expansion.specs.declared.State.{State}
 use Rattle.expansion.specs.Run.{Result, done, halt, Run, after}
@@ -31,7 +35,26 @@ use Rattle.soundness.proofs.Building.{Ends}
 use Rattle.soundness.proofs.Typing.{FitAll, taken-of}
 use Rattle.expansion.proofs.Choosing.{kindOf, kind-next, Picks, picks, picks-none, choice-picks, rule}
 use Rattle.soundness.proofs.Sound.{token-before, call-full, call-unfit, call-chosen}
-use Rattle.soundness.specs.Stopping.{indexOf}
+use Rattle.soundness.specs.Stopping.{indexOf, FirstSet}
+
+-- ------------------------------------------------------------------ first sets
+
+below-power : (n : ℕ) → n < 2 ^ n
+below-power zero = omega arith
+below-power (suc n) = rw (pow-suc 2 n) (omega (arith, below-power n))
+
+same-set : (a b : ℕ) → ((k : ℕ) → hasKind a k ≡ hasKind b k) → a ≡ b
+same-set a b h = same-kinds (a + b) a b (omega (arith, below-power (a + b))) (omega (arith, below-power (a + b))) (λ k l. h k)
+
+both-true : (x y : Bool) → (x ≡ true → y ≡ true) → (y ≡ true → x ≡ true) → x ≡ y
+both-true true y f g = sym (f refl)
+both-true false true f g = g refl
+both-true false false f g = refl
+
+-- a nonterminal has one first set, the one that the rounds find
+pub first-set-one : {g : List Production} {n set : ℕ} → FirstSet g n set → set ≡ getD (firstSets (nullables g) g) n 0
+first-set-one {g} {n} {set} w =
+    same-set set _ (λ k. both-true _ _ (λ e. opens-exactly g n k .1 (w k .0 e)) (λ e. w k .1 (opens-exactly g n k .0 e)))
 
 -- ------------------------------------------------------------------ templates
 

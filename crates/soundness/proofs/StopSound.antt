@@ -19,6 +19,7 @@ use Rattle.sorts.specs.Judgements as Judgements
 use Rattle.scanner.specs.declared.Token.{Token}
 use Rattle.productions.specs.Normal.{Production}
 use Rattle.firsts.specs.Rules.{Reads, reads-keyword, reads-word, reads-number}
+use Rattle.firsts.proofs.FirstsTheorems.{opens-exactly}
 use Rattle.expansion.specs.declared.State.{State}
 use Rattle.expansion.specs.Run.{Result, done, halt, after}
 use Rattle.expansion.specs.Expansion.{Input, ready, choice, nextToken, tokenTaken, takeToken, misfit, buildAll, build, wordValue, runItem, runItems, callBegun}
@@ -238,7 +239,7 @@ module _ {g : List Production} (X : Setting g) where
             (production-halts p t (ltb-true (s .calls) mostCalls e))
         go true e (picks-none f c) =
             subst⁻¹ Goal (call-unfit d J n xs s cells e (ap (choice (ready g) n) (kind-next (s .at) tokens) ∙ c))
-            (at-start (fails-here s b (no-choice deeper (ltb-true (s .calls) mostCalls e) f)))
+            (at-start (fails-here s b (no-choice deeper (ltb-true (s .calls) mostCalls e) f (opens-exactly g n))))
 
   pub call-halts : (d : ℕ) → Halting d
   unfolding runCall
