@@ -12,7 +12,8 @@ use lib.Count.{ones, ones-cat, trailingZeros, trailing-of-zero}
 use lib.Dec.{eqb, ltb, eqb·zero-suc, eqb·suc-zero, eqb·suc-suc, lit<}
 use lib.Pow.{pow-pos, pow-lt, pow-mono, mod-pow-add}
 use borrow.Author.Tests.{lt-ltb, le-ltb, eq-eqb, ne-eqb}
-use Rattle.kinds.specs.Kinds.{hasKind, only, countBelow}
+use Rattle.kinds.specs.Kinds.{hasKind, only}
+use Rattle.kinds.specs.Counts.{countBelow}
 
 -- a number's lowest binary digit
 digit : (n : ℕ) → (n % 2 ≡ 0) ⊎ (n % 2 ≡ 1)

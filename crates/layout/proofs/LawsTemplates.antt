@@ -11,7 +11,8 @@ use borrow.Author.Tests.{le-leb, lt-leb, eq-eqb, ne-eqb, le-ltb, ltb-true, ltb-f
 use Rattle.spellings.proofs.BytesLaws.{by-test}
 use Rattle.spellings.proofs.Loops.{drop-at-index}
 use Rattle.grammar.proofs.ReaderLaws.{arity-few}
-use Rattle.grammar.specs.Sorts.{isConstructor, arity}
+use Rattle.grammar.specs.Sorts.{arity}
+use Rattle.grammar.specs.SortTests.{isConstructor}
 use Rattle.grammar.specs.Table.{Template, Templates, variable, none, more}
 use Rattle.layout.specs.Prefix.{Parsed, fault, parsed, inFront, Taken, short, taken, alsoTaken, takeTemplates, applied, constructed, isNameTag}
 use Rattle.layout.specs.Prefix.{nameBy, templatesOf}

@@ -4,7 +4,7 @@ use mathlib.Core.Path.{_≡_, _∙_}
 use mathlib.Core.Bool.{Bool, true, false}
 use mathlib.Core.List.{List, [], _∷_}
 use lib.Dec.{eqb, ltb}
-use Rattle.grammar.specs.Sorts.{isConstructor}
+use Rattle.grammar.specs.SortTests.{isConstructor}
 use Rattle.grammar.specs.Table.{variable, none}
 use Rattle.layout.specs.Prefix.{Parsed, fault, parsed, inFront, constructed, byteInFront, isNameTag, nameBy, templatesOf}
 

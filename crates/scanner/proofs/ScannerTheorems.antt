@@ -18,8 +18,8 @@ use Rattle.grammar.specs.Table.{Lexicon}
 use Rattle.scanner.specs.declared.Token.{Token}
 use Rattle.scanner.specs.declared.Scanned.the-variants.{Tokens, Unscanned}
 use Rattle.scanner.specs.Scan.{spellingOf, scan}
-use Rattle.scanner.specs.Tokens.{endToken, mostTokens, longestFormula, bytesOf, tokenAt, spelled}
-use Rattle.scanner.specs.Tiling.{Tiled}
+use Rattle.scanner.specs.Tokens.{endToken, mostTokens, longestFormula, spelled}
+use Rattle.scanner.specs.Tiling.{bytesOf, tokenAt, Tiled}
 use Rattle.scanner.specs.Unscanned.{Unscans}
 use Rattle.scanner.proofs.ScanLoop.{scan-long}
 use Rattle.scanner.proofs.TilingLaws.{scan-tiled, scan-counted}

@@ -18,8 +18,8 @@ use Rattle.grammar.proofs.LookupLaws.{found-within, found-spells}
 use Rattle.kinds.specs.Kinds.{wordKind}
 use Rattle.scanner.specs.declared.Token.{Token}
 use Rattle.scanner.specs.Scan.{Lexed, isNew, wordsWith, spellingOf, scan}
-use Rattle.scanner.specs.Tiling.{WordFront, Stands, a-keyword, a-keyword-symbol, an-outside-name, a-word-again, a-new-word, a-number, a-symbol}
-use Rattle.scanner.specs.Tokens.{bytesOf, spelled}
+use Rattle.scanner.specs.Tiling.{WordFront, Stands, a-keyword, a-keyword-symbol, an-outside-name, a-word-again, a-new-word, a-number, a-symbol, bytesOf}
+use Rattle.scanner.specs.Tokens.{spelled}
 use Rattle.scanner.proofs.LexemeLaws.{spelling-found}
 use Rattle.scanner.proofs.WordLaws.{with-new, with-old}
 use Rattle.scanner.proofs.StandLaws.{word-taken, Emits}

@@ -8,7 +8,8 @@ use lib.Dec.{ltb}
 use lib.ListN.{length, getD, drop, drop-of-length-le}
 use lib.Seq.{drop-cons}
 use Rattle.spellings.proofs.BytesLaws.{by-test}
-use Rattle.grammar.specs.Sorts.{isConstructor, arity}
+use Rattle.grammar.specs.Sorts.{arity}
+use Rattle.grammar.specs.SortTests.{isConstructor}
 use Rattle.grammar.specs.Table.{Template, Templates, variable, none, more}
 use Rattle.layout.specs.Prefix.{Parsed, fault, parsed, inFront, Taken, short, taken, takeTemplates, applied, constructed, byteInFront, isNameTag, templatesOf}
 use Rattle.layout.specs.Prefix.{isTemplates, found}

@@ -11,7 +11,8 @@ use lib.ListN.{length, getD, drop, drop-of-length-le}
 use lib.Seq.{drop-cons}
 use borrow.Author.Tests.{lt-ltb, le-ltb, lt-leb, ne-eqb}
 use Rattle.spellings.proofs.BytesLaws.{by-test}
-use Rattle.grammar.specs.Sorts.{isConstructor, arity}
+use Rattle.grammar.specs.Sorts.{arity}
+use Rattle.grammar.specs.SortTests.{isConstructor}
 use Rattle.grammar.specs.Table.{Template, Templates, variable, make, more}
 use Rattle.layout.specs.Prefix.{Parsed, fault, parsed, inFront, Taken, short, taken, takeTemplates, applied, constructed, byteInFront, isNameTag, nameBy}
 use Rattle.layout.specs.Prefix.{templatesOf}
