@@ -1,13 +1,12 @@
 -- Laws of the check of first sets: what the room holds, and the verdicts of 12 and 13.
-use Prim.Native.Nat.{ℕ, zero, suc, _+_, _<_, _≤_}
+use Prim.Native.Nat.{ℕ, zero, suc, _<_, _≤_}
 use mathlib.Core.Path.{_≡_, refl, sym, ap, _∙_}
 use mathlib.Core.Bool.{Bool, true, false}
-use mathlib.Core.List.{List, [], _∷_, _++_, map}
-use native.Mathlib.Decide.{decLt}
+use mathlib.Core.List.{List, map}
 use native.Mathlib.Omega.{arith}
 use lib.Count.{trailingZeros}
 use lib.Dec.{ltb}
-use lib.ListN.{length, getD, drop, List·getD-eq-default}
+use lib.ListN.{length, getD}
 use borrow.Author.Tests.{lt-ltb, le-ltb}
 use Rattle.answers.specs.Refusals.{refusal}
 use Rattle.answers.specs.Checked.{Checked, ok, bad, _>>_, verdict}
@@ -16,12 +15,12 @@ use Rattle.answers.specs.declared.Verdict.the-variants.{Passed, Refused}
 use Rattle.layout.specs.Within.{Each, each-none, each-more}
 use Rattle.productions.specs.Normal.{Production}
 use Rattle.productions.specs.Index.{Place, placesIn, productionsAt, Whole}
-use Rattle.productions.specs.Room.{Entry, noEntry, roomOf, overwritten, HoldsEntries}
+use Rattle.productions.specs.Room.{Entry, noEntry, overwritten, HoldsEntries}
 use Rattle.firsts.specs.First.{leftRecursive, noLeftRecursion, noClash, checkFirsts}
-use Rattle.firsts.specs.FirstSets.{nullables, firstSets, leftCalls, setsOf}
+use Rattle.firsts.specs.FirstSets.{nullables, firstSets, leftCalls}
 use Rattle.firsts.specs.Pairs.{clashingIn, allSharedIn, noClashIn}
 use Rattle.firsts.specs.SetCalls.{BothSets}
-use Rattle.firsts.specs.Room.{entryAt, roomBy, grammarRoom, WholeIndex, Prepared}
+use Rattle.firsts.specs.Room.{entryAt, roomBy, WholeIndex, Prepared}
 use Rattle.firsts.proofs.FillLaws.{length-entries}
 use Rattle.firsts.proofs.HeldPairs.{no-clash-is}
 use Rattle.firsts.proofs.StepLaws.{length-sets}

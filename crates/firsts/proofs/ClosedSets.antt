@@ -1,17 +1,15 @@
 -- The closure of the sets after one round gives the sets that the rounds settle, with any nullables.
-use Prim.Native.Nat.{ℕ, zero, suc, _+_, _^_, _<_, _≤_}
-use mathlib.Core.Path.{_≡_, refl, sym, ap, _∙_}
-use mathlib.Core.Bool.{Bool, true, false, _&&_, _||_, false≢true, and-eq-true-iff}
+use Prim.Native.Nat.{ℕ, _<_}
+use mathlib.Core.Path.{_≡_, sym, ap, _∙_}
+use mathlib.Core.Bool.{Bool, true, false, false≢true, and-eq-true-iff}
 use mathlib.Core.Logic.{_⊎_, inl, inr, ⊎-elim}
 use mathlib.Core.List.{List, [], _∷_}
-use native.Mathlib.Nat.{pow-suc}
 use native.Mathlib.Decide.{decLt}
 use native.Mathlib.Omega.{arith}
-use lib.ListN.{length, getD, replicate, length-replicate, List·getD-eq-default}
-use lib.Pow.{pow-mono}
+use lib.ListN.{length, replicate, length-replicate, List·getD-eq-default}
 use lib.Seq.{ext-getD}
 use Rattle.kinds.specs.Kinds.{hasKind}
-use Rattle.kinds.proofs.KindsLaws.{has-none, has-own, same-kinds}
+use Rattle.kinds.proofs.KindsLaws.{has-none, has-own}
 use Rattle.grammar.specs.Table.{Item, keyword, ide, number, local, call}
 use Rattle.productions.specs.Normal.{Production}
 use Rattle.firsts.specs.FirstSets.{overAll, isPassed, own, firstStep, setsOf}
@@ -20,15 +18,8 @@ use Rattle.firsts.specs.SetCalls.{holds, RoundTaken, ClosedBelow, Closed
 use Rattle.firsts.proofs.Rounds.{Numbers, nothing, Within, Each, admit, least, least-within, least-closed, round-admits, round-within}
 use Rattle.firsts.proofs.Rounds.{or-left, or-right, or-split}
 use Rattle.firsts.proofs.FirstSetsExactly.{called, given, firstIn, called-more, first-more, sets-seen, round-seen, only-has}
-use Rattle.firsts.proofs.Searches.{below-power}
+use Rattle.firsts.proofs.Searches.{both-in}
 use Rattle.firsts.proofs.StepLaws.{length-sets, length-over}
-
--- Two sets with the same kinds are one, whatever their size.
-pub same-set : (s t : ℕ) → ((b : ℕ) → hasKind s b ≡ hasKind t b) → s ≡ t
-same-set s t e =
-    let ls : s ≤ s + t = omega arith in
-    let lt : t ≤ s + t = omega arith in
-    same-kinds (s + t) s t (omega (arith, below-power s, pow-mono ls)) (omega (arith, below-power t, pow-mono lt)) (λ b l. e b)
 
 -- ------------------------------------------------------------------ the items of a production
 
@@ -153,16 +144,8 @@ module _ (nulls : ℕ) (g : List Production) where
             let small = small-owner sets closed-many k b given in
             x .through m k b small (a .kept m k (admitted true m k p o (q .stands small))) given) (by-parts c nulls b s (p .items) h)
 
-    same-bits : (n b : ℕ) → holds sets n b ≡ settled c n b
-    same-bits n b = by (holds sets n b) (settled c n b) (closed-settled n b) (settled-closed n b)
-      where
-        by : (p q : Bool) → (p ≡ true → q ≡ true) → (q ≡ true → p ≡ true) → p ≡ q
-        by true q f h = sym (f refl)
-        by false true f h = h refl
-        by false false f h = refl
-
     same-sets : sets ≡ setsOf c nulls g
-    same-sets = ext-getD 0 sets (setsOf c nulls g) (closed-many ∙ sym (length-sets c nulls g)) (λ n l. same-set _ _ (same-bits n))
+    same-sets = ext-getD 0 sets (setsOf c nulls g) (closed-many ∙ sym (length-sets c nulls g)) (λ n l. both-in _ _ (closed-settled n) (settled-closed n))
 
   -- One round and the closure give the sets that the rounds settle.
   pub closed-sets : {kinds₀ calls₀ : List ℕ} → RoundTaken nulls g (replicate 64 0) (replicate 64 0) kinds₀ calls₀ → {kinds calls : List ℕ}

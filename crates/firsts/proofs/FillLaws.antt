@@ -1,14 +1,14 @@
 -- Laws of filling the room of a grammar.
 use Prim.Native.Nat.{ℕ, zero, suc, _+_, _-_, _<_, _≤_}
 use mathlib.Core.Path.{_≡_, refl, sym, ap, _∙_, subst}
-use mathlib.Core.List.{List, [], _∷_, map}
+use mathlib.Core.List.{List, map}
 use native.Mathlib.Nat.{add-zero, zero-add}
 use native.Mathlib.Omega.{arith}
 use lib.ListN.{length, getD, length-map}
 use Rattle.grammar.specs.Lookup.{fieldsAt}
-use Rattle.layout.specs.Within.{Each, each-none, each-more}
+use Rattle.layout.specs.Within.{Each, each-more}
 use Rattle.productions.specs.Index.{itemsOf, Place, placesFrom, placesIn, Whole}
-use Rattle.productions.specs.Room.{Entry, noEntry, roomOf, begun, laid, overwritten, RoomAt}
+use Rattle.productions.specs.Room.{Entry, noEntry, begun, laid, overwritten, RoomAt}
 use Rattle.productions.proofs.IndexLaws.{placeAt, length-places}
 use Rattle.productions.proofs.RoomWriting.{Filling, filling-start, filling-next, filling-end}
 use Rattle.firsts.specs.declared.Gathered.{Gathered}

@@ -1,14 +1,14 @@
 -- In a room that holds a grammar, the search for a clash by the links is the search over the productions themselves.
 use Prim.Native.Nat.{ℕ, zero, suc, _+_, _-_, _<_, _≤_}
 use mathlib.Core.Path.{_≡_, refl, sym, ap, _∙_}
-use mathlib.Core.Bool.{Bool, true, false, _&&_, _||_, and-false}
+use mathlib.Core.Bool.{Bool, true, false, _||_, and-false}
 use mathlib.Core.List.{List, [], _∷_, map}
 use native.Mathlib.Omega.{arith}
-use lib.Bits.{bitOr, bitAnd, or-zero-r}
+use lib.Bits.{bitOr, or-zero-r}
 use lib.Count.{trailingZeros}
 use lib.Dec.{eqb, ltb}
 use lib.ListN.{length, getD, drop, length-drop}
-use lib.Seq.{drop-cons, getD-drop}
+use lib.Seq.{drop-cons}
 use borrow.Author.Tests.{eqb-true, lt-ltb, ltb-true}
 use Rattle.spellings.proofs.BytesLaws.{by-test}
 use Rattle.answers.specs.Refusals.{refusal}
@@ -18,7 +18,6 @@ use Rattle.productions.specs.Index.{Place, productionAt, productionsAt}
 use Rattle.productions.specs.Room.{Entry, noEntry, HoldsEntries, placeFrom, isOf, firstPlaceIn, firstIn, nextPlaceIn, nullableIn}
 use Rattle.productions.proofs.RoomLaws.{first-place-in, first-in, next-place-in, nullable-in}
 use Rattle.firsts.specs.First.{sharedBy, clash, lowest, clashing, noClash, anyWith, anyPair, joinWith, joinPairs}
-use Rattle.firsts.specs.FirstSets.{allPassed}
 use Rattle.firsts.specs.Pairs.{afterIn, linked, sharedIn, clashIn, clashingIn, allSharedIn, noClashIn}
 use Rattle.firsts.specs.Room.{entryAt}
 use Rattle.firsts.proofs.PairsLaws.{linked-next, linked-none}

@@ -1,33 +1,31 @@
 -- Laws of the needs of productions: a production is nullable exactly if it has only locals and calls, and all its needs are nullable.
-use Prim.Native.Nat.{ℕ, zero, suc, _+_, _-_, _^_, _<_, _≤_}
+use Prim.Native.Nat.{ℕ, zero, suc, _+_, _-_, _<_, _≤_}
 use mathlib.Core.Path.{_≡_, refl, sym, ap, _∙_, fun-ext}
-use mathlib.Core.Bool.{Bool, true, false, _&&_, _||_, false≢true, and-eq-true-iff, or-false}
+use mathlib.Core.Bool.{Bool, true, false, _&&_, _||_, false≢true, and-eq-true-iff}
 use mathlib.Core.Logic.{⊎-elim, dite}
 use mathlib.Core.List.{List, [], _∷_}
-use native.Mathlib.Nat.{pow-suc}
 use native.Mathlib.Decide.{decLt}
 use native.Mathlib.Omega.{arith}
 use lib.Bits.{bitOr}
 use lib.Dec.{eqb}
 use lib.ListN.{length, getD, set, replicate, length-set, length-replicate}
-use lib.Pow.{pow-mono}
 use lib.Seq.{getD-set-same, getD-set-other}
 use borrow.Author.Tests.{eq-eqb, ne-eqb, eqb-true}
 use Rattle.kinds.specs.Kinds.{hasKind, only}
-use Rattle.kinds.proofs.KindsLaws.{has-none, has-join, has-own, has-above, only-bound, same-kinds}
+use Rattle.kinds.proofs.KindsLaws.{has-none, has-join, has-own, has-above, only-bound}
 use Rattle.grammar.specs.Table.{Item, keyword, ide, number, local, call}
 use Rattle.grammar.specs.Lookup.{fieldsAt}
 use Rattle.productions.specs.Normal.{Production}
 use Rattle.productions.specs.Index.{itemsOf, productionAt, productionsBy}
 use Rattle.firsts.specs.declared.Gathered.{Gathered}
-use Rattle.firsts.specs.FirstSets.{overAll, isPassed, allPassed, own, nullStep, nullables, gather}
+use Rattle.firsts.specs.FirstSets.{rounds, overAll, isPassed, allPassed, nullStep, nullables, gather}
 use Rattle.firsts.specs.SetCalls.{joinedIf, gathered}
-use Rattle.firsts.specs.Needs.{everyOne, Nonterminals, needStep, needRound, NeedsLent, NeedsHeld}
-use Rattle.firsts.proofs.Rounds.{nothing, or-left, or-right, or-split}
-use Rattle.firsts.proofs.FirstSetsExactly.{firstIn, given, bitOfAll, items-seen, only-has}
-use Rattle.firsts.proofs.ClosureLaws.{joined-by}
-use Rattle.firsts.proofs.ClosedSets.{same-set}
-use Rattle.firsts.proofs.StepLaws.{Over, over-start, over-next, over-end, Rounds, rounds-next, rounds-stop, rounds-end}
+use Rattle.firsts.specs.Needs.{everyOne, Nonterminals, needStep, needPass, needRound, stepPlace, NeedsLent, NeedsHeld}
+use Rattle.firsts.proofs.Rounds.{nothing, count, count-le, grows, or-left, or-right, or-split}
+use Rattle.firsts.proofs.NullablesExactly.{nullable-exactly, nullables-settled}
+use Rattle.firsts.proofs.FirstSetsExactly.{firstIn, given, items-seen, only-has}
+use Rattle.firsts.proofs.Searches.{same-set, both-in}
+use Rattle.firsts.proofs.StepLaws.{Over, over-start, over-next, over-end}
 
 -- ------------------------------------------------------------------ sets of nonterminals
 
@@ -41,10 +39,10 @@ step-high owner needs {nulls} h = record { none-above = λ n l. by n l (eqb (bit
     by n l true = has-join nulls (only owner) n ∙ rw (h .none-above n l) (has-above 64 (only owner) n (only-bound owner) l)
     by n l false = h .none-above n l
 
-pub round-high : (k : ℕ) (owners needs : List ℕ) {nulls : ℕ} → Nonterminals nulls → Nonterminals (needRound k owners needs nulls)
-unfolding needRound
-round-high zero owners needs h = h
-round-high (suc k) owners needs h = step-high (getD owners k 0) (getD needs k 0) (round-high k owners needs h)
+pass-high : (place : ℕ → ℕ) (j : ℕ) (owners needs : List ℕ) {nulls : ℕ} → Nonterminals nulls → Nonterminals (needPass place j owners needs nulls)
+unfolding needPass
+pass-high place zero owners needs h = h
+pass-high place (suc j) owners needs h = step-high (getD owners (place j) 0) (getD needs (place j) 0) (pass-high place j owners needs h)
 
 -- a nonterminal in a set is below 64
 small-in : {s : ℕ} → Nonterminals s → (n : ℕ) → hasKind s n ≡ true → n < 64
@@ -190,7 +188,7 @@ module _ (bs : List ℕ) (owner start : ℕ) {found : Gathered} (ef : found ≡ 
 -- what is written behind the first k changes nothing for these
 round-kept : (i : ℕ) {k : ℕ} → i ≤ k → (owners needs : List ℕ) (o v nulls : ℕ)
     → needRound i (set owners k o) (set needs k v) nulls ≡ needRound i owners needs nulls
-unfolding needRound
+unfolding needPass
 round-kept zero l owners needs o v nulls = refl
 round-kept (suc i) {k} l owners needs o v nulls =
     let ne : (i ≡ k → ⊥) = λ e. omega arith in
@@ -199,7 +197,7 @@ round-kept (suc i) {k} l owners needs o v nulls =
 -- one production more
 round-one : (k : ℕ) (owners needs : List ℕ) (o v nulls : ℕ) → k < length owners → k < length needs
     → needRound (suc k) (set owners k o) (set needs k v) nulls ≡ needStep o v (needRound k owners needs nulls)
-unfolding needRound
+unfolding needPass
 round-one k owners needs o v nulls h l =
     rw (getD-set-same owners k o 0 h, getD-set-same needs k v 0 l, round-kept k {k = k} (omega arith) owners needs o v nulls) refl
 
@@ -217,7 +215,7 @@ needs-lent h = record { owners-many = omega (arith, h, length-replicate {A = ℕ
 
 pub holding-start : (bs owners starts : List ℕ) (m : ℕ) {whose needs : List ℕ} → NeedsLent m whose needs
     → Holding bs owners starts m whose needs 0 0 whose needs
-unfolding needRound
+unfolding needPass
 holding-start bs owners starts m l =
     record { few = omega arith; lent = l; whose-many = refl; needs-many = refl; over = λ nulls h. over-start nullStep bs owners starts m nulls }
 
@@ -257,33 +255,35 @@ module _ {bs owners starts : List ℕ} {m : ℕ} {whose₀ needs₀ : List ℕ} 
           lent = c .lent;
           whose-many = c .whose-many;
           needs-many = c .needs-many;
-          over = λ nulls n. over-next (c .over nulls n) h eo es (other-step bs o s ef e (round-high k whose needs n));
+          over = λ nulls n. over-next (c .over nulls n) h eo es (other-step bs o s ef e (pass-high (λ i. i) k whose needs n));
         }
 
   pub holding-end : m ≤ j → NeedsHeld (productionsBy m bs owners starts) k whose needs
   holding-end h = record { same = λ nulls n. over-end (c .over nulls n) h }
 
--- ------------------------------------------------------------------ the rounds
+-- ------------------------------------------------------------------ a pass
 
--- the productions before number j of the k that are held are done
-pub record NeedRounds (owners needs : List ℕ) (nulls k j set : ℕ) : Type 0 where
+-- j of the k steps are done
+pub record Passing (owners needs : List ℕ) (down : Bool) (nulls k j set : ℕ) : Type 0 where
   pub within : j ≤ k
-  pub done : set ≡ needRound j owners needs nulls
+  pub done : set ≡ needPass (stepPlace down k) j owners needs nulls
 
-pub need-start : (owners needs : List ℕ) (nulls k : ℕ) → NeedRounds owners needs nulls k 0 nulls
-unfolding needRound
-need-start owners needs nulls k = record { within = omega arith; done = refl }
+pub passing-start : (owners needs : List ℕ) (down : Bool) (nulls k : ℕ) → Passing owners needs down nulls k 0 nulls
+unfolding needPass
+passing-start owners needs down nulls k = record { within = omega arith; done = refl }
 
-module _ {owners needs : List ℕ} {nulls k j set : ℕ} (c : NeedRounds owners needs nulls k j set) where
-  pub need-next : j < k → {o v r : ℕ} → o ≡ getD owners j 0 → v ≡ getD needs j 0 → r ≡ needStep o v set → NeedRounds owners needs nulls k (j + 1) r
-  unfolding needRound
-  need-next h eo ev er =
+module _ {owners needs : List ℕ} {down : Bool} {nulls k j set : ℕ} (c : Passing owners needs down nulls k j set) where
+  pub passing-next : j < k → {i o v r : ℕ} → i ≡ stepPlace down k j → o ≡ getD owners i 0 → v ≡ getD needs i 0 → r ≡ needStep o v set
+      → Passing owners needs down nulls k (j + 1) r
+  unfolding needPass
+  passing-next h ei eo ev er =
       let z : j + 1 ≡ suc j = omega arith in
-      record { within = omega arith; done = rw z (er ∙ rw (c .done, eo, ev) refl) }
+      record { within = omega arith; done = rw z (er ∙ rw (c .done, eo, ev, ei) refl) }
 
-  pub need-end : k ≤ j → set ≡ needRound k owners needs nulls
-  need-end h = let z : j ≡ k = omega (arith, c .within) in rw z at (c .done)
+  pub passing-end : k ≤ j → set ≡ needPass (stepPlace down k) k owners needs nulls
+  passing-end h = let z : j ≡ k = omega (arith, c .within) in rw z at (c .done)
 
+-- a step
 pub need-taken : (owner needs nulls : ℕ) {both : ℕ} → both ≡ bitOr nulls needs → both ≡ nulls → {o : ℕ} → o ≡ only owner → {r : ℕ} → r ≡ bitOr nulls o
     → r ≡ needStep owner needs nulls
 need-taken owner needs nulls e f eo er =
@@ -292,26 +292,131 @@ need-taken owner needs nulls e f eo er =
 pub need-left : (owner needs nulls : ℕ) {both : ℕ} → both ≡ bitOr nulls needs → (both ≡ nulls → ⊥) → nulls ≡ needStep owner needs nulls
 need-left owner needs nulls e f = ap (λ (b : Bool). joinedIf b nulls (only owner)) (sym (ne-eqb (bitOr nulls needs) nulls (λ g. f (e ∙ g))))
 
--- after t rounds
-pub record NullRounds (g : List Production) (t nulls : ℕ) : Type 0 where
-  pub rounds : Rounds (overAll nullStep g) 0 t nulls
+-- ------------------------------------------------------------------ passes
+
+-- each nonterminal of s is in t
+abbrev In : ℕ → ℕ → Type 0
+In s t = (n : ℕ) → hasKind s n ≡ true → hasKind t n ≡ true
+
+step-adds : (owner needs nulls : ℕ) → In nulls (needStep owner needs nulls)
+step-adds owner needs nulls n e = by (eqb (bitOr nulls needs) nulls)
+  where
+    by : (b : Bool) → hasKind (joinedIf b nulls (only owner)) n ≡ true
+    by true = has-join nulls (only owner) n ∙ or-left _ e
+    by false = e
+
+step-more : (owner needs s t : ℕ) → In s t → In (needStep owner needs s) (needStep owner needs t)
+step-more owner needs s t h n = by (eqb (bitOr s needs) s) refl
+  where
+    by : (b : Bool) → eqb (bitOr s needs) s ≡ b → hasKind (joinedIf b s (only owner)) n ≡ true → hasKind (needStep owner needs t) n ≡ true
+    by true e f =
+        ap (λ (b : Bool). hasKind (joinedIf b t (only owner)) n) (joins-none t needs (λ m g. h m (joined-in s needs e m g)))
+        ∙ has-join t (only owner) n
+        ∙ ⊎-elim (λ p. or-left _ (h n p)) (λ p. or-right (hasKind t n) p) (or-split (hasKind s n) (sym (has-join s (only owner) n) ∙ f))
+    by false e f = step-adds owner needs t n (h n f)
+
+module _ (place : ℕ → ℕ) (owners needs : List ℕ) where
+  -- step j
+  abbrev stepAt : ℕ → ℕ → ℕ
+  stepAt i nulls = needStep (getD owners i 0) (getD needs i 0) nulls
+
+  pass-adds : (j nulls : ℕ) → In nulls (needPass place j owners needs nulls)
+  unfolding needPass
+  pass-adds zero nulls n e = e
+  pass-adds (suc j) nulls n e =
+      step-adds (getD owners (place j) 0) (getD needs (place j) 0) (needPass place j owners needs nulls) n (pass-adds j nulls n e)
+
+  pass-more : (j s t : ℕ) → In s t → In (needPass place j owners needs s) (needPass place j owners needs t)
+  unfolding needPass
+  pass-more zero s t h = h
+  pass-more (suc j) s t h = step-more (getD owners (place j) 0) (getD needs (place j) 0) _ _ (pass-more j s t h)
+
+  -- a pass that changes nothing has no step that does
+  pass-fixes : (j s : ℕ) → needPass place j owners needs s ≡ s → (i : ℕ) → i < j → stepAt (place i) s ≡ s
+  unfolding needPass
+  pass-fixes zero s e i l = absurd (omega arith)
+  pass-fixes (suc j) s e i l =
+      let r : ℕ = needPass place j owners needs s in
+      let back : In r s = λ n h. ap (λ x. hasKind x n) (sym e) ∙ step-adds (getD owners (place j) 0) (getD needs (place j) 0) r n h in
+      let same : r ≡ s = both-in r s back (pass-adds j s) in
+      dite (decLt i j) (λ h. pass-fixes j s same i h) (λ h. let z : i ≡ j = omega arith in rw z (ap (stepAt (place j)) (sym same) ∙ e))
+
+  fixed-pass : (j s : ℕ) → ((i : ℕ) → i < j → stepAt (place i) s ≡ s) → needPass place j owners needs s ≡ s
+  unfolding needPass
+  fixed-pass zero s h = refl
+  fixed-pass (suc j) s h = ap (stepAt (place j)) (fixed-pass j s (λ i l. h i (omega arith))) ∙ h j (omega arith)
+
+-- the code's test
+pub place-by : (k j : ℕ) {down d : Bool} → down ≡ d → stepPlace d k j ≡ stepPlace down k j
+place-by k j e = ap (λ (b : Bool). stepPlace b k j) (sym e)
+
+place-below : (down : Bool) (k j : ℕ) → j < k → stepPlace down k j < k
+place-below true k j h = omega arith
+place-below false k j h = h
+
+-- each place has its step
+place-step : (down : Bool) (k i : ℕ) → i < k → (j : ℕ) × (j < k) × (stepPlace down k j ≡ i)
+place-step true k i h = (k - 1 - i, omega arith, omega arith)
+place-step false k i h = (i, h, refl)
+
+-- what was found is nullable
+pub record Found (g : List Production) (nulls : ℕ) : Type 0 where
   pub high : Nonterminals nulls
+  pub nullable : (n : ℕ) → hasKind nulls n ≡ true → hasKind (nullables g) n ≡ true
 
-pub null-start : (g : List Production) → NullRounds g 0 0
-null-start g = record { rounds = record { small = omega arith; rest = refl }; high = none-high }
+pub found-start : (g : List Production) → Found g 0
+found-start g = record { high = none-high; nullable = λ n e. absurd (false≢true (sym (has-none n) ∙ e)) }
 
-module _ {g : List Production} {k : ℕ} {owners needs : List ℕ} (held : NeedsHeld g k owners needs) {t nulls : ℕ} (c : NullRounds g t nulls) where
-  pub null-next : t < 64 → {more : ℕ} → more ≡ needRound k owners needs nulls → NullRounds g (t + 1) more
-  null-next l e =
-      record {
-        rounds = rounds-next (c .rounds) l (e ∙ held .same nulls (c .high));
-        high = rw e (round-high k owners needs (c .high));
-      }
+module _ {g : List Production} {k : ℕ} {owners needs : List ℕ} (held : NeedsHeld g k owners needs) where
+  nullables-high : Nonterminals (nullables g)
+  nullables-high = record { none-above = λ n l. by n l (hasKind (nullables g) n) refl }
+    where
+      by : (n : ℕ) → 64 ≤ n → (b : Bool) → hasKind (nullables g) n ≡ b → hasKind (nullables g) n ≡ false
+      by n l true e = let s : n < 64 = nullable-exactly g n .0 e .of .small in absurd (omega arith)
+      by n l false e = e
 
-  pub null-stop : {more : ℕ} → more ≡ needRound k owners needs nulls → more ≡ nulls → nulls ≡ nullables g
+  -- no step changes the nullables
+  nullables-fixed : (i : ℕ) → i < k → needStep (getD owners i 0) (getD needs i 0) (nullables g) ≡ nullables g
+  nullables-fixed = pass-fixes (λ j. j) owners needs k (nullables g) (held .same (nullables g) nullables-high ∙ nullables-settled g)
+
+  -- where no step changes a set, rounds from what is in it stay in it
+  rounds-in : (s : ℕ) → needRound k owners needs s ≡ s → (t x : ℕ) → Nonterminals x → In x s → In (rounds t (overAll nullStep g) x) s
+  unfolding rounds
+  rounds-in s e zero x h i = i
+  rounds-in s e (suc t) x h i =
+      let ex : overAll nullStep g x ≡ needRound k owners needs x = sym (held .same x h) in
+      rounds-in s e t (overAll nullStep g x) (rw ex (pass-high (λ j. j) k owners needs h))
+      (λ n f. ap (λ z. hasKind z n) (sym e) ∙ pass-more (λ j. j) owners needs k x s i n (ap (λ z. hasKind z n) (sym ex) ∙ f))
+
+  nullables-in : (s : ℕ) → needRound k owners needs s ≡ s → In (nullables g) s
   unfolding nullables
-  null-stop e f = rounds-stop (c .rounds) (sym (e ∙ held .same nulls (c .high)) ∙ f)
+  nullables-in s e = rounds-in s e 64 0 none-high (λ n f. absurd (false≢true (sym (has-none n) ∙ f)))
 
-pub null-end : {g : List Production} {t nulls : ℕ} → NullRounds g t nulls → 64 ≤ t → nulls ≡ nullables g
-unfolding nullables
-null-end c l = rounds-end (c .rounds) l
+  module _ {nulls : ℕ} (c : Found g nulls) (down : Bool) {more : ℕ} (em : more ≡ needPass (stepPlace down k) k owners needs nulls) where
+    pub found-next : Found g more
+    found-next =
+        record {
+          high = rw em (pass-high (stepPlace down k) k owners needs (c .high));
+          nullable =
+              λ n e.
+              ap (λ z. hasKind z n)
+              (sym (fixed-pass (stepPlace down k) owners needs k (nullables g) (λ j l. nullables-fixed (stepPlace down k j) (place-below down k j l))))
+              ∙ pass-more (stepPlace down k) owners needs k nulls (nullables g) (c .nullable) n (ap (λ z. hasKind z n) (sym em) ∙ e);
+        }
+
+    -- a pass that changes something finds more
+    pub found-less : (more ≡ nulls → ⊥) → 64 - count 64 (hasKind more) < 64 - count 64 (hasKind nulls)
+    found-less ne =
+        let adds : In nulls more = λ n e. rw em (pass-adds (stepPlace down k) owners needs k nulls n e) in
+        let above : (n : ℕ) → 64 ≤ n → hasKind more n ≡ hasKind nulls n = λ n l. found-next .high .none-above n l ∙ sym (c .high .none-above n l) in
+        ⊎-elim
+        (λ m. absurd (ne (same-set more nulls (λ n. dite (decLt n 64) (m .0 n) (λ l. above n (omega arith))))))
+        (λ l. omega (arith, l, count-le 64 (hasKind more))) (grows 64 adds)
+
+    pub found-stop : more ≡ nulls → nulls ≡ nullables g
+    found-stop e = both-in nulls (nullables g) (c .nullable) (nullables-in nulls (fixed-pass (λ j. j) owners needs k nulls fixed))
+      where
+        fixed : (i : ℕ) → i < k → needStep (getD owners i 0) (getD needs i 0) nulls ≡ nulls
+        fixed i l =
+            let p = place-step down k i l in
+            rw (← (p .2)) (pass-fixes (stepPlace down k) owners needs k nulls (sym em ∙ e) (p .0) (p .1))

@@ -8,9 +8,10 @@ use Rattle.kinds.specs.Kinds.{hasKind, only}
 use Rattle.kinds.proofs.KindsLaws.{has-none, has-join, has-only}
 use Rattle.grammar.specs.Table.{Item, keyword, ide, number, local, call}
 use Rattle.productions.specs.Normal.{Production}
-use Rattle.firsts.specs.FirstSets.{isPassed, allPassed, nullStep, nullables}
+use Rattle.firsts.specs.FirstSets.{overAll, isPassed, allPassed, nullStep, nullables}
 use Rattle.firsts.specs.Rules.{Of, NullItems, null-none, null-local, null-call, Nullable}
-use Rattle.firsts.proofs.Rounds.{Numbers, Within, Each, admit, least, least-within, least-closed, least-seen}
+use Rattle.firsts.proofs.Rounds.{Numbers, Within, Each, admit, least, least-within, least-closed, least-settled, least-seen, over-seen}
+use Rattle.firsts.proofs.Searches.{same-set}
 
 -- ------------------------------------------------------------------ the test of items, with the nullables as a set
 
@@ -64,6 +65,13 @@ step-seen p nulls u = fun-ext (λ n. by n (allPassed nulls (p .items)) refl)
 nullables-seen : (g : List Production) → hasKind (nullables g) ≡ least allIn g
 unfolding nullables
 nullables-seen g = least-seen (λ x. Unit {0}) hasKind allIn nullStep (λ p x u. tt) step-seen g 0 tt (fun-ext has-none)
+
+-- one more round changes nothing
+pub nullables-settled : (g : List Production) → overAll nullStep g (nullables g) ≡ nullables g
+nullables-settled g =
+    same-set (overAll nullStep g (nullables g)) (nullables g)
+    (λ n. ap (λ (s : Numbers). s n) (over-seen (λ x. Unit {0}) hasKind allIn nullStep (λ p x u. tt) step-seen g (nullables g) tt
+    ∙ ap (overAll (admit allIn) g) (nullables-seen g) ∙ least-settled allIn all-more g ∙ sym (nullables-seen g)))
 
 -- ------------------------------------------------------------------ the rules
 

@@ -6,7 +6,7 @@ use mathlib.Core.List.{List, [], _∷_}
 use native.Mathlib.Omega.{arith}
 use lib.Bits.{bitOr}
 use lib.Dec.{ltb}
-use borrow.Author.Tests.{lt-ltb, le-ltb, ltb-true, ltb-false}
+use borrow.Author.Tests.{lt-ltb, le-ltb, ltb-true}
 use Rattle.spellings.proofs.BytesLaws.{by-test}
 use Rattle.kinds.specs.Kinds.{hasKind}
 use Rattle.productions.specs.Room.{nextPlaceIn}

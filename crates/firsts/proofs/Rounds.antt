@@ -47,7 +47,7 @@ counted true c = suc c
 counted false c = c
 
 -- how many of the numbers below n are in the set
-count : ℕ → Numbers → ℕ
+pub count : ℕ → Numbers → ℕ
 count zero s = 0
 count (suc n) s = counted (s n) (count n s)
 
@@ -55,13 +55,13 @@ counted-le : (b : Bool) {c n : ℕ} → c ≤ n → counted b c ≤ suc n
 counted-le true h = omega arith
 counted-le false h = omega arith
 
-count-le : (n : ℕ) (s : Numbers) → count n s ≤ n
+pub count-le : (n : ℕ) (s : Numbers) → count n s ≤ n
 unfolding count
 count-le zero s = omega arith
 count-le (suc n) s = counted-le (s n) (count-le n s)
 
 -- the same numbers below n
-abbrev Same : ℕ → Numbers → Numbers → Type 0
+abbrev pub Same : ℕ → Numbers → Numbers → Type 0
 Same n s t = (k : ℕ) → k < n → t k ≡ s k
 
 same-next : {n : ℕ} {s t : Numbers} → Same n s t → t n ≡ s n → Same (suc n) s t
@@ -72,7 +72,7 @@ same-next {n} {s} {t} same e k h = by (decLt k n)
     by (no l) = let at : k ≡ n = omega arith in rw at e
 
 -- a set that grows has the same numbers, or more of them
-grows : (n : ℕ) {s t : Numbers} → Within s t → (Same n s t × (count n s ≡ count n t)) ⊎ (count n s < count n t)
+pub grows : (n : ℕ) {s t : Numbers} → Within s t → (Same n s t × (count n s ≡ count n t)) ⊎ (count n s < count n t)
 unfolding count
 grows zero h = inl ((λ k l. absurd (omega arith)), refl)
 grows (suc n) {s} {t} h = by (s n) (t n) refl refl (h n) (grows n h)
@@ -185,11 +185,15 @@ module _ (passes : Numbers → List Item → Bool)
       (or-right (s (p .owner)) (rw (e, lt-ltb (p .owner) 64 l, eq-eqb (p .owner) (p .owner) refl) refl))
   over-admits (in-later {p = p} {q = q} m) s e l = over-admits m (admit passes q s) (more s (admit passes q s) (step-adds q s) (p .items) e) l
 
+  -- one more round changes nothing
+  pub least-settled : (g : List Production) → overAll (admit passes) g (least passes g) ≡ least passes g
+  unfolding least
+  least-settled g = settled (overAll (admit passes) g) (over-adds g) (over-high g) nothing
+
   -- a production whose items pass with what is in has its nonterminal in
   pub least-closed : (g : List Production) {n : ℕ} {p : Production} → Of g n p → passes (least passes g) (p .items) ≡ true → least passes g n ≡ true
-  unfolding least
   least-closed g {n} {p} o e =
-      ap (λ (s : Numbers). s n) (sym (settled (overAll (admit passes) g) (over-adds g) (over-high g) nothing))
+      ap (λ (s : Numbers). s n) (sym (least-settled g))
       ∙ (rw (← (o .owned)) (over-admits (o .member) (least passes g) e (rw (o .owned) (o .small))))
 
   -- one round admits what passes where nothing is in

@@ -9,8 +9,9 @@ use native.Mathlib.Decide.{ℕ-discrete}
 use native.Mathlib.Omega.{arith}
 use lib.Bits.{bitOr}
 use lib.Count.{trailingZeros}
+use lib.Pow.{pow-mono}
 use Rattle.kinds.specs.Kinds.{hasKind}
-use Rattle.kinds.proofs.KindsLaws.{has-none, has-join, lowest-bound, lowest-has}
+use Rattle.kinds.proofs.KindsLaws.{has-none, has-join, lowest-bound, lowest-has, same-kinds}
 use Rattle.productions.specs.Normal.{Production}
 use Rattle.firsts.specs.First.{lowest, anyWith, anyPair, joinWith, joinPairs}
 use Rattle.firsts.specs.Rules.{In, in-first, in-later}
@@ -110,7 +111,7 @@ pairs-seen f (p ∷ g) found b =
 
 -- ------------------------------------------------------------------ a set that is not empty
 
-pub below-power : (m : ℕ) → m < 2 ^ m
+below-power : (m : ℕ) → m < 2 ^ m
 below-power zero = omega arith
 below-power (suc m) = omega (arith, below-power m, pow-suc 2 m)
 
@@ -121,3 +122,21 @@ some-kind m h = (trailingZeros m m, lowest-has m m (lowest-bound m m (below-powe
 pub kind-positive : (m k : ℕ) → hasKind m k ≡ true → 0 < m
 kind-positive zero k e = absurd (false≢true (sym (has-none k) ∙ e))
 kind-positive (suc m) k e = omega arith
+
+-- ------------------------------------------------------------------ sets with the same kinds
+
+-- Two sets with the same kinds are one, whatever their size.
+pub same-set : (s t : ℕ) → ((b : ℕ) → hasKind s b ≡ hasKind t b) → s ≡ t
+same-set s t e =
+    let ls : s ≤ s + t = omega arith in
+    let lt : t ≤ s + t = omega arith in
+    same-kinds (s + t) s t (omega (arith, below-power s, pow-mono ls)) (omega (arith, below-power t, pow-mono lt)) (λ b l. e b)
+
+-- Two sets that are in each other are one.
+pub both-in : (s t : ℕ) → ((b : ℕ) → hasKind s b ≡ true → hasKind t b ≡ true) → ((b : ℕ) → hasKind t b ≡ true → hasKind s b ≡ true) → s ≡ t
+both-in s t h l = same-set s t (λ b. by (hasKind s b) (hasKind t b) (h b) (l b))
+  where
+    by : (p q : Bool) → (p ≡ true → q ≡ true) → (q ≡ true → p ≡ true) → p ≡ q
+    by true q f g = sym (f refl)
+    by false true f g = g refl
+    by false false f g = refl

@@ -1,24 +1,19 @@
--- Laws of the steps over the productions of an index, and of the rounds of them.
+-- Laws of the steps over the productions of an index.
 use Prim.Native.Nat.{ℕ, zero, suc, _+_, _-_, _<_, _≤_}
 use mathlib.Core.Path.{_≡_, refl, sym, ap, _∙_}
-use mathlib.Core.Bool.{Bool, true, false, _||_, not, true≢false}
+use mathlib.Core.Bool.{Bool, true, false}
 use mathlib.Core.List.{List, [], _∷_}
 use native.Mathlib.Nat.{sub-zero}
-use native.Mathlib.Omega.{arith}
 use lib.Bits.{bitOr}
-use lib.Dec.{eqb}
 use lib.ListN.{length, getD, set, replicate, length-set, length-replicate}
-use lib.Seq.{set-out, set-getD}
-use borrow.Author.Tests.{eqb-true, not-false}
-use Rattle.kinds.specs.Kinds.{only}
+use lib.Seq.{set-out}
 use Rattle.grammar.specs.Lookup.{fieldsAt}
 use Rattle.productions.specs.Normal.{Production}
-use Rattle.firsts.specs.FirstSets.{rounds, overAll, allPassed, nullStep, gather, firstStep, setsOf}
+use Rattle.firsts.specs.FirstSets.{rounds, overAll, firstStep, setsOf}
 use Rattle.firsts.specs.declared.Gathered.{Gathered}
 use Rattle.firsts.specs.SetCalls.{gathered, StepTaken, RoundTaken, SetsLent}
 use Rattle.productions.specs.Index.{itemsOf, Place, productionAt, productionsAt, placesFrom, productionsBy}
 use Rattle.productions.proofs.IndexLaws.{places-next, places-none}
-use Rattle.firsts.proofs.Rounds.{rounds-fixed}
 
 -- ------------------------------------------------------------------ a loop over the productions
 
@@ -50,33 +45,6 @@ module _ {A : Type 0} {f : Production → A → A} {bs owners starts : List ℕ}
   pub over-end : m ≤ j → x ≡ overAll f (productionsBy m bs owners starts) x₀
   unfolding overAll
   over-end h = over-one [] (places-none owners starts m j h)
-
--- ------------------------------------------------------------------ rounds
-
--- after t rounds of the 64 from x₀
-pub record Rounds {A : Type 0} (f : A → A) (x₀ : A) (t : ℕ) (x : A) : Type 0 where
-  pub small : t ≤ 64
-  pub rest : rounds (64 - t) f x ≡ rounds 64 f x₀
-
-module _ {A : Type 0} {f : A → A} {x₀ : A} {t : ℕ} {x : A} (r : Rounds f x₀ t x) where
-  pub rounds-next : t < 64 → {y : A} → y ≡ f x → Rounds f x₀ (t + 1) y
-  unfolding rounds
-  rounds-next h e =
-      let z : 64 - t ≡ suc (64 - (t + 1)) = omega arith in
-      record {
-        small = omega arith;
-        rest = ap (rounds (64 - (t + 1)) f) e ∙ sym (ap (λ (k : ℕ). rounds k f x) z) ∙ r .rest;
-      }
-
-  -- a round that changes nothing is the last
-  pub rounds-stop : f x ≡ x → x ≡ rounds 64 f x₀
-  rounds-stop e = sym (rounds-fixed (64 - t) f x e) ∙ r .rest
-
-  pub rounds-end : 64 ≤ t → x ≡ rounds 64 f x₀
-  unfolding rounds
-  rounds-end h =
-      let z : 64 - t ≡ 0 = omega arith in
-      sym (ap (λ (k : ℕ). rounds k f x) z) ∙ r .rest
 
 -- ------------------------------------------------------------------ first sets and left calls
 

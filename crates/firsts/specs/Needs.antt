@@ -1,9 +1,9 @@
 -- Nullables by what each production needs. A production that reads nothing by itself has only locals and calls, and it needs the nonterminals
 -- that it calls to be nullable: this is gathered once, and the rounds look at what was gathered. These mirror code: nobody needs them to
 -- believe `expand`.
-use Prim.Native.Nat.{ℕ, zero, suc, _≤_}
+use Prim.Native.Nat.{ℕ, zero, suc, _-_, _≤_}
 use mathlib.Core.Path.{_≡_}
-use mathlib.Core.Bool.{false}
+use mathlib.Core.Bool.{Bool, true, false}
 use mathlib.Core.List.{List}
 use lib.Bits.{bitOr}
 use lib.Dec.{eqb}
@@ -25,10 +25,19 @@ pub record Nonterminals (s : ℕ) : Type 0 where
 abbrev pub needStep : ℕ → ℕ → ℕ → ℕ
 needStep owner needs nulls = joinedIf (eqb (bitOr nulls needs) nulls) nulls (only owner)
 
--- one round over the first k productions that are held, owners and needs
-unfoldable pub needRound : ℕ → List ℕ → List ℕ → ℕ → ℕ
-needRound zero owners needs nulls = nulls
-needRound (suc k) owners needs nulls = needStep (getD owners k 0) (getD needs k 0) (needRound k owners needs nulls)
+-- steps of the productions that are held, owners and needs: the first j of them in an order of their places
+unfoldable pub needPass : (ℕ → ℕ) → ℕ → List ℕ → List ℕ → ℕ → ℕ
+needPass place zero owners needs nulls = nulls
+needPass place (suc j) owners needs nulls = needStep (getD owners (place j) 0) (getD needs (place j) 0) (needPass place j owners needs nulls)
+
+-- the first k in the order in which they are held
+abbrev pub needRound : ℕ → List ℕ → List ℕ → ℕ → ℕ
+needRound k owners needs nulls = needPass (λ j. j) k owners needs nulls
+
+-- the place of step j of k, from the last place down or from the first place up
+abbrev pub stepPlace : Bool → ℕ → ℕ → ℕ
+stepPlace true k j = k - 1 - j
+stepPlace false k j = j
 
 -- room for the owners and needs of m productions
 pub record NeedsLent (m : ℕ) (owners needs : List ℕ) : Type 0 where

@@ -2,7 +2,7 @@
 --
 -- First sets and left calls come from one round over the productions and a closure of what it found: nonterminals are taken one by one as
 -- callees, and what a callee gives is joined to what each caller gives. After all of them the sets are those that rounds would settle.
-use Prim.Native.Nat.{ℕ, _+_, _<_, _≤_}
+use Prim.Native.Nat.{ℕ, _<_, _≤_}
 use mathlib.Core.Path.{_≡_}
 use mathlib.Core.Bool.{Bool, true, false}
 use mathlib.Core.List.{List}

@@ -1,4 +1,4 @@
-// The nullable nonterminals of a grammar, bit n for nonterminal n. What each production needs to be nullable is gathered once; the rounds
+// The nullable nonterminals of a grammar, bit n for nonterminal n. What each production needs to be nullable is gathered once; the passes
 // then look at these needs alone.
 use super::items::gather;
 use super::items::set_at;
@@ -6,10 +6,11 @@ use grammar::reader::byte;
 use kinds::join;
 use kinds::only;
 use productions::index::offset;
+ghost use Prim.Native.Nat.{_<_};
 ghost use mathlib.Core.Path.{_≡_};
 ghost use Rattle.productions.specs.Index.{productionsBy};
 ghost use Rattle.firsts.specs.FirstSets.{nullables};
-ghost use Rattle.firsts.specs.Needs.{needStep, needRound, NeedsLent, NeedsHeld};
+ghost use Rattle.firsts.specs.Needs.{needStep, stepPlace, needPass, NeedsLent, NeedsHeld};
 ghost use Rattle.firsts.specs.Room.{WholeIndex};
 
 // Holds the nonterminal and the needs of each production that has only locals and calls, and tells how many there are.
@@ -55,21 +56,30 @@ fn null_step(owner: u8, needs: u64, nulls: u64) -> u64
     }
 }
 
-// One round: a step for each production that is held, in order.
-fn null_round(whose: &[u8], needs: &[u64], k: usize, nulls: u64) -> u64
-    ensures { λ r. ⌜ r ≡ needRound k (now (whose .entry)) (now (needs .entry)) nulls ⌝ }
+// The place of step j of k, from the last place down or from the first place up.
+fn step_place(down: bool, k: usize, j: usize) -> usize
+    requires { ⌜ j < k ⌝ }
+    ensures { λ r. ⌜ r ≡ stepPlace down k j ⌝ }
+{
+    if down { k - 1 - j } else { j }
+}
+
+// One pass: a step for each production that is held, down or up.
+fn null_pass(whose: &[u8], needs: &[u64], k: usize, down: bool, nulls: u64) -> u64
+    ensures { λ r. ⌜ r ≡ needPass (stepPlace down k) k (now (whose .entry)) (now (needs .entry)) nulls ⌝ }
 {
     let mut set = nulls;
     let mut j: usize = 0;
     while j < k {
-        set = null_step(byte(whose, j), set_at(needs, j), set);
+        let i = step_place(down, k, j);
+        set = null_step(byte(whose, i), set_at(needs, i), set);
         j += 1;
     }
     set
 }
 
-// The nullable nonterminals: rounds until one changes nothing, 64 at most. This rules out that a call never passes, and that one round
-// is taken for all.
+// The nullable nonterminals: passes down and up until one changes nothing. A nonterminal's callees mostly stand behind it, or all before
+// it, so that few passes are needed. This rules out that a call never passes, and that one pass is taken for all.
 pub fn nullables(table: &[u8], owners: &[u8; 256], starts: &[u16; 256], m: usize) -> u64
     requires { ⌜ WholeIndex (now table) m (now owners) (now starts) ⌝ }
     ensures { λ r. ⌜ r ≡ nullables (productionsBy m (now (table .entry)) (now (owners .entry)) (now (starts .entry))) ⌝ }
@@ -78,14 +88,13 @@ pub fn nullables(table: &[u8], owners: &[u8; 256], starts: &[u16; 256], m: usize
     let mut needs = [0u64; 256];
     let k = needs_of(table, owners, starts, m, &mut whose, &mut needs);
     let mut set: u64 = 0;
-    let mut t: usize = 0;
-    while t < 64 {
-        let more = null_round(&whose, &needs, k, set);
+    let mut down = true;
+    loop {
+        let more = null_pass(&whose, &needs, k, down, set);
         if more == set {
             return set;
         }
         set = more;
-        t += 1;
+        down = !down;
     }
-    set
 }

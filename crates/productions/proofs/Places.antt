@@ -1,13 +1,13 @@
 -- The places of a table's productions: the productions there are the normalized grammar, and in a table whose layout is right they are few, each of
 -- a nonterminal and whole.
-use Prim.Native.Nat.{ℕ, suc, _+_, _<_, _≤_}
+use Prim.Native.Nat.{ℕ, _+_, _<_, _≤_}
 use mathlib.Core.Path.{_≡_, refl, sym, ap, _∙_}
-use mathlib.Core.Bool.{Bool, true, false, not, _&&_, _||_, or-false, and-true, and-false, true≢false}
+use mathlib.Core.Bool.{Bool, true, false, _&&_, _||_, or-false, and-true, and-false, true≢false}
 use mathlib.Core.List.{List, [], _∷_, _++_, map}
 use native.Mathlib.Omega.{arith}
 use lib.Dec.{eqb, leb}
 use lib.ListN.{length, getD, take, drop, length-append, length-take, length-drop, drop-of-length-le}
-use borrow.Author.Tests.{eq-eqb, ne-eqb, eqb-true, eqb-false, leb-true}
+use borrow.Author.Tests.{ne-eqb, eqb-true, leb-true}
 use Rattle.spellings.specs.Bytes.{every}
 use Rattle.spellings.proofs.BytesLaws.{by-test}
 use Rattle.answers.specs.Checked.{ok}
@@ -20,7 +20,7 @@ use Rattle.grammar.specs.Lookup.{frontOf, fieldsAt}
 use Rattle.grammar.specs.SortTests.{isSort, isIdeSort}
 use Rattle.grammar.specs.Table.{Mode, add, extend, update}
 use Rattle.grammar.proofs.LookupLaws.{fields-at, fields-of, front-inside, opened}
-use Rattle.layout.specs.Prefix.{templatesOf, isTemplates, isTemplate}
+use Rattle.layout.specs.Prefix.{templatesOf, isTemplates}
 use Rattle.layout.specs.Layout.{isHead, isItem, isKnown, isWhole, passed, start, checkFields, layout}
 use Rattle.layout.specs.declared.Progress.{Progress}
 use Rattle.layout.specs.Decode.{modeOf}
@@ -28,7 +28,7 @@ use Rattle.layout.specs.Within.{Each, each-none, each-more}
 use Rattle.layout.proofs.Values.{and-left, and-right}
 use Rattle.layout.proofs.Accept.{accepted}
 use Rattle.layout.proofs.Inverse.{layout-parts}
-use Rattle.productions.specs.Normal.{Production, without, kept}
+use Rattle.productions.specs.Normal.{without, kept}
 use Rattle.productions.specs.Index.{itemsOf, resultOf, productionAt, normalizedBy, Place, placesWithout, placesKept, placesBy, placesOf, productionsAt}
 use Rattle.productions.specs.Index.{wholeBody, Whole, alternativeFields}
 use Rattle.productions.proofs.FewAlternatives.{few-alternatives}

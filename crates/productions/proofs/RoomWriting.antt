@@ -11,7 +11,7 @@ use borrow.Author.Tests.{eq-eqb, ne-eqb}
 use Rattle.productions.specs.Room.{Entry, noEntry, placesNumber, flagNumber, linkNumber, placeFrom, isOf, isNullableOf, entryNumbers, roomOf}
 use Rattle.productions.specs.Room.{overwritten, valuesOf, begun, laid, RoomAndSets, RoomAt}
 use Rattle.productions.proofs.RoomLaws.{length-values, length-room, place-small, entry-first, entry-link, length-entries, first-part}
-use Rattle.productions.proofs.RoomLaws.{second-part, last-part, length-parts, parts-are}
+use Rattle.productions.proofs.RoomLaws.{second-part, length-parts, parts-are}
 
 -- ------------------------------------------------------------------ the room is begun
 

@@ -1,7 +1,4 @@
 -- `after`: a link that leads on is followed.
-use mathlib.Core.Path.{refl, sym, _∙_}
-use borrow.Author.Tests.{lt-ltb, le-ltb}
-use Rattle.firsts.specs.Pairs.{afterIn}
 use Rattle.firsts.proofs.PairsLaws as laws
 use borrow.Author.Needs.{needs}
 use Rattle.firsts.proofs.clash.after.Statement.{statement}

@@ -1,16 +1,18 @@
--- `nullables`: the rounds that are left lead to the same set, and none is left to do after one that changes nothing.
+-- `nullables`: what was found is nullable, and a pass that changes nothing has found all.
 use Prim.Native.Nat.{_-_}
 use borrow.Author.Needs.{needs}
+use Rattle.kinds.specs.Kinds.{hasKind}
 use Rattle.productions.specs.Index.{productionsBy}
+use Rattle.firsts.proofs.Rounds.{count}
 use Rattle.firsts.proofs.NeedsLaws as laws
 use Rattle.firsts.proofs.nullable.nullables.Statement.{statement}
 use Rattle.firsts.proofs.nullable.nullables.Tie as tie
 
 abbrev Inv-loop : tie.InvT-loop
-Inv-loop table owners starts m whose needs k set₀ t₀ set t = laws.NullRounds (productionsBy m table owners starts) t set
+Inv-loop table owners starts m whose needs k set₀ down₀ set down = laws.Found (productionsBy m table owners starts) set
 
 abbrev μ-loop : tie.MeasureT-loop
-μ-loop table owners starts m whose needs k set₀ t₀ set t = 64 - t
+μ-loop table owners starts m whose needs k set₀ down₀ set down = 64 - count 64 (hasKind set)
 
 slice-aggregate-needs-of : tie.Need-slice-aggregate-needs-of Inv-loop μ-loop
 slice-aggregate-needs-of c = search needs
@@ -22,36 +24,31 @@ needs-of-requires : tie.Need-needs-of-requires Inv-loop μ-loop
 needs-of-requires c κs = laws.needs-lent (c .before .before .before .before .before .pre .few)
 
 loop-holds : tie.Need-loop-holds Inv-loop μ-loop
-loop-holds c = laws.null-start _
+loop-holds c = laws.found-start _
 
-slice-aggregate-null-round : tie.Need-slice-aggregate-null-round Inv-loop μ-loop
-slice-aggregate-null-round c = search needs
+slice-aggregate-null-pass : tie.Need-slice-aggregate-null-pass Inv-loop μ-loop
+slice-aggregate-null-pass c = search needs
 
-slice-aggregate-null-round-2 : tie.Need-slice-aggregate-null-round-2 Inv-loop μ-loop
-slice-aggregate-null-round-2 c = search needs
+slice-aggregate-null-pass-2 : tie.Need-slice-aggregate-null-pass-2 Inv-loop μ-loop
+slice-aggregate-null-pass-2 c = search needs
 
-null-round-requires : tie.Need-null-round-requires Inv-loop μ-loop
-null-round-requires c κs = search needs
+null-pass-requires : tie.Need-null-pass-requires Inv-loop μ-loop
+null-pass-requires c κs = search needs
 
 returns : tie.Need-returns Inv-loop μ-loop
 returns c =
-    let looped = c .before .before .before .before .before in
-    laws.null-stop (looped .before .before .before .needs-of .ensures) (looped .loop .inv) (c .before .null-round .ensures) (c .if1 .taken)
-
-add-t : tie.Need-add-t Inv-loop μ-loop
-add-t c = search needs
+    let looped = c .before .before .before .before in
+    laws.found-stop (looped .before .before .before .needs-of .ensures) (looped .loop .inv) (looped .loop .down) (c .before .null-pass .ensures) (c .if1 .taken)
 
 loop-less : tie.Need-loop-less Inv-loop μ-loop
-loop-less c = search needs
+loop-less c =
+    let looped = c .before .before .before .before in
+    laws.found-less (looped .before .before .before .needs-of .ensures) (looped .loop .inv) (looped .loop .down) (c .before .null-pass .ensures) (c .if1 .left)
 
 loop-again : tie.Need-loop-again Inv-loop μ-loop
 loop-again c =
-    let tested = c .before .before .before .before in
-    let looped = tested .before in
-    laws.null-next (looped .before .before .before .needs-of .ensures) (looped .loop .inv) (tested .loop-test .taken) (c .before .null-round .ensures)
-
-returns-2 : tie.Need-returns-2 Inv-loop μ-loop
-returns-2 c = laws.null-end (c .before .loop .inv) (c .loop-test .left)
+    let looped = c .before .before .before .before in
+    laws.found-next (looped .before .before .before .needs-of .ensures) (looped .loop .inv) (looped .loop .down) (c .before .null-pass .ensures)
 
 pub nullables-spec : {M : Type 1} → statement M
 nullables-spec =
@@ -63,11 +60,9 @@ nullables-spec =
     slice-aggregate-needs-of-2
     needs-of-requires
     loop-holds
-    slice-aggregate-null-round
-    slice-aggregate-null-round-2
-    null-round-requires
+    slice-aggregate-null-pass
+    slice-aggregate-null-pass-2
+    null-pass-requires
     returns
-    add-t
     loop-less
-    loop-again
-    returns-2)
+    loop-again)

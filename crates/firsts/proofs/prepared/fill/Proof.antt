@@ -1,5 +1,4 @@
 -- `fill`: the entries behind the next one are laid.
-use native.Mathlib.Omega.{arith}
 use mathlib.Core.Path.{_∙_, sym}
 use mathlib.Core.List.{map}
 use Rattle.productions.specs.Index.{placesIn}

@@ -1,6 +1,5 @@
 -- `first_round`: the productions that are left lead to the same sets.
 use Prim.Native.Nat.{_-_}
-use mathlib.Core.Path.{refl}
 use borrow.Author.Needs.{needs}
 use Rattle.firsts.proofs.StepLaws as laws
 use Rattle.firsts.proofs.sets.first_round.Statement.{statement}

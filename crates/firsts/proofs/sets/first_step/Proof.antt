@@ -1,5 +1,4 @@
 -- `first_step`: what the items give is joined to the sets of the nonterminal.
-use mathlib.Core.Path.{_∙_}
 use borrow.Author.Needs.{needs}
 use Rattle.firsts.proofs.StepLaws as laws
 use Rattle.firsts.proofs.sets.first_step.Statement.{statement}

@@ -1,18 +1,21 @@
--- `null_round`: the productions before number j are done.
+-- `null_pass`: j of the k steps are done.
 use Prim.Native.Nat.{_-_}
 use Rattle.firsts.proofs.NeedsLaws as laws
 use borrow.Author.Needs.{needs}
-use Rattle.firsts.proofs.nullable.null_round.Statement.{statement}
-use Rattle.firsts.proofs.nullable.null_round.Tie as tie
+use Rattle.firsts.proofs.nullable.null_pass.Statement.{statement}
+use Rattle.firsts.proofs.nullable.null_pass.Tie as tie
 
 abbrev Inv-loop : tie.InvT-loop
-Inv-loop whose needs k nulls set₀ j₀ set j = laws.NeedRounds whose needs nulls k j set
+Inv-loop whose needs k down nulls set₀ j₀ set j = laws.Passing whose needs down nulls k j set
 
 abbrev μ-loop : tie.MeasureT-loop
-μ-loop whose needs k nulls set₀ j₀ set j = k - j
+μ-loop whose needs k down nulls set₀ j₀ set j = k - j
 
 loop-holds : tie.Need-loop-holds Inv-loop μ-loop
-loop-holds c = laws.need-start _ _ _ _
+loop-holds c = laws.passing-start _ _ _ _ _
+
+step-place-requires : tie.Need-step-place-requires Inv-loop μ-loop
+step-place-requires c = search needs
 
 byte-requires : tie.Need-byte-requires Inv-loop μ-loop
 byte-requires c κs = search needs
@@ -31,20 +34,22 @@ loop-less c = search needs
 
 loop-again : tie.Need-loop-again Inv-loop μ-loop
 loop-again c =
-    let tested = c .before .before .before in
-    laws.need-next (tested .before .loop .inv) (tested .loop-test .taken) (c .before .before .byte .ensures) (c .before .set-at .ensures)
-    (c .null-step .ensures)
+    let placed = c .before .before .before in
+    let tested = placed .before in
+    laws.passing-next (tested .before .loop .inv) (tested .loop-test .taken) (placed .step-place .ensures) (c .before .before .byte .ensures)
+    (c .before .set-at .ensures) (c .null-step .ensures)
 
 returns : tie.Need-returns Inv-loop μ-loop
-returns c = laws.need-end (c .before .loop .inv) (c .loop-test .left)
+returns c = laws.passing-end (c .before .loop .inv) (c .loop-test .left)
 
-pub null-round-spec : {M : Type 1} → statement M
-null-round-spec =
+pub null-pass-spec : {M : Type 1} → statement M
+null-pass-spec =
     tie.close
     (tie.spec
     Inv-loop
     μ-loop
     loop-holds
+    step-place-requires
     byte-requires
     set-at-requires
     null-step-requires

@@ -1,0 +1,20 @@
+-- `step_place`: by the direction.
+use borrow.Author.Needs.{needs}
+use Rattle.firsts.proofs.NeedsLaws as laws
+use Rattle.firsts.proofs.nullable.step_place.Statement.{statement}
+use Rattle.firsts.proofs.nullable.step_place.Tie as tie
+
+sub-result : tie.Need-sub-result
+sub-result c = search needs
+
+sub-result-2 : tie.Need-sub-result-2
+sub-result-2 c = search needs
+
+returns : tie.Need-returns
+returns c = laws.place-by _ _ (c .if1 .taken)
+
+returns-2 : tie.Need-returns-2
+returns-2 c = laws.place-by _ _ (c .if1 .left)
+
+pub step-place-spec : {M : Type 1} → statement M
+step-place-spec = tie.close (tie.spec sub-result sub-result-2 returns returns-2)
