@@ -37,7 +37,8 @@ cast-k c =
     let read = found .before in
     let start = at-start read in
     let found-there = found .find .ensures in
-    omega (arith, laws.node-fits (start .pre .0) (start .args .s .now) (read .wide-number .ensures) (found .find .result) found-there (c .before .spot .given .1))
+    let counted = read .wide-number .ensures in
+    omega (arith, laws.node-fits (start .pre .0) (start .args .s .now) counted (found .find .result) found-there (c .before .spot .given .1))
 
 returns : tie.Need-returns
 returns c =
@@ -45,7 +46,8 @@ returns c =
     let found = after-find spot-place in
     let read = found .before in
     let start = at-start read in
-    laws.node-keyword (start .pre .0) (start .args .s .now) (read .wide-number .ensures) (found .find .result) (found .find .ensures) (spot-place .spot .given .1)
+    laws.node-keyword (start .pre .0) (start .args .s .now) (read .wide-number .ensures) (found .find .result) (found .find .ensures)
+    (spot-place .spot .given .1)
     (c .if1 .taken)
 
 enum-told : tie.Need-enum-told
@@ -57,7 +59,8 @@ returns-2 c =
     let found = after-find spot-place in
     let read = found .before in
     let start = at-start read in
-    laws.node-outside (start .pre .0) (start .args .s .now) (read .wide-number .ensures) (found .find .result) (found .find .ensures) (spot-place .spot .given .1)
+    laws.node-outside (start .pre .0) (start .args .s .now) (read .wide-number .ensures) (found .find .result) (found .find .ensures)
+    (spot-place .spot .given .1)
     (c .if1 .left)
 
 returns-3 : tie.Need-returns-3

@@ -16,7 +16,6 @@ unscanned-requires c κs = search needs
 
 returns : tie.Need-returns
 returns c =
-    let start = at-start (c .before .before) in
     cc (c .unscanned .ensures)
     ∙ loop.too-long _ _ _ _ (c .before .if1 .taken)
 

@@ -99,7 +99,6 @@ returns c =
     let test = in-loop stepped in
     let turn′ = at-loop stepped in
     let inv = turn′ .loop .inv in
-    let turn = turn′ .loop in
     let more = test .loop-test .taken in
     cc (
       c .bad-lexeme .ensures,
@@ -138,7 +137,6 @@ returns-2 c =
     let more = test .loop-test .taken in
     let step = stepped .step-at .ensures in
     let emits = told .step .given .1 in
-    let turn = turn′ .loop in
     cc (c .unscanned .ensures, loop.turn-full (inv .turn) more (laws.emit-eq inv more step emits) (full .if1 .taken))
 
 store-token-requires : tie.Need-store-token-requires Inv-loop μ-loop

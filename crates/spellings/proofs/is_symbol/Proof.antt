@@ -11,7 +11,6 @@ is-digit-requires c κs = search needs
 
 returns : tie.Need-returns
 returns c =
-    let start = c .before .before in
     cc (c .before .is-letter .ensures, c .is-digit .ensures)
 
 pub is-symbol-spec : {M : Type 1} → statement M

@@ -42,7 +42,9 @@ returns c =
     let wide2-place = c .before .before in
     let places = wide2-place .before .before in
     let args = places .before .before .before .before .before .args in
-    laws.word-read _ (args .places .now) _ (args .i) (places .wide-number .ensures) (wide2-place .wide-number2 .ensures) (c .before .part .ensures) (c .equal .ensures)
+    laws.word-read _ (args .places .now) _ (args .i) (places .wide-number .ensures) (wide2-place .wide-number2 .ensures)
+    (c .before .part .ensures)
+    (c .equal .ensures)
 
 pub is-spelled-spec : {M : Type 1} → statement M
 is-spelled-spec =
