@@ -20,9 +20,11 @@ use Rattle.sorts.specs.Judgements.{WellSorted}
 use Rattle.sorts.specs.CheckSorts.{checkSorts}
 use Rattle.sorts.proofs.SortTheorems as sorting
 use Rattle.productions.specs.Normal.{Production}
-use Rattle.firsts.specs.First.{nullables, firstSets, leftCalls, checkFirsts}
+use Rattle.firsts.specs.First.{checkFirsts}
+use Rattle.firsts.specs.FirstSets.{nullables, firstSets, leftCalls}
 use Rattle.firsts.specs.Rules.{Nullable, Opens, LeftReaches}
-use Rattle.firsts.specs.FirstRefusals.{Never, Lowest, LowestOr64, LeftRecursive, Shares, Clashes}
+use Rattle.firsts.specs.FirstRefusals.{Lowest, LowestOr64}
+use Rattle.firsts.specs.Clashes.{Never, LeftRecursive, Shares, Clashes}
 use Rattle.firsts.proofs.FirstsTheorems as firsts
 use Rattle.checker.specs.Check.{check}
 use Rattle.checker.specs.Passes.{grammarOf, Passes}

@@ -1,87 +1,15 @@
-// What an expansion leaves for a case, compared with what is expected: document 01's number with its three values (0 is acceptance), every
-// number of the cells and every byte of the text, those behind what is written too.
-use crate::case::Sizes;
+// The expansion of a case, compared with what the case expects.
 use crate::report;
 use answers::Answer;
 use answers::Refusal;
+use cases::case::Sizes;
+use cases::rooms::clear_cells;
+use cases::rooms::clear_text;
+use cases::rooms::numbered;
+use cases::rooms::same;
+use cases::rooms::same_cells;
+use cases::rooms::same_text;
 use reports::front;
-
-// What cells and text hold before a call.
-const UNTOUCHED_CELL: u32 = 2863311530;
-
-const UNTOUCHED_BYTE: u8 = 238;
-
-// The number and values of an answer.
-fn numbered(answer: Answer) -> Refusal {
-    match answer {
-        Answer::Accepted(cells, constructors, length) => Refusal {
-            number: 0,
-            a: cells as u64,
-            b: constructors as u64,
-            c: length as u64,
-        },
-        Answer::Refusing(r) => r,
-    }
-}
-
-fn same(x: Refusal, y: Refusal) -> bool {
-    (x.number == y.number) & (x.a == y.a) & (x.b == y.b) & (x.c == y.c)
-}
-
-fn clear_cells(cells: &mut [u32; 80000]) {
-    let mut i: usize = 0;
-    while i < 80000 {
-        cells[i] = UNTOUCHED_CELL;
-        i += 1;
-    }
-}
-
-fn clear_text(text: &mut [u8; 300000]) {
-    let mut i: usize = 0;
-    while i < 300000 {
-        text[i] = UNTOUCHED_BYTE;
-        i += 1;
-    }
-}
-
-// Number i of the rows expected, four bytes each; behind them a cell is as it was.
-fn expected_cell(rows: &[u8], i: usize) -> u32 {
-    if rows.len() / 4 <= i {
-        return UNTOUCHED_CELL;
-    }
-    crate::case::number_at(rows, i * 4)
-}
-
-fn same_cells(cells: &[u32; 80000], rows: &[u8]) -> bool {
-    let mut i: usize = 0;
-    while i < 80000 {
-        if cells[i] != expected_cell(rows, i) {
-            return false;
-        }
-        i += 1;
-    }
-    true
-}
-
-// Byte i of the text expected; behind it the text is as it was.
-fn expected_byte(written: &[u8], i: usize) -> u8 {
-    if i < written.len() {
-        written[i]
-    } else {
-        UNTOUCHED_BYTE
-    }
-}
-
-fn same_text(text: &[u8; 300000], written: &[u8]) -> bool {
-    let mut i: usize = 0;
-    while i < 300000 {
-        if text[i] != expected_byte(written, i) {
-            return false;
-        }
-        i += 1;
-    }
-    true
-}
 
 // The expansion in the front of the text, as much as is lent.
 fn in_text(

@@ -2,11 +2,10 @@
 // and every byte of the text are compared with those expected. A line names each case that differs, and the last line is
 // `CASES cases, DIFFER differ`. A file that is missing, cut or malformed gives one line that says so and nothing else, so the whole file is
 // read once before any case is compared.
-mod case;
 mod comparison;
 mod report;
 
-use case::Case;
+use cases::case::Case;
 
 // What reading the file comes to: how many cases it has and how many of those compared differ; the index of the first case that cannot be
 // read; or that there is no file.
@@ -25,7 +24,7 @@ fn tally_cases(file: i32, compares: bool) -> Tally {
     let mut cases: u64 = 0;
     let mut differ: u64 = 0;
     while cases < u64::MAX {
-        let next = case::read_case(file, &mut table, &mut formula, &mut rows, &mut text);
+        let next = cases::case::read_case(file, &mut table, &mut formula, &mut rows, &mut text);
         match next {
             Case::Whole(sizes) => {
                 if compares && comparison::differs(cases, sizes, &table, &formula, &rows, &text) {

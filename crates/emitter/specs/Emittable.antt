@@ -7,7 +7,7 @@ use lib.ListN.{length}
 use Rattle.answers.specs.declared.Answer.{Answer}
 use Rattle.answers.specs.declared.Answer.the-variants.{Accepted, Refusing}
 use Rattle.answers.specs.Refusals.{refusal}
-use Rattle.grammar.specs.Fields.{lexiconOf}
+use Rattle.grammar.specs.Lookup.{lexiconOf}
 use Rattle.terms.specs.Rows.{termAt}
 use Rattle.terms.specs.Names.{Distinct, WellNamed}
 use Rattle.rows.specs.Sizes.{WholeRows}

@@ -20,25 +20,28 @@ use Rattle.firsts.specs.Room.{productionsIn}
 use Rattle.expansion.specs.declared.State.{State}
 use Rattle.expansion.specs.declared.Outcome.{Outcome}
 use Rattle.expansion.specs.declared.Outcome.the-variants.{Value, Halted}
-use Rattle.expander.specs.declared.items.Step.{Step}
-use Rattle.expander.specs.declared.items.Step.the-variants.{Finished, Stopped, Taken, Opened}
-use Rattle.expansion.specs.Run.{Result, done, halt, Run, after, ran}
-use Rattle.expansion.specs.Expansion.{Input, endToken, nextToken, misfit, build, runItems, Choice, unfit, ready}
-use Rattle.expansion.specs.Expansion.{chosen, choice, callBegun, mostCalls, runCall, mostOpen, start, ended, run}
+use Rattle.steps.specs.declared.Step.{Step}
+use Rattle.steps.specs.declared.Step.the-variants.{Finished, Stopped, Taken, Opened}
+use Rattle.expansion.specs.Run.{Result, done, halt, Run, after}
+use Rattle.expansion.specs.Outcomes.{ran}
+use Rattle.expansion.specs.Expansion.{Input, nextToken, misfit, build, runItems, Choice, unfit, ready, chosen, choice, callBegun, runCall, start, ended, run}
+use Rattle.scanner.specs.Tokens.{endToken}
+use Rattle.expansion.specs.Limits.{mostCalls, mostOpen}
 use Rattle.scanner.specs.Rooms.{tokensIn}
-use Rattle.expander.specs.Lent.{Held, lentInput}
-use Rattle.expander.specs.Chosen.{setsOf, entriesOf, chosenPlace}
+use Rattle.choices.specs.Held.{Held}
+use Rattle.expander.specs.Lent.{lentInput}
+use Rattle.choices.specs.Chosen.{setsOf, entriesOf, chosenPlace}
 use Rattle.templates.specs.Built.{Holds}
-use Rattle.expander.specs.Steps.{body, weight, mostWeight, Steps, Onward, Advances, Stays}
+use Rattle.steps.specs.Steps.{body, weight, mostWeight, Steps, Onward, Advances, Stays}
 use Rattle.expander.specs.declared.calls.Begun.{Begun}
 use Rattle.expander.specs.declared.calls.Begun.the-variants.{Refused, Entered}
-use Rattle.expander.specs.Calls.{rootItems, Begins, Stands, Entry, Enters}
-use Rattle.expander.specs.Frames.{frameSize, longFrames, mostWaiting, Fits, Saved, Loaded, Frame, resume, owed, Waits, Stacked}
-use Rattle.expander.specs.Frames.{stacked-none, stacked-one, Standing, Goes}
+use Rattle.expander.specs.Calls.{rootItems, Goes, Begins, Stands, Entry, Enters}
+use Rattle.frames.specs.Frames.{frameSize, longFrames, mostWaiting, Fits, Saved, Loaded, Frame, resume, owed, Waits, Stacked}
+use Rattle.frames.specs.Frames.{stacked-none, stacked-one, Standing}
 use Rattle.expander.specs.declared.calls.Progress.{Progress}
 use Rattle.expander.specs.declared.calls.Progress.the-variants.{Ended, Paused}
-use Rattle.expander.proofs.ChoiceLaws.{chosen-nowhere, chosen-here, chosen-whole, chosen-inside, start-is}
-use Rattle.expander.proofs.FrameLaws.{resume-halt, stacked-same, stacked-more, waits-saved, waits-holds}
+use Rattle.choices.proofs.ChoiceLaws.{chosen-nowhere, chosen-here, chosen-whole, chosen-inside, start-is}
+use Rattle.frames.proofs.FrameLaws.{resume-halt, stacked-same, stacked-more, waits-saved, waits-holds}
 
 -- ------------------------------------------------------------------ the beginning of a call
 

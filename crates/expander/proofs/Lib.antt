@@ -1,5 +1,1 @@
-pub mod TokenLaws
-pub mod ChoiceLaws
-pub mod ItemLaws
-pub mod FrameLaws
 pub mod CallLaws

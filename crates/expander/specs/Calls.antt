@@ -9,12 +9,16 @@ use Rattle.productions.specs.Index.{wholeBody}
 use Rattle.expansion.specs.declared.State.{State}
 use Rattle.expander.specs.declared.calls.Begun.{Begun}
 use Rattle.expander.specs.declared.calls.Begun.the-variants.{Refused, Entered}
+use Rattle.expander.specs.declared.calls.Progress.{Progress}
+use Rattle.expander.specs.declared.calls.Progress.the-variants.{Ended, Paused}
 use Rattle.expansion.specs.Run.{Result, halt}
-use Rattle.expansion.specs.Expansion.{Input, callBegun, mostCalls, runCall}
+use Rattle.expansion.specs.Outcomes.{ran}
+use Rattle.expansion.specs.Expansion.{Input, callBegun, runCall}
+use Rattle.expansion.specs.Limits.{mostCalls}
 use Rattle.templates.specs.Built.{rowsIn}
 use Rattle.expander.specs.Lent.{lentInput, Lent}
-use Rattle.expander.specs.Steps.{body, weight, mostWeight}
-use Rattle.expander.specs.Frames.{frameSize, shortFrames, mostWaiting, Standing}
+use Rattle.steps.specs.Steps.{body, weight, mostWeight}
+use Rattle.frames.specs.Frames.{frameSize, shortFrames, longFrames, mostWaiting, Standing}
 
 -- the items of the root's alternative from an offset on, and its result: as many more calls may be open as may wait
 abbrev pub rootItems : Input → List ℕ → ℕ → State → List ℕ → Result ℕ
@@ -42,6 +46,11 @@ pub record Entry (bs : List ℕ) (depth : ℕ) (s : State) (start : ℕ) (t : St
 abbrev pub Enters : List ℕ → ℕ → State → Begun → Type 0
 Enters bs depth s (Refused r) = Unit {0}
 Enters bs depth s (Entered start t) = Entry bs depth s start t
+
+-- it ended with R, or the room was too short and it stands where R is still to be had
+abbrev pub Goes : Input → List ℕ → Result ℕ → List ℕ → List ℕ → Progress → Type 0
+Goes I bs R frames cells (Ended o) = ran o cells ≡ R
+Goes I bs R frames cells (Paused level here) = Standing I bs frames level here cells R × (length frames < longFrames)
 
 -- what is lent, and where an expansion stands in a room that has one level more
 pub record MayGo (bs room tokens : List ℕ) (n : ℕ) (cells stack frames : List ℕ) (level : ℕ) (s : State) : Type 0 where

@@ -1,36 +1,38 @@
 // Calls: a rule is chosen, its items are done from the left, and its result is built.
-use crate::choice::choose;
-use crate::frames::FRAME;
-use crate::frames::copy;
-use crate::frames::count_of;
-use crate::frames::load;
-use crate::frames::next_of;
-use crate::frames::save;
-use crate::items::Step;
-use crate::items::Variables;
-use crate::items::finish;
-use crate::items::item_step;
-use crate::tokens::misfit;
 use answers::Refusal;
 use answers::refuse;
+use choices::choose;
+use choices::kinds_of;
 use expansion::Outcome;
 use expansion::State;
-use productions::room::first_set;
+use frames::FRAME;
+use frames::copy;
+use frames::count_of;
+use frames::load;
+use frames::next_of;
+use frames::save;
 use productions::room::start;
 use scanner::tokens::kind_at;
+use steps::Step;
+use steps::Variables;
+use steps::finish;
+use steps::item_step;
+use steps::tokens::misfit;
 use templates::put;
 ghost use Prim.Native.Nat.{ℕ, _≤_};
 ghost use mathlib.Core.Path.{_≡_};
 ghost use mathlib.Core.List.{List};
-ghost use lib.ListN.{length, getD};
+ghost use lib.ListN.{length};
 ghost use Rattle.answers.specs.Refusals.{refusal};
-ghost use Rattle.expansion.specs.Run.{Result, after, ran};
-ghost use Rattle.expansion.specs.Expansion.{Input, callBegun, mostCalls, ended, run};
+ghost use Rattle.expansion.specs.Run.{Result, after};
+ghost use Rattle.expansion.specs.Outcomes.{ran};
+ghost use Rattle.expansion.specs.Expansion.{Input, callBegun, ended, run};
+ghost use Rattle.expansion.specs.Limits.{mostCalls};
 ghost use Rattle.templates.specs.Built.{rowsIn};
-ghost use Rattle.expander.specs.Lent.{Held, MayBegin, lentInput, Lent};
-ghost use Rattle.expander.specs.Frames.{Standing, Goes};
-ghost use Rattle.expander.specs.Chosen.{setsOf};
-ghost use Rattle.expander.specs.Calls.{rootItems, Begins, Enters, Stands, MayGo, MayGoOn};
+ghost use Rattle.choices.specs.Held.{Held};
+ghost use Rattle.expander.specs.Lent.{MayBegin, lentInput, Lent};
+ghost use Rattle.frames.specs.Frames.{Standing};
+ghost use Rattle.expander.specs.Calls.{rootItems, Goes, Begins, Enters, Stands, MayGo, MayGoOn};
 
 // How many calls may be open at once, how many may wait, and how many may be begun in all.
 const MOST_OPEN: usize = 1024;
@@ -61,17 +63,6 @@ fn with_call(s: State) -> State
         fresh: s.fresh,
         calls: s.calls + 1,
         made: s.made,
-    }
-}
-
-// The first set of a nonterminal, empty for what is none.
-fn kinds_of(room: &[u64; 641], nonterminal: u8) -> u64
-    ensures { λ r. ⌜ ((bs : List ℕ) → Held bs (now (room .entry)) → r ≡ getD (setsOf bs) nonterminal 0) ⌝ }
-{
-    if nonterminal < 64 {
-        first_set(room, nonterminal)
-    } else {
-        0
     }
 }
 

@@ -6,7 +6,7 @@ use mathlib.Core.List.{List, [], _∷_, _++_}
 use native.Mathlib.Omega.{arith}
 use lib.ListN.{length, getD, take, drop, length-append, List·getD-append}
 use lib.Seq.{sets-eq, length-sets, length-take-le, getD-take, getD-append-add}
-use Rattle.grammar.specs.Cells.{columns, column, withRow, nameBase, wordName, freshName, outsideName}
+use Rattle.terms.specs.Cells.{columns, column, withRow, nameBase, wordName, freshName, outsideName}
 use Rattle.terms.specs.Term.{Name, word, fresh, outside, Term, Fields, variable, function, apply, rcd, dot, cons}
 use Rattle.terms.specs.Term as Terms
 use Rattle.terms.specs.Rows.{Constructor, constructorOf, nameOf, termBy, isCons, fieldsBy, termAt, fieldsAt, mkTermFun, mkTermApp, mkTermRcd, mkTermDot, mkFieldNil, mkFieldCons, mkTermNum}

@@ -5,7 +5,7 @@ use mathlib.Core.List.{List}
 use Rattle.grammar.specs.Table.{Template, Templates, variable, outside, outsideLabel, make, none, more, Item}
 use Rattle.scanner.specs.declared.Token.{Token}
 use Rattle.productions.specs.Normal.{Production}
-use Rattle.expansion.specs.Expansion.{mostCalls, mostOpen}
+use Rattle.expansion.specs.Limits.{mostCalls, mostOpen}
 use Rattle.expansion.specs.Figure3.{Value, Derives, by-end, by-terminal, by-call}
 
 -- the cells of a template

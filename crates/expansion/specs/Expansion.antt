@@ -7,15 +7,17 @@ use lib.Dec.{eqb, ltb}
 use lib.ListN.{length, getD}
 use lib.Count.{ones}
 use Rattle.answers.specs.Refusals.{refusal}
-use Rattle.kinds.specs.Kinds.{wordKind, numberKind, keywordKind, noKind, hasKind, only}
+use Rattle.kinds.specs.Kinds.{wordKind, numberKind, keywordKind, hasKind, only}
 use Rattle.grammar.specs.Sorts.{label}
 use Rattle.grammar.specs.Table.{Template, Templates, variable, outside, outsideLabel, make, none, more, Item, keyword, ide, number, local, call}
-use Rattle.grammar.specs.Cells.{withRow, wordName, freshName, outsideName}
+use Rattle.terms.specs.Cells.{withRow, wordName, freshName, outsideName}
 use Rattle.scanner.specs.declared.Token.{Token}
+use Rattle.scanner.specs.Tokens.{endToken}
 use Rattle.productions.specs.Normal.{Production}
-use Rattle.firsts.specs.First.{nullables, firstSets, firstOf, allPassed}
+use Rattle.firsts.specs.FirstSets.{nullables, firstSets, firstOf, allPassed}
 use Rattle.expansion.specs.declared.State.{State}
 use Rattle.expansion.specs.Run.{Result, done, halt, Run, return, after, _>>=_}
+use Rattle.expansion.specs.Limits.{mostCalls, mostOpen}
 
 -- ------------------------------------------------------------------ a grammar made ready
 
@@ -56,9 +58,6 @@ pub record Input : Type 0 where
 
 -- ------------------------------------------------------------------ the next token
 
-abbrev pub endToken : Token
-endToken = record { kind = noKind; at = 0; size = 0; value = 0 }
-
 abbrev pub nextToken : Input → State → Token
 nextToken I s = getD (I .tokens) (s .at) endToken
 
@@ -70,8 +69,8 @@ abbrev pub misfit : ℕ → Run ℕ
 misfit kinds s cells = halt (refusal 17 (s .at) kinds (ones kinds)) cells
 
 -- takes a token of one kind, with a value made of the token's
-abbrev pub take : Input → ℕ → (ℕ → ℕ) → Run ℕ
-take I kind value s cells =
+abbrev pub takeToken : Input → ℕ → (ℕ → ℕ) → Run ℕ
+takeToken I kind value s cells =
     elim (eqb (nextToken I s .kind) kind)
     [ true ↦ done (value (nextToken I s .value)) (tokenTaken s) cells | false ↦ misfit (only kind) s cells ]
 
@@ -115,9 +114,9 @@ wordValue sort n = elim (eqb sort label) [ true ↦ n | false ↦ wordName n ]
 
 -- an item under the values of the variables; `callee` is what a call does
 abbrev pub runItem : (ℕ → List ℕ → Run ℕ) → Input → Item → List ℕ → Run ℕ
-runItem callee I (keyword k) M = take I (keywordKind k) (λ v. 0)
-runItem callee I (ide s) M = take I wordKind (wordValue s)
-runItem callee I number M = take I numberKind (λ v. v)
+runItem callee I (keyword k) M = takeToken I (keywordKind k) (λ v. 0)
+runItem callee I (ide s) M = takeToken I wordKind (wordValue s)
+runItem callee I number M = takeToken I numberKind (λ v. v)
 runItem callee I local M = freshMade
 runItem callee I (call n ts) M = buildAll ts I M >>= λ vs. callee n vs
 
@@ -147,9 +146,6 @@ choice g n kind =
 abbrev pub callBegun : State → State
 callBegun s = record { at = s .at; fresh = s .fresh; calls = s .calls + 1; made = s .made }
 
-abbrev pub mostCalls : ℕ
-mostCalls = 65536
-
 -- A call of nonterminal n with arguments vs, while `open` more calls may be open: tested 19, 20, 17.
 unfoldable pub runCall : ℕ → Input → ℕ → List ℕ → Run ℕ
 runCall zero I n vs s cells = halt (refusal 19 (s .at) 0 0) cells
@@ -165,9 +161,6 @@ runCall (suc open′) I n vs s cells =
     ]
 
 -- ------------------------------------------------------------------ the whole formula
-
-abbrev pub mostOpen : ℕ
-mostOpen = 1024
 
 abbrev pub start : State
 start = record { at = 0; fresh = 1; calls = 0; made = 0 }

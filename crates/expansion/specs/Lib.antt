@@ -4,3 +4,5 @@ pub mod Figure3
 pub mod ValueSorts
 pub mod Costs
 pub mod Parsing
+pub mod Outcomes
+pub mod Limits

@@ -4,11 +4,12 @@ use mathlib.Core.Path.{_≡_}
 use mathlib.Core.List.{List}
 use lib.ListN.{getD}
 use Rattle.kinds.specs.Kinds.{wordKind}
-use Rattle.grammar.specs.Cells.{nameBase}
+use Rattle.terms.specs.Cells.{nameBase}
 use Rattle.scanner.specs.declared.Token.{Token}
 use Rattle.productions.specs.Normal.{Production}
 use Rattle.expansion.specs.Run.{Result}
-use Rattle.expansion.specs.Expansion.{Input, ready, endToken, run}
+use Rattle.expansion.specs.Expansion.{Input, ready, run}
+use Rattle.scanner.specs.Tokens.{endToken}
 
 abbrev pub input : List Production → List Token → ℕ → Input
 input g tokens rows = record { grammar = ready g; tokens = tokens; rows = rows }

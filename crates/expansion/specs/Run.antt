@@ -3,8 +3,6 @@ use Prim.Native.Nat.{ℕ}
 use mathlib.Core.List.{List}
 use Rattle.answers.specs.declared.Refusal.{Refusal}
 use Rattle.expansion.specs.declared.State.{State}
-use Rattle.expansion.specs.declared.Outcome.{Outcome}
-use Rattle.expansion.specs.declared.Outcome.the-variants.{Value, Halted}
 
 infixl 15 _>>=_
 -- a value with the state and the cells after it, or a refusal with the cells then made
@@ -24,8 +22,3 @@ after (halt r cells) k = halt r cells
 
 abbrev pub _>>=_ : {A B : Type 0} → Run A → (A → Run B) → Run B
 _>>=_ m k s cells = after (m s cells) k
-
--- the code's answer and the cells as they then are
-abbrev pub ran : Outcome → List ℕ → Result ℕ
-ran (Value v s) cells = done v s cells
-ran (Halted r) cells = halt r cells

@@ -16,7 +16,8 @@ use Rattle.layout.specs.Within.{Each, each-none, each-more}
 use Rattle.productions.specs.Normal.{Production}
 use Rattle.productions.specs.Index.{Place, placesIn, productionsAt, Whole}
 use Rattle.productions.specs.Room.{Entry, noEntry, overwritten, HoldsEntries}
-use Rattle.firsts.specs.First.{nullables, firstSets, leftCalls, leftRecursive, noLeftRecursion, noClash, checkFirsts}
+use Rattle.firsts.specs.First.{leftRecursive, noLeftRecursion, noClash, checkFirsts}
+use Rattle.firsts.specs.FirstSets.{nullables, firstSets, leftCalls}
 use Rattle.firsts.specs.Pairs.{clashingIn, allSharedIn, noClashIn}
 use Rattle.firsts.specs.SetCalls.{BothSets}
 use Rattle.firsts.specs.Room.{entryAt, roomBy, WholeIndex, Prepared}

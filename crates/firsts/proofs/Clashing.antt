@@ -12,9 +12,10 @@ use Rattle.kinds.specs.Kinds.{hasKind}
 use Rattle.kinds.proofs.KindsLaws.{has-none, has-meet}
 use Rattle.grammar.specs.Table.{Item}
 use Rattle.productions.specs.Normal.{Production}
-use Rattle.firsts.specs.First.{nullables, firstSets, firstOf, allPassed, sharedBy, clash, anyPair, joinPairs}
+use Rattle.firsts.specs.First.{sharedBy, clash, anyPair, joinPairs}
+use Rattle.firsts.specs.FirstSets.{nullables, firstSets, firstOf, allPassed}
 use Rattle.firsts.specs.Rules.{First, first-own, first-call, first-past, Reads, reads-keyword, reads-word, reads-number}
-use Rattle.firsts.specs.FirstRefusals.{Before, Two, Shares, Clashes}
+use Rattle.firsts.specs.Clashes.{Before, Two, Shares, Clashes}
 use Rattle.firsts.proofs.Rounds.{or-left, or-right, or-split}
 use Rattle.firsts.proofs.NullablesExactly.{null-items-exactly}
 use Rattle.firsts.proofs.FirstSetsExactly.{items-exactly, reads-exactly}

@@ -12,7 +12,7 @@ use Rattle.kinds.specs.Kinds.{hasKind}
 use Rattle.kinds.proofs.KindsLaws.{has-none, has-own}
 use Rattle.grammar.specs.Table.{Item, keyword, ide, number, local, call}
 use Rattle.productions.specs.Normal.{Production}
-use Rattle.firsts.specs.First.{overAll, isPassed, own, firstStep, setsOf}
+use Rattle.firsts.specs.FirstSets.{overAll, isPassed, own, firstStep, setsOf}
 use Rattle.firsts.specs.Rules.{Of}
 use Rattle.firsts.specs.SetCalls.{holds, RoundTaken, ClosedBelow, ClosedBoth, BothSets}
 use Rattle.firsts.proofs.Rounds.{Numbers, nothing, Within, Each, admit, least, least-within, least-closed, round-admits, round-within}

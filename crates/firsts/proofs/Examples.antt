@@ -9,8 +9,8 @@ use Rattle.answers.specs.Checked.{Checked, ok, bad}
 use Rattle.kinds.specs.Kinds.{hasKind, only}
 use Rattle.grammar.specs.Table.{Item, variable, none, keyword, ide, number, local, call}
 use Rattle.productions.specs.Normal.{Production}
-use Rattle.firsts.specs.First.{rounds, overAll, allPassed, nullStep, nullables, gather, firstStep, setsOf, firstSets, lowest, anyWith, anyPair}
-use Rattle.firsts.specs.First.{joinWith, joinPairs, noLeftRecursion, noClash, checkFirsts}
+use Rattle.firsts.specs.First.{lowest, anyWith, anyPair, joinWith, joinPairs, noLeftRecursion, noClash, checkFirsts}
+use Rattle.firsts.specs.FirstSets.{rounds, overAll, allPassed, nullStep, nullables, gather, firstStep, setsOf, firstSets}
 
 infix 80 _⟶_
 abbrev _⟶_ : ℕ → List Item → Production

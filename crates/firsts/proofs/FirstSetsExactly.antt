@@ -17,7 +17,7 @@ use Rattle.kinds.specs.Kinds.{hasKind, only, keywordKind, wordKind, numberKind}
 use Rattle.kinds.proofs.KindsLaws.{has-none, has-join, has-only, has-own}
 use Rattle.grammar.specs.Table.{Item, keyword, ide, number, local, call}
 use Rattle.productions.specs.Normal.{Production}
-use Rattle.firsts.specs.First.{overAll, isPassed, nullables, own, through, joined, gather, firstStep, setsOf}
+use Rattle.firsts.specs.FirstSets.{overAll, isPassed, nullables, own, through, joined, gather, firstStep, setsOf}
 use Rattle.firsts.specs.Rules.{Of, First, first-own, first-call, first-past, FirstOf, Reads, reads-keyword, reads-word, reads-number, Calls, calls}
 use Rattle.firsts.proofs.Rounds.{Numbers, nothing, Within, Each, admit, least, least-within, least-closed, least-seen, over-seen}
 use Rattle.firsts.proofs.Rounds.{or-left, or-right, or-split}

@@ -11,9 +11,11 @@ use Rattle.answers.specs.Refusals.{refusal}
 use Rattle.answers.specs.Checked.{Checked, ok, bad}
 use Rattle.kinds.specs.Kinds.{hasKind}
 use Rattle.productions.specs.Normal.{Production}
-use Rattle.firsts.specs.First.{allPassed, nullables, firstSets, leftCalls, firstOf, checkFirsts}
+use Rattle.firsts.specs.First.{checkFirsts}
+use Rattle.firsts.specs.FirstSets.{allPassed, nullables, firstSets, leftCalls, firstOf}
 use Rattle.firsts.specs.Rules.{Of, NullItems, Nullable, First, Reads, Calls, Opens, LeftReaches}
-use Rattle.firsts.specs.FirstRefusals.{Shares, Clashes, Lowest, LowestOr64, Never, LeftRecursive, Says}
+use Rattle.firsts.specs.FirstRefusals.{Lowest, LowestOr64, Says}
+use Rattle.firsts.specs.Clashes.{Shares, Clashes, Never, LeftRecursive}
 use Rattle.firsts.proofs.NullablesExactly as nulls
 use Rattle.firsts.proofs.FirstSetsExactly.{sets-exactly, items-exactly, reads-exactly, calls-exactly}
 use Rattle.firsts.proofs.Refusals.{check-exactly, given-12, given-13, some-12, some-13}

@@ -23,7 +23,7 @@ use Rattle.firsts.specs.declared.Step.the-variants.{Done, Past}
 use Rattle.firsts.specs.declared.Gathered.{Gathered}
 use Rattle.firsts.specs.SetCalls.{gathered}
 use Rattle.firsts.specs.Symbols.{symbolOf, withSymbol, fieldStep, stepOf}
-use Rattle.firsts.specs.First.{isPassed, allPassed, own, through, joined, gather}
+use Rattle.firsts.specs.FirstSets.{isPassed, allPassed, own, through, joined, gather}
 use Rattle.productions.specs.Index.{itemsOf}
 
 -- ------------------------------------------------------------------ the symbol of an item

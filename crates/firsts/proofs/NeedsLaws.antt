@@ -18,7 +18,7 @@ use Rattle.grammar.specs.Lookup.{fieldsAt}
 use Rattle.productions.specs.Normal.{Production}
 use Rattle.productions.specs.Index.{itemsOf, productionAt, productionsBy}
 use Rattle.firsts.specs.declared.Gathered.{Gathered}
-use Rattle.firsts.specs.First.{rounds, overAll, isPassed, allPassed, nullStep, nullables, gather}
+use Rattle.firsts.specs.FirstSets.{rounds, overAll, isPassed, allPassed, nullStep, nullables, gather}
 use Rattle.firsts.specs.SetCalls.{joinedIf, gathered}
 use Rattle.firsts.specs.Needs.{everyOne, Nonterminals, needStep, needPass, needRound, stepPlace, NeedsLent, NeedsHeld}
 use Rattle.firsts.proofs.Rounds.{nothing, count, count-le, grows, or-left, or-right, or-split}

@@ -8,7 +8,7 @@ use Rattle.kinds.specs.Kinds.{hasKind, only}
 use Rattle.kinds.proofs.KindsLaws.{has-none, has-join, has-only}
 use Rattle.grammar.specs.Table.{Item, keyword, ide, number, local, call}
 use Rattle.productions.specs.Normal.{Production}
-use Rattle.firsts.specs.First.{overAll, isPassed, allPassed, nullStep, nullables}
+use Rattle.firsts.specs.FirstSets.{overAll, isPassed, allPassed, nullStep, nullables}
 use Rattle.firsts.specs.Rules.{Of, NullItems, null-none, null-local, null-call, Nullable}
 use Rattle.firsts.proofs.Rounds.{Numbers, Within, Each, admit, least, least-within, least-closed, least-settled, least-seen, over-seen}
 use Rattle.firsts.proofs.Searches.{same-set}

@@ -5,7 +5,7 @@ use mathlib.Core.Logic.{_⊎_, inl, inr}
 use mathlib.Core.List.{List, _∷_}
 use Rattle.productions.specs.Normal.{Production}
 use Rattle.firsts.specs.Rules.{In, in-first, in-later, Of, NullItems, First, Reads}
-use Rattle.firsts.specs.FirstRefusals.{Before, before-first, before-later, Two, Clashes, Never}
+use Rattle.firsts.specs.Clashes.{Before, before-first, before-later, Two, Clashes, Never}
 
 -- two members of a list are one, or one stands before the other
 apart : {g : List Production} {p q : Production} → In g p → In g q → (p ≡ q) ⊎ (Before g p q ⊎ Before g q p)

@@ -16,10 +16,12 @@ use Rattle.answers.specs.Checked.{Checked, ok, bad}
 use Rattle.kinds.specs.Kinds.{hasKind}
 use Rattle.kinds.proofs.KindsLaws.{lowest-has, lowest-first}
 use Rattle.productions.specs.Normal.{Production}
-use Rattle.firsts.specs.First.{nullables, firstSets, leftCalls, sharedBy, clash, anyPair, joinPairs, lowest, leftRecursive, clashing}
+use Rattle.firsts.specs.First.{sharedBy, clash, anyPair, joinPairs, lowest, leftRecursive, clashing}
+use Rattle.firsts.specs.FirstSets.{nullables, firstSets, leftCalls}
 use Rattle.firsts.specs.First.{lowestShared, noLeftRecursion, noClash, checkFirsts}
 use Rattle.firsts.specs.Rules.{Calls}
-use Rattle.firsts.specs.FirstRefusals.{Shares, Clashes, Lowest, LowestOr64, Never, LeftRecursive, Says12, Says13, Says}
+use Rattle.firsts.specs.FirstRefusals.{Lowest, LowestOr64, Says12, Says13, Says}
+use Rattle.firsts.specs.Clashes.{Shares, Clashes, Never, LeftRecursive}
 use Rattle.firsts.proofs.FirstSetsExactly.{sets-exactly, calls-exactly}
 use Rattle.firsts.proofs.Searches.{lowest-passes, lowest-skips}
 use Rattle.firsts.proofs.Clashing.{kind-small, shared-exactly, clash-exactly, clash-small}

@@ -11,7 +11,7 @@ use lib.Dec.{eqb, ltb}
 use borrow.Author.Tests.{lt-ltb, le-ltb, eq-eqb, eqb-true, ltb-true}
 use Rattle.grammar.specs.Table.{Item}
 use Rattle.productions.specs.Normal.{Production}
-use Rattle.firsts.specs.First.{rounds, overAll}
+use Rattle.firsts.specs.FirstSets.{rounds, overAll}
 use Rattle.firsts.specs.Rules.{In, in-first, in-later, Of}
 
 -- ------------------------------------------------------------------ tests

@@ -15,7 +15,7 @@ use Rattle.kinds.proofs.KindsLaws.{has-none, has-join, lowest-bound, lowest-has
 use Rattle.productions.specs.Normal.{Production}
 use Rattle.firsts.specs.First.{lowest, anyWith, anyPair, joinWith, joinPairs}
 use Rattle.firsts.specs.Rules.{In, in-first, in-later}
-use Rattle.firsts.specs.FirstRefusals.{Before, before-first, before-later}
+use Rattle.firsts.specs.Clashes.{Before, before-first, before-later}
 use Rattle.firsts.proofs.Rounds.{or-left, or-right, or-split}
 
 decided : (b : Bool) → (b ≡ true) ⊎ (b ≡ false)

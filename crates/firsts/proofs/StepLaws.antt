@@ -9,7 +9,7 @@ use lib.ListN.{length, getD, set, replicate, length-set, length-replicate}
 use lib.Seq.{set-out}
 use Rattle.grammar.specs.Lookup.{fieldsAt}
 use Rattle.productions.specs.Normal.{Production}
-use Rattle.firsts.specs.First.{rounds, overAll, firstStep, setsOf}
+use Rattle.firsts.specs.FirstSets.{rounds, overAll, firstStep, setsOf}
 use Rattle.firsts.specs.declared.Gathered.{Gathered}
 use Rattle.firsts.specs.SetCalls.{gathered, StepTaken, RoundTaken, SetsLent}
 use Rattle.productions.specs.Index.{itemsOf, Place, productionAt, productionsAt, placesFrom, productionsBy}

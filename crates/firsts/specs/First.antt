@@ -1,105 +1,16 @@
--- Nullable nonterminals, first sets (document 01's openings) and left recursion, as 64-bit sets: refusals 12 and 13.
--- Document 01, "Phrase table". Each set is the least that its rules give: rounds over all productions, 64 of them, settle it.
+-- Left recursion and clashes: refusals 12 and 13. Document 01, "Phrase table".
 use Prim.Native.Nat.{ℕ, zero, suc, _+_}
 use mathlib.Core.Bool.{Bool, true, false, _&&_, _||_}
 use mathlib.Core.List.{List, [], _∷_}
 use lib.Dec.{eqb, ltb}
-use lib.ListN.{getD, set, replicate}
+use lib.ListN.{getD}
 use lib.Bits.{bitOr, bitAnd}
 use lib.Count.{trailingZeros}
 use Rattle.answers.specs.Refusals.{refusal}
 use Rattle.answers.specs.Checked.{Checked, ok, bad, _>>_}
-use Rattle.kinds.specs.Kinds.{wordKind, numberKind, keywordKind, hasKind, only}
-use Rattle.grammar.specs.Table.{Item, keyword, ide, number, local, call}
+use Rattle.kinds.specs.Kinds.{hasKind}
 use Rattle.productions.specs.Normal.{Production}
-
--- ------------------------------------------------------------------ rounds
-
--- k rounds of f
-unfoldable pub rounds : {A : Type 0} → ℕ → (A → A) → A → A
-rounds zero f x = x
-rounds (suc k) f x = rounds k f (f x)
-
--- one round: a step for each production, in order
-unfoldable pub overAll : {A : Type 0} → (Production → A → A) → List Production → A → A
-overAll f [] x = x
-overAll f (p ∷ g) x = overAll f g (f p x)
-
--- ------------------------------------------------------------------ nullables
-
--- an item that may read nothing: a local, or a call of a nullable nonterminal
-abbrev pub isPassed : ℕ → Item → Bool
-isPassed nulls (keyword k) = false
-isPassed nulls (ide s) = false
-isPassed nulls number = false
-isPassed nulls local = true
-isPassed nulls (call n ts) = hasKind nulls n
-
-unfoldable pub allPassed : ℕ → List Item → Bool
-allPassed nulls [] = true
-allPassed nulls (i ∷ is) = isPassed nulls i && allPassed nulls is
-
-unfoldable pub nullStep : Production → ℕ → ℕ
-nullStep p nulls = elim (allPassed nulls (p .items)) [ true ↦ bitOr nulls (only (p .owner)) | false ↦ nulls ]
-
--- the nullable nonterminals of a grammar, bit n for nonterminal n
-unfoldable pub nullables : List Production → ℕ
-nullables g = rounds 64 (overAll nullStep g) 0
-
--- ------------------------------------------------------------------ first sets and left calls
-
--- what an item gives by itself: to a first set the kind that it reads, to the left calls the nonterminal that it calls
-abbrev pub own : Bool → Item → ℕ
-own false (keyword k) = only (keywordKind k)
-own false (ide s) = only wordKind
-own false number = only numberKind
-own false local = 0
-own false (call n ts) = 0
-own true (keyword k) = 0
-own true (ide s) = 0
-own true number = 0
-own true local = 0
-own true (call n ts) = only n
-
--- what a call gives through its nonterminal, whose sets are `sets`
-abbrev pub through : List ℕ → Item → ℕ
-through sets (keyword k) = 0
-through sets (ide s) = 0
-through sets number = 0
-through sets local = 0
-through sets (call n ts) = getD sets n 0
-
-abbrev pub joined : Bool → List ℕ → Item → ℕ → ℕ
-joined calls sets i found = bitOr (bitOr found (own calls i)) (through sets i)
-
--- what the items give up to the first that is not nullable, with that one
-unfoldable pub gather : Bool → ℕ → List ℕ → List Item → ℕ → ℕ
-gather calls nulls sets [] found = found
-gather calls nulls sets (i ∷ is) found =
-    elim (isPassed nulls i)
-    [ true ↦ gather calls nulls sets is (joined calls sets i found) | false ↦ joined calls sets i found ]
-
-unfoldable pub firstStep : Bool → ℕ → Production → List ℕ → List ℕ
-firstStep calls nulls p sets =
-    set sets (p .owner) (bitOr (getD sets (p .owner) 0) (gather calls nulls sets (p .items) 0))
-
--- a set for each of the 64 nonterminals
-unfoldable pub setsOf : Bool → ℕ → List Production → List ℕ
-setsOf calls nulls g = rounds 64 (overAll (firstStep calls nulls) g) (replicate 64 0)
-
--- the first sets: bit 0 a word, bit 1 a number, bit k + 2 keyword k
-abbrev pub firstSets : ℕ → List Production → List ℕ
-firstSets nulls g = setsOf false nulls g
-
--- the nonterminals that a nonterminal reaches by calls preceded only by nullable items
-abbrev pub leftCalls : ℕ → List Production → List ℕ
-leftCalls nulls g = setsOf true nulls g
-
--- the first set of one production
-abbrev pub firstOf : ℕ → List ℕ → Production → ℕ
-firstOf nulls firsts p = gather false nulls firsts (p .items) 0
-
--- ------------------------------------------------------------------ refusals 12 and 13
+use Rattle.firsts.specs.FirstSets.{allPassed, nullables, firstSets, leftCalls, firstOf}
 
 -- the lowest of the k numbers from n on that passes the test, n + k if none does
 unfoldable pub lowest : ℕ → (ℕ → Bool) → ℕ → ℕ

@@ -5,4 +5,6 @@ pub mod Symbols
 pub mod Pairs
 pub mod Room
 pub mod SetCalls
+pub mod FirstSets
+pub mod Clashes
 pub mod Needs

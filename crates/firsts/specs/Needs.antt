@@ -10,7 +10,7 @@ use lib.Dec.{eqb}
 use lib.ListN.{length, getD}
 use Rattle.kinds.specs.Kinds.{hasKind, only}
 use Rattle.productions.specs.Normal.{Production}
-use Rattle.firsts.specs.First.{overAll, nullStep}
+use Rattle.firsts.specs.FirstSets.{overAll, nullStep}
 use Rattle.firsts.specs.SetCalls.{joinedIf}
 
 -- the set of all 64 nonterminals

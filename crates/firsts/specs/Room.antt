@@ -12,7 +12,8 @@ use Rattle.layout.specs.Within.{Each}
 use Rattle.productions.specs.Normal.{Production}
 use Rattle.productions.specs.Index.{itemsOf, Place, placesOf, productionsAt, wholeBody, placesIn, Whole}
 use Rattle.productions.specs.Room.{Entry, roomOf, overwritten, RoomAndSets}
-use Rattle.firsts.specs.First.{nullables, firstSets, leftCalls, leftRecursive, allPassed, gather, checkFirsts}
+use Rattle.firsts.specs.First.{leftRecursive, checkFirsts}
+use Rattle.firsts.specs.FirstSets.{nullables, firstSets, leftCalls, allPassed, gather}
 
 -- a production at a place, with the sets of its grammar
 abbrev pub entryAt : List ℕ → ℕ → List ℕ → Place → Entry

@@ -12,7 +12,7 @@ use Rattle.kinds.specs.Kinds.{hasKind}
 use Rattle.grammar.specs.Table.{Item}
 use Rattle.productions.specs.Normal.{Production}
 use Rattle.firsts.specs.declared.Gathered.{Gathered}
-use Rattle.firsts.specs.First.{overAll, allPassed, gather, firstStep, setsOf}
+use Rattle.firsts.specs.FirstSets.{overAll, allPassed, gather, firstStep, setsOf}
 
 -- what the items of a production give, where the sets of the nonterminals are `kinds` and `calls`, and whether all may read nothing
 abbrev pub gathered : ℕ → List ℕ → List ℕ → List Item → Gathered

@@ -14,7 +14,7 @@ ghost use Rattle.kinds.specs.Kinds.{keywordKind, only};
 ghost use Rattle.grammar.specs.Lookup.{frontOf, fieldsAt};
 ghost use Rattle.layout.specs.Decode.{itemOf};
 ghost use Rattle.firsts.specs.Symbols.{symbolOf, withSymbol, stepOf};
-ghost use Rattle.firsts.specs.First.{isPassed, own, through, joined};
+ghost use Rattle.firsts.specs.FirstSets.{isPassed, own, through, joined};
 ghost use Rattle.firsts.specs.SetCalls.{gathered};
 ghost use Rattle.productions.specs.Index.{itemsOf};
 

@@ -9,7 +9,7 @@ use productions::index::offset;
 ghost use Prim.Native.Nat.{_<_};
 ghost use mathlib.Core.Path.{_≡_};
 ghost use Rattle.productions.specs.Index.{productionsBy};
-ghost use Rattle.firsts.specs.First.{nullables};
+ghost use Rattle.firsts.specs.FirstSets.{nullables};
 ghost use Rattle.firsts.specs.Needs.{needStep, stepPlace, needPass, NeedsLent, NeedsHeld};
 ghost use Rattle.firsts.specs.Room.{WholeIndex};
 

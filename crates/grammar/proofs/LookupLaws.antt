@@ -15,8 +15,9 @@ use Rattle.grammar.specs.declared.Front.{Front}
 use Rattle.grammar.specs.declared.Front.the-variants.{Nothing, Short, Field}
 use Rattle.grammar.specs.declared.Found.{Found}
 use Rattle.grammar.specs.declared.Found.the-variants.{At, Absent}
-use Rattle.grammar.specs.Fields.{Fields, end, cut, next, sizeOf, fieldsFrom, fieldsOf, leading, afterLeading, lexiconOf}
-use Rattle.grammar.specs.Lookup.{frontOf, fieldsAt, foundIn}
+use Rattle.grammar.specs.Fields.{Fields, end, cut, next, sizeOf, fieldsFrom, fieldsOf}
+use Rattle.grammar.specs.Lookup.{leading, afterLeading, lexiconOf, frontOf, fieldsAt}
+use Rattle.grammar.specs.Found.{foundIn}
 
 -- ------------------------------------------------------------------ what stands at an offset
 

@@ -3,15 +3,8 @@
 use Prim.Native.Nat.{ℕ, _/_, _%_}
 use mathlib.Core.List.{List, [], _∷_, _++_}
 use lib.ListN.{length}
-use Rattle.grammar.specs.Table.{Template, Templates, variable, outside, outsideLabel, make, none, more, Item, keyword, ide, number, local, call, Alternative, Mode, add, extend, update, Definition, Table}
-
--- a field: a tag and a value
-pub record Field : Type 0 where
-  pub tag : ℕ
-  pub value : List ℕ
-
-abbrev pub field : ℕ → List ℕ → Field
-field tag v = record { tag = tag; value = v }
+use Rattle.grammar.specs.Table.{Item, Alternative, Definition, Table}
+use Rattle.grammar.specs.Values.{Field, field, templateThen, itemValue, headValue}
 
 -- one byte of tag, two of length with the high byte first, then the value
 abbrev pub fieldThen : Field → List ℕ → List ℕ
@@ -20,33 +13,6 @@ fieldThen f follow = f .tag ∷ length (f .value) / 256 ∷ length (f .value) % 
 unfoldable pub fieldBytes : List Field → List ℕ
 fieldBytes [] = []
 fieldBytes (f ∷ fs) = fieldThen f (fieldBytes fs)
-
--- templates in prefix form
-unfoldable mutual
-  pub templateThen : Template → List ℕ → List ℕ
-  templateThen (variable i) follow = i ∷ follow
-  templateThen (outside n) follow = 0x10 ∷ n ∷ follow
-  templateThen (outsideLabel n) follow = 0x11 ∷ n ∷ follow
-  templateThen (make c ts) follow = c ∷ templatesThen ts follow
-
-  pub templatesThen : Templates → List ℕ → List ℕ
-  templatesThen none follow = follow
-  templatesThen (more t ts) follow = templateThen t (templatesThen ts follow)
-
-unfoldable pub itemValue : Item → List ℕ
-itemValue (keyword k) = 0 ∷ k ∷ []
-itemValue (ide s) = 1 ∷ s ∷ []
-itemValue number = 2 ∷ 0 ∷ []
-itemValue local = 3 ∷ 0 ∷ []
-itemValue (call n ts) = 4 ∷ n ∷ templatesThen ts []
-
-abbrev pub modeCode : Mode → ℕ
-modeCode add = 0
-modeCode extend = 1
-modeCode update = 2
-
-unfoldable pub headValue : Definition → List ℕ
-headValue d = d .nonterminal ∷ modeCode (d .mode) ∷ d .signature .result ∷ d .signature .params
 
 -- all 01 and all 02: one field a spelling
 unfoldable pub spellingsThen : ℕ → List (List ℕ) → List Field → List Field

@@ -1,7 +1,7 @@
 -- The fields of a table's bytes, with their offsets. Document 01, "Phrase table" and refusal 2.
 use Prim.Native.Nat.{ℕ, zero, suc, _+_, _*_}
-use mathlib.Core.Bool.{Bool, true, false}
-use mathlib.Core.List.{List, [], _∷_}
+use mathlib.Core.Bool.{true, false}
+use mathlib.Core.List.{List}
 use lib.Dec.{eqb, leb}
 use lib.ListN.{length, getD, take, drop}
 
@@ -33,25 +33,3 @@ fieldsFrom (suc k) at rest =
 
 unfoldable pub fieldsOf : List ℕ → Fields
 fieldsOf bs = fieldsFrom (length bs) 0 bs
-
--- the values of the fields of one tag that stand at the front, and what follows them
-unfoldable pub leading : ℕ → Fields → List (List ℕ)
-leading tag (end at) = []
-leading tag (cut at) = []
-leading tag (next at t v fs) = elim (eqb t tag) [ true ↦ v ∷ leading tag fs | false ↦ [] ]
-
-unfoldable pub afterLeading : ℕ → Fields → Fields
-afterLeading tag (end at) = end at
-afterLeading tag (cut at) = cut at
-afterLeading tag (next at t v fs) = elim (eqb t tag) [ true ↦ afterLeading tag fs | false ↦ next at t v fs ]
-
--- what a table gives the scanner: its keywords and its outside names, each in table order
-pub record Lexicon : Type 0 where
-  pub keywords : List (List ℕ)
-  pub outsides : List (List ℕ)
-
--- the keywords and outside names that any bytes begin with, as many as a table may have
-unfoldable pub lexiconOf : List ℕ → Lexicon
-lexiconOf bs =
-    record
-    { keywords = take 62 (leading 1 (fieldsOf bs)); outsides = take 64 (leading 2 (afterLeading 1 (fieldsOf bs))) }

@@ -2,5 +2,6 @@ pub mod Sorts
 pub mod Table
 pub mod Encode
 pub mod Fields
-pub mod Cells
 pub mod Lookup
+pub mod Values
+pub mod Found

@@ -1,15 +1,13 @@
 -- A table's fields from an offset on, and where a spelling stands among the first of them.
 use Prim.Native.Nat.{ℕ, _+_}
 use mathlib.Core.Bool.{true, false}
-use mathlib.Core.List.{List}
-use lib.Dec.{eqb, leb, ltb}
-use lib.ListN.{length, getD, drop}
-use Rattle.spellings.specs.Bytes.{indexOf}
+use mathlib.Core.List.{List, [], _∷_}
+use lib.Dec.{eqb, leb}
+use lib.ListN.{length, getD, drop, take}
 use Rattle.grammar.specs.declared.Front.{Front}
 use Rattle.grammar.specs.declared.Front.the-variants.{Nothing, Short, Field}
-use Rattle.grammar.specs.declared.Found.{Found}
-use Rattle.grammar.specs.declared.Found.the-variants.{At, Absent}
-use Rattle.grammar.specs.Fields.{Fields, sizeOf, fieldsFrom}
+use Rattle.grammar.specs.Table.{Lexicon}
+use Rattle.grammar.specs.Fields.{Fields, sizeOf, fieldsFrom, fieldsOf, end, cut, next}
 
 -- what stands at the front of what is left of a table
 unfoldable pub frontOf : List ℕ → Front
@@ -23,7 +21,19 @@ frontOf rest =
 unfoldable pub fieldsAt : List ℕ → ℕ → Fields
 fieldsAt table at = fieldsFrom (length table) at (drop at table)
 
--- where a spelling stands first in a list, if it is there
-unfoldable pub foundIn : List ℕ → List (List ℕ) → Found
-foundIn s spellings =
-    elim (ltb (indexOf s spellings) (length spellings)) [ true ↦ At (indexOf s spellings) | false ↦ Absent ]
+-- the values of the fields of one tag that stand at the front, and what follows them
+unfoldable pub leading : ℕ → Fields → List (List ℕ)
+leading tag (end at) = []
+leading tag (cut at) = []
+leading tag (next at t v fs) = elim (eqb t tag) [ true ↦ v ∷ leading tag fs | false ↦ [] ]
+
+unfoldable pub afterLeading : ℕ → Fields → Fields
+afterLeading tag (end at) = end at
+afterLeading tag (cut at) = cut at
+afterLeading tag (next at t v fs) = elim (eqb t tag) [ true ↦ afterLeading tag fs | false ↦ next at t v fs ]
+
+-- the keywords and outside names that any bytes begin with, as many as a table may have
+unfoldable pub lexiconOf : List ℕ → Lexicon
+lexiconOf bs =
+    record
+    { keywords = take 62 (leading 1 (fieldsOf bs)); outsides = take 64 (leading 2 (afterLeading 1 (fieldsOf bs))) }

@@ -48,3 +48,11 @@ pub record Table : Type 0 where
   pub outsides : List (List ℕ)
   pub blocks : List (List Definition)
   pub root : ℕ
+
+-- what a table gives the scanner: its keywords and its outside names, each in table order
+pub record Lexicon : Type 0 where
+  pub keywords : List (List ℕ)
+  pub outsides : List (List ℕ)
+
+abbrev pub lexiconOfTable : Table → Lexicon
+lexiconOfTable t = record { keywords = t .keywords; outsides = t .outsides }

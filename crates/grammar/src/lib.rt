@@ -5,8 +5,8 @@ pub mod sorts;
 use spellings::equal;
 ghost use mathlib.Core.Path.{_≡_};
 ghost use lib.ListN.{drop, take};
-ghost use Rattle.grammar.specs.Fields.{leading, afterLeading};
-ghost use Rattle.grammar.specs.Lookup.{frontOf, fieldsAt, foundIn};
+ghost use Rattle.grammar.specs.Lookup.{leading, afterLeading, frontOf, fieldsAt};
+ghost use Rattle.grammar.specs.Found.{foundIn};
 
 // What stands at the front of what is left of a table: nothing, a field that runs past the end, or a field, by its tag and the
 // length of its value.

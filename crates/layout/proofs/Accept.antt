@@ -6,7 +6,7 @@ use mathlib.Core.List.{List, _∷_}
 use lib.Dec.{eqb}
 use borrow.Author.Tests.{eqb-true}
 use Rattle.answers.specs.Checked.{Checked, ok, bad, _>>=_, _>>_, need}
-use Rattle.grammar.specs.Encode.{Field, field}
+use Rattle.grammar.specs.Values.{Field, field}
 use Rattle.grammar.specs.Fields.{Fields, end, cut, next}
 use Rattle.layout.specs.declared.Progress.{Progress}
 use Rattle.layout.specs.Layout.{isEmpty, isHead, isItem, isRoot, isKnown, follows, isSpelled, hasRoom, isWhole, passed, checkField, checkFields}

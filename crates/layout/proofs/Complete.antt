@@ -9,8 +9,8 @@ use borrow.Author.Tests.{lt-ltb}
 use Rattle.answers.specs.Checked.{ok}
 use Rattle.spellings.specs.Bytes.{isWord, isKeyword}
 use Rattle.grammar.specs.Table.{Item, Alternative, Definition, Table}
-use Rattle.grammar.specs.Encode.{Field, field, templateThen, itemValue, headValue, spellingsThen, itemsThen, alternativesThen, definitionsThen}
-use Rattle.grammar.specs.Encode.{blocksThen, tableFields}
+use Rattle.grammar.specs.Encode.{spellingsThen, itemsThen, alternativesThen, definitionsThen, blocksThen, tableFields}
+use Rattle.grammar.specs.Values.{Field, field, templateThen, itemValue, headValue}
 use Rattle.layout.specs.declared.Progress.{Progress}
 use Rattle.layout.specs.Layout.{isKnown, follows, isRepeated, isSpelled, hasRoom, isWhole, passed, start, checkFields}
 use Rattle.layout.specs.Within.{Each, each-none, each-more, ItemWithin, AlternativeWithin, DefinitionWithin, alternativesOf, alternativesIn, Within}

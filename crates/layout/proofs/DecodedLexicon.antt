@@ -10,9 +10,10 @@ use lib.Seq.{take-all}
 use borrow.Author.Tests.{leb-true}
 use Rattle.answers.specs.Checked.{ok}
 use Rattle.spellings.proofs.BytesLaws.{by-test}
-use Rattle.grammar.specs.Table.{Table}
-use Rattle.grammar.specs.Encode.{Field, field}
-use Rattle.grammar.specs.Fields.{Fields, end, cut, next, fieldsOf, leading, afterLeading, Lexicon, lexiconOf}
+use Rattle.grammar.specs.Table.{Table, Lexicon}
+use Rattle.grammar.specs.Values.{Field, field}
+use Rattle.grammar.specs.Fields.{Fields, end, cut, next, fieldsOf}
+use Rattle.grammar.specs.Lookup.{leading, afterLeading, lexiconOf}
 use Rattle.layout.specs.declared.Progress.{Progress}
 use Rattle.layout.specs.Layout.{isKnown, follows, passed, start, checkFields}
 use Rattle.layout.specs.Decode.{Built, put, build, decode}

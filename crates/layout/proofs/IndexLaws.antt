@@ -13,7 +13,7 @@ use borrow.Author.Tests.{eqb-true, eqb-false, eq-eqb}
 use Rattle.spellings.specs.Bytes.{same}
 use Rattle.spellings.proofs.BytesLaws.{by-test, differ-same}
 use Rattle.spellings.proofs.Loops.{drop-at-index}
-use Rattle.grammar.specs.Encode.{Field, field}
+use Rattle.grammar.specs.Values.{Field, field}
 use Rattle.layout.specs.Layout.{isRepeated, oneIf}
 use Rattle.layout.specs.Index.{spelledBy, isAmong, hashFrom, hashOf, entry, Entered, Leads, leads-none, leads-past, leads-here}
 use Rattle.layout.specs.Index.{Indexed, Falling, roomWith, entered, Has}

@@ -12,7 +12,8 @@ use Rattle.spellings.proofs.BytesLaws.{by-test}
 use Rattle.grammar.specs.Table.{Table}
 use Rattle.grammar.specs.Encode.{fieldBytes, tableFields, encode}
 use Rattle.grammar.specs.Fields.{fieldsOf}
-use Rattle.layout.specs.Layout.{start, checkFields, layout, longestTable}
+use Rattle.layout.specs.Layout.{start, checkFields, layout}
+use Rattle.grammar.specs.Values.{longestTable}
 use Rattle.layout.specs.Decode.{build, tableOf, decode}
 use Rattle.layout.specs.Within.{Within}
 use Rattle.layout.proofs.Split.{Bytes, fields-of-bytes, bytes-of-fields, value-bytes}

@@ -15,11 +15,10 @@ use Rattle.answers.specs.declared.Verdict.the-variants.{Passed, Refused}
 use Rattle.spellings.specs.Bytes.{every, isWord, isKeyword}
 use Rattle.spellings.proofs.Loops.{drop-at-index}
 use Rattle.grammar.specs.Sorts.{isSort}
-use Rattle.grammar.specs.Encode.{Field}
+use Rattle.grammar.specs.Values.{Field}
 use Rattle.layout.specs.declared.Progress.{Progress}
 use Rattle.layout.specs.Prefix.{templatesOf, isTemplates, isTemplate}
-use Rattle.layout.specs.Layout.{isEmpty, isHead, isItem, isRoot}
-use Rattle.layout.specs.Layout.{isKnown, follows, isRepeated, isSpelled, hasRoom, oneIf, passed, isWhole, checkField}
+use Rattle.layout.specs.Layout.{isEmpty, isHead, isItem, isRoot, isKnown, follows, isRepeated, isSpelled, hasRoom, oneIf, passed, isWhole, checkField}
 
 -- ------------------------------------------------------------------ tests
 

@@ -13,37 +13,37 @@ use Rattle.answers.specs.Refusals.{refusal}
 use Rattle.answers.specs.Checked.{Checked, ok, bad, need, verdict, _>>=_}
 use Rattle.grammar.specs.declared.Front.{Front}
 use Rattle.grammar.specs.declared.Front.the-variants.{Nothing, Short, Field}
-use Rattle.grammar.specs.Encode.{field}
-use Rattle.grammar.specs.Encode as encode
+use Rattle.grammar.specs.Values.{field, longestTable}
+use Rattle.grammar.specs.Values as values
 use Rattle.grammar.specs.Fields.{Fields, end, cut, next, fieldsOf}
 use Rattle.grammar.specs.Lookup.{frontOf, fieldsAt}
 use Rattle.grammar.proofs.LookupLaws.{opened, fields-at, fields-of}
 use Rattle.layout.specs.declared.Progress.{Progress}
 use Rattle.layout.specs.declared.Checking.the-variants.{Further, Stopped}
-use Rattle.layout.specs.Layout.{checkField, checkFields, start, layout, longestTable}
+use Rattle.layout.specs.Layout.{checkField, checkFields, start, layout}
 use Rattle.layout.specs.Before.{earlier, fieldsBefore, checking}
 
 -- ------------------------------------------------------------------ the fields before an offset
 
-earlier-by : (to at tag : ℕ) (v : List ℕ) (fs : Fields) (before : List encode.Field) (t : Bool) → ltb at to ≡ t
+earlier-by : (to at tag : ℕ) (v : List ℕ) (fs : Fields) (before : List values.Field) (t : Bool) → ltb at to ≡ t
     → earlier to (next at tag v fs) before
-    ≡ elim t as (λ x. List encode.Field) [ true ↦ earlier to fs (field tag v ∷ before) | false ↦ before ]
+    ≡ elim t as (λ x. List values.Field) [ true ↦ earlier to fs (field tag v ∷ before) | false ↦ before ]
 unfolding earlier
 earlier-by to at tag v fs before t e =
     ap
-    (λ (x : Bool). elim x as (λ y. List encode.Field) [ true ↦ earlier to fs (field tag v ∷ before) | false ↦ before ])
+    (λ (x : Bool). elim x as (λ y. List values.Field) [ true ↦ earlier to fs (field tag v ∷ before) | false ↦ before ])
     e
 
 -- what is left at the end of a list of fields
-earlier-end : (to at : ℕ) (before : List encode.Field) → earlier to (end at) before ≡ before
+earlier-end : (to at : ℕ) (before : List values.Field) → earlier to (end at) before ≡ before
 unfolding earlier
 earlier-end to at before = refl
 
-earlier-cut : (to at : ℕ) (before : List encode.Field) → earlier to (cut at) before ≡ before
+earlier-cut : (to at : ℕ) (before : List values.Field) → earlier to (cut at) before ≡ before
 unfolding earlier
 earlier-cut to at before = refl
 
-module _ (table : List ℕ) (to at : ℕ) (before : List encode.Field) where
+module _ (table : List ℕ) (to at : ℕ) (before : List values.Field) where
   past-by : (r : Front) → to ≤ at → earlier to (opened table at r) before ≡ before
   past-by Nothing h = earlier-end to at before
   past-by Short h = earlier-cut to at before
@@ -80,15 +80,15 @@ layout-short : (table : List ℕ) → length table ≤ longestTable → layout t
 unfolding layout
 layout-short table h = rw (le-leb (length table) longestTable h, layout) refl
 
-fields-end : (at : ℕ) (before : List encode.Field) (s : Progress) → checkFields (end at) before s ≡ need (eqb (s .last) 8) 4 at
+fields-end : (at : ℕ) (before : List values.Field) (s : Progress) → checkFields (end at) before s ≡ need (eqb (s .last) 8) 4 at
 unfolding checkFields
 fields-end at before s = refl
 
-fields-cut : (at : ℕ) (before : List encode.Field) (s : Progress) → checkFields (cut at) before s ≡ bad (refusal 2 at 0 0)
+fields-cut : (at : ℕ) (before : List values.Field) (s : Progress) → checkFields (cut at) before s ≡ bad (refusal 2 at 0 0)
 unfolding checkFields
 fields-cut at before s = refl
 
-fields-next : (at tag : ℕ) (v : List ℕ) (fs : Fields) (before : List encode.Field) (s : Progress) (r : Checked Progress)
+fields-next : (at tag : ℕ) (v : List ℕ) (fs : Fields) (before : List values.Field) (s : Progress) (r : Checked Progress)
     → checkField before at tag v s ≡ r
     → checkFields (next at tag v fs) before s ≡ (r >>= λ t. checkFields fs (field tag v ∷ before) t)
 unfolding checkFields

@@ -6,7 +6,8 @@ use mathlib.Core.List.{List, [], _∷_}
 use native.Mathlib.Omega.{arith}
 use lib.ListN.{getD}
 use Rattle.grammar.specs.Table.{Template, Item, Alternative, Definition}
-use Rattle.grammar.specs.Encode.{Field, field, templateThen, itemValue, headValue, spellingsThen, itemsThen, alternativesThen, definitionsThen, blocksThen}
+use Rattle.grammar.specs.Encode.{spellingsThen, itemsThen, alternativesThen, definitionsThen, blocksThen}
+use Rattle.grammar.specs.Values.{Field, field, templateThen, itemValue, headValue}
 use Rattle.layout.specs.Layout.{follows}
 use Rattle.layout.specs.Decode.{Built, built}
 

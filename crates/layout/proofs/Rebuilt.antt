@@ -4,8 +4,8 @@ use mathlib.Core.Path.{_≡_, refl, ap, _∙_}
 use mathlib.Core.List.{List, [], _∷_}
 use lib.ListN.{length}
 use Rattle.grammar.specs.Table.{Template, variable, Item, Alternative, Definition, Table}
-use Rattle.grammar.specs.Encode.{Field, field, templateThen, itemValue, headValue, spellingsThen, itemsThen, alternativesThen, definitionsThen}
-use Rattle.grammar.specs.Encode.{blocksThen, tableFields}
+use Rattle.grammar.specs.Encode.{spellingsThen, itemsThen, alternativesThen, definitionsThen, blocksThen, tableFields}
+use Rattle.grammar.specs.Values.{Field, field, templateThen, itemValue, headValue}
 use Rattle.layout.specs.Decode.{Built, built, nothing, put, build, tableOf}
 use Rattle.layout.specs.Within.{Each, each-none, each-more, ItemWithin, AlternativeWithin, DefinitionWithin, Within}
 use Rattle.layout.proofs.Split.{spread}

@@ -10,10 +10,10 @@ use Rattle.answers.specs.declared.Refusal.{Refusal}
 use Rattle.answers.specs.Refusals.{refusal}
 use Rattle.answers.specs.Checked.{Checked, ok, bad, _>>=_, _>>_, need}
 use Rattle.grammar.specs.Table.{Table}
-use Rattle.grammar.specs.Encode.{Field, field}
+use Rattle.grammar.specs.Values.{Field, field, longestTable}
 use Rattle.grammar.specs.Fields.{Fields, end, cut, next, fieldsOf}
 use Rattle.layout.specs.declared.Progress.{Progress}
-use Rattle.layout.specs.Layout.{isKnown, follows, isSpelled, hasRoom, isWhole, passed, checkField, checkFields, start, layout, longestTable}
+use Rattle.layout.specs.Layout.{isKnown, follows, isSpelled, hasRoom, isWhole, passed, checkField, checkFields, start, layout}
 use Rattle.layout.specs.Decode.{build, tableOf, decode}
 
 -- the numbers of a layout's refusals: 1 to 6 and 10

@@ -9,8 +9,8 @@ use lib.ListN.{length, take, drop, replicate, length-take, length-drop}
 use borrow.Author.Tests.{ltb-true}
 use Rattle.answers.specs.Checked.{Checked, ok, bad}
 use Rattle.grammar.specs.declared.Front.the-variants.{Field}
-use Rattle.grammar.specs.Encode.{field}
-use Rattle.grammar.specs.Encode as encode
+use Rattle.grammar.specs.Values.{field}
+use Rattle.grammar.specs.Values as values
 use Rattle.grammar.specs.Lookup.{frontOf}
 use Rattle.grammar.proofs.LookupLaws.{front-inside}
 use Rattle.layout.specs.declared.Progress.{Progress}
@@ -34,7 +34,7 @@ first-ok true true true true false at s u e = let z : _≡_ {A = ℕ} 0 1 = cc i
 first-ok true true true true true at s u e = (refl, cc)
 
 field-ok :
-    (before : List encode.Field) (at tag : ℕ) (v : List ℕ) (s u : Progress) → checkField before at tag v s ≡ ok u
+    (before : List values.Field) (at tag : ℕ) (v : List ℕ) (s u : Progress) → checkField before at tag v s ≡ ok u
     → (hasRoom tag s ≡ true) × (u ≡ passed tag s)
 field-ok before at tag v s u e =
     first-ok (isKnown tag v) (follows tag (s .last)) (isSpelled tag v before) (hasRoom tag s) (isWhole tag v) at (passed tag s) u
@@ -46,7 +46,7 @@ below n limit true e h k = omega (arith, ltb-true n limit e)
 below n limit false e h k = absurd (let z : _≡_ {A = ℕ} 0 1 = cc in omega arith)
 
 has-moved :
-    {table : List ℕ} {tag : ℕ} {b b′ : List encode.Field} {k k′ : ℕ} {r r′ : List ℕ} → b ≡ b′ → k ≡ k′ → r ≡ r′ → Has table tag b k r
+    {table : List ℕ} {tag : ℕ} {b b′ : List values.Field} {k k′ : ℕ} {r r′ : List ℕ} → b ≡ b′ → k ≡ k′ → r ≡ r′ → Has table tag b k r
     → Has table tag b′ k′ r′
 has-moved {table} {tag} {b} {b′} {k} {k′} {r} e f g h =
     subst (Has table tag b′ k′) g (subst (λ x. Has table tag b′ x r) f (subst (λ x. Has table tag x k r) e h))

@@ -10,10 +10,11 @@ use borrow.Author.Tests.{eqb-true, ltb-true, not-true}
 use Rattle.answers.specs.Checked.{ok, need}
 use Rattle.spellings.specs.Bytes.{isWord, isKeyword}
 use Rattle.grammar.specs.Table.{Template, Item, Definition, Table}
-use Rattle.grammar.specs.Encode.{Field, field, templateThen, itemValue, headValue, tableFields, encode}
+use Rattle.grammar.specs.Encode.{tableFields, encode}
+use Rattle.grammar.specs.Values.{Field, field, templateThen, itemValue, headValue, longestTable}
 use Rattle.grammar.specs.Fields.{Fields, end, cut, next}
 use Rattle.layout.specs.declared.Progress.{Progress}
-use Rattle.layout.specs.Layout.{isKnown, follows, isRepeated, isSpelled, hasRoom, passed, start, checkFields, longestTable}
+use Rattle.layout.specs.Layout.{isKnown, follows, isRepeated, isSpelled, hasRoom, passed, start, checkFields}
 use Rattle.layout.specs.Decode.{Built, nothing, definitionOf, tableOf}
 use Rattle.layout.specs.Within.{Each, each-none, each-more, TemplateWithin, variable-within, ItemWithin, AlternativeWithin, DefinitionWithin}
 use Rattle.layout.specs.Within.{alternativesOf, alternativesIn, Within}
@@ -21,8 +22,7 @@ use Rattle.layout.proofs.Split.{Bytes, ValueBytes, flat}
 use Rattle.layout.proofs.Values.{and-left, block-value, alternative-value, root-value, head-value, result-value, item-value}
 use Rattle.layout.proofs.Accept.{Passes, Accepts, accepted, by-tag}
 use Rattle.layout.proofs.Order.{left, withKeyword, withOutside, withBlock, withDefinition, withAlternative, withItem, withResult, withRoot}
-use Rattle.layout.proofs.Order.{opens-keyword, opens-outside, opens-block, opens-definition, opens-alternative, opens-item, opens-result}
-use Rattle.layout.proofs.Order.{opens-root}
+use Rattle.layout.proofs.Order.{opens-keyword, opens-outside, opens-block, opens-definition, opens-alternative, opens-item, opens-result, opens-root}
 use Rattle.layout.proofs.Spelled.{Spelled, spelled-none, spelled-more}
 
 -- ------------------------------------------------------------------ counts

@@ -5,7 +5,7 @@ use mathlib.Core.Bool.{Bool, true, false, _||_, true≢false}
 use mathlib.Core.List.{List, [], _∷_}
 use Rattle.spellings.specs.Bytes.{same}
 use Rattle.spellings.proofs.BytesLaws.{same-false, differ-same}
-use Rattle.grammar.specs.Encode.{Field, field}
+use Rattle.grammar.specs.Values.{Field, field}
 use Rattle.layout.specs.Layout.{isRepeated}
 use Rattle.layout.specs.Within.{Each, each-none, each-more, Different, different-none, different-more}
 

@@ -9,7 +9,8 @@ use lib.ListN.{length, getD, take, drop, length-append, length-drop, take-append
 use lib.Seq.{drop-drop, take-append-seam, drop-append-seam, getD-drop, length-take-le}
 use borrow.Author.Tests.{le-leb, leb-true, ne-eqb}
 use Rattle.spellings.proofs.BytesLaws.{by-test}
-use Rattle.grammar.specs.Encode.{Field, field, fieldThen, fieldBytes}
+use Rattle.grammar.specs.Encode.{fieldThen, fieldBytes}
+use Rattle.grammar.specs.Values.{Field, field}
 use Rattle.grammar.specs.Fields.{Fields, end, cut, next, sizeOf, fieldsFrom, fieldsOf}
 
 -- every member of the list is a byte; a place past the end has the byte 0

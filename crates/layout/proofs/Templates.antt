@@ -9,7 +9,7 @@ use borrow.Author.Tests.{lt-ltb, le-ltb, ltb-true, le-leb, leb-true, ne-eqb, eqb
 use Rattle.spellings.proofs.BytesLaws.{by-test}
 use Rattle.grammar.specs.Sorts.{isConstructor, arity}
 use Rattle.grammar.specs.Table.{Template, Templates, make, none, more}
-use Rattle.grammar.specs.Encode.{templateThen, templatesThen}
+use Rattle.grammar.specs.Values.{templateThen, templatesThen}
 use Rattle.layout.specs.Prefix.{Parsed, fault, parsed, inFront, Taken, short, taken, alsoTaken, takeTemplates, applied, constructed}
 use Rattle.layout.specs.Prefix.{byteInFront, isNameTag, nameBy, templatesOf}
 use Rattle.layout.proofs.PrefixLaws.{name-first, name-last, byte-first, variable-first, constructor-first, unknown-first}

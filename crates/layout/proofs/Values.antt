@@ -10,7 +10,7 @@ use borrow.Author.Tests.{le-leb, leb-true, eqb-true}
 use Rattle.spellings.specs.Bytes.{every}
 use Rattle.grammar.specs.Sorts.{isSort, isIdeSort}
 use Rattle.grammar.specs.Table.{Template, Templates, none, more, Item, keyword, ide, number, local, call, Alternative, Mode, add, extend, update, Definition}
-use Rattle.grammar.specs.Encode.{templateThen, templatesThen, itemValue, modeCode, headValue}
+use Rattle.grammar.specs.Values.{templateThen, templatesThen, itemValue, modeCode, headValue}
 use Rattle.layout.specs.Prefix.{Parsed, fault, parsed, templatesOf, isTemplates, isTemplate, found, firstOf}
 use Rattle.layout.specs.Layout.{isEmpty, isHead, isItem, isRoot, isKnown, isWhole}
 use Rattle.layout.specs.Decode.{modeOf, itemOf, definitionOf}

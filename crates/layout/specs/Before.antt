@@ -4,7 +4,7 @@ use mathlib.Core.Bool.{true, false}
 use mathlib.Core.List.{List, [], _∷_}
 use lib.Dec.{ltb}
 use Rattle.answers.specs.Checked.{Checked, ok, bad}
-use Rattle.grammar.specs.Encode.{Field, field}
+use Rattle.grammar.specs.Values.{Field, field}
 use Rattle.grammar.specs.Fields.{Fields, end, cut, next, fieldsOf}
 use Rattle.layout.specs.declared.Progress.{Progress}
 use Rattle.layout.specs.declared.Checking.{Checking}

@@ -7,7 +7,7 @@ use mathlib.Core.List.{List, [], _∷_}
 use lib.Dec.{eqb}
 use lib.ListN.{length, getD, take, drop, set}
 use Rattle.spellings.specs.Bytes.{same}
-use Rattle.grammar.specs.Encode.{Field}
+use Rattle.grammar.specs.Values.{Field}
 use Rattle.layout.specs.declared.Progress.{Progress}
 use Rattle.layout.specs.Before.{fieldsBefore}
 

@@ -8,7 +8,7 @@ use Rattle.answers.specs.Refusals.{refusal}
 use Rattle.answers.specs.Checked.{Checked, ok, bad, _>>=_, _>>_, need}
 use Rattle.spellings.specs.Bytes.{isWord, isKeyword, same, every}
 use Rattle.grammar.specs.Sorts.{isSort, isIdeSort}
-use Rattle.grammar.specs.Encode.{Field, field}
+use Rattle.grammar.specs.Values.{Field, field, longestTable}
 use Rattle.grammar.specs.Fields.{Fields, end, cut, next, fieldsOf}
 use Rattle.layout.specs.declared.Progress.{Progress}
 use Rattle.layout.specs.Prefix.{templatesOf, isTemplates, isTemplate}
@@ -127,10 +127,6 @@ checkFields (next at tag v fs) before s =
 
 abbrev pub start : Progress
 start = record { last = 0; keywords = 0; outsides = 0; blocks = 0; alternatives = 0; items = 0 }
-
--- the most bytes that a table may have
-abbrev pub longestTable : ℕ
-longestTable = 16384
 
 unfoldable pub layout : List ℕ → Checked (Unit {0})
 layout bs =

@@ -9,7 +9,7 @@ use Rattle.grammar.specs.Sorts.{arity}
 use Rattle.grammar.specs.Table.{Template, Templates, variable, outside, outsideLabel, make, none, more, Item, keyword, ide, number, local, call}
 use Rattle.grammar.specs.Table.{Alternative, Definition, Table}
 use Rattle.grammar.specs.Encode.{encode}
-use Rattle.layout.specs.Layout.{longestTable}
+use Rattle.grammar.specs.Values.{longestTable}
 
 -- ------------------------------------------------------------------ lists
 

@@ -15,7 +15,7 @@ use spellings::is_word;
 ghost use mathlib.Core.Path.{_≡_};
 ghost use mathlib.Core.Bool.{true};
 ghost use mathlib.Core.List.{List};
-ghost use Rattle.grammar.specs.Encode.{Field};
+ghost use Rattle.grammar.specs.Values.{Field};
 ghost use Prim.Native.Nat.{_-_};
 ghost use lib.Dec.{eqb};
 ghost use lib.ListN.{drop};

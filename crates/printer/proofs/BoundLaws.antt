@@ -10,12 +10,13 @@ use borrow.Author.Tests.{eqb-true, eqb-false}
 use Rattle.spellings.specs.Bytes.{decimal}
 use Rattle.spellings.proofs.BytesLaws.{by-test}
 use Rattle.spellings.proofs.DecimalLaws.{decimal-bound}
-use Rattle.grammar.specs.Cells.{column, nameBase}
+use Rattle.terms.specs.Cells.{column, nameBase}
 use Rattle.terms.specs.Term.{Name, Term, Fields, size, sizeFields}
 use Rattle.terms.specs.Rows.{nameOf, Constructor, mkTermVar, mkTermFun, mkTermApp, mkTermRcd, mkTermDot, mkFieldNil, mkFieldCons, mkTermNum}
 use Rattle.terms.specs.Rows.{constructorOf, termBy, isCons, fieldsBy, termAt, fieldsAt}
 use Rattle.terms.specs.Rename.{newName, written}
-use Rattle.terms.specs.Print.{print, textSize, textSizeFields}
+use Rattle.terms.specs.Print.{print}
+use Rattle.terms.specs.TextSize.{textSize, textSizeFields}
 use Rattle.terms.specs.Labelled.{nameShown, labelled, labelledFields}
 use Rattle.writer.specs.Openings.{spellIn}
 use Rattle.printer.specs.Printed.{term, partText, Fits}

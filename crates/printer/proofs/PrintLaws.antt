@@ -5,7 +5,7 @@ use mathlib.Core.List.{List, [], _∷_, _++_, append-assoc, append-nil}
 use native.Mathlib.Numerals.{add-one}
 use native.Mathlib.Omega.{arith}
 use lib.ListN.{length, length-append}
-use Rattle.grammar.specs.Cells.{column}
+use Rattle.terms.specs.Cells.{column}
 use Rattle.terms.specs.Term.{size, sizeFields}
 use Rattle.terms.specs.Rows.{termAt, fieldsAt}
 use Rattle.terms.specs.Print.{print}

@@ -4,7 +4,7 @@ use mathlib.Core.Path.{_≡_}
 use mathlib.Core.List.{List, []}
 use lib.ListN.{length}
 use Rattle.spellings.specs.Buffers.{written}
-use Rattle.grammar.specs.Fields.{lexiconOf}
+use Rattle.grammar.specs.Lookup.{lexiconOf}
 use Rattle.terms.specs.Rows.{termAt, fieldsAt}
 use Rattle.terms.specs.Print.{print, showThen, treeOfFields}
 use Rattle.terms.specs.Labelled.{labelled, labelledFields}

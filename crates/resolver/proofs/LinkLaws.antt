@@ -10,7 +10,7 @@ use lib.ListN.{length, getD, set, replicate, length-set, length-replicate, getD-
 use lib.Seq.{getD-set-same, getD-set-other}
 use borrow.Author.Tests.{eq-eqb, ne-eqb, eqb-true, eqb-false, ltb-true, ltb-false}
 use Rattle.spellings.proofs.BytesLaws.{by-test}
-use Rattle.grammar.specs.Cells.{column}
+use Rattle.terms.specs.Cells.{column}
 use Rattle.resolver.specs.Marks.{binds, slotFrom}
 use Rattle.resolver.specs.Links.{First, Newest, LinkedTo, Linked, linksWith}
 

@@ -10,9 +10,10 @@ use lib.ListN.{length}
 use borrow.Author.Tests.{ne-eqb}
 use Rattle.spellings.proofs.BytesLaws.{by-test}
 use Rattle.terms.specs.Term.{Name, word, fresh, outside, Term, Fields, variable, function, apply, rcd, dot, number, nil, cons, size, sizeFields}
-use Rattle.terms.specs.Rename.{belongs, isRenamed, walk}
-use Rattle.terms.specs.Binding.{Owner, unbound, boundAt, Binder, ownerOf, Occurrence, occurrence, occurrences, occurrencesFields, isLoose}
-use Rattle.terms.specs.Binding.{loosePlaces, stopsAtFirst}
+use Rattle.terms.specs.Rename.{belongs, isRenamed}
+use Rattle.terms.specs.Loose.{walk}
+use Rattle.terms.specs.Binding.{Owner, unbound, boundAt, Binder, Occurrence}
+use Rattle.terms.specs.Occurrences.{ownerOf, occurrence, occurrences, occurrencesFields, isLoose, loosePlaces, stopsAtFirst}
 use Rattle.resolver.specs.Marks.{noOwner, ownerCode, markOf, binderMark, marks, marksFields}
 use Rattle.resolver.specs.Numbers.{looseIn}
 use Rattle.terms.proofs.Loose.{walk-stops, loose-append, loose-here, loose-further}

@@ -11,11 +11,12 @@ use Rattle.spellings.specs.Bytes.{same, isWord}
 use Rattle.spellings.proofs.BytesLaws.{by-test, same-true, same-refl, same-false}
 use Rattle.kinds.specs.Kinds.{hasKind, only}
 use Rattle.kinds.proofs.KindsLaws.{has-none, has-only}
-use Rattle.grammar.specs.Cells.{nameBase}
+use Rattle.terms.specs.Cells.{nameBase}
 use Rattle.terms.specs.Term.{Name, word, fresh, outside, Term, Fields, variable, function, apply, rcd, dot, number, nil, cons}
 use Rattle.terms.specs.Rows.{nameOf}
 use Rattle.terms.specs.Rename.{isOutside, holds, holdsFields, isRenamed}
-use Rattle.terms.specs.Binding.{Binder, ownerOf}
+use Rattle.terms.specs.Binding.{Binder}
+use Rattle.terms.specs.Occurrences.{ownerOf}
 use Rattle.resolver.specs.Marks.{markOf, ownerCode, slotOf, Bindable, bindable-word, bindable-fresh, Around, Holds, new, binderMark}
 use Rattle.terms.specs.Names.{Distinct, VariableName, BinderName, WellNamed, WellNamedFields}
 use Rattle.rows.proofs.RowLaws.{as-word, as-fresh, as-outside}

@@ -12,7 +12,8 @@ use Rattle.spellings.specs.Bytes.{same}
 use Rattle.spellings.proofs.BytesLaws.{by-test, same-true}
 use Rattle.terms.specs.Term.{Name, word, fresh, outside, Term, Fields, variable, function, apply, rcd, dot, number, nil, cons, size, sizeFields}
 use Rattle.terms.specs.Rename.{belongs, isRenamed, one, renames, renamesFields, newName, written, Printed, shownAs, binderShown, renamed, renamedFields, rename}
-use Rattle.terms.specs.Binding.{Owner, unbound, boundAt, Binder, ownerOf}
+use Rattle.terms.specs.Binding.{Owner, unbound, boundAt, Binder}
+use Rattle.terms.specs.Occurrences.{ownerOf}
 use Rattle.terms.specs.Labelled.{nameShown, labelled, labelledFields}
 use Rattle.resolver.specs.Marks.{new, noOwner, ownerCode, markOf, binderMark, marks, marksFields}
 use Rattle.resolver.specs.Numbers.{ownerNumber, numberAt, nextNumber, numbered}

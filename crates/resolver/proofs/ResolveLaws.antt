@@ -16,13 +16,14 @@ use Rattle.spellings.specs.Bytes.{isWord}
 use Rattle.spellings.proofs.BytesLaws.{by-test}
 use Rattle.kinds.specs.Kinds.{hasKind}
 use Rattle.kinds.proofs.KindsLaws.{has-none, has-join}
-use Rattle.grammar.specs.Cells.{column, nameBase}
+use Rattle.terms.specs.Cells.{column, nameBase}
 use Rattle.grammar.proofs.ReaderLaws.{getD-past}
 use Rattle.terms.specs.Term.{Name, word, fresh, outside, Term, Fields, variable, function, apply, rcd, dot, number, nil, cons, size, sizeFields}
 use Rattle.terms.specs.Rows.{nameOf, Constructor, mkTermVar, mkTermFun, mkTermApp, mkTermRcd, mkTermDot, mkFieldNil, mkFieldCons, mkTermNum}
 use Rattle.terms.specs.Rows.{constructorOf, termBy, isCons, fieldsBy, termAt, fieldsAt}
 use Rattle.terms.specs.Rename.{isRenamed, isOutside, holds, holdsFields}
-use Rattle.terms.specs.Binding.{Binder, ownerOf}
+use Rattle.terms.specs.Binding.{Binder}
+use Rattle.terms.specs.Occurrences.{ownerOf}
 use Rattle.resolver.specs.Marks.{markOf, ownerCode, binderMark, marks, marksFields, slotOf, Bindable, bindable-word, bindable-fresh, Around}
 use Rattle.resolver.specs.Marks.{Holds, MarksVariable, MarksBinder, Walked, WalkedFields, ResolvesTerm, ResolvesFields}
 use Rattle.terms.specs.Names.{Distinct, VariableName, BinderName, WellNamed, WellNamedFields}

@@ -7,8 +7,8 @@ use lib.ListN.{length, take, drop, replicate, length-replicate}
 use lib.Seq.{length-sets}
 use Rattle.terms.specs.Term.{Name, Term, size}
 use Rattle.terms.specs.Rows.{termAt}
-use Rattle.terms.specs.Rename.{Walk, loose, reached}
-use Rattle.terms.specs.Binding.{ownerOf, stopsAtFirst}
+use Rattle.terms.specs.Loose.{Walk, loose, reached}
+use Rattle.terms.specs.Occurrences.{ownerOf, stopsAtFirst}
 use Rattle.terms.specs.Labelled.{labelled}
 use Rattle.rows.specs.Sizes.{noSpell}
 use Rattle.rows.proofs.ListLaws.{zeros, sets-front}

@@ -10,11 +10,12 @@ use lib.Seq.{getD-set-same, getD-set-other, set-getD, set-set}
 use borrow.Author.Tests.{eq-eqb, ne-eqb, eqb-true, eqb-false}
 use Rattle.spellings.specs.Bytes.{same, isWord}
 use Rattle.spellings.proofs.BytesLaws.{by-test, same-true, same-refl}
-use Rattle.grammar.specs.Cells.{column, nameBase}
+use Rattle.terms.specs.Cells.{column, nameBase}
 use Rattle.terms.specs.Term.{Name, word, fresh, outside}
 use Rattle.terms.specs.Rows.{nameOf}
 use Rattle.terms.specs.Rename.{belongs}
-use Rattle.terms.specs.Binding.{Owner, unbound, boundAt, Binder, ownerOf}
+use Rattle.terms.specs.Binding.{Owner, unbound, boundAt, Binder}
+use Rattle.terms.specs.Occurrences.{ownerOf}
 use Rattle.resolver.specs.Marks.{ownerCode, binds, slotFrom, slotOf, Bindable, bindable-word, bindable-fresh, Around}
 use Rattle.terms.specs.Names.{Distinct}
 

@@ -6,7 +6,7 @@ use mathlib.Core.Path.{_≡_}
 use mathlib.Core.Bool.{true}
 use mathlib.Core.List.{List}
 use lib.ListN.{length, getD, set}
-use Rattle.grammar.specs.Cells.{column}
+use Rattle.terms.specs.Cells.{column}
 use Rattle.resolver.specs.Marks.{binds, slotFrom}
 
 -- a row binds its name, and no row before it does

@@ -10,13 +10,14 @@ use lib.ListN.{length, getD}
 use lib.Seq.{sets}
 use Rattle.spellings.specs.Bytes.{isWord}
 use Rattle.kinds.specs.Kinds.{hasKind}
-use Rattle.grammar.specs.Cells.{column, nameBase}
+use Rattle.terms.specs.Cells.{column, nameBase}
 use Rattle.terms.specs.Term.{Name, word, fresh, outside, Term, Fields, variable, function, apply, rcd, dot, number, nil, cons, size, sizeFields}
 use Rattle.terms.specs.Rows.{nameOf, termAt, fieldsAt}
 use Rattle.terms.specs.Names.{Distinct, VariableName, BinderName, WellNamed, WellNamedFields}
 use Rattle.rows.specs.Sizes.{WholeRows}
 use Rattle.terms.specs.Rename.{isRenamed, holds, holdsFields}
-use Rattle.terms.specs.Binding.{Owner, unbound, boundAt, Binder, ownerOf}
+use Rattle.terms.specs.Binding.{Owner, unbound, boundAt, Binder}
+use Rattle.terms.specs.Occurrences.{ownerOf}
 
 abbrev pub new : ℕ
 new = 65534

@@ -9,7 +9,8 @@ use lib.ListN.{getD}
 use Rattle.terms.specs.Term.{Name, Term, size}
 use Rattle.terms.specs.Rows.{termAt}
 use Rattle.terms.specs.Names.{Distinct, WellNamed}
-use Rattle.terms.specs.Rename.{Walk, loose, reached, walk, rename}
+use Rattle.terms.specs.Rename.{rename}
+use Rattle.terms.specs.Loose.{Walk, loose, reached, walk}
 use Rattle.terms.specs.Labelled.{labelled}
 use Rattle.rows.specs.Sizes.{sizeAt, WholeRows}
 use Rattle.resolver.specs.Marks.{new, noOwner}

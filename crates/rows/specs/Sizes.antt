@@ -3,7 +3,7 @@ use Prim.Native.Nat.{ℕ, _*_, _/_, _≤_}
 use mathlib.Core.Path.{_≡_}
 use mathlib.Core.List.{List, []}
 use lib.ListN.{length}
-use Rattle.grammar.specs.Cells.{columns}
+use Rattle.terms.specs.Cells.{columns}
 use Rattle.terms.specs.Term.{size, sizeFields}
 use Rattle.terms.specs.Rows.{termAt, fieldsAt}
 

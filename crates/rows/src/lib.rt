@@ -1,7 +1,7 @@
 // Rows of cells as terms: what stands in a row, and the size of the tree below it.
 ghost use Prim.Native.Nat.{_<_};
 ghost use mathlib.Core.Path.{_≡_};
-ghost use Rattle.grammar.specs.Cells.{column};
+ghost use Rattle.terms.specs.Cells.{column};
 
 pub mod sizes;
 

@@ -11,11 +11,12 @@ use Rattle.spellings.specs.Bytes.{largest}
 use Rattle.spellings.proofs.BytesLaws.{by-test}
 use Rattle.kinds.specs.Kinds.{wordKind}
 use Rattle.answers.specs.declared.Refusal.{Refusal}
-use Rattle.grammar.specs.Fields.{Lexicon}
+use Rattle.grammar.specs.Table.{Lexicon}
 use Rattle.scanner.specs.declared.Token.{Token}
 use Rattle.scanner.specs.declared.Scanned.{Scanned}
 use Rattle.scanner.specs.declared.Scanned.the-variants.{Tokens, Unscanned}
-use Rattle.scanner.specs.Scan.{Lexed, endToken, wordsWith, scan}
+use Rattle.scanner.specs.Scan.{Lexed, wordsWith, scan}
+use Rattle.scanner.specs.Tokens.{endToken}
 use Rattle.scanner.specs.Rooms.{rows, rowOf, tokensIn, places, wordsIn, RoomFor, TokensFit, filled, scanInto}
 use Rattle.scanner.specs.Tiling.{Stands, a-keyword, a-keyword-symbol, an-outside-name, a-word-again, a-new-word, a-number, a-symbol}
 use Rattle.scanner.proofs.TokenLaws.{Kept, scan-kept}

@@ -4,10 +4,11 @@ use mathlib.Core.List.{[], _∷_}
 use lib.ListN.{replicate}
 use Rattle.answers.specs.Refusals.{refusal}
 use Rattle.spellings.specs.Bytes.{bytes, run, same, indexOf, valueFrom}
-use Rattle.grammar.specs.Fields.{Lexicon}
-use Rattle.grammar.specs.Lookup.{foundIn}
+use Rattle.grammar.specs.Table.{Lexicon}
+use Rattle.grammar.specs.Found.{foundIn}
 use Rattle.scanner.specs.declared.Scanned.the-variants.{Tokens, Unscanned}
-use Rattle.scanner.specs.Scan.{token, ended, lexemeOf, kindOf, spellingOf, stepOf, wordsWith, lexFrom, scan}
+use Rattle.scanner.specs.Scan.{ended, lexemeOf, kindOf, spellingOf, stepOf, wordsWith, lexFrom, scan}
+use Rattle.scanner.specs.Tokens.{token}
 
 -- the keywords of document 01's house table, with the outside name T
 house : Lexicon

@@ -13,12 +13,13 @@ use Rattle.answers.specs.declared.Refusal.{Refusal}
 use Rattle.answers.specs.Refusals.{refusal}
 use Rattle.spellings.specs.Bytes.{isSeparator}
 use Rattle.spellings.proofs.BytesLaws.{by-test}
-use Rattle.grammar.specs.Fields.{Lexicon}
+use Rattle.grammar.specs.Table.{Lexicon}
 use Rattle.scanner.specs.declared.Token.{Token}
 use Rattle.scanner.specs.declared.Step.the-variants.{Skip, Stop, Emit}
 use Rattle.scanner.specs.declared.Scanned.{Scanned}
 use Rattle.scanner.specs.declared.Scanned.the-variants.{Tokens, Unscanned}
-use Rattle.scanner.specs.Scan.{Lexed, ended, withToken, stepOf, wordsWith, mostTokens, longestFormula, lexFrom, scan}
+use Rattle.scanner.specs.Scan.{Lexed, ended, withToken, stepOf, wordsWith, lexFrom, scan}
+use Rattle.scanner.specs.Tokens.{mostTokens, longestFormula}
 use Rattle.scanner.specs.Tiling.{Stands, Tiled, here, past-separator, past-token}
 use Rattle.scanner.specs.Unscanned.{Faulty, Unscans, too-long, a-fault, too-many}
 use Rattle.scanner.proofs.FrontLaws.{lexeme-separator, lexeme-fault}

@@ -11,7 +11,7 @@ use Rattle.spellings.specs.Bytes.{indexOf}
 use Rattle.spellings.proofs.BytesLaws.{by-test, index-le, index-found, index-first, index-at, same-false}
 use Rattle.grammar.specs.declared.Found.{Found}
 use Rattle.grammar.specs.declared.Found.the-variants.{At, Absent}
-use Rattle.grammar.specs.Lookup.{foundIn}
+use Rattle.grammar.specs.Found.{foundIn}
 use Rattle.scanner.specs.Tiling.{FirstAt, NotIn}
 
 module _ {s : List ℕ} {vs : List (List ℕ)} where

@@ -15,13 +15,12 @@ use Rattle.spellings.specs.declared.Number as number
 use Rattle.spellings.specs.declared.Number.the-variants.{Value, TooLarge}
 use Rattle.grammar.specs.declared.Found.{Found}
 use Rattle.grammar.specs.declared.Found.the-variants.{At, Absent}
-use Rattle.grammar.specs.Fields.{Lexicon, leading, afterLeading, lexiconOf}
-use Rattle.grammar.specs.Lookup.{fieldsAt, foundIn}
+use Rattle.grammar.specs.Table.{Lexicon}
+use Rattle.grammar.specs.Lookup.{leading, afterLeading, lexiconOf, fieldsAt}
+use Rattle.grammar.specs.Found.{foundIn}
 use Rattle.grammar.proofs.LookupLaws.{keywords-at, outsides-at, found-within}
 use Rattle.kinds.specs.Kinds.{wordKind, keywordKind}
-use Rattle.scanner.specs.Scan.{Lexeme}
-use Rattle.scanner.specs.Scan.{Separator, Word, Number, Symbol, Fault}
-use Rattle.scanner.specs.Scan.{wordLexeme, numberLexeme, lexemeOf, kindOf, numberOr, spellingOf}
+use Rattle.scanner.specs.Scan.{Lexeme, Separator, Word, Number, Symbol, Fault, wordLexeme, numberLexeme, lexemeOf, kindOf, numberOr, spellingOf}
 
 -- ------------------------------------------------------------------ words and numbers
 

@@ -1,8 +1,6 @@
 pub mod Examples
 pub mod LexemeLaws
 pub mod WordLaws
-pub mod TreeLaws
-pub mod LexiconLaws
 pub mod MadeLaws
 pub mod FoundLaws
 pub mod StepLaws

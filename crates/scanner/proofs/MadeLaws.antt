@@ -3,6 +3,7 @@ use Prim.Native.Nat.{ℕ, _+_, _-_, _*_, _<_, _≤_}
 use mathlib.Core.Path.{_≡_, refl, sym, ap, _∙_, subst}
 use mathlib.Core.Bool.{true, false}
 use mathlib.Core.List.{List, [], _∷_, _++_}
+use native.Mathlib.Nat.{zero-add}
 use native.Mathlib.Omega.{arith}
 use lib.Dec.{ltb}
 use lib.ListN.{length, getD, set, take, drop, length-drop, length-append}
@@ -10,31 +11,35 @@ use lib.Seq.{sets, length-take-le}
 use borrow.Author.Tests.{eq-eqb, ne-eqb, ltb-true, ltb-false}
 use Rattle.spellings.specs.Bytes.{isLetter, isDigit, isWordByte, isSeparator, isSymbol, run, indexOf, largest, valueOf}
 use Rattle.spellings.proofs.BytesLaws.{by-test, index-le, index-front, index-rest, run-prefix, run-length}
-use Rattle.grammar.specs.Fields.{Lexicon, lexiconOf}
+use Rattle.grammar.specs.Table.{Lexicon}
+use Rattle.grammar.specs.Lookup.{lexiconOf}
 use Rattle.grammar.proofs.LookupLaws.{few-keywords, few-outsides}
 use Rattle.kinds.specs.Kinds.{wordKind, numberKind, keywordKind, noKind}
 use Rattle.spellings.specs.Numbers.{numberOf}
 use Rattle.spellings.specs.declared.Number.the-variants.{Value, TooLarge}
 use Rattle.scanner.specs.declared.Token.{Token}
-use Rattle.scanner.specs.Scan.{Lexeme}
-use Rattle.scanner.specs.Scan.{Separator, Word, Number, Symbol, Fault}
+use Rattle.scanner.specs.Scan.{Lexeme, Separator, Word, Number, Symbol, Fault, numberLexeme, lexemeOf, isNew, stepOf, kindOf}
 use Rattle.scanner.specs.declared.Step.{Step}
 use Rattle.scanner.specs.declared.Step.the-variants.{Skip, Stop, Emit}
 use Rattle.scanner.specs.declared.Made.{Made}
 use Rattle.scanner.specs.declared.Name.{Name}
 use Rattle.scanner.specs.declared.Name.the-variants.{Keyword, Outside, Other}
-use Rattle.scanner.specs.declared.trees.Spot.{Spot}
-use Rattle.scanner.specs.declared.trees.Spot.the-variants.{Node, Free}
-use Rattle.scanner.specs.Scan.{numberLexeme, lexemeOf, token, isNew, stepOf, kindOf}
+use Rattle.lexicon.specs.declared.trees.Spot.{Spot}
+use Rattle.lexicon.specs.declared.trees.Spot.the-variants.{Node, Free}
+use Rattle.scanner.specs.Tokens.{token}
 use Rattle.scanner.specs.Tiling.{WordFront, NumberFront, SymbolFront, FirstAt, NotIn, Stands}
 use Rattle.scanner.specs.Tiling as rule
 use Rattle.scanner.specs.Unscanned.{Faulty, bad-byte, long-word}
 use Rattle.scanner.specs.Rooms.{placeThen, countWith, wordsIn}
-use Rattle.scanner.specs.Trees.{hashOf, Hashed, Planted, FoundAt, FreeFor, Searched, linksWith}
-use Rattle.scanner.specs.LexiconRoom.{Lexical}
+use Rattle.lexicon.specs.Trees.{hashOf, Hashed, Planted, FoundAt, FreeFor, Searched, linksWith}
+use Rattle.lexicon.specs.LexiconRoom.{kindFrom, Lexical}
+use Rattle.grammar.specs.declared.Found.{Found}
+use Rattle.grammar.specs.declared.Found.the-variants.{At, Absent}
+use Rattle.grammar.specs.Found.{foundIn}
 use Rattle.scanner.specs.Stepping.{Named, a-keyword, an-outside, neither, made, OwnWord, met-before, first-met, Marks, Stepped, Agrees, Ready}
-use Rattle.scanner.proofs.WordLaws.{words-length, place-new, place-old, count-new, count-old}
-use Rattle.scanner.proofs.TreeLaws.{free-set}
+use Rattle.scanner.proofs.WordLaws.{place-new, place-old, count-new, count-old}
+use Rattle.lexicon.proofs.PlaceLaws.{words-length}
+use Rattle.lexicon.proofs.TreeLaws.{free-set}
 use Rattle.scanner.proofs.FoundLaws.{index-is-first, index-is-none}
 use Rattle.scanner.proofs.LexemeLaws.{number-is, digits-within, word-only}
 use Rattle.scanner.proofs.FrontLaws.{symbol-only, lexeme-separator, lexeme-digits, lexeme-fault, lexeme-symbol}
@@ -410,6 +415,14 @@ module _ (formula : List ℕ) (at : ℕ) {n : ℕ} (e : n ≡ length (run isDigi
     large-at f =
         large-marks (ap isDigit (front-byte formula at) ∙ d) digits-here (f ∙ ap (λ (r : List ℕ). numberOf (take n r)) (rest-lent formula at))
 
+kind-all : (lex : Lexicon) (s : List ℕ) → kindFrom 0 (lex .keywords) s ≡ kindOf lex s noKind
+unfolding kindFrom kindOf
+kind-all lex s = by-found (foundIn s (lex .keywords)) refl
+  where
+    by-found : (f : Found) → foundIn s (lex .keywords) ≡ f → kindFrom 0 (lex .keywords) s ≡ kindOf lex s noKind
+    by-found (At j) e = rw (e, kindFrom, kindOf) (ap (λ (n : ℕ). n + 2) (zero-add j))
+    by-found Absent e = rw (e, kindFrom, kindOf) refl
+
 -- a symbol's kind in the lexicon's room
 module _ {table room tree : List ℕ} (x : Lexical table room tree) where
   pub symbol-below : (b : ℕ) → isSymbol b ≡ true → b < 127
@@ -423,7 +436,7 @@ module _ {table room tree : List ℕ} (x : Lexical table room tree) where
   symbol-at formula at h y =
       let z : getD (drop at formula) 0 0 ≡ getD formula at 0 = front-byte formula at in
       symbol-marks (omega (arith, length-drop at formula)) (ap isSymbol z ∙ y)
-      (x .symbols (getD formula at 0) (omega (arith, symbol-below (getD formula at 0) y))
+      (x .symbols (getD formula at 0) (omega (arith, symbol-below (getD formula at 0) y)) ∙ kind-all (lexiconOf table) (getD formula at 0 ∷ [])
       ∙ ap (λ (b : ℕ). kindOf (lexiconOf table) (b ∷ []) noKind) (sym z))
 
 -- ------------------------------------------------------------------ stores

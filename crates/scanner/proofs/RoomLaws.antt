@@ -7,11 +7,13 @@ use native.Mathlib.Numerals.{add-one, add-two, add-three}
 use native.Mathlib.Omega.{arith}
 use lib.ListN.{length, getD, set, take, drop, length-set}
 use lib.Seq.{sets, length-sets, getD-set-same, getD-set-other}
-use Rattle.grammar.specs.Fields.{Lexicon}
+use Rattle.grammar.specs.Table.{Lexicon}
 use Rattle.scanner.specs.declared.Token.{Token}
-use Rattle.scanner.specs.Scan.{Lexed, token, endToken, withToken, isNew, wordsWith, scan}
+use Rattle.scanner.specs.Scan.{Lexed, withToken, isNew, wordsWith, scan}
+use Rattle.scanner.specs.Tokens.{token, endToken}
 use Rattle.scanner.specs.Rooms.{rowThen, rows, rowOf, tokensFrom, tokensIn, placeThen, countWith, places, wordsFrom, wordsIn}
-use Rattle.scanner.proofs.WordLaws.{words-length, words-stored}
+use Rattle.scanner.proofs.WordLaws.{words-stored}
+use Rattle.lexicon.proofs.PlaceLaws.{words-length}
 use Rattle.scanner.proofs.ScanLoop.{fill-rows, fill-places, count-grows}
 use Rattle.scanner.proofs.TokenLaws.{Kept, scan-kept}
 

@@ -9,15 +9,17 @@ use lib.ListN.{length, take, drop, length-drop, drop-of-length-le}
 use lib.Seq.{sets, drop-drop}
 use borrow.Author.Tests.{le-leb, lt-leb, lt-ltb, le-ltb}
 use Rattle.answers.specs.Refusals.{refusal}
-use Rattle.grammar.specs.Fields.{Lexicon}
+use Rattle.grammar.specs.Table.{Lexicon}
 use Rattle.scanner.specs.declared.Token.{Token}
 use Rattle.scanner.specs.declared.Step.{Step}
 use Rattle.scanner.specs.declared.Step.the-variants.{Skip, Stop, Emit}
 use Rattle.scanner.specs.declared.Scanned.the-variants.{Tokens, Unscanned}
-use Rattle.scanner.specs.Scan.{Lexed, ended, withToken, isNew, wordsWith, mostTokens, longestFormula, stepOf, lexFrom, scan}
+use Rattle.scanner.specs.Scan.{Lexed, ended, withToken, isNew, wordsWith, stepOf, lexFrom, scan}
+use Rattle.scanner.specs.Tokens.{mostTokens, longestFormula}
 use Rattle.scanner.specs.Rooms.{rowThen, rows, placeThen, countWith, places, wordsFrom, wordsIn, Filled, filled, scanInto}
 use Rattle.scanner.proofs.StepLaws.{step-lies}
-use Rattle.scanner.proofs.WordLaws.{words-length, words-stored}
+use Rattle.scanner.proofs.WordLaws.{words-stored}
+use Rattle.lexicon.proofs.PlaceLaws.{words-length}
 
 -- ------------------------------------------------------------------ what one step does to what is left
 

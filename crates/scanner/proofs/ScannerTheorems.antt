@@ -14,11 +14,12 @@ use Rattle.spellings.proofs.BytesLaws.{by-test}
 use Rattle.kinds.specs.Kinds.{wordKind}
 use Rattle.answers.specs.declared.Refusal.{Refusal}
 use Rattle.answers.specs.Refusals.{refusal}
-use Rattle.grammar.specs.Fields.{Lexicon}
+use Rattle.grammar.specs.Table.{Lexicon}
 use Rattle.scanner.specs.declared.Token.{Token}
 use Rattle.scanner.specs.declared.Scanned.the-variants.{Tokens, Unscanned}
-use Rattle.scanner.specs.Scan.{Lexed, endToken, spellingOf, mostTokens, longestFormula, scan}
-use Rattle.scanner.specs.Tiling.{Tiled, bytesOf, tokenAt, spelled}
+use Rattle.scanner.specs.Scan.{Lexed, spellingOf, scan}
+use Rattle.scanner.specs.Tokens.{endToken, mostTokens, longestFormula, bytesOf, tokenAt, spelled}
+use Rattle.scanner.specs.Tiling.{Tiled}
 use Rattle.scanner.specs.Unscanned.{Unscans}
 use Rattle.scanner.proofs.ScanLoop.{scan-long}
 use Rattle.scanner.proofs.TilingLaws.{scan-tiled, scan-counted}

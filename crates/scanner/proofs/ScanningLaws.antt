@@ -4,22 +4,23 @@ use mathlib.Core.Path.{_≡_, refl, sym, ap, _∙_, subst}
 use mathlib.Core.Bool.{true, false}
 use mathlib.Core.List.{List, [], _∷_, _++_}
 use native.Mathlib.Omega.{arith}
-use lib.ListN.{length, getD, set, take, drop, replicate, length-drop, length-replicate, getD-replicate}
+use lib.ListN.{length, getD, set, take, drop, replicate, length-drop, length-replicate}
 use lib.Seq.{sets, length-sets}
-use Rattle.grammar.specs.Fields.{lexiconOf}
+use Rattle.grammar.specs.Lookup.{lexiconOf}
 use Rattle.scanner.specs.declared.Token.{Token}
 use Rattle.scanner.specs.declared.Step.{Step}
 use Rattle.scanner.specs.declared.Step.the-variants.{Skip, Stop, Emit}
 use Rattle.scanner.specs.declared.Made.{Made}
-use Rattle.scanner.specs.declared.trees.Spot.{Spot}
-use Rattle.scanner.specs.declared.trees.Spot.the-variants.{Node, Free}
+use Rattle.lexicon.specs.declared.trees.Spot.{Spot}
+use Rattle.lexicon.specs.declared.trees.Spot.the-variants.{Node, Free}
 use Rattle.scanner.specs.Scan.{isNew, wordsWith, stepOf}
 use Rattle.scanner.specs.Rooms.{rowThen, placeThen, countWith, wordsFrom, wordsIn, RoomFor}
-use Rattle.scanner.specs.Trees.{Tree, Linkable, linksWith}
-use Rattle.scanner.specs.LexiconRoom.{Blank, Lexical}
+use Rattle.lexicon.specs.Trees.{Tree, Linkable, linksWith}
+use Rattle.lexicon.specs.LexiconRoom.{Lexical}
 use Rattle.scanner.specs.Stepping.{Agrees, FreeIn, Stepped, Ready, Scannable}
-use Rattle.scanner.proofs.WordLaws.{words-length, words-stored, with-new, with-old}
-use Rattle.scanner.proofs.TreeLaws.{tree-none, tree-more, links-long}
+use Rattle.scanner.proofs.WordLaws.{words-stored, with-new, with-old}
+use Rattle.lexicon.proofs.PlaceLaws.{words-length}
+use Rattle.lexicon.proofs.TreeLaws.{zeros, tree-none, tree-more, links-long}
 use Rattle.scanner.proofs.StepLaws.{step-lies}
 use Rattle.scanner.proofs.ScanLoop.{Turn, turn-start, turn-skip, turn-emit, count-grows}
 
@@ -181,12 +182,6 @@ module _ {table room tree formula tokens₀ words₀ links₀ tokens words links
               links-same = same-links ∙ c .links-same;
             }
 
--- rooms of zeros
-pub zeros : (k i : ℕ) → getD (replicate {A = ℕ} k 0) i 0 ≡ 0
-zeros zero i = refl
-zeros (suc k) zero = refl
-zeros (suc k) (suc i) = zeros k i
-
 pub scannable : (formula : List ℕ) (mask room : ℕ) → length formula < 65536
     → ((n : ℕ) → n ≤ length formula → n ≤ 4096 → mask + 1 + n * 2 ≤ room)
     → Scannable formula (replicate room 0) mask
@@ -195,14 +190,4 @@ scannable formula mask room short enough =
       short = short;
       unlinked = zeros room;
       enough = λ n a b. subst (λ (k : ℕ). mask + 1 + n * 2 ≤ k) (sym (length-replicate {A = ℕ} room 0)) (enough n a b);
-    }
-
--- the rooms of a lexicon, before it is entered
-pub blank : Blank (replicate 382 64) (replicate 380 0)
-blank =
-    record {
-      long = length-replicate {A = ℕ} 382 64;
-      wide = length-replicate {A = ℕ} 380 0;
-      unmarked = λ b l. getD-replicate {A = ℕ} 382 (252 + b) 64 0 (omega arith);
-      unlinked = zeros 380;
     }

@@ -12,16 +12,17 @@ use Rattle.spellings.specs.Bytes.{isLetter, isWordByte, run, isWord, indexOf}
 use Rattle.spellings.proofs.BytesLaws.{by-test, run-taken, run-prefix, every-run, letter-word-byte, index-le, index-found, index-front, index-rest}
 use Rattle.grammar.specs.declared.Found.{Found}
 use Rattle.grammar.specs.declared.Found.the-variants.{At, Absent}
-use Rattle.grammar.specs.Fields.{Lexicon}
-use Rattle.grammar.specs.Lookup.{foundIn}
+use Rattle.grammar.specs.Table.{Lexicon}
+use Rattle.grammar.specs.Found.{foundIn}
 use Rattle.grammar.proofs.LookupLaws.{found-within, found-spells}
 use Rattle.kinds.specs.Kinds.{wordKind}
 use Rattle.scanner.specs.declared.Token.{Token}
 use Rattle.scanner.specs.Scan.{Lexed, isNew, wordsWith, spellingOf, scan}
-use Rattle.scanner.specs.Tiling.{WordFront, bytesOf, spelled}
-use Rattle.scanner.specs.Tiling.{Stands, a-keyword, a-keyword-symbol, an-outside-name, a-word-again, a-new-word, a-number, a-symbol}
+use Rattle.scanner.specs.Tiling.{WordFront, Stands, a-keyword, a-keyword-symbol, an-outside-name, a-word-again, a-new-word, a-number, a-symbol}
+use Rattle.scanner.specs.Tokens.{bytesOf, spelled}
 use Rattle.scanner.proofs.LexemeLaws.{spelling-found}
-use Rattle.scanner.proofs.WordLaws.{index-self, with-new, with-old}
+use Rattle.scanner.proofs.WordLaws.{with-new, with-old}
+use Rattle.lexicon.proofs.PlaceLaws.{index-self}
 use Rattle.scanner.proofs.StandLaws.{word-taken, Emits}
 use Rattle.scanner.proofs.TokenLaws.{Kept, scan-kept}
 

@@ -10,15 +10,15 @@ use Rattle.spellings.specs.Bytes.{isLetter, isDigit, isWordByte, isSeparator, i
 use Rattle.spellings.proofs.BytesLaws.{run-prefix, run-length}
 use Rattle.grammar.specs.declared.Found.{Found}
 use Rattle.grammar.specs.declared.Found.the-variants.{At, Absent}
-use Rattle.grammar.specs.Fields.{Lexicon}
-use Rattle.grammar.specs.Lookup.{foundIn}
+use Rattle.grammar.specs.Table.{Lexicon}
+use Rattle.grammar.specs.Found.{foundIn}
 use Rattle.kinds.specs.Kinds.{wordKind, numberKind, keywordKind, noKind}
 use Rattle.scanner.specs.declared.Token.{Token}
-use Rattle.scanner.specs.Scan.{Lexeme}
-use Rattle.scanner.specs.Scan.{Separator, Word, Number, Symbol, Fault}
+use Rattle.scanner.specs.Scan.{Lexeme, Separator, Word, Number, Symbol, Fault}
 use Rattle.scanner.specs.declared.Step.{Step}
 use Rattle.scanner.specs.declared.Step.the-variants.{Skip, Stop, Emit}
-use Rattle.scanner.specs.Scan.{lexemeOf, kindOf, spellingOf, token, spelledToken, isNew, wordsWith, stepBy, stepOf}
+use Rattle.scanner.specs.Scan.{lexemeOf, kindOf, spellingOf, spelledToken, isNew, wordsWith, stepBy, stepOf}
+use Rattle.scanner.specs.Tokens.{token}
 use Rattle.scanner.specs.Tiling.{WordFront, NumberFront, SymbolFront, FirstAt, NotIn}
 use Rattle.scanner.specs.Tiling.{Stands, a-keyword, a-keyword-symbol, an-outside-name, a-word-again, a-new-word, a-number, a-symbol}
 use Rattle.scanner.specs.Unscanned.{Faulty}

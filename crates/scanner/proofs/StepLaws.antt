@@ -11,14 +11,14 @@ use lib.Seq.{take-all, getD-drop}
 use borrow.Author.Tests.{leb-true, leb-false, le-leb, eq-eqb, ne-eqb}
 use Rattle.spellings.specs.Bytes.{isLetter, isDigit, isWordByte, isSeparator, isSymbol, run, largest, valueOf}
 use Rattle.spellings.proofs.BytesLaws.{run-taken, run-prefix, run-length, letter-word-byte}
-use Rattle.grammar.specs.Fields.{Lexicon}
+use Rattle.grammar.specs.Table.{Lexicon}
 use Rattle.kinds.specs.Kinds.{wordKind, noKind}
 use Rattle.scanner.specs.declared.Token.{Token}
-use Rattle.scanner.specs.Scan.{Lexeme}
-use Rattle.scanner.specs.Scan.{Separator, Word, Number, Symbol, Fault}
+use Rattle.scanner.specs.Scan.{Lexeme, Separator, Word, Number, Symbol, Fault}
 use Rattle.scanner.specs.declared.Step.{Step}
 use Rattle.scanner.specs.declared.Step.the-variants.{Skip, Stop, Emit}
-use Rattle.scanner.specs.Scan.{wordLexeme, numberLexeme, lexemeOf, kindOf, spellingOf, token, spelledToken, stepBy, stepOf}
+use Rattle.scanner.specs.Scan.{wordLexeme, numberLexeme, lexemeOf, kindOf, spellingOf, spelledToken, stepBy, stepOf}
+use Rattle.scanner.specs.Tokens.{token}
 use Rattle.scanner.specs.Unscanned.{Faulty, bad-byte, long-word, large-number}
 use Rattle.scanner.proofs.LexemeLaws as lexemes
 

@@ -12,12 +12,13 @@ use Rattle.answers.specs.declared.Refusal.{Refusal}
 use Rattle.answers.specs.Refusals.{refusal}
 use Rattle.spellings.specs.Bytes.{isSeparator}
 use Rattle.spellings.proofs.BytesLaws.{by-test}
-use Rattle.grammar.specs.Fields.{Lexicon}
+use Rattle.grammar.specs.Table.{Lexicon}
 use Rattle.scanner.specs.declared.Token.{Token}
 use Rattle.scanner.specs.declared.Step.{Step}
 use Rattle.scanner.specs.declared.Step.the-variants.{Skip, Stop, Emit}
 use Rattle.scanner.specs.declared.Scanned.the-variants.{Tokens, Unscanned}
-use Rattle.scanner.specs.Scan.{Lexed, ended, withToken, wordsWith, mostTokens, longestFormula, stepOf, lexFrom, scan}
+use Rattle.scanner.specs.Scan.{Lexed, ended, withToken, wordsWith, stepOf, lexFrom, scan}
+use Rattle.scanner.specs.Tokens.{mostTokens, longestFormula}
 use Rattle.scanner.specs.Unscanned.{Faulty}
 use Rattle.scanner.proofs.StepLaws.{front-byte, Lies, step-lies}
 use Rattle.scanner.proofs.StandLaws.{Emits, Told, step-told}

@@ -10,11 +10,10 @@ use lib.Seq.{getD-at}
 use borrow.Author.Tests.{ltb-true, ltb-false}
 use Rattle.spellings.specs.Bytes.{isWord}
 use Rattle.spellings.proofs.BytesLaws.{by-test}
-use Rattle.grammar.specs.Fields.{Lexicon}
+use Rattle.grammar.specs.Table.{Lexicon}
 use Rattle.scanner.specs.declared.Token.{Token}
 use Rattle.scanner.specs.Scan.{Lexed, scan}
-use Rattle.scanner.specs.Tiling.{NotIn}
-use Rattle.scanner.specs.Tiling.{Stands, a-keyword, a-keyword-symbol, an-outside-name, a-word-again, a-new-word, a-number, a-symbol}
+use Rattle.scanner.specs.Tiling.{NotIn, Stands, a-keyword, a-keyword-symbol, an-outside-name, a-word-again, a-new-word, a-number, a-symbol}
 use Rattle.scanner.proofs.TokenLaws.{Kept, scan-kept}
 use Rattle.scanner.proofs.SpellingLaws.{front-word}
 

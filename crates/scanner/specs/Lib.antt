@@ -2,6 +2,5 @@ pub mod Scan
 pub mod Rooms
 pub mod Tiling
 pub mod Unscanned
-pub mod Trees
-pub mod LexiconRoom
 pub mod Stepping
+pub mod Tokens

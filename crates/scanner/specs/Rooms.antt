@@ -6,8 +6,11 @@ use lib.ListN.{length, getD, take, drop}
 use lib.Seq.{sets}
 use Rattle.scanner.specs.declared.Token.{Token}
 use Rattle.scanner.specs.declared.Scanned.{Scanned}
-use Rattle.grammar.specs.Fields.{Lexicon}
-use Rattle.scanner.specs.Scan.{token, isNew, scan}
+use Rattle.grammar.specs.Table.{Lexicon}
+use Rattle.scanner.specs.Scan.{isNew, scan}
+use Rattle.scanner.specs.Tokens.{token}
+pub use Rattle.lexicon.specs.Places.{wordAt, wordsIn}
+unfoldable pub use Rattle.lexicon.specs.Places.{wordsFrom}
 
 -- ------------------------------------------------------------------ tokens and words as numbers
 
@@ -41,17 +44,6 @@ countWith count t = elim (isNew count t) [ true ↦ count + 1 | false ↦ count 
 unfoldable pub places : ℕ → List Token → List ℕ
 places count [] = []
 places count (t ∷ ts) = placeThen count t (places (countWith count t) ts)
-
--- the words that a room of places names in a formula: word i, k of them from word i on, and the first
-abbrev pub wordAt : List ℕ → List ℕ → ℕ → List ℕ
-wordAt formula room i = take (getD room (i * 2 + 1) 0) (drop (getD room (i * 2) 0) formula)
-
-unfoldable pub wordsFrom : ℕ → List ℕ → List ℕ → ℕ → List (List ℕ)
-wordsFrom zero formula room i = []
-wordsFrom (suc k) formula room i = wordAt formula room i ∷ wordsFrom k formula room (i + 1)
-
-abbrev pub wordsIn : List ℕ → List ℕ → ℕ → List (List ℕ)
-wordsIn formula room count = wordsFrom count formula room 0
 
 -- ------------------------------------------------------------------ how long the rooms are
 

@@ -14,8 +14,9 @@ use Rattle.spellings.specs.Bytes.{isLetter, isDigit, isWordByte, isSeparator, i
 use Rattle.kinds.specs.Kinds.{wordKind, numberKind, keywordKind, noKind}
 use Rattle.answers.specs.Refusals.{refusal}
 use Rattle.grammar.specs.declared.Found.the-variants.{At, Absent}
-use Rattle.grammar.specs.Fields.{Lexicon}
-use Rattle.grammar.specs.Lookup.{foundIn}
+use Rattle.grammar.specs.Table.{Lexicon}
+use Rattle.grammar.specs.Found.{foundIn}
+use Rattle.scanner.specs.Tokens.{token, mostTokens, longestFormula}
 
 -- ------------------------------------------------------------------ the lexeme at the front
 
@@ -69,13 +70,6 @@ spellingOf lex words s = numberOr lex s (64 + indexOf s words)
 
 -- ------------------------------------------------------------------ tokens
 
-abbrev pub token : ℕ → ℕ → ℕ → ℕ → Token
-token kind at size value = record { kind = kind; at = at; size = size; value = value }
-
--- past the last token there is one of no kind
-abbrev pub endToken : Token
-endToken = token noKind 0 0 0
-
 -- the token at the offset `at` that is spelled s and is not a number: a word has its spelling number, any other the value 0
 abbrev pub spelledToken : Lexicon → List (List ℕ) → ℕ → List ℕ → ℕ → Token
 spelledToken lex words at s kind =
@@ -112,10 +106,6 @@ ended r words = record { answer = r; tokens = []; words = words }
 abbrev pub withToken : Token → Lexed → Lexed
 withToken t l = record { answer = l .answer; tokens = t ∷ l .tokens; words = l .words }
 
--- the most tokens that a formula may have
-abbrev pub mostTokens : ℕ
-mostTokens = 4096
-
 -- What is left of the formula at the offset `at`, after n tokens and the words met with them; k bounds the bytes left.
 -- Refusal 15 comes before 16 at each token.
 unfoldable pub lexFrom : ℕ → Lexicon → ℕ → List ℕ → ℕ → List (List ℕ) → Lexed
@@ -133,10 +123,6 @@ lexFrom (suc k) lex at (b ∷ bs) n words =
                 (lexFrom k lex (at + t .size) (drop (t .size) (b ∷ bs)) (n + 1) (wordsWith words (take (t .size) (b ∷ bs)) t))
           ]
     ]
-
--- the most bytes that a formula may have
-abbrev pub longestFormula : ℕ
-longestFormula = 65535
 
 -- the whole scan
 unfoldable pub scan : Lexicon → List ℕ → Lexed

@@ -5,7 +5,7 @@ use mathlib.Core.Path.{_≡_}
 use mathlib.Core.Bool.{true, false}
 use mathlib.Core.List.{List, []}
 use lib.ListN.{length, getD, take}
-use Rattle.grammar.specs.Fields.{Lexicon}
+use Rattle.grammar.specs.Table.{Lexicon}
 use Rattle.kinds.specs.Kinds.{wordKind}
 use Rattle.scanner.specs.declared.Token.{Token}
 use Rattle.scanner.specs.declared.Step.{Step}
@@ -13,13 +13,14 @@ use Rattle.scanner.specs.declared.Step.the-variants.{Emit}
 use Rattle.scanner.specs.declared.Name.{Name}
 use Rattle.scanner.specs.declared.Name.the-variants.{Keyword, Outside, Other}
 use Rattle.scanner.specs.declared.Made.{Made}
-use Rattle.scanner.specs.declared.trees.Spot.{Spot}
-use Rattle.scanner.specs.declared.trees.Spot.the-variants.{Node, Free}
-use Rattle.scanner.specs.Scan.{token, isNew, stepOf}
+use Rattle.lexicon.specs.declared.trees.Spot.{Spot}
+use Rattle.lexicon.specs.declared.trees.Spot.the-variants.{Node, Free}
+use Rattle.scanner.specs.Scan.{isNew, stepOf}
+use Rattle.scanner.specs.Tokens.{token}
 use Rattle.scanner.specs.Tiling.{FirstAt, NotIn}
 use Rattle.scanner.specs.Rooms.{wordsIn}
-use Rattle.scanner.specs.Trees.{Tree, FreeFor}
-use Rattle.scanner.specs.LexiconRoom.{Lexical}
+use Rattle.lexicon.specs.Trees.{Tree, FreeFor}
+use Rattle.lexicon.specs.LexiconRoom.{Lexical}
 
 -- what a word is by a lexicon
 pub data Named (lex : Lexicon) (s : List ℕ) : Name → Type 0 where

@@ -1,15 +1,14 @@
 -- How tokens lie in a formula and what they are, by rules. Document 01, "Formula".
 use Prim.Native.Nat.{ℕ, _+_, _-_, _<_, _≤_}
 use mathlib.Core.Path.{_≡_}
-use mathlib.Core.Bool.{true, false}
+use mathlib.Core.Bool.{true}
 use mathlib.Core.List.{List, [], _∷_, _++_}
-use lib.Dec.{ltb}
-use lib.ListN.{length, getD, take, drop}
+use lib.ListN.{length, getD, drop}
 use Rattle.spellings.specs.Bytes.{isLetter, isDigit, isWordByte, isSeparator, isSymbol, run, largest, valueOf}
 use Rattle.kinds.specs.Kinds.{wordKind, numberKind, keywordKind, noKind}
-use Rattle.grammar.specs.Fields.{Lexicon}
+use Rattle.grammar.specs.Table.{Lexicon}
 use Rattle.scanner.specs.declared.Token.{Token}
-use Rattle.scanner.specs.Scan.{token, endToken}
+use Rattle.scanner.specs.Tokens.{token, spelled}
 
 -- ------------------------------------------------------------------ what stands at the front of what is left of a formula
 
@@ -71,17 +70,3 @@ pub data Tiled (lex : Lexicon) (formula : List ℕ) : ℕ → List (List ℕ) �
       → Stands lex at (drop at formula) met t met₁
       → Tiled lex formula (at + t .size) met₁ ts to met₂
       → Tiled lex formula at met (t ∷ ts) to met₂
-
--- ------------------------------------------------------------------ reading tokens
-
--- the bytes of a token
-abbrev pub bytesOf : List ℕ → Token → List ℕ
-bytesOf formula t = take (t .size) (drop (t .at) formula)
-
--- token i; past the last there is a token of no kind
-abbrev pub tokenAt : List Token → ℕ → Token
-tokenAt ts i = getD ts i endToken
-
--- what a spelling number stands for: below 64 that outside name, from 64 on that word
-abbrev pub spelled : Lexicon → List (List ℕ) → ℕ → List ℕ
-spelled lex words v = elim (ltb v 64) [ true ↦ getD (lex .outsides) v [] | false ↦ getD words (v - 64) [] ]

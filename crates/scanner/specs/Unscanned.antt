@@ -7,9 +7,9 @@ use lib.ListN.{length, getD, drop}
 use Rattle.answers.specs.declared.Refusal.{Refusal}
 use Rattle.answers.specs.Refusals.{refusal}
 use Rattle.spellings.specs.Bytes.{isLetter, isDigit, isWordByte, isSeparator, run, largest, valueOf}
-use Rattle.grammar.specs.Fields.{Lexicon}
+use Rattle.grammar.specs.Table.{Lexicon}
 use Rattle.scanner.specs.declared.Token.{Token}
-use Rattle.scanner.specs.Scan.{mostTokens, longestFormula}
+use Rattle.scanner.specs.Tokens.{mostTokens, longestFormula}
 use Rattle.scanner.specs.Tiling.{Stands, Tiled}
 
 -- what stands at the front is a bad byte, a long word or a large number

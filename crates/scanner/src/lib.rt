@@ -1,14 +1,12 @@
 // The scanner: from the bytes of a formula to its tokens.
-pub mod lexicon;
 pub mod tokens;
-pub mod trees;
 
-use crate::trees::Spot;
-use crate::trees::find;
-use crate::trees::wide;
-use crate::trees::word_at;
 use answers::Refusal;
 use grammar::reader::part;
+use lexicon::trees::Spot;
+use lexicon::trees::find;
+use lexicon::trees::wide;
+use lexicon::trees::word_at;
 use spellings::Number;
 ghost use mathlib.Core.Path.{_≡_};
 ghost use mathlib.Core.List.{List, []};
@@ -17,10 +15,11 @@ ghost use Prim.Native.Nat.{ℕ, _+_, _*_, _≤_, _<_};
 ghost use lib.ListN.{length, getD, take, drop};
 ghost use lib.Seq.{sets};
 ghost use Rattle.spellings.specs.Bytes.{isLetter, isDigit};
-ghost use Rattle.grammar.specs.Fields.{Lexicon, lexiconOf};
-ghost use Rattle.scanner.specs.Scan.{token};
-ghost use Rattle.scanner.specs.Trees.{hashOf, Planted, Linkable, linksWith};
-ghost use Rattle.scanner.specs.LexiconRoom.{Lexical};
+ghost use Rattle.grammar.specs.Table.{Lexicon};
+ghost use Rattle.grammar.specs.Lookup.{lexiconOf};
+ghost use Rattle.scanner.specs.Tokens.{token};
+ghost use Rattle.lexicon.specs.Trees.{hashOf, Planted, Linkable, linksWith};
+ghost use Rattle.lexicon.specs.LexiconRoom.{Lexical};
 ghost use Rattle.scanner.specs.Stepping.{Named, Ready, OwnWord, made, Marks, Stepped, Agrees, Scannable};
 ghost use Rattle.answers.specs.Refusals.{refusal};
 ghost use Rattle.scanner.specs.Rooms.{rowThen, placeThen, countWith, wordsIn, RoomFor, Lent, filled, scanInto};

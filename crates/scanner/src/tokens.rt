@@ -2,7 +2,7 @@
 ghost use mathlib.Core.Path.{_≡_};
 ghost use Prim.Native.Nat.{_^_, _<_};
 ghost use lib.ListN.{getD};
-ghost use Rattle.scanner.specs.Scan.{endToken};
+ghost use Rattle.scanner.specs.Tokens.{endToken};
 ghost use Rattle.scanner.specs.Rooms.{tokensIn, TokensFit};
 
 // The kind of token `at` of n; past the last token it is the kind that is in no set.

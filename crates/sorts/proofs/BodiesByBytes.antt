@@ -1,6 +1,6 @@
 -- The tests of items, results and the root on a table's bytes are those of what the bytes are.
 use Prim.Native.Nat.{ℕ, _<_}
-use mathlib.Core.Path.{_≡_, refl, sym, ap, ap₂, _∙_}
+use mathlib.Core.Path.{_≡_, refl, sym, ap, _∙_}
 use mathlib.Core.Bool.{Bool, true, false, not, _&&_, and-true}
 use mathlib.Core.List.{List, [], _∷_}
 use native.Mathlib.Omega.{arith}
@@ -12,7 +12,7 @@ use Rattle.answers.specs.Checked.{Checked, ok, bad, _>>_, need, verdict}
 use Rattle.spellings.proofs.BytesLaws.{by-test}
 use Rattle.grammar.specs.Sorts.{Signature, term, fits}
 use Rattle.grammar.specs.Table.{Template, Templates, none, more, Item, call}
-use Rattle.grammar.specs.Encode.{templateThen, templatesThen, itemValue}
+use Rattle.grammar.specs.Values.{templateThen, templatesThen, itemValue}
 use Rattle.layout.specs.Prefix.{templatesOf, found, firstOf}
 use Rattle.layout.specs.Decode.{itemOf}
 use Rattle.layout.specs.Layout.{isKnown, isWhole}
@@ -22,7 +22,8 @@ use Rattle.layout.proofs.Templates.{read-templates, read-template}
 use Rattle.layout.proofs.Values.{item-value, item-read, result-value, result-read}
 use Rattle.sorts.specs.declared.Sorted.{Sorted}
 use Rattle.sorts.specs.declared.Sorted.the-variants.{As, Unsorted}
-use Rattle.sorts.specs.CheckSorts.{Scope, isDefined, signatureOf, isClosed, areClosed, isSorted, sortOf, fill, checkItem, checkResult, checkRoot}
+use Rattle.sorts.specs.CheckSorts.{isDefined, signatureOf, isClosed, areClosed, isSorted, sortOf, fill, checkItem, checkResult, checkRoot}
+use Rattle.sorts.specs.Scopes.{Scope}
 use Rattle.sorts.specs.TemplateBytes.{fillBytes, templatesFault}
 use Rattle.sorts.specs.ByBytes.{signatureAt, Context, unlessFault, callAt, itemAt, resultAt, rootAt, verdictOf}
 use Rattle.sorts.proofs.TemplateInduction.{choose}
@@ -56,7 +57,8 @@ result-by at true true = refl
 result-by at true false = refl
 result-by at false filled = refl
 
-root-by : (at : ℕ) (defined fitting : Bool) → verdictOf at (choose 9 (choose 0 11 fitting) (not defined)) ≡ verdict (need defined 9 at >> need fitting 11 at)
+root-by : (at : ℕ) (defined fitting : Bool) → verdictOf at (choose 9 (choose 0 11 fitting) (not defined))
+    ≡ verdict (need defined 9 at >> need fitting 11 at)
 root-by at true true = refl
 root-by at true false = refl
 root-by at false fitting = refl
@@ -77,16 +79,10 @@ module _ (bs : List ℕ) (G : Scope) (H : List ℕ) (knows : (n : ℕ) → n < 6
         let closed : Bool = areClosed ts G (length L) in
         let S : Signature = signatureOf (G .env) n in
         let sig : List ℕ = signatureAt bs (getD H n 0) in
-        ap₂ (λ x y. sortedAt at (choose (Unsorted 9) (unlessFault (getD sig 0 0) (faultBy y (fillBytes false args L (drop 1 sig)))) x)) (missing n l)
-        (closed-bytes G (length L) args ts (read-templates w))
-        ∙ call-by at (getD sig 0 0) (isDefined (G .env) n) closed (fillBytes false args L (drop 1 sig))
-        ∙ by-test (isDefined (G .env) n)
-        (λ e.
-        ap (λ x. need (isDefined (G .env) n && closed) 9 at >> need (fillBytes false args L (drop 1 x)) 11 at >> ok (getD x 0 0)) (knows n l .shown e)
-        ∙ ap (λ x. need (isDefined (G .env) n && closed) 9 at >> need x 11 at >> ok (S .result)) (fill-bytes L args ts (S .params) (read-templates w)))
-        (λ e.
-        ap (λ x. need (x && closed) 9 at >> need (fillBytes false args L (drop 1 sig)) 11 at >> ok (getD sig 0 0)) e
-        ∙ sym (ap (λ x. need (x && closed) 9 at >> need (fill ts L (S .params)) 11 at >> ok (S .result)) e))
+        let known = missing n l in
+        let within = closed-bytes G (length L) args ts (read-templates w) in
+        let tests = call-by at (getD sig 0 0) (isDefined (G .env) n) closed (fillBytes false args L (drop 1 sig)) in
+        by-test (isDefined (G .env) n) (λ e. cc (knows n l .shown e, fill-bytes L args ts (S .params) (read-templates w))) (λ e. cc)
 
     keyword-agrees : (t : Bool) → sortedAt at (choose (As 0) (Unsorted 9) t) ≡ (need t 9 at >> ok 0)
     keyword-agrees true = refl
@@ -106,9 +102,7 @@ module _ (bs : List ℕ) (G : Scope) (H : List ℕ) (knows : (n : ℕ) → n < 6
         → sortedAt at (itemAt bs (contextOf G h H L) v) ≡ checkItem G L at (itemOf v)
     item-agrees v b k w =
         let i = item-value v b k w in
-        ap (λ u. sortedAt at (itemAt bs (contextOf G h H L) u)) (i .1)
-        ∙ value-agrees (i .2)
-        ∙ ap (checkItem G L at) (sym (ap itemOf (i .1) ∙ item-read (i .2)))
+        cc (i .1, value-agrees (i .2), item-read (i .2))
 
     -- ------------------------------------------------------------------ results
 
@@ -122,13 +116,15 @@ module _ (bs : List ℕ) (G : Scope) (H : List ℕ) (knows : (n : ℕ) → n < 6
         let r = result-value v b w in
         let t : Template = r .0 in
         let one = read-template (r .2) in
-        ap (λ s. verdictOf at (templatesFault (G .outsides) L v (getD s 0 0 ∷ []))) e
-        ∙ ap (λ u. verdictOf at (templatesFault (G .outsides) L u (B ∷ []))) (r .1)
-        ∙ ap₂ (λ x y. verdictOf at (faultBy x y))
-        (closed-bytes G (length L) (templateThen t []) (more t none) one ∙ and-true (isClosed t G (length L)))
-        (fill-bytes L (templateThen t []) (more t none) (B ∷ []) one ∙ and-true (isSorted t L && fits (sortOf t L) B))
-        ∙ result-by at (isClosed t G (length L)) (isSorted t L && fits (sortOf t L) B)
-        ∙ ap (λ u. verdict (checkResult G L B at u)) (sym (ap (λ u. firstOf (found (templatesOf u))) (r .1) ∙ result-read (r .2)))
+        cc (
+          r .1,
+          closed-bytes G (length L) (templateThen t []) (more t none) one,
+          and-true (isClosed t G (length L)),
+          fill-bytes L (templateThen t []) (more t none) (B ∷ []) one,
+          and-true (isSorted t L && fits (sortOf t L) B),
+          result-by at (isClosed t G (length L)) (isSorted t L && fits (sortOf t L) B),
+          result-read (r .2),
+        )
 
   -- ------------------------------------------------------------------ the root
 
@@ -139,15 +135,9 @@ module _ (bs : List ℕ) (G : Scope) (H : List ℕ) (knows : (n : ℕ) → n < 6
       let S : Signature = signatureOf (G .env) n in
       let fitting : List ℕ → Bool = λ s. leb (length s) 1 && eqb (getD s 0 0) term in
       let sig : List ℕ = signatureAt bs (getD H n 0) in
-      ap (λ x. verdictOf at (choose 9 (choose 0 11 (fitting sig)) x)) (missing n l)
-      ∙ root-by at (isDefined (G .env) n) (fitting sig)
-      ∙ by-test (isDefined (G .env) n)
-      (λ e.
-      ap (λ x. verdict (need (isDefined (G .env) n) 9 at >> need (fitting x) 11 at)) (knows n l .shown e)
-      ∙ ap (λ x. verdict (need (isDefined (G .env) n) 9 at >> need (x && eqb (S .result) term) 11 at)) (none-left (S .result) (S .params)))
-      (λ e.
-      ap (λ x. verdict (need x 9 at >> need (fitting sig) 11 at)) e
-      ∙ sym (ap (λ x. verdict (need x 9 at >> need (eqb (length (S .params)) 0 && eqb (S .result) term) 11 at)) e))
+      rw (rootAt, missing n l)
+      (root-by at (isDefined (G .env) n) (fitting sig)
+      ∙ by-test (isDefined (G .env) n) (λ e. cc (knows n l .shown e, none-left (S .result) (S .params))) (λ e. cc))
     where
       none-left : (r : ℕ) (ps : List ℕ) → leb (length (r ∷ ps)) 1 ≡ eqb (length ps) 0
       none-left r [] = refl

@@ -50,17 +50,14 @@ module _ {sig room₀ : List ℕ} where
         height = omega (arith, l .height);
         least = omega arith;
         opened =
-            places-set room top x (omega (arith, l .as-many, l .height))
-            ∙ ap (λ s. x ∷ s) (l .opened)
-            ∙ ap₂ (λ y k. y ∷ drop k sig) e (sym back)
-            ∙ sym (drop-cons sig (j - 1) 0 (omega (arith, l .height)));
+            cc (places-set room top x (omega (arith, l .as-many, l .height)), l .opened, drop-cons sig (j - 1) 0 (omega (arith, l .height)));
       }
 
   -- all places
   pub loading-end : {room : List ℕ} {top j : ℕ} → Loading sig room₀ room top j → j ≤ 1 → Loaded sig room top
   loading-end {room} {top} {j} l h =
       let one : j ≡ 1 = omega (arith, l .least) in
-      record { small = omega (arith, l .height); loaded = l .opened ∙ ap (λ k. drop k sig) one }
+      record { small = omega (arith, l .height); loaded = cc (l .opened) }
 
 -- ------------------------------------------------------------------ the sorts of variables
 
@@ -88,11 +85,12 @@ module _ {sig L₀ : List ℕ} where
         next = refl;
         most = omega arith;
         copied =
-            ap (λ k. take k (set L n x)) far
-            ∙ take-suc-set L n x (omega (arith, c .as-many, c .next))
-            ∙ ap₂ (λ l y. l ++ (y ∷ [])) (c .copied) (e ∙ ap (λ k. getD sig k 0) (sym one) ∙ sym (getD-drop 1 sig n 0))
-            ∙ sym (take-suc (drop 1 sig) n 0 (omega (arith, c .next)))
-            ∙ ap (λ k. take k (drop 1 sig)) (sym far);
+            cc (
+              take-suc-set L n x (omega (arith, c .as-many, c .next)),
+              c .copied,
+              getD-drop 1 sig n 0,
+              take-suc (drop 1 sig) n 0 (omega (arith, c .next)),
+            );
       }
 
   -- all sorts
@@ -107,9 +105,7 @@ module _ (L : List ℕ) (n s : ℕ) (e : length L ≡ 16) where
   pub sort-added : n < 16 → take (n + 1) (set L n s) ≡ take 16 (take n L ++ (s ∷ []))
   sort-added h =
       let few : length (take n L ++ (s ∷ [])) ≤ 16 = omega (arith, length-append (take n L) (s ∷ []), length-take n L) in
-      ap (λ k. take k (set L n s)) (add-one n)
-      ∙ take-suc-set L n s (omega arith)
-      ∙ sym (take-all 16 (take n L ++ (s ∷ [])) few)
+      cc (add-one n, take-suc-set L n s (omega arith), take-all 16 (take n L ++ (s ∷ [])) few)
 
   -- there is none
   pub sort-left : 16 ≤ n → take n L ≡ take 16 (take n L ++ (s ∷ []))
@@ -138,7 +134,7 @@ module _ (bs : List ℕ) (X : Context) (n : ℕ) (arguments : List ℕ) {h : ℕ
   call-by missing d =
       let good : ℕ → Sorted =
       λ x. unlessFault (getD (signatureAt bs x) 0 0) (templatesFault (X .outsides) (X .sorts) arguments (drop 1 (signatureAt bs x))) in
-      ap (choose (Unsorted 9) (good h)) (sym d) ∙ ap (λ x. choose (Unsorted 9) (good x) (eqb x 0)) e
+      cc
 
   -- the nonterminal has no head
   pub call-undefined : h ≡ 0 → Unsorted 9 ≡ callAt bs X n arguments
@@ -148,10 +144,7 @@ module _ (bs : List ℕ) (X : Context) (n : ℕ) (arguments : List ℕ) {h : ℕ
       (f : fault ≡ templatesFault (X .outsides) (X .sorts) arguments (drop 1 signature)) where
     call-fault : (clean : Bool) → eqb fault 0 ≡ clean → choose (As (getD signature 0 0)) (Unsorted fault) clean ≡ callAt bs X n arguments
     call-fault clean k =
-        ap (choose (As (getD signature 0 0)) (Unsorted fault)) (sym k)
-        ∙ ap (unlessFault (getD signature 0 0)) f
-        ∙ ap (λ s. unlessFault (getD s 0 0) (templatesFault (X .outsides) (X .sorts) arguments (drop 1 s))) q
-        ∙ call-by false (ne-eqb h 0 z)
+        cc (call-by false (ne-eqb h 0 z))
 
     -- the arguments have a fault
     pub call-unfit : (fault ≡ 0 → ⊥) → Unsorted fault ≡ callAt bs X n arguments
@@ -207,9 +200,7 @@ module _ (bs : List ℕ) (X : Context) (v : List ℕ) {kind operand : ℕ} (e : 
   pub item-other : (((Unit {0} × (kind ≡ 0 → ⊥)) × (kind ≡ 1 → ⊥)) × (kind ≡ 3 → ⊥)) × (kind ≡ 4 → ⊥) → As 6 ≡ itemAt bs X v
   unfolding itemBy itemTests
   item-other ((((u, a), b), c), d) =
-      ap₂ (λ x y. itemTests operand x y false false) (sym (ne-eqb kind 0 a)) (sym (ne-eqb kind 1 b))
-      ∙ ap₂ (λ x y. itemTests operand (eqb kind 0) (eqb kind 1) x y) (sym (ne-eqb kind 3 c)) (sym (ne-eqb kind 4 d))
-      ∙ item-is refl
+      cc (ne-eqb kind 0 a, ne-eqb kind 1 b, ne-eqb kind 3 c, ne-eqb kind 4 d, item-is refl)
 
 -- ------------------------------------------------------------------ results
 
@@ -220,5 +211,4 @@ pub result-is :
     → fault ≡ templatesFault (k .outsides) (take (k .variables) L) v (places (set room 0 B) 1) → fault ≡ resultAt bs (context k H L) v
 unfolding resultAt
 result-is bs k H L v room {B} e b h f =
-    f
-    ∙ ap (templatesFault (k .outsides) (take (k .variables) L) v) (one-place room B h ∙ ap (λ s. s ∷ []) (b ∙ ap (λ s. getD s 0 0) e))
+    cc (one-place room B h)

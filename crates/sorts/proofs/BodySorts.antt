@@ -1,6 +1,6 @@
 -- Checking items, alternatives and definitions is the judgement E ⊢ g ok.
 use Prim.Native.Nat.{ℕ, _+_}
-use mathlib.Core.Path.{ap, subst⁻¹, _∙_}
+use mathlib.Core.Path.{subst⁻¹}
 use mathlib.Core.Bool.{Bool, _&&_}
 use mathlib.Core.List.{List, [], _∷_, _++_}
 use lib.Dec.{ltb}
@@ -9,11 +9,14 @@ use borrow.Author.Tests.{ltb-true, lt-ltb}
 use Rattle.answers.specs.Checked.{Checked, ok, _>>_, need}
 use Rattle.grammar.specs.Sorts.{Signature, unit, fits}
 use Rattle.grammar.specs.Table.{Template, Item, keyword, ide, number, local, call, Alternative, Definition}
-use Rattle.grammar.specs.Encode.{headValue}
+use Rattle.grammar.specs.Values.{headValue}
 use Rattle.layout.specs.Within.{Each, each-none, each-more, TemplateWithin, ItemWithin, ide-within, call-within, AlternativeWithin, DefinitionWithin}
 use Rattle.sorts.specs.Sizes.{fieldSize, itemsSize, definitionSize}
-use Rattle.sorts.specs.CheckSorts.{Scope, isDefined, signatureOf, isClosed, areClosed, sortOf, isSorted, fill, checkItem, checkItems, checkResult, checkAlternative, checkAlternatives, checkBodies}
-use Rattle.sorts.specs.Judgements.{ItemSorted, by-keyword, by-ide, by-number, by-local, by-call, Body, by-result, by-binding, Bodies, no-alternative, by-choice, Ok, ok-empty, ok-definition}
+use Rattle.sorts.specs.CheckSorts.{isDefined, signatureOf, isClosed, areClosed, sortOf, isSorted, fill, checkItem, checkItems}
+use Rattle.sorts.specs.Scopes.{Scope}
+use Rattle.sorts.specs.CheckSorts.{checkResult, checkAlternative, checkAlternatives, checkBodies}
+use Rattle.sorts.specs.Judgements.{ItemSorted, by-keyword, by-ide, by-number, by-local, by-call, Body, by-result, by-binding, Bodies}
+use Rattle.sorts.specs.Judgements.{no-alternative, by-choice, Ok, ok-empty, ok-definition}
 use Rattle.sorts.proofs.Accepting.{Accepts, need-passed, need-passes, needs-passed, needs-passes, bind-passed, bind-passes, then-passed, then-passes}
 use Rattle.sorts.proofs.Environments.{defined-newest, newest-defined, newest-signature}
 use Rattle.sorts.proofs.TemplateSorts.{both, pair, fits-rule, rule-fits, sorted-rule, rule-sorted, fill-rule, rule-fill}
@@ -63,7 +66,8 @@ module _ (G : Scope) where
 
     -- items and result together
     pub body-rule :
-        (is : List Item) (L : List ℕ) (B at from : ℕ) (t : Template) → Each ItemWithin is → TemplateWithin t → Accepts (checkItems G L at is) (Rest B from t)
+        (is : List Item) (L : List ℕ) (B at from : ℕ) (t : Template) → Each ItemWithin is → TemplateWithin t
+        → Accepts (checkItems G L at is) (Rest B from t)
         → Body G L is t B × P tt
     unfolding checkItems
     body-rule [] L B at from t each-none w h =
@@ -82,7 +86,7 @@ module _ (G : Scope) where
     rule-body at from (by-result {L = L} {t = t} {A = A} {B = B} s f) p =
         let r = rule-sorted G L t s in
         needs-passes _ _ 9 11 from P (r .0)
-        (pair (isSorted t L) (fits (sortOf t L) B) (r .1) (ap (λ x. fits x B) (r .2) ∙ rule-fits f)) p
+        (pair (isSorted t L) (fits (sortOf t L) B) (r .1) (cc (r .2, rule-fits f))) p
     rule-body at from (by-binding {L = L} {i = i} {t = t} {B = B} s b) p =
         bind-passes (Rest B from t) (checkItem G L at i) _ (rule-item at _ s (rule-body _ from b p))
 
@@ -104,7 +108,8 @@ module _ (G : Scope) where
   -- ------------------------------------------------------------------ alternatives and definitions
 
   pub bodies-rule :
-      (P : Unit {0} → Type 0) (S : Signature) (at : ℕ) (choices : List Alternative) → Each AlternativeWithin choices → Accepts (checkAlternatives G S at choices) P
+      (P : Unit {0} → Type 0) (S : Signature) (at : ℕ) (choices : List Alternative) → Each AlternativeWithin choices
+      → Accepts (checkAlternatives G S at choices) P
       → Bodies G S choices × P tt
   unfolding checkAlternatives
   bodies-rule P S at [] each-none h = (no-alternative, h)
@@ -128,7 +133,8 @@ module _ (G : Scope) where
   ok-rule P at (d ∷ ds) (each-more w ws) h =
       let from : ℕ = at + fieldSize (headValue d) in
       let bodies : Checked (Unit {0}) = checkAlternatives G (d .signature) from (d .alternatives) in
-      let r = bodies-rule _ (d .signature) from (d .alternatives) (w .alternatives) (then-passed P bodies (checkBodies G (at + definitionSize d) ds) h) in
+      let r = bodies-rule _ (d .signature) from (d .alternatives) (w .alternatives)
+      (then-passed P bodies (checkBodies G (at + definitionSize d) ds) h) in
       let q = ok-rule P (at + definitionSize d) ds ws (r .1) in
       (ok-definition (r .0) (q .0), q .1)
 

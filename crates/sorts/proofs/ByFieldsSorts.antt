@@ -2,19 +2,18 @@
 -- the offsets of the fields.
 use Prim.Native.Nat.{ℕ, _+_}
 use mathlib.Core.Path.{_≡_, refl, sym, _∙_, ap, fun-ext}
-use mathlib.Core.Bool.{Bool, true, false}
+use mathlib.Core.Bool.{false}
 use mathlib.Core.List.{List, [], _∷_, _++_}
 use native.Mathlib.Omega.{arith}
 use lib.ListN.{length}
-use Rattle.answers.specs.Checked.{Checked, ok, bad, _>>=_, _>>_, need}
+use Rattle.answers.specs.Checked.{Checked, ok, bad, _>>=_, _>>_}
 use Rattle.grammar.specs.Sorts.{Signature, gives, unit}
 use Rattle.grammar.specs.Table.{Template, Item, Alternative, Mode, add, extend, update, Definition, Table}
 use lib.Dec.{eqb}
-use Rattle.grammar.specs.Fields.{Fields, next, fieldsOf, leading, afterLeading}
-use Rattle.grammar.specs.Encode.{Field, field, templateThen, itemValue, modeCode, headValue, spellingsThen, itemsThen, alternativesThen}
-use Rattle.grammar.specs.Encode.{definitionsThen, blocksThen, tableFields, encode}
-use Rattle.layout.specs.Decode.{modeOf, itemOf, definitionOf}
-use Rattle.layout.specs.Prefix.{templatesOf, found, firstOf}
+use Rattle.grammar.specs.Fields.{Fields, next, fieldsOf}
+use Rattle.grammar.specs.Encode.{spellingsThen, itemsThen, alternativesThen, definitionsThen, blocksThen, tableFields, encode}
+use Rattle.grammar.specs.Values.{Field, field, templateThen, itemValue, modeCode, headValue}
+use Rattle.layout.specs.Decode.{modeOf, definitionOf}
 use Rattle.layout.specs.Within.{Each, each-none, each-more, TemplateWithin, ItemWithin, AlternativeWithin, DefinitionWithin, Within}
 use native.Mathlib.Nat.{add-zero}
 use Rattle.layout.proofs.Split.{spread, fields-of-bytes}
@@ -22,7 +21,8 @@ use Rattle.layout.proofs.Values.{item-read, result-read}
 use Rattle.layout.proofs.Inverse.{decode-encoded}
 use Rattle.layout.proofs.DecodedLexicon.{leading-decoded}
 use Rattle.sorts.specs.Sizes.{fieldSize, spellingsSize, itemsSize, alternativeSize, alternativesSize, definitionSize, definitionsSize}
-use Rattle.sorts.specs.CheckSorts.{Env, entryOf, consistent, collect, Scope, checkItem, checkItems, checkResult, checkAlternative}
+use Rattle.sorts.specs.CheckSorts.{consistent, collect, checkItem, checkItems, checkResult, checkAlternative}
+use Rattle.sorts.specs.Scopes.{Env, entryOf, Scope}
 use Rattle.sorts.specs.CheckSorts.{checkAlternatives, checkBodies, checkBlocks, blocksSize, checkRoot, checkSorts}
 use Rattle.sorts.specs.ByFields.{headOf, collectBy, bodiesBy, blocksBy, checkSortsBy}
 
@@ -65,28 +65,32 @@ head-consistent :
     (d : Definition) (E own : Env) (at : ℕ)
     → consistent (headOf (headValue d) .mode) E own (headOf (headValue d)) at ≡ consistent (d .mode) E own d at
 unfolding headValue definitionOf
-head-consistent d E own at = ap (λ m. consistent m E own (headOf (headValue d)) at) (mode-read (d .mode)) ∙ by-head d (d .mode) E own at
+head-consistent d E own at = cc (mode-read (d .mode), by-head d (d .mode) E own at)
 
 -- ------------------------------------------------------------------ signatures
 
 module _ (E : Env) where
+  -- a place counted in two ways is one
+  collect-at : (k : List Field) (own : Env) {a b : ℕ} → a ≡ b → collectBy (spread a k) E own ≡ collectBy (spread b k) E own
+  collect-at k own e = cc
+
   collect-items :
       (is : List Item) (k : List Field) (own : Env) (at : ℕ)
       → collectBy (spread at (itemsThen is k)) E own ≡ collectBy (spread (at + itemsSize is) k) E own
   unfolding spread itemsThen itemsSize collectBy
-  collect-items [] k own at = ap (λ a. collectBy (spread a k) E own) (omega arith)
+  collect-items [] k own at = collect-at k own (omega arith)
   collect-items (i ∷ is) k own at =
-      collect-items is k own (at + (3 + length (itemValue i))) ∙ ap (λ a. collectBy (spread a k) E own) (omega arith)
+      collect-items is k own (at + (3 + length (itemValue i))) ∙ collect-at k own (omega arith)
 
   collect-alternatives :
       (rest : List Alternative) (k : List Field) (own : Env) (at : ℕ)
       → collectBy (spread at (alternativesThen rest k)) E own ≡ collectBy (spread (at + alternativesSize rest) k) E own
   unfolding spread alternativesThen alternativesSize alternativeSize collectBy
-  collect-alternatives [] k own at = ap (λ a. collectBy (spread a k) E own) (omega arith)
+  collect-alternatives [] k own at = collect-at k own (omega arith)
   collect-alternatives (a ∷ rest) k own at =
       collect-items (a .items) (field 7 (templateThen (a .result) []) ∷ alternativesThen rest k) own (at + 3)
       ∙ collect-alternatives rest k own (at + 3 + itemsSize (a .items) + (3 + length (templateThen (a .result) [])))
-      ∙ ap (λ a′. collectBy (spread a′ k) E own) (omega arith)
+      ∙ collect-at k own (omega arith)
 
   -- what follows a block's definitions ends the block
   module _ (k : List Field) (ends : (at : ℕ) (own : Env) → collectBy (spread at k) E own ≡ ok own) where
@@ -94,13 +98,14 @@ module _ (E : Env) where
     unfolding spread definitionsThen collectBy collect definitionSize headValue definitionOf
     collect-definitions [] own at = ends at own
     collect-definitions (d ∷ ds) own at =
-        ap
-        (λ c. c >> collectBy (spread (at + fieldSize (headValue d)) (alternativesThen (d .alternatives) (definitionsThen ds k))) E (entryOf d ∷ own))
-        (head-consistent d E own at)
-        ∙ ap (λ c. consistent (d .mode) E own d at >> c)
-        (collect-alternatives (d .alternatives) (definitionsThen ds k) (entryOf d ∷ own) (at + fieldSize (headValue d))
-        ∙ ap (λ a. collectBy (spread a (definitionsThen ds k)) E (entryOf d ∷ own)) (omega arith)
-        ∙ collect-definitions ds (entryOf d ∷ own) (at + definitionSize d))
+        let behind : ℕ = at + fieldSize (headValue d) in
+        cc (
+          head-consistent d E own at,
+          collect-alternatives (d .alternatives) (definitionsThen ds k) (entryOf d ∷ own) behind,
+          collect-at (definitionsThen ds k) (entryOf d ∷ own) {a = behind + alternativesSize (d .alternatives)} {b = at + definitionSize d}
+              (omega arith),
+          collect-definitions ds (entryOf d ∷ own) (at + definitionSize d),
+        )
 
 -- ------------------------------------------------------------------ bodies
 
@@ -114,30 +119,30 @@ module _ (G : Scope) where
       >> bodiesBy (spread (at + itemsSize is + fieldSize (templateThen t [])) k) G S [])
   unfolding spread itemsThen itemsSize bodiesBy checkItems
   bodies-items each-none {t} w k S L at =
-      ap (λ u. checkResult G L (S .result) at u >> bodiesBy (spread (at + fieldSize (templateThen t [])) k) G S []) (result-read w)
-      ∙ ap (λ a. checkResult G L (S .result) a t >> bodiesBy (spread (a + fieldSize (templateThen t [])) k) G S []) (sym (add-zero at))
+      cc (result-read w, add-zero at)
   bodies-items (each-more {x = i} {xs = is} h hs) {t} w k S L at =
-      ap (λ j. checkItem G L at j >>= λ s. bodiesBy (spread (at + fieldSize (itemValue i)) (itemsThen is (field 7 (templateThen t []) ∷ k))) G S
-      (L ++ (s ∷ []))) (item-read h)
-      ∙ ap (λ f. checkItem G L at i >>= f)
-      (fun-ext
-      (λ s.
-      bodies-items hs w k S (L ++ (s ∷ [])) (at + fieldSize (itemValue i))
-      ∙ ap (λ a. checkItems G (L ++ (s ∷ [])) (at + fieldSize (itemValue i)) is >>= λ L′. checkResult G L′ (S .result) a t >> bodiesBy
-      (spread (a + fieldSize (templateThen t [])) k) G S []) (omega arith)))
-      ∙ sym (bind-bind (checkItem G L at i) _ _)
+      let behind : ℕ = at + fieldSize (itemValue i) in
+      let place : behind + itemsSize is ≡ at + itemsSize (i ∷ is) = omega arith in
+      rw (item-read h)
+      (ap (_>>=_ (checkItem G L at i)) (fun-ext (λ s. rw place at (bodies-items hs w k S (L ++ (s ∷ [])) behind)))
+      ∙ sym (bind-bind (checkItem G L at i) _ _))
+
+  -- a place counted in two ways is one
+  bodies-at : (k : List Field) (S : Signature) {a b : ℕ} → a ≡ b → bodiesBy (spread a k) G S [] ≡ bodiesBy (spread b k) G S []
+  bodies-at k S e = cc
 
   bodies-alternatives : {rest : List Alternative} → Each AlternativeWithin rest → (k : List Field) (S : Signature) (at : ℕ)
-      → bodiesBy (spread at (alternativesThen rest k)) G S [] ≡ (checkAlternatives G S at rest >> bodiesBy (spread (at + alternativesSize rest) k) G S [])
+      → bodiesBy (spread at (alternativesThen rest k)) G S []
+      ≡ (checkAlternatives G S at rest >> bodiesBy (spread (at + alternativesSize rest) k) G S [])
   unfolding spread alternativesThen alternativesSize alternativeSize bodiesBy checkAlternatives checkAlternative
-  bodies-alternatives each-none k S at = ap (λ a. bodiesBy (spread a k) G S []) (sym (add-zero at))
+  bodies-alternatives each-none k S at = cc (add-zero at)
   bodies-alternatives (each-more {x = a} {xs = rest} h hs) k S at =
       bodies-items (h .items) (h .result) (alternativesThen rest k) S (S .params) (at + 3)
       ∙ sym (bind-then (checkItems G (S .params) (at + 3) (a .items)) _ _)
-      ∙ ap (λ c. checkAlternative G S at a >> c)
-      (ap (λ p. bodiesBy (spread p (alternativesThen rest k)) G S []) (omega arith)
+      ∙ ap (_>>_ (checkAlternative G S at a))
+      (bodies-at (alternativesThen rest k) S (omega arith)
       ∙ bodies-alternatives hs k S (at + alternativeSize a)
-      ∙ ap (λ p. checkAlternatives G S (at + alternativeSize a) rest >> bodiesBy (spread p k) G S []) (omega arith))
+      ∙ ap (_>>_ (checkAlternatives G S (at + alternativeSize a) rest)) (bodies-at k S (omega arith)))
       ∙ sym (then-then (checkAlternative G S at a) _ _)
 
   -- what follows a block's definitions ends the block
@@ -148,41 +153,45 @@ module _ (G : Scope) where
     unfolding spread definitionsThen bodiesBy checkBodies definitionSize headValue definitionOf
     bodies-definitions each-none S at = ends at S
     bodies-definitions (each-more {x = d} {xs = ds} h hs) S at =
-        bodies-alternatives (h .alternatives) (definitionsThen ds k) (d .signature) (at + fieldSize (headValue d))
-        ∙ ap (λ c. checkAlternatives G (d .signature) (at + fieldSize (headValue d)) (d .alternatives) >> c)
-        (ap (λ p. bodiesBy (spread p (definitionsThen ds k)) G (d .signature) []) (omega arith)
-        ∙ bodies-definitions hs (d .signature) (at + definitionSize d))
+        let behind : ℕ = at + fieldSize (headValue d) in
+        bodies-alternatives (h .alternatives) (definitionsThen ds k) (d .signature) behind
+        ∙ ap (_>>_ (checkAlternatives G (d .signature) behind (d .alternatives)))
+        (bodies-at (definitionsThen ds k) (d .signature) (omega arith) ∙ bodies-definitions hs (d .signature) (at + definitionSize d))
 
 -- ------------------------------------------------------------------ blocks
 
 module _ (K N : ℕ) where
+  -- a place counted in two ways is one
+  blocks-at : (k : List Field) (E : Env) {a b : ℕ} → a ≡ b → blocksBy (spread a k) K N E ≡ blocksBy (spread b k) K N E
+  blocks-at k E e = cc
+
   -- only the fields 03 and 08 count here
   blocks-items :
       (is : List Item) (k : List Field) (E : Env) (at : ℕ)
       → blocksBy (spread at (itemsThen is k)) K N E ≡ blocksBy (spread (at + itemsSize is) k) K N E
   unfolding spread itemsThen itemsSize blocksBy
-  blocks-items [] k E at = ap (λ a. blocksBy (spread a k) K N E) (sym (add-zero at))
-  blocks-items (i ∷ is) k E at = blocks-items is k E (at + fieldSize (itemValue i)) ∙ ap (λ a. blocksBy (spread a k) K N E) (omega arith)
+  blocks-items [] k E at = cc (add-zero at)
+  blocks-items (i ∷ is) k E at = blocks-items is k E (at + fieldSize (itemValue i)) ∙ blocks-at k E (omega arith)
 
   blocks-alternatives :
       (rest : List Alternative) (k : List Field) (E : Env) (at : ℕ)
       → blocksBy (spread at (alternativesThen rest k)) K N E ≡ blocksBy (spread (at + alternativesSize rest) k) K N E
   unfolding spread alternativesThen alternativesSize alternativeSize blocksBy
-  blocks-alternatives [] k E at = ap (λ a. blocksBy (spread a k) K N E) (sym (add-zero at))
+  blocks-alternatives [] k E at = cc (add-zero at)
   blocks-alternatives (a ∷ rest) k E at =
       blocks-items (a .items) (field 7 (templateThen (a .result) []) ∷ alternativesThen rest k) E (at + 3)
       ∙ blocks-alternatives rest k E (at + 3 + itemsSize (a .items) + fieldSize (templateThen (a .result) []))
-      ∙ ap (λ p. blocksBy (spread p k) K N E) (omega arith)
+      ∙ blocks-at k E (omega arith)
 
   blocks-definitions :
       (ds : List Definition) (k : List Field) (E : Env) (at : ℕ)
       → blocksBy (spread at (definitionsThen ds k)) K N E ≡ blocksBy (spread (at + definitionsSize ds) k) K N E
   unfolding spread definitionsThen definitionsSize definitionSize blocksBy
-  blocks-definitions [] k E at = ap (λ a. blocksBy (spread a k) K N E) (sym (add-zero at))
+  blocks-definitions [] k E at = cc (add-zero at)
   blocks-definitions (d ∷ ds) k E at =
       blocks-alternatives (d .alternatives) (definitionsThen ds k) E (at + fieldSize (headValue d))
       ∙ blocks-definitions ds k E (at + fieldSize (headValue d) + alternativesSize (d .alternatives))
-      ∙ ap (λ p. blocksBy (spread p k) K N E) (omega arith)
+      ∙ blocks-at k E (omega arith)
 
   blocks-skip :
       (tag : ℕ) → eqb tag 3 ≡ false → eqb tag 8 ≡ false → (at : ℕ) (v : List ℕ) (fs : Fields) (E : Env)
@@ -194,11 +203,11 @@ module _ (K N : ℕ) where
       (tag : ℕ) → eqb tag 3 ≡ false → eqb tag 8 ≡ false → (ss : List (List ℕ)) (k : List Field) (E : Env) (at : ℕ)
       → blocksBy (spread at (spellingsThen tag ss k)) K N E ≡ blocksBy (spread (at + spellingsSize ss) k) K N E
   unfolding spread spellingsThen spellingsSize
-  blocks-spellings tag block root [] k E at = ap (λ a. blocksBy (spread a k) K N E) (sym (add-zero at))
+  blocks-spellings tag block root [] k E at = cc (add-zero at)
   blocks-spellings tag block root (s ∷ ss) k E at =
       blocks-skip tag block root at s _ E
       ∙ blocks-spellings tag block root ss k E (at + fieldSize s)
-      ∙ ap (λ a. blocksBy (spread a k) K N E) (omega arith)
+      ∙ blocks-at k E (omega arith)
 
   -- the field behind the blocks ends the last of them
   module _ (r : ℕ) where
@@ -218,29 +227,20 @@ module _ (K N : ℕ) where
     pub blocks-sorts : {bs : List (List Definition)} → Each (Each DefinitionWithin) bs → (E : Env) (at : ℕ)
         → blocksBy (spread at (blocksThen bs rootField)) K N E ≡ (checkBlocks K N E at bs >>= λ E′. checkRoot E′ (at + blocksSize bs) r)
     unfolding spread blocksThen blocksBy checkBlocks blocksSize
-    blocks-sorts each-none E at = ap (λ a. checkRoot E a r) (sym (add-zero at))
+    blocks-sorts each-none E at = cc (add-zero at)
     blocks-sorts (each-more {x = b} {xs = bs} h hs) E at =
-        ap (λ c. c >>= λ own. bodiesBy (spread (at + 3) (definitionsThen b (blocksThen bs rootField)))
-        (record { keywords = K; outsides = N; env = own ++ E }) (gives [] unit) [] >> blocksBy
-        (spread (at + 3) (definitionsThen b (blocksThen bs rootField))) K N (own ++ E))
-        (collect-definitions E (blocksThen bs rootField) (λ a own. collect-ends bs a E own) b [] (at + 3))
-        ∙ ap (λ f. collect E [] (at + 3) b >>= f)
+        let behind : List Field = blocksThen bs rootField in
+        let scope : Env → Scope = λ own. record { keywords = K; outsides = N; env = own ++ E } in
+        let place : at + 3 + definitionsSize b + blocksSize bs ≡ at + blocksSize (b ∷ bs) = omega arith in
+        rw (collect-definitions E behind (λ a own. collect-ends bs a E own) b [] (at + 3))
+        (ap (_>>=_ (collect E [] (at + 3) b))
         (fun-ext
         (λ own.
-        ap (λ c. c >> blocksBy (spread (at + 3) (definitionsThen b (blocksThen bs rootField))) K N (own ++ E))
-        (bodies-definitions (record {
-          keywords =
-              K;
-          outsides = N;
-          env = own ++ E;
-        }) (blocksThen bs rootField) (λ a S. bodies-ends bs (record
-        { keywords = K; outsides = N; env = own ++ E }) a S) h (gives [] unit) (at + 3))
-        ∙ ap (λ c. checkBodies (record { keywords = K; outsides = N; env = own ++ E }) (at + 3) b >> c)
-        (blocks-definitions b (blocksThen bs rootField) (own ++ E) (at + 3)
-        ∙ blocks-sorts hs (own ++ E) (at + 3 + definitionsSize b)
-        ∙ ap (λ p. checkBlocks K N (own ++ E) (at + 3 + definitionsSize b) bs >>= λ E′. checkRoot E′ p r) (omega arith))
-        ∙ sym (then-bind (checkBodies (record { keywords = K; outsides = N; env = own ++ E }) (at + 3) b) _ _)))
-        ∙ sym (bind-bind (collect E [] (at + 3) b) _ _)
+        rw (bodies-definitions (scope own) behind (λ a S. bodies-ends bs (scope own) a S) h (gives [] unit) (at + 3))
+        (ap (_>>_ (checkBodies (scope own) (at + 3) b))
+        (blocks-definitions b behind (own ++ E) (at + 3) ∙ rw place at (blocks-sorts hs (own ++ E) (at + 3 + definitionsSize b)))
+        ∙ sym (then-bind (checkBodies (scope own) (at + 3) b) _ _))))
+        ∙ sym (bind-bind (collect E [] (at + 3) b) _ _))
 
 -- ------------------------------------------------------------------ the whole table
 
@@ -254,10 +254,8 @@ fields-sorts t w =
     let fs : Fields = spread 0 (spellingsThen 1 ks (spellingsThen 2 os behind)) in
     let e : fieldsOf (encode t) ≡ fs = fields-of-bytes (tableFields t) in
     let led = leading-decoded (encode t) t (decode-encoded t w) in
-    ap (λ l. blocksBy (fieldsOf (encode t)) (length l) (length (leading 2 (afterLeading 1 (fieldsOf (encode t))))) []) (led .0)
-    ∙ ap (λ l. blocksBy (fieldsOf (encode t)) (length ks) (length l) []) (led .1)
-    ∙ ap (λ f. blocksBy f (length ks) (length os) []) e
-    ∙ blocks-spellings (length ks) (length os) 1 refl refl ks (spellingsThen 2 os behind) [] 0
+    rw (led .0, led .1, e)
+    (blocks-spellings (length ks) (length os) 1 refl refl ks (spellingsThen 2 os behind) [] 0
     ∙ blocks-spellings (length ks) (length os) 2 refl refl os behind [] (0 + spellingsSize ks)
-    ∙ ap (λ a. blocksBy (spread a behind) (length ks) (length os) []) (omega arith)
-    ∙ blocks-sorts (length ks) (length os) (t .root) (w .blocks) [] first
+    ∙ blocks-at (length ks) (length os) behind [] (omega arith)
+    ∙ blocks-sorts (length ks) (length os) (t .root) (w .blocks) [] first)

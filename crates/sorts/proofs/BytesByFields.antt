@@ -1,20 +1,21 @@
 -- On a table whose layout is right, the check of sorts on its bytes is the check on its fields.
 use Prim.Native.Nat.{ℕ, zero, suc, _+_, _≤_, _<_}
-use mathlib.Core.Path.{_≡_, refl, sym, ap, ap₂, subst⁻¹, _∙_}
+use mathlib.Core.Path.{_≡_, refl, sym, ap, subst⁻¹, _∙_}
 use mathlib.Core.Bool.{true, false, true≢false, false≢true}
 use mathlib.Core.List.{List, [], _∷_, _++_}
 use native.Mathlib.Omega.{arith}
 use native.Mathlib.Nat.{add-zero, zero-add}
 use lib.Dec.{ltb}
-use lib.ListN.{length, getD, take, drop, length-append, replicate, length-replicate}
+use lib.ListN.{length, getD, take, length-append, replicate, length-replicate}
 use lib.Seq.{take-all}
 use borrow.Author.Tests.{le-leb, ltb-true}
 use Rattle.answers.specs.declared.Verdict.{Verdict}
 use Rattle.answers.specs.declared.Verdict.the-variants.{Passed, Refused}
 use Rattle.answers.specs.Checked.{Checked, ok, bad, _>>=_, _>>_, verdict}
 use Rattle.grammar.specs.Sorts.{Signature, gives, unit}
-use Rattle.grammar.specs.Encode.{Field, field}
-use Rattle.grammar.specs.Fields.{Fields, end, cut, next, fieldsOf, leading, afterLeading}
+use Rattle.grammar.specs.Values.{Field, field}
+use Rattle.grammar.specs.Fields.{Fields, end, cut, next, fieldsOf}
+use Rattle.grammar.specs.Lookup.{leading, afterLeading}
 use Rattle.grammar.proofs.LookupLaws.{fields-of}
 use Rattle.layout.specs.declared.Progress.{Progress}
 use Rattle.layout.specs.Prefix.{templatesOf, found, firstOf}
@@ -24,7 +25,8 @@ use Rattle.layout.proofs.Accept.{Passes, accepted, by-tag}
 use Rattle.layout.proofs.Laws.{room-of}
 use Rattle.layout.proofs.Values.{root-value}
 use Rattle.layout.proofs.Inverse.{layout-parts}
-use Rattle.sorts.specs.CheckSorts.{Env, isDefined, checkResult}
+use Rattle.sorts.specs.CheckSorts.{isDefined, checkResult}
+use Rattle.sorts.specs.Scopes.{Env}
 use Rattle.sorts.specs.Judgements.{scope}
 use Rattle.sorts.specs.ByFields.{headOf, collectBy, bodiesBy, blocksBy, checkSortsBy}
 use Rattle.sorts.specs.declared.Sorted.{Sorted}
@@ -170,9 +172,9 @@ module _ (bs : List ℕ) where
         (record { size = w .size; knows = w .knows; below = w .below }) (after-head (head-signature bs at (p .1) d) (head-few d)))
         (λ o r w.
         let g = begun b (o .ordered) in
-        ap (λ sig. bytesVerdict fs K N h H (drop 1 sig)) (g .0)
-        ∙ inside-agrees fs (field 5 v ∷ before) (passed 5 s) r (y .1) (at + 3) (p .2) K N h E H S (S .params)
-        (record { size = w .size; knows = w .knows; below = w .below }) (g .0) (g .1) after-start (g .1))
+        rw (g .0)
+        (inside-agrees fs (field 5 v ∷ before) (passed 5 s) r (y .1) (at + 3) (p .2) K N h E H S (S .params)
+        (record { size = w .size; knows = w .knows; below = w .below }) (g .0) (g .1) after-start (g .1)))
         (λ o r w. absurd (never 6 b refl refl refl (o .ordered)))
         (λ o r w. absurd (never 7 b refl refl refl (o .ordered)))
         (λ o r w. root-verdict at v fs K N h E H L (p .2) (o .known) w)
@@ -202,14 +204,12 @@ module _ (bs : List ℕ) where
         ap (bytesVerdict fs K N h H) (one-more L x (omega arith))
         ∙ inside-agrees fs (field 6 v ∷ before) (passed 6 s) r (y .1) (at + 3) (p .2) K N h E H S (L ++ (x ∷ []))
         (record { size = w .size; knows = w .knows; below = w .below }) sig few after-item (omega (arith, length-append L (x ∷ []))))
-        ∙ ap (λ c. verdict ((c >>= λ x. bodiesBy fs (scope K N E) S (L ++ (x ∷ []))) >> blocksBy fs K N E))
-        (item-agrees bs (scope K N E) H (w .knows) h L at v (y .0) (o .known) (o .whole)))
+        ∙ rw (item-agrees bs (scope K N E) H (w .knows) h L at v (y .0) (o .known) (o .whole)))
         (λ o r w.
-        ap (λ c. goOn (afterVerdict (contextOf (scope K N E) h H L) c) (λ X. sortsFrom fs bs X))
-        (result-agrees bs (scope K N E) H (w .knows) h L at S v sig (y .0) (o .whole))
-        ∙ result-case fs K N h E H S L [] (checkResult (scope K N E) L (S .result) at (firstOf (found (templatesOf v))))
+        rw (result-agrees bs (scope K N E) H (w .knows) h L at S v sig (y .0) (o .whole))
+        (result-case fs K N h E H S L [] (checkResult (scope K N E) L (S .result) at (firstOf (found (templatesOf v))))
         (between-agrees fs (field 7 v ∷ before) (passed 7 s) r (y .1) (at + 3) (p .2) K N h E H L S []
-        (record { size = w .size; knows = w .knows; below = w .below }) (after-result sig few)))
+        (record { size = w .size; knows = w .knows; below = w .below }) (after-result sig few))))
         (λ o r w. absurd (never-inside 8 b refl refl (o .ordered)))
         tag v (q .0 .known) (q .0) (q .1) w
 
@@ -255,11 +255,10 @@ module _ (bs : List ℕ) where
       (λ o r w. absurd (not-naming 1 b refl (o .ordered)))
       (λ o r w.
       let z : N + 1 + length (leading 2 fs) ≡ N + suc (length (leading 2 fs)) = omega arith in
-      names-agree fs (field 2 v ∷ before) (passed 2 s) r (y .1) (at + 3) (p .2) K (N + 1) H
-      (record { size = w .size; knows = w .knows; below = w .below }) after-name
-      ∙ ap (λ m. verdict (blocksBy fs K m [])) z)
+      cc (names-agree fs (field 2 v ∷ before) (passed 2 s) r (y .1) (at + 3) (p .2) K (N + 1) H
+      (record { size = w .size; knows = w .knows; below = w .below }) after-name))
       (λ o r w.
-      first-block at v fs before s r (y .1) (p .2) K N H w ∙ ap (λ m. verdict (blocksBy (next at 3 v fs) K m [])) (sym (add-zero N)))
+      cc (first-block at v fs before s r (y .1) (p .2) K N H w, add-zero N))
       (λ o r w. absurd (not-naming 4 b refl (o .ordered)))
       (λ o r w. absurd (not-naming 5 b refl (o .ordered)))
       (λ o r w. absurd (not-naming 6 b refl (o .ordered)))
@@ -283,16 +282,17 @@ module _ (bs : List ℕ) where
       (blocksBy (next at t v fs) (K + length (leading 1 (next at t v fs))) (length (leading 2 (afterLeading 1 (next at t v fs)))) []))
       (λ o r w.
       let z : K + 1 + length (leading 1 fs) ≡ K + suc (length (leading 1 fs)) = omega arith in
-      spellings-agree fs (field 1 v ∷ before) (passed 1 s) r (y .1) (at + 3) (p .2) (K + 1) H
-      (record { size = w .size; knows = w .knows; below = w .below }) after-keyword
-      ∙ ap (λ m. verdict (blocksBy fs m (length (leading 2 (afterLeading 1 fs))) [])) z)
+      cc (spellings-agree fs (field 1 v ∷ before) (passed 1 s) r (y .1) (at + 3) (p .2) (K + 1) H
+      (record { size = w .size; knows = w .knows; below = w .below }) after-keyword))
       (λ o r w.
       let z : 1 + length (leading 2 fs) ≡ suc (length (leading 2 fs)) = omega arith in
-      names-agree fs (field 2 v ∷ before) (passed 2 s) r (y .1) (at + 3) (p .2) K 1 H
-      (record { size = w .size; knows = w .knows; below = w .below }) after-name
-      ∙ ap₂ (λ k m. verdict (blocksBy fs k m [])) (sym (add-zero K)) z)
+      cc (
+        names-agree fs (field 2 v ∷ before) (passed 2 s) r (y .1) (at + 3) (p .2) K 1 H
+            (record { size = w .size; knows = w .knows; below = w .below }) after-name,
+        add-zero K,
+      ))
       (λ o r w.
-      first-block at v fs before s r (y .1) (p .2) K 0 H w ∙ ap (λ k. verdict (blocksBy (next at 3 v fs) k 0 [])) (sym (add-zero K)))
+      cc (first-block at v fs before s r (y .1) (p .2) K 0 H w, add-zero K))
       (λ o r w. absurd (not-spelling 4 b refl refl (o .ordered)))
       (λ o r w. absurd (not-spelling 5 b refl refl (o .ordered)))
       (λ o r w. absurd (not-spelling 6 b refl refl (o .ordered)))
@@ -321,7 +321,9 @@ module _ (bs : List ℕ) where
   bytes-sorts b e =
       let parts = layout-parts bs e in
       let fs : Fields = fieldsOf bs in
-      sym (sorts-short bs (parts .0))
-      ∙ ap (λ gs. bytesVerdict gs 0 0 0 (replicate 64 0) []) (sym (fields-of bs))
-      ∙ spellings-agree fs [] start (parts .1) (value-bytes bs b) 0 (placed-fields bs) 0 (replicate 64 0) (nothing-shown fs) at-start
-      ∙ ap (λ k. verdict (blocksBy fs k (length (leading 2 (afterLeading 1 fs))) [])) (zero-add (length (leading 1 fs)))
+      cc (
+        sorts-short bs (parts .0),
+        fields-of bs,
+        spellings-agree fs [] start (parts .1) (value-bytes bs b) 0 (placed-fields bs) 0 (replicate 64 0) (nothing-shown fs) at-start,
+        zero-add (length (leading 1 fs)),
+      )

@@ -1,6 +1,6 @@
 -- Collecting a block's heads from a table's bytes is collecting its signatures from its fields.
 use Prim.Native.Nat.{ℕ, _+_, _≤_}
-use mathlib.Core.Path.{_≡_, refl, subst, subst⁻¹}
+use mathlib.Core.Path.{_≡_, refl, subst⁻¹}
 use mathlib.Core.Bool.{Bool, true, false}
 use mathlib.Core.List.{List, _∷_}
 use native.Mathlib.Omega.{arith}
@@ -12,12 +12,13 @@ use Rattle.answers.specs.declared.Verdict.the-variants.{Passed, Refused}
 use Rattle.answers.specs.Refusals.{refusal}
 use Rattle.answers.specs.Checked.{Checked, ok, bad, _>>_}
 use Rattle.spellings.proofs.BytesLaws.{by-test}
-use Rattle.grammar.specs.Encode.{Field, field}
+use Rattle.grammar.specs.Values.{Field, field}
 use Rattle.grammar.specs.Fields.{Fields, end, cut, next}
 use Rattle.layout.specs.declared.Progress.{Progress}
-use Rattle.layout.specs.Layout.{isKnown, passed, checkFields}
+use Rattle.layout.specs.Layout.{passed, checkFields}
 use Rattle.layout.proofs.Accept.{accepted}
-use Rattle.sorts.specs.CheckSorts.{Env, entryOf, consistent}
+use Rattle.sorts.specs.CheckSorts.{consistent}
+use Rattle.sorts.specs.Scopes.{Env, entryOf}
 use Rattle.sorts.specs.ByFields.{endsBlock, headOf, collectBy}
 use Rattle.sorts.specs.ByBytes.{faultOf, withHead, Collected, collected, collectFrom}
 use Rattle.sorts.proofs.TemplateInduction.{choose}
@@ -107,7 +108,7 @@ module _ (bs : List ℕ) (E : Env) (block : ℕ) where
       field-agrees at tag v fs own H (λ l. collect-agrees fs (field tag v ∷ before) (passed tag s) own H (q .1) rest c l)
       (endsBlock tag) (eqb tag 4) c b
       (λ e l.
-      let h : Head v = head-known v (subst (λ t. isKnown t v ≡ true) (eqb-true tag 4 e) (q .0 .known)) in
+      let h : Head v = head-known v (rw (← (eqb-true tag 4 e)) (q .0 .known)) in
       let behind : at + 3 ≤ endOf fs = placed-end bs (at + 3) fs (p .2) in
       head-agrees at tag v fs own H (λ l. collect-agrees fs (field tag v ∷ before) (passed tag s) own H (q .1) rest c l)
       (head-same bs E own block H c at (p .1) h)

@@ -1,6 +1,6 @@
 -- Laws of the walk over a block that collects its heads: what is left gives what the whole gives.
 use Prim.Native.Nat.{ℕ, _+_}
-use mathlib.Core.Path.{_≡_, refl, sym, ap, ap₂, _∙_}
+use mathlib.Core.Path.{_≡_, refl, sym, ap, _∙_}
 use mathlib.Core.Bool.{Bool, true, false}
 use mathlib.Core.List.{List}
 use lib.Dec.{eqb}
@@ -43,13 +43,11 @@ collect-field bs block at tag v fs H ends head clean e f g =
     let heads : Bool → Collected =
     choose (collectFrom fs bs block (withHead bs at H)) (collected (Refused (refusal (faultOf bs at block H) at 0 0)) H) in
     let other : Collected = collectFrom fs bs block H in
-    ap (choose (collected Passed H) (choose (heads (eqb (faultOf bs at block H) 0)) other (eqb tag 4))) e
-    ∙ ap (λ x. choose (collected Passed H) (choose (heads (eqb (faultOf bs at block H) 0)) other x) ends) f
-    ∙ ap (λ x. choose (collected Passed H) (choose (heads x) other head) ends) g
+    cc
 
 module _ {bs : List ℕ} {block from : ℕ} {H₀ : List ℕ} {at : ℕ} {H : List ℕ} (c : Collecting bs block from H₀ at H) where
   left : {r : Front} → r ≡ frontOf (drop at bs) → collectFrom (opened bs at r) bs block H ≡ collectFrom (fieldsAt bs from) bs block H₀
-  left e = ap (λ fs. collectFrom fs bs block H) (sym (fields-at bs at e)) ∙ c .rest
+  left e = cc (fields-at bs at e, c .rest)
 
   -- at the end
   pub collecting-nothing : Nothing ≡ frontOf (drop at bs) → collected Passed H ≡ collectFrom (fieldsAt bs from) bs block H₀
@@ -80,7 +78,7 @@ module _ {bs : List ℕ} {block from : ℕ} {H₀ : List ℕ} {at : ℕ} {H : Li
       head-fault p = d .faulty ∙ ap (choose (faultOf bs at block H) 0) p
 
       heads-are : (clean : Bool) → eqb tag 4 ≡ true → eqb fault 0 ≡ clean → H′ ≡ choose (withHead bs at H) H clean
-      heads-are clean p q = d .heads ∙ ap₂ (λ x y. choose (choose (withHead bs at H) H y) H x) p q
+      heads-are clean p q = cc (d .heads)
 
       -- at a head that is refused
       pub collecting-fault :
@@ -88,8 +86,7 @@ module _ {bs : List ℕ} {block from : ℕ} {H₀ : List ℕ} {at : ℕ} {H : Li
       collecting-fault q z =
           by-test (eqb tag 4)
           (λ p.
-          ap₂ collected (q ∙ ap (λ x. Refused (refusal x at 0 0)) (head-fault p)) (heads-are false p (ne-eqb fault 0 z))
-          ∙ field-is true false p (ap (λ x. eqb x 0) (sym (head-fault p)) ∙ ne-eqb fault 0 z))
+          cc (head-fault p, heads-are false p (ne-eqb fault 0 z), field-is true false p (cc (head-fault p, ne-eqb fault 0 z))))
           (λ p. absurd (z (d .faulty ∙ ap (choose (faultOf bs at block H) 0) p)))
 
       -- one field more
@@ -101,7 +98,7 @@ module _ {bs : List ℕ} {block from : ℕ} {H₀ : List ℕ} {at : ℕ} {H : Li
                 by-test (eqb tag 4)
                 (λ p.
                 ap (collectFrom (fieldsAt bs (at + 3 + n)) bs block) (heads-are true p (eq-eqb fault 0 z))
-                ∙ field-is true true p (ap (λ x. eqb x 0) (sym (head-fault p)) ∙ eq-eqb fault 0 z))
+                ∙ field-is true true p (cc (head-fault p, eq-eqb fault 0 z)))
                 (λ p.
                 ap (collectFrom (fieldsAt bs (at + 3 + n)) bs block) (d .heads ∙ ap (choose (choose (withHead bs at H) H (eqb fault 0)) H) p)
                 ∙ field-is false (eqb (faultOf bs at block H) 0) p refl);

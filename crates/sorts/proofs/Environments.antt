@@ -1,13 +1,14 @@
 -- Looking up a nonterminal in a global environment is what the relations Newest and Absent say.
 use Prim.Native.Nat.{ℕ}
-use mathlib.Core.Path.{_≡_, refl, sym, ap, ap₂, subst, _∙_}
+use mathlib.Core.Path.{_≡_, refl, sym, ap, ap₂, _∙_}
 use mathlib.Core.Bool.{true, false, true≢false}
 use mathlib.Core.List.{List, [], _∷_}
 use lib.Dec.{eqb}
 use borrow.Author.Tests.{eqb-true, eqb-false, eq-eqb, ne-eqb}
 use Rattle.spellings.proofs.BytesLaws.{by-test, same-true, same-refl}
 use Rattle.grammar.specs.Sorts.{Signature, gives}
-use Rattle.sorts.specs.CheckSorts.{Entry, Env, isDefined, signatureOf, sameSignature}
+use Rattle.sorts.specs.CheckSorts.{isDefined, signatureOf, sameSignature}
+use Rattle.sorts.specs.Scopes.{Entry, Env}
 use Rattle.sorts.specs.Judgements.{Newest, newest-first, newest-later, Absent, absent-empty, absent-entry}
 
 -- the first entry is the one asked for, or the others are looked at
@@ -33,7 +34,7 @@ unfolding isDefined
 defined-newest [] n h = absurd (true≢false (sym h))
 defined-newest (e ∷ E) n h =
     by-test (eqb (e .nonterminal) n)
-    (λ q. rw (signature-here e E n q) (subst (λ m. Newest (e ∷ E) m (e .signature)) (eqb-true _ n q) newest-first))
+    (λ q. rw (signature-here e E n q) (rw (← (eqb-true _ n q)) newest-first))
     (λ q. rw (signature-later e E n q)
     (newest-later (eqb-false _ n q) (defined-newest E n (sym (defined-later e E n q) ∙ h))))
 
@@ -71,7 +72,7 @@ pub same-signature : (S S′ : Signature) → sameSignature S S′ ≡ true → 
 unfolding head-of rest-of
 same-signature S S′ h =
     let e : S .result ∷ S .params ≡ S′ .result ∷ S′ .params = same-true _ _ h in
-    ap₂ (λ r ps. gives ps r) (ap head-of e) (ap rest-of e)
+    ap₂ gives (ap rest-of e) (ap head-of e)
 
 pub signature-same : (S S′ : Signature) → S ≡ S′ → sameSignature S S′ ≡ true
-signature-same S S′ e = subst (λ X. sameSignature S X ≡ true) e (same-refl (S .result ∷ S .params))
+signature-same S S′ e = rw (← e) (same-refl (S .result ∷ S .params))

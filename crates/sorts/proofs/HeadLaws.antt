@@ -1,12 +1,12 @@
 -- Laws of the heads of definitions: their signatures, their refusals, and the walk over a block that collects them.
 use Prim.Native.Nat.{ℕ, zero, suc, _+_, _-_, _*_, _≤_, _<_}
-use mathlib.Core.Path.{_≡_, refl, sym, ap, ap₂, subst, _∙_}
+use mathlib.Core.Path.{_≡_, refl, sym, ap, _∙_}
 use mathlib.Core.Bool.{Bool, true, false, _&&_, _||_}
 use mathlib.Core.List.{List, [], _∷_}
 use native.Mathlib.Omega.{arith}
 use native.Mathlib.Nat.{add-assoc}
 use lib.Dec.{eqb, leb, ltb}
-use lib.ListN.{length, getD, take, drop, set, length-take, length-drop, drop-of-length-le}
+use lib.ListN.{length, getD, take, drop, set, length-take, drop-of-length-le}
 use lib.Seq.{take-all, take-nil, take-take, drop-drop, set-out}
 use borrow.Author.Tests.{eq-eqb, ne-eqb}
 use Rattle.spellings.specs.Bytes.{same}
@@ -21,29 +21,26 @@ drop-two (suc zero) [] = refl
 drop-two (suc zero) (x ∷ l) = refl
 drop-two (suc (suc n)) [] = sym (take-nil (suc (suc n) - 2))
 drop-two (suc (suc n)) (x ∷ []) = sym (take-nil (suc (suc n) - 2))
-drop-two (suc (suc n)) (x ∷ y ∷ l) = let e : n ≡ suc (suc n) - 2 = omega arith in ap (λ k. take k l) e
+drop-two (suc (suc n)) (x ∷ y ∷ l) = let e : n ≡ suc (suc n) - 2 = omega arith in cc
 
 -- no head stands past the end
 pub signature-past : (bs : List ℕ) (at : ℕ) → length bs ≤ at → take 0 (drop at bs) ≡ signatureAt bs at
 unfolding signatureAt
 signature-past bs at h =
     let size : ℕ = getD bs (at + 1) 0 * 256 + getD bs (at + 2) 0 in
-    sym
-    (ap (λ l. take 5 (drop 2 (take size l))) (drop-of-length-le bs {i = at + 3} (omega arith)) ∙ ap (λ l. take 5 (drop 2 l)) (take-nil size))
+    cc (take-nil size, drop-of-length-le bs {i = at + 3} (omega arith))
 
 module _ (bs : List ℕ) (at : ℕ) {hi lo : ℕ} (e : hi ≡ getD bs (at + 1) 0) (f : lo ≡ getD bs (at + 2) 0) where
   signature-is : signatureAt bs at ≡ take 5 (take (hi * 256 + lo - 2) (drop (at + 5) bs))
   unfolding signatureAt
   signature-is =
-      ap₂ (λ x y. take 5 (drop 2 (take (x * 256 + y) (drop (at + 3) bs)))) (sym e) (sym f)
-      ∙ ap (take 5) (drop-two (hi * 256 + lo) (drop (at + 3) bs))
-      ∙ ap (λ l. take 5 (take (hi * 256 + lo - 2) l)) (drop-drop 2 (at + 3) bs ∙ ap (λ k. drop k bs) (add-assoc at 3 2))
+      cc (drop-two (hi * 256 + lo) (drop (at + 3) bs), drop-drop 2 (at + 3) bs, add-assoc at 3 2)
 
   -- too short a head has none
   pub signature-none : hi * 256 + lo < 2 → take 0 (drop (at + 5) bs) ≡ signatureAt bs at
   signature-none h =
       let z : 0 ≡ hi * 256 + lo - 2 = omega arith in
-      ap (λ k. take 5 (take k (drop (at + 5) bs))) z ∙ sym signature-is
+      cc signature-is
 
   -- up to the length that it states
   pub signature-some : hi * 256 + lo < 7 → take (hi * 256 + lo - 2) (drop (at + 5) bs) ≡ signatureAt bs at
@@ -68,11 +65,12 @@ module _ (bs H : List ℕ) (at block : ℕ) {n mode h : ℕ} (e : n ≡ getD bs 
   faultBy : Bool → Bool → Bool → ℕ
   faultBy earlier good new = choose (choose 0 8 good) (choose 0 7 new) earlier
 
-  fault-is : faultOf bs at block H ≡ faultBy (eqb mode 1 || eqb mode 2) (leb h block && ltb 0 h && same (signatureAt bs h) (signatureAt bs at)) (eqb h 0)
+  fault-is : faultOf bs at block H ≡ faultBy (eqb mode 1 || eqb mode 2) (leb h block && ltb 0 h && same (signatureAt bs h) (signatureAt bs at))
+      (eqb h 0)
   unfolding faultOf faultBy
   fault-is =
-      let k : getD H (getD bs (at + 3) 0) 0 ≡ h = ap (λ i. getD H i 0) (sym e) ∙ sym g in
-      ap₂ (λ m x. faultBy (eqb m 1 || eqb m 2) (leb x block && ltb 0 x && same (signatureAt bs x) (signatureAt bs at)) (eqb x 0)) (sym f) k
+      let k : getD H (getD bs (at + 3) 0) 0 ≡ h = cc in
+      cc
 
   -- extend and update
   pub fault-earlier :
@@ -81,15 +79,15 @@ module _ (bs H : List ℕ) (at block : ℕ) {n mode h : ℕ} (e : n ≡ getD bs 
   unfolding faultBy
   fault-earlier {s} {s′} {alike} m p q a good k =
       let test : Bool = leb h block && ltb 0 h && same (signatureAt bs h) (signatureAt bs at) in
-      let b : test ≡ good = ap (λ x. leb h block && ltb 0 h && x) (sym (a ∙ ap₂ same p q)) ∙ k in
-      sym (fault-is ∙ ap (λ x. faultBy x test (eqb h 0)) m ∙ ap (choose 0 8) b)
+      let b : test ≡ good = cc in
+      cc fault-is
 
   -- add
   pub fault-new : (eqb mode 1 || eqb mode 2) ≡ false → (new : Bool) → eqb h 0 ≡ new → choose 0 7 new ≡ faultOf bs at block H
   unfolding faultBy
   fault-new m new k =
       let test : Bool = leb h block && ltb 0 h && same (signatureAt bs h) (signatureAt bs at) in
-      sym (fault-is ∙ ap (λ x. faultBy x test (eqb h 0)) m ∙ ap (choose 0 7) k)
+      cc fault-is
 
 -- ------------------------------------------------------------------ one head more
 
@@ -106,7 +104,7 @@ module _ (bs : List ℕ) (at tag block : ℕ) (H : List ℕ) where
     head-by clean c q =
         record {
           faulty = f ∙ ap (choose (faultOf bs at block H) 0) (sym (eq-eqb tag 4 e));
-          heads = q ∙ sym (ap₂ (λ x y. choose (choose (withHead bs at H) H y) H x) (eq-eqb tag 4 e) c);
+          heads = cc (eq-eqb tag 4 e);
         }
 
     -- a head that is refused is not kept
@@ -115,7 +113,7 @@ module _ (bs : List ℕ) (at tag block : ℕ) (H : List ℕ) where
 
     module _ (z : fault ≡ 0) {n : ℕ} (q : n ≡ getD bs (at + 3) 0) where
       put : {H′ : List ℕ} → H′ ≡ set H n at → Defined bs at tag block H 0 H′
-      put {H′} p = subst (λ x. Defined bs at tag block H x H′) z (head-by true (eq-eqb fault 0 z) (p ∙ ap (λ i. set H i at) q))
+      put {H′} p = rw (← z) (head-by true (eq-eqb fault 0 z) (cc))
 
       -- one that is not refused is
       pub head-put : Defined bs at tag block H 0 (set H n at)

@@ -6,7 +6,7 @@ use mathlib.Core.List.{List, [], _∷_, _++_}
 use native.Mathlib.Omega.{arith}
 use native.Mathlib.Nat.{add-zero, add-assoc}
 use lib.Dec.{eqb, leb, ltb}
-use lib.ListN.{length, getD, take, drop, set, length-set, length-take}
+use lib.ListN.{length, getD, drop, set, length-set, length-take}
 use lib.Seq.{take-all, getD-drop, getD-take, getD-set-same, getD-set-other}
 use borrow.Author.Tests.{eqb-true, eqb-false, eq-eqb, ne-eqb, lt-ltb, ltb-true, ltb-false, lt-leb, not-true}
 use Rattle.answers.specs.Refusals.{refusal}
@@ -15,12 +15,13 @@ use Rattle.spellings.specs.Bytes.{same}
 use Rattle.spellings.proofs.BytesLaws.{by-test}
 use Rattle.grammar.specs.Sorts.{Signature}
 use Rattle.grammar.specs.Table.{variable, Mode, add, extend, update, Definition}
-use Rattle.grammar.specs.Encode.{modeCode, headValue}
+use Rattle.grammar.specs.Values.{modeCode, headValue}
 use Rattle.layout.specs.Decode.{definitionOf}
 use Rattle.layout.specs.Layout.{isKnown}
 use Rattle.layout.specs.Within.{each-none, each-more, variable-within}
 use Rattle.layout.proofs.Values.{head-value}
-use Rattle.sorts.specs.CheckSorts.{Entry, Env, entryOf, isDefined, signatureOf, sameSignature, isNew, isAsBefore, consistent}
+use Rattle.sorts.specs.CheckSorts.{isDefined, signatureOf, sameSignature, isNew, isAsBefore, consistent}
+use Rattle.sorts.specs.Scopes.{Entry, Env, entryOf}
 use Rattle.sorts.specs.ByFields.{headOf}
 use Rattle.sorts.specs.ByBytes.{valueAt, signatureAt, faultOf, withHead}
 use Rattle.sorts.proofs.TemplateInduction.{choose}
@@ -73,36 +74,30 @@ module _ (bs : List ℕ) (at : ℕ) {v : List ℕ} (p : v ≡ valueAt bs at) (h 
   byte-at i x l e =
       let size : ℕ = getD bs (at + 1) 0 * 256 + getD bs (at + 2) 0 in
       let long : suc (suc (suc (length (h .params)))) ≡ length (valueAt bs at) = ap length (sym (h .shape) ∙ p) in
-      sym (getD-drop (at + 3) bs i 0)
-      ∙ sym (getD-take size (drop (at + 3) bs) i 0 (omega (arith, length-take size (drop (at + 3) bs))))
-      ∙ ap (λ w. getD w i 0) (sym p ∙ h .shape)
-      ∙ e
+      cc (getD-drop (at + 3) bs i 0, getD-take size (drop (at + 3) bs) i 0 (omega (arith, length-take size (drop (at + 3) bs))), h .shape)
 
   -- its nonterminal
   pub head-nonterminal : getD bs (at + 3) 0 ≡ h .nonterminal
-  head-nonterminal = ap (λ k. getD bs k 0) (sym (add-zero (at + 3))) ∙ byte-at 0 (h .nonterminal) (omega arith) refl
+  head-nonterminal = cc (add-zero (at + 3), byte-at 0 (h .nonterminal) (omega arith) refl)
 
   -- its mode
   pub head-mode : getD bs (at + 4) 0 ≡ modeCode (h .mode)
-  head-mode = ap (λ k. getD bs k 0) (sym (add-assoc at 3 1)) ∙ byte-at 1 (modeCode (h .mode)) (omega arith) refl
+  head-mode = cc (add-assoc at 3 1, byte-at 1 (modeCode (h .mode)) (omega arith) refl)
 
   -- its signature
   pub head-signature : signatureAt bs at ≡ bytesOf (headOf v .signature)
   unfolding signatureAt definitionOf
   head-signature =
-      ap (λ w. take 5 (drop 2 w)) (sym p)
-      ∙ ap (λ w. take 5 (drop 2 w)) (h .shape)
-      ∙ take-all 5 (h .result ∷ h .params) (omega (arith, h .few))
-      ∙ ap (λ w. bytesOf (headOf w .signature)) (sym (h .shape))
+      cc (h .shape, take-all 5 (h .result ∷ h .params) (omega (arith, h .few)))
 
 -- as the definition has them
 pub head-of-nonterminal : {v : List ℕ} (h : Head v) → headOf v .nonterminal ≡ h .nonterminal
 unfolding definitionOf
-head-of-nonterminal h = ap (λ w. headOf w .nonterminal) (h .shape)
+head-of-nonterminal h = cc (h .shape)
 
 -- as the definition has it
 pub head-of-mode : {v : List ℕ} (h : Head v) → headOf v .mode ≡ h .mode
-head-of-mode h = ap (λ w. headOf w .mode) (h .shape) ∙ mode-of (h .mode) (h .nonterminal) (h .result) (h .params)
+head-of-mode h = cc (h .shape, mode-of (h .mode) (h .nonterminal) (h .result) (h .params))
 
 -- four parameters at most
 pub head-few : {v : List ℕ} (h : Head v) → length (headOf v .signature .params) ≤ 4
@@ -128,11 +123,9 @@ unfolding isDefined
 append-defined [] E n = refl
 append-defined (e ∷ own) E n =
     by-test (eqb (e .nonterminal) n)
-    (λ q. defined-here e (own ++ E) n q ∙ sym (ap (λ t. t || isDefined E n) (defined-here e own n q)))
+    (λ q. cc (defined-here e (own ++ E) n q, defined-here e own n q))
     (λ q.
-    defined-later e (own ++ E) n q
-    ∙ append-defined own E n
-    ∙ sym (ap (λ t. t || isDefined E n) (defined-later e own n q)))
+    cc (defined-later e (own ++ E) n q, append-defined own E n, defined-later e own n q))
 
 append-signature : (own E : Env) (n : ℕ) → isDefined own n ≡ false → signatureOf (own ++ E) n ≡ signatureOf E n
 unfolding isDefined
@@ -150,9 +143,9 @@ pub record Collects (bs : List ℕ) (E own : Env) (block : ℕ) (H : List ℕ) :
 -- three tests, each of which is asked only after those before it
 three :
     (a b c a′ b′ c′ : Bool) → a ≡ a′ → (a′ ≡ true → b ≡ b′) → (a′ ≡ true → b′ ≡ true → c ≡ c′) → (a && b && c) ≡ (a′ && b′ && c′)
-three a b c true true c′ e f g = ap₂ (λ x y. x && y && c) e (f refl) ∙ g refl refl
-three a b c true false c′ e f g = ap₂ (λ x y. x && y && c) e (f refl)
-three a b c false b′ c′ e f g = ap (λ x. x && b && c) e
+three a b c true true c′ e f g = cc (f refl, g refl refl)
+three a b c true false c′ e f g = cc (f refl)
+three a b c false b′ c′ e f g = cc
 
 module _ (bs : List ℕ) (E own : Env) (block : ℕ) (H : List ℕ) (c : Collects bs E own block H) (at : ℕ) {v : List ℕ}
     (p : v ≡ valueAt bs at) (h : Head v) where
@@ -186,10 +179,10 @@ module _ (bs : List ℕ) (E own : Env) (block : ℕ) (H : List ℕ) (c : Collect
   before-same =
       three (leb head block) (ltb 0 head) (same (signatureAt bs head) (signatureAt bs at)) (not (isDefined own n)) (isDefined E n)
       (sameSignature (signatureOf E n) (headOf v .signature)) (c .here n (h .low))
-      (λ o. known-head .defined ∙ append-defined own E n ∙ ap (λ t. t || isDefined E n) (not-true (isDefined own n) o))
+      (λ o. cc (known-head .defined, append-defined own E n, not-true (isDefined own n) o))
       (λ o e.
       let missing : isDefined own n ≡ false = not-true (isDefined own n) o in
-      let known : isDefined (own ++ E) n ≡ true = append-defined own E n ∙ ap (λ t. t || isDefined E n) missing ∙ e in
+      let known : isDefined (own ++ E) n ≡ true = cc (append-defined own E n) in
       ap₂ same (known-head .shown known ∙ ap bytesOf (append-signature own E n missing)) (head-signature bs at p h))
 
   -- the refusal of the head is that of the definition
@@ -213,34 +206,40 @@ module _ (bs : List ℕ) (E own : Env) (block : ℕ) (H : List ℕ) (c : Collect
   coded : {m : Mode} → h .mode ≡ m → modeCode m ≡ getD bs (at + 4) 0
   coded q = sym (head-mode bs at p h ∙ ap modeCode q)
 
-  new-outcome : (eqb (modeCode (h .mode)) 1 || eqb (modeCode (h .mode)) 2) ≡ false → need (isNew E own (headOf v)) 7 at ≡ outcome (faultOf bs at block H)
+  new-outcome : (eqb (modeCode (h .mode)) 1 || eqb (modeCode (h .mode)) 2) ≡ false → need (isNew E own (headOf v)) 7 at
+      ≡ outcome (faultOf bs at block H)
   unfolding head n
   new-outcome m =
-      ap (λ k. need (not (isDefined own k) && not (isDefined E k)) 7 at) numbered
-      ∙ ap (λ t. need t 7 at) (sym new-same)
-      ∙ need-outcome-7 (eqb head 0)
-      ∙ ap outcome (fault-new bs H at block (sym (head-nonterminal bs at p h)) (coded refl) refl m (eqb head 0) refl)
+      cc (
+        numbered,
+        new-same,
+        need-outcome-7 (eqb head 0),
+        fault-new bs H at block (sym (head-nonterminal bs at p h)) (coded refl) refl m (eqb head 0) refl,
+      )
 
-  before-outcome : (eqb (modeCode (h .mode)) 1 || eqb (modeCode (h .mode)) 2) ≡ true → need (isAsBefore E own (headOf v)) 8 at ≡ outcome (faultOf bs at block H)
+  before-outcome : (eqb (modeCode (h .mode)) 1 || eqb (modeCode (h .mode)) 2) ≡ true → need (isAsBefore E own (headOf v)) 8 at
+      ≡ outcome (faultOf bs at block H)
   unfolding head n
   before-outcome m =
       let good : Bool = leb head block && ltb 0 head && same (signatureAt bs head) (signatureAt bs at) in
-      ap (λ k. need (not (isDefined own k) && isDefined E k && sameSignature (signatureOf E k) (headOf v .signature)) 8 at) numbered
-      ∙ ap (λ t. need t 8 at) (sym before-same)
-      ∙ need-outcome-8 good
-      ∙ ap outcome (fault-earlier bs H at block (sym (head-nonterminal bs at p h)) (coded refl) refl m refl refl refl good refl)
+      cc (
+        numbered,
+        before-same,
+        need-outcome-8 good,
+        fault-earlier bs H at block (sym (head-nonterminal bs at p h)) (coded refl) refl m refl refl refl good refl,
+      )
 
   -- the refusal of a head is that of its definition
   pub head-same :
       consistent (headOf v .mode) E own (headOf v) at
       ≡ choose (ok tt) (bad (refusal (faultOf bs at block H) at 0 0)) (eqb (faultOf bs at block H) 0)
   unfolding outcome
-  head-same = ap (λ m. consistent m E own (headOf v) at) (head-of-mode h) ∙ by (h .mode) refl
+  head-same = by (headOf v .mode) (sym (head-of-mode h))
     where
       by : (m : Mode) → h .mode ≡ m → consistent m E own (headOf v) at ≡ outcome (faultOf bs at block H)
-      by add q = new-outcome (ap (λ m. eqb (modeCode m) 1 || eqb (modeCode m) 2) q)
-      by extend q = before-outcome (ap (λ m. eqb (modeCode m) 1 || eqb (modeCode m) 2) q)
-      by update q = before-outcome (ap (λ m. eqb (modeCode m) 1 || eqb (modeCode m) 2) q)
+      by add q = new-outcome (cc q)
+      by extend q = before-outcome (cc q)
+      by update q = before-outcome (cc q)
 
   -- one head more
   module _ (l : block < at) where
@@ -252,26 +251,26 @@ module _ (bs : List ℕ) (E own : Env) (block : ℕ) (H : List ℕ) (c : Collect
 
     placed : heads ≡ set H n at
     unfolding heads n
-    placed = ap (λ k. set H k at) (head-nonterminal bs at p h)
+    placed = cc (head-nonterminal bs at p h)
 
     own-head : getD heads n 0 ≡ at
     unfolding heads n
-    own-head = ap (λ L. getD L n 0) placed ∙ getD-set-same H n at 0 (let k : n < 64 = h .low in omega (arith, c .size))
+    own-head = cc (placed, getD-set-same H n at 0 (let k : n < 64 = h .low in omega (arith, c .size)))
 
     other-head : (j : ℕ) → (j ≡ n → ⊥) → getD heads j 0 ≡ getD H j 0
-    other-head j d = ap (λ L. getD L j 0) placed ∙ getD-set-other H n j at 0 d
+    other-head j d = cc (placed, getD-set-other H n j at 0 d)
 
     -- the new head's nonterminal, or another one
     this : (j : ℕ) → eqb n j ≡ true → eqb (e .nonterminal) j ≡ true
     unfolding e
-    this j q = ap (λ k. eqb k j) numbered ∙ q
+    this j q = cc numbered
 
     that : (j : ℕ) → eqb n j ≡ false → eqb (e .nonterminal) j ≡ false
     unfolding e
-    that j q = ap (λ k. eqb k j) numbered ∙ q
+    that j q = cc numbered
 
     this-head : (j : ℕ) → eqb n j ≡ true → getD heads j 0 ≡ at
-    this-head j q = ap (λ k. getD heads k 0) (sym (eqb-true n j q)) ∙ own-head
+    this-head j q = cc (eqb-true n j q, own-head)
 
     that-head : (j : ℕ) → eqb n j ≡ false → getD heads j 0 ≡ getD H j 0
     that-head j q = other-head j (λ z. eqb-false n j q (sym z))
@@ -298,8 +297,8 @@ module _ (bs : List ℕ) (E own : Env) (block : ℕ) (H : List ℕ) (c : Collect
     here-more : (j : ℕ) → j < 64 → leb (getD heads j 0) block ≡ not (isDefined (e ∷ own) j)
     here-more j k =
         by-test (eqb n j)
-        (λ q. ap (λ x. leb x block) (this-head j q) ∙ lt-leb at block l ∙ ap not (sym (defined-here e own j (this j q))))
-        (λ q. ap (λ x. leb x block) (that-head j q) ∙ c .here j k ∙ ap not (sym (defined-later e own j (that j q))))
+        (λ q. cc (this-head j q, lt-leb at block l, defined-here e own j (this j q)))
+        (λ q. cc (that-head j q, c .here j k, defined-later e own j (that j q)))
 
     -- the heads show one entry more
     pub head-more : Collects bs E (entryOf (headOf v) ∷ own) block (withHead bs at H)

@@ -1,6 +1,6 @@
 -- Where the fields of a table stand: offsets grow, and a field's value is what the table has behind its three first bytes.
-use Prim.Native.Nat.{ℕ, zero, suc, _+_, _*_, _≤_}
-use mathlib.Core.Path.{_≡_, refl, ap, ap₂, subst⁻¹, _∙_}
+use Prim.Native.Nat.{ℕ, zero, suc, _+_, _≤_}
+use mathlib.Core.Path.{_≡_, refl, subst⁻¹}
 use mathlib.Core.Bool.{Bool, true, false}
 use mathlib.Core.List.{List}
 use native.Mathlib.Omega.{arith}
@@ -53,13 +53,12 @@ unfolding fieldsFrom
 fields-by k at rest empty whole e f =
     let first : Fields =
     next at (getD rest 0 0) (take (sizeOf rest) (drop 3 rest)) (fieldsFrom k (at + (3 + sizeOf rest)) (drop (3 + sizeOf rest) rest)) in
-    ap₂ (λ x y. choose (end at) (choose first (cut at) y) x) e f
+    cc
 
 module _ (bs : List ℕ) where
   value-placed : (at : ℕ) → take (sizeOf (drop at bs)) (drop 3 (drop at bs)) ≡ valueAt bs at
   value-placed at =
-      ap₂ (λ x y. take (x * 256 + y) (drop 3 (drop at bs))) (getD-drop at bs 1 0) (getD-drop at bs 2 0)
-      ∙ ap (take (getD bs (at + 1) 0 * 256 + getD bs (at + 2) 0)) (drop-drop 3 at bs)
+      cc (getD-drop at bs 1 0, getD-drop at bs 2 0, drop-drop 3 at bs)
 
   placed-from : (k at from : ℕ) → from ≤ at → Placed bs from (fieldsFrom k at (drop at bs))
   unfolding fieldsFrom

@@ -9,9 +9,10 @@ use Rattle.answers.specs.declared.Refusal.{Refusal}
 use Rattle.answers.specs.Checked.{Checked, ok, bad, _>>=_, _>>_, need}
 use Rattle.grammar.specs.Sorts.{Signature, unit, term, fits}
 use Rattle.grammar.specs.Table.{Item, keyword, ide, number, local, call, Alternative, Mode, add, extend, update, Definition, Table}
-use Rattle.grammar.specs.Encode.{itemValue}
+use Rattle.grammar.specs.Values.{itemValue}
 use Rattle.sorts.specs.Sizes.{fieldSize, alternativeSize, definitionSize, definitionsSize}
-use Rattle.sorts.specs.CheckSorts.{Env, Scope, entryOf, isDefined, signatureOf, isNew, isAsBefore, isClosed, areClosed, isSorted, sortOf, fill}
+use Rattle.sorts.specs.CheckSorts.{isDefined, signatureOf, isNew, isAsBefore, isClosed, areClosed, isSorted, sortOf, fill}
+use Rattle.sorts.specs.Scopes.{Env, Scope, entryOf}
 use Rattle.sorts.specs.CheckSorts.{consistent, collect, checkItem, checkItems, checkAlternative, checkAlternatives, checkBodies, checkBlocks}
 use Rattle.sorts.specs.CheckSorts.{checkRoot, checkSorts}
 

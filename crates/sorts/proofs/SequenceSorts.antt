@@ -1,6 +1,6 @@
 -- Checking the blocks and the root is the judgement ⊢ gseq ⇒ E.
 use Prim.Native.Nat.{ℕ, _+_}
-use mathlib.Core.Path.{_≡_, refl, ap, subst, subst⁻¹, _∙_}
+use mathlib.Core.Path.{_≡_, refl, ap, subst, subst⁻¹}
 use mathlib.Core.Bool.{true, not, _&&_}
 use mathlib.Core.List.{List, [], _∷_, _++_}
 use native.Mathlib.Omega.{arith}
@@ -12,10 +12,14 @@ use Rattle.grammar.specs.Sorts.{Signature, term}
 use Rattle.grammar.specs.Table.{Mode, add, extend, update, Definition, Table}
 use Rattle.layout.specs.Within.{Each, each-none, each-more, DefinitionWithin, Within}
 use Rattle.sorts.specs.Sizes.{definitionSize, definitionsSize}
-use Rattle.sorts.specs.CheckSorts.{Env, Scope, entryOf, isDefined, signatureOf, sameSignature, isAsBefore, isNew, consistent, collect, checkBodies, checkBlocks, checkRoot, checkSorts}
-use Rattle.sorts.specs.Judgements.{Newest, Absent, Defines, no-definition, by-add, by-extend, by-update, scope, Sequence, no-grammar, by-grammar, WellSorted}
+use Rattle.sorts.specs.CheckSorts.{isDefined, signatureOf, sameSignature, isAsBefore, isNew, consistent, collect}
+use Rattle.sorts.specs.Scopes.{Env, Scope, entryOf}
+use Rattle.sorts.specs.CheckSorts.{checkBodies, checkBlocks, checkRoot, checkSorts}
+use Rattle.sorts.specs.Judgements.{Newest, Absent, Defines, no-definition, by-add, by-extend, by-update, scope, Sequence, no-grammar}
+use Rattle.sorts.specs.Judgements.{by-grammar, WellSorted}
 use Rattle.sorts.proofs.Accepting.{Accepts, need-passed, need-passes, needs-passed, needs-passes, bind-passed, bind-passes, then-passed, then-passes}
-use Rattle.sorts.proofs.Environments.{defined-newest, newest-defined, newest-signature, undefined-absent, absent-undefined, same-signature, signature-same}
+use Rattle.sorts.proofs.Environments.{defined-newest, newest-defined, newest-signature, undefined-absent, absent-undefined, same-signature}
+use Rattle.sorts.proofs.Environments.{signature-same}
 use Rattle.sorts.proofs.TemplateSorts.{both, pair}
 use Rattle.sorts.proofs.BodySorts.{ok-rule, rule-ok}
 
@@ -166,8 +170,8 @@ rule-root E at n r =
     let e : S ≡ r .signature = newest-signature (r .defined) in
     needs-passes (isDefined E n) (eqb (length (S .params)) 0 && eqb (S .result) term) 9 11 at _ (newest-defined (r .defined))
     (pair (eqb (length (S .params)) 0) (eqb (S .result) term)
-    (eq-eqb (length (S .params)) 0 (ap (λ X. length (X .params)) e ∙ ap length (r .without)))
-    (eq-eqb (S .result) term (ap (λ X. X .result) e ∙ r .of-term)))
+    (eq-eqb (length (S .params)) 0 (cc (r .without)))
+    (eq-eqb (S .result) term (cc (r .of-term))))
     tt
 
 -- ------------------------------------------------------------------ the whole table
@@ -175,7 +179,8 @@ rule-root E at n r =
 pub table-rule : (t : Table) → Within t → Accepts (checkSorts t) (λ u. Unit {0}) → WellSorted t
 unfolding checkSorts
 table-rule t w h =
-    let s = sequence-rule (length (t .keywords)) (length (t .outsides)) _ [] _ (t .blocks) (w .blocks) (bind-passed (λ u. Unit {0}) (checkBlocks _ _ [] _ (t .blocks)) _ h) in
+    let s = sequence-rule (length (t .keywords)) (length (t .outsides)) _ [] _ (t .blocks) (w .blocks)
+    (bind-passed (λ u. Unit {0}) (checkBlocks _ _ [] _ (t .blocks)) _ h) in
     let r = root-rule (s .0) _ (t .root) (s .2) in
     record {
       env = s .0;

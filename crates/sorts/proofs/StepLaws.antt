@@ -1,6 +1,6 @@
 -- Laws of the walk over a whole table: the root, one field, and that what is left gives what the whole gives.
 use Prim.Native.Nat.{ℕ, _+_, _≤_, _<_}
-use mathlib.Core.Path.{_≡_, refl, sym, ap, ap₂, subst, _∙_}
+use mathlib.Core.Path.{_≡_, refl, sym, ap, subst, _∙_}
 use mathlib.Core.Bool.{Bool, true, false, _&&_}
 use mathlib.Core.List.{List, [], _∷_, _++_}
 use native.Mathlib.Omega.{arith}
@@ -13,19 +13,18 @@ use Rattle.answers.specs.Refusals.{refusal}
 use Rattle.grammar.specs.Sorts.{term}
 use Rattle.grammar.specs.declared.Front.{Front}
 use Rattle.grammar.specs.declared.Front.the-variants.{Nothing, Short, Field}
-use Rattle.grammar.specs.Fields.{Fields, fieldsOf}
+use Rattle.grammar.specs.Fields.{fieldsOf}
 use Rattle.grammar.specs.Lookup.{frontOf, fieldsAt}
 use Rattle.grammar.proofs.LookupLaws.{opened, fields-at, fields-of}
-use Rattle.layout.specs.Layout.{longestTable}
+use Rattle.grammar.specs.Values.{longestTable}
 use Rattle.sorts.specs.declared.Known.{Known}
 use Rattle.sorts.specs.declared.Sorted.{Sorted}
 use Rattle.sorts.specs.declared.Sorted.the-variants.{As, Unsorted}
 use Rattle.sorts.specs.declared.Step.{Step}
 use Rattle.sorts.specs.declared.Step.the-variants.{Next, Stop}
-use Rattle.sorts.specs.ByBytes.{signatureAt, collected, collectFrom, collectAt, context, unknown, itemAt, resultAt, rootAt}
+use Rattle.sorts.specs.ByBytes.{signatureAt, collected, collectAt, context, unknown, itemAt, resultAt, rootAt}
 use Rattle.sorts.specs.ByBytes.{Stepped, going, stopped, stepped, verdictOf, afterVerdict, afterBlock, afterItem, itemStep, stepAt, stepOf}
-use Rattle.sorts.specs.ByBytes.{withSorts, counting, counted}
-use Rattle.sorts.specs.ByBytes.{goOn, sortsFrom, sortsOf, Counts, ItemChecked, FieldChecked}
+use Rattle.sorts.specs.ByBytes.{withSorts, counting, counted, goOn, sortsFrom, sortsOf, Counts, ItemChecked, FieldChecked}
 use Rattle.sorts.proofs.TemplateInduction.{choose}
 
 -- ------------------------------------------------------------------ the root
@@ -37,9 +36,7 @@ module _ (bs H : List ℕ) (n : ℕ) {h : ℕ} (e : h ≡ getD H n 0) where
       → choose 9 (choose 0 11 fitting) missing ≡ rootAt bs H n
   unfolding rootAt
   root-by missing fitting d f =
-      sym
-      (ap (λ x. choose 9 (choose 0 11 (leb (length (signatureAt bs x)) 1 && eqb (getD (signatureAt bs x) 0 0) term)) (eqb x 0)) (sym e)
-      ∙ ap₂ (λ x y. choose 9 (choose 0 11 y) x) d f)
+      cc
 
   -- it is not defined
   pub root-undefined : h ≡ 0 → 9 ≡ rootAt bs H n
@@ -51,7 +48,7 @@ module _ (bs H : List ℕ) (n : ℕ) {h : ℕ} (e : h ≡ getD H n 0) where
       → (leb (length S) 1 && eqb b term) ≡ fitting → choose 0 11 fitting ≡ rootAt bs H n
   root-tested {S} {b} z s q fitting t =
       root-by false fitting (ne-eqb h 0 z)
-      (ap₂ (λ l x. leb (length l) 1 && eqb x term) (sym s) (sym (q ∙ ap (λ l. getD l 0 0) s)) ∙ t)
+      (cc)
 
 -- ------------------------------------------------------------------ verdicts and counts
 
@@ -79,7 +76,7 @@ module _ (k : Known) (tag at : ℕ) where
   counting-is = refl
 
   counting-at : {t : ℕ} → tag ≡ t → countingBy (eqb t 1) (eqb t 2) (eqb t 4) ≡ counting k tag at
-  counting-at e = ap (λ x. countingBy (eqb x 1) (eqb x 2) (eqb x 4)) (sym e) ∙ counting-is
+  counting-at e = cc counting-is
 
   -- one keyword more, one outside name more, another head, or none of these
   pub count-keyword :
@@ -103,9 +100,7 @@ module _ (k : Known) (tag at : ℕ) where
   pub count-other : ((Unit {0} × (tag ≡ 1 → ⊥)) × (tag ≡ 2 → ⊥)) × (tag ≡ 4 → ⊥) → k ≡ counting k tag at
   unfolding countingBy
   count-other (((u, a), b), c) =
-      ap₂ (λ x y. countingBy x y false) (sym (ne-eqb tag 1 a)) (sym (ne-eqb tag 2 b))
-      ∙ ap (countingBy (eqb tag 1) (eqb tag 2)) (sym (ne-eqb tag 4 c))
-      ∙ counting-is
+      cc (ne-eqb tag 1 a, ne-eqb tag 2 b, ne-eqb tag 4 c, counting-is)
 
   one-at-most : (n : ℕ) (t : Bool) → choose (n + 1) n t ≤ n + 1
   one-at-most n true = omega arith
@@ -132,8 +127,7 @@ module _ {bs : List ℕ} {at : ℕ} {v : List ℕ} {k : Known} {H L : List ℕ} 
   item-added e f q =
       record {
         steps =
-            ap (λ l. going (record { keywords = k .keywords; outsides = k .outsides; head = k .head; heads = H; sorts = l })) q
-            ∙ ap (afterItem (context k H L) at) (sym f ∙ e);
+            cc;
         counts = (omega arith, omega arith);
       }
 
@@ -150,7 +144,7 @@ verdict-counts k (Refused r) = tt
 
 module _ (bs : List ℕ) (at : ℕ) (v : List ℕ) (to : ℕ) (k : Known) (H L : List ℕ) where
   step-is : {tag : ℕ} (t : ℕ) → tag ≡ t → stepAt bs at t v (fieldsAt bs to) (context k H L) ≡ stepAt bs at tag v (fieldsAt bs to) (context k H L)
-  step-is t e = ap (λ x. stepAt bs at x v (fieldsAt bs to) (context k H L)) (sym e)
+  step-is t e = cc
 
   -- by the tests of the tag
   stepTests : ℕ → Bool → Bool → Bool → Bool → Bool → Stepped
@@ -173,7 +167,7 @@ module _ {bs : List ℕ} {at tag : ℕ} {v : List ℕ} {to : ℕ} {k : Known} {H
   unfolding stepAt
   step-block {r} {c} {H′} e p q =
       record {
-        steps = ap (λ x. stepped x H′ L) q ∙ verdict-goes k H′ L c ∙ ap (afterBlock (context k H L)) p ∙ step-is bs at v to k H L 3 e;
+        steps = cc (verdict-goes k H′ L c, step-is bs at v to k H L 3 e);
         counts = subst (Counts k) (sym q) (verdict-counts k c);
       }
 
@@ -185,9 +179,7 @@ module _ {bs : List ℕ} {at tag : ℕ} {v : List ℕ} {to : ℕ} {k : Known} {H
   step-parameters e p q =
       record {
         steps =
-            ap (λ l. going (record { keywords = k .keywords; outsides = k .outsides; head = k .head; heads = H; sorts = l }))
-            (q ∙ ap (drop 1) p)
-            ∙ step-is bs at v to k H L 5 e;
+            cc (step-is bs at v to k H L 5 e);
         counts = (omega arith, omega arith);
       }
 
@@ -204,10 +196,7 @@ module _ {bs : List ℕ} {at tag : ℕ} {v : List ℕ} {to : ℕ} {k : Known} {H
   step-result {fault} {c} e p q f =
       record {
         steps =
-            ap (λ x. stepped x H L) f
-            ∙ verdict-goes k H L c
-            ∙ ap (afterVerdict (context k H L)) (q ∙ ap (verdictOf at) p)
-            ∙ step-is bs at v to k H L 7 e;
+            cc (verdict-goes k H L c, step-is bs at v to k H L 7 e);
         counts = subst (Counts k) (sym f) (verdict-counts k c);
       }
 
@@ -229,11 +218,8 @@ module _ {bs : List ℕ} {at tag : ℕ} {v : List ℕ} {to : ℕ} {k : Known} {H
       record {
         steps =
             let tests : Bool → Bool → Bool → Bool → Bool → Stepped = stepTests bs at v to k H L tag in
-            ap (λ x. going (context x H L)) q
-            ∙ ap₂ (λ x y. tests x y false false false) (sym (ne-eqb tag 3 a)) (sym (ne-eqb tag 5 b))
-            ∙ ap₂ (λ x y. tests (eqb tag 3) (eqb tag 5) x y false) (sym (ne-eqb tag 6 c)) (sym (ne-eqb tag 7 d))
-            ∙ ap (tests (eqb tag 3) (eqb tag 5) (eqb tag 6) (eqb tag 7)) (sym (ne-eqb tag 8 e));
-        counts = subst (λ x. Counts k (Next x)) (sym q) (counts k tag at);
+            cc (ne-eqb tag 3 a, ne-eqb tag 5 b, ne-eqb tag 6 c, ne-eqb tag 7 d, ne-eqb tag 8 e);
+        counts = rw q (counts k tag at);
       }
 
 -- ------------------------------------------------------------------ the walk
@@ -247,8 +233,7 @@ sorts-long bs h = ap (choose (sortsFrom (fieldsOf bs) bs (unknown (replicate 64 
 pub sorts-short : (bs : List ℕ) → length bs ≤ longestTable → sortsFrom (fieldsAt bs 0) bs (unknown (replicate 64 0)) ≡ sortsOf bs
 unfolding sortsOf
 sorts-short bs h =
-    ap (λ fs. sortsFrom fs bs (unknown (replicate 64 0))) (sym (fields-of bs))
-    ∙ ap (choose (sortsFrom (fieldsOf bs) bs (unknown (replicate 64 0))) Passed) (sym (le-leb (length bs) longestTable h))
+    cc (fields-of bs, le-leb (length bs) longestTable h)
 
 -- The fields from an offset on, with what is known there, give what all fields give.
 pub record Sorting (bs H₀ L₀ stack₀ H L stack : List ℕ) (at : ℕ) (k : Known) : Type 0 where
@@ -268,7 +253,7 @@ sorting-start =
 
 module _ {bs H₀ L₀ stack₀ H L stack : List ℕ} {at : ℕ} {k : Known} (s : Sorting bs H₀ L₀ stack₀ H L stack at k) where
   left : {r : Front} → r ≡ frontOf (drop at bs) → sortsFrom (opened bs at r) bs (context k H L) ≡ sortsFrom (fieldsAt bs 0) bs (unknown H₀)
-  left e = ap (λ fs. sortsFrom fs bs (context k H L)) (sym (fields-at bs at e)) ∙ s .rest
+  left e = cc (fields-at bs at e, s .rest)
 
   -- at the end
   pub sorting-nothing : Nothing ≡ frontOf (drop at bs) → Passed ≡ sortsFrom (fieldsAt bs 0) bs (unknown H₀)
@@ -285,12 +270,11 @@ module _ {bs H₀ L₀ stack₀ H L stack : List ℕ} {at : ℕ} {k : Known} (s 
     at-field : goOn (stepped step H′ L′) (λ X. sortsFrom (fieldsAt bs (at + 3 + n)) bs X) ≡ sortsFrom (fieldsAt bs 0) bs (unknown H₀)
     unfolding sortsFrom
     at-field =
-        ap (λ x. goOn x (λ X. sortsFrom (fieldsAt bs (at + 3 + n)) bs X))
-        (q .steps ∙ ap (λ w. stepAt bs at tag w (fieldsAt bs (at + 3 + n)) (context k H L)) l)
-        ∙ left e
+        cc (q .steps, l, left e)
 
-    step-gives : {r : Step} → step ≡ r → goOn (stepped r H′ L′) (λ X. sortsFrom (fieldsAt bs (at + 3 + n)) bs X) ≡ sortsFrom (fieldsAt bs 0) bs (unknown H₀)
-    step-gives h = ap (λ x. goOn (stepped x H′ L′) (λ X. sortsFrom (fieldsAt bs (at + 3 + n)) bs X)) (sym h) ∙ at-field
+    step-gives : {r : Step} → step ≡ r → goOn (stepped r H′ L′) (λ X. sortsFrom (fieldsAt bs (at + 3 + n)) bs X)
+        ≡ sortsFrom (fieldsAt bs 0) bs (unknown H₀)
+    step-gives h = cc at-field
 
     -- a field stops the check
     pub sorting-stop : {c : Verdict} → step ≡ Stop c → c ≡ sortsFrom (fieldsAt bs 0) bs (unknown H₀)

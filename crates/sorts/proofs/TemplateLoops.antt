@@ -20,7 +20,7 @@ use Rattle.sorts.proofs.TemplatesByBytes.{head-sort, head-variable, hea
 
 -- the byte at i, and those after it
 front : (v : List ℕ) (i : ℕ) {b : ℕ} → i < length v → b ≡ getD v i 0 → drop i v ≡ b ∷ drop (i + 1) v
-front v i h e = drop-cons v i 0 h ∙ ap (λ j. getD v i 0 ∷ drop j v) (sym (add-one i)) ∙ ap (λ x. x ∷ drop (i + 1) v) (sym e)
+front v i h e = cc (drop-cons v i 0 h, add-one i)
 
 ended : (v : List ℕ) {i : ℕ} → length v ≤ i → drop i v ≡ []
 ended v h = drop-of-length-le v h
@@ -30,7 +30,7 @@ ended v h = drop-of-length-le v h
 module _ (L : List ℕ) {b : ℕ} where
   -- a variable has the sort that the list gives it
   pub variable-sort : {s w : ℕ} → s ≡ getD L w 0 → w ≡ b → b < 16 → s ≡ headSort b L
-  variable-sort e f h = e ∙ ap (λ i. getD L i 0) f ∙ sym (head-variable L b (lt-ltb b 16 h))
+  variable-sort e f h = cc (head-variable L b (lt-ltb b 16 h))
 
   -- an outside name is a Var
   pub name-sort : b ≡ 16 → var ≡ headSort b L
@@ -51,16 +51,13 @@ places-below : (room : List ℕ) (i x k : ℕ) → k ≤ i → places (set room 
 unfolding places
 places-below room i x zero h = refl
 places-below room i x (suc k) h =
-    ap (λ y. y ∷ places (set room i x) k) (getD-set-other room i k x 0 (λ e. omega arith))
-    ∙ ap (λ l. getD room k 0 ∷ l) (places-below room i x k (omega arith))
+    cc (getD-set-other room i k x 0 (λ e. omega arith), places-below room i x k (omega arith))
 
 -- one place more on top
 pub places-set : (room : List ℕ) (i x : ℕ) → i < length room → places (set room i x) (i + 1) ≡ x ∷ places room i
 unfolding places
 places-set room i x h =
-    ap (places (set room i x)) (add-one i)
-    ∙ ap (λ y. y ∷ places (set room i x) i) (getD-set-same room i x 0 h)
-    ∙ ap (λ l. x ∷ l) (places-below room i x i (omega arith))
+    cc (add-one i, getD-set-same room i x 0 h, places-below room i x i (omega arith))
 
 -- no constructor has more than three arguments
 pub params-small : (b : ℕ) → length (headParams b) ≤ 3
@@ -83,7 +80,7 @@ module _ {room₀ : List ℕ} {start b : ℕ} where
         as-many = refl;
         height = omega arith;
         most = omega arith;
-        opened = ap (λ l. l ++ places room₀ start) (sym (drop-of-length-le (constructor b .params) {i = k} (omega arith)));
+        opened = cc (drop-of-length-le (constructor b .params) {i = k} (omega arith));
       }
 
   -- there is room for the next
@@ -102,11 +99,7 @@ module _ {room₀ : List ℕ} {start b : ℕ} where
         height = omega (arith, o .height);
         most = omega (arith, o .most);
         opened =
-            places-set room top x (opening-room h o p)
-            ∙ ap (λ l. x ∷ l) (o .opened)
-            ∙ ap (λ y. y ∷ drop k params ++ places room₀ start) e
-            ∙ ap (λ j. getD params (k - 1) unit ∷ drop j params ++ places room₀ start) (sym back)
-            ∙ ap (λ l. l ++ places room₀ start) (sym (drop-cons params (k - 1) unit (omega (arith, o .most))));
+            cc (places-set room top x (opening-room h o p), o .opened, drop-cons params (k - 1) unit (omega (arith, o .most)));
       }
 
   -- all places
@@ -117,14 +110,14 @@ module _ {room₀ : List ℕ} {start b : ℕ} where
       record {
         height = omega (arith, o .height, ap length e);
         opened =
-            o .opened ∙ ap (λ j. drop j (constructor b .params) ++ places room₀ start) z ∙ ap (λ l. l ++ places room₀ start) (sym e);
+            cc (o .opened);
       }
 
   -- a byte below hex 20 opens none
   pub opening-none : b < 32 → Opened b room₀ start room₀ start
   opening-none h =
       let e : headParams b ≡ [] = params-none b h in
-      record { height = omega (arith, ap length e); opened = ap (λ l. l ++ places room₀ start) (sym e) }
+      record { height = omega (arith, ap length e); opened = cc }
 
 -- ------------------------------------------------------------------ one byte fills a place
 
@@ -143,7 +136,7 @@ places-some room zero h = absurd (omega arith)
 places-some room (suc zero) h = absurd (omega arith)
 places-some room (suc (suc k)) h =
     let e : k ≡ suc (suc k) - 2 = omega arith in
-    ap (λ j. awaiting (getD room j 0 ∷ places room j)) e
+    cc
 
 placed : (room : List ℕ) (top : ℕ) → placesAt room (top + 1) ≡ awaiting (places room top)
 unfolding placesAt
@@ -154,16 +147,15 @@ fill-by :
     (b : ℕ) (L room : List ℕ) (height s : ℕ) → 2 ≤ height → s ≡ headSort b L → (fitting : Bool) → fits s (getD room (height - 2) 0) ≡ fitting
     → choose (awaiting (headParams b ++ places room (height - 2))) unfit fitting ≡ fillByte false b L (placesAt room height)
 fill-by b L room height s h q fitting k =
-    ap (choose (awaiting (headParams b ++ places room (height - 2))) unfit) (sym k ∙ ap (λ x. fits x (getD room (height - 2) 0)) q)
-    ∙ ap (fillByte false b L) (sym (places-some room height h))
+    cc (places-some room height h)
 
 other-byte : (b : ℕ) (L : List ℕ) (ps : Places) {name : Bool} → name ≡ false → fillByte false b L ps ≡ fillByte name b L ps
-other-byte b L ps e = ap (λ t. fillByte t b L ps) (sym e)
+other-byte b L ps e = cc
 
 module _ {name : Bool} {b : ℕ} {L room : List ℕ} {height : ℕ} where
   -- a name's number fills nothing
   pub fill-number : name ≡ true → Filled name b L room height room height
-  fill-number e = record { small = omega arith; filled = ap (λ t. fillByte t b L (placesAt room height)) (sym e) }
+  fill-number e = record { small = omega arith; filled = cc }
 
   -- no place is open
   pub fill-none : name ≡ false → height < 2 → Filled name b L room height room 0
@@ -194,7 +186,8 @@ abbrev fillLeft : Bool → List ℕ → List ℕ → Places → Bool
 fillLeft name bs L unfit = false
 fillLeft name bs L (awaiting ps) = fillBytes name bs L ps
 
-fill-left : (name : Bool) (b : ℕ) (bs L : List ℕ) (ps : Places) → fillLeft (namesNext name b) bs L (fillByte name b L ps) ≡ fillLeft name (b ∷ bs) L ps
+fill-left : (name : Bool) (b : ℕ) (bs L : List ℕ) (ps : Places) → fillLeft (namesNext name b) bs L (fillByte name b L ps)
+    ≡ fillLeft name (b ∷ bs) L ps
 unfolding fillBytes
 fill-left true b bs L unfit = refl
 fill-left true b bs L (awaiting []) = refl
@@ -242,7 +235,7 @@ fault-by :
     → choose (choose 0 11 filled) 9 closed ≡ templatesFault N L v ps
 unfolding templatesFault
 fault-by N L v ps closed filled e f =
-    ap (λ x. choose (choose 0 11 filled) 9 x) (sym e) ∙ ap (λ x. choose (choose 0 11 x) 9 (closedBytes false v N (length L))) (sym f)
+    cc
 
 module _ {v L room₀ room : List ℕ} {N start height i : ℕ} {name : Bool} (t : Testing v L N room₀ start room height name i) where
   module _ (h : i < length v) {b n : ℕ} (e : b ≡ getD v i 0) (w : n ≡ b) where
@@ -251,9 +244,7 @@ module _ {v L room₀ room : List ℕ} {N start height i : ℕ} {name : Bool} (t
         → (closed && closedBytes (namesNext name b) (drop (i + 1) v) N (length L)) ≡ closedBytes false v N (length L)
     unfolding closedBytes
     closed-step closed k =
-        ap (λ x. x && closedBytes (namesNext name b) (drop (i + 1) v) N (length L)) (sym k ∙ ap (λ x. isClosedByte name x N (length L)) w)
-        ∙ ap (λ l. closedBytes name l N (length L)) (sym (front v i h e))
-        ∙ t .closed
+        cc (front v i h e, t .closed)
 
     -- a variable or a name that is not defined
     pub testing-open : not (isClosedByte name n N (length L)) ≡ true → 9 ≡ templatesFault N L v (places room₀ start)
@@ -270,18 +261,15 @@ module _ {v L room₀ room : List ℕ} {N start height i : ℕ} {name : Bool} (t
           enough = omega (arith, t .enough, f .small);
           closed = closed-step true (not-false _ k);
           fills =
-              ap (fillLeft (namesNext name b) (drop (i + 1) v) L) (f .filled)
-              ∙ fill-left name b (drop (i + 1) v) L (placesAt room height)
-              ∙ ap (λ l. fillLeft name l L (placesAt room height)) (sym (front v i h e))
-              ∙ t .fills;
+              cc (f .filled, fill-left name b (drop (i + 1) v) L (placesAt room height), front v i h e, t .fills);
         }
 
   -- all bytes are passed
   testing-end : length v ≤ i → (filled : Bool) → eqb height 1 ≡ filled → choose 0 11 filled ≡ templatesFault N L v (places room₀ start)
   unfolding closedBytes
   testing-end h filled e =
-      fault-by N L v (places room₀ start) true filled (sym (ap (λ l. closedBytes name l N (length L)) (sym (ended v h)) ∙ t .closed))
-      (sym (left-end name L room height ∙ ap (λ l. fillLeft name l L (placesAt room height)) (sym (ended v h)) ∙ t .fills) ∙ e)
+      fault-by N L v (places room₀ start) true filled (cc (t .closed, ended v h))
+      (cc (t .fills, ended v h, left-end name L room height))
 
   -- every place is filled
   pub testing-filled : length v ≤ i → height ≡ 1 → 0 ≡ templatesFault N L v (places room₀ start)

@@ -1,6 +1,6 @@
 -- The tests of templates are the judgements E; L ⊢ p : B: closed and sorted exactly if a derivation gives the sort.
 use Prim.Native.Nat.{ℕ, zero, suc, _<_}
-use mathlib.Core.Path.{_≡_, refl, sym, ap, subst, subst₂, _∙_}
+use mathlib.Core.Path.{_≡_, refl, sym, subst, subst₂}
 use mathlib.Core.Bool.{Bool, true, false, _&&_, _||_, true≢false, and-eq-true-iff}
 use mathlib.Core.List.{List, [], _∷_}
 use native.Mathlib.Omega.{arith}
@@ -10,8 +10,10 @@ use borrow.Author.Tests.{eqb-true, eq-eqb, ltb-true, lt-ltb}
 use Rattle.grammar.specs.Sorts.{unit, var, binder, fits, constructor}
 use Rattle.grammar.specs.Table.{Template, Templates, variable, outside, outsideLabel, make, none, more}
 use Rattle.layout.specs.Within.{TemplateWithin, make-within, TemplatesWithin, more-within}
-use Rattle.sorts.specs.CheckSorts.{Scope, isClosed, areClosed, sortOf, isSorted, fill}
-use Rattle.sorts.specs.Judgements.{Has, has-first, has-later, Fits, fits-equal, fits-binder, Sorted, by-variable, by-global, by-label, by-constructor, Fill, fill-none, fill-more}
+use Rattle.sorts.specs.CheckSorts.{isClosed, areClosed, sortOf, isSorted, fill}
+use Rattle.sorts.specs.Scopes.{Scope}
+use Rattle.sorts.specs.Judgements.{Has, has-first, has-later, Fits, fits-equal, fits-binder, Sorted, by-variable, by-global, by-label}
+use Rattle.sorts.specs.Judgements.{by-constructor, Fill, fill-none, fill-more}
 
 -- ------------------------------------------------------------------ tests
 
@@ -27,7 +29,7 @@ either true b h f g = f refl
 either false b h f g = g h
 
 first : (a b : Bool) → a ≡ true → (a || b) ≡ true
-first a b h = ap (λ x. x || b) h
+first a b h = cc
 
 -- ------------------------------------------------------------------ sorts that fit, sorts of variables
 
@@ -101,5 +103,5 @@ module _ (G : Scope) (L : List ℕ) where
         let v = rule-fill ts k in (
           pair (isClosed t G (length L)) (areClosed ts G (length L)) (u .0) (v .0),
           pair (isSorted t L && fits (sortOf t L) B) (fill ts L Bs)
-              (pair (isSorted t L) (fits (sortOf t L) B) (u .1) (ap (λ s. fits s B) (u .2) ∙ rule-fits f)) (v .1),
+              (pair (isSorted t L) (fits (sortOf t L) B) (u .1) (cc (u .2, rule-fits f))) (v .1),
         )

@@ -1,6 +1,6 @@
 -- On whole templates in prefix form, the tests byte by byte are the tests of the templates.
 use Prim.Native.Nat.{ℕ, zero, suc, _≤_, _<_}
-use mathlib.Core.Path.{_≡_, refl, sym, ap, subst, _∙_}
+use mathlib.Core.Path.{_≡_, refl, ap, subst, _∙_}
 use mathlib.Core.Bool.{Bool, true, false, _&&_, _||_}
 use mathlib.Core.List.{List, [], _∷_, _++_}
 use native.Mathlib.Omega.{arith}
@@ -10,7 +10,8 @@ use borrow.Author.Tests.{ltb-true, leb-true, eqb-true, le-ltb, lt-ltb, lt-leb, l
 use Rattle.grammar.specs.Sorts.{unit, var, label, fits, constructor, arity, isConstructor}
 use Rattle.grammar.specs.Table.{Templates, variable, make, none, more}
 use Rattle.layout.specs.Prefix.{parsed, Taken, short, taken, alsoTaken, takeTemplates, isNameTag, nameBy, templatesOf}
-use Rattle.sorts.specs.CheckSorts.{Scope, isClosed, areClosed, sortOf, isSorted, fill}
+use Rattle.sorts.specs.CheckSorts.{isClosed, areClosed, sortOf, isSorted, fill}
+use Rattle.sorts.specs.Scopes.{Scope}
 use Rattle.sorts.proofs.TemplateSorts.{either, both}
 use Rattle.sorts.specs.TemplateBytes.{closedBytes, headSort, headParams, fillBytes}
 use Rattle.sorts.proofs.TemplateInduction.{Whole, Read, whole, choose}
@@ -52,7 +53,7 @@ module _ (G : Scope) (n : ℕ) where
           (x : Taken) → Apart (λ us vs. areClosed ts G n ≡ (areClosed us G n && areClosed vs G n)) x
           → Apart (λ us vs. areClosed (more t ts) G n ≡ (areClosed us G n && areClosed vs G n)) (alsoTaken t x)
       also short h = tt
-      also (taken us vs) h = ap (λ z. isClosed t G n && z) h ∙ and-assoc (isClosed t G n) (areClosed us G n) (areClosed vs G n)
+      also (taken us vs) h = cc (h, and-assoc (isClosed t G n) (areClosed us G n) (areClosed vs G n))
 
   closed-name : (z : Bool) (x : ℕ) → ltb x (G .outsides) ≡ isClosed (nameBy z x) G n
   unfolding isClosed
@@ -68,11 +69,11 @@ module _ (G : Scope) (n : ℕ) where
       → closedBytes false (b ∷ bs) (G .outsides) n ≡ closedFirst big named b bs
   unfolding closedBytes closedFirst
   closed-first b bs big named e f =
-      ap (λ t. closedFirst t (isNameTag b) b bs) e ∙ ap (λ t. closedFirst big t b bs) f
+      cc
 
   closed-number : (x : ℕ) (bs : List ℕ) → closedBytes true (x ∷ bs) (G .outsides) n ≡ (ltb x (G .outsides) && closedBytes false bs (G .outsides) n)
   unfolding closedBytes
-  closed-number x bs = ap (λ z. z && closedBytes false bs (G .outsides) n) (or-false (ltb x (G .outsides)))
+  closed-number x bs = cc (or-false (ltb x (G .outsides)))
 
   closed-read : Read (λ bs ts. closedBytes false bs (G .outsides) n ≡ areClosed ts G n)
   unfolding closedBytes areClosed closedFirst
@@ -80,12 +81,9 @@ module _ (G : Scope) (n : ℕ) where
       record {
         at-end = refl;
         at-name = λ b x bs ts e q.
-            closed-first b (x ∷ bs) true true (le-leb 0x10 b (name-big b e)) e
-            ∙ closed-number x bs
-            ∙ ap (λ z. ltb x (G .outsides) && z) q
-            ∙ ap (λ z. z && areClosed ts G n) (closed-name (eqb b 0x10) x);
+            cc (closed-first b (x ∷ bs) true true (le-leb 0x10 b (name-big b e)) e, closed-number x bs, closed-name (eqb b 0x10) x);
         at-variable = λ b bs ts e v q.
-            closed-first b bs false false (lt-leb 0x10 b (ltb-true b 0x10 v)) e ∙ ap (λ z. ltb b n && z) q;
+            cc (closed-first b bs false false (lt-leb 0x10 b (ltb-true b 0x10 v)) e);
         at-constructor = λ b bs ts us vs e v k t q.
             closed-first b bs true false (le-leb 0x10 b (ltb-false b 0x10 v)) e ∙ q ∙ subst (Apart _) t (closed-taken (arity b) ts);
       }
@@ -106,9 +104,7 @@ module _ (L : List ℕ) (b : ℕ) where
       → headSort b L ≡ sortBy small tagged labelled
   unfolding headSort
   head-sort small tagged labelled e f g =
-      ap (λ t. sortBy t (eqb b 0x10) (eqb b 0x11)) e
-      ∙ ap (λ t. sortBy small t (eqb b 0x11)) f
-      ∙ ap (λ t. sortBy small tagged t) g
+      cc
 
   pub head-variable : ltb b 0x10 ≡ true → headSort b L ≡ getD L b unit
   head-variable e = head-sort true (eqb b 0x10) (eqb b 0x11) e refl refl
@@ -120,10 +116,12 @@ module _ (L : List ℕ) (b : ℕ) where
   pub head-name : (x : ℕ) → isNameTag b ≡ true → headSort b L ≡ sortOf (nameBy (eqb b 0x10) x) L
   head-name x e =
       by-name b e
-      (λ h. head-sort false true (eqb b 0x11) (le-ltb b 0x10 (omega arith)) (eq-eqb b 0x10 h) refl ∙ ap (λ t. sortOf (nameBy t x) L) (sym (eq-eqb b 0x10 h)))
+      (λ h. cc (head-sort false true (eqb b 0x11) (le-ltb b 0x10 (omega arith)) (eq-eqb b 0x10 h) refl, eq-eqb b 0x10 h))
       (λ h.
-      head-sort false false true (le-ltb b 0x10 (omega arith)) (ne-eqb b 0x10 (λ k. omega arith)) (eq-eqb b 0x11 h)
-      ∙ ap (λ t. sortOf (nameBy t x) L) (sym (ne-eqb b 0x10 (λ k. omega arith))))
+      cc (
+        head-sort false false true (le-ltb b 0x10 (omega arith)) (ne-eqb b 0x10 (λ k. omega arith)) (eq-eqb b 0x11 h),
+        ne-eqb b 0x10 (λ k. omega arith),
+      ))
 
 pub params-none : (b : ℕ) → b < 0x20 → headParams b ≡ []
 unfolding headParams
@@ -140,9 +138,7 @@ module _ (L : List ℕ) where
       → fillBytes false (b ∷ bs) L (p ∷ ps) ≡ (fits s p && fillBytes named bs L (new ++ ps))
   unfolding fillBytes
   fill-first b bs ps new p s named e f g =
-      ap (λ z. fits z p && fillBytes (isNameTag b) bs L (headParams b ++ ps)) e
-      ∙ ap (λ z. fits s p && fillBytes (isNameTag b) bs L (z ++ ps)) f
-      ∙ ap (λ z. fits s p && fillBytes z bs L (new ++ ps)) g
+      cc
 
   fill-number : (x : ℕ) (bs ps : List ℕ) → fillBytes true (x ∷ bs) L ps ≡ fillBytes false bs L ps
   unfolding fillBytes
@@ -163,7 +159,7 @@ module _ (L : List ℕ) where
       also short h = tt
       also (taken us vs) h =
           let fitting : Bool = isSorted t L && fits (sortOf t L) p in
-          ap (λ z. fitting && z) h ∙ and-assoc fitting (fill us L new) (fill vs L ps)
+          cc (h, and-assoc fitting (fill us L new) (fill vs L ps))
 
   sorted-name : (z : Bool) (x : ℕ) → isSorted (nameBy z x) L ≡ true
   unfolding isSorted
@@ -171,7 +167,7 @@ module _ (L : List ℕ) where
   sorted-name false x = refl
 
   around : (a b c : Bool) → (a && (b && c)) ≡ (b && a && c)
-  around true b c = ap (λ z. z && c) (sym (and-true b))
+  around true b c = cc (and-true b)
   around false true c = refl
   around false false c = refl
 
@@ -188,17 +184,20 @@ module _ (L : List ℕ) where
   at-name b x bs ts e q [] = refl
   at-name b x bs ts e q (p ∷ ps) =
       let s : ℕ = sortOf (nameBy (eqb b 0x10) x) L in
-      fill-first b (x ∷ bs) ps [] p s true (head-name L b x e) (params-none b (by-name b e (λ h. omega arith) (λ h. omega arith))) e
-      ∙ ap (λ z. fits s p && z) (fill-number x bs ps ∙ q ps)
-      ∙ ap (λ z. z && fits s p && fill ts L ps) (sym (sorted-name (eqb b 0x10) x))
+      cc (
+        fill-first b (x ∷ bs) ps [] p s true (head-name L b x e) (params-none b (by-name b e (λ h. omega arith) (λ h. omega arith))) e,
+        fill-number x bs ps,
+        q ps,
+        sorted-name (eqb b 0x10) x,
+      )
 
-  at-variable : (b : ℕ) (bs : List ℕ) (ts : Templates) → isNameTag b ≡ false → ltb b 0x10 ≡ true → Filled bs ts → Filled (b ∷ bs) (more (variable b) ts)
+  at-variable : (b : ℕ) (bs : List ℕ) (ts : Templates) → isNameTag b ≡ false → ltb b 0x10 ≡ true → Filled bs ts
+      → Filled (b ∷ bs) (more (variable b) ts)
   unfolding Filled fillBytes fill
   at-variable b bs ts e v q [] = refl
   at-variable b bs ts e v q (p ∷ ps) =
       let h : b < 0x10 = ltb-true b 0x10 v in
-      fill-first b bs ps [] p (getD L b unit) false (head-variable L b v) (params-none b (omega arith)) e
-      ∙ ap (λ z. fits (getD L b unit) p && z) (q ps)
+      cc (fill-first b bs ps [] p (getD L b unit) false (head-variable L b v) (params-none b (omega arith)) e, q ps)
 
   at-constructor :
       (b : ℕ) (bs : List ℕ) (ts us vs : Templates) → isNameTag b ≡ false → ltb b 0x10 ≡ false → isConstructor b ≡ true
@@ -210,7 +209,7 @@ module _ (L : List ℕ) where
       let s : ℕ = constructor b .result in
       let new : List ℕ = constructor b .params in
       fill-first b bs ps new p s false (head-constructor L b (omega arith)) (params-some b h) e
-      ∙ ap (λ z. fits s p && z) (q (new ++ ps) ∙ subst (Apart _) t (fill-taken new ps ts))
+      ∙ ap (_&&_ (fits s p)) (q (new ++ ps) ∙ subst (Apart _) t (fill-taken new ps ts))
       ∙ around (fits s p) (fill us L new) (fill vs L ps)
 
   fill-read : Read Filled

@@ -8,10 +8,12 @@ use lib.ListN.{length, getD}
 use Rattle.answers.specs.Checked.{Checked, ok, bad, _>>=_, _>>_}
 use Rattle.grammar.specs.Sorts.{Signature, gives, unit}
 use Rattle.grammar.specs.Table.{Definition}
-use Rattle.grammar.specs.Fields.{Fields, end, cut, next, fieldsOf, leading, afterLeading}
+use Rattle.grammar.specs.Fields.{Fields, end, cut, next, fieldsOf}
+use Rattle.grammar.specs.Lookup.{leading, afterLeading}
 use Rattle.layout.specs.Prefix.{templatesOf, found, firstOf}
 use Rattle.layout.specs.Decode.{itemOf, definitionOf}
-use Rattle.sorts.specs.CheckSorts.{Env, entryOf, consistent, Scope, checkItem, checkResult, checkRoot}
+use Rattle.sorts.specs.CheckSorts.{consistent, checkItem, checkResult, checkRoot}
+use Rattle.sorts.specs.Scopes.{Env, entryOf, Scope}
 
 -- a field that ends a block: the next block, or the root
 abbrev pub endsBlock : ℕ → Bool

@@ -9,20 +9,12 @@ use lib.ListN.{length, getD}
 use Rattle.answers.specs.Checked.{Checked, ok, _>>=_, _>>_, need}
 use Rattle.spellings.specs.Bytes.{same}
 use Rattle.grammar.specs.Sorts.{Signature, gives, unit, var, binder, label, term, num, fits, constructor}
-use Rattle.grammar.specs.Table.{Template, Templates, variable, outside, outsideLabel, make, none, more, Item, keyword, ide, number, local, call}
-use Rattle.grammar.specs.Table.{Alternative, Mode, add, extend, update, Definition, Table}
-use Rattle.grammar.specs.Encode.{itemValue, headValue}
+use Rattle.grammar.specs.Table.{Template, Templates, variable, outside, outsideLabel, make, none, more, Item, keyword, ide, number, local, call, Alternative, Mode, add, extend, update, Definition, Table}
+use Rattle.grammar.specs.Values.{itemValue, headValue}
 use Rattle.sorts.specs.Sizes.{fieldSize, spellingsSize, itemsSize, alternativeSize, definitionSize, definitionsSize}
+use Rattle.sorts.specs.Scopes.{Env, Scope, entryOf}
 
 -- ------------------------------------------------------------------ global environments E
-
-pub record Entry : Type 0 where
-  pub nonterminal : ℕ
-  pub signature : Signature
-
--- an environment, the newest entry first
-abbrev pub Env : Type 0
-Env = List Entry
 
 unfoldable pub isDefined : Env → ℕ → Bool
 isDefined [] n = false
@@ -38,9 +30,6 @@ abbrev pub sameSignature : Signature → Signature → Bool
 sameSignature S S′ = same (S .result ∷ S .params) (S′ .result ∷ S′ .params)
 
 -- ------------------------------------------------------------------ E ⊢ g :: E', refusals 7 and 8
-
-abbrev pub entryOf : Definition → Entry
-entryOf d = record { nonterminal = d .nonterminal; signature = d .signature }
 
 -- an earlier block defined the nonterminal with the same signature, and this block, of which `own` has what stands before, did not
 abbrev pub isAsBefore : Env → Env → Definition → Bool
@@ -66,12 +55,6 @@ collect E own at (d ∷ ds) = do
   collect E (entryOf d ∷ own) (at + definitionSize d) ds
 
 -- ------------------------------------------------------------------ E; L ⊢ p : B, refusals 9 and 11
-
--- what a body is checked under: how many keywords and outside names there are, and E
-pub record Scope : Type 0 where
-  pub keywords : ℕ
-  pub outsides : ℕ
-  pub env : Env
 
 -- every variable and name of a template is defined; n variables are numbered already
 unfoldable mutual

@@ -4,3 +4,4 @@ pub mod ByFields
 pub mod TemplateBytes
 pub mod ByBytes
 pub mod CheckSorts
+pub mod Scopes

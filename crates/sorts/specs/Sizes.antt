@@ -4,7 +4,7 @@ use Prim.Native.Nat.{ℕ, _+_}
 use mathlib.Core.List.{List, [], _∷_}
 use lib.ListN.{length}
 use Rattle.grammar.specs.Table.{Item, Alternative, Definition}
-use Rattle.grammar.specs.Encode.{templateThen, itemValue, headValue}
+use Rattle.grammar.specs.Values.{templateThen, itemValue, headValue}
 
 abbrev pub fieldSize : List ℕ → ℕ
 fieldSize v = 3 + length v

@@ -11,7 +11,7 @@ use Rattle.answers.specs.declared.Refusal.{Refusal}
 use Rattle.answers.specs.Refusals.{refusal}
 use Rattle.grammar.specs.Table.{Template, Templates, none, more}
 use Rattle.grammar.specs.Table as Table
-use Rattle.grammar.specs.Cells.{withRow, nameBase}
+use Rattle.terms.specs.Cells.{withRow, nameBase}
 use Rattle.sorts.specs.Judgements.{Sorted, Fill, fill-none, fill-more}
 use Rattle.sorts.specs.Judgements as Judgements
 use Rattle.expansion.specs.declared.State.{State}

@@ -24,8 +24,10 @@ use Rattle.terms.specs.Term.{Name, Term, word, fresh}
 use Rattle.terms.specs.Rows.{termAt, nameOf}
 use Rattle.expansion.specs.declared.State.{State}
 use Rattle.expansion.specs.Run.{Result, done, halt, Run, after}
-use Rattle.expansion.specs.Expansion.{Input, ready, choice, endToken, nextToken, tokenTaken, take, buildAll, build, wordValue, runItem, runItems, callBegun}
-use Rattle.expansion.specs.Expansion.{mostCalls, runCall, mostOpen, start, ended, run}
+use Rattle.expansion.specs.Expansion.{Input, ready, choice, nextToken, tokenTaken, takeToken, buildAll, build, wordValue, runItem, runItems, callBegun}
+use Rattle.scanner.specs.Tokens.{endToken}
+use Rattle.expansion.specs.Expansion.{runCall, start, ended, run}
+use Rattle.expansion.specs.Limits.{mostCalls, mostOpen}
 use Rattle.expansion.specs.Figure3.{Value, binder, label, num, term, Gives, GiveAll, Taken, as-var, as-binder, as-label, by-keyword, by-ide, by-number}
 use Rattle.expansion.specs.Figure3.{by-local, Derives, by-end, by-terminal, by-call, Parses}
 use Rattle.expansion.specs.Costs.{rowsOf, rowsOfAll, openIn, callsIn, rowsIn, Affords}
@@ -50,8 +52,8 @@ token-is tokens at {t} {s} e =
     absurd (omega arith))
 
 pub take-done : (I : Input) (kind : ℕ) (value : ℕ → ℕ) (s : State) (cells : List ℕ) → nextToken I s .kind ≡ kind
-    → take I kind value s cells ≡ done (value (nextToken I s .value)) (tokenTaken s) cells
-take-done I kind value s cells e = rw (eq-eqb (nextToken I s .kind) kind e, take) refl
+    → takeToken I kind value s cells ≡ done (value (nextToken I s .value)) (tokenTaken s) cells
+take-done I kind value s cells e = rw (eq-eqb (nextToken I s .kind) kind e, takeToken) refl
 
 pub items-after : (C : ℕ → List ℕ → Run ℕ) (I : Input) (i : Item) (is : List Item) (xs : List ℕ) (s : State) (cells : List ℕ) (x : ℕ) (s′ : State)
     (cells′ : List ℕ)
@@ -124,7 +126,7 @@ module _ {g : List Production} (X : Setting g) where
   -- a token taken, and the items after it
   token-along : {o c n : ℕ} {t : Token} {s₀ s′ : List Token} {i i′ : ℕ} {is : List Item} {M M′ : List Value} {v : Value} (item : Item) (kind : ℕ)
       (value : ℕ → ℕ)
-      → ((C : ℕ → List ℕ → Run ℕ) (xs : List ℕ) → runItem C I item xs ≡ take I kind value)
+      → ((C : ℕ → List ℕ → Run ℕ) (xs : List ℕ) → runItem C I item xs ≡ takeToken I kind value)
       → t .kind ≡ kind
       → ((s : State) (cells : List ℕ) → nextToken I s ≡ t → Shows spell (s .made) cells (value (nextToken I s .value)) v)
       → Along o c n s₀ i is (M ++ (v ∷ [])) M′ s′ i′ → Along o c n (t ∷ s₀) i (item ∷ is) M M′ s′ i′
@@ -146,7 +148,7 @@ module _ {g : List Production} (X : Setting g) where
           (record { room = h .room; fits = h .fits; names = omega (arith, h .names); begun = h .begun }) (all-and a (shown s cells (q .0))))
 
   word-shown : (s : State) (t : Token) → nextToken I s ≡ t → t .kind ≡ wordKind
-      → nameOf spell (Rattle.grammar.specs.Cells.wordName (nextToken I s .value)) ≡ word (spell (t .value))
+      → nameOf spell (Rattle.terms.specs.Cells.wordName (nextToken I s .value)) ≡ word (spell (t .value))
   word-shown s t q e = word-named spell (nextToken I s .value) (X .small (s .at) (ap (λ u. u .kind) q ∙ e)) ∙ ap (λ u. word (spell (u .value))) q
 
   -- a call beside the derivation of its production

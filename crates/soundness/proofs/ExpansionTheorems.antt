@@ -12,9 +12,8 @@ use Rattle.answers.specs.declared.Refusal.{Refusal}
 use Rattle.answers.specs.Checked.{ok}
 use Rattle.spellings.specs.Bytes.{isWord}
 use Rattle.kinds.specs.Kinds.{wordKind}
-use Rattle.grammar.specs.Fields.{Lexicon}
-use Rattle.grammar.specs.Table.{Template, Templates, Item, Table}
-use Rattle.grammar.specs.Cells.{columns}
+use Rattle.grammar.specs.Table.{Lexicon, Template, Templates, Item, Table}
+use Rattle.terms.specs.Cells.{columns}
 use Rattle.layout.specs.Within.{Each}
 use Rattle.scanner.specs.declared.Token.{Token}
 use Rattle.scanner.specs.Scan.{scan}
@@ -25,7 +24,7 @@ use Rattle.sorts.specs.Judgements.{Sorted, Fill, Body}
 use Rattle.checker.specs.Passes.{grammarOf}
 use Rattle.terms.specs.Term.{Name, Term}
 use Rattle.terms.specs.Rows.{termAt}
-use Rattle.terms.specs.Binding.{isWorded}
+use Rattle.terms.specs.Occurrences.{isWorded}
 use Rattle.expansion.specs.declared.State.{State}
 use Rattle.expansion.specs.Run.{Result, done, halt}
 use Rattle.expansion.specs.Figure3.{Value, Gives, GiveAll, Derives, Parses}

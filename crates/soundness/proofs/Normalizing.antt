@@ -10,7 +10,7 @@ use Rattle.spellings.proofs.BytesLaws.{by-test}
 use Rattle.grammar.specs.Sorts.{Signature}
 use Rattle.grammar.specs.Table.{Template, Item, Alternative, Mode, add, extend, update, Definition, Table}
 use Rattle.layout.specs.Within.{Each, each-none, each-more, AlternativeWithin, DefinitionWithin, Within}
-use Rattle.sorts.specs.CheckSorts.{Env, entryOf, Scope}
+use Rattle.sorts.specs.Scopes.{Env, entryOf, Scope}
 use Rattle.sorts.specs.Judgements.{Newest, newest-first, newest-later, Absent, absent-empty, absent-entry, ItemSorted, by-keyword, by-ide, by-number, by-local}
 use Rattle.sorts.specs.Judgements.{by-call, Body, by-result, by-binding, Bodies, no-alternative, by-choice, Defines, no-definition, by-add, by-extend}
 use Rattle.sorts.specs.Judgements.{by-update, Ok, ok-empty, ok-definition, scope, Sequence, no-grammar, by-grammar, WellSorted}

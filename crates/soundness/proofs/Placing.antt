@@ -14,7 +14,7 @@ use Rattle.sorts.specs.Judgements as Judgements
 use Rattle.scanner.specs.declared.Token.{Token}
 use Rattle.productions.specs.Normal.{Production}
 use Rattle.terms.specs.Term.{Name, Term, Fields}
-use Rattle.terms.specs.Binding.{isWordName, isWorded, isWordedFields}
+use Rattle.terms.specs.Occurrences.{isWordName, isWorded, isWordedFields}
 use Rattle.expansion.specs.Figure3.{Value, unit, var, binder, label, num, term, fields, Constructs, Bound, bound-first, bound-later, Gives, by-variable}
 use Rattle.expansion.specs.Figure3.{by-global, by-label, by-constructor, GiveAll, give-none, give-more, as-var, as-binder, as-label, ReadsAs, by-keyword}
 use Rattle.expansion.specs.Figure3.{by-ide, by-number, by-local, Derives, by-end, by-terminal, by-call, Parses}

@@ -8,13 +8,14 @@ use lib.Dec.{ltb}
 use lib.ListN.{length, take}
 use lib.Seq.{getD-take}
 use Rattle.answers.specs.Refusals.{refusal}
-use Rattle.grammar.specs.Cells.{columns}
+use Rattle.terms.specs.Cells.{columns}
 use Rattle.grammar.specs.Sorts as Sorts
 use Rattle.productions.specs.Normal.{Production}
 use Rattle.terms.specs.Rows.{termAt}
 use Rattle.expansion.specs.declared.State.{State}
 use Rattle.expansion.specs.Run.{done, halt}
-use Rattle.expansion.specs.Expansion.{Input, mostOpen, start, runCall, ended, run}
+use Rattle.expansion.specs.Expansion.{Input, start, runCall, ended, run}
+use Rattle.expansion.specs.Limits.{mostOpen}
 use Rattle.expansion.specs.Figure3.{Value, term}
 use Rattle.expansion.specs.Parsing.{input}
 use Rattle.expansion.specs.ValueSorts.{Typed, typed-term}

@@ -25,8 +25,10 @@ use Rattle.terms.specs.Term.{Name, Term}
 use Rattle.terms.specs.Rows.{termAt}
 use Rattle.expansion.specs.declared.State.{State}
 use Rattle.expansion.specs.Run.{Result, done, halt, Run, after}
-use Rattle.expansion.specs.Expansion.{Input, ready, Rule, unfit, chosen, choice, endToken, nextToken, tokenTaken, take, misfit, buildAll, build, wordValue}
-use Rattle.expansion.specs.Expansion.{runItem, runItems, callBegun, mostCalls, runCall, mostOpen, start, ended, run}
+use Rattle.expansion.specs.Expansion.{Input, ready, Rule, unfit, chosen, choice, nextToken, tokenTaken, takeToken, misfit, buildAll, build, wordValue}
+use Rattle.scanner.specs.Tokens.{endToken}
+use Rattle.expansion.specs.Expansion.{runItem, runItems, callBegun, runCall, start, ended, run}
+use Rattle.expansion.specs.Limits.{mostCalls, mostOpen}
 use Rattle.expansion.specs.Figure3.{Value, unit, binder, label, num, term, Gives, give-none, Taken, as-var, as-binder, as-label, by-keyword, by-ide, by-number}
 use Rattle.expansion.specs.Figure3.{by-local, Derives, by-end, by-terminal, by-call, Parses}
 use Rattle.expansion.specs.Parsing.{input}
@@ -144,7 +146,7 @@ module _ {g : List Production} (X : Setting g) where
       → Kept rows k s cells → ShowAll spell (s .made) cells xs vs → Ends (Called k n vs s cells) Any (C n xs s cells)
 
   take-ends : (P : ℕ → State → List ℕ → Type 0) (kind : ℕ) (value : ℕ → ℕ) (s : State) (cells : List ℕ)
-      → (nextToken I s .kind ≡ kind → P (value (nextToken I s .value)) (tokenTaken s) cells) → Ends P Any (take I kind value s cells)
+      → (nextToken I s .kind ≡ kind → P (value (nextToken I s .value)) (tokenTaken s) cells) → Ends P Any (takeToken I kind value s cells)
   take-ends P kind value s cells f = go (eqb (nextToken I s .kind) kind) refl
     where
       go : (b : Bool) → eqb (nextToken I s .kind) kind ≡ b

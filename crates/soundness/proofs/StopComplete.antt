@@ -24,8 +24,8 @@ use Rattle.firsts.specs.First.{checkFirsts}
 use Rattle.firsts.specs.Rules.{Reads, reads-keyword, reads-word, reads-number}
 use Rattle.expansion.specs.declared.State.{State}
 use Rattle.expansion.specs.Run.{Result, done, halt, Run, after}
-use Rattle.expansion.specs.Expansion.{Input, ready, choice, nextToken, buildAll, build, wordValue, runItem, runItems, callBegun, mostCalls, runCall, mostOpen}
-use Rattle.expansion.specs.Expansion.{start, ended, run}
+use Rattle.expansion.specs.Expansion.{Input, ready, choice, nextToken, buildAll, build, wordValue, runItem, runItems, callBegun, runCall, start, ended, run}
+use Rattle.expansion.specs.Limits.{mostCalls, mostOpen}
 use Rattle.expansion.specs.Expansion as Expansion
 use Rattle.expansion.specs.Figure3.{Value, Gives, GiveAll, Next, Taken, Derives}
 use Rattle.expansion.specs.Costs.{rowsOf, rowsOfAll, openIn, callsIn, rowsIn, Affords}
@@ -103,7 +103,7 @@ module _ {g : List Production} (X : Setting g) where
 
   -- an item that reads takes a token of its kind
   reads-take : {j : Item} {k : ℕ} → Reads j k → (C : ℕ → List ℕ → Run ℕ) (xs : List ℕ)
-      → (k < 64) × (value : ℕ → ℕ) × (runItem C J j xs ≡ Expansion.take J k value)
+      → (k < 64) × (value : ℕ → ℕ) × (runItem C J j xs ≡ Expansion.takeToken J k value)
   reads-take (reads-keyword l) C xs = (omega arith, λ v. 0, refl)
   reads-take (reads-word {s = B}) C xs = (omega arith, wordValue B, refl)
   reads-take reads-number C xs = (omega arith, λ v. v, refl)

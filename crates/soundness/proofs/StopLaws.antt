@@ -13,7 +13,7 @@ use Rattle.answers.specs.Refusals.{refusal}
 use Rattle.kinds.specs.Kinds.{wordKind, numberKind, keywordKind, only}
 use Rattle.grammar.specs.Table.{Template, Templates, none, more, Item}
 use Rattle.grammar.specs.Table as Table
-use Rattle.grammar.specs.Cells.{withRow}
+use Rattle.terms.specs.Cells.{withRow}
 use Rattle.layout.specs.Within.{Each, each-more, ItemWithin, call-within}
 use Rattle.sorts.specs.Judgements.{ItemSorted, Body, by-binding}
 use Rattle.sorts.specs.Judgements as Judgements
@@ -22,8 +22,9 @@ use Rattle.productions.specs.Normal.{Production}
 use Rattle.firsts.specs.Rules.{Reads, reads-keyword, reads-word, reads-number}
 use Rattle.expansion.specs.declared.State.{State}
 use Rattle.expansion.specs.Run.{Result, done, halt, Run, after}
-use Rattle.expansion.specs.Expansion.{Input, ready, unfit, chosen, choice, nextToken, tokenTaken, take, misfit, cellMade, cell, build, buildAll, wordValue}
-use Rattle.expansion.specs.Expansion.{runItem, runItems, callBegun, mostCalls, runCall}
+use Rattle.expansion.specs.Expansion.{Input, ready, unfit, chosen, choice, nextToken, tokenTaken, takeToken, misfit, cellMade, cell, build, buildAll, wordValue}
+use Rattle.expansion.specs.Expansion.{runItem, runItems, callBegun, runCall}
+use Rattle.expansion.specs.Limits.{mostCalls}
 use Rattle.expansion.specs.Figure3.{Next, next, Taken}
 use Rattle.expansion.specs.Parsing.{input}
 use Rattle.soundness.proofs.Setting.{Setting}
@@ -118,8 +119,8 @@ module _ {g : List Production} (X : Setting g) where
   kind-of-next s n = kind-next (s .at) tokens ∙ next-is n
 
   pub take-halts : (kind : ℕ) (value : ℕ → ℕ) (s : State) (cells : List ℕ) → kind < 64 → (Next (rest s) kind → ⊥)
-      → take J kind value s cells ≡ halt (refusal 17 (s .at) (only kind) (ones (only kind))) cells
-  take-halts kind value s cells l n = rw (ne-eqb (nextToken J s .kind) kind (λ e. n (next-kind s e l)), take) refl
+      → takeToken J kind value s cells ≡ halt (refusal 17 (s .at) (only kind) (ones (only kind))) cells
+  take-halts kind value s cells l n = rw (ne-eqb (nextToken J s .kind) kind (λ e. n (next-kind s e l)), takeToken) refl
 
   -- ------------------------------------------------------------------ the place
 
@@ -135,7 +136,7 @@ module _ {g : List Production} (X : Setting g) where
   stays-bounded s (done a s′ c) l h = omega arith
   stays-bounded s (halt r c) l h = tt
 
-  take-bounded : (kind : ℕ) (value : ℕ → ℕ) (s : State) (cells : List ℕ) → kind < 64 → Bounded (take J kind value s cells)
+  take-bounded : (kind : ℕ) (value : ℕ → ℕ) (s : State) (cells : List ℕ) → kind < 64 → Bounded (takeToken J kind value s cells)
   take-bounded kind value s cells l = go (eqb (nextToken J s .kind) kind) refl
     where
       go : (b : Bool) → eqb (nextToken J s .kind) kind ≡ b

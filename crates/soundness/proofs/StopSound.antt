@@ -24,8 +24,9 @@ use Rattle.firsts.specs.First.{checkFirsts}
 use Rattle.firsts.specs.Rules.{Reads, reads-keyword, reads-word, reads-number}
 use Rattle.expansion.specs.declared.State.{State}
 use Rattle.expansion.specs.Run.{Result, done, halt, Run, after}
-use Rattle.expansion.specs.Expansion.{Input, ready, choice, nextToken, tokenTaken, take, misfit, buildAll, build, wordValue, runItem, runItems, callBegun}
-use Rattle.expansion.specs.Expansion.{mostCalls, runCall, mostOpen, start, ended, run}
+use Rattle.expansion.specs.Expansion.{Input, ready, choice, nextToken, tokenTaken, takeToken, misfit, buildAll, build, wordValue, runItem, runItems, callBegun}
+use Rattle.expansion.specs.Expansion.{runCall, start, ended, run}
+use Rattle.expansion.specs.Limits.{mostCalls, mostOpen}
 use Rattle.expansion.specs.Figure3.{Value, Gives, GiveAll, give-none, Taken, Derives, by-end}
 use Rattle.expansion.specs.ValueSorts.{Matches, matches-none}
 use Rattle.expansion.specs.Costs.{rowsOf, rowsOfAll, openIn, callsIn, rowsIn, Affords}
@@ -84,7 +85,7 @@ module _ {g : List Production} (X : Setting g) where
 
   take-halts : (o : ℕ) (M : List Value) {j : Item} (is : List Item) (kind : ℕ) (value : ℕ → ℕ) (s : State) (cells : List ℕ) → Reads j kind
       → s .at ≤ length tokens
-      → Ends Fine (StopsAt o M (j ∷ is) s) (take J kind value s cells)
+      → Ends Fine (StopsAt o M (j ∷ is) s) (takeToken J kind value s cells)
   take-halts o M {j} is kind value s cells w l = go (eqb (nextToken J s .kind) kind) refl
     where
       go : (b : Bool) → eqb (nextToken J s .kind) kind ≡ b

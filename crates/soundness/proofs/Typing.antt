@@ -8,7 +8,8 @@ use Rattle.grammar.specs.Sorts.{Signature, constructors, constructor}
 use Rattle.grammar.specs.Table.{Template, Templates, none, more, Item}
 use Rattle.grammar.specs.Table as Table
 use Rattle.layout.specs.Within.{Each, TemplateWithin, ItemWithin}
-use Rattle.sorts.specs.CheckSorts.{Scope, signatureOf}
+use Rattle.sorts.specs.CheckSorts.{signatureOf}
+use Rattle.sorts.specs.Scopes.{Scope}
 use Rattle.sorts.specs.Judgements.{Has, has-first, has-later, Newest, Fits, fits-equal, fits-binder, Sorted, Fill, fill-none, fill-more, ItemSorted, Body}
 use Rattle.sorts.specs.Judgements.{by-result, by-binding}
 use Rattle.sorts.specs.Judgements as Judgements

@@ -10,9 +10,9 @@ use Rattle.kinds.specs.Kinds.{only}
 use Rattle.grammar.specs.Table.{Templates, none, Item, call}
 use Rattle.scanner.specs.declared.Token.{Token}
 use Rattle.productions.specs.Normal.{Production}
-use Rattle.firsts.specs.First.{nullables, firstSets}
+use Rattle.firsts.specs.FirstSets.{nullables, firstSets}
 use Rattle.firsts.specs.Rules.{Reads}
-use Rattle.expansion.specs.Expansion.{mostCalls, mostOpen}
+use Rattle.expansion.specs.Limits.{mostCalls, mostOpen}
 use Rattle.expansion.specs.Figure3.{Value, Gives, GiveAll, Next, Taken, Derives}
 use Rattle.expansion.specs.Costs.{rowsOf, rowsOfAll, callsIn, rowsIn, Affords}
 

@@ -10,7 +10,7 @@ use lib.Seq.{sets, getD-take, getD-drop}
 use borrow.Author.Tests.{lt-ltb, le-ltb}
 use Rattle.grammar.specs.Sorts.{arity}
 use Rattle.grammar.specs.Table.{Template, Templates, make, none, more}
-use Rattle.grammar.specs.Cells.{columns, withRow}
+use Rattle.terms.specs.Cells.{columns, withRow}
 use Rattle.layout.specs.Prefix.{parsed, templatesOf, nameBy}
 use Rattle.layout.specs.Within.{count}
 use Rattle.expansion.specs.declared.State.{State}

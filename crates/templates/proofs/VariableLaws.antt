@@ -11,7 +11,7 @@ use lib.ListN.{length, getD, take, set, length-append, length-set, List·getD-ap
 use lib.Seq.{sets, getD-at, getD-set-same, getD-set-other}
 use borrow.Author.Tests.{eq-eqb, ne-eqb}
 use Rattle.grammar.proofs.ReaderLaws.{getD-past}
-use Rattle.grammar.specs.Cells.{outsideName}
+use Rattle.terms.specs.Cells.{outsideName}
 use Rattle.layout.specs.Prefix.{nameBy}
 use Rattle.expansion.specs.declared.State.{State}
 use Rattle.expansion.specs.Run.{done}

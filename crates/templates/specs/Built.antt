@@ -5,7 +5,7 @@ use mathlib.Core.Path.{_≡_}
 use mathlib.Core.List.{List}
 use lib.ListN.{length, getD, drop}
 use Rattle.answers.specs.Refusals.{refusal}
-use Rattle.grammar.specs.Cells.{columns}
+use Rattle.terms.specs.Cells.{columns}
 use Rattle.grammar.specs.Table.{Template, Templates, none, more}
 use Rattle.layout.specs.Prefix.{parsed, templatesOf, found, firstOf}
 use Rattle.expansion.specs.declared.State.{State}

@@ -8,7 +8,7 @@ ghost use mathlib.Core.List.{List, [], _∷_, _++_};
 ghost use lib.ListN.{length, getD, take, drop};
 ghost use lib.Seq.{sets};
 ghost use Rattle.grammar.specs.Table.{Template};
-ghost use Rattle.grammar.specs.Cells.{columns, withRow};
+ghost use Rattle.terms.specs.Cells.{columns, withRow};
 ghost use Rattle.layout.specs.Prefix.{nameBy, templatesOf, isTemplates, found};
 ghost use lib.Dec.{eqb};
 ghost use mathlib.Core.Bool.{true};

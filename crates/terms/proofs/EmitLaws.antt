@@ -7,9 +7,9 @@ use borrow.Author.Tests.{le-leb, lt-leb}
 use Rattle.answers.specs.declared.Answer.{Answer}
 use Rattle.answers.specs.declared.Answer.the-variants.{Accepted, Refusing}
 use Rattle.answers.specs.Refusals.{refusal}
-use Rattle.terms.specs.Term.{Name, Term, size}
-use Rattle.terms.specs.Rename.{Walk, loose, reached, walk}
-use Rattle.terms.specs.Emit.{largestTerm, passing, Emitted, fitted, emitted}
+use Rattle.terms.specs.Term.{Name, Term, size, largestTerm}
+use Rattle.terms.specs.Loose.{Walk, loose, reached, walk}
+use Rattle.terms.specs.Emit.{passing, Emitted, fitted, emitted}
 
 -- an answer, and the buffer at exit
 abbrev pub leaves : Answer → List ℕ → Emitted

@@ -9,15 +9,12 @@ use Rattle.answers.specs.declared.Answer.{Answer}
 use Rattle.answers.specs.declared.Answer.the-variants.{Accepted, Refusing}
 use Rattle.answers.specs.Refusals.{refusal}
 use Rattle.answers.specs.Checked.{Checked, ok, bad, _>>=_, need}
-use Rattle.terms.specs.Term.{Name, Term, size}
-use Rattle.terms.specs.Rename.{Walk, loose, reached, walk, rename}
+use Rattle.terms.specs.Term.{Name, Term, size, largestTerm}
+use Rattle.terms.specs.Rename.{rename}
+use Rattle.terms.specs.Loose.{Walk, loose, reached, walk}
 use Rattle.terms.specs.Print.{print}
 
 -- ------------------------------------------------------------------ the tests on a term
-
--- the most constructors of a term
-abbrev pub largestTerm : ℕ
-largestTerm = 16384
 
 -- 22, where so many cells were made
 abbrev pub sizeTest : ℕ → Term Name → Checked (Unit {0})

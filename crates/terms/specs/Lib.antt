@@ -8,3 +8,8 @@ pub mod Rows
 pub mod Emit
 pub mod Names
 pub mod Labelled
+pub mod Cells
+pub mod TextSize
+pub mod Loose
+pub mod Occurrences
+pub mod Scopes

@@ -13,11 +13,12 @@ use Rattle.answers.specs.Refusals.{refusal}
 use Rattle.kinds.specs.Kinds.{wordKind, numberKind, keywordKind, only}
 use Rattle.grammar.specs.Table.{Template, Templates, none, more, Item}
 use Rattle.grammar.specs.Table as Table
-use Rattle.grammar.specs.Cells.{columns, withRow}
+use Rattle.terms.specs.Cells.{columns, withRow}
 use Rattle.expansion.specs.declared.State.{State}
 use Rattle.expansion.specs.Run.{Result, done, halt, Run, after}
-use Rattle.expansion.specs.Expansion.{Input, Choice, unfit, chosen, choice, nextToken, tokenTaken, take, misfit, cellMade, cell, build, buildAll, runItem}
-use Rattle.expansion.specs.Expansion.{runItems, callBegun, mostCalls, runCall, mostOpen, start, ended, run}
+use Rattle.expansion.specs.Expansion.{Input, Choice, unfit, chosen, choice, nextToken, tokenTaken, takeToken, misfit, cellMade, cell, build, buildAll, runItem}
+use Rattle.expansion.specs.Expansion.{runItems, callBegun, runCall, start, ended, run}
+use Rattle.expansion.specs.Limits.{mostCalls, mostOpen}
 use Rattle.expansion.specs.Expansion as Expansion
 use Rattle.vegzump.specs.Meaning.{Left}
 
@@ -75,7 +76,7 @@ module _ (I : Input) where
       go true e = (omega arith, omega (arith, ltb-true (s .made) (I .rows) e), row-left (s .made) cells code xs)
       go false e = (s .made, omega arith, h, left-not (s .made) cells)
 
-  take-leaves : (kind : ℕ) (value : ℕ → ℕ) → Leaving (take I kind value)
+  take-leaves : (kind : ℕ) (value : ℕ → ℕ) → Leaving (takeToken I kind value)
   take-leaves kind value s cells h = go (eqb (nextToken I s .kind) kind)
     where
       go : (b : Bool)

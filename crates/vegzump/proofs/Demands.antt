@@ -11,7 +11,7 @@ use Rattle.answers.specs.declared.Refusal.{Refusal}
 use Rattle.answers.specs.declared.Answer.{Answer}
 use Rattle.answers.specs.declared.Answer.the-variants.{Accepted, Refusing}
 use Rattle.answers.specs.declared.Verdict.the-variants.{Refused}
-use Rattle.grammar.specs.Table.{Template, Item}
+use Rattle.grammar.specs.Table.{Template, Item, lexiconOfTable}
 use Rattle.sorts.specs.Judgements.{Sorted, Body}
 use Rattle.scanner.specs.declared.Token.{Token}
 use Rattle.scanner.specs.Unscanned.{Unscans}
@@ -26,7 +26,7 @@ use Rattle.terms.specs.Term.{Name, Term}
 use Rattle.terms.specs.Rows.{termAt}
 use Rattle.terms.specs.Rename.{rename}
 use Rattle.terms.specs.Print.{print}
-use Rattle.vegzump.specs.Expand.{Expanded, expanded, refused, lexiconOfTable, expand}
+use Rattle.vegzump.specs.Expand.{Expanded, expanded, refused, expand}
 use Rattle.vegzump.specs.Meaning.{spellOf, Means, rowsLent, textLength, Cause, Accepts, Left}
 use Rattle.vegzump.specs.Hygiene.{Demand3}
 use Rattle.vegzump.proofs.Stages.{expand-passed, means-one}

@@ -10,7 +10,7 @@ use Rattle.answers.specs.declared.Answer.the-variants.{Accepted, Refusing}
 use Rattle.answers.specs.declared.Verdict.the-variants.{Refused}
 use Rattle.answers.specs.Refusals.{refusal}
 use Rattle.answers.specs.Checked.{Checked, ok, bad, verdict}
-use Rattle.grammar.specs.Table.{Table}
+use Rattle.grammar.specs.Table.{Table, lexiconOfTable}
 use Rattle.scanner.specs.Unscanned.{Unscans}
 use Rattle.scanner.specs.Scan.{Lexed}
 use Rattle.scanner.specs.declared.Token.{Token}
@@ -19,13 +19,12 @@ use Rattle.checker.specs.Passes.{Passes}
 use Rattle.checker.proofs.TableTheorems.{check-exactly}
 use Rattle.expansion.specs.Run.{Result}
 use Rattle.soundness.specs.Passing.{Passing}
-use Rattle.terms.specs.Term.{Name, Term, size}
+use Rattle.terms.specs.Term.{Name, Term, size, largestTerm}
 use Rattle.terms.specs.Rows.{termAt}
 use Rattle.terms.specs.Rename.{rename}
 use Rattle.terms.specs.Print.{print}
-use Rattle.terms.specs.Emit.{largestTerm}
-use Rattle.terms.specs.Binding.{occurrences, loosePlaces}
-use Rattle.vegzump.specs.Expand.{Expanded, refused, lexiconOfTable, inputOf, expandTable, checkedFirst, expand}
+use Rattle.terms.specs.Occurrences.{occurrences, loosePlaces}
+use Rattle.vegzump.specs.Expand.{Expanded, refused, inputOf, expandTable, checkedFirst, expand}
 use Rattle.vegzump.specs.Meaning.{Scans, spellOf, Means, rowsLent, MeansWithin, cellsOf, Cause, unscanned, stopped, Accepts, Left}
 use Rattle.vegzump.specs.Meaning as Meaning
 use Rattle.vegzump.proofs.Owners.{occurs, Says, loose-says, none-places, first-places}

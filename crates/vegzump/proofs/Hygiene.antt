@@ -7,8 +7,7 @@ use lib.ListN.{length, getD}
 use Rattle.answers.specs.declared.Refusal.{Refusal}
 use Rattle.answers.specs.declared.Answer.{Answer}
 use Rattle.answers.specs.Refusals.{refusal}
-use Rattle.grammar.specs.Table.{Item, Table}
-use Rattle.grammar.specs.Fields.{Lexicon}
+use Rattle.grammar.specs.Table.{Item, Table, Lexicon}
 use Rattle.scanner.specs.declared.Token.{Token}
 use Rattle.scanner.specs.Unscanned.{Unscans, too-long, a-fault, too-many}
 use Rattle.productions.specs.Normal.{Production}
@@ -22,7 +21,7 @@ use Rattle.soundness.proofs.Placing.{parses-placed}
 use Rattle.terms.specs.Term.{Name, Term, size}
 use Rattle.terms.specs.Rename.{rename}
 use Rattle.terms.specs.Print.{print}
-use Rattle.terms.specs.Binding.{occurrences, loosePlaces}
+use Rattle.terms.specs.Occurrences.{occurrences, loosePlaces}
 use Rattle.terms.proofs.Statements as terms
 use Rattle.vegzump.specs.Expand.{Expanded, expanded, expandTable, expand}
 use Rattle.vegzump.specs.Meaning.{Means, cellsOf}

@@ -14,8 +14,9 @@ use Rattle.answers.specs.declared.Verdict.the-variants.{Passed, Refused}
 use Rattle.spellings.specs.Bytes.{isWord}
 use Rattle.answers.specs.Checked.{ok}
 use Rattle.kinds.specs.Kinds.{wordKind}
-use Rattle.grammar.specs.Fields.{Lexicon, lexiconOf}
-use Rattle.grammar.specs.Cells.{columns}
+use Rattle.grammar.specs.Table.{Lexicon, lexiconOfTable}
+use Rattle.grammar.specs.Lookup.{lexiconOf}
+use Rattle.terms.specs.Cells.{columns}
 use Rattle.layout.specs.Within.{Each}
 use Rattle.layout.proofs.Split.{Bytes}
 use Rattle.scanner.specs.declared.Token.{Token}
@@ -23,7 +24,7 @@ use Rattle.scanner.specs.declared.Scanned.{Scanned}
 use Rattle.scanner.specs.declared.Scanned.the-variants.{Tokens, Unscanned}
 use Rattle.scanner.specs.Scan.{Lexed, scan}
 use Rattle.scanner.specs.Rooms.{Filled, filled, scanInto, tokensIn, TokensFit, wordsIn, RoomFor}
-use Rattle.scanner.specs.Tiling.{spelled}
+use Rattle.scanner.specs.Tokens.{spelled}
 use Rattle.scanner.proofs.AfterScan.{Holds, scan-holds, scan-refused}
 use Rattle.productions.specs.Normal.{Production}
 use Rattle.firsts.specs.Room.{productionsIn}
@@ -42,7 +43,8 @@ use Rattle.emitter.specs.Emittable.{Emittable}
 use Rattle.expansion.specs.declared.State.{State}
 use Rattle.expansion.specs.declared.Outcome.{Outcome}
 use Rattle.expansion.specs.declared.Outcome.the-variants.{Value, Halted}
-use Rattle.expansion.specs.Run.{Result, done, halt, ran}
+use Rattle.expansion.specs.Run.{Result, done, halt}
+use Rattle.expansion.specs.Outcomes.{ran}
 use Rattle.expansion.specs.Expansion.{run}
 use Rattle.expansion.specs.Parsing.{input}
 use Rattle.expansion.specs.Figure3 as Figure3
@@ -50,7 +52,7 @@ use Rattle.expander.specs.Lent.{Held, lentInput}
 use Rattle.templates.specs.Built.{rowsIn}
 use Rattle.soundness.specs.Passing.{Passing, Lexemes}
 use Rattle.soundness.proofs.ExpansionTheorems as expansion
-use Rattle.vegzump.specs.Expand.{Expanded, expanded, refused, withCells, inputOf, finished, lexiconOfTable, expand}
+use Rattle.vegzump.specs.Expand.{Expanded, expanded, refused, withCells, inputOf, finished, expand}
 use Rattle.vegzump.specs.Meaning as Meaning
 use Rattle.vegzump.specs.declared.parse.Parsed.{Parsed}
 use Rattle.vegzump.specs.Parse.{parse, HoldsPassed, WordsKnown, RowsLie, Parses}

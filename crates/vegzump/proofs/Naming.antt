@@ -6,14 +6,14 @@ use mathlib.Core.List.{List, [], _∷_}
 use native.Mathlib.Omega.{arith}
 use lib.ListN.{length, getD, take, drop}
 use Rattle.spellings.specs.Bytes.{isWord}
-use Rattle.grammar.specs.Table.{Table}
-use Rattle.grammar.specs.Fields.{Lexicon, lexiconOf}
+use Rattle.grammar.specs.Table.{Table, Lexicon, lexiconOfTable}
+use Rattle.grammar.specs.Lookup.{lexiconOf}
 use Rattle.layout.specs.Within.{Each, each-none, each-more, Different, different-none, different-more}
 use Rattle.layout.proofs.LayoutTheorems.{decode-exactly}
 use Rattle.layout.proofs.DecodedLexicon.{lexicon-decoded}
 use Rattle.scanner.specs.Scan.{scan}
 use Rattle.scanner.specs.Rooms.{wordsFrom, wordsIn}
-use Rattle.scanner.specs.Tiling.{spelled}
+use Rattle.scanner.specs.Tokens.{spelled}
 use Rattle.scanner.specs.declared.Scanned.the-variants.{Tokens}
 use Rattle.scanner.proofs.WordsOfScan.{scan-plain}
 use Rattle.scanner.proofs.ScannerTheorems.{tokens-counted}
@@ -28,7 +28,6 @@ use Rattle.soundness.specs.Places.{Among, Given, word-at, outside-name, VarPlac
 use Rattle.soundness.proofs.Placing.{Supplied, supplied-word, supplied-outside}
 use Rattle.soundness.proofs.Placing as placing
 use Rattle.checker.specs.Passes.{Passes}
-use Rattle.vegzump.specs.Expand.{lexiconOfTable}
 
 -- ------------------------------------------------------------------ lists
 

@@ -9,8 +9,8 @@ use Rattle.spellings.proofs.BytesLaws.{by-test}
 use Rattle.layout.specs.Within.{Each, each-none, each-more}
 use Rattle.terms.specs.Term.{Name, word, fresh, outside, Term, Fields, variable, function, apply, rcd, dot, number, nil, cons, size}
 use Rattle.terms.specs.Rename.{belongs}
-use Rattle.terms.specs.Binding.{Owner, unbound, boundAt, Calls, sameSpelling, sameFresh, Binder, ownerOf, Occurrence, occurrences, occurrencesFields, isLoose}
-use Rattle.terms.specs.Binding.{loosePlaces}
+use Rattle.terms.specs.Binding.{Owner, unbound, boundAt, Calls, sameSpelling, sameFresh, Binder, Occurrence}
+use Rattle.terms.specs.Occurrences.{ownerOf, occurrences, occurrencesFields, isLoose, loosePlaces}
 use Rattle.terms.proofs.Statements.{origin-calls}
 use Rattle.vegzump.specs.Origins.{Innermost, this-one, further-out, nowhere, at, Occurs, in-variable, in-function, in-apply, in-rcd, in-dot, in-number}
 use Rattle.vegzump.specs.Origins.{OccursFields, in-nil, in-cons, Loose, a-loose, FirstLoose, this-first, later, NoneLoose, Owned, formula-bound}

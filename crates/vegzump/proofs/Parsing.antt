@@ -6,16 +6,16 @@ use native.Mathlib.Omega.{arith}
 use Rattle.answers.specs.declared.Refusal.{Refusal}
 use Rattle.answers.specs.declared.Verdict.the-variants.{Refused}
 use Rattle.answers.specs.Checked.{Checked, ok, bad, verdict}
-use Rattle.grammar.specs.Table.{Table}
+use Rattle.grammar.specs.Table.{Table, lexiconOfTable}
 use Rattle.scanner.specs.declared.Scanned.{Scanned}
 use Rattle.scanner.specs.declared.Scanned.the-variants.{Tokens, Unscanned}
 use Rattle.scanner.specs.Scan.{Lexed, scan}
-use Rattle.scanner.specs.Tiling.{spelled}
+use Rattle.scanner.specs.Tokens.{spelled}
 use Rattle.checker.specs.Check.{passedTable, check}
 use Rattle.expansion.specs.declared.State.{State}
 use Rattle.expansion.specs.Run.{Result, done, halt}
 use Rattle.expansion.specs.Expansion.{run}
-use Rattle.vegzump.specs.Expand.{Expanded, refused, inputOf, finished, scanned, lexiconOfTable, expandTable, checkedFirst, expand}
+use Rattle.vegzump.specs.Expand.{Expanded, refused, inputOf, finished, scanned, expandTable, checkedFirst, expand}
 use Rattle.vegzump.specs.Parse.{parseScanned, parseChecked, parse}
 
 -- ------------------------------------------------------------------ what the parse gives

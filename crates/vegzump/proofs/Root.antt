@@ -6,7 +6,8 @@ use native.Mathlib.Omega.{arith}
 use lib.ListN.{length, getD, length-append}
 use lib.Seq.{getD-at}
 use Rattle.grammar.specs.Table.{Table, Item, Alternative, Definition}
-use Rattle.grammar.specs.Encode.{Field, field, fieldBytes, spellingsThen, itemsThen, alternativesThen, definitionsThen, blocksThen, tableFields, encode}
+use Rattle.grammar.specs.Encode.{fieldBytes, spellingsThen, itemsThen, alternativesThen, definitionsThen, blocksThen, tableFields, encode}
+use Rattle.grammar.specs.Values.{Field, field}
 
 -- the bytes of some fields end with x
 pub record Ends (x : ℕ) (fs : List Field) : Type 0 where

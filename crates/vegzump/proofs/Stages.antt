@@ -13,9 +13,8 @@ use Rattle.answers.specs.Refusals.{refusal}
 use Rattle.answers.specs.Checked.{Checked, ok, bad, _>>=_, _>>_}
 use Rattle.spellings.specs.Bytes.{isWord}
 use Rattle.kinds.specs.Kinds.{wordKind}
-use Rattle.grammar.specs.Table.{Table}
-use Rattle.grammar.specs.Fields.{Lexicon}
-use Rattle.grammar.specs.Cells.{columns}
+use Rattle.grammar.specs.Table.{Table, Lexicon, lexiconOfTable}
+use Rattle.terms.specs.Cells.{columns, mostCells}
 use Rattle.layout.specs.Within.{Each, each-none, each-more}
 use Rattle.layout.proofs.LayoutTheorems.{decode-exactly}
 use Rattle.sorts.specs.CheckSorts.{checkSorts}
@@ -26,7 +25,7 @@ use Rattle.scanner.specs.declared.Token.{Token}
 use Rattle.scanner.specs.declared.Scanned.{Scanned}
 use Rattle.scanner.specs.declared.Scanned.the-variants.{Tokens, Unscanned}
 use Rattle.scanner.specs.Scan.{Lexed, scan}
-use Rattle.scanner.specs.Tiling.{bytesOf, spelled}
+use Rattle.scanner.specs.Tokens.{bytesOf, spelled}
 use Rattle.scanner.specs.Unscanned.{Unscans}
 use Rattle.scanner.proofs.SpellingLaws.{Spelled, Every, scan-spelled, spelled-number}
 use Rattle.scanner.proofs.ScannerTheorems as scanner
@@ -41,15 +40,16 @@ use Rattle.soundness.specs.Stopping.{Refuses}
 use Rattle.soundness.specs.Places.{Among, among-first, among-later}
 use Rattle.soundness.specs.Passing.{Passing, Lexemes}
 use Rattle.soundness.proofs.ExpansionTheorems as expansion
-use Rattle.terms.specs.Term.{Name, Term, size}
+use Rattle.terms.specs.Term.{Name, Term, size, largestTerm}
 use Rattle.terms.specs.Rows.{termAt}
-use Rattle.terms.specs.Rename.{Walk, loose, reached, walk, rename}
+use Rattle.terms.specs.Rename.{rename}
+use Rattle.terms.specs.Loose.{Walk, loose, reached, walk}
 use Rattle.terms.specs.Print.{print}
-use Rattle.terms.specs.Emit.{largestTerm, textOf, fitted, emitted}
+use Rattle.terms.specs.Emit.{textOf, fitted, emitted}
 use Rattle.terms.proofs.EmitLaws.{fitted-long, fitted-whole, emitted-large, emitted-loose, emitted-fitted}
-use Rattle.terms.specs.Binding.{occurrences, loosePlaces, stopsAtFirst, isWorded}
+use Rattle.terms.specs.Occurrences.{occurrences, loosePlaces, stopsAtFirst, isWorded}
 use Rattle.terms.proofs.Statements as terms
-use Rattle.vegzump.specs.Expand.{Expanded, refused, withCells, mostCells, inputOf, finished, scanned, lexiconOfTable, expandTable, checkedFirst, expand}
+use Rattle.vegzump.specs.Expand.{Expanded, refused, withCells, inputOf, finished, scanned, expandTable, checkedFirst, expand}
 use Rattle.vegzump.specs.Meaning.{Scans, spellOf, Means, rowsLent, MeansWithin, cellsOf}
 
 -- ------------------------------------------------------------------ the table

@@ -7,17 +7,15 @@ use Rattle.answers.specs.declared.Refusal.{Refusal}
 use Rattle.answers.specs.declared.Answer.{Answer}
 use Rattle.answers.specs.declared.Answer.the-variants.{Refusing}
 use Rattle.answers.specs.Checked.{Checked, ok, bad}
-use Rattle.grammar.specs.Table.{Table}
-use Rattle.grammar.specs.Fields.{Lexicon}
-use Rattle.grammar.specs.Cells.{columns}
+use Rattle.grammar.specs.Table.{Table, lexiconOfTable}
+use Rattle.terms.specs.Cells.{columns, mostCells}
 use Rattle.scanner.specs.declared.Token.{Token}
 use Rattle.scanner.specs.declared.Scanned.{Scanned}
 use Rattle.scanner.specs.declared.Scanned.the-variants.{Tokens, Unscanned}
 use Rattle.scanner.specs.Scan.{Lexed, scan}
-use Rattle.scanner.specs.Tiling.{spelled}
+use Rattle.scanner.specs.Tokens.{spelled}
 use Rattle.productions.specs.Normal.{normalized}
 use Rattle.checker.specs.Check.{passedTable}
-use Rattle.expansion.specs.declared.State.{State}
 use Rattle.expansion.specs.Run.{Result, done, halt}
 use Rattle.expansion.specs.Expansion.{Input, ready, run}
 use Rattle.terms.specs.Rows.{termAt}
@@ -43,10 +41,6 @@ withCells cells e = record { answer = e .answer; cells = cells; text = e .text }
 
 -- ------------------------------------------------------------------ from a passed table
 
--- the most cells that an expansion makes
-abbrev pub mostCells : ℕ
-mostCells = 16384
-
 abbrev pub inputOf : Table → List Token → List ℕ → Input
 inputOf t tokens cells =
     record
@@ -57,9 +51,6 @@ abbrev pub finished : (ℕ → List ℕ) → List ℕ → Result ℕ → Expande
 finished spelling text (halt r cells) = refused r cells text
 finished spelling text (done v s cells) =
     withCells cells (emitted textOf (s .made) (termAt (s .made) spelling cells v) text)
-
-abbrev pub lexiconOfTable : Table → Lexicon
-lexiconOfTable t = record { keywords = t .keywords; outsides = t .outsides }
 
 abbrev pub scanned : Table → Lexed → Scanned → List ℕ → List ℕ → Expanded
 scanned t l (Unscanned r) cells text = refused r cells text

@@ -6,22 +6,20 @@ use mathlib.Core.List.{List, [], _∷_}
 use lib.ListN.{length, getD}
 use Rattle.answers.specs.declared.Refusal.{Refusal}
 use Rattle.answers.specs.Refusals.{refusal}
-use Rattle.grammar.specs.Table.{Table}
-use Rattle.grammar.specs.Cells.{columns}
+use Rattle.grammar.specs.Table.{Table, lexiconOfTable}
+use Rattle.terms.specs.Cells.{columns, mostCells}
 use Rattle.scanner.specs.declared.Token.{Token}
-use Rattle.scanner.specs.Scan.{mostTokens, longestFormula}
-use Rattle.scanner.specs.Tiling.{Tiled, spelled}
+use Rattle.scanner.specs.Tokens.{mostTokens, longestFormula, spelled}
+use Rattle.scanner.specs.Tiling.{Tiled}
 use Rattle.scanner.specs.Unscanned.{Unscans}
 use Rattle.checker.specs.Passes.{grammarOf}
 use Rattle.expansion.specs.Figure3.{Parses}
 use Rattle.expansion.specs.Costs.{rowsIn, Affords}
 use Rattle.soundness.specs.Stopping.{Refuses}
-use Rattle.terms.specs.Term.{Name, Term, size}
+use Rattle.terms.specs.Term.{Name, Term, size, largestTerm}
 use Rattle.terms.specs.Rename.{rename}
 use Rattle.terms.specs.Print.{print}
-use Rattle.terms.specs.Emit.{largestTerm}
 use Rattle.terms.specs.Binding.{Occurrence}
-use Rattle.vegzump.specs.Expand.{lexiconOfTable, mostCells}
 use Rattle.vegzump.specs.Origins.{Occurs, FirstLoose, NoneLoose}
 
 -- ------------------------------------------------------------------ the term of demand 2

@@ -5,7 +5,7 @@ use mathlib.Core.Path.{_≡_}
 use mathlib.Core.List.{List}
 use lib.ListN.{length}
 use Rattle.answers.specs.Checked.{Checked, ok, bad}
-use Rattle.grammar.specs.Table.{Table}
+use Rattle.grammar.specs.Table.{Table, lexiconOfTable}
 use Rattle.scanner.specs.declared.Scanned.{Scanned}
 use Rattle.scanner.specs.declared.Scanned.the-variants.{Tokens, Unscanned}
 use Rattle.scanner.specs.Scan.{Lexed, scan}
@@ -14,11 +14,12 @@ use Rattle.checker.specs.Check.{passedTable}
 use Rattle.checker.specs.Passes.{Passes}
 use Rattle.expansion.specs.declared.State.{State}
 use Rattle.expansion.specs.declared.Outcome.the-variants.{Value}
-use Rattle.expansion.specs.Run.{Result, done, halt, ran}
+use Rattle.expansion.specs.Run.{Result, done, halt}
+use Rattle.expansion.specs.Outcomes.{ran}
 use Rattle.expansion.specs.Expansion.{run}
 use Rattle.expander.specs.Lent.{Held}
 use Rattle.vegzump.specs.declared.parse.Parsed.{Parsed}
-use Rattle.vegzump.specs.Expand.{inputOf, lexiconOfTable}
+use Rattle.vegzump.specs.Expand.{inputOf}
 
 abbrev pub parseScanned : Table → Lexed → Scanned → List ℕ → Result ℕ
 parseScanned t l (Unscanned r) cells = halt r cells

@@ -7,7 +7,7 @@ use scanner::Scanned;
 ghost use Prim.Native.Nat.{_-_};
 ghost use mathlib.Core.Path.{_≡_};
 ghost use lib.ListN.{length, getD};
-ghost use Rattle.expansion.specs.Run.{ran};
+ghost use Rattle.expansion.specs.Outcomes.{ran};
 ghost use Rattle.expansion.specs.Expansion.{run};
 ghost use Rattle.expander.specs.Lent.{lentInput};
 ghost use Rattle.templates.specs.Built.{rowsIn};

@@ -9,7 +9,7 @@ use lib.ListN.{getD}
 use borrow.Author.Tests.{eqb-true, eqb-false}
 use Rattle.spellings.specs.Bytes.{bytes, decimal, digitsThen}
 use Rattle.spellings.proofs.BytesLaws.{by-test}
-use Rattle.grammar.specs.Cells.{column}
+use Rattle.terms.specs.Cells.{column}
 use Rattle.terms.specs.Term.{Name}
 use Rattle.terms.specs.Rows.{nameOf, termAt, fieldsAt}
 use Rattle.terms.specs.Rename.{newName, written}

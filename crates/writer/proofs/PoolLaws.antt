@@ -13,8 +13,8 @@ use borrow.Author.Tests.{eq-eqb, ne-eqb, eqb-true, eqb-false, lt-ltb, le-ltb, lt
 use Rattle.spellings.proofs.BytesLaws.{by-test}
 use Rattle.grammar.specs.declared.Front.{Front}
 use Rattle.grammar.specs.declared.Front.the-variants.{Nothing, Short, Field}
-use Rattle.grammar.specs.Fields.{Fields, next, leading, afterLeading, lexiconOf}
-use Rattle.grammar.specs.Lookup.{frontOf, fieldsAt}
+use Rattle.grammar.specs.Fields.{Fields, next}
+use Rattle.grammar.specs.Lookup.{leading, afterLeading, lexiconOf, frontOf, fieldsAt}
 use Rattle.grammar.proofs.LookupLaws.{opened, fields-at, Stops, outsides-at, few-outsides, front-inside}
 use Rattle.grammar.proofs.ReaderLaws.{getD-past}
 use Rattle.writer.specs.Openings.{spellIn, Wrote}

@@ -9,13 +9,11 @@ use lib.ListN.{length, getD}
 use borrow.Author.Tests.{lt-ltb, le-ltb, ltb-true, ltb-false, leb-true}
 use Rattle.spellings.specs.Bytes.{isWord, isLetter, isWordByte, every}
 use Rattle.spellings.proofs.BytesLaws.{by-test}
-use Rattle.grammar.specs.Fields.{lexiconOf}
+use Rattle.grammar.specs.Lookup.{lexiconOf}
 use Rattle.grammar.proofs.ReaderLaws.{getD-past}
-use Rattle.terms.specs.Rows.{termAt}
+use Rattle.terms.specs.Rows.{termAt, spell}
 use Rattle.terms.specs.Names.{Distinct, WellNamed}
-use Rattle.terms.specs.Rows.{spell}
-use Rattle.writer.specs.Pool.{oneOf, spanned, Words, filledTo}
-use Rattle.writer.specs.Pool.{spelledBy}
+use Rattle.writer.specs.Pool.{oneOf, spanned, Words, filledTo, spelledBy}
 use Rattle.writer.proofs.PoolLaws.{filled-end}
 
 -- the empty spelling is no word

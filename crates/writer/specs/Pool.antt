@@ -6,7 +6,7 @@ use mathlib.Core.Bool.{true, false}
 use mathlib.Core.List.{List, []}
 use lib.Dec.{ltb}
 use lib.ListN.{length, getD, take, drop}
-use Rattle.grammar.specs.Fields.{lexiconOf}
+use Rattle.grammar.specs.Lookup.{lexiconOf}
 use Rattle.writer.specs.Openings.{spellIn}
 
 -- the word whose offset and length are the i-th two numbers of a room

@@ -8,7 +8,7 @@ ghost use mathlib.Core.Path.{_≡_};
 ghost use mathlib.Core.List.{_∷_};
 ghost use lib.ListN.{length};
 ghost use lib.Seq.{sets};
-ghost use Rattle.grammar.specs.Fields.{lexiconOf};
+ghost use Rattle.grammar.specs.Lookup.{lexiconOf};
 ghost use Rattle.writer.specs.Openings.{spellIn};
 ghost use Rattle.writer.specs.Pool.{Pooled, noneOf, oneOf, spanned, filledTo};
 

@@ -1,7 +1,7 @@
 -- `own_word`: where the search among the words met ended.
 use mathlib.Core.Path.{sym, ap, _∙_}
 use native.Mathlib.Omega.{arith}
-use Rattle.scanner.specs.Trees.{hashOf}
+use Rattle.lexicon.specs.Trees.{hashOf}
 use Rattle.scanner.proofs.MadeLaws as laws
 use borrow.Author.Needs.{needs}
 use Rattle.scanner.proofs.own_word.Statement.{statement}

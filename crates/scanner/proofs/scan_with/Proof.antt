@@ -1,5 +1,5 @@
 -- `scan_with`: the lexicon is entered into rooms that hold nothing.
-use Rattle.scanner.proofs.ScanningLaws as laws
+use Rattle.lexicon.proofs.LexiconLaws.{blank}
 use borrow.Author.Needs.{needs}
 use Rattle.scanner.proofs.scan_with.Statement.{statement}
 use Rattle.scanner.proofs.scan_with.Tie as tie
@@ -13,7 +13,7 @@ slice-aggregate-enter-table-2 c = search needs
 enter-table-requires : tie.Need-enter-table-requires
 enter-table-requires c κs =
     let start = c .before .before .before .before .before .before .before in
-    (laws.blank, start .pre .0 .short)
+    (blank, start .pre .0 .short)
 
 slice-aggregate-scan-loop : tie.Need-slice-aggregate-scan-loop
 slice-aggregate-scan-loop c = search needs

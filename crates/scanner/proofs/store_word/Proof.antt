@@ -1,7 +1,7 @@
 -- `store_word`: a word that is new has a link free for it.
 use native.Mathlib.Omega.{arith}
 use lib.ListN.{length-set}
-use Rattle.scanner.proofs.TreeLaws.{free-inside}
+use Rattle.lexicon.proofs.TreeLaws.{free-inside}
 use Rattle.scanner.proofs.MadeLaws as laws
 use borrow.Author.Needs.{needs}
 use Rattle.scanner.proofs.store_word.Statement.{statement}

@@ -2,7 +2,7 @@
 use mathlib.Core.Path.{ap, _∙_}
 use native.Mathlib.Omega.{arith}
 use Rattle.grammar.proofs.LookupLaws.{few-outsides}
-use Rattle.scanner.specs.Trees.{hashOf}
+use Rattle.lexicon.specs.Trees.{hashOf}
 use Rattle.scanner.proofs.MadeLaws as laws
 use borrow.Author.Needs.{needs}
 use Rattle.scanner.proofs.word_step.Statement.{statement}

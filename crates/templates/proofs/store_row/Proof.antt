@@ -2,7 +2,7 @@
 use Prim.Native.Nat.{_*_}
 use native.Mathlib.Omega.{arith}
 use lib.ListN.{length-set}
-use Rattle.grammar.specs.Cells.{columns}
+use Rattle.terms.specs.Cells.{columns}
 use borrow.Author.Needs.{needs}
 use Rattle.templates.proofs.VariableLaws as laws
 use Rattle.templates.proofs.store_row.Statement.{statement}

@@ -9,8 +9,9 @@ use Rattle.expansion.specs.Run.{Result}
 use Rattle.expansion.specs.Expansion.{Input}
 use Rattle.templates.specs.Built.{rowsIn}
 use Rattle.expander.specs.Lent.{lentInput}
-use Rattle.expander.specs.Frames.{longFrames, Fits, Standing, Goes}
-use Rattle.expander.proofs.FrameLaws.{standing-same}
+use Rattle.frames.specs.Frames.{longFrames, Fits, Standing}
+use Rattle.expander.specs.Calls.{Goes}
+use Rattle.frames.proofs.FrameLaws.{standing-same}
 use Rattle.expander.proofs.CallLaws as laws
 use Rattle.expander.proofs.calls.deep_items.Statement.{statement}
 use Rattle.expander.proofs.calls.deep_items.Tie as tie

@@ -10,8 +10,8 @@ use Rattle.expansion.specs.Run.{Result}
 use Rattle.expansion.specs.Expansion.{Input}
 use Rattle.templates.specs.Built.{rowsFor, rowsIn}
 use Rattle.expander.specs.Lent.{lentInput}
-use Rattle.expander.specs.Frames.{shortFrames, Fits, Standing, Goes}
-use Rattle.expander.specs.Calls.{rootItems}
+use Rattle.frames.specs.Frames.{shortFrames, Fits, Standing}
+use Rattle.expander.specs.Calls.{rootItems, Goes}
 use Rattle.expander.specs.declared.calls.Progress.the-variants.{Paused}
 use Rattle.expander.proofs.CallLaws as laws
 use Rattle.expander.proofs.calls.root_items.Statement.{statement}

@@ -5,12 +5,13 @@ use mathlib.Core.List.{[]}
 use borrow.Author.Needs.{needs}
 use Rattle.expander.specs.declared.calls.Begun.{Begun}
 use Rattle.expansion.specs.Run.{Result, after}
-use Rattle.expansion.specs.Expansion.{Input, runCall, mostOpen, start, ended, run}
+use Rattle.expansion.specs.Expansion.{Input, runCall, start, ended, run}
+use Rattle.expansion.specs.Limits.{mostOpen}
 use Rattle.templates.specs.Built.{rowsIn}
 use Rattle.expander.specs.Lent.{lentInput}
 use Rattle.expander.specs.Calls.{Begins, Entry}
 use Rattle.expander.specs.declared.calls.Begun.the-variants.{Entered}
-use Rattle.expander.proofs.TokenLaws.{token-count}
+use Rattle.steps.proofs.TokenLaws.{token-count}
 use Rattle.expander.proofs.CallLaws as laws
 use Rattle.expander.proofs.calls.run.Statement.{statement}
 use Rattle.expander.proofs.calls.run.Tie as tie

@@ -1,7 +1,7 @@
 -- `check_call`: 9 before 11, then the signature's result.
 use borrow.Author.Needs.{needs}
-use Prim.Native.Nat.{ℕ, _≤_}
-use mathlib.Core.Path.{_≡_, ap, ap₂, _∙_}
+use Prim.Native.Nat.{_≤_}
+use mathlib.Core.Path.{_≡_, ap, _∙_}
 use lib.ListN.{length, drop}
 use Rattle.sorts.specs.TemplateBytes.{templatesFault}
 use Rattle.sorts.specs.ByBytes.{context}
@@ -44,9 +44,7 @@ fault :
     (drop 1 (signed p .signature-at .result .now))
 fault p =
     let a = start (signed p) .args in
-    p .fault-in .ensures
-    ∙ ap₂ (λ l ps. templatesFault (a .known .outsides) l (a .arguments .now) ps) (lent p .part .ensures)
-    (opened (lent p) .open-params .ensures .loaded)
+    cc (p .fault-in .ensures, opened (lent p) .open-params .ensures .loaded)
 
 head-of-requires : tie.Need-head-of-requires
 head-of-requires c κs = search needs

@@ -1,10 +1,8 @@
 -- `check_result`: one place, of the sort that the signature gives.
 use borrow.Author.Needs.{needs}
-use Prim.Native.Nat.{ℕ}
-use mathlib.Core.Path.{_≡_, ap, _∙_}
 use mathlib.Core.List.{[]}
-use lib.ListN.{length-set, set, take}
-use Rattle.sorts.specs.TemplateBytes.{templatesFault, places}
+use mathlib.Core.Path.{_∙_}
+use lib.ListN.{length-set}
 use Rattle.sorts.proofs.BodyLaws as laws
 use native.Mathlib.Omega.{arith}
 use Rattle.sorts.proofs.bodies.check_result.Statement.{statement}
@@ -37,9 +35,7 @@ returns c =
     let a = start p .args in
     laws.result-is (a .table .now) (a .known) [] (a .sorts .now) (a .v .now) (a .stack .now) (p .before .signature-at .ensures) (p .byte .ensures)
     (omega (arith, start p .pre))
-    (c .before .before .fault-in .ensures
-    ∙ ap (λ l. templatesFault (a .known .outsides) l (a .v .now) (places (set (a .stack .now) 0 (p .byte .result)) 1))
-    (c .before .before .before .before .part .ensures))
+    (cc (c .before .before .fault-in .ensures, c .before .before .before .before .part .ensures))
 
 pub check-result-spec : {M : Type 1} → statement M
 check-result-spec =

@@ -7,7 +7,7 @@ use Rattle.layout.proofs.Split.{Bytes}
 use Rattle.scanner.specs.declared.Scanned.the-variants.{Tokens}
 use Rattle.scanner.specs.Rooms.{RoomFor}
 use Rattle.scanner.proofs.AfterScan.{Holds}
-use Rattle.vegzump.specs.Expand.{lexiconOfTable}
+use Rattle.grammar.specs.Table.{lexiconOfTable}
 use Rattle.vegzump.proofs.Joining as joining
 use borrow.Author.Needs.{needs}
 use Rattle.vegzump.proofs.parse.parse_checked.Statement.{statement}

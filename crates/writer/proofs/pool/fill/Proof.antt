@@ -4,7 +4,7 @@ use mathlib.Core.Path.{_≡_, refl, sym, ap, _∙_}
 use native.Mathlib.Omega.{arith}
 use borrow.Author.Needs.{needs}
 use lib.ListN.{length}
-use Rattle.grammar.specs.Fields.{lexiconOf}
+use Rattle.grammar.specs.Lookup.{lexiconOf}
 use Rattle.writer.proofs.PoolLaws as laws
 use Rattle.writer.proofs.pool.fill.Statement.{statement}
 use Rattle.writer.proofs.pool.fill.Tie as tie

@@ -5,8 +5,7 @@ use native.Mathlib.Omega.{arith}
 use borrow.Author.Needs.{needs}
 use lib.ListN.{length}
 use Rattle.grammar.specs.declared.Front.the-variants.{Nothing, Short, Field}
-use Rattle.grammar.specs.Fields.{afterLeading}
-use Rattle.grammar.specs.Lookup.{fieldsAt}
+use Rattle.grammar.specs.Lookup.{afterLeading, fieldsAt}
 use Rattle.grammar.proofs.LookupLaws.{front-inside}
 use Rattle.writer.proofs.PoolLaws as laws
 use Rattle.writer.proofs.pool.fill_outsides.Statement.{statement}

@@ -1,0 +1,55 @@
+-- `same_cells` is safe and ends: it reads every cell.
+use Prim.Native.Nat.{_≤_, _-_}
+use native.Mathlib.Omega.{arith}
+use borrow.Author.Needs.{needs}
+use Rattle.cases.proofs.rooms.same_cells.Statement.{statement}
+use Rattle.cases.proofs.rooms.same_cells.Tie as tie
+
+abbrev Inv-loop : tie.InvT-loop
+Inv-loop cells rows i₀ i = i ≤ 80000
+
+abbrev μ-loop : tie.MeasureT-loop
+μ-loop cells rows i₀ i = 80000 - i
+
+loop-holds : tie.Need-loop-holds Inv-loop μ-loop
+loop-holds c = omega arith
+
+mul-if1 : tie.Need-mul-if1 Inv-loop μ-loop
+mul-if1 c = omega arith
+
+element-copy-out-if1 : tie.Need-element-copy-out-if1 Inv-loop μ-loop
+element-copy-out-if1 c = omega arith
+
+expected-cell-requires : tie.Need-expected-cell-requires Inv-loop μ-loop
+expected-cell-requires c κs = search needs
+
+returns : tie.Need-returns Inv-loop μ-loop
+returns c = search needs
+
+add-i : tie.Need-add-i Inv-loop μ-loop
+add-i c = omega arith
+
+loop-less : tie.Need-loop-less Inv-loop μ-loop
+loop-less c = omega arith
+
+loop-again : tie.Need-loop-again Inv-loop μ-loop
+loop-again c = omega arith
+
+returns-2 : tie.Need-returns-2 Inv-loop μ-loop
+returns-2 c = search needs
+
+pub same-cells-spec : {M : Type 1} → statement M
+same-cells-spec =
+    tie.close
+    (tie.spec
+    Inv-loop
+    μ-loop
+    loop-holds
+    mul-if1
+    element-copy-out-if1
+    expected-cell-requires
+    returns
+    add-i
+    loop-less
+    loop-again
+    returns-2)

@@ -1,0 +1,91 @@
+-- `opened`: no place of the nonterminal before j is taken.
+use Prim.Native.Nat.{ℕ, _-_, _<_}
+use mathlib.Core.Path.{_≡_, sym, _∙_}
+use mathlib.Core.Bool.{true, false}
+use mathlib.Core.List.{List}
+use native.Mathlib.Omega.{arith}
+use borrow.Author.Needs.{needs}
+use Rattle.productions.specs.Room.{placeFrom, nextPlaceIn}
+use Rattle.choices.specs.Held.{Held}
+use Rattle.choices.specs.Chosen.{entriesOf, opensOf}
+use Rattle.choices.proofs.ChoiceLaws as laws
+use Rattle.choices.proofs.opened.Statement.{statement}
+use Rattle.choices.proofs.opened.Tie as tie
+
+abbrev Inv-loop : tie.InvT-loop
+Inv-loop room n kind j₀ j = (bs : List ℕ) → Held bs room → laws.Walking (entriesOf bs) n kind j
+
+abbrev μ-loop : tie.MeasureT-loop
+μ-loop room n kind j₀ j = 256 - j
+
+first-place-requires : tie.Need-first-place-requires Inv-loop μ-loop
+first-place-requires c κs = search needs
+
+loop-holds : tie.Need-loop-holds Inv-loop μ-loop
+loop-holds c = λ bs h. laws.walk-start h (c .before .pre .1) (c .before .args .kind) (c .first-place .ensures)
+
+first-requires : tie.Need-first-requires Inv-loop μ-loop
+first-requires c κs = search needs
+
+has-kind-requires : tie.Need-has-kind-requires Inv-loop μ-loop
+has-kind-requires c κs = search needs
+
+-- after a test
+module _ (p : tie.After-has-kind Inv-loop μ-loop) where
+  abbrev test : tie.In-loop Inv-loop μ-loop
+  test = p .before .before
+
+  abbrev entry : tie.Start Inv-loop μ-loop
+  entry = test .before .before .before
+
+  module _ {bs : List ℕ} (h : Held bs (entry .args .room .now)) where
+    found : p .has-kind .result ≡ true → test .before .loop .j ≡ placeFrom (opensOf (entry .args .n) (entry .args .kind)) (entriesOf bs) 0
+    found t =
+        laws.walk-found h (entry .pre .1) (entry .args .kind) (test .before .loop .inv bs h) (test .loop-test .taken) (p .before .first .ensures)
+        (sym (p .has-kind .ensures) ∙ t)
+
+    onward : p .has-kind .result ≡ false → {k : ℕ} → k ≡ nextPlaceIn (entry .args .room .now) (test .before .loop .j)
+        → (test .before .loop .j < k) × laws.Walking (entriesOf bs) (entry .args .n) (entry .args .kind) k
+    onward t e =
+        laws.walk-next h (entry .pre .1) (entry .args .kind) (test .before .loop .inv bs h) (test .loop-test .taken) (p .before .first .ensures)
+        (sym (p .has-kind .ensures) ∙ t) e
+
+returns : tie.Need-returns Inv-loop μ-loop
+returns c = λ bs h. found (c .before) h (c .if1 .taken)
+
+next-place-requires : tie.Need-next-place-requires Inv-loop μ-loop
+next-place-requires c κs = search needs
+
+loop-less : tie.Need-loop-less Inv-loop μ-loop
+loop-less c =
+    let has-kind-place = c .before .before in
+    omega (
+      arith,
+      onward has-kind-place (entry has-kind-place .pre .0 .held) (c .before .if1 .left) (c .next-place .ensures) .0,
+      test has-kind-place .loop-test .taken,
+    )
+
+loop-again : tie.Need-loop-again Inv-loop μ-loop
+loop-again c = λ bs h. onward (c .before .before) h (c .before .if1 .left) (c .next-place .ensures) .1
+
+returns-2 : tie.Need-returns-2 Inv-loop μ-loop
+returns-2 c =
+    λ bs h.
+    let entry-place = c .before .before .before in
+    laws.walk-end h (entry-place .pre .1) (entry-place .args .kind) (c .before .loop .inv bs h) (c .loop-test .left)
+
+pub opened-spec : {M : Type 1} → statement M
+opened-spec =
+    tie.close
+    (tie.spec
+    Inv-loop
+    μ-loop
+    first-place-requires
+    loop-holds
+    first-requires
+    has-kind-requires
+    returns
+    next-place-requires
+    loop-less
+    loop-again
+    returns-2)

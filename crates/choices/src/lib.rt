@@ -1,0 +1,57 @@
+// The production that a call takes, by its place in the room of a grammar.
+use kinds::has_kind;
+use productions::room::first;
+use productions::room::first_place;
+use productions::room::first_set;
+use productions::room::next_place;
+use productions::room::nullable_place;
+ghost use Prim.Native.Nat.{ℕ, _<_};
+ghost use mathlib.Core.Path.{_≡_};
+ghost use mathlib.Core.List.{List};
+ghost use lib.ListN.{getD};
+ghost use Rattle.productions.specs.Room.{placeFrom};
+ghost use Rattle.choices.specs.Held.{Held, HoldsSome};
+ghost use Rattle.choices.specs.Chosen.{setsOf, entriesOf, opensOf, chosenPlace};
+
+// The place of the first production of nonterminal n whose first set holds a kind, 256 if there is none.
+fn opened(room: &[u64; 641], n: u8, kind: u32) -> usize
+    requires { ⌜ HoldsSome (now room) × (n < 64) ⌝ }
+    ensures { λ r. ⌜ ((bs : List ℕ) → Held bs (now (room .entry)) → r ≡ placeFrom (opensOf n kind) (entriesOf bs) 0) ⌝ }
+{
+    let mut j = first_place(room, n);
+    while j < 256 {
+        let fits = has_kind(first(room, j), kind);
+        if fits {
+            return j;
+        }
+        j = next_place(room, j);
+    }
+    256
+}
+
+// The place of the production whose first set holds the kind of the next token, else of the nullable one; 256 if there is neither. It
+// looks at the productions of the nonterminal only.
+pub fn choose(room: &[u64; 641], n: u8, kind: u32) -> usize
+    requires { ⌜ HoldsSome (now room) ⌝ }
+    ensures { λ r. ⌜ ((bs : List ℕ) → Held bs (now (room .entry)) → r ≡ chosenPlace (entriesOf bs) n kind) ⌝ }
+{
+    if 64 <= n {
+        return 256;
+    }
+    let j = opened(room, n, kind);
+    if j < 256 {
+        return j;
+    }
+    nullable_place(room, n)
+}
+
+// The first set of a nonterminal, empty for what is none.
+pub fn kinds_of(room: &[u64; 641], nonterminal: u8) -> u64
+    ensures { λ r. ⌜ ((bs : List ℕ) → Held bs (now (room .entry)) → r ≡ getD (setsOf bs) nonterminal 0) ⌝ }
+{
+    if nonterminal < 64 {
+        first_set(room, nonterminal)
+    } else {
+        0
+    }
+}

@@ -1,0 +1,77 @@
+-- `load`: 16 variables, one by one.
+use Prim.Native.Nat.{_-_}
+use mathlib.Core.Path.{refl, sym, ap, _∙_}
+use native.Mathlib.Omega.{arith}
+use borrow.Author.Needs.{needs}
+use Rattle.frames.proofs.FrameLaws as laws
+use Rattle.frames.proofs.load.Statement.{statement}
+use Rattle.frames.proofs.load.Tie as tie
+
+abbrev Inv-loop : tie.InvT-loop
+Inv-loop frames level base vars₀ i₀ vars i =
+    laws.Loading frames base vars i
+
+abbrev μ-loop : tie.MeasureT-loop
+μ-loop frames level base vars₀ i₀ vars i =
+    16 - i
+
+mul-base : tie.Need-mul-base Inv-loop μ-loop
+mul-base c = omega (arith, c .pre .few)
+
+loop-holds : tie.Need-loop-holds Inv-loop μ-loop
+loop-holds c = laws.loading-start _ _
+
+add-vars : tie.Need-add-vars Inv-loop μ-loop
+add-vars c = omega (arith, c .before .before .pre .few, c .before .before .pre .inside, (c .before .loop .inv) .long, (c .before .loop .inv) .small)
+
+mul-vars : tie.Need-mul-vars Inv-loop μ-loop
+mul-vars c = omega (arith, c .before .before .pre .few, c .before .before .pre .inside, (c .before .loop .inv) .long, (c .before .loop .inv) .small)
+
+shared-slice-read-vars : tie.Need-shared-slice-read-vars Inv-loop μ-loop
+shared-slice-read-vars c =
+    let entry-place = c .before .before .before in
+    omega (arith, entry-place .pre .few, entry-place .pre .inside, (c .before .before .loop .inv) .long, (c .before .before .loop .inv) .small)
+
+mul-vars-2 : tie.Need-mul-vars-2 Inv-loop μ-loop
+mul-vars-2 c =
+    let entry-place = c .before .before .before in
+    omega (arith, entry-place .pre .few, entry-place .pre .inside, (c .before .before .loop .inv) .long, (c .before .before .loop .inv) .small)
+
+array-write-vars : tie.Need-array-write-vars Inv-loop μ-loop
+array-write-vars c =
+    let entry-place = c .before .before .before in
+    omega (arith, entry-place .pre .few, entry-place .pre .inside, (c .before .before .loop .inv) .long, (c .before .before .loop .inv) .small)
+
+add-i : tie.Need-add-i Inv-loop μ-loop
+add-i c =
+    let entry-place = c .before .before .before in
+    omega (arith, entry-place .pre .few, entry-place .pre .inside, (c .before .before .loop .inv) .long, (c .before .before .loop .inv) .small)
+
+loop-less : tie.Need-loop-less Inv-loop μ-loop
+loop-less c =
+    let entry-place = c .before .before .before in
+    omega (arith, entry-place .pre .few, entry-place .pre .inside, (c .before .before .loop .inv) .long, (c .before .before .loop .inv) .small)
+
+loop-again : tie.Need-loop-again Inv-loop μ-loop
+loop-again c = laws.loading-next (c .before .before .loop .inv) (c .before .loop-test .taken)
+
+returns : tie.Need-returns Inv-loop μ-loop
+returns c = laws.loading-end (c .before .loop .inv) (c .loop-test .left)
+
+pub load-spec : {M : Type 1} → statement M
+load-spec =
+    tie.close
+    (tie.spec
+    Inv-loop
+    μ-loop
+    mul-base
+    loop-holds
+    add-vars
+    mul-vars
+    shared-slice-read-vars
+    mul-vars-2
+    array-write-vars
+    add-i
+    loop-less
+    loop-again
+    returns)

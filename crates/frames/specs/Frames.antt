@@ -1,0 +1,89 @@
+-- The calls that wait in a room, 18 numbers each: 16 variables, how many there are, and the offset to go on at. These definitions mirror
+-- code: nobody needs them to believe `expand`.
+use Prim.Native.Nat.{ℕ, _+_, _-_, _*_, _<_, _≤_}
+use mathlib.Core.Path.{_≡_}
+use mathlib.Core.Bool.{true}
+use mathlib.Core.List.{List, [], _∷_, _++_}
+use lib.ListN.{length, getD}
+use Rattle.grammar.specs.Lookup.{fieldsAt}
+use Rattle.productions.specs.Index.{wholeBody}
+use Rattle.expansion.specs.declared.State.{State}
+use Rattle.expansion.specs.Run.{Result, after}
+use Rattle.expansion.specs.Expansion.{Input, runCall}
+use Rattle.steps.specs.Steps.{body, weight, mostWeight}
+
+abbrev pub frameSize : ℕ
+frameSize = 18
+
+-- the numbers of a short room, for 32 calls, and of a long one, for all that may be open
+abbrev pub shortFrames : ℕ
+shortFrames = 576
+
+abbrev pub longFrames : ℕ
+longFrames = 18450
+
+-- as many calls as may wait: one less than may be open
+abbrev pub mostWaiting : ℕ
+mostWaiting = 1023
+
+-- a level of the room
+pub record Fits (frames : List ℕ) (level : ℕ) : Type 0 where
+  pub few : level ≤ mostWaiting
+  pub inside : level * frameSize + frameSize ≤ length frames
+
+-- one more stands above `level` others, which stay
+pub record Saved (old new : List ℕ) (level : ℕ) (vars : List ℕ) (count next : ℕ) : Type 0 where
+  pub same : (i : ℕ) → i < level * frameSize → getD new i 0 ≡ getD old i 0
+  pub values : (i : ℕ) → i < 16 → getD new (level * frameSize + i) 0 ≡ getD vars i 0
+  pub counted : getD new (level * frameSize + 16) 0 ≡ count
+  pub next-is : getD new (level * frameSize + 17) 0 ≡ next
+
+-- its variables, read back
+pub record Loaded (frames : List ℕ) (level : ℕ) (vars : List ℕ) : Type 0 where
+  pub long : length vars ≡ 16
+  pub values : (i : ℕ) → i < 16 → getD vars i 0 ≡ getD frames (level * frameSize + i) 0
+
+-- ------------------------------------------------------------------ the calls that wait
+
+-- a call that waits: where its items go on, and the values of its variables
+pub record Frame : Type 0 where
+  pub next : ℕ
+  pub values : List ℕ
+
+-- what the calls that wait, the innermost first, make of what the call above them gives
+unfoldable pub resume : Input → List ℕ → List Frame → Result ℕ → Result ℕ
+resume I bs [] r = r
+resume I bs (f ∷ fs) r =
+    resume I bs fs (after r (λ x. body (runCall (mostWaiting - length fs) I) bs (f .next) I (f .values ++ (x ∷ []))))
+
+-- the bytes of the alternatives that they go on with
+unfoldable pub owed : List ℕ → List Frame → ℕ
+owed bs [] = 0
+owed bs (f ∷ fs) = (length bs - f .next) + owed bs fs
+
+-- a call stands at a level of the room
+pub record Waits (bs frames : List ℕ) (level : ℕ) (f : Frame) : Type 0 where
+  pub counted : getD frames (level * frameSize + 16) 0 ≡ length (f .values)
+  pub next-is : getD frames (level * frameSize + 17) 0 ≡ f .next
+  pub held : (i : ℕ) → i < 16 → i < length (f .values) → getD frames (level * frameSize + i) 0 ≡ getD (f .values) i 0
+  pub whole : wholeBody (fieldsAt bs (f .next)) ≡ true
+  pub inside : f .next ≤ length bs
+
+pub data Stacked (bs frames : List ℕ) : List Frame → Type 0 where
+  stacked-none : Stacked bs frames []
+  stacked-one : {f : Frame} {fs : List Frame} → Waits bs frames (length fs) f → length (f .values) < length bs + f .next → Stacked bs frames fs
+      → Stacked bs frames (f ∷ fs)
+
+-- ------------------------------------------------------------------ where an expansion stands
+
+-- `level` calls wait below the one that goes on; all stand in the room, and what is left of them gives R
+pub record Standing (I : Input) (bs frames : List ℕ) (level : ℕ) (here : State) (cells : List ℕ) (R : Result ℕ) : Type 0 where
+  pub fits : Fits frames level
+  pub current : Frame
+  pub waiting : List Frame
+  pub many : length waiting ≡ level
+  pub on-top : Waits bs frames level current
+  pub counted : length (current .values) ≤ length bs + current .next
+  pub stacked : Stacked bs frames waiting
+  pub light : weight here + (length bs - current .next) + owed bs waiting ≤ mostWeight
+  pub rest : resume I bs waiting (body (runCall (mostWaiting - level) I) bs (current .next) I (current .values) here cells) ≡ R

@@ -1,0 +1,73 @@
+// The calls that wait, 18 numbers each: the values of 16 variables, how many variables there are, and the offset to go on at.
+ghost use Prim.Native.Nat.{ℕ, _+_, _*_, _^_, _≤_, _<_};
+ghost use mathlib.Core.Path.{_≡_};
+ghost use lib.ListN.{length, getD};
+ghost use Rattle.frames.specs.Frames.{frameSize, shortFrames, Fits, Saved, Loaded};
+
+// The numbers of a frame.
+pub const FRAME: usize = 18;
+
+// One more call waits above `level` others.
+pub fn save(frames: &mut [u32], level: usize, vars: &[u32; 16], count: usize, next: usize)
+    requires { ⌜ Fits (now frames) level ⌝ }
+    requires { ⌜ (count < 2 ^ 32) × (next < 2 ^ 32) ⌝ }
+    ensures { λ r. ⌜ Saved (now (frames .entry)) (now (frames .exit)) level (now (vars .entry)) count next ⌝ }
+{
+    let base = level * FRAME;
+    let mut i: usize = 0;
+    while i < 16 {
+        frames[base + i] = vars[i];
+        i += 1;
+    }
+    frames[base + 16] = count as u32;
+    frames[base + 17] = next as u32;
+}
+
+// The variables of a call that waits.
+pub fn load(frames: &[u32], level: usize) -> [u32; 16]
+    requires { ⌜ Fits (now frames) level ⌝ }
+    ensures { λ r. ⌜ Loaded (now (frames .entry)) level r ⌝ }
+{
+    let base = level * FRAME;
+    let mut vars = [0u32; 16];
+    let mut i: usize = 0;
+    while i < 16 {
+        vars[i] = frames[base + i];
+        i += 1;
+    }
+    vars
+}
+
+fn wide(x: u32) -> usize
+    ensures { λ r. ⌜ r ≡ x ⌝ }
+{
+    x as usize
+}
+
+// How many variables it has.
+pub fn count_of(frames: &[u32], level: usize) -> usize
+    requires { ⌜ Fits (now frames) level ⌝ }
+    ensures { λ r. ⌜ r ≡ getD (now (frames .entry)) (level * frameSize + 16) 0 ⌝ }
+{
+    wide(frames[level * FRAME + 16])
+}
+
+// Where it goes on.
+pub fn next_of(frames: &[u32], level: usize) -> usize
+    requires { ⌜ Fits (now frames) level ⌝ }
+    ensures { λ r. ⌜ r ≡ getD (now (frames .entry)) (level * frameSize + 17) 0 ⌝ }
+{
+    wide(frames[level * FRAME + 17])
+}
+
+// The frames of a short room at the front of a long one.
+pub fn copy(frames: &mut [u32], short: &[u32; 576])
+    requires { ⌜ shortFrames ≤ length (now frames) ⌝ }
+    ensures { λ r. ⌜ ((i : ℕ) → i < shortFrames → getD (now (frames .exit)) i 0 ≡ getD (now (short .entry)) i 0) ⌝ }
+{
+    let mut i: usize = 0;
+    while i < 576 {
+        frames[i] = short[i];
+        i += 1;
+    }
+}

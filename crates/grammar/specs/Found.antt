@@ -1,0 +1,14 @@
+-- Where a spelling stands in a list of spellings.
+use Prim.Native.Nat.{ℕ}
+use mathlib.Core.Bool.{true, false}
+use mathlib.Core.List.{List}
+use lib.Dec.{ltb}
+use lib.ListN.{length}
+use Rattle.spellings.specs.Bytes.{indexOf}
+use Rattle.grammar.specs.declared.Found.{Found}
+use Rattle.grammar.specs.declared.Found.the-variants.{At, Absent}
+
+-- where a spelling stands first in a list, if it is there
+unfoldable pub foundIn : List ℕ → List (List ℕ) → Found
+foundIn s spellings =
+    elim (ltb (indexOf s spellings) (length spellings)) [ true ↦ At (indexOf s spellings) | false ↦ Absent ]

@@ -1,0 +1,44 @@
+-- The values of a table's fields, as bytes, and how long a table may be. Document 01, "Phrase table".
+-- Each part is laid in front of what follows it.
+use Prim.Native.Nat.{ℕ}
+use mathlib.Core.List.{List, [], _∷_}
+use Rattle.grammar.specs.Table.{Template, Templates, variable, outside, outsideLabel, make, none, more, Item, keyword, ide, number, local, call, Mode, add, extend, update, Definition}
+
+-- a field: a tag and a value
+pub record Field : Type 0 where
+  pub tag : ℕ
+  pub value : List ℕ
+
+abbrev pub field : ℕ → List ℕ → Field
+field tag v = record { tag = tag; value = v }
+
+-- templates in prefix form
+unfoldable mutual
+  pub templateThen : Template → List ℕ → List ℕ
+  templateThen (variable i) follow = i ∷ follow
+  templateThen (outside n) follow = 0x10 ∷ n ∷ follow
+  templateThen (outsideLabel n) follow = 0x11 ∷ n ∷ follow
+  templateThen (make c ts) follow = c ∷ templatesThen ts follow
+
+  pub templatesThen : Templates → List ℕ → List ℕ
+  templatesThen none follow = follow
+  templatesThen (more t ts) follow = templateThen t (templatesThen ts follow)
+
+unfoldable pub itemValue : Item → List ℕ
+itemValue (keyword k) = 0 ∷ k ∷ []
+itemValue (ide s) = 1 ∷ s ∷ []
+itemValue number = 2 ∷ 0 ∷ []
+itemValue local = 3 ∷ 0 ∷ []
+itemValue (call n ts) = 4 ∷ n ∷ templatesThen ts []
+
+abbrev pub modeCode : Mode → ℕ
+modeCode add = 0
+modeCode extend = 1
+modeCode update = 2
+
+unfoldable pub headValue : Definition → List ℕ
+headValue d = d .nonterminal ∷ modeCode (d .mode) ∷ d .signature .result ∷ d .signature .params
+
+-- the most bytes that a table may have
+abbrev pub longestTable : ℕ
+longestTable = 16384

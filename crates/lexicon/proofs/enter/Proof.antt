@@ -1,0 +1,93 @@
+-- `enter`: a spelling is linked where a search for it ended.
+use Prim.Native.Nat.{_*_}
+use native.Mathlib.Omega.{arith}
+use lib.ListN.{length-set}
+use Rattle.lexicon.proofs.PlaceLaws.{place-stored}
+use Rattle.lexicon.proofs.LexiconLaws as laws
+use borrow.Author.Needs.{needs}
+use Rattle.lexicon.proofs.enter.Statement.{statement}
+use Rattle.lexicon.proofs.enter.Tie as tie
+
+part-requires : tie.Need-part-requires
+part-requires c κs = search needs
+
+hash-requires : tie.Need-hash-requires
+hash-requires c κs = search needs
+
+find-requires : tie.Need-find-requires
+find-requires c κs =
+    let start = c .before .before .before .before .before .before .before in
+    (laws.entered-planted (start .pre .0), c .before .before .hash .ensures)
+
+mul-i : tie.Need-mul-i
+mul-i c = search needs
+
+cast-room : tie.Need-cast-room
+cast-room c = search needs
+
+mul-room : tie.Need-mul-room
+mul-room c = search needs
+
+slice-write-room : tie.Need-slice-write-room
+slice-write-room c = search needs
+
+cast-room-2 : tie.Need-cast-room-2
+cast-room-2 c = search needs
+
+add-room : tie.Need-add-room
+add-room c = search needs
+
+mul-room-2 : tie.Need-mul-room-2
+mul-room-2 c = search needs
+
+slice-write-room-2 : tie.Need-slice-write-room-2
+slice-write-room-2 c =
+    let start = c .before .before .before .before .before .before .before .before in
+    laws.place-inside (start .pre .0) _ _
+
+link-requires : tie.Need-link-requires
+link-requires c κs =
+    let found = c .before in
+    let read = found .before .before .before .before in
+    let start = read .before .before .before .before in (
+      laws.entered-linkable (start .pre .0) (read .part .result .now) (found .find .result) (found .find .ensures),
+      omega (arith, start .pre .0 .enough),
+    )
+
+same-length : tie.Need-same-length
+same-length c = search needs
+
+same-length-2 : tie.Need-same-length-2
+same-length-2 c = search needs
+
+returns : tie.Need-returns
+returns c =
+    let found = c .before .before .before .before in
+    let read = found .before .before .before .before in
+    let start = read .before .before .before .before in
+    let place = place-stored (start .args .room .now) (start .args .e * 2) (start .args .from) (start .args .size) in (
+      place,
+      rw place
+          (laws.enter-one _ _ _ _ (found .find .result) (start .pre .0) (read .part .ensures) (found .find .ensures)
+          (c .before .before .link .ensures)),
+    )
+
+pub enter-spec : {M : Type 1} → statement M
+enter-spec =
+    tie.close
+    (tie.spec
+    part-requires
+    hash-requires
+    find-requires
+    mul-i
+    cast-room
+    mul-room
+    slice-write-room
+    cast-room-2
+    add-room
+    mul-room-2
+    slice-write-room-2
+    link-requires
+    same-length
+    same-length-2
+    returns)

@@ -1,0 +1,151 @@
+-- `enter_leading`: the fields entered and those left are those asked for.
+use Prim.Native.Nat.{_+_, _-_}
+use mathlib.Core.Path.{sym, _∙_}
+use native.Mathlib.Omega.{arith}
+use Rattle.grammar.specs.declared.Front.the-variants.{Nothing, Short, Field}
+use Rattle.lexicon.proofs.LexiconLaws as laws
+use borrow.Author.Needs.{needs}
+use Rattle.lexicon.proofs.enter_leading.Statement.{statement}
+use Rattle.lexicon.proofs.enter_leading.Tie as tie
+
+abbrev Inv-loop : tie.InvT-loop
+Inv-loop table start tag most room₀ tree₀ first at₀ e₀ end room tree at e = laws.Entering table room₀ start tag most first room tree at e
+
+abbrev μ-loop : tie.MeasureT-loop
+μ-loop table start tag most room₀ tree₀ first at₀ e₀ end room tree at e = first + most - e
+
+add-end : tie.Need-add-end Inv-loop μ-loop
+add-end c = search needs
+
+loop-holds : tie.Need-loop-holds Inv-loop μ-loop
+loop-holds c = laws.entering-start (c .before .before .before .pre)
+
+front-at-requires : tie.Need-front-at-requires Inv-loop μ-loop
+front-at-requires c κs = search needs
+
+enum-told : tie.Need-enum-told Inv-loop μ-loop
+enum-told c = search needs
+
+same-length : tie.Need-same-length Inv-loop μ-loop
+same-length c = search needs
+
+same-length-2 : tie.Need-same-length-2 Inv-loop μ-loop
+same-length-2 c = search needs
+
+returns : tie.Need-returns Inv-loop μ-loop
+returns c =
+    let looked = c .before .before in
+    laws.entering-stop (looked .before .before .loop .inv) Nothing (sym (c .enum-told .given .1) ∙ looked .front-at .ensures) tt
+
+enum-told-2 : tie.Need-enum-told-2 Inv-loop μ-loop
+enum-told-2 c = search needs
+
+same-length-3 : tie.Need-same-length-3 Inv-loop μ-loop
+same-length-3 c = search needs
+
+same-length-4 : tie.Need-same-length-4 Inv-loop μ-loop
+same-length-4 c = search needs
+
+returns-2 : tie.Need-returns-2 Inv-loop μ-loop
+returns-2 c =
+    let looked = c .before .before in
+    laws.entering-stop (looked .before .before .loop .inv) Short (sym (c .enum-told2 .given .1) ∙ looked .front-at .ensures) tt
+
+enum-known-front : tie.Need-enum-known-front Inv-loop μ-loop
+enum-known-front c = search needs
+
+same-length-5 : tie.Need-same-length-5 Inv-loop μ-loop
+same-length-5 c = search needs
+
+same-length-6 : tie.Need-same-length-6 Inv-loop μ-loop
+same-length-6 c = search needs
+
+returns-3 : tie.Need-returns-3 Inv-loop μ-loop
+returns-3 c =
+    let looked = c .before .before .before .before in
+    laws.entering-stop (looked .before .before .loop .inv) (Field _ _) (sym (c .before .before .front .given .1) ∙ looked .front-at .ensures)
+    (c .if1 .taken)
+
+add-enter : tie.Need-add-enter Inv-loop μ-loop
+add-enter c =
+    let looked = c .before .before .before .before in
+    omega (arith, laws.field-fits (looked .before .before .loop .inv) (sym (c .before .before .front .given .1) ∙ looked .front-at .ensures))
+
+enter-requires : tie.Need-enter-requires Inv-loop μ-loop
+enter-requires c κs =
+    let told = c .before .before in
+    let looked = told .before .before .before .before in
+    let inv = looked .before .before .loop .inv in (
+      laws.entering-one inv (looked .before .loop-test .taken),
+      laws.field-fits inv (sym (told .before .before .front .given .1) ∙ looked .front-at .ensures),
+    )
+
+add-at : tie.Need-add-at Inv-loop μ-loop
+add-at c =
+    let told = c .before .before .before .before .before .before .before in
+    let looked = told .before .before .before .before in
+    omega (arith, laws.field-fits (looked .before .before .loop .inv) (sym (told .before .before .front .given .1) ∙ looked .front-at .ensures))
+
+add-at-2 : tie.Need-add-at-2 Inv-loop μ-loop
+add-at-2 c =
+    let told = c .before .before .before .before .before .before .before in
+    let looked = told .before .before .before .before in
+    omega (arith, laws.field-fits (looked .before .before .loop .inv) (sym (told .before .before .front .given .1) ∙ looked .front-at .ensures))
+
+add-e : tie.Need-add-e Inv-loop μ-loop
+add-e c = search needs
+
+loop-less : tie.Need-loop-less Inv-loop μ-loop
+loop-less c = search needs
+
+loop-again : tie.Need-loop-again Inv-loop μ-loop
+loop-again c =
+    let entered = c .before .before .before .before in
+    let told = entered .before .before .before in
+    let looked = told .before .before .before .before in
+    laws.entering-next (looked .before .before .loop .inv) (looked .before .loop-test .taken)
+    (sym (told .before .before .front .given .1) ∙ looked .front-at .ensures)
+    (told .if1 .left)
+    (entered .enter .ensures .0)
+    (entered .enter .ensures .1)
+
+same-length-7 : tie.Need-same-length-7 Inv-loop μ-loop
+same-length-7 c = search needs
+
+same-length-8 : tie.Need-same-length-8 Inv-loop μ-loop
+same-length-8 c = search needs
+
+returns-4 : tie.Need-returns-4 Inv-loop μ-loop
+returns-4 c = laws.entering-end (c .before .loop .inv) (c .loop-test .left)
+
+pub enter-leading-spec : {M : Type 1} → statement M
+enter-leading-spec =
+    tie.close
+    (tie.spec
+    Inv-loop
+    μ-loop
+    add-end
+    loop-holds
+    front-at-requires
+    enum-told
+    same-length
+    same-length-2
+    returns
+    enum-told-2
+    same-length-3
+    same-length-4
+    returns-2
+    enum-known-front
+    same-length-5
+    same-length-6
+    returns-3
+    add-enter
+    enter-requires
+    add-at
+    add-at-2
+    add-e
+    loop-less
+    loop-again
+    same-length-7
+    same-length-8
+    returns-4)

@@ -1,0 +1,95 @@
+-- `mark_symbols`: the symbols are marked by the keywords passed, the last first.
+use native.Mathlib.Omega.{arith}
+use Rattle.lexicon.proofs.LexiconLaws as laws
+use borrow.Author.Needs.{needs}
+use Rattle.lexicon.proofs.mark_symbols.Statement.{statement}
+use Rattle.lexicon.proofs.mark_symbols.Tie as tie
+
+abbrev Inv-loop : tie.InvT-loop
+Inv-loop table room₀ count k₀ room k = laws.Marking table room₀ count room k
+
+abbrev μ-loop : tie.MeasureT-loop
+μ-loop table room₀ count k₀ room k = k
+
+loop-holds : tie.Need-loop-holds Inv-loop μ-loop
+loop-holds c =
+    let asked = c .before .before .pre in
+    laws.marking-start _ _ _ (asked .0) (asked .1) (asked .2)
+
+sub-k : tie.Need-sub-k Inv-loop μ-loop
+sub-k c = search needs
+
+mul-wide : tie.Need-mul-wide Inv-loop μ-loop
+mul-wide c = search needs
+
+mul-wide-2 : tie.Need-mul-wide-2 Inv-loop μ-loop
+mul-wide-2 c = search needs
+
+slice-read-wide : tie.Need-slice-read-wide Inv-loop μ-loop
+slice-read-wide c = search needs
+
+wide-requires : tie.Need-wide-requires Inv-loop μ-loop
+wide-requires c κs = search needs
+
+mul-wide-3 : tie.Need-mul-wide-3 Inv-loop μ-loop
+mul-wide-3 c = search needs
+
+add-wide : tie.Need-add-wide Inv-loop μ-loop
+add-wide c = search needs
+
+mul-wide-4 : tie.Need-mul-wide-4 Inv-loop μ-loop
+mul-wide-4 c = search needs
+
+slice-read-wide-2 : tie.Need-slice-read-wide-2 Inv-loop μ-loop
+slice-read-wide-2 c = search needs
+
+wide-requires-2 : tie.Need-wide-requires-2 Inv-loop μ-loop
+wide-requires-2 c κs = search needs
+
+part-requires : tie.Need-part-requires Inv-loop μ-loop
+part-requires c κs = search needs
+
+mark-requires : tie.Need-mark-requires Inv-loop μ-loop
+mark-requires c κs = search needs
+
+loop-less : tie.Need-loop-less Inv-loop μ-loop
+loop-less c = search needs
+
+loop-again : tie.Need-loop-again Inv-loop μ-loop
+loop-again c =
+    let marked = c .before .before in
+    let size = marked .before .before .before in
+    let at = size .before .before in
+    let test = at .before .before in
+    laws.marking-next (test .before .loop .inv) (test .loop-test .taken) (at .wide .ensures) (size .wide2 .ensures) (marked .before .part .ensures)
+    (marked .mark .ensures)
+
+same-length : tie.Need-same-length Inv-loop μ-loop
+same-length c = search needs
+
+returns : tie.Need-returns Inv-loop μ-loop
+returns c = laws.marking-end (c .before .loop .inv) (c .loop-test .left)
+
+pub mark-symbols-spec : {M : Type 1} → statement M
+mark-symbols-spec =
+    tie.close
+    (tie.spec
+    Inv-loop
+    μ-loop
+    loop-holds
+    sub-k
+    mul-wide
+    mul-wide-2
+    slice-read-wide
+    wide-requires
+    mul-wide-3
+    add-wide
+    mul-wide-4
+    slice-read-wide-2
+    wide-requires-2
+    part-requires
+    mark-requires
+    loop-less
+    loop-again
+    same-length
+    returns)

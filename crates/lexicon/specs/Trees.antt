@@ -1,0 +1,101 @@
+-- How spellings are found by the bits of a hash. The laws hold for any hash. Nobody needs these definitions to believe `scan`: its
+-- contract does not cite them.
+use Prim.Native.Nat.{ℕ, suc, _+_, _*_, _/_, _%_, _<_, _≤_}
+use mathlib.Core.Path.{_≡_}
+use mathlib.Core.List.{List, [], _∷_}
+use lib.Bits.{bitAnd, bitXor}
+use lib.ListN.{length, getD, set}
+use Rattle.spellings.specs.Bytes.{indexOf}
+use Rattle.lexicon.specs.Places.{wordsIn}
+use Rattle.lexicon.specs.declared.trees.Spot.{Spot}
+use Rattle.lexicon.specs.declared.trees.Spot.the-variants.{Node, Free}
+
+-- ------------------------------------------------------------------ the hash
+
+abbrev pub product : ℕ → ℕ → ℕ
+product h b = bitXor h b % 4294967296 * 2654435761
+
+-- the hash h with one byte more
+unfoldable pub mixed : ℕ → ℕ → ℕ
+mixed h b = product h b % 4294967296 * 4294967296 + bitXor (h / 4294967296) (product h b / 4294967296) % 4294967296
+
+-- of a spelling that follows what has the hash h
+unfoldable pub hashFrom : ℕ → List ℕ → ℕ
+hashFrom h [] = mixed h 0
+hashFrom h (b ∷ bs) = hashFrom (mixed h b) bs
+
+abbrev pub seed : ℕ
+seed = 11400714819323198485
+
+abbrev pub hashOf : List ℕ → ℕ
+hashOf s = hashFrom seed s
+
+-- the length and the hash of a spelling
+pub record Hashed (s : List ℕ) (size hash : ℕ) : Type 0 where
+  pub sized : size ≡ length s
+  pub hashed : hash ≡ hashOf s
+
+-- ------------------------------------------------------------------ trees
+
+-- the link of a tree's root, and which branches are taken from there on
+abbrev pub rootOf : ℕ → List ℕ → ℕ
+rootOf mask s = bitAnd (hashOf s) mask
+
+abbrev pub turnsOf : List ℕ → ℕ
+turnsOf s = hashOf s / 2048
+
+-- the link of the branch of node j that is taken
+abbrev pub branchOf : ℕ → ℕ → ℕ → ℕ
+branchOf mask j turns = mask + 1 + j * 2 + turns % 2
+
+-- from a link on, the branches taken lead to node i
+pub data Leads (links : List ℕ) (mask : ℕ) : ℕ → ℕ → ℕ → Type 0 where
+  there : {slot turns i : ℕ} → getD links slot 0 ≡ suc i → Leads links mask slot turns i
+  further : {slot turns j i : ℕ} → getD links slot 0 ≡ suc j → Leads links mask (branchOf mask j turns) (turns / 2) i
+      → Leads links mask slot turns i
+
+-- the link at an index leads to node j: a spelling that stands nowhere before, with its branches behind
+pub record Linked (mask : ℕ) (words : List (List ℕ)) (slot j : ℕ) : Type 0 where
+  pub small : j < length words
+  pub first : indexOf (getD words j []) words ≡ j
+  pub behind : slot < mask + 1 + j * 2
+
+-- each spelling's own branches lead to the first node that has it
+pub record Tree (mask : ℕ) (words : List (List ℕ)) (links : List ℕ) : Type 0 where
+  pub leads : (s : List ℕ) → indexOf s words < length words → Leads links mask (rootOf mask s) (turnsOf s) (indexOf s words)
+  pub linked : (slot j : ℕ) → getD links slot 0 ≡ suc j → Linked mask words slot j
+
+-- the trees of the first `count` spellings of a text, with room for their numbers
+pub record Planted (text places links : List ℕ) (mask count : ℕ) : Type 0 where
+  pub tree : Tree mask (wordsIn text places count) links
+  pub placed : count * 2 ≤ length places
+  pub linked : mask + 1 + count * 2 ≤ length links
+
+-- the other links lead where these do
+abbrev pub Extends : List ℕ → List ℕ → Type 0
+Extends links links′ = (slot j : ℕ) → getD links slot 0 ≡ suc j → getD links′ slot 0 ≡ suc j
+
+-- s is no spelling of the trees, and the link at an index is free for it
+pub record FreeFor (mask : ℕ) (words : List (List ℕ)) (links s : List ℕ) (slot : ℕ) : Type 0 where
+  pub none : indexOf s words ≡ length words
+  pub empty : getD links slot 0 ≡ 0
+  pub below : slot < mask + 1 + length words * 2
+  pub back : (links′ : List ℕ) (i : ℕ) → Extends links links′ → getD links′ slot 0 ≡ suc i → Leads links′ mask (rootOf mask s) (turnsOf s) i
+
+pub record FoundAt (words : List (List ℕ)) (s : List ℕ) (i : ℕ) : Type 0 where
+  pub index : i ≡ indexOf s words
+  pub inside : i < length words
+
+-- what a search answers
+abbrev pub Searched : ℕ → List (List ℕ) → List ℕ → List ℕ → Spot → Type 0
+Searched mask words links s (Node i) = FoundAt words s i
+Searched mask words links s (Free slot) = FreeFor mask words links s slot
+
+-- the links with spelling e where a search for it ended, if it is new
+abbrev pub linksWith : List ℕ → Spot → ℕ → List ℕ
+linksWith links (Node i) e = links
+linksWith links (Free slot) e = set links slot (e + 1)
+
+abbrev pub Linkable : List ℕ → Spot → Type 0
+Linkable links (Node i) = Unit {0}
+Linkable links (Free slot) = slot < length links

@@ -1,0 +1,116 @@
+// The keywords and outside names of a table, entered once before a scan. A room of 382 numbers holds the places of at most 126
+// spellings, keywords first and then outside names; from 252 on the kinds of 128 symbols, by their bytes; at 380 how many keywords there are,
+// at 381 how many spellings. A room of 380 numbers holds the links of their trees.
+pub mod trees;
+
+use crate::trees::find;
+use crate::trees::hash;
+use crate::trees::link;
+use crate::trees::wide;
+use grammar::Front;
+use grammar::reader::part;
+ghost use mathlib.Core.Path.{_≡_};
+ghost use mathlib.Core.List.{[], _∷_, _++_};
+ghost use Prim.Native.Nat.{ℕ, _+_, _*_, _^_, _≤_, _<_};
+ghost use lib.ListN.{length, getD, take, drop};
+ghost use lib.Seq.{sets};
+ghost use Rattle.grammar.specs.Lookup.{leading, fieldsAt};
+ghost use Rattle.lexicon.specs.Places.{wordsIn};
+ghost use Rattle.lexicon.specs.Trees.{Tree};
+ghost use Rattle.lexicon.specs.LexiconRoom.{Spelled, Enters, Entered, Marked, Unmarked, Symbols, SamePlaces, Blank, Lexical};
+
+// One more spelling: its place is stored, and if it is new its link.
+fn enter(table: &[u8], from: usize, size: usize, room: &mut [u32], tree: &mut [u32], e: usize)
+    requires { ⌜ Enters (now table) (now room) (now tree) e 1 × (from + size ≤ length (now table)) ⌝ }
+    ensures { λ _. ⌜ now (room .exit) ≡ sets (now (room .entry)) (e * 2) (from ∷ size ∷ []) ⌝ }
+    ensures { λ _. ⌜ Spelled (now (table .entry)) (now (room .exit)) (now (tree .exit)) (e + 1) ⌝ }
+{
+    let s = part(table, from, size);
+    let h = hash(s);
+    let spot = find(table, room, tree, 127, e, s, h);
+    let i = e * 2;
+    room[i] = from as u32;
+    room[i + 1] = size as u32;
+    link(tree, spot, e);
+}
+
+// The first fields of one tag from an offset on, `most` of them at most, after `first` spellings; the answer is how many there are then.
+fn enter_leading(
+    table: &[u8],
+    start: usize,
+    tag: u8,
+    most: usize,
+    room: &mut [u32],
+    tree: &mut [u32],
+    first: usize,
+) -> usize
+    requires { ⌜ Enters (now table) (now room) (now tree) first most ⌝ }
+    ensures { λ r. ⌜ Entered (now (table .entry)) (now (room .entry)) (now (room .exit)) (now (tree .exit)) r
+        (wordsIn (now (table .entry)) (now (room .entry)) first ++ take most (leading tag (fieldsAt (now (table .entry)) start))) ⌝ }
+{
+    let mut at = start;
+    let mut e = first;
+    let end = first + most;
+    while e < end {
+        let front = grammar::front_at(table, at);
+        match front {
+            Front::Nothing => {
+                return e;
+            }
+            Front::Short => {
+                return e;
+            }
+            Front::Field(t, size) => {
+                if t != tag {
+                    return e;
+                }
+                enter(table, at + 3, size, room, tree, e);
+                at = at + 3 + size;
+                e += 1;
+            }
+        }
+    }
+    e
+}
+
+// The kind of a symbol is stored, if it is one.
+fn mark(room: &mut [u32], s: &[u8], k: usize)
+    requires { ⌜ (k < 62) × (length (now room) ≡ 382) ⌝ }
+    ensures { λ _. ⌜ Marked (now (room .entry)) (now (room .exit)) (now (s .entry)) k ⌝ }
+{
+    if s.len() == 1 {
+        let b = s[0];
+        if b < 128 {
+            room[252 + b as usize] = (k + 2) as u32;
+        }
+    }
+}
+
+// The kinds of the symbols that are keywords, by the places of the keywords. The last keyword comes first, so that of two with one
+// spelling the first has it.
+fn mark_symbols(table: &[u8], room: &mut [u32], count: usize)
+    requires { ⌜ (count ≤ 62) × Unmarked (now room) × (length (now room) ≡ 382) ⌝ }
+    ensures { λ _. ⌜ Symbols (wordsIn (now (table .entry)) (now (room .entry)) count) 0 (now (room .exit)) ⌝ }
+    ensures { λ _. ⌜ SamePlaces (now (room .entry)) (now (room .exit)) ⌝ }
+{
+    let mut k = count;
+    while 0 < k {
+        k -= 1;
+        let at = wide(room[k * 2]);
+        let size = wide(room[k * 2 + 1]);
+        mark(room, part(table, at, size), k);
+    }
+}
+
+// The lexicon of a table.
+pub fn enter_table(table: &[u8], room: &mut [u32], tree: &mut [u32])
+    requires { ⌜ Blank (now room) (now tree) × (length (now table) < 2 ^ 32) ⌝ }
+    ensures { λ _. ⌜ Lexical (now (table .entry)) (now (room .exit)) (now (tree .exit)) ⌝ }
+{
+    let keywords = enter_leading(table, 0, 1, 62, room, tree, 0);
+    mark_symbols(table, room, keywords);
+    let names = grammar::after_leading(table, 1);
+    let spellings = enter_leading(table, names, 2, 64, room, tree, keywords);
+    room[380] = keywords as u32;
+    room[381] = spellings as u32;
+}

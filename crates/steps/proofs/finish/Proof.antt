@@ -1,0 +1,175 @@
+-- `finish`: what stands behind the items decides.
+use Prim.Native.Nat.{ℕ, _+_, _≤_}
+use mathlib.Core.Path.{_≡_, sym, ap, _∙_}
+use mathlib.Core.List.{List}
+use native.Mathlib.Nat.{le-trans}
+use native.Mathlib.Omega.{arith}
+use lib.ListN.{length, drop}
+use borrow.Author.Needs.{needs}
+use Rattle.grammar.specs.declared.Front.the-variants.{Field}
+use Rattle.grammar.specs.Table.{Template}
+use Rattle.grammar.specs.Lookup.{frontOf, fieldsAt}
+use Rattle.grammar.proofs.LookupLaws.{front-inside}
+use Rattle.productions.specs.Index.{resultOf}
+use Rattle.expansion.specs.Run.{Result}
+use Rattle.expansion.specs.Expansion.{Input, build}
+use Rattle.templates.proofs.VariableLaws.{rooms-fit}
+use Rattle.steps.proofs.ItemLaws as laws
+use Rattle.steps.proofs.finish.Statement.{statement}
+use Rattle.steps.proofs.finish.Tie as tie
+
+-- after a field is looked at
+module _ (p : tie.After-front-at) where
+  abbrev entry : tie.Start
+  entry = p .before .before .before .before
+
+  -- what a template gives is what the result gives
+  module _ (I : Input) (M : List ℕ) where
+    abbrev gives : Template → Result ℕ
+    gives t = build t I M (entry .args .s) (entry .args .cells .now)
+
+    as-result : {t : Template} → t ≡ resultOf (fieldsAt (entry .args .table .now) (entry .args .at)) → {r : Result ℕ} → r ≡ gives t
+        → r ≡ gives (resultOf (fieldsAt (entry .args .table .now) (entry .args .at)))
+    as-result e f = f ∙ ap gives e
+
+  module _ {t n : ℕ} (e : p .front-at .result ≡ Field t n) where
+    stands : Field t n ≡ frontOf (drop (entry .args .at) (entry .args .table .now))
+    stands = sym e ∙ p .front-at .ensures
+
+    inside : entry .args .at + (3 + n) ≤ length (entry .args .table .now)
+    inside = front-inside (entry .args .table .now) (entry .args .at) stands
+
+front-at-requires : tie.Need-front-at-requires
+front-at-requires c κs = search needs
+
+enum-told : tie.Need-enum-told
+enum-told c = search needs
+
+first-variable-requires : tie.Need-first-variable-requires
+first-variable-requires c κs = search needs
+
+enum-told-2 : tie.Need-enum-told-2
+enum-told-2 c = search needs
+
+first-variable-requires-2 : tie.Need-first-variable-requires-2
+first-variable-requires-2 c κs = search needs
+
+enum-known-front : tie.Need-enum-known-front
+enum-known-front c = search needs
+
+first-variable-requires-3 : tie.Need-first-variable-requires-3
+first-variable-requires-3 c κs = search needs
+
+returns : tie.Need-returns
+returns c =
+    let front-place = c .before .before .before in
+    let p = front-place .before .before in (
+      λ I M e g. as-result p I M (laws.other-result _ _ (stands p (front-place .front .given .1)) (entry p .pre .no-item) (c .before .if1 .taken))
+          (c .first-variable3 .ensures .0 I M (entry p .args .cells .now) g),
+      c .first-variable3 .ensures .1,
+    )
+
+add-from : tie.Need-add-from
+add-from c =
+    let p = c .before .before .before .before in
+    omega (arith, inside p (c .before .before .front .given .1), entry p .good .0)
+
+add-to : tie.Need-add-to
+add-to c =
+    let p = c .before .before .before .before in
+    omega (arith, inside p (c .before .before .front .given .1), entry p .good .0)
+
+rows-of-requires : tie.Need-rows-of-requires
+rows-of-requires c κs = search needs
+
+sub-build : tie.Need-sub-build
+sub-build c = search needs
+
+part-build-start : tie.Need-part-build-start
+part-build-start c = search needs
+
+part-build-end : tie.Need-part-build-end
+part-build-end c =
+    let p = c .before .before .before .before .before in
+    omega (arith, inside p (c .before .before .before .front .given .1), entry p .good .0)
+
+build-requires : tie.Need-build-requires
+build-requires c κs =
+    let rows-place = c .before .before .before .before .before in
+    let if1-place = rows-place .before in
+    let front-place = if1-place .before .before in
+    let p = front-place .before .before in
+    let may = entry p .pre in
+    let here = stands p (front-place .front .given .1) in
+    let shorter = laws.value-shorter _ _ here in (
+      laws.result-ahead _ _ here (may .no-item) (if1-place .if1 .left) (may .whole),
+      rooms-fit (le-trans shorter (may .small .few)) (le-trans shorter (may .small .stack-long)) (rows-place .rows-of .ensures),
+    )
+
+outcome-of-requires : tie.Need-outcome-of-requires
+outcome-of-requires c κs = search needs
+
+returns-2 : tie.Need-returns-2
+returns-2 c =
+    let p = c .before .before .before in (
+      λ I M e g. as-result p I M (laws.end-result _ _ (sym (c .before .enum-told .given .1) ∙ p .front-at .ensures))
+          (c .first-variable .ensures .0 I M (entry p .args .cells .now) g),
+      c .first-variable .ensures .1,
+    )
+
+returns-3 : tie.Need-returns-3
+returns-3 c =
+    let p = c .before .before .before in (
+      λ I M e g. as-result p I M (laws.cut-result _ _ (sym (c .before .enum-told2 .given .1) ∙ p .front-at .ensures))
+          (c .first-variable2 .ensures .0 I M (entry p .args .cells .now) g),
+      c .first-variable2 .ensures .1,
+    )
+
+same-length : tie.Need-same-length
+same-length c =
+    let build-place = c .before .before .before .before .before in
+    build-place .build .kept .1 .1 .1 .1 .1 .1 .0
+
+same-length-2 : tie.Need-same-length-2
+same-length-2 c =
+    let build-place = c .before .before .before .before .before in
+    build-place .build .kept .1 .1 .1 .1 .1 .1 .1 .0
+
+returns-4 : tie.Need-returns-4
+returns-4 c =
+    let build-place = c .before .before .before .before .before in
+    let rows-place = build-place .before .before .before .before .before .before in
+    let if1-place = rows-place .before in
+    let front-place = if1-place .before .before in
+    let p = front-place .before .before in (
+      λ I M e g. as-result p I M (laws.result-is _ _ (stands p (front-place .front .given .1)) (entry p .pre .no-item) (if1-place .if1 .left))
+          (c .outcome-of .ensures .0 (build-place .build .last .1 .1 .1 .1 .1 .1 .0)
+          ∙ build-place .build .ensures .0 I (entry p .args .s) M (e ∙ sym (rows-place .rows-of .ensures)) g),
+      c .outcome-of .ensures .1,
+    )
+
+pub finish-spec : {M : Type 1} → statement M
+finish-spec =
+    tie.close
+    (tie.spec
+    front-at-requires
+    enum-told
+    first-variable-requires
+    enum-told-2
+    first-variable-requires-2
+    enum-known-front
+    first-variable-requires-3
+    returns
+    add-from
+    add-to
+    rows-of-requires
+    sub-build
+    part-build-start
+    part-build-end
+    build-requires
+    outcome-of-requires
+    returns-2
+    returns-3
+    same-length
+    same-length-2
+    returns-4)

@@ -1,0 +1,17 @@
+-- `first_variable`: the value of variable 0.
+use native.Mathlib.Omega.{arith}
+use borrow.Author.Needs.{needs}
+use Rattle.steps.proofs.ItemLaws as laws
+use Rattle.steps.proofs.first_variable.Statement.{statement}
+use Rattle.steps.proofs.first_variable.Tie as tie
+
+pick-requires : tie.Need-pick-requires
+pick-requires c κs = search needs
+
+returns : tie.Need-returns
+returns c =
+    let entry-place = c .before .before .before in
+    (λ I M cells g. laws.variable-value 0 I M (entry-place .args .s) cells (c .pick .ensures M g), omega arith)
+
+pub first-variable-spec : {M : Type 1} → statement M
+first-variable-spec = tie.close (tie.spec pick-requires returns)

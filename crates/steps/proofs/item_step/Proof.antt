@@ -1,0 +1,127 @@
+-- `item_step`: what stands at the offset decides.
+use Prim.Native.Nat.{ℕ, _+_, _≤_}
+use mathlib.Core.Path.{_≡_, refl, sym, _∙_}
+use mathlib.Core.Bool.{true}
+use native.Mathlib.Nat.{le-trans}
+use native.Mathlib.Omega.{arith}
+use lib.ListN.{length, drop}
+use borrow.Author.Needs.{needs}
+use Rattle.grammar.specs.declared.Front.the-variants.{Field}
+use Rattle.grammar.specs.Lookup.{frontOf}
+use Rattle.grammar.proofs.LookupLaws.{front-inside}
+use Rattle.steps.specs.Steps.{ItemAt}
+use Rattle.steps.proofs.ItemLaws as laws
+use Rattle.steps.proofs.item_step.Statement.{statement}
+use Rattle.steps.proofs.item_step.Tie as tie
+
+-- after a field is looked at
+module _ (p : tie.After-front-at) where
+  abbrev entry : tie.Start
+  entry = p .before .before .before .before .before
+
+  module _ {t n : ℕ} (e : p .front-at .result ≡ Field t n) where
+    stands : Field t n ≡ frontOf (drop (entry .args .at) (entry .args .table .now))
+    stands = sym e ∙ p .front-at .ensures
+
+    inside : entry .args .at + (3 + n) ≤ length (entry .args .table .now)
+    inside = front-inside (entry .args .table .now) (entry .args .at) stands
+
+    item : t ≡ 6 → ItemAt (entry .args .table .now) (entry .args .at) (laws.value (entry .args .table .now) (entry .args .at) stands) (entry .args .at + 3 + n)
+    item i = laws.item-at _ _ stands i (entry .pre .whole)
+
+front-at-requires : tie.Need-front-at-requires
+front-at-requires c κs = search needs
+
+enum-told : tie.Need-enum-told
+enum-told c = search needs
+
+enum-told-2 : tie.Need-enum-told-2
+enum-told-2 c = search needs
+
+enum-known-front : tie.Need-enum-known-front
+enum-known-front c = search needs
+
+returns : tie.Need-returns
+returns c =
+    let front-place = c .before .before in
+    (λ I M et er g. refl, laws.no-item _ _ (stands (front-place .before .before) (front-place .front .given .1)) (c .if1 .taken))
+
+add-from : tie.Need-add-from
+add-from c =
+    let p = c .before .before .before .before in
+    omega (arith, inside p (c .before .before .front .given .1), entry p .good .0)
+
+add-next : tie.Need-add-next
+add-next c =
+    let p = c .before .before .before .before in
+    omega (arith, inside p (c .before .before .front .given .1), entry p .good .0)
+
+sub-do-item : tie.Need-sub-do-item
+sub-do-item c = search needs
+
+part-do-item-start : tie.Need-part-do-item-start
+part-do-item-start c = search needs
+
+part-do-item-end : tie.Need-part-do-item-end
+part-do-item-end c =
+    let p = c .before .before .before .before in
+    omega (arith, inside p (c .before .before .front .given .1), entry p .good .0)
+
+do-item-requires : tie.Need-do-item-requires
+do-item-requires c κs =
+    let if1-place = c .before .before .before .before in
+    let front-place = if1-place .before .before in
+    let p = front-place .before .before in
+    let may = entry p .pre in
+    let here = item p (front-place .front .given .1) (if1-place .if1 .left) in
+    record {
+      small = record { few = le-trans (here .shorter) (may .small .few); stack-long = le-trans (here .shorter) (may .small .stack-long) };
+      may-read = may .may-read;
+      whole = laws.item-whole _ _ (stands p (front-place .front .given .1)) (if1-place .if1 .left) (may .whole);
+    }
+
+returns-2 : tie.Need-returns-2
+returns-2 c = (λ I M et er g. refl, laws.end-items _ _ (sym (c .enum-told .given .1) ∙ c .before .before .front-at .ensures))
+
+returns-3 : tie.Need-returns-3
+returns-3 c = (λ I M et er g. refl, laws.cut-items _ _ (sym (c .enum-told2 .given .1) ∙ c .before .before .front-at .ensures))
+
+same-length : tie.Need-same-length
+same-length c =
+    let do-item-place = c .before .before .before .before in
+    do-item-place .do-item .kept .1 .1 .1 .1 .1 .1 .1 .0
+
+same-length-2 : tie.Need-same-length-2
+same-length-2 c =
+    let do-item-place = c .before .before .before .before in
+    do-item-place .do-item .kept .1 .1 .1 .1 .1 .1 .1 .1 .0
+
+returns-4 : tie.Need-returns-4
+returns-4 c =
+    let do-item-place = c .before .before .before .before in
+    let if1-place = do-item-place .before .before .before .before .before in
+    let front-place = if1-place .before .before in
+    let p = front-place .before .before in
+    let here = item p (front-place .front .given .1) (if1-place .if1 .left) in
+    (λ I M et er g. do-item-place .do-item .ensures .0 _ _ I M here et er g, do-item-place .do-item .ensures .1 _ _ here)
+
+pub item-step-spec : {M : Type 1} → statement M
+item-step-spec =
+    tie.close
+    (tie.spec
+    front-at-requires
+    enum-told
+    enum-told-2
+    enum-known-front
+    returns
+    add-from
+    add-next
+    sub-do-item
+    part-do-item-start
+    part-do-item-end
+    do-item-requires
+    returns-2
+    returns-3
+    same-length
+    same-length-2
+    returns-4)

@@ -1,0 +1,17 @@
+-- `word_value`: the sort decides.
+use borrow.Author.Needs.{needs}
+use Rattle.steps.proofs.ItemLaws as laws
+use Rattle.steps.proofs.word_value.Statement.{statement}
+use Rattle.steps.proofs.word_value.Tie as tie
+
+add-result : tie.Need-add-result
+add-result c = search needs
+
+returns : tie.Need-returns
+returns c = laws.label-value (c .before .args .sort) (c .before .args .v) (c .if1 .taken)
+
+returns-2 : tie.Need-returns-2
+returns-2 c = laws.name-value (c .before .args .sort) (c .before .args .v) (c .if1 .left)
+
+pub word-value-spec : {M : Type 1} → statement M
+word-value-spec = tie.close (tie.spec add-result returns returns-2)

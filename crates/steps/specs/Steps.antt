@@ -1,0 +1,118 @@
+-- What the code that does the items of an alternative asks and answers, and the bound that its counters keep. These definitions mirror
+-- code: nobody needs them to believe `expand`.
+use Prim.Native.Nat.{ℕ, _+_, _-_, _*_, _^_, _<_, _≤_}
+use mathlib.Core.Path.{_≡_}
+use mathlib.Core.Bool.{true}
+use mathlib.Core.List.{List, [], _∷_, _++_}
+use lib.ListN.{length, drop}
+use Rattle.grammar.specs.Fields.{next}
+use Rattle.grammar.specs.Lookup.{fieldsAt}
+use Rattle.layout.specs.Prefix.{templatesOf, isTemplates}
+use Rattle.scanner.specs.Rooms.{TokensFit}
+use Rattle.productions.specs.Index.{itemsOf, resultOf}
+use Rattle.expansion.specs.declared.State.{State}
+use Rattle.expansion.specs.declared.Outcome.{Outcome}
+use Rattle.expansion.specs.declared.Outcome.the-variants.{Value, Halted}
+use Rattle.steps.specs.declared.Step.{Step}
+use Rattle.steps.specs.declared.Step.the-variants.{Finished, Stopped, Taken, Opened}
+use Rattle.expansion.specs.Run.{Run, halt, after}
+use Rattle.expansion.specs.Expansion.{Input, build, runItems}
+use Rattle.productions.specs.Index.{wholeBody}
+use Rattle.templates.specs.Built.{Holds}
+use Rattle.steps.specs.declared.Variables.{Variables}
+
+-- the items from an offset on and the result behind them, under the values of the variables; `callee` is what a call does
+unfoldable pub body : (ℕ → List ℕ → Run ℕ) → List ℕ → ℕ → Input → List ℕ → Run ℕ
+body callee bs at I M s cells =
+    after (runItems callee I (itemsOf (fieldsAt bs at)) M s cells) (λ M′. build (resultOf (fieldsAt bs at)) I M′)
+
+-- ------------------------------------------------------------------ what is asked
+
+-- the values of the variables
+abbrev pub Named : Variables → List ℕ → Type 0
+Named vars M = Holds (vars .values) (vars .count) M
+
+-- a table, or the value of one of its fields, is small, and the stack is as long
+pub record Small (v stack : List ℕ) : Type 0 where
+  pub few : length v ≤ 16384
+  pub stack-long : length v ≤ length stack
+
+-- the tokens fit, and so do the counters
+pub record MayRead (tokens : List ℕ) (n : ℕ) (s : State) : Type 0 where
+  pub tokens-fit : TokensFit tokens n
+  pub token-small : s .at < 2 ^ 32
+  pub fresh-small : s .fresh < 2 ^ 31
+
+-- the value of an item's field has whole templates
+pub record MayDo (v tokens : List ℕ) (n : ℕ) (s : State) (stack : List ℕ) : Type 0 where
+  pub small : Small v stack
+  pub may-read : MayRead tokens n s
+  pub whole : isTemplates (templatesOf (drop 2 v)) ≡ true
+
+-- a whole alternative stands at an offset
+pub record MayStep (bs : List ℕ) (at : ℕ) (tokens : List ℕ) (n : ℕ) (s : State) (stack : List ℕ) : Type 0 where
+  pub small : Small bs stack
+  pub may-read : MayRead tokens n s
+  pub whole : wholeBody (fieldsAt bs at) ≡ true
+
+-- its items end there
+pub record MayFinish (bs : List ℕ) (at : ℕ) (stack : List ℕ) : Type 0 where
+  pub small : Small bs stack
+  pub no-item : itemsOf (fieldsAt bs at) ≡ []
+  pub whole : wholeBody (fieldsAt bs at) ≡ true
+
+-- ------------------------------------------------------------------ counters
+
+-- Each item moves the token index or the counter of fresh names by one at most, and each of the calls left has fewer items than a
+-- table has bytes: what is used and what may still be used together never grow.
+abbrev pub weight : State → ℕ
+weight s = s .at + s .fresh + 16384 * (65536 - s .calls)
+
+abbrev pub mostWeight : ℕ
+mostWeight = 16384 * 65536 + 1
+
+-- a result moves no counter but that of the cells
+abbrev pub Stays : State → Outcome → Type 0
+Stays s (Value v t) = (t .at ≡ s .at) × (t .fresh ≡ s .fresh) × (t .calls ≡ s .calls)
+Stays s (Halted r) = Unit {0}
+
+-- ------------------------------------------------------------------ one item
+
+-- What is done at an offset: no item stands there; the item refuses; it gives a value, and the next one stands at another offset; or
+-- it calls a nonterminal, with k arguments in an array.
+abbrev pub Steps : List ℕ → ℕ → Input → List ℕ → State → List ℕ → Step → List ℕ → List ℕ → Type 0
+Steps bs at I M s cells Finished out cells′ = cells′ ≡ cells
+Steps bs at I M s cells (Stopped r) out cells′ = (C : ℕ → List ℕ → Run ℕ) → body C bs at I M s cells ≡ halt r cells′
+Steps bs at I M s cells (Taken x after′ t) out cells′ =
+    (C : ℕ → List ℕ → Run ℕ) → body C bs at I M s cells ≡ body C bs after′ I (M ++ (x ∷ [])) t cells′
+Steps bs at I M s cells (Opened n k after′ t) out cells′ =
+    (vs : List ℕ)
+    × Holds out k vs
+    × ((C : ℕ → List ℕ → Run ℕ) → body C bs at I M s cells ≡ after (C n vs t cells′) (λ x. body C bs after′ I (M ++ (x ∷ []))))
+
+-- an item whose field has the value v stands at an offset, and another offset is behind it, where a whole alternative goes on
+pub record ItemAt (bs : List ℕ) (at : ℕ) (v : List ℕ) (after′ : ℕ) : Type 0 where
+  pub fields : fieldsAt bs at ≡ next at 6 v (fieldsAt bs after′)
+  pub less : at < after′
+  pub inside : after′ ≤ length bs
+  pub shorter : length v ≤ length bs
+  pub whole : wholeBody (fieldsAt bs after′) ≡ true
+
+-- the next offset lies further right, where whole alternatives go on; the counters move by one item
+pub record Onward (bs : List ℕ) (at after′ : ℕ) (s t : State) : Type 0 where
+  pub less : at < after′
+  pub inside : after′ ≤ length bs
+  pub whole : wholeBody (fieldsAt bs after′) ≡ true
+  pub counted : t .at + t .fresh ≤ s .at + s .fresh + 1
+  pub called : t .calls ≡ s .calls
+
+abbrev pub Advances : List ℕ → ℕ → State → Step → Type 0
+Advances bs at s Finished = itemsOf (fieldsAt bs at) ≡ []
+Advances bs at s (Stopped r) = Unit {0}
+Advances bs at s (Taken x after′ t) = Onward bs at after′ s t
+Advances bs at s (Opened n k after′ t) = Onward bs at after′ s t × (k ≤ length bs)
+
+-- a token or a fresh name moves the counters by one
+abbrev pub Spends : State → Outcome → Type 0
+Spends s (Value v t) = (t .at + t .fresh ≤ s .at + s .fresh + 1) × (t .calls ≡ s .calls)
+Spends s (Halted r) = Unit {0}

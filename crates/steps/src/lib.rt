@@ -1,0 +1,257 @@
+// The items of an alternative, read off the table's bytes, and its result.
+pub mod tokens;
+
+use crate::tokens::take;
+use answers::Refusal;
+use answers::refuse;
+use expansion::Outcome;
+use expansion::State;
+use grammar::Front;
+use grammar::front_at;
+use grammar::reader::byte;
+use scanner::tokens::value_at;
+use templates::Arguments;
+use templates::Built;
+use templates::FRESH;
+use templates::WORD;
+use templates::build;
+use templates::build_arguments;
+use templates::pick;
+use templates::rows_of;
+ghost use Prim.Native.Nat.{ℕ, _^_, _<_};
+ghost use mathlib.Core.Path.{_≡_};
+ghost use mathlib.Core.List.{List};
+ghost use lib.ListN.{getD};
+ghost use Rattle.answers.specs.Refusals.{refusal};
+ghost use Rattle.grammar.specs.Lookup.{fieldsAt};
+ghost use Rattle.grammar.specs.Table.{Template};
+ghost use Rattle.layout.specs.Decode.{itemOf};
+ghost use Rattle.scanner.specs.Rooms.{tokensIn};
+ghost use Rattle.productions.specs.Index.{resultOf};
+ghost use Rattle.expansion.specs.Run.{Run};
+ghost use Rattle.expansion.specs.Outcomes.{ran};
+ghost use Rattle.expansion.specs.Expansion.{Input, wordValue, freshMade, build, runItem};
+ghost use Rattle.templates.specs.Built.{rowsIn, withMade, built};
+ghost use Rattle.steps.specs.Steps.{Named, MayRead, MayDo, MayStep, MayFinish, Stays, ItemAt, Steps, Advances, Spends};
+
+// What is done at an offset: there is no item, the item refuses, it gives a value (with the offset behind it and where the expansion
+// then stands), or it calls a nonterminal with a number of arguments.
+pub enum Step {
+    Finished,
+    Stopped(Refusal),
+    Taken(u32, usize, State),
+    Opened(u8, usize, usize, State),
+}
+
+// The values of the variables of an alternative, and how many there are; the seventeenth and later ones are named by no template.
+pub struct Variables {
+    pub values: [u32; 16],
+    pub count: usize,
+}
+
+// A word read at a sort: a label is its spelling number, any other a name.
+fn word_value(sort: u8, v: u32) -> u32
+    requires { ⌜ v < 2 ^ 30 ⌝ }
+    ensures { λ r. ⌜ r ≡ wordValue sort v ⌝ }
+{
+    if sort == 3 { v } else { WORD + v }
+}
+
+// A fresh name.
+fn fresh_name(s: State) -> Outcome
+    requires { ⌜ s .fresh < 2 ^ 31 ⌝ }
+    ensures { λ r. ⌜ ((cells : List ℕ) → ran r cells ≡ freshMade s cells) ⌝ }
+    ensures { λ r. ⌜ Spends s r ⌝ }
+{
+    let fresh = s.fresh;
+    Outcome::Value(
+        FRESH + fresh,
+        State {
+            at: s.at,
+            fresh: fresh + 1,
+            calls: s.calls,
+            made: s.made,
+        },
+    )
+}
+
+// An item that is no call, by its kind and operand.
+fn read_item(kind: u8, operand: u8, tokens: &[u32], n: usize, s: State) -> Outcome
+    requires { ⌜ MayRead (now tokens) n s ⌝ }
+    ensures { λ r. ⌜ ((v : List ℕ) (C : ℕ → List ℕ → Run ℕ) (I : Input) (M cells : List ℕ) → I .tokens ≡ tokensIn (now (tokens .entry)) n →
+        kind ≡ getD v 0 0 → operand ≡ getD v 1 0 → (kind ≡ 4 → ⊥) → ran r cells ≡ runItem C I (itemOf v) M s cells) ⌝ }
+    ensures { λ r. ⌜ Spends s r ⌝ }
+{
+    let at = s.at;
+    let value = value_at(tokens, n, at);
+    match kind {
+        0 => take(tokens, n, operand as u32 + 2, 0, s),
+        1 => take(tokens, n, 0, word_value(operand, value), s),
+        3 => fresh_name(s),
+        _ => take(tokens, n, 1, value, s),
+    }
+}
+
+// Refusal 21: no row is left for a cell.
+fn no_row(s: State) -> Refusal
+    ensures { λ r. ⌜ r ≡ refusal 21 (s .at) 0 0 ⌝ }
+{
+    refuse(21, s.at as u64, 0, 0)
+}
+
+// An item, by the value of its field: `next` is the offset behind it, and `out` takes a call's arguments.
+fn do_item(
+    v: &[u8],
+    next: usize,
+    tokens: &[u32],
+    n: usize,
+    vars: Variables,
+    out: &mut [u32; 16],
+    s: State,
+    cells: &mut [u32],
+    stack: &mut [u32],
+) -> Step
+    requires { ⌜ MayDo (now v) (now tokens) n s (now stack) ⌝ }
+    ensures { λ r. ⌜ ((bs : List ℕ) (at : ℕ) (I : Input) (M : List ℕ) → ItemAt bs at (now (v .entry)) next → I .tokens ≡ tokensIn (now
+        (tokens .entry)) n → I .rows ≡ rowsIn (now (cells .entry)) → Named vars M → Steps bs at I M s (now (cells .entry)) r (now (out
+        .exit)) (now (cells .exit))) ⌝ }
+    ensures { λ r. ⌜ ((bs : List ℕ) (at : ℕ) → ItemAt bs at (now (v .entry)) next → Advances bs at s r) ⌝ }
+{
+    let kind = byte(v, 0);
+    let operand = byte(v, 1);
+    if kind == 4 {
+        let rows = rows_of(cells.len());
+        let count = vars.count;
+        let made = s.made;
+        let listed = build_arguments(v, 2, &vars.values, count, rows, made, out, cells, stack);
+        match listed {
+            Arguments::Overfull => {
+                return Step::Stopped(no_row(s));
+            }
+            Arguments::Listed(given, made) => {
+                return Step::Opened(operand, given, next, with_made(s, made));
+            }
+        }
+    }
+    let outcome = read_item(kind, operand, tokens, n, s);
+    match outcome {
+        Outcome::Halted(r) => Step::Stopped(r),
+        Outcome::Value(x, t) => Step::Taken(x, next, t),
+    }
+}
+
+// What is done at an offset of the table.
+pub fn item_step(
+    table: &[u8],
+    at: usize,
+    tokens: &[u32],
+    n: usize,
+    vars: Variables,
+    out: &mut [u32; 16],
+    s: State,
+    cells: &mut [u32],
+    stack: &mut [u32],
+) -> Step
+    requires { ⌜ MayStep (now table) at (now tokens) n s (now stack) ⌝ }
+    ensures { λ r. ⌜ ((I : Input) (M : List ℕ) → I .tokens ≡ tokensIn (now (tokens .entry)) n → I .rows ≡ rowsIn (now (cells .entry)) →
+        Named vars M → Steps (now (table .entry)) at I M s (now (cells .entry)) r (now (out .exit)) (now (cells .exit))) ⌝ }
+    ensures { λ r. ⌜ Advances (now (table .entry)) at s r ⌝ }
+{
+    let front = front_at(table, at);
+    match front {
+        Front::Nothing => Step::Finished,
+        Front::Short => Step::Finished,
+        Front::Field(tag, size) => {
+            if tag != 6 {
+                return Step::Finished;
+            }
+            let from = at + 3;
+            let next = from + size;
+            do_item(
+                &table[from..next],
+                next,
+                tokens,
+                n,
+                vars,
+                out,
+                s,
+                cells,
+                stack,
+            )
+        }
+    }
+}
+
+// The state with another number of cells made.
+fn with_made(s: State, made: usize) -> State
+    ensures { λ r. ⌜ r ≡ withMade s made ⌝ }
+{
+    State {
+        at: s.at,
+        fresh: s.fresh,
+        calls: s.calls,
+        made,
+    }
+}
+
+// The value of a template, as the outcome of the alternative that it is the result of.
+fn outcome_of(b: Built, s: State) -> Outcome
+    ensures { λ r. ⌜ ((cells : List ℕ) → ran r cells ≡ built s b cells) ⌝ }
+    ensures { λ r. ⌜ Stays s r ⌝ }
+{
+    match b {
+        Built::Made(v, _, made) => Outcome::Value(v, with_made(s, made)),
+        Built::Full => Outcome::Halted(no_row(s)),
+    }
+}
+
+// The first variable, which stands for a result that is not there.
+fn first_variable(vars: Variables, s: State) -> Outcome
+    ensures { λ r. ⌜ ((I : Input) (M cells : List ℕ) → Named vars M → ran r cells ≡ build (Template.variable 0) I M s cells) ⌝ }
+    ensures { λ r. ⌜ Stays s r ⌝ }
+{
+    let count = vars.count;
+    Outcome::Value(pick(&vars.values, count, 0), s)
+}
+
+// The result of the alternative whose items end at an offset.
+pub fn finish(
+    table: &[u8],
+    at: usize,
+    vars: Variables,
+    s: State,
+    cells: &mut [u32],
+    stack: &mut [u32],
+) -> Outcome
+    requires { ⌜ MayFinish (now table) at (now stack) ⌝ }
+    ensures { λ r. ⌜ ((I : Input) (M : List ℕ) → I .rows ≡ rowsIn (now (cells .entry)) → Named vars M → ran r (now (cells .exit)) ≡ build
+        (resultOf (fieldsAt (now (table .entry)) at)) I M s (now (cells .entry))) ⌝ }
+    ensures { λ r. ⌜ Stays s r ⌝ }
+{
+    let front = front_at(table, at);
+    match front {
+        Front::Nothing => first_variable(vars, s),
+        Front::Short => first_variable(vars, s),
+        Front::Field(tag, size) => {
+            if tag != 7 {
+                return first_variable(vars, s);
+            }
+            let from = at + 3;
+            let to = from + size;
+            let rows = rows_of(cells.len());
+            let count = vars.count;
+            let made = s.made;
+            let value = build(
+                &table[from..to],
+                0,
+                &vars.values,
+                count,
+                rows,
+                made,
+                cells,
+                stack,
+            );
+            outcome_of(value, s)
+        }
+    }
+}
