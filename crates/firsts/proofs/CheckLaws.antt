@@ -88,13 +88,12 @@ module _ (room : List ℕ) {n : ℕ} (e : n ≡ clashingIn room) where
   clash-tests : (b : Bool) → ltb n 64 ≡ b → verdict (refusedIf b (clashOf n (allSharedIn room n))) ≡ verdict (noClashIn room)
   unfolding noClashIn
   clash-tests b f =
-      ap (λ (x : Bool). verdict (refusedIf x (clashOf n (allSharedIn room n)))) (sym f)
-      ∙ ap (λ (k : ℕ). verdict (refusedIf (ltb k 64) (clashOf k (allSharedIn room k)))) e
+      rw (← f, e) refl
 
   pub clash-refused : n < 64 → {s k : ℕ} → s ≡ allSharedIn room n → k ≡ trailingZeros 64 s → {r : Refusal} → r ≡ refusal 13 n k 0
       → Refused r ≡ verdict (noClashIn room)
   clash-refused h es ek er =
-      ap Refused (er ∙ ap (λ (k : ℕ). refusal 13 n k 0) (ek ∙ ap (trailingZeros 64) es)) ∙ clash-tests true (lt-ltb n 64 h)
+      rw (er, ek, es) (clash-tests true (lt-ltb n 64 h))
 
   pub clash-passed : 64 ≤ n → Passed ≡ verdict (noClashIn room)
   clash-passed h = clash-tests false (le-ltb n 64 h)

@@ -93,7 +93,7 @@ module _ (g : List Production) where
       gives p q = hasKind (sharedBy (nullables g) firsts n p q) b
 
       seen : hasKind (joinPairs (sharedBy (nullables g) firsts n) g 0) b ≡ anyPair gives g
-      seen = pairs-seen (sharedBy (nullables g) firsts n) g 0 b ∙ ap (λ t. t || anyPair gives g) (has-none b)
+      seen = rw (has-none b) at (pairs-seen (sharedBy (nullables g) firsts n) g 0 b)
 
   -- ---------------------------------------------------------------- a clash
 

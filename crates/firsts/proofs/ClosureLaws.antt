@@ -19,7 +19,7 @@ use Rattle.firsts.proofs.Rounds.{or-left, or-right, or-split}
 
 -- the code's test
 pub joined-by : (set more : ℕ) {b t : Bool} → b ≡ t → {u : Bool} → b ≡ u → joinedIf u set more ≡ joinedIf t set more
-joined-by set more e f = ap (λ (x : Bool). joinedIf x set more) (sym f ∙ e)
+joined-by set more e f = cc
 
 module _ {k n : ℕ} {calls sets new : List ℕ} (r : CalleeJoined k n calls sets new) where
   joined-next : n < length sets → {v : ℕ} → v ≡ withCallee calls sets k n → CalleeJoined k (n + 1) calls sets (set new n v)
@@ -92,7 +92,7 @@ no-set {many} {calls₀ = calls₀} {sets₀ = sets₀} c no-calls no-sets n b e
       where
         by : Dec (n < many) → ltb n many ≡ true
         by (yes l) = lt-ltb n many l
-        by (no l) = absurd (false≢true (sym (ap (λ s. hasKind s b) (none n (omega arith)) ∙ has-none b) ∙ e))
+        by (no l) = absurd (false≢true (cc (none n (omega arith), has-none b)))
 
 -- one callee more
 module _ {k : ℕ} {calls₀ sets₀ calls sets : List ℕ} (calls′ sets′ : List ℕ)
@@ -147,19 +147,19 @@ module _ {many k : ℕ} {calls sets sets′ : List ℕ} (r : CalleeJoined k many
       by : Dec (n < many) → (holds sets n b ≡ true) ⊎ ((holds calls n k ≡ true) × (holds sets k b ≡ true))
       by (yes l) =
           ⊎-elim inl (λ p. inr (and-eq-true-iff _ _ .0 p))
-          (or-split (holds sets n b) (sym (with-seen n b) ∙ sym (ap (λ s. hasKind s b) (r .done n l)) ∙ e))
-      by (no l) = inl (sym (ap (λ s. hasKind s b) (r .left n (omega arith))) ∙ e)
+          (or-split (holds sets n b) (cc (with-seen n b, r .done n l)))
+      by (no l) = inl (cc (r .left n (omega arith)))
 
   taken-old : (n b : ℕ) → holds sets n b ≡ true → holds sets′ n b ≡ true
   taken-old n b e = by (decLt n many)
     where
       by : Dec (n < many) → holds sets′ n b ≡ true
-      by (yes l) = ap (λ s. hasKind s b) (r .done n l) ∙ with-seen n b ∙ or-left _ e
-      by (no l) = ap (λ s. hasKind s b) (r .left n (omega arith)) ∙ e
+      by (yes l) = rw (r .done n l) (with-seen n b ∙ or-left _ e)
+      by (no l) = rw (r .left n (omega arith)) e
 
   taken-new : (n b : ℕ) → holds calls n k ≡ true → holds sets k b ≡ true → holds sets′ n b ≡ true
   taken-new n b e f =
-      ap (λ s. hasKind s b) (r .done n (none n e)) ∙ with-seen n b ∙ or-right (holds sets n b) (and-eq-true-iff _ _ .1 (e, f))
+      rw (r .done n (none n e)) (with-seen n b ∙ or-right (holds sets n b) (and-eq-true-iff _ _ .1 (e, f)))
 
 -- ------------------------------------------------------------------ the loop
 

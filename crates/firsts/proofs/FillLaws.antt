@@ -24,7 +24,7 @@ map-at f zero owners starts i j h = absurd (omega arith)
 map-at f (suc k) owners starts i zero h = rw add-zero refl
 map-at f (suc k) owners starts i (suc j) h =
     let z : i + 1 + j ≡ i + suc j = omega arith in
-    map-at f k owners starts (i + 1) j (omega arith) ∙ ap (λ n. f (placeAt owners starts n)) z
+    rw z at (map-at f k owners starts (i + 1) j (omega arith))
 
 each-at : {P : Place → Type 0} (k : ℕ) (owners starts : List ℕ) (i j : ℕ) → Each P (placesFrom k owners starts i) → j < k
     → P (placeAt owners starts (i + j))
@@ -33,7 +33,7 @@ each-at zero owners starts i j e h = absurd (omega arith)
 each-at (suc k) owners starts i zero (each-more p ps) h = rw add-zero p
 each-at {P} (suc k) owners starts i (suc j) (each-more p ps) h =
     let z : i + 1 + j ≡ i + suc j = omega arith in
-    subst (λ n. P (placeAt owners starts n)) z (each-at k owners starts (i + 1) j ps (omega arith))
+    rw z at (each-at k owners starts (i + 1) j ps (omega arith))
 
 pub length-entries : (f : Place → Entry) (m : ℕ) (owners starts : List ℕ) → length (map f (placesIn m owners starts)) ≡ m
 length-entries f m owners starts = length-map (placesIn m owners starts) f ∙ length-places m owners starts 0
@@ -56,7 +56,7 @@ module _ {bs : List ℕ} {m : ℕ} {owners starts sets room₀ : List ℕ} (pre 
   fill-start {room} e =
       let f : Filling sets entries (begun m sets room₀) (length entries) (begun m sets room₀) =
       filling-start sets entries room₀ (omega (arith, many, pre .index .few)) (pre .lent .size) (sym many) in
-      subst (λ k. Filling sets entries room k room) many (subst (λ r. Filling sets entries r (length entries) r) (sym e) f)
+      rw e (rw many at f)
 
   module _ {room₁ : List ℕ} {j : ℕ} {room : List ℕ} (c : Filling sets entries room₁ j room) (positive : 0 < j) where
     pub fill-at : RoomAt (j - 1) (getD owners (j - 1) 0) room
@@ -84,5 +84,5 @@ module _ {bs : List ℕ} {m : ℕ} {owners starts sets room₀ : List ℕ} (pre 
   pub fill-end : {room₁ : List ℕ} → room₁ ≡ begun m sets room₀ → {j : ℕ} {room : List ℕ} → Filling sets entries room₁ j room → j ≤ 0
       → room ≡ overwritten (roomBy bs (placesIn m owners starts) nulls sets) room₀
   fill-end e {j} {room} c h =
-      let f : Filling sets entries (begun m sets room₀) j room = subst (λ r. Filling sets entries r j room) e c in
+      let f : Filling sets entries (begun m sets room₀) j room = rw e at c in
       filling-end room₀ m f (omega arith)

@@ -19,7 +19,7 @@ use Rattle.grammar.specs.Table.{Item, keyword, ide, number, local, call}
 use Rattle.productions.specs.Normal.{Production}
 use Rattle.firsts.specs.FirstSets.{overAll, isPassed, nullables, own, through, joined, gather, firstStep, setsOf}
 use Rattle.firsts.specs.Rules.{Of, First, first-own, first-call, first-past, FirstOf, Reads, reads-keyword, reads-word, reads-number, Calls, calls}
-use Rattle.firsts.proofs.Rounds.{Numbers, nothing, Within, Each, admit, least, least-within, least-closed, least-seen, over-seen}
+use Rattle.firsts.proofs.Rounds.{Numbers, same-at, nothing, Within, Each, admit, least, least-within, least-closed, least-seen, over-seen}
 use Rattle.firsts.proofs.Rounds.{or-left, or-right, or-split}
 use Rattle.firsts.proofs.NullablesExactly.{null-item-exactly}
 
@@ -92,12 +92,11 @@ module _ (c : Bool) (nulls b : ℕ) where
           → hasKind (gather c nulls sets (i ∷ is) found) b ≡ (hasKind found b || firstIn c nulls b (bitOfAll b sets) (i ∷ is))
       by true e rest =
           rw (e, gather)
-          (rest ∙ ap (λ t. t || firstIn c nulls b (bitOfAll b sets) is) (joined-seen sets i found)
-          ∙ or-assoc (hasKind found b) (given c b (bitOfAll b sets) i) (firstIn c nulls b (bitOfAll b sets) is))
-      by false e rest = rw (e, gather) (joined-seen sets i found ∙ ap (λ t. hasKind found b || t) (sym (or-false _)))
+          (rest ∙ rw (joined-seen sets i found) (or-assoc (hasKind found b) (given c b (bitOfAll b sets) i) (firstIn c nulls b (bitOfAll b sets) is)))
+      by false e rest = rw (e, gather) (joined-seen sets i found ∙ rw (or-false (given c b (bitOfAll b sets) i)) refl)
 
   pub items-seen : (sets : List ℕ) (is : List Item) → hasKind (gather c nulls sets is 0) b ≡ firstIn c nulls b (bitOfAll b sets) is
-  items-seen sets is = gather-seen sets is 0 ∙ ap (λ t. t || firstIn c nulls b (bitOfAll b sets) is) (has-none b)
+  items-seen sets is = rw (has-none b) at (gather-seen sets is 0)
 
   step-length : (p : Production) (sets : List ℕ) → length sets ≡ 64 → length (firstStep c nulls p sets) ≡ 64
   unfolding firstStep
@@ -118,7 +117,7 @@ module _ (c : Bool) (nulls b : ℕ) where
           rw (getD-set-other sets (p .owner) n grown 0 e, ne-eqb n (p .owner) e, and-false (ltb n 64), and-false given-it) (sym (or-false _))
       by n (yes e) (yes l) =
           rw (e, getD-set-same sets (p .owner) grown 0 (omega arith), lt-ltb (p .owner) 64 (omega arith), eq-eqb (p .owner) (p .owner) refl, and-true given-it)
-          (has-join (getD sets (p .owner) 0) (gather c nulls sets (p .items) 0) b ∙ ap (λ t. bitOfAll b sets (p .owner) || t) (items-seen sets (p .items)))
+          (has-join (getD sets (p .owner) 0) (gather c nulls sets (p .items) 0) b ∙ rw (items-seen sets (p .items)) refl)
       by n (yes e) (no l) =
           rw (set-out sets (p .owner) grown (omega arith), le-ltb n 64 (omega arith), and-false given-it) (sym (or-false _))
 
@@ -175,8 +174,8 @@ module _ (c : Bool) (Own : Item → ℕ → Type 0) (own-exactly : (i : Item) (b
 
   pub sets-exactly : (n b : ℕ) → (hasKind (getD (setsOf c (nullables g) g) n 0) b ≡ true) ↔ FirstOf g Own n b
   sets-exactly n b = (
-    λ e. least-within (firstIn c (nullables g) b) g (λ m. FirstOf g Own m b) keeps n (sym (ap (λ (s : Numbers). s n) (sets-seen c (nullables g) b g)) ∙ e),
-    λ f. ap (λ (s : Numbers). s n) (sets-seen c (nullables g) b g)
+    λ e. least-within (firstIn c (nullables g) b) g (λ m. FirstOf g Own m b) keeps n (sym (same-at (sets-seen c (nullables g) b g) n) ∙ e),
+    λ f. same-at (sets-seen c (nullables g) b g) n
         ∙ least-closed (firstIn c (nullables g) b) (first-more c (nullables g) b) g (f .of) (first-complete (f .first)),
   )
     where

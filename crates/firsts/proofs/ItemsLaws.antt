@@ -44,8 +44,7 @@ symbol-by v =
 pub symbol-is : (v : List ℕ) (kind operand k : ℕ) → kind ≡ getD v 0 0 → operand ≡ getD v 1 0 → kind ≡ k
     → getD (symbols operand) k Number ≡ symbolOf (itemOf v)
 symbol-is v kind operand k ek eo e =
-    ap (λ (o : ℕ). getD (symbols o) k Number) eo ∙ ap (λ (n : ℕ). getD (symbols (getD v 1 0)) n Number) (sym e ∙ ek)
-    ∙ sym (symbol-by v)
+    sym (rw (← eo, ← ek, e) at (symbol-by v))
 
 pub symbol-other : (v : List ℕ) (kind operand : ℕ) → kind ≡ getD v 0 0 → operand ≡ getD v 1 0 → (kind ≡ 0 → ⊥) → (kind ≡ 1 → ⊥)
     → (kind ≡ 3 → ⊥)
@@ -93,13 +92,13 @@ joined-by calls sets i found = rw (own-by calls i, through-by sets i) refl
 
 -- the code's cases
 pub passed-is : (nulls : ℕ) {s t : Symbol} → s ≡ t → isPassed nulls (withSymbol t) ≡ isPassed nulls (withSymbol s)
-passed-is nulls e = ap (λ (u : Symbol). isPassed nulls (withSymbol u)) (sym e)
+passed-is nulls e = rw e refl
 
 pub own-is : {calls b : Bool} → calls ≡ b → {s t : Symbol} → s ≡ t → own b (withSymbol t) ≡ own calls (withSymbol s)
-own-is {calls} {b} e {s} f = ap (λ (u : Symbol). own b (withSymbol u)) (sym f) ∙ ap (λ (x : Bool). own x (withSymbol s)) (sym e)
+own-is e f = rw (e, f) refl
 
 pub through-is : (sets : List ℕ) {s t : Symbol} → s ≡ t → through sets (withSymbol t) ≡ through sets (withSymbol s)
-through-is sets e = ap (λ (u : Symbol). through sets (withSymbol u)) (sym e)
+through-is sets e = rw e refl
 
 pub keyword-none : (k : ℕ) → 62 ≤ k → 0 ≡ only (keywordKind k)
 keyword-none k h = sym (only-none (k + 2) (omega arith))
@@ -138,7 +137,7 @@ module _ (bs : List ℕ) (at : ℕ) where
   stepped-by (Field t n) e = stepped-field t n e _ refl
 
   pub stepped : {r : Step} → r ≡ stepOf bs at (frontOf (drop at bs)) → Stepped bs at r
-  stepped e = subst (λ (r : Step). Stepped bs at r) (sym e) (stepped-by _ refl)
+  stepped e = rw e (stepped-by _ refl)
 
   -- behind an item less is left
   pub step-less : {s : Symbol} {after : ℕ} → Past s after ≡ stepOf bs at (frontOf (drop at bs)) → length bs - after < length bs - at
@@ -153,9 +152,7 @@ module _ (bs : List ℕ) (at : ℕ) where
       → Past s (at + 3 + n) ≡ stepOf bs at (frontOf (drop at bs))
   step-past {t} {n} e h es =
       let z : at + 3 + n - (at + 3) ≡ n = omega arith in
-      ap (λ (s : Symbol). Past s (at + 3 + n)) (es ∙ ap (λ (k : ℕ). symbolOf (itemOf (take k (drop (at + 3) bs)))) z)
-      ∙ ap (fieldStep bs at n) (sym (eq-eqb t 6 h))
-      ∙ ap (stepOf bs at) e
+      rw (es, z, ← e, eq-eqb t 6 h) refl
 
   items-end : length bs ≤ at → itemsOf (fieldsAt bs at) ≡ []
   unfolding itemsOf
@@ -166,8 +163,8 @@ passes : (bs : List ℕ) (at nulls : ℕ) {s : Symbol} {after : ℕ} (e : Past s
     → b ≡ isPassed nulls (withSymbol s)
     → b ≡ isPassed nulls (stepped bs at e .item)
 passes bs at nulls e eb =
-    eb ∙ ap (λ (t : Symbol). isPassed nulls (withSymbol t)) (stepped bs at e .symbol)
-    ∙ passed-by nulls (stepped bs at e .item)
+    let s = stepped bs at e in
+    rw (s .symbol) at eb ∙ passed-by nulls (s .item)
 
 -- ------------------------------------------------------------------ all items may read nothing
 
@@ -190,15 +187,13 @@ module _ {bs : List ℕ} {nulls start at : ℕ} (c : AllPassing bs nulls start a
     all-one : (b && allPassed nulls (itemsOf (fieldsAt bs after))) ≡ allPassed nulls (itemsOf (fieldsAt bs start))
     unfolding allPassed
     all-one =
-        ap (λ (x : Bool). x && allPassed nulls (itemsOf (fieldsAt bs after))) (passes bs at nulls e eb)
-        ∙ sym (ap (allPassed nulls) (stepped bs at e .items))
-        ∙ c .rest
+        rw (passes bs at nulls e eb) (rw (stepped bs at e .items) at (c .rest))
 
     pub all-next : b ≡ true → AllPassing bs nulls start after
-    all-next t = record { rest = ap (λ (x : Bool). x && allPassed nulls (itemsOf (fieldsAt bs after))) (sym t) ∙ all-one }
+    all-next t = record { rest = rw t at all-one }
 
     pub all-stop : b ≡ false → false ≡ allPassed nulls (itemsOf (fieldsAt bs start))
-    all-stop t = ap (λ (x : Bool). x && allPassed nulls (itemsOf (fieldsAt bs after))) (sym t) ∙ all-one
+    all-stop t = rw t at all-one
 
 -- ------------------------------------------------------------------ what the items give
 
@@ -209,7 +204,7 @@ pub record Gathering (bs : List ℕ) (calls : Bool) (nulls : ℕ) (sets : List �
 module _ {bs : List ℕ} {calls : Bool} {nulls : ℕ} {sets : List ℕ} {start found at : ℕ} (c : Gathering bs calls nulls sets start found at) where
   gather-none : itemsOf (fieldsAt bs at) ≡ [] → found ≡ gather calls nulls sets (itemsOf (fieldsAt bs start)) 0
   unfolding gather
-  gather-none e = sym (ap (λ (is : List Item). gather calls nulls sets is found) e) ∙ c .rest
+  gather-none e = rw e at (c .rest)
 
   pub gather-done : Done ≡ stepOf bs at (frontOf (drop at bs)) → found ≡ gather calls nulls sets (itemsOf (fieldsAt bs start)) 0
   gather-done e = gather-none (stepped bs at e)
@@ -221,8 +216,7 @@ module _ {bs : List ℕ} {calls : Bool} {nulls : ℕ} {sets : List ℕ} {start f
       (em : more ≡ joined calls sets (withSymbol s) found) {b : Bool} (eb : b ≡ isPassed nulls (withSymbol s)) where
     finds : more ≡ joined calls sets (stepped bs at e .item) found
     finds =
-        em ∙ ap (λ (t : Symbol). joined calls sets (withSymbol t) found) (stepped bs at e .symbol)
-        ∙ joined-by calls sets (stepped bs at e .item) found
+        rw (stepped bs at e .symbol) at em ∙ joined-by calls sets (stepped bs at e .item) found
 
     gather-one : (elim b [ true ↦ gather calls nulls sets (itemsOf (fieldsAt bs after)) more | false ↦ more ])
         ≡ gather calls nulls sets (itemsOf (fieldsAt bs start)) 0

@@ -83,7 +83,7 @@ joins-none s t h = eq-eqb (bitOr s t) s (same-set (bitOr s t) s (λ n. has-join 
 
 joined-in : (s t : ℕ) → eqb (bitOr s t) s ≡ true → (n : ℕ) → hasKind t n ≡ true → hasKind s n ≡ true
 joined-in s t e n f =
-    ap (λ x. hasKind x n) (sym (eqb-true (bitOr s t) s e)) ∙ has-join s t n ∙ or-right (hasKind s n) f
+    cc (eqb-true (bitOr s t) s e, has-join s t n, or-right (hasKind s n) f)
 
 -- ------------------------------------------------------------------ the items of a production
 
@@ -169,18 +169,17 @@ module _ (bs : List ℕ) (owner start : ℕ) {found : Gathered} (ef : found ≡ 
   pub held-step : found .nullable ≡ true → (nulls : ℕ) → needStep owner (found .calls) nulls ≡ nullStep (productionAt bs owner start) nulls
   unfolding nullStep productionAt
   held-step e nulls =
-      ap (λ (x : Gathered). needStep owner (x .calls) nulls) ef
-      ∙ ap (λ (b : Bool). joinedIf b nulls (only owner)) (test-is items (sym (ap (λ (x : Gathered). x .nullable) ef) ∙ e) nulls)
-      ∙ by-cases owner nulls (allPassed nulls items)
+      rw (ef, test-is items (rw ef at e) nulls) (by-cases owner nulls (allPassed nulls items))
 
   pub other-step : found .nullable ≡ false → {nulls : ℕ} → Nonterminals nulls → nulls ≡ nullStep (productionAt bs owner start) nulls
   unfolding nullStep productionAt
   other-step e {nulls} h =
-      ap (λ (b : Bool). joinedIf b nulls (only owner)) (sym (by (allPassed nulls items) refl)) ∙ by-cases owner nulls (allPassed nulls items)
+      let none : allPassed nulls items ≡ false = by (allPassed nulls items) refl in
+      rw (none, nullStep) refl
     where
       by : (b : Bool) → allPassed nulls items ≡ b → allPassed nulls items ≡ false
       by true f =
-          absurd (false≢true (sym e ∙ ap (λ (x : Gathered). x .nullable) ef ∙ all-every h items f))
+          absurd (false≢true (sym (rw ef at e) ∙ all-every h items f))
       by false f = f
 
 -- ------------------------------------------------------------------ the productions that are held
@@ -287,10 +286,10 @@ module _ {owners needs : List ℕ} {down : Bool} {nulls k j set : ℕ} (c : Pass
 pub need-taken : (owner needs nulls : ℕ) {both : ℕ} → both ≡ bitOr nulls needs → both ≡ nulls → {o : ℕ} → o ≡ only owner → {r : ℕ} → r ≡ bitOr nulls o
     → r ≡ needStep owner needs nulls
 need-taken owner needs nulls e f eo er =
-    er ∙ ap (bitOr nulls) eo ∙ ap (λ (b : Bool). joinedIf b nulls (only owner)) (sym (eq-eqb (bitOr nulls needs) nulls (sym e ∙ f)))
+    rw (eq-eqb (bitOr nulls needs) nulls (sym e ∙ f)) (cc)
 
 pub need-left : (owner needs nulls : ℕ) {both : ℕ} → both ≡ bitOr nulls needs → (both ≡ nulls → ⊥) → nulls ≡ needStep owner needs nulls
-need-left owner needs nulls e f = ap (λ (b : Bool). joinedIf b nulls (only owner)) (sym (ne-eqb (bitOr nulls needs) nulls (λ g. f (e ∙ g))))
+need-left owner needs nulls e f = rw (ne-eqb (bitOr nulls needs) nulls (λ g. f (e ∙ g))) refl
 
 -- ------------------------------------------------------------------ passes
 
@@ -310,9 +309,9 @@ step-more owner needs s t h n = by (eqb (bitOr s needs) s) refl
   where
     by : (b : Bool) → eqb (bitOr s needs) s ≡ b → hasKind (joinedIf b s (only owner)) n ≡ true → hasKind (needStep owner needs t) n ≡ true
     by true e f =
-        ap (λ (b : Bool). hasKind (joinedIf b t (only owner)) n) (joins-none t needs (λ m g. h m (joined-in s needs e m g)))
-        ∙ has-join t (only owner) n
-        ∙ ⊎-elim (λ p. or-left _ (h n p)) (λ p. or-right (hasKind t n) p) (or-split (hasKind s n) (sym (has-join s (only owner) n) ∙ f))
+        rw (joins-none t needs (λ m g. h m (joined-in s needs e m g)))
+        (has-join t (only owner) n
+        ∙ ⊎-elim (λ p. or-left _ (h n p)) (λ p. or-right (hasKind t n) p) (or-split (hasKind s n) (sym (has-join s (only owner) n) ∙ f)))
     by false e f = step-adds owner needs t n (h n f)
 
 module _ (place : ℕ → ℕ) (owners needs : List ℕ) where
@@ -337,7 +336,7 @@ module _ (place : ℕ → ℕ) (owners needs : List ℕ) where
   pass-fixes zero s e i l = absurd (omega arith)
   pass-fixes (suc j) s e i l =
       let r : ℕ = needPass place j owners needs s in
-      let back : In r s = λ n h. ap (λ x. hasKind x n) (sym e) ∙ step-adds (getD owners (place j) 0) (getD needs (place j) 0) r n h in
+      let back : In r s = λ n h. rw e at (step-adds (getD owners (place j) 0) (getD needs (place j) 0) r n h) in
       let same : r ≡ s = both-in r s back (pass-adds j s) in
       dite (decLt i j) (λ h. pass-fixes j s same i h) (λ h. let z : i ≡ j = omega arith in rw z (ap (stepAt (place j)) (sym same) ∙ e))
 
@@ -348,7 +347,7 @@ module _ (place : ℕ → ℕ) (owners needs : List ℕ) where
 
 -- the code's test
 pub place-by : (k j : ℕ) {down d : Bool} → down ≡ d → stepPlace d k j ≡ stepPlace down k j
-place-by k j e = ap (λ (b : Bool). stepPlace b k j) (sym e)
+place-by k j e = rw e refl
 
 place-below : (down : Bool) (k j : ℕ) → j < k → stepPlace down k j < k
 place-below true k j h = omega arith
@@ -386,7 +385,7 @@ module _ {g : List Production} {k : ℕ} {owners needs : List ℕ} (held : Needs
   rounds-in s e (suc t) x h i =
       let ex : overAll nullStep g x ≡ needRound k owners needs x = sym (held .same x h) in
       rounds-in s e t (overAll nullStep g x) (rw ex (pass-high (λ j. j) k owners needs h))
-      (λ n f. ap (λ z. hasKind z n) (sym e) ∙ pass-more (λ j. j) owners needs k x s i n (ap (λ z. hasKind z n) (sym ex) ∙ f))
+      (λ n f. rw e at (pass-more (λ j. j) owners needs k x s i n (rw ex at f)))
 
   nullables-in : (s : ℕ) → needRound k owners needs s ≡ s → In (nullables g) s
   unfolding nullables
@@ -398,10 +397,8 @@ module _ {g : List Production} {k : ℕ} {owners needs : List ℕ} (held : Needs
         record {
           high = rw em (pass-high (stepPlace down k) k owners needs (c .high));
           nullable =
-              λ n e.
-              ap (λ z. hasKind z n)
-              (sym (fixed-pass (stepPlace down k) owners needs k (nullables g) (λ j l. nullables-fixed (stepPlace down k j) (place-below down k j l))))
-              ∙ pass-more (stepPlace down k) owners needs k nulls (nullables g) (c .nullable) n (ap (λ z. hasKind z n) (sym em) ∙ e);
+              let stays = fixed-pass (stepPlace down k) owners needs k (nullables g) (λ j l. nullables-fixed _ (place-below down k j l)) in
+              λ n e. rw stays at (pass-more (stepPlace down k) owners needs k nulls (nullables g) (c .nullable) n (rw em at e));
         }
 
     -- a pass that changes something finds more

@@ -10,7 +10,7 @@ use Rattle.grammar.specs.Table.{Item, keyword, ide, number, local, call}
 use Rattle.productions.specs.Normal.{Production}
 use Rattle.firsts.specs.FirstSets.{overAll, isPassed, allPassed, nullStep, nullables}
 use Rattle.firsts.specs.Rules.{Of, NullItems, null-none, null-local, null-call, Nullable}
-use Rattle.firsts.proofs.Rounds.{Numbers, Within, Each, admit, least, least-within, least-closed, least-settled, least-seen, over-seen}
+use Rattle.firsts.proofs.Rounds.{Numbers, same-at, Within, Each, admit, least, least-within, least-closed, least-settled, least-seen, over-seen}
 use Rattle.firsts.proofs.Searches.{same-set}
 
 -- ------------------------------------------------------------------ the test of items, with the nullables as a set
@@ -59,7 +59,7 @@ unfolding nullStep
 step-seen p nulls u = fun-ext (λ n. by n (allPassed nulls (p .items)) refl)
   where
     by : (n : ℕ) (b : Bool) → allPassed nulls (p .items) ≡ b → hasKind (nullStep p nulls) n ≡ admit allIn p (hasKind nulls) n
-    by n true e = rw (← all-seen nulls (p .items), e, nullStep) (has-join nulls (only (p .owner)) n ∙ ap (λ b. hasKind nulls n || b) (has-only (p .owner) n))
+    by n true e = rw (← all-seen nulls (p .items), e, nullStep) (rw (has-only (p .owner) n) at (has-join nulls (only (p .owner)) n))
     by n false e = rw (← all-seen nulls (p .items), e, nullStep) (sym (or-false (hasKind nulls n)))
 
 nullables-seen : (g : List Production) → hasKind (nullables g) ≡ least allIn g
@@ -70,7 +70,8 @@ nullables-seen g = least-seen (λ x. Unit {0}) hasKind allIn nullStep (λ p x u.
 pub nullables-settled : (g : List Production) → overAll nullStep g (nullables g) ≡ nullables g
 nullables-settled g =
     same-set (overAll nullStep g (nullables g)) (nullables g)
-    (λ n. ap (λ (s : Numbers). s n) (over-seen (λ x. Unit {0}) hasKind allIn nullStep (λ p x u. tt) step-seen g (nullables g) tt
+    (same-at
+    (over-seen (λ x. Unit {0}) hasKind allIn nullStep (λ p x u. tt) step-seen g (nullables g) tt
     ∙ ap (overAll (admit allIn) g) (nullables-seen g) ∙ least-settled allIn all-more g ∙ sym (nullables-seen g)))
 
 -- ------------------------------------------------------------------ the rules

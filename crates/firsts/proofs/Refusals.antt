@@ -121,13 +121,13 @@ module _ (g : List Production) where
   -- ---------------------------------------------------------------- no other result says what it means
 
   same-12 : {r s : Refusal} → Says12 g r → Says12 g s → r ≡ s
-  same-12 x y = x .answer ∙ ap (λ n. refusal 12 n 0 0) (lowest-one (x .lowest) (y .lowest)) ∙ sym (y .answer)
+  same-12 x y = cc (x .answer, y .answer, lowest-one (x .lowest) (y .lowest))
 
   same-13 : {r s : Refusal} → Says13 g r → Says13 g s → r ≡ s
   same-13 x y =
       let n : x .nonterminal ≡ y .nonterminal = lowest-one (x .lowest) (y .lowest) in
-      let b : x .kind ≡ y .kind = lowest64-one (subst (λ (k : ℕ). LowestOr64 (Shares g k) (x .kind)) n (x .shared)) (y .shared) in
-      x .answer ∙ ap₂ (λ k c. refusal 13 k c 0) n b ∙ sym (y .answer)
+      let b : x .kind ≡ y .kind = lowest64-one (rw n at (x .shared)) (y .shared) in
+      cc (x .answer, y .answer)
 
   says-one : (x y : Checked (Unit {0})) → Says g x → Says g y → x ≡ y
   says-one (ok u) (ok v) h k = refl
@@ -141,7 +141,7 @@ module _ (g : List Production) where
   says-one (bad r) (bad s) (inr h) (inr k) = ap bad (same-13 h k)
 
   pub check-exactly : (x : Checked (Unit {0})) → (checkFirsts g ≡ x) ↔ Says g x
-  check-exactly x = (λ e. subst (λ (y : Checked (Unit {0})). Says g y) e check-says, λ h. says-one (checkFirsts g) x check-says h)
+  check-exactly x = (λ e. rw e at check-says, λ h. says-one (checkFirsts g) x check-says h)
 
   -- ---------------------------------------------------------------- refusal by refusal
 

@@ -32,6 +32,10 @@ or-split false e = inr e
 abbrev pub Numbers : Type 0
 Numbers = ℕ → Bool
 
+-- equal sets have the same numbers
+pub same-at : {s t : Numbers} → s ≡ t → (n : ℕ) → s n ≡ t n
+same-at e n = ap (λ (s : Numbers). s n) e
+
 abbrev pub nothing : Numbers
 nothing n = false
 
@@ -193,7 +197,7 @@ module _ (passes : Numbers → List Item → Bool)
   -- a production whose items pass with what is in has its nonterminal in
   pub least-closed : (g : List Production) {n : ℕ} {p : Production} → Of g n p → passes (least passes g) (p .items) ≡ true → least passes g n ≡ true
   least-closed g {n} {p} o e =
-      ap (λ (s : Numbers). s n) (sym (least-settled g))
+      sym (same-at (least-settled g) n)
       ∙ (rw (← (o .owned)) (over-admits (o .member) (least passes g) e (rw (o .owned) (o .small))))
 
   -- one round admits what passes where nothing is in

@@ -97,7 +97,7 @@ with-seen : (f : Production → ℕ) (g : List Production) (found b : ℕ)
 unfolding joinWith anyWith
 with-seen f [] found b = sym (or-false (hasKind found b))
 with-seen f (q ∷ g) found b =
-    with-seen f g (bitOr found (f q)) b ∙ ap (λ t. t || anyWith (λ r. hasKind (f r) b) g) (has-join found (f q) b)
+    rw (has-join found (f q) b) at (with-seen f g (bitOr found (f q)) b)
     ∙ or-assoc (hasKind found b) (hasKind (f q) b) (anyWith (λ r. hasKind (f r) b) g)
 
 -- a kind is in the join over all pairs if some pair gives it
@@ -106,7 +106,7 @@ pub pairs-seen : (f : Production → Production → ℕ) (g : List Production) (
 unfolding joinPairs anyPair
 pairs-seen f [] found b = sym (or-false (hasKind found b))
 pairs-seen f (p ∷ g) found b =
-    pairs-seen f g (joinWith (f p) g found) b ∙ ap (λ t. t || anyPair (λ q r. hasKind (f q r) b) g) (with-seen (f p) g found b)
+    rw (with-seen (f p) g found b) at (pairs-seen f g (joinWith (f p) g found) b)
     ∙ or-assoc (hasKind found b) (anyWith (λ q. hasKind (f p q) b) g) (anyPair (λ q r. hasKind (f q r) b) g)
 
 -- ------------------------------------------------------------------ a set that is not empty

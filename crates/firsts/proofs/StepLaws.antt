@@ -27,19 +27,15 @@ over-start f bs owners starts m x₀ = record { rest = rw sub-zero refl }
 module _ {A : Type 0} {f : Production → A → A} {bs owners starts : List ℕ} {m : ℕ} {x₀ : A} {j : ℕ} {x : A} (c : Over f bs owners starts m x₀ j x) where
   over-one : (ps : List Place) → placesFrom (m - j) owners starts j ≡ ps
       → overAll f (productionsAt bs ps) x ≡ overAll f (productionsBy m bs owners starts) x₀
-  over-one ps e = ap (λ (ps : List Place). overAll f (productionsAt bs ps) x) (sym e) ∙ c .rest
+  over-one ps e = rw e at (c .rest)
 
   pub over-next : j < m → {o s : ℕ} → o ≡ getD owners j 0 → s ≡ getD starts j 0 → {y : A} → y ≡ f (productionAt bs o s) x
       → Over f bs owners starts m x₀ (j + 1) y
   unfolding overAll
-  over-next h {s = s} eo es ey =
+  over-next h eo es ey =
       record {
         rest =
-            ap (overAll f (productionsAt bs (placesFrom (m - (j + 1)) owners starts (j + 1))))
-            (ey
-            ∙ ap (λ (o : ℕ). f (productionAt bs o s) x) eo
-            ∙ ap (λ (s : ℕ). f (productionAt bs (getD owners j 0) s) x) es)
-            ∙ over-one _ (places-next owners starts m j h);
+            rw (ey, eo, es) (over-one _ (places-next owners starts m j h));
       }
 
   pub over-end : m ≤ j → x ≡ overAll f (productionsBy m bs owners starts) x₀
