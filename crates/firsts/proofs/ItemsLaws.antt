@@ -218,31 +218,19 @@ module _ {bs : List ℕ} {calls : Bool} {nulls : ℕ} {sets : List ℕ} {start f
     finds =
         rw (stepped bs at e .symbol) at em ∙ joined-by calls sets (stepped bs at e .item) found
 
-    gather-one : (elim b [ true ↦ gather calls nulls sets (itemsOf (fieldsAt bs after)) more | false ↦ more ])
-        ≡ gather calls nulls sets (itemsOf (fieldsAt bs start)) 0
-    unfolding gather
-    gather-one =
-        ap (λ (x : Bool). elim x [ true ↦ gather calls nulls sets (itemsOf (fieldsAt bs after)) more | false ↦ more ]) (passes bs at nulls e eb)
-        ∙ ap
-        (λ (y : ℕ).
-        elim (isPassed nulls (stepped bs at e .item))
-        [ true ↦ gather calls nulls sets (itemsOf (fieldsAt bs after)) y | false ↦ y ])
-        finds
-        ∙ sym (ap (λ (is : List Item). gather calls nulls sets is found) (stepped bs at e .items))
-        ∙ c .rest
-
+    -- what the definition gives for the item here, where the test is known
     pub gather-next : b ≡ true → Gathering bs calls nulls sets start more after
+    unfolding gather
     gather-next t =
-        record {
-          rest =
-              ap (λ (x : Bool). elim x [ true ↦ gather calls nulls sets (itemsOf (fieldsAt bs after)) more | false ↦ more ]) (sym t)
-              ∙ gather-one;
-        }
+        let goes : isPassed nulls (stepped bs at e .item) ≡ true = cc (passes bs at nulls e eb) in
+        record { rest = rw finds (rw (stepped bs at e .items, goes, gather) at (c .rest)) }
 
+    -- and where the item is the last
     pub gather-stop : b ≡ false → more ≡ gather calls nulls sets (itemsOf (fieldsAt bs start)) 0
+    unfolding gather
     gather-stop t =
-        ap (λ (x : Bool). elim x [ true ↦ gather calls nulls sets (itemsOf (fieldsAt bs after)) more | false ↦ more ]) (sym t)
-        ∙ gather-one
+        let stops : isPassed nulls (stepped bs at e .item) ≡ false = cc (passes bs at nulls e eb) in
+        finds ∙ (rw (stepped bs at e .items, stops, gather) at (c .rest))
 
 -- what both arrays get, and whether all items are nullable
 pub record Walking (bs : List ℕ) (nulls : ℕ) (kinds calls : List ℕ) (start read called at : ℕ) : Type 0 where
