@@ -1,6 +1,6 @@
 -- What the check of a grammar gives says what refusals 12 and 13 mean, and no other result does.
 use Prim.Native.Nat.{ℕ, _≤_, _<_}
-use mathlib.Core.Path.{_≡_, refl, sym, ap, ap₂, _∙_, subst}
+use mathlib.Core.Path.{_≡_, refl, sym, ap, _∙_}
 use mathlib.Core.Bool.{Bool, true, false, true≢false}
 use mathlib.Core.Logic.{_↔_, inl, inr}
 use mathlib.Core.List.{List}

@@ -31,13 +31,13 @@ module _ (owners starts : List ℕ) (m j : ℕ) where
   unfolding placesFrom
   places-next h =
       let z : m - j ≡ suc (m - (j + 1)) = omega arith in
-      ap (λ (k : ℕ). placesFrom k owners starts j) z
+      rw z refl
 
   pub places-none : m ≤ j → placesFrom (m - j) owners starts j ≡ []
   unfolding placesFrom
   places-none h =
       let z : m - j ≡ 0 = omega arith in
-      ap (λ (k : ℕ). placesFrom k owners starts j) z
+      rw z refl
 
 pub length-places : (k : ℕ) (owners starts : List ℕ) (j : ℕ) → length (placesFrom k owners starts j) ≡ k
 unfolding placesFrom
@@ -52,8 +52,7 @@ module _ (owners starts : List ℕ) where
   places-snoc zero j = rw add-zero refl
   places-snoc (suc k) j =
       let z : j + 1 + k ≡ j + suc k = omega arith in
-      ap (λ (g : List Place). placeAt owners starts j ∷ g)
-      (places-snoc k (j + 1) ∙ ap (λ (i : ℕ). placesFrom k owners starts (j + 1) ++ (placeAt owners starts i ∷ [])) z)
+      ap (_∷_ (placeAt owners starts j)) (rw z at (places-snoc k (j + 1)))
 
 module _ (owners starts : List ℕ) (w o s : ℕ) where
   -- the entries at other places stay
@@ -64,7 +63,7 @@ module _ (owners starts : List ℕ) (w o s : ℕ) where
   places-stay (suc k) j h =
       let off : j ≡ w → ⊥ = h j (omega arith) (omega arith) in
       rw (getD-set-other owners w j o 0 off, getD-set-other starts w j s 0 off)
-      (ap (λ (g : List Place). placeAt owners starts j ∷ g) (places-stay k (j + 1) (λ i l u. h i (omega arith) (omega arith))))
+      (ap (_∷_ (placeAt owners starts j)) (places-stay k (j + 1) (λ i l u. h i (omega arith) (omega arith))))
 
   -- an entry behind the first w is one place more
   pub push-is : RoomFor (w + 1) owners starts
@@ -84,7 +83,7 @@ module _ (owners starts : List ℕ) (w o s : ℕ) where
 without-one : (n : ℕ) (p : Place) (g : List Place) (b : Bool) → eqb (p .owner) n ≡ b
     → placesWithout n (p ∷ g) ≡ elim b [ true ↦ placesWithout n g | false ↦ p ∷ placesWithout n g ]
 unfolding placesWithout
-without-one n p g b e = ap (λ (x : Bool). elim x [ true ↦ placesWithout n g | false ↦ p ∷ placesWithout n g ]) e
+without-one n p g b e = rw (e, placesWithout) refl
 
 -- of the first k, those before i are dropped or lie below w
 pub record Dropping (n k : ℕ) (owners₀ starts₀ : List ℕ) (i w : ℕ) (owners starts : List ℕ) : Type 0 where
@@ -119,11 +118,11 @@ module _ {n k : ℕ} {owners₀ starts₀ : List ℕ} {i w : ℕ} {owners starts
       ])
       ≡ placesWithout n (placesIn k owners₀ starts₀)
   dropping-one h b e =
-      sym
-      (ap (λ (g : List Place). placesIn w owners starts ++ placesWithout n g) (places-next owners starts k i h)
-      ∙ ap (λ (g : List Place). placesIn w owners starts ++ g)
-      (without-one n (placeAt owners starts i) (placesFrom (k - (i + 1)) owners starts (i + 1)) b e))
-      ∙ c .rest
+      cc (
+        places-next owners starts k i h,
+        without-one n (placeAt owners starts i) (placesFrom (k - (i + 1)) owners starts (i + 1)) b e,
+        c .rest,
+      )
 
   pub dropping-dropped : i < k → getD owners i 0 ≡ n → Dropping n k owners₀ starts₀ (i + 1) w owners starts
   dropping-dropped h e =
@@ -164,17 +163,14 @@ module _ {n k : ℕ} {owners₀ starts₀ : List ℕ} {i w : ℕ} {owners starts
   dropping-end h =
       record {
         entries =
-            sym
-            (ap (λ (g : List Place). placesIn w owners starts ++ placesWithout n g) (places-none owners starts k i h)
-            ∙ append-nil (placesIn w owners starts))
-            ∙ c .rest;
+            rw (places-none owners starts k i h, append-nil (placesIn w owners starts)) at (c .rest);
         few = omega (arith, c .low, c .high);
       }
 
 -- ------------------------------------------------------------------ the head of a definition
 
 kept-update : (mode n : ℕ) (g : List Place) → mode ≡ 2 → placesKept (modeOf mode) n g ≡ placesWithout n g
-kept-update mode n g e = ap (λ (m : ℕ). placesKept (modeOf m) n g) e
+kept-update mode n g e = rw e refl
 
 kept-other : (mode n : ℕ) (g : List Place) → (mode ≡ 2 → ⊥) → placesKept (modeOf mode) n g ≡ g
 kept-other zero n g e = refl
@@ -189,9 +185,7 @@ module _ (head owners starts : List ℕ) {k mode : ℕ} (em : mode ≡ getD head
   redefine-update t en f =
       record {
         entries =
-            f .entries
-            ∙ ap (λ (n : ℕ). placesWithout n (placesIn k owners starts)) en
-            ∙ sym (kept-update (getD head 1 0) (getD head 0 0) (placesIn k owners starts) (sym em ∙ t));
+            cc (f .entries, kept-update (getD head 1 0) (getD head 0 0) (placesIn k owners starts) (sym em ∙ t));
         few = f .few;
       }
 
@@ -214,7 +208,7 @@ module _ (at tag : ℕ) (v : List ℕ) (fs : Fields) where
   places-alternative : tag ≡ 5 → (n : ℕ) (g : List Place)
       → placesBy (next at tag v fs) n g ≡ placesBy fs n (g ++ (record { owner = n; start = at + 3 + length v } ∷ []))
   unfolding placesBy
-  places-alternative e n g = ap (λ (t : ℕ). placesBy (next at t v fs) n g) e
+  places-alternative e n g = rw e refl
 
   places-other : (tag ≡ 4 → ⊥) → (tag ≡ 5 → ⊥) → (n : ℕ) (g : List Place) → placesBy (next at tag v fs) n g ≡ placesBy fs n g
   unfolding placesBy
@@ -240,13 +234,13 @@ building-start bs owners starts h =
     record {
       short = h .short;
       room = omega (arith, h .few, ap alternativeFields (fields-of bs));
-      rest = ap (λ (fs : Fields). placesBy fs 0 []) (sym (fields-of bs));
+      rest = cc (fields-of bs);
     }
 
 module _ {bs : List ℕ} {at n k : ℕ} {owners starts : List ℕ} (c : Building bs at n k owners starts) where
   -- by what stands at the offset
   rest-by : {r : Front} → r ≡ frontOf (drop at bs) → placesBy (opened bs at r) n (placesIn k owners starts) ≡ placesOf bs
-  rest-by e = ap (λ (fs : Fields). placesBy fs n (placesIn k owners starts)) (sym (fields-at bs at e)) ∙ c .rest
+  rest-by e = cc (fields-at bs at e, c .rest)
 
   pub building-few : k ≤ 256
   building-few = omega (arith, c .room)
@@ -279,7 +273,7 @@ module _ {bs : List ℕ} {at n k : ℕ} {owners starts : List ℕ} (c : Building
     value-is : take (at + 3 + size - (at + 3)) (drop (at + 3) bs) ≡ take size (drop (at + 3) bs)
     value-is =
         let z : at + 3 + size - (at + 3) ≡ size = omega arith in
-        ap (λ (m : ℕ). take m (drop (at + 3) bs)) z
+        rw z refl
 
     size-is : length (take size (drop (at + 3) bs)) ≡ size
     size-is = simp (length-take, length-drop) (omega (arith, building-inside))

@@ -181,7 +181,7 @@ drop-begun : (m : ℕ) (sets room : List ℕ) (k : ℕ) → drop (129 + k) (begu
 unfolding begun
 drop-begun m sets room k =
     let z : 129 + k ≡ suc (length A + (length B + k)) = omega (arith, length-values setOf 64 0, length-values (placesNumber []) 64 0) in
-    ap (λ i. drop i (begun m sets room)) z
+    rw z refl
     ∙ drop-append-add A (B ++ drop 129 room) (length B + k)
     ∙ drop-append-add B (drop 129 room) k
     ∙ drop-drop k 129 room
@@ -218,8 +218,8 @@ module _ {sets : List ℕ} {es : List Entry} {room₀ : List ℕ} {j : ℕ} {roo
 
     place : (test : Entry → Bool) (b : Bool) → test e ≡ b
         → placeFrom test (drop (j - 1) es) (j - 1) ≡ elim b [ true ↦ j - 1 | false ↦ placeFrom test (drop j es) j ]
-    place test true h = ap (λ l. placeFrom test l (j - 1)) opened ∙ place-cons test e (drop j es) (j - 1) true h
-    place test false h = ap (λ l. placeFrom test l (j - 1)) opened ∙ place-cons test e (drop j es) (j - 1) false h ∙ later test
+    place test true h = rw opened (place-cons test e (drop j es) (j - 1) true h)
+    place test false h = rw opened (place-cons test e (drop j es) (j - 1) false h ∙ later test)
 
     at : RoomAt (j - 1) (e .owner) room
     at = record { size = c .size; near = omega (arith, c .low, c .few); small = small }
@@ -292,19 +292,15 @@ module _ {sets : List ℕ} {es : List Entry} {room₀ : List ℕ} {j : ℕ} {roo
     number-in i (no l) d =
         let z : i ≡ length (entryNumbers es 0) + (i - 2 * length es) = omega (arith, length-entries es 0) in
         let y : 129 + 2 * length es + (i - 2 * length es) ≡ 129 + i = omega arith in
-        c .tail (129 + i) (omega arith)
-        ∙ sym
-        (ap (λ k. getD (entryNumbers es 0 ++ rest) k 0) z
-        ∙ getD-append-add (entryNumbers es 0) rest (i - 2 * length es) 0
-        ∙ getD-drop (129 + 2 * length es) room₀ (i - 2 * length es) 0
-        ∙ ap (λ k. getD room₀ k 0) y)
+        cc (
+          c .tail (129 + i) (omega arith),
+          getD-append-add (entryNumbers es 0) rest (i - 2 * length es) 0,
+          getD-drop (129 + 2 * length es) room₀ (i - 2 * length es) 0,
+        )
     number-in i (yes l) (yes d) =
         let z : i ≡ 2 * (i / 2) = omega arith in
         List-at l
-        (ap (λ k. getD room (129 + k) 0) z
-        ∙ c .first (i / 2) (omega arith) (omega arith)
-        ∙ sym (entry-first es 0 (i / 2) (omega arith))
-        ∙ ap (λ k. getD (entryNumbers es 0) k 0) (sym z))
+        (cc (c .first (i / 2) (omega arith) (omega arith), entry-first es 0 (i / 2) (omega arith)))
       where
         List-at : i < 2 * length es → getD room (129 + i) 0 ≡ getD (entryNumbers es 0) i 0 → getD room (129 + i) 0 ≡ getD (entryNumbers es 0 ++ rest) i 0
         List-at l e = e ∙ sym (List·getD-append (entryNumbers es 0) rest 0 i (omega (arith, length-entries es 0)))
@@ -312,12 +308,11 @@ module _ {sets : List ℕ} {es : List Entry} {room₀ : List ℕ} {j : ℕ} {roo
         let z : i ≡ 2 * (i / 2) + 1 = omega arith in
         let y : 129 + i ≡ 130 + 2 * (i / 2) = omega arith in
         let x : 0 + i / 2 ≡ i / 2 = omega arith in
-        ap (λ k. getD room k 0) y
-        ∙ c .link (i / 2) (omega arith) (omega arith)
-        ∙ ap (linkNumber (getD es (i / 2) noEntry) (drop (i / 2 + 1) es)) (sym x)
-        ∙ sym (entry-link es 0 (i / 2) (omega arith))
-        ∙ ap (λ k. getD (entryNumbers es 0) k 0) (sym z)
-        ∙ sym (List·getD-append (entryNumbers es 0) rest 0 i (omega (arith, length-entries es 0)))
+        cc (
+          c .link (i / 2) (omega arith) (omega arith),
+          entry-link es 0 (i / 2) (omega arith),
+          List·getD-append (entryNumbers es 0) rest 0 i (omega (arith, length-entries es 0)),
+        )
 
     filled : room ≡ roomOf sets es ++ drop (129 + 2 * length es) room₀
     unfolding roomOf
@@ -334,5 +329,4 @@ module _ {sets : List ℕ} {es : List Entry} {room₀ : List ℕ} {j : ℕ} {roo
 pub filling-end : {sets : List ℕ} {es : List Entry} (room₀ : List ℕ) (m : ℕ) {j : ℕ} {room : List ℕ}
     → Filling sets es (begun m sets room₀) j room → j ≡ 0 → room ≡ overwritten (roomOf sets es) room₀
 filling-end {sets} {es} room₀ m c h =
-    filled c h ∙ ap (λ l. roomOf sets es ++ l) (drop-begun m sets room₀ (2 * length es))
-    ∙ ap (λ k. roomOf sets es ++ drop k room₀) (sym (length-room sets es))
+    cc (filled c h, drop-begun m sets room₀ (2 * length es), length-room sets es)
