@@ -136,12 +136,14 @@ module _ (g : List Production) where
         );
       }
 
+  -- the test for a clash passes exactly if two productions of n clash
   pub clash-exactly : (n : ℕ) → n < 64 → (anyPair (clash (nullables g) firsts n) g ≡ true) ↔ Clashes g n
   clash-exactly n l = (
     λ e. let r = pair-exactly (clash (nullables g) firsts n) g .0 e in clash-sound n l (r .apart) (r .passes),
     λ c. pair-exactly (clash (nullables g) firsts n) g .1 (clash-complete n c),
   )
 
+  -- a clash is of a nonterminal
   pub clash-small : {n : ℕ} → Clashes g n → n < 64
   clash-small (inl (b, s)) = s .two .small
   clash-small (inr z) = z .two .small

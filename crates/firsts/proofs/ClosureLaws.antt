@@ -39,6 +39,7 @@ pub record Taking (many k n : ℕ) (calls₀ kinds₀ calls kinds : List ℕ) : 
   pub within : n ≤ many
   pub taken : CalleeTaken k n calls₀ kinds₀ calls kinds
 
+-- none is done at first
 pub taking-start : (many k : ℕ) (calls kinds : List ℕ) → Taking many k 0 calls kinds calls kinds
 taking-start many k calls kinds = record { within = omega arith; taken = record { calls-joined = none calls; kinds-joined = none kinds } }
   where
@@ -46,9 +47,11 @@ taking-start many k calls kinds = record { within = omega arith; taken = record 
     none sets = record { as-many = refl; done = λ i l. absurd (omega arith); left = λ i l. refl }
 
 module _ {many k n : ℕ} {calls₀ kinds₀ calls kinds : List ℕ} (c : Taking many k n calls₀ kinds₀ calls kinds) where
+  -- the next nonterminal has its left calls
   pub taking-calls : StepLent many calls₀ kinds₀ → n < many → n < length calls
   taking-calls l h = omega (arith, l .lent .calls-many, l .small, c .taken .calls-joined .as-many)
 
+  -- and its first set
   pub taking-kinds : StepLent many calls₀ kinds₀ → n < many → n < length kinds
   taking-kinds l h = omega (arith, l .lent .kinds-many, l .small, c .taken .kinds-joined .as-many)
 
@@ -70,6 +73,7 @@ module _ {many k n : ℕ} {calls₀ kinds₀ calls kinds : List ℕ} (c : Taking
             };
       }
 
+  -- all are done
   pub taking-end : many ≤ n → CalleeTaken k many calls₀ kinds₀ calls kinds
   taking-end h = let z : n ≡ many = omega (arith, c .within) in rw z at (c .taken)
 
@@ -163,11 +167,13 @@ module _ {many k : ℕ} {calls sets sets′ : List ℕ} (r : CalleeJoined k many
 
 -- ------------------------------------------------------------------ the loop
 
+-- no callee is taken at first
 pub both-start : (calls kinds : List ℕ) → ClosedBoth 0 calls kinds calls kinds
 both-start calls kinds = record { calls-closed = closed-start calls calls; kinds-closed = closed-start calls kinds }
 
 module _ {many : ℕ} {calls₀ kinds₀ : List ℕ} (u : UsedBelow many calls₀ kinds₀) {k : ℕ} {calls kinds : List ℕ}
     (c : ClosedBoth k calls₀ kinds₀ calls kinds) where
+  -- the arrays stay as long as they were
   pub both-lent : SetsLent calls₀ kinds₀ → StepLent many calls kinds
   both-lent l =
       record {
@@ -175,6 +181,7 @@ module _ {many : ℕ} {calls₀ kinds₀ : List ℕ} (u : UsedBelow many calls�
         small = u .small;
       }
 
+  -- one callee more
   pub both-next : {calls′ kinds′ : List ℕ} → CalleeTaken k many calls kinds calls′ kinds′ → ClosedBoth (k + 1) calls₀ kinds₀ calls′ kinds′
   both-next {calls′} {kinds′} t =
       let none : (n : ℕ) → holds calls n k ≡ true → n < many = λ n e. no-set (c .calls-closed) (u .no-calls) (u .no-calls) n k e in
@@ -213,6 +220,7 @@ module _ {many : ℕ} {calls₀ kinds₀ : List ℕ} (u : UsedBelow many calls�
 pub record Unused (calls kinds : List ℕ) (n : ℕ) : Type 0 where
   pub used : UsedBelow n calls kinds
 
+-- there are no more than 64 sets
 pub unused-start : {calls kinds : List ℕ} → SetsLent calls kinds → Unused calls kinds 64
 unused-start {calls} {kinds} l =
     record {
@@ -224,6 +232,7 @@ unused-start {calls} {kinds} l =
           };
     }
 
+-- a nonterminal with two empty sets is not used
 pub unused-next : {calls kinds : List ℕ} {n : ℕ} → Unused calls kinds n → 0 < n → getD calls (n - 1) 0 ≤ 0 → getD kinds (n - 1) 0 ≤ 0
     → Unused calls kinds (n - 1)
 unused-next {calls} {kinds} {n} u h hc hk =
@@ -243,5 +252,6 @@ unused-next {calls} {kinds} {n} u h hc hk =
         by (yes z) = rw z e
         by (no z) = none i (omega arith)
 
+-- or none is used
 pub unused-end : {calls kinds : List ℕ} {n : ℕ} → Unused calls kinds n → n ≤ 0 → UsedBelow 0 calls kinds
 unused-end {n = n} u h = let z : n ≡ 0 = omega arith in rw z at (u .used)

@@ -25,9 +25,11 @@ use Rattle.firsts.proofs.NullablesExactly.{null-item-exactly}
 
 -- ------------------------------------------------------------------ the test of items, with bit b of all sets as a set
 
+-- the nonterminals whose set has b
 abbrev pub bitOfAll : ℕ → List ℕ → Numbers
 bitOfAll b sets n = hasKind (getD sets n 0) b
 
+-- an item calls a nonterminal of the set
 abbrev pub called : Numbers → Item → Bool
 called s (keyword k) = false
 called s (ide b) = false
@@ -51,6 +53,7 @@ called-seen b sets number = has-none b
 called-seen b sets local = has-none b
 called-seen b sets (call n ts) = refl
 
+-- a larger set is called by no fewer items
 pub called-more : (s t : Numbers) → Within s t → (i : Item) → called s i ≡ true → called t i ≡ true
 called-more s t h (keyword k) e = e
 called-more s t h (ide b) e = e
@@ -69,6 +72,7 @@ and-more false h e = e
 -- ------------------------------------------------------------------ the computed sets are the least, bit by bit
 
 module _ (c : Bool) (nulls b : ℕ) where
+  -- and gives no less
   pub first-more : (s t : Numbers) → Within s t → (is : List Item) → firstIn c nulls b s is ≡ true → firstIn c nulls b t is ≡ true
   unfolding firstIn
   first-more s t h [] e = e
@@ -95,6 +99,7 @@ module _ (c : Bool) (nulls b : ℕ) where
           (rest ∙ rw (joined-seen sets i found) (or-assoc (hasKind found b) (given c b (bitOfAll b sets) i) (firstIn c nulls b (bitOfAll b sets) is)))
       by false e rest = rw (e, gather) (joined-seen sets i found ∙ rw (or-false (given c b (bitOfAll b sets) i)) refl)
 
+  -- what the code gathers, bit by bit
   pub items-seen : (sets : List ℕ) (is : List Item) → hasKind (gather c nulls sets is 0) b ≡ firstIn c nulls b (bitOfAll b sets) is
   items-seen sets is = rw (has-none b) at (gather-seen sets is 0)
 
@@ -172,6 +177,7 @@ module _ (c : Bool) (Own : Item → ℕ → Type 0) (own-exactly : (i : Item) (b
   first-complete (first-past {i = i} {is = is} {b = b} n h) =
       or-right (given c b (least (firstIn c (nullables g) b) g) i) (and-eq-true-iff _ _ .1 (null-item-exactly g i .1 n, first-complete h))
 
+  -- bit b of the set of n is there exactly if n gives b by the rules
   pub sets-exactly : (n b : ℕ) → (hasKind (getD (setsOf c (nullables g) g) n 0) b ≡ true) ↔ FirstOf g Own n b
   sets-exactly n b = (
     λ e. least-within (firstIn c (nullables g) b) g (λ m. FirstOf g Own m b) keeps n (sym (same-at (sets-seen c (nullables g) b g) n) ∙ e),
@@ -183,6 +189,7 @@ module _ (c : Bool) (Own : Item → ℕ → Type 0) (own-exactly : (i : Item) (b
           → firstIn c (nullables g) b s (p .items) ≡ true → FirstOf g Own n b
       keeps s hs n p o e = record { production = p; of = o; first = first-sound b s hs (p .items) e }
 
+  -- and so it is with the items of one production
   pub items-exactly : (is : List Item) (b : ℕ) → (hasKind (gather c (nullables g) (setsOf c (nullables g) g) is 0) b ≡ true) ↔ First g Own is b
   items-exactly is b = (
     λ e. first-sound b (bitOfAll b (setsOf c (nullables g) g)) (λ n. sets-exactly n b .0) is (sym (items-seen c (nullables g) b _ is) ∙ e),
@@ -194,9 +201,11 @@ module _ (c : Bool) (Own : Item → ℕ → Type 0) (own-exactly : (i : Item) (b
 none-has : (b : ℕ) → hasKind 0 b ≡ true → ⊥
 none-has b e = false≢true (sym (has-none b) ∙ e)
 
+-- the set of one number has that one
 pub only-has : (j b : ℕ) → hasKind (only j) b ≡ true → (b ≡ j) × (b < 64)
 only-has j b e = let t = and-eq-true-iff (ltb b 64) (eqb b j) .0 (sym (has-only j b) ∙ e) in (eqb-true b j (t .1), ltb-true b 64 (t .0))
 
+-- an item gives its kind to a first set
 pub reads-exactly : (i : Item) (b : ℕ) → (hasKind (own false i) b ≡ true) ↔ Reads i b
 reads-exactly i b = (sound i, complete i b)
   where
@@ -212,6 +221,7 @@ reads-exactly i b = (sound i, complete i b)
     complete _ _ reads-word = has-own wordKind (omega arith)
     complete _ _ reads-number = has-own numberKind (omega arith)
 
+-- an item gives its nonterminal to the left calls
 pub calls-exactly : (i : Item) (b : ℕ) → (hasKind (own true i) b ≡ true) ↔ Calls i b
 calls-exactly i b = (sound i, complete i b)
   where

@@ -29,6 +29,7 @@ use Rattle.firsts.proofs.StepLaws.{Over, over-start, over-next, over-en
 
 -- ------------------------------------------------------------------ sets of nonterminals
 
+-- the empty set
 pub none-high : Nonterminals 0
 none-high = record { none-above = λ n l. has-none n }
 
@@ -166,11 +167,13 @@ module _ (bs : List ℕ) (owner start : ℕ) {found : Gathered} (ef : found ≡ 
   abbrev items : List Item
   items = itemsOf (fieldsAt bs start)
 
+  -- a production that is held is nullable by its needs
   pub held-step : found .nullable ≡ true → (nulls : ℕ) → needStep owner (found .calls) nulls ≡ nullStep (productionAt bs owner start) nulls
   unfolding nullStep productionAt
   held-step e nulls =
       rw (ef, test-is items (rw ef at e) nulls) (by-cases owner nulls (allPassed nulls items))
 
+  -- one that is not held never is
   pub other-step : found .nullable ≡ false → {nulls : ℕ} → Nonterminals nulls → nulls ≡ nullStep (productionAt bs owner start) nulls
   unfolding nullStep productionAt
   other-step e {nulls} h =
@@ -212,6 +215,7 @@ pub record Holding (bs owners starts : List ℕ) (m : ℕ) (whose₀ needs₀ : 
 pub needs-lent : {m : ℕ} → m ≤ 256 → NeedsLent m (replicate 256 0) (replicate 256 0)
 needs-lent h = record { owners-many = omega (arith, h, length-replicate {A = ℕ} 256 0); needs-many = omega (arith, h, length-replicate {A = ℕ} 256 0) }
 
+-- none is held at first
 pub holding-start : (bs owners starts : List ℕ) (m : ℕ) {whose needs : List ℕ} → NeedsLent m whose needs
     → Holding bs owners starts m whose needs 0 0 whose needs
 unfolding needPass
@@ -220,14 +224,17 @@ holding-start bs owners starts m l =
 
 module _ {bs owners starts : List ℕ} {m : ℕ} {whose₀ needs₀ : List ℕ} {k j : ℕ} {whose needs : List ℕ}
     (c : Holding bs owners starts m whose₀ needs₀ k j whose needs) where
+  -- there is room for one owner more
   pub holding-whose : j < m → k < length whose
   holding-whose h = omega (arith, c .few, c .lent .owners-many)
 
+  -- and for its needs
   pub holding-needs : j < m → k < length needs
   holding-needs h = omega (arith, c .few, c .lent .needs-many)
 
   module _ (h : j < m) {o s : ℕ} (eo : o ≡ getD owners j 0) (es : s ≡ getD starts j 0) {found : Gathered}
       (ef : found ≡ gathered everyOne [] [] (itemsOf (fieldsAt bs s))) where
+    -- a production that is held
     pub holding-held : found .nullable ≡ true → Holding bs owners starts m whose₀ needs₀ (k + 1) (j + 1) (set whose k o) (set needs k (found .calls))
     holding-held e =
         let z : k + 1 ≡ suc k = omega arith in
@@ -247,6 +254,7 @@ module _ {bs owners starts : List ℕ} {m : ℕ} {whose₀ needs₀ : List ℕ} 
               ∙ held-step bs o s ef e (needRound k whose needs nulls));
         }
 
+    -- one that is not
     pub holding-other : found .nullable ≡ false → Holding bs owners starts m whose₀ needs₀ k (j + 1) whose needs
     holding-other e =
         record {
@@ -257,6 +265,7 @@ module _ {bs owners starts : List ℕ} {m : ℕ} {whose₀ needs₀ : List ℕ} 
           over = λ nulls n. over-next (c .over nulls n) h eo es (other-step bs o s ef e (pass-high (λ i. i) k whose needs n));
         }
 
+  -- all productions were looked at
   pub holding-end : m ≤ j → NeedsHeld (productionsBy m bs owners starts) k whose needs
   holding-end h = record { same = λ nulls n. over-end (c .over nulls n) h }
 
@@ -267,11 +276,13 @@ pub record Passing (owners needs : List ℕ) (down : Bool) (nulls k j set : ℕ)
   pub within : j ≤ k
   pub done : set ≡ needPass (stepPlace down k) j owners needs nulls
 
+-- no step is done at first
 pub passing-start : (owners needs : List ℕ) (down : Bool) (nulls k : ℕ) → Passing owners needs down nulls k 0 nulls
 unfolding needPass
 passing-start owners needs down nulls k = record { within = omega arith; done = refl }
 
 module _ {owners needs : List ℕ} {down : Bool} {nulls k j set : ℕ} (c : Passing owners needs down nulls k j set) where
+  -- one step more
   pub passing-next : j < k → {i o v r : ℕ} → i ≡ stepPlace down k j → o ≡ getD owners i 0 → v ≡ getD needs i 0 → r ≡ needStep o v set
       → Passing owners needs down nulls k (j + 1) r
   unfolding needPass
@@ -279,6 +290,7 @@ module _ {owners needs : List ℕ} {down : Bool} {nulls k j set : ℕ} (c : Pass
       let z : j + 1 ≡ suc j = omega arith in
       record { within = omega arith; done = rw z (er ∙ rw (c .done, eo, ev, ei) refl) }
 
+  -- all steps are done
   pub passing-end : k ≤ j → set ≡ needPass (stepPlace down k) k owners needs nulls
   passing-end h = let z : j ≡ k = omega (arith, c .within) in rw z at (c .done)
 
@@ -288,6 +300,7 @@ pub need-taken : (owner needs nulls : ℕ) {both : ℕ} → both ≡ bitOr nulls
 need-taken owner needs nulls e f eo er =
     rw (eq-eqb (bitOr nulls needs) nulls (sym e ∙ f)) (cc)
 
+-- needs that are not all nullable change nothing
 pub need-left : (owner needs nulls : ℕ) {both : ℕ} → both ≡ bitOr nulls needs → (both ≡ nulls → ⊥) → nulls ≡ needStep owner needs nulls
 need-left owner needs nulls e f = rw (ne-eqb (bitOr nulls needs) nulls (λ g. f (e ∙ g))) refl
 
@@ -363,6 +376,7 @@ pub record Found (g : List Production) (nulls : ℕ) : Type 0 where
   pub high : Nonterminals nulls
   pub nullable : (n : ℕ) → hasKind nulls n ≡ true → hasKind (nullables g) n ≡ true
 
+-- nothing is found at first
 pub found-start : (g : List Production) → Found g 0
 found-start g = record { high = none-high; nullable = λ n e. absurd (false≢true (sym (has-none n) ∙ e)) }
 
@@ -392,6 +406,7 @@ module _ {g : List Production} {k : ℕ} {owners needs : List ℕ} (held : Needs
   nullables-in s e = rounds-in s e 64 0 none-high (λ n f. absurd (false≢true (sym (has-none n) ∙ f)))
 
   module _ {nulls : ℕ} (c : Found g nulls) (down : Bool) {more : ℕ} (em : more ≡ needPass (stepPlace down k) k owners needs nulls) where
+    -- what a pass finds is nullable
     pub found-next : Found g more
     found-next =
         record {
@@ -410,6 +425,7 @@ module _ {g : List Production} {k : ℕ} {owners needs : List ℕ} (held : Needs
         (λ m. absurd (ne (same-set more nulls (λ n. dite (decLt n 64) (m .0 n) (λ l. above n (omega arith))))))
         (λ l. omega (arith, l, count-le 64 (hasKind more))) (grows 64 adds)
 
+    -- a pass that changes nothing has found all
     pub found-stop : more ≡ nulls → nulls ≡ nullables g
     found-stop e = both-in nulls (nullables g) (c .nullable) (nullables-in nulls (fixed-pass (λ j. j) owners needs k nulls fixed))
       where

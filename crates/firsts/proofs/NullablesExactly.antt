@@ -95,6 +95,7 @@ module _ (g : List Production) where
   null-complete (null-local h) = null-complete h
   null-complete (null-call o h t) = and-eq-true-iff _ _ .1 (least-closed allIn all-more g o (null-complete h), null-complete t)
 
+  -- bit n is there exactly if n is nullable by the rules
   pub nullable-exactly : (n : ℕ) → (hasKind (nullables g) n ≡ true) ↔ Nullable g n
   nullable-exactly n = (
     λ e. least-within allIn g (Nullable g) keeps n (rw (nullables-seen g) at e),
@@ -104,12 +105,14 @@ module _ (g : List Production) where
       keeps : (s : Numbers) → Each (Nullable g) s → (n : ℕ) (p : Production) → Of g n p → allIn s (p .items) ≡ true → Nullable g n
       keeps s hs n p o e = record { production = p; of = o; items = null-sound s hs (p .items) e }
 
+  -- items are found nullable exactly if they are
   pub null-items-exactly : (is : List Item) → (allPassed (nullables g) is ≡ true) ↔ NullItems g is
   null-items-exactly is = (
     λ e. null-sound (hasKind (nullables g)) (λ n. nullable-exactly n .0) is (sym (all-seen (nullables g) is) ∙ e),
     λ h. all-seen (nullables g) is ∙ rw (nullables-seen g) (null-complete h),
   )
 
+  -- and so it is with one item
   pub null-item-exactly : (i : Item) → (isPassed (nullables g) i ≡ true) ↔ NullItems g (i ∷ [])
   unfolding allPassed
   null-item-exactly i =

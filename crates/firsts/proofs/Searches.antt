@@ -87,6 +87,7 @@ unfolding anyPair
 pair-complete t (before-first {p = p} m) e = or-left _ (with-complete (t p) m e)
 pair-complete t (before-later {r = r} {g = g} b) e = or-right (anyWith (t r) g) (pair-complete t b e)
 
+-- the search finds a pair exactly if there is one
 pub pair-exactly : (t : Production → Production → Bool) (g : List Production) → (anyPair t g ≡ true) ↔ FoundPair t g
 pair-exactly t g = (pair-sound t g, λ r. pair-complete t (r .apart) (r .passes))
 
@@ -119,6 +120,7 @@ below-power (suc m) = omega (arith, below-power m, pow-suc 2 m)
 pub some-kind : (m : ℕ) → 0 < m → (k : ℕ) × (hasKind m k ≡ true)
 some-kind m h = (trailingZeros m m, lowest-has m m (lowest-bound m m (below-power m) (λ e. omega arith)))
 
+-- a set with a kind is not empty
 pub kind-positive : (m k : ℕ) → hasKind m k ≡ true → 0 < m
 kind-positive zero k e = absurd (false≢true (sym (has-none k) ∙ e))
 kind-positive (suc m) k e = omega arith

@@ -26,6 +26,7 @@ abbrev pub placeAt : List ℕ → List ℕ → ℕ → Place
 placeAt owners starts j = record { owner = getD owners j 0; start = getD starts j 0 }
 
 module _ (owners starts : List ℕ) (m j : ℕ) where
+  -- the places from number j on are that one and those behind it
   pub places-next : j < m
       → placesFrom (m - j) owners starts j ≡ placeAt owners starts j ∷ placesFrom (m - (j + 1)) owners starts (j + 1)
   unfolding placesFrom
@@ -33,12 +34,14 @@ module _ (owners starts : List ℕ) (m j : ℕ) where
       let z : m - j ≡ suc (m - (j + 1)) = omega arith in
       rw z refl
 
+  -- no place is left
   pub places-none : m ≤ j → placesFrom (m - j) owners starts j ≡ []
   unfolding placesFrom
   places-none h =
       let z : m - j ≡ 0 = omega arith in
       rw z refl
 
+-- as many as were asked for
 pub length-places : (k : ℕ) (owners starts : List ℕ) (j : ℕ) → length (placesFrom k owners starts j) ≡ k
 unfolding placesFrom
 length-places zero owners starts j = refl
@@ -95,6 +98,7 @@ pub record Dropping (n k : ℕ) (owners₀ starts₀ : List ℕ) (i w : ℕ) (ow
   pub starts-many : length starts ≡ length starts₀
   pub rest : placesIn w owners starts ++ placesWithout n (placesFrom (k - i) owners starts i) ≡ placesWithout n (placesIn k owners₀ starts₀)
 
+-- all places are left at first
 pub dropping-start : (n k : ℕ) (owners₀ starts₀ : List ℕ) → RoomFor k owners₀ starts₀ → Dropping n k owners₀ starts₀ 0 0 owners₀ starts₀
 unfolding placesFrom
 dropping-start n k owners₀ starts₀ room =
@@ -124,6 +128,7 @@ module _ {n k : ℕ} {owners₀ starts₀ : List ℕ} {i w : ℕ} {owners starts
         c .rest,
       )
 
+  -- a place of n is dropped
   pub dropping-dropped : i < k → getD owners i 0 ≡ n → Dropping n k owners₀ starts₀ (i + 1) w owners starts
   dropping-dropped h e =
       record {
@@ -136,6 +141,7 @@ module _ {n k : ℕ} {owners₀ starts₀ : List ℕ} {i w : ℕ} {owners starts
         rest = dropping-one h true (eq-eqb (getD owners i 0) n e);
       }
 
+  -- another moves down
   pub dropping-kept : i < k → (getD owners i 0 ≡ n → ⊥)
       → Dropping n k owners₀ starts₀ (i + 1) (w + 1) (set owners w (getD owners i 0)) (set starts w (getD starts i 0))
   dropping-kept h e =
@@ -158,6 +164,7 @@ module _ {n k : ℕ} {owners₀ starts₀ : List ℕ} {i w : ℕ} {owners starts
             ∙ dropping-one h false (ne-eqb (getD owners i 0) n e));
       }
 
+  -- no place is left
   pub dropping-end : k ≤ i → Index (placesWithout n (placesIn k owners₀ starts₀)) k w owners starts
   unfolding placesWithout
   dropping-end h =
@@ -179,6 +186,7 @@ kept-other (suc (suc zero)) n g e = absurd (e refl)
 kept-other (suc (suc (suc m))) n g e = refl
 
 module _ (head owners starts : List ℕ) {k mode : ℕ} (em : mode ≡ getD head 1 0) where
+  -- an update drops the places of its nonterminal
   pub redefine-update : mode ≡ 2 → {n : ℕ} → n ≡ getD head 0 0 → {r : ℕ} {owners′ starts′ : List ℕ}
       → Index (placesWithout n (placesIn k owners starts)) k r owners′ starts′
       → Index (placesKept (modeOf (getD head 1 0)) (getD head 0 0) (placesIn k owners starts)) k r owners′ starts′
@@ -189,6 +197,7 @@ module _ (head owners starts : List ℕ) {k mode : ℕ} (em : mode ≡ getD head
         few = f .few;
       }
 
+  -- other heads keep all
   pub redefine-other : (mode ≡ 2 → ⊥)
       → Index (placesKept (modeOf (getD head 1 0)) (getD head 0 0) (placesIn k owners starts)) k k owners starts
   redefine-other t =
@@ -228,6 +237,7 @@ pub record Building (bs : List ℕ) (at n k : ℕ) (owners starts : List ℕ) : 
   pub room : k + alternativeFields (fieldsAt bs at) ≤ 256
   pub rest : placesBy (fieldsAt bs at) n (placesIn k owners starts) ≡ placesOf bs
 
+-- at the first field
 pub building-start : (bs owners starts : List ℕ) → FitsIndex bs → Building bs 0 0 0 owners starts
 unfolding placesFrom
 building-start bs owners starts h =
@@ -242,30 +252,37 @@ module _ {bs : List ℕ} {at n k : ℕ} {owners starts : List ℕ} (c : Building
   rest-by : {r : Front} → r ≡ frontOf (drop at bs) → placesBy (opened bs at r) n (placesIn k owners starts) ≡ placesOf bs
   rest-by e = cc (fields-at bs at e, c .rest)
 
+  -- there are few places
   pub building-few : k ≤ 256
   building-few = omega (arith, c .room)
 
+  -- no field is left
   pub building-nothing : Nothing ≡ frontOf (drop at bs) → Index (placesOf bs) 256 k owners starts
   unfolding placesBy
   building-nothing e = record { entries = rest-by e; few = building-few }
 
+  -- or a field that is cut
   pub building-short : Short ≡ frontOf (drop at bs) → Index (placesOf bs) 256 k owners starts
   unfolding placesBy
   building-short e = record { entries = rest-by e; few = building-few }
 
+  -- nor at the end
   pub building-end : length bs ≤ at → Index (placesOf bs) 256 k owners starts
   building-end h = building-nothing (sym (front-nothing bs at h))
 
   module _ {tag size : ℕ} (e : Field tag size ≡ frontOf (drop at bs)) where
+    -- a field is inside the table
     pub building-inside : at + (3 + size) ≤ length bs
     building-inside = front-inside bs at e
 
+    -- less is left behind a field
     pub building-less : length bs - (at + 3 + size) < length bs - at
     building-less = omega (arith, building-inside)
 
     count-here : alternativeFields (fieldsAt bs at) ≡ alternativeFields (opened bs at (Field tag size))
     count-here = ap alternativeFields (fields-at bs at e)
 
+    -- an alternative has room
     pub building-room : tag ≡ 5 → k < 256
     building-room t = omega (arith, c .room, count-here, fields-alternative at tag (take size (drop (at + 3) bs)) (fieldsAt bs (at + 3 + size)) t)
 
@@ -278,6 +295,7 @@ module _ {bs : List ℕ} {at n k : ℕ} {owners starts : List ℕ} (c : Building
     size-is : length (take size (drop (at + 3) bs)) ≡ size
     size-is = simp (length-take, length-drop) (omega (arith, building-inside))
 
+    -- behind the head of a definition
     pub building-head : tag ≡ 4 → {m : ℕ} → m ≡ getD (take (at + 3 + size - (at + 3)) (drop (at + 3) bs)) 0 0 → {r : ℕ} {owners′ starts′ : List ℕ}
         → Index
         (placesKept (modeOf (getD (take (at + 3 + size - (at + 3)) (drop (at + 3) bs)) 1 0))
@@ -298,6 +316,7 @@ module _ {bs : List ℕ} {at n k : ℕ} {owners starts : List ℕ} (c : Building
               (sym (places-head at tag v (fieldsAt bs (at + 3 + size)) t n (placesIn k owners starts)) ∙ rest-by e);
         }
 
+    -- behind the begin of an alternative
     pub building-alternative : tag ≡ 5 → {owners′ starts′ : List ℕ}
         → placesIn (k + 1) owners′ starts′ ≡ placesIn k owners starts ++ (record { owner = n; start = at + 3 + size } ∷ [])
         → Building bs (at + 3 + size) n (k + 1) owners′ starts′
@@ -315,6 +334,7 @@ module _ {bs : List ℕ} {at n k : ℕ} {owners starts : List ℕ} (c : Building
               ∙ rest-by e;
         }
 
+    -- other fields change nothing
     pub building-other : (tag ≡ 4 → ⊥) → (tag ≡ 5 → ⊥) → Building bs (at + 3 + size) n k owners starts
     building-other t u =
         let v : List ℕ = take size (drop (at + 3) bs) in

@@ -14,11 +14,13 @@ use Rattle.productions.specs.Room.{firstIn, startIn, nextPlaceIn, nullab
 
 -- ------------------------------------------------------------------ values
 
+-- as many values as were asked for
 pub length-values : (f : ℕ → ℕ) (k n : ℕ) → length (valuesOf f k n) ≡ k
 unfolding valuesOf
 length-values f zero n = refl
 length-values f (suc k) n = ap suc (length-values f k (n + 1))
 
+-- value i
 pub getD-values : (f : ℕ → ℕ) (k n i : ℕ) → i < k → getD (valuesOf f k n) i 0 ≡ f (n + i)
 unfolding valuesOf
 getD-values f zero n i h = absurd (omega arith)
@@ -41,6 +43,7 @@ place-small test (e ∷ es) j h = by (test e) (place-small test es (j + 1) (omeg
 
 -- ------------------------------------------------------------------ entries
 
+-- the first number of an entry
 pub entry-first : (es : List Entry) (k j : ℕ) → j < length es → getD (entryNumbers es k) (2 * j) 0 ≡ getD es j noEntry .first
 unfolding entryNumbers
 entry-first [] k j h = absurd (omega arith)
@@ -49,6 +52,7 @@ entry-first (e ∷ es) k (suc j) h =
     let z : 2 * suc j ≡ suc (suc (2 * j)) = omega arith in
     rw z (entry-first es (k + 1) j (omega arith))
 
+-- and its second
 pub entry-link : (es : List Entry) (k j : ℕ) → j < length es
     → getD (entryNumbers es k) (2 * j + 1) 0 ≡ linkNumber (getD es j noEntry) (drop (j + 1) es) (k + j)
 unfolding entryNumbers
@@ -60,6 +64,7 @@ entry-link (e ∷ es) k (suc j) h =
     let x : k + 1 + j ≡ k + suc j = omega arith in
     rw (z, y, ← x) (entry-link es (k + 1) j (omega arith))
 
+-- two numbers an entry
 pub length-entries : (es : List Entry) (k : ℕ) → length (entryNumbers es k) ≡ 2 * length es
 unfolding entryNumbers
 length-entries [] k = refl
@@ -68,6 +73,7 @@ length-entries (e ∷ es) k = omega (arith, length-entries es (k + 1))
 -- ------------------------------------------------------------------ a room in four parts
 
 module _ (c : ℕ) (f g : ℕ → ℕ) (tail : List ℕ) where
+  -- a count, 64 values, 64 more, and the rest
   abbrev pub fourParts : List ℕ
   fourParts = c ∷ (valuesOf f 64 0 ++ (valuesOf g 64 0 ++ tail))
 
@@ -83,6 +89,7 @@ module _ (c : ℕ) (f g : ℕ → ℕ) (tail : List ℕ) where
       let z : 65 + i ≡ 1 + (length (valuesOf f 64 0) + i) = omega (arith, length-values f 64 0) in
       cc (behind-count (length (valuesOf f 64 0) + i), getD-append-add (valuesOf f 64 0) (valuesOf g 64 0 ++ tail) i 0)
 
+  -- the first 64
   pub first-part : (n : ℕ) → n < 64 → getD fourParts (1 + n) 0 ≡ f n
   first-part n h =
       let y : 0 + n ≡ n = omega arith in
@@ -91,6 +98,7 @@ module _ (c : ℕ) (f g : ℕ → ℕ) (tail : List ℕ) where
       ∙ getD-values f 64 0 n h
       ∙ ap f y
 
+  -- the others
   pub second-part : (n : ℕ) → n < 64 → getD fourParts (65 + n) 0 ≡ g n
   second-part n h =
       let y : 0 + n ≡ n = omega arith in
@@ -99,11 +107,13 @@ module _ (c : ℕ) (f g : ℕ → ℕ) (tail : List ℕ) where
       ∙ getD-values g 64 0 n h
       ∙ ap g y
 
+  -- and the rest
   pub last-part : (i : ℕ) → getD fourParts (129 + i) 0 ≡ getD tail i 0
   last-part i =
       let z : 129 + i ≡ 65 + (length (valuesOf g 64 0) + i) = omega (arith, length-values g 64 0) in
       cc (behind-first (length (valuesOf g 64 0) + i), getD-append-add (valuesOf g 64 0) tail i 0)
 
+  -- the length of all
   pub length-parts : length fourParts ≡ 129 + length tail
   length-parts =
       omega (
@@ -129,9 +139,11 @@ module _ (c : ℕ) (f g : ℕ → ℕ) (tail : List ℕ) where
         moved i (65 + (i - 65)) (omega arith) (seconds (i - 65) (omega arith) ∙ sym (second-part (i - 65) (omega arith)))
     same-number i (no a) (no b) (no d) = moved i (129 + (i - 129)) (omega arith) (lasts (i - 129) ∙ sym (last-part (i - 129)))
 
+    -- a room with these numbers
     pub parts-are : room ≡ fourParts
     parts-are = ext-getD 0 room fourParts (many ∙ sym length-parts) (λ i h. same-number i (decLt i 1) (decLt i 65) (decLt i 129))
 
+-- the length of a room
 pub length-room : (sets : List ℕ) (es : List Entry) → length (roomOf sets es) ≡ 129 + 2 * length es
 unfolding roomOf
 length-room sets es =
@@ -163,6 +175,7 @@ module _ {sets : List ℕ} {es : List Entry} {room : List ℕ} (h : HoldsEntries
     first-set-in =
         rw parts (first-part (length es) setOf (placesNumber es) (entryNumbers es 0 ++ h .rest) n small)
 
+    -- Where its productions are, in one number.
     pub places-in : getD room (65 + n) 0 ≡ placesNumber es n
     places-in =
         rw parts (second-part (length es) setOf (placesNumber es) (entryNumbers es 0 ++ h .rest) n small)

@@ -26,6 +26,7 @@ pub record Beginning (m : ℕ) (sets room₀ : List ℕ) (n : ℕ) (room : List 
   pub place-in : (i : ℕ) → i < n → getD room (65 + i) 0 ≡ 131328
   pub tail : (i : ℕ) → getD room (129 + i) 0 ≡ getD room₀ (129 + i) 0
 
+-- the count is written first
 pub beginning-start : (m : ℕ) (sets room : List ℕ) → RoomAndSets room sets → Beginning m sets (set room 0 m) 0 (set room 0 m)
 beginning-start m sets room h =
     record {
@@ -67,6 +68,7 @@ module _ {m : ℕ} {sets room₀ : List ℕ} {n : ℕ} {room : List ℕ} (c : Be
         below : (i ≡ n → ⊥) → i < n + 1 → i < n
         below e l = omega arith
 
+    -- two numbers for each nonterminal
     pub beginning-next : Beginning m sets room₀ (n + 1) (set (set room (1 + n) (getD sets n 0)) (65 + n) 131328)
     beginning-next =
         record {
@@ -107,10 +109,12 @@ module _ (e : Entry) (j : ℕ) {room : List ℕ} (at : RoomAt j (e .owner) room)
   abbrev number : ℕ
   number = j + 512 * (elim (e .nullable) [ true ↦ j | false ↦ getD room (65 + e .owner) 0 / 512 ])
 
+  -- the room stays as long
   pub length-laid : length (laid e j room) ≡ 641
   unfolding laid
   length-laid = length-set two (65 + e .owner) number ∙ length-set one (130 + 2 * j) _ ∙ length-set room (129 + 2 * j) _ ∙ at .size
 
+  -- other numbers stay
   pub laid-other : (i : ℕ) → (i ≡ 129 + 2 * j → ⊥) → (i ≡ 130 + 2 * j → ⊥) → (i ≡ 65 + e .owner → ⊥) → getD (laid e j room) i 0 ≡ getD room i 0
   unfolding laid
   laid-other i a b d =
@@ -118,6 +122,7 @@ module _ (e : Entry) (j : ℕ) {room : List ℕ} (at : RoomAt j (e .owner) room)
       ∙ getD-set-other one (130 + 2 * j) i _ 0 b
       ∙ getD-set-other room (129 + 2 * j) i (e .first) 0 a
 
+  -- the first set of the entry
   pub laid-first : getD (laid e j room) (129 + 2 * j) 0 ≡ e .first
   unfolding laid
   laid-first =
@@ -125,12 +130,14 @@ module _ (e : Entry) (j : ℕ) {room : List ℕ} (at : RoomAt j (e .owner) room)
       ∙ getD-set-other one (130 + 2 * j) (129 + 2 * j) _ 0 (λ q. omega arith)
       ∙ getD-set-same room (129 + 2 * j) (e .first) 0 (omega (arith, at .size, at .near))
 
+  -- its offset, link and flag
   pub laid-second : getD (laid e j room) (130 + 2 * j) 0 ≡ linking
   unfolding laid
   laid-second =
       getD-set-other two (65 + e .owner) (130 + 2 * j) number 0 (λ q. omega (arith, at .small))
       ∙ getD-set-same one (130 + 2 * j) _ 0 (omega (arith, at .size, at .near, length-set room (129 + 2 * j) (e .first)))
 
+  -- where the productions of its nonterminal are
   pub laid-own : getD (laid e j room) (65 + e .owner) 0 ≡ number
   unfolding laid
   laid-own =
@@ -269,6 +276,7 @@ module _ {sets : List ℕ} {es : List Entry} {room₀ : List ℕ} {j : ℕ} {roo
         apart : (i ≡ j - 1 → ⊥) → j ≤ i
         apart q = omega arith
 
+    -- one entry more, in front of the others
     pub filling-next : Filling sets es room₀ (j - 1) (laid e (j - 1) room)
     filling-next =
         record {
