@@ -29,12 +29,15 @@ use Rattle.firsts.proofs.StepLaws.{length-sets}
 
 -- there are 64 sets of each
 module _ {nulls : ℕ} {g : List Production} {kinds calls : List ℕ} (e : BothSets nulls g kinds calls) where
+  -- as many first sets as nonterminals
   pub kinds-many : length kinds ≡ 64
   kinds-many = ap length (e .kinds-are) ∙ length-sets false nulls g
 
+  -- the same, as a slice asks for it
   pub kinds-size : 64 ≡ length kinds
   kinds-size = sym kinds-many
 
+  -- and as many sets of left calls
   pub calls-size : 64 ≡ length calls
   calls-size = sym (ap length (e .calls-are) ∙ length-sets true nulls g)
 
@@ -88,14 +91,15 @@ module _ (room : List ℕ) {n : ℕ} (e : n ≡ clashingIn room) where
   clash-tests : (b : Bool) → ltb n 64 ≡ b → verdict (refusedIf b (clashOf n (allSharedIn room n))) ≡ verdict (noClashIn room)
   unfolding noClashIn
   clash-tests b f =
-      ap (λ (x : Bool). verdict (refusedIf x (clashOf n (allSharedIn room n)))) (sym f)
-      ∙ ap (λ (k : ℕ). verdict (refusedIf (ltb k 64) (clashOf k (allSharedIn room k)))) e
+      rw (← f, e) refl
 
+  -- a nonterminal with a clash is refused
   pub clash-refused : n < 64 → {s k : ℕ} → s ≡ allSharedIn room n → k ≡ trailingZeros 64 s → {r : Refusal} → r ≡ refusal 13 n k 0
       → Refused r ≡ verdict (noClashIn room)
   clash-refused h es ek er =
-      ap Refused (er ∙ ap (λ (k : ℕ). refusal 13 n k 0) (ek ∙ ap (trailingZeros 64) es)) ∙ clash-tests true (lt-ltb n 64 h)
+      rw (er, ek, es) (clash-tests true (lt-ltb n 64 h))
 
+  -- without one the table passes
   pub clash-passed : 64 ≤ n → Passed ≡ verdict (noClashIn room)
   clash-passed h = clash-tests false (le-ltb n 64 h)
 
@@ -112,6 +116,7 @@ module _ (g : List Production) {n : ℕ} (e : n ≡ leftRecursive (leftCalls (nu
       (λ (k : ℕ). verdict (refusedIf (ltb k 64) (refusal 12 k 0 0) >> noClash (nullables g) (firstSets (nullables g) g) g))
       e
 
+  -- a nonterminal that reaches itself is refused
   pub check-recursive : n < 64 → {r : Refusal} → r ≡ refusal 12 n 0 0 → Refused r ≡ verdict (checkFirsts g)
   check-recursive h er = ap Refused er ∙ check-tests true (lt-ltb n 64 h)
 

@@ -1,8 +1,8 @@
 -- The tests of refusals 12 and 13 pass exactly if the rules say so: a nonterminal reaches itself, two productions of one share a kind,
 -- two productions of one clash.
 use Prim.Native.Nat.{ℕ, _<_}
-use mathlib.Core.Path.{_≡_, refl, sym, ap, _∙_}
-use mathlib.Core.Bool.{Bool, true, false, _&&_, _||_, and-eq-true-iff}
+use mathlib.Core.Path.{_≡_, refl, sym, _∙_}
+use mathlib.Core.Bool.{Bool, true, false, _&&_, and-eq-true-iff}
 use mathlib.Core.Logic.{_↔_, inl, inr, ⊎-elim}
 use mathlib.Core.List.{List}
 use native.Mathlib.Omega.{arith}
@@ -93,7 +93,7 @@ module _ (g : List Production) where
       gives p q = hasKind (sharedBy (nullables g) firsts n p q) b
 
       seen : hasKind (joinPairs (sharedBy (nullables g) firsts n) g 0) b ≡ anyPair gives g
-      seen = pairs-seen (sharedBy (nullables g) firsts n) g 0 b ∙ ap (λ t. t || anyPair gives g) (has-none b)
+      seen = rw (has-none b) at (pairs-seen (sharedBy (nullables g) firsts n) g 0 b)
 
   -- ---------------------------------------------------------------- a clash
 
@@ -136,12 +136,14 @@ module _ (g : List Production) where
         );
       }
 
+  -- the test for a clash passes exactly if two productions of n clash
   pub clash-exactly : (n : ℕ) → n < 64 → (anyPair (clash (nullables g) firsts n) g ≡ true) ↔ Clashes g n
   clash-exactly n l = (
     λ e. let r = pair-exactly (clash (nullables g) firsts n) g .0 e in clash-sound n l (r .apart) (r .passes),
     λ c. pair-exactly (clash (nullables g) firsts n) g .1 (clash-complete n c),
   )
 
+  -- a clash is of a nonterminal
   pub clash-small : {n : ℕ} → Clashes g n → n < 64
   clash-small (inl (b, s)) = s .two .small
   clash-small (inr z) = z .two .small

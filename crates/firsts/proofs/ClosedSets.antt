@@ -1,6 +1,6 @@
 -- The closure of the sets after one round gives the sets that the rounds settle, with any nullables.
 use Prim.Native.Nat.{ℕ, _<_}
-use mathlib.Core.Path.{_≡_, sym, ap, _∙_}
+use mathlib.Core.Path.{_≡_, sym, _∙_}
 use mathlib.Core.Bool.{Bool, true, false, false≢true, and-eq-true-iff}
 use mathlib.Core.Logic.{_⊎_, inl, inr, ⊎-elim}
 use mathlib.Core.List.{List, [], _∷_}
@@ -15,7 +15,7 @@ use Rattle.productions.specs.Normal.{Production}
 use Rattle.firsts.specs.FirstSets.{overAll, isPassed, own, firstStep, setsOf}
 use Rattle.firsts.specs.Rules.{Of}
 use Rattle.firsts.specs.SetCalls.{holds, RoundTaken, ClosedBelow, ClosedBoth, BothSets}
-use Rattle.firsts.proofs.Rounds.{Numbers, nothing, Within, Each, admit, least, least-within, least-closed, round-admits, round-within}
+use Rattle.firsts.proofs.Rounds.{Numbers, same-at, nothing, Within, Each, admit, least, least-within, least-closed, round-admits, round-within}
 use Rattle.firsts.proofs.Rounds.{or-left, or-right, or-split}
 use Rattle.firsts.proofs.FirstSetsExactly.{called, given, firstIn, called-more, first-more, sets-seen, round-seen, only-has}
 use Rattle.firsts.proofs.Searches.{both-in}
@@ -87,10 +87,10 @@ module _ (nulls : ℕ) (g : List Production) where
   oneRound c = overAll (firstStep c nulls) g (replicate 64 0)
 
   settled-seen : (c : Bool) (n b : ℕ) → settled c n b ≡ least (firstIn c nulls b) g n
-  settled-seen c n b = ap (λ (s : Numbers). s n) (sets-seen c nulls b g)
+  settled-seen c n b = same-at (sets-seen c nulls b g) n
 
   round-is : (c : Bool) (n b : ℕ) → holds (oneRound c) n b ≡ overAll (admit (firstIn c nulls b)) g nothing n
-  round-is c n b = ap (λ (s : Numbers). s n) (round-seen c nulls b g)
+  round-is c n b = same-at (round-seen c nulls b g) n
 
   -- one round gives nothing else
   round-settled : (c : Bool) (n b : ℕ) → holds (oneRound c) n b ≡ true → settled c n b ≡ true
@@ -118,7 +118,7 @@ module _ (nulls : ℕ) (g : List Production) where
       by : Dec (n < 64) → n < 64
       by (yes l) = l
       by (no l) =
-          absurd (false≢true (sym (ap (λ s. hasKind s b) (List·getD-eq-default {A = ℕ} sets 0 {n = n} (omega (arith, many))) ∙ has-none b) ∙ e))
+          absurd (false≢true (cc (List·getD-eq-default {A = ℕ} sets 0 {n = n} (omega (arith, many)), has-none b)))
 
   module _ (c : Bool) {calls sets : List ℕ} (a : ClosedBelow 64 (oneRound true) (oneRound true) calls calls)
       (x : ClosedBelow 64 (oneRound true) (oneRound c) calls sets) where

@@ -1,6 +1,6 @@
 -- Laws of the closure: sets whose first numbers are replaced, and one callee more.
 use Prim.Native.Nat.{ℕ, _+_, _-_, _<_, _≤_}
-use mathlib.Core.Path.{_≡_, refl, sym, ap, _∙_}
+use mathlib.Core.Path.{_≡_, refl, sym, _∙_}
 use mathlib.Core.Bool.{Bool, true, false, _&&_, _||_, false≢true, and-eq-true-iff, or-false}
 use mathlib.Core.Logic.{_⊎_, inl, inr, ⊎-elim}
 use mathlib.Core.List.{List}
@@ -19,7 +19,7 @@ use Rattle.firsts.proofs.Rounds.{or-left, or-right, or-split}
 
 -- the code's test
 pub joined-by : (set more : ℕ) {b t : Bool} → b ≡ t → {u : Bool} → b ≡ u → joinedIf u set more ≡ joinedIf t set more
-joined-by set more e f = ap (λ (x : Bool). joinedIf x set more) (sym f ∙ e)
+joined-by set more e f = cc
 
 module _ {k n : ℕ} {calls sets new : List ℕ} (r : CalleeJoined k n calls sets new) where
   joined-next : n < length sets → {v : ℕ} → v ≡ withCallee calls sets k n → CalleeJoined k (n + 1) calls sets (set new n v)
@@ -39,6 +39,7 @@ pub record Taking (many k n : ℕ) (calls₀ kinds₀ calls kinds : List ℕ) : 
   pub within : n ≤ many
   pub taken : CalleeTaken k n calls₀ kinds₀ calls kinds
 
+-- none is done at first
 pub taking-start : (many k : ℕ) (calls kinds : List ℕ) → Taking many k 0 calls kinds calls kinds
 taking-start many k calls kinds = record { within = omega arith; taken = record { calls-joined = none calls; kinds-joined = none kinds } }
   where
@@ -46,9 +47,11 @@ taking-start many k calls kinds = record { within = omega arith; taken = record 
     none sets = record { as-many = refl; done = λ i l. absurd (omega arith); left = λ i l. refl }
 
 module _ {many k n : ℕ} {calls₀ kinds₀ calls kinds : List ℕ} (c : Taking many k n calls₀ kinds₀ calls kinds) where
+  -- the next nonterminal has its left calls
   pub taking-calls : StepLent many calls₀ kinds₀ → n < many → n < length calls
   taking-calls l h = omega (arith, l .lent .calls-many, l .small, c .taken .calls-joined .as-many)
 
+  -- and its first set
   pub taking-kinds : StepLent many calls₀ kinds₀ → n < many → n < length kinds
   taking-kinds l h = omega (arith, l .lent .kinds-many, l .small, c .taken .kinds-joined .as-many)
 
@@ -70,6 +73,7 @@ module _ {many k n : ℕ} {calls₀ kinds₀ calls kinds : List ℕ} (c : Taking
             };
       }
 
+  -- all are done
   pub taking-end : many ≤ n → CalleeTaken k many calls₀ kinds₀ calls kinds
   taking-end h = let z : n ≡ many = omega (arith, c .within) in rw z at (c .taken)
 
@@ -92,7 +96,7 @@ no-set {many} {calls₀ = calls₀} {sets₀ = sets₀} c no-calls no-sets n b e
       where
         by : Dec (n < many) → ltb n many ≡ true
         by (yes l) = lt-ltb n many l
-        by (no l) = absurd (false≢true (sym (ap (λ s. hasKind s b) (none n (omega arith)) ∙ has-none b) ∙ e))
+        by (no l) = absurd (false≢true (cc (none n (omega arith), has-none b)))
 
 -- one callee more
 module _ {k : ℕ} {calls₀ sets₀ calls sets : List ℕ} (calls′ sets′ : List ℕ)
@@ -147,27 +151,29 @@ module _ {many k : ℕ} {calls sets sets′ : List ℕ} (r : CalleeJoined k many
       by : Dec (n < many) → (holds sets n b ≡ true) ⊎ ((holds calls n k ≡ true) × (holds sets k b ≡ true))
       by (yes l) =
           ⊎-elim inl (λ p. inr (and-eq-true-iff _ _ .0 p))
-          (or-split (holds sets n b) (sym (with-seen n b) ∙ sym (ap (λ s. hasKind s b) (r .done n l)) ∙ e))
-      by (no l) = inl (sym (ap (λ s. hasKind s b) (r .left n (omega arith))) ∙ e)
+          (or-split (holds sets n b) (cc (with-seen n b, r .done n l)))
+      by (no l) = inl (cc (r .left n (omega arith)))
 
   taken-old : (n b : ℕ) → holds sets n b ≡ true → holds sets′ n b ≡ true
   taken-old n b e = by (decLt n many)
     where
       by : Dec (n < many) → holds sets′ n b ≡ true
-      by (yes l) = ap (λ s. hasKind s b) (r .done n l) ∙ with-seen n b ∙ or-left _ e
-      by (no l) = ap (λ s. hasKind s b) (r .left n (omega arith)) ∙ e
+      by (yes l) = rw (r .done n l) (with-seen n b ∙ or-left _ e)
+      by (no l) = rw (r .left n (omega arith)) e
 
   taken-new : (n b : ℕ) → holds calls n k ≡ true → holds sets k b ≡ true → holds sets′ n b ≡ true
   taken-new n b e f =
-      ap (λ s. hasKind s b) (r .done n (none n e)) ∙ with-seen n b ∙ or-right (holds sets n b) (and-eq-true-iff _ _ .1 (e, f))
+      rw (r .done n (none n e)) (with-seen n b ∙ or-right (holds sets n b) (and-eq-true-iff _ _ .1 (e, f)))
 
 -- ------------------------------------------------------------------ the loop
 
+-- no callee is taken at first
 pub both-start : (calls kinds : List ℕ) → ClosedBoth 0 calls kinds calls kinds
 both-start calls kinds = record { calls-closed = closed-start calls calls; kinds-closed = closed-start calls kinds }
 
 module _ {many : ℕ} {calls₀ kinds₀ : List ℕ} (u : UsedBelow many calls₀ kinds₀) {k : ℕ} {calls kinds : List ℕ}
     (c : ClosedBoth k calls₀ kinds₀ calls kinds) where
+  -- the arrays stay as long as they were
   pub both-lent : SetsLent calls₀ kinds₀ → StepLent many calls kinds
   both-lent l =
       record {
@@ -175,6 +181,7 @@ module _ {many : ℕ} {calls₀ kinds₀ : List ℕ} (u : UsedBelow many calls�
         small = u .small;
       }
 
+  -- one callee more
   pub both-next : {calls′ kinds′ : List ℕ} → CalleeTaken k many calls kinds calls′ kinds′ → ClosedBoth (k + 1) calls₀ kinds₀ calls′ kinds′
   both-next {calls′} {kinds′} t =
       let none : (n : ℕ) → holds calls n k ≡ true → n < many = λ n e. no-set (c .calls-closed) (u .no-calls) (u .no-calls) n k e in
@@ -213,6 +220,7 @@ module _ {many : ℕ} {calls₀ kinds₀ : List ℕ} (u : UsedBelow many calls�
 pub record Unused (calls kinds : List ℕ) (n : ℕ) : Type 0 where
   pub used : UsedBelow n calls kinds
 
+-- there are no more than 64 sets
 pub unused-start : {calls kinds : List ℕ} → SetsLent calls kinds → Unused calls kinds 64
 unused-start {calls} {kinds} l =
     record {
@@ -224,6 +232,7 @@ unused-start {calls} {kinds} l =
           };
     }
 
+-- a nonterminal with two empty sets is not used
 pub unused-next : {calls kinds : List ℕ} {n : ℕ} → Unused calls kinds n → 0 < n → getD calls (n - 1) 0 ≤ 0 → getD kinds (n - 1) 0 ≤ 0
     → Unused calls kinds (n - 1)
 unused-next {calls} {kinds} {n} u h hc hk =
@@ -243,5 +252,6 @@ unused-next {calls} {kinds} {n} u h hc hk =
         by (yes z) = rw z e
         by (no z) = none i (omega arith)
 
+-- or none is used
 pub unused-end : {calls kinds : List ℕ} {n : ℕ} → Unused calls kinds n → n ≤ 0 → UsedBelow 0 calls kinds
 unused-end {n = n} u h = let z : n ≡ 0 = omega arith in rw z at (u .used)

@@ -1,6 +1,6 @@
 -- Laws of filling the room of a grammar.
 use Prim.Native.Nat.{ℕ, zero, suc, _+_, _-_, _<_, _≤_}
-use mathlib.Core.Path.{_≡_, refl, sym, ap, _∙_, subst}
+use mathlib.Core.Path.{_≡_, refl, sym, _∙_, subst}
 use mathlib.Core.List.{List, map}
 use native.Mathlib.Nat.{add-zero, zero-add}
 use native.Mathlib.Omega.{arith}
@@ -17,6 +17,7 @@ use Rattle.firsts.specs.Room.{entryAt, roomBy, WholeIndex, FillRoom}
 
 -- ------------------------------------------------------------------ the entries of an index
 
+-- the entry of a place
 pub map-at : (f : Place → Entry) (k : ℕ) (owners starts : List ℕ) (i j : ℕ) → j < k
     → getD (map f (placesFrom k owners starts i)) j noEntry ≡ f (placeAt owners starts (i + j))
 unfolding placesFrom
@@ -24,7 +25,7 @@ map-at f zero owners starts i j h = absurd (omega arith)
 map-at f (suc k) owners starts i zero h = rw add-zero refl
 map-at f (suc k) owners starts i (suc j) h =
     let z : i + 1 + j ≡ i + suc j = omega arith in
-    map-at f k owners starts (i + 1) j (omega arith) ∙ ap (λ n. f (placeAt owners starts n)) z
+    rw z at (map-at f k owners starts (i + 1) j (omega arith))
 
 each-at : {P : Place → Type 0} (k : ℕ) (owners starts : List ℕ) (i j : ℕ) → Each P (placesFrom k owners starts i) → j < k
     → P (placeAt owners starts (i + j))
@@ -33,11 +34,13 @@ each-at zero owners starts i j e h = absurd (omega arith)
 each-at (suc k) owners starts i zero (each-more p ps) h = rw add-zero p
 each-at {P} (suc k) owners starts i (suc j) (each-more p ps) h =
     let z : i + 1 + j ≡ i + suc j = omega arith in
-    subst (λ n. P (placeAt owners starts n)) z (each-at k owners starts (i + 1) j ps (omega arith))
+    rw z at (each-at k owners starts (i + 1) j ps (omega arith))
 
+-- as many entries as places
 pub length-entries : (f : Place → Entry) (m : ℕ) (owners starts : List ℕ) → length (map f (placesIn m owners starts)) ≡ m
 length-entries f m owners starts = length-map (placesIn m owners starts) f ∙ length-places m owners starts 0
 
+-- an owner is a nonterminal
 pub owner-small : {bs : List ℕ} {m : ℕ} {owners starts : List ℕ} → WholeIndex bs m owners starts → (j : ℕ) → j < m → getD owners j 0 < 64
 owner-small {bs} {m} {owners} {starts} w j h =
     let p : Whole bs (placeAt owners starts (0 + j)) = each-at m owners starts 0 j (w .whole) h in
@@ -52,13 +55,15 @@ module _ {bs : List ℕ} {m : ℕ} {owners starts sets room₀ : List ℕ} (pre 
   many : length entries ≡ m
   many = length-entries (entryAt bs nulls sets) m owners starts
 
+  -- a room that is begun has no entry yet
   pub fill-start : {room : List ℕ} → room ≡ begun m sets room₀ → Filling sets entries room m room
   fill-start {room} e =
       let f : Filling sets entries (begun m sets room₀) (length entries) (begun m sets room₀) =
       filling-start sets entries room₀ (omega (arith, many, pre .index .few)) (pre .lent .size) (sym many) in
-      subst (λ k. Filling sets entries room k room) many (subst (λ r. Filling sets entries r (length entries) r) (sym e) f)
+      rw e (rw many at f)
 
   module _ {room₁ : List ℕ} {j : ℕ} {room : List ℕ} (c : Filling sets entries room₁ j room) (positive : 0 < j) where
+    -- the next entry has room
     pub fill-at : RoomAt (j - 1) (getD owners (j - 1) 0) room
     fill-at =
         record {
@@ -81,8 +86,9 @@ module _ {bs : List ℕ} {m : ℕ} {owners starts sets room₀ : List ℕ} (pre 
         filling-next c positive here (owner-small (pre .index) (j - 1) (omega (arith, c .low, many))) in
         subst (Filling sets entries room₁ (j - 1)) (sym (er ∙ rw (ef, es) refl)) f
 
+  -- with all entries the room is that of the index
   pub fill-end : {room₁ : List ℕ} → room₁ ≡ begun m sets room₀ → {j : ℕ} {room : List ℕ} → Filling sets entries room₁ j room → j ≤ 0
       → room ≡ overwritten (roomBy bs (placesIn m owners starts) nulls sets) room₀
   fill-end e {j} {room} c h =
-      let f : Filling sets entries (begun m sets room₀) j room = subst (λ r. Filling sets entries r j room) e c in
+      let f : Filling sets entries (begun m sets room₀) j room = rw e at c in
       filling-end room₀ m f (omega arith)

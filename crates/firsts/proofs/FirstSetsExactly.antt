@@ -19,15 +19,17 @@ use Rattle.grammar.specs.Table.{Item, keyword, ide, number, local, call}
 use Rattle.productions.specs.Normal.{Production}
 use Rattle.firsts.specs.FirstSets.{overAll, isPassed, nullables, own, through, joined, gather, firstStep, setsOf}
 use Rattle.firsts.specs.Rules.{Of, First, first-own, first-call, first-past, FirstOf, Reads, reads-keyword, reads-word, reads-number, Calls, calls}
-use Rattle.firsts.proofs.Rounds.{Numbers, nothing, Within, Each, admit, least, least-within, least-closed, least-seen, over-seen}
+use Rattle.firsts.proofs.Rounds.{Numbers, same-at, nothing, Within, Each, admit, least, least-within, least-closed, least-seen, over-seen}
 use Rattle.firsts.proofs.Rounds.{or-left, or-right, or-split}
 use Rattle.firsts.proofs.NullablesExactly.{null-item-exactly}
 
 -- ------------------------------------------------------------------ the test of items, with bit b of all sets as a set
 
+-- the nonterminals whose set has b
 abbrev pub bitOfAll : ℕ → List ℕ → Numbers
 bitOfAll b sets n = hasKind (getD sets n 0) b
 
+-- an item calls a nonterminal of the set
 abbrev pub called : Numbers → Item → Bool
 called s (keyword k) = false
 called s (ide b) = false
@@ -51,6 +53,7 @@ called-seen b sets number = has-none b
 called-seen b sets local = has-none b
 called-seen b sets (call n ts) = refl
 
+-- a larger set is called by no fewer items
 pub called-more : (s t : Numbers) → Within s t → (i : Item) → called s i ≡ true → called t i ≡ true
 called-more s t h (keyword k) e = e
 called-more s t h (ide b) e = e
@@ -69,6 +72,7 @@ and-more false h e = e
 -- ------------------------------------------------------------------ the computed sets are the least, bit by bit
 
 module _ (c : Bool) (nulls b : ℕ) where
+  -- and gives no less
   pub first-more : (s t : Numbers) → Within s t → (is : List Item) → firstIn c nulls b s is ≡ true → firstIn c nulls b t is ≡ true
   unfolding firstIn
   first-more s t h [] e = e
@@ -92,12 +96,12 @@ module _ (c : Bool) (nulls b : ℕ) where
           → hasKind (gather c nulls sets (i ∷ is) found) b ≡ (hasKind found b || firstIn c nulls b (bitOfAll b sets) (i ∷ is))
       by true e rest =
           rw (e, gather)
-          (rest ∙ ap (λ t. t || firstIn c nulls b (bitOfAll b sets) is) (joined-seen sets i found)
-          ∙ or-assoc (hasKind found b) (given c b (bitOfAll b sets) i) (firstIn c nulls b (bitOfAll b sets) is))
-      by false e rest = rw (e, gather) (joined-seen sets i found ∙ ap (λ t. hasKind found b || t) (sym (or-false _)))
+          (rest ∙ rw (joined-seen sets i found) (or-assoc (hasKind found b) (given c b (bitOfAll b sets) i) (firstIn c nulls b (bitOfAll b sets) is)))
+      by false e rest = rw (e, gather) (joined-seen sets i found ∙ rw (or-false (given c b (bitOfAll b sets) i)) refl)
 
+  -- what the code gathers, bit by bit
   pub items-seen : (sets : List ℕ) (is : List Item) → hasKind (gather c nulls sets is 0) b ≡ firstIn c nulls b (bitOfAll b sets) is
-  items-seen sets is = gather-seen sets is 0 ∙ ap (λ t. t || firstIn c nulls b (bitOfAll b sets) is) (has-none b)
+  items-seen sets is = rw (has-none b) at (gather-seen sets is 0)
 
   step-length : (p : Production) (sets : List ℕ) → length sets ≡ 64 → length (firstStep c nulls p sets) ≡ 64
   unfolding firstStep
@@ -118,7 +122,7 @@ module _ (c : Bool) (nulls b : ℕ) where
           rw (getD-set-other sets (p .owner) n grown 0 e, ne-eqb n (p .owner) e, and-false (ltb n 64), and-false given-it) (sym (or-false _))
       by n (yes e) (yes l) =
           rw (e, getD-set-same sets (p .owner) grown 0 (omega arith), lt-ltb (p .owner) 64 (omega arith), eq-eqb (p .owner) (p .owner) refl, and-true given-it)
-          (has-join (getD sets (p .owner) 0) (gather c nulls sets (p .items) 0) b ∙ ap (λ t. bitOfAll b sets (p .owner) || t) (items-seen sets (p .items)))
+          (has-join (getD sets (p .owner) 0) (gather c nulls sets (p .items) 0) b ∙ rw (items-seen sets (p .items)) refl)
       by n (yes e) (no l) =
           rw (set-out sets (p .owner) grown (omega arith), le-ltb n 64 (omega arith), and-false given-it) (sym (or-false _))
 
@@ -173,10 +177,11 @@ module _ (c : Bool) (Own : Item → ℕ → Type 0) (own-exactly : (i : Item) (b
   first-complete (first-past {i = i} {is = is} {b = b} n h) =
       or-right (given c b (least (firstIn c (nullables g) b) g) i) (and-eq-true-iff _ _ .1 (null-item-exactly g i .1 n, first-complete h))
 
+  -- bit b of the set of n is there exactly if n gives b by the rules
   pub sets-exactly : (n b : ℕ) → (hasKind (getD (setsOf c (nullables g) g) n 0) b ≡ true) ↔ FirstOf g Own n b
   sets-exactly n b = (
-    λ e. least-within (firstIn c (nullables g) b) g (λ m. FirstOf g Own m b) keeps n (sym (ap (λ (s : Numbers). s n) (sets-seen c (nullables g) b g)) ∙ e),
-    λ f. ap (λ (s : Numbers). s n) (sets-seen c (nullables g) b g)
+    λ e. least-within (firstIn c (nullables g) b) g (λ m. FirstOf g Own m b) keeps n (sym (same-at (sets-seen c (nullables g) b g) n) ∙ e),
+    λ f. same-at (sets-seen c (nullables g) b g) n
         ∙ least-closed (firstIn c (nullables g) b) (first-more c (nullables g) b) g (f .of) (first-complete (f .first)),
   )
     where
@@ -184,6 +189,7 @@ module _ (c : Bool) (Own : Item → ℕ → Type 0) (own-exactly : (i : Item) (b
           → firstIn c (nullables g) b s (p .items) ≡ true → FirstOf g Own n b
       keeps s hs n p o e = record { production = p; of = o; first = first-sound b s hs (p .items) e }
 
+  -- and so it is with the items of one production
   pub items-exactly : (is : List Item) (b : ℕ) → (hasKind (gather c (nullables g) (setsOf c (nullables g) g) is 0) b ≡ true) ↔ First g Own is b
   items-exactly is b = (
     λ e. first-sound b (bitOfAll b (setsOf c (nullables g) g)) (λ n. sets-exactly n b .0) is (sym (items-seen c (nullables g) b _ is) ∙ e),
@@ -195,9 +201,11 @@ module _ (c : Bool) (Own : Item → ℕ → Type 0) (own-exactly : (i : Item) (b
 none-has : (b : ℕ) → hasKind 0 b ≡ true → ⊥
 none-has b e = false≢true (sym (has-none b) ∙ e)
 
+-- the set of one number has that one
 pub only-has : (j b : ℕ) → hasKind (only j) b ≡ true → (b ≡ j) × (b < 64)
 only-has j b e = let t = and-eq-true-iff (ltb b 64) (eqb b j) .0 (sym (has-only j b) ∙ e) in (eqb-true b j (t .1), ltb-true b 64 (t .0))
 
+-- an item gives its kind to a first set
 pub reads-exactly : (i : Item) (b : ℕ) → (hasKind (own false i) b ≡ true) ↔ Reads i b
 reads-exactly i b = (sound i, complete i b)
   where
@@ -213,6 +221,7 @@ reads-exactly i b = (sound i, complete i b)
     complete _ _ reads-word = has-own wordKind (omega arith)
     complete _ _ reads-number = has-own numberKind (omega arith)
 
+-- an item gives its nonterminal to the left calls
 pub calls-exactly : (i : Item) (b : ℕ) → (hasKind (own true i) b ≡ true) ↔ Calls i b
 calls-exactly i b = (sound i, complete i b)
   where

@@ -1,7 +1,7 @@
 -- In a room that holds a grammar, the search for a clash by the links is the search over the productions themselves.
 use Prim.Native.Nat.{ℕ, zero, suc, _+_, _-_, _<_, _≤_}
 use mathlib.Core.Path.{_≡_, refl, sym, ap, _∙_}
-use mathlib.Core.Bool.{Bool, true, false, _||_, and-false}
+use mathlib.Core.Bool.{Bool, true, false, and-false}
 use mathlib.Core.List.{List, [], _∷_, map}
 use native.Mathlib.Omega.{arith}
 use lib.Bits.{bitOr, or-zero-r}
@@ -47,7 +47,7 @@ module _ {sets : List ℕ} {es : List Entry} {room : List ℕ} (held : HoldsEntr
       let inside : j < length es = omega arith in
       let z : j + 1 ≡ suc j = omega arith in
       let opened : getD es j noEntry ∷ drop (suc j) es ≡ e ∷ l = sym (drop-cons es j noEntry inside) ∙ h in
-      (inside, cc, ap (λ k. drop k es) z ∙ cc)
+      (inside, cc, cc)
 
   -- the links of n lead over its own entries
   linked-own : (n : ℕ) (l : List Entry) (j : ℕ) → drop j es ≡ l → linked room (placeFrom (isOf n) l j) ≡ ownPlaces n l j
@@ -57,15 +57,13 @@ module _ {sets : List ℕ} {es : List Entry} {room : List ℕ} (held : HoldsEntr
       let at = front l e j h in
       by-test (isOf n e)
       (λ t. rw (t, placeFrom, ownPlaces)
-      (linked-next room j (omega (arith, at .0, held .few))
-      ∙ ap (λ i. j ∷ linked room i) (after n at t)
-      ∙ ap (λ r. j ∷ r) (linked-own n l (j + 1) (at .2))))
+      (cc (linked-next room j (omega (arith, at .0, held .few)), after n at t, linked-own n l (j + 1) (at .2))))
       (λ t. rw (t, placeFrom, ownPlaces) (linked-own n l (j + 1) (at .2)))
     where
       after : (n : ℕ) → (j < length es) × (getD es j noEntry ≡ e) × (drop (j + 1) es ≡ l) → isOf n e ≡ true
           → afterIn room j ≡ placeFrom (isOf n) l (j + 1)
       after n at t =
-          let o : getD es j noEntry .owner ≡ n = ap (λ x. x .owner) (at .1) ∙ eqb-true (e .owner) n t in
+          let o : getD es j noEntry .owner ≡ n = rw (at .1) (eqb-true (e .owner) n t) in
           let p : nextPlaceIn room j ≡ placeFrom (isOf n) l (j + 1) = next-place-in held j (at .0) ∙ rw (o, at .2) refl in
           let long : length (drop (j + 1) es) ≡ length l = ap length (at .2) in
           let m : j < placeFrom (isOf n) l (j + 1) =
@@ -87,10 +85,10 @@ module _ (bs : List ℕ) (nulls : ℕ) {sets : List ℕ} {es : List Entry} {room
     here : getD es i noEntry ≡ entryAt bs nulls sets p
 
   read-first : {i : ℕ} {p : Place} → At i p → firstIn room i ≡ entry p .first
-  read-first {i} a = first-in held i (a .inside) ∙ ap (λ e. e .first) (a .here)
+  read-first {i} a = first-in held i (a .inside) ∙ rw (a .here) refl
 
   read-nullable : {i : ℕ} {p : Place} → At i p → nullableIn room i ≡ entry p .nullable
-  read-nullable {i} a = nullable-in held i (a .inside) ∙ ap (λ e. e .nullable) (a .here)
+  read-nullable {i} a = nullable-in held i (a .inside) ∙ rw (a .here) refl
 
   module _ (n : ℕ) where
     module _ {i j : ℕ} {p q : Place} (a : At i p) (b : At j q) (own : eqb (p .owner) n ≡ true) (own′ : eqb (q .owner) n ≡ true) where
@@ -142,10 +140,8 @@ module _ (bs : List ℕ) (nulls : ℕ) {sets : List ℕ} {es : List Entry} {room
           let rest = any-with ps (j + 1) (f .1) in
           by-test (eqb (q .owner) n)
           (λ t. rw (t, ownPlaces)
-          (ap (λ x. x || anyWith (clashIn room i) (ownPlaces n (map entry ps) (j + 1))) (clash-own a (f .0) own t)
-          ∙ ap (λ x. clash nulls sets n (production p) (production q) || x) rest))
-          (λ t. rw (t, ownPlaces)
-          (rest ∙ sym (ap (λ x. x || anyWith (clash nulls sets n (production p)) (productionsAt bs ps)) (clash-off p q t))))
+          (rw (clash-own a (f .0) own t, rest) refl))
+          (λ t. rw (t, ownPlaces, clash-off p q t) rest)
 
       join-with : (ps : List Place) (j found : ℕ) → drop j es ≡ map entry ps
           → joinWith (sharedIn room i) (ownPlaces n (map entry ps) j) found
@@ -156,8 +152,7 @@ module _ (bs : List ℕ) (nulls : ℕ) {sets : List ℕ} {es : List Entry} {room
           let f = here-at q ps j h in
           by-test (eqb (q .owner) n)
           (λ t. rw (t, ownPlaces)
-          (join-with ps (j + 1) (bitOr found (sharedIn room i j)) (f .1)
-          ∙ ap (λ x. joinWith (sharedBy nulls sets n (production p)) (productionsAt bs ps) (bitOr found x)) (shared-own a (f .0) own t)))
+          (rw (shared-own a (f .0) own t) (join-with ps (j + 1) _ (f .1))))
           (λ t. rw (t, ownPlaces)
           (join-with ps (j + 1) found (f .1)
           ∙ ap (joinWith (sharedBy nulls sets n (production p)) (productionsAt bs ps))
@@ -174,13 +169,8 @@ module _ (bs : List ℕ) (nulls : ℕ) {sets : List ℕ} {es : List Entry} {room
         let rest = any-pairs ps (j + 1) (f .1) in
         by-test (eqb (q .owner) n)
         (λ t. rw (t, ownPlaces)
-        (ap (λ x. x || anyPair (clashIn room) (ownPlaces n (map entry ps) (j + 1))) (any-with (f .0) t ps (j + 1) (f .1))
-        ∙ ap (λ x. anyWith (clash nulls sets n (production q)) (productionsAt bs ps) || x) rest))
-        (λ t. rw (t, ownPlaces)
-        (rest
-        ∙ sym
-        (ap (λ x. x || anyPair (clash nulls sets n) (productionsAt bs ps))
-        (none-with (clash nulls sets n (production q)) (λ r. clash-none q r t) (productionsAt bs ps)))))
+        (rw (any-with (f .0) t ps (j + 1) (f .1), rest) refl))
+        (λ t. rw (t, ownPlaces, none-with (clash nulls sets n (production q)) (λ r. clash-none q r t) (productionsAt bs ps)) rest)
 
     join-pairs : (ps : List Place) (j found : ℕ) → drop j es ≡ map entry ps
         → joinPairs (sharedIn room) (ownPlaces n (map entry ps) j) found ≡ joinPairs (sharedBy nulls sets n) (productionsAt bs ps) found
@@ -219,7 +209,7 @@ module _ (bs : List ℕ) (nulls : ℕ) {sets : List ℕ} (places : List Place) {
 
   shared-is : (n : ℕ) → n < 64 → allSharedIn room n ≡ joinPairs (sharedBy nulls sets n) (productionsAt bs places) 0
   shared-is n small =
-      ap (λ l. joinPairs (sharedIn room) l 0) (own-linked bs nulls held n small) ∙ join-pairs bs nulls held n places 0 0 refl
+      rw (own-linked bs nulls held n small) (join-pairs bs nulls held n places 0 0 refl)
 
   -- The answer by the links is the answer by the productions.
   pub no-clash-is : noClashIn room ≡ noClash nulls sets (productionsAt bs places)

@@ -1,6 +1,6 @@
 -- Laws of the items at an offset of a table: what stands there, and the loops over the items of an alternative.
 use Prim.Native.Nat.{ℕ, zero, suc, _+_, _-_, _<_, _≤_}
-use mathlib.Core.Path.{_≡_, refl, sym, ap, _∙_, subst}
+use mathlib.Core.Path.{_≡_, refl, sym, ap, _∙_}
 use mathlib.Core.Bool.{Bool, true, false, _&&_}
 use mathlib.Core.List.{List, [], _∷_}
 use native.Mathlib.Omega.{arith}
@@ -41,12 +41,13 @@ symbol-by v =
     (getD v 0 0)
     number)
 
+-- the symbol by the first two bytes of a value
 pub symbol-is : (v : List ℕ) (kind operand k : ℕ) → kind ≡ getD v 0 0 → operand ≡ getD v 1 0 → kind ≡ k
     → getD (symbols operand) k Number ≡ symbolOf (itemOf v)
 symbol-is v kind operand k ek eo e =
-    ap (λ (o : ℕ). getD (symbols o) k Number) eo ∙ ap (λ (n : ℕ). getD (symbols (getD v 1 0)) n Number) (sym e ∙ ek)
-    ∙ sym (symbol-by v)
+    sym (rw (← eo, ← ek, e) at (symbol-by v))
 
+-- any other kind is a number
 pub symbol-other : (v : List ℕ) (kind operand : ℕ) → kind ≡ getD v 0 0 → operand ≡ getD v 1 0 → (kind ≡ 0 → ⊥) → (kind ≡ 1 → ⊥)
     → (kind ≡ 3 → ⊥)
     → (kind ≡ 4 → ⊥)
@@ -93,14 +94,17 @@ joined-by calls sets i found = rw (own-by calls i, through-by sets i) refl
 
 -- the code's cases
 pub passed-is : (nulls : ℕ) {s t : Symbol} → s ≡ t → isPassed nulls (withSymbol t) ≡ isPassed nulls (withSymbol s)
-passed-is nulls e = ap (λ (u : Symbol). isPassed nulls (withSymbol u)) (sym e)
+passed-is nulls e = rw e refl
 
+-- the same for what it gives by itself
 pub own-is : {calls b : Bool} → calls ≡ b → {s t : Symbol} → s ≡ t → own b (withSymbol t) ≡ own calls (withSymbol s)
-own-is {calls} {b} e {s} f = ap (λ (u : Symbol). own b (withSymbol u)) (sym f) ∙ ap (λ (x : Bool). own x (withSymbol s)) (sym e)
+own-is e f = rw (e, f) refl
 
+-- and through its nonterminal
 pub through-is : (sets : List ℕ) {s t : Symbol} → s ≡ t → through sets (withSymbol t) ≡ through sets (withSymbol s)
-through-is sets e = ap (λ (u : Symbol). through sets (withSymbol u)) (sym e)
+through-is sets e = rw e refl
 
+-- a keyword that is none has no kind
 pub keyword-none : (k : ℕ) → 62 ≤ k → 0 ≡ only (keywordKind k)
 keyword-none k h = sym (only-none (k + 2) (omega arith))
 
@@ -114,6 +118,7 @@ pub record ItemAt (bs : List ℕ) (at : ℕ) (s : Symbol) (after : ℕ) : Type 0
   pub less : at < after
   pub inside : after ≤ length bs
 
+-- what a step says of the items at an offset
 abbrev pub Stepped : List ℕ → ℕ → Step → Type 0
 Stepped bs at Done = itemsOf (fieldsAt bs at) ≡ []
 Stepped bs at (Past s after) = ItemAt bs at s after
@@ -137,8 +142,9 @@ module _ (bs : List ℕ) (at : ℕ) where
   stepped-by Short e = ap itemsOf (fields-at bs at e)
   stepped-by (Field t n) e = stepped-field t n e _ refl
 
+  -- and so does the step of the code
   pub stepped : {r : Step} → r ≡ stepOf bs at (frontOf (drop at bs)) → Stepped bs at r
-  stepped e = subst (λ (r : Step). Stepped bs at r) (sym e) (stepped-by _ refl)
+  stepped e = rw e (stepped-by _ refl)
 
   -- behind an item less is left
   pub step-less : {s : Symbol} {after : ℕ} → Past s after ≡ stepOf bs at (frontOf (drop at bs)) → length bs - after < length bs - at
@@ -148,14 +154,13 @@ module _ (bs : List ℕ) (at : ℕ) where
   pub step-done : {t n : ℕ} → Field t n ≡ frontOf (drop at bs) → (t ≡ 6 → ⊥) → Done ≡ stepOf bs at (frontOf (drop at bs))
   step-done {t} {n} e h = ap (fieldStep bs at n) (sym (ne-eqb t 6 h)) ∙ ap (stepOf bs at) e
 
+  -- a field of tag 6 is an item
   pub step-past : {t n : ℕ} → Field t n ≡ frontOf (drop at bs) → t ≡ 6 → {s : Symbol}
       → s ≡ symbolOf (itemOf (take (at + 3 + n - (at + 3)) (drop (at + 3) bs)))
       → Past s (at + 3 + n) ≡ stepOf bs at (frontOf (drop at bs))
   step-past {t} {n} e h es =
       let z : at + 3 + n - (at + 3) ≡ n = omega arith in
-      ap (λ (s : Symbol). Past s (at + 3 + n)) (es ∙ ap (λ (k : ℕ). symbolOf (itemOf (take k (drop (at + 3) bs)))) z)
-      ∙ ap (fieldStep bs at n) (sym (eq-eqb t 6 h))
-      ∙ ap (stepOf bs at) e
+      rw (es, z, ← e, eq-eqb t 6 h) refl
 
   items-end : length bs ≤ at → itemsOf (fieldsAt bs at) ≡ []
   unfolding itemsOf
@@ -166,8 +171,8 @@ passes : (bs : List ℕ) (at nulls : ℕ) {s : Symbol} {after : ℕ} (e : Past s
     → b ≡ isPassed nulls (withSymbol s)
     → b ≡ isPassed nulls (stepped bs at e .item)
 passes bs at nulls e eb =
-    eb ∙ ap (λ (t : Symbol). isPassed nulls (withSymbol t)) (stepped bs at e .symbol)
-    ∙ passed-by nulls (stepped bs at e .item)
+    let s = stepped bs at e in
+    rw (s .symbol) at eb ∙ passed-by nulls (s .item)
 
 -- ------------------------------------------------------------------ all items may read nothing
 
@@ -180,9 +185,11 @@ module _ {bs : List ℕ} {nulls start at : ℕ} (c : AllPassing bs nulls start a
   unfolding allPassed
   all-none e = sym (ap (allPassed nulls) e) ∙ c .rest
 
+  -- no item is left
   pub all-done : Done ≡ stepOf bs at (frontOf (drop at bs)) → true ≡ allPassed nulls (itemsOf (fieldsAt bs start))
   all-done e = all-none (stepped bs at e)
 
+  -- nor at the end
   pub all-end : length bs ≤ at → true ≡ allPassed nulls (itemsOf (fieldsAt bs start))
   all-end h = all-none (items-end bs at h)
 
@@ -190,15 +197,15 @@ module _ {bs : List ℕ} {nulls start at : ℕ} (c : AllPassing bs nulls start a
     all-one : (b && allPassed nulls (itemsOf (fieldsAt bs after))) ≡ allPassed nulls (itemsOf (fieldsAt bs start))
     unfolding allPassed
     all-one =
-        ap (λ (x : Bool). x && allPassed nulls (itemsOf (fieldsAt bs after))) (passes bs at nulls e eb)
-        ∙ sym (ap (allPassed nulls) (stepped bs at e .items))
-        ∙ c .rest
+        rw (passes bs at nulls e eb) (rw (stepped bs at e .items) at (c .rest))
 
+    -- past an item that may read nothing
     pub all-next : b ≡ true → AllPassing bs nulls start after
-    all-next t = record { rest = ap (λ (x : Bool). x && allPassed nulls (itemsOf (fieldsAt bs after))) (sym t) ∙ all-one }
+    all-next t = record { rest = rw t at all-one }
 
+    -- one that reads decides
     pub all-stop : b ≡ false → false ≡ allPassed nulls (itemsOf (fieldsAt bs start))
-    all-stop t = ap (λ (x : Bool). x && allPassed nulls (itemsOf (fieldsAt bs after))) (sym t) ∙ all-one
+    all-stop t = rw t at all-one
 
 -- ------------------------------------------------------------------ what the items give
 
@@ -209,11 +216,13 @@ pub record Gathering (bs : List ℕ) (calls : Bool) (nulls : ℕ) (sets : List �
 module _ {bs : List ℕ} {calls : Bool} {nulls : ℕ} {sets : List ℕ} {start found at : ℕ} (c : Gathering bs calls nulls sets start found at) where
   gather-none : itemsOf (fieldsAt bs at) ≡ [] → found ≡ gather calls nulls sets (itemsOf (fieldsAt bs start)) 0
   unfolding gather
-  gather-none e = sym (ap (λ (is : List Item). gather calls nulls sets is found) e) ∙ c .rest
+  gather-none e = rw e at (c .rest)
 
+  -- no item is left
   pub gather-done : Done ≡ stepOf bs at (frontOf (drop at bs)) → found ≡ gather calls nulls sets (itemsOf (fieldsAt bs start)) 0
   gather-done e = gather-none (stepped bs at e)
 
+  -- nor at the end
   pub gather-end : length bs ≤ at → found ≡ gather calls nulls sets (itemsOf (fieldsAt bs start)) 0
   gather-end h = gather-none (items-end bs at h)
 
@@ -221,34 +230,21 @@ module _ {bs : List ℕ} {calls : Bool} {nulls : ℕ} {sets : List ℕ} {start f
       (em : more ≡ joined calls sets (withSymbol s) found) {b : Bool} (eb : b ≡ isPassed nulls (withSymbol s)) where
     finds : more ≡ joined calls sets (stepped bs at e .item) found
     finds =
-        em ∙ ap (λ (t : Symbol). joined calls sets (withSymbol t) found) (stepped bs at e .symbol)
-        ∙ joined-by calls sets (stepped bs at e .item) found
+        rw (stepped bs at e .symbol) at em ∙ joined-by calls sets (stepped bs at e .item) found
 
-    gather-one : (elim b [ true ↦ gather calls nulls sets (itemsOf (fieldsAt bs after)) more | false ↦ more ])
-        ≡ gather calls nulls sets (itemsOf (fieldsAt bs start)) 0
-    unfolding gather
-    gather-one =
-        ap (λ (x : Bool). elim x [ true ↦ gather calls nulls sets (itemsOf (fieldsAt bs after)) more | false ↦ more ]) (passes bs at nulls e eb)
-        ∙ ap
-        (λ (y : ℕ).
-        elim (isPassed nulls (stepped bs at e .item))
-        [ true ↦ gather calls nulls sets (itemsOf (fieldsAt bs after)) y | false ↦ y ])
-        finds
-        ∙ sym (ap (λ (is : List Item). gather calls nulls sets is found) (stepped bs at e .items))
-        ∙ c .rest
-
+    -- what the definition gives for the item here, where the test is known
     pub gather-next : b ≡ true → Gathering bs calls nulls sets start more after
+    unfolding gather
     gather-next t =
-        record {
-          rest =
-              ap (λ (x : Bool). elim x [ true ↦ gather calls nulls sets (itemsOf (fieldsAt bs after)) more | false ↦ more ]) (sym t)
-              ∙ gather-one;
-        }
+        let goes : isPassed nulls (stepped bs at e .item) ≡ true = cc (passes bs at nulls e eb) in
+        record { rest = rw finds (rw (stepped bs at e .items, goes, gather) at (c .rest)) }
 
+    -- and where the item is the last
     pub gather-stop : b ≡ false → more ≡ gather calls nulls sets (itemsOf (fieldsAt bs start)) 0
+    unfolding gather
     gather-stop t =
-        ap (λ (x : Bool). elim x [ true ↦ gather calls nulls sets (itemsOf (fieldsAt bs after)) more | false ↦ more ]) (sym t)
-        ∙ gather-one
+        let stops : isPassed nulls (stepped bs at e .item) ≡ false = cc (passes bs at nulls e eb) in
+        finds ∙ (rw (stepped bs at e .items, stops, gather) at (c .rest))
 
 -- what both arrays get, and whether all items are nullable
 pub record Walking (bs : List ℕ) (nulls : ℕ) (kinds calls : List ℕ) (start read called at : ℕ) : Type 0 where
@@ -256,6 +252,7 @@ pub record Walking (bs : List ℕ) (nulls : ℕ) (kinds calls : List ℕ) (start
   pub calling : Gathering bs true nulls calls start called at
   pub passing : AllPassing bs nulls start at
 
+-- nothing is found at first
 pub walk-start : (bs : List ℕ) (nulls : ℕ) (kinds calls : List ℕ) (start : ℕ) → Walking bs nulls kinds calls start 0 0 start
 walk-start bs nulls kinds calls start = record { reading = record { rest = refl }; calling = record { rest = refl }; passing = record { rest = refl } }
 
@@ -267,6 +264,7 @@ module _ {bs : List ℕ} {nulls : ℕ} {kinds calls : List ℕ} {start read call
       → r ≡ record { kinds = k; calls = l; nullable = b } → r ≡ whole
   together ek el eb er = er ∙ rw (ek, el, eb) refl
 
+  -- no item is left
   pub walk-done : Done ≡ stepOf bs at (frontOf (drop at bs)) → {r : Gathered} → r ≡ record { kinds = read; calls = called; nullable = true } → r ≡ whole
   walk-done e = together (gather-done (c .reading) e) (gather-done (c .calling) e) (all-done (c .passing) e)
 
@@ -274,14 +272,17 @@ module _ {bs : List ℕ} {nulls : ℕ} {kinds calls : List ℕ} {start read call
   pub walk-less : {s : Symbol} {after : ℕ} → Past s after ≡ stepOf bs at (frontOf (drop at bs)) → length bs - after < length bs - at
   walk-less = step-less bs at
 
+  -- nor at the end
   pub walk-end : length bs ≤ at → {r : Gathered} → r ≡ record { kinds = read; calls = called; nullable = true } → r ≡ whole
   walk-end h = together (gather-end (c .reading) h) (gather-end (c .calling) h) (all-end (c .passing) h)
 
   module _ {s : Symbol} {after : ℕ} (e : Past s after ≡ stepOf bs at (frontOf (drop at bs))) {k l : ℕ} (ek : k ≡ joined false kinds (withSymbol s) read)
       (el : l ≡ joined true calls (withSymbol s) called) {b : Bool} (eb : b ≡ isPassed nulls (withSymbol s)) where
+    -- past an item that may read nothing
     pub walk-next : b ≡ true → Walking bs nulls kinds calls start k l after
     walk-next t =
         record { reading = gather-next (c .reading) e ek eb t; calling = gather-next (c .calling) e el eb t; passing = all-next (c .passing) e eb t }
 
+    -- an item that reads is the last
     pub walk-stop : b ≡ false → {r : Gathered} → r ≡ record { kinds = k; calls = l; nullable = false } → r ≡ whole
     walk-stop t = together (gather-stop (c .reading) e ek eb t) (gather-stop (c .calling) e el eb t) (all-stop (c .passing) e eb t)

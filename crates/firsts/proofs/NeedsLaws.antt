@@ -29,6 +29,7 @@ use Rattle.firsts.proofs.StepLaws.{Over, over-start, over-next, over-en
 
 -- ------------------------------------------------------------------ sets of nonterminals
 
+-- the empty set
 pub none-high : Nonterminals 0
 none-high = record { none-above = λ n l. has-none n }
 
@@ -83,7 +84,7 @@ joins-none s t h = eq-eqb (bitOr s t) s (same-set (bitOr s t) s (λ n. has-join 
 
 joined-in : (s t : ℕ) → eqb (bitOr s t) s ≡ true → (n : ℕ) → hasKind t n ≡ true → hasKind s n ≡ true
 joined-in s t e n f =
-    ap (λ x. hasKind x n) (sym (eqb-true (bitOr s t) s e)) ∙ has-join s t n ∙ or-right (hasKind s n) f
+    cc (eqb-true (bitOr s t) s e, has-join s t n, or-right (hasKind s n) f)
 
 -- ------------------------------------------------------------------ the items of a production
 
@@ -166,21 +167,22 @@ module _ (bs : List ℕ) (owner start : ℕ) {found : Gathered} (ef : found ≡ 
   abbrev items : List Item
   items = itemsOf (fieldsAt bs start)
 
+  -- a production that is held is nullable by its needs
   pub held-step : found .nullable ≡ true → (nulls : ℕ) → needStep owner (found .calls) nulls ≡ nullStep (productionAt bs owner start) nulls
   unfolding nullStep productionAt
   held-step e nulls =
-      ap (λ (x : Gathered). needStep owner (x .calls) nulls) ef
-      ∙ ap (λ (b : Bool). joinedIf b nulls (only owner)) (test-is items (sym (ap (λ (x : Gathered). x .nullable) ef) ∙ e) nulls)
-      ∙ by-cases owner nulls (allPassed nulls items)
+      rw (ef, test-is items (rw ef at e) nulls) (by-cases owner nulls (allPassed nulls items))
 
+  -- one that is not held never is
   pub other-step : found .nullable ≡ false → {nulls : ℕ} → Nonterminals nulls → nulls ≡ nullStep (productionAt bs owner start) nulls
   unfolding nullStep productionAt
   other-step e {nulls} h =
-      ap (λ (b : Bool). joinedIf b nulls (only owner)) (sym (by (allPassed nulls items) refl)) ∙ by-cases owner nulls (allPassed nulls items)
+      let none : allPassed nulls items ≡ false = by (allPassed nulls items) refl in
+      rw (none, nullStep) refl
     where
       by : (b : Bool) → allPassed nulls items ≡ b → allPassed nulls items ≡ false
       by true f =
-          absurd (false≢true (sym e ∙ ap (λ (x : Gathered). x .nullable) ef ∙ all-every h items f))
+          absurd (false≢true (sym (rw ef at e) ∙ all-every h items f))
       by false f = f
 
 -- ------------------------------------------------------------------ the productions that are held
@@ -213,6 +215,7 @@ pub record Holding (bs owners starts : List ℕ) (m : ℕ) (whose₀ needs₀ : 
 pub needs-lent : {m : ℕ} → m ≤ 256 → NeedsLent m (replicate 256 0) (replicate 256 0)
 needs-lent h = record { owners-many = omega (arith, h, length-replicate {A = ℕ} 256 0); needs-many = omega (arith, h, length-replicate {A = ℕ} 256 0) }
 
+-- none is held at first
 pub holding-start : (bs owners starts : List ℕ) (m : ℕ) {whose needs : List ℕ} → NeedsLent m whose needs
     → Holding bs owners starts m whose needs 0 0 whose needs
 unfolding needPass
@@ -221,14 +224,17 @@ holding-start bs owners starts m l =
 
 module _ {bs owners starts : List ℕ} {m : ℕ} {whose₀ needs₀ : List ℕ} {k j : ℕ} {whose needs : List ℕ}
     (c : Holding bs owners starts m whose₀ needs₀ k j whose needs) where
+  -- there is room for one owner more
   pub holding-whose : j < m → k < length whose
   holding-whose h = omega (arith, c .few, c .lent .owners-many)
 
+  -- and for its needs
   pub holding-needs : j < m → k < length needs
   holding-needs h = omega (arith, c .few, c .lent .needs-many)
 
   module _ (h : j < m) {o s : ℕ} (eo : o ≡ getD owners j 0) (es : s ≡ getD starts j 0) {found : Gathered}
       (ef : found ≡ gathered everyOne [] [] (itemsOf (fieldsAt bs s))) where
+    -- a production that is held
     pub holding-held : found .nullable ≡ true → Holding bs owners starts m whose₀ needs₀ (k + 1) (j + 1) (set whose k o) (set needs k (found .calls))
     holding-held e =
         let z : k + 1 ≡ suc k = omega arith in
@@ -248,6 +254,7 @@ module _ {bs owners starts : List ℕ} {m : ℕ} {whose₀ needs₀ : List ℕ} 
               ∙ held-step bs o s ef e (needRound k whose needs nulls));
         }
 
+    -- one that is not
     pub holding-other : found .nullable ≡ false → Holding bs owners starts m whose₀ needs₀ k (j + 1) whose needs
     holding-other e =
         record {
@@ -258,6 +265,7 @@ module _ {bs owners starts : List ℕ} {m : ℕ} {whose₀ needs₀ : List ℕ} 
           over = λ nulls n. over-next (c .over nulls n) h eo es (other-step bs o s ef e (pass-high (λ i. i) k whose needs n));
         }
 
+  -- all productions were looked at
   pub holding-end : m ≤ j → NeedsHeld (productionsBy m bs owners starts) k whose needs
   holding-end h = record { same = λ nulls n. over-end (c .over nulls n) h }
 
@@ -268,11 +276,13 @@ pub record Passing (owners needs : List ℕ) (down : Bool) (nulls k j set : ℕ)
   pub within : j ≤ k
   pub done : set ≡ needPass (stepPlace down k) j owners needs nulls
 
+-- no step is done at first
 pub passing-start : (owners needs : List ℕ) (down : Bool) (nulls k : ℕ) → Passing owners needs down nulls k 0 nulls
 unfolding needPass
 passing-start owners needs down nulls k = record { within = omega arith; done = refl }
 
 module _ {owners needs : List ℕ} {down : Bool} {nulls k j set : ℕ} (c : Passing owners needs down nulls k j set) where
+  -- one step more
   pub passing-next : j < k → {i o v r : ℕ} → i ≡ stepPlace down k j → o ≡ getD owners i 0 → v ≡ getD needs i 0 → r ≡ needStep o v set
       → Passing owners needs down nulls k (j + 1) r
   unfolding needPass
@@ -280,6 +290,7 @@ module _ {owners needs : List ℕ} {down : Bool} {nulls k j set : ℕ} (c : Pass
       let z : j + 1 ≡ suc j = omega arith in
       record { within = omega arith; done = rw z (er ∙ rw (c .done, eo, ev, ei) refl) }
 
+  -- all steps are done
   pub passing-end : k ≤ j → set ≡ needPass (stepPlace down k) k owners needs nulls
   passing-end h = let z : j ≡ k = omega (arith, c .within) in rw z at (c .done)
 
@@ -287,10 +298,11 @@ module _ {owners needs : List ℕ} {down : Bool} {nulls k j set : ℕ} (c : Pass
 pub need-taken : (owner needs nulls : ℕ) {both : ℕ} → both ≡ bitOr nulls needs → both ≡ nulls → {o : ℕ} → o ≡ only owner → {r : ℕ} → r ≡ bitOr nulls o
     → r ≡ needStep owner needs nulls
 need-taken owner needs nulls e f eo er =
-    er ∙ ap (bitOr nulls) eo ∙ ap (λ (b : Bool). joinedIf b nulls (only owner)) (sym (eq-eqb (bitOr nulls needs) nulls (sym e ∙ f)))
+    rw (eq-eqb (bitOr nulls needs) nulls (sym e ∙ f)) (cc)
 
+-- needs that are not all nullable change nothing
 pub need-left : (owner needs nulls : ℕ) {both : ℕ} → both ≡ bitOr nulls needs → (both ≡ nulls → ⊥) → nulls ≡ needStep owner needs nulls
-need-left owner needs nulls e f = ap (λ (b : Bool). joinedIf b nulls (only owner)) (sym (ne-eqb (bitOr nulls needs) nulls (λ g. f (e ∙ g))))
+need-left owner needs nulls e f = rw (ne-eqb (bitOr nulls needs) nulls (λ g. f (e ∙ g))) refl
 
 -- ------------------------------------------------------------------ passes
 
@@ -310,9 +322,9 @@ step-more owner needs s t h n = by (eqb (bitOr s needs) s) refl
   where
     by : (b : Bool) → eqb (bitOr s needs) s ≡ b → hasKind (joinedIf b s (only owner)) n ≡ true → hasKind (needStep owner needs t) n ≡ true
     by true e f =
-        ap (λ (b : Bool). hasKind (joinedIf b t (only owner)) n) (joins-none t needs (λ m g. h m (joined-in s needs e m g)))
-        ∙ has-join t (only owner) n
-        ∙ ⊎-elim (λ p. or-left _ (h n p)) (λ p. or-right (hasKind t n) p) (or-split (hasKind s n) (sym (has-join s (only owner) n) ∙ f))
+        rw (joins-none t needs (λ m g. h m (joined-in s needs e m g)))
+        (has-join t (only owner) n
+        ∙ ⊎-elim (λ p. or-left _ (h n p)) (λ p. or-right (hasKind t n) p) (or-split (hasKind s n) (sym (has-join s (only owner) n) ∙ f)))
     by false e f = step-adds owner needs t n (h n f)
 
 module _ (place : ℕ → ℕ) (owners needs : List ℕ) where
@@ -337,7 +349,7 @@ module _ (place : ℕ → ℕ) (owners needs : List ℕ) where
   pass-fixes zero s e i l = absurd (omega arith)
   pass-fixes (suc j) s e i l =
       let r : ℕ = needPass place j owners needs s in
-      let back : In r s = λ n h. ap (λ x. hasKind x n) (sym e) ∙ step-adds (getD owners (place j) 0) (getD needs (place j) 0) r n h in
+      let back : In r s = λ n h. rw e at (step-adds (getD owners (place j) 0) (getD needs (place j) 0) r n h) in
       let same : r ≡ s = both-in r s back (pass-adds j s) in
       dite (decLt i j) (λ h. pass-fixes j s same i h) (λ h. let z : i ≡ j = omega arith in rw z (ap (stepAt (place j)) (sym same) ∙ e))
 
@@ -348,7 +360,7 @@ module _ (place : ℕ → ℕ) (owners needs : List ℕ) where
 
 -- the code's test
 pub place-by : (k j : ℕ) {down d : Bool} → down ≡ d → stepPlace d k j ≡ stepPlace down k j
-place-by k j e = ap (λ (b : Bool). stepPlace b k j) (sym e)
+place-by k j e = rw e refl
 
 place-below : (down : Bool) (k j : ℕ) → j < k → stepPlace down k j < k
 place-below true k j h = omega arith
@@ -364,6 +376,7 @@ pub record Found (g : List Production) (nulls : ℕ) : Type 0 where
   pub high : Nonterminals nulls
   pub nullable : (n : ℕ) → hasKind nulls n ≡ true → hasKind (nullables g) n ≡ true
 
+-- nothing is found at first
 pub found-start : (g : List Production) → Found g 0
 found-start g = record { high = none-high; nullable = λ n e. absurd (false≢true (sym (has-none n) ∙ e)) }
 
@@ -386,22 +399,21 @@ module _ {g : List Production} {k : ℕ} {owners needs : List ℕ} (held : Needs
   rounds-in s e (suc t) x h i =
       let ex : overAll nullStep g x ≡ needRound k owners needs x = sym (held .same x h) in
       rounds-in s e t (overAll nullStep g x) (rw ex (pass-high (λ j. j) k owners needs h))
-      (λ n f. ap (λ z. hasKind z n) (sym e) ∙ pass-more (λ j. j) owners needs k x s i n (ap (λ z. hasKind z n) (sym ex) ∙ f))
+      (λ n f. rw e at (pass-more (λ j. j) owners needs k x s i n (rw ex at f)))
 
   nullables-in : (s : ℕ) → needRound k owners needs s ≡ s → In (nullables g) s
   unfolding nullables
   nullables-in s e = rounds-in s e 64 0 none-high (λ n f. absurd (false≢true (sym (has-none n) ∙ f)))
 
   module _ {nulls : ℕ} (c : Found g nulls) (down : Bool) {more : ℕ} (em : more ≡ needPass (stepPlace down k) k owners needs nulls) where
+    -- what a pass finds is nullable
     pub found-next : Found g more
     found-next =
         record {
           high = rw em (pass-high (stepPlace down k) k owners needs (c .high));
           nullable =
-              λ n e.
-              ap (λ z. hasKind z n)
-              (sym (fixed-pass (stepPlace down k) owners needs k (nullables g) (λ j l. nullables-fixed (stepPlace down k j) (place-below down k j l))))
-              ∙ pass-more (stepPlace down k) owners needs k nulls (nullables g) (c .nullable) n (ap (λ z. hasKind z n) (sym em) ∙ e);
+              let stays = fixed-pass (stepPlace down k) owners needs k (nullables g) (λ j l. nullables-fixed _ (place-below down k j l)) in
+              λ n e. rw stays at (pass-more (stepPlace down k) owners needs k nulls (nullables g) (c .nullable) n (rw em at e));
         }
 
     -- a pass that changes something finds more
@@ -413,6 +425,7 @@ module _ {g : List Production} {k : ℕ} {owners needs : List ℕ} (held : Needs
         (λ m. absurd (ne (same-set more nulls (λ n. dite (decLt n 64) (m .0 n) (λ l. above n (omega arith))))))
         (λ l. omega (arith, l, count-le 64 (hasKind more))) (grows 64 adds)
 
+    -- a pass that changes nothing has found all
     pub found-stop : more ≡ nulls → nulls ≡ nullables g
     found-stop e = both-in nulls (nullables g) (c .nullable) (nullables-in nulls (fixed-pass (λ j. j) owners needs k nulls fixed))
       where

@@ -1,7 +1,7 @@
 -- A bit of the computed nullables is set exactly if the nonterminal is nullable by the rules.
 use Prim.Native.Nat.{ℕ}
 use mathlib.Core.Path.{_≡_, refl, sym, ap, ap₂, _∙_, fun-ext}
-use mathlib.Core.Bool.{Bool, true, false, _&&_, _||_, false≢true, and-eq-true-iff, and-true, or-false}
+use mathlib.Core.Bool.{Bool, true, false, _&&_, false≢true, and-eq-true-iff, and-true, or-false}
 use mathlib.Core.Logic.{_↔_}
 use mathlib.Core.List.{List, [], _∷_}
 use Rattle.kinds.specs.Kinds.{hasKind, only}
@@ -10,7 +10,7 @@ use Rattle.grammar.specs.Table.{Item, keyword, ide, number, local, call}
 use Rattle.productions.specs.Normal.{Production}
 use Rattle.firsts.specs.FirstSets.{overAll, isPassed, allPassed, nullStep, nullables}
 use Rattle.firsts.specs.Rules.{Of, NullItems, null-none, null-local, null-call, Nullable}
-use Rattle.firsts.proofs.Rounds.{Numbers, Within, Each, admit, least, least-within, least-closed, least-settled, least-seen, over-seen}
+use Rattle.firsts.proofs.Rounds.{Numbers, same-at, Within, Each, admit, least, least-within, least-closed, least-settled, least-seen, over-seen}
 use Rattle.firsts.proofs.Searches.{same-set}
 
 -- ------------------------------------------------------------------ the test of items, with the nullables as a set
@@ -59,7 +59,7 @@ unfolding nullStep
 step-seen p nulls u = fun-ext (λ n. by n (allPassed nulls (p .items)) refl)
   where
     by : (n : ℕ) (b : Bool) → allPassed nulls (p .items) ≡ b → hasKind (nullStep p nulls) n ≡ admit allIn p (hasKind nulls) n
-    by n true e = rw (← all-seen nulls (p .items), e, nullStep) (has-join nulls (only (p .owner)) n ∙ ap (λ b. hasKind nulls n || b) (has-only (p .owner) n))
+    by n true e = rw (← all-seen nulls (p .items), e, nullStep) (rw (has-only (p .owner) n) at (has-join nulls (only (p .owner)) n))
     by n false e = rw (← all-seen nulls (p .items), e, nullStep) (sym (or-false (hasKind nulls n)))
 
 nullables-seen : (g : List Production) → hasKind (nullables g) ≡ least allIn g
@@ -70,7 +70,8 @@ nullables-seen g = least-seen (λ x. Unit {0}) hasKind allIn nullStep (λ p x u.
 pub nullables-settled : (g : List Production) → overAll nullStep g (nullables g) ≡ nullables g
 nullables-settled g =
     same-set (overAll nullStep g (nullables g)) (nullables g)
-    (λ n. ap (λ (s : Numbers). s n) (over-seen (λ x. Unit {0}) hasKind allIn nullStep (λ p x u. tt) step-seen g (nullables g) tt
+    (same-at
+    (over-seen (λ x. Unit {0}) hasKind allIn nullStep (λ p x u. tt) step-seen g (nullables g) tt
     ∙ ap (overAll (admit allIn) g) (nullables-seen g) ∙ least-settled allIn all-more g ∙ sym (nullables-seen g)))
 
 -- ------------------------------------------------------------------ the rules
@@ -94,6 +95,7 @@ module _ (g : List Production) where
   null-complete (null-local h) = null-complete h
   null-complete (null-call o h t) = and-eq-true-iff _ _ .1 (least-closed allIn all-more g o (null-complete h), null-complete t)
 
+  -- bit n is there exactly if n is nullable by the rules
   pub nullable-exactly : (n : ℕ) → (hasKind (nullables g) n ≡ true) ↔ Nullable g n
   nullable-exactly n = (
     λ e. least-within allIn g (Nullable g) keeps n (rw (nullables-seen g) at e),
@@ -103,12 +105,14 @@ module _ (g : List Production) where
       keeps : (s : Numbers) → Each (Nullable g) s → (n : ℕ) (p : Production) → Of g n p → allIn s (p .items) ≡ true → Nullable g n
       keeps s hs n p o e = record { production = p; of = o; items = null-sound s hs (p .items) e }
 
+  -- items are found nullable exactly if they are
   pub null-items-exactly : (is : List Item) → (allPassed (nullables g) is ≡ true) ↔ NullItems g is
   null-items-exactly is = (
     λ e. null-sound (hasKind (nullables g)) (λ n. nullable-exactly n .0) is (sym (all-seen (nullables g) is) ∙ e),
     λ h. all-seen (nullables g) is ∙ rw (nullables-seen g) (null-complete h),
   )
 
+  -- and so it is with one item
   pub null-item-exactly : (i : Item) → (isPassed (nullables g) i ≡ true) ↔ NullItems g (i ∷ [])
   unfolding allPassed
   null-item-exactly i =

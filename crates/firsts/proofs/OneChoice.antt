@@ -33,11 +33,13 @@ one-of {g} {n} {p} {q} P never o k x y = by (apart (o .member) (k .member))
     by (inr (inr b)) = absurd (never q p (two k o b) y x)
 
 module _ (g : List Production) (none : Never (Clashes g)) {n : ℕ} {p q : Production} (o : Of g n p) (k : Of g n q) where
+  -- one kind opens one production
   pub one-opened : {b : ℕ} → First g Reads (p .items) b → First g Reads (q .items) b → p ≡ q
   one-opened {b} =
       one-of (λ r. First g Reads (r .items) b)
       (λ r s w x y. none n (inl (b, record { one = r; other = s; two = w; one-first = x; other-first = y }))) o k
 
+  -- one production is nullable
   pub one-nullable : NullItems g (p .items) → NullItems g (q .items) → p ≡ q
   one-nullable =
       one-of (λ r. NullItems g (r .items)) (λ r s w x y. none n (inr (record { one = r; other = s; two = w; one-null = x; other-null = y }))) o k

@@ -21,29 +21,28 @@ pub record Lowest (p : ℕ → Bool) (n : ℕ) : Type 0 where
   pub rest : lowest (64 - n) p n ≡ lowest 64 p 0
 
 module _ {p : ℕ → Bool} {n : ℕ} (c : Lowest p n) where
-  lowest-one : n < 64 → (b : Bool) → p n ≡ b → (elim b [ true ↦ n | false ↦ lowest (64 - (n + 1)) p (n + 1) ]) ≡ lowest 64 p 0
-  unfolding lowest
-  lowest-one h b e =
-      let z : 64 - n ≡ suc (64 - (n + 1)) = omega arith in
-      ap (λ (x : Bool). elim x [ true ↦ n | false ↦ lowest (64 - (n + 1)) p (n + 1) ]) (sym e)
-      ∙ sym (ap (λ (k : ℕ). lowest k p n) z)
-      ∙ c .rest
-
+  -- a number that does not pass is left behind
   pub lowest-next : n < 64 → p n ≡ false → Lowest p (n + 1)
-  lowest-next h e = record { small = omega arith; rest = lowest-one h false e }
+  unfolding lowest
+  lowest-next h e =
+      let z : 64 - n ≡ suc (64 - (n + 1)) = omega arith in
+      record { small = omega arith; rest = rw (z, e, lowest) at (c .rest) }
 
+  -- one that passes is the lowest
   pub lowest-stop : n < 64 → p n ≡ true → n ≡ lowest 64 p 0
-  lowest-stop h e = lowest-one h true e
+  unfolding lowest
+  lowest-stop h e = let z : 64 - n ≡ suc (64 - (n + 1)) = omega arith in rw (z, e, lowest) at (c .rest)
 
+  -- no number is left
   pub lowest-end : 64 ≤ n → n ≡ lowest 64 p 0
   unfolding lowest
   lowest-end h =
       let z : 64 - n ≡ 0 = omega arith in
-      sym (ap (λ (k : ℕ). lowest k p n) z) ∙ c .rest
+      rw z at (c .rest)
 
 -- whether a nonterminal reaches itself
 pub reach-is : (n : ℕ) {reached s : ℕ} → reached ≡ s → {b : Bool} → b ≡ hasKind reached n → hasKind s n ≡ b
-reach-is n e f = sym (f ∙ ap (λ (x : ℕ). hasKind x n) e)
+reach-is n e f = cc
 
 -- ------------------------------------------------------------------ links
 
@@ -53,9 +52,11 @@ module _ (room : List ℕ) where
   after-more i h =
       by-test (ltb i (nextPlaceIn room i)) (λ e. rw (e, afterIn) (ltb-true i (nextPlaceIn room i) e)) (λ e. rw (e, afterIn) h)
 
+  -- a link that leads on
   pub after-on : (i : ℕ) {next : ℕ} → next ≡ nextPlaceIn room i → i < next → next ≡ afterIn room i
   after-on i {next} e h = sym (rw (lt-ltb i (nextPlaceIn room i) (omega arith), afterIn) (sym e))
 
+  -- one that does not
   pub after-end : (i : ℕ) {next : ℕ} → next ≡ nextPlaceIn room i → next ≤ i → 256 ≡ afterIn room i
   after-end i e h = sym (rw (le-ltb i (nextPlaceIn room i) (omega arith), afterIn) refl)
 
@@ -69,25 +70,25 @@ module _ (room : List ℕ) where
   fuel (suc k) zero i h h′ = rw (le-ltb i 256 (omega arith), linkedFrom) refl
   fuel (suc k) (suc k′) i h h′ =
       by-test (ltb i 256)
-      (λ e. rw (e, linkedFrom)
-      (ap (λ l. i ∷ l)
-      (fuel k k′ (afterIn room i) (omega (arith, after-more i (ltb-true i 256 e))) (omega (arith, after-more i (ltb-true i 256 e))))))
+      (λ e.
+      let on = after-more i (ltb-true i 256 e) in
+      rw (e, linkedFrom) (ap (_∷_ i) (fuel k k′ (afterIn room i) (omega (arith, on)) (omega (arith, on)))))
       (λ e. rw (e, linkedFrom) refl)
 
+  -- the places from i on are i and those behind it
   pub linked-next : (i : ℕ) → i < 256 → linked room i ≡ i ∷ linked room (afterIn room i)
   unfolding linkedFrom
   linked-next i h =
       let z : 256 - i ≡ suc (255 - i) = omega arith in
-      ap (λ k. linkedFrom k room i) z
-      ∙ rw (lt-ltb i 256 h, linkedFrom)
-      (ap (λ l. i ∷ l)
-      (fuel (255 - i) (256 - afterIn room i) (afterIn room i) (omega (arith, after-more i h)) (omega (arith, after-more i h))))
+      let on = after-more i h in
+      rw (z, lt-ltb i 256 h, linkedFrom) (ap (_∷_ i) (fuel (255 - i) (256 - afterIn room i) (afterIn room i) (omega (arith, on)) (omega (arith, on))))
 
+  -- no place is 256 or more
   pub linked-none : (i : ℕ) → 256 ≤ i → linked room i ≡ []
   unfolding linkedFrom
   linked-none i h =
       let z : 256 - i ≡ 0 = omega arith in
-      ap (λ k. linkedFrom k room i) z
+      rw z refl
 
 -- ------------------------------------------------------------------ any pair
 
@@ -99,23 +100,25 @@ pub record Row (q : ℕ → ℕ → Bool) (room : List ℕ) (start i : ℕ) : Ty
 pub record Column (q : ℕ → ℕ → Bool) (room : List ℕ) (start i j : ℕ) : Type 0 where
   pub rest : (anyWith (q i) (linked room j) || anyPair q (linked room (afterIn room i))) ≡ anyPair q (linked room start)
 
+-- at the first place
 pub row-start : (q : ℕ → ℕ → Bool) (room : List ℕ) {start i : ℕ} → i ≡ start → Row q room start i
-row-start q room e = record { rest = ap (λ k. anyPair q (linked room k)) e }
+row-start q room e = record { rest = cc }
 
 module _ {q : ℕ → ℕ → Bool} {room : List ℕ} {start i : ℕ} (c : Row q room start i) where
+  -- the pairs of the next place
   pub column-start : i < 256 → {j : ℕ} → j ≡ afterIn room i → Column q room start i j
   unfolding anyPair
   column-start h e =
       record {
         rest =
-            ap (λ k. anyWith (q i) (linked room k) || anyPair q (linked room (afterIn room i))) e
-            ∙ sym (ap (anyPair q) (linked-next room i h))
-            ∙ c .rest;
+            cc (ap (anyPair q) (linked-next room i h), c .rest);
       }
 
+  -- fewer places are left
   pub row-less : i < 256 → {k : ℕ} → k ≡ afterIn room i → 256 - k < 256 - i
   row-less h {k} = after-less room i k h
 
+  -- no place is left
   pub row-end : 256 ≤ i → anyPair q (linked room start) ≡ false
   unfolding anyPair
   row-end h = sym (c .rest) ∙ ap (anyPair q) (linked-none room i h)
@@ -125,26 +128,29 @@ module _ {q : ℕ → ℕ → Bool} {room : List ℕ} {start i j : ℕ} (c : Col
       → ((q i j || anyWith (q i) (linked room (afterIn room j))) || anyPair q (linked room (afterIn room i))) ≡ anyPair q (linked room start)
   unfolding anyWith
   column-one h =
-      ap (λ l. anyWith (q i) l || anyPair q (linked room (afterIn room i))) (sym (linked-next room j h)) ∙ c .rest
+      cc (ap (anyWith (q i)) (linked-next room j h), c .rest)
 
+  -- a pair that does not pass
   pub column-next : j < 256 → {b : Bool} → b ≡ q i j → b ≡ false → {k : ℕ} → k ≡ afterIn room j → Column q room start i k
   column-next h e f g =
-      record { rest = ap (λ k. anyWith (q i) (linked room k) || anyPair q (linked room (afterIn room i))) g ∙ rw (sym e ∙ f) at (column-one h) }
+      let first : q i j ≡ false = cc in
+      record { rest = rw (← g, first) at (column-one h) }
 
+  -- fewer places are left
   pub column-less : j < 256 → {k : ℕ} → k ≡ afterIn room j → 256 - k < 256 - j
   column-less h {k} = after-less room j k h
 
+  -- a pair that passes
   pub column-found : j < 256 → {b : Bool} → b ≡ q i j → b ≡ true → anyPair q (linked room start) ≡ true
   column-found h e f = sym (rw (sym e ∙ f) at (column-one h))
 
+  -- no pair of place i is left
   pub column-end : 256 ≤ j → {k : ℕ} → k ≡ afterIn room i → Row q room start k
   unfolding anyWith
   column-end h e =
       record {
         rest =
-            ap (λ k. anyPair q (linked room k)) e
-            ∙ sym (ap (λ l. anyWith (q i) l || anyPair q (linked room (afterIn room i))) (linked-none room j h))
-            ∙ c .rest;
+            rw (linked-none room j h, ← e) at (c .rest);
       }
 
 -- ------------------------------------------------------------------ what all pairs give
@@ -157,47 +163,49 @@ pub record JoinRow (f : ℕ → ℕ → ℕ) (room : List ℕ) (start i found : 
 pub record JoinColumn (f : ℕ → ℕ → ℕ) (room : List ℕ) (start i j found : ℕ) : Type 0 where
   pub rest : joinPairs f (linked room (afterIn room i)) (joinWith (f i) (linked room j) found) ≡ joinPairs f (linked room start) 0
 
+-- at the first place
 pub join-row-start : (f : ℕ → ℕ → ℕ) (room : List ℕ) {start i : ℕ} → i ≡ start → JoinRow f room start i 0
-join-row-start f room e = record { rest = ap (λ k. joinPairs f (linked room k) 0) e }
+join-row-start f room e = record { rest = cc }
 
 module _ {f : ℕ → ℕ → ℕ} {room : List ℕ} {start i found : ℕ} (c : JoinRow f room start i found) where
+  -- the pairs of the next place
   pub join-column-start : i < 256 → {j : ℕ} → j ≡ afterIn room i → JoinColumn f room start i j found
   unfolding joinPairs
   join-column-start h e =
       record {
         rest =
-            ap (λ k. joinPairs f (linked room (afterIn room i)) (joinWith (f i) (linked room k) found)) e
-            ∙ sym (ap (λ l. joinPairs f l found) (linked-next room i h))
-            ∙ c .rest;
+            rw e (rw (linked-next room i h) at (c .rest));
       }
 
+  -- fewer places are left
   pub join-row-less : i < 256 → {k : ℕ} → k ≡ afterIn room i → 256 - k < 256 - i
   join-row-less h {k} = after-less room i k h
 
+  -- no place is left
   pub join-row-end : 256 ≤ i → found ≡ joinPairs f (linked room start) 0
   unfolding joinPairs
-  join-row-end h = sym (ap (λ l. joinPairs f l found) (linked-none room i h)) ∙ c .rest
+  join-row-end h = rw (linked-none room i h) at (c .rest)
 
 module _ {f : ℕ → ℕ → ℕ} {room : List ℕ} {start i j found : ℕ} (c : JoinColumn f room start i j found) where
+  -- what a pair gives is joined
   pub join-column-next : j < 256 → {v more : ℕ} → v ≡ f i j → more ≡ bitOr found v → {k : ℕ} → k ≡ afterIn room j
       → JoinColumn f room start i k more
   unfolding joinWith
   join-column-next h e s g =
       record {
         rest =
-            rw (g, s, e)
-            (ap (λ l. joinPairs f (linked room (afterIn room i)) (joinWith (f i) l found)) (sym (linked-next room j h)) ∙ c .rest);
+            rw (g, s, e) (rw (linked-next room j h) at (c .rest));
       }
 
+  -- fewer places are left
   pub join-column-less : j < 256 → {k : ℕ} → k ≡ afterIn room j → 256 - k < 256 - j
   join-column-less h {k} = after-less room j k h
 
+  -- no pair of place i is left
   pub join-column-end : 256 ≤ j → {k : ℕ} → k ≡ afterIn room i → JoinRow f room start k found
   unfolding joinWith
   join-column-end h e =
       record {
         rest =
-            ap (λ k. joinPairs f (linked room k) found) e
-            ∙ sym (ap (λ l. joinPairs f (linked room (afterIn room i)) (joinWith (f i) l found)) (linked-none room j h))
-            ∙ c .rest;
+            rw e (rw (linked-none room j h) at (c .rest));
       }

@@ -1,6 +1,6 @@
 -- What the check of a grammar gives says what refusals 12 and 13 mean, and no other result does.
 use Prim.Native.Nat.{ℕ, _≤_, _<_}
-use mathlib.Core.Path.{_≡_, refl, sym, ap, ap₂, _∙_, subst}
+use mathlib.Core.Path.{_≡_, refl, sym, ap, _∙_}
 use mathlib.Core.Bool.{Bool, true, false, true≢false}
 use mathlib.Core.Logic.{_↔_, inl, inr}
 use mathlib.Core.List.{List}
@@ -121,13 +121,13 @@ module _ (g : List Production) where
   -- ---------------------------------------------------------------- no other result says what it means
 
   same-12 : {r s : Refusal} → Says12 g r → Says12 g s → r ≡ s
-  same-12 x y = x .answer ∙ ap (λ n. refusal 12 n 0 0) (lowest-one (x .lowest) (y .lowest)) ∙ sym (y .answer)
+  same-12 x y = cc (x .answer, y .answer, lowest-one (x .lowest) (y .lowest))
 
   same-13 : {r s : Refusal} → Says13 g r → Says13 g s → r ≡ s
   same-13 x y =
       let n : x .nonterminal ≡ y .nonterminal = lowest-one (x .lowest) (y .lowest) in
-      let b : x .kind ≡ y .kind = lowest64-one (subst (λ (k : ℕ). LowestOr64 (Shares g k) (x .kind)) n (x .shared)) (y .shared) in
-      x .answer ∙ ap₂ (λ k c. refusal 13 k c 0) n b ∙ sym (y .answer)
+      let b : x .kind ≡ y .kind = lowest64-one (rw n at (x .shared)) (y .shared) in
+      cc (x .answer, y .answer)
 
   says-one : (x y : Checked (Unit {0})) → Says g x → Says g y → x ≡ y
   says-one (ok u) (ok v) h k = refl
@@ -140,11 +140,13 @@ module _ (g : List Production) where
   says-one (bad r) (bad s) (inr h) (inl k) = absurd (h .earlier _ (k .lowest .holds))
   says-one (bad r) (bad s) (inr h) (inr k) = ap bad (same-13 h k)
 
+  -- a result is given exactly if it says what holds
   pub check-exactly : (x : Checked (Unit {0})) → (checkFirsts g ≡ x) ↔ Says g x
-  check-exactly x = (λ e. subst (λ (y : Checked (Unit {0})). Says g y) e check-says, λ h. says-one (checkFirsts g) x check-says h)
+  check-exactly x = (λ e. rw e at check-says, λ h. says-one (checkFirsts g) x check-says h)
 
   -- ---------------------------------------------------------------- refusal by refusal
 
+  -- 12 names the lowest nonterminal that reaches itself
   pub given-12 : (n : ℕ) → (checkFirsts g ≡ bad (refusal 12 n 0 0)) ↔ Lowest (LeftRecursive g) n
   given-12 n = (
     λ e. by (check-exactly (bad (refusal 12 n 0 0)) .0 e),
@@ -155,6 +157,7 @@ module _ (g : List Production) where
       by (inl h) = rw (ap (λ (r : Refusal). r .a) (h .answer)) (h .lowest)
       by (inr h) = absurd (omega (arith, ap (λ (r : Refusal). r .number) (h .answer)))
 
+  -- 13 names the lowest clash, if none reaches itself
   pub given-13 : (n b : ℕ) → (checkFirsts g ≡ bad (refusal 13 n b 0)) ↔ (Never (LeftRecursive g) × Lowest (Clashes g) n × LowestOr64 (Shares g n) b)
   given-13 n b = (
     λ e. by (check-exactly (bad (refusal 13 n b 0)) .0 e),
@@ -170,6 +173,7 @@ module _ (g : List Production) where
         rw (ap (λ (r : Refusal). r .a) (h .answer), ap (λ (r : Refusal). r .b) (h .answer)) (h .shared),
       )
 
+  -- 12 is given exactly if one reaches itself
   pub some-12 : ((n : ℕ) × (checkFirsts g ≡ bad (refusal 12 n 0 0))) ↔ ((n : ℕ) × LeftRecursive g n)
   some-12 = (λ e. (e .0, given-12 (e .0) .0 (e .1) .holds), λ h. by h (checkFirsts g) refl check-says)
     where
@@ -178,6 +182,7 @@ module _ (g : List Production) where
       by h (bad r) e (inl k) = (k .nonterminal, e ∙ ap bad (k .answer))
       by h (bad r) e (inr k) = absurd (k .earlier _ (h .1))
 
+  -- 13 is given exactly if two clash, and none reaches itself
   pub some-13 : ((n : ℕ) × (b : ℕ) × (checkFirsts g ≡ bad (refusal 13 n b 0))) ↔ (Never (LeftRecursive g) × ((n : ℕ) × Clashes g n))
   some-13 =
       (λ e. let h = given-13 (e .0) (e .1) .0 (e .2) in (h .0, (e .0, h .1 .holds)), λ h. by h (checkFirsts g) refl check-says)

@@ -16,25 +16,35 @@ use Rattle.firsts.specs.Rules.{In, in-first, in-later, Of}
 
 -- ------------------------------------------------------------------ tests
 
+-- one side is enough
 pub or-left : {a : Bool} (b : Bool) → a ≡ true → (a || b) ≡ true
 or-left b e = rw e refl
 
+-- and so is the other
 pub or-right : (a : Bool) {b : Bool} → b ≡ true → (a || b) ≡ true
 or-right true e = refl
 or-right false e = e
 
+-- one of the two it is
 pub or-split : (a : Bool) {b : Bool} → (a || b) ≡ true → (a ≡ true) ⊎ (b ≡ true)
 or-split true e = inl refl
 or-split false e = inr e
 
 -- ------------------------------------------------------------------ a set of numbers by its test
 
+-- numbers that pass a test
 abbrev pub Numbers : Type 0
 Numbers = ℕ → Bool
 
+-- equal sets have the same numbers
+pub same-at : {s t : Numbers} → s ≡ t → (n : ℕ) → s n ≡ t n
+same-at e n = ap (λ (s : Numbers). s n) e
+
+-- none
 abbrev pub nothing : Numbers
 nothing n = false
 
+-- one set in another
 abbrev pub Within : Numbers → Numbers → Type 0
 Within s t = (n : ℕ) → s n ≡ true → t n ≡ true
 
@@ -55,6 +65,7 @@ counted-le : (b : Bool) {c n : ℕ} → c ≤ n → counted b c ≤ suc n
 counted-le true h = omega arith
 counted-le false h = omega arith
 
+-- no more than there are
 pub count-le : (n : ℕ) (s : Numbers) → count n s ≤ n
 unfolding count
 count-le zero s = omega arith
@@ -112,6 +123,7 @@ module _ (f : Numbers → Numbers) (adds : (s : Numbers) → Within s (f s)) (hi
       ⊎-elim (λ e. inl (rw (rounds-fixed (suc k) f s e) e))
       (λ l. ⊎-elim (λ e. inl e) (λ m. inr (omega arith)) (settling k (suc c) (f s) (omega arith))) (round-grows s)
 
+  -- so 64 rounds settle it
   pub settled : (s : Numbers) → f (rounds 64 f s) ≡ rounds 64 f s
   settled s =
       ⊎-elim (λ e. e)
@@ -124,6 +136,7 @@ module _ (f : Numbers → Numbers) (adds : (s : Numbers) → Within s (f s)) (hi
 abbrev pub admit : (Numbers → List Item → Bool) → Production → Numbers → Numbers
 admit passes p s n = s n || (passes s (p .items) && (ltb n 64 && eqb n (p .owner)))
 
+-- from nothing, 64 rounds
 pub least : (Numbers → List Item → Bool) → List Production → Numbers
 least passes g = rounds 64 (overAll (admit passes) g) nothing
 
@@ -137,6 +150,7 @@ module _ (passes : Numbers → List Item → Bool) (g : List Production) (P : �
           let t = and-eq-true-iff _ _ .0 (a .1) in
           keeps s hs n p (record { member = member; owned = sym (eqb-true n (p .owner) (t .1)); small = ltb-true n 64 (t .0) }) (a .0)
 
+  -- and of each number after a round
   pub over-within : (h : List Production) → ((p : Production) → In h p → In g p) → (s : Numbers) → Each P s
       → Each P (overAll (admit passes) h s)
   unfolding overAll
@@ -193,7 +207,7 @@ module _ (passes : Numbers → List Item → Bool)
   -- a production whose items pass with what is in has its nonterminal in
   pub least-closed : (g : List Production) {n : ℕ} {p : Production} → Of g n p → passes (least passes g) (p .items) ≡ true → least passes g n ≡ true
   least-closed g {n} {p} o e =
-      ap (λ (s : Numbers). s n) (sym (least-settled g))
+      sym (same-at (least-settled g) n)
       ∙ (rw (← (o .owned)) (over-admits (o .member) (least passes g) e (rw (o .owned) (o .small))))
 
   -- one round admits what passes where nothing is in
@@ -217,6 +231,7 @@ module _ {A : Type 0} (Good : A → Type 0) (view : A → Numbers) (passes : Num
   over-stays [] x h = h
   over-stays (p ∷ g) x h = over-stays g (step p x) (stays p x h)
 
+  -- a round on the state is one on the set
   pub over-seen : (g : List Production) (x : A) → Good x → view (overAll step g x) ≡ overAll (admit passes) g (view x)
   unfolding overAll
   over-seen [] x h = refl
@@ -228,6 +243,7 @@ module _ {A : Type 0} (Good : A → Type 0) (view : A → Numbers) (passes : Num
   rounds-seen (suc k) g x h =
       rounds-seen k g (overAll step g x) (over-stays g x h) ∙ ap (rounds k (overAll (admit passes) g)) (over-seen g x h)
 
+  -- and so the rounds on the state give the least set
   pub least-seen : (g : List Production) (x : A) → Good x → view x ≡ nothing → view (rounds 64 (overAll step g) x) ≡ least passes g
   unfolding least
   least-seen g x h e = rounds-seen 64 g x h ∙ ap (rounds 64 (overAll (admit passes) g)) e

@@ -1,6 +1,6 @@
 -- What the searches of the check find: the lowest number that passes a test, a pair of productions that does, and what all pairs share.
 use Prim.Native.Nat.{ℕ, zero, suc, _+_, _≤_, _<_, _^_}
-use mathlib.Core.Path.{_≡_, refl, sym, ap, _∙_}
+use mathlib.Core.Path.{_≡_, refl, sym, _∙_}
 use mathlib.Core.Bool.{Bool, true, false, _||_, false≢true, or-false, or-assoc}
 use mathlib.Core.Logic.{_↔_, _⊎_, inl, inr, ⊎-elim, dite}
 use mathlib.Core.List.{List, [], _∷_}
@@ -87,6 +87,7 @@ unfolding anyPair
 pair-complete t (before-first {p = p} m) e = or-left _ (with-complete (t p) m e)
 pair-complete t (before-later {r = r} {g = g} b) e = or-right (anyWith (t r) g) (pair-complete t b e)
 
+-- the search finds a pair exactly if there is one
 pub pair-exactly : (t : Production → Production → Bool) (g : List Production) → (anyPair t g ≡ true) ↔ FoundPair t g
 pair-exactly t g = (pair-sound t g, λ r. pair-complete t (r .apart) (r .passes))
 
@@ -97,7 +98,7 @@ with-seen : (f : Production → ℕ) (g : List Production) (found b : ℕ)
 unfolding joinWith anyWith
 with-seen f [] found b = sym (or-false (hasKind found b))
 with-seen f (q ∷ g) found b =
-    with-seen f g (bitOr found (f q)) b ∙ ap (λ t. t || anyWith (λ r. hasKind (f r) b) g) (has-join found (f q) b)
+    rw (has-join found (f q) b) at (with-seen f g (bitOr found (f q)) b)
     ∙ or-assoc (hasKind found b) (hasKind (f q) b) (anyWith (λ r. hasKind (f r) b) g)
 
 -- a kind is in the join over all pairs if some pair gives it
@@ -106,7 +107,7 @@ pub pairs-seen : (f : Production → Production → ℕ) (g : List Production) (
 unfolding joinPairs anyPair
 pairs-seen f [] found b = sym (or-false (hasKind found b))
 pairs-seen f (p ∷ g) found b =
-    pairs-seen f g (joinWith (f p) g found) b ∙ ap (λ t. t || anyPair (λ q r. hasKind (f q r) b) g) (with-seen (f p) g found b)
+    rw (with-seen (f p) g found b) at (pairs-seen f g (joinWith (f p) g found) b)
     ∙ or-assoc (hasKind found b) (anyWith (λ q. hasKind (f p q) b) g) (anyPair (λ q r. hasKind (f q r) b) g)
 
 -- ------------------------------------------------------------------ a set that is not empty
@@ -119,6 +120,7 @@ below-power (suc m) = omega (arith, below-power m, pow-suc 2 m)
 pub some-kind : (m : ℕ) → 0 < m → (k : ℕ) × (hasKind m k ≡ true)
 some-kind m h = (trailingZeros m m, lowest-has m m (lowest-bound m m (below-power m) (λ e. omega arith)))
 
+-- a set with a kind is not empty
 pub kind-positive : (m k : ℕ) → hasKind m k ≡ true → 0 < m
 kind-positive zero k e = absurd (false≢true (sym (has-none k) ∙ e))
 kind-positive (suc m) k e = omega arith

@@ -21,27 +21,26 @@ use Rattle.productions.proofs.IndexLaws.{places-next, places-none}
 pub record Over {A : Type 0} (f : Production → A → A) (bs owners starts : List ℕ) (m : ℕ) (x₀ : A) (j : ℕ) (x : A) : Type 0 where
   pub rest : overAll f (productionsAt bs (placesFrom (m - j) owners starts j)) x ≡ overAll f (productionsBy m bs owners starts) x₀
 
+-- all productions are left at first
 pub over-start : {A : Type 0} (f : Production → A → A) (bs owners starts : List ℕ) (m : ℕ) (x₀ : A) → Over f bs owners starts m x₀ 0 x₀
 over-start f bs owners starts m x₀ = record { rest = rw sub-zero refl }
 
 module _ {A : Type 0} {f : Production → A → A} {bs owners starts : List ℕ} {m : ℕ} {x₀ : A} {j : ℕ} {x : A} (c : Over f bs owners starts m x₀ j x) where
   over-one : (ps : List Place) → placesFrom (m - j) owners starts j ≡ ps
       → overAll f (productionsAt bs ps) x ≡ overAll f (productionsBy m bs owners starts) x₀
-  over-one ps e = ap (λ (ps : List Place). overAll f (productionsAt bs ps) x) (sym e) ∙ c .rest
+  over-one ps e = rw e at (c .rest)
 
+  -- one production more
   pub over-next : j < m → {o s : ℕ} → o ≡ getD owners j 0 → s ≡ getD starts j 0 → {y : A} → y ≡ f (productionAt bs o s) x
       → Over f bs owners starts m x₀ (j + 1) y
   unfolding overAll
-  over-next h {s = s} eo es ey =
+  over-next h eo es ey =
       record {
         rest =
-            ap (overAll f (productionsAt bs (placesFrom (m - (j + 1)) owners starts (j + 1))))
-            (ey
-            ∙ ap (λ (o : ℕ). f (productionAt bs o s) x) eo
-            ∙ ap (λ (s : ℕ). f (productionAt bs (getD owners j 0) s) x) es)
-            ∙ over-one _ (places-next owners starts m j h);
+            rw (ey, eo, es) (over-one _ (places-next owners starts m j h));
       }
 
+  -- no production is left
   pub over-end : m ≤ j → x ≡ overAll f (productionsBy m bs owners starts) x₀
   unfolding overAll
   over-end h = over-one [] (places-none owners starts m j h)
@@ -65,6 +64,7 @@ length-step : (calls : Bool) (nulls : ℕ) (p : Production) (sets : List ℕ) �
 unfolding firstStep
 length-step calls nulls p sets = length-set sets (p .owner) _
 
+-- a round keeps their number
 pub length-over : (calls : Bool) (nulls : ℕ) (g : List Production) (sets : List ℕ) → length (overAll (firstStep calls nulls) g sets) ≡ length sets
 unfolding overAll
 length-over calls nulls [] sets = refl
@@ -76,6 +76,7 @@ unfolding rounds
 length-rounds zero f e sets = refl
 length-rounds (suc k) f e sets = length-rounds k f e (f sets) ∙ e sets
 
+-- 64 sets, whatever the grammar
 pub length-sets : (calls : Bool) (nulls : ℕ) (g : List Production) → length (setsOf calls nulls g) ≡ 64
 unfolding setsOf
 length-sets calls nulls g =
@@ -88,6 +89,7 @@ pub record Joining (nulls : ℕ) (bs owners starts : List ℕ) (m : ℕ) (kinds�
   pub kinds-many : length kinds ≡ length kinds₀
   pub calls-many : length calls ≡ length calls₀
 
+-- all productions are left at first
 pub joining-start : (nulls : ℕ) (bs owners starts : List ℕ) (m : ℕ) (kinds calls : List ℕ) → Joining nulls bs owners starts m kinds calls 0 kinds calls
 joining-start nulls bs owners starts m kinds calls =
     record {
@@ -99,6 +101,7 @@ joining-start nulls bs owners starts m kinds calls =
 
 module _ {nulls : ℕ} {bs owners starts : List ℕ} {m : ℕ} {kinds₀ calls₀ : List ℕ} {j : ℕ} {kinds calls : List ℕ}
     (c : Joining nulls bs owners starts m kinds₀ calls₀ j kinds calls) where
+  -- one production more
   pub joining-next : j < m → {o s : ℕ} → o ≡ getD owners j 0 → s ≡ getD starts j 0 → {kinds′ calls′ : List ℕ}
       → StepTaken nulls (productionAt bs o s) kinds calls kinds′ calls′ → Joining nulls bs owners starts m kinds₀ calls₀ (j + 1) kinds′ calls′
   joining-next h eo es e =
@@ -109,6 +112,7 @@ module _ {nulls : ℕ} {bs owners starts : List ℕ} {m : ℕ} {kinds₀ calls�
         calls-many = ap length (e .calls-are) ∙ length-step true nulls _ calls ∙ c .calls-many;
       }
 
+  -- no production is left
   pub joining-end : m ≤ j → RoundTaken nulls (productionsBy m bs owners starts) kinds₀ calls₀ kinds calls
   joining-end h = record { kinds-are = over-end (c .kinds-over) h; calls-are = over-end (c .calls-over) h }
 

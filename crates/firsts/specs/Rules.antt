@@ -7,8 +7,7 @@ use Rattle.kinds.specs.Kinds.{wordKind, numberKind, keywordKind}
 use Rattle.grammar.specs.Table.{Templates, Item, keyword, ide, number, local, call}
 use Rattle.productions.specs.Normal.{Production}
 
--- The numbers that a table has for nonterminals and keywords. Document 01, "Phrase table": a definition and a call name a nonterminal
--- 0 to 63, and keywords are numbered from 0, at most 62 of them.
+-- Document 01, "Phrase table": nonterminals are numbered 0 to 63, keywords from 0, at most 62 of them
 abbrev pub IsNonterminal : ℕ → Type 0
 IsNonterminal n = n < 64
 

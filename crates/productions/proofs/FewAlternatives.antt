@@ -42,6 +42,7 @@ few-fields (next at tag v fs) before s l h =
     one-more (s .alternatives) (eqb tag 5) (room-of tag s (passes .0 .room) .alternatives) l in
     omega (arith, count-field at tag v fs, few-fields fs (field tag v ∷ before) (passed tag s) room (passes .1))
 
+-- A table of a right layout fits the index.
 pub few-alternatives : (bs : List ℕ) → layout bs ≡ ok tt → FitsIndex bs
 few-alternatives bs h =
     let parts = layout-parts bs h in

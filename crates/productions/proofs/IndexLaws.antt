@@ -26,19 +26,22 @@ abbrev pub placeAt : List ℕ → List ℕ → ℕ → Place
 placeAt owners starts j = record { owner = getD owners j 0; start = getD starts j 0 }
 
 module _ (owners starts : List ℕ) (m j : ℕ) where
+  -- the places from number j on are that one and those behind it
   pub places-next : j < m
       → placesFrom (m - j) owners starts j ≡ placeAt owners starts j ∷ placesFrom (m - (j + 1)) owners starts (j + 1)
   unfolding placesFrom
   places-next h =
       let z : m - j ≡ suc (m - (j + 1)) = omega arith in
-      ap (λ (k : ℕ). placesFrom k owners starts j) z
+      rw z refl
 
+  -- no place is left
   pub places-none : m ≤ j → placesFrom (m - j) owners starts j ≡ []
   unfolding placesFrom
   places-none h =
       let z : m - j ≡ 0 = omega arith in
-      ap (λ (k : ℕ). placesFrom k owners starts j) z
+      rw z refl
 
+-- as many as were asked for
 pub length-places : (k : ℕ) (owners starts : List ℕ) (j : ℕ) → length (placesFrom k owners starts j) ≡ k
 unfolding placesFrom
 length-places zero owners starts j = refl
@@ -52,8 +55,7 @@ module _ (owners starts : List ℕ) where
   places-snoc zero j = rw add-zero refl
   places-snoc (suc k) j =
       let z : j + 1 + k ≡ j + suc k = omega arith in
-      ap (λ (g : List Place). placeAt owners starts j ∷ g)
-      (places-snoc k (j + 1) ∙ ap (λ (i : ℕ). placesFrom k owners starts (j + 1) ++ (placeAt owners starts i ∷ [])) z)
+      ap (_∷_ (placeAt owners starts j)) (rw z at (places-snoc k (j + 1)))
 
 module _ (owners starts : List ℕ) (w o s : ℕ) where
   -- the entries at other places stay
@@ -64,7 +66,7 @@ module _ (owners starts : List ℕ) (w o s : ℕ) where
   places-stay (suc k) j h =
       let off : j ≡ w → ⊥ = h j (omega arith) (omega arith) in
       rw (getD-set-other owners w j o 0 off, getD-set-other starts w j s 0 off)
-      (ap (λ (g : List Place). placeAt owners starts j ∷ g) (places-stay k (j + 1) (λ i l u. h i (omega arith) (omega arith))))
+      (ap (_∷_ (placeAt owners starts j)) (places-stay k (j + 1) (λ i l u. h i (omega arith) (omega arith))))
 
   -- an entry behind the first w is one place more
   pub push-is : RoomFor (w + 1) owners starts
@@ -84,7 +86,7 @@ module _ (owners starts : List ℕ) (w o s : ℕ) where
 without-one : (n : ℕ) (p : Place) (g : List Place) (b : Bool) → eqb (p .owner) n ≡ b
     → placesWithout n (p ∷ g) ≡ elim b [ true ↦ placesWithout n g | false ↦ p ∷ placesWithout n g ]
 unfolding placesWithout
-without-one n p g b e = ap (λ (x : Bool). elim x [ true ↦ placesWithout n g | false ↦ p ∷ placesWithout n g ]) e
+without-one n p g b e = rw (e, placesWithout) refl
 
 -- of the first k, those before i are dropped or lie below w
 pub record Dropping (n k : ℕ) (owners₀ starts₀ : List ℕ) (i w : ℕ) (owners starts : List ℕ) : Type 0 where
@@ -96,6 +98,7 @@ pub record Dropping (n k : ℕ) (owners₀ starts₀ : List ℕ) (i w : ℕ) (ow
   pub starts-many : length starts ≡ length starts₀
   pub rest : placesIn w owners starts ++ placesWithout n (placesFrom (k - i) owners starts i) ≡ placesWithout n (placesIn k owners₀ starts₀)
 
+-- all places are left at first
 pub dropping-start : (n k : ℕ) (owners₀ starts₀ : List ℕ) → RoomFor k owners₀ starts₀ → Dropping n k owners₀ starts₀ 0 0 owners₀ starts₀
 unfolding placesFrom
 dropping-start n k owners₀ starts₀ room =
@@ -119,12 +122,13 @@ module _ {n k : ℕ} {owners₀ starts₀ : List ℕ} {i w : ℕ} {owners starts
       ])
       ≡ placesWithout n (placesIn k owners₀ starts₀)
   dropping-one h b e =
-      sym
-      (ap (λ (g : List Place). placesIn w owners starts ++ placesWithout n g) (places-next owners starts k i h)
-      ∙ ap (λ (g : List Place). placesIn w owners starts ++ g)
-      (without-one n (placeAt owners starts i) (placesFrom (k - (i + 1)) owners starts (i + 1)) b e))
-      ∙ c .rest
+      cc (
+        places-next owners starts k i h,
+        without-one n (placeAt owners starts i) (placesFrom (k - (i + 1)) owners starts (i + 1)) b e,
+        c .rest,
+      )
 
+  -- a place of n is dropped
   pub dropping-dropped : i < k → getD owners i 0 ≡ n → Dropping n k owners₀ starts₀ (i + 1) w owners starts
   dropping-dropped h e =
       record {
@@ -137,6 +141,7 @@ module _ {n k : ℕ} {owners₀ starts₀ : List ℕ} {i w : ℕ} {owners starts
         rest = dropping-one h true (eq-eqb (getD owners i 0) n e);
       }
 
+  -- another moves down
   pub dropping-kept : i < k → (getD owners i 0 ≡ n → ⊥)
       → Dropping n k owners₀ starts₀ (i + 1) (w + 1) (set owners w (getD owners i 0)) (set starts w (getD starts i 0))
   dropping-kept h e =
@@ -159,22 +164,20 @@ module _ {n k : ℕ} {owners₀ starts₀ : List ℕ} {i w : ℕ} {owners starts
             ∙ dropping-one h false (ne-eqb (getD owners i 0) n e));
       }
 
+  -- no place is left
   pub dropping-end : k ≤ i → Index (placesWithout n (placesIn k owners₀ starts₀)) k w owners starts
   unfolding placesWithout
   dropping-end h =
       record {
         entries =
-            sym
-            (ap (λ (g : List Place). placesIn w owners starts ++ placesWithout n g) (places-none owners starts k i h)
-            ∙ append-nil (placesIn w owners starts))
-            ∙ c .rest;
+            rw (places-none owners starts k i h, append-nil (placesIn w owners starts)) at (c .rest);
         few = omega (arith, c .low, c .high);
       }
 
 -- ------------------------------------------------------------------ the head of a definition
 
 kept-update : (mode n : ℕ) (g : List Place) → mode ≡ 2 → placesKept (modeOf mode) n g ≡ placesWithout n g
-kept-update mode n g e = ap (λ (m : ℕ). placesKept (modeOf m) n g) e
+kept-update mode n g e = rw e refl
 
 kept-other : (mode n : ℕ) (g : List Place) → (mode ≡ 2 → ⊥) → placesKept (modeOf mode) n g ≡ g
 kept-other zero n g e = refl
@@ -183,18 +186,18 @@ kept-other (suc (suc zero)) n g e = absurd (e refl)
 kept-other (suc (suc (suc m))) n g e = refl
 
 module _ (head owners starts : List ℕ) {k mode : ℕ} (em : mode ≡ getD head 1 0) where
+  -- an update drops the places of its nonterminal
   pub redefine-update : mode ≡ 2 → {n : ℕ} → n ≡ getD head 0 0 → {r : ℕ} {owners′ starts′ : List ℕ}
       → Index (placesWithout n (placesIn k owners starts)) k r owners′ starts′
       → Index (placesKept (modeOf (getD head 1 0)) (getD head 0 0) (placesIn k owners starts)) k r owners′ starts′
   redefine-update t en f =
       record {
         entries =
-            f .entries
-            ∙ ap (λ (n : ℕ). placesWithout n (placesIn k owners starts)) en
-            ∙ sym (kept-update (getD head 1 0) (getD head 0 0) (placesIn k owners starts) (sym em ∙ t));
+            cc (f .entries, kept-update (getD head 1 0) (getD head 0 0) (placesIn k owners starts) (sym em ∙ t));
         few = f .few;
       }
 
+  -- other heads keep all
   pub redefine-other : (mode ≡ 2 → ⊥)
       → Index (placesKept (modeOf (getD head 1 0)) (getD head 0 0) (placesIn k owners starts)) k k owners starts
   redefine-other t =
@@ -214,7 +217,7 @@ module _ (at tag : ℕ) (v : List ℕ) (fs : Fields) where
   places-alternative : tag ≡ 5 → (n : ℕ) (g : List Place)
       → placesBy (next at tag v fs) n g ≡ placesBy fs n (g ++ (record { owner = n; start = at + 3 + length v } ∷ []))
   unfolding placesBy
-  places-alternative e n g = ap (λ (t : ℕ). placesBy (next at t v fs) n g) e
+  places-alternative e n g = rw e refl
 
   places-other : (tag ≡ 4 → ⊥) → (tag ≡ 5 → ⊥) → (n : ℕ) (g : List Place) → placesBy (next at tag v fs) n g ≡ placesBy fs n g
   unfolding placesBy
@@ -234,44 +237,52 @@ pub record Building (bs : List ℕ) (at n k : ℕ) (owners starts : List ℕ) : 
   pub room : k + alternativeFields (fieldsAt bs at) ≤ 256
   pub rest : placesBy (fieldsAt bs at) n (placesIn k owners starts) ≡ placesOf bs
 
+-- at the first field
 pub building-start : (bs owners starts : List ℕ) → FitsIndex bs → Building bs 0 0 0 owners starts
 unfolding placesFrom
 building-start bs owners starts h =
     record {
       short = h .short;
       room = omega (arith, h .few, ap alternativeFields (fields-of bs));
-      rest = ap (λ (fs : Fields). placesBy fs 0 []) (sym (fields-of bs));
+      rest = cc (fields-of bs);
     }
 
 module _ {bs : List ℕ} {at n k : ℕ} {owners starts : List ℕ} (c : Building bs at n k owners starts) where
   -- by what stands at the offset
   rest-by : {r : Front} → r ≡ frontOf (drop at bs) → placesBy (opened bs at r) n (placesIn k owners starts) ≡ placesOf bs
-  rest-by e = ap (λ (fs : Fields). placesBy fs n (placesIn k owners starts)) (sym (fields-at bs at e)) ∙ c .rest
+  rest-by e = cc (fields-at bs at e, c .rest)
 
+  -- there are few places
   pub building-few : k ≤ 256
   building-few = omega (arith, c .room)
 
+  -- no field is left
   pub building-nothing : Nothing ≡ frontOf (drop at bs) → Index (placesOf bs) 256 k owners starts
   unfolding placesBy
   building-nothing e = record { entries = rest-by e; few = building-few }
 
+  -- or a field that is cut
   pub building-short : Short ≡ frontOf (drop at bs) → Index (placesOf bs) 256 k owners starts
   unfolding placesBy
   building-short e = record { entries = rest-by e; few = building-few }
 
+  -- nor at the end
   pub building-end : length bs ≤ at → Index (placesOf bs) 256 k owners starts
   building-end h = building-nothing (sym (front-nothing bs at h))
 
   module _ {tag size : ℕ} (e : Field tag size ≡ frontOf (drop at bs)) where
+    -- a field is inside the table
     pub building-inside : at + (3 + size) ≤ length bs
     building-inside = front-inside bs at e
 
+    -- less is left behind a field
     pub building-less : length bs - (at + 3 + size) < length bs - at
     building-less = omega (arith, building-inside)
 
     count-here : alternativeFields (fieldsAt bs at) ≡ alternativeFields (opened bs at (Field tag size))
     count-here = ap alternativeFields (fields-at bs at e)
 
+    -- an alternative has room
     pub building-room : tag ≡ 5 → k < 256
     building-room t = omega (arith, c .room, count-here, fields-alternative at tag (take size (drop (at + 3) bs)) (fieldsAt bs (at + 3 + size)) t)
 
@@ -279,11 +290,12 @@ module _ {bs : List ℕ} {at n k : ℕ} {owners starts : List ℕ} (c : Building
     value-is : take (at + 3 + size - (at + 3)) (drop (at + 3) bs) ≡ take size (drop (at + 3) bs)
     value-is =
         let z : at + 3 + size - (at + 3) ≡ size = omega arith in
-        ap (λ (m : ℕ). take m (drop (at + 3) bs)) z
+        rw z refl
 
     size-is : length (take size (drop (at + 3) bs)) ≡ size
     size-is = simp (length-take, length-drop) (omega (arith, building-inside))
 
+    -- behind the head of a definition
     pub building-head : tag ≡ 4 → {m : ℕ} → m ≡ getD (take (at + 3 + size - (at + 3)) (drop (at + 3) bs)) 0 0 → {r : ℕ} {owners′ starts′ : List ℕ}
         → Index
         (placesKept (modeOf (getD (take (at + 3 + size - (at + 3)) (drop (at + 3) bs)) 1 0))
@@ -304,6 +316,7 @@ module _ {bs : List ℕ} {at n k : ℕ} {owners starts : List ℕ} (c : Building
               (sym (places-head at tag v (fieldsAt bs (at + 3 + size)) t n (placesIn k owners starts)) ∙ rest-by e);
         }
 
+    -- behind the begin of an alternative
     pub building-alternative : tag ≡ 5 → {owners′ starts′ : List ℕ}
         → placesIn (k + 1) owners′ starts′ ≡ placesIn k owners starts ++ (record { owner = n; start = at + 3 + size } ∷ [])
         → Building bs (at + 3 + size) n (k + 1) owners′ starts′
@@ -321,6 +334,7 @@ module _ {bs : List ℕ} {at n k : ℕ} {owners starts : List ℕ} (c : Building
               ∙ rest-by e;
         }
 
+    -- other fields change nothing
     pub building-other : (tag ≡ 4 → ⊥) → (tag ≡ 5 → ⊥) → Building bs (at + 3 + size) n k owners starts
     building-other t u =
         let v : List ℕ = take size (drop (at + 3) bs) in

@@ -76,7 +76,7 @@ step-alternative at v fs b h =
 
 step-item : Step 6
 unfolding itemsOf resultOf normalizedBy put
-step-item at v fs b h = record { items = ap (λ is. itemOf v ∷ is) (h .items); result = h .result; normal = h .normal }
+step-item at v fs b h = record { items = ap (_∷_ (itemOf v)) (h .items); result = h .result; normal = h .normal }
 
 step-result : Step 7
 unfolding itemsOf resultOf normalizedBy put

@@ -70,7 +70,7 @@ unfolding placesWithout without productionAt
 without-at bs n [] = refl
 without-at bs n (p ∷ ps) =
     by-test (eqb (p .owner) n) (λ e. rw (e, placesWithout, without) (without-at bs n ps))
-    (λ e. rw (e, placesWithout, without) (ap (λ g. productionAt bs (p .owner) (p .start) ∷ g) (without-at bs n ps)))
+    (λ e. rw (e, placesWithout, without) (ap (_∷_ (productionAt bs (p .owner) (p .start))) (without-at bs n ps)))
 
 kept-at : (bs : List ℕ) (m : Mode) (n : ℕ) (ps : List Place) → productionsAt bs (placesKept m n ps) ≡ kept m n (productionsAt bs ps)
 kept-at bs add n ps = refl
@@ -79,7 +79,7 @@ kept-at bs update n ps = without-at bs n ps
 
 map-snoc : {A B : Type 0} (f : A → B) (l : List A) (a : A) → map f (l ++ (a ∷ [])) ≡ map f l ++ (f a ∷ [])
 map-snoc f [] a = refl
-map-snoc f (x ∷ l) a = ap (λ r. f x ∷ r) (map-snoc f l a)
+map-snoc f (x ∷ l) a = ap (_∷_ (f x)) (map-snoc f l a)
 
 normal-at : (bs : List ℕ) (fs : Fields) → Stands bs fs → (n : ℕ) (ps : List Place)
     → productionsAt bs (placesBy fs n ps) ≡ normalizedBy fs n (productionsAt bs ps)

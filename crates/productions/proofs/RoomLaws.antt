@@ -1,5 +1,5 @@
 -- What each reader gives of the room of some entries, whatever stands behind it.
-use Prim.Native.Nat.{ℕ, zero, suc, _+_, _*_, _-_, _/_, _%_, _<_, _≤_}
+use Prim.Native.Nat.{ℕ, zero, suc, _+_, _*_, _-_, _/_, _<_, _≤_}
 use mathlib.Core.Path.{_≡_, refl, sym, ap, _∙_}
 use mathlib.Core.Bool.{Bool, true, false}
 use mathlib.Core.List.{List, [], _∷_, _++_, append-assoc}
@@ -14,11 +14,13 @@ use Rattle.productions.specs.Room.{firstIn, startIn, nextPlaceIn, nullab
 
 -- ------------------------------------------------------------------ values
 
+-- as many values as were asked for
 pub length-values : (f : ℕ → ℕ) (k n : ℕ) → length (valuesOf f k n) ≡ k
 unfolding valuesOf
 length-values f zero n = refl
 length-values f (suc k) n = ap suc (length-values f k (n + 1))
 
+-- value i
 pub getD-values : (f : ℕ → ℕ) (k n i : ℕ) → i < k → getD (valuesOf f k n) i 0 ≡ f (n + i)
 unfolding valuesOf
 getD-values f zero n i h = absurd (omega arith)
@@ -41,14 +43,16 @@ place-small test (e ∷ es) j h = by (test e) (place-small test es (j + 1) (omeg
 
 -- ------------------------------------------------------------------ entries
 
+-- the first number of an entry
 pub entry-first : (es : List Entry) (k j : ℕ) → j < length es → getD (entryNumbers es k) (2 * j) 0 ≡ getD es j noEntry .first
 unfolding entryNumbers
 entry-first [] k j h = absurd (omega arith)
 entry-first (e ∷ es) k zero h = refl
 entry-first (e ∷ es) k (suc j) h =
     let z : 2 * suc j ≡ suc (suc (2 * j)) = omega arith in
-    ap (λ i. getD (entryNumbers (e ∷ es) k) i 0) z ∙ entry-first es (k + 1) j (omega arith)
+    rw z (entry-first es (k + 1) j (omega arith))
 
+-- and its second
 pub entry-link : (es : List Entry) (k j : ℕ) → j < length es
     → getD (entryNumbers es k) (2 * j + 1) 0 ≡ linkNumber (getD es j noEntry) (drop (j + 1) es) (k + j)
 unfolding entryNumbers
@@ -58,11 +62,9 @@ entry-link (e ∷ es) k (suc j) h =
     let z : 2 * suc j + 1 ≡ suc (suc (2 * j + 1)) = omega arith in
     let y : suc j + 1 ≡ suc (j + 1) = omega arith in
     let x : k + 1 + j ≡ k + suc j = omega arith in
-    ap (λ i. getD (entryNumbers (e ∷ es) k) i 0) z
-    ∙ entry-link es (k + 1) j (omega arith)
-    ∙ ap (linkNumber (getD es j noEntry) (drop (j + 1) es)) x
-    ∙ ap (λ i. linkNumber (getD es j noEntry) (drop i (e ∷ es)) (k + suc j)) (sym y)
+    rw (z, y, ← x) (entry-link es (k + 1) j (omega arith))
 
+-- two numbers an entry
 pub length-entries : (es : List Entry) (k : ℕ) → length (entryNumbers es k) ≡ 2 * length es
 unfolding entryNumbers
 length-entries [] k = refl
@@ -71,6 +73,7 @@ length-entries (e ∷ es) k = omega (arith, length-entries es (k + 1))
 -- ------------------------------------------------------------------ a room in four parts
 
 module _ (c : ℕ) (f g : ℕ → ℕ) (tail : List ℕ) where
+  -- a count, 64 values, 64 more, and the rest
   abbrev pub fourParts : List ℕ
   fourParts = c ∷ (valuesOf f 64 0 ++ (valuesOf g 64 0 ++ tail))
 
@@ -78,16 +81,15 @@ module _ (c : ℕ) (f g : ℕ → ℕ) (tail : List ℕ) where
   behind-count : (i : ℕ) → getD fourParts (1 + i) 0 ≡ getD (valuesOf f 64 0 ++ (valuesOf g 64 0 ++ tail)) i 0
   behind-count i =
       let z : 1 + i ≡ suc i = omega arith in
-      ap (λ k. getD fourParts k 0) z
+      rw z refl
 
   -- behind the first values
   behind-first : (i : ℕ) → getD fourParts (65 + i) 0 ≡ getD (valuesOf g 64 0 ++ tail) i 0
   behind-first i =
       let z : 65 + i ≡ 1 + (length (valuesOf f 64 0) + i) = omega (arith, length-values f 64 0) in
-      ap (λ k. getD fourParts k 0) z
-      ∙ behind-count (length (valuesOf f 64 0) + i)
-      ∙ getD-append-add (valuesOf f 64 0) (valuesOf g 64 0 ++ tail) i 0
+      cc (behind-count (length (valuesOf f 64 0) + i), getD-append-add (valuesOf f 64 0) (valuesOf g 64 0 ++ tail) i 0)
 
+  -- the first 64
   pub first-part : (n : ℕ) → n < 64 → getD fourParts (1 + n) 0 ≡ f n
   first-part n h =
       let y : 0 + n ≡ n = omega arith in
@@ -96,6 +98,7 @@ module _ (c : ℕ) (f g : ℕ → ℕ) (tail : List ℕ) where
       ∙ getD-values f 64 0 n h
       ∙ ap f y
 
+  -- the others
   pub second-part : (n : ℕ) → n < 64 → getD fourParts (65 + n) 0 ≡ g n
   second-part n h =
       let y : 0 + n ≡ n = omega arith in
@@ -104,13 +107,13 @@ module _ (c : ℕ) (f g : ℕ → ℕ) (tail : List ℕ) where
       ∙ getD-values g 64 0 n h
       ∙ ap g y
 
+  -- and the rest
   pub last-part : (i : ℕ) → getD fourParts (129 + i) 0 ≡ getD tail i 0
   last-part i =
       let z : 129 + i ≡ 65 + (length (valuesOf g 64 0) + i) = omega (arith, length-values g 64 0) in
-      ap (λ k. getD fourParts k 0) z
-      ∙ behind-first (length (valuesOf g 64 0) + i)
-      ∙ getD-append-add (valuesOf g 64 0) tail i 0
+      cc (behind-first (length (valuesOf g 64 0) + i), getD-append-add (valuesOf g 64 0) tail i 0)
 
+  -- the length of all
   pub length-parts : length fourParts ≡ 129 + length tail
   length-parts =
       omega (
@@ -136,13 +139,15 @@ module _ (c : ℕ) (f g : ℕ → ℕ) (tail : List ℕ) where
         moved i (65 + (i - 65)) (omega arith) (seconds (i - 65) (omega arith) ∙ sym (second-part (i - 65) (omega arith)))
     same-number i (no a) (no b) (no d) = moved i (129 + (i - 129)) (omega arith) (lasts (i - 129) ∙ sym (last-part (i - 129)))
 
+    -- a room with these numbers
     pub parts-are : room ≡ fourParts
     parts-are = ext-getD 0 room fourParts (many ∙ sym length-parts) (λ i h. same-number i (decLt i 1) (decLt i 65) (decLt i 129))
 
+-- the length of a room
 pub length-room : (sets : List ℕ) (es : List Entry) → length (roomOf sets es) ≡ 129 + 2 * length es
 unfolding roomOf
 length-room sets es =
-    length-parts (length es) (λ n. getD sets n 0) (placesNumber es) (entryNumbers es 0) ∙ ap (λ k. 129 + k) (length-entries es 0)
+    length-parts (length es) (λ n. getD sets n 0) (placesNumber es) (entryNumbers es 0) ∙ rw (length-entries es 0) refl
 
 -- ------------------------------------------------------------------ the numbers of a room
 
@@ -160,7 +165,7 @@ module _ {sets : List ℕ} {es : List Entry} {room : List ℕ} (h : HoldsEntries
   count-in = ap countIn parts
 
   at-entries : (i : ℕ) → getD room (129 + i) 0 ≡ getD (entryNumbers es 0 ++ h .rest) i 0
-  at-entries i = ap (λ r. getD r (129 + i) 0) parts ∙ last-part (length es) setOf (placesNumber es) (entryNumbers es 0 ++ h .rest) i
+  at-entries i = rw parts (last-part (length es) setOf (placesNumber es) (entryNumbers es 0 ++ h .rest) i)
 
   -- ------------------------------------------------------------------ of a nonterminal
 
@@ -168,21 +173,22 @@ module _ {sets : List ℕ} {es : List Entry} {room : List ℕ} (h : HoldsEntries
     -- Its first set.
     pub first-set-in : firstSetIn room n ≡ getD sets n 0
     first-set-in =
-        ap (λ r. getD r (1 + n) 0) parts ∙ first-part (length es) setOf (placesNumber es) (entryNumbers es 0 ++ h .rest) n small
+        rw parts (first-part (length es) setOf (placesNumber es) (entryNumbers es 0 ++ h .rest) n small)
 
+    -- Where its productions are, in one number.
     pub places-in : getD room (65 + n) 0 ≡ placesNumber es n
     places-in =
-        ap (λ r. getD r (65 + n) 0) parts ∙ second-part (length es) setOf (placesNumber es) (entryNumbers es 0 ++ h .rest) n small
+        rw parts (second-part (length es) setOf (placesNumber es) (entryNumbers es 0 ++ h .rest) n small)
 
     -- Where its first production is.
     pub first-place-in : firstPlaceIn room n ≡ placeFrom (isOf n) es 0
     first-place-in =
-        ap (λ x. x % 512) places-in ∙ omega (arith, place-small (isOf n) es 0 (omega (arith, h .few)))
+        omega (arith, places-in, place-small (isOf n) es 0 (omega (arith, h .few)))
 
     -- Where its nullable production is.
     pub nullable-place-in : nullablePlaceIn room n ≡ placeFrom (isNullableOf n) es 0
     nullable-place-in =
-        ap (λ x. x / 512) places-in ∙ omega (arith, place-small (isOf n) es 0 (omega (arith, h .few)))
+        omega (arith, places-in, place-small (isOf n) es 0 (omega (arith, h .few)))
 
   -- ------------------------------------------------------------------ of the production at a place
 
@@ -198,9 +204,8 @@ module _ {sets : List ℕ} {es : List Entry} {room : List ℕ} (h : HoldsEntries
     link-in =
         let z : 130 + 2 * j ≡ 129 + (2 * j + 1) = omega arith in
         let y : 0 + j ≡ j = omega arith in
-        ap (λ k. getD room k 0) z
-        ∙ at-entries (2 * j + 1)
-        ∙ List·getD-append (entryNumbers es 0) _ 0 (2 * j + 1) (omega (arith, length-entries es 0))
+        rw z (at-entries (2 * j + 1))
+        ∙ List·getD-append (entryNumbers es 0) (h .rest) 0 (2 * j + 1) (omega (arith, length-entries es 0))
         ∙ entry-link es 0 j inside
         ∙ ap (linkNumber (getD es j noEntry) (drop (j + 1) es)) y
 
@@ -209,11 +214,11 @@ module _ {sets : List ℕ} {es : List Entry} {room : List ℕ} (h : HoldsEntries
 
     -- The offset of its first item, or of its result.
     pub start-in : startIn room j ≡ getD es j noEntry .start
-    start-in = ap (λ x. x % 65536) link-in ∙ omega (arith, h .near j)
+    start-in = omega (arith, link-in, h .near j)
 
     -- Where the next production of its nonterminal is.
     pub next-place-in : nextPlaceIn room j ≡ placeFrom (isOf (getD es j noEntry .owner)) (drop (j + 1) es) (j + 1)
-    next-place-in = ap (λ x. x / 65536 % 512) link-in ∙ omega (arith, h .near j, next-small)
+    next-place-in = omega (arith, link-in, h .near j, next-small)
 
     flag-test : (b : Bool) → eqb (flagNumber b) 1 ≡ b
     flag-test true = refl
@@ -224,4 +229,4 @@ module _ {sets : List ℕ} {es : List Entry} {room : List ℕ} (h : HoldsEntries
     nullable-in =
         let z : linkNumber (getD es j noEntry) (drop (j + 1) es) j / 33554432 ≡ flagNumber (getD es j noEntry .nullable) =
         omega (arith, h .near j, next-small) in
-        ap (λ x. eqb (x / 33554432) 1) link-in ∙ ap (λ x. eqb x 1) z ∙ flag-test (getD es j noEntry .nullable)
+        rw (link-in, z) (flag-test (getD es j noEntry .nullable))

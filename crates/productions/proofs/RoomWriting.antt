@@ -26,6 +26,7 @@ pub record Beginning (m : ℕ) (sets room₀ : List ℕ) (n : ℕ) (room : List 
   pub place-in : (i : ℕ) → i < n → getD room (65 + i) 0 ≡ 131328
   pub tail : (i : ℕ) → getD room (129 + i) 0 ≡ getD room₀ (129 + i) 0
 
+-- the count is written first
 pub beginning-start : (m : ℕ) (sets room : List ℕ) → RoomAndSets room sets → Beginning m sets (set room 0 m) 0 (set room 0 m)
 beginning-start m sets room h =
     record {
@@ -67,6 +68,7 @@ module _ {m : ℕ} {sets room₀ : List ℕ} {n : ℕ} {room : List ℕ} (c : Be
         below : (i ≡ n → ⊥) → i < n + 1 → i < n
         below e l = omega arith
 
+    -- two numbers for each nonterminal
     pub beginning-next : Beginning m sets room₀ (n + 1) (set (set room (1 + n) (getD sets n 0)) (65 + n) 131328)
     beginning-next =
         record {
@@ -107,10 +109,12 @@ module _ (e : Entry) (j : ℕ) {room : List ℕ} (at : RoomAt j (e .owner) room)
   abbrev number : ℕ
   number = j + 512 * (elim (e .nullable) [ true ↦ j | false ↦ getD room (65 + e .owner) 0 / 512 ])
 
+  -- the room stays as long
   pub length-laid : length (laid e j room) ≡ 641
   unfolding laid
   length-laid = length-set two (65 + e .owner) number ∙ length-set one (130 + 2 * j) _ ∙ length-set room (129 + 2 * j) _ ∙ at .size
 
+  -- other numbers stay
   pub laid-other : (i : ℕ) → (i ≡ 129 + 2 * j → ⊥) → (i ≡ 130 + 2 * j → ⊥) → (i ≡ 65 + e .owner → ⊥) → getD (laid e j room) i 0 ≡ getD room i 0
   unfolding laid
   laid-other i a b d =
@@ -118,6 +122,7 @@ module _ (e : Entry) (j : ℕ) {room : List ℕ} (at : RoomAt j (e .owner) room)
       ∙ getD-set-other one (130 + 2 * j) i _ 0 b
       ∙ getD-set-other room (129 + 2 * j) i (e .first) 0 a
 
+  -- the first set of the entry
   pub laid-first : getD (laid e j room) (129 + 2 * j) 0 ≡ e .first
   unfolding laid
   laid-first =
@@ -125,12 +130,14 @@ module _ (e : Entry) (j : ℕ) {room : List ℕ} (at : RoomAt j (e .owner) room)
       ∙ getD-set-other one (130 + 2 * j) (129 + 2 * j) _ 0 (λ q. omega arith)
       ∙ getD-set-same room (129 + 2 * j) (e .first) 0 (omega (arith, at .size, at .near))
 
+  -- its offset, link and flag
   pub laid-second : getD (laid e j room) (130 + 2 * j) 0 ≡ linking
   unfolding laid
   laid-second =
       getD-set-other two (65 + e .owner) (130 + 2 * j) number 0 (λ q. omega (arith, at .small))
       ∙ getD-set-same one (130 + 2 * j) _ 0 (omega (arith, at .size, at .near, length-set room (129 + 2 * j) (e .first)))
 
+  -- where the productions of its nonterminal are
   pub laid-own : getD (laid e j room) (65 + e .owner) 0 ≡ number
   unfolding laid
   laid-own =
@@ -181,7 +188,7 @@ drop-begun : (m : ℕ) (sets room : List ℕ) (k : ℕ) → drop (129 + k) (begu
 unfolding begun
 drop-begun m sets room k =
     let z : 129 + k ≡ suc (length A + (length B + k)) = omega (arith, length-values setOf 64 0, length-values (placesNumber []) 64 0) in
-    ap (λ i. drop i (begun m sets room)) z
+    rw z refl
     ∙ drop-append-add A (B ++ drop 129 room) (length B + k)
     ∙ drop-append-add B (drop 129 room) k
     ∙ drop-drop k 129 room
@@ -218,8 +225,8 @@ module _ {sets : List ℕ} {es : List Entry} {room₀ : List ℕ} {j : ℕ} {roo
 
     place : (test : Entry → Bool) (b : Bool) → test e ≡ b
         → placeFrom test (drop (j - 1) es) (j - 1) ≡ elim b [ true ↦ j - 1 | false ↦ placeFrom test (drop j es) j ]
-    place test true h = ap (λ l. placeFrom test l (j - 1)) opened ∙ place-cons test e (drop j es) (j - 1) true h
-    place test false h = ap (λ l. placeFrom test l (j - 1)) opened ∙ place-cons test e (drop j es) (j - 1) false h ∙ later test
+    place test true h = rw opened (place-cons test e (drop j es) (j - 1) true h)
+    place test false h = rw opened (place-cons test e (drop j es) (j - 1) false h ∙ later test)
 
     at : RoomAt (j - 1) (e .owner) room
     at = record { size = c .size; near = omega (arith, c .low, c .few); small = small }
@@ -269,6 +276,7 @@ module _ {sets : List ℕ} {es : List Entry} {room₀ : List ℕ} {j : ℕ} {roo
         apart : (i ≡ j - 1 → ⊥) → j ≤ i
         apart q = omega arith
 
+    -- one entry more, in front of the others
     pub filling-next : Filling sets es room₀ (j - 1) (laid e (j - 1) room)
     filling-next =
         record {
@@ -292,19 +300,15 @@ module _ {sets : List ℕ} {es : List Entry} {room₀ : List ℕ} {j : ℕ} {roo
     number-in i (no l) d =
         let z : i ≡ length (entryNumbers es 0) + (i - 2 * length es) = omega (arith, length-entries es 0) in
         let y : 129 + 2 * length es + (i - 2 * length es) ≡ 129 + i = omega arith in
-        c .tail (129 + i) (omega arith)
-        ∙ sym
-        (ap (λ k. getD (entryNumbers es 0 ++ rest) k 0) z
-        ∙ getD-append-add (entryNumbers es 0) rest (i - 2 * length es) 0
-        ∙ getD-drop (129 + 2 * length es) room₀ (i - 2 * length es) 0
-        ∙ ap (λ k. getD room₀ k 0) y)
+        cc (
+          c .tail (129 + i) (omega arith),
+          getD-append-add (entryNumbers es 0) rest (i - 2 * length es) 0,
+          getD-drop (129 + 2 * length es) room₀ (i - 2 * length es) 0,
+        )
     number-in i (yes l) (yes d) =
         let z : i ≡ 2 * (i / 2) = omega arith in
         List-at l
-        (ap (λ k. getD room (129 + k) 0) z
-        ∙ c .first (i / 2) (omega arith) (omega arith)
-        ∙ sym (entry-first es 0 (i / 2) (omega arith))
-        ∙ ap (λ k. getD (entryNumbers es 0) k 0) (sym z))
+        (cc (c .first (i / 2) (omega arith) (omega arith), entry-first es 0 (i / 2) (omega arith)))
       where
         List-at : i < 2 * length es → getD room (129 + i) 0 ≡ getD (entryNumbers es 0) i 0 → getD room (129 + i) 0 ≡ getD (entryNumbers es 0 ++ rest) i 0
         List-at l e = e ∙ sym (List·getD-append (entryNumbers es 0) rest 0 i (omega (arith, length-entries es 0)))
@@ -312,12 +316,11 @@ module _ {sets : List ℕ} {es : List Entry} {room₀ : List ℕ} {j : ℕ} {roo
         let z : i ≡ 2 * (i / 2) + 1 = omega arith in
         let y : 129 + i ≡ 130 + 2 * (i / 2) = omega arith in
         let x : 0 + i / 2 ≡ i / 2 = omega arith in
-        ap (λ k. getD room k 0) y
-        ∙ c .link (i / 2) (omega arith) (omega arith)
-        ∙ ap (linkNumber (getD es (i / 2) noEntry) (drop (i / 2 + 1) es)) (sym x)
-        ∙ sym (entry-link es 0 (i / 2) (omega arith))
-        ∙ ap (λ k. getD (entryNumbers es 0) k 0) (sym z)
-        ∙ sym (List·getD-append (entryNumbers es 0) rest 0 i (omega (arith, length-entries es 0)))
+        cc (
+          c .link (i / 2) (omega arith) (omega arith),
+          entry-link es 0 (i / 2) (omega arith),
+          List·getD-append (entryNumbers es 0) rest 0 i (omega (arith, length-entries es 0)),
+        )
 
     filled : room ≡ roomOf sets es ++ drop (129 + 2 * length es) room₀
     unfolding roomOf
@@ -334,5 +337,4 @@ module _ {sets : List ℕ} {es : List Entry} {room₀ : List ℕ} {j : ℕ} {roo
 pub filling-end : {sets : List ℕ} {es : List Entry} (room₀ : List ℕ) (m : ℕ) {j : ℕ} {room : List ℕ}
     → Filling sets es (begun m sets room₀) j room → j ≡ 0 → room ≡ overwritten (roomOf sets es) room₀
 filling-end {sets} {es} room₀ m c h =
-    filled c h ∙ ap (λ l. roomOf sets es ++ l) (drop-begun m sets room₀ (2 * length es))
-    ∙ ap (λ k. roomOf sets es ++ drop k room₀) (sym (length-room sets es))
+    cc (filled c h, drop-begun m sets room₀ (2 * length es), length-room sets es)
