@@ -40,10 +40,10 @@ returns-3 : tie.Need-returns-3 Inv-loop μ-loop
 returns-3 c = laws.passing-out (c .before .before .before .before .before .before .loop .inv) (Field _ _) (sym (c .before .before .front .given .1) ∙ c .before .before .before .before .front-at .ensures) (c .if1 .taken)
 
 add-at : tie.Need-add-at Inv-loop μ-loop
-add-at c = omega (arith, laws.front-inside (c .before .before .before .before .before .before .before .before .args .table .now) (c .before .before .before .before .before .before .loop .at) (sym (c .before .before .front .given .1) ∙ c .before .before .before .before .front-at .ensures))
+add-at c = omega (arith, laws.front-inside _ (c .before .before .before .before .before .before .loop .at) (sym (c .before .before .front .given .1) ∙ c .before .before .before .before .front-at .ensures))
 
 add-at-2 : tie.Need-add-at-2 Inv-loop μ-loop
-add-at-2 c = omega (arith, laws.front-inside (c .before .before .before .before .before .before .before .before .args .table .now) (c .before .before .before .before .before .before .loop .at) (sym (c .before .before .front .given .1) ∙ c .before .before .before .before .front-at .ensures))
+add-at-2 c = omega (arith, laws.front-inside _ (c .before .before .before .before .before .before .loop .at) (sym (c .before .before .front .given .1) ∙ c .before .before .before .before .front-at .ensures))
 
 loop-less : tie.Need-loop-less Inv-loop μ-loop
 loop-less c = search needs

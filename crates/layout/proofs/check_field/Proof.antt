@@ -71,7 +71,7 @@ returns-2 c =
     (known (c .before .before .before)) (laws.fails (c .before .before .may-follow .ensures) (c .before .if2 .taken)) refl refl refl))
 
 is-spelled-requires : tie.Need-is-spelled-requires
-is-spelled-requires c κs = (start (c .before .before) .pre .keywords .falling, start (c .before .before) .pre .outsides .falling)
+is-spelled-requires c κs = search needs
 
 stopped-requires-3 : tie.Need-stopped-requires-3
 stopped-requires-3 c κs = search needs

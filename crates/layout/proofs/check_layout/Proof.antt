@@ -125,7 +125,7 @@ part-v-end : tie.Need-part-v-end Inv-loop μ-loop
 part-v-end c = omega (arith, inside c)
 
 check-field-requires : tie.Need-check-field-requires Inv-loop μ-loop
-check-field-requires c κs = turn (c .before .before .before) .loop .inv .1
+check-field-requires c κs = search needs
 
 enum-known-checked : tie.Need-enum-known-checked Inv-loop μ-loop
 enum-known-checked c = search needs

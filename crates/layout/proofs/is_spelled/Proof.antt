@@ -11,7 +11,7 @@ is-keyword-spelling-requires : tie.Need-is-keyword-spelling-requires
 is-keyword-spelling-requires c κs = search needs
 
 is-among-requires : tie.Need-is-among-requires
-is-among-requires c κs = c .before .before .before .before .pre .0
+is-among-requires c κs = search needs
 
 returns : tie.Need-returns
 returns c =
@@ -23,7 +23,7 @@ is-word-requires : tie.Need-is-word-requires
 is-word-requires c κs = search needs
 
 is-among-requires-2 : tie.Need-is-among-requires-2
-is-among-requires-2 c κs = c .before .before .before .before .before .pre .1
+is-among-requires-2 c κs = search needs
 
 returns-2 : tie.Need-returns-2
 returns-2 c =
@@ -32,7 +32,7 @@ returns-2 c =
     ∙ sym (laws.spelled-outside _ _ before (c .before .before .if2 .taken))
 
 returns-3 : tie.Need-returns-3
-returns-3 c = λ before k o. sym (laws.spelled-other _ _ before (c .before .if1 .left) (c .if2 .left))
+returns-3 c = search laws.spelled-other
 
 pub is-spelled-spec : {M : Type 1} → statement M
 is-spelled-spec =

@@ -19,7 +19,7 @@ add-result c =
     (omega arith) (c .before .one-if .ensures)
 
 returns-2 : tie.Need-returns-2
-returns-2 c = cc (c .before .one-if .ensures, laws.items-more _ _ (c .before .before .if1 .left))
+returns-2 c = cc (laws.items-more _ _ (c .before .before .if1 .left))
 
 pub items-after-spec : {M : Type 1} → statement M
 items-after-spec = tie.close (tie.spec returns one-if-requires add-result returns-2)

@@ -58,7 +58,7 @@ loop-holds c =
     }
 
 is-entry-requires : tie.Need-is-entry-requires Inv-loop μ-loop
-is-entry-requires c κs = c .before .loop .inv .small
+is-entry-requires c κs = search needs
 
 returns : tie.Need-returns Inv-loop μ-loop
 returns c =
@@ -66,16 +66,16 @@ returns c =
     (c .if1 .taken)
 
 mul-wide-2 : tie.Need-mul-wide-2 Inv-loop μ-loop
-mul-wide-2 c = omega (arith, turn (c .before) .loop .inv .small)
+mul-wide-2 c = omega arith
 
 add-wide : tie.Need-add-wide Inv-loop μ-loop
-add-wide c = omega (arith, turn (c .before) .loop .inv .small)
+add-wide c = omega arith
 
 mul-wide-3 : tie.Need-mul-wide-3 Inv-loop μ-loop
-mul-wide-3 c = omega (arith, turn (c .before) .loop .inv .small)
+mul-wide-3 c = omega arith
 
 element-copy-out-wide-2 : tie.Need-element-copy-out-wide-2 Inv-loop μ-loop
-element-copy-out-wide-2 c = omega (arith, turn (c .before) .loop .inv .small)
+element-copy-out-wide-2 c = omega arith
 
 wide-requires-2 : tie.Need-wide-requires-2 Inv-loop μ-loop
 wide-requires-2 c κs = search needs

@@ -24,7 +24,7 @@ wide-requires : tie.Need-wide-requires
 wide-requires c κs = search needs
 
 returns : tie.Need-returns
-returns c = λ w p e f. laws.entry-other _ e f (c .before .wide .ensures) (c .if1 .taken)
+returns c = search laws.entry-other
 
 add-wide-2 : tie.Need-add-wide-2
 add-wide-2 c = search needs
