@@ -1,5 +1,4 @@
 -- `byte`: what stands at a place, or past the end.
-use mathlib.Core.Path.{sym}
 use borrow.Author.Needs.{needs}
 use Rattle.grammar.proofs.reader.byte.Statement.{statement}
 use Rattle.grammar.proofs.reader.byte.Tie as tie
