@@ -1,5 +1,5 @@
 -- `argument_count`: by its test.
-use mathlib.Core.Path.{sym, _∙_}
+use mathlib.Core.Path.{sym}
 use Rattle.layout.proofs.LawsTemplates as laws
 use borrow.Author.Needs.{needs}
 use Rattle.layout.proofs.argument_count.Statement.{statement}

@@ -1,5 +1,5 @@
 -- `check_end`: by the last tag.
-use mathlib.Core.Path.{sym, _∙_}
+use mathlib.Core.Path.{sym}
 use Rattle.layout.proofs.Laws as laws
 use borrow.Author.Needs.{needs}
 use Rattle.layout.proofs.check_end.Statement.{statement}
