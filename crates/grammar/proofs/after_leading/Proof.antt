@@ -25,31 +25,34 @@ enum-told : tie.Need-enum-told Inv-loop μ-loop
 enum-told c = search needs
 
 returns : tie.Need-returns Inv-loop μ-loop
-returns c = laws.passing-out (c .before .before .before .before .loop .inv) Nothing (sym (c .enum-told .given .1) ∙ c .before .before .front-at .ensures) tt
+returns c = search (laws.passing-out, Nothing, sym (c .enum-told .given .1) ∙ c .before .before .front-at .ensures)
 
 enum-told-2 : tie.Need-enum-told-2 Inv-loop μ-loop
 enum-told-2 c = search needs
 
 returns-2 : tie.Need-returns-2 Inv-loop μ-loop
-returns-2 c = laws.passing-out (c .before .before .before .before .loop .inv) Short (sym (c .enum-told2 .given .1) ∙ c .before .before .front-at .ensures) tt
+returns-2 c = search (laws.passing-out, Short, sym (c .enum-told2 .given .1) ∙ c .before .before .front-at .ensures)
 
 enum-known-front : tie.Need-enum-known-front Inv-loop μ-loop
 enum-known-front c = search needs
 
 returns-3 : tie.Need-returns-3 Inv-loop μ-loop
-returns-3 c = laws.passing-out (c .before .before .before .before .before .before .loop .inv) (Field _ _) (sym (c .before .before .front .given .1) ∙ c .before .before .before .before .front-at .ensures) (c .if1 .taken)
+returns-3 c = cc (laws.passing-out (c .before .before .before .before .before .before .loop .inv) (Field _ _)
+    (sym (c .before .before .front .given .1) ∙ c .before .before .before .before .front-at .ensures) (c .if1 .taken))
 
 add-at : tie.Need-add-at Inv-loop μ-loop
-add-at c = omega (arith, laws.front-inside (c .before .before .before .before .before .before .before .before .args .table .now) (c .before .before .before .before .before .before .loop .at) (sym (c .before .before .front .given .1) ∙ c .before .before .before .before .front-at .ensures))
+add-at c = let p = c .before .before in let q = p .before .before in
+    omega (arith, laws.front-inside _ (q .before .before .loop .at) (sym (p .front .given .1) ∙ q .front-at .ensures))
 
 add-at-2 : tie.Need-add-at-2 Inv-loop μ-loop
-add-at-2 c = omega (arith, laws.front-inside (c .before .before .before .before .before .before .before .before .args .table .now) (c .before .before .before .before .before .before .loop .at) (sym (c .before .before .front .given .1) ∙ c .before .before .before .before .front-at .ensures))
+add-at-2 c = let p = c .before .before in let q = p .before .before in
+    omega (arith, laws.front-inside _ (q .before .before .loop .at) (sym (p .front .given .1) ∙ q .front-at .ensures))
 
 loop-less : tie.Need-loop-less Inv-loop μ-loop
 loop-less c = search needs
 
 loop-again : tie.Need-loop-again Inv-loop μ-loop
-loop-again c = laws.passing-next (c .before .before .before .before .before .before .loop .inv) (sym (c .before .before .front .given .1) ∙ c .before .before .before .before .front-at .ensures) (c .if1 .left)
+loop-again c = search (laws.passing-next, sym (c .before .before .front .given .1) ∙ c .before .before .before .before .front-at .ensures)
 
 returns-4 : tie.Need-returns-4 Inv-loop μ-loop
 returns-4 c = laws.passing-out (c .before .loop .inv) Nothing (sym (laws.front-nothing _ _ (c .loop-test .left))) tt

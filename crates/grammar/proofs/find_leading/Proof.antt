@@ -24,25 +24,28 @@ enum-told : tie.Need-enum-told Inv-loop μ-loop
 enum-told c = search needs
 
 returns : tie.Need-returns Inv-loop μ-loop
-returns c = laws.searching-out (c .before .before .before .before .loop .inv) Nothing (sym (c .enum-told .given .1) ∙ c .before .before .front-at .ensures) tt
+returns c = search (laws.searching-out, Nothing, sym (c .enum-told .given .1) ∙ c .before .before .front-at .ensures)
 
 enum-told-2 : tie.Need-enum-told-2 Inv-loop μ-loop
 enum-told-2 c = search needs
 
 returns-2 : tie.Need-returns-2 Inv-loop μ-loop
-returns-2 c = laws.searching-out (c .before .before .before .before .loop .inv) Short (sym (c .enum-told2 .given .1) ∙ c .before .before .front-at .ensures) tt
+returns-2 c = search (laws.searching-out, Short, sym (c .enum-told2 .given .1) ∙ c .before .before .front-at .ensures)
 
 enum-known-front : tie.Need-enum-known-front Inv-loop μ-loop
 enum-known-front c = search needs
 
 returns-3 : tie.Need-returns-3 Inv-loop μ-loop
-returns-3 c = laws.searching-out (c .before .before .before .before .before .before .loop .inv) (Field _ _) (sym (c .before .before .front .given .1) ∙ c .before .before .before .before .front-at .ensures) (c .if1 .taken)
+returns-3 c = cc (laws.searching-out (c .before .before .before .before .before .before .loop .inv) (Field _ _)
+    (sym (c .before .before .front .given .1) ∙ c .before .before .before .before .front-at .ensures) (c .if1 .taken))
 
 add-from : tie.Need-add-from Inv-loop μ-loop
-add-from c = omega (arith, laws.front-inside (c .before .before .before .before .before .before .before .before .before .args .table .now) (c .before .before .before .before .before .before .loop .at) (sym (c .before .before .front .given .1) ∙ c .before .before .before .before .front-at .ensures))
+add-from c = let p = c .before .before in let q = p .before .before in
+    omega (arith, laws.front-inside _ (q .before .before .loop .at) (sym (p .front .given .1) ∙ q .front-at .ensures))
 
 add-to : tie.Need-add-to Inv-loop μ-loop
-add-to c = omega (arith, laws.front-inside (c .before .before .before .before .before .before .before .before .before .args .table .now) (c .before .before .before .before .before .before .loop .at) (sym (c .before .before .front .given .1) ∙ c .before .before .before .before .front-at .ensures))
+add-to c = let p = c .before .before in let q = p .before .before in
+    omega (arith, laws.front-inside _ (q .before .before .loop .at) (sym (p .front .given .1) ∙ q .front-at .ensures))
 
 sub-equal : tie.Need-sub-equal Inv-loop μ-loop
 sub-equal c = search needs
@@ -51,13 +54,19 @@ part-equal-start : tie.Need-part-equal-start Inv-loop μ-loop
 part-equal-start c = search needs
 
 part-equal-end : tie.Need-part-equal-end Inv-loop μ-loop
-part-equal-end c = omega (arith, laws.front-inside (c .before .before .before .before .before .before .before .before .before .args .table .now) (c .before .before .before .before .before .before .loop .at) (sym (c .before .before .front .given .1) ∙ c .before .before .before .before .front-at .ensures))
+part-equal-end c = let p = c .before .before in let q = p .before .before in
+    omega (arith, laws.front-inside _ (q .before .before .loop .at) (sym (p .front .given .1) ∙ q .front-at .ensures))
 
 equal-requires : tie.Need-equal-requires Inv-loop μ-loop
 equal-requires c κs = search needs
 
 returns-4 : tie.Need-returns-4 Inv-loop μ-loop
-returns-4 c = laws.searching-found (c .before .before .before .before .before .before .before .before .before .loop .inv) (c .before .before .before .before .before .before .before .before .loop-test .taken) (sym (c .before .before .before .before .before .front .given .1) ∙ c .before .before .before .before .before .before .before .front-at .ensures) (c .before .before .before .if1 .left) (sym (c .before .equal .ensures) ∙ c .if2 .taken)
+returns-4 c = search (
+  laws.searching-found,
+  sym (c .before .before .before .before .before .front .given .1)
+      ∙ c .before .before .before .before .before .before .before .front-at .ensures,
+  sym (c .before .equal .ensures) ∙ c .if2 .taken,
+)
 
 add-i : tie.Need-add-i Inv-loop μ-loop
 add-i c = search needs
@@ -66,10 +75,15 @@ loop-less : tie.Need-loop-less Inv-loop μ-loop
 loop-less c = search needs
 
 loop-again : tie.Need-loop-again Inv-loop μ-loop
-loop-again c = laws.searching-next (c .before .before .before .before .before .before .before .before .before .loop .inv) (c .before .before .before .before .before .before .before .before .loop-test .taken) (sym (c .before .before .before .before .before .front .given .1) ∙ c .before .before .before .before .before .before .before .front-at .ensures) (c .before .before .before .if1 .left) (sym (c .before .equal .ensures) ∙ c .if2 .left)
+loop-again c = search (
+  laws.searching-next,
+  sym (c .before .before .before .before .before .front .given .1)
+      ∙ c .before .before .before .before .before .before .before .front-at .ensures,
+  sym (c .before .equal .ensures) ∙ c .if2 .left,
+)
 
 returns-5 : tie.Need-returns-5 Inv-loop μ-loop
-returns-5 c = laws.searching-end (c .before .loop .inv) (c .loop-test .left)
+returns-5 c = search laws.searching-end
 
 pub find-leading-spec : {M : Type 1} → statement M
 find-leading-spec =

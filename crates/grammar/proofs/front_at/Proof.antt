@@ -14,7 +14,7 @@ sub-left : tie.Need-sub-left
 sub-left c = search needs
 
 returns-2 : tie.Need-returns-2
-returns-2 c = sym (laws.front-short _ _ (c .before .if1 .left) (c .if2 .taken))
+returns-2 c = search laws.front-short
 
 add-wide : tie.Need-add-wide
 add-wide c = search needs
@@ -26,7 +26,8 @@ wide-requires : tie.Need-wide-requires
 wide-requires c κs = search needs
 
 mul-size : tie.Need-mul-size
-mul-size c = omega (arith, c .wide .ensures, c .before .shared-slice-known2 .given (c .before .before .before .before .before .args .at + 1))
+mul-size c = let p = c .before in let q = p .before .before .before .before in
+    omega (arith, c .wide .ensures, p .shared-slice-known2 .given (q .args .at + 1))
 
 add-wide-2 : tie.Need-add-wide-2
 add-wide-2 c = search needs
@@ -38,17 +39,19 @@ wide-requires-2 : tie.Need-wide-requires-2
 wide-requires-2 c κs = search needs
 
 add-size : tie.Need-add-size
-add-size c = omega
-    (arith, c .wide2 .ensures, c .before .before .wide .ensures, c .before .shared-slice-known3 .given (c .before .before .before .before .before .before .before .args .at + 1), c .before .shared-slice-known3 .given (c .before .before .before .before .before .before .before .args .at + 2))
+add-size c = let p = c .before in let q = p .before .before .before .before .before .before in
+    omega (arith, c .wide2 .ensures, p .shared-slice-known3 .given (q .args .at + 1), p .shared-slice-known3 .given (q .args .at + 2))
 
 returns-3 : tie.Need-returns-3
-returns-3 c = sym (laws.front-cut (c .before .before .before .before .before .before .before .before .args .table .now) (c .before .before .before .before .before .before .before .before .args .at) (c .before .before .before .before .before .before .if1 .left) (omega (arith, c .before .wide2 .ensures, c .before .before .before .wide .ensures, c .if3 .taken)))
+returns-3 c = let p = c .before in let q = p .before .before in
+    sym (laws.front-cut _ _ (q .before .before .before .if1 .left) (omega (arith, p .wide2 .ensures, q .wide .ensures, c .if3 .taken)))
 
 shared-slice-read-t14 : tie.Need-shared-slice-read-t14
 shared-slice-read-t14 c = search needs
 
 returns-4 : tie.Need-returns-4
-returns-4 c = sym (laws.front-is (c .before .before .before .before .before .before .before .before .before .args .table .now) (c .before .before .before .before .before .before .before .before .before .args .at) (c .before .before .before .before .before .before .before .if1 .left) (c .before .before .before .before .before .before .if2 .left) (c .before .before .before .before .wide .ensures) (c .before .before .wide2 .ensures) (c .before .if3 .left))
+returns-4 c = let p = c .before in let q = p .before in let r = q .before .before in let s = r .before .before in
+    sym (laws.front-is _ _ (s .before .if1 .left) (s .if2 .left) (r .wide .ensures) (q .wide2 .ensures) (p .if3 .left))
 
 pub front-at-spec : {M : Type 1} → statement M
 front-at-spec =

@@ -22,9 +22,7 @@ is-code-requires : tie.Need-is-code-requires Inv-loop μ-loop
 is-code-requires c κs = search needs
 
 returns : tie.Need-returns Inv-loop μ-loop
-returns c =
-    laws.sorts-stop (c .before .before .before .before .loop .inv) (c .before .before .before .loop-test .taken) (c .before .is-code .ensures)
-    (c .if1 .taken)
+returns c = search laws.sorts-stop
 
 add-i : tie.Need-add-i Inv-loop μ-loop
 add-i c = search needs
@@ -33,12 +31,10 @@ loop-less : tie.Need-loop-less Inv-loop μ-loop
 loop-less c = search needs
 
 loop-again : tie.Need-loop-again Inv-loop μ-loop
-loop-again c =
-    laws.sorts-next (c .before .before .before .before .loop .inv) (c .before .before .before .loop-test .taken) (c .before .is-code .ensures)
-    (c .if1 .left)
+loop-again c = search laws.sorts-next
 
 returns-2 : tie.Need-returns-2 Inv-loop μ-loop
-returns-2 c = laws.sorts-end (c .before .loop .inv) (c .loop-test .left)
+returns-2 c = search laws.sorts-end
 
 pub are-sorts-spec : {M : Type 1} → statement M
 are-sorts-spec =

@@ -52,9 +52,7 @@ sub-if1 : tie.Need-sub-if1 Inv-loop μ-loop
 sub-if1 c = omega arith
 
 returns : tie.Need-returns Inv-loop μ-loop
-returns c =
-    laws.due-stop (c .before .before .before .before .loop .inv) (c .before .before .before .loop-test .taken) (c .before .head-size .ensures)
-    (c .if1 .taken)
+returns c = search laws.due-stop
 
 less-one-requires : tie.Need-less-one-requires Inv-loop μ-loop
 less-one-requires c κs = search needs
@@ -75,7 +73,7 @@ loop-again : tie.Need-loop-again Inv-loop μ-loop
 loop-again c = next c
 
 returns-2 : tie.Need-returns-2 Inv-loop μ-loop
-returns-2 c = laws.due-end (c .before .loop .inv) (c .loop-test .left)
+returns-2 c = search laws.due-end
 
 pub are-templates-spec : {M : Type 1} → statement M
 are-templates-spec =

@@ -1,5 +1,5 @@
 -- `argument_count`: by its test.
-use mathlib.Core.Path.{sym, _∙_}
+use mathlib.Core.Path.{sym}
 use Rattle.layout.proofs.LawsTemplates as laws
 use borrow.Author.Needs.{needs}
 use Rattle.layout.proofs.argument_count.Statement.{statement}
@@ -9,7 +9,7 @@ arity-of-requires : tie.Need-arity-of-requires
 arity-of-requires c κs = search needs
 
 returns : tie.Need-returns
-returns c = c .arity-of .ensures ∙ sym (laws.arguments-constructor _ (c .before .if1 .taken))
+returns c = search laws.arguments-constructor
 
 returns-2 : tie.Need-returns-2
 returns-2 c = sym (laws.arguments-other _ (c .if1 .left))

@@ -49,11 +49,7 @@ stopped-requires : tie.Need-stopped-requires
 stopped-requires c κs = search needs
 
 returns : tie.Need-returns
-returns c =
-    c .stopped .ensures
-    ∙ sym
-    (ap checking
-    (laws.field-by _ _ _ _ _ false _ _ _ _
+returns c = cc (ap checking (laws.field-by _ _ _ _ _ false _ _ _ _
     (laws.fails (c .before .before .is-known .ensures) (c .before .if1 .taken)) refl refl refl refl))
 
 may-follow-requires : tie.Need-may-follow-requires
@@ -63,27 +59,18 @@ stopped-requires-2 : tie.Need-stopped-requires-2
 stopped-requires-2 c κs = search needs
 
 returns-2 : tie.Need-returns-2
-returns-2 c =
-    c .stopped2 .ensures
-    ∙ sym
-    (ap checking
-    (laws.field-by _ _ _ _ _ true false _ _ _
-    (known (c .before .before .before)) (laws.fails (c .before .before .may-follow .ensures) (c .before .if2 .taken)) refl refl refl))
+returns-2 c = let p = c .before in let q = p .before in c .stopped2 .ensures
+    ∙ sym (ap checking (laws.field-by _ _ _ _ _ true false _ _ _ (known (q .before)) (laws.fails (q .may-follow .ensures) (p .if2 .taken)) refl refl refl))
 
 is-spelled-requires : tie.Need-is-spelled-requires
-is-spelled-requires c κs = (start (c .before .before) .pre .keywords .falling, start (c .before .before) .pre .outsides .falling)
+is-spelled-requires c κs = search needs
 
 stopped-requires-3 : tie.Need-stopped-requires-3
 stopped-requires-3 c κs = search needs
 
 returns-3 : tie.Need-returns-3
-returns-3 c =
-    c .stopped3 .ensures
-    ∙ sym
-    (ap checking
-    (laws.field-by _ _ _ _ _ true true false _ _
-    (known (second (c .before .before .before))) (ordered (c .before .before .before))
-    (laws.fails (spelling (c .before .before)) (c .before .if3 .taken)) refl refl))
+returns-3 c = let p = c .before in let q = p .before in let r = q .before in c .stopped3 .ensures
+    ∙ sym (ap checking (laws.field-by _ _ _ _ _ true true false _ _ (known (second r)) (ordered r) (laws.fails (spelling q) (p .if3 .taken)) refl refl))
 
 has-room-requires : tie.Need-has-room-requires
 has-room-requires c κs = search needs
@@ -92,12 +79,8 @@ stopped-requires-4 : tie.Need-stopped-requires-4
 stopped-requires-4 c κs = search needs
 
 returns-4 : tie.Need-returns-4
-returns-4 c =
-    c .stopped4 .ensures
-    ∙ sym
-    (ap checking
-    (laws.field-by _ _ _ _ _ true true true false _
-    (known (second (third (c .before .before .before)))) (ordered (third (c .before .before .before))) (spelled (c .before .before .before))
+returns-4 c = cc (ap checking (laws.field-by _ _ _ _ _ true true true false _ (known (second (third (c .before .before .before))))
+    (ordered (third (c .before .before .before))) (spelled (c .before .before .before))
     (laws.fails (c .before .before .has-room .ensures) (c .before .if4 .taken)) refl))
 
 is-whole-requires : tie.Need-is-whole-requires
@@ -107,26 +90,17 @@ stopped-requires-5 : tie.Need-stopped-requires-5
 stopped-requires-5 c κs = search needs
 
 returns-5 : tie.Need-returns-5
-returns-5 c =
-    c .stopped5 .ensures
-    ∙ sym
-    (ap checking
-    (laws.field-by _ _ _ _ _ true true true true false
-    (known (second (third (fourth (c .before .before .before))))) (ordered (third (fourth (c .before .before .before))))
-    (spelled (fourth (c .before .before .before))) (room (c .before .before .before))
+returns-5 c = cc (ap checking (laws.field-by _ _ _ _ _ true true true true false (known (second (third (fourth (c .before .before .before)))))
+    (ordered (third (fourth (c .before .before .before)))) (spelled (fourth (c .before .before .before))) (room (c .before .before .before))
     (laws.fails (c .before .before .is-whole .ensures) (c .before .if5 .taken))))
 
 further-requires : tie.Need-further-requires
 further-requires c κs = room (c .before .before)
 
 returns-6 : tie.Need-returns-6
-returns-6 c =
-    let p = c .before .before .before in
-    ap Further (c .further .ensures)
-    ∙ sym
-    (ap checking
-    (laws.field-by _ _ _ _ _ true true true true true (known (second (third (fourth p)))) (ordered (third (fourth p))) (spelled (fourth p)) (room p)
-    (laws.passes (c .before .before .is-whole .ensures) (c .before .if5 .left))))
+returns-6 c = let q = c .before in let r = q .before in let p = r .before in ap Further (c .further .ensures)
+    ∙ sym (ap checking (laws.field-by _ _ _ _ _ true true true true true (known (second (third (fourth p)))) (ordered (third (fourth p))) (spelled (fourth p))
+    (room p) (laws.passes (r .is-whole .ensures) (q .if5 .left))))
 
 pub check-field-spec : {M : Type 1} → statement M
 check-field-spec =

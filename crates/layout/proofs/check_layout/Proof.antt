@@ -48,10 +48,10 @@ module _ (p : tie.After-known-told Inv-loop μ-loop) where
   lent = take (at + 3 + size - (at + 3)) (drop (at + 3) table)
 
   place : at + 3 ≤ 65536
-  place = omega (arith, inside, turn .before .before .if1 .left)
+  place = omega (arith, inside)
 
   small : length lent ≤ 65536
-  small = omega (arith, length-take (at + 3 + size - (at + 3)) (drop (at + 3) table), inside, turn .before .before .if1 .left)
+  small = omega (arith, length-take (at + 3 + size - (at + 3)) (drop (at + 3) table), inside)
 
 -- it is checked, and accepted
 abbrev field : tie.After-check-field Inv-loop μ-loop → tie.After-known-told Inv-loop μ-loop
@@ -71,7 +71,7 @@ refused-requires : tie.Need-refused-requires Inv-loop μ-loop
 refused-requires c κs = search needs
 
 returns : tie.Need-returns Inv-loop μ-loop
-returns c = c .refused .ensures ∙ laws.layout-long _ (c .before .if1 .taken)
+returns c = cc (laws.layout-long _ (c .before .if1 .taken))
 
 nothing-read-requires : tie.Need-nothing-read-requires Inv-loop μ-loop
 nothing-read-requires c κs = search needs
@@ -89,10 +89,8 @@ check-end-requires : tie.Need-check-end-requires Inv-loop μ-loop
 check-end-requires c κs = search needs
 
 returns-2 : tie.Need-returns-2 Inv-loop μ-loop
-returns-2 c =
-    let p = c .before .before .before .before in
-    c .check-end .ensures
-    ∙ laws.turn-end (p .loop .inv .0) (p .before .before .if1 .left) (sym (c .before .enum-told .given .1) ∙ c .before .before .before .front-at .ensures)
+returns-2 c = let q = c .before in let r = q .before .before in let p = r .before in c .check-end .ensures
+    ∙ laws.turn-end (p .loop .inv .0) (p .before .before .if1 .left) (sym (q .enum-told .given .1) ∙ r .front-at .ensures)
 
 enum-told-2 : tie.Need-enum-told-2 Inv-loop μ-loop
 enum-told-2 c = search needs
@@ -101,10 +99,8 @@ refused-requires-2 : tie.Need-refused-requires-2 Inv-loop μ-loop
 refused-requires-2 c κs = search needs
 
 returns-3 : tie.Need-returns-3 Inv-loop μ-loop
-returns-3 c =
-    let p = c .before .before .before .before in
-    c .refused2 .ensures
-    ∙ laws.turn-cut (p .loop .inv .0) (p .before .before .if1 .left) (sym (c .before .enum-told2 .given .1) ∙ c .before .before .before .front-at .ensures)
+returns-3 c = let q = c .before in let r = q .before .before in let p = r .before in c .refused2 .ensures
+    ∙ laws.turn-cut (p .loop .inv .0) (p .before .before .if1 .left) (sym (q .enum-told2 .given .1) ∙ r .front-at .ensures)
 
 enum-known-front : tie.Need-enum-known-front Inv-loop μ-loop
 enum-known-front c = search needs
@@ -125,16 +121,15 @@ part-v-end : tie.Need-part-v-end Inv-loop μ-loop
 part-v-end c = omega (arith, inside c)
 
 check-field-requires : tie.Need-check-field-requires Inv-loop μ-loop
-check-field-requires c κs = turn (c .before .before .before) .loop .inv .1
+check-field-requires c κs = search needs
 
 enum-known-checked : tie.Need-enum-known-checked Inv-loop μ-loop
 enum-known-checked c = search needs
 
 returns-4 : tie.Need-returns-4 Inv-loop μ-loop
-returns-4 c =
-    let p = c .before .before .before in
+returns-4 c = let q = c .before in let p = q .before .before in
     laws.turn-stopped (turn (field p) .loop .inv .0) (stands (field p)) (turn (field p) .before .before .if1 .left)
-    (sym (c .before .checked .given .1) ∙ p .check-field .ensures)
+    (sym (q .checked .given .1) ∙ p .check-field .ensures)
 
 enum-known-checked-2 : tie.Need-enum-known-checked-2 Inv-loop μ-loop
 enum-known-checked-2 c = search needs
@@ -143,9 +138,8 @@ cast-enter : tie.Need-cast-enter Inv-loop μ-loop
 cast-enter c = search needs
 
 enter-requires : tie.Need-enter-requires Inv-loop μ-loop
-enter-requires c κs =
-    let p = field (accepted (c .before .before)) in
-    (keyword-room (turn p .loop .inv .0) (turn p .loop .inv .1) (stands p) (further (c .before .before)), place p, small p)
+enter-requires c κs = let q = c .before .before in let p = field (accepted q) in
+    (keyword-room (turn p .loop .inv .0) (turn p .loop .inv .1) (stands p) (further q), place p, small p)
 
 cast-enter-2 : tie.Need-cast-enter-2 Inv-loop μ-loop
 cast-enter-2 c = search needs
@@ -160,12 +154,10 @@ loop-less : tie.Need-loop-less Inv-loop μ-loop
 loop-less c = omega (arith, inside (field (accepted (c .before .before .before .before .before .before))))
 
 loop-again : tie.Need-loop-again Inv-loop μ-loop
-loop-again c =
-    let q = c .before .before .before .before .before .before in
-    let p = field (accepted q) in (
-      laws.turn-next (turn p .loop .inv .0) (stands p) (further q),
-      remembered-next (turn p .loop .inv .0) (turn p .loop .inv .1) (stands p) (further q) (c .before .before .before .enter .ensures) (c .enter2 .ensures),
-    )
+loop-again c = let r = c .before .before .before in let q = r .before .before .before in let p = field (accepted q) in (
+  laws.turn-next (turn p .loop .inv .0) (stands p) (further q),
+  remembered-next (turn p .loop .inv .0) (turn p .loop .inv .1) (stands p) (further q) (r .enter .ensures) (c .enter2 .ensures),
+)
 
 pub check-layout-spec : {M : Type 1} → statement M
 check-layout-spec =

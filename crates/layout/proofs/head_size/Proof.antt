@@ -8,10 +8,10 @@ returns : tie.Need-returns
 returns c = sym (laws.head-name _ (c .if1 .taken))
 
 returns-2 : tie.Need-returns-2
-returns-2 c = sym (laws.head-byte _ (c .before .if1 .left) (c .if2 .taken))
+returns-2 c = search laws.head-byte
 
 returns-3 : tie.Need-returns-3
-returns-3 c = sym (laws.head-unknown _ (c .before .if1 .left) (c .if2 .left))
+returns-3 c = search laws.head-unknown
 
 pub head-size-spec : {M : Type 1} → statement M
 head-size-spec = tie.close (tie.spec returns returns-2 returns-3)

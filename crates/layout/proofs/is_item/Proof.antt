@@ -1,6 +1,4 @@
 -- `is_item`: the tests as they stand, over the two bytes.
-use mathlib.Core.Path.{ap, _∙_}
-use Rattle.grammar.specs.SortTests.{isIdeSort}
 use Rattle.layout.specs.Layout.{isItem}
 use Rattle.layout.proofs.Laws as laws
 use borrow.Author.Needs.{needs}
@@ -18,9 +16,7 @@ is-ide-code-requires c κs = search needs
 
 returns : tie.Need-returns
 unfolding isItem
-returns c =
-    let sort = c .is-ide-code .ensures ∙ ap isIdeSort (c .before .byte2 .ensures) in
-    λ i. laws.itemBy (c .before .before .before .before .args .v .now) (c .before .before .byte .ensures i) (c .before .byte2 .ensures i) (sort i)
+returns c = cc
 
 pub is-item-spec : {M : Type 1} → statement M
 is-item-spec = tie.close (tie.spec byte-requires byte-requires-2 is-ide-code-requires returns)

@@ -9,7 +9,7 @@ byte-requires c κs = search needs
 
 returns : tie.Need-returns
 unfolding isRoot
-returns c = cc (c .byte .ensures)
+returns c = cc
 
 pub is-root-spec : {M : Type 1} → statement M
 is-root-spec = tie.close (tie.spec byte-requires returns)

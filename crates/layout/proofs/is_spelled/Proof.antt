@@ -1,6 +1,6 @@
 -- `is_spelled`: by the tag.
 use borrow.Author.Needs.{needs}
-use mathlib.Core.Path.{sym, ap, _∙_}
+use mathlib.Core.Path.{sym, _∙_}
 use mathlib.Core.Bool.{_&&_, not}
 use Rattle.layout.proofs.IndexLaws.{repeated-among}
 use Rattle.layout.proofs.Laws as laws
@@ -11,28 +11,24 @@ is-keyword-spelling-requires : tie.Need-is-keyword-spelling-requires
 is-keyword-spelling-requires c κs = search needs
 
 is-among-requires : tie.Need-is-among-requires
-is-among-requires c κs = c .before .before .before .before .pre .0
+is-among-requires c κs = search needs
 
 returns : tie.Need-returns
-returns c =
-    λ before k o.
-    (λ i. c .before .is-keyword-spelling .ensures i && not ((c .is-among .ensures _ k ∙ repeated-among 1 _ before) i))
-    ∙ sym (laws.spelled-keyword _ _ before (c .before .before .if1 .taken))
+returns c = let p = c .before in λ before k o. (λ i. p .is-keyword-spelling .ensures i && not ((c .is-among .ensures _ k ∙ repeated-among 1 _ before) i))
+    ∙ sym (laws.spelled-keyword _ _ before (p .before .if1 .taken))
 
 is-word-requires : tie.Need-is-word-requires
 is-word-requires c κs = search needs
 
 is-among-requires-2 : tie.Need-is-among-requires-2
-is-among-requires-2 c κs = c .before .before .before .before .before .pre .1
+is-among-requires-2 c κs = search needs
 
 returns-2 : tie.Need-returns-2
-returns-2 c =
-    λ before k o.
-    (λ i. c .before .is-word .ensures i && not ((c .is-among2 .ensures _ o ∙ repeated-among 2 _ before) i))
-    ∙ sym (laws.spelled-outside _ _ before (c .before .before .if2 .taken))
+returns-2 c = let p = c .before in λ before k o. (λ i. p .is-word .ensures i && not ((c .is-among2 .ensures _ o ∙ repeated-among 2 _ before) i))
+    ∙ sym (laws.spelled-outside _ _ before (p .before .if2 .taken))
 
 returns-3 : tie.Need-returns-3
-returns-3 c = λ before k o. sym (laws.spelled-other _ _ before (c .before .if1 .left) (c .if2 .left))
+returns-3 c = search laws.spelled-other
 
 pub is-spelled-spec : {M : Type 1} → statement M
 is-spelled-spec =

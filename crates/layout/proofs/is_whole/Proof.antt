@@ -14,16 +14,16 @@ are-templates-requires : tie.Need-are-templates-requires
 are-templates-requires c κs = search needs
 
 returns : tie.Need-returns
-returns c = (λ i. not (eqb (c .before .byte .ensures i) 4) || c .are-templates .ensures i) ∙ sym (laws.whole-item _ _ (c .before .before .if1 .taken))
+returns c = let p = c .before in (λ i. not (eqb (p .byte .ensures i) 4) || c .are-templates .ensures i) ∙ sym (laws.whole-item _ _ (p .before .if1 .taken))
 
 are-templates-requires-2 : tie.Need-are-templates-requires-2
 are-templates-requires-2 c κs = search needs
 
 returns-2 : tie.Need-returns-2
-returns-2 c = c .are-templates2 .ensures ∙ sym (laws.whole-result _ _ (c .before .if2 .taken))
+returns-2 c = search laws.whole-result
 
 returns-3 : tie.Need-returns-3
-returns-3 c = sym (laws.whole-other _ _ (c .before .if1 .left) (c .if2 .left))
+returns-3 c = search laws.whole-other
 
 pub is-whole-spec : {M : Type 1} → statement M
 is-whole-spec =

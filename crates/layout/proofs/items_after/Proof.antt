@@ -14,12 +14,11 @@ one-if-requires : tie.Need-one-if-requires
 one-if-requires c κs = search needs
 
 add-result : tie.Need-add-result
-add-result c =
-    laws.fitting _ 12 (eqb (c .before .before .before .args .tag) 6) (laws.room-of _ _ (c .before .before .before .pre) .items) (lit< tt)
-    (omega arith) (c .before .one-if .ensures)
+add-result c = let p = c .before in let q = p .before .before in
+    laws.fitting _ 12 (eqb (q .args .tag) 6) (laws.room-of _ _ (q .pre) .items) (lit< tt) (omega arith) (p .one-if .ensures)
 
 returns-2 : tie.Need-returns-2
-returns-2 c = cc (c .before .one-if .ensures, laws.items-more _ _ (c .before .before .if1 .left))
+returns-2 c = cc (laws.items-more _ _ (c .before .before .if1 .left))
 
 pub items-after-spec : {M : Type 1} → statement M
 items-after-spec = tie.close (tie.spec returns one-if-requires add-result returns-2)

@@ -21,7 +21,7 @@ returns : tie.Need-returns
 returns c = search needs
 
 returns-2 : tie.Need-returns-2
-returns-2 c = sym (getD-past (c .before .args .cells .now) _ 0 (c .if1 .left))
+returns-2 c = search getD-past
 
 pub column-spec : {M : Type 1} → statement M
 column-spec =

@@ -1,6 +1,5 @@
 -- `check_field`: by the field's tag.
 use borrow.Author.Needs.{needs}
-use Prim.Native.Nat.{_≤_}
 use mathlib.Core.Path.{refl, ap}
 use lib.ListN.{length}
 use Rattle.sorts.proofs.HeadLaws.{signature-short}
@@ -11,10 +10,6 @@ use Rattle.sorts.proofs.check_field.Tie as tie
 
 abbrev start : tie.After-shared-slice-known2 → tie.Start
 start p = p .before .before .before .before .before
-
--- an item, and a result
-abbrev item : tie.After-check-variable → tie.At-match-keys3
-item p = p .before .before .before .before
 
 abbrev tested : tie.After-step-of2 → tie.After-check-result
 tested c = c .before .before .before .before
@@ -29,7 +24,8 @@ signature-at-requires : tie.Need-signature-at-requires
 signature-at-requires c κs = search needs
 
 load-params-requires : tie.Need-load-params-requires
-load-params-requires c κs = omega (arith, ap length (c .signature-at .ensures), signature-short (start (c .before .before .before) .args .table .now) (start (c .before .before .before) .args .known .head))
+load-params-requires c κs = let p = c .before .before .before in
+    omega (arith, ap length (c .signature-at .ensures), signature-short (start p .args .table .now) (start p .args .known .head))
 
 check-variable-requires : tie.Need-check-variable-requires
 check-variable-requires c κs = search needs

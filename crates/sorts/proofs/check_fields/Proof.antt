@@ -90,7 +90,7 @@ same-length-3 : tie.Need-same-length-3 Inv-loop μ-loop
 same-length-3 c = search needs
 
 returns : tie.Need-returns Inv-loop μ-loop
-returns c = laws.sorting-nothing (c .before .before .before .loop .inv) (sym (c .enum-told .given .1) ∙ c .before .before .front-at .ensures)
+returns c = search (laws.sorting-nothing, sym (c .enum-told .given .1) ∙ c .before .before .front-at .ensures)
 
 enum-told-2 : tie.Need-enum-told-2 Inv-loop μ-loop
 enum-told-2 c = search needs
@@ -105,7 +105,7 @@ same-length-6 : tie.Need-same-length-6 Inv-loop μ-loop
 same-length-6 c = search needs
 
 returns-2 : tie.Need-returns-2 Inv-loop μ-loop
-returns-2 c = laws.sorting-short (c .before .before .before .loop .inv) (sym (c .enum-told2 .given .1) ∙ c .before .before .front-at .ensures)
+returns-2 c = search (laws.sorting-short, sym (c .enum-told2 .given .1) ∙ c .before .before .front-at .ensures)
 
 enum-known-front : tie.Need-enum-known-front Inv-loop μ-loop
 enum-known-front c = search needs
@@ -141,9 +141,8 @@ same-length-9 : tie.Need-same-length-9 Inv-loop μ-loop
 same-length-9 c = search needs
 
 returns-3 : tie.Need-returns-3 Inv-loop μ-loop
-returns-3 c =
-    let p = checked (c .before .before .before) in
-    laws.sorting-stop (turn (field p) .loop .inv) (stands (field p)) (value (field p)) (p .check-field .ensures) (c .before .step .given .1)
+returns-3 c = let q = c .before in let p = checked (q .before .before) in
+    laws.sorting-stop (turn (field p) .loop .inv) (stands (field p)) (value (field p)) (p .check-field .ensures) (q .step .given .1)
 
 enum-known-step-2 : tie.Need-enum-known-step-2 Inv-loop μ-loop
 enum-known-step-2 c = search needs
@@ -152,9 +151,8 @@ loop-less : tie.Need-loop-less Inv-loop μ-loop
 loop-less c = omega (arith, inside (field (checked (c .before .before .before))))
 
 loop-again : tie.Need-loop-again Inv-loop μ-loop
-loop-again c =
-    let p = checked (c .before .before .before) in
-    laws.sorting-next (turn (field p) .loop .inv) (stands (field p)) (value (field p)) (p .check-field .ensures) (c .before .step2 .given .1)
+loop-again c = let q = c .before in let p = checked (q .before .before) in
+    laws.sorting-next (turn (field p) .loop .inv) (stands (field p)) (value (field p)) (p .check-field .ensures) (q .step2 .given .1)
     (p .check-field .kept .0) (p .check-field .kept .1 .0) (p .check-field .kept .1 .1 .0)
 
 pub check-fields-spec : {M : Type 1} → statement M

@@ -8,13 +8,6 @@ use Rattle.sorts.proofs.check_variable.Tie as tie
 abbrev start : tie.After-check-item-arg2 → tie.Start
 start p = let q = p .before .before .before in q .before .before .before .before
 
--- the item is checked, and its sort added
-abbrev given : tie.After-slice-known3 → tie.After-check-item
-given p = p .before .before
-
-abbrev added : tie.After-slice-known4 → tie.After-known-told2
-added c = c .before .before .before .before
-
 check-item-requires : tie.Need-check-item-requires
 check-item-requires c κs = start c .pre .places
 

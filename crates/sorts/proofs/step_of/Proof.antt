@@ -1,7 +1,5 @@
 -- `step_of`: by the verdict.
 use borrow.Author.Needs.{needs}
-use mathlib.Core.Path.{sym, ap}
-use Rattle.sorts.specs.ByBytes.{stepOf}
 use Rattle.sorts.proofs.step_of.Statement.{statement}
 use Rattle.sorts.proofs.step_of.Tie as tie
 

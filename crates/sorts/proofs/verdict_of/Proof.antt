@@ -1,6 +1,5 @@
 -- `verdict_of`: by the fault.
 use borrow.Author.Needs.{needs}
-use mathlib.Core.Path.{_∙_}
 use Rattle.sorts.proofs.StepLaws as laws
 use Rattle.sorts.proofs.verdict_of.Statement.{statement}
 use Rattle.sorts.proofs.verdict_of.Tie as tie
@@ -12,7 +11,7 @@ refused-requires : tie.Need-refused-requires
 refused-requires c κs = search needs
 
 returns-2 : tie.Need-returns-2
-returns-2 c = c .refused .ensures ∙ laws.verdict-some _ _ (c .before .if1 .left)
+returns-2 c = cc (laws.verdict-some _ _ (c .before .if1 .left))
 
 pub verdict-of-spec : {M : Type 1} → statement M
 verdict-of-spec = tie.close (tie.spec returns refused-requires returns-2)

@@ -1,5 +1,4 @@
 -- `byte`: what stands at a place, or past the end.
-use mathlib.Core.Path.{sym}
 use borrow.Author.Needs.{needs}
 use Rattle.grammar.proofs.reader.byte.Statement.{statement}
 use Rattle.grammar.proofs.reader.byte.Tie as tie
@@ -12,7 +11,7 @@ returns : tie.Need-returns
 returns c = search needs
 
 returns-2 : tie.Need-returns-2
-returns-2 c = sym (getD-past (c .before .args .s .now) _ 0 (c .if1 .left))
+returns-2 c = search getD-past
 
 pub byte-spec : {M : Type 1} → statement M
 byte-spec = tie.close (tie.spec shared-slice-read-result returns returns-2)

@@ -8,7 +8,7 @@ slice-aggregate-result : tie.Need-slice-aggregate-result
 slice-aggregate-result c = search needs
 
 returns : tie.Need-returns
-returns c = laws.part-past (c .before .before .args .s .now) (c .before .before .args .at) (c .before .before .args .n) (c .before .if1 .taken)
+returns c = search laws.part-past
 
 sub-if2 : tie.Need-sub-if2
 sub-if2 c = search needs
@@ -23,7 +23,7 @@ part-result-end : tie.Need-part-result-end
 part-result-end c = search needs
 
 returns-2 : tie.Need-returns-2
-returns-2 c = laws.part-rest (c .before .before .before .args .s .now) (c .before .before .before .args .at) (c .before .before .before .args .n) (c .before .if2 .taken)
+returns-2 c = search laws.part-rest
 
 add-end : tie.Need-add-end
 add-end c = search needs
@@ -38,7 +38,7 @@ part-result-end-2 : tie.Need-part-result-end-2
 part-result-end-2 c = search needs
 
 returns-3 : tie.Need-returns-3
-returns-3 c = laws.part-within (c .before .before .before .args .s .now) (c .before .before .before .args .at) (c .before .before .before .args .n)
+returns-3 c = search laws.part-within
 
 pub part-spec : {M : Type 1} → statement M
 part-spec =

@@ -16,13 +16,13 @@ by-code-requires-3 : tie.Need-by-code-requires-3
 by-code-requires-3 c κs = search needs
 
 returns : tie.Need-returns
-returns c = laws.argument-is _ (c .before .match .keys1) (c .by-code .ensures ∙ laws.firsts _)
+returns c = cc (laws.argument-is _ (c .before .match .keys1) (c .by-code .ensures ∙ laws.firsts _))
 
 returns-2 : tie.Need-returns-2
-returns-2 c = laws.argument-is _ (c .before .match .keys2) (c .by-code2 .ensures ∙ laws.seconds _)
+returns-2 c = cc (laws.argument-is _ (c .before .match .keys2) (c .by-code2 .ensures ∙ laws.seconds _))
 
 returns-3 : tie.Need-returns-3
-returns-3 c = laws.argument-is _ (c .before .match .keys3) (c .by-code3 .ensures ∙ laws.thirds _)
+returns-3 c = cc (laws.argument-is _ (c .before .match .keys3) (c .by-code3 .ensures ∙ laws.thirds _))
 
 returns-4 : tie.Need-returns-4
 returns-4 c = laws.arguments-end _ _ (omega (arith, c .match .rest .1, c .match .rest .0 .1, c .match .rest .0 .0 .1))

@@ -8,7 +8,7 @@ array-read-result : tie.Need-array-read-result
 array-read-result c = search needs
 
 returns : tie.Need-returns
-returns c = laws.code-low (c .before .args .t1) _ (c .if1 .taken)
+returns c = search laws.code-low
 
 cast-k : tie.Need-cast-k
 cast-k c = search needs
@@ -20,7 +20,7 @@ returns-2 : tie.Need-returns-2
 returns-2 c = search needs
 
 returns-3 : tie.Need-returns-3
-returns-3 c = laws.code-high (c .before .before .args .t1) _ (c .before .before .good .0 .1 .0 .1) (c .if2 .left)
+returns-3 c = search laws.code-high
 
 pub by-code-spec : {M : Type 1} → statement M
 by-code-spec =

@@ -16,9 +16,7 @@ module _ (p : tie.After-hash) where
   few = start .pre .0 (not-false _ (p .before .if1 .left))
 
 returns : tie.Need-returns
-returns c =
-    let a = c .before .before .args in
-    laws.entered-none (a .room .now) (a .count) (a .from) (a .v .now) (not-true (a .spelled) (c .if1 .taken))
+returns c = search (laws.entered-none, not-true)
 
 hash-requires : tie.Need-hash-requires
 hash-requires c κs = search needs
@@ -42,7 +40,7 @@ element-write-room : tie.Need-element-write-room
 element-write-room c = omega (arith, few (c .before))
 
 cast-room : tie.Need-cast-room
-cast-room c = omega (arith, laws.hash-below (start (c .before) .args .v .now), c .before .hash .ensures)
+cast-room c = omega (arith, laws.hash-below (start (c .before) .args .v .now))
 
 add-room : tie.Need-add-room
 add-room c = omega (arith, few (c .before))
@@ -90,9 +88,7 @@ element-write-room-5 : tie.Need-element-write-room-5
 element-write-room-5 c = search needs
 
 returns-2 : tie.Need-returns-2
-returns-2 c =
-    let a = start (c .before) .args in
-    laws.entered-some (a .room .now) (a .count) (a .from) (a .v .now) (not-false (a .spelled) (c .before .before .if1 .left)) (c .before .hash .ensures)
+returns-2 c = search (laws.entered-some, not-false)
 
 pub enter-spec : {M : Type 1} → statement M
 enter-spec =

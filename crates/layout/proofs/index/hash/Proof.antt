@@ -17,7 +17,7 @@ loop-holds : tie.Need-loop-holds Inv-loop μ-loop
 loop-holds c = laws.hashing-start
 
 mul-h : tie.Need-mul-h Inv-loop μ-loop
-mul-h c = omega (arith, c .before .loop .inv .small)
+mul-h c = omega arith
 
 shared-slice-read-h : tie.Need-shared-slice-read-h Inv-loop μ-loop
 shared-slice-read-h c = search needs
@@ -26,7 +26,7 @@ cast-h : tie.Need-cast-h Inv-loop μ-loop
 cast-h c = omega (arith, c .shared-slice-known .given (c .before .before .loop .i))
 
 add-h : tie.Need-add-h Inv-loop μ-loop
-add-h c = omega (arith, c .before .before .loop .inv .small, c .shared-slice-known .given (c .before .before .loop .i))
+add-h c = omega (arith, c .shared-slice-known .given (c .before .before .loop .i))
 
 add-i : tie.Need-add-i Inv-loop μ-loop
 add-i c = search needs
@@ -35,10 +35,10 @@ loop-less : tie.Need-loop-less Inv-loop μ-loop
 loop-less c = search needs
 
 loop-again : tie.Need-loop-again Inv-loop μ-loop
-loop-again c = laws.hashing-next (c .before .before .loop .inv) (c .before .loop-test .taken)
+loop-again c = search laws.hashing-next
 
 returns : tie.Need-returns Inv-loop μ-loop
-returns c = laws.hashing-end (c .before .loop .inv) (c .loop-test .left)
+returns c = search laws.hashing-end
 
 pub hash-spec : {M : Type 1} → statement M
 hash-spec =

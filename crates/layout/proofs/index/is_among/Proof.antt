@@ -58,39 +58,35 @@ loop-holds c =
     }
 
 is-entry-requires : tie.Need-is-entry-requires Inv-loop μ-loop
-is-entry-requires c κs = c .before .loop .inv .small
+is-entry-requires c κs = search needs
 
 returns : tie.Need-returns Inv-loop μ-loop
-returns c =
-    λ words x. laws.searching-found (turn (c .before) .loop .inv .search words x) (c .before .before .loop-test .taken) (here (c .before))
-    (c .if1 .taken)
+returns c = let p = c .before in λ words x. laws.searching-found (turn p .loop .inv .search words x) (p .before .loop-test .taken) (here p) (c .if1 .taken)
 
 mul-wide-2 : tie.Need-mul-wide-2 Inv-loop μ-loop
-mul-wide-2 c = omega (arith, turn (c .before) .loop .inv .small)
+mul-wide-2 c = omega arith
 
 add-wide : tie.Need-add-wide Inv-loop μ-loop
-add-wide c = omega (arith, turn (c .before) .loop .inv .small)
+add-wide c = omega arith
 
 mul-wide-3 : tie.Need-mul-wide-3 Inv-loop μ-loop
-mul-wide-3 c = omega (arith, turn (c .before) .loop .inv .small)
+mul-wide-3 c = omega arith
 
 element-copy-out-wide-2 : tie.Need-element-copy-out-wide-2 Inv-loop μ-loop
-element-copy-out-wide-2 c = omega (arith, turn (c .before) .loop .inv .small)
+element-copy-out-wide-2 c = omega arith
 
 wide-requires-2 : tie.Need-wide-requires-2 Inv-loop μ-loop
 wide-requires-2 c κs = search needs
 
 loop-less : tie.Need-loop-less Inv-loop μ-loop
-loop-less c = omega (arith, c .wide2 .ensures, falls (c .before .before .before))
+loop-less c = omega (arith, falls (c .before .before .before))
 
 loop-again : tie.Need-loop-again Inv-loop μ-loop
-loop-again c =
-    let p = c .before .before .before in
+loop-again c = let q = c .before .before in let p = q .before in
     record {
       small = omega (arith, c .wide2 .ensures, falls p, turn p .loop .inv .small);
       search =
-          λ words x. laws.searching-next (turn p .loop .inv .search words x) (p .before .loop-test .taken) (here p) (c .before .before .if1 .left)
-          (c .wide2 .ensures);
+          λ words x. laws.searching-next (turn p .loop .inv .search words x) (p .before .loop-test .taken) (here p) (q .if1 .left) (c .wide2 .ensures);
     }
 
 returns-2 : tie.Need-returns-2 Inv-loop μ-loop

@@ -24,7 +24,7 @@ wide-requires : tie.Need-wide-requires
 wide-requires c κs = search needs
 
 returns : tie.Need-returns
-returns c = λ w p e f. laws.entry-other _ e f (c .before .wide .ensures) (c .if1 .taken)
+returns c = search laws.entry-other
 
 add-wide-2 : tie.Need-add-wide-2
 add-wide-2 c = search needs
@@ -57,9 +57,8 @@ equal-requires : tie.Need-equal-requires
 equal-requires c κs = search needs
 
 returns-2 : tie.Need-returns-2
-returns-2 c =
-    λ w p e f.
-    c .equal .ensures ∙ laws.entry-same _ e (c .before .before .before .before .wide2 .ensures) (c .before .before .wide3 .ensures) (c .before .part .ensures)
+returns-2 c = let q = c .before in let r = q .before in λ w p e f. c .equal .ensures
+    ∙ laws.entry-same _ e (r .before .before .wide2 .ensures) (r .wide3 .ensures) (q .part .ensures)
 
 pub is-entry-spec : {M : Type 1} → statement M
 is-entry-spec =

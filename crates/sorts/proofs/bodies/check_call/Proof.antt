@@ -1,7 +1,7 @@
 -- `check_call`: 9 before 11, then the signature's result.
 use borrow.Author.Needs.{needs}
 use Prim.Native.Nat.{_≤_}
-use mathlib.Core.Path.{_≡_, ap, _∙_}
+use mathlib.Core.Path.{_≡_, ap}
 use lib.ListN.{length, drop}
 use Rattle.sorts.specs.TemplateBytes.{templatesFault}
 use Rattle.sorts.specs.ByBytes.{context}
@@ -70,9 +70,7 @@ same-length : tie.Need-same-length
 same-length c = search needs
 
 returns-2 : tie.Need-returns-2
-returns-2 c =
-    laws.call-unfit _ _ _ _ (signed (tested (c .before)) .before .before .head-of .ensures) (signed (tested (c .before)) .before .if1 .left)
-    (signed (tested (c .before)) .signature-at .ensures) (fault (tested (c .before))) (c .if2 .taken)
+returns-2 c = search (laws.call-unfit, fault (tested (c .before)))
 
 byte-requires : tie.Need-byte-requires
 byte-requires c κs = search needs
@@ -81,10 +79,7 @@ same-length-2 : tie.Need-same-length-2
 same-length-2 c = search needs
 
 returns-3 : tie.Need-returns-3
-returns-3 c =
-    laws.call-fit _ _ _ _ (signed (tested (c .before .before)) .before .before .head-of .ensures)
-    (signed (tested (c .before .before)) .before .if1 .left) (signed (tested (c .before .before)) .signature-at .ensures)
-    (fault (tested (c .before .before))) (c .before .if2 .left) (c .byte .ensures)
+returns-3 c = search (laws.call-fit, fault (tested (c .before .before)))
 
 pub check-call-spec : {M : Type 1} → statement M
 check-call-spec =

@@ -1,6 +1,6 @@
 -- `check_item`: by the item's kind.
 use borrow.Author.Needs.{needs}
-use mathlib.Core.Path.{ap, _∙_}
+use mathlib.Core.Path.{ap}
 use lib.ListN.{length, drop, length-take}
 use Rattle.sorts.proofs.BodyLaws as laws
 use native.Mathlib.Omega.{arith}
@@ -31,7 +31,8 @@ part-requires : tie.Need-part-requires
 part-requires c κs = search needs
 
 check-call-requires : tie.Need-check-call-requires
-check-call-requires c κs = omega (arith, ap length (c .part .ensures), length-take (length (start (c .before .before .before) .args .v .now)) (drop 2 (start (c .before .before .before) .args .v .now)))
+check-call-requires c κs = let p = c .before .before .before in
+    omega (arith, ap length (c .part .ensures), length-take (length (start p .args .v .now)) (drop 2 (start p .args .v .now)))
 
 returns-2 : tie.Need-returns-2
 returns-2 c = search laws.item-unknown
@@ -46,9 +47,8 @@ same-length : tie.Need-same-length
 same-length c = search needs
 
 returns-5 : tie.Need-returns-5
-returns-5 c =
-    c .before .before .check-call .ensures ∙ laws.item-call _ _ _ (called c .before .before .byte .ensures) (called c .before .byte2 .ensures)
-    (called c .match .keys4) (c .before .before .before .part .ensures)
+returns-5 c = cc (laws.item-call _ _ _ (called c .before .before .byte .ensures) (called c .before .byte2 .ensures) (called c .match .keys4)
+    (c .before .before .before .part .ensures))
 
 returns-6 : tie.Need-returns-6
 returns-6 c = search laws.item-other

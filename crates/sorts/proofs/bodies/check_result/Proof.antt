@@ -18,7 +18,7 @@ byte-requires : tie.Need-byte-requires
 byte-requires c κs = search needs
 
 slice-write-stack : tie.Need-slice-write-stack
-slice-write-stack c = omega (arith, start c .pre)
+slice-write-stack c = omega arith
 
 part-requires : tie.Need-part-requires
 part-requires c κs = search needs
@@ -30,12 +30,9 @@ same-length : tie.Need-same-length
 same-length c = c .before .before .fault-in .kept .0 ∙ simp length-set
 
 returns : tie.Need-returns
-returns c =
-    let p = c .before .before .before .before .before in
-    let a = start p .args in
+returns c = let q = c .before .before in let r = q .before .before in let p = r .before in let a = start p .args in
     laws.result-is (a .table .now) (a .known) [] (a .sorts .now) (a .v .now) (a .stack .now) (p .before .signature-at .ensures) (p .byte .ensures)
-    (omega (arith, start p .pre))
-    (cc (c .before .before .fault-in .ensures, c .before .before .before .before .part .ensures))
+    (omega (arith, start p .pre)) (cc (q .fault-in .ensures, r .part .ensures))
 
 pub check-result-spec : {M : Type 1} → statement M
 check-result-spec =

@@ -1,7 +1,6 @@
 -- `load_params`: what is copied is the front of the parameters.
 use borrow.Author.Needs.{needs}
 use Prim.Native.Nat.{_-_}
-use mathlib.Core.Path.{refl}
 use native.Mathlib.Omega.{arith}
 use lib.ListN.{length}
 use Rattle.sorts.proofs.BodyLaws as laws

@@ -1,6 +1,5 @@
 -- `open_params`: the parameters from the last to the first.
 use borrow.Author.Needs.{needs}
-use mathlib.Core.Path.{refl}
 use native.Mathlib.Omega.{arith}
 use Rattle.sorts.proofs.BodyLaws as laws
 use Rattle.sorts.proofs.bodies.open_params.Statement.{statement}

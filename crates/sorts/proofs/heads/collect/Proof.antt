@@ -1,6 +1,6 @@
 -- `collect`: the fields left give what all of them give.
 use borrow.Author.Needs.{needs}
-use Prim.Native.Nat.{ℕ, _+_, _-_, _≤_}
+use Prim.Native.Nat.{_+_, _-_, _≤_}
 use mathlib.Core.Path.{_≡_, sym, _∙_}
 use lib.ListN.{length, drop}
 use Rattle.grammar.specs.declared.Front.the-variants.{Field}
@@ -50,7 +50,7 @@ same-length : tie.Need-same-length Inv-loop μ-loop
 same-length c = search needs
 
 returns : tie.Need-returns Inv-loop μ-loop
-returns c = laws.collecting-nothing (c .before .before .before .loop .inv) (sym (c .enum-told .given .1) ∙ c .before .before .front-at .ensures)
+returns c = search (laws.collecting-nothing, sym (c .enum-told .given .1) ∙ c .before .before .front-at .ensures)
 
 enum-told-2 : tie.Need-enum-told-2 Inv-loop μ-loop
 enum-told-2 c = search needs
@@ -59,7 +59,7 @@ same-length-2 : tie.Need-same-length-2 Inv-loop μ-loop
 same-length-2 c = search needs
 
 returns-2 : tie.Need-returns-2 Inv-loop μ-loop
-returns-2 c = laws.collecting-short (c .before .before .before .loop .inv) (sym (c .enum-told2 .given .1) ∙ c .before .before .front-at .ensures)
+returns-2 c = search (laws.collecting-short, sym (c .enum-told2 .given .1) ∙ c .before .before .front-at .ensures)
 
 enum-known-front : tie.Need-enum-known-front Inv-loop μ-loop
 enum-known-front c = search needs
@@ -74,7 +74,7 @@ same-length-3 : tie.Need-same-length-3 Inv-loop μ-loop
 same-length-3 c = search needs
 
 returns-3 : tie.Need-returns-3 Inv-loop μ-loop
-returns-3 c = laws.collecting-ends (turn (c .before) .loop .inv) (stands (c .before)) (c .if1 .taken)
+returns-3 c = search (laws.collecting-ends, stands (c .before))
 
 define-requires : tie.Need-define-requires Inv-loop μ-loop
 define-requires c κs = omega (arith, inside (c .before .before))
@@ -86,18 +86,13 @@ same-length-4 : tie.Need-same-length-4 Inv-loop μ-loop
 same-length-4 c = search needs
 
 returns-4 : tie.Need-returns-4 Inv-loop μ-loop
-returns-4 c =
-    laws.collecting-fault (turn (field (defined (c .before .before))) .loop .inv) (stands (field (defined (c .before .before))))
-    (defined (c .before .before) .before .before .if1 .left) (defined (c .before .before) .define .ensures) (c .refused .ensures)
-    (c .before .if2 .taken)
+returns-4 c = search (laws.collecting-fault, stands (field (defined (c .before .before))))
 
 loop-less : tie.Need-loop-less Inv-loop μ-loop
 loop-less c = omega (arith, inside (field (defined (c .before))))
 
 loop-again : tie.Need-loop-again Inv-loop μ-loop
-loop-again c =
-    laws.collecting-next (turn (field (defined (c .before))) .loop .inv) (stands (field (defined (c .before))))
-    (defined (c .before) .before .before .if1 .left) (defined (c .before) .define .ensures) (defined (c .before) .define .kept .0) (c .if2 .left)
+loop-again c = search (laws.collecting-next, stands (field (defined (c .before))))
 
 pub collect-spec : {M : Type 1} → statement M
 collect-spec =

@@ -5,10 +5,6 @@ use Rattle.sorts.proofs.HeadLaws as laws
 use Rattle.sorts.proofs.heads.define.Statement.{statement}
 use Rattle.sorts.proofs.heads.define.Tie as tie
 
--- the head is not refused
-abbrev clean : tie.After-wide → tie.Else2
-clean p = p .before .before
-
 returns : tie.Need-returns
 returns c = laws.head-none _ _ _ _ _ (c .if1 .taken)
 
@@ -43,17 +39,13 @@ same-length-2 : tie.Need-same-length-2
 same-length-2 c = search needs
 
 returns-3 : tie.Need-returns-3
-returns-3 c =
-    laws.head-put _ _ _ _ _ (clean (c .before) .before .before .before .if1 .left) (clean (c .before) .before .fault-of .ensures)
-    (clean (c .before) .if2 .left) (c .before .wide .ensures ∙ c .before .before .byte .ensures)
+returns-3 c = search (laws.head-put, c .before .wide .ensures ∙ c .before .before .byte .ensures)
 
 same-length-3 : tie.Need-same-length-3
 same-length-3 c = search needs
 
 returns-4 : tie.Need-returns-4
-returns-4 c =
-    laws.head-left _ _ _ _ _ (clean (c .before) .before .before .before .if1 .left) (clean (c .before) .before .fault-of .ensures)
-    (clean (c .before) .if2 .left) (c .before .wide .ensures ∙ c .before .before .byte .ensures) (c .if3 .left)
+returns-4 c = search (laws.head-left, c .before .wide .ensures ∙ c .before .before .byte .ensures)
 
 pub define-spec : {M : Type 1} → statement M
 define-spec =

@@ -1,7 +1,7 @@
 -- `signature_at`: two bytes after the head's first two, up to the length that it states.
 use borrow.Author.Needs.{needs}
 use mathlib.Core.Path.{_≡_, _∙_}
-use Prim.Native.Nat.{ℕ, _+_}
+use Prim.Native.Nat.{_+_}
 use lib.ListN.{getD}
 use Rattle.sorts.proofs.HeadLaws as laws
 use Rattle.sorts.proofs.heads.signature_at.Statement.{statement}
@@ -22,7 +22,7 @@ part-requires : tie.Need-part-requires
 part-requires c κs = search needs
 
 returns : tie.Need-returns
-returns c = c .part .ensures ∙ laws.signature-past _ _ (c .before .if1 .taken)
+returns c = cc (laws.signature-past _ _ (c .before .if1 .taken))
 
 add-byte : tie.Need-add-byte
 add-byte c = search needs
@@ -55,7 +55,7 @@ part-requires-2 : tie.Need-part-requires-2
 part-requires-2 c κs = search needs
 
 returns-2 : tie.Need-returns-2
-returns-2 c = c .part2 .ensures ∙ laws.signature-none _ _ (high (c .before .before)) (low (c .before .before)) (c .before .if2 .taken)
+returns-2 c = cc (laws.signature-none _ _ (high (c .before .before)) (low (c .before .before)) (c .before .if2 .taken))
 
 add-part-2 : tie.Need-add-part-2
 add-part-2 c = search needs
@@ -64,7 +64,7 @@ part-requires-3 : tie.Need-part-requires-3
 part-requires-3 c κs = search needs
 
 returns-3 : tie.Need-returns-3
-returns-3 c = c .part3 .ensures ∙ laws.signature-some _ _ (high (c .before .before .before)) (low (c .before .before .before)) (c .before .if3 .taken)
+returns-3 c = cc (laws.signature-some _ _ (high (c .before .before .before)) (low (c .before .before .before)) (c .before .if3 .taken))
 
 add-part-3 : tie.Need-add-part-3
 add-part-3 c = search needs
@@ -73,7 +73,7 @@ part-requires-4 : tie.Need-part-requires-4
 part-requires-4 c κs = search needs
 
 returns-4 : tie.Need-returns-4
-returns-4 c = c .part4 .ensures ∙ laws.signature-most _ _ (high (c .before .before .before)) (low (c .before .before .before)) (c .before .if3 .left)
+returns-4 c = cc (laws.signature-most _ _ (high (c .before .before .before)) (low (c .before .before .before)) (c .before .if3 .left))
 
 pub signature-at-spec : {M : Type 1} → statement M
 signature-at-spec =

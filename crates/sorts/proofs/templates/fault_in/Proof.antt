@@ -49,9 +49,8 @@ loop-less : tie.Need-loop-less Inv-loop μ-loop
 loop-less c = search needs
 
 loop-again : tie.Need-loop-again Inv-loop μ-loop
-loop-again c =
-    laws.testing-next (turn (read c) .before .loop .inv) (turn (read c) .loop-test .taken) refl (read c .wide .ensures)
-    (c .before .before .before .before .if1 .left) (c .before .before .fill .kept .0) (c .before .before .fill .ensures)
+loop-again c = let p = c .before .before in laws.testing-next (turn (read c) .before .loop .inv) (turn (read c) .loop-test .taken) refl
+    (read c .wide .ensures) (p .before .before .if1 .left) (p .fill .kept .0) (p .fill .ensures)
 
 same-length-2 : tie.Need-same-length-2 Inv-loop μ-loop
 same-length-2 c = search needs

@@ -11,9 +11,6 @@ use Rattle.sorts.proofs.templates.fill.Tie as tie
 abbrev start : tie.Else2 → tie.Start
 start c = c .before .before .before .before
 
-abbrev unfit : tie.Then3 → tie.Else2
-unfit c = c .before .before .before .before
-
 abbrev free : tie.Else3 → tie.Else2
 free c = c .before .before .before .before
 
@@ -36,23 +33,19 @@ fits-requires : tie.Need-fits-requires
 fits-requires c κs = search needs
 
 returns-3 : tie.Need-returns-3
-returns-3 c =
-    laws.fill-unfit (unfit c .before .if1 .left) (unfit c .if2 .left) (c .before .before .head-sort .ensures)
-    (sym (c .before .fits2 .ensures) ∙ not-true _ (c .if3 .taken))
+returns-3 c = search (laws.fill-unfit, sym (c .before .fits2 .ensures) ∙ not-true _ (c .if3 .taken))
 
 open-places-requires : tie.Need-open-places-requires
 open-places-requires c κs = omega arith
 
 add-result : tie.Need-add-result
-add-result c = omega (arith, laws.params-small (start (free (fitted c)) .args .b), start (free (fitted c)) .pre)
+add-result c = omega (arith, laws.params-small (start (free (fitted c)) .args .b))
 
 same-length : tie.Need-same-length
 same-length c = search needs
 
 returns-4 : tie.Need-returns-4
-returns-4 c =
-    laws.fill-fits (free (fitted c) .before .if1 .left) (free (fitted c) .if2 .left) (fitted c .before .before .head-sort .ensures)
-    (sym (fitted c .before .fits2 .ensures) ∙ not-false _ (fitted c .if3 .left)) (c .before .before .open-places .ensures)
+returns-4 c = search (laws.fill-fits, sym (fitted c .before .fits2 .ensures) ∙ not-false _ (fitted c .if3 .left))
 
 pub fill-spec : {M : Type 1} → statement M
 fill-spec =

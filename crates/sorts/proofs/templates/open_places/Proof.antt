@@ -30,9 +30,8 @@ slice-write-stack : tie.Need-slice-write-stack Inv-loop μ-loop
 slice-write-stack c = search laws.opening-room
 
 add-top : tie.Need-add-top Inv-loop μ-loop
-add-top c =
-    omega
-    (arith, laws.opening-room (c .before .before .before .before .before .before .pre) (c .before .before .loop .inv) (c .before .loop-test .taken))
+add-top c = let p = c .before in let q = p .before in let r = q .before .before .before .before in
+    omega (arith, laws.opening-room (r .pre) (q .loop .inv) (p .loop-test .taken))
 
 loop-less : tie.Need-loop-less Inv-loop μ-loop
 loop-less c = search needs
