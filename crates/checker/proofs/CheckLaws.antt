@@ -1,16 +1,15 @@
 -- The check of a table from what the layers below answer, for the code.
 use Prim.Native.Nat.{ℕ}
 use mathlib.Core.Path.{_≡_, refl, sym, _∙_, ap}
-use mathlib.Core.List.{List, []}
+use mathlib.Core.List.{List}
 use Rattle.answers.specs.declared.Refusal.{Refusal}
 use Rattle.answers.specs.declared.Verdict.{Verdict}
 use Rattle.answers.specs.declared.Verdict.the-variants.{Passed, Refused}
-use Rattle.answers.specs.Checked.{Checked, ok, bad, _>>=_, _>>_, verdict}
+use Rattle.answers.specs.Checked.{Checked, ok, bad, _>>_, verdict}
 use Rattle.grammar.specs.Table.{Table}
-use Rattle.grammar.specs.Fields.{fieldsOf}
 use Rattle.grammar.specs.Encode.{encode}
 use Rattle.layout.specs.Layout.{layout}
-use Rattle.layout.specs.Decode.{tableOf, build, decode}
+use Rattle.layout.specs.Decode.{decode}
 use Rattle.layout.specs.Within.{Within}
 use Rattle.layout.proofs.Split.{Bytes}
 use Rattle.layout.proofs.Inverse.{layout-encoded, decode-encoded}
@@ -18,15 +17,15 @@ use Rattle.sorts.specs.CheckSorts.{checkSorts}
 use Rattle.sorts.specs.ByBytes.{sortsOf}
 use Rattle.sorts.proofs.SortTheorems.{bytes-checked}
 use Rattle.firsts.specs.First.{checkFirsts}
-use Rattle.productions.specs.Index.{normalizedBy, placesIn, placesOf, productionsAt}
+use Rattle.productions.specs.Index.{placesIn, placesOf}
 use Rattle.productions.specs.IndexCalls.{Index, FitsIndex}
 use Rattle.productions.specs.Room.{overwritten}
 use Rattle.productions.proofs.FewAlternatives.{few-alternatives}
 use Rattle.productions.proofs.Places.{productions-at, whole-places}
-use Rattle.firsts.specs.Room.{productionsIn, grammarRoom, tableRoom, WholeIndex, FirstsChecked}
+use Rattle.firsts.specs.Room.{productionsIn, tableRoom, WholeIndex, FirstsChecked}
 use Rattle.productions.proofs.NormalizedByFields.{normalized-by}
 use Rattle.checker.specs.Check.{passedTable, check}
-use Rattle.checker.specs.CheckedInto.{roomBy, roomAfter, CheckedInto}
+use Rattle.checker.specs.CheckedInto.{roomAfter, CheckedInto}
 use Rattle.checker.specs.Passes.{grammarOf}
 use Rattle.checker.proofs.Passing.{never, refused-by-layout, refused-by-sorts}
 
@@ -47,14 +46,14 @@ module _ (bs : List ℕ) where
   pub refused-layout : (r : Refusal) → verdict (layout bs) ≡ Refused r → check bs ≡ Refused r
   unfolding decode
   refused-layout r e =
-      refused-by-layout bs r (ap (λ c. c >> ok (tableOf (build (fieldsOf bs)))) (refused-bad (layout bs) r e))
+      refused-by-layout bs r (cc (refused-bad (layout bs) r e))
 
   pub into-layout : (r : Refusal) → verdict (layout bs) ≡ Refused r → (room : List ℕ) → CheckedInto bs room room (Refused r)
   unfolding decode roomAfter
   into-layout r e room =
       record {
         answer = sym (refused-layout r e);
-        held = sym (ap (λ c. roomBy (c >> ok (tableOf (build (fieldsOf bs))) >>= λ t. checkSorts t) bs room) (refused-bad (layout bs) r e));
+        held = cc (refused-bad (layout bs) r e);
       }
 
   module _ (bytes : Bytes bs) (laid : verdict (layout bs) ≡ Passed) where
@@ -74,9 +73,7 @@ module _ (bs : List ℕ) where
     room-left : (r : Refusal) → sortsOf bs ≡ Refused r → (room : List ℕ) → room ≡ roomAfter bs room
     unfolding roomAfter
     room-left r e room =
-        sym
-        (ap (λ d. roomBy (d >>= λ t. checkSorts t) bs room) decoded
-        ∙ ap (λ c. roomBy c bs room) (refused-bad (checkSorts (encoded .0)) r (sym sorts-here ∙ e)))
+        cc (refused-bad (checkSorts (encoded .0)) r (sym sorts-here ∙ e), decoded)
 
     pub into-sorts : (r : Refusal) → sortsOf bs ≡ Refused r → (room : List ℕ) → CheckedInto bs room room (Refused r)
     into-sorts r e room = record { answer = sym (refused-sorts r e); held = room-left r e room }
@@ -96,7 +93,7 @@ module _ (bs : List ℕ) where
 
     -- the productions of the table's bytes are its grammar
     pub indexed : productionsIn bs ≡ grammarOf (encoded .0)
-    indexed = productions-at bs ∙ ap (λ b. normalizedBy (fieldsOf b) 0 []) (encoded .1) ∙ normalized-by (encoded .0) (encoded .2)
+    indexed = cc (productions-at bs, encoded .1, normalized-by (encoded .0) (encoded .2))
 
     module _ (sorted : sortsOf bs ≡ Passed) where
       sorts-ok : checkSorts (encoded .0) ≡ ok tt
@@ -106,21 +103,18 @@ module _ (bs : List ℕ) where
       unfolding check passedTable
       by-firsts =
           let t = encoded .0 in
-          ap (λ d. verdict (d >>= λ u. checkSorts u >> checkFirsts (grammarOf u) >> ok u)) decoded
-          ∙ ap (λ c. verdict (c >> checkFirsts (grammarOf t) >> ok t)) sorts-ok
-          ∙ verdict-then (checkFirsts (grammarOf t)) t
-          ∙ ap (λ h. verdict (checkFirsts h)) (sym indexed)
+          cc (decoded, sorts-ok, verdict-then (checkFirsts (grammarOf t)) t, indexed)
 
       room-written : (room : List ℕ) → roomAfter bs room ≡ overwritten (tableRoom bs) room
       unfolding roomAfter
       room-written room =
-          ap (λ d. roomBy (d >>= λ t. checkSorts t) bs room) decoded ∙ ap (λ c. roomBy c bs room) sorts-ok
+          cc (decoded, sorts-ok)
 
       pub into-firsts : {m : ℕ} {owners starts : List ℕ} → Index (placesOf bs) 256 m owners starts → {room₀ room : List ℕ} {r : Verdict}
           → FirstsChecked bs (placesIn m owners starts) room₀ room r → CheckedInto bs room₀ room r
       unfolding tableRoom
       into-firsts i {room₀} f =
           record {
-            answer = f .answer ∙ ap (λ ps. verdict (checkFirsts (productionsAt bs ps))) (i .entries) ∙ sym by-firsts;
-            held = f .held ∙ ap (λ ps. overwritten (grammarRoom bs ps) room₀) (i .entries) ∙ sym (room-written room₀);
+            answer = cc (f .answer, i .entries, by-firsts);
+            held = cc (f .held, i .entries, room-written room₀);
           }

@@ -1,30 +1,27 @@
 -- What an expansion may take from a table that passes: the room holds its grammar.
 use Prim.Native.Nat.{ℕ}
-use mathlib.Core.Path.{_≡_, refl, _∙_, ap}
-use mathlib.Core.List.{List, []}
+use mathlib.Core.Path.{_≡_, refl}
+use mathlib.Core.List.{List}
 use native.Mathlib.Omega.{arith}
 use lib.ListN.{length, drop}
-use Rattle.answers.specs.Checked.{Checked, ok, bad, _>>=_, _>>_, verdict}
+use Rattle.answers.specs.Checked.{Checked, ok, bad, _>>_}
 use Rattle.answers.specs.declared.Verdict.{Verdict}
 use Rattle.answers.specs.declared.Verdict.the-variants.{Passed}
-use Rattle.grammar.specs.Encode.{encode}
 use Rattle.grammar.specs.Fields.{fieldsOf}
-use Rattle.grammar.specs.Lookup.{fieldsAt}
 use Rattle.layout.specs.Layout.{layout}
 use Rattle.layout.specs.Decode.{tableOf, build, decode}
 use Rattle.layout.proofs.Split.{Bytes}
 use Rattle.layout.proofs.Spelled.{each-map}
 use Rattle.layout.proofs.LayoutTheorems.{decode-exactly}
-use Rattle.sorts.specs.CheckSorts.{checkSorts}
 use Rattle.sorts.proofs.SortTheorems.{sorts-exactly}
 use Rattle.layout.specs.Within.{Each}
-use Rattle.productions.specs.Index.{Whole, placesOf, normalizedBy}
+use Rattle.productions.specs.Index.{Whole, placesOf}
 use Rattle.productions.proofs.FewAlternatives.{few-alternatives}
 use Rattle.productions.proofs.NormalizedByFields.{normalized-by}
 use Rattle.productions.proofs.Places.{productions-at, few-places, whole-places}
 use Rattle.firsts.specs.Room.{productionsIn, tableRoom, HoldsGrammar}
 use Rattle.checker.specs.Check.{check}
-use Rattle.checker.specs.CheckedInto.{roomBy, roomAfter, CheckedInto}
+use Rattle.checker.specs.CheckedInto.{roomAfter, CheckedInto}
 use Rattle.checker.specs.Passes.{grammarOf, Passes}
 use Rattle.checker.proofs.Passing.{check-exactly}
 
@@ -43,7 +40,7 @@ module _ {bs : List ℕ} (bytes : Bytes bs) (p : Passes bs) where
 
   -- The productions of its bytes are the grammar of the table.
   pub passed-grammar : productionsIn bs ≡ grammarOf (p .table)
-  passed-grammar = productions-at bs ∙ ap (λ b. normalizedBy (fieldsOf b) 0 []) (p .encoded) ∙ normalized-by (p .table) (p .within)
+  passed-grammar = cc (productions-at bs, p .encoded, normalized-by (p .table) (p .within))
 
   -- The room after its check holds its grammar, each production a whole alternative.
   pub passed-holds : {room₀ room : List ℕ} {r : Verdict} → CheckedInto bs room₀ room r → HoldsGrammar bs room
@@ -54,9 +51,7 @@ module _ {bs : List ℕ} (bytes : Bytes bs) (p : Passes bs) where
         few = few-places bs laid-out;
         rest = drop (length (tableRoom bs)) room₀;
         held =
-            c .held
-            ∙ ap (λ d. roomBy (d >>= λ t. checkSorts t) bs room₀) decoded
-            ∙ ap (λ c. roomBy c bs room₀) (sorts-exactly (p .table) (p .within) .1 (p .meets .sorted));
+            cc (c .held, decoded, sorts-exactly (p .table) (p .within) .1 (p .meets .sorted));
         whole = each-map (λ q w. w .whole) (whole-places bs laid-out);
       }
 

@@ -1,6 +1,6 @@
 -- The check of a table accepts exactly the tables that pass, and gives the first refusal otherwise.
 use Prim.Native.Nat.{ℕ, _<_}
-use mathlib.Core.Path.{_≡_, refl, sym, _∙_, ap}
+use mathlib.Core.Path.{_≡_, refl, sym, _∙_}
 use native.Mathlib.Omega.{arith}
 use mathlib.Core.Logic.{_↔_}
 use mathlib.Core.List.{List}
@@ -17,7 +17,7 @@ use Rattle.sorts.proofs.SortTheorems.{sorts-exactly}
 use Rattle.firsts.specs.First.{checkFirsts}
 use Rattle.firsts.proofs.FirstsTheorems.{passes-exactly}
 use Rattle.checker.specs.Check.{passedTable, check}
-use Rattle.checker.specs.Passes.{grammarOf, Meets, Passes}
+use Rattle.checker.specs.Passes.{grammarOf, Passes}
 
 -- the table's rules, checked in order
 abbrev rules : Table → Checked Table
@@ -42,7 +42,7 @@ module _ (bs : List ℕ) where
   accepts : (t : Table) → decode bs ≡ ok t → checkSorts t ≡ ok tt → checkFirsts (grammarOf t) ≡ ok tt → check bs ≡ Passed
   unfolding check passedTable
   accepts t e s f =
-      ap (λ d. verdict (d >>= rules)) e ∙ ap (λ c. verdict (c >> checkFirsts (grammarOf t) >> ok t)) s ∙ ap (λ c. verdict (c >> ok t)) f
+      cc
 
   module _ (bytes : (i : ℕ) → getD bs i 0 < 256) where
     passing : check bs ≡ Passed → Passes bs
@@ -74,15 +74,13 @@ module _ (bs : List ℕ) where
 
   pub refused-by-layout : (r : Refusal) → decode bs ≡ bad r → check bs ≡ Refused r
   unfolding check passedTable
-  refused-by-layout r e = ap (λ d. verdict (d >>= rules)) e
+  refused-by-layout r e = cc
 
   pub refused-by-sorts : (t : Table) (r : Refusal) → decode bs ≡ ok t → checkSorts t ≡ bad r → check bs ≡ Refused r
   unfolding check passedTable
-  refused-by-sorts t r e s = ap (λ d. verdict (d >>= rules)) e ∙ ap (λ c. verdict (c >> checkFirsts (grammarOf t) >> ok t)) s
+  refused-by-sorts t r e s = cc
 
   pub refused-by-firsts : (t : Table) (r : Refusal) → decode bs ≡ ok t → checkSorts t ≡ ok tt → checkFirsts (grammarOf t) ≡ bad r → check bs ≡ Refused r
   unfolding check passedTable
   refused-by-firsts t r e s f =
-      ap (λ d. verdict (d >>= rules)) e
-      ∙ ap (λ c. verdict (c >> checkFirsts (grammarOf t) >> ok t)) s
-      ∙ ap (λ c. verdict (c >> ok t)) f
+      cc

@@ -42,8 +42,8 @@ encode-injective = layout.encode-injective
 
 -- ------------------------------------------------------------------ 2. sorts
 
--- None of 7, 8, 9 and 11 is given to a table within the counts and ranges exactly if the judgements of 001 derive the sequence, and the root is defined, without parameters, of
--- sort Term.
+-- None of 7, 8, 9 and 11 is given to a table within the counts and ranges exactly if the judgements of 001 derive the sequence, and the root is
+-- defined, without parameters, of sort Term.
 pub sorts-exactly : (t : Table) → Within t → (checkSorts t ≡ ok tt) ↔ WellSorted t
 sorts-exactly = sorting.sorts-exactly
 

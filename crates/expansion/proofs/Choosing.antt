@@ -109,7 +109,8 @@ module _ (g : List Production) where
     picks : (p : Production) → Taken g n s p → c ≡ chosen (rule p) → Picks n s c
     picks-none : ((p : Production) → Taken g n s p → ⊥) → c ≡ unfit → Picks n s c
 
-  none-taken : {n : ℕ} {s : List Token} → Missing rule (λ p. refl) (λ r. hasKind (r .first) (kindOf s)) n (firstRule (λ r. r .nullable) n (map rule g) unfit) g
+  none-taken : {n : ℕ} {s : List Token} → Missing rule (λ p. refl) (λ r. hasKind (r .first) (kindOf s)) n
+      (firstRule (λ r. r .nullable) n (map rule g) unfit) g
       → Missing rule (λ p. refl) (λ r. r .nullable) n unfit g → (p : Production) → Taken g n s p → ⊥
   none-taken m k p (taken-opened o h) = m .none-passed p (o .member) (o .owned) (opened-first h)
   none-taken m k p (taken-nullable o h z) = k .none-passed p (o .member) (o .owned) (production-nullable-exactly g p .1 z)
@@ -122,9 +123,11 @@ module _ (g : List Production) where
     where
       go : Found rule (λ p. refl) (λ r. hasKind (r .first) (kindOf s)) n (firstRule (λ r. r .nullable) n (map rule g) unfit) g
           ⊎ Missing rule (λ p. refl) (λ r. hasKind (r .first) (kindOf s)) n (firstRule (λ r. r .nullable) n (map rule g) unfit) g
-          → Found rule (λ p. refl) (λ r. r .nullable) n unfit g ⊎ Missing rule (λ p. refl) (λ r. r .nullable) n unfit g → Picks n s (choice (ready g) n (kindOf s))
+          → Found rule (λ p. refl) (λ r. r .nullable) n unfit g ⊎ Missing rule (λ p. refl) (λ r. r .nullable) n unfit g
+          → Picks n s (choice (ready g) n (kindOf s))
       go (inl f) k =
-          picks (f .production) (taken-opened (record { member = f .member; owned = f .of; small = l }) (first-opened s (f .production) (f .passed))) (f .answer)
+          picks (f .production) (taken-opened (record { member = f .member; owned = f .of; small = l }) (first-opened s (f .production) (f .passed)))
+          (f .answer)
       go (inr m) (inl f) =
           picks (f .production)
           (taken-nullable (record { member = f .member; owned = f .of; small = l }) (λ q o h. m .none-passed q (o .member) (o .owned) (opened-first h))
@@ -136,7 +139,8 @@ module _ (g : List Production) where
   module _ (passed : checkFirsts g ≡ ok tt) where
     pub taken-one : {n : ℕ} {s : List Token} {p q : Production} → Taken g n s p → Taken g n s q → p ≡ q
     taken-one {n} {s} {p} {q} (taken-opened o h) (taken-opened k i) =
-        one-production g passed n p q o k .0 (h .kind) (h .first) (subst (First g Reads (q .items)) (sym (next-is (i .token)) ∙ next-is (h .token)) (i .first))
+        one-production g passed n p q o k .0 (h .kind) (h .first)
+        (subst (First g Reads (q .items)) (sym (next-is (i .token)) ∙ next-is (h .token)) (i .first))
     taken-one {p = p} (taken-opened o h) (taken-nullable k i z) = absurd (i p o h)
     taken-one {q = q} (taken-nullable o h z) (taken-opened k i) = absurd (h q k i)
     taken-one {n} {s} {p} {q} (taken-nullable o h z) (taken-nullable k i y) = one-production g passed n p q o k .1 z y

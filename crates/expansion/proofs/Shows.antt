@@ -1,15 +1,15 @@
 -- What a number of an expansion stands for: a row shows a term or a field list of the cells, a name's code its name, a label its
 -- spelling, a number itself. What is shown stays shown: rows below those made never change.
 use Prim.Native.Nat.{ℕ, zero, suc, _+_, _*_, _/_, _%_, _≤_, _<_}
-use mathlib.Core.Path.{_≡_, refl, sym, ap, ap₂, _∙_}
+use mathlib.Core.Path.{_≡_, refl, ap, ap₂, _∙_}
 use mathlib.Core.List.{List, [], _∷_, _++_}
 use native.Mathlib.Omega.{arith}
 use lib.ListN.{length, getD, take, drop, length-append, List·getD-append}
 use lib.Seq.{sets-eq, length-sets, length-take-le, getD-take, getD-append-add}
 use Rattle.terms.specs.Cells.{columns, column, withRow, nameBase, wordName, freshName, outsideName}
-use Rattle.terms.specs.Term.{Name, word, fresh, outside, Term, Fields, variable, function, apply, rcd, dot, cons}
+use Rattle.terms.specs.Term.{Name, word, fresh, outside, Term, Fields, variable, function, apply, rcd, dot}
 use Rattle.terms.specs.Term as Terms
-use Rattle.terms.specs.Rows.{Constructor, constructorOf, nameOf, termBy, isCons, fieldsBy, termAt, fieldsAt, mkTermFun, mkTermApp, mkTermRcd, mkTermDot, mkFieldNil, mkFieldCons, mkTermNum}
+use Rattle.terms.specs.Rows.{Constructor, constructorOf, nameOf, termBy, isCons, fieldsBy, termAt, fieldsAt}
 use Rattle.expansion.specs.Figure3.{Value, unit, var, binder, label, num, term, fields, Constructs, Bound, bound-first, bound-later}
 use Rattle.expansion.specs.Figure3 as Figure3
 
@@ -56,10 +56,12 @@ pub data Shows (spell : ℕ → List ℕ) (made : ℕ) (cells : List ℕ) : ℕ 
 
 pub data ShowAll (spell : ℕ → List ℕ) (made : ℕ) (cells : List ℕ) : List ℕ → List Value → Type 0 where
   show-none : ShowAll spell made cells [] []
-  show-more : {x : ℕ} {v : Value} {xs : List ℕ} {vs : List Value} → Shows spell made cells x v → ShowAll spell made cells xs vs → ShowAll spell made cells (x ∷ xs) (v ∷ vs)
+  show-more : {x : ℕ} {v : Value} {xs : List ℕ} {vs : List Value} → Shows spell made cells x v → ShowAll spell made cells xs vs
+      → ShowAll spell made cells (x ∷ xs) (v ∷ vs)
 
 -- what is shown stays shown
-pub shows-later : {spell : ℕ → List ℕ} {m m′ : ℕ} {cells cells′ : List ℕ} {x : ℕ} {v : Value} → Grown m cells m′ cells′ → Shows spell m cells x v → Shows spell m′ cells′ x v
+pub shows-later : {spell : ℕ → List ℕ} {m m′ : ℕ} {cells cells′ : List ℕ} {x : ℕ} {v : Value} → Grown m cells m′ cells′ → Shows spell m cells x v
+    → Shows spell m′ cells′ x v
 shows-later g shows-unit = shows-unit
 shows-later g (shows-var e) = shows-var e
 shows-later g (shows-binder e) = shows-binder e
@@ -70,16 +72,19 @@ shows-later g (shows-term {x = x} {t = t} h) =
 shows-later g (shows-fields {x = x} {f = f} h) =
     shows-fields {x = x} {f = f} (record { below = omega arith; read = λ cells″ a k l. h .read cells″ (agree-trans (g .more) (g .agree) a) k l })
 
-pub all-later : {spell : ℕ → List ℕ} {m m′ : ℕ} {cells cells′ : List ℕ} {xs : List ℕ} {vs : List Value} → Grown m cells m′ cells′ → ShowAll spell m cells xs vs → ShowAll spell m′ cells′ xs vs
+pub all-later : {spell : ℕ → List ℕ} {m m′ : ℕ} {cells cells′ : List ℕ} {xs : List ℕ} {vs : List Value} → Grown m cells m′ cells′
+    → ShowAll spell m cells xs vs → ShowAll spell m′ cells′ xs vs
 all-later g show-none = show-none
 all-later g (show-more h hs) = show-more (shows-later g h) (all-later g hs)
 
 -- one value more at the end, and the value of a variable
-pub all-and : {spell : ℕ → List ℕ} {m : ℕ} {cells : List ℕ} {xs : List ℕ} {vs : List Value} {x : ℕ} {v : Value} → ShowAll spell m cells xs vs → Shows spell m cells x v → ShowAll spell m cells (xs ++ (x ∷ [])) (vs ++ (v ∷ []))
+pub all-and : {spell : ℕ → List ℕ} {m : ℕ} {cells : List ℕ} {xs : List ℕ} {vs : List Value} {x : ℕ} {v : Value} → ShowAll spell m cells xs vs
+    → Shows spell m cells x v → ShowAll spell m cells (xs ++ (x ∷ [])) (vs ++ (v ∷ []))
 all-and show-none k = show-more k show-none
 all-and (show-more h hs) k = show-more h (all-and hs k)
 
-pub shows-bound : {spell : ℕ → List ℕ} {m : ℕ} {cells : List ℕ} {xs : List ℕ} {vs : List Value} {i : ℕ} {v : Value} → ShowAll spell m cells xs vs → Bound vs i v → Shows spell m cells (getD xs i 0) v
+pub shows-bound : {spell : ℕ → List ℕ} {m : ℕ} {cells : List ℕ} {xs : List ℕ} {vs : List Value} {i : ℕ} {v : Value} → ShowAll spell m cells xs vs
+    → Bound vs i v → Shows spell m cells (getD xs i 0) v
 shows-bound (show-more h hs) bound-first = h
 shows-bound (show-more h hs) (bound-later b) = shows-bound hs b
 
@@ -94,7 +99,7 @@ module _ (spell : ℕ → List ℕ) (n : ℕ) (small : n < nameBase) where
 
   pub word-named : nameOf spell (wordName n) ≡ word (spell n)
   unfolding nameOf
-  word-named = rw (class 1, nameOf) (ap (λ m. word (spell m)) (number-of 1))
+  word-named = rw (class 1, nameOf) (cc (number-of 1))
 
   pub fresh-named : nameOf spell (freshName n) ≡ fresh n
   unfolding nameOf
@@ -102,7 +107,7 @@ module _ (spell : ℕ → List ℕ) (n : ℕ) (small : n < nameBase) where
 
   pub outside-named : nameOf spell (outsideName n) ≡ outside (spell n)
   unfolding nameOf
-  outside-named = rw (class 3, nameOf) (rw (class 3) (ap (λ m. outside (spell m)) (number-of 3)))
+  outside-named = rw (class 3, nameOf) (rw (class 3) (cc (number-of 3)))
 
 -- ------------------------------------------------------------------ a new row
 
@@ -125,8 +130,10 @@ module _ (made : ℕ) (cells : List ℕ) (code : ℕ) (xs : List ℕ) (room : ma
   unfolding front
   split j h =
       let n : length (front ++ rowOf code xs) ≡ made * 4 + 4 = rw (length-append, row-length code xs, front-length) refl in
-      ap (λ l. getD l j 0) (sets-eq (rowOf code xs) cells (made * 4) (rw (row-length code xs) room))
-      ∙ List·getD-append (front ++ rowOf code xs) (drop (made * 4 + length (rowOf code xs)) cells) 0 j (omega arith)
+      cc (
+        sets-eq (rowOf code xs) cells (made * 4) (rw (row-length code xs) room),
+        List·getD-append (front ++ rowOf code xs) (drop (made * 4 + length (rowOf code xs)) cells) 0 j (omega arith),
+      )
 
   before-row : (j : ℕ) → j < made * 4 → getD (withRow cells made code xs) j 0 ≡ getD cells j 0
   unfolding front
@@ -135,9 +142,7 @@ module _ (made : ℕ) (cells : List ℕ) (code : ℕ) (xs : List ℕ) (room : ma
 
   in-row : (k : ℕ) → k < 4 → getD (withRow cells made code xs) (made * 4 + k) 0 ≡ getD (rowOf code xs) k 0
   in-row k h =
-      split (made * 4 + k) (omega arith)
-      ∙ ap (λ n. getD (front ++ rowOf code xs) (n + k) 0) (sym front-length)
-      ∙ getD-append-add front (rowOf code xs) k 0
+      cc (split (made * 4 + k) (omega arith), front-length, getD-append-add front (rowOf code xs) k 0)
 
   pub row-grown : Grown made cells (made + 1) (withRow cells made code xs)
   row-grown = record { more = omega arith; agree = record { same = before-row }; as-many = length-sets cells (made * 4) (rowOf code xs) }
@@ -197,7 +202,11 @@ module _ (spell : ℕ → List ℕ) (made : ℕ) (cells : List ℕ) (room : made
       → fieldsBy (isCons c) spell cells′ made (λ q. termAt k spell cells′ q) (λ q. fieldsAt k spell cells′ q) ≡ f)
       → After code xs (fields f)
   row-fields {f} code xs e h =
-      shows-fields {x = made} {f = f} (record { below = omega arith; read = λ cells′ a k l. fields-of made cells code xs room spell cells′ a e (h cells′ a) k l })
+      shows-fields {x = made} {f = f} (record {
+        below = omega arith;
+        read =
+            λ cells′ a k l. fields-of made cells code xs room spell cells′ a e (h cells′ a) k l;
+      })
 
   variable-row : (x : ℕ) {y : Name} → nameOf spell x ≡ y → After 0x20 (x ∷ []) (term (variable y))
   unfolding constructorOf termBy
@@ -211,24 +220,29 @@ module _ (spell : ℕ → List ℕ) (made : ℕ) (cells : List ℕ) (room : made
   row-shows Figure3.mkTermFun (show-more (shows-binder {x = x} n) (show-more (shows-term {x = y} h) show-none)) =
       let zs : List ℕ = x ∷ y ∷ [] in
       row-term 0x21 zs refl
-      (λ cells′ a k l. ap₂ function (name-in made cells 0x21 zs room spell cells′ a 1 (omega arith) refl n) (term-in made cells 0x21 zs room spell cells′ a 2 (omega arith) refl h k l))
+      (λ cells′ a k l. ap₂ function (name-in made cells 0x21 zs room spell cells′ a 1 (omega arith) refl n)
+      (term-in made cells 0x21 zs room spell cells′ a 2 (omega arith) refl h k l))
   row-shows Figure3.mkTermApp (show-more (shows-term {x = x} h) (show-more (shows-term {x = y} h′) show-none)) =
       let zs : List ℕ = x ∷ y ∷ [] in
       row-term 0x22 zs refl
-      (λ cells′ a k l. ap₂ apply (term-in made cells 0x22 zs room spell cells′ a 1 (omega arith) refl h k l) (term-in made cells 0x22 zs room spell cells′ a 2 (omega arith) refl h′ k l))
+      (λ cells′ a k l. ap₂ apply (term-in made cells 0x22 zs room spell cells′ a 1 (omega arith) refl h k l)
+      (term-in made cells 0x22 zs room spell cells′ a 2 (omega arith) refl h′ k l))
   row-shows Figure3.mkTermRcd (show-more (shows-fields {x = x} h) show-none) =
       row-term 0x23 (x ∷ []) refl (λ cells′ a k l. ap rcd (fields-in made cells 0x23 (x ∷ []) room spell cells′ a 1 (omega arith) refl h k l))
   row-shows Figure3.mkTermDot (show-more (shows-term {x = x} h) (show-more (shows-label {x = y}) show-none)) =
       let zs : List ℕ = x ∷ y ∷ [] in
       row-term 0x24 zs refl
-      (λ cells′ a k l. ap₂ dot (term-in made cells 0x24 zs room spell cells′ a 1 (omega arith) refl h k l) (label-in made cells 0x24 zs room spell cells′ a 2 (omega arith) refl))
+      (λ cells′ a k l. ap₂ dot (term-in made cells 0x24 zs room spell cells′ a 1 (omega arith) refl h k l)
+      (label-in made cells 0x24 zs room spell cells′ a 2 (omega arith) refl))
   row-shows Figure3.mkFieldNil show-none = row-fields 0x25 [] refl (λ cells′ a k l. refl)
   row-shows Figure3.mkFieldCons (show-more (shows-label {x = x}) (show-more (shows-term {x = y} {t = t} h) (show-more (shows-fields {x = z} h′) show-none))) =
       let zs : List ℕ = x ∷ y ∷ z ∷ [] in
       row-fields 0x26 zs refl
       (λ cells′ a k l.
-      ap₂ (λ s u. cons s u (fieldsAt k spell cells′ (column cells′ made 3))) (label-in made cells 0x26 zs room spell cells′ a 1 (omega arith) refl)
-      (term-in made cells 0x26 zs room spell cells′ a 2 (omega arith) refl h k l)
-      ∙ ap (cons (spell x) t) (fields-in made cells 0x26 zs room spell cells′ a 3 (omega arith) refl h′ k l))
+      cc (
+        label-in made cells 0x26 zs room spell cells′ a 1 (omega arith) refl,
+        term-in made cells 0x26 zs room spell cells′ a 2 (omega arith) refl h k l,
+        fields-in made cells 0x26 zs room spell cells′ a 3 (omega arith) refl h′ k l,
+      ))
   row-shows Figure3.mkTermNum (show-more (shows-num {x = x}) show-none) =
       row-term 0x27 (x ∷ []) refl (λ cells′ a k l. ap Terms.number (at-column made cells 0x27 (x ∷ []) room spell cells′ a 1 (omega arith)))

@@ -1,6 +1,6 @@
 -- Figure 3 derives at most one value: with 01's choice, no formula has two readings.
 use Prim.Native.Nat.{ℕ}
-use mathlib.Core.Path.{_≡_, refl, sym, ap, subst, subst₂, subst₃, _∙_}
+use mathlib.Core.Path.{_≡_, refl, sym, subst₂, subst₃}
 use mathlib.Core.Bool.{Bool, true, false, true≢false}
 use mathlib.Core.List.{List, [], _∷_, _++_}
 use Rattle.answers.specs.Checked.{ok}
@@ -10,7 +10,9 @@ use Rattle.scanner.specs.declared.Token.{Token}
 use Rattle.productions.specs.Normal.{Production}
 use Rattle.firsts.specs.First.{checkFirsts}
 use Rattle.terms.specs.Term.{Name, Term}
-use Rattle.expansion.specs.Figure3.{Value, term, Constructs, Bound, bound-first, bound-later, Gives, by-variable, by-global, by-label, by-constructor, GiveAll, give-none, give-more, WordAs, as-var, as-binder, as-label, ReadsAs, by-keyword, by-ide, by-number, by-local, Derives, by-end, by-terminal, by-call, Parses}
+use Rattle.expansion.specs.Figure3.{Value, term, Constructs, Bound, bound-first, bound-later, Gives, by-variable, by-global, by-label, by-constructor}
+use Rattle.expansion.specs.Figure3.{GiveAll, give-none, give-more, WordAs, as-var, as-binder, as-label, ReadsAs, by-keyword, by-ide, by-number}
+use Rattle.expansion.specs.Figure3.{by-local, Derives, by-end, by-terminal, by-call, Parses}
 use Rattle.expansion.specs.Figure3 as Figure3
 use Rattle.expansion.proofs.Choosing.{taken-one}
 
@@ -37,11 +39,11 @@ module _ {spell : ℕ → List ℕ} {M : List Value} where
     gives-one (Table.variable i) (by-variable b) (by-variable c) = bound-one b c
     gives-one (Table.outside n) by-global by-global = refl
     gives-one (Table.outsideLabel n) by-label by-label = refl
-    gives-one (Table.make c ts) {w = w} (by-constructor gs k) (by-constructor hs l) = constructs-one k (subst (λ vs. Constructs c vs w) (sym (all-one ts gs hs)) l)
+    gives-one (Table.make c ts) {w = w} (by-constructor gs k) (by-constructor hs l) = constructs-one k (rw (← (all-one ts gs hs)) at l)
 
     all-one : (ts : Templates) {vs ws : List Value} → GiveAll spell M ts vs → GiveAll spell M ts ws → vs ≡ ws
     all-one none give-none give-none = refl
-    all-one (more t ts) (give-more {v = v} g gs) (give-more {vs = ws} h hs) = ap (λ us. v ∷ us) (all-one ts gs hs) ∙ ap (λ u. u ∷ ws) (gives-one t g h)
+    all-one (more t ts) (give-more {v = v} g gs) (give-more {vs = ws} h hs) = cc (all-one ts gs hs, gives-one t g h)
 
 -- ------------------------------------------------------------------ terminals
 
@@ -53,7 +55,8 @@ isTerminal Table.number = true
 isTerminal Table.local = true
 isTerminal (Table.call n ts) = false
 
-terminal-item : {g : List Production} {spell : ℕ → List ℕ} {s s′ : List Token} {i i′ : ℕ} {p : Item} {v : Value} → ReadsAs g spell s i p s′ i′ v → true ≡ isTerminal p
+terminal-item : {g : List Production} {spell : ℕ → List ℕ} {s s′ : List Token} {i i′ : ℕ} {p : Item} {v : Value} → ReadsAs g spell s i p s′ i′ v → true
+    ≡ isTerminal p
 terminal-item (by-keyword e) = refl
 terminal-item (by-ide e w) = refl
 terminal-item (by-number e) = refl
@@ -64,7 +67,8 @@ word-one as-var as-var = refl
 word-one as-binder as-binder = refl
 word-one as-label as-label = refl
 
-terminal-one : {g : List Production} {spell : ℕ → List ℕ} {s s₁ s₂ : List Token} {i i₁ i₂ : ℕ} {p : Item} {v w : Value} → ReadsAs g spell s i p s₁ i₁ v → ReadsAs g spell s i p s₂ i₂ w
+terminal-one : {g : List Production} {spell : ℕ → List ℕ} {s s₁ s₂ : List Token} {i i₁ i₂ : ℕ} {p : Item} {v w : Value} → ReadsAs g spell s i p s₁ i₁ v
+    → ReadsAs g spell s i p s₂ i₂ w
     → (v ≡ w) × (s₁ ≡ s₂) × (i₁ ≡ i₂)
 terminal-one (by-keyword e) (by-keyword f) = (refl, refl, refl)
 terminal-one (by-ide e a) (by-ide f b) = (word-one a b, refl, refl)
@@ -74,7 +78,8 @@ terminal-one by-local by-local = (refl, refl, refl)
 -- ------------------------------------------------------------------ items
 
 module _ {g : List Production} (passed : checkFirsts g ≡ ok tt) {spell : ℕ → List ℕ} where
-  pub derives-one : {M M₁ M₂ : List Value} {s s₁ s₂ : List Token} {i i₁ i₂ : ℕ} {is : List Item} → Derives g spell M s i is M₁ s₁ i₁ → Derives g spell M s i is M₂ s₂ i₂
+  pub derives-one : {M M₁ M₂ : List Value} {s s₁ s₂ : List Token} {i i₁ i₂ : ℕ} {is : List Item} → Derives g spell M s i is M₁ s₁ i₁
+      → Derives g spell M s i is M₂ s₂ i₂
       → (M₁ ≡ M₂) × (s₁ ≡ s₂) × (i₁ ≡ i₂)
   derives-one by-end by-end = (refl, refl, refl)
   derives-one {M} (by-terminal {s₁ = t} {i₁ = j} {ps = ps} {v = v} e d) (by-terminal {M′ = M₂} {s₁ = t′} {s′ = s₂} {i₁ = j′} {i′ = i₂} {v = v′} f h) =

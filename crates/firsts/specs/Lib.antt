@@ -5,6 +5,6 @@ pub mod Symbols
 pub mod Pairs
 pub mod Room
 pub mod SetCalls
+pub mod Needs
 pub mod FirstSets
 pub mod Clashes
-pub mod Needs

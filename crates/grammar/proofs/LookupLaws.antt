@@ -82,18 +82,16 @@ front-inside-by : (table : List ℕ) (at : ℕ) (empty whole : Bool)
     → leb (3 + sizeOf (drop at table)) (length (drop at table)) ≡ whole
     → Inside table at (frontOf (drop at table))
 front-inside-by table at true whole e f =
-    subst (λ (r : Front). Inside table at r) (sym (front-tests (drop at table) true whole e f))
-    (omega (arith, eqb-true (length (drop at table)) 0 e, length-drop at table))
+    rw (front-tests (drop at table) true whole e f) (omega (arith, eqb-true (length (drop at table)) 0 e, length-drop at table))
 front-inside-by table at false true e f =
-    subst (λ (r : Front). Inside table at r) (sym (front-tests (drop at table) false true e f))
+    rw (front-tests (drop at table) false true e f)
     (omega (arith, leb-true (3 + sizeOf (drop at table)) (length (drop at table)) f, not-empty-drop at table e, length-drop at table))
 front-inside-by table at false false e f =
-    subst (λ (r : Front). Inside table at r) (sym (front-tests (drop at table) false false e f))
-    (omega (arith, length-drop at table, not-empty-drop at table e))
+    rw (front-tests (drop at table) false false e f) (omega (arith, length-drop at table, not-empty-drop at table e))
 
 pub front-inside : (table : List ℕ) (at : ℕ) {r : Front} → r ≡ frontOf (drop at table) → Inside table at r
 front-inside table at e =
-    subst (λ (r : Front). Inside table at r) (sym e) (front-inside-by table at _ _ refl refl)
+    rw e (front-inside-by table at _ _ refl refl)
 
 -- ------------------------------------------------------------------ the fields from an offset on
 
@@ -104,15 +102,7 @@ fuel zero zero at rest h h′ = refl
 fuel zero (suc k′) at rest h h′ = rw (eq-eqb (length rest) 0 (omega arith), fieldsFrom) refl
 fuel (suc k) zero at rest h h′ = rw (eq-eqb (length rest) 0 (omega arith), fieldsFrom) refl
 fuel (suc k) (suc k′) at rest h h′ =
-    ap
-    (λ (fs : Fields).
-    elim (eqb (length rest) 0) [
-      | true ↦ end at
-      | false ↦
-          elim (leb (3 + sizeOf rest) (length rest))
-          [ false ↦ cut at | true ↦ next at (getD rest 0 0) (take (sizeOf rest) (drop 3 rest)) fs ]
-    ])
-    (fuel k k′ (at + (3 + sizeOf rest)) (drop (3 + sizeOf rest) rest) (omega (arith, length-drop (3 + sizeOf rest) rest))
+    cc (fuel k k′ (at + (3 + sizeOf rest)) (drop (3 + sizeOf rest) rest) (omega (arith, length-drop (3 + sizeOf rest) rest))
     (omega (arith, length-drop (3 + sizeOf rest) rest)))
 
 -- the fields from an offset on, by what stands there
@@ -251,7 +241,7 @@ module _ {table s : List ℕ} {tag most start at i : ℕ} (c : Searching table s
   -- with the spellings that are left
   rest-is : (vs : List (List ℕ)) → take (most - i) (leading tag (fieldsAt table at)) ≡ vs
       → shifted i (foundIn s vs) ≡ foundIn s (take most (leading tag (fieldsAt table start)))
-  rest-is vs e = ap (λ (l : List (List ℕ)). shifted i (foundIn s l)) (sym e) ∙ c .rest
+  rest-is vs e = cc (c .rest)
 
   none-left : take (most - i) (leading tag (fieldsAt table at)) ≡ []
       → Absent ≡ foundIn s (take most (leading tag (fieldsAt table start)))
@@ -261,29 +251,25 @@ module _ {table s : List ℕ} {tag most start at i : ℕ} (c : Searching table s
       → Absent ≡ foundIn s (take most (leading tag (fieldsAt table start)))
   searching-out r e h =
       none-left
-      (ap (λ (fs : Fields). take (most - i) (leading tag fs)) (fields-at table at e)
-      ∙ ap (take (most - i)) (leading-stop table at tag r h)
-      ∙ take-nil (most - i))
+      (cc (fields-at table at e, leading-stop table at tag r h, take-nil (most - i)))
 
   pub searching-end : most ≤ i → Absent ≡ foundIn s (take most (leading tag (fieldsAt table start)))
   searching-end h =
       let z : most - i ≡ 0 = omega arith in
-      none-left (ap (λ (k : ℕ). take k (leading tag (fieldsAt table at))) z)
+      none-left (cc)
 
   module _ (h : i < most) {t n : ℕ} (e : Field t n ≡ frontOf (drop at table)) (tagged : t ≡ tag) where
     one-left : take (most - i) (leading tag (fieldsAt table at))
         ≡ take n (drop (at + 3) table) ∷ take (most - (i + 1)) (leading tag (fieldsAt table (at + 3 + n)))
     one-left =
         let z : most - i ≡ suc (most - (i + 1)) = omega arith in
-        ap (λ (fs : Fields). take (most - i) (leading tag fs)) (fields-at table at e)
-        ∙ ap (take (most - i)) (leading-goes table at tag t _ _ tagged)
-        ∙ ap (λ (k : ℕ). take k (take n (drop (at + 3) table) ∷ leading tag (fieldsAt table (at + 3 + n)))) z
+        cc (fields-at table at e, leading-goes table at tag t _ _ tagged)
 
     -- the value as the code has it, from a start to an end
     value-is : take (at + 3 + n - (at + 3)) (drop (at + 3) table) ≡ take n (drop (at + 3) table)
     value-is =
         let z : at + 3 + n - (at + 3) ≡ n = omega arith in
-        ap (λ (k : ℕ). take k (drop (at + 3) table)) z
+        cc
 
     pub searching-found : same (take (at + 3 + n - (at + 3)) (drop (at + 3) table)) s ≡ true
         → At i ≡ foundIn s (take most (leading tag (fieldsAt table start)))
@@ -316,23 +302,20 @@ module _ {table : List ℕ} {tag at : ℕ} (c : Passing table tag at) where
   passing-next {t} {n} e h =
       record {
         rest =
-            ap (λ (k : ℕ). afterLeading tag (fieldsAt table k)) (sym (add-assoc at 3 n))
-            ∙ sym (ap (afterLeading tag) (fields-at table at e) ∙ after-goes table at tag t _ _ h)
-            ∙ c .rest;
+            cc (add-assoc at 3 n, after-goes table at tag t _ _ h, fields-at table at e, c .rest);
       }
 
 -- ------------------------------------------------------------------ the lexicon of a table
 
 pub keywords-at : (table : List ℕ) → lexiconOf table .keywords ≡ take 62 (leading 1 (fieldsAt table 0))
 unfolding lexiconOf
-keywords-at table = ap (λ (fs : Fields). take 62 (leading 1 fs)) (fields-of table)
+keywords-at table = cc (fields-of table)
 
 pub outsides-at : (table : List ℕ) (at : ℕ) → fieldsAt table at ≡ afterLeading 1 (fieldsAt table 0)
     → lexiconOf table .outsides ≡ take 64 (leading 2 (fieldsAt table at))
 unfolding lexiconOf
 outsides-at table at e =
-    ap (λ (fs : Fields). take 64 (leading 2 (afterLeading 1 fs))) (fields-of table)
-    ∙ ap (λ (fs : Fields). take 64 (leading 2 fs)) (sym e)
+    cc (fields-of table)
 
 pub few-keywords : (table : List ℕ) → length (lexiconOf table .keywords) ≤ 62
 unfolding lexiconOf
@@ -349,11 +332,11 @@ Within vs Absent = Unit {0}
 
 found-within-by : (s : List ℕ) (vs : List (List ℕ)) (b : Bool) → ltb (indexOf s vs) (length vs) ≡ b → Within vs (foundIn s vs)
 found-within-by s vs true e =
-    subst (λ (f : Found). Within vs f) (sym (found-tests s vs true e)) (ltb-true (indexOf s vs) (length vs) e)
-found-within-by s vs false e = subst (λ (f : Found). Within vs f) (sym (found-tests s vs false e)) tt
+    rw (found-tests s vs true e) (ltb-true (indexOf s vs) (length vs) e)
+found-within-by s vs false e = rw (found-tests s vs false e) tt
 
 pub found-within : (s : List ℕ) (vs : List (List ℕ)) {f : Found} → f ≡ foundIn s vs → Within vs f
-found-within s vs e = subst (λ (f : Found). Within vs f) (sym e) (found-within-by s vs _ refl)
+found-within s vs e = rw e (found-within-by s vs _ refl)
 
 -- what stands at a place that is found
 abbrev Spells : List ℕ → List (List ℕ) → Found → Type 0

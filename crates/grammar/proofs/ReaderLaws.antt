@@ -28,7 +28,7 @@ arity-at c = List·getD-map (λ (s : Signature). length (s .params)) constructor
 pub arity-low : (c : ℕ) → c < 32 → 1 ≡ arity c
 arity-low c h =
     let z : c - 32 ≡ 0 = omega arith in
-    sym (ap (λ (n : ℕ). getD arities n 0) z) ∙ arity-at c
+    cc (arity-at c)
 
 pub arity-high : (c : ℕ) → 8 ≤ c - 32 → 0 ≡ arity c
 arity-high c h = sym (getD-past arities (c - 32) 0 h) ∙ arity-at c
@@ -57,4 +57,4 @@ module _ (s : List ℕ) (at n : ℕ) where
       take-all (length s - at) (drop at s) j ∙ sym (take-all n (drop at s) k)
 
   pub part-within : take (at + n - at) (drop at s) ≡ take n (drop at s)
-  part-within = let z : at + n - at ≡ n = omega arith in ap (λ (k : ℕ). take k (drop at s)) z
+  part-within = let z : at + n - at ≡ n = omega arith in cc

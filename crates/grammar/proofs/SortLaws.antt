@@ -1,6 +1,6 @@
 -- Laws of the sorts of constructors: each of the code's tables has, at a constructor's code, what `constructor` says.
 use Prim.Native.Nat.{ℕ, _-_, _<_, _≤_}
-use mathlib.Core.Path.{_≡_, refl, sym, ap, subst}
+use mathlib.Core.Path.{_≡_, refl, sym}
 use mathlib.Core.List.{List, [], _∷_}
 use native.Mathlib.Omega.{arith}
 use lib.Dec.{leb, ltb}
@@ -13,7 +13,7 @@ use Rattle.grammar.proofs.ReaderLaws.{getD-past, arities, arity-at, ari
 
 -- a code below the first reads the first, one past the last nothing
 pub code-low : (l : List ℕ) (c : ℕ) → c < 32 → getD l 0 0 ≡ getD l (c - 32) 0
-code-low l c h = let z : 0 ≡ c - 32 = omega arith in ap (λ n. getD l n 0) z
+code-low l c h = let z : 0 ≡ c - 32 = omega arith in cc
 
 pub code-high : (l : List ℕ) (c : ℕ) → length l ≡ 8 → 8 ≤ c - 32 → 0 ≡ getD l (c - 32) 0
 code-high l c e h = sym (getD-past l (c - 32) 0 (omega arith))
@@ -39,7 +39,7 @@ pub arity-small : (c : ℕ) → arity c ≤ 3
 unfolding every
 arity-small c =
     by-test (ltb (c - 32) 8)
-    (λ e. subst (λ n. n ≤ 3) (arity-at c) (leb-true _ 3 (every-at (λ n. leb n 3) arities (c - 32) refl (ltb-true _ 8 e))))
+    (λ e. rw (← (arity-at c)) (leb-true _ 3 (every-at (λ n. leb n 3) arities (c - 32) refl (ltb-true _ 8 e))))
     (λ e. omega (arith, arity-high c (ltb-false _ 8 e)))
 
 pub arguments-end : (c k : ℕ) → 3 ≤ k → unit ≡ getD (constructor c .params) k unit
@@ -47,4 +47,4 @@ arguments-end c k h = sym (getD-past (constructor c .params) k unit (omega (arit
 
 -- argument j, where k is j
 pub argument-is : {r k j : ℕ} (c : ℕ) → k ≡ j → r ≡ getD (constructor c .params) j unit → r ≡ getD (constructor c .params) k unit
-argument-is {r} c e h = subst (λ n. r ≡ getD (constructor c .params) n unit) (sym e) h
+argument-is {r} c e h = rw e h

@@ -5,3 +5,4 @@ pub mod Fields
 pub mod Lookup
 pub mod Values
 pub mod Found
+pub mod SortTests

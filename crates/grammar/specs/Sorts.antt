@@ -1,8 +1,6 @@
 -- Sorts and constructors. Document 01, "Core and sorts"; 001, section 4.1: sorts B and signatures (B1, .., Bk)B.
 use Prim.Native.Nat.{ℕ, _-_}
-use mathlib.Core.Bool.{Bool, _&&_, _||_}
 use mathlib.Core.List.{List, [], _∷_}
-use lib.Dec.{eqb, leb}
 use lib.ListN.{length, getD}
 
 -- the seven sorts by their codes
@@ -27,18 +25,6 @@ fields = 5
 abbrev pub num : ℕ
 num = 6
 
--- a code that is a sort
-abbrev pub isSort : ℕ → Bool
-isSort s = leb s 6
-
--- a sort that an identifier may be read at
-abbrev pub isIdeSort : ℕ → Bool
-isIdeSort s = leb 1 s && leb s 3
-
--- what has sort s may stand where `place` is asked: the same sort, or a Binder for a Var
-unfoldable pub fits : ℕ → ℕ → Bool
-fits s place = eqb s place || (eqb s binder && eqb place var)
-
 -- a signature: the sorts of the parameters and of the result
 pub record Signature : Type 0 where
   pub params : List ℕ
@@ -59,10 +45,6 @@ constructors =
     ∷ gives (label ∷ term ∷ fields ∷ []) fields  -- 26 mkFieldCons
     ∷ gives (num ∷ []) term  -- 27 mkTermNum
     ∷ []
-
--- a byte that is a constructor's code
-abbrev pub isConstructor : ℕ → Bool
-isConstructor c = leb 0x20 c && leb c 0x27
 
 -- the signature of the constructor with code c
 unfoldable pub constructor : ℕ → Signature

@@ -2,7 +2,8 @@
 -- Each part is laid in front of what follows it.
 use Prim.Native.Nat.{ℕ}
 use mathlib.Core.List.{List, [], _∷_}
-use Rattle.grammar.specs.Table.{Template, Templates, variable, outside, outsideLabel, make, none, more, Item, keyword, ide, number, local, call, Mode, add, extend, update, Definition}
+use Rattle.grammar.specs.Table.{Template, Templates, variable, outside, outsideLabel, make, none, more, Item, keyword, ide, number, local, call, Mode}
+use Rattle.grammar.specs.Table.{add, extend, update, Definition}
 
 -- a field: a tag and a value
 pub record Field : Type 0 where

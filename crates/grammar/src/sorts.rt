@@ -2,7 +2,8 @@
 ghost use mathlib.Core.Path.{_≡_};
 ghost use Prim.Native.Nat.{_-_};
 ghost use lib.ListN.{getD};
-ghost use Rattle.grammar.specs.Sorts.{fits, isSort, isIdeSort, constructor, unit};
+ghost use Rattle.grammar.specs.Sorts.{constructor, unit};
+ghost use Rattle.grammar.specs.SortTests.{fits, isSort, isIdeSort};
 
 // A sort, by its code.
 pub struct Sort(pub u8);

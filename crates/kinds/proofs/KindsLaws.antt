@@ -12,7 +12,8 @@ use lib.Count.{ones, ones-cat, trailingZeros, trailing-of-zero}
 use lib.Dec.{eqb, ltb, eqb·zero-suc, eqb·suc-zero, eqb·suc-suc, lit<}
 use lib.Pow.{pow-pos, pow-lt, pow-mono, mod-pow-add}
 use borrow.Author.Tests.{lt-ltb, le-ltb, eq-eqb, ne-eqb}
-use Rattle.kinds.specs.Kinds.{hasKind, only, countBelow}
+use Rattle.kinds.specs.Kinds.{hasKind, only}
+use Rattle.kinds.specs.Counts.{countBelow}
 
 -- a number's lowest binary digit
 digit : (n : ℕ) → (n % 2 ≡ 0) ⊎ (n % 2 ≡ 1)
@@ -31,7 +32,7 @@ has-zero m = rw (div-one m) refl
 
 has-suc : (m k : ℕ) → hasKind m (suc k) ≡ hasKind (m / 2) k
 unfolding hasKind
-has-suc m k = ap (λ n. eqb (n % 2) 1) (ap (λ p. m / p) (pow-succ' 2 k) ∙ sym (div-div-eq-div-mul m 2 (2 ^ k)))
+has-suc m k = cc (pow-succ' 2 k, div-div-eq-div-mul m 2 (2 ^ k))
 
 -- ------------------------------------------------------------------ the empty set, one kind, join and meet
 
@@ -42,8 +43,7 @@ has-none k = rw (zero-div (2 ^ k)) refl
 pub has-join : (a b k : ℕ) → hasKind (bitOr a b) k ≡ (hasKind a k || hasKind b k)
 unfolding hasKind
 has-join a b k =
-    ap (λ n. eqb n 1) (ap (λ n. n % 2) (or-shr a b k) ∙ or-mod (a / 2 ^ k) (b / 2 ^ k) 1)
-    ∙ by (a / 2 ^ k % 2) (b / 2 ^ k % 2) (digit (a / 2 ^ k)) (digit (b / 2 ^ k))
+    cc (or-shr a b k, or-mod (a / 2 ^ k) (b / 2 ^ k) 1, by (a / 2 ^ k % 2) (b / 2 ^ k % 2) (digit (a / 2 ^ k)) (digit (b / 2 ^ k)))
   where
     by : (x y : ℕ) → (x ≡ 0) ⊎ (x ≡ 1) → (y ≡ 0) ⊎ (y ≡ 1) → eqb (bitOr x y) 1 ≡ (eqb x 1 || eqb y 1)
     by x y (inl e) (inl f) = rw (e, f) refl
@@ -54,8 +54,7 @@ has-join a b k =
 pub has-meet : (a b k : ℕ) → hasKind (bitAnd a b) k ≡ (hasKind a k && hasKind b k)
 unfolding hasKind
 has-meet a b k =
-    ap (λ n. eqb n 1) (ap (λ n. n % 2) (and-shr a b k) ∙ and-mod (a / 2 ^ k) (b / 2 ^ k) 1)
-    ∙ by (a / 2 ^ k % 2) (b / 2 ^ k % 2) (digit (a / 2 ^ k)) (digit (b / 2 ^ k))
+    cc (and-shr a b k, and-mod (a / 2 ^ k) (b / 2 ^ k) 1, by (a / 2 ^ k % 2) (b / 2 ^ k % 2) (digit (a / 2 ^ k)) (digit (b / 2 ^ k)))
   where
     by : (x y : ℕ) → (x ≡ 0) ⊎ (x ≡ 1) → (y ≡ 0) ⊎ (y ≡ 1) → eqb (bitAnd x y) 1 ≡ (eqb x 1 && eqb y 1)
     by x y (inl e) t = rw e refl
@@ -66,11 +65,9 @@ has-power : (j k : ℕ) → hasKind (2 ^ j) k ≡ eqb k j
 has-power zero zero = has-zero 1
 has-power zero (suc k) = has-suc 1 k ∙ has-none k ∙ sym (eqb·suc-zero k)
 has-power (suc j) zero =
-    has-zero (2 ^ suc j) ∙ ap (λ n. eqb n 1) (ap (λ n. n % 2) (pow-suc 2 j) ∙ mul-mod-left (2 ^ j) 2) ∙ sym (eqb·zero-suc j)
+    cc (has-zero (2 ^ suc j), pow-suc 2 j, mul-mod-left (2 ^ j) 2, eqb·zero-suc j)
 has-power (suc j) (suc k) =
-    has-suc (2 ^ suc j) k
-    ∙ ap (λ n. hasKind n k) (ap (λ n. n / 2) (pow-suc 2 j) ∙ mul-div-cancel (2 ^ j) (lit< tt))
-    ∙ has-power j k ∙ sym (eqb·suc-suc k j)
+    rw (has-suc (2 ^ suc j) k, pow-suc 2 j, mul-div-cancel (2 ^ j) (lit< tt), has-power j k, ← eqb·suc-suc k j) refl
 
 pub only-kind : (k : ℕ) → k < 64 → only k ≡ 2 ^ k
 unfolding only
@@ -193,15 +190,14 @@ count-left n m e = rw (e, countBelow) refl
 ones-below : (n m : ℕ) → ones (m % 2 ^ suc n) ≡ ones (m / 2 ^ n % 2) + ones (m % 2 ^ n)
 ones-below n m =
     let e : suc n ≡ 1 + n = omega arith in
-    ap (λ k. ones (m % 2 ^ k)) e ∙ ap ones (mod-pow-add m 1 n)
-    ∙ ones-cat n (m / 2 ^ n % 2) (m % 2 ^ n) (mod-lt m (pow-pos n))
+    cc (mod-pow-add m 1 n, ones-cat n (m / 2 ^ n % 2) (m % 2 ^ n) (mod-lt m (pow-pos n)))
 
 count-ones : (n m : ℕ) → countBelow n m ≡ ones (m % 2 ^ n)
 unfolding ones hasKind countBelow
 count-ones zero m = ap ones (sym (mod-one m))
 count-ones (suc n) m =
-    ⊎-elim (λ e. count-left n m (ap (λ d. eqb d 1) e) ∙ omega (arith, count-ones n m, ones-below n m, ap ones e))
-    (λ e. count-taken n m (ap (λ d. eqb d 1) e) ∙ omega (arith, count-ones n m, ones-below n m, ap ones e)) (digit (m / 2 ^ n))
+    ⊎-elim (λ e. count-left n m (cc) ∙ omega (arith, count-ones n m, ones-below n m, ap ones e))
+    (λ e. count-taken n m (cc) ∙ omega (arith, count-ones n m, ones-below n m, ap ones e)) (digit (m / 2 ^ n))
 
 -- `ones` counts the kinds
 pub ones-count : (m : ℕ) → m < 2 ^ 64 → ones m ≡ countBelow 64 m

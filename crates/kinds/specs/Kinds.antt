@@ -1,7 +1,7 @@
 -- Sets of token kinds as 64-bit numbers: bit 0 a word, bit 1 a number, bit k + 2 keyword k.
 -- Document 01, "Phrase table": a first set is what 01 calls the openings.
 -- Joining and intersecting are `bitOr` and `bitAnd` of lib.Bits, the count of kinds is `ones`, the lowest kind `trailingZeros 64`.
-use Prim.Native.Nat.{ℕ, zero, suc, _+_, _/_, _%_, _^_}
+use Prim.Native.Nat.{ℕ, _+_, _/_, _%_, _^_}
 use mathlib.Core.Bool.{Bool, true, false}
 use lib.Dec.{eqb, ltb}
 
@@ -25,8 +25,3 @@ hasKind m k = eqb (m / 2 ^ k % 2) 1
 -- the set of one kind; empty for what is no kind
 unfoldable pub only : ℕ → ℕ
 only k = elim (ltb k 64) [ true ↦ 2 ^ k | false ↦ 0 ]
-
--- the number of kinds below n in the set m
-unfoldable pub countBelow : ℕ → ℕ → ℕ
-countBelow zero m = 0
-countBelow (suc n) m = elim (hasKind m n) [ true ↦ suc (countBelow n m) | false ↦ countBelow n m ]

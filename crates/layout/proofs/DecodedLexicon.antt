@@ -1,16 +1,16 @@
 -- The keywords and outside names at the front of a table's bytes are those of the decoded table.
 use Prim.Native.Nat.{ℕ, _-_, _≤_}
-use mathlib.Core.Path.{_≡_, refl, sym, ap, ap₂, _∙_, subst⁻¹}
+use mathlib.Core.Path.{_≡_, refl, sym, ap, _∙_, subst⁻¹}
 use mathlib.Core.Bool.{true, false, or-false}
 use mathlib.Core.List.{List, [], _∷_}
 use native.Mathlib.Omega.{arith}
 use lib.Dec.{eqb, leb}
-use lib.ListN.{length, take}
+use lib.ListN.{length}
 use lib.Seq.{take-all}
 use borrow.Author.Tests.{leb-true}
 use Rattle.answers.specs.Checked.{ok}
 use Rattle.spellings.proofs.BytesLaws.{by-test}
-use Rattle.grammar.specs.Table.{Table, Lexicon}
+use Rattle.grammar.specs.Table.{Table}
 use Rattle.grammar.specs.Values.{Field, field}
 use Rattle.grammar.specs.Fields.{Fields, end, cut, next, fieldsOf}
 use Rattle.grammar.specs.Lookup.{leading, afterLeading, lexiconOf}
@@ -73,7 +73,7 @@ step-keyword at v fs before s p h =
     let early : s .last ≤ 1 = leb-true (s .last) 1 (sym (follows-keyword (s .last)) ∙ p .ordered) in
     let room = room-1 s (p .room) in
     record {
-      keywords = ap (λ ks. v ∷ ks) (h .keywords);
+      keywords = cc (h .keywords);
       outsides = h .outsides;
       keywordsOver = λ l. absurd (omega arith);
       outsidesOver = λ l. absurd (omega arith);
@@ -89,7 +89,7 @@ step-outside at v fs before s p h =
     let over = h .keywordsOver (omega arith) in
     record {
       keywords = sym over;
-      outsides = ap (λ os. v ∷ os) (ap (leading 2) (sym (after-none 1 fs (h .keywords ∙ over))) ∙ h .outsides);
+      outsides = cc (after-none 1 fs (h .keywords ∙ over), h .outsides);
       keywordsOver = λ l. over;
       outsidesOver = λ l. absurd (omega arith);
       keywordRoom = omega (arith, h .keywordRoom);
@@ -145,7 +145,7 @@ pub leading-decoded : (bs : List ℕ) (t : Table) → decode bs ≡ ok t
 leading-decoded bs t h =
     let right = decoded-layout bs t h in
     let w = spells (fieldsOf bs) [] start (layout-parts bs (right .0) .1) in
-    (w .keywords ∙ ap (λ u. u .keywords) (right .1), w .outsides ∙ ap (λ u. u .outsides) (right .1))
+    (cc (w .keywords, right .1), cc (w .outsides, right .1))
 
 -- The lexicon of bytes that are decoded as a table is the table's.
 pub lexicon-decoded : (bs : List ℕ) (t : Table) → decode bs ≡ ok t
@@ -155,6 +155,4 @@ lexicon-decoded bs t h =
     let right = decoded-layout bs t h in
     let w = spells (fieldsOf bs) [] start (layout-parts bs (right .0) .1) in
     let b = build (fieldsOf bs) in
-    ap₂ {C = Lexicon} (λ ks os. record { keywords = ks; outsides = os })
-    (ap (take 62) (w .keywords) ∙ take-all 62 (b .keywords) (w .keywordRoom) ∙ ap (λ u. u .keywords) (right .1))
-    (ap (take 64) (w .outsides) ∙ take-all 64 (b .outsides) (w .outsideRoom) ∙ ap (λ u. u .outsides) (right .1))
+    cc (w .keywords, take-all 62 (b .keywords) (w .keywordRoom), w .outsides, take-all 64 (b .outsides) (w .outsideRoom), right .1)

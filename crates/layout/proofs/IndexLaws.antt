@@ -1,15 +1,15 @@
 -- Laws of the index of spellings: what a search in it finds, and that one spelling more keeps it. Of the hash they use only that equal
 -- spellings have equal ones, and that it fits 32 bits.
-use Prim.Native.Nat.{ℕ, zero, suc, _+_, _-_, _*_, _%_, _<_, _≤_}
-use mathlib.Core.Path.{_≡_, refl, sym, ap, ap₂, subst, _∙_}
+use Prim.Native.Nat.{ℕ, zero, suc, _+_, _*_, _%_, _<_, _≤_}
+use mathlib.Core.Path.{_≡_, refl, sym, ap, subst, _∙_}
 use mathlib.Core.Bool.{Bool, true, false, _||_}
 use mathlib.Core.List.{List, [], _∷_}
 use native.Mathlib.Nat.{add-zero}
 use native.Mathlib.Omega.{arith}
-use lib.Dec.{eqb, ltb}
+use lib.Dec.{eqb}
 use lib.ListN.{length, getD, take, drop, set, replicate, length-set, length-replicate, drop-of-length-le}
 use lib.Seq.{getD-set-same, getD-set-other}
-use borrow.Author.Tests.{eqb-true, eqb-false, eq-eqb}
+use borrow.Author.Tests.{eqb-true, eqb-false}
 use Rattle.spellings.specs.Bytes.{same}
 use Rattle.spellings.proofs.BytesLaws.{by-test, differ-same}
 use Rattle.spellings.proofs.Loops.{drop-at-index}
@@ -25,7 +25,7 @@ pub repeated-among : (tag : ℕ) (v : List ℕ) (before : List Field) → isAmon
 unfolding isRepeated isAmong spelledBy
 repeated-among tag v [] = refl
 repeated-among tag v (f ∷ fs) =
-    by-test (eqb (f .tag) tag) (λ e. rw (e, spelledBy) (ap (λ t. same (f .value) v || t) (repeated-among tag v fs)))
+    by-test (eqb (f .tag) tag) (λ e. rw (e, spelledBy) (cc (repeated-among tag v fs)))
     (λ e. rw (e, spelledBy) (repeated-among tag v fs))
 
 -- ------------------------------------------------------------------ the hash
@@ -74,7 +74,7 @@ entry-other {w = w} v e f s d = sym (differ-same w v (λ q. d (s ∙ e .hashed �
 pub entry-same :
     {table room : List ℕ} {n p : ℕ} {w lent : List ℕ} (v : List ℕ) → Entered table room n w p → {from size : ℕ}
     → from ≡ getD room (entry n + 2) 0 → size ≡ getD room (entry n + 3) 0 → lent ≡ take size (drop from table) → same lent v ≡ same w v
-entry-same {table} v e f s l = ap (λ x. same x v) (l ∙ ap₂ (λ k a. take k (drop a table)) s f ∙ e .placed)
+entry-same {table} v e f s l = cc (e .placed)
 
 -- ------------------------------------------------------------------ the search
 
@@ -92,7 +92,7 @@ searching-start {table} {room} {v} {words} {h} {p} x e f =
     record {
       left = words;
       leads =
-          subst (Leads table room (hashOf v % 64) words) (sym (f ∙ ap (λ k. getD room (k % 64) 0) e)) (x .leads (hashOf v % 64) (omega arith));
+          subst (Leads table room (hashOf v % 64) words) (cc) (x .leads (hashOf v % 64) (omega arith));
       rest = refl;
     }
 
@@ -101,7 +101,7 @@ module _ (table room v : List ℕ) where
   none-among : (ws : List (List ℕ)) {p : ℕ} → Leads table room (hashOf v % 64) ws p → p ≡ 0 → isAmong v ws ≡ false
   unfolding isAmong
   none-among [] leads-none e = refl
-  none-among (w ∷ ws) (leads-past d l) e = rw (differ-same w v (λ q. d (ap (λ x. hashOf x % 64) q))) (none-among ws l e)
+  none-among (w ∷ ws) (leads-past d l) e = rw (differ-same w v (λ q. d (cc))) (none-among ws l e)
   none-among (w ∷ ws) (leads-here n l) e = absurd (omega arith)
 
   -- the spelling that p leads to, and those behind it
@@ -124,7 +124,7 @@ module _ (table room v : List ℕ) where
         onward = n .onward;
         entered = n .entered;
         leads = n .leads;
-        among = rw (differ-same w v (λ q. d (ap (λ x. hashOf x % 64) q))) (n .among);
+        among = rw (differ-same w v (λ q. d (cc))) (n .among);
       }
   next-of (w ∷ ws) (leads-here {p = p} e l) h =
       record { first = w; behind = ws; onward = p; entered = e; leads = l; among = refl }
@@ -141,19 +141,20 @@ module _ {table room v : List ℕ} {words : List (List ℕ)} {p : ℕ} (s : Sear
 
     -- the spelling here is the one
     pub searching-found : here ≡ true → true ≡ isAmong v words
+    unfolding isAmong next
     searching-found e =
         let n = next in
-        ap (λ t. t || isAmong v (n .behind)) (sym e ∙ c (n .first) (n .onward) (n .entered)) ∙ sym (n .among) ∙ s .rest
+        cc (c (n .first) (n .onward) (n .entered), n .among, s .rest)
 
     -- it is not: those behind it are left
     pub searching-next : {q : ℕ} → here ≡ false → q ≡ getD room (entry p) 0 → Searching table room v words q
+    unfolding isAmong next
     searching-next {q} e f =
         let n = next in
         record {
           left = n .behind;
           leads = subst (Leads table room (hashOf v % 64) (n .behind)) (sym (f ∙ n .entered .onward)) (n .leads);
-          rest =
-              ap (λ t. t || isAmong v (n .behind)) (sym e ∙ c (n .first) (n .onward) (n .entered)) ∙ sym (n .among) ∙ s .rest;
+          rest = cc (c (n .first) (n .onward) (n .entered), n .among, s .rest);
         }
 
 -- the search as the code makes it, for any spellings that the room has
@@ -176,14 +177,14 @@ leads-kept :
 leads-kept table room room′ b [] same-entries leads-none = leads-none
 leads-kept table room room′ b (w ∷ ws) same-entries (leads-past d l) =
     leads-past d (leads-kept table room room′ b ws (λ n i h k. same-entries n i h (omega arith)) l)
-leads-kept table room room′ b (w ∷ ws) same-entries (leads-here e l) =
+leads-kept table room room′ b (w ∷ ws) same-entries (leads-here {p = p} e l) =
     let n : ℕ = suc (length ws) in
     let at : (i : ℕ) → i < 4 → getD room′ (entry n + i) 0 ≡ getD room (entry n + i) 0 = λ i. same-entries n i (omega arith) (omega arith) in
-    leads-here
+    leads-here {ws = ws} {p = p}
     (record {
-      onward = ap (λ k. getD room′ k 0) (sym (add-zero (entry n))) ∙ at 0 (omega arith) ∙ ap (λ k. getD room k 0) (add-zero (entry n)) ∙ e .onward;
+      onward = cc (add-zero (entry n), at 0 (omega arith), e .onward);
       hashed = at 1 (omega arith) ∙ e .hashed;
-      placed = ap₂ (λ k a. take k (drop a table)) (at 3 (omega arith)) (at 2 (omega arith)) ∙ e .placed;
+      placed = cc (at 3 (omega arith), at 2 (omega arith), e .placed);
     })
     (leads-kept table room room′ b ws (λ n i h k. same-entries n i h (omega arith)) l)
 
@@ -267,11 +268,11 @@ module _ (room : List ℕ) (long : length room ≡ 320) (n h from size : ℕ) (f
   falling-more f small =
       record {
         heads = λ j l.
-            by-test (eqb j (h % 64)) (λ e. omega (arith, ap (λ k. getD (roomWith room n h from size) k 0) (eqb-true j (h % 64) e), at-head))
+            by-test (eqb j (h % 64)) (λ e. rw (eqb-true j (h % 64) e) (omega (arith, at-head)))
             (λ e.
             omega (arith, outside j (λ q. omega arith) (λ q. omega arith) (λ q. omega arith) (λ q. omega arith) (eqb-false j (h % 64) e), f .heads j l));
         links = λ m l k.
-            by-test (eqb m n) (λ e. omega (arith, ap (λ x. getD (roomWith room n h from size) (entry x) 0) (eqb-true m n e), at-onward, eqb-true m n e))
+            by-test (eqb m n) (λ e. rw (eqb-true m n e) (omega (arith, at-onward)))
             (λ e.
             let d : m ≡ n → ⊥ = eqb-false m n e in
             omega
@@ -292,27 +293,25 @@ module _ (room : List ℕ) (long : length room ≡ 320) (n h from size : ℕ) (f
             by-test (eqb j (h % 64))
             (λ q.
             let here : j ≡ h % 64 = eqb-true j (h % 64) q in
-            subst (Leads table room′ j (v ∷ words)) (sym (ap (λ k. getD room′ k 0) here ∙ at-head ∙ count))
+            subst (Leads table room′ j (v ∷ words)) (cc at-head)
             (leads-here
             (record {
-              onward = ap (λ k. getD room′ (entry k) 0) (sym count) ∙ at-onward ∙ ap (λ k. getD room k 0) (sym here);
-              hashed = ap (λ k. getD room′ (entry k + 1) 0) (sym count) ∙ at-hash ∙ e;
+              onward = cc at-onward;
+              hashed = cc at-hash;
               placed =
-                  ap₂ (λ k a. take k (drop a table)) (ap (λ k. getD room′ (entry k + 3) 0) (sym count) ∙ at-size)
-                  (ap (λ k. getD room′ (entry k + 2) 0) (sym count) ∙ at-place)
-                  ∙ p;
+                  cc (at-size, at-place);
             })
             (leads-kept table room room′ j words kept (x .leads j l))))
             (λ q.
             let other : j ≡ h % 64 → ⊥ = eqb-false j (h % 64) q in
             subst (Leads table room′ j (v ∷ words))
             (sym (outside j (λ q. omega arith) (λ q. omega arith) (λ q. omega arith) (λ q. omega arith) other))
-            (leads-past (λ z. other (sym z ∙ ap (λ k. k % 64) (sym e))) (leads-kept table room room′ j words kept (x .leads j l))));
+            (leads-past (λ z. other (cc)) (leads-kept table room room′ j words kept (x .leads j l))));
       }
 
 -- what the code stores
 pub entered-none : (room : List ℕ) {spelled : Bool} (count from : ℕ) (v : List ℕ) → spelled ≡ false → room ≡ entered room spelled count from v
-entered-none room count from v e = ap (λ t. entered room t count from v) (sym e)
+entered-none room count from v e = cc
 
 storedAt : List ℕ → ℕ → ℕ → ℕ → ℕ → ℕ → List ℕ
 storedAt room at n h from size = set (set (set (set (set room at (getD room (h % 64) 0)) (at + 1) h) (at + 2) from) (at + 3) size) (h % 64) n
@@ -328,7 +327,7 @@ pub entered-some :
 unfolding storedAt
 entered-some room count from v {h} e f =
     let at : 64 + 4 * count ≡ entry (count + 1) = omega arith in
-    ap₂ (λ a x. storedAt room a (count + 1) x from (length v)) at f ∙ ap (λ t. entered room t count from v) (sym e)
+    cc
 
 -- ------------------------------------------------------------------ one field more
 

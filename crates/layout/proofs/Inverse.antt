@@ -55,10 +55,8 @@ decode-encoded t w =
     let bs = fieldBytes (tableFields t) in
     let split = fields-of-bytes (tableFields t) in
     let right : layout bs ≡ ok tt =
-    layout-short bs (le-leb (length bs) longestTable (w .size))
-    ∙ ap (λ fs. checkFields fs [] start) split
-    ∙ table-accepted t w .from 0 in
-    ap (λ c. c >> ok (tableOf (build (fieldsOf bs)))) right ∙ ap (λ fs. ok (tableOf (build fs))) split ∙ ap ok (table-built t 0 w)
+    cc (layout-short bs (le-leb (length bs) longestTable (w .size)), table-accepted t w .from 0) in
+    cc (table-built t 0 w)
 
 -- Bytes whose layout is right are the encoding of a table within the bounds.
 pub layout-encoded : (bs : List ℕ) → Bytes bs → layout bs ≡ ok tt → (t : Table) × (bs ≡ encode t) × Within t
@@ -68,7 +66,7 @@ layout-encoded bs b h =
     let found = accepted-table (fieldsOf bs) (value-bytes bs b) (parts .1) in
     let same : bs ≡ fieldBytes (tableFields (found .0)) =
     bytes-of-fields bs b (accepted-uncut (fieldsOf bs) [] start (parts .1)) ∙ ap fieldBytes (found .1) in
-    (found .0, same, found .2 (subst (λ l. length l ≤ longestTable) same (parts .0)))
+    (found .0, same, found .2 (rw (← same) (parts .0)))
 
 pub decoded-encoding : (bs : List ℕ) → Bytes bs → (t : Table) → decode bs ≡ ok t → (bs ≡ encode t) × Within t
 decoded-encoding bs b t h =

@@ -1,6 +1,6 @@
 -- Laws of the tests on one field: values, counts, and the first test that fails.
 use Prim.Native.Nat.{ℕ, _+_, _<_, _≤_}
-use mathlib.Core.Path.{_≡_, refl, sym, ap, ap₂, _∙_}
+use mathlib.Core.Path.{_≡_, refl, sym, ap, _∙_}
 use mathlib.Core.Bool.{Bool, true, false, not, _&&_, _||_, and-eq-true-iff, and-true, or-false}
 use mathlib.Core.List.{List, _∷_}
 use native.Mathlib.Omega.{arith}
@@ -14,7 +14,7 @@ use Rattle.answers.specs.Checked.{Checked, ok, bad, need, verdict, _>>=_, _>>_}
 use Rattle.answers.specs.declared.Verdict.the-variants.{Passed, Refused}
 use Rattle.spellings.specs.Bytes.{every, isWord, isKeyword}
 use Rattle.spellings.proofs.Loops.{drop-at-index}
-use Rattle.grammar.specs.Sorts.{isSort}
+use Rattle.grammar.specs.SortTests.{isSort}
 use Rattle.grammar.specs.Values.{Field}
 use Rattle.layout.specs.declared.Progress.{Progress}
 use Rattle.layout.specs.Prefix.{templatesOf, isTemplates, isTemplate}
@@ -47,7 +47,7 @@ pub head-by :
     → (leb 3 (length v) && leb (length v) 7 && leb first 63 && leb second 2) ≡ sized → (sized && every isSort (drop 2 v)) ≡ isHead v
 unfolding isHead
 head-by v e f sized q =
-    ap (λ t. t && every isSort (drop 2 v)) (sym q ∙ ap₂ (λ x y. leb 3 (length v) && leb (length v) 7 && leb x 63 && leb y 2) e f)
+    cc
 
 -- the test for a known tag, by the tests of the tag
 knownTests : List ℕ → Bool → Bool → Bool → Bool → Bool → Bool → Bool → Bool → Bool
@@ -56,7 +56,7 @@ knownTests v a b c d e f g h = a || b || (c && isEmpty v) || (d && isHead v) || 
 -- a known tag, one by one
 module _ {tag : ℕ} (v : List ℕ) where
   known-at : {t : ℕ} → tag ≡ t → isKnown t v ≡ isKnown tag v
-  known-at e = ap (λ x. isKnown x v) (sym e)
+  known-at e = cc
 
   -- a keyword
   pub known-keyword : tag ≡ 1 → true ≡ isKnown tag v
@@ -127,11 +127,11 @@ module _ {v : List ℕ} {from i : ℕ} (r : Sorts v from i) where
   -- one byte more is a sort
   pub sorts-next : i < length v → {known : Bool} → known ≡ isSort (getD v i 0) → not known ≡ false → Sorts v from (i + 1)
   sorts-next h e f =
-      record { rest = sym (sorts-front h ∙ ap (λ (t : Bool). t && every isSort (drop (i + 1) v)) (passes e f)) ∙ r .rest }
+      record { rest = cc (passes e f, sorts-front h, r .rest) }
 
   -- one byte is none
   pub sorts-stop : i < length v → {known : Bool} → known ≡ isSort (getD v i 0) → not known ≡ true → false ≡ every isSort (drop from v)
-  sorts-stop h e f = sym (sorts-front h ∙ ap (λ (t : Bool). t && every isSort (drop (i + 1) v)) (fails e f)) ∙ r .rest
+  sorts-stop h e f = cc (fails e f, sorts-front h, r .rest)
 
   -- all bytes are
   pub sorts-end : length v ≤ i → true ≡ every isSort (drop from v)
@@ -169,7 +169,7 @@ items-by : (tag : ℕ) (s : Progress) (begins : Bool) → eqb tag 5 ≡ begins
     → passed tag s .items ≡ elim begins [ true ↦ 0 | false ↦ s .items + oneIf (eqb tag 6) ]
 unfolding passed
 items-by tag s begins e =
-    ap (λ (t : Bool). elim t as (λ x. ℕ) [ true ↦ 0 | false ↦ s .items + oneIf (eqb tag 6) ]) e
+    cc
 
 -- an alternative begins with none
 pub items-begin : (tag : ℕ) (s : Progress) → tag ≡ 5 → passed tag s .items ≡ 0
@@ -186,12 +186,12 @@ module _ (tag : ℕ) (v : List ℕ) (before : List Field) where
   pub spelled-keyword : tag ≡ 1 → isSpelled tag v before ≡ (isKeyword v && not (isRepeated 1 v before))
   unfolding isSpelled
   spelled-keyword e =
-      ap (λ (t : ℕ). isSpelled t v before) e ∙ and-true (isKeyword v && not (isRepeated 1 v before))
+      cc (and-true (isKeyword v && not (isRepeated 1 v before)))
 
   -- an outside name
   pub spelled-outside : tag ≡ 2 → isSpelled tag v before ≡ (isWord v && not (isRepeated 2 v before))
   unfolding isSpelled
-  spelled-outside e = ap (λ (t : ℕ). isSpelled t v before) e
+  spelled-outside e = cc
 
   -- any other field
   pub spelled-other : (tag ≡ 1 → ⊥) → (tag ≡ 2 → ⊥) → isSpelled tag v before ≡ true
@@ -206,12 +206,12 @@ module _ (tag : ℕ) (v : List ℕ) where
   pub whole-item : tag ≡ 6 → isWhole tag v ≡ (not (eqb (getD v 0 0) 4) || isTemplates (templatesOf (drop 2 v)))
   unfolding isWhole
   whole-item e =
-      ap (λ (t : ℕ). isWhole t v) e ∙ and-true (not (eqb (getD v 0 0) 4) || isTemplates (templatesOf (drop 2 v)))
+      cc (and-true (not (eqb (getD v 0 0) 4) || isTemplates (templatesOf (drop 2 v))))
 
   -- a result
   pub whole-result : tag ≡ 7 → isWhole tag v ≡ isTemplate (templatesOf v)
   unfolding isWhole
-  whole-result e = ap (λ (t : ℕ). isWhole t v) e
+  whole-result e = cc
 
   -- any other field
   pub whole-other : (tag ≡ 6 → ⊥) → (tag ≡ 7 → ⊥) → isWhole tag v ≡ true
@@ -266,8 +266,8 @@ module _ (before : List Field) (at tag : ℕ) (v : List ℕ) (s : Progress) wher
 
 -- the root is last
 pub end-root : (last at : ℕ) → last ≡ 8 → verdict (need (eqb last 8) 4 at) ≡ Passed
-end-root last at e = ap (λ (t : Bool). verdict (need t 4 at)) (eq-eqb last 8 e)
+end-root last at e = cc (eq-eqb last 8 e)
 
 -- it is missing
 pub end-other : (last at : ℕ) → (last ≡ 8 → ⊥) → verdict (need (eqb last 8) 4 at) ≡ Refused (refusal 4 at 0 0)
-end-other last at h = ap (λ (t : Bool). verdict (need t 4 at)) (ne-eqb last 8 h)
+end-other last at h = cc (ne-eqb last 8 h)

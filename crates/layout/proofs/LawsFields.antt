@@ -14,7 +14,7 @@ use Rattle.answers.specs.Checked.{Checked, ok, bad, need, verdict, _>>=_}
 use Rattle.grammar.specs.declared.Front.{Front}
 use Rattle.grammar.specs.declared.Front.the-variants.{Nothing, Short, Field}
 use Rattle.grammar.specs.Values.{field, longestTable}
-use Rattle.grammar.specs.Values as values
+use Rattle.grammar.specs.Values as encode
 use Rattle.grammar.specs.Fields.{Fields, end, cut, next, fieldsOf}
 use Rattle.grammar.specs.Lookup.{frontOf, fieldsAt}
 use Rattle.grammar.proofs.LookupLaws.{opened, fields-at, fields-of}
@@ -25,25 +25,23 @@ use Rattle.layout.specs.Before.{earlier, fieldsBefore, checking}
 
 -- ------------------------------------------------------------------ the fields before an offset
 
-earlier-by : (to at tag : ℕ) (v : List ℕ) (fs : Fields) (before : List values.Field) (t : Bool) → ltb at to ≡ t
+earlier-by : (to at tag : ℕ) (v : List ℕ) (fs : Fields) (before : List encode.Field) (t : Bool) → ltb at to ≡ t
     → earlier to (next at tag v fs) before
-    ≡ elim t as (λ x. List values.Field) [ true ↦ earlier to fs (field tag v ∷ before) | false ↦ before ]
+    ≡ elim t as (λ x. List encode.Field) [ true ↦ earlier to fs (field tag v ∷ before) | false ↦ before ]
 unfolding earlier
 earlier-by to at tag v fs before t e =
-    ap
-    (λ (x : Bool). elim x as (λ y. List values.Field) [ true ↦ earlier to fs (field tag v ∷ before) | false ↦ before ])
-    e
+    cc
 
 -- what is left at the end of a list of fields
-earlier-end : (to at : ℕ) (before : List values.Field) → earlier to (end at) before ≡ before
+earlier-end : (to at : ℕ) (before : List encode.Field) → earlier to (end at) before ≡ before
 unfolding earlier
 earlier-end to at before = refl
 
-earlier-cut : (to at : ℕ) (before : List values.Field) → earlier to (cut at) before ≡ before
+earlier-cut : (to at : ℕ) (before : List encode.Field) → earlier to (cut at) before ≡ before
 unfolding earlier
 earlier-cut to at before = refl
 
-module _ (table : List ℕ) (to at : ℕ) (before : List values.Field) where
+module _ (table : List ℕ) (to at : ℕ) (before : List encode.Field) where
   past-by : (r : Front) → to ≤ at → earlier to (opened table at r) before ≡ before
   past-by Nothing h = earlier-end to at before
   past-by Short h = earlier-cut to at before
@@ -51,23 +49,23 @@ module _ (table : List ℕ) (to at : ℕ) (before : List values.Field) where
 
   -- no field from an offset on begins before it
   past : to ≤ at → earlier to (fieldsAt table at) before ≡ before
-  past h = ap (λ fs. earlier to fs before) (fields-at table at refl) ∙ past-by (frontOf (drop at table)) h
+  past h = cc (fields-at table at refl, past-by (frontOf (drop at table)) h)
 
   one-more : {t n : ℕ} → Field t n ≡ frontOf (drop at table) → at < to
       → earlier to (fieldsAt table at) before
       ≡ earlier to (fieldsAt table (at + 3 + n)) (field t (take n (drop (at + 3) table)) ∷ before)
   one-more e h =
-      ap (λ fs. earlier to fs before) (fields-at table at e) ∙ earlier-by to at _ _ _ before true (lt-ltb at to h)
+      cc (fields-at table at e, earlier-by to at _ _ _ before true (lt-ltb at to h))
 
 before-is : (table : List ℕ) (to : ℕ) → fieldsBefore table to ≡ earlier to (fieldsAt table 0) []
 unfolding fieldsBefore
-before-is table to = ap (λ fs. earlier to fs []) (fields-of table)
+before-is table to = cc (fields-of table)
 
 -- a value as the code lends it, from a start to an end
 pub lent-is : (table : List ℕ) (from n : ℕ) → take (from + n - from) (drop from table) ≡ take n (drop from table)
 lent-is table from n =
     let z : from + n - from ≡ n = omega arith in
-    ap (λ (k : ℕ). take k (drop from table)) z
+    cc
 
 -- ------------------------------------------------------------------ the turns of the check
 
@@ -80,19 +78,19 @@ layout-short : (table : List ℕ) → length table ≤ longestTable → layout t
 unfolding layout
 layout-short table h = rw (le-leb (length table) longestTable h, layout) refl
 
-fields-end : (at : ℕ) (before : List values.Field) (s : Progress) → checkFields (end at) before s ≡ need (eqb (s .last) 8) 4 at
+fields-end : (at : ℕ) (before : List encode.Field) (s : Progress) → checkFields (end at) before s ≡ need (eqb (s .last) 8) 4 at
 unfolding checkFields
 fields-end at before s = refl
 
-fields-cut : (at : ℕ) (before : List values.Field) (s : Progress) → checkFields (cut at) before s ≡ bad (refusal 2 at 0 0)
+fields-cut : (at : ℕ) (before : List encode.Field) (s : Progress) → checkFields (cut at) before s ≡ bad (refusal 2 at 0 0)
 unfolding checkFields
 fields-cut at before s = refl
 
-fields-next : (at tag : ℕ) (v : List ℕ) (fs : Fields) (before : List values.Field) (s : Progress) (r : Checked Progress)
+fields-next : (at tag : ℕ) (v : List ℕ) (fs : Fields) (before : List encode.Field) (s : Progress) (r : Checked Progress)
     → checkField before at tag v s ≡ r
     → checkFields (next at tag v fs) before s ≡ (r >>= λ t. checkFields fs (field tag v ∷ before) t)
 unfolding checkFields
-fields-next at tag v fs before s r e = ap (λ x. x >>= λ t. checkFields fs (field tag v ∷ before) t) e
+fields-next at tag v fs before s r e = cc
 
 -- the answers of the code are those of the check
 pub checked-ok : (x : Checked Progress) (s : Progress) → Further s ≡ checking x → x ≡ ok s
@@ -127,12 +125,12 @@ module _ {table : List ℕ} {at : ℕ} {s : Progress} (c : Turn table at s) (h :
   -- at the end
   pub turn-end : Nothing ≡ frontOf (drop at table) → verdict (need (eqb (s .last) 8) 4 at) ≡ verdict (layout table)
   turn-end e =
-      answer _ (ap (λ fs. checkFields fs (fieldsBefore table at) s) (fields-at table at e) ∙ fields-end at (fieldsBefore table at) s)
+      answer (need (eqb (s .last) 8) 4 at) (rw (fields-at table at e) (fields-end at (fieldsBefore table at) s))
 
   -- at a field that runs past it
   pub turn-cut : Short ≡ frontOf (drop at table) → Refused (refusal 2 at 0 0) ≡ verdict (layout table)
   turn-cut e =
-      answer _ (ap (λ fs. checkFields fs (fieldsBefore table at) s) (fields-at table at e) ∙ fields-cut at (fieldsBefore table at) s)
+      answer (bad (refusal 2 at 0 0)) (rw (fields-at table at e) (fields-cut at (fieldsBefore table at) s))
 
 module _ {table : List ℕ} {at : ℕ} {s : Progress} (c : Turn table at s) {t n : ℕ} (e : Field t n ≡ frontOf (drop at table)) where
   -- the field here, checked with its value as the code lends it
@@ -141,11 +139,11 @@ module _ {table : List ℕ} {at : ℕ} {s : Progress} (c : Turn table at s) {t n
       → (x >>= λ u. checkFields (fieldsAt table (at + 3 + n)) (field t (take n (drop (at + 3) table)) ∷ fieldsBefore table at) u)
       ≡ checkFields (fieldsOf table) [] start
   field-is x f =
-      sym
-      (ap (λ fs. checkFields fs (fieldsBefore table at) s) (fields-at table at e)
-      ∙ fields-next at t (take n (drop (at + 3) table)) (fieldsAt table (at + 3 + n)) (fieldsBefore table at) s x
-      (ap (λ w. checkField (fieldsBefore table at) at t w s) (sym (lent-is table (at + 3) n)) ∙ f))
-      ∙ c .rest
+      cc (
+        fields-next at t (take n (drop (at + 3) table)) (fieldsAt table (at + 3 + n)) (fieldsBefore table at) s x (cc (lent-is table (at + 3) n)),
+        fields-at table at e,
+        c .rest,
+      )
 
   -- a field is refused
   pub turn-stopped : length table ≤ longestTable → {r : Refusal}
@@ -172,5 +170,5 @@ module _ {table : List ℕ} {at : ℕ} {s : Progress} (c : Turn table at s) {t n
             c .divides to (omega arith) ∙ one-more table to at (fieldsBefore table at) e (omega arith)
             ∙ ap (earlier to (fieldsAt table (at + 3 + n))) (sym before-next);
         rest =
-            ap (λ b. checkFields (fieldsAt table (at + 3 + n)) b u) before-next ∙ field-is (ok u) (checked-ok _ u f);
+            cc (before-next, field-is (ok u) (checked-ok _ u f));
       }

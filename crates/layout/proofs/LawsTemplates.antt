@@ -11,7 +11,8 @@ use borrow.Author.Tests.{le-leb, lt-leb, eq-eqb, ne-eqb, le-ltb, ltb-true, ltb-f
 use Rattle.spellings.proofs.BytesLaws.{by-test}
 use Rattle.spellings.proofs.Loops.{drop-at-index}
 use Rattle.grammar.proofs.ReaderLaws.{arity-few}
-use Rattle.grammar.specs.Sorts.{isConstructor, arity}
+use Rattle.grammar.specs.Sorts.{arity}
+use Rattle.grammar.specs.SortTests.{isConstructor}
 use Rattle.grammar.specs.Table.{Template, Templates, variable, none, more}
 use Rattle.layout.specs.Prefix.{Parsed, fault, parsed, inFront, Taken, short, taken, alsoTaken, takeTemplates, applied, constructed, isNameTag}
 use Rattle.layout.specs.Prefix.{nameBy, templatesOf}
@@ -52,15 +53,15 @@ data Head (b : ℕ) : Type 0 where
 
 -- what is below hex 20 is no constructor
 low-byte : (b : ℕ) → b < 0x20 → isConstructor b ≡ false
-low-byte b h = ap (λ (t : Bool). t && leb b 0x27) (lt-leb 0x20 b h)
+low-byte b h = cc (lt-leb 0x20 b h)
 
 name-low : (b : ℕ) → isNameTag b ≡ true → b < 0x20
 name-low b e =
     by-test (eqb b 0x10) (λ f. omega (arith, eqb-true b 0x10 f))
-    (λ f. omega (arith, eqb-true b 0x11 (sym (ap (λ (t : Bool). t || eqb b 0x11) f) ∙ e)))
+    (λ f. omega (arith, eqb-true b 0x11 (cc)))
 
 either : (x y z : Bool) → x ≡ y → (x || z) ≡ (y || z)
-either x y z e = ap (λ (t : Bool). t || z) e
+either x y z e = cc
 
 head-of : (b : ℕ) → Head b
 head-of b =
@@ -171,7 +172,7 @@ stops size left over = eqb size 0 || ltb left size || over
 
 stops-false : (size left : ℕ) (over : Bool) → stops size left over ≡ false → (0 < size) × (size ≤ left)
 stops-false size left over f =
-    by-test (eqb size 0) (λ e. absurd (true≢false (sym (ap (λ (t : Bool). t || ltb left size || over) e) ∙ f)))
+    by-test (eqb size 0) (λ e. absurd (true≢false (cc)))
     (λ e. by-test (ltb left size) (λ g. absurd (true≢false (sym ((λ i. e i || g i || over)) ∙ f)))
     (λ g. (positive size (eqb-false size 0 e), ltb-false left size g)))
 
@@ -179,11 +180,11 @@ stops-false size left over f =
 module _ (b k : ℕ) (over : Bool) {t : Bool} where
   one-left : headSize b ≡ 1 → stops (headSize b) (suc k) over ≡ t → over ≡ t
   one-left e f =
-      sym (ap (λ (n : ℕ). stops n (suc k) over) e ∙ ap (λ (u : Bool). u || over) (le-ltb (suc k) 1 (omega arith))) ∙ f
+      cc (le-ltb (suc k) 1 (omega arith))
 
   two-left : headSize b ≡ 2 → stops (headSize b) (suc (suc k)) over ≡ t → over ≡ t
   two-left e f =
-      sym (ap (λ (n : ℕ). stops n (suc (suc k)) over) e ∙ ap (λ (u : Bool). u || over) (le-ltb (suc (suc k)) 2 (omega arith))) ∙ f
+      cc (le-ltb (suc (suc k)) 2 (omega arith))
 
 module _ (single : Bool) (due b : ℕ) where
   stop-by : (rest : List ℕ) → Head b → stops (headSize b) (suc (length rest)) (single && eqb due 0) ≡ true
@@ -203,7 +204,7 @@ module _ (single : Bool) (due b : ℕ) where
   next-by : (rest : List ℕ) → Head b → stops (headSize b) (suc (length rest)) (single && eqb due 0) ≡ false
       → meets single due (templatesOf (b ∷ rest))
       ≡ meets single (due - 1 + arguments b) (templatesOf (drop (headSize b) (b ∷ rest)))
-  next-by [] (name e hs ha) f = absurd (true≢false (sym (ap (λ (k : ℕ). stops k 1 (single && eqb due 0)) hs) ∙ f))
+  next-by [] (name e hs ha) f = absurd (true≢false (cc))
   next-by (n ∷ bs) (name e hs ha) f =
       ap (meets single due) (name-first b n bs e)
       ∙ meets-front single due (nameBy (eqb b 0x10) n) (templatesOf bs) (two-left b (length bs) (single && eqb due 0) hs f)
@@ -217,7 +218,7 @@ module _ (single : Bool) (due b : ℕ) where
       ∙ meets-constructed single due b (templatesOf rest) (one-left b (length rest) (single && eqb due 0) hs f)
       ∙ (λ i. meets single (due - 1 + sym ha i) (templatesOf (drop (sym hs i) (b ∷ rest))))
   next-by rest (unknown e low known hs) f =
-      absurd (true≢false (sym (ap (λ (k : ℕ). stops k (suc (length rest)) (single && eqb due 0)) hs) ∙ f))
+      absurd (true≢false (cc))
 
 -- ------------------------------------------------------------------ the loop
 
@@ -254,17 +255,17 @@ pub due-start : (v : List ℕ) (from : ℕ) (single : Bool) (due : ℕ) → due 
 due-start v from single due e =
     record {
       small = omega (arith, first-small single);
-      rest = ap (λ (d : ℕ). meets single d (templatesOf (drop from v))) e ∙ meets-first single (templatesOf (drop from v));
+      rest = cc (meets-first single (templatesOf (drop from v)));
     }
 
 module _ {v : List ℕ} {from : ℕ} {single : Bool} {due i : ℕ} (c : Due v from single due i) where
   pub due-end : length v ≤ i → eqb due 0 ≡ isWholly single (templatesOf (drop from v))
   due-end h =
-      sym (ap (λ l. meets single due (templatesOf l)) (drop-of-length-le v h) ∙ meets-none single due) ∙ c .rest
+      cc (meets-none single due, drop-of-length-le v h, c .rest)
 
   module _ (h : i < length v) {size : ℕ} (hs : size ≡ headSize (getD v i 0)) where
     front-is : meets single due (templatesOf (getD v i 0 ∷ drop (i + 1) v)) ≡ isWholly single (templatesOf (drop from v))
-    front-is = sym (ap (λ l. meets single due (templatesOf l)) (drop-at-index v i h)) ∙ c .rest
+    front-is = cc (drop-at-index v i h, c .rest)
 
     left-is : (t : Bool) → stops size (length v - i) (single && eqb due 0) ≡ t
         → stops (headSize (getD v i 0)) (suc (length (drop (i + 1) v))) (single && eqb due 0) ≡ t

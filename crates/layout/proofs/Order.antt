@@ -1,6 +1,6 @@
 -- Order: the fields that may follow a tag are those of parts of a table, and each field that may come next begins one of them.
 use Prim.Native.Nat.{ℕ, zero, suc, _≤_}
-use mathlib.Core.Path.{_≡_, refl, ap}
+use mathlib.Core.Path.{_≡_, refl}
 use mathlib.Core.Bool.{true, false, false≢true}
 use mathlib.Core.List.{List, [], _∷_}
 use native.Mathlib.Omega.{arith}
@@ -130,8 +130,7 @@ module _ (b : Built) where
       → Opens 4 (withDefinition d b) (field 4 (headValue d) ∷ left 4 b)
   unfolding left follows definitionsThen alternativesThen
   opens-definition d a =
-      let same = ap (λ rest. field 4 (headValue d) ∷ alternativesThen rest (definitionsLeft b)) a in
-      by-last 4 (withDefinition d b) (field 4 (headValue d) ∷ left 4 b) never never never (λ e. same) never never never (λ e. same) never
+      by-last 4 (withDefinition d b) (field 4 (headValue d) ∷ left 4 b) never never never (λ e. cc) never never never (λ e. cc) never
 
   pub opens-alternative : Opens 5 (withAlternative b) (field 5 [] ∷ left 5 b)
   unfolding left follows alternativesThen

@@ -1,19 +1,19 @@
 -- What some bytes are read as, by their first byte: a name, a variable, a constructor, or an unknown byte.
 use Prim.Native.Nat.{ℕ}
-use mathlib.Core.Path.{_≡_, ap, _∙_}
+use mathlib.Core.Path.{_≡_, _∙_}
 use mathlib.Core.Bool.{Bool, true, false}
 use mathlib.Core.List.{List, [], _∷_}
 use lib.Dec.{eqb, ltb}
-use Rattle.grammar.specs.Sorts.{isConstructor}
+use Rattle.grammar.specs.SortTests.{isConstructor}
 use Rattle.grammar.specs.Table.{variable, none}
 use Rattle.layout.specs.Prefix.{Parsed, fault, parsed, inFront, constructed, byteInFront, isNameTag, nameBy, templatesOf}
 
 -- a choice by a test that is known
 chosen : {A : Type 0} (t : Bool) (x y : A) → t ≡ true → (elim t as (λ b. A) [ true ↦ x | false ↦ y ]) ≡ x
-chosen {A} t x y e = ap (λ u. elim u as (λ b. A) [ true ↦ x | false ↦ y ]) e
+chosen {A} t x y e = cc
 
 other : {A : Type 0} (t : Bool) (x y : A) → t ≡ false → (elim t as (λ b. A) [ true ↦ x | false ↦ y ]) ≡ y
-other {A} t x y e = ap (λ u. elim u as (λ b. A) [ true ↦ x | false ↦ y ]) e
+other {A} t x y e = cc
 
 -- a name's tag, with its number and without
 pub name-first : (b n : ℕ) (bs : List ℕ) → isNameTag b ≡ true

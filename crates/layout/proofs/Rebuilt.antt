@@ -5,7 +5,7 @@ use mathlib.Core.List.{List, [], _∷_}
 use lib.ListN.{length}
 use Rattle.grammar.specs.Table.{Template, variable, Item, Alternative, Definition, Table}
 use Rattle.grammar.specs.Encode.{spellingsThen, itemsThen, alternativesThen, definitionsThen, blocksThen, tableFields}
-use Rattle.grammar.specs.Values.{Field, field, templateThen, itemValue, headValue}
+use Rattle.grammar.specs.Values.{Field, field, templateThen}
 use Rattle.layout.specs.Decode.{Built, built, nothing, put, build, tableOf}
 use Rattle.layout.specs.Within.{Each, each-none, each-more, ItemWithin, AlternativeWithin, DefinitionWithin, Within}
 use Rattle.layout.proofs.Split.{spread}
@@ -35,7 +35,7 @@ module _ (bs : List (List Definition)) (r : ℕ) where
   unfolding gather itemsThen put
   items-built ds rest t each-none k e = e
   items-built ds rest t (each-more {x = i} {xs = is} h w) k e =
-      ap (put 6 (itemValue i)) (items-built ds rest t w k e) ∙ ap (λ j. part bs r ds rest (j ∷ is) t) (item-read h)
+      cc (items-built ds rest t w k e, item-read h)
 
   alternatives-built : (ds : List Definition) {rest : List Alternative} → Each AlternativeWithin rest → (k : List Field)
       → gather k ≡ between bs r ds [] → gather (alternativesThen rest k) ≡ between bs r ds rest
@@ -52,8 +52,7 @@ module _ (bs : List (List Definition)) (r : ℕ) where
   unfolding gather definitionsThen put
   definitions-built each-none k e = e
   definitions-built (each-more {x = d} {xs = ds} h w) k e =
-      ap (put 4 (headValue d)) (alternatives-built ds (h .alternatives) (definitionsThen ds k) (definitions-built w k e))
-      ∙ ap (λ c. between bs r (c ∷ ds) []) (head-read d)
+      cc (alternatives-built ds (h .alternatives) (definitionsThen ds k) (definitions-built w k e), head-read d)
 
 blocks-built : (r : ℕ) {bs : List (List Definition)} → Each (Each DefinitionWithin) bs
     → gather (blocksThen bs (field 8 (r ∷ []) ∷ [])) ≡ between bs r [] []

@@ -2,12 +2,12 @@
 use Prim.Native.Nat.{ℕ, _+_, _-_, _<_, _≤_}
 use mathlib.Core.Path.{_≡_, refl, sym, ap, subst, _∙_}
 use mathlib.Core.Bool.{Bool, true, false, not, _||_}
-use mathlib.Core.List.{List, [], _∷_}
+use mathlib.Core.List.{List, _∷_}
 use native.Mathlib.Omega.{arith}
 use lib.Dec.{eqb, ltb}
 use lib.ListN.{length, take, drop, replicate, length-take, length-drop}
 use borrow.Author.Tests.{ltb-true}
-use Rattle.answers.specs.Checked.{Checked, ok, bad}
+use Rattle.answers.specs.Checked.{ok}
 use Rattle.grammar.specs.declared.Front.the-variants.{Field}
 use Rattle.grammar.specs.Values.{field}
 use Rattle.grammar.specs.Values as values
@@ -15,7 +15,7 @@ use Rattle.grammar.specs.Lookup.{frontOf}
 use Rattle.grammar.proofs.LookupLaws.{front-inside}
 use Rattle.layout.specs.declared.Progress.{Progress}
 use Rattle.layout.specs.declared.Checking.the-variants.{Further}
-use Rattle.layout.specs.Layout.{isKnown, follows, isSpelled, hasRoom, oneIf, passed, isWhole, checkField, start}
+use Rattle.layout.specs.Layout.{isKnown, follows, isSpelled, hasRoom, passed, isWhole, checkField, start}
 use Rattle.layout.specs.Before.{fieldsBefore, checking}
 use Rattle.layout.specs.Index.{entered, Has, Remembered}
 use Rattle.layout.proofs.Laws.{firstFault, field-by, room-of}
@@ -49,14 +49,14 @@ has-moved :
     {table : List ℕ} {tag : ℕ} {b b′ : List values.Field} {k k′ : ℕ} {r r′ : List ℕ} → b ≡ b′ → k ≡ k′ → r ≡ r′ → Has table tag b k r
     → Has table tag b′ k′ r′
 has-moved {table} {tag} {b} {b′} {k} {k′} {r} e f g h =
-    subst (Has table tag b′ k′) g (subst (λ x. Has table tag b′ x r) f (subst (λ x. Has table tag x k r) e h))
+    subst (Has table tag b′ k′) g (rw (← f) (rw (← e) h))
 
 -- no field yet
 pub remembered-start : {table : List ℕ} {s : Progress} → s ≡ start → Remembered table 0 s (replicate 320 0) (replicate 320 0)
 remembered-start {table} e =
     record {
-      keywords = has-moved (sym (none-before table)) (sym (ap (λ s. s .keywords) e)) refl has-none;
-      outsides = has-moved (sym (none-before table)) (sym (ap (λ s. s .outsides) e)) refl has-none;
+      keywords = has-moved (sym (none-before table)) (cc) refl has-none;
+      outsides = has-moved (sym (none-before table)) (cc) refl has-none;
     }
 
 module _ {table : List ℕ} {at : ℕ} {s : Progress} {K N : List ℕ} (c : Turn table at s) (m : Remembered table at s K N) {t n : ℕ}
@@ -75,7 +75,7 @@ module _ {table : List ℕ} {at : ℕ} {s : Progress} {K N : List ℕ} (c : Turn
   again : take (length value) (drop (at + 3) table) ≡ value
   again =
       let z : length value ≡ n = omega (arith, length-take n (drop (at + 3) table), length-drop (at + 3) table, front-inside table at e) in
-      ap (λ k. take k (drop (at + 3) table)) z
+      cc
 
   -- room for one more of either tag
   pub keyword-room : eqb t 1 ≡ true → s .keywords < 64
@@ -94,9 +94,9 @@ module _ {table : List ℕ} {at : ℕ} {s : Progress} {K N : List ℕ} (c : Turn
       let fields : field t value ∷ fieldsBefore table at ≡ fieldsBefore table (at + 3 + n) = sym (before-next c e) in
       record {
         keywords =
-            has-moved fields (sym (ap (λ x. x .keywords) (passes .1))) (sym (p ∙ ap (entered K (eqb t 1) (s .keywords) (at + 3)) same))
+            has-moved fields (cc (passes .1)) (sym (p ∙ ap (entered K (eqb t 1) (s .keywords) (at + 3)) same))
             (has-next (m .keywords) t value (at + 3) again (eqb t 1) refl keyword-room);
         outsides =
-            has-moved fields (sym (ap (λ x. x .outsides) (passes .1))) (sym (q ∙ ap (entered N (eqb t 2) (s .outsides) (at + 3)) same))
+            has-moved fields (cc (passes .1)) (sym (q ∙ ap (entered N (eqb t 2) (s .outsides) (at + 3)) same))
             (has-next (m .outsides) t value (at + 3) again (eqb t 2) refl outside-room);
       }

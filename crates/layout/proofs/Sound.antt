@@ -11,7 +11,7 @@ use Rattle.answers.specs.Checked.{ok, need}
 use Rattle.spellings.specs.Bytes.{isWord, isKeyword}
 use Rattle.grammar.specs.Table.{Template, Item, Definition, Table}
 use Rattle.grammar.specs.Encode.{tableFields, encode}
-use Rattle.grammar.specs.Values.{Field, field, templateThen, itemValue, headValue, longestTable}
+use Rattle.grammar.specs.Values.{Field, field, longestTable}
 use Rattle.grammar.specs.Fields.{Fields, end, cut, next}
 use Rattle.layout.specs.declared.Progress.{Progress}
 use Rattle.layout.specs.Layout.{isKnown, follows, isRepeated, isSpelled, hasRoom, passed, start, checkFields}
@@ -125,7 +125,7 @@ step-keyword before s v fs l bytes p r =
     let spelled = and-left (isKeyword v && not (isRepeated 1 v before)) true (p .spelled) in
     let tests = and-eq-true-iff (isKeyword v) (not (isRepeated 1 v before)) .0 spelled in (
       withKeyword v b,
-      ap (λ k. field 1 v ∷ k) (r .1) ∙ sym (opens-keyword b v (s .last) l (p .ordered)),
+      cc (r .1, opens-keyword b v (s .last) l (p .ordered)),
       record {
         keywords = spelled-more isKeyword 1 before v (b .keywords) (λ w. refl) (tests .0) (not-true (isRepeated 1 v before) (tests .1)) (g .keywords);
         outsides = record { spelled = g .outsides .spelled; fresh = g .outsides .fresh; different = g .outsides .different };
@@ -147,7 +147,7 @@ step-outside before s v fs l bytes p r =
     let g = r .2 in
     let tests = and-eq-true-iff (isWord v) (not (isRepeated 2 v before)) .0 (p .spelled) in (
       withOutside v b,
-      ap (λ k. field 2 v ∷ k) (r .1) ∙ sym (opens-outside b v (s .last) l (p .ordered)),
+      cc (r .1, opens-outside b v (s .last) l (p .ordered)),
       record {
         keywords = spelled-none isKeyword 1 before;
         outsides = spelled-more isWord 2 before v (b .outsides) (λ w. refl) (tests .0) (not-true (isRepeated 2 v before) (tests .1)) (g .outsides);
@@ -187,7 +187,7 @@ step-block before s v fs l bytes p r =
     let b = r .0 in
     let g = r .2 in (
       withBlock b,
-      ap (λ w. field 3 w ∷ fs) (block-value v (p .known)) ∙ ap (λ k. field 3 [] ∷ k) (r .1) ∙ sym (opens-block b (s .last) l (p .ordered)),
+      cc (block-value v (p .known), r .1, opens-block b (s .last) l (p .ordered)),
       later before refl refl (each-more (g .definitions) (g .blocks)) each-none each-none (not-begun 3 (s .last) refl (p .ordered))
           each-none (g .result) (g .root) (room-block s b (room-3 s (p .room)) (g .room)),
     )
@@ -200,9 +200,7 @@ step-definition before s v fs l bytes p r =
     let d = definitionOf v (b .alternatives) in
     let head = head-value v (p .known) (b .alternatives) (g .alternatives) (g .begun refl) in (
       withDefinition d b,
-      ap (λ w. field 4 w ∷ fs) (head .0)
-          ∙ ap (λ k. field 4 (headValue d) ∷ k) (r .1)
-          ∙ sym (opens-definition b d refl (s .last) l (p .ordered)),
+      cc (head .0, r .1, opens-definition b d refl (s .last) l (p .ordered)),
       later before refl refl (g .blocks) (each-more (head .1) (g .definitions)) each-none (not-begun 4 (s .last) refl (p .ordered))
           each-none (g .result) (g .root) (room-definition s b d refl (g .room)),
     )
@@ -213,9 +211,7 @@ step-alternative before s v fs l bytes p r =
     let b = r .0 in
     let g = r .2 in (
       withAlternative b,
-      ap (λ w. field 5 w ∷ fs) (alternative-value v (p .known))
-          ∙ ap (λ k. field 5 [] ∷ k) (r .1)
-          ∙ sym (opens-alternative b (s .last) l (p .ordered)),
+      cc (alternative-value v (p .known), r .1, opens-alternative b (s .last) l (p .ordered)),
       later before refl refl (g .blocks) (g .definitions)
           (each-more (record { items = g .items; itemCount = g .room .items; result = g .result }) (g .alternatives))
           (λ e. omega arith) each-none (g .result) (g .root) (room-alternative s b (room-5 s (p .room)) (g .room)),
@@ -228,9 +224,7 @@ step-item before s v fs l bytes p r =
     let g = r .2 in
     let item = item-value v bytes (p .known) (p .whole) in (
       withItem (item .0) b,
-      ap (λ w. field 6 w ∷ fs) (item .1)
-          ∙ ap (λ k. field 6 (itemValue (item .0)) ∷ k) (r .1)
-          ∙ sym (opens-item b (item .0) (s .last) l (p .ordered)),
+      cc (item .1, r .1, opens-item b (item .0) (s .last) l (p .ordered)),
       later before refl refl (g .blocks) (g .definitions) (g .alternatives) (not-begun 6 (s .last) refl (p .ordered))
           (each-more (item .2) (g .items)) (g .result) (g .root) (room-item s b (item .0) (room-6 s (p .room)) (g .room)),
     )
@@ -242,9 +236,7 @@ step-result before s v fs l bytes p r =
     let g = r .2 in
     let result = result-value v bytes (p .whole) in (
       withResult (result .0) b,
-      ap (λ w. field 7 w ∷ fs) (result .1)
-          ∙ ap (λ k. field 7 (templateThen (result .0) []) ∷ k) (r .1)
-          ∙ sym (opens-result b (result .0) (s .last) l (p .ordered)),
+      cc (result .1, r .1, opens-result b (result .0) (s .last) l (p .ordered)),
       later before refl refl (g .blocks) (g .definitions) (g .alternatives) (not-begun 7 (s .last) refl (p .ordered)) each-none
           (result .2) (g .root) (room-result s b (result .0) (g .room)),
     )
@@ -256,9 +248,7 @@ step-root before s v fs l bytes p r =
     let g = r .2 in
     let root = root-value v (p .known) in (
       withRoot (root .0) b,
-      ap (λ w. field 8 w ∷ fs) (root .1)
-          ∙ ap (λ k. field 8 (root .0 ∷ []) ∷ k) (r .1)
-          ∙ sym (opens-root b (root .0) (s .last) l (p .ordered)),
+      cc (root .1, r .1, opens-root b (root .0) (s .last) l (p .ordered)),
       later before refl refl each-none each-none each-none (not-begun 8 (s .last) refl (p .ordered)) each-none (g .result) (root .2)
           (room-root s b (root .0)),
     )
@@ -286,7 +276,7 @@ left-none : (before : List Field) (s : Progress) → s .last ≡ 8 → Rest befo
 unfolding left alternativesOf alternativesIn
 left-none before s e = (
   nothing,
-  sym (ap (λ last. left last nothing) e),
+  cc,
   later before refl refl each-none each-none each-none (λ z. omega arith) each-none (variable-within (omega arith)) (omega arith)
       (omega arith),
 )

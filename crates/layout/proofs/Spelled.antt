@@ -1,6 +1,6 @@
 -- Spellings: none of a list stands among the fields before it, and no two are equal.
 use Prim.Native.Nat.{ℕ}
-use mathlib.Core.Path.{_≡_, refl, sym, ap, _∙_}
+use mathlib.Core.Path.{_≡_, refl, sym, _∙_}
 use mathlib.Core.Bool.{Bool, true, false, _||_, true≢false}
 use mathlib.Core.List.{List, [], _∷_}
 use Rattle.spellings.specs.Bytes.{same}
@@ -69,7 +69,7 @@ module _ (test : List ℕ → Bool) (tag : ℕ) (before : List Field) where
         record {
           spelled = each-parts (s .spelled) .1;
           fresh =
-              each-both (λ w d f. repeats w ∙ ap (λ t. t || isRepeated tag w before) (differ-same v w d) ∙ f) (different .0)
+              each-both (λ w d f. cc (repeats w, differ-same v w d)) (different .0)
               (each-parts (s .fresh) .1);
           different = different .1;
         }

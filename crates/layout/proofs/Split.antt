@@ -1,6 +1,6 @@
 -- Bytes and fields: the bytes of a list of fields split into these fields, and bytes that split without a cut are those of their fields.
 use Prim.Native.Nat.{ℕ, zero, suc, _+_, _*_, _/_, _%_, _<_, _≤_}
-use mathlib.Core.Path.{_≡_, refl, sym, ap, ap₂, _∙_}
+use mathlib.Core.Path.{_≡_, refl, ap, _∙_}
 use mathlib.Core.Bool.{true, false}
 use mathlib.Core.List.{List, [], _∷_, _++_}
 use native.Mathlib.Omega.{arith}
@@ -115,10 +115,8 @@ field-whole rest b h fs e =
     let lo : n % 256 ≡ getD rest 2 0 = omega (arith, b 2) in
     let size : length (take n (drop 3 rest)) ≡ n = length-take-le n (drop 3 rest) (omega (arith, length-drop 3 rest)) in
     let value : take n (drop 3 rest) ++ fieldBytes fs ≡ drop 3 rest =
-    ap (λ l. take n (drop 3 rest) ++ l) (sym e ∙ sym (drop-drop n 3 rest)) ∙ take-append-drop n (drop 3 rest) in
-    three rest (omega arith)
-    ∙ sym
-    (ap₂ (λ m l. getD rest 0 0 ∷ m / 256 ∷ m % 256 ∷ l) size value ∙ ap₂ (λ a c. getD rest 0 0 ∷ a ∷ c ∷ drop 3 rest) hi lo)
+    cc (drop-drop n 3 rest, take-append-drop n (drop 3 rest)) in
+    cc (three rest (omega arith))
 
 -- Bytes that split without a cut are the bytes of their fields.
 split-uncut : (k at : ℕ) (rest : List ℕ) → Bytes rest → length rest ≤ k → Uncut (fieldsFrom k at rest)

@@ -7,7 +7,8 @@ use native.Mathlib.Omega.{arith}
 use lib.Dec.{eqb, leb, ltb}
 use borrow.Author.Tests.{lt-ltb, le-ltb, ltb-true, le-leb, leb-true, ne-eqb, eqb-true}
 use Rattle.spellings.proofs.BytesLaws.{by-test}
-use Rattle.grammar.specs.Sorts.{isConstructor, arity}
+use Rattle.grammar.specs.Sorts.{arity}
+use Rattle.grammar.specs.SortTests.{isConstructor}
 use Rattle.grammar.specs.Table.{Template, Templates, make, none, more}
 use Rattle.grammar.specs.Values.{templateThen, templatesThen}
 use Rattle.layout.specs.Prefix.{Parsed, fault, parsed, inFront, Taken, short, taken, alsoTaken, takeTemplates, applied, constructed}
@@ -143,7 +144,7 @@ unfolding templatesThen templateThen
 forms-applied c l h bs ts f short k = tt
 forms-applied c l h bs ts f (taken us vs) k =
     let parts = join-parts us vs (subst TemplatesWithin (k .1) (f .1)) in (
-      ap (λ v. c ∷ v) (f .0 ∙ ap (λ w. templatesThen w []) (k .1) ∙ join-then us vs []),
+      cc (f .0, k .1, join-then us vs []),
       more-within (make-within l h (k .0) (parts .0)) (parts .1),
     )
 

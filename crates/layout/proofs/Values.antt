@@ -1,6 +1,6 @@
 -- The values of fields: a value passes 3 and 10 exactly if it is that of an item, a head, a result or a root within the ranges.
 use Prim.Native.Nat.{ℕ, zero, suc, _≤_}
-use mathlib.Core.Path.{_≡_, refl, sym, ap, ap₂, _∙_}
+use mathlib.Core.Path.{_≡_, refl, sym, ap, _∙_}
 use mathlib.Core.Bool.{Bool, true, false, not, _&&_, _||_, false≢true, and-eq-true-iff, or-false, and-true}
 use mathlib.Core.List.{List, [], _∷_}
 use native.Mathlib.Omega.{arith}
@@ -8,7 +8,7 @@ use lib.Dec.{eqb, leb}
 use lib.ListN.{length, getD, drop}
 use borrow.Author.Tests.{le-leb, leb-true, eqb-true}
 use Rattle.spellings.specs.Bytes.{every}
-use Rattle.grammar.specs.Sorts.{isSort, isIdeSort}
+use Rattle.grammar.specs.SortTests.{isSort, isIdeSort}
 use Rattle.grammar.specs.Table.{Template, Templates, none, more, Item, keyword, ide, number, local, call, Alternative, Mode, add, extend, update, Definition}
 use Rattle.grammar.specs.Values.{templateThen, templatesThen, itemValue, modeCode, headValue}
 use Rattle.layout.specs.Prefix.{Parsed, fault, parsed, templatesOf, isTemplates, isTemplate, found, firstOf}
@@ -128,7 +128,7 @@ head-value v e rest w l = by v (sym (known-head v) ∙ e)
         let modes = and-left (long && brief && leb n 63 && leb m 2) (every isSort (r ∷ ps)) h in
         let numbers = and-left (long && brief && leb n 63) (leb m 2) modes in
         let sizes = and-left (long && brief) (leb n 63) numbers in (
-          ap (λ k. n ∷ k ∷ r ∷ ps) (sym (mode-value m (leb-true m 2 (and-right (long && brief && leb n 63) (leb m 2) modes)))),
+          cc (mode-value m (leb-true m 2 (and-right (long && brief && leb n 63) (leb m 2) modes))),
           record {
             nonterminal = leb-true n 63 (and-right (long && brief) (leb n 63) numbers);
             result = leb-true r 6 (and-left (isSort r) (every isSort ps) sorts);
@@ -155,10 +155,7 @@ head-known {d} w =
 pub head-read : (d : Definition) → definitionOf (headValue d) (d .alternatives) ≡ d
 unfolding headValue definitionOf
 head-read d =
-    ap
-    (λ m.
-    record { nonterminal = d .nonterminal; mode = m; signature = d .signature; alternatives = d .alternatives })
-    (mode-read (d .mode))
+    rw (mode-read (d .mode))
 
 -- ------------------------------------------------------------------ results
 
@@ -179,7 +176,7 @@ unfolding isWhole
 result-whole w = ap isTemplate (read-template w)
 
 pub result-read : {t : Template} → TemplateWithin t → firstOf (found (templatesOf (templateThen t []))) ≡ t
-result-read w = ap (λ p. firstOf (found p)) (read-template w)
+result-read w = cc (read-template w)
 
 -- ------------------------------------------------------------------ items
 
@@ -205,7 +202,7 @@ two (a ∷ b ∷ v) e = refl
 
 -- kind and operand, and no more
 operand : (v : List ℕ) (kind x : ℕ) → eqb (getD v 0 0) kind ≡ true → eqb (length v) 2 ≡ true → getD v 1 0 ≡ x → v ≡ kind ∷ x ∷ []
-operand v kind x k l e = pair v l ∙ ap₂ (λ a b. a ∷ b ∷ []) (eqb-true (getD v 0 0) kind k) e
+operand v kind x k l e = cc (pair v l, eqb-true (getD v 0 0) kind k)
 
 -- the tests of an item's value, kind by kind
 module _ (v : List ℕ) where
@@ -254,7 +251,7 @@ module _ (v : List ℕ) (b : Bytes v) where
       let arguments =
       some-templates (drop 2 v) (templatesOf (drop 2 v)) (forms (drop 2 v) (dropped-bytes 2 v b)) (rw (tests .0) at w) in (
         call (getD v 1 0) (arguments .0),
-        two v (tests .1) ∙ ap₂ (λ k r. k ∷ getD v 1 0 ∷ r) (eqb-true (getD v 0 0) 4 (tests .0)) (arguments .1),
+        cc (two v (tests .1), eqb-true (getD v 0 0) 4 (tests .0), arguments .1),
         call-within (leb-true (getD v 1 0) 63 (tests .2)) (arguments .2),
       )
 
@@ -293,4 +290,4 @@ item-read (keyword-within h) = refl
 item-read (ide-within h l) = refl
 item-read number-within = refl
 item-read local-within = refl
-item-read (call-within {n} {ts} h w) = ap (λ p. call n (found p)) (read-templates w)
+item-read (call-within {n} {ts} h w) = cc (read-templates w)

@@ -2,7 +2,8 @@
 use Prim.Native.Nat.{ℕ}
 use mathlib.Core.Bool.{Bool, true, false, _||_}
 use lib.Dec.{ltb}
-use Rattle.grammar.specs.Sorts.{isConstructor, arity}
+use Rattle.grammar.specs.Sorts.{arity}
+use Rattle.grammar.specs.SortTests.{isConstructor}
 use Rattle.layout.specs.Prefix.{Parsed, isNameTag, isTemplates, isTemplate}
 
 -- the bytes of a template before its arguments: a variable or a constructor is one byte, a name two; 0 for an unknown byte

@@ -7,7 +7,7 @@ use lib.ListN.{length, getD, drop}
 use Rattle.answers.specs.Refusals.{refusal}
 use Rattle.answers.specs.Checked.{Checked, ok, bad, _>>=_, _>>_, need}
 use Rattle.spellings.specs.Bytes.{isWord, isKeyword, same, every}
-use Rattle.grammar.specs.Sorts.{isSort, isIdeSort}
+use Rattle.grammar.specs.SortTests.{isSort, isIdeSort}
 use Rattle.grammar.specs.Values.{Field, field, longestTable}
 use Rattle.grammar.specs.Fields.{Fields, end, cut, next, fieldsOf}
 use Rattle.layout.specs.declared.Progress.{Progress}

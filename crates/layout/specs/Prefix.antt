@@ -3,7 +3,8 @@ use Prim.Native.Nat.{ℕ, zero, suc}
 use mathlib.Core.Bool.{Bool, true, false, _||_}
 use mathlib.Core.List.{List, [], _∷_}
 use lib.Dec.{eqb, ltb}
-use Rattle.grammar.specs.Sorts.{isConstructor, arity}
+use Rattle.grammar.specs.Sorts.{arity}
+use Rattle.grammar.specs.SortTests.{isConstructor}
 use Rattle.grammar.specs.Table.{Template, Templates, variable, outside, outsideLabel, make, none, more}
 
 -- what some bytes are: the templates of which they are the prefix forms, one after the other, or none

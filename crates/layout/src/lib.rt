@@ -22,7 +22,7 @@ ghost use lib.ListN.{drop};
 ghost use Rattle.answers.specs.Refusals.{refusal};
 ghost use Rattle.answers.specs.Checked.{need, verdict};
 ghost use Rattle.spellings.specs.Bytes.{every};
-ghost use Rattle.grammar.specs.Sorts.{isSort};
+ghost use Rattle.grammar.specs.SortTests.{isSort};
 ghost use Rattle.layout.specs.Prefix.{templatesOf};
 ghost use Rattle.layout.specs.Layout.{isHead, isItem, isRoot, isKnown, follows, isSpelled, hasRoom, oneIf, passed, isWhole, checkField, start, layout};
 ghost use Rattle.layout.specs.Before.{fieldsBefore, checking};

@@ -1,8 +1,8 @@
 -- Laws of entering a table's keywords and outside names.
-use Prim.Native.Nat.{ℕ, zero, suc, _+_, _-_, _*_, _^_, _<_, _≤_}
-use mathlib.Core.Path.{_≡_, refl, sym, ap, ap₂, _∙_, subst}
+use Prim.Native.Nat.{ℕ, suc, _+_, _-_, _*_, _^_, _<_, _≤_}
+use mathlib.Core.Path.{_≡_, refl, sym, ap, _∙_}
 use mathlib.Core.List.{List, [], _∷_, _++_, append-assoc, append-nil}
-use native.Mathlib.Nat.{add-zero, zero-add}
+use native.Mathlib.Nat.{add-zero}
 use native.Mathlib.Omega.{arith}
 use lib.ListN.{length, getD, set, take, drop, replicate, length-set, length-append, length-replicate, getD-replicate, drop-of-length-le}
 use lib.Seq.{sets, length-sets, take-nil, drop-cons, getD-set-same, getD-set-other}
@@ -11,16 +11,15 @@ use Rattle.spellings.specs.Bytes.{same}
 use Rattle.spellings.proofs.BytesLaws.{by-test, same-true, same-false, equal-same, differ-same}
 use Rattle.grammar.specs.declared.Front.{Front}
 use Rattle.grammar.specs.declared.Front.the-variants.{Nothing, Short, Field}
-use Rattle.grammar.specs.Fields.{Fields, next}
 use Rattle.grammar.specs.Table.{Lexicon}
 use Rattle.grammar.specs.Lookup.{leading, afterLeading, lexiconOf, frontOf, fieldsAt}
 use Rattle.grammar.specs.declared.Found.{Found}
 use Rattle.grammar.specs.declared.Found.the-variants.{At, Absent}
 use Rattle.grammar.specs.Found.{foundIn}
-use Rattle.kinds.specs.Kinds.{keywordKind, noKind}
+use Rattle.kinds.specs.Kinds.{keywordKind}
 use Rattle.grammar.proofs.LookupLaws.{Stops, front-inside, fields-at, found-nil, found-here, found-later, keywords-at, outsides-at, few-keywords}
 use Rattle.lexicon.specs.Places.{wordsFrom, wordsIn}
-use Rattle.lexicon.specs.Trees.{Tree, Planted, Searched, Linkable, linksWith}
+use Rattle.lexicon.specs.Trees.{Planted, Searched, Linkable, linksWith}
 use Rattle.lexicon.specs.declared.trees.Spot.{Spot}
 use Rattle.lexicon.specs.LexiconRoom.{Behind, Spelled, Enters, Entered, kindFrom, Marked, Symbols, SamePlaces, Unmarked, Blank, Lexical}
 use Rattle.lexicon.proofs.PlaceLaws.{words-length, word-listed, words-alike, words-added, place-stored}
@@ -57,8 +56,7 @@ enter-one table room {links} {e = e} from size {s} spot c read f z =
     let p = c .spelled in
     let counted : length (wordsIn table room e) ≡ e = words-length e table room 0 in
     let added : wordsIn table (placedAt room e from size) (e + 1) ≡ wordsIn table room e ++ (s ∷ [])
-    = words-added table room e from size (omega (arith, c .enough, p .long))
-    ∙ ap (λ (v : List ℕ). wordsIn table room e ++ (v ∷ [])) (sym read) in
+    = cc (words-added table room e from size (omega (arith, c .enough, p .long))) in
     record {
       long = length-sets room (e * 2) (from ∷ size ∷ []) ∙ p .long;
       wide = ap length z ∙ links-long links spot e ∙ p .wide;
@@ -106,7 +104,7 @@ entering-start {table} {room} {start = start} {tag = tag} {most = most} {first =
       upto = omega arith;
       spelled = c .spelled;
       behind = λ i l. refl;
-      rest = ap (λ (n : ℕ). wordsIn table room first ++ take n (leading tag (fieldsAt table start))) z;
+      rest = cc;
     }
 
 module _ {table room₀ : List ℕ} {start tag most first : ℕ} {room links : List ℕ} {at e : ℕ}
@@ -116,7 +114,7 @@ module _ {table room₀ : List ℕ} {start tag most first : ℕ} {room links : L
   entered z =
       record {
         few = omega (arith, c .upto, c .enough);
-        listed = sym (append-nil (wordsIn table room e)) ∙ ap (λ (l : List (List ℕ)). wordsIn table room e ++ l) (sym z) ∙ c .rest;
+        listed = cc (append-nil (wordsIn table room e), c .rest);
         spelled = c .spelled;
         behind = c .behind;
       }
@@ -130,7 +128,7 @@ module _ {table room₀ : List ℕ} {start tag most first : ℕ} {room links : L
       → Entered table room₀ room links e (wordsIn table room₀ first ++ take most (leading tag (fieldsAt table start)))
   entering-end h =
       let z : first + most - e ≡ 0 = omega arith in
-      entered (ap (λ (n : ℕ). take n (leading tag (fieldsAt table at))) z)
+      entered (cc)
 
   pub entering-next : e < first + most → {t n : ℕ} → Field t n ≡ frontOf (drop at table) → t ≡ tag → {room′ links′ : List ℕ}
       → room′ ≡ placedAt room e (at + 3) n
@@ -138,13 +136,11 @@ module _ {table room₀ : List ℕ} {start tag most first : ℕ} {room links : L
       → Entering table room₀ start tag most first room′ links′ (at + 3 + n) (e + 1)
   entering-next h {t} {n} f tagged {room′} er k =
       let w : wordsIn table room′ (e + 1) ≡ wordsIn table room e ++ (take n (drop (at + 3) table) ∷ [])
-      = ap (λ (r : List ℕ). wordsIn table r (e + 1)) er
-      ∙ words-added table room e (at + 3) n (omega (arith, c .enough, c .spelled .long)) in
+      = cc (words-added table room e (at + 3) n (omega (arith, c .enough, c .spelled .long))) in
       let z : first + most - e ≡ suc (first + most - (e + 1)) = omega arith in
       let rest : List (List ℕ) = take (first + most - (e + 1)) (leading tag (fieldsAt table (at + 3 + n))) in
       let one : take (first + most - e) (leading tag (fieldsAt table at)) ≡ take n (drop (at + 3) table) ∷ rest
-      = ap (λ (i : ℕ). take i (leading tag (fieldsAt table at))) z
-      ∙ ap (take (suc (first + most - (e + 1)))) (leading-goes table at tag t n f tagged) in
+      = cc (leading-goes table at tag t n f tagged) in
       record {
         short = c .short;
         enough = c .enough;
@@ -153,15 +149,14 @@ module _ {table room₀ : List ℕ} {start tag most first : ℕ} {room links : L
         spelled = k;
         behind =
             λ i l.
-            ap (λ (r : List ℕ). getD r i 0) (er ∙ sym (place-stored room (e * 2) (at + 3) n))
-            ∙ getD-set-other (set room (e * 2) (at + 3)) (e * 2 + 1) i n 0 (λ q. omega (arith, q, c .enough))
-            ∙ getD-set-other room (e * 2) i (at + 3) 0 (λ q. omega (arith, q, c .enough))
-            ∙ c .behind i l;
+            cc (
+              place-stored room (e * 2) (at + 3) n,
+              getD-set-other (set room (e * 2) (at + 3)) (e * 2 + 1) i n 0 (λ q. omega (arith, q, c .enough)),
+              getD-set-other room (e * 2) i (at + 3) 0 (λ q. omega (arith, q, c .enough)),
+              c .behind i l,
+            );
         rest =
-            ap (λ (l : List (List ℕ)). l ++ rest) w
-            ∙ append-assoc (wordsIn table room e) (take n (drop (at + 3) table) ∷ []) rest
-            ∙ ap (λ (l : List (List ℕ)). wordsIn table room e ++ l) (sym one)
-            ∙ c .rest;
+            cc (append-assoc (wordsIn table room e) (take n (drop (at + 3) table) ∷ []) rest, c .rest);
       }
 
   -- what it asks to enter one more
@@ -184,14 +179,14 @@ module _ (room : List ℕ) {s : List ℕ} {k : ℕ} where
       record {
         this =
             λ b l e.
-            let z : getD s 0 0 ≡ b = ap (λ (v : List ℕ). getD v 0 0) e in
+            let z : getD s 0 0 ≡ b = cc in
             rw z (getD-set-same room (252 + b) (k + 2) 0 (omega arith));
         others =
             λ b l d.
             getD-set-other room (252 + getD s 0 0) (252 + b) (k + 2) 0
             (λ e.
             let z : getD s 0 0 ≡ b = omega (arith, e) in
-            d (one-long s one ∙ ap (λ (x : ℕ). x ∷ []) z));
+            d (cc (one-long s one)));
         before = λ i l. getD-set-other room (252 + getD s 0 0) i (k + 2) 0 (λ e. omega (arith, e));
         same-length = length-set room (252 + getD s 0 0) (k + 2);
       }
@@ -209,7 +204,7 @@ module _ (room : List ℕ) {s : List ℕ} {k : ℕ} where
 module _ (k : ℕ) (v : List ℕ) (vs : List (List ℕ)) (s : List ℕ) where
   kind-here : v ≡ s → kindFrom k (v ∷ vs) s ≡ keywordKind k
   unfolding kindFrom
-  kind-here e = rw (found-here s v vs (equal-same v s e), kindFrom) (ap (λ (n : ℕ). n + 2) (add-zero k))
+  kind-here e = rw (found-here s v vs (equal-same v s e), kindFrom) (cc (add-zero k))
 
   kind-later : (v ≡ s → ⊥) → kindFrom k (v ∷ vs) s ≡ kindFrom (k + 1) vs s
   unfolding kindFrom
@@ -290,7 +285,7 @@ pub marking-end : {table room₀ : List ℕ} {count : ℕ} {room : List ℕ} {k 
     → Symbols (wordsIn table room₀ count) 0 room × SamePlaces room₀ room
 marking-end {table} {room₀} {count} {room} {k} c h =
     let z : k ≡ 0 = omega arith in
-    (subst (λ (n : ℕ). Symbols (wordsIn table room₀ count) n room) z (c .symbols), c .places)
+    (rw (z) at c .symbols, c .places)
 
 -- ------------------------------------------------------------------ the lexicon
 
@@ -367,16 +362,14 @@ module _ {table room₀ links₀ : List ℕ} (b : Blank room₀ links₀) (short
 
         listed₃ : wordsIn table room₃ total ≡ lexiconOf table .keywords ++ lexiconOf table .outsides
         listed₃ =
-            e₂ .listed
-            ∙ ap₂ (λ (x y : List (List ℕ)). x ++ y) (same-keywords ∙ keywords-listed) (sym (outsides-at table names n))
+            cc (e₂ .listed, same-keywords, keywords-listed, outsides-at table names n)
 
         listed₄ : wordsIn table room₄ total ≡ wordsIn table room₃ total
         listed₄ = words-alike total table room₃ room₄ 0 (λ j l. before₄ j (omega (arith, e₂ .few)))
 
         symbols₄ : (c : ℕ) → c < 128 → getD room₄ (252 + c) 0 ≡ kindFrom 0 (lexiconOf table .keywords) (c ∷ [])
         symbols₄ c l =
-            before₄ (252 + c) (omega arith) ∙ e₂ .behind (252 + c) (omega arith) ∙ m .0 c l
-            ∙ ap (λ (vs : List (List ℕ)). kindFrom 0 vs (c ∷ [])) keywords-listed
+            cc (before₄ (252 + c) (omega arith), e₂ .behind (252 + c) (omega arith), m .0 c l, keywords-listed)
 
         lexical₄ : Lexical table room₄ links₃
         unfolding room₄

@@ -9,12 +9,8 @@ use native.Mathlib.Omega.{arith}
 use lib.ListN.{length, getD, set, take, drop, length-set}
 use lib.Seq.{sets, getD-set-same, getD-set-other}
 use Rattle.spellings.specs.Bytes.{same, indexOf}
-use Rattle.spellings.proofs.BytesLaws.{same-refl, index-le}
+use Rattle.spellings.proofs.BytesLaws.{index-le}
 use Rattle.lexicon.specs.Places.{wordAt, wordsFrom, wordsIn}
-
-pub index-self : (s : List ℕ) → indexOf s (s ∷ []) ≡ 0
-unfolding indexOf
-index-self s = rw (same-refl s, indexOf) refl
 
 pub place-stored : (room : List ℕ) (i a b : ℕ) → set (set room i a) (i + 1) b ≡ sets room i (a ∷ b ∷ [])
 place-stored room i a b = rw add-one refl
@@ -35,8 +31,7 @@ words-at zero formula room i j h = absurd (omega arith)
 words-at (suc k) formula room i zero h = rw add-zero refl
 words-at (suc k) formula room i (suc j) h =
     let z : i + 1 + j ≡ i + suc j = omega arith in
-    words-at k formula room (i + 1) j (omega arith)
-    ∙ ap (λ (n : ℕ). take (getD room (n * 2 + 1) 0) (drop (getD room (n * 2) 0) formula)) z
+    cc (words-at k formula room (i + 1) j (omega arith))
 
 pub word-listed : (count : ℕ) (text room : List ℕ) (j : ℕ) → j < count → getD (wordsIn text room count) j [] ≡ wordAt text room j
 word-listed count text room j h = let z : 0 + j ≡ j = omega arith in words-at count text room 0 j h ∙ ap (wordAt text room) z
@@ -68,9 +63,7 @@ unfolding wordsFrom
 words-snoc zero formula room i = rw add-zero refl
 words-snoc (suc k) formula room i =
     let z : i + 1 + k ≡ i + suc k = omega arith in
-    ap (λ (l : List (List ℕ)). take (getD room (i * 2 + 1) 0) (drop (getD room (i * 2) 0) formula) ∷ l)
-    (words-snoc k formula room (i + 1)
-    ∙ ap (λ (j : ℕ). wordsFrom k formula room (i + 1) ++ (take (getD room (j * 2 + 1) 0) (drop (getD room (j * 2) 0) formula) ∷ [])) z)
+    cc (words-snoc k formula room (i + 1))
 
 -- a store behind the words leaves them
 words-same : (k : ℕ) (formula room : List ℕ) (i j v : ℕ) → (i + k) * 2 ≤ j

@@ -1,5 +1,5 @@
 -- Laws of the trees of spellings: what a search finds, and that one more spelling keeps them. They hold for any hash.
-use Prim.Native.Nat.{ℕ, zero, suc, _+_, _-_, _*_, _/_, _%_, _<_, _≤_}
+use Prim.Native.Nat.{ℕ, zero, suc, _+_, _-_, _*_, _/_, _<_, _≤_}
 use mathlib.Core.Path.{_≡_, refl, sym, ap, _∙_, subst}
 use mathlib.Core.Bool.{Bool, true, false}
 use mathlib.Core.List.{List, [], _∷_, _++_}
@@ -7,11 +7,11 @@ use native.Mathlib.Nat.{add-zero}
 use native.Mathlib.Omega.{arith}
 use lib.Bits.{bitAnd, and-le-r}
 use lib.Dec.{eqb, ltb}
-use lib.ListN.{length, getD, set, take, drop, replicate, drop-of-length-le, length-set, length-append, List·getD-append}
+use lib.ListN.{length, getD, set, drop, replicate, drop-of-length-le, length-set, length-append, List·getD-append}
 use lib.Seq.{getD-set-same, getD-set-other, getD-at}
 use borrow.Author.Tests.{eqb-true, eqb-false, ltb-true, ltb-false}
 use Rattle.spellings.specs.Bytes.{same, indexOf, run, isWordByte}
-use Rattle.spellings.proofs.BytesLaws.{by-test, same-true, same-false, index-le, index-found, index-front, index-rest, run-taken, run-left}
+use Rattle.spellings.proofs.BytesLaws.{by-test, same-true, same-false, index-le, index-self, index-found, index-front, index-rest, run-taken, run-left}
 use Rattle.spellings.proofs.Loops.{drop-at-index}
 use Rattle.lexicon.specs.Trees.{mixed, hashFrom, seed, hashOf, Hashed}
 use Rattle.lexicon.specs.Trees.{rootOf, turnsOf, branchOf, Leads, there, further, Linked, Tree, Planted, Extends, FreeFor, FoundAt}
@@ -19,7 +19,7 @@ use Rattle.lexicon.specs.Trees.{Searched, Linkable, linksWith}
 use Rattle.lexicon.specs.declared.trees.Spot.{Spot}
 use Rattle.lexicon.specs.declared.trees.Spot.the-variants.{Node, Free}
 use Rattle.lexicon.specs.Places.{wordAt, wordsIn}
-use Rattle.lexicon.proofs.PlaceLaws.{index-self, words-length, word-same}
+use Rattle.lexicon.proofs.PlaceLaws.{words-length, word-same}
 
 -- ------------------------------------------------------------------ hashes
 
@@ -30,7 +30,7 @@ pub record Hashing (s : List ℕ) (i h : ℕ) : Type 0 where
 module _ {s : List ℕ} {i h : ℕ} (c : Hashing s i h) where
   pub hashing-next : {h′ : ℕ} → h′ ≡ mixed h (getD s i 0) → i < length s → Hashing s (i + 1) h′
   unfolding hashFrom
-  hashing-next e l = record { rest = ap (λ (x : ℕ). hashFrom x (drop (i + 1) s)) e ∙ sym (ap (hashFrom h) (drop-at-index s i l)) ∙ c .rest }
+  hashing-next e l = record { rest = cc (drop-at-index s i l, c .rest) }
 
   pub hashing-end : {h′ : ℕ} → h′ ≡ mixed h 0 → length s ≤ i → h′ ≡ hashOf s
   unfolding hashFrom
@@ -56,7 +56,7 @@ module _ {s : List ℕ} {at i h : ℕ} (c : Running s at i h) where
         record {
           after = omega (arith, c .after);
           sized = omega (arith, c .after, c .sized, ap length taken);
-          rest = ap (λ (x : ℕ). hashFrom x (run isWordByte (drop (i + 1) s))) e ∙ sym (ap (hashFrom h) taken) ∙ c .rest;
+          rest = cc (e, taken, c .rest);
         }
 
   running-ends : run isWordByte (drop i s) ≡ [] → {h′ : ℕ} → h′ ≡ mixed h 0 → Hashed (run isWordByte (drop at s)) (i - at) h′
@@ -92,14 +92,14 @@ module _ {mask : ℕ} {words : List (List ℕ)} {links : List ℕ} (k : Tree mas
       pub walking-found : same (getD words j []) s ≡ true → FoundAt words s j
       walking-found f =
           let n : Linked mask words slot j = k .linked slot j e in
-          record { index = sym (n .first) ∙ ap (λ (v : List ℕ). indexOf v words) (same-true (getD words j []) s f); inside = n .small }
+          record { index = cc (n .first, same-true (getD words j []) s f); inside = n .small }
 
       -- the node that s is found at is not this one
       onward : {turns i : ℕ} → (i ≡ j → ⊥) → Leads links mask slot turns i → Leads links mask (branchOf mask j turns) (turns / 2) i
       onward {turns} {i} no-this (there f) = absurd (no-this (omega (arith, sym f ∙ e)))
       onward {turns} {i} no-this (further {j = j′} f l) =
           let z : j′ ≡ j = omega (arith, sym f ∙ e) in
-          subst (λ (x : ℕ). Leads links mask (branchOf mask x turns) (turns / 2) i) z l
+          rw (z) at l
 
       pub walking-next : same (getD words j []) s ≡ false → Walking mask words links s (branchOf mask j turns) (turns / 2)
       walking-next f =
@@ -109,7 +109,7 @@ module _ {mask : ℕ} {words : List (List ℕ)} {links : List ℕ} (k : Tree mas
             ahead =
                 λ h.
                 let differs : indexOf s words ≡ j → ⊥
-                = λ z. same-false (getD words j []) s f (ap (λ (i : ℕ). getD words i []) (sym z) ∙ index-found s words h) in
+                = λ z. same-false (getD words j []) s f (cc (index-found s words h)) in
                 onward differs (w .ahead h);
             back = λ links′ i x l. w .back links′ i x (further (x slot j e) l);
           }
@@ -161,9 +161,7 @@ module _ {mask : ℕ} {words : List (List ℕ)} {links : List ℕ} (k : Tree mas
       record {
         small = omega (arith, n .small, longer);
         first =
-            ap (λ (v : List ℕ). indexOf v (words ++ (s ∷ []))) g
-            ∙ index-front (getD words j []) words (s ∷ []) (omega (arith, n .first, n .small))
-            ∙ n .first;
+            cc (index-front (getD words j []) words (s ∷ []) (omega (arith, n .first, n .small)), n .first);
         behind = n .behind;
       }
 
@@ -185,9 +183,8 @@ module _ {mask : ℕ} {words : List (List ℕ)} {links : List ℕ} (k : Tree mas
             let r : indexOf v (words ++ (s ∷ [])) ≡ length words + indexOf v (s ∷ []) = index-rest v words (s ∷ []) none in
             let z : indexOf v (s ∷ []) ≡ 0 = omega (arith, r, longer, h) in
             let one : getD (s ∷ []) (indexOf v (s ∷ [])) [] ≡ v = index-found v (s ∷ []) (omega arith) in
-            let same-word : s ≡ v = ap (λ (i : ℕ). getD (s ∷ []) i []) (sym z) ∙ one in
-            subst (λ (u : List ℕ). Leads links′ mask (rootOf mask u) (turnsOf u) (indexOf u (words ++ (s ∷ [])))) same-word
-            (rw (index-rest s words (s ∷ []) (ap (λ (u : List ℕ). indexOf u words) same-word ∙ none), index-self s, add-zero)
+            let same-word : s ≡ v = cc in
+            rw (← same-word) (rw (index-rest s words (s ∷ []) (ap (λ (u : List ℕ). indexOf u words) same-word ∙ none), index-self s, add-zero)
             (new (ap (λ (u : List ℕ). indexOf u words) same-word ∙ none)))
 
   -- one that stands there already needs no node
@@ -226,7 +223,7 @@ module _ {mask : ℕ} {words : List (List ℕ)} {links : List ℕ} (k : Tree mas
         record {
           small = omega (arith, longer);
           first =
-              ap (λ (v : List ℕ). indexOf v (words ++ (s ∷ []))) g ∙ index-rest s words (s ∷ []) (f .none)
+              rw (g) refl ∙ index-rest s words (s ∷ []) (f .none)
               ∙ omega (arith, index-self s, n);
           behind = omega (arith, f .below);
         })
@@ -267,7 +264,7 @@ module _ (links : List ℕ) {spot : Spot} {slot : ℕ} (z : spot ≡ Free slot) 
   free-inside h = subst (Linkable links) z h
 
   pub free-set : (e : ℕ) → set links slot (e + 1) ≡ linksWith links spot e
-  free-set e = sym (ap (λ (r : Spot). linksWith links r e) z)
+  free-set e = sym (cc)
 
 -- ------------------------------------------------------------------ the search as the code has it
 
@@ -285,8 +282,8 @@ module _ {text places links : List ℕ} {mask count : ℕ} (k : Planted text pla
   pub chasing-start : {h slot turns p : ℕ} → h ≡ hashOf s → slot ≡ bitAnd h mask → turns ≡ h / 2048 → p ≡ getD links slot 0
       → Chasing text places links mask count s slot turns p
   chasing-start {h} {slot} {turns} eh es et ep =
-      let a : slot ≡ rootOf mask s = es ∙ ap (λ (x : ℕ). bitAnd x mask) eh in
-      let b : turns ≡ turnsOf s = et ∙ ap (λ (x : ℕ). x / 2048) eh in
+      let a : slot ≡ rootOf mask s = cc in
+      let b : turns ≡ turnsOf s = cc in
       chased ep (rw (a, b) (walking-start (k .tree) s))
 
   pub root-inside : (h : ℕ) → bitAnd h mask < length links

@@ -1,11 +1,10 @@
 -- The rooms that hold a table's keywords and outside names during a scan. Nobody needs these definitions to believe `scan`: its contract
 -- does not cite them.
-use Prim.Native.Nat.{ℕ, _+_, _*_, _^_, _<_, _≤_}
+use Prim.Native.Nat.{ℕ, _+_, _^_, _<_, _≤_}
 use mathlib.Core.Path.{_≡_}
 use mathlib.Core.List.{List, [], _∷_, _++_}
 use lib.ListN.{length, getD, drop}
 use Rattle.grammar.specs.declared.Found.the-variants.{At, Absent}
-use Rattle.grammar.specs.Table.{Lexicon}
 use Rattle.grammar.specs.Lookup.{lexiconOf}
 use Rattle.grammar.specs.Found.{foundIn}
 use Rattle.kinds.specs.Kinds.{keywordKind, noKind}

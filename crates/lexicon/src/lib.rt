@@ -6,9 +6,9 @@ pub mod trees;
 use crate::trees::find;
 use crate::trees::hash;
 use crate::trees::link;
-use crate::trees::wide;
 use grammar::Front;
 use grammar::reader::part;
+use spellings::wide_number;
 ghost use mathlib.Core.Path.{_≡_};
 ghost use mathlib.Core.List.{[], _∷_, _++_};
 ghost use Prim.Native.Nat.{ℕ, _+_, _*_, _^_, _≤_, _<_};
@@ -96,8 +96,8 @@ fn mark_symbols(table: &[u8], room: &mut [u32], count: usize)
     let mut k = count;
     while 0 < k {
         k -= 1;
-        let at = wide(room[k * 2]);
-        let size = wide(room[k * 2 + 1]);
+        let at = wide_number(room[k * 2]);
+        let size = wide_number(room[k * 2 + 1]);
         mark(room, part(table, at, size), k);
     }
 }

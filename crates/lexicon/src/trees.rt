@@ -3,6 +3,7 @@
 // numbers of nodes, counted from 1, and 0 leads to none: first one for each tree, then two for each node. What is found does not depend
 // on the hash; it is a product and a fold of 64 bits at each byte, so that no short list of words has long branches.
 use grammar::reader::part;
+use spellings::wide_number;
 ghost use mathlib.Core.Path.{_≡_};
 ghost use Prim.Native.Nat.{_+_, _*_, _≤_, _<_};
 ghost use lib.ListN.{length, drop};
@@ -20,13 +21,6 @@ pub enum Spot {
 pub struct Run {
     pub size: usize,
     pub hash: u64,
-}
-
-// A number of a room as an index.
-pub fn wide(x: u32) -> usize
-    ensures { λ r. ⌜ r ≡ x ⌝ }
-{
-    x as usize
 }
 
 fn byte(b: u8) -> u64
@@ -87,8 +81,8 @@ fn is_spelled(text: &[u8], places: &[u32], i: usize, s: &[u8]) -> bool
     requires { ⌜ i * 2 + 1 < length (now places) ⌝ }
     ensures { λ r. ⌜ r ≡ same (wordAt (now (text .entry)) (now (places .entry)) i) (now (s .entry)) ⌝ }
 {
-    let at = wide(places[i * 2]);
-    let size = wide(places[i * 2 + 1]);
+    let at = wide_number(places[i * 2]);
+    let size = wide_number(places[i * 2 + 1]);
     spellings::equal(part(text, at, size), s)
 }
 
@@ -108,7 +102,7 @@ pub fn find(
 {
     let mut slot = (hash & mask as u64) as usize;
     let mut turns = hash / 2048;
-    let mut p = wide(links[slot]);
+    let mut p = wide_number(links[slot]);
     while 0 < p {
         let i = p - 1;
         let here = is_spelled(text, places, i, s);
@@ -117,7 +111,7 @@ pub fn find(
         }
         slot = mask + 1 + i * 2 + (turns % 2) as usize;
         turns = turns / 2;
-        p = wide(links[slot]);
+        p = wide_number(links[slot]);
     }
     Spot::Free(slot)
 }

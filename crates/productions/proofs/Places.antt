@@ -17,7 +17,7 @@ use Rattle.grammar.specs.declared.Front.{Front}
 use Rattle.grammar.specs.declared.Front.the-variants.{Nothing, Short}
 use Rattle.grammar.specs.declared.Front.the-variants as front
 use Rattle.grammar.specs.Lookup.{frontOf, fieldsAt}
-use Rattle.grammar.specs.Sorts.{isSort, isIdeSort}
+use Rattle.grammar.specs.SortTests.{isSort, isIdeSort}
 use Rattle.grammar.specs.Table.{Mode, add, extend, update}
 use Rattle.grammar.proofs.LookupLaws.{fields-at, fields-of, front-inside, opened}
 use Rattle.layout.specs.Prefix.{templatesOf, isTemplates}

@@ -1,6 +1,6 @@
 -- Rooms of numbers: all zeros, and runs of stores.
 use Prim.Native.Nat.{ℕ, suc, _+_, _<_, _≤_}
-use mathlib.Core.Path.{_≡_, refl, sym, ap, _∙_}
+use mathlib.Core.Path.{_≡_, refl, ap, _∙_}
 use mathlib.Core.List.{List, [], _∷_, _++_}
 use native.Mathlib.Nat.{add-zero}
 use native.Mathlib.Omega.{arith}
@@ -19,13 +19,13 @@ zeros n k =
 
 -- two runs of stores, one behind the other, are one
 pub sets-append : (l : List ℕ) (i : ℕ) (a b : List ℕ) → sets l i (a ++ b) ≡ sets (sets l i a) (i + length a) b
-sets-append l i [] b = ap (λ n. sets l n b) (sym (add-zero i))
-sets-append l i (x ∷ a) b = sets-append (set l i x) (suc i) a b ∙ ap (λ n. sets (sets (set l i x) (suc i) a) n b) (omega arith)
+sets-append l i [] b = cc (add-zero i)
+sets-append l i (x ∷ a) b = let e : suc i + length a ≡ i + suc (length a) = omega arith in cc (sets-append (set l i x) (suc i) a b)
 
 -- a store before a run of stores may come after it
 pub set-sets : (l : List ℕ) (p i v : ℕ) (a : List ℕ) → p < i → set (sets l i a) p v ≡ sets (set l p v) i a
 set-sets l p i v [] h = refl
-set-sets l p i v (x ∷ a) h = set-sets (set l i x) p (suc i) v a (omega arith) ∙ ap (λ m. sets m (suc i) a) (set-comm l i p x v (λ e. omega arith))
+set-sets l p i v (x ∷ a) h = cc (set-sets (set l i x) p (suc i) v a (omega arith), set-comm l i p x v (λ e. omega arith))
 
 -- what was stored at the front stands there
 pub sets-front : (room ms : List ℕ) (n : ℕ) → length ms ≡ n → n ≤ length room → take n (sets room 0 ms) ≡ ms

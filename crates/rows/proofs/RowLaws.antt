@@ -6,7 +6,6 @@ use mathlib.Core.Bool.{Bool, true, false, true≢false}
 use mathlib.Core.List.{List, [], _∷_}
 use native.Mathlib.Omega.{arith}
 use native.Mathlib.Decide.{decLt}
-use lib.Dec.{ltb, eqb}
 use lib.ListN.{getD}
 use borrow.Author.Tests.{lt-ltb, le-ltb, eq-eqb, ne-eqb}
 use Rattle.terms.specs.Cells.{column, nameBase}
@@ -172,8 +171,7 @@ module _ (spell : ℕ → List ℕ) (cells : List ℕ) (k r : ℕ) where
     by-code : {c : Constructor} → constructorOf code ≡ c → termAt k spell cells r ≡ termBy c spell cells r Below BelowFields
     unfolding termAt
     by-code e =
-        ap (λ n. termAt n spell cells r) deeper
-        ∙ ap (λ c. termBy c spell cells r Below BelowFields) (ap constructorOf (sym at) ∙ e)
+        cc deeper
 
     pub fun-row : code ≡ 33 → termAt k spell cells r ≡ function (nameOf spell (column cells r 1)) (Below (column cells r 2))
     unfolding constructorOf termBy
@@ -232,8 +230,7 @@ module _ (spell : ℕ → List ℕ) (cells : List ℕ) (k r : ℕ) where
     fields-by : (b : Bool) → isCons (constructorOf code) ≡ b → fieldsAt k spell cells r ≡ fieldsBy b spell cells r Below BelowFields
     unfolding fieldsAt
     fields-by b e =
-        ap (λ n. fieldsAt n spell cells r) deeper
-        ∙ ap (λ c. fieldsBy c spell cells r Below BelowFields) (ap (λ n. isCons (constructorOf n)) (sym at) ∙ e)
+        cc deeper
 
     pub cons-row : code ≡ 38 → fieldsAt k spell cells r ≡ cons (spell (column cells r 1)) (Below (column cells r 2)) (BelowFields (column cells r 3))
     unfolding constructorOf fieldsBy

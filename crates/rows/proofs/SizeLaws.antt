@@ -1,6 +1,6 @@
 -- What is left of a number of constructors without those of a term, part by part.
-use Prim.Native.Nat.{ℕ, zero, suc, _+_, _-_, _<_, _≤_}
-use mathlib.Core.Path.{_≡_, refl, ap, ap₂, _∙_}
+use Prim.Native.Nat.{ℕ, zero, suc, _-_, _<_}
+use mathlib.Core.Path.{_≡_, refl, ap}
 use mathlib.Core.Bool.{Bool, true, false}
 use mathlib.Core.List.{List}
 use native.Mathlib.Omega.{arith}
@@ -66,7 +66,7 @@ size-by : (c : Constructor) (k : ℕ) (s s′ : ℕ → List ℕ) (cells : List 
 unfolding size sizeFields termBy
 size-by mkTermVar k s s′ cells r t f = refl
 size-by mkTermFun k s s′ cells r t f = ap suc (t (column cells r 2))
-size-by mkTermApp k s s′ cells r t f = ap₂ (λ a b. suc (a + b)) (t (column cells r 1)) (t (column cells r 2))
+size-by mkTermApp k s s′ cells r t f = cc (t (column cells r 1), t (column cells r 2))
 size-by mkTermRcd k s s′ cells r t f = ap suc (f (column cells r 1))
 size-by mkTermDot k s s′ cells r t f = ap suc (t (column cells r 1))
 size-by mkFieldNil k s s′ cells r t f = refl
@@ -78,7 +78,7 @@ size-by-fields : (b : Bool) (k : ℕ) (s s′ : ℕ → List ℕ) (cells : List 
     → sizeFields (fieldsBy b s cells r (λ q. termAt k s cells q) (λ q. fieldsAt k s cells q))
     ≡ sizeFields (fieldsBy b s′ cells r (λ q. termAt k s′ cells q) (λ q. fieldsAt k s′ cells q))
 unfolding sizeFields fieldsBy
-size-by-fields true k s s′ cells r t f = ap₂ (λ a b. suc (a + b)) (t (column cells r 2)) (f (column cells r 3))
+size-by-fields true k s s′ cells r t f = cc (t (column cells r 2), f (column cells r 3))
 size-by-fields false k s s′ cells r t f = refl
 
 mutual

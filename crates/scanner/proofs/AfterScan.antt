@@ -1,10 +1,10 @@
 -- What holds after a call of `scan` that was not refused, for the calls that read its rooms.
-use Prim.Native.Nat.{ℕ, suc, _+_, _*_, _^_, _<_, _≤_}
-use mathlib.Core.Path.{_≡_, refl, sym, ap, _∙_}
-use mathlib.Core.List.{List, [], _∷_, _++_}
+use Prim.Native.Nat.{ℕ, _+_, _*_, _^_, _<_, _≤_}
+use mathlib.Core.Path.{_≡_, sym, ap, _∙_}
+use mathlib.Core.List.{List, [], _∷_}
 use native.Mathlib.Omega.{arith}
 use lib.Dec.{lit≤, ltb}
-use lib.ListN.{length, getD, take, drop, length-append, List·getD-eq-default}
+use lib.ListN.{length, getD, length-append, List·getD-eq-default}
 use lib.Seq.{sets, length-sets}
 use borrow.Author.Tests.{ltb-true, ltb-false}
 use Rattle.spellings.specs.Bytes.{largest}
@@ -13,9 +13,8 @@ use Rattle.kinds.specs.Kinds.{wordKind}
 use Rattle.answers.specs.declared.Refusal.{Refusal}
 use Rattle.grammar.specs.Table.{Lexicon}
 use Rattle.scanner.specs.declared.Token.{Token}
-use Rattle.scanner.specs.declared.Scanned.{Scanned}
 use Rattle.scanner.specs.declared.Scanned.the-variants.{Tokens, Unscanned}
-use Rattle.scanner.specs.Scan.{Lexed, wordsWith, scan}
+use Rattle.scanner.specs.Scan.{Lexed, scan}
 use Rattle.scanner.specs.Tokens.{endToken}
 use Rattle.scanner.specs.Rooms.{rows, rowOf, tokensIn, places, wordsIn, RoomFor, TokensFit, filled, scanInto}
 use Rattle.scanner.specs.Tiling.{Stands, a-keyword, a-keyword-symbol, an-outside-name, a-word-again, a-new-word, a-number, a-symbol}
@@ -114,7 +113,7 @@ module _ (lex : Lexicon) (few : length (lex .outsides) ≤ 64) (formula : List �
                 values =
                     λ i l.
                     let r : rowOf (sets tokens 0 (rows ts)) i ≡ getD ts i endToken
-                    = token-in (sets tokens 0 (rows ts)) n i l ∙ ap (λ (us : List Token). getD us i endToken) t in
+                    = cc (token-in (sets tokens 0 (rows ts)) n i l) in
                     let small = every-at _ ts i endToken (scan-sized .values) (omega (arith, c .0)) in
                     omega (arith, ap (λ (u : Token). u .value) r, small, largest-fits);
               };

@@ -1,7 +1,7 @@
 -- The scan goes by the rules: it follows a tiling to its end, and stops where the rules do.
 use Prim.Native.Nat.{ℕ, zero, suc, _+_, _<_, _≤_}
-use mathlib.Core.Path.{_≡_, refl, sym, ap, _∙_, subst}
-use mathlib.Core.Bool.{Bool, true}
+use mathlib.Core.Path.{_≡_, refl, ap, _∙_}
+use mathlib.Core.Bool.{true}
 use mathlib.Core.List.{List, [], _∷_}
 use native.Mathlib.Nat.{add-zero}
 use native.Mathlib.Omega.{arith}
@@ -56,14 +56,14 @@ module _ (lex : Lexicon) (few : length (lex .outsides) ≤ 64) (formula : List �
       → n + length ts ≤ 4096
       → Follows k at n met ts to met′
   follow {at} {met = met} here k n enough small =
-      record { fuel = k; enough = enough; same = ap (λ (m : ℕ). lexFrom k lex at (drop at formula) m met) (sym (add-zero n)) }
+      record { fuel = k; enough = enough; same = cc (add-zero n) }
   follow (past-separator h s d) zero n enough small = absurd (omega arith)
   follow {at} {met = met} (past-separator h s d) (suc k) n enough small =
       let some : 0 < length (drop at formula) = omega (arith, length-drop at formula) in
       let e : Skip ≡ stepOf lex met at (drop at formula)
       = step-by lex met at (drop at formula) (lexeme-separator (drop at formula) (ap isSeparator (front-byte formula at) ∙ s)) in
       let l : lexFrom (suc k) lex at (drop at formula) n met ≡ lexFrom k lex (at + 1) (drop (at + 1) formula) n met
-      = lex-step k lex at (drop at formula) n met Skip some e ∙ ap (λ (r : List ℕ). lexFrom k lex (at + 1) r n met) (drop-drop 1 at formula) in
+      = cc (lex-step k lex at (drop at formula) n met Skip some e, drop-drop 1 at formula) in
       let f = follow d k n (omega arith) small in
       record { fuel = f .fuel; enough = f .enough; same = l ∙ f .same }
   follow (past-token h st d) zero n enough small = absurd (omega arith)
@@ -84,10 +84,7 @@ module _ (lex : Lexicon) (few : length (lex .outsides) ≤ 64) (formula : List �
         same =
             l
             ∙ ap (withToken t)
-            (ap (λ (ws : List (List ℕ)). lexFrom k lex (at + t .size) (drop (t .size) rest) (n + 1) ws) (m .words)
-            ∙ ap (λ (r : List ℕ). lexFrom k lex (at + t .size) r (n + 1) met₁) (drop-drop (t .size) at formula)
-            ∙ f .same
-            ∙ ap (λ (i : ℕ). prefixed ts (lexFrom (f .fuel) lex to (drop to formula) i met′)) z);
+            (cc (m .words, drop-drop (t .size) at formula, f .same));
       }
 
   -- A formula that is tiled by few enough tokens is scanned into these.
@@ -100,12 +97,12 @@ module _ (lex : Lexicon) (few : length (lex .outsides) ≤ 64) (formula : List �
       let z : 0 + length ts ≡ length ts = omega arith in
       let past : length formula ≤ length formula = omega arith in
       let none : drop (length formula) formula ≡ [] = drop-of-length-le formula past in
-      scan-short lex formula short ∙ f .same
-      ∙ ap (prefixed ts)
-      (ap (λ (r : List ℕ). lexFrom (f .fuel) lex (length formula) r (0 + length ts) words) none
-      ∙ lex-end (f .fuel) lex (length formula) (0 + length ts) words)
-      ∙ prefixed-end ts (Tokens (0 + length ts) (length words)) words
-      ∙ ap (λ (i : ℕ). record { answer = Tokens i (length words); tokens = ts; words = words }) z
+      cc (
+        scan-short lex formula short,
+        f .same,
+        lex-end (f .fuel) lex (length formula) (0 + length ts) words,
+        prefixed-end ts (Tokens (0 + length ts) (length words)) words,
+      )
 
   -- ------------------------------------------------------------------ where the rules stop
 
@@ -114,7 +111,7 @@ module _ (lex : Lexicon) (few : length (lex .outsides) ≤ 64) (formula : List �
   fault-answer zero at n met enough h f = absurd (omega arith)
   fault-answer (suc k) at n met enough h f =
       let e : Stop ≡ stepOf lex met at (drop at formula) = step-by lex met at (drop at formula) (lexeme-fault (drop at formula) f) in
-      ap (λ (l : Lexed). l .answer) (lex-step k lex at (drop at formula) n met Stop (omega (arith, length-drop at formula)) e)
+      cc (lex-step k lex at (drop at formula) n met Stop (omega (arith, length-drop at formula)) e)
 
   token-answer : (k at n : ℕ) (met met′ : List (List ℕ)) (t : Token) → length formula ≤ at + k → at < length formula → n ≡ mostTokens
       → Stands lex at (drop at formula) met t met′
@@ -123,12 +120,10 @@ module _ (lex : Lexicon) (few : length (lex .outsides) ≤ 64) (formula : List �
   token-answer (suc k) at n met met′ t enough h e st =
       let some : 0 < length (drop at formula) = omega (arith, length-drop at formula) in
       let m : Steps lex met at (drop at formula) t met′ = stands-steps few some st in
-      ap (λ (l : Lexed). l .answer)
-      (lex-step k lex at (drop at formula) n met (Emit t) some (m .emits)
-      ∙ ap (emitted k lex at (drop at formula) n met t) (le-ltb n mostTokens (omega arith)))
+      rw (lex-step k lex at (drop at formula) n met (Emit t) some (m .emits), le-ltb n mostTokens (omega arith)) refl
 
   pub unscans-answer : {r : Refusal} → Unscans lex formula r → scan lex formula .answer ≡ Unscanned r
-  unscans-answer (too-long h) = ap (λ (l : Lexed). l .answer) (scan-long lex formula h)
+  unscans-answer (too-long h) = simp (scan-long lex formula h)
   unscans-answer (a-fault {at = at} {ts = ts} {met = met} short d small h f) =
       let w = follow d (length formula) 0 (omega arith) (omega arith) in
       ap (λ (l : Lexed). l .answer) (scan-short lex formula short ∙ w .same) ∙ prefixed-answer ts _
@@ -208,7 +203,7 @@ module _ (lex : Lexicon) (few : length (lex .outsides) ≤ 64) (formula : List �
       refused (scan lex formula .answer) (λ r. stops-unscans short) (scan-kept lex few formula StoppedFrom stopped-kept))
       (λ e.
       let over : longestFormula < length formula = leb-false (length formula) longestFormula e in
-      subst (λ (l : Lexed). Refused (l .answer) (Unscans lex formula)) (sym (scan-long lex formula over)) (too-long over))
+      rw (scan-long lex formula over) (too-long over))
 
   pub answer-unscans : {r : Refusal} → scan lex formula .answer ≡ Unscanned r → Unscans lex formula r
-  answer-unscans e = subst (λ (a : Scanned). Refused a (Unscans lex formula)) e scan-unscans
+  answer-unscans e = rw (e) at scan-unscans

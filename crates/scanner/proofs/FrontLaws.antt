@@ -1,5 +1,5 @@
 -- The classes of bytes are apart, and the bytes at the front tell the lexeme.
-use Prim.Native.Nat.{ℕ, _≤_, _<_}
+use Prim.Native.Nat.{ℕ, _≤_}
 use mathlib.Core.Path.{_≡_, refl, sym, _∙_}
 use mathlib.Core.Bool.{true, false, not, _&&_}
 use mathlib.Core.List.{List}
@@ -10,7 +10,7 @@ use borrow.Author.Tests.{ne-eqb, le-leb, lt-leb, leb-true, not-true}
 use Rattle.spellings.specs.Bytes.{isLetter, isDigit, isWordByte, isSeparator, isSymbol, run, largest, valueOf}
 use Rattle.spellings.proofs.BytesLaws.{by-test}
 use Rattle.scanner.specs.Scan.{Separator, Word, Number, Symbol, Fault}
-use Rattle.scanner.specs.Scan.{wordLexeme, numberLexeme, lexemeOf}
+use Rattle.scanner.specs.Scan.{numberLexeme, lexemeOf}
 use Rattle.scanner.specs.Unscanned.{Faulty, bad-byte, long-word, large-number}
 use Rattle.scanner.proofs.LexemeLaws.{word-fits, word-long, lexeme-is}
 use Rattle.scanner.proofs.WordLaws.{both}

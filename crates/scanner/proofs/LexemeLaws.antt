@@ -1,12 +1,11 @@
 -- Laws of the lexeme at the front, of kinds and of spelling numbers, by the tests that the code makes.
-use Prim.Native.Nat.{ℕ, _+_, _-_, _<_, _≤_}
+use Prim.Native.Nat.{ℕ, _+_, _<_, _≤_}
 use mathlib.Core.Path.{_≡_, refl, sym, ap, _∙_}
 use mathlib.Core.Bool.{Bool, true, false}
 use mathlib.Core.List.{List, [], _∷_}
 use native.Mathlib.Omega.{arith}
 use lib.Dec.{leb}
-use lib.ListN.{length, getD, take, drop, length-take, length-drop, drop-of-length-le}
-use lib.Seq.{take-all, take-nil}
+use lib.ListN.{length, getD, take, length-take}
 use borrow.Author.Tests.{le-leb, lt-leb}
 use Rattle.spellings.specs.Bytes.{isLetter, isDigit, isWordByte, isSeparator, isSymbol, run, indexOf, largest, valueOf}
 use Rattle.spellings.proofs.BytesLaws.{run-prefix, run-length}
@@ -42,8 +41,8 @@ number-tests ds false e = rw (e, numberLexeme, numberBy) refl
 pub number-is : (rest : List ℕ) {n : ℕ} (v : number.Number) → n ≡ length (run isDigit rest) → v ≡ numberOf (take n rest)
     → numberLexeme (run isDigit rest) ≡ numberBy n v
 number-is rest {n} v e f =
-    let d : take n rest ≡ run isDigit rest = ap (λ (k : ℕ). take k rest) e ∙ sym (run-prefix isDigit rest) in
-    number-tests (run isDigit rest) _ refl ∙ ap (λ (k : ℕ). numberBy k (numberOf (run isDigit rest))) (sym e)
+    let d : take n rest ≡ run isDigit rest = cc (e, run-prefix isDigit rest) in
+    number-tests (run isDigit rest) _ refl ∙ rw (← e) refl
     ∙ ap (numberBy n) (sym (f ∙ ap numberOf d))
 
 pub digits-within : (rest : List ℕ) {n : ℕ} → n ≡ length (run isDigit rest) → n ≤ length rest
@@ -75,11 +74,7 @@ pub lexeme-is : (rest : List ℕ) {b : ℕ} (separator letter digit symbol : Boo
     → lexemeOf rest ≡ chosen rest separator letter digit symbol
 unfolding lexemeOf
 lexeme-is rest {b} separator letter digit symbol e s l d y =
-    ap (λ (a : ℕ). chosen rest (isSeparator a) (isLetter a) (isDigit a) (isSymbol a)) (sym e)
-    ∙ ap (λ (t : Bool). chosen rest t (isLetter b) (isDigit b) (isSymbol b)) s
-    ∙ ap (λ (t : Bool). chosen rest separator t (isDigit b) (isSymbol b)) l
-    ∙ ap (λ (t : Bool). chosen rest separator letter t (isSymbol b)) d
-    ∙ ap (λ (t : Bool). chosen rest separator letter digit t) y
+    cc
 
 -- ------------------------------------------------------------------ kinds and spelling numbers by what a search finds
 

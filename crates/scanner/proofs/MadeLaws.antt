@@ -9,7 +9,7 @@ use lib.Dec.{ltb}
 use lib.ListN.{length, getD, set, take, drop, length-drop, length-append}
 use lib.Seq.{sets, length-take-le}
 use borrow.Author.Tests.{eq-eqb, ne-eqb, ltb-true, ltb-false}
-use Rattle.spellings.specs.Bytes.{isLetter, isDigit, isWordByte, isSeparator, isSymbol, run, indexOf, largest, valueOf}
+use Rattle.spellings.specs.Bytes.{isLetter, isDigit, isWordByte, isSeparator, isSymbol, run, indexOf}
 use Rattle.spellings.proofs.BytesLaws.{by-test, index-le, index-front, index-rest, run-prefix, run-length}
 use Rattle.grammar.specs.Table.{Lexicon}
 use Rattle.grammar.specs.Lookup.{lexiconOf}
@@ -18,7 +18,7 @@ use Rattle.kinds.specs.Kinds.{wordKind, numberKind, keywordKind, noKind}
 use Rattle.spellings.specs.Numbers.{numberOf}
 use Rattle.spellings.specs.declared.Number.the-variants.{Value, TooLarge}
 use Rattle.scanner.specs.declared.Token.{Token}
-use Rattle.scanner.specs.Scan.{Lexeme, Separator, Word, Number, Symbol, Fault, numberLexeme, lexemeOf, isNew, stepOf, kindOf}
+use Rattle.scanner.specs.Scan.{Number, Fault, lexemeOf, isNew, kindOf}
 use Rattle.scanner.specs.declared.Step.{Step}
 use Rattle.scanner.specs.declared.Step.the-variants.{Skip, Stop, Emit}
 use Rattle.scanner.specs.declared.Made.{Made}
@@ -27,9 +27,9 @@ use Rattle.scanner.specs.declared.Name.the-variants.{Keyword, Outside, O
 use Rattle.lexicon.specs.declared.trees.Spot.{Spot}
 use Rattle.lexicon.specs.declared.trees.Spot.the-variants.{Node, Free}
 use Rattle.scanner.specs.Tokens.{token}
-use Rattle.scanner.specs.Tiling.{WordFront, NumberFront, SymbolFront, FirstAt, NotIn, Stands}
+use Rattle.scanner.specs.Tiling.{WordFront, FirstAt, NotIn, Stands}
 use Rattle.scanner.specs.Tiling as rule
-use Rattle.scanner.specs.Unscanned.{Faulty, bad-byte, long-word}
+use Rattle.scanner.specs.Unscanned.{bad-byte, long-word}
 use Rattle.scanner.specs.Rooms.{placeThen, countWith, wordsIn}
 use Rattle.lexicon.specs.Trees.{hashOf, Hashed, Planted, FoundAt, FreeFor, Searched, linksWith}
 use Rattle.lexicon.specs.LexiconRoom.{kindFrom, Lexical}
@@ -148,7 +148,7 @@ module _ {lex : Lexicon} (few : length (lex .outsides) ≤ 64) {mask : ℕ} {met
   stepped-old {t} st old =
       record {
         step-is = stands-steps few h st .emits;
-        agrees = λ u e. let z : t ≡ u = cc in subst (λ (v : Token). isNew (length met) v ≡ false) z old;
+        agrees = λ u e. let z : t ≡ u = cc in rw (z) at old;
         free = λ u e. tt;
       }
 
@@ -174,11 +174,11 @@ module _ {lex : Lexicon} (few : length (lex .outsides) ≤ 64) {mask : ℕ} {met
         record {
           step-is = stands-steps few h (rule.a-new-word w n o (index-is-none s met (f .none))) .emits;
           agrees =
-              λ u e. let z : t ≡ u = cc in subst (λ (v : Token). isNew (length met) v ≡ true) z (next-new (length met) t refl refl);
+              λ u e. let z : t ≡ u = cc in rw (← z) (next-new (length met) t refl refl);
           free =
               λ u e.
               let z : t ≡ u = cc in
-              subst (λ (v : Token). FreeFor mask met links (take (v .size) rest) slot) z (rw (word-taken w) f);
+              rw (← z) (rw (word-taken w) f);
         }
 
   -- what is no word
@@ -238,7 +238,7 @@ module _ {lex : Lexicon} {at : ℕ} {rest : List ℕ} where
       record {
         step-is =
             λ met.
-            emit-symbol lex met at {s = getD rest 0 0 ∷ []} (ap (λ (k : ℕ). token k at 1 0) e) (sym (one-byte rest h))
+            emit-symbol lex met at {s = getD rest 0 0 ∷ []} (cc) (sym (one-byte rest h))
             ∙ step-by lex met at rest (lexeme-symbol rest y);
         no-word =
             λ t z k.
@@ -252,7 +252,7 @@ module _ {lex : Lexicon} {at : ℕ} {rest : List ℕ} where
 module _ {table room tree : List ℕ} (x : Lexical table room tree) (s : List ℕ) {count : ℕ} (z : count ≡ getD room 381 0) (spot : Spot)
     (f : Searched 127 (wordsIn table room count) tree s spot) where
   searched-all : Searched 127 (wordsIn table room (getD room 381 0)) tree s spot
-  searched-all = subst (λ (n : ℕ). Searched 127 (wordsIn table room n) tree s spot) z f
+  searched-all = rw (z) at f
 
   module _ {i : ℕ} (e : spot ≡ Node i) where
     node-found : FoundAt (wordsIn table room (getD room 381 0)) s i
@@ -274,7 +274,7 @@ module _ {table room tree : List ℕ} (x : Lexical table room tree) (s : List �
 module _ (mask : ℕ) (formula words : List ℕ) (count : ℕ) (links s v : List ℕ) (q : v ≡ s) (spot : Spot)
     (f : Searched mask (wordsIn formula words count) links v spot) where
   searched-word : Searched mask (wordsIn formula words count) links s spot
-  searched-word = subst (λ (u : List ℕ). Searched mask (wordsIn formula words count) links u spot) q f
+  searched-word = rw (q) at f
 
   module _ {i : ℕ} (e : spot ≡ Node i) where
     own-found : FoundAt (wordsIn formula words count) s i
@@ -310,7 +310,7 @@ word-here h l d k r = record { inside = h; letter = l; hashed = d; short = k; re
 module _ {formula : List ℕ} {at size hash : ℕ} {s : List ℕ} (w : WordHere formula at size hash s) where
   here-run : s ≡ run isWordByte (drop at formula)
   here-run =
-      w .read ∙ ap (λ (n : ℕ). take n (drop at formula)) (w .hashed .sized) ∙ sym (run-prefix isWordByte (drop at formula))
+      cc (w .read, w .hashed .sized, run-prefix isWordByte (drop at formula))
 
   pub here-hash : hash ≡ hashOf s
   here-hash = w .hashed .hashed ∙ ap hashOf (sym here-run)
@@ -393,7 +393,7 @@ module _ (formula : List ℕ) (at : ℕ) {lex : Lexicon} where
 
 module _ (formula : List ℕ) (at : ℕ) {n : ℕ} (e : n ≡ length (run isDigit (take (length formula - at) (drop at formula)))) where
   digits-here : n ≡ length (run isDigit (drop at formula))
-  digits-here = e ∙ ap (λ (r : List ℕ). length (run isDigit r)) (rest-lent formula at)
+  digits-here = cc (rest-lent formula at)
 
   -- the digits as the code lends them
   pub digits-counted : n ≡ length (take n (take (length formula - at) (drop at formula)))
@@ -409,18 +409,18 @@ module _ (formula : List ℕ) (at : ℕ) {n : ℕ} (e : n ≡ length (run isDigi
     pub number-at : {v : ℕ} → Value v ≡ numberOf (take n (take (length formula - at) (drop at formula)))
         → Marks lex at (drop at formula) (Emit (token numberKind at n v))
     number-at f =
-        number-marks (ap isDigit (front-byte formula at) ∙ d) digits-here (f ∙ ap (λ (r : List ℕ). numberOf (take n r)) (rest-lent formula at))
+        number-marks (ap isDigit (front-byte formula at) ∙ d) digits-here (cc (rest-lent formula at))
 
     pub large-at : TooLarge ≡ numberOf (take n (take (length formula - at) (drop at formula))) → Marks lex at (drop at formula) Stop
     large-at f =
-        large-marks (ap isDigit (front-byte formula at) ∙ d) digits-here (f ∙ ap (λ (r : List ℕ). numberOf (take n r)) (rest-lent formula at))
+        large-marks (ap isDigit (front-byte formula at) ∙ d) digits-here (cc (rest-lent formula at))
 
 kind-all : (lex : Lexicon) (s : List ℕ) → kindFrom 0 (lex .keywords) s ≡ kindOf lex s noKind
 unfolding kindFrom kindOf
 kind-all lex s = by-found (foundIn s (lex .keywords)) refl
   where
     by-found : (f : Found) → foundIn s (lex .keywords) ≡ f → kindFrom 0 (lex .keywords) s ≡ kindOf lex s noKind
-    by-found (At j) e = rw (e, kindFrom, kindOf) (ap (λ (n : ℕ). n + 2) (zero-add j))
+    by-found (At j) e = rw (e, kindFrom, kindOf) (cc (zero-add j))
     by-found Absent e = rw (e, kindFrom, kindOf) refl
 
 -- a symbol's kind in the lexicon's room
@@ -436,8 +436,10 @@ module _ {table room tree : List ℕ} (x : Lexical table room tree) where
   symbol-at formula at h y =
       let z : getD (drop at formula) 0 0 ≡ getD formula at 0 = front-byte formula at in
       symbol-marks (omega (arith, length-drop at formula)) (ap isSymbol z ∙ y)
-      (x .symbols (getD formula at 0) (omega (arith, symbol-below (getD formula at 0) y)) ∙ kind-all (lexiconOf table) (getD formula at 0 ∷ [])
-      ∙ ap (λ (b : ℕ). kindOf (lexiconOf table) (b ∷ []) noKind) (sym z))
+      (cc (
+        x .symbols (getD formula at 0) (omega (arith, symbol-below (getD formula at 0) y)),
+        kind-all (lexiconOf table) (getD formula at 0 ∷ []),
+      ))
 
 -- ------------------------------------------------------------------ stores
 
@@ -446,7 +448,7 @@ module _ (words links : List ℕ) (count : ℕ) (t : Token) (spot : Spot) (a : A
       → (count ≡ countWith count t) × (words ≡ sets words (count * 2) (placeThen count t [])) × (links ≡ linksWith links spot count)
   node-stored e =
       let old : isNew count t ≡ false = subst (Agrees count t) e a in
-      (count-old words count t old, place-old words count t old, sym (ap (λ (r : Spot). linksWith links r count) e))
+      (count-old words count t old, place-old words count t old, sym (cc))
 
   pub free-stored : {slot : ℕ} → spot ≡ Free slot
       → (count + 1 ≡ countWith count t)

@@ -1,6 +1,6 @@
 -- What stands in the rooms after a scan: token i in row i, and the places of the words. For those who read the rooms.
 use Prim.Native.Nat.{ℕ, zero, suc, _+_, _*_, _<_, _≤_}
-use mathlib.Core.Path.{_≡_, refl, sym, ap, ap₂, _∙_}
+use mathlib.Core.Path.{_≡_, refl, sym, ap, _∙_}
 use mathlib.Core.List.{List, [], _∷_}
 use native.Mathlib.Nat.{add-zero, zero-add}
 use native.Mathlib.Numerals.{add-one, add-two, add-three}
@@ -69,16 +69,17 @@ pub row-at : (ts : List Token) (room : List ℕ) (n i : ℕ) (d : Token) → i <
 row-at [] room n i d h k = absurd (omega arith)
 row-at (t ∷ ts) room n zero d h k =
     let z : n + 0 ≡ n = omega arith in
-    ap (λ (r : List ℕ). rowOf r (n + 0)) (fill-rows n room t ts)
-    ∙ ap (rowOf (sets (sets room (n * 4) (rowThen t [])) ((n + 1) * 4) (rows ts))) z
-    ∙ row-front (rows ts) (sets room (n * 4) (rowThen t [])) ((n + 1) * 4) n (omega arith)
-    ∙ row-stored room n t (omega arith)
+    cc (
+      fill-rows n room t ts,
+      row-front (rows ts) (sets room (n * 4) (rowThen t [])) ((n + 1) * 4) n (omega arith),
+      row-stored room n t (omega arith),
+    )
 row-at (t ∷ ts) room n (suc i) d h k =
     let z : n + suc i ≡ n + 1 + i = omega arith in
-    ap (λ (r : List ℕ). rowOf r (n + suc i)) (fill-rows n room t ts)
-    ∙ ap (rowOf (sets (sets room (n * 4) (rowThen t [])) ((n + 1) * 4) (rows ts))) z
-    ∙ row-at ts (sets room (n * 4) (rowThen t [])) (n + 1) i d (omega arith)
-    (omega (arith, length-sets room (n * 4) (rowThen t [])))
+    cc (
+      fill-rows n room t ts,
+      row-at ts (sets room (n * 4) (rowThen t [])) (n + 1) i d (omega arith) (omega (arith, length-sets room (n * 4) (rowThen t []))),
+    )
 
 -- the tokens of a room, row by row
 tokens-by-row : (ts : List Token) (room : List ℕ) (j : ℕ) → ((i : ℕ) → i < length ts → rowOf room (j + i) ≡ getD ts i endToken)
@@ -86,9 +87,11 @@ tokens-by-row : (ts : List Token) (room : List ℕ) (j : ℕ) → ((i : ℕ) →
 unfolding tokensFrom
 tokens-by-row [] room j h = refl
 tokens-by-row (t ∷ ts) room j h =
-    ap₂ (λ (u : Token) (us : List Token). u ∷ us) (ap (rowOf room) (sym (add-zero j)) ∙ h 0 (omega arith))
-    (tokens-by-row ts room (j + 1)
-    (λ i l. let z : j + 1 + i ≡ j + suc i = omega arith in ap (rowOf room) z ∙ h (suc i) (omega arith)))
+    cc (
+      add-zero j,
+      h 0 (omega arith),
+      tokens-by-row ts room (j + 1) (λ i l. let z : j + 1 + i ≡ j + suc i = omega arith in ap (rowOf room) z ∙ h (suc i) (omega arith)),
+    )
 
 -- The tokens that are stored are those that the room holds.
 pub tokens-stored : (ts : List Token) (room : List ℕ) → length ts * 4 ≤ length room → tokensIn (sets room 0 (rows ts)) (length ts) ≡ ts
@@ -139,16 +142,14 @@ module _ (lex : Lexicon) (few : length (lex .outsides) ≤ 64) (formula : List �
       → NamedFrom at n words (withToken t l)
   unfolding NamedFrom
   named-token at n words t l h m some a p room count long later fewer e =
-      let w : wordsIn formula (sets room (count * 2) (placeThen count t [])) (countWith count t) ≡ wordsWith words (take (t .size) (drop at formula)) t
-      = words-stored formula room count t (omega (arith, long (n + 1) (omega arith) (omega arith)))
-      ∙ ap (λ (i : ℕ). wordsWith (wordsIn formula room count) (take (t .size) (drop i formula)) t) a
-      ∙ ap (λ (ws : List (List ℕ)). wordsWith ws (take (t .size) (drop at formula)) t) e in
-      ap (λ (r : List ℕ). wordsIn formula r (length (l .words))) (fill-places count room t (l .tokens))
-      ∙ p (sets room (count * 2) (placeThen count t [])) (countWith count t)
-      (λ j b d. omega (arith, long j b d, length-sets room (count * 2) (placeThen count t [])))
-      (omega arith)
-      (omega (arith, count-grows count t (isNew count t) refl))
-      w
+      let room₁ : List ℕ = sets room (count * 2) (placeThen count t []) in
+      let w : wordsIn formula room₁ (countWith count t) ≡ wordsWith words (take (t .size) (drop at formula)) t
+      = cc (words-stored formula room count t (omega (arith, long (n + 1) (omega arith) (omega arith)))) in
+      cc (
+        fill-places count room t (l .tokens),
+        p room₁ (countWith count t) (λ j b d. omega (arith, long j b d, length-sets room (count * 2) (placeThen count t []))) (omega arith)
+            (omega (arith, count-grows count t (isNew count t) refl)) w,
+      )
 
   named-kept : Kept lex formula NamedFrom
   unfolding NamedFrom

@@ -69,7 +69,7 @@ pub fill-rows : (n : ℕ) (tokens : List ℕ) (t : Token) (ts : List Token)
 unfolding rows
 fill-rows n tokens t ts =
     let z : suc (suc (suc (suc (n * 4)))) ≡ (n + 1) * 4 = omega arith in
-    ap (λ (i : ℕ). sets (sets tokens (n * 4) (rowThen t [])) i (rows ts)) z
+    cc
 
 fill-places-by : (count : ℕ) (words : List ℕ) (t : Token) (follow : List ℕ) (new : Bool)
     → sets words (count * 2) (elim new [ true ↦ t .at ∷ t .size ∷ follow | false ↦ follow ])
@@ -78,7 +78,7 @@ fill-places-by : (count : ℕ) (words : List ℕ) (t : Token) (follow : List ℕ
     follow
 fill-places-by count words t follow true =
     let z : suc (suc (count * 2)) ≡ (count + 1) * 2 = omega arith in
-    ap (λ (i : ℕ). sets (sets words (count * 2) (t .at ∷ t .size ∷ [])) i follow) z
+    cc
 fill-places-by count words t follow false = refl
 
 pub fill-places : (count : ℕ) (words : List ℕ) (t : Token) (ts : List Token)
@@ -179,9 +179,7 @@ module _ {lex : Lexicon} {formula tokens₀ words₀ tokens words : List ℕ} {a
         → fillFrom n count tokens words (emitted (c .fuel - 1) lex at (drop at formula) n (wordsIn formula words count) t more)
         ≡ scanInto lex formula tokens₀ words₀
     rest-emit more f =
-        ap (λ (b : Bool). fillFrom n count tokens words (emitted (c .fuel - 1) lex at (drop at formula) n (wordsIn formula words count) t b))
-        (sym f)
-        ∙ rest-by h (Emit t) e
+        cc (rest-by h (Emit t) e)
 
     lies : (t .at ≡ at) × (0 < t .size) × (t .size ≤ length (drop at formula))
     lies =
@@ -213,8 +211,7 @@ module _ {lex : Lexicon} {formula tokens₀ words₀ tokens words : List ℕ} {a
           let w : wordsIn formula (sets words (count * 2) (placeThen count t [])) (countWith count t)
           ≡ wordsWith (wordsIn formula words count) (take (t .size) (drop (t .at) formula)) t
           = words-stored formula words count t (omega (arith, room)) in
-          ap₂ (λ (r : List ℕ) (ws : List (List ℕ)). lexFrom (c .fuel - 1) lex (at + t .size) r (n + 1) ws) (drop-drop (t .size) at formula)
-          (ap (λ (k : ℕ). wordsWith (wordsIn formula words count) (take (t .size) (drop k formula)) t) (sym (lies .0)) ∙ sym w)
+          cc (drop-drop (t .size) at formula, lies .0)
 
       rest-next : fillFrom (n + 1) (countWith count t) tokens₁ words₁
           (lexFrom (c .fuel - 1) lex (at + t .size) (drop (at + t .size) formula) (n + 1) (wordsIn formula words₁ (countWith count t)))
@@ -247,9 +244,4 @@ module _ {lex : Lexicon} {formula tokens₀ words₀ tokens words : List ℕ} {a
   pub turn-end : length formula ≤ at → filled (Tokens n count) tokens words ≡ scanInto lex formula tokens₀ words₀
   unfolding rows places
   turn-end h =
-      ap (λ (k : ℕ). filled (Tokens n k) tokens words) (sym (words-length count formula words 0))
-      ∙ ap (fillFrom n count tokens words)
-      (sym
-      (ap (λ (r : List ℕ). lexFrom (c .fuel) lex at r n (wordsIn formula words count)) (drop-of-length-le formula h)
-      ∙ lex-end (c .fuel) lex at n (wordsIn formula words count)))
-      ∙ c .rest
+      cc (words-length count formula words 0, lex-end (c .fuel) lex at n (wordsIn formula words count), drop-of-length-le formula h, c .rest)

@@ -1,7 +1,7 @@
 -- What a scan gives, for every lexicon with at most 64 outside names, as every table's is, and every formula. Each statement has one
 -- sentence above it; the proofs cite the laws.
 use Prim.Native.Nat.{ℕ, _≤_}
-use mathlib.Core.Path.{_≡_, sym, ap, _∙_, subst}
+use mathlib.Core.Path.{_≡_, sym, ap, _∙_}
 use mathlib.Core.Logic.{_↔_}
 use mathlib.Core.Bool.{true}
 use mathlib.Core.List.{List, []}
@@ -17,9 +17,9 @@ use Rattle.answers.specs.Refusals.{refusal}
 use Rattle.grammar.specs.Table.{Lexicon}
 use Rattle.scanner.specs.declared.Token.{Token}
 use Rattle.scanner.specs.declared.Scanned.the-variants.{Tokens, Unscanned}
-use Rattle.scanner.specs.Scan.{Lexed, spellingOf, scan}
-use Rattle.scanner.specs.Tokens.{endToken, mostTokens, longestFormula, bytesOf, tokenAt, spelled}
-use Rattle.scanner.specs.Tiling.{Tiled}
+use Rattle.scanner.specs.Scan.{spellingOf, scan}
+use Rattle.scanner.specs.Tokens.{endToken, mostTokens, longestFormula, spelled}
+use Rattle.scanner.specs.Tiling.{bytesOf, tokenAt, Tiled}
 use Rattle.scanner.specs.Unscanned.{Unscans}
 use Rattle.scanner.proofs.ScanLoop.{scan-long}
 use Rattle.scanner.proofs.TilingLaws.{scan-tiled, scan-counted}
@@ -33,7 +33,7 @@ module _ (lex : Lexicon) (few : length (lex .outsides) ≤ 64) (formula : List �
       by-test (leb (length formula) longestFormula) (λ h. leb-true (length formula) longestFormula h)
       (λ h.
       let l : scan lex formula .answer ≡ Unscanned (refusal 14 0 0 0)
-      = ap (λ (l : Lexed). l .answer) (scan-long lex formula (leb-false (length formula) longestFormula h)) in
+      = cc (scan-long lex formula (leb-false (length formula) longestFormula h)) in
       let z : _≡_ {A = ℕ} 0 1 = cc in
       absurd (omega arith))
 
@@ -44,9 +44,9 @@ module _ (lex : Lexicon) (few : length (lex .outsides) ≤ 64) (formula : List �
       ↔ ((length formula ≤ longestFormula) × Tiled lex formula 0 [] ts (length formula) words × (length ts ≤ mostTokens))
   accepted-exactly ts words = (
     λ e.
-        let a : scan lex formula .answer ≡ Tokens (length ts) (length words) = ap (λ (l : Lexed). l .answer) e in
+        let a : scan lex formula .answer ≡ Tokens (length ts) (length words) = cc in
         let d : Tiled lex formula 0 [] ts (length formula) words
-        = subst (λ (l : Lexed). Tiled lex formula 0 [] (l .tokens) (length formula) (l .words)) e (scan-tiled lex few formula a) in
+        = rw (e) at (scan-tiled lex few formula a) in
         (not-long a, d, omega (arith, scan-counted lex few formula a .2)),
     λ t. tiled-scanned lex few formula (t .0) (t .1) (t .2),
   )

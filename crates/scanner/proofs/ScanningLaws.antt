@@ -1,10 +1,9 @@
 -- The loop of the scan with what is known of the words met.
-use Prim.Native.Nat.{ℕ, zero, suc, _+_, _*_, _<_, _≤_}
-use mathlib.Core.Path.{_≡_, refl, sym, ap, _∙_, subst}
-use mathlib.Core.Bool.{true, false}
-use mathlib.Core.List.{List, [], _∷_, _++_}
+use Prim.Native.Nat.{ℕ, _+_, _*_, _<_, _≤_}
+use mathlib.Core.Path.{_≡_, refl, sym, ap, _∙_}
+use mathlib.Core.List.{List, []}
 use native.Mathlib.Omega.{arith}
-use lib.ListN.{length, getD, set, take, drop, replicate, length-drop, length-replicate}
+use lib.ListN.{length, take, drop, replicate, length-drop, length-replicate}
 use lib.Seq.{sets, length-sets}
 use Rattle.grammar.specs.Lookup.{lexiconOf}
 use Rattle.scanner.specs.declared.Token.{Token}
@@ -90,7 +89,7 @@ module _ {table room tree formula tokens₀ words₀ links₀ tokens words links
     counted = words-length count formula words 0
 
     pub spot-agrees : Agrees count t (r .spot)
-    spot-agrees = subst (λ (k : ℕ). Agrees k t (r .spot)) counted (p .agrees t e)
+    spot-agrees = rw (counted) at (p .agrees t e)
 
     s : List ℕ
     s = take (t .size) (drop at formula)
@@ -127,10 +126,10 @@ module _ {table room tree formula tokens₀ words₀ links₀ tokens words links
       tree-after : (spot : Spot) → Agrees count t spot → FreeIn mask (wordsIn formula words count) links s spot
           → Tree mask (wordsWith (wordsIn formula words count) s t) (linksWith links spot count)
       tree-after (Node i) a f =
-          rw (with-old (wordsIn formula words count) s t (ap (λ (k : ℕ). isNew k t) counted ∙ a)) (c .ready .met)
+          rw (with-old (wordsIn formula words count) s t (rw (counted, a) refl)) (c .ready .met)
       tree-after (Free slot) a f =
-          rw (with-new (wordsIn formula words count) s t (ap (λ (k : ℕ). isNew k t) counted ∙ a))
-          (tree-more (c .ready .met) s f (free-inside (Free slot) f) (ap (λ (k : ℕ). set links slot (k + 1)) (sym counted)))
+          rw (with-new (wordsIn formula words count) s t (rw (counted, a) refl))
+          (tree-more (c .ready .met) s f (free-inside (Free slot) f) (rw (counted) refl))
 
       module _ {tokens′ words′ links′ : List ℕ} {count′ : ℕ} (et : tokens′ ≡ sets tokens (n * 4) (rowThen t []))
           (ew : words′ ≡ sets words (count * 2) (placeThen count t []))
@@ -189,5 +188,5 @@ scannable formula mask room short enough =
     record {
       short = short;
       unlinked = zeros room;
-      enough = λ n a b. subst (λ (k : ℕ). mask + 1 + n * 2 ≤ k) (sym (length-replicate {A = ℕ} room 0)) (enough n a b);
+      enough = λ n a b. rw (length-replicate {A = ℕ} room 0) (enough n a b);
     }

@@ -9,7 +9,7 @@ use lib.Dec.{ltb}
 use lib.ListN.{length, getD, take, drop, length-append}
 use borrow.Author.Tests.{ltb-true, ltb-false, le-leb, le-ltb, lt-ltb, ne-eqb, eq-eqb}
 use Rattle.spellings.specs.Bytes.{isLetter, isWordByte, run, isWord, indexOf}
-use Rattle.spellings.proofs.BytesLaws.{by-test, run-taken, run-prefix, every-run, letter-word-byte, index-le, index-found, index-front, index-rest}
+use Rattle.spellings.proofs.BytesLaws.{by-test, run-taken, every-run, letter-word-byte, index-le, index-found, index-front, index-rest, index-self}
 use Rattle.grammar.specs.declared.Found.{Found}
 use Rattle.grammar.specs.declared.Found.the-variants.{At, Absent}
 use Rattle.grammar.specs.Table.{Lexicon}
@@ -18,11 +18,10 @@ use Rattle.grammar.proofs.LookupLaws.{found-within, found-spells}
 use Rattle.kinds.specs.Kinds.{wordKind}
 use Rattle.scanner.specs.declared.Token.{Token}
 use Rattle.scanner.specs.Scan.{Lexed, isNew, wordsWith, spellingOf, scan}
-use Rattle.scanner.specs.Tiling.{WordFront, Stands, a-keyword, a-keyword-symbol, an-outside-name, a-word-again, a-new-word, a-number, a-symbol}
-use Rattle.scanner.specs.Tokens.{bytesOf, spelled}
+use Rattle.scanner.specs.Tiling.{WordFront, Stands, a-keyword, a-keyword-symbol, an-outside-name, a-word-again, a-new-word, a-number, a-symbol, bytesOf}
+use Rattle.scanner.specs.Tokens.{spelled}
 use Rattle.scanner.proofs.LexemeLaws.{spelling-found}
 use Rattle.scanner.proofs.WordLaws.{with-new, with-old}
-use Rattle.lexicon.proofs.PlaceLaws.{index-self}
 use Rattle.scanner.proofs.StandLaws.{word-taken, Emits}
 use Rattle.scanner.proofs.TokenLaws.{Kept, scan-kept}
 
@@ -92,9 +91,9 @@ placed words s t k v = by-test (ltb (indexOf s words) (length words)) old new
     new : ltb (indexOf s words) (length words) ≡ false → Placed words (wordsWith words s t) s
     new e =
         let z : indexOf s words ≡ length words = omega (arith, ltb-false (indexOf s words) (length words) e, index-le s words) in
-        let w : wordsWith words s t ≡ words ++ (s ∷ []) = with-new words s t (new-is (length words) t k (v ∙ ap (λ (i : ℕ). 64 + i) z)) in
+        let w : wordsWith words s t ≡ words ++ (s ∷ []) = with-new words s t (new-is (length words) t k (cc)) in
         let i : indexOf s (words ++ (s ∷ [])) ≡ length words
-        = index-rest s words (s ∷ []) z ∙ ap (λ (i : ℕ). length words + i) (index-self s) ∙ add-zero (length words) in
+        = cc (index-rest s words (s ∷ []) z, index-self s, add-zero (length words)) in
         record { same-place = ap (indexOf s) w ∙ i ∙ sym z; there = rw w (omega (arith, i, length-append words (s ∷ []))) }
 
 -- a word's spelling number by the words then met is its spelling number by all words
@@ -111,7 +110,7 @@ module _ (lex : Lexicon) (few : length (lex .outsides) ≤ 64) where
       let a : t .value ≡ 64 + indexOf s words = v ∙ spelling-found lex words s Absent e in
       let p : Placed words (wordsWith words s t) s = placed words s t k a in
       let i : indexOf s (wordsWith words s t ++ more) ≡ indexOf s words = index-front s (wordsWith words s t) more (p .there) ∙ p .same-place in (
-        a ∙ sym (spelling-found lex (wordsWith words s t ++ more) s Absent e ∙ ap (λ (j : ℕ). 64 + j) i),
+        a ∙ sym (cc (spelling-found lex (wordsWith words s t ++ more) s Absent e)),
         omega (arith, a, p .there, p .same-place, length-append (wordsWith words s t) more),
       )
 
@@ -132,7 +131,7 @@ module _ (lex : Lexicon) (few : length (lex .outsides) ≤ 64) where
         → t .kind ≡ wordKind
         → Spelled lex formula W t
     spelled-token at words more t W told w k =
-        let b : bytesOf formula t ≡ take (t .size) (drop at formula) = ap (λ (i : ℕ). take (t .size) (drop i formula)) (told .placed) in
+        let b : bytesOf formula t ≡ take (t .size) (drop at formula) = cc (told .placed) in
         let p = stays words more (take (t .size) (drop at formula)) t _ refl k (told .valued k) in
         record {
           is-word = ap isWord b ∙ stands-word (told .stands) k;
@@ -151,7 +150,7 @@ module _ (lex : Lexicon) (few : length (lex .outsides) ≤ 64) where
               λ at n words t l h m told inside p.
               let g = grown words (take (t .size) (drop at formula)) t in (
                 g .0 ++ p .0,
-                p .1 ∙ ap (λ (ws : List (List ℕ)). ws ++ p .0) (g .1) ∙ append-assoc words (g .0) (p .0),
+                cc (p .1, g .1, append-assoc words (g .0) (p .0)),
                 (spelled-token at words (p .0) t (l .words) told (p .1), p .2),
               );
         }
@@ -174,4 +173,4 @@ module _ (lex : Lexicon) (few : length (lex .outsides) ≤ 64) where
             let z : 64 + indexOf (bytesOf formula t) W - 64 ≡ indexOf (bytesOf formula t) W = omega arith in
             ap (spelled lex W) a
             ∙ rw (le-ltb (64 + indexOf (bytesOf formula t) W) 64 (omega arith), spelled)
-            (ap (λ (i : ℕ). getD W i []) z ∙ index-found (bytesOf formula t) W (omega (arith, a, w .known)))
+            (cc (index-found (bytesOf formula t) W (omega (arith, a, w .known))))

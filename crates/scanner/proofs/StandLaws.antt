@@ -1,12 +1,12 @@
 -- A step of the scan and the rules of specs/Tiling tell the same token and the same words.
 use Prim.Native.Nat.{ℕ, zero, suc, _+_, _<_, _≤_}
 use mathlib.Core.Path.{_≡_, refl, sym, ap, _∙_, subst}
-use mathlib.Core.Bool.{Bool, true, false}
+use mathlib.Core.Bool.{true}
 use mathlib.Core.List.{List, [], _∷_, _++_}
 use native.Mathlib.Omega.{arith}
 use lib.ListN.{length, getD, take, length-take}
-use borrow.Author.Tests.{eq-eqb, ne-eqb, le-leb, lt-leb}
-use Rattle.spellings.specs.Bytes.{isLetter, isDigit, isWordByte, isSeparator, isSymbol, run, indexOf, largest, valueOf}
+use borrow.Author.Tests.{eq-eqb, ne-eqb}
+use Rattle.spellings.specs.Bytes.{isDigit, isWordByte, isSeparator, run, valueOf}
 use Rattle.spellings.proofs.BytesLaws.{run-prefix, run-length}
 use Rattle.grammar.specs.declared.Found.{Found}
 use Rattle.grammar.specs.declared.Found.the-variants.{At, Absent}
@@ -14,16 +14,15 @@ use Rattle.grammar.specs.Table.{Lexicon}
 use Rattle.grammar.specs.Found.{foundIn}
 use Rattle.kinds.specs.Kinds.{wordKind, numberKind, keywordKind, noKind}
 use Rattle.scanner.specs.declared.Token.{Token}
-use Rattle.scanner.specs.Scan.{Lexeme, Separator, Word, Number, Symbol, Fault}
+use Rattle.scanner.specs.Scan.{Lexeme, Separator, Word, Number, Symbol, Fault, lexemeOf, kindOf, spellingOf, spelledToken, wordsWith, stepBy, stepOf}
 use Rattle.scanner.specs.declared.Step.{Step}
 use Rattle.scanner.specs.declared.Step.the-variants.{Skip, Stop, Emit}
-use Rattle.scanner.specs.Scan.{lexemeOf, kindOf, spellingOf, spelledToken, isNew, wordsWith, stepBy, stepOf}
 use Rattle.scanner.specs.Tokens.{token}
 use Rattle.scanner.specs.Tiling.{WordFront, NumberFront, SymbolFront, FirstAt, NotIn}
 use Rattle.scanner.specs.Tiling.{Stands, a-keyword, a-keyword-symbol, an-outside-name, a-word-again, a-new-word, a-number, a-symbol}
 use Rattle.scanner.specs.Unscanned.{Faulty}
-use Rattle.scanner.proofs.FoundLaws.{FoundBy, first-index, none-index, index-is-first, index-is-none, first-found, none-found, found-by}
-use Rattle.scanner.proofs.LexemeLaws.{kind-found, word-only, spelling-found}
+use Rattle.scanner.proofs.FoundLaws.{first-index, none-index, first-found, none-found, found-by}
+use Rattle.scanner.proofs.LexemeLaws.{kind-found, spelling-found}
 use Rattle.scanner.proofs.WordLaws.{with-new, with-old}
 use Rattle.scanner.proofs.FrontLaws.{lexeme-word, lexeme-number, lexeme-symbol}
 use Rattle.scanner.proofs.StepLaws.{Fits, lexeme-fits, step-by, token-word, token-other}
@@ -89,7 +88,7 @@ module _ (lex : Lexicon) (few : length (lex .outsides) ≤ 64) (met : List (List
         record {
           token-is =
               token-word lex met at s other kind-word word
-              (ap (λ (i : ℕ). 64 + i) (sym (first-index f)) ∙ sym (spelling-found lex met s Absent (none-found o)));
+              (cc (first-index f, spelling-found lex met s Absent (none-found o)));
           words-are = with-known met s _ word (λ e. omega (arith, e, f .there));
         }
 
@@ -99,17 +98,17 @@ module _ (lex : Lexicon) (few : length (lex .outsides) ≤ 64) (met : List (List
         record {
           token-is =
               token-word lex met at s other kind-word word
-              (ap (λ (i : ℕ). 64 + i) (sym (none-index f)) ∙ sym (spelling-found lex met s Absent (none-found o)));
+              (cc (none-index f, spelling-found lex met s Absent (none-found o)));
           words-are = with-next met s _ word refl;
         }
 
 -- ------------------------------------------------------------------ the bytes of a token at the front
 
 pub word-taken : {rest s : List ℕ} → WordFront rest s → take (length s) rest ≡ s
-word-taken {rest} w = ap (λ (l : List ℕ). take (length l) rest) (w .whole) ∙ sym (run-prefix isWordByte rest) ∙ sym (w .whole)
+word-taken {rest} w = cc (w .whole, run-prefix isWordByte rest)
 
 pub number-taken : {rest s : List ℕ} → NumberFront rest s → take (length s) rest ≡ s
-number-taken {rest} d = ap (λ (l : List ℕ). take (length l) rest) (d .whole) ∙ sym (run-prefix isDigit rest) ∙ sym (d .whole)
+number-taken {rest} d = cc (d .whole, run-prefix isDigit rest)
 
 -- ------------------------------------------------------------------ from a step to the rules
 
@@ -176,13 +175,12 @@ told-spelled : (lex : Lexicon) (words : List (List ℕ)) (at : ℕ) (rest : List
     → spelledToken lex words at (take n rest) kind .value ≡ spellingOf lex words (take (length (take n rest)) rest)
 told-spelled lex words at rest n kind h e =
     let z : length (take n rest) ≡ n = omega (arith, length-take n rest) in
-    ap (λ (t : Bool). elim t [ true ↦ spellingOf lex words (take n rest) | false ↦ 0 ]) (eq-eqb kind wordKind e)
-    ∙ ap (λ (k : ℕ). spellingOf lex words (take k rest)) (sym z)
+    cc (eq-eqb kind wordKind e)
 
 take-again : (n : ℕ) (rest : List ℕ) → take (length (take n rest)) rest ≡ take n rest
 take-again zero rest = refl
 take-again (suc n) [] = refl
-take-again (suc n) (b ∷ bs) = ap (λ (l : List ℕ). b ∷ l) (take-again n bs)
+take-again (suc n) (b ∷ bs) = cc (take-again n bs)
 
 -- the symbol at the front
 pub one-byte : (rest : List ℕ) → 0 < length rest → take 1 rest ≡ getD rest 0 0 ∷ []
@@ -198,7 +196,7 @@ module _ (lex : Lexicon) (few : length (lex .outsides) ≤ 64) (words : List (Li
       let w : WordFront rest (take n rest)
       = record {
         begins = f .0;
-        whole = ap (λ (i : ℕ). take i rest) (f .1) ∙ sym (run-prefix isWordByte rest);
+        whole = cc (f .1, run-prefix isWordByte rest);
         short = omega (arith, f .2, length-take n rest);
       } in
       record {
@@ -245,9 +243,9 @@ module _ {lex : Lexicon} (few : length (lex .outsides) ≤ 64) {at : ℕ} {rest 
       let l = lexeme-word rest (w .begins) (omega (arith, w .short, ap length (w .whole))) in
       record {
         emits =
-            ap Emit (m .token-is ∙ ap (λ (v : List ℕ). spelledToken lex met at v (kindOf lex v wordKind)) (sym e))
+            ap Emit (cc (m .token-is))
             ∙ step-by lex met at rest l;
-        words = ap (λ (i : ℕ). wordsWith met (take i rest) t) z ∙ ap (λ (v : List ℕ). wordsWith met v t) (word-taken w) ∙ m .words-are;
+        words = cc (word-taken w, m .words-are);
       }
 
   symbol-steps : {s : List ℕ} {t : Token} {met′ : List (List ℕ)} → 0 < length rest → SymbolFront rest s → t .size ≡ length s
@@ -259,9 +257,9 @@ module _ {lex : Lexicon} (few : length (lex .outsides) ≤ 64) {at : ℕ} {rest 
       let n : t .size ≡ 1 = z ∙ ap length (y .whole) in
       record {
         emits =
-            ap Emit (m .token-is ∙ ap (λ (v : List ℕ). spelledToken lex met at v (kindOf lex v noKind)) (sym e))
+            ap Emit (cc (m .token-is))
             ∙ step-by lex met at rest (lexeme-symbol rest (y .begins));
-        words = ap (λ (i : ℕ). wordsWith met (take i rest) t) n ∙ ap (λ (v : List ℕ). wordsWith met v t) e ∙ m .words-are;
+        words = cc (m .words-are);
       }
 
   pub stands-steps : {t : Token} {met′ : List (List ℕ)} → 0 < length rest → Stands lex at rest met t met′ → Steps lex met at rest t met′

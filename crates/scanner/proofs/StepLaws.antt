@@ -10,7 +10,7 @@ use lib.ListN.{length, getD, take, drop, length-take, length-drop}
 use lib.Seq.{take-all, getD-drop}
 use borrow.Author.Tests.{leb-true, leb-false, le-leb, eq-eqb, ne-eqb}
 use Rattle.spellings.specs.Bytes.{isLetter, isDigit, isWordByte, isSeparator, isSymbol, run, largest, valueOf}
-use Rattle.spellings.proofs.BytesLaws.{run-taken, run-prefix, run-length, letter-word-byte}
+use Rattle.spellings.proofs.BytesLaws.{run-taken, run-length, letter-word-byte}
 use Rattle.grammar.specs.Table.{Lexicon}
 use Rattle.kinds.specs.Kinds.{wordKind, noKind}
 use Rattle.scanner.specs.declared.Token.{Token}
@@ -120,19 +120,19 @@ module _ (lex : Lexicon) (words : List (List ℕ)) (at : ℕ) (s : List ℕ) (ot
       → token kind at (length s) value ≡ spelledToken lex words at s (kindOf lex s other)
   token-word {kind} {value} e z v =
       ap (token kind at (length s))
-      (v ∙ ap (λ (t : Bool). elim t [ true ↦ spellingOf lex words s | false ↦ 0 ]) (sym (eq-eqb kind wordKind z)))
+      (cc (eq-eqb kind wordKind z))
       ∙ ap (spelledToken lex words at s) e
 
   pub token-other : {kind : ℕ} → kind ≡ kindOf lex s other → (kind ≡ 0 → ⊥)
       → token kind at (length s) 0 ≡ spelledToken lex words at s (kindOf lex s other)
   token-other {kind} e z =
       ap (token kind at (length s))
-      (ap (λ (t : Bool). elim t [ true ↦ spellingOf lex words s | false ↦ 0 ]) (sym (ne-eqb kind wordKind z)))
+      (cc (ne-eqb kind wordKind z))
       ∙ ap (spelledToken lex words at s) e
 
 -- the first byte of what is left
 pub front-byte : (formula : List ℕ) (at : ℕ) → getD (drop at formula) 0 0 ≡ getD formula at 0
-front-byte formula at = getD-drop at formula 0 0 ∙ ap (λ (i : ℕ). getD formula i 0) (add-zero at)
+front-byte formula at = cc (getD-drop at formula 0 0, add-zero at)
 
 -- the rest of a formula as the code lends it
 pub rest-lent : (formula : List ℕ) (at : ℕ) → take (length formula - at) (drop at formula) ≡ drop at formula
@@ -155,7 +155,7 @@ pub emit-word : (lex : Lexicon) (words : List (List ℕ)) (at : ℕ) {s u : List
     → t ≡ spelledToken lex words at s (kindOf lex s 0)
     → s ≡ u
     → Emit t ≡ Emit (spelledToken lex words at u (kindOf lex u 0))
-emit-word lex words at e f = ap Emit (e ∙ ap (λ (v : List ℕ). spelledToken lex words at v (kindOf lex v 0)) f)
+emit-word lex words at e f = ap Emit (cc)
 
 pub emit-symbol : (lex : Lexicon) (words : List (List ℕ)) (at : ℕ) {s u : List ℕ} {t : Token}
     → t ≡ token (kindOf lex s noKind) at (length s) 0
@@ -163,6 +163,4 @@ pub emit-symbol : (lex : Lexicon) (words : List (List ℕ)) (at : ℕ) {s u : Li
     → Emit t ≡ Emit (spelledToken lex words at u (kindOf lex u noKind))
 emit-symbol lex words at {s} e f =
     ap Emit
-    (e
-    ∙ token-other lex words at s noKind refl (lexemes.word-only lex s noKind (λ z. omega (arith, z)))
-    ∙ ap (λ (v : List ℕ). spelledToken lex words at v (kindOf lex v noKind)) f)
+    (cc (token-other lex words at s noKind refl (lexemes.word-only lex s noKind (λ z. omega (arith, z)))))

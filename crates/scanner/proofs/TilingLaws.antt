@@ -1,6 +1,6 @@
 -- The tokens of a scan tile the formula, and the answer counts them.
 use Prim.Native.Nat.{ℕ, suc, _+_, _≤_}
-use mathlib.Core.Path.{_≡_, refl, sym, ap, subst}
+use mathlib.Core.Path.{_≡_}
 use mathlib.Core.List.{List, []}
 use native.Mathlib.Nat.{add-zero}
 use native.Mathlib.Omega.{arith}
@@ -41,8 +41,7 @@ module _ (lex : Lexicon) (few : length (lex .outsides) ≤ 64) (formula : List �
       → Tiled lex formula 0 [] (scan lex formula .tokens) (length formula) (scan lex formula .words)
   unfolding TiledFrom
   scan-tiled e =
-      subst (λ (r : Scanned). Unrefused r (Tiled lex formula 0 [] (scan lex formula .tokens) (length formula) (scan lex formula .words))) e
-      (scan-kept lex few formula TiledFrom tiled-kept)
+      rw (e) at (scan-kept lex few formula TiledFrom tiled-kept)
 
   -- ------------------------------------------------------------------ counts
 
@@ -54,13 +53,13 @@ module _ (lex : Lexicon) (few : length (lex .outsides) ≤ 64) (formula : List �
   unfolding CountedFrom
   counted-kept =
       record {
-        ends = λ n words h. (ap (λ (k : ℕ). Tokens k (length words)) (sym (add-zero n)), omega arith);
+        ends = λ n words h. (cc (add-zero n), omega arith);
         stops = λ at n words r h. tt;
         skips = λ at n words l h s p. p;
         emits =
             λ at n words t l h m told inside p.
             let z : n + 1 + length (l .tokens) ≡ n + suc (length (l .tokens)) = omega arith in
-            subst (λ (k : ℕ). Unrefused (l .answer) ((l .answer ≡ Tokens k (length (l .words))) × (k ≤ 4096))) z p;
+            rw (z) at p;
       }
 
   -- the answer counts the tokens, of which there are at most 4,096, and the words
@@ -70,8 +69,7 @@ module _ (lex : Lexicon) (few : length (lex .outsides) ≤ 64) (formula : List �
   scan-counted {n} {count} e =
       let l : Lexed = scan lex formula in
       let p : (Tokens n count ≡ Tokens (0 + length (l .tokens)) (length (l .words))) × (0 + length (l .tokens) ≤ 4096)
-      = subst (λ (r : Scanned). Unrefused r ((r ≡ Tokens (0 + length (l .tokens)) (length (l .words))) × (0 + length (l .tokens) ≤ 4096))) e
-      (scan-kept lex few formula CountedFrom counted-kept) in
+      = rw (e) at (scan-kept lex few formula CountedFrom counted-kept) in
       let q : Tokens n count ≡ Tokens (0 + length (l .tokens)) (length (l .words)) = p .0 in
       let a : n ≡ 0 + length (l .tokens) = cc in
       let b : count ≡ length (l .words) = cc in

@@ -1,7 +1,7 @@
 -- What holds of all tokens of a scan, by recursion on what is left of the formula.
-use Prim.Native.Nat.{ℕ, zero, suc, _+_, _-_, _<_, _≤_}
+use Prim.Native.Nat.{ℕ, zero, suc, _+_, _<_, _≤_}
 use mathlib.Core.Path.{_≡_, refl, sym, ap, _∙_, subst}
-use mathlib.Core.Bool.{Bool, true}
+use mathlib.Core.Bool.{true}
 use mathlib.Core.List.{List, []}
 use native.Mathlib.Omega.{arith}
 use lib.Dec.{ltb, leb}
@@ -54,7 +54,7 @@ module _ (lex : Lexicon) (few : length (lex .outsides) ≤ 64) (formula : List �
       let none : drop at formula ≡ [] = drop-of-length-le formula past in
       subst (P at n words)
       (sym (ap (λ (r : List ℕ). lexFrom k lex at r n words) none ∙ lex-end k lex at n words))
-      (subst (λ (a : ℕ). P a n words (ended (Tokens n (length words)) words)) (sym e) (keeps .ends n words h))
+      (rw (e) (keeps .ends n words h))
 
   kept-emit : (k at n : ℕ) (words : List (List ℕ)) (t : Token) → at < length formula → ltb n mostTokens ≡ true
       → Emits lex words at (drop at formula) t
@@ -81,19 +81,16 @@ module _ (lex : Lexicon) (few : length (lex .outsides) ≤ 64) (formula : List �
   kept-step k at n words Skip h m enough e told lies rec =
       let z : getD (drop at formula) 0 0 ≡ getD formula at 0 = front-byte formula at in
       keeps .skips at n words _ h (ap isSeparator (sym z) ∙ told)
-      (subst (λ (r : List ℕ). P (at + 1) n words (lexFrom k lex (at + 1) r n words)) (sym (drop-drop 1 at formula))
-      (rec (at + 1) n words (omega arith) (omega arith) m))
+      (rw (drop-drop 1 at formula) (rec (at + 1) n words (omega arith) (omega arith) m))
   kept-step k at n words Stop h m enough e told lies rec = keeps .stops at n words (refusal 15 at 0 0) (at-fault h m told)
   kept-step k at n words (Emit t) h m enough e told lies rec =
       by-test (ltb n mostTokens)
       (λ more.
-      subst (λ (b : Bool). P at n words (emitted k lex at (drop at formula) n words t b)) (sym more)
-      (kept-emit k at n words t h more told (lies .1, omega (arith, lies .2, length-drop at formula))
+      rw (more) (kept-emit k at n words t h more told (lies .1, omega (arith, lies .2, length-drop at formula))
       (rec (at + t .size) (n + 1) _ (omega (arith, lies .1)) (omega (arith, lies .2, length-drop at formula))
       (omega (arith, ltb-true n mostTokens more)))))
       (λ more.
-      subst (λ (b : Bool). P at n words (emitted k lex at (drop at formula) n words t b)) (sym more)
-      (keeps .stops at n words (refusal 16 0 0 0) (at-token h (omega (arith, ltb-false n mostTokens more)) told)))
+      rw (more) (keeps .stops at n words (refusal 16 0 0 0) (at-token h (omega (arith, ltb-false n mostTokens more)) told)))
 
   kept : (k at n : ℕ) (words : List (List ℕ)) → length formula ≤ at + k → at ≤ length formula → n ≤ 4096
       → P at n words (lexFrom k lex at (drop at formula) n words)

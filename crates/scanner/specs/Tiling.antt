@@ -3,12 +3,12 @@ use Prim.Native.Nat.{ℕ, _+_, _-_, _<_, _≤_}
 use mathlib.Core.Path.{_≡_}
 use mathlib.Core.Bool.{true}
 use mathlib.Core.List.{List, [], _∷_, _++_}
-use lib.ListN.{length, getD, drop}
+use lib.ListN.{length, getD, drop, take}
 use Rattle.spellings.specs.Bytes.{isLetter, isDigit, isWordByte, isSeparator, isSymbol, run, largest, valueOf}
 use Rattle.kinds.specs.Kinds.{wordKind, numberKind, keywordKind, noKind}
 use Rattle.grammar.specs.Table.{Lexicon}
 use Rattle.scanner.specs.declared.Token.{Token}
-use Rattle.scanner.specs.Tokens.{token, spelled}
+use Rattle.scanner.specs.Tokens.{token, spelled, endToken}
 
 -- ------------------------------------------------------------------ what stands at the front of what is left of a formula
 
@@ -70,3 +70,11 @@ pub data Tiled (lex : Lexicon) (formula : List ℕ) : ℕ → List (List ℕ) �
       → Stands lex at (drop at formula) met t met₁
       → Tiled lex formula (at + t .size) met₁ ts to met₂
       → Tiled lex formula at met (t ∷ ts) to met₂
+
+-- the bytes of a token
+abbrev pub bytesOf : List ℕ → Token → List ℕ
+bytesOf formula t = take (t .size) (drop (t .at) formula)
+
+-- token i; past the last there is a token of no kind
+abbrev pub tokenAt : List Token → ℕ → Token
+tokenAt ts i = getD ts i endToken

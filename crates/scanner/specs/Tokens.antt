@@ -3,7 +3,7 @@ use Prim.Native.Nat.{ℕ, _-_}
 use mathlib.Core.Bool.{true, false}
 use mathlib.Core.List.{List, []}
 use lib.Dec.{ltb}
-use lib.ListN.{getD, take, drop}
+use lib.ListN.{getD}
 use Rattle.scanner.specs.declared.Token.{Token}
 use Rattle.kinds.specs.Kinds.{noKind}
 use Rattle.grammar.specs.Table.{Lexicon}
@@ -23,14 +23,6 @@ mostTokens = 4096
 -- the most bytes that a formula may have
 abbrev pub longestFormula : ℕ
 longestFormula = 65535
-
--- the bytes of a token
-abbrev pub bytesOf : List ℕ → Token → List ℕ
-bytesOf formula t = take (t .size) (drop (t .at) formula)
-
--- token i; past the last there is a token of no kind
-abbrev pub tokenAt : List Token → ℕ → Token
-tokenAt ts i = getD ts i endToken
 
 -- what a spelling number stands for: below 64 that outside name, from 64 on that word
 abbrev pub spelled : Lexicon → List (List ℕ) → ℕ → List ℕ

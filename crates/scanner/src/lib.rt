@@ -5,9 +5,9 @@ use answers::Refusal;
 use grammar::reader::part;
 use lexicon::trees::Spot;
 use lexicon::trees::find;
-use lexicon::trees::wide;
 use lexicon::trees::word_at;
 use spellings::Number;
+use spellings::wide_number;
 ghost use mathlib.Core.Path.{_≡_};
 ghost use mathlib.Core.List.{List, []};
 ghost use mathlib.Core.Bool.{true, false};
@@ -112,7 +112,7 @@ fn name_of(table: &[u8], room: &[u32], tree: &[u32], s: &[u8], hash: u64) -> Nam
     ensures { λ r. ⌜ Named (lexiconOf (now (table .entry))) (now (s .entry)) r ⌝ }
 {
     let keywords = room[380];
-    let spellings = wide(room[381]);
+    let spellings = wide_number(room[381]);
     let spot = find(table, room, tree, 127, spellings, s, hash);
     match spot {
         Spot::Node(i) => {
@@ -273,12 +273,7 @@ fn store_word(words: &mut [u32], links: &mut [u32], count: usize, t: Token, spot
 fn unscanned(number: u8, a: u64) -> Scanned
     ensures { λ r. ⌜ r ≡ Scanned.Unscanned (refusal number a 0 0) ⌝ }
 {
-    Scanned::Unscanned(Refusal {
-        number,
-        a,
-        b: 0,
-        c: 0,
-    })
+    Scanned::Unscanned(answers::refuse(number, a, 0, 0))
 }
 
 // Refusal 15, with the offset at which the bad lexeme starts.

@@ -1,7 +1,7 @@
 -- What it is for a check to be passed, as a type of its outcome. The lemmas on the parts of the sort check go both ways:
 -- NAME-rule takes a passed check to the derivation and to what holds of the value, rule-NAME goes back.
 use Prim.Native.Nat.{ℕ}
-use mathlib.Core.Path.{_≡_, refl, sym, subst⁻¹, subst₂}
+use mathlib.Core.Path.{_≡_, refl, sym, subst₂}
 use mathlib.Core.Bool.{Bool, true, false}
 use Rattle.answers.specs.Checked.{Checked, ok, bad, _>>=_, _>>_, need}
 
@@ -16,7 +16,7 @@ need-passed true n at P h = (refl, h)
 need-passed false n at P h = absurd h
 
 pub need-passes : (b : Bool) (n at : ℕ) (P : Unit {0} → Type 0) → b ≡ true → P tt → Accepts (need b n at) P
-need-passes b n at P e h = subst⁻¹ (λ x. Accepts (need x n at) P) e h
+need-passes b n at P e h = rw e h
 
 -- two tests at one place
 pub needs-passed :
@@ -52,7 +52,7 @@ module _ {A B : Type 0} (P : B → Type 0) where
 
 -- a check without a value is passed exactly if it gives `ok tt`
 pub passed : (c : Checked (Unit {0})) → c ≡ ok tt → Accepts c (λ u. Unit {0})
-passed c e = subst⁻¹ (λ x. Accepts x (λ u. Unit {0})) e tt
+passed c e = rw e tt
 
 pub passes : (c : Checked (Unit {0})) → Accepts c (λ u. Unit {0}) → c ≡ ok tt
 passes (ok a) h = refl

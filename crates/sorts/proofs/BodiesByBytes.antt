@@ -10,7 +10,8 @@ use borrow.Author.Tests.{lt-leb}
 use Rattle.answers.specs.Refusals.{refusal}
 use Rattle.answers.specs.Checked.{Checked, ok, bad, _>>_, need, verdict}
 use Rattle.spellings.proofs.BytesLaws.{by-test}
-use Rattle.grammar.specs.Sorts.{Signature, term, fits}
+use Rattle.grammar.specs.Sorts.{Signature, term}
+use Rattle.grammar.specs.SortTests.{fits}
 use Rattle.grammar.specs.Table.{Template, Templates, none, more, Item, call}
 use Rattle.grammar.specs.Values.{templateThen, templatesThen, itemValue}
 use Rattle.layout.specs.Prefix.{templatesOf, found, firstOf}

@@ -1,13 +1,13 @@
 -- Checking items, alternatives and definitions is the judgement E ⊢ g ok.
 use Prim.Native.Nat.{ℕ, _+_}
-use mathlib.Core.Path.{subst⁻¹}
 use mathlib.Core.Bool.{Bool, _&&_}
 use mathlib.Core.List.{List, [], _∷_, _++_}
 use lib.Dec.{ltb}
 use lib.ListN.{length}
 use borrow.Author.Tests.{ltb-true, lt-ltb}
 use Rattle.answers.specs.Checked.{Checked, ok, _>>_, need}
-use Rattle.grammar.specs.Sorts.{Signature, unit, fits}
+use Rattle.grammar.specs.Sorts.{Signature, unit}
+use Rattle.grammar.specs.SortTests.{fits}
 use Rattle.grammar.specs.Table.{Template, Item, keyword, ide, number, local, call, Alternative, Definition}
 use Rattle.grammar.specs.Values.{headValue}
 use Rattle.layout.specs.Within.{Each, each-none, each-more, TemplateWithin, ItemWithin, ide-within, call-within, AlternativeWithin, DefinitionWithin}
@@ -53,8 +53,7 @@ module _ (G : Scope) where
   rule-item {L} at P (by-call {n = n} {S = S} {ts = ts} d h) p =
       let f = rule-fill G L ts h in
       let closed : Bool = isDefined (G .env) n && areClosed ts G (length L) in
-      subst⁻¹ (λ X. Accepts (need closed 9 at >> need (fill ts L (X .params)) 11 at >> ok (X .result)) P) (newest-signature d)
-      (then-passes P (need closed 9 at >> need (fill ts L (S .params)) 11 at) (ok (S .result))
+      rw (newest-signature d) (then-passes P (need closed 9 at >> need (fill ts L (S .params)) 11 at) (ok (S .result))
       (needs-passes closed _ 9 11 at _ (pair (isDefined (G .env) n) _ (newest-defined d) (f .0)) (f .1) p))
 
   -- ------------------------------------------------------------------ an alternative

@@ -1,6 +1,6 @@
 -- On a table whose layout is right, the check of sorts on its bytes is the check on its fields.
 use Prim.Native.Nat.{ℕ, zero, suc, _+_, _≤_, _<_}
-use mathlib.Core.Path.{_≡_, refl, sym, ap, subst⁻¹, _∙_}
+use mathlib.Core.Path.{_≡_, refl, sym, ap, _∙_}
 use mathlib.Core.Bool.{true, false, true≢false, false≢true}
 use mathlib.Core.List.{List, [], _∷_, _++_}
 use native.Mathlib.Omega.{arith}
@@ -137,7 +137,7 @@ module _ (bs : List ℕ) where
     unfolding sortsFrom stepAt blocksBy
     root-verdict k w =
         let r = root-value v k in
-        let low : getD v 0 0 < 64 = subst⁻¹ (λ u. getD u 0 0 < 64) (r .1) (omega (arith, r .2)) in
+        let low : getD v 0 0 < 64 = rw (r .1) (omega (arith, r .2)) in
         root-agrees bs (scope K N E) H (w .knows) at (getD v 0 0) low
 
   -- the sorts of one variable more

@@ -1,6 +1,6 @@
 -- Collecting a block's heads from a table's bytes is collecting its signatures from its fields.
 use Prim.Native.Nat.{ℕ, _+_, _≤_}
-use mathlib.Core.Path.{_≡_, refl, subst⁻¹}
+use mathlib.Core.Path.{_≡_, refl}
 use mathlib.Core.Bool.{Bool, true, false}
 use mathlib.Core.List.{List, _∷_}
 use native.Mathlib.Omega.{arith}
@@ -36,9 +36,9 @@ below-more H n at limit b h j =
     (λ e.
     let z : j ≡ n = eqb-true j n e in
     by-test (leb (length H) n)
-    (λ l. subst⁻¹ (λ L. getD L j 0 ≤ limit) (set-out H n at (leb-true (length H) n l)) (b j))
-    (λ l. subst⁻¹ (λ i. getD (set H n at) i 0 ≤ limit) z (subst⁻¹ (λ x. x ≤ limit) (getD-set-same H n at 0 (leb-false (length H) n l)) h)))
-    (λ e. subst⁻¹ (λ x. x ≤ limit) (getD-set-other H n j at 0 (eqb-false j n e)) (b j))
+    (λ l. rw (set-out H n at (leb-true (length H) n l)) (b j))
+    (λ l. rw z (rw (getD-set-same H n at 0 (leb-false (length H) n l)) h)))
+    (λ e. rw (getD-set-other H n j at 0 (eqb-false j n e)) (b j))
 
 -- both checks agree: the same refusal, or an environment and the heads that show it
 abbrev pub Agree : List ℕ → Env → ℕ → ℕ → Checked Env → Collected → Type 0
@@ -82,9 +82,7 @@ module _ (bs : List ℕ) (E : Env) (block : ℕ) where
         → Agree bs E block (endOf fs) (collectBy fs E (entryOf (headOf v) ∷ own)) (collectFrom fs bs block (withHead bs at H))
         → Agree bs E block (endOf fs) (fieldsGive false true) (bytesGive false true)
     head-agrees q more =
-        subst⁻¹
-        (λ x. Agree bs E block (endOf fs) (x >> collectBy fs E (entryOf (headOf v) ∷ own)) (bytesGive false true))
-        q (refused-or-more (eqb (faultOf bs at block H) 0) more)
+        rw q (refused-or-more (eqb (faultOf bs at block H) 0) more)
 
     field-agrees :
         (ends head : Bool) → Collects bs E own block H → Below H (choose at (endOf fs) ends)

@@ -1,6 +1,6 @@
 -- The heads collected from a table's bytes are the environment collected from its fields.
 use Prim.Native.Nat.{ℕ, suc, _+_, _*_, _≤_, _<_}
-use mathlib.Core.Path.{_≡_, refl, sym, ap, ap₂, subst⁻¹, _∙_}
+use mathlib.Core.Path.{_≡_, refl, sym, ap, ap₂, _∙_}
 use mathlib.Core.Bool.{Bool, true, false, not, _&&_, _||_, true≢false}
 use mathlib.Core.List.{List, [], _∷_, _++_}
 use native.Mathlib.Omega.{arith}
@@ -102,7 +102,7 @@ head-of-mode h = cc (h .shape, mode-of (h .mode) (h .nonterminal) (h .result) (h
 -- four parameters at most
 pub head-few : {v : List ℕ} (h : Head v) → length (headOf v .signature .params) ≤ 4
 unfolding definitionOf
-head-few h = subst⁻¹ (λ w. length (headOf w .signature .params) ≤ 4) (h .shape) (h .few)
+head-few h = rw (h .shape) (h .few)
 
 -- ------------------------------------------------------------------ environments
 

@@ -72,8 +72,7 @@ module _ (bs : List ℕ) where
       subst⁻¹ (Placed bs from) (fields-by k at rest false true e f) (
         h,
         value-placed at,
-        subst⁻¹ (λ l. Placed bs (at + 3) (fieldsFrom k (at + (3 + sizeOf rest)) l)) (drop-drop (3 + sizeOf rest) at bs)
-            (placed-from k (at + (3 + sizeOf rest)) (at + 3) (omega arith)),
+        rw (drop-drop (3 + sizeOf rest) at bs) (placed-from k (at + (3 + sizeOf rest)) (at + 3) (omega arith)),
       ))
       (λ f. subst⁻¹ (Placed bs from) (fields-by k at rest false false e f) h))
 

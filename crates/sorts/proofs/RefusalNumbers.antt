@@ -7,7 +7,8 @@ use lib.Dec.{eqb, ltb}
 use lib.ListN.{length}
 use Rattle.answers.specs.declared.Refusal.{Refusal}
 use Rattle.answers.specs.Checked.{Checked, ok, bad, _>>=_, _>>_, need}
-use Rattle.grammar.specs.Sorts.{Signature, unit, term, fits}
+use Rattle.grammar.specs.Sorts.{Signature, unit, term}
+use Rattle.grammar.specs.SortTests.{fits}
 use Rattle.grammar.specs.Table.{Item, keyword, ide, number, local, call, Alternative, Mode, add, extend, update, Definition, Table}
 use Rattle.grammar.specs.Values.{itemValue}
 use Rattle.sorts.specs.Sizes.{fieldSize, alternativeSize, definitionSize, definitionsSize}

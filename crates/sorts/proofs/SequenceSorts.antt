@@ -1,6 +1,6 @@
 -- Checking the blocks and the root is the judgement ⊢ gseq ⇒ E.
 use Prim.Native.Nat.{ℕ, _+_}
-use mathlib.Core.Path.{_≡_, refl, ap, subst, subst⁻¹}
+use mathlib.Core.Path.{_≡_, refl, ap, subst}
 use mathlib.Core.Bool.{true, not, _&&_}
 use mathlib.Core.List.{List, [], _∷_, _++_}
 use native.Mathlib.Omega.{arith}
@@ -91,7 +91,7 @@ module _ (E : Env) where
   in-mode :
       (P : Unit {0} → Type 0) {m : Mode} (own : Env) (d : Definition) (at : ℕ) → d .mode ≡ m
       → Accepts (consistent m E own d at) P → Accepts (consistent (d .mode) E own d at) P
-  in-mode P own d at e h = subst⁻¹ (λ m. Accepts (consistent m E own d at) P) e h
+  in-mode P own d at e h = rw (← e) at h
 
   pub rule-collect :
       (P : Env → Type 0) {own own′ : Env} (at : ℕ) {ds : List Definition} → Defines E own ds own′ → P own′

@@ -10,7 +10,8 @@ use lib.ListN.{length, getD, drop, set, length-set, drop-of-length-le}
 use lib.Seq.{drop-cons, getD-set-same, getD-set-other}
 use borrow.Author.Tests.{not-true, not-false, ltb-true, ltb-false, lt-ltb, le-ltb, eq-eqb, ne-eqb}
 use Rattle.spellings.proofs.BytesLaws.{by-test}
-use Rattle.grammar.specs.Sorts.{unit, var, label, fits, constructor, arity}
+use Rattle.grammar.specs.Sorts.{unit, var, label, constructor, arity}
+use Rattle.grammar.specs.SortTests.{fits}
 use Rattle.grammar.proofs.SortLaws.{arity-small}
 use Rattle.layout.specs.Prefix.{isNameTag}
 use Rattle.sorts.specs.TemplateBytes.{isClosedByte, namesNext, closedBytes, headSort, headParams, fillBytes, templatesFault}

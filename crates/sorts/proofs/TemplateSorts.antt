@@ -7,7 +7,8 @@ use native.Mathlib.Omega.{arith}
 use lib.Dec.{eqb}
 use lib.ListN.{length, getD}
 use borrow.Author.Tests.{eqb-true, eq-eqb, ltb-true, lt-ltb}
-use Rattle.grammar.specs.Sorts.{unit, var, binder, fits, constructor}
+use Rattle.grammar.specs.Sorts.{unit, var, binder, constructor}
+use Rattle.grammar.specs.SortTests.{fits}
 use Rattle.grammar.specs.Table.{Template, Templates, variable, outside, outsideLabel, make, none, more}
 use Rattle.layout.specs.Within.{TemplateWithin, make-within, TemplatesWithin, more-within}
 use Rattle.sorts.specs.CheckSorts.{isClosed, areClosed, sortOf, isSorted, fill}

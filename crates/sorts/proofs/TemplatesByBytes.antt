@@ -7,7 +7,8 @@ use native.Mathlib.Omega.{arith}
 use lib.Dec.{eqb, leb, ltb}
 use lib.ListN.{length, getD}
 use borrow.Author.Tests.{ltb-true, leb-true, eqb-true, le-ltb, lt-ltb, lt-leb, le-leb, ltb-false, ne-eqb, eq-eqb}
-use Rattle.grammar.specs.Sorts.{unit, var, label, fits, constructor, arity, isConstructor}
+use Rattle.grammar.specs.Sorts.{unit, var, label, constructor, arity}
+use Rattle.grammar.specs.SortTests.{fits, isConstructor}
 use Rattle.grammar.specs.Table.{Templates, variable, make, none, more}
 use Rattle.layout.specs.Prefix.{parsed, Taken, short, taken, alsoTaken, takeTemplates, isNameTag, nameBy, templatesOf}
 use Rattle.sorts.specs.CheckSorts.{isClosed, areClosed, sortOf, isSorted, fill}

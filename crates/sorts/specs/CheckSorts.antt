@@ -8,8 +8,10 @@ use lib.Dec.{eqb, ltb}
 use lib.ListN.{length, getD}
 use Rattle.answers.specs.Checked.{Checked, ok, _>>=_, _>>_, need}
 use Rattle.spellings.specs.Bytes.{same}
-use Rattle.grammar.specs.Sorts.{Signature, gives, unit, var, binder, label, term, num, fits, constructor}
-use Rattle.grammar.specs.Table.{Template, Templates, variable, outside, outsideLabel, make, none, more, Item, keyword, ide, number, local, call, Alternative, Mode, add, extend, update, Definition, Table}
+use Rattle.grammar.specs.Sorts.{Signature, gives, unit, var, binder, label, term, num, constructor}
+use Rattle.grammar.specs.SortTests.{fits}
+use Rattle.grammar.specs.Table.{Template, Templates, variable, outside, outsideLabel, make, none, more, Item, keyword, ide, number, local, call, Alternative}
+use Rattle.grammar.specs.Table.{Mode, add, extend, update, Definition, Table}
 use Rattle.grammar.specs.Values.{itemValue, headValue}
 use Rattle.sorts.specs.Sizes.{fieldSize, spellingsSize, itemsSize, alternativeSize, definitionSize, definitionsSize}
 use Rattle.sorts.specs.Scopes.{Env, Scope, entryOf}

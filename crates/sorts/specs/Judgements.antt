@@ -12,7 +12,8 @@ use mathlib.Core.Path.{_≡_}
 use mathlib.Core.List.{List, [], _∷_, _++_}
 use lib.ListN.{length}
 use Rattle.grammar.specs.Sorts.{Signature, unit, var, binder, label, term, num, constructor}
-use Rattle.grammar.specs.Table.{Template, Templates, variable, outside, outsideLabel, make, none, more, Item, keyword, ide, number, local, call, Alternative, add, extend, update, Definition, Table}
+use Rattle.grammar.specs.Table.{Template, Templates, variable, outside, outsideLabel, make, none, more, Item, keyword, ide, number, local, call, Alternative}
+use Rattle.grammar.specs.Table.{add, extend, update, Definition, Table}
 use Rattle.sorts.specs.Scopes.{Entry, Env, entryOf, Scope}
 
 -- ------------------------------------------------------------------ environments

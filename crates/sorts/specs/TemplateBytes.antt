@@ -6,7 +6,8 @@ use mathlib.Core.Bool.{Bool, true, false, not, _&&_, _||_}
 use mathlib.Core.List.{List, [], _∷_, _++_}
 use lib.Dec.{eqb, leb, ltb}
 use lib.ListN.{length, getD}
-use Rattle.grammar.specs.Sorts.{unit, var, label, fits, constructor}
+use Rattle.grammar.specs.Sorts.{unit, var, label, constructor}
+use Rattle.grammar.specs.SortTests.{fits}
 use Rattle.layout.specs.Prefix.{isNameTag}
 
 -- ------------------------------------------------------------------ variables and names

@@ -1,7 +1,7 @@
 -- Beside a derivation of Figure 3 an expansion goes the same way: it is accepted with the term derived, or refused at a limit that the
 -- derivation exceeds.
 use Prim.Native.Nat.{ℕ, zero, suc, _+_, _*_, _≤_, _<_, max}
-use mathlib.Core.Path.{_≡_, refl, sym, ap, subst, subst⁻¹, _∙_}
+use mathlib.Core.Path.{_≡_, refl, sym, ap, subst⁻¹, _∙_}
 use mathlib.Core.Bool.{Bool, true, false}
 use mathlib.Core.List.{List, [], _∷_, _++_}
 use native.Mathlib.Omega.{arith}
@@ -11,7 +11,6 @@ use borrow.Author.Tests.{eq-eqb, ltb-true, ltb-false, le-ltb}
 use Rattle.spellings.proofs.BytesLaws.{by-test}
 use Rattle.answers.specs.declared.Refusal.{Refusal}
 use Rattle.answers.specs.Refusals.{refusal}
-use Rattle.answers.specs.Checked.{ok}
 use Rattle.kinds.specs.Kinds.{wordKind, numberKind, keywordKind}
 use Rattle.grammar.specs.Sorts as Sorts
 use Rattle.grammar.specs.Table.{Template, Templates, make, none, Item, keyword, ide, number, local, call}
@@ -19,7 +18,6 @@ use Rattle.sorts.specs.Judgements.{Body, by-binding}
 use Rattle.sorts.specs.Judgements as Judgements
 use Rattle.scanner.specs.declared.Token.{Token}
 use Rattle.productions.specs.Normal.{Production}
-use Rattle.firsts.specs.First.{checkFirsts}
 use Rattle.terms.specs.Term.{Name, Term, word, fresh}
 use Rattle.terms.specs.Rows.{termAt, nameOf}
 use Rattle.expansion.specs.declared.State.{State}
@@ -28,10 +26,10 @@ use Rattle.expansion.specs.Expansion.{Input, ready, choice, nextToken, tokenTak
 use Rattle.scanner.specs.Tokens.{endToken}
 use Rattle.expansion.specs.Expansion.{runCall, start, ended, run}
 use Rattle.expansion.specs.Limits.{mostCalls, mostOpen}
-use Rattle.expansion.specs.Figure3.{Value, binder, label, num, term, Gives, GiveAll, Taken, as-var, as-binder, as-label, by-keyword, by-ide, by-number}
+use Rattle.expansion.specs.Figure3.{Value, binder, term, Gives, GiveAll, Taken, as-var, as-binder, as-label, by-keyword, by-ide, by-number}
 use Rattle.expansion.specs.Figure3.{by-local, Derives, by-end, by-terminal, by-call, Parses}
 use Rattle.expansion.specs.Costs.{rowsOf, rowsOfAll, openIn, callsIn, rowsIn, Affords}
-use Rattle.expansion.proofs.Shows.{Grown, grown-not, grown-trans, Shows, shows-unit, shows-var, shows-binder, shows-label, shows-num, shows-term, ShowAll}
+use Rattle.expansion.proofs.Shows.{Grown, grown-not, grown-trans, Shows, shows-unit, shows-var, shows-binder, shows-label, shows-num, ShowAll}
 use Rattle.expansion.proofs.Shows.{show-none, show-more, all-later, all-and, word-named, fresh-named}
 use Rattle.soundness.proofs.Setting.{Setting, root-body}
 use Rattle.soundness.proofs.Building.{Ends, ends-after, ends-map, Full, Built, BuiltAll, build-ends, build-all-ends}
@@ -43,7 +41,8 @@ use Rattle.soundness.proofs.Sound.{token-here, Kept, kept-made, kept-le
 -- ------------------------------------------------------------------ the next token
 
 -- the first token of what is left, and what is left after it
-pub token-is : (tokens : List Token) (at : ℕ) {t : Token} {s : List Token} → drop at tokens ≡ t ∷ s → (getD tokens at endToken ≡ t) × (drop (at + 1) tokens ≡ s)
+pub token-is : (tokens : List Token) (at : ℕ) {t : Token} {s : List Token} → drop at tokens ≡ t ∷ s → (getD tokens at endToken ≡ t)
+    × (drop (at + 1) tokens ≡ s)
 token-is tokens at {t} {s} e =
     by-test (ltb at (length tokens))
     (λ b. let h : getD tokens at endToken ∷ drop (at + 1) tokens ≡ t ∷ s = sym (token-here tokens at (ltb-true at (length tokens) b)) ∙ e in ((cc), (cc)))
@@ -59,7 +58,7 @@ pub items-after : (C : ℕ → List ℕ → Run ℕ) (I : Input) (i : Item) (is 
     (cells′ : List ℕ)
     → runItem C I i xs s cells ≡ done x s′ cells′ → runItems C I (i ∷ is) xs s cells ≡ runItems C I is (xs ++ (x ∷ [])) s′ cells′
 unfolding runItems
-items-after C I i is xs s cells x s′ cells′ e = ap (λ r. after r (λ y. runItems C I is (xs ++ (y ∷ [])))) e
+items-after C I i is xs s cells x s′ cells′ e = cc
 
 -- ------------------------------------------------------------------ limits
 
@@ -141,15 +140,14 @@ module _ {g : List Production} (X : Setting g) where
           let q = token-is tokens (s .at) p in
           let x : ℕ = value (nextToken I s .value) in
           let taken : runItem (runCall d I) I item xs s cells ≡ done x (tokenTaken s) cells =
-          ap (λ R. R s cells) (same (runCall d I) xs) ∙ take-done I kind value s cells (ap (λ u. u .kind) (q .0) ∙ e) in
-          subst⁻¹ (λ z. Ends (Reached k d o c n s′ i′ M′ (s .calls) (s .made) cells) (Beyond rows d o (s .calls + c) (s .made + n)) z)
-          (items-after (runCall d I) I item is xs s cells x (tokenTaken s) cells taken)
+          cc (same (runCall d I) xs, take-done I kind value s cells (cc (q .0))) in
+          rw (items-after (runCall d I) I item is xs s cells x (tokenTaken s) cells taken)
           (A .along d k r B _ (xs ++ (x ∷ [])) (tokenTaken s) cells b (q .1) f
           (record { room = h .room; fits = h .fits; names = omega (arith, h .names); begun = h .begun }) (all-and a (shown s cells (q .0))))
 
   word-shown : (s : State) (t : Token) → nextToken I s ≡ t → t .kind ≡ wordKind
       → nameOf spell (Rattle.terms.specs.Cells.wordName (nextToken I s .value)) ≡ word (spell (t .value))
-  word-shown s t q e = word-named spell (nextToken I s .value) (X .small (s .at) (ap (λ u. u .kind) q ∙ e)) ∙ ap (λ u. word (spell (u .value))) q
+  word-shown s t q e = cc (word-named spell (nextToken I s .value) (X .small (s .at) (cc)))
 
   -- a call beside the derivation of its production
   module _ {o c n m : ℕ} {t t′ : List Token} {i i′ : ℕ} {vs M : List Value} {v : Value} (p : Production) (taken : Taken g m t p)
@@ -181,7 +179,7 @@ module _ {g : List Production} (X : Setting g) where
             record {
               grown = grown-trans (y .0 .grown) (b .0 .grown);
               kept = kept-made (y .0 .kept) (b .0);
-              place = ap (λ at. drop at tokens) (b .0 .at-kept) ∙ y .0 .place;
+              place = cc (b .0 .at-kept, y .0 .place);
               counter = b .0 .fresh-kept ∙ y .0 .counter;
               calls-are = omega (arith, y .0 .calls-are, b .0 .calls-kept);
               made-are = omega (arith, y .0 .made-are, b .0 .made-is);
@@ -199,13 +197,13 @@ module _ {g : List Production} (X : Setting g) where
         where
           go : (b : Bool) → ltb (s .calls) mostCalls ≡ b → Picks g m (from s) (choice (ready g) m (kindOf (from s)))
               → Called (suc d) (runCall (suc d) I m xs s cells)
-          go false l q = subst⁻¹ (λ z. Called (suc d) z) (call-full d I m xs s cells l) (too-many refl (omega (arith, ltb-false (s .calls) mostCalls l)))
+          go false l q = subst⁻¹ (Called (suc d)) (call-full d I m xs s cells l) (too-many refl (omega (arith, ltb-false (s .calls) mostCalls l)))
           go true l (picks p′ w z) =
-              let same : p′ ≡ p = taken-one g (X .passed) w (subst⁻¹ (λ u. Taken g m u p) e taken) in
+              let same : p′ ≡ p = taken-one g (X .passed) w (rw (← e) at taken) in
               let picked : choice (ready g) m (nextToken I s .kind) ≡ Rattle.expansion.specs.Expansion.chosen (rule g p) =
-              ap (choice (ready g) m) (kind-next (s .at) tokens) ∙ z ∙ ap (λ u. Rattle.expansion.specs.Expansion.chosen (rule g u)) same in
-              subst⁻¹ (λ z. Called (suc d) z) (call-chosen d I m xs s cells (rule g p) l picked) (production-along d (ltb-true (s .calls) mostCalls l))
-          go true l (picks-none f z) = absurd (f p (subst⁻¹ (λ u. Taken g m u p) e taken))
+              cc (kind-next (s .at) tokens) in
+              subst⁻¹ (Called (suc d)) (call-chosen d I m xs s cells (rule g p) l picked) (production-along d (ltb-true (s .calls) mostCalls l))
+          go true l (picks-none f z) = absurd (f p (rw (← e) at taken))
 
   -- a fresh name, and the items after it
   local-along : {o c n : ℕ} {t t′ : List Token} {i i′ : ℕ} {is : List Item} {M M′ : List Value}
@@ -218,9 +216,8 @@ module _ {g : List Production} (X : Setting g) where
           → Ends (Reached k d o c n t′ i′ M′ (s .calls) (s .made) cells) (Beyond rows d o (s .calls + c) (s .made + n))
           (runItems (runCall d I) I (local ∷ is) xs s cells)
       go d k r B L xs s cells (by-binding w b) p f h a =
-          subst⁻¹ (λ z. Ends (Reached k d o c n t′ i′ M′ (s .calls) (s .made) cells) (Beyond rows d o (s .calls + c) (s .made + n)) z)
-          (items-after (runCall d I) I local is xs s cells _ _ cells refl)
-          (A .along d k r B _ _ (record { at = s .at; fresh = s .fresh + 1; calls = s .calls; made = s .made }) cells b p (ap (λ j. j + 1) f)
+          rw (items-after (runCall d I) I local is xs s cells _ _ cells refl)
+          (A .along d k r B _ _ (record { at = s .at; fresh = s .fresh + 1; calls = s .calls; made = s .made }) cells b p (cc)
           (record { room = h .room; fits = h .fits; names = omega (arith, h .names); begun = h .begun })
           (all-and a (shows-binder (fresh-named spell (s .fresh) (omega (arith, h .names, h .begun)) ∙ ap fresh f))))
 
@@ -250,7 +247,7 @@ module _ {g : List Production} (X : Setting g) where
           (Beyond rows d (o + 1) (s₁ .calls + (c + 1)) (s₁ .made + (n + rowsOf (p .result))))
           (Gave k d (o + 1) (c + 1) cells-of t₁ i₁ v (s .calls) (s .made) cells) (Beyond rows d (o + 1) (s .calls + (c + 1)) (s .made + cells-of))
           (runCall d I m ys s₁ c₁)
-          (call-along p taken A gives k ys s₁ c₁ (ap (λ at. drop at tokens) (b .0 .at-kept) ∙ e) (b .0 .fresh-kept ∙ f) (kept-less (kept-made h (b .0)))
+          (call-along p taken A gives k ys s₁ c₁ (cc (b .0 .at-kept)) (b .0 .fresh-kept ∙ f) (kept-less (kept-made h (b .0)))
           (b .1) d)
           (λ x s₂ c₂ y. (
             record {
@@ -325,10 +322,10 @@ module _ {g : List Production} (X : Setting g) where
       token-along (ide Sorts.binder) wordKind (wordValue Sorts.binder) (λ C xs. refl) e (λ s cells q. shows-binder (word-shown s t q e)) (items-along D)
   items-along (by-terminal (by-ide {t = t} e as-label) D) =
       token-along (ide Sorts.label) wordKind (wordValue Sorts.label) (λ C xs. refl) e
-      (λ s cells q. subst (λ u. Shows spell (s .made) cells (nextToken I s .value) (label (spell (u .value)))) q shows-label) (items-along D)
+      (λ s cells q. rw (← q) shows-label) (items-along D)
   items-along (by-terminal (by-number {t = t} e) D) =
       token-along number numberKind (λ v. v) (λ C xs. refl) e
-      (λ s cells q. subst (λ u. Shows spell (s .made) cells (nextToken I s .value) (num (u .value))) q shows-num) (items-along D)
+      (λ s cells q. rw (← q) shows-num) (items-along D)
   items-along (by-terminal by-local D) = local-along (items-along D)
   items-along (by-call {p = p} gs t D q D′) = call-item-along p gs t (items-along D) q (items-along D′)
 
@@ -336,7 +333,8 @@ module _ {g : List Production} (X : Setting g) where
 
   -- the items that are one call of the root run as that call
   pub root-ends : (P : List ℕ → State → List ℕ → Type 0) (H : Refusal → Type 0) (d : ℕ) (cells : List ℕ)
-      → Ends P H (runItems (runCall d I) I (call (X .root) none ∷ []) [] start cells) → Ends (λ x s c. P (x ∷ []) s c) H (runCall d I (X .root) [] start cells)
+      → Ends P H (runItems (runCall d I) I (call (X .root) none ∷ []) [] start cells)
+      → Ends (λ x s c. P (x ∷ []) s c) H (runCall d I (X .root) [] start cells)
   unfolding runItems buildAll
   root-ends P H d cells h = go (runCall d I (X .root) [] start cells) h
     where
@@ -410,7 +408,7 @@ module _ {g : List Production} (X : Setting g) where
     -- accepted beside the derivation
     pub accepts : (cells : List ℕ) → rows * 4 ≤ length cells → (v : ℕ) (s : State) (cells′ : List ℕ) → run I (X .root) cells ≡ done v s cells′
         → Accepts v s cells′
-    accepts cells room v s cells′ e = subst (λ z. Ends Accepts Exceeds z) e (run-along cells room)
+    accepts cells room v s cells′ e = rw e at (run-along cells room)
 
     -- a derivation within the limits is accepted
     pub accepted : (cells : List ℕ) → rows * 4 ≤ length cells → Affords rows 0 0 0 (P .derived)

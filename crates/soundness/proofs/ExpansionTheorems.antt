@@ -2,7 +2,7 @@
 -- expansion/specs/Costs, and stops where expansion/specs/Stopping says. This holds of every table that passes, all tokens whose words have
 -- numbers that a name can hold, and all rows and cells.
 use Prim.Native.Nat.{ℕ, _*_, _≤_, _<_}
-use mathlib.Core.Path.{_≡_, sym, ap, subst, _∙_}
+use mathlib.Core.Path.{_≡_, subst}
 use mathlib.Core.Logic.{_↔_}
 use mathlib.Core.Bool.{true}
 use mathlib.Core.List.{List}
@@ -12,22 +12,21 @@ use Rattle.answers.specs.declared.Refusal.{Refusal}
 use Rattle.answers.specs.Checked.{ok}
 use Rattle.spellings.specs.Bytes.{isWord}
 use Rattle.kinds.specs.Kinds.{wordKind}
-use Rattle.grammar.specs.Table.{Lexicon, Template, Templates, Item, Table}
+use Rattle.grammar.specs.Table.{Lexicon, Template, Item, Table}
 use Rattle.terms.specs.Cells.{columns}
 use Rattle.layout.specs.Within.{Each}
 use Rattle.scanner.specs.declared.Token.{Token}
 use Rattle.scanner.specs.Scan.{scan}
-use Rattle.productions.specs.Normal.{Production}
 use Rattle.firsts.specs.First.{checkFirsts}
 use Rattle.firsts.proofs.FirstsTheorems.{passes-exactly}
-use Rattle.sorts.specs.Judgements.{Sorted, Fill, Body}
+use Rattle.sorts.specs.Judgements.{Sorted, Body}
 use Rattle.checker.specs.Passes.{grammarOf}
 use Rattle.terms.specs.Term.{Name, Term}
 use Rattle.terms.specs.Rows.{termAt}
 use Rattle.terms.specs.Occurrences.{isWorded}
 use Rattle.expansion.specs.declared.State.{State}
 use Rattle.expansion.specs.Run.{Result, done, halt}
-use Rattle.expansion.specs.Figure3.{Value, Gives, GiveAll, Derives, Parses}
+use Rattle.expansion.specs.Figure3.{Value, Gives, Derives, Parses}
 use Rattle.expansion.specs.ValueSorts.{Typed, Matches}
 use Rattle.expansion.specs.Costs.{rowsIn, Affords}
 use Rattle.soundness.specs.Stopping.{Refuses}
@@ -35,8 +34,7 @@ use Rattle.soundness.specs.Places.{givenIn, Among, Placed}
 use Rattle.expansion.specs.Parsing.{Runs, SmallWords}
 use Rattle.expansion.proofs.Unique.{parses-one}
 use Rattle.soundness.specs.Passing.{Passing, Lexemes}
-use Rattle.soundness.proofs.Building.{Ends}
-use Rattle.soundness.proofs.Typing.{gives-exists, give-all-exist, items-typed}
+use Rattle.soundness.proofs.Typing.{gives-exists, items-typed}
 use Rattle.soundness.proofs.RowsMade.{Leaves, run-leaves-rows}
 use Rattle.soundness.proofs.Setting.{Setting}
 use Rattle.soundness.proofs.Normalizing.{scopeOf, table-fits}
@@ -144,8 +142,7 @@ module _ (t : Table) (T : Passing t) where
       pub refused-exactly : (r : Refusal) → ((cells′ : List ℕ) × Answers (halt r cells′)) ↔ Refuses (grammarOf t) (R .spell) rows (R .tokens) (t .root) r
       refused-exactly r = (
         λ a.
-            subst (λ x. Ends {A = ℕ} (λ v s c. Unit {0}) (λ q. Refuses (grammarOf t) (R .spell) rows (R .tokens) (t .root) q) x) (a .1)
-            (run-halts (setting rows) cells room),
+            rw (a .1) at (run-halts (setting rows) cells room),
         λ h. refuses-halts (setting rows) h cells room,
       )
 

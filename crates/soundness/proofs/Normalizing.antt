@@ -1,6 +1,6 @@
 -- Normalizing preserves typing (001, section 4.2): the productions of a well sorted table have the sorts of its last environment.
 use Prim.Native.Nat.{ℕ}
-use mathlib.Core.Path.{_≡_, sym, subst, _∙_}
+use mathlib.Core.Path.{_≡_, sym, _∙_}
 use mathlib.Core.Bool.{Bool, true, false, true≢false}
 use mathlib.Core.List.{List, _∷_, _++_}
 use lib.Dec.{eqb}
@@ -11,7 +11,8 @@ use Rattle.grammar.specs.Sorts.{Signature}
 use Rattle.grammar.specs.Table.{Template, Item, Alternative, Mode, add, extend, update, Definition, Table}
 use Rattle.layout.specs.Within.{Each, each-none, each-more, AlternativeWithin, DefinitionWithin, Within}
 use Rattle.sorts.specs.Scopes.{Env, entryOf, Scope}
-use Rattle.sorts.specs.Judgements.{Newest, newest-first, newest-later, Absent, absent-empty, absent-entry, ItemSorted, by-keyword, by-ide, by-number, by-local}
+use Rattle.sorts.specs.Judgements.{Newest, newest-first, newest-later, Absent, absent-empty, absent-entry, ItemSorted, by-keyword, by-ide, by-number}
+use Rattle.sorts.specs.Judgements.{by-local}
 use Rattle.sorts.specs.Judgements.{by-call, Body, by-result, by-binding, Bodies, no-alternative, by-choice, Defines, no-definition, by-add, by-extend}
 use Rattle.sorts.specs.Judgements.{by-update, Ok, ok-empty, ok-definition, scope, Sequence, no-grammar, by-grammar, WellSorted}
 use Rattle.sorts.proofs.Environments.{newest-defined, newest-signature, absent-undefined}
@@ -63,9 +64,8 @@ entry-more d E same n S h =
     by-test (eqb (d .nonterminal) n)
     (λ e.
     let q : d .nonterminal ≡ n = eqb-true (d .nonterminal) n e in
-    let r : Newest (entryOf d ∷ E) (d .nonterminal) S = subst (λ X. Newest (entryOf d ∷ E) (d .nonterminal) X)
-    (same S (subst (λ m. Newest E m S) (sym q) h)) newest-first in
-    subst (λ m. Newest (entryOf d ∷ E) m S) q r)
+    let r : Newest (entryOf d ∷ E) (d .nonterminal) S = rw (← (same S (rw q h))) newest-first in
+    rw (← q) r)
     (λ e. newest-later (eqb-false (d .nonterminal) n e) h)
 
 added : {own E : Env} (d : Definition) → Absent own (d .nonterminal) → Absent E (d .nonterminal) → More (own ++ E) (entryOf d ∷ own ++ E)
@@ -122,7 +122,8 @@ module _ (K N : ℕ) where
     unfolding productionsOf
     alternatives-fit w no-alternative each-none = each-none
     alternatives-fit {S = S} w (by-choice b bs) (each-more a more) =
-        each-more (record { signature = S; newest = w; body = b; items = a .items; itemCount = a .itemCount; result = a .result }) (alternatives-fit w bs more)
+        each-more (record { signature = S; newest = w; body = b; items = a .items; itemCount = a .itemCount; result = a .result })
+        (alternatives-fit w bs more)
 
     definitions-fit : {g : List Production} {ds : List Definition} → Each (Fit (scope K N E)) g → Each (λ d. Newest E (d .nonterminal) (d .signature)) ds
         → Ok (scope K N E) ds → Each DefinitionWithin ds

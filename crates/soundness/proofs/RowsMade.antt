@@ -3,7 +3,6 @@ use Prim.Native.Nat.{ℕ, _*_, _≤_}
 use mathlib.Core.Path.{_≡_, refl, sym, subst, _∙_}
 use mathlib.Core.Bool.{Bool, true, false}
 use mathlib.Core.List.{List, []}
-use native.Mathlib.Omega.{arith}
 use lib.Dec.{ltb}
 use lib.ListN.{length, take}
 use lib.Seq.{getD-take}
@@ -14,7 +13,7 @@ use Rattle.productions.specs.Normal.{Production}
 use Rattle.terms.specs.Rows.{termAt}
 use Rattle.expansion.specs.declared.State.{State}
 use Rattle.expansion.specs.Run.{done, halt}
-use Rattle.expansion.specs.Expansion.{Input, start, runCall, ended, run}
+use Rattle.expansion.specs.Expansion.{start, runCall, ended, run}
 use Rattle.expansion.specs.Limits.{mostOpen}
 use Rattle.expansion.specs.Figure3.{Value, term}
 use Rattle.expansion.specs.Parsing.{input}
@@ -60,7 +59,6 @@ module _ {g : List Production} (X : Setting g) where
       → run (input g (X .tokens) (X .rows)) (X .root) cells ≡ done v s cells′ → Leaves cells v s cells′
   unfolding run
   run-leaves-rows cells room e =
-      subst (λ r. Ends (Leaves cells) (Any X) r) e
-      (ends-after (Root X cells) (Any X) (Leaves cells) (Any X)
+      rw e at (ends-after (Root X cells) (Any X) (Leaves cells) (Any X)
       (runCall mostOpen (input g (X .tokens) (X .rows)) (X .root) [] start cells) (ended (input g (X .tokens) (X .rows))) (root-called X cells room)
       (ended-leaves cells) (λ r u. u))

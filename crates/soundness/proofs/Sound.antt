@@ -29,7 +29,7 @@ use Rattle.expansion.specs.Expansion.{Input, ready, Rule, unfit, chosen, choice
 use Rattle.scanner.specs.Tokens.{endToken}
 use Rattle.expansion.specs.Expansion.{runItem, runItems, callBegun, runCall, start, ended, run}
 use Rattle.expansion.specs.Limits.{mostCalls, mostOpen}
-use Rattle.expansion.specs.Figure3.{Value, unit, binder, label, num, term, Gives, give-none, Taken, as-var, as-binder, as-label, by-keyword, by-ide, by-number}
+use Rattle.expansion.specs.Figure3.{Value, unit, binder, term, Gives, give-none, Taken, as-var, as-binder, as-label, by-keyword, by-ide, by-number}
 use Rattle.expansion.specs.Figure3.{by-local, Derives, by-end, by-terminal, by-call, Parses}
 use Rattle.expansion.specs.Parsing.{input}
 use Rattle.expansion.specs.Costs.{rowsOf, rowsOfAll}
@@ -37,7 +37,7 @@ use Rattle.expansion.proofs.Shows.{Grown, grown-not, grown-trans, Shows, shows-
 use Rattle.expansion.proofs.Shows.{show-none, all-later, all-and, word-named, fresh-named}
 use Rattle.soundness.proofs.Setting.{Setting, no-arguments}
 use Rattle.soundness.proofs.Building.{Ends, ends-after, ends-map, Made, Full, Built, BuiltAll, build-ends, build-all-ends}
-use Rattle.expansion.specs.ValueSorts.{Typed, typed-unit, typed-var, typed-binder, typed-label, typed-num, typed-term, Matches, matches-none}
+use Rattle.expansion.specs.ValueSorts.{Typed, typed-unit, typed-var, typed-binder, typed-label, typed-num, typed-term, Matches}
 use Rattle.soundness.proofs.Typing.{matches-and, gives-exists, give-all-exist, items-typed, FitAll, body-of, taken-of}
 use Rattle.expansion.proofs.Choosing.{kindOf, kind-next, Picks, picks, picks-none, choice-picks, rule}
 
@@ -51,7 +51,7 @@ pub token-before : (tokens : List Token) (at : ℕ) {k : ℕ} → getD tokens at
 token-before tokens at {k} e l =
     by-test (ltb at (length tokens)) (λ b. ltb-true at (length tokens) b)
     (λ b.
-    let n : 64 ≡ k = ap (λ t. t .kind) (sym (List·getD-eq-default tokens endToken (ltb-false at (length tokens) b))) ∙ e in
+    let n : 64 ≡ k = cc (List·getD-eq-default tokens endToken (ltb-false at (length tokens) b)) in
     absurd (omega arith))
 
 -- ------------------------------------------------------------------ what an expansion is given
@@ -172,7 +172,7 @@ module _ {g : List Production} (X : Setting g) where
         shows = z;
         grown = grown-not (s .made) cells;
         kept = kept-on h;
-        step = λ is M′ t j d. subst⁻¹ (λ ts. Derives g spell M ts (s .fresh) (i ∷ is) M′ t j) h′ (f is M′ t j d);
+        step = λ is M′ t j d. rw h′ (f is M′ t j d);
       }
 
   at-ide : (P : ℕ → Type 0) (B : ℕ) → 1 ≤ B → B ≤ 3 → P Sorts.var → P Sorts.binder → P Sorts.label → P B
@@ -326,12 +326,12 @@ module _ {g : List Production} (X : Setting g) where
           (λ r u. u)
 
       go : (b : Bool) → ltb (s .calls) mostCalls ≡ b → Picks g n (from s) (choice (ready g) n (kindOf (from s))) → Goal (runCall (suc d) I n xs s cells)
-      go false e q = subst⁻¹ (λ r. Ends (Called k n vs s cells) Any r) (call-full d I n xs s cells e) tt
+      go false e q = subst⁻¹ (Ends (Called k n vs s cells) Any) (call-full d I n xs s cells e) tt
       go true e (picks p t f) =
-          subst⁻¹ (λ r. Ends (Called k n vs s cells) Any r) (call-chosen d I n xs s cells (rule g p) e (ap (choice (ready g) n) (kind-next (s .at) tokens) ∙ f))
+          subst⁻¹ (Ends (Called k n vs s cells) Any) (call-chosen d I n xs s cells (rule g p) e (ap (choice (ready g) n) (kind-next (s .at) tokens) ∙ f))
           (items p t (ltb-true (s .calls) mostCalls e))
       go true e (picks-none f c) =
-          subst⁻¹ (λ r. Ends (Called k n vs s cells) Any r) (call-unfit d I n xs s cells e (ap (choice (ready g) n) (kind-next (s .at) tokens) ∙ c)) tt
+          subst⁻¹ (Ends (Called k n vs s cells) Any) (call-unfit d I n xs s cells e (ap (choice (ready g) n) (kind-next (s .at) tokens) ∙ c)) tt
 
   pub call-sound : (d : ℕ) → Callee (runCall d I)
   unfolding runCall
@@ -389,6 +389,5 @@ module _ {g : List Production} (X : Setting g) where
       → Parses g spell (X .root) tokens (termAt (s .made) spell cells′ v)
   unfolding run Accepted
   run-sound cells room v s cells′ e =
-      subst (λ r. Ends Accepted Any r) e
-      (ends-after (Root cells) Any Accepted Any (runCall mostOpen I (X .root) [] start cells) (ended I) (root-called cells room) (ended-sound cells)
+      rw e at (ends-after (Root cells) Any Accepted Any (runCall mostOpen I (X .root) [] start cells) (ended I) (root-called cells room) (ended-sound cells)
       (λ r u. u))

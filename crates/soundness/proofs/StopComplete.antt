@@ -1,46 +1,42 @@
 -- An expansion that stops by the rules halts with the same refusal.
 use Prim.Native.Nat.{ℕ, zero, suc, _+_, _*_, _≤_, _<_}
-use mathlib.Core.Path.{_≡_, refl, sym, ap, subst, subst⁻¹, _∙_}
+use mathlib.Core.Path.{_≡_, refl, ap, _∙_}
 use mathlib.Core.Bool.{Bool, true, false, true≢false}
 use mathlib.Core.List.{List, [], _∷_, _++_}
 use native.Mathlib.Omega.{arith}
 use lib.Dec.{ltb}
-use lib.ListN.{length, getD, drop, length-drop}
+use lib.ListN.{length, drop, length-drop}
 use lib.Count.{ones}
 use borrow.Author.Tests.{lt-ltb, le-ltb}
 use Rattle.answers.specs.declared.Refusal.{Refusal}
 use Rattle.answers.specs.Refusals.{refusal}
-use Rattle.answers.specs.Checked.{ok}
-use Rattle.kinds.specs.Kinds.{wordKind, numberKind, keywordKind, only}
-use Rattle.grammar.specs.Sorts.{Signature, constructors, constructor}
 use Rattle.grammar.specs.Sorts as Sorts
-use Rattle.grammar.specs.Table.{Template, Templates, make, none, Item, number, call}
+use Rattle.grammar.specs.Table.{Template, Templates, make, none, Item, call}
 use Rattle.layout.specs.Within.{Each, each-more, ItemWithin, call-within}
-use Rattle.sorts.specs.Judgements.{Newest, Fill, Body, by-result, by-binding}
+use Rattle.sorts.specs.Judgements.{Fill, Body, by-binding}
 use Rattle.sorts.specs.Judgements as Judgements
 use Rattle.scanner.specs.declared.Token.{Token}
 use Rattle.productions.specs.Normal.{Production}
-use Rattle.firsts.specs.First.{checkFirsts}
 use Rattle.firsts.specs.Rules.{Reads, reads-keyword, reads-word, reads-number}
 use Rattle.expansion.specs.declared.State.{State}
 use Rattle.expansion.specs.Run.{Result, done, halt, Run, after}
 use Rattle.expansion.specs.Expansion.{Input, ready, choice, nextToken, buildAll, build, wordValue, runItem, runItems, callBegun, runCall, start, ended, run}
 use Rattle.expansion.specs.Limits.{mostCalls, mostOpen}
 use Rattle.expansion.specs.Expansion as Expansion
-use Rattle.expansion.specs.Figure3.{Value, Gives, GiveAll, Next, Taken, Derives}
+use Rattle.expansion.specs.Figure3.{Value, Gives, GiveAll, Taken, Derives}
 use Rattle.expansion.specs.Costs.{rowsOf, rowsOfAll, openIn, callsIn, rowsIn, Affords}
 use Rattle.expansion.specs.Parsing.{input}
 use Rattle.expansion.proofs.Shows.{ShowAll, show-none}
-use Rattle.soundness.proofs.Setting.{Setting, no-arguments, item-body, root-body, root-within}
+use Rattle.soundness.proofs.Setting.{Setting, item-body, root-body, root-within}
 use Rattle.soundness.proofs.Building.{Ends, ends-both, Full, Built, BuiltAll, build-ends, build-all-ends}
 use Rattle.soundness.proofs.Typing.{FitAll, taken-of, result-sorted}
 use Rattle.expansion.proofs.Choosing.{kindOf, kind-next, Picks, picks, picks-none, choice-picks, rule, taken-one}
 use Rattle.soundness.proofs.Sound.{Kept, kept-made, kept-less, call-full, call-unfit, call-chosen}
-use Rattle.soundness.proofs.Complete.{Beyond, items-along, items-after, Reached, root-along}
+use Rattle.soundness.proofs.Complete.{Beyond, items-along, Reached, root-along}
 use Rattle.soundness.proofs.Complete as Complete
-use Rattle.soundness.specs.Stopping.{indexOf, firstSet, takes, makes, begins, Fails, no-token, no-row, too-deep, too-many, no-choice, Stops, at-token}
+use Rattle.soundness.specs.Stopping.{indexOf, takes, makes, begins, Fails, no-token, no-row, too-deep, too-many, no-choice, Stops, at-token}
 use Rattle.soundness.specs.Stopping.{at-arguments, at-call, past-item, Enters, at-start, in-items, at-result, Refuses, stops, left-over}
-use Rattle.soundness.proofs.StopLaws.{build-stays, build-all-stays, index-is, take-halts, Bounded, item-bounded, items-bounded, call-bounded}
+use Rattle.soundness.proofs.StopLaws.{first-set-one, build-stays, build-all-stays, index-is, take-halts, item-bounded, items-bounded, call-bounded}
 
 -- halted with this refusal
 abbrev pub HaltsWith : {A : Type 0} → Refusal → Result A → Type 0
@@ -54,7 +50,7 @@ never-done : {A C : Type 0} {a : A} {s : State} {c c′ : List ℕ} {r : Refusal
 never-done e = absurd (true≢false (ap isDone e))
 
 halts-after : {A B : Type 0} (r : Refusal) (x : Result A) (k : A → Run B) → HaltsWith r x → HaltsWith r (after x k)
-halts-after r x k h = (h .0, ap (λ z. after z k) (h .1))
+halts-after r x k h = (h .0, cc (h .1))
 
 module _ {g : List Production} (X : Setting g) where
   abbrev F : FitAll g
@@ -113,8 +109,7 @@ module _ {g : List Production} (X : Setting g) where
   token-fails {k = k} {t = t} C xs s cells w (no-token f) p =
       let q = reads-take w C xs in (
         cells,
-        ap (λ R. R s cells) (q .2) ∙ take-halts X k (q .1) s cells (q .0) (λ n. f (subst (λ u. Next u k) (p .place) n))
-            ∙ ap (λ (a : ℕ). halt (refusal 17 a (only k) (ones (only k))) cells) (sym (index s p)),
+        cc (q .2, take-halts X k (q .1) s cells (q .0) (λ n. f (rw (← (p .place)) n)), index s p),
       )
 
   arguments-fail : {o c m i : ℕ} {t : List Token} {r : Refusal} {ts : Templates} {M vs : List Value} {L Bs xs : List ℕ} (s : State) (cells : List ℕ)
@@ -132,7 +127,7 @@ module _ {g : List Production} (X : Setting g) where
           (λ r. Full rows (s .made + rowsOfAll ts) r × (r ≡ refusal 21 (s .at) 0 0)) x
           → HaltsWith (refusal 21 (indexOf tokens t) 0 0) x
       go (done ys s₁ c₁) y = absurd (omega (arith, y .0 .0 .made-is, y .0 .0 .fits, l, p .made))
-      go (halt q c₁) u = (c₁, ap (λ w. halt w c₁) (u .1 ∙ ap (λ (a : ℕ). refusal 21 a 0 0) (sym (index s p))))
+      go (halt q c₁) u = (c₁, cc (u .1, index s p))
 
   start-fails : {o c m n i : ℕ} {t : List Token} {vs : List Value} {r : Refusal} → Fails g spell rows tokens o c m t (begins n) r → Calls o c m n vs t i r
   unfolding runCall ready
@@ -141,7 +136,7 @@ module _ {g : List Production} (X : Setting g) where
       go : (d k : ℕ) (ys : List ℕ) (s : State) (cells : List ℕ) → d + o ≡ mostOpen → n < 64 → At c m t i s → Kept rows k s cells
           → ShowAll spell (s .made) cells ys vs
           → HaltsWith (refusal 19 (indexOf tokens t) 0 0) (runCall d J n ys s cells)
-      go zero k ys s cells e b p h a = (cells, ap (λ (x : ℕ). halt (refusal 19 x 0 0) cells) (sym (index s p)))
+      go zero k ys s cells e b p h a = (cells, cc (index s p))
       go (suc d) k ys s cells e b p h a = absurd (omega arith)
   start-fails {o} {c} {m} {n} {i} {t} {vs} (too-many l q) = record { calls = go }
     where
@@ -151,24 +146,26 @@ module _ {g : List Production} (X : Setting g) where
       go zero k ys s cells e b p h a = absurd (omega arith)
       go (suc d) k ys s cells e b p h a = (
         cells,
-        call-full d J n ys s cells (le-ltb (s .calls) mostCalls (omega (arith, p .calls))) ∙ ap (λ (x : ℕ). halt (refusal 20 x 0 0) cells)
-            (sym (index s p)),
+        cc (call-full d J n ys s cells (le-ltb (s .calls) mostCalls (omega (arith, p .calls))), index s p),
       )
-  start-fails {o} {c} {m} {n} {i} {t} {vs} (no-choice l q f) = record { calls = go }
+  start-fails {o} {c} {m} {n} {i} {t} {vs} (no-choice {set = set} l q f w) = record { calls = go }
     where
       go : (d k : ℕ) (ys : List ℕ) (s : State) (cells : List ℕ) → d + o ≡ mostOpen → n < 64 → At c m t i s → Kept rows k s cells
           → ShowAll spell (s .made) cells ys vs
-          → HaltsWith (refusal 17 (indexOf tokens t) (firstSet g n) (ones (firstSet g n))) (runCall d J n ys s cells)
+          → HaltsWith (refusal 17 (indexOf tokens t) set (ones set)) (runCall d J n ys s cells)
       go zero k ys s cells e b p h a = absurd (omega arith)
       go (suc d) k ys s cells e b p h a = by (choice-picks g n b (rest s))
         where
           by : Picks g n (rest s) (choice (ready g) n (kindOf (rest s)))
-              → HaltsWith (refusal 17 (indexOf tokens t) (firstSet g n) (ones (firstSet g n))) (runCall (suc d) J n ys s cells)
-          by (picks w z u) = absurd (f w (subst (λ v. Taken g n v w) (p .place) z))
+              → HaltsWith (refusal 17 (indexOf tokens t) set (ones set)) (runCall (suc d) J n ys s cells)
+          by (picks x z u) = absurd (f x (rw (← (p .place)) z))
           by (picks-none z u) = (
             cells,
-            call-unfit d J n ys s cells (lt-ltb (s .calls) mostCalls (omega (arith, p .calls))) (ap (choice (ready g) n) (kind-next (s .at) tokens) ∙ u)
-                ∙ ap (λ (x : ℕ). halt (refusal 17 x (firstSet g n) (ones (firstSet g n))) cells) (sym (index s p)),
+            cc (
+              call-unfit d J n ys s cells (lt-ltb (s .calls) mostCalls (omega (arith, p .calls))) (ap (choice (ready g) n) (kind-next (s .at) tokens) ∙ u),
+              index s p,
+              first-set-one w,
+            ),
           )
 
   -- ------------------------------------------------------------------ a call that is taken
@@ -182,10 +179,9 @@ module _ {g : List Production} (X : Setting g) where
         by : Picks g n (rest s) (choice (ready g) n (kindOf (rest s))) → HaltsWith r (runCall (suc d) J n ys s cells)
         by (picks p′ w z) =
             let picked : choice (ready g) n (nextToken J s .kind) ≡ Expansion.chosen (rule g p) =
-            ap (choice (ready g) n) (kind-next (s .at) tokens) ∙ z ∙ ap (λ u. Expansion.chosen (rule g u))
-            (taken-one g (X .passed) (subst (λ u. Taken g n u p′) (q .place) w) taken) in
+            ap (choice (ready g) n) (kind-next (s .at) tokens) ∙ z ∙ rw (taken-one g (X .passed) (rw (q .place) at w) taken) in
             (h .0, call-chosen d J n ys s cells (rule g p) (lt-ltb (s .calls) mostCalls (omega (arith, q .calls))) picked ∙ h .1)
-        by (picks-none z u) = absurd (z p (subst⁻¹ (λ u. Taken g n u p) (q .place) taken))
+        by (picks-none z u) = absurd (z p (rw (q .place) taken))
 
     begun-kept : {k : ℕ} {s : State} {cells : List ℕ} → s .calls < mostCalls → Kept rows k s cells → Kept rows (k + length (p .items)) (callBegun s) cells
     begun-kept l h =
@@ -205,7 +201,8 @@ module _ {g : List Production} (X : Setting g) where
             let f = F .each p (taken-of taken .member) in
             enter r d ys s cells q b
             (halts-after r (runItems (runCall d J) J (p .items) ys (callBegun s) cells) (λ M. build (p .result) J M)
-            (H .halts d k (p .result) (f .signature .result) (f .signature .params) ys (callBegun s) cells (omega (arith, e)) (f .body) (f .items) (begun-at q)
+            (H .halts d k (p .result) (f .signature .result) (f .signature .params) ys (callBegun s) cells (omega (arith, e)) (f .body) (f .items)
+            (begun-at q)
             (begun-kept (omega (arith, q .calls)) h) a))
 
     result-fails : {r : Refusal} {i′ : ℕ} {M : List Value} {v : Value} {t′ : List Token} (D : Derives g spell vs t i (p .items) M t′ i′)
@@ -254,7 +251,7 @@ module _ {g : List Production} (X : Setting g) where
                     → HaltsWith (refusal 21 (indexOf tokens t′) 0 0) x
                 last (done x s₂ c₂) y = absurd (omega (arith, y .0 .0 .made-is, y .0 .0 .fits, u .0 .0 .made-are, l, q .made))
                 last (halt w c₂) y =
-                    (c₂, ap (λ z. halt z c₂) (y .1 ∙ ap (λ (x : ℕ). refusal 21 x 0 0) (sym (index-is X s₁ (u .0 .0 .place) (u .1)))))
+                    (c₂, cc (y .1, index-is X s₁ (u .0 .0 .place) (u .1)))
 
   -- ------------------------------------------------------------------ items
 
@@ -278,7 +275,7 @@ module _ {g : List Production} (X : Setting g) where
           by (done ys s₁ c₁) u =
               C .calls d (k + length is) ys s₁ c₁ e (omega (arith, y))
               (record {
-                place = ap (λ at. drop at tokens) (u .0 .at-kept) ∙ p .place;
+                place = cc (u .0 .at-kept, p .place);
                 bounded = omega (arith, u .0 .at-kept, p .bounded);
                 counter = u .0 .fresh-kept ∙ p .counter;
                 calls = u .0 .calls-kept ∙ p .calls;
@@ -309,7 +306,8 @@ module _ {g : List Production} (X : Setting g) where
             (token-fails (runCall d J) xs s cells w f p);
       }
 
-  past-halts : {o c m i i′ : ℕ} {t t′ : List Token} {j : Item} {is : List Item} {M M′ : List Value} {r : Refusal} (D : Derives g spell M t i (j ∷ []) M′ t′ i′)
+  past-halts : {o c m i i′ : ℕ} {t t′ : List Token} {j : Item} {is : List Item} {M M′ : List Value} {r : Refusal}
+      (D : Derives g spell M t i (j ∷ []) M′ t′ i′)
       → Affords rows o c m D
       → Halts o (c + callsIn D) (m + rowsIn D) t′ i′ is M′ r → Halts o c m t i (j ∷ is) M r
   unfolding runItems
@@ -393,9 +391,10 @@ module _ {g : List Production} (X : Setting g) where
       go (done x s c) u =
           let e : length (drop (s .at) tokens) ≡ suc (length ts) = ap length (u .0 .0 .place) in
           let b : ltb (s .at) (length tokens) ≡ true = lt-ltb (s .at) (length tokens) (omega (arith, length-drop (s .at) tokens)) in
-          (c, rw (b, ended) (ap (λ (n : ℕ). halt (refusal 18 n 0 0) c) (sym (index-is X s (u .0 .0 .place) (u .1)))))
+          (c, rw (b, ended) (cc (index-is X s (u .0 .0 .place) (u .1))))
 
-  pub refuses-halts : {r : Refusal} → Refuses g spell rows tokens (X .root) r → (cells : List ℕ) → rows * 4 ≤ length cells → HaltsWith r (run J (X .root) cells)
+  pub refuses-halts : {r : Refusal} → Refuses g spell rows tokens (X .root) r → (cells : List ℕ) → rows * 4 ≤ length cells
+      → HaltsWith r (run J (X .root) cells)
   unfolding run
   refuses-halts {r} (stops E) cells room =
       halts-after r (runCall mostOpen J (X .root) [] start cells) (ended J)

@@ -1,16 +1,17 @@
 -- Steps of an expansion: templates halt with 21 at the token where they stand, and a place never runs past the tokens.
-use Prim.Native.Nat.{ℕ, zero, suc, _+_, _-_, _*_, _≤_, _<_}
+use Prim.Native.Nat.{ℕ, zero, suc, _+_, _^_, _≤_, _<_}
 use mathlib.Core.Path.{_≡_, refl, sym, ap, subst, subst⁻¹, _∙_}
 use mathlib.Core.Bool.{Bool, true, false}
 use mathlib.Core.List.{List, [], _∷_, _++_}
 use native.Mathlib.Omega.{arith}
 use lib.Dec.{eqb, ltb}
+use native.Mathlib.Nat.{pow-suc}
 use lib.ListN.{length, getD, drop, length-drop}
 use lib.Count.{ones}
-use borrow.Author.Tests.{eqb-true, ne-eqb, ltb-true}
-use Rattle.answers.specs.declared.Refusal.{Refusal}
+use borrow.Author.Tests.{eqb-true, ne-eqb}
 use Rattle.answers.specs.Refusals.{refusal}
-use Rattle.kinds.specs.Kinds.{wordKind, numberKind, keywordKind, only}
+use Rattle.kinds.specs.Kinds.{wordKind, numberKind, keywordKind, hasKind, only}
+use Rattle.kinds.proofs.KindsLaws.{same-kinds}
 use Rattle.grammar.specs.Table.{Template, Templates, none, more, Item}
 use Rattle.grammar.specs.Table as Table
 use Rattle.terms.specs.Cells.{withRow}
@@ -19,20 +20,41 @@ use Rattle.sorts.specs.Judgements.{ItemSorted, Body, by-binding}
 use Rattle.sorts.specs.Judgements as Judgements
 use Rattle.scanner.specs.declared.Token.{Token}
 use Rattle.productions.specs.Normal.{Production}
+use Rattle.firsts.specs.FirstSets.{nullables, firstSets}
+use Rattle.firsts.proofs.FirstsTheorems.{opens-exactly}
 use Rattle.firsts.specs.Rules.{Reads, reads-keyword, reads-word, reads-number}
 use Rattle.expansion.specs.declared.State.{State}
 use Rattle.expansion.specs.Run.{Result, done, halt, Run, after}
-use Rattle.expansion.specs.Expansion.{Input, ready, unfit, chosen, choice, nextToken, tokenTaken, takeToken, misfit, cellMade, cell, build, buildAll, wordValue}
+use Rattle.expansion.specs.Expansion.{Input, ready, choice, nextToken, tokenTaken, takeToken, misfit, cellMade, cell, build, buildAll, wordValue}
 use Rattle.expansion.specs.Expansion.{runItem, runItems, callBegun, runCall}
 use Rattle.expansion.specs.Limits.{mostCalls}
-use Rattle.expansion.specs.Figure3.{Next, next, Taken}
+use Rattle.expansion.specs.Figure3.{Next, next}
 use Rattle.expansion.specs.Parsing.{input}
 use Rattle.soundness.proofs.Setting.{Setting}
-use Rattle.soundness.proofs.Building.{Ends, ends-after}
+use Rattle.soundness.proofs.Building.{Ends}
 use Rattle.soundness.proofs.Typing.{FitAll, taken-of}
 use Rattle.expansion.proofs.Choosing.{kindOf, kind-next, Picks, picks, picks-none, choice-picks, rule}
 use Rattle.soundness.proofs.Sound.{token-before, call-full, call-unfit, call-chosen}
-use Rattle.soundness.specs.Stopping.{indexOf}
+use Rattle.soundness.specs.Stopping.{indexOf, FirstSet}
+
+-- ------------------------------------------------------------------ first sets
+
+below-power : (n : ℕ) → n < 2 ^ n
+below-power zero = omega arith
+below-power (suc n) = rw (pow-suc 2 n) (omega (arith, below-power n))
+
+same-set : (a b : ℕ) → ((k : ℕ) → hasKind a k ≡ hasKind b k) → a ≡ b
+same-set a b h = same-kinds (a + b) a b (omega (arith, below-power (a + b))) (omega (arith, below-power (a + b))) (λ k l. h k)
+
+both-true : (x y : Bool) → (x ≡ true → y ≡ true) → (y ≡ true → x ≡ true) → x ≡ y
+both-true true y f g = sym (f refl)
+both-true false true f g = g refl
+both-true false false f g = refl
+
+-- a nonterminal has one first set, the one that the rounds find
+pub first-set-one : {g : List Production} {n set : ℕ} → FirstSet g n set → set ≡ getD (firstSets (nullables g) g) n 0
+first-set-one {g} {n} {set} w =
+    same-set set _ (λ k. both-true _ _ (λ e. opens-exactly g n k .1 (w k .0 e)) (λ e. w k .1 (opens-exactly g n k .0 e)))
 
 -- ------------------------------------------------------------------ templates
 
@@ -48,7 +70,7 @@ module _ (I : Input) where
     where
       go : (y : Result B) → Stays s′ y → Stays s y
       go (done b s″ c″) q = q ∙ h
-      go (halt r c″) q = q ∙ ap (λ (n : ℕ). refusal 21 n 0 0) h
+      go (halt r c″) q = cc q
 
   cell-stays : (code : ℕ) (xs : List ℕ) (s : State) (cells : List ℕ) → Stays s (cell I code xs s cells)
   cell-stays code xs s cells = go (ltb (s .made) (I .rows))
@@ -140,7 +162,8 @@ module _ {g : List Production} (X : Setting g) where
   take-bounded kind value s cells l = go (eqb (nextToken J s .kind) kind) refl
     where
       go : (b : Bool) → eqb (nextToken J s .kind) kind ≡ b
-          → Bounded {A = ℕ} (elim b as (λ x. Result ℕ) [ true ↦ done (value (nextToken J s .value)) (tokenTaken s) cells | false ↦ misfit (only kind) s cells ])
+          → Bounded {A = ℕ} (elim b as (λ x. Result ℕ)
+          [ true ↦ done (value (nextToken J s .value)) (tokenTaken s) cells | false ↦ misfit (only kind) s cells ])
       go true e = omega (arith, token-before tokens (s .at) (eqb-true (nextToken J s .kind) kind e) l)
       go false e = tt
 
@@ -172,10 +195,10 @@ module _ {g : List Production} (X : Setting g) where
       go : ((m : ℕ) (ws : List ℕ) (s′ : State) (c′ : List ℕ) → m < 64 → s′ .at ≤ length tokens → Bounded (runCall d J m ws s′ c′)) → (b : Bool)
           → ltb (s .calls) mostCalls ≡ b
           → Picks g n (rest s) (choice (ready g) n (kindOf (rest s))) → Bounded (runCall (suc d) J n vs s cells)
-      go f false e q = subst⁻¹ (λ x. Bounded x) (call-full d J n vs s cells e) tt
+      go f false e q = subst⁻¹ Bounded (call-full d J n vs s cells e) tt
       go f true e (picks p t z) =
-          subst⁻¹ (λ x. Bounded x) (call-chosen d J n vs s cells (rule g p) e (ap (choice (ready g) n) (kind-next (s .at) tokens) ∙ z))
+          subst⁻¹ Bounded (call-chosen d J n vs s cells (rule g p) e (ap (choice (ready g) n) (kind-next (s .at) tokens) ∙ z))
           (bounded-after (runItems (runCall d J) J (p .items) vs (callBegun s) cells) (λ M. build (p .result) J M)
           (items-bounded (runCall d J) f (p .items) vs (callBegun s) cells (F .each p (taken-of t .member) .body) (F .each p (taken-of t .member) .items) h)
           (λ M s′ c′ b. stays-bounded s′ (build (p .result) J M s′ c′) b (build-stays J (p .result) M s′ c′)))
-      go f true e (picks-none a z) = subst⁻¹ (λ x. Bounded x) (call-unfit d J n vs s cells e (ap (choice (ready g) n) (kind-next (s .at) tokens) ∙ z)) tt
+      go f true e (picks-none a z) = subst⁻¹ Bounded (call-unfit d J n vs s cells e (ap (choice (ready g) n) (kind-next (s .at) tokens) ∙ z)) tt

@@ -1,48 +1,45 @@
 -- An expansion that halts stops by the rules, with the same refusal.
 use Prim.Native.Nat.{ℕ, zero, suc, _+_, _*_, _≤_, _<_}
-use mathlib.Core.Path.{_≡_, refl, sym, ap, subst, subst₂, subst⁻¹, _∙_}
+use mathlib.Core.Path.{_≡_, refl, ap, subst₂, subst⁻¹, _∙_}
 use mathlib.Core.Bool.{Bool, true, false}
 use mathlib.Core.List.{List, [], _∷_, _++_}
 use native.Mathlib.Omega.{arith}
 use lib.Dec.{eqb, ltb}
-use lib.ListN.{length, getD, drop}
-use lib.Count.{ones}
+use lib.ListN.{length, drop}
 use borrow.Author.Tests.{eqb-false, ltb-true, ltb-false}
 use Rattle.answers.specs.declared.Refusal.{Refusal}
 use Rattle.answers.specs.Refusals.{refusal}
-use Rattle.answers.specs.Checked.{ok}
 use Rattle.kinds.specs.Kinds.{wordKind, numberKind, keywordKind, only}
-use Rattle.grammar.specs.Sorts.{Signature, constructors, constructor}
+use Rattle.grammar.specs.Sorts.{Signature}
 use Rattle.grammar.specs.Sorts as Sorts
-use Rattle.grammar.specs.Table.{Template, Templates, make, none, Item, number, call}
+use Rattle.grammar.specs.Table.{Template, Templates, make, none, Item, call}
 use Rattle.layout.specs.Within.{Each, each-more, ItemWithin, call-within}
-use Rattle.sorts.specs.Judgements.{Newest, ItemSorted, Body, by-result, by-binding}
+use Rattle.sorts.specs.Judgements.{Newest, ItemSorted, Body, by-binding}
 use Rattle.sorts.specs.Judgements as Judgements
 use Rattle.scanner.specs.declared.Token.{Token}
 use Rattle.productions.specs.Normal.{Production}
-use Rattle.firsts.specs.First.{checkFirsts}
 use Rattle.firsts.specs.Rules.{Reads, reads-keyword, reads-word, reads-number}
+use Rattle.firsts.proofs.FirstsTheorems.{opens-exactly}
 use Rattle.expansion.specs.declared.State.{State}
-use Rattle.expansion.specs.Run.{Result, done, halt, Run, after}
+use Rattle.expansion.specs.Run.{Result, done, halt, after}
 use Rattle.expansion.specs.Expansion.{Input, ready, choice, nextToken, tokenTaken, takeToken, misfit, buildAll, build, wordValue, runItem, runItems, callBegun}
 use Rattle.expansion.specs.Expansion.{runCall, start, ended, run}
 use Rattle.expansion.specs.Limits.{mostCalls, mostOpen}
-use Rattle.expansion.specs.Figure3.{Value, Gives, GiveAll, give-none, Taken, Derives, by-end}
-use Rattle.expansion.specs.ValueSorts.{Matches, matches-none}
+use Rattle.expansion.specs.Figure3.{Value, GiveAll, give-none, Taken, Derives, by-end}
+use Rattle.expansion.specs.ValueSorts.{Matches}
 use Rattle.expansion.specs.Costs.{rowsOf, rowsOfAll, openIn, callsIn, rowsIn, Affords}
 use Rattle.expansion.specs.Parsing.{input}
 use Rattle.expansion.proofs.Shows.{ShowAll, show-none, all-later, all-and}
-use Rattle.soundness.proofs.Setting.{Setting, no-arguments, item-body, root-body, root-within}
+use Rattle.soundness.proofs.Setting.{Setting, no-arguments, item-body}
 use Rattle.soundness.proofs.Building.{Ends, after-by, ends-both, ends-after, ends-map, Made, Full, Built, BuiltAll, build-ends, build-all-ends}
 use Rattle.soundness.proofs.Typing.{matches-and, give-all-exist, gives-exists, FitAll, body-of, taken-of}
 use Rattle.expansion.proofs.Choosing.{kindOf, kind-next, Picks, picks, picks-none, choice-picks, rule}
-use Rattle.soundness.proofs.Sound.{token-here, Kept, kept-made, kept-less, call-full, call-unfit, call-chosen, Stepped, Called, Derived, Any, item-sound}
+use Rattle.soundness.proofs.Sound.{token-here, Kept, kept-made, kept-less, call-full, call-unfit, call-chosen, Stepped, Derived, item-sound}
 use Rattle.soundness.proofs.Sound.{items-sound, call-sound, Root, root-called, root-derived}
-use Rattle.soundness.proofs.Complete.{Beyond, items-along, items-after, Reached, root-along}
-use Rattle.soundness.specs.Stopping.{indexOf, firstSet, takes, makes, begins, Fails, no-token, no-row, too-deep, too-many, no-choice, Stops, at-token}
+use Rattle.soundness.proofs.Complete.{items-along, items-after, root-along}
+use Rattle.soundness.specs.Stopping.{Step, indexOf, makes, Fails, no-token, no-row, too-deep, too-many, no-choice, Stops, at-token}
 use Rattle.soundness.specs.Stopping.{at-arguments, at-call, past-item, Enters, at-start, in-items, at-result, Refuses, stops, left-over}
-use Rattle.soundness.proofs.StopLaws.{Stays, build-stays, build-all-stays, reads-small, index-is, kind-of-next, Bounded, item-bounded, items-bounded}
-use Rattle.soundness.proofs.StopLaws.{call-bounded}
+use Rattle.soundness.proofs.StopLaws.{build-stays, build-all-stays, index-is, kind-of-next, item-bounded, items-bounded, call-bounded}
 
 module _ {g : List Production} (X : Setting g) where
   abbrev F : FitAll g
@@ -76,6 +73,12 @@ module _ {g : List Production} (X : Setting g) where
   here : (s : State) → s .at ≤ length tokens → indexOf tokens (rest s) ≡ s .at
   here s l = index-is X s refl l
 
+  -- a step that fails at the index of what is left fails at the state's place
+  fails-here : {o c m k a b : ℕ} {step : Step} (s : State) → s .at ≤ length tokens
+      → Fails g spell rows tokens o c m (rest s) step (refusal k (indexOf tokens (rest s)) a b)
+      → Fails g spell rows tokens o c m (rest s) step (refusal k (s .at) a b)
+  fails-here s l f = rw (here s l) at f
+
   -- what is asked of a callee
   abbrev Halting : ℕ → Type 0
   Halting d =
@@ -94,12 +97,12 @@ module _ {g : List Production} (X : Setting g) where
       go true e = tt
       go false e =
           at-token w
-          (subst (λ (a : ℕ). Fails g spell rows tokens o (s .calls) (s .made) (rest s) (takes kind) (refusal 17 a (only kind) (ones (only kind)))) (here s l)
+          (fails-here s l
           (no-token (λ n. eqb-false (nextToken J s .kind) kind e (kind-of-next X s n))))
 
   full-row : (o c m : ℕ) {n : ℕ} (s : State) → s .at ≤ length tokens → rows < m + n
       → Fails g spell rows tokens o c m (rest s) (makes n) (refusal 21 (s .at) 0 0)
-  full-row o c m {n} s l h = subst (λ (a : ℕ). Fails g spell rows tokens o c m (rest s) (makes n) (refusal 21 a 0 0)) (here s l) (no-row h)
+  full-row o c m {n} s l h = fails-here s l (no-row h)
 
   -- a call of a state after its arguments is one of the state before them
   enters-stops : {o n : ℕ} {M vs : List Value} {ts : Templates} (is : List Item) {s s₁ : State} {cells c₁ : List ℕ} → GiveAll spell M ts vs
@@ -134,8 +137,7 @@ module _ {g : List Production} (X : Setting g) where
         (halting o k n S (vs .0) ys s₁ c₁ left w (omega arith) (vs .2) (omega (arith, y .1)) (kept-less (kept-made h (y .0 .0))) (y .0 .1))
         (λ x s₂ c₂ u. u) (enters-stops is (vs .1) (y .0 .0)))
         (λ r u. at-arguments (vs .1)
-        (subst⁻¹ (λ q. Fails g spell rows tokens o (s .calls) (s .made) (rest s) (makes (rowsOfAll ts)) q) (u .1)
-        (full-row o (s .calls) (s .made) s b (u .0 .beyond))))
+        (rw (u .1) (full-row o (s .calls) (s .made) s b (u .0 .beyond))))
 
     -- an item derived has cost what its derivation costs
     item-costs : (k : ℕ) {i : Item} {A : ℕ} {M : List Value} {L : List ℕ} (xs : List ℕ) (s : State) (cells : List ℕ) → ItemSorted (F .scope) L i A
@@ -145,9 +147,7 @@ module _ {g : List Production} (X : Setting g) where
         → (s₁ .calls ≡ s .calls + callsIn D) × (s₁ .made ≡ s .made + rowsIn D) × (openIn D ≤ d)
     unfolding runItems
     item-costs k {i} {L = L} xs s cells w h a x s₁ c₁ e {M₁} D =
-        let q = subst (λ z. Ends (Reached X k d (openIn D) (callsIn D) (rowsIn D) (rest s₁) (s₁ .fresh) M₁ (s .calls) (s .made) cells)
-        (Beyond rows d (openIn D) (s .calls + callsIn D) (s .made + rowsIn D)) z)
-        (items-after (runCall d J) J i [] xs s cells x s₁ c₁ e)
+        let q = rw (items-after (runCall d J) J i [] xs s cells x s₁ c₁ e) at
         (items-along X D .along d k (make 0x25 none) Sorts.fields L xs s cells (item-body X w) refl refl h a) in
         (q .0 .calls-are, q .0 .made-are, q .0 .deep)
 
@@ -162,13 +162,11 @@ module _ {g : List Production} (X : Setting g) where
         after-by Fine (StopsAt o M (i ∷ is) s) (runItem (runCall d J) J i xs s cells) (λ x. runItems (runCall d J) J is (xs ++ (x ∷ [])))
         (λ x s₁ c₁ e.
         let p : Stepped X (k + length is) i A M s cells x s₁ c₁ =
-        subst (λ z. Ends (Stepped X (k + length is) i A M s cells) (Any X) z) e
-        (item-sound X (runCall d J) (call-sound X d) (k + length is) s cells w z m h′ a) in
+        rw e at (item-sound X (runCall d J) (call-sound X d) (k + length is) s cells w z m h′ a) in
         let D = p .step [] (M ++ (p .value ∷ [])) (rest s₁) (s₁ .fresh) by-end in
         let q = item-costs (k + length is) xs s cells w h′ a x s₁ c₁ e D in
         let n₁ : s₁ .at ≤ length tokens =
-        subst (λ y. Ends {A = ℕ} (λ a s c. s .at ≤ length tokens) (λ r. Unit {0}) y) e
-        (item-bounded X (runCall d J) (call-bounded X d) xs s cells w z n) in
+        rw e at (item-bounded X (runCall d J) (call-bounded X d) xs s cells w z n) in
         ends-map Fine (StopsAt o (M ++ (p .value ∷ [])) is s₁) Fine (StopsAt o M (i ∷ is) s) (runItems (runCall d J) J is (xs ++ (x ∷ [])) s₁ c₁)
         (items-halt k is s₁ c₁ b zs (matches-and m (p .typed)) n₁ (p .kept) (all-and (all-later (p .grown) a) (p .shows)))
         (λ ys s₂ c₂ u. u)
@@ -176,12 +174,12 @@ module _ {g : List Production} (X : Setting g) where
         past-item {o = o} {c = s .calls} {m = s .made} D
         (record { few-open = omega (arith, q .2); few-calls = omega (arith, q .0, p .kept .begun); few-rows = omega (arith, q .1, p .kept .fits) })
         (subst₂ (λ c m. Stops g spell rows tokens o c m (M ++ (p .value ∷ [])) (rest s₁) (s₁ .fresh) is r) (q .0) (q .1) u)))
-        (λ q c₁ e. subst (λ z. Ends Fine (StopsAt o M (i ∷ is) s) z) e (item-halts (k + length is) is s cells w z m n h′ a))
+        (λ q c₁ e. rw e at (item-halts (k + length is) is s cells w z m n h′ a))
 
   -- ------------------------------------------------------------------ calls
 
-  module _ (d o : ℕ) (left : suc d + o ≡ mostOpen) (halting : Halting d) (k n : ℕ) (S : Signature) (vs : List Value) (xs : List ℕ) (s : State) (cells : List ℕ)
-      (w : Newest (F .scope .env) n S) (l : n < 64) (m : Matches vs (S .params)) (b : s .at ≤ length tokens) (h : Kept rows k s cells)
+  module _ (d o : ℕ) (left : suc d + o ≡ mostOpen) (halting : Halting d) (k n : ℕ) (S : Signature) (vs : List Value) (xs : List ℕ) (s : State)
+      (cells : List ℕ) (w : Newest (F .scope .env) n S) (l : n < 64) (m : Matches vs (S .params)) (b : s .at ≤ length tokens) (h : Kept rows k s cells)
       (a : ShowAll spell (s .made) cells xs vs) where
     abbrev Goal : Result ℕ → Type 0
     Goal z = Ends Fine (EntersAt o n vs s) z
@@ -200,15 +198,11 @@ module _ {g : List Production} (X : Setting g) where
         after-by Fine K (runItems (runCall d J) J (p .items) xs (callBegun s) cells) (λ ys. build (p .result) J ys)
         (λ ys s₁ c₁ e.
         let y : Derived X (runCall d J) (call-sound X d) k (p .items) (p .result) (S .result) vs (callBegun s) cells ys s₁ c₁ =
-        subst (λ z. Ends (Derived X (runCall d J) (call-sound X d) k (p .items) (p .result) (S .result) vs (callBegun s) cells) (Any X) z) e
-        (items-sound X (runCall d J) (call-sound X d) k (p .items) (callBegun s) cells body (q .items) m h′ a) in
+        rw e at (items-sound X (runCall d J) (call-sound X d) k (p .items) (callBegun s) cells body (q .items) m h′ a) in
         let D = y .derived in
-        let z = subst (λ z. Ends (Reached X k d (openIn D) (callsIn D) (rowsIn D) (rest s₁) (s₁ .fresh) (y .variables) (callBegun s .calls) (s .made) cells)
-        (Beyond rows d (openIn D) (callBegun s .calls + callsIn D) (s .made + rowsIn D)) z) e
-        (items-along X D .along d k (p .result) (S .result) (S .params) xs (callBegun s) cells body refl refl h′ a) in
+        let z = rw e at (items-along X D .along d k (p .result) (S .result) (S .params) xs (callBegun s) cells body refl refl h′ a) in
         let b₁ : s₁ .at ≤ length tokens =
-        subst (λ y. Ends {A = List ℕ} (λ a s c. s .at ≤ length tokens) (λ r. Unit {0}) y) e
-        (items-bounded X (runCall d J) (call-bounded X d) (p .items) xs (callBegun s) cells body (q .items) b) in
+        rw e at (items-bounded X (runCall d J) (call-bounded X d) (p .items) xs (callBegun s) cells body (q .items) b) in
         let v = gives-exists spell (y .matches) (p .result) (y .sorted) in
         let A : Affords rows (o + 1) (s .calls + 1) (s .made) D =
         record {
@@ -227,12 +221,10 @@ module _ {g : List Production} (X : Setting g) where
         (λ x s₂ c₂ u. tt)
         (λ r u.
         at-result {v = v .0} t D A (v .1)
-        (subst⁻¹ (λ q. Fails g spell rows tokens (o + 1) (s .calls + 1 + callsIn D) (s .made + rowsIn D) (rest s₁) (makes (rowsOf (p .result))) q) (u .1)
-        (full-row (o + 1) (s .calls + 1 + callsIn D) (s .made + rowsIn D) s₁ b₁ (omega (arith, u .0 .beyond, z .0 .made-are))))))
+        (rw (u .1) (full-row (o + 1) (s .calls + 1 + callsIn D) (s .made + rowsIn D) s₁ b₁ (omega (arith, u .0 .beyond, z .0 .made-are))))))
         (λ r c₁ e.
         in-items deeper c t
-        (subst (λ z. Ends Fine (StopsAt (o + 1) vs (p .items) (callBegun s)) z) e
-        (items-halt d (o + 1) (omega (arith, left)) halting k (p .items) (callBegun s) cells body (q .items) m b h′ a)))
+        (rw e at (items-halt d (o + 1) (omega (arith, left)) halting k (p .items) (callBegun s) cells body (q .items) m b h′ a)))
 
     call-step : Goal (runCall (suc d) J n xs s cells)
     unfolding ready
@@ -240,24 +232,19 @@ module _ {g : List Production} (X : Setting g) where
       where
         go : (c : Bool) → ltb (s .calls) mostCalls ≡ c → Picks g n (rest s) (choice (ready g) n (kindOf (rest s))) → Goal (runCall (suc d) J n xs s cells)
         go false e q =
-            subst⁻¹ (λ r. Goal r) (call-full d J n xs s cells e)
-            (at-start (subst (λ (i : ℕ). Fails g spell rows tokens o (s .calls) (s .made) (rest s) (begins n) (refusal 20 i 0 0)) (here s b)
-            (too-many deeper (ltb-false (s .calls) mostCalls e))))
+            subst⁻¹ Goal (call-full d J n xs s cells e)
+            (at-start (fails-here s b (too-many deeper (ltb-false (s .calls) mostCalls e))))
         go true e (picks p t f) =
-            subst⁻¹ (λ r. Goal r) (call-chosen d J n xs s cells (rule g p) e (ap (choice (ready g) n) (kind-next (s .at) tokens) ∙ f))
+            subst⁻¹ Goal (call-chosen d J n xs s cells (rule g p) e (ap (choice (ready g) n) (kind-next (s .at) tokens) ∙ f))
             (production-halts p t (ltb-true (s .calls) mostCalls e))
         go true e (picks-none f c) =
-            subst⁻¹ (λ r. Goal r) (call-unfit d J n xs s cells e (ap (choice (ready g) n) (kind-next (s .at) tokens) ∙ c))
-            (at-start
-            (subst (λ (i : ℕ). Fails g spell rows tokens o (s .calls) (s .made) (rest s) (begins n) (refusal 17 i (firstSet g n) (ones (firstSet g n))))
-            (here s b)
-            (no-choice deeper (ltb-true (s .calls) mostCalls e) f)))
+            subst⁻¹ Goal (call-unfit d J n xs s cells e (ap (choice (ready g) n) (kind-next (s .at) tokens) ∙ c))
+            (at-start (fails-here s b (no-choice deeper (ltb-true (s .calls) mostCalls e) f (opens-exactly g n))))
 
   pub call-halts : (d : ℕ) → Halting d
   unfolding runCall
   call-halts zero o k n S vs xs s cells e w l m b h a =
-      at-start (subst (λ (i : ℕ). Fails g spell rows tokens o (s .calls) (s .made) (rest s) (begins n) (refusal 19 i 0 0)) (here s b)
-      (too-deep (omega (arith, e))))
+      at-start {o = o} (fails-here s b (too-deep (omega (arith, e))))
   call-halts (suc d) o k n S vs xs s cells e w l m b h a = call-step d o e (call-halts d) k n S vs xs s cells w l m b h a
 
   -- ------------------------------------------------------------------ the whole formula
@@ -272,11 +259,9 @@ module _ {g : List Production} (X : Setting g) where
       → Refuses g spell rows tokens (X .root) (refusal 18 (s .at) 0 0)
   leftover cells x s cells′ {t} {ts} room q y b e =
       let D : Derives g spell [] tokens 1 (call (X .root) none ∷ []) (y .value ∷ []) (t ∷ ts) (s .fresh) =
-      subst (λ u. Derives g spell [] tokens 1 (call (X .root) none ∷ []) (y .value ∷ []) u (s .fresh)) e (root-derived X y) in
-      let z = subst (λ z. Ends (λ x′ s′ c. Reached X 0 mostOpen (openIn D) (callsIn D) (rowsIn D) (t ∷ ts) (s .fresh) (y .value ∷ []) 0 0 cells (x′ ∷ []) s′ c)
-      (Beyond rows mostOpen (openIn D) (callsIn D) (rowsIn D)) z) q (root-along X D cells room) in
-      subst (λ (i : ℕ). Refuses g spell rows tokens (X .root) (refusal 18 i 0 0)) (index-is X s e b)
-      (left-over D
+      rw (← e) (root-derived X y) in
+      let z = rw q at (root-along X D cells room) in
+      rw (← (index-is X s e b)) (left-over D
       (record {
         few-open = omega (arith, z .0 .deep);
         few-calls = omega (arith, z .0 .calls-are, z .0 .kept .begun);
@@ -288,13 +273,11 @@ module _ {g : List Production} (X : Setting g) where
   run-halts cells room =
       after-by Fine (Refuses g spell rows tokens (X .root)) (runCall mostOpen J (X .root) [] start cells) (ended J)
       (λ v s c₁ q.
-      over v s c₁ q (subst (λ z. Ends (Root X cells) (Any X) z) q (root-called X cells room))
-      (subst (λ y. Ends {A = ℕ} (λ a s c. s .at ≤ length tokens) (λ r. Unit {0}) y) q
-      (call-bounded X mostOpen (X .root) [] start cells (X .root-small) (omega arith))))
+      over v s c₁ q (rw q at (root-called X cells room))
+      (rw q at (call-bounded X mostOpen (X .root) [] start cells (X .root-small) (omega arith))))
       (λ r c₁ q.
       root-stops
-      (subst (λ z. Ends Fine (EntersAt 0 (X .root) [] start) z) q
-      (call-halts mostOpen 0 0 (X .root) (X .signature) [] [] start cells refl (X .defined) (X .root-small) (no-arguments X) (omega arith)
+      (rw q at (call-halts mostOpen 0 0 (X .root) (X .signature) [] [] start cells refl (X .defined) (X .root-small) (no-arguments X) (omega arith)
       (record { room = room; fits = omega arith; names = omega arith; begun = omega arith }) show-none)))
     where
       over : (v : ℕ) (s : State) (c₁ : List ℕ) → runCall mostOpen J (X .root) [] start cells ≡ done v s c₁ → Root X cells v s c₁ → s .at ≤ length tokens

@@ -18,7 +18,7 @@ use Rattle.scanner.specs.declared.Token.{Token}
 use Rattle.productions.specs.Normal.{Production}
 use Rattle.firsts.specs.Rules.{In, Of}
 use Rattle.expansion.specs.Figure3.{Value, Constructs, Bound, bound-first, bound-later, Gives, by-variable, by-global, by-label, by-constructor, GiveAll}
-use Rattle.expansion.specs.Figure3.{give-none, give-more, Taken, taken-opened, taken-nullable, WordAs, as-var, as-binder, as-label, ReadsAs, by-keyword, by-ide}
+use Rattle.expansion.specs.Figure3.{give-none, give-more, Taken, taken-opened, taken-nullable, as-var, as-binder, as-label, ReadsAs, by-keyword, by-ide}
 use Rattle.expansion.specs.Figure3.{by-number, by-local, Derives, by-end, by-terminal, by-call}
 use Rattle.expansion.specs.Figure3 as Figure3
 use Rattle.expansion.specs.ValueSorts.{Typed, typed-unit, typed-var, typed-binder, typed-either, typed-label, typed-term, typed-fields, typed-num, Matches}
@@ -75,7 +75,7 @@ constructs-by (suc (suc (suc (suc (suc (suc (suc (suc k)))))))) l h = absurd (om
 constructs-exists : (c : ℕ) → 0x20 ≤ c → c ≤ 0x27 → {vs : List Value} → Matches vs (constructor c .params) → (v : Value) × Constructs c vs v
 constructs-exists c l h {vs} m =
     let e : 0x20 + (c - 0x20) ≡ c = omega arith in
-    let r = constructs-by (c - 0x20) (omega arith) (subst (λ x. Matches vs (constructor x .params)) (sym e) m) in
+    let r = constructs-by (c - 0x20) (omega arith) (rw (← e) at m) in
     (r .0, subst (λ x. Constructs x vs (r .0)) e (r .1))
 
 -- ------------------------------------------------------------------ templates
@@ -155,7 +155,7 @@ module _ {g : List Production} (F : FitAll g) where
   body-of {n} {S} {p} o w =
       let q = F .each p (o .member) in
       let e : q .signature ≡ S = sym (newest-signature (q .newest)) ∙ ap (signatureOf (F .scope .env)) (o .owned) ∙ newest-signature w in
-      subst (λ X. Body (F .scope) (X .params) (p .items) (p .result) (X .result)) e (q .body)
+      rw (← e) (q .body)
 
   -- the variables after the items, and the sort of the result under them
   pub items-typed : {spell : ℕ → List ℕ} {M M′ : List Value} {s s′ : List Token} {i i′ : ℕ} {is : List Item} {L : List ℕ} {r : Template} {B : ℕ} {v : Value}

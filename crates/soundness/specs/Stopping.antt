@@ -1,17 +1,19 @@
 -- Where an expansion stops, by rules: refusals 17 to 21 in step order, a call being tested 19, 20, 17. Document 01, "Causes, by number".
 -- Everything before the step that fails is derived by Figure 3, within the limits.
 use Prim.Native.Nat.{ℕ, _+_, _-_, _≤_, _<_}
+use mathlib.Core.Path.{_≡_}
+use mathlib.Core.Bool.{true}
+use mathlib.Core.Logic.{_↔_}
 use mathlib.Core.List.{List, [], _∷_}
-use lib.ListN.{length, getD}
+use lib.ListN.{length}
 use lib.Count.{ones}
 use Rattle.answers.specs.declared.Refusal.{Refusal}
 use Rattle.answers.specs.Refusals.{refusal}
-use Rattle.kinds.specs.Kinds.{only}
+use Rattle.kinds.specs.Kinds.{hasKind, only}
 use Rattle.grammar.specs.Table.{Templates, none, Item, call}
 use Rattle.scanner.specs.declared.Token.{Token}
 use Rattle.productions.specs.Normal.{Production}
-use Rattle.firsts.specs.FirstSets.{nullables, firstSets}
-use Rattle.firsts.specs.Rules.{Reads}
+use Rattle.firsts.specs.Rules.{Reads, Opens}
 use Rattle.expansion.specs.Limits.{mostCalls, mostOpen}
 use Rattle.expansion.specs.Figure3.{Value, Gives, GiveAll, Next, Taken, Derives}
 use Rattle.expansion.specs.Costs.{rowsOf, rowsOfAll, callsIn, rowsIn, Affords}
@@ -20,9 +22,9 @@ use Rattle.expansion.specs.Costs.{rowsOf, rowsOfAll, callsIn, rowsIn, Affords}
 abbrev pub indexOf : List Token → List Token → ℕ
 indexOf tokens s = length tokens - length s
 
--- the first set of a nonterminal
-abbrev pub firstSet : List Production → ℕ → ℕ
-firstSet g n = getD (firstSets (nullables g) g) n 0
+-- the first set of n as a number: its bits are the kinds that open n
+abbrev pub FirstSet : List Production → ℕ → ℕ → Type 0
+FirstSet g n set = (k : ℕ) → (hasKind set k ≡ true) ↔ Opens g n k
 
 -- what a step does: it takes a token of a kind, makes so many cells, or begins a call of a nonterminal
 pub data Step : Type 0 where
@@ -46,11 +48,12 @@ module _ (g : List Production) (spell : ℕ → List ℕ) (rows : ℕ) (tokens :
         → o < mostOpen
         → mostCalls ≤ c
         → Fails o c m s (begins n) (refusal 20 (indexOf tokens s) 0 0)
-    no-choice : {n : ℕ}
+    no-choice : {n set : ℕ}
         → o < mostOpen
         → c < mostCalls
         → ((p : Production) → Taken g n s p → ⊥)
-        → Fails o c m s (begins n) (refusal 17 (indexOf tokens s) (firstSet g n) (ones (firstSet g n)))
+        → FirstSet g n set
+        → Fails o c m s (begins n) (refusal 17 (indexOf tokens s) set (ones set))
 
   -- the parse of items, and a call of a nonterminal with arguments, stop at a step that fails
   mutual

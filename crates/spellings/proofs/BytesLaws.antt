@@ -1,6 +1,6 @@
 -- What follows from the definitions of runs, words, equal spellings and the place of a spelling in a list.
 use Prim.Native.Nat.{ℕ, zero, suc, _+_, _<_, _≤_}
-use mathlib.Core.Path.{_≡_, refl, sym, ap, ap₂, _∙_}
+use mathlib.Core.Path.{_≡_, refl, sym, ap, _∙_}
 use mathlib.Core.Bool.{Bool, true, false, _&&_, _||_, true≢false, false≢true, and-eq-true-iff}
 use mathlib.Core.List.{List, [], _∷_, _++_}
 use native.Mathlib.Omega.{arith}
@@ -38,7 +38,7 @@ module _ (p : ℕ → Bool) where
   unfolding run
   run-prefix [] = refl
   run-prefix (b ∷ bs) =
-      by-test (p b) (λ e. rw (run-taken p b bs e) (ap (λ l. b ∷ l) (run-prefix bs))) (λ e. rw (run-left p b bs e) refl)
+      by-test (p b) (λ e. rw (run-taken p b bs e) (cc (run-prefix bs))) (λ e. rw (run-left p b bs e) refl)
 
   pub run-length : (s : List ℕ) → length (run p s) ≤ length s
   unfolding run
@@ -99,8 +99,10 @@ pub is-word-by : (s : List ℕ) → 0 < length s
 unfolding every
 is-word-by [] h = absurd (omega arith)
 is-word-by (b ∷ bs) h =
-    implied (isLetter b) (isWordByte b) (every isWordByte bs) (leb (suc (length bs)) 31) (letter-word-byte b)
-    ∙ ap (λ t. isLetter b && t && leb (suc (length bs)) 31) (every-whole isWordByte (b ∷ bs))
+    cc (
+      implied (isLetter b) (isWordByte b) (every isWordByte bs) (leb (suc (length bs)) 31) (letter-word-byte b),
+      every-whole isWordByte (b ∷ bs),
+    )
 
 -- a keyword of one byte is a letter or a symbol, any other is a word
 pub is-keyword-one : (s : List ℕ) → length s ≡ 1 → isKeyword s ≡ (isLetter (getD s 0 0) || isSymbol (getD s 0 0))
@@ -128,7 +130,7 @@ same-true [] (y ∷ ys) e = absurd (false≢true e)
 same-true (x ∷ xs) [] e = absurd (false≢true e)
 same-true (x ∷ xs) (y ∷ ys) e =
     let both = and-eq-true-iff (eqb x y) (same xs ys) .0 e in
-    ap₂ (λ z zs. z ∷ zs) (eqb-true x y (both .0)) (same-true xs ys (both .1))
+    cc (eqb-true x y (both .0), same-true xs ys (both .1))
 
 pub same-false : (a b : List ℕ) → same a b ≡ false → a ≡ b → ⊥
 same-false a b e f = true≢false (sym (same-refl a) ∙ ap (same a) f ∙ e)
@@ -158,6 +160,11 @@ index-hit w v vs e = rw (e, indexOf) refl
 index-miss : (w v : List ℕ) (vs : List (List ℕ)) → same v w ≡ false → indexOf w (v ∷ vs) ≡ suc (indexOf w vs)
 unfolding indexOf
 index-miss w v vs e = rw (e, indexOf) refl
+
+-- a spelling stands at once in the list of it alone
+pub index-self : (s : List ℕ) → indexOf s (s ∷ []) ≡ 0
+unfolding indexOf
+index-self s = rw (same-refl s, indexOf) refl
 
 module _ (w : List ℕ) where
   pub index-le : (vs : List (List ℕ)) → indexOf w vs ≤ length vs
@@ -211,4 +218,4 @@ module _ (w : List ℕ) where
 -- two spellings found at one place are equal
 pub index-injective : (v w : List ℕ) (vs : List (List ℕ)) → indexOf v vs < length vs → indexOf v vs ≡ indexOf w vs → v ≡ w
 index-injective v w vs h e =
-    sym (index-found v vs h) ∙ ap (λ i. getD vs i []) e ∙ index-found w vs (omega arith)
+    cc (index-found v vs h, index-found w vs (omega arith))

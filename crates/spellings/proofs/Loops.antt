@@ -32,19 +32,19 @@ module _ {p : ℕ → Bool} {s : List ℕ} {i : ℕ} (r : Running p s i) where
   pub running-next : i < length s → {t : Bool} → t ≡ p (getD s i 0) → t ≡ true → Running p s (i + 1)
   running-next h e u =
       let f : length (run p (drop i s)) ≡ suc (length (run p (drop (i + 1) s))) =
-      ap (λ l. length (run p l)) (drop-at-index s i h) ∙ ap length (run-taken p (getD s i 0) (drop (i + 1) s) (sym e ∙ u)) in
+      cc (drop-at-index s i h, run-taken p (getD s i 0) (drop (i + 1) s) (sym e ∙ u)) in
       record { within = omega arith; rest = omega (arith, r .rest) }
 
   pub running-stop : i < length s → {t : Bool} → t ≡ p (getD s i 0) → t ≡ false → i ≡ length (run p s)
   running-stop h e u =
       let f : length (run p (drop i s)) ≡ 0 =
-      ap (λ l. length (run p l)) (drop-at-index s i h) ∙ ap length (run-left p (getD s i 0) (drop (i + 1) s) (sym e ∙ u)) in
+      cc (drop-at-index s i h, run-left p (getD s i 0) (drop (i + 1) s) (sym e ∙ u)) in
       omega (arith, r .rest)
 
   pub running-end : length s ≤ i → i ≡ length (run p s)
   unfolding run
   running-end h =
-      let f : length (run p (drop i s)) ≡ 0 = ap (λ l. length (run p l)) (drop-of-length-le s h) in
+      let f : length (run p (drop i s)) ≡ 0 = cc (drop-of-length-le s h) in
       omega (arith, r .rest)
 
 -- ------------------------------------------------------------------ equal spellings
@@ -111,7 +111,7 @@ module _ {ds : List ℕ} {i n : ℕ} (r : Valued ds i n) where
   valued-front : i < length ds → {d : ℕ} → d ≡ getD ds i 0 - 48 → valueFrom (n * 10 + d) (drop (i + 1) ds) ≡ valueOf ds
   valued-front h e =
       rw e
-      (sym (ap (λ l. valueFrom n l) (drop-at-index ds i h) ∙ value-front n (getD ds i 0) (drop (i + 1) ds)) ∙ r .rest)
+      (sym (cc (drop-at-index ds i h, value-front n (getD ds i 0) (drop (i + 1) ds))) ∙ r .rest)
 
   pub valued-next : i < length ds → {d : ℕ} → d ≡ getD ds i 0 - 48 → n * 10 + d ≤ largest → Valued ds (i + 1) (n * 10 + d)
   valued-next h e k = record { within = omega arith; small = k; rest = valued-front h e }

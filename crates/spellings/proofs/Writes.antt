@@ -77,7 +77,7 @@ digits-low (suc k) n follow = by (decLt n 10) (digits-low k (n / 10) ((48 + n % 
         → digitsThen (suc k) n follow ≡ lowDigits (length (digitsThen (suc k) n [])) n follow
     by (yes h) e =
         let same : n ≡ n % 10 = omega arith in
-        rw (digits-one k n follow h, digits-one k n [] h) (ap (λ d. (48 + d) ∷ follow) same)
+        rw (digits-one k n follow h, digits-one k n [] h) (cc)
     by (no g) e =
         let one : length (digitsThen k (n / 10) ((48 + n % 10) ∷ [])) ≡ suc (length (digitsThen k (n / 10) [])) =
         omega (arith, digits-follow k (n / 10) ((48 + n % 10) ∷ [])) in
@@ -88,7 +88,7 @@ unfolding lowDigits
 low-next zero n follow h = absurd (omega arith)
 low-next (suc k) n follow h =
     let e : k ≡ suc k - 1 = omega arith in
-    ap (λ j. lowDigits j (n / 10) ((48 + n % 10) ∷ follow)) e
+    cc
 
 -- a byte stored at i stands in front of what was behind it
 stored : (out : List ℕ) (i b : ℕ) → i < length out → drop i (set out i b) ≡ b ∷ drop (i + 1) out
@@ -110,8 +110,8 @@ writing-start out n size e h =
       digits = [];
       within = h;
       long = refl;
-      behind = ap (λ k. drop k out) e;
-      whole = ap (λ k. lowDigits k n []) e ∙ sym (digits-low (suc n) n []);
+      behind = cc;
+      whole = cc (digits-low (suc n) n []);
     }
 
 module _ {out₀ : List ℕ} {n at rest : ℕ} {out : List ℕ} (r : Writing out₀ n at rest out) where
@@ -124,8 +124,7 @@ module _ {out₀ : List ℕ} {n at rest : ℕ} {out : List ℕ} (r : Writing out
         within = omega (arith, r .within);
         long = length-set out (at - 1) d ∙ r .long;
         behind =
-            stored out (at - 1) d (omega (arith, r .within, r .long))
-            ∙ ap (λ l. d ∷ l) (ap (λ k. drop k out) e ∙ r .behind);
+            cc (stored out (at - 1) d (omega (arith, r .within, r .long)), r .behind);
         whole = sym (low-next at rest (r .digits) h) ∙ r .whole;
       }
 
@@ -133,9 +132,7 @@ module _ {out₀ : List ℕ} {n at rest : ℕ} {out : List ℕ} (r : Writing out
   unfolding lowDigits
   writing-end h l =
       let e : 0 ≡ at = omega arith in
-      ap (λ k. drop k out) e ∙ r .behind
-      ∙ ap (λ ds. ds ++ drop (length (decimal n)) out₀) (ap (λ k. lowDigits k rest (r .digits)) e ∙ r .whole)
-      ∙ sym (written-fits (decimal n) out₀ l)
+      cc (r .behind, r .whole, written-fits (decimal n) out₀ l)
 
 -- ------------------------------------------------------------------ a copy
 
@@ -157,14 +154,17 @@ module _ {out₀ s : List ℕ} {i : ℕ} {out : List ℕ} (r : Copying out₀ s 
         within = omega arith;
         long = length-set out i b ∙ r .long;
         text =
-            ap (λ m. set m i b) (r .text ∙ ap (λ m. take i s ++ m) (drop-at-index out₀ i l))
-            ∙ set-at (take i s) (getD out₀ i 0) rest b i (length-take-le i s (r .within))
-            ∙ sym (append-snoc (take i s) b rest)
-            ∙ ap (λ m. m ++ rest) (sym (take-suc s i 0 h) ∙ ap (λ k. take k s) (sym (add-one i)));
+            cc (
+              r .text,
+              drop-at-index out₀ i l,
+              set-at (take i s) (getD out₀ i 0) rest b i (length-take-le i s (r .within)),
+              append-snoc (take i s) b rest,
+              take-suc s i 0 h,
+              add-one i,
+            );
       }
 
   pub copying-end : length s ≤ i → length s ≤ length out₀ → out ≡ written s out₀
   copying-end h l =
       let e : i ≡ length s = omega (arith, r .within) in
-      r .text ∙ ap (λ k. take k s ++ drop k out₀) e ∙ ap (λ m. m ++ drop (length s) out₀) (take-length s)
-      ∙ sym (written-fits s out₀ l)
+      cc (r .text, take-length s, written-fits s out₀ l)

@@ -1,10 +1,30 @@
-// Bytes, words, equal spellings and decimal numbers.
+// Bytes, words, equal spellings and decimal numbers; numbers of a room as indices.
 ghost use mathlib.Core.Path.{_≡_};
 ghost use Prim.Native.Nat.{_-_};
 ghost use lib.ListN.{length};
 ghost use Rattle.spellings.specs.Bytes.{isLetter, isDigit, isWordByte, isSeparator, isSymbol, run, isWord, isKeyword, same, decimal};
 ghost use Rattle.spellings.specs.Buffers.{written};
 ghost use Rattle.spellings.specs.Numbers.{numberOf};
+
+// ---------------------------------------------------------------- numbers as indices
+
+pub fn wide_byte(b: u8) -> usize
+    ensures { λ r. ⌜ r ≡ b ⌝ }
+{
+    b as usize
+}
+
+pub fn wide_short(x: u16) -> usize
+    ensures { λ r. ⌜ r ≡ x ⌝ }
+{
+    x as usize
+}
+
+pub fn wide_number(x: u32) -> usize
+    ensures { λ r. ⌜ r ≡ x ⌝ }
+{
+    x as usize
+}
 
 // ---------------------------------------------------------------- classes of bytes
 

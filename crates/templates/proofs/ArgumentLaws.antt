@@ -8,9 +8,11 @@ use lib.Dec.{ltb}
 use lib.ListN.{length, getD, drop, drop-of-length-le}
 use lib.Seq.{drop-cons}
 use Rattle.spellings.proofs.BytesLaws.{by-test}
-use Rattle.grammar.specs.Sorts.{isConstructor, arity}
+use Rattle.grammar.specs.Sorts.{arity}
+use Rattle.grammar.specs.SortTests.{isConstructor}
 use Rattle.grammar.specs.Table.{Template, Templates, variable, none, more}
-use Rattle.layout.specs.Prefix.{Parsed, fault, parsed, inFront, Taken, short, taken, takeTemplates, applied, constructed, byteInFront, isNameTag, templatesOf, isTemplates, found}
+use Rattle.layout.specs.Prefix.{Parsed, fault, parsed, inFront, Taken, short, taken, takeTemplates, applied, constructed, byteInFront, isNameTag, templatesOf}
+use Rattle.layout.specs.Prefix.{isTemplates, found}
 use Rattle.layout.proofs.PrefixLaws.{name-first, name-last, byte-first, variable-first, constructor-first, unknown-first}
 use Rattle.expansion.specs.declared.State.{State}
 use Rattle.templates.specs.declared.Built.{Built}
@@ -66,7 +68,7 @@ first-by v at (more t ts) s e = (record { template = t; others = ts; read = e },
 pub first-of : (v : List ℕ) (at : ℕ) (ts : Templates) → at < length v → templatesOf (drop at v) ≡ parsed ts → First v at ts
 first-of v at ts h e =
     first-by v at ts
-    (subst Some e (subst⁻¹ (λ (bs : List ℕ). Some (templatesOf bs)) (drop-cons v at 0 h) (some-read (getD v at 0) (drop (suc at) v))))
+    (subst Some e (rw (drop-cons v at 0 h) (some-read (getD v at 0) (drop (suc at) v))))
     e
 
 -- ------------------------------------------------------------------ one by one
@@ -119,10 +121,12 @@ module _ {v : List ℕ} {start : ℕ} {env : List ℕ} {k rows made : ℕ} {cell
         → after (after R (λ x. buildAll (listing-first .0 .others) I M >>= λ ys. return (x ∷ ys))) (λ ys. return (c .given ++ ys))
         ≡ buildAll (found (templatesOf (drop start v))) I M (withMade s made) cells₀
     listing-one R I s M e g h =
-        first-built (λ ys. return ys) (c .given) I M (listing-first .0 .template) (listing-first .0 .others) R (withMade s count) cells
-        (h ∙ ap (λ (t : Template). build t I M (withMade s count) cells) (template-is v at (listing-first .0)))
-        ∙ sym (ap (λ (ts : Templates). after (buildAll ts I M (withMade s count) cells) (λ ys. return (c .given ++ ys))) (listing-first .1))
-        ∙ c .rest I s M e g
+        cc (
+          first-built (λ ys. return ys) (c .given) I M (listing-first .0 .template) (listing-first .0 .others) R (withMade s count) cells
+              (cc (template-is v at (listing-first .0))),
+          listing-first .1,
+          c .rest I s M e g,
+        )
 
     -- what `build` ensures of one template
     module _ (cells′ : List ℕ) (r : Built)
@@ -131,7 +135,7 @@ module _ {v : List ℕ} {start : ℕ} {env : List ℕ} {k rows made : ℕ} {cell
       pub listing-full : r ≡ Full → (I : Input) (s : State) (M : List ℕ) → I .rows ≡ rows → Holds env k M
           → buildAll (found (templatesOf (drop start v))) I M (withMade s made) cells₀ ≡ noRow s cells′
       listing-full er I s M e g =
-          sym (listing-one (noRow s cells′) I s M e g (ap (λ (q : Built). built s q cells′) (sym er) ∙ f I s M e g))
+          sym (listing-one (noRow s cells′) I s M e g (cc (f I s M e g)))
 
       pub listing-less : {x after′ made′ : ℕ} → r ≡ Made x after′ made′ → Behind v at r → length v - after′ < length v - at
       listing-less {x} {after′} {made′} er bh =
@@ -156,7 +160,7 @@ module _ {v : List ℕ} {start : ℕ} {env : List ℕ} {k rows made : ℕ} {cell
                 λ I s M e g.
                 regroup (λ ys. return ys) (c .given) x (buildAll (listing-first .0 .others) I M (withMade s made′) cells′)
                 ∙ listing-one (done x (withMade s made′) cells′) I s M e g
-                (ap (λ (p : Built). built s p cells′) (sym er) ∙ f I s M e g);
+                (cc (f I s M e g));
           }
 
   pub listing-end : length v ≤ at → (I : Input) (s : State) (M : List ℕ) → I .rows ≡ rows → Holds env k M
@@ -167,9 +171,6 @@ module _ {v : List ℕ} {start : ℕ} {env : List ℕ} {k rows made : ℕ} {cell
       let f : parsed none ≡ parsed (c .ahead) = sym (ap templatesOf d) ∙ c .read in
       let a : none ≡ c .ahead = cc in (
         c .given,
-        sym
-            (ap (λ (l : List ℕ). done l (withMade s count) cells) (sym (append-nil (c .given)))
-            ∙ ap (λ (ts : Templates). after (buildAll ts I M (withMade s count) cells) (λ ys. return (c .given ++ ys))) a
-            ∙ c .rest I s M e g),
+        cc (c .rest I s M e g, append-nil (c .given)),
         c .holds,
       )

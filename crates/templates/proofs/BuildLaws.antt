@@ -9,7 +9,7 @@ use lib.ListN.{length, getD, take, drop, set, length-set, length-append, length-
 use lib.Seq.{sets, getD-take, getD-drop}
 use borrow.Author.Tests.{lt-ltb, le-ltb}
 use Rattle.grammar.specs.Sorts.{arity}
-use Rattle.grammar.specs.Table.{Template, Templates, make, none, more}
+use Rattle.grammar.specs.Table.{Template, Templates, none, more}
 use Rattle.terms.specs.Cells.{columns, withRow}
 use Rattle.layout.specs.Prefix.{parsed, templatesOf, nameBy}
 use Rattle.layout.specs.Within.{count}
@@ -18,7 +18,7 @@ use Rattle.templates.specs.declared.Head.{Head}
 use Rattle.templates.specs.declared.Head.the-variants.{Leaf, Node}
 use Rattle.templates.specs.declared.Built.the-variants.{Made}
 use Rattle.expansion.specs.Run.{Result, done}
-use Rattle.expansion.specs.Expansion.{Input, build, cell}
+use Rattle.expansion.specs.Expansion.{Input, build}
 use Rattle.templates.specs.Built.{Holds, withMade, Ahead, templateAt, othersAt, noRow, Behind}
 use Rattle.templates.specs.Heads.{join, Leads, Past, Takes, Heads}
 use Rattle.grammar.proofs.ReaderLaws.{getD-past}
@@ -59,7 +59,7 @@ pub name-head : {v : List ℕ} {at : ℕ} (a : Ahead v at) {b : ℕ} → b ≡ g
     → ((M : List ℕ) → Holds env k M → Leads v at M (Leaf x (at + 2))) × Past v at (at + 2)
 name-head {v} {at} a eb low high en {x} f =
     let q = behind-name v at a eb low high en x 0 in (
-      λ M g I s cells. ap (λ (t : Template). build t I M s cells) (at-name v at a eb low high en) ∙ f I M s cells,
+      λ M g I s cells. cc (at-name v at a eb low high en, f I M s cells),
       record { less = q .0; inside = q .1; read = q .2 },
     )
 
@@ -82,7 +82,7 @@ pub cell-stored : (cells l : List ℕ) (row code : ℕ) {cells′ : List ℕ} {x
     → cells′ ≡ withRow cells row code l
 cell-stored cells l row code {cells′} {x} {y} {z} ex ey ez e =
     let q : x ∷ y ∷ z ∷ [] ≡ spare l = (cc) ∙ spare-is l in
-    e ∙ ap (λ (vs : List ℕ). sets cells (row * columns) (code ∷ vs)) q
+    cc
 
 -- ------------------------------------------------------------------ the loop
 
@@ -149,8 +149,7 @@ building-start {v} {from} {code} t env k rows made cells stack {w} h ew =
       read = t .read;
       rest =
           λ I s M e g.
-          sym
-          (ap (λ (u : Template). build u I M (withMade s made) cells) (t .is) ∙ going-make I M code (t .own) (withMade s made) cells);
+          cc (going-make I M code (t .own) (withMade s made) cells, t .is);
     }
 
 some-left : (ts : Templates) → 0 < count ts → (t : Template) × (us : Templates) × (ts ≡ more t us)
@@ -199,7 +198,7 @@ module _ {W : Whole} {T : Turn} {w code n : ℕ} (d : Looked W T w code n) where
 
     pub next-read : templatesOf (drop (T .at) (W .v)) ≡ parsed (more (next-left .0) (join (next-left .1) (lefts (c .around) (othersAt (W .v) (W .from)))))
     unfolding join
-    next-read = c .read ∙ ap (λ (us : Templates). parsed (join us (lefts (c .around) (othersAt (W .v) (W .from))))) (next-left .2)
+    next-read = cc (c .read, next-left .2)
 
     abbrev pub building-ahead : Ahead (W .v) (T .at)
     building-ahead =
@@ -222,9 +221,11 @@ module _ {W : Whole} {T : Turn} {w code n : ℕ} (d : Looked W T w code n) where
 
     waiting : Same W (λ I s M. resume I M later (build (templateAt (W .v) (T .at)) I M (withMade s (T .made)) (T .cells)))
     waiting I s M e g =
-        ap (λ (t : Template). resume I M later (build t I M (withMade s (T .made)) (T .cells))) (template-is (W .v) (T .at) building-ahead)
-        ∙ sym (waits-for I M (c .inner) (withMade s (T .made)) (T .cells) (c .around) (next-left .2))
-        ∙ c .rest I s M e g
+        cc (
+          template-is (W .v) (T .at) building-ahead,
+          waits-for I M (c .inner) (withMade s (T .made)) (T .cells) (c .around) (next-left .2),
+          c .rest I s M e g,
+        )
 
     -- it begins with a value
     pub building-leaf : (r : Head) {x next : ℕ} → r ≡ Leaf x next → ((M : List ℕ) → Holds (W .env) (W .k) M → Leads (W .v) (T .at) M r)
@@ -270,14 +271,10 @@ module _ {W : Whole} {T : Turn} {w code n : ℕ} (d : Looked W T w code n) where
           many = omega (arith, q .many);
           small = q .small;
           filling = (one-counted, c .small, c .filling);
-          read = q .read ∙ ap (λ (us : Templates). parsed (join (q .own) us)) (others-are (W .v) (T .at) building-ahead);
+          read = cc (q .read, others-are (W .v) (T .at) building-ahead);
           rest =
               λ I s M e g.
-              ap (resume I M later)
-              (sym
-              (ap (λ (t : Template). build t I M (withMade s (T .made)) (T .cells)) (q .is)
-              ∙ going-make I M b (q .own) (withMade s (T .made)) (T .cells)))
-              ∙ waiting I s M e g;
+              cc (going-make I M b (q .own) (withMade s (T .made)) (T .cells), q .is, waiting I s M e g);
         }
 
   -- none is left to it
@@ -288,7 +285,7 @@ module _ {W : Whole} {T : Turn} {w code n : ℕ} (d : Looked W T w code n) where
     given-is : take n (drop (T .pos) (T .stack)) ≡ c .inner .given
     given-is =
         let z : n ≡ T .top - T .pos = omega (arith, n-is, stands-top (c .stands)) in
-        ap (λ (j : ℕ). take j (drop (T .pos) (T .stack))) z ∙ stands-given (c .stands)
+        cc (stands-given (c .stands))
 
     pub building-fits : T .pos + n ≤ length (T .stack)
     building-fits = omega (arith, n-is, stands-top (c .stands), c .stands .fits)
@@ -303,11 +300,7 @@ module _ {W : Whole} {T : Turn} {w code n : ℕ} (d : Looked W T w code n) where
 
     cell-by : (b : Bool) → ltb (T .made) (W .rows) ≡ b → Same W (λ I s M. resume I M (c .around) (row-or b s))
     cell-by b f I s M e g =
-        ap (resume I M (c .around))
-        (sym
-        (makes-cell I M (c .inner) (withMade s (T .made)) (T .cells) inner-none
-        ∙ ap (λ (x : Bool). row-or x s) (ap (λ (m : ℕ). ltb (T .made) m) e ∙ f)))
-        ∙ c .rest I s M e g
+        cc (makes-cell I M (c .inner) (withMade s (T .made)) (T .cells) inner-none, c .rest I s M e g)
 
     pub building-full : W .rows ≤ T .made → Same W (λ I s M. noRow s (T .cells))
     building-full h I s M e g = sym (resume-halt I M (c .around) _ (T .cells)) ∙ cell-by false (le-ltb (T .made) (W .rows) h) I s M e g
@@ -331,14 +324,11 @@ module _ {W : Whole} {T : Turn} {code n out : ℕ} {cells : List ℕ} (d : Closi
 
   made-is : Same W (λ I s M. resume I M (b .around) (done (T .made) (withMade s (T .made + 1)) cells))
   made-is I s M e g =
-      ap (λ (cs : List ℕ). resume I M (b .around) (done (T .made) (withMade s (T .made + 1)) cs))
-      (d .stored ∙ ap (λ (x : ℕ). withRow (T .cells) (T .made) x (take n (drop (T .pos) (T .stack)))) (its-code (d .looked))
-      ∙ ap (withRow (T .cells) (T .made) (b .inner .code)) (given-is (d .looked) (d .stop)))
-      ∙ cell-by (d .looked) (d .stop) true (lt-ltb (T .made) (W .rows) (d .row)) I s M e g
+      cc (d .stored, its-code (d .looked), given-is (d .looked) (d .stop), cell-by (d .looked) (d .stop) true (lt-ltb (T .made) (W .rows) (d .row)) I s M e g)
 
   read-on : templatesOf (drop (T .at) (W .v)) ≡ parsed (lefts (b .around) (othersAt (W .v) (W .from)))
   unfolding join
-  read-on = b .read ∙ ap (λ (us : Templates). parsed (join us (lefts (b .around) (othersAt (W .v) (W .from))))) (inner-none (d .looked) (d .stop))
+  read-on = cc (b .read, inner-none (d .looked) (d .stop))
 
   pub closing-long : length cells ≡ length (W .cells)
   closing-long = d .same ∙ b .as-long
@@ -350,14 +340,14 @@ module _ {W : Whole} {T : Turn} {code n out : ℕ} {cells : List ℕ} (d : Closi
 
     pub closing-made : Same W (λ I s M. done (T .made) (withMade s (T .made + 1)) cells)
     unfolding resume
-    closing-made I s M e g = ap (λ (ps : List Pending). resume I M ps (done (T .made) (withMade s (T .made + 1)) cells)) (sym alone) ∙ made-is I s M e g
+    closing-made I s M e g = cc (alone, made-is I s M e g)
 
     pub closing-behind : (W .from < T .at) × (T .at ≤ length (W .v)) × (templatesOf (drop (T .at) (W .v)) ≡ parsed (othersAt (W .v) (W .from)))
     unfolding lefts
     closing-behind = (
       omega (arith, b .past, stands-top (b .stands), building-pos b .0),
       b .inside,
-      read-on ∙ ap (λ (ps : List Pending). parsed (lefts ps (othersAt (W .v) (W .from)))) alone,
+      cc (read-on, alone),
     )
 
   -- it is an argument of the one around it
@@ -384,17 +374,14 @@ module _ {W : Whole} {T : Turn} {code n out : ℕ} {cells : List ℕ} (d : Closi
               inner = fed q (T .made) (q .left);
               around = qs;
               stands =
-                  subst (λ (n : ℕ). Stands (set (T .stack) (T .pos - 1) (T .made)) n (T .pos) (fed q (T .made) (q .left)) qs) ae
-                  (stands-closed st (T .made));
+                  rw (← ae) (stands-closed st (T .made));
               many = simp length-append (omega (arith, fl .0));
               small = fl .1;
               filling = fl .2;
-              read = read-on ∙ ap (λ (ps : List Pending). parsed (lefts ps (othersAt (W .v) (W .from)))) e;
+              read = cc (read-on, e);
               rest =
                   λ I s M ei g.
-                  sym (takes-value I M q (withMade s (T .made + 1)) cells qs (T .made))
-                  ∙ ap (λ (ps : List Pending). resume I M ps (done (T .made) (withMade s (T .made + 1)) cells)) (sym e)
-                  ∙ made-is I s M ei g;
+                  cc (takes-value I M q (withMade s (T .made + 1)) cells qs (T .made), e, made-is I s M ei g);
             },
           )
 

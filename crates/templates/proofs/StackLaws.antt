@@ -63,15 +63,13 @@ module _ (I : Input) (M : List ℕ) (p : Pending) (s : State) (cells : List ℕ)
       → resume I M ps (going I M p s cells) ≡ resume I M (waits p ts ∷ ps) (build t I M s cells)
   unfolding resume
   waits-for ps {t} {ts} e =
-      ap (λ (us : Templates). resume I M ps (going I M (waits p us) s cells)) e
-      ∙ ap (resume I M ps) (sym (first-built (cell I (p .code)) (p .given) I M t ts (build t I M s cells) s cells refl))
+      cc (first-built (cell I (p .code)) (p .given) I M t ts (build t I M s cells) s cells refl)
 
   -- no template is left
   pub makes-cell : p .left ≡ none → going I M p s cells ≡ cell I (p .code) (p .given) s cells
   unfolding buildAll
   makes-cell e =
-      ap (λ (us : Templates). going I M (waits p us) s cells) e
-      ∙ ap (λ (l : List ℕ). cell I (p .code) l s cells) (append-nil (p .given))
+      cc (append-nil (p .given))
 
 pub going-make : (I : Input) (M : List ℕ) (b : ℕ) (own : Templates) (s : State) (cells : List ℕ)
     → build (make b own) I M s cells ≡ going I M (opened b own) s cells
@@ -147,8 +145,7 @@ pub record Stands (stack : List ℕ) (pos top : ℕ) (p : Pending) (ps : List Pe
 module _ {stack : List ℕ} {pos top : ℕ} {p : Pending} {ps : List Pending} (h : Stands stack pos top p ps) where
   pub stands-top : top ≡ pos + length (p .given)
   stands-top =
-      sym (length-take-le top stack (h .fits)) ∙ ap length (h .held) ∙ image-length p ps
-      ∙ ap (λ (n : ℕ). n + length (p .given)) (sym (h .pos-is))
+      cc (length-take-le top stack (h .fits), h .held, image-length p ps, h .pos-is)
 
   -- the first pos - 1 numbers are those around it
   place-is : pos ≡ length (image ps) + 1
@@ -167,9 +164,11 @@ module _ {stack : List ℕ} {pos top : ℕ} {p : Pending} {ps : List Pending} (h
   unfolding image
   stands-number =
       let e : length (image ps) ≡ pos - 1 = omega (arith, place-is) in
-      sym (getD-take top stack (pos - 1) 0 (omega (arith, stands-top, place-is)))
-      ∙ ap (λ (l : List ℕ). getD l (pos - 1) 0) (h .held)
-      ∙ getD-at (image ps) (p .code + 256 * place ps) (p .given) 0 (pos - 1) e
+      cc (
+        getD-take top stack (pos - 1) 0 (omega (arith, stands-top, place-is)),
+        h .held,
+        getD-at (image ps) (p .code + 256 * place ps) (p .given) 0 (pos - 1) e,
+      )
 
   pub stands-given : take (top - pos) (drop pos stack) ≡ p .given
   unfolding image
@@ -178,17 +177,19 @@ module _ {stack : List ℕ} {pos top : ℕ} {p : Pending} {ps : List Pending} (h
       length-append (image ps) ((p .code + 256 * place ps) ∷ []) ∙ sym place-is in
       let z : pos + (top - pos) ≡ top = omega (arith, stands-top) in
       let l : length (take pos stack) ≡ pos = length-take-le pos stack (omega (arith, stands-top, h .fits)) in
-      sym (drop-at (take pos stack) (take (top - pos) (drop pos stack)) pos l)
-      ∙ ap (drop pos) (sym (take-add pos (top - pos) stack) ∙ ap (λ (n : ℕ). take n stack) z ∙ h .held
-      ∙ sym (append-assoc (image ps) ((p .code + 256 * place ps) ∷ []) (p .given)))
-      ∙ drop-at (image ps ++ (p .code + 256 * place ps) ∷ []) (p .given) pos e
+      cc (
+        drop-at (take pos stack) (take (top - pos) (drop pos stack)) pos l,
+        take-add pos (top - pos) stack,
+        h .held,
+        append-assoc (image ps) ((p .code + 256 * place ps) ∷ []) (p .given),
+        drop-at (image ps ++ (p .code + 256 * place ps) ∷ []) (p .given) pos e,
+      )
 
   -- one number more
   module _ (less : top < length stack) where
     one-more : (x : ℕ) → take (top + 1) (set stack top x) ≡ image (p ∷ ps) ++ (x ∷ [])
     one-more x =
-        ap (λ (n : ℕ). take n (set stack top x)) (add-one top) ∙ take-suc-set stack top x less
-        ∙ ap (λ (l : List ℕ). l ++ (x ∷ [])) (h .held)
+        cc (add-one top, take-suc-set stack top x less, h .held)
 
     pub stands-fed : (x : ℕ) (ts : Templates) → Stands (set stack top x) pos (top + 1) (fed p x ts) ps
     unfolding place
@@ -206,9 +207,8 @@ module _ {stack : List ℕ} {pos top : ℕ} {p : Pending} {ps : List Pending} (h
         record {
           fits = omega (arith, length-set stack top w);
           held =
-              one-more w ∙ ap (λ (n : ℕ). image (p ∷ ps) ++ (n ∷ [])) (e ∙ ap (λ (n : ℕ). b + 256 * n) (h .pos-is))
-              ∙ image-opened p ps b us ts;
-          pos-is = ap (λ (n : ℕ). n + 1) (sym (length-take-le top stack (h .fits)) ∙ ap length (h .held));
+              cc (one-more w, h .pos-is, image-opened p ps b us ts);
+          pos-is = cc (length-take-le top stack (h .fits), h .held);
         }
 
 -- the innermost one is closed, and its value is an argument of the one around it
@@ -218,8 +218,7 @@ stands-closed {stack} {pos} {top} {p} {q} {qs} h x =
     let around : Stands stack (place (q ∷ qs)) (pos - 1) q qs
     = record { fits = omega (arith, stands-top h, h .fits); held = stands-around h; pos-is = refl } in
     let z : pos - 1 + 1 ≡ pos = omega (arith, place-is h) in
-    subst (λ (n : ℕ). Stands (set stack (pos - 1) x) (place (q ∷ qs)) n (fed q x (q .left)) qs) z
-    (stands-fed around (omega (arith, stands-top h, place-is h, h .fits)) x (q .left))
+    rw z at (stands-fed around (omega (arith, stands-top h, place-is h, h .fits)) x (q .left))
 
 -- the first constructor
 pub stands-start : (stack : List ℕ) → 0 < length stack → {w b : ℕ} → w ≡ b + 256 * 0 → (ts : Templates)
@@ -228,6 +227,6 @@ unfolding image place
 stands-start stack h {w} {b} e ts =
     record {
       fits = omega (arith, length-set stack 0 w);
-      held = take-suc-set stack 0 w h ∙ ap (λ (n : ℕ). n ∷ []) e;
+      held = cc (take-suc-set stack 0 w h);
       pos-is = refl;
     }

@@ -1,5 +1,5 @@
 -- Laws of templates read from their bytes, and of the loop over the arguments of a constructor.
-use Prim.Native.Nat.{ℕ, suc, _+_, _-_, _<_, _≤_}
+use Prim.Native.Nat.{ℕ, suc, _+_, _<_, _≤_}
 use mathlib.Core.Path.{_≡_, refl, sym, ap, _∙_}
 use mathlib.Core.Bool.{true, false}
 use mathlib.Core.List.{List, [], _∷_, _++_, append-assoc}
@@ -11,15 +11,17 @@ use lib.ListN.{length, getD, drop, drop-of-length-le}
 use lib.Seq.{drop-cons}
 use borrow.Author.Tests.{lt-ltb, le-ltb, lt-leb, ne-eqb}
 use Rattle.spellings.proofs.BytesLaws.{by-test}
-use Rattle.grammar.specs.Sorts.{isConstructor, arity}
-use Rattle.grammar.specs.Table.{Template, Templates, variable, make, none, more}
-use Rattle.layout.specs.Prefix.{Parsed, fault, parsed, inFront, Taken, short, taken, alsoTaken, takeTemplates, applied, constructed, byteInFront, isNameTag, nameBy, templatesOf, found, firstOf}
+use Rattle.grammar.specs.Sorts.{arity}
+use Rattle.grammar.specs.SortTests.{isConstructor}
+use Rattle.grammar.specs.Table.{Template, Templates, variable, make, more}
+use Rattle.layout.specs.Prefix.{Parsed, fault, parsed, inFront, Taken, short, taken, takeTemplates, applied, constructed, byteInFront, isNameTag, nameBy}
+use Rattle.layout.specs.Prefix.{templatesOf}
 use Rattle.layout.proofs.PrefixLaws.{name-first, name-last, byte-first, variable-first, constructor-first, unknown-first}
 use Rattle.expansion.specs.declared.State.{State}
 use Rattle.templates.specs.declared.Built.the-variants.{Made}
 use Rattle.expansion.specs.Run.{Result, done, halt, Run, return, after, _>>=_}
-use Rattle.expansion.specs.Expansion.{Input, build, buildAll, cell}
-use Rattle.templates.specs.Built.{Holds, withMade, Ahead, templateAt, othersOf, othersAt, Behind}
+use Rattle.expansion.specs.Expansion.{Input, build, buildAll}
+use Rattle.templates.specs.Built.{Holds, withMade, Ahead, templateAt, othersAt, Behind}
 
 -- ------------------------------------------------------------------ what is read in front
 
@@ -56,10 +58,10 @@ no-name b e f = rw (ne-eqb b 0x10 e, ne-eqb b 0x11 f) refl
 
 module _ (v : List ℕ) (at : ℕ) (a : Ahead v at) where
   pub template-is : templateAt v at ≡ a .template
-  template-is = ap (λ (p : Parsed). firstOf (found p)) (a .read)
+  template-is = cc (a .read)
 
   pub others-are : othersAt v at ≡ a .others
-  others-are = ap (λ (p : Parsed). othersOf (found p)) (a .read)
+  others-are = cc (a .read)
 
   pub ahead-inside : at < length v
   unfolding templatesOf
@@ -76,10 +78,7 @@ module _ (v : List ℕ) (at : ℕ) (a : Ahead v at) where
   module _ {b : ℕ} (eb : b ≡ getD v at 0) where
     first-byte : templatesOf (b ∷ drop (at + 1) v) ≡ parsed (more (a .template) (a .others))
     first-byte =
-        ap (λ (c : ℕ). templatesOf (c ∷ drop (at + 1) v)) eb
-        ∙ ap (λ (n : ℕ). templatesOf (getD v at 0 ∷ drop n v)) (add-one at)
-        ∙ sym (ap templatesOf (drop-cons v at 0 ahead-inside))
-        ∙ a .read
+        cc (add-one at, drop-cons v at 0 ahead-inside, a .read)
 
     -- a variable
     variable-read : b < 16 → (a .template ≡ variable b) × (templatesOf (drop (at + 1) v) ≡ parsed (a .others))
@@ -101,8 +100,7 @@ module _ (v : List ℕ) (at : ℕ) (a : Ahead v at) where
         → done x (withMade s made) cells ≡ build (templateAt v at) I M (withMade s made) cells
     unfolding build
     variable-built h env k x f rows made cells I s M e g =
-        ap (λ (y : ℕ). done y (withMade s made) cells) (f M g)
-        ∙ sym (ap (λ (t : Template). build t I M (withMade s made) cells) (at-variable h))
+        cc (f M g, at-variable h)
 
     -- a constructor
     pub makes : 32 ≤ b → Makes b (templatesOf (drop (at + 1) v)) (a .template) (a .others)
@@ -141,17 +139,14 @@ module _ (v : List ℕ) (at : ℕ) (a : Ahead v at) where
           by (yes h) = h
           by (no n) =
               let e : drop (at + 1) v ≡ [] = drop-of-length-le v {i = at + 1} (omega arith) in
-              let f : templatesOf (b ∷ []) ≡ parsed (more (a .template) (a .others)) = sym (ap (λ (bs : List ℕ). templatesOf (b ∷ bs)) e) ∙ first-byte in
+              let f : templatesOf (b ∷ []) ≡ parsed (more (a .template) (a .others)) = cc first-byte in
               absurd (fault-read (a .template) (a .others) (name-last b (name-tag [] f)) f)
 
       module _ {n : ℕ} (en : n ≡ getD v (at + 1) 0) where
         second-byte : templatesOf (b ∷ n ∷ drop (at + 2) v) ≡ parsed (more (a .template) (a .others))
         second-byte =
             let z : suc (at + 1) ≡ at + 2 = omega arith in
-            ap (λ (c : ℕ). templatesOf (b ∷ c ∷ drop (at + 2) v)) en
-            ∙ ap (λ (k : ℕ). templatesOf (b ∷ getD v (at + 1) 0 ∷ drop k v)) (sym z)
-            ∙ sym (ap (λ (bs : List ℕ). templatesOf (b ∷ bs)) (drop-cons v (at + 1) 0 name-inside))
-            ∙ first-byte
+            cc (drop-cons v (at + 1) 0 name-inside, first-byte)
 
         name-read : (a .template ≡ nameBy (eqb b 0x10) n) × (templatesOf (drop (at + 2) v) ≡ parsed (a .others))
         name-read =
@@ -166,8 +161,7 @@ module _ (v : List ℕ) (at : ℕ) (a : Ahead v at) where
             → (rows made : ℕ) (cells : List ℕ) (I : Input) (s : State) (M : List ℕ) → I .rows ≡ rows → Holds env k M
             → done x (withMade s made) cells ≡ build (templateAt v at) I M (withMade s made) cells
         name-built env k x f rows made cells I s M e g =
-            sym (f I M (withMade s made) cells)
-            ∙ sym (ap (λ (t : Template). build t I M (withMade s made) cells) at-name)
+            cc (f I M (withMade s made) cells, at-name)
 
         pub behind-name : (x made : ℕ) → Behind v at (Made x (at + 2) made)
         behind-name x made = (omega arith, omega (arith, name-inside), name-read .1 ∙ ap parsed (sym others-are))
@@ -178,7 +172,7 @@ module _ (v : List ℕ) (at : ℕ) (a : Ahead v at) where
 module _ {B : Type 0} (K : List ℕ → Run B) (given : List ℕ) where
   pub regroup : (x : ℕ) (R : Result (List ℕ))
       → after R (λ ys. K ((given ++ (x ∷ [])) ++ ys)) ≡ after (after R (λ ys. return (x ∷ ys))) (λ ys. K (given ++ ys))
-  regroup x (done ys s cs) = ap (λ (l : List ℕ). K l s cs) (append-assoc given (x ∷ []) ys)
+  regroup x (done ys s cs) = cc (append-assoc given (x ∷ []) ys)
   regroup x (halt r cs) = refl
 
   pub first-built : (I : Input) (M : List ℕ) (t : Template) (ts : Templates) (R : Result ℕ) (s : State) (cells : List ℕ)
@@ -187,4 +181,4 @@ module _ {B : Type 0} (K : List ℕ → Run B) (given : List ℕ) where
       ≡ after (buildAll (more t ts) I M s cells) (λ ys. K (given ++ ys))
   unfolding build buildAll
   first-built I M t ts R s cells h =
-      ap (λ (r : Result ℕ). after (after r (λ x. buildAll ts I M >>= λ ys. return (x ∷ ys))) (λ ys. K (given ++ ys))) h
+      cc

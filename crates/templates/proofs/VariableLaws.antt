@@ -1,6 +1,6 @@
 -- Laws of the values of variables in an array of 16, and of the rows.
 use Prim.Native.Nat.{ℕ, _+_, _<_, _≤_}
-use mathlib.Core.Path.{_≡_, refl, sym, ap, _∙_}
+use mathlib.Core.Path.{_≡_, refl, sym, _∙_}
 use mathlib.Core.Bool.{Bool, true, false}
 use mathlib.Core.List.{List, [], _∷_, _++_}
 use native.Mathlib.Omega.{arith}
@@ -52,8 +52,7 @@ module _ (env M : List ℕ) (k : ℕ) (h : Holds env k M) where
     where
       by : (i : ℕ) → i < k + 1 → Dec (i ≡ k) → getD (set env k v) i 0 ≡ getD (M ++ (v ∷ [])) i 0
       by i less (yes e) =
-          ap (λ (j : ℕ). getD (set env k v) j 0) e ∙ getD-set-same env k v 0 (omega (arith, h .long))
-          ∙ sym (getD-at M v [] 0 i (h .count ∙ sym e))
+          rw e (getD-set-same env k v 0 (omega (arith, h .long)) ∙ sym (getD-at M v [] 0 k (h .count)))
       by i less (no n) =
           let l′ : i < k = omega arith in
           getD-set-other env k i v 0 n ∙ h .same i (omega arith) l′ ∙ sym (older v i l′)
@@ -69,7 +68,7 @@ name-by false n I M s cells = refl
 module _ (tag n : ℕ) (I : Input) (M : List ℕ) (s : State) (cells : List ℕ) where
   name-is : (b : Bool) → eqb tag 0x10 ≡ b
       → build (nameBy (eqb tag 0x10) n) I M s cells ≡ done (elim b [ true ↦ outsideName n | false ↦ n ]) s cells
-  name-is b e = ap (λ (x : Bool). build (nameBy x n) I M s cells) e ∙ name-by b n I M s cells
+  name-is b e = cc (name-by b n I M s cells)
 
   pub name-var : tag ≡ 0x10 → build (nameBy (eqb tag 0x10) n) I M s cells ≡ done (outsideName n) s cells
   name-var e = name-is true (eq-eqb tag 0x10 e)

@@ -48,7 +48,7 @@ module _ {g : List Production} {spell : ℕ → List ℕ} {rows : ℕ} {tokens :
   fails-between (Stopping.no-row l) = (omega arith, omega arith)
   fails-between (Stopping.too-deep l) = (omega arith, omega arith)
   fails-between (Stopping.too-many l h) = (omega arith, omega arith)
-  fails-between (Stopping.no-choice l h n) = (omega arith, omega arith)
+  fails-between (Stopping.no-choice l h n f) = (omega arith, omega arith)
 
   mutual
     stops-between : {o c m i : ℕ} {M : List Value} {s : List Token} {ps : List Item} {r : Refusal} → Stops g spell rows tokens o c m M s i ps r

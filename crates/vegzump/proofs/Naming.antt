@@ -24,7 +24,9 @@ use Rattle.terms.specs.Term.{Name, outside, Term, Fields}
 use Rattle.terms.specs.Names.{Distinct, VariableName, BinderName, WellNamed, WellNamedFields}
 use Rattle.kinds.specs.Kinds.{wordKind}
 use Rattle.scanner.specs.declared.Token.{Token}
-use Rattle.soundness.specs.Places.{Among, Given, word-at, outside-name, VarPlace, var-var, var-binder, var-local, var-outside, BinderPlace, binder-binder, binder-local, Placed, placed-variable, placed-function, placed-apply, placed-rcd, placed-dot, placed-number, PlacedFields, placed-nil, placed-cons}
+use Rattle.soundness.specs.Places.{Among, Given, word-at, outside-name, VarPlace, var-var, var-binder, var-local, var-outside, BinderPlace, binder-binder}
+use Rattle.soundness.specs.Places.{binder-local, Placed, placed-variable, placed-function, placed-apply, placed-rcd, placed-dot, placed-number, PlacedFields}
+use Rattle.soundness.specs.Places.{placed-nil, placed-cons}
 use Rattle.soundness.proofs.Placing.{Supplied, supplied-word, supplied-outside}
 use Rattle.soundness.proofs.Placing as placing
 use Rattle.checker.specs.Passes.{Passes}

@@ -25,7 +25,8 @@ use Rattle.scanner.specs.declared.Token.{Token}
 use Rattle.scanner.specs.declared.Scanned.{Scanned}
 use Rattle.scanner.specs.declared.Scanned.the-variants.{Tokens, Unscanned}
 use Rattle.scanner.specs.Scan.{Lexed, scan}
-use Rattle.scanner.specs.Tokens.{bytesOf, spelled}
+use Rattle.scanner.specs.Tokens.{spelled}
+use Rattle.scanner.specs.Tiling.{bytesOf}
 use Rattle.scanner.specs.Unscanned.{Unscans}
 use Rattle.scanner.proofs.SpellingLaws.{Spelled, Every, scan-spelled, spelled-number}
 use Rattle.scanner.proofs.ScannerTheorems as scanner

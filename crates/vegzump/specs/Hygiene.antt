@@ -10,7 +10,7 @@ use Rattle.kinds.specs.Kinds.{wordKind}
 use Rattle.grammar.specs.Table.{Table}
 use Rattle.layout.specs.Within.{Each}
 use Rattle.scanner.specs.declared.Token.{Token}
-use Rattle.scanner.specs.Tokens.{bytesOf}
+use Rattle.scanner.specs.Tiling.{bytesOf}
 use Rattle.checker.specs.Passes.{Passes}
 use Rattle.soundness.specs.Places.{givenIn, Among, Placed}
 use Rattle.terms.specs.Term.{Name, Term, size}

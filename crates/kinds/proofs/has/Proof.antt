@@ -1,8 +1,7 @@
 -- `has`: the digit at k, by a shift and a mask.
 use Prim.Native.Nat.{_/_, _^_}
-use mathlib.Core.Path.{sym, ap}
+use mathlib.Core.Path.{sym}
 use lib.Bits.{and-mask}
-use lib.Dec.{eqb}
 use Rattle.kinds.specs.Kinds.{hasKind}
 use Rattle.kinds.proofs.KindsLaws.{has-above}
 use borrow.Author.Needs.{needs}
@@ -14,10 +13,14 @@ shr-result c = search needs
 
 returns : tie.Need-returns
 unfolding hasKind
-returns c = ap (λ n. eqb n 1) (and-mask (c .before .args .m / 2 ^ c .before .args .k) 1)
+returns c =
+    let start = c .before in
+    cc (and-mask (start .args .m / 2 ^ start .args .k) 1)
 
 returns-2 : tie.Need-returns-2
-returns-2 c = sym (has-above 64 (c .before .args .m) (c .before .args .k) (search needs) (c .if1 .left))
+returns-2 c =
+    let start = c .before in
+    sym (has-above 64 (start .args .m) (start .args .k) (search needs) (c .if1 .left))
 
 pub has-spec : {M : Type 1} → statement M
 has-spec = tie.close (tie.spec shr-result returns returns-2)

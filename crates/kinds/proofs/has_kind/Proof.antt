@@ -15,7 +15,9 @@ returns : tie.Need-returns
 returns c = search needs
 
 returns-2 : tie.Need-returns-2
-returns-2 c = sym (has-above 64 (c .before .args .set) (c .before .args .kind) (c .before .fits .set .fits) (c .if1 .left))
+returns-2 c =
+    let start = c .before in
+    sym (has-above 64 (start .args .set) (start .args .kind) (start .fits .set .fits) (c .if1 .left))
 
 pub has-kind-spec : {M : Type 1} → statement M
 has-kind-spec = tie.close (tie.spec cast-has has-requires returns returns-2)

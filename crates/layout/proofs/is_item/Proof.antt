@@ -1,6 +1,6 @@
 -- `is_item`: the tests as they stand, over the two bytes.
 use mathlib.Core.Path.{ap, _∙_}
-use Rattle.grammar.specs.Sorts.{isIdeSort}
+use Rattle.grammar.specs.SortTests.{isIdeSort}
 use Rattle.layout.specs.Layout.{isItem}
 use Rattle.layout.proofs.Laws as laws
 use borrow.Author.Needs.{needs}

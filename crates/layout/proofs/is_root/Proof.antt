@@ -1,8 +1,4 @@
 -- `is_root`: the tests as they stand, over the byte.
-use mathlib.Core.Path.{ap}
-use mathlib.Core.Bool.{_&&_}
-use lib.Dec.{eqb, leb}
-use lib.ListN.{length}
 use Rattle.layout.specs.Layout.{isRoot}
 use borrow.Author.Needs.{needs}
 use Rattle.layout.proofs.is_root.Statement.{statement}
@@ -13,7 +9,7 @@ byte-requires c κs = search needs
 
 returns : tie.Need-returns
 unfolding isRoot
-returns c = ap (λ b. eqb (length (c .before .before .args .v .now)) 1 && leb b 63) (c .byte .ensures)
+returns c = cc (c .byte .ensures)
 
 pub is-root-spec : {M : Type 1} → statement M
 is-root-spec = tie.close (tie.spec byte-requires returns)

@@ -1,6 +1,5 @@
 -- `items_after`: a sum within the room that is left.
-use mathlib.Core.Path.{sym, ap, _∙_}
-use Prim.Native.Nat.{_+_}
+use mathlib.Core.Path.{sym}
 use native.Mathlib.Omega.{arith}
 use lib.Dec.{eqb, lit<}
 use Rattle.layout.proofs.Laws as laws
@@ -20,7 +19,7 @@ add-result c =
     (omega arith) (c .before .one-if .ensures)
 
 returns-2 : tie.Need-returns-2
-returns-2 c = ap (λ k. c .before .before .before .args .s .items + k) (c .before .one-if .ensures) ∙ sym (laws.items-more _ _ (c .before .before .if1 .left))
+returns-2 c = cc (c .before .one-if .ensures, laws.items-more _ _ (c .before .before .if1 .left))
 
 pub items-after-spec : {M : Type 1} → statement M
 items-after-spec = tie.close (tie.spec returns one-if-requires add-result returns-2)

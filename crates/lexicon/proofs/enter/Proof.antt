@@ -1,12 +1,18 @@
 -- `enter`: a spelling is linked where a search for it ended.
 use Prim.Native.Nat.{_*_}
 use native.Mathlib.Omega.{arith}
-use lib.ListN.{length-set}
 use Rattle.lexicon.proofs.PlaceLaws.{place-stored}
 use Rattle.lexicon.proofs.LexiconLaws as laws
 use borrow.Author.Needs.{needs}
 use Rattle.lexicon.proofs.enter.Statement.{statement}
 use Rattle.lexicon.proofs.enter.Tie as tie
+
+-- places, each from a later one
+abbrev after-part : tie.After-find → tie.After-part
+after-part p = p .before .before .before .before
+
+abbrev at-start : tie.After-part → tie.Start
+at-start p = p .before .before .before .before
 
 part-requires : tie.Need-part-requires
 part-requires c κs = search needs
@@ -16,8 +22,9 @@ hash-requires c κs = search needs
 
 find-requires : tie.Need-find-requires
 find-requires c κs =
-    let start = c .before .before .before .before .before .before .before in
-    (laws.entered-planted (start .pre .0), c .before .before .hash .ensures)
+    let hash-place = c .before .before in
+    let start = at-start (hash-place .before) in
+    (laws.entered-planted (start .pre .0), hash-place .hash .ensures)
 
 mul-i : tie.Need-mul-i
 mul-i c = search needs
@@ -42,14 +49,14 @@ mul-room-2 c = search needs
 
 slice-write-room-2 : tie.Need-slice-write-room-2
 slice-write-room-2 c =
-    let start = c .before .before .before .before .before .before .before .before in
+    let start = at-start (after-part c) in
     laws.place-inside (start .pre .0) _ _
 
 link-requires : tie.Need-link-requires
 link-requires c κs =
     let found = c .before in
-    let read = found .before .before .before .before in
-    let start = read .before .before .before .before in (
+    let read = after-part found in
+    let start = at-start read in (
       laws.entered-linkable (start .pre .0) (read .part .result .now) (found .find .result) (found .find .ensures),
       omega (arith, start .pre .0 .enough),
     )
@@ -62,14 +69,15 @@ same-length-2 c = search needs
 
 returns : tie.Need-returns
 returns c =
-    let found = c .before .before .before .before in
-    let read = found .before .before .before .before in
-    let start = read .before .before .before .before in
+    let link-place = c .before .before in
+    let found = link-place .before .before in
+    let read = after-part found in
+    let start = at-start read in
     let place = place-stored (start .args .room .now) (start .args .e * 2) (start .args .from) (start .args .size) in (
       place,
       rw place
           (laws.enter-one _ _ _ _ (found .find .result) (start .pre .0) (read .part .ensures) (found .find .ensures)
-          (c .before .before .link .ensures)),
+          (link-place .link .ensures)),
     )
 
 pub enter-spec : {M : Type 1} → statement M

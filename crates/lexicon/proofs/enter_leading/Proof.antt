@@ -14,6 +14,21 @@ Inv-loop table start tag most room₀ tree₀ first at₀ e₀ end room tree at 
 abbrev μ-loop : tie.MeasureT-loop
 μ-loop table start tag most room₀ tree₀ first at₀ e₀ end room tree at e = first + most - e
 
+-- places, each from a later one
+abbrev after-front-at : tie.After-front Inv-loop μ-loop → tie.After-front-at Inv-loop μ-loop
+after-front-at p = p .before .before
+
+abbrev at-loop : tie.After-front-at Inv-loop μ-loop → tie.At-loop Inv-loop μ-loop
+at-loop p = p .before .before
+
+abbrev else1 : tie.After-slice-known4 Inv-loop μ-loop → tie.Else1 Inv-loop μ-loop
+else1 p =
+    let q = p .before .before .before in
+    q .before .before .before .before
+
+abbrev after-front : tie.Else1 Inv-loop μ-loop → tie.After-front Inv-loop μ-loop
+after-front p = p .before .before
+
 add-end : tie.Need-add-end Inv-loop μ-loop
 add-end c = search needs
 
@@ -35,7 +50,7 @@ same-length-2 c = search needs
 returns : tie.Need-returns Inv-loop μ-loop
 returns c =
     let looked = c .before .before in
-    laws.entering-stop (looked .before .before .loop .inv) Nothing (sym (c .enum-told .given .1) ∙ looked .front-at .ensures) tt
+    laws.entering-stop ((at-loop looked) .loop .inv) Nothing (sym (c .enum-told .given .1) ∙ looked .front-at .ensures) tt
 
 enum-told-2 : tie.Need-enum-told-2 Inv-loop μ-loop
 enum-told-2 c = search needs
@@ -49,7 +64,7 @@ same-length-4 c = search needs
 returns-2 : tie.Need-returns-2 Inv-loop μ-loop
 returns-2 c =
     let looked = c .before .before in
-    laws.entering-stop (looked .before .before .loop .inv) Short (sym (c .enum-told2 .given .1) ∙ looked .front-at .ensures) tt
+    laws.entering-stop ((at-loop looked) .loop .inv) Short (sym (c .enum-told2 .given .1) ∙ looked .front-at .ensures) tt
 
 enum-known-front : tie.Need-enum-known-front Inv-loop μ-loop
 enum-known-front c = search needs
@@ -62,35 +77,41 @@ same-length-6 c = search needs
 
 returns-3 : tie.Need-returns-3 Inv-loop μ-loop
 returns-3 c =
-    let looked = c .before .before .before .before in
-    laws.entering-stop (looked .before .before .loop .inv) (Field _ _) (sym (c .before .before .front .given .1) ∙ looked .front-at .ensures)
+    let front-place = c .before .before in
+    let looked = after-front-at front-place in
+    laws.entering-stop ((at-loop looked) .loop .inv) (Field _ _) (sym (front-place .front .given .1) ∙ looked .front-at .ensures)
     (c .if1 .taken)
 
 add-enter : tie.Need-add-enter Inv-loop μ-loop
 add-enter c =
-    let looked = c .before .before .before .before in
-    omega (arith, laws.field-fits (looked .before .before .loop .inv) (sym (c .before .before .front .given .1) ∙ looked .front-at .ensures))
+    let front-place = after-front c in
+    let looked = after-front-at front-place in
+    omega (arith, laws.field-fits ((at-loop looked) .loop .inv) (sym (front-place .front .given .1) ∙ looked .front-at .ensures))
 
 enter-requires : tie.Need-enter-requires Inv-loop μ-loop
 enter-requires c κs =
     let told = c .before .before in
-    let looked = told .before .before .before .before in
-    let inv = looked .before .before .loop .inv in (
-      laws.entering-one inv (looked .before .loop-test .taken),
-      laws.field-fits inv (sym (told .before .before .front .given .1) ∙ looked .front-at .ensures),
+    let front-place = after-front told in
+    let looked = after-front-at front-place in
+    let turn-test = looked .before in
+    let inv = (at-loop looked) .loop .inv in (
+      laws.entering-one inv (turn-test .loop-test .taken),
+      laws.field-fits inv (sym (front-place .front .given .1) ∙ looked .front-at .ensures),
     )
 
 add-at : tie.Need-add-at Inv-loop μ-loop
 add-at c =
-    let told = c .before .before .before .before .before .before .before in
-    let looked = told .before .before .before .before in
-    omega (arith, laws.field-fits (looked .before .before .loop .inv) (sym (told .before .before .front .given .1) ∙ looked .front-at .ensures))
+    let told = else1 c in
+    let front-place = after-front told in
+    let looked = after-front-at front-place in
+    omega (arith, laws.field-fits ((at-loop looked) .loop .inv) (sym (front-place .front .given .1) ∙ looked .front-at .ensures))
 
 add-at-2 : tie.Need-add-at-2 Inv-loop μ-loop
 add-at-2 c =
-    let told = c .before .before .before .before .before .before .before in
-    let looked = told .before .before .before .before in
-    omega (arith, laws.field-fits (looked .before .before .loop .inv) (sym (told .before .before .front .given .1) ∙ looked .front-at .ensures))
+    let told = else1 c in
+    let front-place = after-front told in
+    let looked = after-front-at front-place in
+    omega (arith, laws.field-fits ((at-loop looked) .loop .inv) (sym (front-place .front .given .1) ∙ looked .front-at .ensures))
 
 add-e : tie.Need-add-e Inv-loop μ-loop
 add-e c = search needs
@@ -101,10 +122,12 @@ loop-less c = search needs
 loop-again : tie.Need-loop-again Inv-loop μ-loop
 loop-again c =
     let entered = c .before .before .before .before in
-    let told = entered .before .before .before in
-    let looked = told .before .before .before .before in
-    laws.entering-next (looked .before .before .loop .inv) (looked .before .loop-test .taken)
-    (sym (told .before .before .front .given .1) ∙ looked .front-at .ensures)
+    let told = else1 c in
+    let front-place = after-front told in
+    let looked = after-front-at front-place in
+    let turn-test = looked .before in
+    laws.entering-next ((at-loop looked) .loop .inv) (turn-test .loop-test .taken)
+    (sym (front-place .front .given .1) ∙ looked .front-at .ensures)
     (told .if1 .left)
     (entered .enter .ensures .0)
     (entered .enter .ensures .1)

@@ -29,7 +29,9 @@ same-length : tie.Need-same-length
 same-length c = search needs
 
 returns : tie.Need-returns
-returns c = laws.marked-one _ (c .before .before .before .pre .1) (c .before .before .if1 .taken) (c .if2 .taken)
+returns c =
+    let then1 = c .before .before in
+    laws.marked-one _ (then1 .before .pre .1) (then1 .if1 .taken) (c .if2 .taken)
 
 returns-2 : tie.Need-returns-2
 returns-2 c = laws.unmarked-high _ (c .before .before .if1 .taken) (c .if2 .left)

@@ -1,5 +1,4 @@
 -- `mark_symbols`: the symbols are marked by the keywords passed, the last first.
-use native.Mathlib.Omega.{arith}
 use Rattle.lexicon.proofs.LexiconLaws as laws
 use borrow.Author.Needs.{needs}
 use Rattle.lexicon.proofs.mark_symbols.Statement.{statement}
@@ -19,32 +18,32 @@ loop-holds c =
 sub-k : tie.Need-sub-k Inv-loop μ-loop
 sub-k c = search needs
 
-mul-wide : tie.Need-mul-wide Inv-loop μ-loop
-mul-wide c = search needs
+mul-wide-number : tie.Need-mul-wide-number Inv-loop μ-loop
+mul-wide-number c = search needs
 
-mul-wide-2 : tie.Need-mul-wide-2 Inv-loop μ-loop
-mul-wide-2 c = search needs
+mul-wide-number-2 : tie.Need-mul-wide-number-2 Inv-loop μ-loop
+mul-wide-number-2 c = search needs
 
-slice-read-wide : tie.Need-slice-read-wide Inv-loop μ-loop
-slice-read-wide c = search needs
+slice-read-wide-number : tie.Need-slice-read-wide-number Inv-loop μ-loop
+slice-read-wide-number c = search needs
 
-wide-requires : tie.Need-wide-requires Inv-loop μ-loop
-wide-requires c κs = search needs
+wide-number-requires : tie.Need-wide-number-requires Inv-loop μ-loop
+wide-number-requires c κs = search needs
 
-mul-wide-3 : tie.Need-mul-wide-3 Inv-loop μ-loop
-mul-wide-3 c = search needs
+mul-wide-number-3 : tie.Need-mul-wide-number-3 Inv-loop μ-loop
+mul-wide-number-3 c = search needs
 
-add-wide : tie.Need-add-wide Inv-loop μ-loop
-add-wide c = search needs
+add-wide-number : tie.Need-add-wide-number Inv-loop μ-loop
+add-wide-number c = search needs
 
-mul-wide-4 : tie.Need-mul-wide-4 Inv-loop μ-loop
-mul-wide-4 c = search needs
+mul-wide-number-4 : tie.Need-mul-wide-number-4 Inv-loop μ-loop
+mul-wide-number-4 c = search needs
 
-slice-read-wide-2 : tie.Need-slice-read-wide-2 Inv-loop μ-loop
-slice-read-wide-2 c = search needs
+slice-read-wide-number-2 : tie.Need-slice-read-wide-number-2 Inv-loop μ-loop
+slice-read-wide-number-2 c = search needs
 
-wide-requires-2 : tie.Need-wide-requires-2 Inv-loop μ-loop
-wide-requires-2 c κs = search needs
+wide-number-requires-2 : tie.Need-wide-number-requires-2 Inv-loop μ-loop
+wide-number-requires-2 c κs = search needs
 
 part-requires : tie.Need-part-requires Inv-loop μ-loop
 part-requires c κs = search needs
@@ -58,10 +57,11 @@ loop-less c = search needs
 loop-again : tie.Need-loop-again Inv-loop μ-loop
 loop-again c =
     let marked = c .before .before in
-    let size = marked .before .before .before in
+    let part-place = marked .before in
+    let size = part-place .before .before in
     let at = size .before .before in
     let test = at .before .before in
-    laws.marking-next (test .before .loop .inv) (test .loop-test .taken) (at .wide .ensures) (size .wide2 .ensures) (marked .before .part .ensures)
+    laws.marking-next (test .before .loop .inv) (test .loop-test .taken) (at .wide-number .ensures) (size .wide-number2 .ensures) (part-place .part .ensures)
     (marked .mark .ensures)
 
 same-length : tie.Need-same-length Inv-loop μ-loop
@@ -78,15 +78,15 @@ mark-symbols-spec =
     μ-loop
     loop-holds
     sub-k
-    mul-wide
-    mul-wide-2
-    slice-read-wide
-    wide-requires
-    mul-wide-3
-    add-wide
-    mul-wide-4
-    slice-read-wide-2
-    wide-requires-2
+    mul-wide-number
+    mul-wide-number-2
+    slice-read-wide-number
+    wide-number-requires
+    mul-wide-number-3
+    add-wide-number
+    mul-wide-number-4
+    slice-read-wide-number-2
+    wide-number-requires-2
     part-requires
     mark-requires
     loop-less

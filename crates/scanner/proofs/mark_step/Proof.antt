@@ -7,6 +7,13 @@ use borrow.Author.Needs.{needs}
 use Rattle.scanner.proofs.mark_step.Statement.{statement}
 use Rattle.scanner.proofs.mark_step.Tie as tie
 
+-- places, each from a later one
+abbrev at-start : tie.After-is-separator → tie.Start
+at-start p = p .before .before .before .before .before .before
+
+abbrev after-is-separator : tie.After-is-symbol → tie.After-is-separator
+after-is-separator p = p .before .before .before .before
+
 shared-slice-read-b : tie.Need-shared-slice-read-b
 shared-slice-read-b c = search needs
 
@@ -16,7 +23,7 @@ is-separator-requires c κs = search needs
 returns : tie.Need-returns
 returns c =
     let separates = c .before in
-    let start = separates .before .before .before .before .before .before in
+    let start = at-start separates in
     laws.separator-at (start .args .formula .now) (start .args .at) (sym (separates .is-separator .ensures) ∙ c .if1 .taken)
 
 is-digit-requires : tie.Need-is-digit-requires
@@ -33,46 +40,54 @@ is-symbol-requires c κs = search needs
 
 cast-t12 : tie.Need-cast-t12
 cast-t12 c =
-    let separates = c .before .before .before .before .before in
-    let start = separates .before .before .before .before .before .before in
-    omega (arith, laws.symbol-below (start .pre .0 .0) (getD (start .args .formula .now) (start .args .at) 0) (sym (c .before .is-symbol .ensures) ∙ c .if3 .taken))
+    let separates = after-is-separator (c .before) in
+    let start = at-start separates in
+    let b = getD (start .args .formula .now) (start .args .at) 0 in
+    omega (arith, laws.symbol-below (start .pre .0 .0) b (sym (c .before .is-symbol .ensures) ∙ c .if3 .taken))
 
 add-t13 : tie.Need-add-t13
 add-t13 c =
-    let separates = c .before .before .before .before .before in
-    let start = separates .before .before .before .before .before .before in
-    omega (arith, laws.symbol-below (start .pre .0 .0) (getD (start .args .formula .now) (start .args .at) 0) (sym (c .before .is-symbol .ensures) ∙ c .if3 .taken))
+    let separates = after-is-separator (c .before) in
+    let start = at-start separates in
+    let b = getD (start .args .formula .now) (start .args .at) 0 in
+    omega (arith, laws.symbol-below (start .pre .0 .0) b (sym (c .before .is-symbol .ensures) ∙ c .if3 .taken))
 
 mul-t14 : tie.Need-mul-t14
 mul-t14 c =
-    let separates = c .before .before .before .before .before in
-    let start = separates .before .before .before .before .before .before in
-    omega (arith, laws.symbol-inside (start .pre .0 .0) (getD (start .args .formula .now) (start .args .at) 0) (sym (c .before .is-symbol .ensures) ∙ c .if3 .taken))
+    let separates = after-is-separator (c .before) in
+    let start = at-start separates in
+    let b = getD (start .args .formula .now) (start .args .at) 0 in
+    omega (arith, laws.symbol-inside (start .pre .0 .0) b (sym (c .before .is-symbol .ensures) ∙ c .if3 .taken))
 
 shared-slice-read-t16 : tie.Need-shared-slice-read-t16
 shared-slice-read-t16 c =
-    let separates = c .before .before .before .before .before .before in
-    let start = separates .before .before .before .before .before .before in
-    laws.symbol-inside (start .pre .0 .0) (getD (start .args .formula .now) (start .args .at) 0) (sym (c .before .before .is-symbol .ensures) ∙ c .before .if3 .taken)
+    let is-symbol-place = c .before .before in
+    let separates = after-is-separator is-symbol-place in
+    let start = at-start separates in
+    let b = getD (start .args .formula .now) (start .args .at) 0 in
+    laws.symbol-inside (start .pre .0 .0) b (sym (is-symbol-place .is-symbol .ensures) ∙ c .before .if3 .taken)
 
 cast-t17 : tie.Need-cast-t17
 cast-t17 c = search needs
 
 returns-3 : tie.Need-returns-3
 returns-3 c =
-    let separates = c .before .before .before .before .before .before in
-    let start = separates .before .before .before .before .before .before in
+    let is-symbol-place = c .before .before in
+    let separates = after-is-separator is-symbol-place in
+    let start = at-start separates in
     laws.symbol-at (start .pre .0 .0) (start .args .formula .now) (start .args .at) (omega arith)
-    (sym (c .before .before .is-symbol .ensures) ∙ c .before .if3 .taken)
+    (sym (is-symbol-place .is-symbol .ensures) ∙ c .before .if3 .taken)
 
 returns-4 : tie.Need-returns-4
 returns-4 c =
-    let separates = c .before .before .before .before .before in
-    let start = separates .before .before .before .before .before .before in
-    let digit = c .before .before .before in
-    laws.bad-at (start .args .formula .now) (start .args .at) (sym (separates .is-separator .ensures) ∙ digit .before .if1 .left)
+    let else2 = c .before .before in
+    let digit = else2 .before in
+    let else1 = digit .before in
+    let separates = else1 .before in
+    let start = at-start separates in
+    laws.bad-at (start .args .formula .now) (start .args .at) (sym (separates .is-separator .ensures) ∙ else1 .if1 .left)
     (start .pre .0 .1)
-    (sym (digit .is-digit .ensures) ∙ c .before .before .if2 .left)
+    (sym (digit .is-digit .ensures) ∙ else2 .if2 .left)
     (sym (c .before .is-symbol .ensures) ∙ c .if3 .left)
 
 pub mark-step-spec : {M : Type 1} → statement M

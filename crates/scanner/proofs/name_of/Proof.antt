@@ -5,61 +5,75 @@ use borrow.Author.Needs.{needs}
 use Rattle.scanner.proofs.name_of.Statement.{statement}
 use Rattle.scanner.proofs.name_of.Tie as tie
 
+-- places, each from a later one
+abbrev after-find : tie.After-spot → tie.After-find
+after-find p = p .before .before
+
+abbrev at-start : tie.After-wide-number → tie.Start
+at-start p =
+    let q = p .before .before .before in
+    q .before .before .before .before
+
 shared-slice-read-keywords : tie.Need-shared-slice-read-keywords
 shared-slice-read-keywords c = search needs
 
-shared-slice-read-wide : tie.Need-shared-slice-read-wide
-shared-slice-read-wide c = search needs
+shared-slice-read-wide-number : tie.Need-shared-slice-read-wide-number
+shared-slice-read-wide-number c = search needs
 
-wide-requires : tie.Need-wide-requires
-wide-requires c κs = search needs
+wide-number-requires : tie.Need-wide-number-requires
+wide-number-requires c κs = search needs
 
 find-requires : tie.Need-find-requires
 find-requires c κs =
-    let start = c .before .before .before .before .before .before .before in
-    (rw (c .wide .ensures) (laws.lexical-planted (start .pre .0)), start .pre .1)
+    let start = at-start c in
+    (rw (c .wide-number .ensures) (laws.lexical-planted (start .pre .0)), start .pre .1)
 
 enum-known-spot : tie.Need-enum-known-spot
 enum-known-spot c = search needs
 
 cast-k : tie.Need-cast-k
 cast-k c =
-    let found = c .before .before .before in
+    let found = after-find (c .before) in
     let read = found .before in
-    let start = read .before .before .before .before .before .before .before in
-    omega (arith, (laws.node-fits (start .pre .0) (start .args .s .now) (read .wide .ensures) (found .find .result) (found .find .ensures) (c .before .spot .given .1)))
+    let start = at-start read in
+    let found-there = found .find .ensures in
+    omega (arith, laws.node-fits (start .pre .0) (start .args .s .now) (read .wide-number .ensures) (found .find .result) found-there (c .before .spot .given .1))
 
 returns : tie.Need-returns
 returns c =
-    let found = c .before .before .before .before in
+    let spot-place = c .before .before in
+    let found = after-find spot-place in
     let read = found .before in
-    let start = read .before .before .before .before .before .before .before in
-    (laws.node-keyword (start .pre .0) (start .args .s .now) (read .wide .ensures) (found .find .result) (found .find .ensures) (c .before .before .spot .given .1) (c .if1 .taken))
+    let start = at-start read in
+    laws.node-keyword (start .pre .0) (start .args .s .now) (read .wide-number .ensures) (found .find .result) (found .find .ensures) (spot-place .spot .given .1)
+    (c .if1 .taken)
 
 enum-told : tie.Need-enum-told
 enum-told c = search needs
 
 returns-2 : tie.Need-returns-2
 returns-2 c =
-    let found = c .before .before .before .before in
+    let spot-place = c .before .before in
+    let found = after-find spot-place in
     let read = found .before in
-    let start = read .before .before .before .before .before .before .before in
-    (laws.node-outside (start .pre .0) (start .args .s .now) (read .wide .ensures) (found .find .result) (found .find .ensures) (c .before .before .spot .given .1) (c .if1 .left))
+    let start = at-start read in
+    laws.node-outside (start .pre .0) (start .args .s .now) (read .wide-number .ensures) (found .find .result) (found .find .ensures) (spot-place .spot .given .1)
+    (c .if1 .left)
 
 returns-3 : tie.Need-returns-3
 returns-3 c =
     let found = c .before .before in
     let read = found .before in
-    let start = read .before .before .before .before .before .before .before in
-    (laws.node-none (start .pre .0) (start .args .s .now) (read .wide .ensures) (found .find .result) (found .find .ensures) (c .enum-told .given .1))
+    let start = at-start read in
+    laws.node-none (start .pre .0) (start .args .s .now) (read .wide-number .ensures) (found .find .result) (found .find .ensures) (c .enum-told .given .1)
 
 pub name-of-spec : {M : Type 1} → statement M
 name-of-spec =
     tie.close
     (tie.spec
     shared-slice-read-keywords
-    shared-slice-read-wide
-    wide-requires
+    shared-slice-read-wide-number
+    wide-number-requires
     find-requires
     enum-known-spot
     cast-k

@@ -6,6 +6,13 @@ use borrow.Author.Needs.{needs}
 use Rattle.scanner.proofs.number_step.Statement.{statement}
 use Rattle.scanner.proofs.number_step.Tie as tie
 
+-- places, each from a later one
+abbrev at-start : tie.After-digit-run → tie.Start
+at-start p = p .before .before .before
+
+abbrev after-digit-run : tie.After-value → tie.After-digit-run
+after-digit-run p = p .before .before
+
 sub-rest : tie.Need-sub-rest
 sub-rest c = search needs
 
@@ -21,7 +28,7 @@ digit-run-requires c κs = search needs
 slice-aggregate-value : tie.Need-slice-aggregate-value
 slice-aggregate-value c =
     let digits = c .before in
-    let start = digits .before .before .before in
+    let start = at-start digits in
     laws.digits-counted (start .args .formula .now) (start .args .at) (digits .digit-run .ensures)
 
 value-requires : tie.Need-value-requires
@@ -36,8 +43,8 @@ cast-t13 c = search needs
 cast-t14 : tie.Need-cast-t14
 cast-t14 c =
     let valued = c .before .before .before in
-    let digits = valued .before .before in
-    let start = digits .before .before .before in
+    let digits = after-digit-run valued in
+    let start = at-start digits in
     omega (arith, laws.number-small (start .args .formula .now) (start .args .at) (digits .digit-run .ensures))
 
 enum-told : tie.Need-enum-told
@@ -46,8 +53,8 @@ enum-told c = search needs
 returns : tie.Need-returns
 returns c =
     let valued = c .before .before .before in
-    let digits = valued .before .before in
-    let start = digits .before .before .before in
+    let digits = after-digit-run valued in
+    let start = at-start digits in
     λ lex.
     laws.number-at (start .args .formula .now) (start .args .at) (digits .digit-run .ensures) (start .pre .2) lex
     (sym (c .before .number .given .1) ∙ valued .value .ensures)
@@ -55,8 +62,8 @@ returns c =
 returns-2 : tie.Need-returns-2
 returns-2 c =
     let valued = c .before .before in
-    let digits = valued .before .before in
-    let start = digits .before .before .before in
+    let digits = after-digit-run valued in
+    let start = at-start digits in
     λ lex.
     laws.large-at (start .args .formula .now) (start .args .at) (digits .digit-run .ensures) (start .pre .2) lex
     (sym (c .enum-told .given .1) ∙ valued .value .ensures)

@@ -7,12 +7,19 @@ use borrow.Author.Needs.{needs}
 use Rattle.scanner.proofs.own_word.Statement.{statement}
 use Rattle.scanner.proofs.own_word.Tie as tie
 
+-- places, each from a later one
+abbrev at-start : tie.After-part → tie.Start
+at-start p = p .before .before .before .before
+
+abbrev after-find : tie.After-spot → tie.After-find
+after-find p = p .before .before
+
 part-requires : tie.Need-part-requires
 part-requires c κs = search needs
 
 find-requires : tie.Need-find-requires
 find-requires c κs =
-    let asked = c .before .before .before .before .pre .0 in
+    let asked = (at-start c) .pre .0 in
     (asked .0, asked .1 ∙ ap hashOf (sym (c .part .ensures)))
 
 enum-known-spot : tie.Need-enum-known-spot
@@ -20,9 +27,9 @@ enum-known-spot c = search needs
 
 cast-emit : tie.Need-cast-emit
 cast-emit c =
-    let found = c .before .before .before in
+    let found = after-find (c .before) in
     let read = found .before in
-    let start = read .before .before .before .before in
+    let start = at-start read in
     let args = start .args in
     omega (
       arith,
@@ -33,9 +40,9 @@ cast-emit c =
 
 add-emit : tie.Need-add-emit
 add-emit c =
-    let found = c .before .before .before in
+    let found = after-find (c .before) in
     let read = found .before in
-    let start = read .before .before .before .before in
+    let start = at-start read in
     let args = start .args in
     omega (
       arith,
@@ -61,21 +68,23 @@ emit-requires-2 c κs = search needs
 
 returns : tie.Need-returns
 returns c =
-    let found = c .before .before .before .before in
+    let spot-place = c .before .before in
+    let found = after-find spot-place in
     let read = found .before in
-    let start = read .before .before .before .before in
+    let start = at-start read in
     let args = start .args in
     laws.own-node (args .mask) (args .formula .now) (args .words .now) (args .count) (args .links .now) _ _ (read .part .ensures) (found .find .result)
-    (found .find .ensures) (c .before .before .spot .given .1) (c .emit .ensures)
+    (found .find .ensures) (spot-place .spot .given .1) (c .emit .ensures)
 
 returns-2 : tie.Need-returns-2
 returns-2 c =
-    let found = c .before .before .before .before in
+    let spot2-place = c .before .before in
+    let found = spot2-place .before .before in
     let read = found .before in
-    let start = read .before .before .before .before in
+    let start = at-start read in
     let args = start .args in
     laws.own-free (args .mask) (args .formula .now) (args .words .now) (args .count) (args .links .now) _ _ (read .part .ensures) (found .find .result)
-    (found .find .ensures) (c .before .before .spot2 .given .1) (c .emit2 .ensures)
+    (found .find .ensures) (spot2-place .spot2 .given .1) (c .emit2 .ensures)
 
 pub own-word-spec : {M : Type 1} → statement M
 own-word-spec =

@@ -1,20 +1,23 @@
 -- `scan`: rooms for the links, by the size of the formula.
-use mathlib.Core.Path.{ap, _∙_}
+use mathlib.Core.Path.{_∙_}
 use native.Mathlib.Omega.{arith}
-use Rattle.scanner.specs.Rooms.{filled}
 use Rattle.scanner.proofs.ScanLoop as loop
 use Rattle.scanner.proofs.ScanningLaws as laws
 use borrow.Author.Needs.{needs}
 use Rattle.scanner.proofs.scan.Statement.{statement}
 use Rattle.scanner.proofs.scan.Tie as tie
 
+-- places, each from a later one
+abbrev at-start : tie.After-slice-known2 → tie.Start
+at-start p = p .before .before .before .before
+
 unscanned-requires : tie.Need-unscanned-requires
 unscanned-requires c κs = search needs
 
 returns : tie.Need-returns
 returns c =
-    let start = c .before .before .before .before .before .before in
-    ap (λ r. filled r (start .args .tokens .now) (start .args .words .now)) (c .unscanned .ensures)
+    let start = at-start (c .before .before) in
+    cc (c .unscanned .ensures)
     ∙ loop.too-long _ _ _ _ (c .before .if1 .taken)
 
 slice-aggregate-scan-with : tie.Need-slice-aggregate-scan-with
@@ -23,8 +26,9 @@ slice-aggregate-scan-with c = search needs
 scan-with-requires : tie.Need-scan-with-requires
 scan-with-requires c κs =
     let test = c .before .before .before in
-    let start = test .before .before .before .before .before .before in
-    let short = test .before .if1 .left in
+    let else1 = test .before in
+    let start = at-start (else1 .before) in
+    let short = else1 .if1 .left in
     let small = test .if2 .taken in (
       start .pre,
       laws.scannable (start .args .formula .now) 63 192 (omega (arith, short)) (λ n a b. omega (arith, small, a, b)),
@@ -45,8 +49,9 @@ slice-aggregate-scan-with-2 c = search needs
 scan-with-requires-2 : tie.Need-scan-with-requires-2
 scan-with-requires-2 c κs =
     let test = c .before .before .before in
-    let start = test .before .before .before .before .before .before .before in
-    let short = test .before .before .if1 .left in
+    let else1 = test .before .before in
+    let start = at-start (else1 .before) in
+    let short = else1 .if1 .left in
     let small = test .if3 .taken in (
       start .pre,
       laws.scannable (start .args .formula .now) 255 1280 (omega (arith, short)) (λ n a b. omega (arith, small, a, b)),
@@ -67,8 +72,9 @@ slice-aggregate-scan-with-3 c = search needs
 scan-with-requires-3 : tie.Need-scan-with-requires-3
 scan-with-requires-3 c κs =
     let test = c .before .before .before in
-    let start = test .before .before .before .before .before .before .before in
-    let short = test .before .before .if1 .left in
+    let else1 = test .before .before in
+    let start = at-start (else1 .before) in
+    let short = else1 .if1 .left in
     let small = test .if3 .left in (
       start .pre,
       laws.scannable (start .args .formula .now) 2047 10240 (omega (arith, short)) (λ n a b. omega (arith, small, a, b)),

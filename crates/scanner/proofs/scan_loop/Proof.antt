@@ -1,9 +1,7 @@
 -- `scan_loop`: what is left of the formula gives what the whole gives.
 use Prim.Native.Nat.{_-_}
-use mathlib.Core.Path.{ap, _∙_}
 use native.Mathlib.Omega.{arith}
 use lib.ListN.{length}
-use Rattle.scanner.specs.Rooms.{filled}
 use Rattle.scanner.proofs.ScanLoop as loop
 use Rattle.scanner.proofs.ScanningLaws as laws
 use borrow.Author.Needs.{needs}
@@ -18,9 +16,38 @@ abbrev μ-loop : tie.MeasureT-loop
 μ-loop table room tree formula tokens₀ words₀ links₀ mask at₀ n₀ count₀ tokens words links at n count =
     length formula - at
 
+-- places, each from a later one
+abbrev in-loop′ : tie.After-bad-lexeme Inv-loop μ-loop → tie.In-loop Inv-loop μ-loop
+in-loop′ p = p .before .before .before .before .before .before
+
+abbrev after-store-word : tie.After-slice-known6 Inv-loop μ-loop → tie.After-store-word Inv-loop μ-loop
+after-store-word p = p .before .before .before .before
+
+abbrev after-step-at : tie.After-step Inv-loop μ-loop → tie.After-step-at Inv-loop μ-loop
+after-step-at p = p .before .before
+
+abbrev at-loop : tie.After-step-at Inv-loop μ-loop → tie.At-loop Inv-loop μ-loop
+at-loop p = p .before .before .before .before
+
+abbrev in-loop : tie.After-step-at Inv-loop μ-loop → tie.In-loop Inv-loop μ-loop
+in-loop p = p .before .before .before
+
+abbrev else1 : tie.After-store-token Inv-loop μ-loop → tie.Else1 Inv-loop μ-loop
+else1 p = p .before .before
+
+abbrev after-store-token : tie.After-store-word Inv-loop μ-loop → tie.After-store-token Inv-loop μ-loop
+after-store-token p = p .before .before .before .before .before
+
+abbrev after-step′ : tie.After-unscanned Inv-loop μ-loop → tie.After-step Inv-loop μ-loop
+after-step′ p = p .before .before .before
+
+abbrev after-step : tie.Else1 Inv-loop μ-loop → tie.After-step Inv-loop μ-loop
+after-step p = p .before .before
+
 loop-holds : tie.Need-loop-holds Inv-loop μ-loop
 loop-holds c =
-    let asked = c .before .before .before .before .before .before .before .pre in
+    let near = c .before .before .before in
+    let asked = near .before .before .before .before .pre in
     laws.scanning-start (asked .0) (asked .1) (asked .2)
 
 step-at-requires : tie.Need-step-at-requires Inv-loop μ-loop
@@ -41,8 +68,8 @@ loop-less c = search needs
 loop-again : tie.Need-loop-again Inv-loop μ-loop
 loop-again c =
     let stepped = c .before .before in
-    let test = stepped .before .before .before in
-    let inv = test .before .loop .inv in
+    let test = in-loop stepped in
+    let inv = (at-loop stepped) .loop .inv in
     laws.scanning-skip inv (test .loop-test .taken) (stepped .step-at .ensures) (c .enum-told .given .1)
 
 enum-told-2 : tie.Need-enum-told-2 Inv-loop μ-loop
@@ -53,28 +80,31 @@ bad-lexeme-requires c κs = search needs
 
 same-length : tie.Need-same-length Inv-loop μ-loop
 same-length c =
-    let test = c .before .before .before .before .before .before in
+    let test = in-loop′ c in
     test .before .loop .inv .tokens-same
 
 same-length-2 : tie.Need-same-length-2 Inv-loop μ-loop
 same-length-2 c =
-    let test = c .before .before .before .before .before .before in
+    let test = in-loop′ c in
     test .before .loop .inv .words-same
 
 same-length-3 : tie.Need-same-length-3 Inv-loop μ-loop
 same-length-3 c =
-    let test = c .before .before .before .before .before .before in
+    let test = in-loop′ c in
     test .before .loop .inv .links-same
 
 returns : tie.Need-returns Inv-loop μ-loop
 returns c =
     let stepped = c .before .before .before in
-    let test = stepped .before .before .before in
-    let inv = test .before .loop .inv in
-    let turn = test .before .loop in
-    ap (λ r. filled r (turn .tokens) (turn .words)) (c .bad-lexeme .ensures)
-    ∙ loop.turn-stop (inv .turn) (test .loop-test .taken)
-    (laws.stop-eq inv (test .loop-test .taken) (stepped .step-at .ensures) (c .before .enum-told2 .given .1))
+    let test = in-loop stepped in
+    let turn′ = at-loop stepped in
+    let inv = turn′ .loop .inv in
+    let turn = turn′ .loop in
+    let more = test .loop-test .taken in
+    cc (
+      c .bad-lexeme .ensures,
+      loop.turn-stop (inv .turn) more (laws.stop-eq inv more (stepped .step-at .ensures) (c .before .enum-told2 .given .1)),
+    )
 
 enum-known-step : tie.Need-enum-known-step Inv-loop μ-loop
 enum-known-step c = search needs
@@ -84,43 +114,40 @@ unscanned-requires c κs = search needs
 
 same-length-4 : tie.Need-same-length-4 Inv-loop μ-loop
 same-length-4 c =
-    let told = c .before .before .before in
-    let test = told .before .before .before .before .before in
-    test .before .loop .inv .tokens-same
+    let told = after-step′ c in
+    (at-loop (after-step-at told)) .loop .inv .tokens-same
 
 same-length-5 : tie.Need-same-length-5 Inv-loop μ-loop
 same-length-5 c =
-    let told = c .before .before .before in
-    let test = told .before .before .before .before .before in
-    test .before .loop .inv .words-same
+    let told = after-step′ c in
+    (at-loop (after-step-at told)) .loop .inv .words-same
 
 same-length-6 : tie.Need-same-length-6 Inv-loop μ-loop
 same-length-6 c =
-    let told = c .before .before .before in
-    let test = told .before .before .before .before .before in
-    test .before .loop .inv .links-same
+    let told = after-step′ c in
+    (at-loop (after-step-at told)) .loop .inv .links-same
 
 returns-2 : tie.Need-returns-2 Inv-loop μ-loop
 returns-2 c =
     let full = c .before in
-    let told = full .before .before in
-    let stepped = told .before .before in
-    let test = stepped .before .before .before in
-    let inv = test .before .loop .inv in
+    let told = after-step′ c in
+    let stepped = after-step-at told in
+    let test = in-loop stepped in
+    let turn′ = at-loop stepped in
+    let inv = turn′ .loop .inv in
     let more = test .loop-test .taken in
     let step = stepped .step-at .ensures in
     let emits = told .step .given .1 in
-    let turn = test .before .loop in
-    ap (λ r. filled r (turn .tokens) (turn .words)) (c .unscanned .ensures)
-    ∙ loop.turn-full (inv .turn) more (laws.emit-eq inv more step emits) (full .if1 .taken)
+    let turn = turn′ .loop in
+    cc (c .unscanned .ensures, loop.turn-full (inv .turn) more (laws.emit-eq inv more step emits) (full .if1 .taken))
 
 store-token-requires : tie.Need-store-token-requires Inv-loop μ-loop
 store-token-requires c κs =
     let full = c .before in
-    let told = full .before .before in
-    let stepped = told .before .before in
-    let test = stepped .before .before .before in
-    let inv = test .before .loop .inv in
+    let told = after-step full in
+    let stepped = after-step-at told in
+    let test = in-loop stepped in
+    let inv = (at-loop stepped) .loop .inv in
     let more = test .loop-test .taken in
     let step = stepped .step-at .ensures in
     let emits = told .step .given .1 in
@@ -128,11 +155,11 @@ store-token-requires c κs =
 
 store-word-requires : tie.Need-store-word-requires Inv-loop μ-loop
 store-word-requires c κs =
-    let full = c .before .before .before .before .before .before in
-    let told = full .before .before in
-    let stepped = told .before .before in
-    let test = stepped .before .before .before in
-    let inv = test .before .loop .inv in
+    let full = else1 (c .before .before .before .before) in
+    let told = after-step full in
+    let stepped = after-step-at told in
+    let test = in-loop stepped in
+    let inv = (at-loop stepped) .loop .inv in
     let more = test .loop-test .taken in
     let step = stepped .step-at .ensures in
     let emits = told .step .given .1 in
@@ -145,16 +172,12 @@ store-word-requires c κs =
 
 add-n : tie.Need-add-n Inv-loop μ-loop
 add-n c =
-    let stored = c .before .before .before .before in
-    let row = stored .before .before .before .before .before in
-    let full = row .before .before in
-    let told = full .before .before in
-    let stepped = told .before .before in
-    let test = stepped .before .before .before in
-    let inv = test .before .loop .inv in
-    let more = test .loop-test .taken in
-    let step = stepped .step-at .ensures in
-    let emits = told .step .given .1 in
+    let stored = after-store-word c in
+    let row = after-store-token stored in
+    let full = else1 row in
+    let told = after-step full in
+    let stepped = after-step-at told in
+    let inv = (at-loop stepped) .loop .inv in
     omega (arith, inv .turn .small)
 
 cast-at : tie.Need-cast-at Inv-loop μ-loop
@@ -162,13 +185,13 @@ cast-at c = search needs
 
 add-at-2 : tie.Need-add-at-2 Inv-loop μ-loop
 add-at-2 c =
-    let stored = c .before .before .before .before .before in
-    let row = stored .before .before .before .before .before in
-    let full = row .before .before in
-    let told = full .before .before in
-    let stepped = told .before .before in
-    let test = stepped .before .before .before in
-    let inv = test .before .loop .inv in
+    let stored = after-store-word (c .before) in
+    let row = after-store-token stored in
+    let full = else1 row in
+    let told = after-step full in
+    let stepped = after-step-at told in
+    let test = in-loop stepped in
+    let inv = (at-loop stepped) .loop .inv in
     let more = test .loop-test .taken in
     let step = stepped .step-at .ensures in
     let emits = told .step .given .1 in
@@ -176,13 +199,13 @@ add-at-2 c =
 
 loop-less-2 : tie.Need-loop-less-2 Inv-loop μ-loop
 loop-less-2 c =
-    let stored = c .before .before .before .before .before in
-    let row = stored .before .before .before .before .before in
-    let full = row .before .before in
-    let told = full .before .before in
-    let stepped = told .before .before in
-    let test = stepped .before .before .before in
-    let inv = test .before .loop .inv in
+    let stored = after-store-word (c .before) in
+    let row = after-store-token stored in
+    let full = else1 row in
+    let told = after-step full in
+    let stepped = after-step-at told in
+    let test = in-loop stepped in
+    let inv = (at-loop stepped) .loop .inv in
     let more = test .loop-test .taken in
     let step = stepped .step-at .ensures in
     let emits = told .step .given .1 in
@@ -190,13 +213,13 @@ loop-less-2 c =
 
 loop-again-2 : tie.Need-loop-again-2 Inv-loop μ-loop
 loop-again-2 c =
-    let stored = c .before .before .before .before .before in
-    let row = stored .before .before .before .before .before in
-    let full = row .before .before in
-    let told = full .before .before in
-    let stepped = told .before .before in
-    let test = stepped .before .before .before in
-    let inv = test .before .loop .inv in
+    let stored = after-store-word (c .before) in
+    let row = after-store-token stored in
+    let full = else1 row in
+    let told = after-step full in
+    let stepped = after-step-at told in
+    let test = in-loop stepped in
+    let inv = (at-loop stepped) .loop .inv in
     let more = test .loop-test .taken in
     let step = stepped .step-at .ensures in
     let emits = told .step .given .1 in

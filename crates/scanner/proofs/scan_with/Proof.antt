@@ -12,7 +12,8 @@ slice-aggregate-enter-table-2 c = search needs
 
 enter-table-requires : tie.Need-enter-table-requires
 enter-table-requires c κs =
-    let start = c .before .before .before .before .before .before .before in
+    let near = c .before .before .before in
+    let start = near .before .before .before .before in
     (blank, start .pre .0 .short)
 
 slice-aggregate-scan-loop : tie.Need-slice-aggregate-scan-loop

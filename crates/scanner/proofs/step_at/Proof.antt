@@ -6,6 +6,12 @@ use borrow.Author.Needs.{needs}
 use Rattle.scanner.proofs.step_at.Statement.{statement}
 use Rattle.scanner.proofs.step_at.Tie as tie
 
+-- places, each from a later one
+abbrev at-start : tie.After-is-letter → tie.Start
+at-start p =
+    let q = p .before .before .before .before in
+    q .before .before .before .before
+
 shared-slice-read-is-letter : tie.Need-shared-slice-read-is-letter
 shared-slice-read-is-letter c = search needs
 
@@ -14,7 +20,7 @@ is-letter-requires c κs = search needs
 
 word-step-requires : tie.Need-word-step-requires
 word-step-requires c κs =
-    let start = c .before .before .before .before .before .before .before .before .before in
+    let start = at-start (c .before) in
     (start .pre .0, (omega arith, omega arith, sym (c .before .is-letter .ensures) ∙ c .if1 .taken))
 
 returns : tie.Need-returns
@@ -22,12 +28,12 @@ returns c = search needs
 
 mark-step-requires : tie.Need-mark-step-requires
 mark-step-requires c κs =
-    let start = c .before .before .before .before .before .before .before .before .before in
+    let start = at-start (c .before) in
     ((start .pre .0 .lexical, sym (c .before .is-letter .ensures) ∙ c .if1 .left), (omega arith, omega arith))
 
 returns-2 : tie.Need-returns-2
 returns-2 c =
-    let start = c .before .before .before .before .before .before .before .before .before .before in
+    let start = at-start (c .before .before) in
     laws.marks-made (start .args .table .now) (start .args .formula .now) (start .args .at) (start .pre .1 .0) (c .mark-step .ensures)
 
 pub step-at-spec : {M : Type 1} → statement M

@@ -7,6 +7,10 @@ use borrow.Author.Needs.{needs}
 use Rattle.scanner.proofs.store_word.Statement.{statement}
 use Rattle.scanner.proofs.store_word.Tie as tie
 
+-- places, each from a later one
+abbrev at-start : tie.After-spot → tie.Start
+at-start p = p .before .before
+
 enum-told : tie.Need-enum-told
 enum-told c = search needs
 
@@ -38,10 +42,10 @@ cast-links : tie.Need-cast-links
 cast-links c = search needs
 
 mul-links : tie.Need-mul-links
-mul-links c = omega (arith, free-inside _ (c .before .spot .given .1) (c .before .before .before .pre .1))
+mul-links c = omega (arith, free-inside _ (c .before .spot .given .1) ((at-start (c .before)) .pre .1))
 
 slice-write-links : tie.Need-slice-write-links
-slice-write-links c = free-inside _ (c .before .spot .given .1) (c .before .before .before .pre .1)
+slice-write-links c = free-inside _ (c .before .spot .given .1) ((at-start (c .before)) .pre .1)
 
 add-result : tie.Need-add-result
 add-result c = search needs
@@ -61,7 +65,7 @@ same-length-2 c = search needs
 
 returns-2 : tie.Need-returns-2
 returns-2 c =
-    let start = c .before .before .before in
+    let start = at-start (c .before) in
     let args = start .args in
     let stored = laws.free-stored (args .words .now) (args .links .now) (args .count) (args .t) (args .spot) (start .pre .0) (c .before .spot .given .1) in
     (stored .0, (stored .1, stored .2))

@@ -8,13 +8,19 @@ use borrow.Author.Needs.{needs}
 use Rattle.scanner.proofs.word_step.Statement.{statement}
 use Rattle.scanner.proofs.word_step.Tie as tie
 
+-- places, each from a later one
+abbrev at-start : tie.After-word-at → tie.Start
+at-start p =
+    let q = p .before .before .before in
+    q .before .before .before .before
+
 word-at-requires : tie.Need-word-at-requires
 word-at-requires c κs = search needs
 
 returns : tie.Need-returns
 returns c =
     let read = c .before in
-    let start = read .before .before .before .before .before .before .before in
+    let start = at-start read in
     let asked = start .pre .1 in
     laws.long-made (start .args .table .now) (start .args .formula .now) (start .args .at) (asked .0) (asked .2) (read .word-at .ensures)
     (c .if1 .taken)
@@ -27,7 +33,8 @@ name-of-requires c κs =
     let part = c in
     let short = part .before in
     let read = short .before in
-    let start = read .before .before .before .before .before .before .before in
+    let near = read .before .before .before in
+    let start = near .before .before .before .before in
     let asked = start .pre .1 in
     let here = laws.word-here (asked .0) (asked .2) (read .word-at .ensures) (short .if1 .left) (part .part .ensures) in
     (start .pre .0 .lexical, laws.here-hash here)
@@ -37,13 +44,11 @@ enum-known-name c = search needs
 
 add-emit : tie.Need-add-emit
 add-emit c =
-    let part = c .before .before .before .before in
+    let named = c .before .before .before in
+    let part = named .before in
     let short = part .before in
     let read = short .before in
-    let start = read .before .before .before .before .before .before .before in
-    let asked = start .pre .1 in
-    let here = laws.word-here (asked .0) (asked .2) (read .word-at .ensures) (short .if1 .left) (part .part .ensures) in
-    let named = c .before .before .before in
+    let start = at-start read in
     omega (arith, laws.keyword-small (start .args .table .now) (part .part .result .now) (named .name-of .ensures) (c .before .name .given .1))
 
 emit-requires : tie.Need-emit-requires
@@ -63,7 +68,7 @@ own-word-requires c κs =
     let part = c .before .before .before in
     let short = part .before in
     let read = short .before in
-    let start = read .before .before .before .before .before .before .before in
+    let start = at-start read in
     let asked = start .pre .1 in
     let here = laws.word-here (asked .0) (asked .2) (read .word-at .ensures) (short .if1 .left) (part .part .ensures) in
     let hash = laws.here-hash here ∙ ap hashOf (part .part .ensures) in
@@ -71,35 +76,37 @@ own-word-requires c κs =
 
 returns-2 : tie.Need-returns-2
 returns-2 c =
-    let part = c .before .before .before .before .before in
+    let name-place = c .before .before in
+    let named = name-place .before .before in
+    let part = named .before in
     let short = part .before in
     let read = short .before in
-    let start = read .before .before .before .before .before .before .before in
+    let start = at-start read in
     let asked = start .pre .1 in
     let here = laws.word-here (asked .0) (asked .2) (read .word-at .ensures) (short .if1 .left) (part .part .ensures) in
-    let named = c .before .before .before .before in
-    laws.keyword-made here (few-outsides (start .args .table .now)) (named .name-of .ensures) (c .before .before .name .given .1) (c .emit .ensures)
+    laws.keyword-made here (few-outsides (start .args .table .now)) (named .name-of .ensures) (name-place .name .given .1) (c .emit .ensures)
 
 returns-3 : tie.Need-returns-3
 returns-3 c =
-    let part = c .before .before .before .before .before in
+    let name2-place = c .before .before in
+    let named = name2-place .before .before in
+    let part = named .before in
     let short = part .before in
     let read = short .before in
-    let start = read .before .before .before .before .before .before .before in
+    let start = at-start read in
     let asked = start .pre .1 in
     let here = laws.word-here (asked .0) (asked .2) (read .word-at .ensures) (short .if1 .left) (part .part .ensures) in
-    let named = c .before .before .before .before in
-    laws.outside-made here (few-outsides (start .args .table .now)) (named .name-of .ensures) (c .before .before .name2 .given .1) (c .emit2 .ensures)
+    laws.outside-made here (few-outsides (start .args .table .now)) (named .name-of .ensures) (name2-place .name2 .given .1) (c .emit2 .ensures)
 
 returns-4 : tie.Need-returns-4
 returns-4 c =
-    let part = c .before .before .before .before in
+    let named = c .before .before .before in
+    let part = named .before in
     let short = part .before in
     let read = short .before in
-    let start = read .before .before .before .before .before .before .before in
+    let start = at-start read in
     let asked = start .pre .1 in
     let here = laws.word-here (asked .0) (asked .2) (read .word-at .ensures) (short .if1 .left) (part .part .ensures) in
-    let named = c .before .before .before in
     laws.other-made here (few-outsides (start .args .table .now)) (named .name-of .ensures) (c .before .enum-told .given .1) (c .own-word .ensures)
 
 pub word-step-spec : {M : Type 1} → statement M

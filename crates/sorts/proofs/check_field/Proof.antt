@@ -20,7 +20,7 @@ abbrev tested : tie.After-step-of2 → tie.After-check-result
 tested c = c .before .before .before .before
 
 collect-requires : tie.Need-collect-requires
-collect-requires c κs = omega (arith, start (c .before .before) .pre .short)
+collect-requires c κs = omega arith
 
 step-of-requires : tie.Need-step-of-requires
 step-of-requires c κs = search needs
@@ -29,20 +29,13 @@ signature-at-requires : tie.Need-signature-at-requires
 signature-at-requires c κs = search needs
 
 load-params-requires : tie.Need-load-params-requires
-load-params-requires c κs =
-    omega (
-      arith,
-      ap length (c .signature-at .ensures),
-      signature-short (start (c .before .before .before) .args .table .now)
-          (start (c .before .before .before) .args .known .head),
-      start (c .before .before .before) .pre .room .variables,
-    )
+load-params-requires c κs = omega (arith, ap length (c .signature-at .ensures), signature-short (start (c .before .before .before) .args .table .now) (start (c .before .before .before) .args .known .head))
 
 check-variable-requires : tie.Need-check-variable-requires
-check-variable-requires c κs = start (c .before .before .before .before) .pre .room
+check-variable-requires c κs = search needs
 
 check-result-requires : tie.Need-check-result-requires
-check-result-requires c κs = start (c .before .before .before) .pre .room .places
+check-result-requires c κs = search needs
 
 verdict-of-requires : tie.Need-verdict-of-requires
 verdict-of-requires c κs = search needs
@@ -60,33 +53,31 @@ verdict-of-requires-2 : tie.Need-verdict-of-requires-2
 verdict-of-requires-2 c κs = search needs
 
 count-requires : tie.Need-count-requires
-count-requires c κs = start (c .before) .pre .counts
+count-requires c κs = search needs
 
 same-length : tie.Need-same-length
-same-length c = c .before .before .before .collect .kept .0
+same-length c = search needs
 
 returns : tie.Need-returns
-returns c = laws.step-block (c .before .before .before .before .before .match .keys1) (c .before .before .before .collect .ensures) (c .step-of .ensures)
+returns c = search laws.step-block
 
 same-length-2 : tie.Need-same-length-2
-same-length-2 c = c .before .before .load-params .kept .0
+same-length-2 c = search needs
 
 returns-2 : tie.Need-returns-2
-returns-2 c =
-    laws.step-parameters (c .before .before .before .before .before .match .keys2) (c .before .before .before .signature-at .ensures)
-    (c .before .before .load-params .ensures)
+returns-2 c = search laws.step-parameters
 
 same-length-3 : tie.Need-same-length-3
 same-length-3 c = refl
 
 same-length-4 : tie.Need-same-length-4
-same-length-4 c = c .before .before .before .before .check-variable .kept .0
+same-length-4 c = search needs
 
 same-length-5 : tie.Need-same-length-5
-same-length-5 c = c .before .before .before .before .check-variable .kept .1 .0
+same-length-5 c = search needs
 
 returns-3 : tie.Need-returns-3
-returns-3 c = laws.step-item (item (c .before .before .before .before) .match .keys3) (c .before .before .before .before .check-variable .ensures)
+returns-3 c = search laws.step-item
 
 same-length-6 : tie.Need-same-length-6
 same-length-6 c = refl
@@ -95,20 +86,16 @@ same-length-7 : tie.Need-same-length-7
 same-length-7 c = tested c .check-result .kept .0
 
 returns-4 : tie.Need-returns-4
-returns-4 c =
-    laws.step-result (tested c .before .before .before .match .keys4) (tested c .check-result .ensures) (c .before .verdict-of .ensures)
-    (c .step-of2 .ensures)
+returns-4 c = search laws.step-result
 
 same-length-8 : tie.Need-same-length-8
 same-length-8 c = refl
 
 returns-5 : tie.Need-returns-5
-returns-5 c =
-    laws.step-root (c .before .before .before .before .match .keys5) (c .before .before .byte .ensures) (c .before .check-root .ensures)
-    (c .verdict-of2 .ensures)
+returns-5 c = search laws.step-root
 
 returns-6 : tie.Need-returns-6
-returns-6 c = laws.step-counts (c .before .match .rest) (c .count .ensures)
+returns-6 c = search laws.step-counts
 
 pub check-field-spec : {M : Type 1} → statement M
 check-field-spec =

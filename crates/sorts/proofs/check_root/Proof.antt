@@ -9,7 +9,7 @@ head-of-requires : tie.Need-head-of-requires
 head-of-requires c κs = search needs
 
 returns : tie.Need-returns
-returns c = laws.root-undefined _ _ _ (c .before .head-of .ensures) (c .if1 .taken)
+returns c = search laws.root-undefined
 
 signature-at-requires : tie.Need-signature-at-requires
 signature-at-requires c κs = search needs

@@ -28,27 +28,25 @@ enum-known-item-2 : tie.Need-enum-known-item-2
 enum-known-item-2 c = search needs
 
 add-sort-requires : tie.Need-add-sort-requires
-add-sort-requires c κs = start (given (c .before .before .before .before) .before) .pre .variables
+add-sort-requires c κs = search needs
 
 same-length : tie.Need-same-length
 same-length c = refl
 
 same-length-2 : tie.Need-same-length-2
-same-length-2 c = given (c .before .before .before .before) .check-item .kept .0
+same-length-2 c = search needs
 
 returns : tie.Need-returns
-returns c = laws.item-refused (given (c .before .before .before .before) .check-item .ensures) (c .before .before .item .given .1) (c .refused .ensures)
+returns c = search laws.item-refused
 
 same-length-3 : tie.Need-same-length-3
-same-length-3 c = c .before .before .add-sort .kept .0
+same-length-3 c = search needs
 
 same-length-4 : tie.Need-same-length-4
-same-length-4 c = given (added c .before .before .before) .check-item .kept .0
+same-length-4 c = search needs
 
 returns-2 : tie.Need-returns-2
-returns-2 c =
-    laws.item-added (given (added c .before .before .before) .check-item .ensures) (added c .before .item2 .given .1)
-    (c .before .before .add-sort .ensures)
+returns-2 c = search laws.item-added
 
 pub check-variable-spec : {M : Type 1} → statement M
 check-variable-spec =

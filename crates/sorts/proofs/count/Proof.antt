@@ -5,10 +5,10 @@ use Rattle.sorts.proofs.count.Statement.{statement}
 use Rattle.sorts.proofs.count.Tie as tie
 
 add-t9 : tie.Need-add-t9
-add-t9 c = omega (arith, c .before .pre .keywords)
+add-t9 c = omega arith
 
 add-t10 : tie.Need-add-t10
-add-t10 c = omega (arith, c .before .pre .outsides)
+add-t10 c = omega arith
 
 returns : tie.Need-returns
 returns c = laws.count-keyword _ _ _ (c .match .keys1)

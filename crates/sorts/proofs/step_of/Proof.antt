@@ -12,10 +12,10 @@ enum-known-v : tie.Need-enum-known-v
 enum-known-v c = search needs
 
 returns : tie.Need-returns
-returns c = sym (ap (stepOf (c .before .before .args .known)) (c .enum-told .given .1))
+returns c = cc
 
 returns-2 : tie.Need-returns-2
-returns-2 c = sym (ap (stepOf (c .before .before .before .args .known)) (c .before .v .given .1))
+returns-2 c = cc
 
 pub step-of-spec : {M : Type 1} → statement M
 step-of-spec = tie.close (tie.spec enum-told enum-known-v returns returns-2)

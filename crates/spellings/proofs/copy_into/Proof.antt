@@ -15,10 +15,14 @@ abbrev μ-loop : tie.MeasureT-loop
 μ-loop out₀ s size i₀ out i = length s - i
 
 returns : tie.Need-returns Inv-loop μ-loop
-returns c = (refl, sym (written-not (c .before .args .s .now) (c .before .args .out .now) (c .if1 .taken)))
+returns c =
+    let start = c .before in
+    (refl, sym (written-not (start .args .s .now) (start .args .out .now) (c .if1 .taken)))
 
 loop-holds : tie.Need-loop-holds Inv-loop μ-loop
-loop-holds c = writes.copying-start (c .before .args .out .now) (c .before .args .s .now)
+loop-holds c =
+    let start = c .before in
+    writes.copying-start (start .args .out .now) (start .args .s .now)
 
 shared-slice-read-out : tie.Need-shared-slice-read-out Inv-loop μ-loop
 shared-slice-read-out c = search needs

@@ -18,7 +18,9 @@ returns : tie.Need-returns Inv-loop μ-loop
 returns c = sym (length-same _ _ (c .if1 .taken))
 
 loop-holds : tie.Need-loop-holds Inv-loop μ-loop
-loop-holds c = loops.agreeing-start (c .before .args .a .now) (c .before .args .b .now)
+loop-holds c =
+    let start = c .before in
+    loops.agreeing-start (start .args .a .now) (start .args .b .now)
 
 shared-slice-read-if2 : tie.Need-shared-slice-read-if2 Inv-loop μ-loop
 shared-slice-read-if2 c = search needs
@@ -27,7 +29,10 @@ shared-slice-read-if2-2 : tie.Need-shared-slice-read-if2-2 Inv-loop μ-loop
 shared-slice-read-if2-2 c = search needs
 
 returns-2 : tie.Need-returns-2 Inv-loop μ-loop
-returns-2 c = loops.agreeing-stop (c .before .before .before .before .loop .inv) (c .before .before .before .before .before .if1 .left) (c .before .before .before .loop-test .taken) (c .if2 .taken)
+returns-2 c =
+    let turn-test = c .before .before .before in
+    let turn = turn-test .before in
+    loops.agreeing-stop (turn .loop .inv) (turn .before .if1 .left) (turn-test .loop-test .taken) (c .if2 .taken)
 
 add-i : tie.Need-add-i Inv-loop μ-loop
 add-i c = search needs
@@ -36,7 +41,10 @@ loop-less : tie.Need-loop-less Inv-loop μ-loop
 loop-less c = search needs
 
 loop-again : tie.Need-loop-again Inv-loop μ-loop
-loop-again c = loops.agreeing-next (c .before .before .before .before .loop .inv) (c .before .before .before .before .before .if1 .left) (c .before .before .before .loop-test .taken) (c .if2 .left)
+loop-again c =
+    let turn-test = c .before .before .before in
+    let turn = turn-test .before in
+    loops.agreeing-next (turn .loop .inv) (turn .before .if1 .left) (turn-test .loop-test .taken) (c .if2 .left)
 
 returns-3 : tie.Need-returns-3 Inv-loop μ-loop
 returns-3 c = loops.agreeing-end (c .before .loop .inv) (c .before .before .if1 .left) (c .loop-test .left)

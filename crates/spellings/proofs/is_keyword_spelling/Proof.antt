@@ -20,8 +20,10 @@ is-symbol-requires c κs = search needs
 
 returns : tie.Need-returns
 returns c =
-    ap₂ _||_ (c .before .before .is-letter .ensures) (c .is-symbol .ensures)
-    ∙ sym (is-keyword-one (c .before .before .before .before .before .before .args .s .now) (c .before .before .before .before .if1 .taken))
+    let is-letter-place = c .before .before in
+    let then1 = is-letter-place .before .before in
+    ap₂ _||_ (is-letter-place .is-letter .ensures) (c .is-symbol .ensures)
+    ∙ sym (is-keyword-one (then1 .before .before .args .s .now) (then1 .if1 .taken))
 
 is-word-requires : tie.Need-is-word-requires
 is-word-requires c κs = search needs

@@ -1,7 +1,4 @@
 -- `is_symbol`: the test of its class, over the tests for letters and digits.
-use mathlib.Core.Path.{ap₂}
-use mathlib.Core.Bool.{not, _&&_}
-use lib.Dec.{leb}
 use borrow.Author.Needs.{needs}
 use Rattle.spellings.proofs.is_symbol.Statement.{statement}
 use Rattle.spellings.proofs.is_symbol.Tie as tie
@@ -13,7 +10,9 @@ is-digit-requires : tie.Need-is-digit-requires
 is-digit-requires c κs = search needs
 
 returns : tie.Need-returns
-returns c = ap₂ (λ l d. leb 33 (c .before .before .args .b) && leb (c .before .before .args .b) 126 && not l && not d) (c .before .is-letter .ensures) (c .is-digit .ensures)
+returns c =
+    let start = c .before .before in
+    cc (c .before .is-letter .ensures, c .is-digit .ensures)
 
 pub is-symbol-spec : {M : Type 1} → statement M
 is-symbol-spec = tie.close (tie.spec is-letter-requires is-digit-requires returns)

@@ -1,8 +1,5 @@
 -- `is_word`: the three tests of a word, one of them by the length of a run.
-use mathlib.Core.Path.{sym, ap₂, _∙_}
-use mathlib.Core.Bool.{_&&_}
-use lib.Dec.{eqb, leb}
-use lib.ListN.{length}
+use mathlib.Core.Path.{sym}
 use Rattle.spellings.proofs.BytesLaws.{is-word-empty, is-word-by}
 use borrow.Author.Needs.{needs}
 use Rattle.spellings.proofs.is_word.Statement.{statement}
@@ -23,8 +20,7 @@ word-run-requires c κs = search needs
 returns-2 : tie.Need-returns-2
 returns-2 c =
     let s = c .before .before .before .before .before .args .s .now in
-    ap₂ (λ l n. l && eqb n (length s) && leb (length s) 31) (c .before .is-letter .ensures) (c .word-run .ensures)
-    ∙ sym (is-word-by s (search needs))
+    cc (c .before .is-letter .ensures, c .word-run .ensures, is-word-by s (search needs))
 
 pub is-word-spec : {M : Type 1} → statement M
 is-word-spec =

@@ -1,7 +1,4 @@
 -- `is_word_byte`: the test of its class, over the tests for letters and digits.
-use mathlib.Core.Path.{ap₂}
-use mathlib.Core.Bool.{_||_}
-use lib.Dec.{eqb}
 use borrow.Author.Needs.{needs}
 use Rattle.spellings.proofs.is_word_byte.Statement.{statement}
 use Rattle.spellings.proofs.is_word_byte.Tie as tie
@@ -13,7 +10,7 @@ is-digit-requires : tie.Need-is-digit-requires
 is-digit-requires c κs = search needs
 
 returns : tie.Need-returns
-returns c = ap₂ (λ l d. l || d || eqb (c .before .before .args .b) 95) (c .before .is-letter .ensures) (c .is-digit .ensures)
+returns c = cc (c .before .is-letter .ensures, c .is-digit .ensures)
 
 pub is-word-byte-spec : {M : Type 1} → statement M
 is-word-byte-spec = tie.close (tie.spec is-letter-requires is-digit-requires returns)

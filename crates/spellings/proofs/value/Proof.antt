@@ -29,7 +29,9 @@ add-n : tie.Need-add-n Inv-loop μ-loop
 add-n c = omega (arith, c .before .shared-slice-known2 .given (c .before .before .before .loop .i))
 
 returns : tie.Need-returns Inv-loop μ-loop
-returns c = loops.valued-stop (c .before .before .before .before .loop .inv) (c .before .before .before .loop-test .taken) (c .before .digit-value .ensures) (c .if1 .taken)
+returns c =
+    let turn-test = c .before .before .before in
+    loops.valued-stop (turn-test .before .loop .inv) (turn-test .loop-test .taken) (c .before .digit-value .ensures) (c .if1 .taken)
 
 add-i : tie.Need-add-i Inv-loop μ-loop
 add-i c = search needs
@@ -38,7 +40,9 @@ loop-less : tie.Need-loop-less Inv-loop μ-loop
 loop-less c = search needs
 
 loop-again : tie.Need-loop-again Inv-loop μ-loop
-loop-again c = loops.valued-next (c .before .before .before .before .loop .inv) (c .before .before .before .loop-test .taken) (c .before .digit-value .ensures) (c .if1 .left)
+loop-again c =
+    let turn-test = c .before .before .before in
+    loops.valued-next (turn-test .before .loop .inv) (turn-test .loop-test .taken) (c .before .digit-value .ensures) (c .if1 .left)
 
 cast-t10 : tie.Need-cast-t10 Inv-loop μ-loop
 cast-t10 c = search needs

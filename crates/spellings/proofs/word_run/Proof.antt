@@ -29,10 +29,14 @@ loop-less : tie.Need-loop-less Inv-loop μ-loop
 loop-less c = search needs
 
 loop-again : tie.Need-loop-again Inv-loop μ-loop
-loop-again c = loops.running-next (c .before .before .before .before .loop .inv) (c .before .before .before .loop-test .taken) (c .before .is-word-byte .ensures) (c .if1 .taken)
+loop-again c =
+    let turn-test = c .before .before .before in
+    loops.running-next (turn-test .before .loop .inv) (turn-test .loop-test .taken) (c .before .is-word-byte .ensures) (c .if1 .taken)
 
 returns : tie.Need-returns Inv-loop μ-loop
-returns c = loops.running-stop (c .before .before .before .before .loop .inv) (c .before .before .before .loop-test .taken) (c .before .is-word-byte .ensures) (c .if1 .left)
+returns c =
+    let turn-test = c .before .before .before in
+    loops.running-stop (turn-test .before .loop .inv) (turn-test .loop-test .taken) (c .before .is-word-byte .ensures) (c .if1 .left)
 
 returns-2 : tie.Need-returns-2 Inv-loop μ-loop
 returns-2 c = loops.running-end (c .before .loop .inv) (c .loop-test .left)

@@ -23,7 +23,10 @@ returns c =
     (c .before .decimal-size .ensures, sym (written-not (decimal (at-start .args .n)) (at-start .args .out .now) (omega arith)))
 
 loop-holds : tie.Need-loop-holds Inv-loop μ-loop
-loop-holds c = writes.writing-start (c .before .before .before .args .out .now) (c .before .before .before .args .n) (c .before .decimal-size .result) (c .before .decimal-size .ensures) (c .if1 .left)
+loop-holds c =
+    let decimal-size-place = c .before in
+    let start = decimal-size-place .before .before in
+    writes.writing-start (start .args .out .now) (start .args .n) _ (decimal-size-place .decimal-size .ensures) (c .if1 .left)
 
 sub-at : tie.Need-sub-at Inv-loop μ-loop
 sub-at c = search needs

@@ -14,19 +14,33 @@ Inv-loop text places links mask count s hash slot₀ turns₀ p₀ slot turns p 
 abbrev μ-loop : tie.MeasureT-loop
 μ-loop text places links mask count s hash slot₀ turns₀ p₀ slot turns p = length links - slot
 
-mul-wide : tie.Need-mul-wide Inv-loop μ-loop
-mul-wide c = omega (arith, laws.root-inside (c .before .before .before .before .pre .0) (c .before .before .before .before .args .s .now) (c .before .before .before .before .args .hash))
+-- places, each from a later one
+abbrev at-start : tie.After-shared-slice-known4 Inv-loop μ-loop → tie.Start Inv-loop μ-loop
+at-start p = p .before .before .before .before
 
-shared-slice-read-wide : tie.Need-shared-slice-read-wide Inv-loop μ-loop
-shared-slice-read-wide c = laws.root-inside (c .before .before .before .before .before .pre .0) (c .before .before .before .before .before .args .s .now) (c .before .before .before .before .before .args .hash)
+abbrev at-loop : tie.Else1 Inv-loop μ-loop → tie.At-loop Inv-loop μ-loop
+at-loop p = p .before .before .before
 
-wide-requires : tie.Need-wide-requires Inv-loop μ-loop
-wide-requires c κs = search needs
+abbrev in-loop : tie.Else1 Inv-loop μ-loop → tie.In-loop Inv-loop μ-loop
+in-loop p = p .before .before
+
+mul-wide-number : tie.Need-mul-wide-number Inv-loop μ-loop
+mul-wide-number c =
+    let start = at-start c in
+    omega (arith, laws.root-inside (start .pre .0) (start .args .s .now) (start .args .hash))
+
+shared-slice-read-wide-number : tie.Need-shared-slice-read-wide-number Inv-loop μ-loop
+shared-slice-read-wide-number c =
+    let start = at-start (c .before) in
+    laws.root-inside (start .pre .0) (start .args .s .now) (start .args .hash)
+
+wide-number-requires : tie.Need-wide-number-requires Inv-loop μ-loop
+wide-number-requires c κs = search needs
 
 loop-holds : tie.Need-loop-holds Inv-loop μ-loop
 loop-holds c =
-    let start = c .before .before .before .before .before .before in
-    laws.chasing-start (start .pre .0) _ (start .pre .1) refl refl (c .wide .ensures)
+    let start = at-start (c .before .before) in
+    laws.chasing-start (start .pre .0) _ (start .pre .1) refl refl (c .wide-number .ensures)
 
 sub-i : tie.Need-sub-i Inv-loop μ-loop
 sub-i c = search needs
@@ -36,41 +50,58 @@ is-spelled-requires c κs = laws.place-inside (c .before .loop .inv) (c .loop-te
 
 returns : tie.Need-returns Inv-loop μ-loop
 returns c =
-    let inv = c .before .before .before .loop .inv in
-    laws.chasing-found inv (c .before .before .loop-test .taken) (c .before .is-spelled .ensures) (c .if1 .taken)
+    let turn-test = c .before .before in
+    let inv = turn-test .before .loop .inv in
+    laws.chasing-found inv (turn-test .loop-test .taken) (c .before .is-spelled .ensures) (c .if1 .taken)
 
 add-slot : tie.Need-add-slot Inv-loop μ-loop
-add-slot c = omega (arith, laws.branch-inside (c .before .before .before .loop .inv) (c .before .before .loop-test .taken))
+add-slot c =
+    let turn-test = in-loop c in
+    omega (arith, laws.branch-inside ((at-loop c) .loop .inv) (turn-test .loop-test .taken))
 
 mul-slot : tie.Need-mul-slot Inv-loop μ-loop
-mul-slot c = omega (arith, laws.branch-inside (c .before .before .before .loop .inv) (c .before .before .loop-test .taken))
+mul-slot c =
+    let turn-test = in-loop c in
+    omega (arith, laws.branch-inside ((at-loop c) .loop .inv) (turn-test .loop-test .taken))
 
 add-slot-2 : tie.Need-add-slot-2 Inv-loop μ-loop
-add-slot-2 c = omega (arith, laws.branch-inside (c .before .before .before .loop .inv) (c .before .before .loop-test .taken))
+add-slot-2 c =
+    let turn-test = in-loop c in
+    omega (arith, laws.branch-inside ((at-loop c) .loop .inv) (turn-test .loop-test .taken))
 
 add-slot-3 : tie.Need-add-slot-3 Inv-loop μ-loop
-add-slot-3 c = omega (arith, laws.branch-inside (c .before .before .before .loop .inv) (c .before .before .loop-test .taken))
+add-slot-3 c =
+    let turn-test = in-loop c in
+    omega (arith, laws.branch-inside ((at-loop c) .loop .inv) (turn-test .loop-test .taken))
 
-mul-wide-2 : tie.Need-mul-wide-2 Inv-loop μ-loop
-mul-wide-2 c = omega (arith, laws.branch-inside (c .before .before .before .loop .inv) (c .before .before .loop-test .taken))
+mul-wide-number-2 : tie.Need-mul-wide-number-2 Inv-loop μ-loop
+mul-wide-number-2 c =
+    let turn-test = in-loop c in
+    omega (arith, laws.branch-inside ((at-loop c) .loop .inv) (turn-test .loop-test .taken))
 
-shared-slice-read-wide-2 : tie.Need-shared-slice-read-wide-2 Inv-loop μ-loop
-shared-slice-read-wide-2 c = omega (arith, laws.branch-inside (c .before .before .before .before .loop .inv) (c .before .before .before .loop-test .taken))
+shared-slice-read-wide-number-2 : tie.Need-shared-slice-read-wide-number-2 Inv-loop μ-loop
+shared-slice-read-wide-number-2 c =
+    let turn-test = in-loop (c .before) in
+    omega (arith, laws.branch-inside (turn-test .before .loop .inv) (turn-test .loop-test .taken))
 
-wide-requires-2 : tie.Need-wide-requires-2 Inv-loop μ-loop
-wide-requires-2 c κs = search needs
+wide-number-requires-2 : tie.Need-wide-number-requires-2 Inv-loop μ-loop
+wide-number-requires-2 c κs = search needs
 
 loop-less : tie.Need-loop-less Inv-loop μ-loop
 loop-less c =
-    let inv = c .before .before .before .before .before .loop .inv in
-    let more = c .before .before .before .before .loop-test .taken in
+    let turn-test = in-loop (c .before .before) in
+    let inv = turn-test .before .loop .inv in
+    let more = turn-test .loop-test .taken in
     omega (arith, laws.chasing-behind inv more, laws.branch-inside inv more)
 
 loop-again : tie.Need-loop-again Inv-loop μ-loop
 loop-again c =
-    let inv = c .before .before .before .before .before .loop .inv in
-    laws.chasing-next inv (c .before .before .before .before .loop-test .taken) (c .before .before .before .is-spelled .ensures)
-    (c .before .before .if1 .left) refl refl (c .wide2 .ensures)
+    let else1 = c .before .before in
+    let is-spelled-place = else1 .before in
+    let turn-test = in-loop else1 in
+    let inv = (at-loop else1) .loop .inv in
+    laws.chasing-next inv (turn-test .loop-test .taken) (is-spelled-place .is-spelled .ensures)
+    (else1 .if1 .left) refl refl (c .wide-number2 .ensures)
 
 returns-2 : tie.Need-returns-2 Inv-loop μ-loop
 returns-2 c = laws.chasing-end (c .before .loop .inv) (c .loop-test .left)
@@ -81,9 +112,9 @@ find-spec =
     (tie.spec
     Inv-loop
     μ-loop
-    mul-wide
-    shared-slice-read-wide
-    wide-requires
+    mul-wide-number
+    shared-slice-read-wide-number
+    wide-number-requires
     loop-holds
     sub-i
     is-spelled-requires
@@ -92,9 +123,9 @@ find-spec =
     mul-slot
     add-slot-2
     add-slot-3
-    mul-wide-2
-    shared-slice-read-wide-2
-    wide-requires-2
+    mul-wide-number-2
+    shared-slice-read-wide-number-2
+    wide-number-requires-2
     loop-less
     loop-again
     returns-2)

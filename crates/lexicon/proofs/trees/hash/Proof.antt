@@ -1,7 +1,6 @@
 -- `hash`: what is left has the hash of the whole.
 use Prim.Native.Nat.{_-_}
 use mathlib.Core.Path.{refl}
-use native.Mathlib.Omega.{arith}
 use lib.ListN.{length}
 use borrow.Author.Needs.{needs}
 use Rattle.lexicon.proofs.TreeLaws as laws
@@ -30,7 +29,9 @@ loop-less : tie.Need-loop-less Inv-loop μ-loop
 loop-less c = search needs
 
 loop-again : tie.Need-loop-again Inv-loop μ-loop
-loop-again c = laws.hashing-next (c .before .before .before .loop .inv) (c .mix .ensures) (c .before .before .loop-test .taken)
+loop-again c =
+    let turn-test = c .before .before in
+    laws.hashing-next (turn-test .before .loop .inv) (c .mix .ensures) (turn-test .loop-test .taken)
 
 mix-requires-2 : tie.Need-mix-requires-2 Inv-loop μ-loop
 mix-requires-2 c κs = search needs

@@ -4,32 +4,32 @@ use borrow.Author.Needs.{needs}
 use Rattle.lexicon.proofs.trees.is_spelled.Statement.{statement}
 use Rattle.lexicon.proofs.trees.is_spelled.Tie as tie
 
-mul-wide : tie.Need-mul-wide
-mul-wide c = search needs
+mul-wide-number : tie.Need-mul-wide-number
+mul-wide-number c = search needs
 
-mul-wide-2 : tie.Need-mul-wide-2
-mul-wide-2 c = search needs
+mul-wide-number-2 : tie.Need-mul-wide-number-2
+mul-wide-number-2 c = search needs
 
-shared-slice-read-wide : tie.Need-shared-slice-read-wide
-shared-slice-read-wide c = search needs
+shared-slice-read-wide-number : tie.Need-shared-slice-read-wide-number
+shared-slice-read-wide-number c = search needs
 
-wide-requires : tie.Need-wide-requires
-wide-requires c κs = search needs
+wide-number-requires : tie.Need-wide-number-requires
+wide-number-requires c κs = search needs
 
-mul-wide-3 : tie.Need-mul-wide-3
-mul-wide-3 c = search needs
+mul-wide-number-3 : tie.Need-mul-wide-number-3
+mul-wide-number-3 c = search needs
 
-add-wide : tie.Need-add-wide
-add-wide c = search needs
+add-wide-number : tie.Need-add-wide-number
+add-wide-number c = search needs
 
-mul-wide-4 : tie.Need-mul-wide-4
-mul-wide-4 c = search needs
+mul-wide-number-4 : tie.Need-mul-wide-number-4
+mul-wide-number-4 c = search needs
 
-shared-slice-read-wide-2 : tie.Need-shared-slice-read-wide-2
-shared-slice-read-wide-2 c = search needs
+shared-slice-read-wide-number-2 : tie.Need-shared-slice-read-wide-number-2
+shared-slice-read-wide-number-2 c = search needs
 
-wide-requires-2 : tie.Need-wide-requires-2
-wide-requires-2 c κs = search needs
+wide-number-requires-2 : tie.Need-wide-number-requires-2
+wide-number-requires-2 c κs = search needs
 
 part-requires : tie.Need-part-requires
 part-requires c κs = search needs
@@ -39,23 +39,24 @@ equal-requires c κs = search needs
 
 returns : tie.Need-returns
 returns c =
-    let places = c .before .before .before .before in
+    let wide2-place = c .before .before in
+    let places = wide2-place .before .before in
     let args = places .before .before .before .before .before .args in
-    laws.word-read _ (args .places .now) _ (args .i) (places .wide .ensures) (c .before .before .wide2 .ensures) (c .before .part .ensures) (c .equal .ensures)
+    laws.word-read _ (args .places .now) _ (args .i) (places .wide-number .ensures) (wide2-place .wide-number2 .ensures) (c .before .part .ensures) (c .equal .ensures)
 
 pub is-spelled-spec : {M : Type 1} → statement M
 is-spelled-spec =
     tie.close
     (tie.spec
-    mul-wide
-    mul-wide-2
-    shared-slice-read-wide
-    wide-requires
-    mul-wide-3
-    add-wide
-    mul-wide-4
-    shared-slice-read-wide-2
-    wide-requires-2
+    mul-wide-number
+    mul-wide-number-2
+    shared-slice-read-wide-number
+    wide-number-requires
+    mul-wide-number-3
+    add-wide-number
+    mul-wide-number-4
+    shared-slice-read-wide-number-2
+    wide-number-requires-2
     part-requires
     equal-requires
     returns)

@@ -33,9 +33,11 @@ loop-less c = search needs
 
 loop-again : tie.Need-loop-again Inv-loop μ-loop
 loop-again c =
-    let inv = c .before .before .before .before .before .loop .inv in
-    laws.running-next inv (c .mix .ensures) (c .before .before .before .before .loop-test .taken)
-    (sym (c .before .before .is-word-byte .ensures) ∙ c .before .if1 .taken)
+    let is-word-byte-place = c .before .before in
+    let turn-test = is-word-byte-place .before .before in
+    let inv = turn-test .before .loop .inv in
+    laws.running-next inv (c .mix .ensures) (turn-test .loop-test .taken)
+    (sym (is-word-byte-place .is-word-byte .ensures) ∙ c .before .if1 .taken)
 
 sub-t11 : tie.Need-sub-t11 Inv-loop μ-loop
 sub-t11 c = search needs
@@ -45,9 +47,11 @@ mix-requires-2 c κs = search needs
 
 returns : tie.Need-returns Inv-loop μ-loop
 returns c =
-    let inv = c .before .before .before .before .before .loop .inv in
-    laws.running-stops inv (c .before .before .before .before .loop-test .taken)
-    (sym (c .before .before .is-word-byte .ensures) ∙ c .before .if1 .left) (c .mix2 .ensures)
+    let is-word-byte-place = c .before .before in
+    let turn-test = is-word-byte-place .before .before in
+    let inv = turn-test .before .loop .inv in
+    laws.running-stops inv (turn-test .loop-test .taken)
+    (sym (is-word-byte-place .is-word-byte .ensures) ∙ c .before .if1 .left) (c .mix2 .ensures)
 
 sub-t13 : tie.Need-sub-t13 Inv-loop μ-loop
 sub-t13 c = search needs

@@ -14,10 +14,10 @@ same-length : tie.Need-same-length
 same-length c = search needs
 
 returns : tie.Need-returns
-returns c = laws.sort-added _ _ _ (c .before .pre) (c .if1 .taken)
+returns c = search laws.sort-added
 
 returns-2 : tie.Need-returns-2
-returns-2 c = laws.sort-left _ _ _ (c .before .pre) (c .if1 .left)
+returns-2 c = search laws.sort-left
 
 pub add-sort-spec : {M : Type 1} → statement M
 add-sort-spec = tie.close (tie.spec slice-write-sorts add-result same-length returns returns-2)

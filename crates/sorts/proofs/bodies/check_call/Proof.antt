@@ -50,13 +50,13 @@ head-of-requires : tie.Need-head-of-requires
 head-of-requires c κs = search needs
 
 returns : tie.Need-returns
-returns c = laws.call-undefined _ _ _ _ (c .before .head-of .ensures) (c .if1 .taken)
+returns c = search laws.call-undefined
 
 signature-at-requires : tie.Need-signature-at-requires
 signature-at-requires c κs = search needs
 
 open-params-requires : tie.Need-open-params-requires
-open-params-requires c κs = omega (arith, start (c .before) .pre, short (c .before))
+open-params-requires c κs = omega (arith, short (c .before))
 
 part-requires : tie.Need-part-requires
 part-requires c κs = search needs
@@ -67,7 +67,7 @@ fault-in-requires c κs =
     omega (arith, start (q .before .before) .pre, q .open-params .ensures .small, q .open-params .kept .0, short (q .before .before))
 
 same-length : tie.Need-same-length
-same-length c = tested (c .before) .fault-in .kept .0 ∙ opened (lent (tested (c .before))) .open-params .kept .0
+same-length c = search needs
 
 returns-2 : tie.Need-returns-2
 returns-2 c =
@@ -78,7 +78,7 @@ byte-requires : tie.Need-byte-requires
 byte-requires c κs = search needs
 
 same-length-2 : tie.Need-same-length-2
-same-length-2 c = tested (c .before .before) .fault-in .kept .0 ∙ opened (lent (tested (c .before .before))) .open-params .kept .0
+same-length-2 c = search needs
 
 returns-3 : tie.Need-returns-3
 returns-3 c =

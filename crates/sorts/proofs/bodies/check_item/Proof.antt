@@ -25,36 +25,25 @@ wide-requires : tie.Need-wide-requires
 wide-requires c κs = search needs
 
 returns : tie.Need-returns
-returns c =
-    laws.item-keyword _ _ _ (c .before .before .before .before .before .byte .ensures) (c .before .before .before .before .byte2 .ensures)
-    (c .before .before .wide .ensures) (c .before .before .before .match .keys1) (c .if1 .taken)
+returns c = search laws.item-keyword
 
 part-requires : tie.Need-part-requires
 part-requires c κs = search needs
 
 check-call-requires : tie.Need-check-call-requires
-check-call-requires c κs =
-    omega (
-      arith,
-      start (c .before .before .before) .pre,
-      ap length (c .part .ensures),
-      length-take
-          (length (start (c .before .before .before) .args .v .now)) (drop 2 (start (c .before .before .before) .args .v .now)),
-    )
+check-call-requires c κs = omega (arith, ap length (c .part .ensures), length-take (length (start (c .before .before .before) .args .v .now)) (drop 2 (start (c .before .before .before) .args .v .now)))
 
 returns-2 : tie.Need-returns-2
-returns-2 c =
-    laws.item-unknown _ _ _ (c .before .before .before .before .before .byte .ensures) (c .before .before .before .before .byte2 .ensures)
-    (c .before .before .wide .ensures) (c .before .before .before .match .keys1) (c .if1 .left)
+returns-2 c = search laws.item-unknown
 
 returns-3 : tie.Need-returns-3
-returns-3 c = laws.item-ide _ _ _ (c .before .before .byte .ensures) (c .before .byte2 .ensures) (c .match .keys2)
+returns-3 c = search laws.item-ide
 
 returns-4 : tie.Need-returns-4
-returns-4 c = laws.item-local _ _ _ (c .before .before .byte .ensures) (c .before .byte2 .ensures) (c .match .keys3)
+returns-4 c = search laws.item-local
 
 same-length : tie.Need-same-length
-same-length c = c .before .before .check-call .kept .0
+same-length c = search needs
 
 returns-5 : tie.Need-returns-5
 returns-5 c =
@@ -62,7 +51,7 @@ returns-5 c =
     (called c .match .keys4) (c .before .before .before .part .ensures)
 
 returns-6 : tie.Need-returns-6
-returns-6 c = laws.item-other _ _ _ (c .before .before .byte .ensures) (c .before .byte2 .ensures) (c .match .rest)
+returns-6 c = search laws.item-other
 
 pub check-item-spec : {M : Type 1} → statement M
 check-item-spec =

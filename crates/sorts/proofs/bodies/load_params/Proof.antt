@@ -21,7 +21,7 @@ shared-slice-read-sorts : tie.Need-shared-slice-read-sorts Inv-loop μ-loop
 shared-slice-read-sorts c = search needs
 
 slice-write-sorts : tie.Need-slice-write-sorts Inv-loop μ-loop
-slice-write-sorts c = omega (arith, c .before .before .loop .inv, c .before .before .before .pre)
+slice-write-sorts c = omega arith
 
 add-i : tie.Need-add-i Inv-loop μ-loop
 add-i c = search needs
@@ -30,13 +30,13 @@ loop-less : tie.Need-loop-less Inv-loop μ-loop
 loop-less c = search needs
 
 loop-again : tie.Need-loop-again Inv-loop μ-loop
-loop-again c = laws.copying-next (c .before .before .before .pre) (c .before .before .loop .inv) (c .before .loop-test .taken) refl
+loop-again c = search laws.copying-next
 
 same-length : tie.Need-same-length Inv-loop μ-loop
-same-length c = c .before .loop .inv .as-many
+same-length c = search needs
 
 returns : tie.Need-returns Inv-loop μ-loop
-returns c = laws.copying-end (c .before .loop .inv) (c .loop-test .left)
+returns c = search laws.copying-end
 
 pub load-params-spec : {M : Type 1} → statement M
 load-params-spec =

@@ -22,25 +22,25 @@ sub-j : tie.Need-sub-j Inv-loop μ-loop
 sub-j c = search needs
 
 shared-slice-read-stack : tie.Need-shared-slice-read-stack Inv-loop μ-loop
-shared-slice-read-stack c = omega (arith, c .before .before .loop .inv)
+shared-slice-read-stack c = omega arith
 
 slice-write-stack : tie.Need-slice-write-stack Inv-loop μ-loop
-slice-write-stack c = omega (arith, c .before .before .loop .inv, c .before .before .before .before .pre)
+slice-write-stack c = omega arith
 
 add-top : tie.Need-add-top Inv-loop μ-loop
-add-top c = omega (arith, c .before .before .loop .inv)
+add-top c = omega arith
 
 loop-less : tie.Need-loop-less Inv-loop μ-loop
 loop-less c = search needs
 
 loop-again : tie.Need-loop-again Inv-loop μ-loop
-loop-again c = laws.loading-next (c .before .before .before .before .pre) (c .before .before .loop .inv) (c .before .loop-test .taken) refl
+loop-again c = search laws.loading-next
 
 same-length : tie.Need-same-length Inv-loop μ-loop
-same-length c = c .before .loop .inv .as-many
+same-length c = search needs
 
 returns-2 : tie.Need-returns-2 Inv-loop μ-loop
-returns-2 c = laws.loading-end (c .before .loop .inv) (c .loop-test .left)
+returns-2 c = search laws.loading-end
 
 pub open-params-spec : {M : Type 1} → statement M
 open-params-spec =

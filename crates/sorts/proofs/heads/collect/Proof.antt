@@ -47,7 +47,7 @@ enum-told : tie.Need-enum-told Inv-loop μ-loop
 enum-told c = search needs
 
 same-length : tie.Need-same-length Inv-loop μ-loop
-same-length c = c .before .before .before .loop .inv .as-many
+same-length c = search needs
 
 returns : tie.Need-returns Inv-loop μ-loop
 returns c = laws.collecting-nothing (c .before .before .before .loop .inv) (sym (c .enum-told .given .1) ∙ c .before .before .front-at .ensures)
@@ -56,7 +56,7 @@ enum-told-2 : tie.Need-enum-told-2 Inv-loop μ-loop
 enum-told-2 c = search needs
 
 same-length-2 : tie.Need-same-length-2 Inv-loop μ-loop
-same-length-2 c = c .before .before .before .loop .inv .as-many
+same-length-2 c = search needs
 
 returns-2 : tie.Need-returns-2 Inv-loop μ-loop
 returns-2 c = laws.collecting-short (c .before .before .before .loop .inv) (sym (c .enum-told2 .given .1) ∙ c .before .before .front-at .ensures)
@@ -71,19 +71,19 @@ add-to-2 : tie.Need-add-to-2 Inv-loop μ-loop
 add-to-2 c = omega (arith, inside c)
 
 same-length-3 : tie.Need-same-length-3 Inv-loop μ-loop
-same-length-3 c = turn (c .before) .loop .inv .as-many
+same-length-3 c = search needs
 
 returns-3 : tie.Need-returns-3 Inv-loop μ-loop
 returns-3 c = laws.collecting-ends (turn (c .before) .loop .inv) (stands (c .before)) (c .if1 .taken)
 
 define-requires : tie.Need-define-requires Inv-loop μ-loop
-define-requires c κs = omega (arith, inside (c .before .before), turn (c .before .before) .before .before .before .pre)
+define-requires c κs = omega (arith, inside (c .before .before))
 
 refused-requires : tie.Need-refused-requires Inv-loop μ-loop
 refused-requires c κs = search needs
 
 same-length-4 : tie.Need-same-length-4 Inv-loop μ-loop
-same-length-4 c = defined (c .before .before) .define .kept .0 ∙ turn (field (defined (c .before .before))) .loop .inv .as-many
+same-length-4 c = search needs
 
 returns-4 : tie.Need-returns-4 Inv-loop μ-loop
 returns-4 c =

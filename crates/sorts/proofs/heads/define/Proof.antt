@@ -19,7 +19,7 @@ same-length : tie.Need-same-length
 same-length c = search needs
 
 returns-2 : tie.Need-returns-2
-returns-2 c = laws.head-refused _ _ _ _ _ (c .before .before .before .if1 .left) (c .before .fault-of .ensures) (c .if2 .taken)
+returns-2 c = search laws.head-refused
 
 add-byte : tie.Need-add-byte
 add-byte c = search needs

@@ -22,10 +22,10 @@ abbrev read : tie.After-slice-known2 Inv-loop μ-loop → tie.After-wide Inv-loo
 read c = c .before .before .before .before .before
 
 add-height : tie.Need-add-height Inv-loop μ-loop
-add-height c = omega (arith, c .before .before .before .pre)
+add-height c = omega arith
 
 loop-holds : tie.Need-loop-holds Inv-loop μ-loop
-loop-holds c = laws.testing-start (c .before .before .before .pre)
+loop-holds c = search laws.testing-start
 
 shared-slice-read-b : tie.Need-shared-slice-read-b Inv-loop μ-loop
 shared-slice-read-b c = search needs
@@ -34,13 +34,13 @@ wide-requires : tie.Need-wide-requires Inv-loop μ-loop
 wide-requires c κs = search needs
 
 same-length : tie.Need-same-length Inv-loop μ-loop
-same-length c = c .before .before .before .before .loop .inv .as-many
+same-length c = search needs
 
 returns : tie.Need-returns Inv-loop μ-loop
-returns c = laws.testing-open (turn (c .before) .before .loop .inv) (turn (c .before) .loop-test .taken) refl (c .before .wide .ensures) (c .if1 .taken)
+returns c = search laws.testing-open
 
 fill-requires : tie.Need-fill-requires Inv-loop μ-loop
-fill-requires c κs = omega (arith, turn (c .before .before) .before .loop .inv, turn (c .before .before) .loop-test .taken)
+fill-requires c κs = omega arith
 
 add-i : tie.Need-add-i Inv-loop μ-loop
 add-i c = search needs
@@ -54,16 +54,16 @@ loop-again c =
     (c .before .before .before .before .if1 .left) (c .before .before .fill .kept .0) (c .before .before .fill .ensures)
 
 same-length-2 : tie.Need-same-length-2 Inv-loop μ-loop
-same-length-2 c = c .before .before .loop .inv .as-many
+same-length-2 c = search needs
 
 returns-2 : tie.Need-returns-2 Inv-loop μ-loop
-returns-2 c = laws.testing-filled (c .before .before .loop .inv) (c .before .loop-test .left) (c .if2 .taken)
+returns-2 c = search laws.testing-filled
 
 same-length-3 : tie.Need-same-length-3 Inv-loop μ-loop
-same-length-3 c = c .before .before .loop .inv .as-many
+same-length-3 c = search needs
 
 returns-3 : tie.Need-returns-3 Inv-loop μ-loop
-returns-3 c = laws.testing-unfilled (c .before .before .loop .inv) (c .before .loop-test .left) (c .if2 .left)
+returns-3 c = search laws.testing-unfilled
 
 pub fault-in-spec : {M : Type 1} → statement M
 fault-in-spec =

@@ -24,7 +24,7 @@ returns : tie.Need-returns
 returns c = laws.fill-number (c .if1 .taken)
 
 returns-2 : tie.Need-returns-2
-returns-2 c = laws.fill-none (c .before .if1 .left) (c .if2 .taken)
+returns-2 c = search laws.fill-none
 
 slice-read-t11 : tie.Need-slice-read-t11
 slice-read-t11 c = search needs
@@ -41,14 +41,13 @@ returns-3 c =
     (sym (c .before .fits2 .ensures) ∙ not-true _ (c .if3 .taken))
 
 open-places-requires : tie.Need-open-places-requires
-open-places-requires c κs = omega (arith, start (free (c .before)) .pre)
+open-places-requires c κs = omega arith
 
 add-result : tie.Need-add-result
-add-result c =
-    omega (arith, c .before .before .open-places .ensures .height, laws.params-small (start (free (fitted c)) .args .b), start (free (fitted c)) .pre)
+add-result c = omega (arith, laws.params-small (start (free (fitted c)) .args .b), start (free (fitted c)) .pre)
 
 same-length : tie.Need-same-length
-same-length c = c .before .before .open-places .kept .0
+same-length c = search needs
 
 returns-4 : tie.Need-returns-4
 returns-4 c =

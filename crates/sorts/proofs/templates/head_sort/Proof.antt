@@ -11,7 +11,7 @@ byte-requires : tie.Need-byte-requires
 byte-requires c κs = search needs
 
 returns : tie.Need-returns
-returns c = laws.variable-sort _ (c .byte .ensures) (c .before .wide .ensures) (c .before .before .if1 .taken)
+returns c = search laws.variable-sort
 
 returns-2 : tie.Need-returns-2
 returns-2 c = laws.name-sort _ (c .if2 .taken)
@@ -23,7 +23,7 @@ result-of-requires : tie.Need-result-of-requires
 result-of-requires c κs = search needs
 
 returns-4 : tie.Need-returns-4
-returns-4 c = laws.constructor-sort _ (c .result-of .ensures) (c .before .before .before .if1 .left) (c .before .before .if2 .left) (c .before .if3 .left)
+returns-4 c = search laws.constructor-sort
 
 pub head-sort-spec : {M : Type 1} → statement M
 head-sort-spec =

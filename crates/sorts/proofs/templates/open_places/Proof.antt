@@ -27,7 +27,7 @@ argument-of-requires : tie.Need-argument-of-requires Inv-loop μ-loop
 argument-of-requires c κs = search needs
 
 slice-write-stack : tie.Need-slice-write-stack Inv-loop μ-loop
-slice-write-stack c = laws.opening-room (c .before .before .before .before .before .before .pre) (c .before .before .loop .inv) (c .before .loop-test .taken)
+slice-write-stack c = search laws.opening-room
 
 add-top : tie.Need-add-top Inv-loop μ-loop
 add-top c =
@@ -38,15 +38,13 @@ loop-less : tie.Need-loop-less Inv-loop μ-loop
 loop-less c = search needs
 
 loop-again : tie.Need-loop-again Inv-loop μ-loop
-loop-again c =
-    laws.opening-next (c .before .before .before .before .before .before .pre) (c .before .before .loop .inv) (c .before .loop-test .taken)
-    (c .argument-of .ensures)
+loop-again c = search laws.opening-next
 
 same-length : tie.Need-same-length Inv-loop μ-loop
-same-length c = c .before .loop .inv .as-many
+same-length c = search needs
 
 returns-2 : tie.Need-returns-2 Inv-loop μ-loop
-returns-2 c = laws.opening-end (c .before .loop .inv) (c .loop-test .left) (c .before .before .before .if1 .left)
+returns-2 c = search laws.opening-end
 
 pub open-places-spec : {M : Type 1} → statement M
 open-places-spec =

@@ -1,6 +1,6 @@
 -- `Sort::fits`: the same tests.
 use mathlib.Core.Path.{refl}
-use Rattle.grammar.specs.Sorts.{fits}
+use Rattle.grammar.specs.SortTests.{fits}
 use Rattle.grammar.proofs.sorts.Sort.fits.Statement.{statement}
 use Rattle.grammar.proofs.sorts.Sort.fits.Tie as tie
 
