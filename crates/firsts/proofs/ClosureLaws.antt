@@ -37,39 +37,39 @@ module _ {k n : ℕ} {calls sets new : List ℕ} (r : CalleeJoined k n calls set
 -- the nonterminals below n of `many` are done
 pub record Taking (many k n : ℕ) (calls₀ kinds₀ calls kinds : List ℕ) : Type 0 where
   pub within : n ≤ many
+  pub lent : StepLent many calls kinds
   pub taken : CalleeTaken k n calls₀ kinds₀ calls kinds
 
 -- none is done at first
-pub taking-start : (many k : ℕ) (calls kinds : List ℕ) → Taking many k 0 calls kinds calls kinds
-taking-start many k calls kinds = record { within = omega arith; taken = record { calls-joined = none calls; kinds-joined = none kinds } }
+pub taking-start : {many : ℕ} (k : ℕ) {calls kinds : List ℕ} → StepLent many calls kinds → Taking many k 0 calls kinds calls kinds
+taking-start k {calls} {kinds} l =
+    record { within = omega arith; lent = l; taken = record { calls-joined = none calls; kinds-joined = none kinds } }
   where
     none : (sets : List ℕ) → CalleeJoined k 0 calls sets sets
     none sets = record { as-many = refl; done = λ i l. absurd (omega arith); left = λ i l. refl }
 
 module _ {many k n : ℕ} {calls₀ kinds₀ calls kinds : List ℕ} (c : Taking many k n calls₀ kinds₀ calls kinds) where
-  -- the next nonterminal has its left calls
-  pub taking-calls : StepLent many calls₀ kinds₀ → n < many → n < length calls
-  taking-calls l h = omega (arith, l .lent .calls-many, l .small, c .taken .calls-joined .as-many)
-
-  -- and its first set
-  pub taking-kinds : StepLent many calls₀ kinds₀ → n < many → n < length kinds
-  taking-kinds l h = omega (arith, l .lent .kinds-many, l .small, c .taken .kinds-joined .as-many)
-
   -- the two sets of the next nonterminal, as the code computes them
-  pub taking-next : StepLent many calls₀ kinds₀ → n < many → {more-calls more-kinds : ℕ} → more-calls ≡ getD calls₀ k 0
-      → more-kinds ≡ getD kinds₀ k 0 → {v w : ℕ} → v ≡ joinedIf (hasKind (getD calls n 0) k) (getD calls n 0) more-calls
+  pub taking-next : n < many → {more-calls more-kinds : ℕ} → more-calls ≡ getD calls₀ k 0 → more-kinds ≡ getD kinds₀ k 0 → {v w : ℕ}
+      → v ≡ joinedIf (hasKind (getD calls n 0) k) (getD calls n 0) more-calls
       → w ≡ joinedIf (hasKind (getD calls n 0) k) (getD kinds n 0) more-kinds
       → Taking many k (n + 1) calls₀ kinds₀ (set calls n v) (set kinds n w)
-  taking-next l h ec ek ev ew =
+  taking-next h ec ek {v} {w} ev ew =
+      let l = c .lent in
       let a = c .taken .calls-joined in
       let x = c .taken .kinds-joined in
       let ea = a .left n (omega arith) in
       record {
         within = omega arith;
+        lent =
+            record {
+              lent = record { calls-many = length-set calls n v ∙ l .lent .calls-many; kinds-many = length-set kinds n w ∙ l .lent .kinds-many };
+              small = l .small;
+            };
         taken =
             record {
-              calls-joined = joined-next a (omega (arith, l .lent .calls-many, l .small)) (ev ∙ rw (ec, ea) refl);
-              kinds-joined = joined-next x (omega (arith, l .lent .kinds-many, l .small)) (ew ∙ rw (ek, ea, x .left n (omega arith)) refl);
+              calls-joined = joined-next a (omega (arith, a .as-many, l .lent .calls-many, l .small)) (ev ∙ rw (ec, ea) refl);
+              kinds-joined = joined-next x (omega (arith, x .as-many, l .lent .kinds-many, l .small)) (ew ∙ rw (ek, ea, x .left n (omega arith)) refl);
             };
       }
 

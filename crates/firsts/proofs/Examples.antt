@@ -43,7 +43,8 @@ results =
     ok tt ∷ bad (refusal 12 0 0 0) ∷ bad (refusal 12 3 0 0) ∷ bad (refusal 13 5 3 0) ∷ bad (refusal 13 7 64 0) ∷ ok tt ∷ []
 
 checked : map checkFirsts grammars ≡ results
-unfolding rounds overAll allPassed nullStep nullables gather firstStep setsOf lowest anyWith anyPair joinWith joinPairs noLeftRecursion noClash checkFirsts hasKind only trailingZeros
+unfolding rounds overAll allPassed nullStep nullables gather firstStep setsOf lowest anyWith anyPair joinWith joinPairs
+    noLeftRecursion noClash checkFirsts hasKind only trailingZeros
 checked = refl
 
 -- a word and keyword 3 open 0, a word opens 1

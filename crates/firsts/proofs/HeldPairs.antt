@@ -195,8 +195,8 @@ lowest-same : (k n : ℕ) (p q : ℕ → Bool) → ((i : ℕ) → i < n + k → 
 unfolding lowest
 lowest-same zero n p q h = refl
 lowest-same (suc k) n p q h =
-    ap (λ b. elim b [ true ↦ n | false ↦ lowest k p (n + 1) ]) (h n (omega arith))
-    ∙ ap (λ r. elim (q n) [ true ↦ n | false ↦ r ]) (lowest-same k (n + 1) p q (λ i l. h i (omega arith)))
+    let rest = lowest-same k (n + 1) p q (λ i l. h i (omega arith)) in
+    by-test (q n) (λ t. rw (h n (omega arith), t, lowest) refl) (λ t. rw (h n (omega arith), t, lowest) rest)
 
 -- ------------------------------------------------------------------ refusal 13
 

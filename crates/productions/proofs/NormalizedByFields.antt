@@ -17,7 +17,7 @@ use Rattle.layout.specs.Within.{Within}
 use Rattle.layout.proofs.Split.{fields-of-bytes}
 use Rattle.layout.proofs.Order.{up-to-eight}
 use Rattle.layout.proofs.Rebuilt.{parts-built}
-use Rattle.productions.specs.Normal.{Production, productionsOf, kept, defined, definedAll, normalizedFrom, normalized}
+use Rattle.productions.specs.Normal.{Production, productionsOf, kept, definedAll, normalizedFrom, normalized}
 use Rattle.productions.specs.Index.{itemsOf, resultOf, normalizedBy}
 
 -- the grammar that is left when the fields begin in a definition of n, behind the productions g
@@ -56,8 +56,7 @@ step-definition at v fs b h =
       result = refl;
       normal =
           λ n g.
-          h .normal (getD v 0 0) (kept (modeOf (getD v 1 0)) (getD v 0 0) g)
-          ∙ ap (λ l. normalizedFrom (definedAll (defined l (definitionOf v (b .alternatives))) (b .definitions)) (b .blocks)) (sym (append-nil g));
+          rw (append-nil g) (h .normal (getD v 0 0) (kept (modeOf (getD v 1 0)) (getD v 0 0) g));
     }
 
 step-alternative : Step 5
@@ -68,10 +67,8 @@ step-alternative at v fs b h =
       result = refl;
       normal =
           λ n g.
-          ap (λ is. normalizedBy fs n (g ++ (record { owner = n; items = is; result = resultOf fs } ∷ []))) (h .items)
-          ∙ ap (λ t. normalizedBy fs n (g ++ (record { owner = n; items = b .items; result = t } ∷ []))) (h .result)
-          ∙ h .normal n (g ++ (record { owner = n; items = b .items; result = b .result } ∷ []))
-          ∙ ap (λ l. normalizedFrom (definedAll l (b .definitions)) (b .blocks)) (append-assoc g _ (productionsOf n (b .alternatives)));
+          rw (h .items, h .result, ← (append-assoc g (record { owner = n; items = b .items; result = b .result } ∷ []) (productionsOf n (b .alternatives))))
+          (h .normal n (g ++ (record { owner = n; items = b .items; result = b .result } ∷ [])));
     }
 
 step-item : Step 6

@@ -170,8 +170,7 @@ item-templates : (v : List ℕ) → isKnown 6 v ≡ true → isWhole 6 v ≡ tru
 unfolding isWhole templatesOf
 item-templates v known whole =
     by-test (eqb (getD v 0 0) 4) (λ e. sym (and-true _) ∙ rw e at whole)
-    (λ e. ap (λ w. isTemplates (templatesOf w))
-    (drop-of-length-le v {i = 2} (omega (arith, eqb-true (length v) 2 (two-bytes v (sym (known-item v) ∙ known) e)))))
+    (λ e. rw (drop-of-length-le v {i = 2} (omega (arith, eqb-true (length v) 2 (two-bytes v (sym (known-item v) ∙ known) e)))) refl)
 
 -- the fields of a table whose layout is right have whole templates
 whole-fields : (fs : Fields) (before : List Field) (s : Progress) → checkFields fs before s ≡ ok tt → wholeBody fs ≡ true

@@ -1,7 +1,11 @@
 -- `gather`: what is found, and the items that are left.
-use Prim.Native.Nat.{_-_}
-use mathlib.Core.Path.{_∙_, sym}
-use lib.ListN.{length}
+use Prim.Native.Nat.{ℕ, _-_}
+use mathlib.Core.Path.{_≡_, _∙_, sym}
+use mathlib.Core.List.{List}
+use lib.ListN.{length, drop}
+use Rattle.grammar.specs.Lookup.{frontOf}
+use Rattle.firsts.specs.declared.Step.the-variants.{Past}
+use Rattle.firsts.specs.Symbols.{stepOf}
 use Rattle.firsts.proofs.ItemsLaws as laws
 use borrow.Author.Needs.{needs}
 use Rattle.firsts.proofs.items.gather.Statement.{statement}
@@ -12,6 +16,17 @@ Inv-loop table start nulls kinds calls read₀ called₀ at₀ read called at = 
 
 abbrev μ-loop : tie.MeasureT-loop
 μ-loop table start nulls kinds calls read₀ called₀ at₀ read called at = length table - at
+
+-- where an item stands at the offset
+module _ (p : tie.After-known-told Inv-loop μ-loop) where
+  abbrev looped : tie.At-loop Inv-loop μ-loop
+  looped = p .before .before .before .before .before
+
+  abbrev table : List ℕ
+  table = looped .before .before .before .before .args .table .now
+
+  item : Past (p .before .step .given .0 .0) (p .before .step .given .0 .1 .0) ≡ stepOf table (looped .loop .at) (frontOf (drop (looped .loop .at) table))
+  item = sym (p .before .step .given .1) ∙ p .before .before .before .item-at .ensures
 
 loop-holds : tie.Need-loop-holds Inv-loop μ-loop
 loop-holds c = laws.walk-start _ _ _ _ _
@@ -45,18 +60,14 @@ passed-requires c κs = search needs
 
 loop-less : tie.Need-loop-less Inv-loop μ-loop
 loop-less c =
-    let at-step = c .before .before .before .before .before in
-    let at-item-at = at-step .before .before in
-    let at-loop = at-item-at .before .before in
-    laws.walk-less (at-loop .loop .inv) (sym (at-step .step .given .1) ∙ at-item-at .item-at .ensures)
+    let p = c .before .before .before .before in
+    laws.walk-less (looped p .loop .inv) (item p)
 
 loop-again : tie.Need-loop-again Inv-loop μ-loop
 loop-again c =
-    let at-step = c .before .before .before .before .before in
-    let at-item-at = at-step .before .before in
-    let at-loop = at-item-at .before .before in
-    laws.walk-next (at-loop .loop .inv) (sym (at-step .step .given .1) ∙ at-item-at .item-at .ensures) (c .before .before .before .joined .ensures)
-    (c .before .before .joined2 .ensures) (c .before .passed .ensures) (c .if1 .taken)
+    let p = c .before .before .before .before in
+    laws.walk-next (looped p .loop .inv) (item p) (c .before .before .before .joined .ensures) (c .before .before .joined2 .ensures)
+    (c .before .passed .ensures) (c .if1 .taken)
 
 found-requires-2 : tie.Need-found-requires-2 Inv-loop μ-loop
 found-requires-2 c κs = search needs
@@ -64,11 +75,9 @@ found-requires-2 c κs = search needs
 returns-2 : tie.Need-returns-2 Inv-loop μ-loop
 returns-2 c =
     let tested = c .before in
-    let at-step = tested .before .before .before .before .before in
-    let at-item-at = at-step .before .before in
-    let at-loop = at-item-at .before .before in
-    laws.walk-stop (at-loop .loop .inv) (sym (at-step .step .given .1) ∙ at-item-at .item-at .ensures) (tested .before .before .before .joined .ensures)
-    (tested .before .before .joined2 .ensures) (tested .before .passed .ensures) (tested .if1 .left) (c .found2 .ensures)
+    let p = tested .before .before .before .before in
+    laws.walk-stop (looped p .loop .inv) (item p) (tested .before .before .before .joined .ensures) (tested .before .before .joined2 .ensures)
+    (tested .before .passed .ensures) (tested .if1 .left) (c .found2 .ensures)
 
 found-requires-3 : tie.Need-found-requires-3 Inv-loop μ-loop
 found-requires-3 c κs = search needs

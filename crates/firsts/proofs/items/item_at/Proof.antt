@@ -1,12 +1,34 @@
 -- `item_at`: what stands at the offset decides.
-use mathlib.Core.Path.{_∙_, ap, sym}
+use Prim.Native.Nat.{ℕ, _+_, _≤_}
+use mathlib.Core.Path.{_≡_, _∙_, ap, sym}
+use mathlib.Core.List.{List}
 use native.Mathlib.Omega.{arith}
+use lib.ListN.{length, drop}
+use Rattle.grammar.specs.declared.Front.the-variants.{Field}
+use Rattle.grammar.specs.Lookup.{frontOf}
 use borrow.Author.Needs.{needs}
 use Rattle.firsts.specs.Symbols.{stepOf}
 use Rattle.grammar.proofs.LookupLaws.{front-inside}
 use Rattle.firsts.proofs.ItemsLaws as laws
 use Rattle.firsts.proofs.items.item_at.Statement.{statement}
 use Rattle.firsts.proofs.items.item_at.Tie as tie
+
+-- where a field stands at the offset
+module _ (p : tie.After-known-told) where
+  abbrev entry : tie.Start
+  entry = p .before .before .before .before .before
+
+  abbrev table : List ℕ
+  table = entry .args .table .now
+
+  abbrev size : ℕ
+  size = p .before .front .given .0 .1 .0
+
+  field : Field (p .before .front .given .0 .0) size ≡ frontOf (drop (entry .args .at) table)
+  field = sym (p .before .front .given .1) ∙ p .before .before .before .front-at .ensures
+
+  inside : entry .args .at + (3 + size) ≤ length table
+  inside = front-inside table (entry .args .at) field
 
 front-at-requires : tie.Need-front-at-requires
 front-at-requires c κs = search needs
@@ -21,25 +43,13 @@ enum-known-front : tie.Need-enum-known-front
 enum-known-front c = search needs
 
 returns : tie.Need-returns
-returns c =
-    let at-front-at = c .before .before .before .before in
-    let entry = at-front-at .before .before in
-    laws.step-done (entry .args .table .now) (entry .args .at) (sym (c .before .before .front .given .1) ∙ at-front-at .front-at .ensures)
-    (c .if1 .taken)
+returns c = laws.step-done (table (c .before)) (entry (c .before) .args .at) (field (c .before)) (c .if1 .taken)
 
 add-from : tie.Need-add-from
-add-from c =
-    let at-front-at = c .before .before .before .before in
-    let entry = at-front-at .before .before in
-    omega
-    (arith, front-inside (entry .args .table .now) (entry .args .at) (sym (c .before .before .front .given .1) ∙ at-front-at .front-at .ensures))
+add-from c = omega (arith, inside (c .before))
 
 add-to : tie.Need-add-to
-add-to c =
-    let at-front-at = c .before .before .before .before in
-    let entry = at-front-at .before .before in
-    omega
-    (arith, front-inside (entry .args .table .now) (entry .args .at) (sym (c .before .before .front .given .1) ∙ at-front-at .front-at .ensures))
+add-to c = omega (arith, inside (c .before))
 
 sub-symbol : tie.Need-sub-symbol
 sub-symbol c = search needs
@@ -48,11 +58,7 @@ part-symbol-start : tie.Need-part-symbol-start
 part-symbol-start c = search needs
 
 part-symbol-end : tie.Need-part-symbol-end
-part-symbol-end c =
-    let at-front-at = c .before .before .before .before in
-    let entry = at-front-at .before .before in
-    omega
-    (arith, front-inside (entry .args .table .now) (entry .args .at) (sym (c .before .before .front .given .1) ∙ at-front-at .front-at .ensures))
+part-symbol-end c = omega (arith, inside (c .before))
 
 symbol-requires : tie.Need-symbol-requires
 symbol-requires c κs = search needs
@@ -69,11 +75,8 @@ returns-3 c =
 
 returns-4 : tie.Need-returns-4
 returns-4 c =
-    let at-front = c .before .before .before .before in
-    let at-front-at = at-front .before .before in
-    let entry = at-front-at .before .before in
-    laws.step-past (entry .args .table .now) (entry .args .at) (sym (at-front .front .given .1) ∙ at-front-at .front-at .ensures)
-    (c .before .before .if1 .left) (c .symbol .ensures)
+    let p = c .before .before .before in
+    laws.step-past (table p) (entry p .args .at) (field p) (c .before .before .if1 .left) (c .symbol .ensures)
 
 pub item-at-spec : {M : Type 1} → statement M
 item-at-spec =

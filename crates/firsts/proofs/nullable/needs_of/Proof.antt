@@ -30,17 +30,13 @@ gather-requires : tie.Need-gather-requires Inv-loop μ-loop
 gather-requires c κs = search needs
 
 slice-write-whose : tie.Need-slice-write-whose Inv-loop μ-loop
-slice-write-whose c =
-    let tested = c .before .before .before .before .before .before in
-    laws.holding-whose (tested .before .loop .inv) (tested .loop-test .taken)
+slice-write-whose c = search needs
 
 mul-needs : tie.Need-mul-needs Inv-loop μ-loop
 mul-needs c = search needs
 
 slice-write-needs : tie.Need-slice-write-needs Inv-loop μ-loop
-slice-write-needs c =
-    let tested = c .before .before .before .before .before .before in
-    laws.holding-needs (tested .before .loop .inv) (tested .loop-test .taken)
+slice-write-needs c = search needs
 
 add-k : tie.Need-add-k Inv-loop μ-loop
 add-k c = search needs

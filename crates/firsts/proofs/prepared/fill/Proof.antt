@@ -15,14 +15,23 @@ Inv-loop table owners starts m nulls sets room₀ j₀ room j = Filling sets (ma
 abbrev μ-loop : tie.MeasureT-loop
 μ-loop table owners starts m nulls sets room₀ j₀ room j = j
 
+-- where the room is begun
+module _ (b : tie.After-begin Inv-loop μ-loop) where
+  abbrev entry : tie.Start Inv-loop μ-loop
+  entry = b .before .before .before .before .before
+
+-- at the loop's test
+module _ (l : tie.At-loop Inv-loop μ-loop) where
+  abbrev began : tie.After-begin Inv-loop μ-loop
+  began = l .before .before .before
+
 begin-requires : tie.Need-begin-requires Inv-loop μ-loop
 begin-requires c κs = search needs
 
 loop-holds : tie.Need-loop-holds Inv-loop μ-loop
 loop-holds c =
-    let began = c .before .before in
-    let entry = began .before .before .before .before .before in
-    laws.fill-start (entry .pre) _ (began .begin .ensures)
+    let b = c .before .before in
+    laws.fill-start (entry b .pre) _ (b .begin .ensures)
 
 sub-j : tie.Need-sub-j Inv-loop μ-loop
 sub-j c = search needs
@@ -46,9 +55,7 @@ lay-requires : tie.Need-lay-requires Inv-loop μ-loop
 lay-requires c κs =
     let got = c .before .before .before in
     let tested = got .before .before .before in
-    let began = tested .before .before .before .before in
-    let entry = began .before .before .before .before .before in
-    laws.fill-at (entry .pre) _ (tested .before .loop .inv) (tested .loop-test .taken)
+    laws.fill-at (entry (began (tested .before)) .pre) _ (tested .before .loop .inv) (tested .loop-test .taken)
 
 loop-less : tie.Need-loop-less Inv-loop μ-loop
 loop-less c = search needs
@@ -59,22 +66,16 @@ loop-again c =
     let got = laid .before .before .before in
     let offset = got .before in
     let tested = offset .before .before .before in
-    let began = tested .before .before .before .before in
-    let entry = began .before .before .before .before .before in
-    laws.fill-next (entry .pre) _ (tested .before .loop .inv) (tested .loop-test .taken) (offset .offset .ensures) (got .gather .ensures)
-    (laid .lay .ensures)
+    laws.fill-next (entry (began (tested .before)) .pre) _ (tested .before .loop .inv) (tested .loop-test .taken) (offset .offset .ensures)
+    (got .gather .ensures) (laid .lay .ensures)
 
 same-length : tie.Need-same-length Inv-loop μ-loop
-same-length c =
-    let began = c .before .before .before .before in
-    let entry = began .before .before .before .before .before in
-    c .before .loop .inv .size ∙ sym (entry .pre .lent .size)
+same-length c = c .before .loop .inv .size ∙ sym (entry (began (c .before)) .pre .lent .size)
 
 returns : tie.Need-returns Inv-loop μ-loop
 returns c =
-    let began = c .before .before .before .before in
-    let entry = began .before .before .before .before .before in
-    laws.fill-end (entry .pre) _ (began .begin .ensures) (c .before .loop .inv) (c .loop-test .left)
+    let b = began (c .before) in
+    laws.fill-end (entry b .pre) _ (b .begin .ensures) (c .before .loop .inv) (c .loop-test .left)
 
 pub fill-spec : {M : Type 1} → statement M
 fill-spec =

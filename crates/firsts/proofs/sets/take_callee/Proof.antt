@@ -18,7 +18,7 @@ set-at-requires-2 : tie.Need-set-at-requires-2 Inv-loop μ-loop
 set-at-requires-2 c κs = search needs
 
 loop-holds : tie.Need-loop-holds Inv-loop μ-loop
-loop-holds c = laws.taking-start _ _ _ _
+loop-holds c = laws.taking-start _ (c .before .before .before .before .before .before .pre)
 
 cast-i : tie.Need-cast-i Inv-loop μ-loop
 cast-i c = search needs
@@ -27,19 +27,13 @@ mul-old : tie.Need-mul-old Inv-loop μ-loop
 mul-old c = search needs
 
 slice-read-old : tie.Need-slice-read-old Inv-loop μ-loop
-slice-read-old c =
-    let tested = c .before in
-    let entry = tested .before .before .before .before .before .before .before .before in
-    laws.taking-calls (tested .before .loop .inv) (entry .pre) (tested .loop-test .taken)
+slice-read-old c = search needs
 
 mul-given : tie.Need-mul-given Inv-loop μ-loop
 mul-given c = search needs
 
 slice-read-given : tie.Need-slice-read-given Inv-loop μ-loop
-slice-read-given c =
-    let tested = c .before .before in
-    let entry = tested .before .before .before .before .before .before .before .before in
-    laws.taking-kinds (tested .before .loop .inv) (entry .pre) (tested .loop-test .taken)
+slice-read-given c = search needs
 
 with-callee-requires : tie.Need-with-callee-requires Inv-loop μ-loop
 with-callee-requires c κs = search needs
@@ -48,10 +42,7 @@ mul-calls : tie.Need-mul-calls Inv-loop μ-loop
 mul-calls c = search needs
 
 slice-write-calls : tie.Need-slice-write-calls Inv-loop μ-loop
-slice-write-calls c =
-    let tested = c .before .before .before in
-    let entry = tested .before .before .before .before .before .before .before .before in
-    laws.taking-calls (tested .before .loop .inv) (entry .pre) (tested .loop-test .taken)
+slice-write-calls c = search needs
 
 with-callee-requires-2 : tie.Need-with-callee-requires-2 Inv-loop μ-loop
 with-callee-requires-2 c κs = search needs
@@ -60,10 +51,7 @@ mul-kinds : tie.Need-mul-kinds Inv-loop μ-loop
 mul-kinds c = search needs
 
 slice-write-kinds : tie.Need-slice-write-kinds Inv-loop μ-loop
-slice-write-kinds c =
-    let tested = c .before .before .before .before in
-    let entry = tested .before .before .before .before .before .before .before .before in
-    laws.taking-kinds (tested .before .loop .inv) (entry .pre) (tested .loop-test .taken)
+slice-write-kinds c = search needs
 
 add-n : tie.Need-add-n Inv-loop μ-loop
 add-n c = search needs
@@ -76,8 +64,7 @@ loop-again c =
     let first = c .before in
     let tested = first .before .before .before in
     let got = tested .before .before in
-    let entry = got .before .before .before .before .before .before in
-    laws.taking-next (tested .before .loop .inv) (entry .pre) (tested .loop-test .taken) (got .before .before .set-at .ensures) (got .set-at2 .ensures)
+    laws.taking-next (tested .before .loop .inv) (tested .loop-test .taken) (got .before .before .set-at .ensures) (got .set-at2 .ensures)
     (first .with-callee .ensures) (c .with-callee2 .ensures)
 
 same-length : tie.Need-same-length Inv-loop μ-loop

@@ -1,8 +1,11 @@
 -- `build_index`: the fields that are left give what all of them give.
-use Prim.Native.Nat.{_-_}
-use mathlib.Core.Path.{_∙_, sym}
+use Prim.Native.Nat.{ℕ, _+_, _-_, _<_, _≤_}
+use mathlib.Core.Path.{_≡_, _∙_, sym}
+use mathlib.Core.List.{List}
 use native.Mathlib.Omega.{arith}
-use lib.ListN.{length}
+use lib.ListN.{length, drop}
+use Rattle.grammar.specs.declared.Front.the-variants.{Field}
+use Rattle.grammar.specs.Lookup.{frontOf}
 use borrow.Author.Needs.{needs}
 use Rattle.productions.proofs.IndexLaws as laws
 use Rattle.productions.proofs.index.build_index.Statement.{statement}
@@ -13,6 +16,26 @@ Inv-loop table owners₀ starts₀ at₀ n₀ k₀ owners starts at n k = laws.B
 
 abbrev μ-loop : tie.MeasureT-loop
 μ-loop table owners₀ starts₀ at₀ n₀ k₀ owners starts at n k = length table - at
+
+-- where a field stands at the offset
+module _ (p : tie.After-known-told Inv-loop μ-loop) where
+  abbrev looped : tie.At-loop Inv-loop μ-loop
+  looped = p .before .before .before .before .before
+
+  abbrev table : List ℕ
+  table = looped .before .before .args .table .now
+
+  abbrev size : ℕ
+  size = p .before .front .given .0 .1 .0
+
+  field : Field (p .before .front .given .0 .0) size ≡ frontOf (drop (looped .loop .at) table)
+  field = sym (p .before .front .given .1) ∙ p .before .before .before .front-at .ensures
+
+  inside : looped .loop .at + (3 + size) ≤ length table
+  inside = laws.building-inside (looped .loop .inv) field
+
+  less : length table - (looped .loop .at + 3 + size) < length table - looped .loop .at
+  less = laws.building-less (looped .loop .inv) field
 
 loop-holds : tie.Need-loop-holds Inv-loop μ-loop
 loop-holds c = laws.building-start _ _ _ (c .before .pre)
@@ -36,16 +59,10 @@ enum-known-front : tie.Need-enum-known-front Inv-loop μ-loop
 enum-known-front c = search needs
 
 add-from : tie.Need-add-from Inv-loop μ-loop
-add-from c =
-    let at-front-at = c .before .before .before in
-    let at-loop = at-front-at .before .before in
-    omega (arith, laws.building-inside (at-loop .loop .inv) (sym (c .before .front .given .1) ∙ at-front-at .front-at .ensures))
+add-from c = omega (arith, inside c)
 
 add-to : tie.Need-add-to Inv-loop μ-loop
-add-to c =
-    let at-front-at = c .before .before .before in
-    let at-loop = at-front-at .before .before in
-    omega (arith, laws.building-inside (at-loop .loop .inv) (sym (c .before .front .given .1) ∙ at-front-at .front-at .ensures))
+add-to c = omega (arith, inside c)
 
 sub-byte : tie.Need-sub-byte Inv-loop μ-loop
 sub-byte c = search needs
@@ -54,10 +71,7 @@ part-byte-start : tie.Need-part-byte-start Inv-loop μ-loop
 part-byte-start c = search needs
 
 part-byte-end : tie.Need-part-byte-end Inv-loop μ-loop
-part-byte-end c =
-    let at-front-at = c .before .before .before .before in
-    let at-loop = at-front-at .before .before in
-    omega (arith, laws.building-inside (at-loop .loop .inv) (sym (c .before .before .front .given .1) ∙ at-front-at .front-at .ensures))
+part-byte-end c = omega (arith, inside (c .before))
 
 byte-requires : tie.Need-byte-requires Inv-loop μ-loop
 byte-requires c κs = search needs
@@ -69,92 +83,58 @@ part-redefine-start : tie.Need-part-redefine-start Inv-loop μ-loop
 part-redefine-start c = search needs
 
 part-redefine-end : tie.Need-part-redefine-end Inv-loop μ-loop
-part-redefine-end c =
-    let at-front = c .before .before .before .before in
-    let at-front-at = at-front .before .before in
-    let at-loop = at-front-at .before .before in
-    omega (arith, laws.building-inside (at-loop .loop .inv) (sym (at-front .front .given .1) ∙ at-front-at .front-at .ensures))
+part-redefine-end c = omega (arith, inside (c .before .before .before))
 
 redefine-requires : tie.Need-redefine-requires Inv-loop μ-loop
 redefine-requires c κs =
-    let earlier = c .before .before .before .before .before .before in
-    let at-loop = earlier .before .before .before .before .before in
-    omega (arith, laws.building-few (at-loop .loop .inv), c .before .redefine-arg2 .given .0 .1, c .redefine-arg3 .given .0 .1)
+    let at = looped (c .before .before .before .before .before .before) in
+    omega (arith, laws.building-few (at .loop .inv), c .before .redefine-arg2 .given .0 .1, c .redefine-arg3 .given .0 .1)
 
 cast-push : tie.Need-cast-push Inv-loop μ-loop
 cast-push c =
-    let at-front = c .before .before .before .before .before in
-    let at-front-at = at-front .before .before in
-    let at-loop = at-front-at .before .before in
-    omega
-    (arith, laws.building-inside (at-loop .loop .inv) (sym (at-front .front .given .1) ∙ at-front-at .front-at .ensures), at-loop .loop .inv .short)
+    let p = c .before .before .before .before in
+    omega (arith, inside p, looped p .loop .inv .short)
 
 push-requires : tie.Need-push-requires Inv-loop μ-loop
 push-requires c κs =
-    let at-front = c .before .before .before .before .before in
-    let at-front-at = at-front .before .before in
-    let at-loop = at-front-at .before .before in
+    let p = c .before .before .before .before in
     omega (
       arith,
-      laws.building-room (at-loop .loop .inv) (sym (at-front .front .given .1) ∙ at-front-at .front-at .ensures)
-          (c .before .before .if2 .taken),
+      laws.building-room (looped p .loop .inv) (field p) (c .before .before .if2 .taken),
       c .before .push-arg .given .0 .1,
       c .push-arg2 .given .0 .1,
     )
 
 add-k : tie.Need-add-k Inv-loop μ-loop
-add-k c =
-    let earlier = c .before .before .before .before .before .before in
-    let at-loop = earlier .before .before .before .before in
-    omega (arith, laws.building-few (at-loop .loop .inv))
+add-k c = omega (arith, laws.building-few (looped (c .before .before .before .before .before) .loop .inv))
 
 loop-less : tie.Need-loop-less Inv-loop μ-loop
 loop-less c =
-    let earlier = c .before .before .before .before .before .before in
-    let at-front = earlier .before .before in
-    let at-front-at = at-front .before .before in
-    let at-loop = at-front-at .before .before in
-    laws.building-less (at-loop .loop .inv) (sym (at-front .front .given .1) ∙ at-front-at .front-at .ensures)
+    let tested = c .before .before .before .before .before .before in
+    less (tested .before)
 
 loop-again : tie.Need-loop-again Inv-loop μ-loop
 loop-again c =
-    let at-byte = c .before .before .before .before in
-    let at-if1 = at-byte .before .before in
-    let at-front = at-if1 .before .before in
-    let at-front-at = at-front .before .before in
-    let at-loop = at-front-at .before .before in
-    laws.building-head (at-loop .loop .inv) (sym (at-front .front .given .1) ∙ at-front-at .front-at .ensures) (at-if1 .if1 .taken)
-    (at-byte .byte .ensures) (c .redefine .ensures)
+    let read = c .before .before .before .before in
+    let tested = read .before .before in
+    let p = tested .before in
+    laws.building-head (looped p .loop .inv) (field p) (tested .if1 .taken) (read .byte .ensures) (c .redefine .ensures)
 
 loop-less-2 : tie.Need-loop-less-2 Inv-loop μ-loop
-loop-less-2 c =
-    let at-front = c .before .before .before .before .before .before in
-    let at-front-at = at-front .before .before in
-    let at-loop = at-front-at .before .before in
-    laws.building-less (at-loop .loop .inv) (sym (at-front .front .given .1) ∙ at-front-at .front-at .ensures)
+loop-less-2 c = less (c .before .before .before .before .before)
 
 loop-again-2 : tie.Need-loop-again-2 Inv-loop μ-loop
 loop-again-2 c =
-    let at-if2 = c .before .before .before in
-    let at-front = at-if2 .before .before .before in
-    let at-front-at = at-front .before .before in
-    let at-loop = at-front-at .before .before in
-    laws.building-alternative (at-loop .loop .inv) (sym (at-front .front .given .1) ∙ at-front-at .front-at .ensures) (at-if2 .if2 .taken)
-    (c .push .ensures)
+    let p = c .before .before .before .before .before in
+    laws.building-alternative (looped p .loop .inv) (field p) (c .before .before .before .if2 .taken) (c .push .ensures)
 
 loop-less-3 : tie.Need-loop-less-3 Inv-loop μ-loop
-loop-less-3 c =
-    let at-front = c .before .before .before in
-    let at-front-at = at-front .before .before in
-    let at-loop = at-front-at .before .before in
-    laws.building-less (at-loop .loop .inv) (sym (at-front .front .given .1) ∙ at-front-at .front-at .ensures)
+loop-less-3 c = less (c .before .before)
 
 loop-again-3 : tie.Need-loop-again-3 Inv-loop μ-loop
 loop-again-3 c =
-    let at-front = c .before .before .before in
-    let at-front-at = at-front .before .before in
-    let at-loop = at-front-at .before .before in
-    laws.building-other (at-loop .loop .inv) (sym (at-front .front .given .1) ∙ at-front-at .front-at .ensures) (c .before .if1 .left) (c .if2 .left)
+    let p = c .before .before in
+    laws.building-other (looped p .loop .inv) (field p) (c .before .if1 .left) (c .if2 .left)
 
 returns-3 : tie.Need-returns-3 Inv-loop μ-loop
 returns-3 c = laws.building-end (c .before .loop .inv) (c .loop-test .left)

@@ -1,15 +1,13 @@
 -- `flag`: the one test.
-use Prim.Native.Nat.{_*_}
-use mathlib.Core.Path.{sym, ap}
-use Rattle.productions.specs.Room.{flagNumber}
+use mathlib.Core.Path.{refl}
 use Rattle.productions.proofs.room.flag.Statement.{statement}
 use Rattle.productions.proofs.room.flag.Tie as tie
 
 returns : tie.Need-returns
-returns c = sym (ap (λ b. 33554432 * flagNumber b) (c .if1 .taken))
+returns c = rw (c .if1 .taken) refl
 
 returns-2 : tie.Need-returns-2
-returns-2 c = sym (ap (λ b. 33554432 * flagNumber b) (c .if1 .left))
+returns-2 c = rw (c .if1 .left) refl
 
 pub flag-spec : {M : Type 1} → statement M
 flag-spec = tie.close (tie.spec returns returns-2)
