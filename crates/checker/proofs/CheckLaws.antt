@@ -43,7 +43,7 @@ verdict-then (ok u) a = refl
 verdict-then (bad r) a = refl
 
 module _ (bs : List ℕ) where
-  pub refused-layout : (r : Refusal) → verdict (layout bs) ≡ Refused r → check bs ≡ Refused r
+  refused-layout : (r : Refusal) → verdict (layout bs) ≡ Refused r → check bs ≡ Refused r
   unfolding decode
   refused-layout r e =
       refused-by-layout bs r (cc (refused-bad (layout bs) r e))
@@ -67,7 +67,7 @@ module _ (bs : List ℕ) where
     sorts-here : sortsOf bs ≡ verdict (checkSorts (encoded .0))
     sorts-here = bytes-checked bs bytes (encoded .0) decoded
 
-    pub refused-sorts : (r : Refusal) → sortsOf bs ≡ Refused r → check bs ≡ Refused r
+    refused-sorts : (r : Refusal) → sortsOf bs ≡ Refused r → check bs ≡ Refused r
     refused-sorts r e = refused-by-sorts bs (encoded .0) r decoded (refused-bad (checkSorts (encoded .0)) r (sym sorts-here ∙ e))
 
     room-left : (r : Refusal) → sortsOf bs ≡ Refused r → (room : List ℕ) → room ≡ roomAfter bs room
@@ -99,7 +99,7 @@ module _ (bs : List ℕ) where
       sorts-ok : checkSorts (encoded .0) ≡ ok tt
       sorts-ok = passed-ok (checkSorts (encoded .0)) (sym sorts-here ∙ sorted)
 
-      pub by-firsts : check bs ≡ verdict (checkFirsts (productionsIn bs))
+      by-firsts : check bs ≡ verdict (checkFirsts (productionsIn bs))
       unfolding check passedTable
       by-firsts =
           let t = encoded .0 in

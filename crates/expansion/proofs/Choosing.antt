@@ -77,7 +77,7 @@ module _ (rule : Production → Rule) (owned : (p : Production) → rule p .owne
   missing-later {p} e m q in-first o t = true≢false (sym (and-eq-true-iff _ _ .1 (eq-eqb (rule p .owner) n (owned p ∙ o), t)) ∙ e)
   missing-later e m q (in-later k) o t = m .none-passed q k o t
 
-  pub first-rule : (g : List Production) → Found g ⊎ Missing g
+  first-rule : (g : List Production) → Found g ⊎ Missing g
   unfolding firstRule
   first-rule [] = inr (record { none-passed = λ p m o t. omega (arith, members m); answer = refl })
   first-rule (p ∷ g) = go (eqb (rule p .owner) n && test (rule p)) refl (first-rule g)

@@ -28,7 +28,7 @@ pub record Grown (made : ℕ) (cells : List ℕ) (made′ : ℕ) (cells′ : Lis
 pub grown-not : (made : ℕ) (cells : List ℕ) → Grown made cells made cells
 grown-not made cells = record { more = omega arith; agree = record { same = λ j h. refl }; as-many = refl }
 
-pub agree-trans : {m n : ℕ} {cells cells′ cells″ : List ℕ} → m ≤ n → Agree m cells cells′ → Agree n cells′ cells″ → Agree m cells cells″
+agree-trans : {m n : ℕ} {cells cells′ cells″ : List ℕ} → m ≤ n → Agree m cells cells′ → Agree n cells′ cells″ → Agree m cells cells″
 agree-trans l h k = record { same = λ j b. k .same j (omega arith) ∙ h .same j b }
 
 pub grown-trans : {m m′ m″ : ℕ} {cells cells′ cells″ : List ℕ} → Grown m cells m′ cells′ → Grown m′ cells′ m″ cells″ → Grown m cells m″ cells″

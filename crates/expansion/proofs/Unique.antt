@@ -78,7 +78,7 @@ terminal-one by-local by-local = (refl, refl, refl)
 -- ------------------------------------------------------------------ items
 
 module _ {g : List Production} (passed : checkFirsts g ≡ ok tt) {spell : ℕ → List ℕ} where
-  pub derives-one : {M M₁ M₂ : List Value} {s s₁ s₂ : List Token} {i i₁ i₂ : ℕ} {is : List Item} → Derives g spell M s i is M₁ s₁ i₁
+  derives-one : {M M₁ M₂ : List Value} {s s₁ s₂ : List Token} {i i₁ i₂ : ℕ} {is : List Item} → Derives g spell M s i is M₁ s₁ i₁
       → Derives g spell M s i is M₂ s₂ i₂
       → (M₁ ≡ M₂) × (s₁ ≡ s₂) × (i₁ ≡ i₂)
   derives-one by-end by-end = (refl, refl, refl)

@@ -50,7 +50,7 @@ module _ (table : List ℕ) (at : ℕ) where
       front-tests (drop at table) false false (not-empty h)
       (lt-leb (3 + sizeOf (drop at table)) (length (drop at table)) (omega (arith, length-drop at table, size-at)))
 
-  pub front-field : at < length table → 3 ≤ length table - at
+  front-field : at < length table → 3 ≤ length table - at
       → getD table (at + 1) 0 * 256 + getD table (at + 2) 0 ≤ length table - at - 3
       → frontOf (drop at table) ≡ Field (getD table at 0) (getD table (at + 1) 0 * 256 + getD table (at + 2) 0)
   front-field h j k =

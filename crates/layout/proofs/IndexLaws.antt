@@ -194,11 +194,11 @@ zeros zero n = refl
 zeros (suc k) zero = refl
 zeros (suc k) (suc n) = zeros k n
 
-pub indexed-none : {table : List ℕ} → Indexed table (replicate 320 0) []
+indexed-none : {table : List ℕ} → Indexed table (replicate 320 0) []
 indexed-none {table} = record { leads = λ b h. subst (Leads table (replicate 320 0) b []) (sym (zeros 320 b)) leads-none }
 
 -- and nothing leads anywhere
-pub falling-none : Falling (replicate 320 0)
+falling-none : Falling (replicate 320 0)
 falling-none = record { heads = λ b h. omega (arith, zeros 320 b); links = λ n h k. omega (arith, zeros 320 (entry n)) }
 
 module _ (room : List ℕ) (long : length room ≡ 320) (n h from size : ℕ) (few : n ≤ 64) (one : 0 < n) where
@@ -215,7 +215,7 @@ module _ (room : List ℕ) (long : length room ≡ 320) (n h from size : ℕ) (f
   r₄ = set r₃ (entry n + 3) size
 
   -- the room keeps its length
-  pub with-length : length (roomWith room n h from size) ≡ 320
+  with-length : length (roomWith room n h from size) ≡ 320
   with-length = simp length-set long
 
   -- a number that is not written
@@ -264,7 +264,7 @@ module _ (room : List ℕ) (long : length room ≡ 320) (n h from size : ℕ) (f
       getD-set-other r₄ (h % 64) (entry n + 3) n 0 (λ e. omega arith) ∙ getD-set-same r₃ (entry n + 3) size 0 (simp length-set (omega arith))
 
   -- links still lead to older spellings
-  pub falling-more : Falling room → getD room (h % 64) 0 < n → Falling (roomWith room n h from size)
+  falling-more : Falling room → getD room (h % 64) 0 < n → Falling (roomWith room n h from size)
   falling-more f small =
       record {
         heads = λ j l.
@@ -280,7 +280,7 @@ module _ (room : List ℕ) (long : length room ≡ 320) (n h from size : ℕ) (f
       }
 
   -- the room has one spelling more
-  pub indexed-more :
+  indexed-more :
       {table v : List ℕ} {words : List (List ℕ)} → n ≡ suc (length words) → h ≡ hashOf v → take size (drop from table) ≡ v
       → Indexed table room words → Indexed table (roomWith room n h from size) (v ∷ words)
   indexed-more {table} {v} {words} count e p x =

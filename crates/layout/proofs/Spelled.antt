@@ -13,7 +13,7 @@ pub each-map : {A : Type 0} {P Q : A → Type 0} → ((x : A) → P x → Q x) �
 each-map f each-none = each-none
 each-map f (each-more {x} h t) = each-more (f x h) (each-map f t)
 
-pub each-both : {A : Type 0} {P Q R : A → Type 0} → ((x : A) → P x → Q x → R x) → {xs : List A} → Each P xs → Each Q xs → Each R xs
+each-both : {A : Type 0} {P Q R : A → Type 0} → ((x : A) → P x → Q x → R x) → {xs : List A} → Each P xs → Each Q xs → Each R xs
 each-both f each-none each-none = each-none
 each-both f (each-more {x} h t) (each-more g u) = each-more (f x h g) (each-both f t u)
 
@@ -21,7 +21,7 @@ pub each-all : {A : Type 0} {P : A → Type 0} → ((x : A) → P x) → (xs : L
 each-all f [] = each-none
 each-all f (x ∷ xs) = each-more (f x) (each-all f xs)
 
-pub each-parts : {A : Type 0} {P : A → Type 0} {x : A} {xs : List A} → Each P (x ∷ xs) → P x × Each P xs
+each-parts : {A : Type 0} {P : A → Type 0} {x : A} {xs : List A} → Each P (x ∷ xs) → P x × Each P xs
 each-parts (each-more h t) = (h, t)
 
 different-parts : {v : List ℕ} {vs : List (List ℕ)} → Different (v ∷ vs) → Each (λ w. v ≡ w → ⊥) vs × Different vs

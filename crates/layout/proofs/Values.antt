@@ -32,7 +32,7 @@ and-left a b e = and-eq-true-iff a b .0 e .0
 pub and-right : (a b : Bool) → (a && b) ≡ true → b ≡ true
 and-right a b e = and-eq-true-iff a b .0 e .1
 
-pub and-three : (a b c : Bool) → (a && b && c) ≡ true → (a ≡ true) × (b ≡ true) × (c ≡ true)
+and-three : (a b c : Bool) → (a && b && c) ≡ true → (a ≡ true) × (b ≡ true) × (c ≡ true)
 and-three a b c e = let first = and-left (a && b) c e in (and-left a b first, and-right a b first, and-right (a && b) c e)
 
 -- ------------------------------------------------------------------ which values a tag knows

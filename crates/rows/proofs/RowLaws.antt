@@ -46,7 +46,7 @@ module _ (code : ℕ) where
   high-code h = rw (le-ltb code 0x20 h, constructorOf) refl
 
   -- a code that is none of the four whose terms have parts
-  pub bare-code : (code ≡ 33 → ⊥) → (code ≡ 34 → ⊥) → (code ≡ 35 → ⊥) → (code ≡ 36 → ⊥) → Bare (constructorOf code)
+  bare-code : (code ≡ 33 → ⊥) → (code ≡ 34 → ⊥) → (code ≡ 35 → ⊥) → (code ≡ 36 → ⊥) → Bare (constructorOf code)
   bare-code a b c d = by (decLt code 0x20)
     where
       by : Dec (code < 0x20) → Bare (constructorOf code)

@@ -89,7 +89,7 @@ mutual
   size-spell (suc k) s s′ cells r =
       size-by (constructorOf (column cells r 0)) k s s′ cells r (λ q. size-spell k s s′ cells q) (λ q. size-spell-fields k s s′ cells q)
 
-  pub size-spell-fields : (k : ℕ) (s s′ : ℕ → List ℕ) (cells : List ℕ) (r : ℕ) → sizeFields (fieldsAt k s cells r) ≡ sizeFields (fieldsAt k s′ cells r)
+  size-spell-fields : (k : ℕ) (s s′ : ℕ → List ℕ) (cells : List ℕ) (r : ℕ) → sizeFields (fieldsAt k s cells r) ≡ sizeFields (fieldsAt k s′ cells r)
   size-spell-fields zero s s′ cells r = refl
   size-spell-fields (suc k) s s′ cells r =
       size-by-fields (isCons (constructorOf (column cells r 0))) k s s′ cells r (λ q. size-spell k s s′ cells q) (λ q. size-spell-fields k s s′ cells q)

@@ -117,7 +117,7 @@ module _ (L : List ℕ) (n s : ℕ) (e : length L ≡ 16) where
       ∙ sym (take-append-le 16 (take n L) (s ∷ []) (omega (arith, ap length all)))
 
 -- one place alone on the stack
-pub one-place : (room : List ℕ) (B : ℕ) → 0 < length room → places (set room 0 B) 1 ≡ B ∷ []
+one-place : (room : List ℕ) (B : ℕ) → 0 < length room → places (set room 0 B) 1 ≡ B ∷ []
 unfolding places
 one-place room B h = places-set room 0 B h
 

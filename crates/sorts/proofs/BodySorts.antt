@@ -25,7 +25,7 @@ module _ (G : Scope) where
   -- ------------------------------------------------------------------ an item
 
   -- a passed item has a sort by the rules, and that sort is the check's value
-  pub item-rule :
+  item-rule :
       (L : List ℕ) (at : ℕ) (i : Item) (P : ℕ → Type 0) → ItemWithin i → Accepts (checkItem G L at i) P
       → (B : ℕ) × ItemSorted G L i B × P B
   item-rule L at (keyword k) P w h =
@@ -42,7 +42,7 @@ module _ (G : Scope) where
       let d = both (isDefined (G .env) n) (areClosed ts G (length L)) (q .0) in
       (S .result, by-call (defined-newest (G .env) n (d .0)) (fill-rule G L ts (S .params) ws (d .1) (q .1)), q .2)
 
-  pub rule-item :
+  rule-item :
       {L : List ℕ} (at : ℕ) {i : Item} {B : ℕ} (P : ℕ → Type 0) → ItemSorted G L i B → P B → Accepts (checkItem G L at i) P
   rule-item at P (by-keyword {k = k} h) p =
       then-passes P (need (ltb k (G .keywords)) 9 at) (ok unit)
@@ -64,7 +64,7 @@ module _ (G : Scope) where
     Rest B at t L = Accepts (checkResult G L B at t) P
 
     -- items and result together
-    pub body-rule :
+    body-rule :
         (is : List Item) (L : List ℕ) (B at from : ℕ) (t : Template) → Each ItemWithin is → TemplateWithin t
         → Accepts (checkItems G L at is) (Rest B from t)
         → Body G L is t B × P tt
@@ -78,7 +78,7 @@ module _ (G : Scope) where
         let q = body-rule is (L ++ (r .0 ∷ [])) B _ from t zs w (r .2) in
         (by-binding (r .1) (q .0), q .1)
 
-    pub rule-body :
+    rule-body :
         {is : List Item} {L : List ℕ} {B : ℕ} (at from : ℕ) {t : Template} → Body G L is t B → P tt
         → Accepts (checkItems G L at is) (Rest B from t)
     unfolding checkItems
@@ -89,7 +89,7 @@ module _ (G : Scope) where
     rule-body at from (by-binding {L = L} {i = i} {t = t} {B = B} s b) p =
         bind-passes (Rest B from t) (checkItem G L at i) _ (rule-item at _ s (rule-body _ from b p))
 
-    pub alternative-rule :
+    alternative-rule :
         (S : Signature) (at : ℕ) (a : Alternative) → AlternativeWithin a → Accepts (checkAlternative G S at a) P
         → Body G (S .params) (a .items) (a .result) (S .result) × P tt
     unfolding checkAlternative
@@ -97,7 +97,7 @@ module _ (G : Scope) where
         body-rule (a .items) (S .params) (S .result) (at + 3) (at + 3 + itemsSize (a .items)) (a .result) (w .items) (w .result)
         (bind-passed P (checkItems G (S .params) (at + 3) (a .items)) _ h)
 
-    pub rule-alternative :
+    rule-alternative :
         (S : Signature) (at : ℕ) (a : Alternative) → Body G (S .params) (a .items) (a .result) (S .result) → P tt
         → Accepts (checkAlternative G S at a) P
     unfolding checkAlternative
@@ -106,7 +106,7 @@ module _ (G : Scope) where
 
   -- ------------------------------------------------------------------ alternatives and definitions
 
-  pub bodies-rule :
+  bodies-rule :
       (P : Unit {0} → Type 0) (S : Signature) (at : ℕ) (choices : List Alternative) → Each AlternativeWithin choices
       → Accepts (checkAlternatives G S at choices) P
       → Bodies G S choices × P tt
@@ -117,7 +117,7 @@ module _ (G : Scope) where
       let q = bodies-rule P S _ rest ws (r .1) in
       (by-choice (r .0) (q .0), q .1)
 
-  pub rule-bodies :
+  rule-bodies :
       (P : Unit {0} → Type 0) {S : Signature} (at : ℕ) {choices : List Alternative} → Bodies G S choices → P tt
       → Accepts (checkAlternatives G S at choices) P
   unfolding checkAlternatives

@@ -44,10 +44,6 @@ then-then : {A B C : Type 0} (m : Checked A) (n : Checked B) (o : Checked C) →
 then-then (ok a) n o = refl
 then-then (bad r) n o = refl
 
-then-done : (m : Checked (Unit {0})) → (m >> ok tt) ≡ m
-then-done (ok a) = refl
-then-done (bad r) = refl
-
 -- ------------------------------------------------------------------ heads
 
 mode-read : (m : Mode) → modeOf (modeCode m) ≡ m
@@ -94,7 +90,7 @@ module _ (E : Env) where
 
   -- what follows a block's definitions ends the block
   module _ (k : List Field) (ends : (at : ℕ) (own : Env) → collectBy (spread at k) E own ≡ ok own) where
-    pub collect-definitions : (ds : List Definition) (own : Env) (at : ℕ) → collectBy (spread at (definitionsThen ds k)) E own ≡ collect E own at ds
+    collect-definitions : (ds : List Definition) (own : Env) (at : ℕ) → collectBy (spread at (definitionsThen ds k)) E own ≡ collect E own at ds
     unfolding spread definitionsThen collectBy collect definitionSize headValue definitionOf
     collect-definitions [] own at = ends at own
     collect-definitions (d ∷ ds) own at =
@@ -147,7 +143,7 @@ module _ (G : Scope) where
 
   -- what follows a block's definitions ends the block
   module _ (k : List Field) (ends : (at : ℕ) (S : Signature) → bodiesBy (spread at k) G S [] ≡ ok tt) where
-    pub bodies-definitions :
+    bodies-definitions :
         {ds : List Definition} → Each DefinitionWithin ds → (S : Signature) (at : ℕ)
         → bodiesBy (spread at (definitionsThen ds k)) G S [] ≡ checkBodies G at ds
     unfolding spread definitionsThen bodiesBy checkBodies definitionSize headValue definitionOf
@@ -224,7 +220,7 @@ module _ (K N : ℕ) where
     bodies-ends [] G at S = refl
     bodies-ends (b ∷ bs) G at S = refl
 
-    pub blocks-sorts : {bs : List (List Definition)} → Each (Each DefinitionWithin) bs → (E : Env) (at : ℕ)
+    blocks-sorts : {bs : List (List Definition)} → Each (Each DefinitionWithin) bs → (E : Env) (at : ℕ)
         → blocksBy (spread at (blocksThen bs rootField)) K N E ≡ (checkBlocks K N E at bs >>= λ E′. checkRoot E′ (at + blocksSize bs) r)
     unfolding spread blocksThen blocksBy checkBlocks blocksSize
     blocks-sorts each-none E at = cc (add-zero at)

@@ -77,11 +77,11 @@ module _ (bs : List ℕ) (at : ℕ) {v : List ℕ} (p : v ≡ valueAt bs at) (h 
       cc (getD-drop (at + 3) bs i 0, getD-take size (drop (at + 3) bs) i 0 (omega (arith, length-take size (drop (at + 3) bs))), h .shape)
 
   -- its nonterminal
-  pub head-nonterminal : getD bs (at + 3) 0 ≡ h .nonterminal
+  head-nonterminal : getD bs (at + 3) 0 ≡ h .nonterminal
   head-nonterminal = cc (add-zero (at + 3), byte-at 0 (h .nonterminal) (omega arith) refl)
 
   -- its mode
-  pub head-mode : getD bs (at + 4) 0 ≡ modeCode (h .mode)
+  head-mode : getD bs (at + 4) 0 ≡ modeCode (h .mode)
   head-mode = cc (add-assoc at 3 1, byte-at 1 (modeCode (h .mode)) (omega arith) refl)
 
   -- its signature
@@ -91,12 +91,12 @@ module _ (bs : List ℕ) (at : ℕ) {v : List ℕ} (p : v ≡ valueAt bs at) (h 
       cc (h .shape, take-all 5 (h .result ∷ h .params) (omega (arith, h .few)))
 
 -- as the definition has them
-pub head-of-nonterminal : {v : List ℕ} (h : Head v) → headOf v .nonterminal ≡ h .nonterminal
+head-of-nonterminal : {v : List ℕ} (h : Head v) → headOf v .nonterminal ≡ h .nonterminal
 unfolding definitionOf
 head-of-nonterminal h = cc (h .shape)
 
 -- as the definition has it
-pub head-of-mode : {v : List ℕ} (h : Head v) → headOf v .mode ≡ h .mode
+head-of-mode : {v : List ℕ} (h : Head v) → headOf v .mode ≡ h .mode
 head-of-mode h = cc (h .shape, mode-of (h .mode) (h .nonterminal) (h .result) (h .params))
 
 -- four parameters at most

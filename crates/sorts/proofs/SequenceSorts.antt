@@ -77,7 +77,7 @@ module _ (E : Env) where
       let r = before-rule own d (n .0) in
       (λ ds own′ k. by-update e (r .0) (r .1) k, n .1)
 
-  pub collect-rule :
+  collect-rule :
       (P : Env → Type 0) (own : Env) (at : ℕ) (ds : List Definition) → Accepts (collect E own at ds) P
       → (own′ : Env) × Defines E own ds own′ × P own′
   unfolding collect
@@ -93,7 +93,7 @@ module _ (E : Env) where
       → Accepts (consistent m E own d at) P → Accepts (consistent (d .mode) E own d at) P
   in-mode P own d at e h = rw (← e) at h
 
-  pub rule-collect :
+  rule-collect :
       (P : Env → Type 0) {own own′ : Env} (at : ℕ) {ds : List Definition} → Defines E own ds own′ → P own′
       → Accepts (collect E own at ds) P
   unfolding collect
@@ -114,7 +114,7 @@ module _ (E : Env) where
 -- ------------------------------------------------------------------ ⊢ gseq ⇒ E
 
 module _ (K N : ℕ) (P : Env → Type 0) where
-  pub sequence-rule :
+  sequence-rule :
       (E : Env) (at : ℕ) (gs : List (List Definition)) → Each (Each DefinitionWithin) gs → Accepts (checkBlocks K N E at gs) P
       → (E′ : Env) × Sequence K N E gs E′ × P E′
   unfolding checkBlocks
@@ -127,7 +127,7 @@ module _ (K N : ℕ) (P : Env → Type 0) where
       let s = sequence-rule (c .0 ++ E) (at + 3 + definitionsSize g) gs ws (o .1) in
       (s .0, by-grammar (c .1) (o .0) (s .1), s .2)
 
-  pub rule-sequence :
+  rule-sequence :
       {E E′ : Env} (at : ℕ) {gs : List (List Definition)} → Sequence K N E gs E′ → P E′ → Accepts (checkBlocks K N E at gs) P
   unfolding checkBlocks
   rule-sequence at no-grammar p = p

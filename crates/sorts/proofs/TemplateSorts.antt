@@ -47,16 +47,16 @@ unfolding fits
 rule-fits (fits-equal {B = B}) = first (eqb B B) (eqb B binder && eqb B var) (eq-eqb B B refl)
 rule-fits fits-binder = refl
 
-pub has-at : (L : List ℕ) (i : ℕ) → i < length L → Has L i (getD L i unit)
+has-at : (L : List ℕ) (i : ℕ) → i < length L → Has L i (getD L i unit)
 has-at [] i h = absurd (omega arith)
 has-at (B ∷ L) zero h = has-first
 has-at (B ∷ L) (suc i) h = has-later (has-at L i (omega arith))
 
-pub has-below : {L : List ℕ} {i B : ℕ} → Has L i B → i < length L
+has-below : {L : List ℕ} {i B : ℕ} → Has L i B → i < length L
 has-below has-first = omega arith
 has-below (has-later h) = omega (arith, has-below h)
 
-pub has-sort : {L : List ℕ} {i B : ℕ} → Has L i B → getD L i unit ≡ B
+has-sort : {L : List ℕ} {i B : ℕ} → Has L i B → getD L i unit ≡ B
 has-sort has-first = refl
 has-sort (has-later h) = has-sort h
 

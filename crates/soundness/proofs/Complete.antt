@@ -50,7 +50,7 @@ token-is tokens at {t} {s} e =
     let n : _≡_ {A = ℕ} 0 (suc (length s)) = ap length (sym (drop-of-length-le tokens (ltb-false at (length tokens) b)) ∙ e) in
     absurd (omega arith))
 
-pub take-done : (I : Input) (kind : ℕ) (value : ℕ → ℕ) (s : State) (cells : List ℕ) → nextToken I s .kind ≡ kind
+take-done : (I : Input) (kind : ℕ) (value : ℕ → ℕ) (s : State) (cells : List ℕ) → nextToken I s .kind ≡ kind
     → takeToken I kind value s cells ≡ done (value (nextToken I s .value)) (tokenTaken s) cells
 take-done I kind value s cells e = rw (eq-eqb (nextToken I s .kind) kind e, takeToken) refl
 
@@ -68,12 +68,12 @@ pub data Beyond (rows deep opened begun made : ℕ) (r : Refusal) : Type 0 where
   too-many : r .number ≡ 20 → mostCalls < begun → Beyond rows deep opened begun made r
   too-large : r .number ≡ 21 → rows < made → Beyond rows deep opened begun made r
 
-pub beyond-more : {rows d o o′ c c′ m m′ : ℕ} → o ≤ o′ → c ≤ c′ → m ≤ m′ → (r : Refusal) → Beyond rows d o c m r → Beyond rows d o′ c′ m′ r
+beyond-more : {rows d o o′ c c′ m m′ : ℕ} → o ≤ o′ → c ≤ c′ → m ≤ m′ → (r : Refusal) → Beyond rows d o c m r → Beyond rows d o′ c′ m′ r
 beyond-more x y z r (too-deep e l) = too-deep e (omega arith)
 beyond-more x y z r (too-many e l) = too-many e (omega arith)
 beyond-more x y z r (too-large e l) = too-large e (omega arith)
 
-pub beyond-open : {rows d o c c′ m m′ : ℕ} → c ≤ c′ → m ≤ m′ → (r : Refusal) → Beyond rows d o c m r → Beyond rows (suc d) (o + 1) c′ m′ r
+beyond-open : {rows d o c c′ m m′ : ℕ} → c ≤ c′ → m ≤ m′ → (r : Refusal) → Beyond rows d o c m r → Beyond rows (suc d) (o + 1) c′ m′ r
 beyond-open y z r (too-deep e l) = too-deep e (omega arith)
 beyond-open y z r (too-many e l) = too-many e (omega arith)
 beyond-open y z r (too-large e l) = too-large e (omega arith)
@@ -190,7 +190,7 @@ module _ {g : List Production} (X : Setting g) where
           (full-beyond (omega (arith, y .0 .made-are))))
           (beyond-open (omega arith) (omega arith))
 
-      pub call-along : (d : ℕ) → Called d (runCall d I m xs s cells)
+      call-along : (d : ℕ) → Called d (runCall d I m xs s cells)
       unfolding runCall
       call-along zero = too-deep refl (omega arith)
       call-along (suc d) = go (ltb (s .calls) mostCalls) refl (choice-picks g m (taken-of taken .small) (from s))
@@ -332,7 +332,7 @@ module _ {g : List Production} (X : Setting g) where
   -- ------------------------------------------------------------------ the whole formula
 
   -- the items that are one call of the root run as that call
-  pub root-ends : (P : List ℕ → State → List ℕ → Type 0) (H : Refusal → Type 0) (d : ℕ) (cells : List ℕ)
+  root-ends : (P : List ℕ → State → List ℕ → Type 0) (H : Refusal → Type 0) (d : ℕ) (cells : List ℕ)
       → Ends P H (runItems (runCall d I) I (call (X .root) none ∷ []) [] start cells)
       → Ends (λ x s c. P (x ∷ []) s c) H (runCall d I (X .root) [] start cells)
   unfolding runItems buildAll

@@ -143,7 +143,7 @@ module _ (K N : ℕ) where
 abbrev pub scopeOf : (t : Table) → WellSorted t → Scope
 scopeOf t w = scope (length (t .keywords)) (length (t .outsides)) (w .env)
 
-pub each-fits : (t : Table) → Within t → (w : WellSorted t) → (p : Production) → In (normalized (t .blocks)) p → Fit (scopeOf t w) p
+each-fits : (t : Table) → Within t → (w : WellSorted t) → (p : Production) → In (normalized (t .blocks)) p → Fit (scopeOf t w) p
 each-fits t z w p m = each-in (sequence-fits _ _ (w .sequence) (z .blocks) each-none) m
 
 abbrev pub table-fits : (t : Table) → Within t → WellSorted t → FitAll (normalized (t .blocks))

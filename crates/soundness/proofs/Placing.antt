@@ -76,9 +76,6 @@ module _ (G : List Given) (spell : ℕ → List ℕ) where
   first-of : {x : Given} {xs : List Given} → Each (Among G) (x ∷ xs) → Among G x
   first-of (each-more h hs) = h
 
-  others-of : {x : Given} {xs : List Given} → Each (Among G) (x ∷ xs) → Each (Among G) xs
-  others-of (each-more h hs) = hs
-
   module _ {M : List Value} (m : Each From M) where
     mutual
       unfolding namedIn namedInAll

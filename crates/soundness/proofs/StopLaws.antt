@@ -22,7 +22,6 @@ use Rattle.scanner.specs.declared.Token.{Token}
 use Rattle.productions.specs.Normal.{Production}
 use Rattle.firsts.specs.FirstSets.{nullables, firstSets}
 use Rattle.firsts.proofs.FirstsTheorems.{opens-exactly}
-use Rattle.firsts.specs.Rules.{Reads, reads-keyword, reads-word, reads-number}
 use Rattle.expansion.specs.declared.State.{State}
 use Rattle.expansion.specs.Run.{Result, done, halt, Run, after}
 use Rattle.expansion.specs.Expansion.{Input, ready, choice, nextToken, tokenTaken, takeToken, misfit, cellMade, cell, build, buildAll, wordValue}
@@ -106,11 +105,6 @@ is-next (t ∷ s) e l = subst (Next (t ∷ s)) e next
 next-is : {s : List Token} {k : ℕ} → Next s k → kindOf s ≡ k
 next-is next = refl
 
-pub reads-small : {j : Item} {k : ℕ} → Reads j k → k < 64
-reads-small (reads-keyword l) = omega arith
-reads-small reads-word = omega arith
-reads-small reads-number = omega arith
-
 module _ {g : List Production} (X : Setting g) where
   abbrev F : FitAll g
   F = X .fit
@@ -134,7 +128,7 @@ module _ {g : List Production} (X : Setting g) where
   index-is s e l = omega (arith, ap length e, length-drop (s .at) tokens)
 
   -- a token taken is of the kind, and one that is not is none of it
-  pub next-kind : (s : State) {k : ℕ} → nextToken J s .kind ≡ k → k < 64 → Next (rest s) k
+  next-kind : (s : State) {k : ℕ} → nextToken J s .kind ≡ k → k < 64 → Next (rest s) k
   next-kind s e l = is-next (rest s) (sym (kind-next (s .at) tokens) ∙ e) l
 
   pub kind-of-next : (s : State) {k : ℕ} → Next (rest s) k → nextToken J s .kind ≡ k

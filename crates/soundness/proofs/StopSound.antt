@@ -241,7 +241,7 @@ module _ {g : List Production} (X : Setting g) where
             subst⁻¹ Goal (call-unfit d J n xs s cells e (ap (choice (ready g) n) (kind-next (s .at) tokens) ∙ c))
             (at-start (fails-here s b (no-choice deeper (ltb-true (s .calls) mostCalls e) f (opens-exactly g n))))
 
-  pub call-halts : (d : ℕ) → Halting d
+  call-halts : (d : ℕ) → Halting d
   unfolding runCall
   call-halts zero o k n S vs xs s cells e w l m b h a =
       at-start {o = o} (fails-here s b (too-deep (omega (arith, e))))

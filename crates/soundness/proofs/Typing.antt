@@ -27,7 +27,7 @@ use Rattle.expansion.specs.ValueSorts.{matches-none, matches-more}
 -- ------------------------------------------------------------------ values of a sort
 
 -- what may stand at a place may stand where the place's sort may
-pub typed-at : {v : Value} {A B : ℕ} → Typed v A → Fits A B → Typed v B
+typed-at : {v : Value} {A B : ℕ} → Typed v A → Fits A B → Typed v B
 typed-at h fits-equal = h
 typed-at typed-binder fits-binder = typed-either
 
@@ -101,13 +101,13 @@ module _ (spell : ℕ → List ℕ) {N : ℕ} {M : List Value} {L : List ℕ} (m
 
   -- what a sorted template gives has its sort
   mutual
-    pub gives-typed : {A : ℕ} (t : Template) {v : Value} → Sorted N L t A → Gives spell M t v → Typed v A
+    gives-typed : {A : ℕ} (t : Template) {v : Value} → Sorted N L t A → Gives spell M t v → Typed v A
     gives-typed (Table.variable i) (Judgements.by-variable h) (by-variable b) = bound-typed m h b
     gives-typed (Table.outside n) (Judgements.by-global h) by-global = typed-var
     gives-typed (Table.outsideLabel n) (Judgements.by-label h) by-label = typed-label
     gives-typed (Table.make c ts) (Judgements.by-constructor l h f) (by-constructor g k) = constructs-typed k
 
-    pub give-all-typed : {Bs : List ℕ} (ts : Templates) {vs : List Value} → Fill N L ts Bs → GiveAll spell M ts vs → Matches vs Bs
+    give-all-typed : {Bs : List ℕ} (ts : Templates) {vs : List Value} → Fill N L ts Bs → GiveAll spell M ts vs → Matches vs Bs
     give-all-typed none fill-none give-none = matches-none
     give-all-typed (more t ts) (fill-more s f ss) (give-more g gs) = matches-more (typed-at (gives-typed t s g) f) (give-all-typed ts ss gs)
 

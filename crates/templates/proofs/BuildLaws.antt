@@ -193,10 +193,10 @@ module _ {W : Whole} {T : Turn} {w code n : ℕ} (d : Looked W T w code n) where
 
   -- a template is left to it
   module _ (less : T .top - T .pos < n) where
-    pub next-left : (t : Template) × (us : Templates) × (c .inner .left ≡ more t us)
+    next-left : (t : Template) × (us : Templates) × (c .inner .left ≡ more t us)
     next-left = some-left (c .inner .left) (omega (arith, n-is, stands-top (c .stands)))
 
-    pub next-read : templatesOf (drop (T .at) (W .v)) ≡ parsed (more (next-left .0) (join (next-left .1) (lefts (c .around) (othersAt (W .v) (W .from)))))
+    next-read : templatesOf (drop (T .at) (W .v)) ≡ parsed (more (next-left .0) (join (next-left .1) (lefts (c .around) (othersAt (W .v) (W .from)))))
     unfolding join
     next-read = cc (c .read, next-left .2)
 
@@ -279,7 +279,7 @@ module _ {W : Whole} {T : Turn} {w code n : ℕ} (d : Looked W T w code n) where
 
   -- none is left to it
   module _ (stop : n ≤ T .top - T .pos) where
-    pub inner-none : c .inner .left ≡ none
+    inner-none : c .inner .left ≡ none
     inner-none = none-left (c .inner .left) (omega (arith, n-is, stands-top (c .stands)))
 
     given-is : take n (drop (T .pos) (T .stack)) ≡ c .inner .given
@@ -330,7 +330,7 @@ module _ {W : Whole} {T : Turn} {code n out : ℕ} {cells : List ℕ} (d : Closi
   unfolding join
   read-on = cc (b .read, inner-none (d .looked) (d .stop))
 
-  pub closing-long : length cells ≡ length (W .cells)
+  closing-long : length cells ≡ length (W .cells)
   closing-long = d .same ∙ b .as-long
 
   -- it was the outermost

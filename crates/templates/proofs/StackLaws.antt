@@ -127,11 +127,11 @@ pub image-length : (p : Pending) (ps : List Pending) → length (image (p ∷ ps
 unfolding image place
 image-length p ps = length-append (image ps) ((p .code + 256 * place ps) ∷ p .given) ∙ omega arith
 
-pub image-fed : (p : Pending) (ps : List Pending) (x : ℕ) (ts : Templates) → image (p ∷ ps) ++ (x ∷ []) ≡ image (fed p x ts ∷ ps)
+image-fed : (p : Pending) (ps : List Pending) (x : ℕ) (ts : Templates) → image (p ∷ ps) ++ (x ∷ []) ≡ image (fed p x ts ∷ ps)
 unfolding image
 image-fed p ps x ts = append-assoc (image ps) ((p .code + 256 * place ps) ∷ p .given) (x ∷ [])
 
-pub image-opened : (p : Pending) (ps : List Pending) (b : ℕ) (us ts : Templates)
+image-opened : (p : Pending) (ps : List Pending) (b : ℕ) (us ts : Templates)
     → image (p ∷ ps) ++ ((b + 256 * place (p ∷ ps)) ∷ []) ≡ image (opened b ts ∷ waits p us ∷ ps)
 unfolding image place
 image-opened p ps b us ts = refl
@@ -152,7 +152,7 @@ module _ {stack : List ℕ} {pos top : ℕ} {p : Pending} {ps : List Pending} (h
   unfolding place
   place-is = h .pos-is
 
-  pub stands-around : take (pos - 1) stack ≡ image ps
+  stands-around : take (pos - 1) stack ≡ image ps
   unfolding image
   stands-around =
       let e : length (image ps) ≡ pos - 1 = omega (arith, place-is) in

@@ -156,13 +156,6 @@ module _ (v : List ℕ) (at : ℕ) (a : Ahead v at) where
         pub at-name : templateAt v at ≡ nameBy (eqb b 0x10) n
         at-name = template-is ∙ name-read .0
 
-        pub name-built : (env : List ℕ) (k x : ℕ)
-            → ((I : Input) (M : List ℕ) (s : State) (cells : List ℕ) → build (nameBy (eqb b 0x10) n) I M s cells ≡ done x s cells)
-            → (rows made : ℕ) (cells : List ℕ) (I : Input) (s : State) (M : List ℕ) → I .rows ≡ rows → Holds env k M
-            → done x (withMade s made) cells ≡ build (templateAt v at) I M (withMade s made) cells
-        name-built env k x f rows made cells I s M e g =
-            cc (f I M (withMade s made) cells, at-name)
-
         pub behind-name : (x made : ℕ) → Behind v at (Made x (at + 2) made)
         behind-name x made = (omega arith, omega (arith, name-inside), name-read .1 ∙ ap parsed (sym others-are))
 

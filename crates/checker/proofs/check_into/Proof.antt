@@ -61,7 +61,7 @@ enum-known-laid : tie.Need-enum-known-laid
 enum-known-laid c = search needs
 
 returns : tie.Need-returns
-returns c = laws.into-layout _ _ (sym (c .before .before .before .check-layout .ensures) ∙ c .before .laid .given .1) _
+returns c = search (laws.into-layout, sym (c .before .before .before .check-layout .ensures) ∙ c .before .laid .given .1)
 
 enum-told : tie.Need-enum-told
 enum-told c = search needs
@@ -74,8 +74,10 @@ enum-known-sorted c = search needs
 
 returns-2 : tie.Need-returns-2
 returns-2 c =
-    let p = c .before .before .before .before in
-    laws.into-sorts (bs p) (bytes p) (laid p) _ (sym (c .before .before .before .check-sorts .ensures) ∙ c .before .sorted .given .1) _
+    let q = c .before in
+    let r = q .before .before in
+    let p = r .before in
+    laws.into-sorts (bs p) (bytes p) (laid p) _ (sym (r .check-sorts .ensures) ∙ q .sorted .given .1) _
 
 enum-told-2 : tie.Need-enum-told-2
 enum-told-2 c = search needs

@@ -11,8 +11,9 @@ check-into-requires c κs = search needs
 
 returns : tie.Need-returns
 returns c =
-    let entry = c .before .before .before in
-    let bytes : Bytes (entry .args .table .now) = λ i. omega (arith, c .before .before .shared-slice-known .given i) in
+    let p = c .before .before in
+    let entry = p .before in
+    let bytes : Bytes (entry .args .table .now) = λ i. omega (arith, p .shared-slice-known .given i) in
     (c .check-into .ensures .answer, verdict-exactly _ bytes (c .check-into .ensures .answer))
 
 pub check-table-spec : {M : Type 1} → statement M

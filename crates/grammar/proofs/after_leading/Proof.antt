@@ -1,10 +1,12 @@
 -- `after_leading`: the fields that are left give what all of them give.
-use Prim.Native.Nat.{_-_}
-use mathlib.Core.Path.{refl, sym, _∙_}
+use Prim.Native.Nat.{ℕ, _+_, _-_, _≤_}
+use mathlib.Core.Path.{_≡_, refl, sym, _∙_}
+use mathlib.Core.List.{List}
 use native.Mathlib.Omega.{arith}
 use borrow.Author.Needs.{needs}
-use lib.ListN.{length}
+use lib.ListN.{length, drop}
 use Rattle.grammar.specs.declared.Front.the-variants.{Nothing, Short, Field}
+use Rattle.grammar.specs.Lookup.{frontOf}
 use Rattle.grammar.proofs.LookupLaws as laws
 use Rattle.grammar.proofs.after_leading.Statement.{statement}
 use Rattle.grammar.proofs.after_leading.Tie as tie
@@ -14,6 +16,20 @@ Inv-loop table tag at₀ at = laws.Passing table tag at
 
 abbrev μ-loop : tie.MeasureT-loop
 μ-loop table tag at₀ at = length table - at
+
+-- a whole field stands here
+module _ (p : tie.After-known-told Inv-loop μ-loop) where
+  abbrev turn : tie.At-loop Inv-loop μ-loop
+  turn = p .before .before .before .before .before
+
+  abbrev table : List ℕ
+  table = turn .before .before .args .table .now
+
+  stands : Field (p .before .front .given .0 .0) (p .before .front .given .0 .1 .0) ≡ frontOf (drop (turn .loop .at) table)
+  stands = sym (p .before .front .given .1) ∙ p .before .before .before .front-at .ensures
+
+  inside : turn .loop .at + (3 + p .before .front .given .0 .1 .0) ≤ length table
+  inside = laws.front-inside table (turn .loop .at) stands
 
 loop-holds : tie.Need-loop-holds Inv-loop μ-loop
 loop-holds c = record { rest = refl }
@@ -37,22 +53,19 @@ enum-known-front : tie.Need-enum-known-front Inv-loop μ-loop
 enum-known-front c = search needs
 
 returns-3 : tie.Need-returns-3 Inv-loop μ-loop
-returns-3 c = cc (laws.passing-out (c .before .before .before .before .before .before .loop .inv) (Field _ _)
-    (sym (c .before .before .front .given .1) ∙ c .before .before .before .before .front-at .ensures) (c .if1 .taken))
+returns-3 c = cc (laws.passing-out (turn (c .before) .loop .inv) (Field _ _) (stands (c .before)) (c .if1 .taken))
 
 add-at : tie.Need-add-at Inv-loop μ-loop
-add-at c = let p = c .before .before in let q = p .before .before in
-    omega (arith, laws.front-inside _ (q .before .before .loop .at) (sym (p .front .given .1) ∙ q .front-at .ensures))
+add-at c = omega (arith, inside (c .before))
 
 add-at-2 : tie.Need-add-at-2 Inv-loop μ-loop
-add-at-2 c = let p = c .before .before in let q = p .before .before in
-    omega (arith, laws.front-inside _ (q .before .before .loop .at) (sym (p .front .given .1) ∙ q .front-at .ensures))
+add-at-2 c = omega (arith, inside (c .before))
 
 loop-less : tie.Need-loop-less Inv-loop μ-loop
 loop-less c = search needs
 
 loop-again : tie.Need-loop-again Inv-loop μ-loop
-loop-again c = search (laws.passing-next, sym (c .before .before .front .given .1) ∙ c .before .before .before .before .front-at .ensures)
+loop-again c = search (laws.passing-next, stands (c .before))
 
 returns-4 : tie.Need-returns-4 Inv-loop μ-loop
 returns-4 c = laws.passing-out (c .before .loop .inv) Nothing (sym (laws.front-nothing _ _ (c .loop-test .left))) tt

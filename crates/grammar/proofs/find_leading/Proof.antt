@@ -1,9 +1,12 @@
 -- `find_leading`: the fields that are left give what all of them give.
-use Prim.Native.Nat.{_-_}
-use mathlib.Core.Path.{sym, _∙_}
+use Prim.Native.Nat.{ℕ, _+_, _-_, _≤_}
+use mathlib.Core.Path.{_≡_, sym, _∙_}
+use mathlib.Core.List.{List}
+use lib.ListN.{length, drop}
 use native.Mathlib.Omega.{arith}
 use borrow.Author.Needs.{needs}
 use Rattle.grammar.specs.declared.Front.the-variants.{Nothing, Short, Field}
+use Rattle.grammar.specs.Lookup.{frontOf}
 use Rattle.grammar.proofs.LookupLaws as laws
 use Rattle.grammar.proofs.find_leading.Statement.{statement}
 use Rattle.grammar.proofs.find_leading.Tie as tie
@@ -13,6 +16,20 @@ Inv-loop table start tag most s at₀ i₀ at i = laws.Searching table s tag mos
 
 abbrev μ-loop : tie.MeasureT-loop
 μ-loop table start tag most s at₀ i₀ at i = most - i
+
+-- a whole field stands here
+module _ (p : tie.After-known-told Inv-loop μ-loop) where
+  abbrev turn : tie.At-loop Inv-loop μ-loop
+  turn = p .before .before .before .before .before
+
+  abbrev table : List ℕ
+  table = turn .before .before .before .args .table .now
+
+  stands : Field (p .before .front .given .0 .0) (p .before .front .given .0 .1 .0) ≡ frontOf (drop (turn .loop .at) table)
+  stands = sym (p .before .front .given .1) ∙ p .before .before .before .front-at .ensures
+
+  inside : turn .loop .at + (3 + p .before .front .given .0 .1 .0) ≤ length table
+  inside = laws.front-inside table (turn .loop .at) stands
 
 loop-holds : tie.Need-loop-holds Inv-loop μ-loop
 loop-holds c = laws.searching-start _ _ _ _ _
@@ -36,16 +53,13 @@ enum-known-front : tie.Need-enum-known-front Inv-loop μ-loop
 enum-known-front c = search needs
 
 returns-3 : tie.Need-returns-3 Inv-loop μ-loop
-returns-3 c = cc (laws.searching-out (c .before .before .before .before .before .before .loop .inv) (Field _ _)
-    (sym (c .before .before .front .given .1) ∙ c .before .before .before .before .front-at .ensures) (c .if1 .taken))
+returns-3 c = cc (laws.searching-out (turn (c .before) .loop .inv) (Field _ _) (stands (c .before)) (c .if1 .taken))
 
 add-from : tie.Need-add-from Inv-loop μ-loop
-add-from c = let p = c .before .before in let q = p .before .before in
-    omega (arith, laws.front-inside _ (q .before .before .loop .at) (sym (p .front .given .1) ∙ q .front-at .ensures))
+add-from c = omega (arith, inside (c .before))
 
 add-to : tie.Need-add-to Inv-loop μ-loop
-add-to c = let p = c .before .before in let q = p .before .before in
-    omega (arith, laws.front-inside _ (q .before .before .loop .at) (sym (p .front .given .1) ∙ q .front-at .ensures))
+add-to c = omega (arith, inside (c .before))
 
 sub-equal : tie.Need-sub-equal Inv-loop μ-loop
 sub-equal c = search needs
@@ -54,19 +68,15 @@ part-equal-start : tie.Need-part-equal-start Inv-loop μ-loop
 part-equal-start c = search needs
 
 part-equal-end : tie.Need-part-equal-end Inv-loop μ-loop
-part-equal-end c = let p = c .before .before in let q = p .before .before in
-    omega (arith, laws.front-inside _ (q .before .before .loop .at) (sym (p .front .given .1) ∙ q .front-at .ensures))
+part-equal-end c = omega (arith, inside (c .before))
 
 equal-requires : tie.Need-equal-requires Inv-loop μ-loop
 equal-requires c κs = search needs
 
 returns-4 : tie.Need-returns-4 Inv-loop μ-loop
-returns-4 c = search (
-  laws.searching-found,
-  sym (c .before .before .before .before .before .front .given .1)
-      ∙ c .before .before .before .before .before .before .before .front-at .ensures,
-  sym (c .before .equal .ensures) ∙ c .if2 .taken,
-)
+returns-4 c =
+    let p = c .before in
+    search (laws.searching-found, stands (p .before .before .before), sym (p .equal .ensures) ∙ c .if2 .taken)
 
 add-i : tie.Need-add-i Inv-loop μ-loop
 add-i c = search needs
@@ -75,12 +85,9 @@ loop-less : tie.Need-loop-less Inv-loop μ-loop
 loop-less c = search needs
 
 loop-again : tie.Need-loop-again Inv-loop μ-loop
-loop-again c = search (
-  laws.searching-next,
-  sym (c .before .before .before .before .before .front .given .1)
-      ∙ c .before .before .before .before .before .before .before .front-at .ensures,
-  sym (c .before .equal .ensures) ∙ c .if2 .left,
-)
+loop-again c =
+    let p = c .before in
+    search (laws.searching-next, stands (p .before .before .before), sym (p .equal .ensures) ∙ c .if2 .left)
 
 returns-5 : tie.Need-returns-5 Inv-loop μ-loop
 returns-5 c = search laws.searching-end

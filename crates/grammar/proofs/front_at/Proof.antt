@@ -26,7 +26,9 @@ wide-requires : tie.Need-wide-requires
 wide-requires c κs = search needs
 
 mul-size : tie.Need-mul-size
-mul-size c = let p = c .before in let q = p .before .before .before .before in
+mul-size c =
+    let p = c .before in
+    let q = p .before .before .before .before in
     omega (arith, c .wide .ensures, p .shared-slice-known2 .given (q .args .at + 1))
 
 add-wide-2 : tie.Need-add-wide-2
@@ -39,18 +41,26 @@ wide-requires-2 : tie.Need-wide-requires-2
 wide-requires-2 c κs = search needs
 
 add-size : tie.Need-add-size
-add-size c = let p = c .before in let q = p .before .before .before .before .before .before in
+add-size c =
+    let p = c .before in
+    let q = p .before .before .before .before .before .before in
     omega (arith, c .wide2 .ensures, p .shared-slice-known3 .given (q .args .at + 1), p .shared-slice-known3 .given (q .args .at + 2))
 
 returns-3 : tie.Need-returns-3
-returns-3 c = let p = c .before in let q = p .before .before in
+returns-3 c =
+    let p = c .before in
+    let q = p .before .before in
     sym (laws.front-cut _ _ (q .before .before .before .if1 .left) (omega (arith, p .wide2 .ensures, q .wide .ensures, c .if3 .taken)))
 
 shared-slice-read-t14 : tie.Need-shared-slice-read-t14
 shared-slice-read-t14 c = search needs
 
 returns-4 : tie.Need-returns-4
-returns-4 c = let p = c .before in let q = p .before in let r = q .before .before in let s = r .before .before in
+returns-4 c =
+    let p = c .before in
+    let q = p .before in
+    let r = q .before .before in
+    let s = r .before .before in
     sym (laws.front-is _ _ (s .before .if1 .left) (s .if2 .left) (r .wide .ensures) (q .wide2 .ensures) (p .if3 .left))
 
 pub front-at-spec : {M : Type 1} → statement M

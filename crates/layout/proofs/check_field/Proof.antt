@@ -59,7 +59,10 @@ stopped-requires-2 : tie.Need-stopped-requires-2
 stopped-requires-2 c κs = search needs
 
 returns-2 : tie.Need-returns-2
-returns-2 c = let p = c .before in let q = p .before in c .stopped2 .ensures
+returns-2 c =
+    let p = c .before in
+    let q = p .before in
+    c .stopped2 .ensures
     ∙ sym (ap checking (laws.field-by _ _ _ _ _ true false _ _ _ (known (q .before)) (laws.fails (q .may-follow .ensures) (p .if2 .taken)) refl refl refl))
 
 is-spelled-requires : tie.Need-is-spelled-requires
@@ -69,7 +72,11 @@ stopped-requires-3 : tie.Need-stopped-requires-3
 stopped-requires-3 c κs = search needs
 
 returns-3 : tie.Need-returns-3
-returns-3 c = let p = c .before in let q = p .before in let r = q .before in c .stopped3 .ensures
+returns-3 c =
+    let p = c .before in
+    let q = p .before in
+    let r = q .before in
+    c .stopped3 .ensures
     ∙ sym (ap checking (laws.field-by _ _ _ _ _ true true false _ _ (known (second r)) (ordered r) (laws.fails (spelling q) (p .if3 .taken)) refl refl))
 
 has-room-requires : tie.Need-has-room-requires
@@ -98,7 +105,11 @@ further-requires : tie.Need-further-requires
 further-requires c κs = room (c .before .before)
 
 returns-6 : tie.Need-returns-6
-returns-6 c = let q = c .before in let r = q .before in let p = r .before in ap Further (c .further .ensures)
+returns-6 c =
+    let q = c .before in
+    let r = q .before in
+    let p = r .before in
+    ap Further (c .further .ensures)
     ∙ sym (ap checking (laws.field-by _ _ _ _ _ true true true true true (known (second (third (fourth p)))) (ordered (third (fourth p))) (spelled (fourth p))
     (room p) (laws.passes (r .is-whole .ensures) (q .if5 .left))))
 

@@ -89,7 +89,11 @@ check-end-requires : tie.Need-check-end-requires Inv-loop μ-loop
 check-end-requires c κs = search needs
 
 returns-2 : tie.Need-returns-2 Inv-loop μ-loop
-returns-2 c = let q = c .before in let r = q .before .before in let p = r .before in c .check-end .ensures
+returns-2 c =
+    let q = c .before in
+    let r = q .before .before in
+    let p = r .before in
+    c .check-end .ensures
     ∙ laws.turn-end (p .loop .inv .0) (p .before .before .if1 .left) (sym (q .enum-told .given .1) ∙ r .front-at .ensures)
 
 enum-told-2 : tie.Need-enum-told-2 Inv-loop μ-loop
@@ -99,7 +103,11 @@ refused-requires-2 : tie.Need-refused-requires-2 Inv-loop μ-loop
 refused-requires-2 c κs = search needs
 
 returns-3 : tie.Need-returns-3 Inv-loop μ-loop
-returns-3 c = let q = c .before in let r = q .before .before in let p = r .before in c .refused2 .ensures
+returns-3 c =
+    let q = c .before in
+    let r = q .before .before in
+    let p = r .before in
+    c .refused2 .ensures
     ∙ laws.turn-cut (p .loop .inv .0) (p .before .before .if1 .left) (sym (q .enum-told2 .given .1) ∙ r .front-at .ensures)
 
 enum-known-front : tie.Need-enum-known-front Inv-loop μ-loop
@@ -127,7 +135,9 @@ enum-known-checked : tie.Need-enum-known-checked Inv-loop μ-loop
 enum-known-checked c = search needs
 
 returns-4 : tie.Need-returns-4 Inv-loop μ-loop
-returns-4 c = let q = c .before in let p = q .before .before in
+returns-4 c =
+    let q = c .before in
+    let p = q .before .before in
     laws.turn-stopped (turn (field p) .loop .inv .0) (stands (field p)) (turn (field p) .before .before .if1 .left)
     (sym (q .checked .given .1) ∙ p .check-field .ensures)
 
@@ -138,7 +148,9 @@ cast-enter : tie.Need-cast-enter Inv-loop μ-loop
 cast-enter c = search needs
 
 enter-requires : tie.Need-enter-requires Inv-loop μ-loop
-enter-requires c κs = let q = c .before .before in let p = field (accepted q) in
+enter-requires c κs =
+    let q = c .before .before in
+    let p = field (accepted q) in
     (keyword-room (turn p .loop .inv .0) (turn p .loop .inv .1) (stands p) (further q), place p, small p)
 
 cast-enter-2 : tie.Need-cast-enter-2 Inv-loop μ-loop
@@ -154,10 +166,13 @@ loop-less : tie.Need-loop-less Inv-loop μ-loop
 loop-less c = omega (arith, inside (field (accepted (c .before .before .before .before .before .before))))
 
 loop-again : tie.Need-loop-again Inv-loop μ-loop
-loop-again c = let r = c .before .before .before in let q = r .before .before .before in let p = field (accepted q) in (
-  laws.turn-next (turn p .loop .inv .0) (stands p) (further q),
-  remembered-next (turn p .loop .inv .0) (turn p .loop .inv .1) (stands p) (further q) (r .enter .ensures) (c .enter2 .ensures),
-)
+loop-again c =
+    let r = c .before .before .before in
+    let q = r .before .before .before in
+    let p = field (accepted q) in (
+      laws.turn-next (turn p .loop .inv .0) (stands p) (further q),
+      remembered-next (turn p .loop .inv .0) (turn p .loop .inv .1) (stands p) (further q) (r .enter .ensures) (c .enter2 .ensures),
+    )
 
 pub check-layout-spec : {M : Type 1} → statement M
 check-layout-spec =

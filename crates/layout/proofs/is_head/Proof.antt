@@ -13,7 +13,9 @@ byte-requires-2 : tie.Need-byte-requires-2
 byte-requires-2 c κs = search needs
 
 returns : tie.Need-returns
-returns c = let p = c .before in laws.head-by _ (p .before .byte .ensures) (p .byte2 .ensures) false (not-true _ (c .if1 .taken))
+returns c =
+    let p = c .before in
+    laws.head-by _ (p .before .byte .ensures) (p .byte2 .ensures) false (not-true _ (c .if1 .taken))
 
 are-sorts-requires : tie.Need-are-sorts-requires
 are-sorts-requires c κs = search needs

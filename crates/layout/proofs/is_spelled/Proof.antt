@@ -14,7 +14,9 @@ is-among-requires : tie.Need-is-among-requires
 is-among-requires c κs = search needs
 
 returns : tie.Need-returns
-returns c = let p = c .before in λ before k o. (λ i. p .is-keyword-spelling .ensures i && not ((c .is-among .ensures _ k ∙ repeated-among 1 _ before) i))
+returns c =
+    let p = c .before in
+    λ before k o. (λ i. p .is-keyword-spelling .ensures i && not ((c .is-among .ensures _ k ∙ repeated-among 1 _ before) i))
     ∙ sym (laws.spelled-keyword _ _ before (p .before .if1 .taken))
 
 is-word-requires : tie.Need-is-word-requires
@@ -24,7 +26,9 @@ is-among-requires-2 : tie.Need-is-among-requires-2
 is-among-requires-2 c κs = search needs
 
 returns-2 : tie.Need-returns-2
-returns-2 c = let p = c .before in λ before k o. (λ i. p .is-word .ensures i && not ((c .is-among2 .ensures _ o ∙ repeated-among 2 _ before) i))
+returns-2 c =
+    let p = c .before in
+    λ before k o. (λ i. p .is-word .ensures i && not ((c .is-among2 .ensures _ o ∙ repeated-among 2 _ before) i))
     ∙ sym (laws.spelled-outside _ _ before (p .before .if2 .taken))
 
 returns-3 : tie.Need-returns-3

@@ -14,7 +14,9 @@ are-templates-requires : tie.Need-are-templates-requires
 are-templates-requires c κs = search needs
 
 returns : tie.Need-returns
-returns c = let p = c .before in (λ i. not (eqb (p .byte .ensures i) 4) || c .are-templates .ensures i) ∙ sym (laws.whole-item _ _ (p .before .if1 .taken))
+returns c =
+    let p = c .before in
+    (λ i. not (eqb (p .byte .ensures i) 4) || c .are-templates .ensures i) ∙ sym (laws.whole-item _ _ (p .before .if1 .taken))
 
 are-templates-requires-2 : tie.Need-are-templates-requires-2
 are-templates-requires-2 c κs = search needs

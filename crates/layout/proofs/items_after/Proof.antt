@@ -14,7 +14,9 @@ one-if-requires : tie.Need-one-if-requires
 one-if-requires c κs = search needs
 
 add-result : tie.Need-add-result
-add-result c = let p = c .before in let q = p .before .before in
+add-result c =
+    let p = c .before in
+    let q = p .before .before in
     laws.fitting _ 12 (eqb (q .args .tag) 6) (laws.room-of _ _ (q .pre) .items) (lit< tt) (omega arith) (p .one-if .ensures)
 
 returns-2 : tie.Need-returns-2

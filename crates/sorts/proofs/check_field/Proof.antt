@@ -24,7 +24,8 @@ signature-at-requires : tie.Need-signature-at-requires
 signature-at-requires c κs = search needs
 
 load-params-requires : tie.Need-load-params-requires
-load-params-requires c κs = let p = c .before .before .before in
+load-params-requires c κs =
+    let p = c .before .before .before in
     omega (arith, ap length (c .signature-at .ensures), signature-short (start p .args .table .now) (start p .args .known .head))
 
 check-variable-requires : tie.Need-check-variable-requires

@@ -141,7 +141,9 @@ same-length-9 : tie.Need-same-length-9 Inv-loop μ-loop
 same-length-9 c = search needs
 
 returns-3 : tie.Need-returns-3 Inv-loop μ-loop
-returns-3 c = let q = c .before in let p = checked (q .before .before) in
+returns-3 c =
+    let q = c .before in
+    let p = checked (q .before .before) in
     laws.sorting-stop (turn (field p) .loop .inv) (stands (field p)) (value (field p)) (p .check-field .ensures) (q .step .given .1)
 
 enum-known-step-2 : tie.Need-enum-known-step-2 Inv-loop μ-loop
@@ -151,7 +153,9 @@ loop-less : tie.Need-loop-less Inv-loop μ-loop
 loop-less c = omega (arith, inside (field (checked (c .before .before .before))))
 
 loop-again : tie.Need-loop-again Inv-loop μ-loop
-loop-again c = let q = c .before in let p = checked (q .before .before) in
+loop-again c =
+    let q = c .before in
+    let p = checked (q .before .before) in
     laws.sorting-next (turn (field p) .loop .inv) (stands (field p)) (value (field p)) (p .check-field .ensures) (q .step2 .given .1)
     (p .check-field .kept .0) (p .check-field .kept .1 .0) (p .check-field .kept .1 .1 .0)
 

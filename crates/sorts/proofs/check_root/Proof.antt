@@ -18,11 +18,17 @@ byte-requires : tie.Need-byte-requires
 byte-requires c κs = search needs
 
 returns-2 : tie.Need-returns-2
-returns-2 c = let p = c .before in let q = p .before in let r = q .before in
+returns-2 c =
+    let p = c .before in
+    let q = p .before in
+    let r = q .before in
     laws.root-tested _ _ _ (r .before .head-of .ensures) (r .if1 .left) (q .signature-at .ensures) (p .byte .ensures) true (c .if2 .taken)
 
 returns-3 : tie.Need-returns-3
-returns-3 c = let p = c .before in let q = p .before in let r = q .before in
+returns-3 c =
+    let p = c .before in
+    let q = p .before in
+    let r = q .before in
     laws.root-tested _ _ _ (r .before .head-of .ensures) (r .if1 .left) (q .signature-at .ensures) (p .byte .ensures) false (c .if2 .left)
 
 pub check-root-spec : {M : Type 1} → statement M

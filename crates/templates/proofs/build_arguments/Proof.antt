@@ -1,6 +1,6 @@
 -- `build_arguments`: the templates ahead, one by one.
 use Prim.Native.Nat.{_-_}
-use mathlib.Core.Path.{_≡_, refl, _∙_}
+use mathlib.Core.Path.{_≡_, _∙_}
 use native.Mathlib.Omega.{arith}
 use lib.ListN.{length, replicate}
 use borrow.Author.Needs.{needs}
@@ -16,21 +16,30 @@ abbrev μ-loop : tie.MeasureT-loop
 μ-loop v start env k rows made out cells₀ stack₀ list₀ at₀ n₀ count₀ cells stack list at n count =
     length v - at
 
+-- a template is built, and its value goes into the list
+module _ (p : tie.After-put Inv-loop μ-loop) where
+  abbrev told : tie.After-part Inv-loop μ-loop
+  told = p .before .before .before
+
+  abbrev built : tie.After-build Inv-loop μ-loop
+  built = told .before .before .before .before .before .before
+
+  abbrev turn : tie.In-loop Inv-loop μ-loop
+  turn = built .before .before .before
+
 loop-holds : tie.Need-loop-holds Inv-loop μ-loop
-loop-holds c =
-    let entry-place = c .before .before .before in
-    (laws.listing-start _ _ _ _ _ _ (entry-place .args .cells .now) (replicate 16 0) refl (entry-place .pre .0), refl)
+loop-holds c = search (laws.listing-start, replicate)
 
 build-requires : tie.Need-build-requires Inv-loop μ-loop
 build-requires c κs =
-    let loop-place = c .before .before .before in
-    let fit = loop-place .before .before .before .before .pre .1 in (
-      laws.listing-first (loop-place .loop .inv .0) (c .before .before .loop-test .taken) .0,
+    let turn = c .before .before .before in
+    let fit = turn .before .before .before .before .pre .1 in (
+      laws.listing-first (turn .loop .inv .0) (c .before .before .loop-test .taken) .0,
       record {
         small = fit .small;
-        stack-long = omega (arith, fit .stack-long, loop-place .loop .inv .1);
+        stack-long = omega (arith, fit .stack-long, turn .loop .inv .1);
         few = fit .few;
-        rows-long = omega (arith, fit .rows-long, loop-place .loop .inv .0 .as-long);
+        rows-long = omega (arith, fit .rows-long, turn .loop .inv .0 .as-long);
       },
     )
 
@@ -38,26 +47,13 @@ enum-told : tie.Need-enum-told Inv-loop μ-loop
 enum-told c = search needs
 
 same-length : tie.Need-same-length Inv-loop μ-loop
-same-length c =
-    let build-place = c .before .before .before .before .before .before in
-    let loop-place = build-place .before .before .before .before in
-    build-place .build .kept .1 .1 .1 .1 .1 .1 .0 ∙ loop-place .loop .inv .0 .as-long
+same-length c = search needs
 
 same-length-2 : tie.Need-same-length-2 Inv-loop μ-loop
-same-length-2 c =
-    let build-place = c .before .before .before .before .before .before in
-    let loop-place = build-place .before .before .before .before in
-    build-place .build .kept .1 .1 .1 .1 .1 .1 .1 .0 ∙ loop-place .loop .inv .1
+same-length-2 c = search needs
 
 returns : tie.Need-returns Inv-loop μ-loop
-returns c =
-    let build-place = c .before .before .before .before .before .before in
-    let loop-test-place = build-place .before .before .before in
-    let loop-place = loop-test-place .before in (
-      laws.listing-full (loop-place .loop .inv .0) (loop-test-place .loop-test .taken) (build-place .build .last .1 .1 .1 .1 .1 .1 .0) (build-place
-          .build .result) (build-place .build .ensures .0) (c .enum-told .given .1),
-      tt,
-    )
+returns c = search laws.listing-full
 
 enum-known-part : tie.Need-enum-known-part Inv-loop μ-loop
 enum-known-part c = search needs
@@ -66,41 +62,29 @@ put-requires : tie.Need-put-requires Inv-loop μ-loop
 put-requires c κs = search needs
 
 add-n : tie.Need-add-n Inv-loop μ-loop
-add-n c =
-    let loop-test-place = c .before .before .before .before .before .before .before .before .before .before .before .before in
-    let loop-place = loop-test-place .before in
-    let entry-place = loop-place .before .before .before .before in
-    omega (arith, loop-place .loop .inv .0 .small, loop-test-place .loop-test .taken, entry-place .pre .1 .small)
+add-n c = search needs
 
 loop-less : tie.Need-loop-less Inv-loop μ-loop
 loop-less c =
-    let part-place = c .before .before .before in
-    let build-place = part-place .before .before .before .before .before .before in
-    let loop-test-place = build-place .before .before .before in
-    let loop-place = loop-test-place .before in
-    laws.listing-less (loop-place .loop .inv .0) (loop-test-place .loop-test .taken) (build-place .build .last .1 .1 .1 .1 .1 .1 .0) (build-place
-    .build .result) (build-place .build .ensures .0) (part-place .part .given .1) (build-place .build .ensures .1)
+    let b = built c .build in
+    laws.listing-less (turn c .before .loop .inv .0) (turn c .loop-test .taken) _ _ (b .ensures .0) (told c .part .given .1) (b .ensures .1)
 
 loop-again : tie.Need-loop-again Inv-loop μ-loop
 loop-again c =
-    let part-place = c .before .before .before in
-    let build-place = part-place .before .before .before .before .before .before in
-    let loop-test-place = build-place .before .before .before in
-    let loop-place = loop-test-place .before in (
-      laws.listing-next (loop-place .loop .inv .0) (loop-test-place .loop-test .taken) (build-place .build .last .1 .1 .1 .1 .1 .1 .0) (build-place
-          .build .result) (build-place .build .ensures .0) (build-place .build .kept .1 .1 .1 .1 .1 .1 .0) (part-place .part .given .1) (build-place
-          .build .ensures .1) (c .put .last .0) (c .put .ensures),
-      build-place .build .kept .1 .1 .1 .1 .1 .1 .1 .0 ∙ loop-place .loop .inv .1,
+    let b = built c .build in (
+      laws.listing-next (turn c .before .loop .inv .0) (turn c .loop-test .taken) _ _ (b .ensures .0) (search needs) (told c .part .given .1)
+          (b .ensures .1) (c .put .last .0) (c .put .ensures),
+      cc,
     )
 
 same-length-3 : tie.Need-same-length-3 Inv-loop μ-loop
-same-length-3 c = (c .before .loop .inv .0) .as-long
+same-length-3 c = search needs
 
 same-length-4 : tie.Need-same-length-4 Inv-loop μ-loop
-same-length-4 c = c .before .loop .inv .1
+same-length-4 c = search needs
 
 returns-2 : tie.Need-returns-2 Inv-loop μ-loop
-returns-2 c = (laws.listing-end (c .before .loop .inv .0) (c .loop-test .left), (c .before .loop .inv .0) .few)
+returns-2 c = search laws.listing-end
 
 pub build-arguments-spec : {M : Type 1} → statement M
 build-arguments-spec =

@@ -1,6 +1,4 @@
 -- `given_at`: a number of a part of the stack.
-use mathlib.Core.Path.{refl, sym, ap, _∙_}
-use native.Mathlib.Omega.{arith}
 use borrow.Author.Needs.{needs}
 use Rattle.templates.proofs.BuildLaws as laws
 use Rattle.templates.proofs.given_at.Statement.{statement}
@@ -16,10 +14,10 @@ shared-slice-read-result : tie.Need-shared-slice-read-result
 shared-slice-read-result c = search needs
 
 returns : tie.Need-returns
-returns c = laws.given-in (c .before .before .args .stack .now) (c .before .before .args .pos) (c .before .if1 .taken)
+returns c = search laws.given-in
 
 returns-2 : tie.Need-returns-2
-returns-2 c = laws.given-out (c .before .args .stack .now) (c .before .args .pos) (c .if1 .left)
+returns-2 c = search laws.given-out
 
 pub given-at-spec : {M : Type 1} → statement M
 given-at-spec =

@@ -1,5 +1,4 @@
 -- `head_at`: by the first byte.
-use mathlib.Core.Path.{refl, sym, ap, _∙_}
 use Rattle.templates.proofs.TemplateLaws.{ahead-inside}
 use native.Mathlib.Omega.{arith}
 use borrow.Author.Needs.{needs}
@@ -18,17 +17,17 @@ pick-requires c κs = search needs
 
 add-t10 : tie.Need-add-t10
 add-t10 c =
-    let entry-place = c .before .before .before .before in
-    omega (
-      arith,
-      (laws.variable-head (entry-place .pre) (c .before .before .byte .ensures) (c .before .if1 .taken) (c .pick .ensures)) .1 .inside,
-      entry-place .good,
-    )
+    let p = c .before in
+    let q = p .before in
+    let entry-place = q .before .before in
+    omega (arith, (laws.variable-head (entry-place .pre) (q .byte .ensures) (p .if1 .taken) (c .pick .ensures)) .1 .inside, entry-place .good)
 
 returns : tie.Need-returns
 returns c =
-    let entry-place = c .before .before .before .before in
-    laws.variable-head (entry-place .pre) (c .before .before .byte .ensures) (c .before .if1 .taken) (c .pick .ensures)
+    let p = c .before in
+    let q = p .before in
+    let entry-place = q .before .before in
+    laws.variable-head (entry-place .pre) (q .byte .ensures) (p .if1 .taken) (c .pick .ensures)
 
 add-byte : tie.Need-add-byte
 add-byte c =
@@ -43,28 +42,30 @@ name-value-requires c κs = search needs
 
 add-t11 : tie.Need-add-t11
 add-t11 c =
-    let if1-place = c .before .before .before in
+    let p = c .before in
+    let q = p .before in
+    let if1-place = q .before in
     let byte-place = if1-place .before in
     let entry-place = byte-place .before .before in
     omega (
       arith,
-      (laws.name-head (entry-place .pre) (byte-place .byte .ensures) (if1-place .if1 .left) (c .before .before .if2 .taken) (c .before
-          .byte2 .ensures) (c .name-value .ensures) {env = entry-place .args .env .now} {k = entry-place .args .k}) .1 .inside,
+      (laws.name-head (entry-place .pre) (byte-place .byte .ensures) (if1-place .if1 .left) (q .if2 .taken)
+          (p .byte2 .ensures) (c .name-value .ensures) {env = entry-place .args .env .now} {k = entry-place .args .k}) .1 .inside,
       entry-place .good,
     )
 
 returns-2 : tie.Need-returns-2
 returns-2 c =
-    let if1-place = c .before .before .before in
+    let p = c .before in
+    let q = p .before in
+    let if1-place = q .before in
     let byte-place = if1-place .before in
     let entry-place = byte-place .before .before in
-    laws.name-head (entry-place .pre) (byte-place .byte .ensures) (if1-place .if1 .left) (c .before .before .if2 .taken) (c .before .byte2 .ensures)
+    laws.name-head (entry-place .pre) (byte-place .byte .ensures) (if1-place .if1 .left) (q .if2 .taken) (p .byte2 .ensures)
     (c .name-value .ensures)
 
 returns-3 : tie.Need-returns-3
-returns-3 c =
-    let entry-place = c .before .before .before .before in
-    (λ M g. tt, laws.node-head (entry-place .pre) (c .before .before .byte .ensures) (c .if2 .left) (search needs))
+returns-3 c = search laws.node-head
 
 pub head-at-spec : {M : Type 1} → statement M
 head-at-spec =

@@ -8,10 +8,10 @@ add-result : tie.Need-add-result
 add-result c = search needs
 
 returns : tie.Need-returns
-returns c = λ I M s cells. laws.name-var (c .before .args .tag) (c .before .args .n) I M s cells (c .if1 .taken)
+returns c = search laws.name-var
 
 returns-2 : tie.Need-returns-2
-returns-2 c = λ I M s cells. laws.name-label (c .before .args .tag) (c .before .args .n) I M s cells (c .if1 .left)
+returns-2 c = search laws.name-label
 
 pub name-value-spec : {M : Type 1} → statement M
 name-value-spec = tie.close (tie.spec add-result returns returns-2)

@@ -11,10 +11,10 @@ element-copy-out-result : tie.Need-element-copy-out-result
 element-copy-out-result c = search needs
 
 returns : tie.Need-returns
-returns c = λ M h. laws.picked (c .before .before .args .env .now) M (c .before .before .args .k) h (c .before .before .args .i) (c .before .before .pre) (c .before .if1 .taken)
+returns c = search laws.picked
 
 returns-2 : tie.Need-returns-2
-returns-2 c = λ M h. laws.not-picked (c .before .args .env .now) M (c .before .args .k) h (c .before .args .i) (c .if1 .left)
+returns-2 c = search laws.not-picked
 
 pub pick-spec : {M : Type 1} → statement M
 pick-spec = tie.close (tie.spec mul-result element-copy-out-result returns returns-2)

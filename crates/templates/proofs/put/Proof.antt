@@ -11,10 +11,10 @@ element-write-env : tie.Need-element-write-env
 element-write-env c = search needs
 
 returns : tie.Need-returns
-returns c = λ M h. laws.put-inside (c .before .args .env .now) M (c .before .args .k) h (c .before .args .v) (c .if1 .taken)
+returns c = search laws.put-inside
 
 returns-2 : tie.Need-returns-2
-returns-2 c = λ M h. laws.put-outside (c .before .args .env .now) M (c .before .args .k) h (c .before .args .v) (c .if1 .left)
+returns-2 c = search laws.put-outside
 
 pub put-spec : {M : Type 1} → statement M
 put-spec = tie.close (tie.spec mul-env element-write-env returns returns-2)

@@ -57,7 +57,7 @@ same-length : tie.Need-same-length
 same-length c = search needs
 
 returns : tie.Need-returns
-returns c = laws.row-stored (c .args .cells .now) (c .args .t4) (c .args .row * columns) (c .args .code) (c .good .1 .1 .1 .0 .1 .0 .1)
+returns c = search laws.row-stored
 
 pub store-row-spec : {M : Type 1} → statement M
 store-row-spec =

@@ -61,7 +61,9 @@ is-entry-requires : tie.Need-is-entry-requires Inv-loop μ-loop
 is-entry-requires c κs = search needs
 
 returns : tie.Need-returns Inv-loop μ-loop
-returns c = let p = c .before in λ words x. laws.searching-found (turn p .loop .inv .search words x) (p .before .loop-test .taken) (here p) (c .if1 .taken)
+returns c =
+    let p = c .before in
+    λ words x. laws.searching-found (turn p .loop .inv .search words x) (p .before .loop-test .taken) (here p) (c .if1 .taken)
 
 mul-wide-2 : tie.Need-mul-wide-2 Inv-loop μ-loop
 mul-wide-2 c = omega arith
@@ -82,7 +84,9 @@ loop-less : tie.Need-loop-less Inv-loop μ-loop
 loop-less c = omega (arith, falls (c .before .before .before))
 
 loop-again : tie.Need-loop-again Inv-loop μ-loop
-loop-again c = let q = c .before .before in let p = q .before in
+loop-again c =
+    let q = c .before .before in
+    let p = q .before in
     record {
       small = omega (arith, c .wide2 .ensures, falls p, turn p .loop .inv .small);
       search =

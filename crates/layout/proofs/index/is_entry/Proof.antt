@@ -57,7 +57,10 @@ equal-requires : tie.Need-equal-requires
 equal-requires c κs = search needs
 
 returns-2 : tie.Need-returns-2
-returns-2 c = let q = c .before in let r = q .before in λ w p e f. c .equal .ensures
+returns-2 c =
+    let q = c .before in
+    let r = q .before in
+    λ w p e f. c .equal .ensures
     ∙ laws.entry-same _ e (r .before .before .wide2 .ensures) (r .wide3 .ensures) (q .part .ensures)
 
 pub is-entry-spec : {M : Type 1} → statement M

@@ -53,7 +53,7 @@ size-fields-sub-rest : (t : ℕ) → size-fields-lts.Need-sub-rest (claims t) (s
 size-fields-sub-rest t c = search needs
 
 size-fields-returns-2 : (t : ℕ) → size-fields-lts.Need-returns-2 (claims t) (size-fields-at t) size-fields.Post
-size-fields-returns-2 t c = laws.shallow-fields _ _ _ _ (c .if2 .taken)
+size-fields-returns-2 t c = search laws.shallow-fields
 
 size-fields-sub-deep : (t : ℕ) → size-fields-lts.Need-sub-deep (claims t) (size-fields-at t) size-fields.Post
 size-fields-sub-deep t c = search needs
@@ -74,14 +74,10 @@ size-fields-size-fields-requires : (t : ℕ) → size-fields-lts.Need-size-field
 size-fields-size-fields-requires t c κs = (omega arith, tt)
 
 size-fields-returns-3 : (t : ℕ) → size-fields-lts.Need-returns-3 (claims t) (size-fields-at t) size-fields.Post
-size-fields-returns-3 t c =
-    laws.cons-left _ _ _ _ (c .before .before .before .before .before .before .if2 .left)
-    (c .before .before .before .before .before .column .ensures) (c .before .before .before .before .if3 .taken)
-    (c .before .before .before .column2 .ensures) (c .before .column3 .ensures) (c .before .before .size-term .ensures)
-    (c .size-fields .ensures)
+size-fields-returns-3 t c = search laws.cons-left
 
 size-fields-returns-4 : (t : ℕ) → size-fields-lts.Need-returns-4 (claims t) (size-fields-at t) size-fields.Post
-size-fields-returns-4 t c = laws.nil-left _ _ _ _ (c .before .before .if2 .left) (c .before .column .ensures) (c .if3 .left)
+size-fields-returns-4 t c = search laws.nil-left
 
 size-term-returns : (t : ℕ) → size-term-lts.Need-returns (claims t) (size-term-at t) size-term.Post
 size-term-returns t c = omega arith
@@ -90,7 +86,7 @@ size-term-sub-rest : (t : ℕ) → size-term-lts.Need-sub-rest (claims t) (size-
 size-term-sub-rest t c = search needs
 
 size-term-returns-2 : (t : ℕ) → size-term-lts.Need-returns-2 (claims t) (size-term-at t) size-term.Post
-size-term-returns-2 t c = laws.shallow _ _ _ _ (c .if2 .taken)
+size-term-returns-2 t c = search laws.shallow
 
 size-term-sub-deep : (t : ℕ) → size-term-lts.Need-sub-deep (claims t) (size-term-at t) size-term.Post
 size-term-sub-deep t c = search needs
@@ -129,31 +125,19 @@ size-term-size-term-requires-4 : (t : ℕ) → size-term-lts.Need-size-term-requ
 size-term-size-term-requires-4 t c κs = (omega arith, tt)
 
 size-term-returns-3 : (t : ℕ) → size-term-lts.Need-returns-3 (claims t) (size-term-at t) size-term.Post
-size-term-returns-3 t c =
-    laws.fun-left _ _ _ _ (c .before .before .before .before .if2 .left) (c .before .before .before .column .ensures)
-    (c .before .before .match .keys1) (c .before .column2 .ensures) (c .size-term .ensures)
+size-term-returns-3 t c = search laws.fun-left
 
 size-term-returns-4 : (t : ℕ) → size-term-lts.Need-returns-4 (claims t) (size-term-at t) size-term.Post
-size-term-returns-4 t c =
-    laws.app-left _ _ _ _ (c .before .before .before .before .before .before .if2 .left)
-    (c .before .before .before .before .before .column .ensures) (c .before .before .before .before .match .keys2)
-    (c .before .before .before .column3 .ensures) (c .before .column4 .ensures) (c .before .before .size-term2 .ensures)
-    (c .size-term3 .ensures)
+size-term-returns-4 t c = search laws.app-left
 
 size-term-returns-5 : (t : ℕ) → size-term-lts.Need-returns-5 (claims t) (size-term-at t) size-term.Post
-size-term-returns-5 t c =
-    laws.rcd-left _ _ _ _ (c .before .before .before .before .if2 .left) (c .before .before .before .column .ensures)
-    (c .before .before .match .keys3) (c .before .column5 .ensures) (c .size-fields .ensures)
+size-term-returns-5 t c = search laws.rcd-left
 
 size-term-returns-6 : (t : ℕ) → size-term-lts.Need-returns-6 (claims t) (size-term-at t) size-term.Post
-size-term-returns-6 t c =
-    laws.dot-left _ _ _ _ (c .before .before .before .before .if2 .left) (c .before .before .before .column .ensures)
-    (c .before .before .match .keys4) (c .before .column6 .ensures) (c .size-term4 .ensures)
+size-term-returns-6 t c = search laws.dot-left
 
 size-term-returns-7 : (t : ℕ) → size-term-lts.Need-returns-7 (claims t) (size-term-at t) size-term.Post
-size-term-returns-7 t c =
-    laws.bare-left _ _ _ _ (c .before .before .if2 .left) (c .before .column .ensures) (c .match .rest .0 .0 .0 .1)
-    (c .match .rest .0 .0 .1) (c .match .rest .0 .1) (c .match .rest .1)
+size-term-returns-7 t c = search laws.bare-left
 
 pub +size-fields+size-term-spec : {M : Type 1} → statement M
 +size-fields+size-term-spec = close μ-size-fields μ-size-term (λ t. size-fields-lts.spec (claims t)

@@ -31,7 +31,8 @@ part-requires : tie.Need-part-requires
 part-requires c κs = search needs
 
 check-call-requires : tie.Need-check-call-requires
-check-call-requires c κs = let p = c .before .before .before in
+check-call-requires c κs =
+    let p = c .before .before .before in
     omega (arith, ap length (c .part .ensures), length-take (length (start p .args .v .now)) (drop 2 (start p .args .v .now)))
 
 returns-2 : tie.Need-returns-2

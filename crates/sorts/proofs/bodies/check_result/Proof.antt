@@ -30,7 +30,11 @@ same-length : tie.Need-same-length
 same-length c = c .before .before .fault-in .kept .0 ∙ simp length-set
 
 returns : tie.Need-returns
-returns c = let q = c .before .before in let r = q .before .before in let p = r .before in let a = start p .args in
+returns c =
+    let q = c .before .before in
+    let r = q .before .before in
+    let p = r .before in
+    let a = start p .args in
     laws.result-is (a .table .now) (a .known) [] (a .sorts .now) (a .v .now) (a .stack .now) (p .before .signature-at .ensures) (p .byte .ensures)
     (omega (arith, start p .pre)) (cc (q .fault-in .ensures, r .part .ensures))
 

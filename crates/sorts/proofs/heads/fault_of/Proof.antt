@@ -35,21 +35,33 @@ equal-requires : tie.Need-equal-requires
 equal-requires c κs = search needs
 
 returns : tie.Need-returns
-returns c = let p = c .before in let q = p .before in let r = q .before in
+returns c =
+    let p = c .before in
+    let q = p .before in
+    let r = q .before in
     laws.fault-earlier _ _ _ _ (earlier p .before .before .byte .ensures) (earlier p .before .byte2 .ensures) (earlier p .head-of .ensures)
     (r .before .if1 .taken) (r .signature-at .ensures) (q .signature-at2 .ensures) (p .equal .ensures) true (c .if2 .taken)
 
 returns-2 : tie.Need-returns-2
-returns-2 c = let p = c .before in let q = p .before in let r = q .before in
+returns-2 c =
+    let p = c .before in
+    let q = p .before in
+    let r = q .before in
     laws.fault-earlier _ _ _ _ (earlier p .before .before .byte .ensures) (earlier p .before .byte2 .ensures) (earlier p .head-of .ensures)
     (r .before .if1 .taken) (r .signature-at .ensures) (q .signature-at2 .ensures) (p .equal .ensures) false (c .if2 .left)
 
 returns-3 : tie.Need-returns-3
-returns-3 c = let p = c .before in let q = p .before in let r = q .before in
+returns-3 c =
+    let p = c .before in
+    let q = p .before in
+    let r = q .before in
     laws.fault-new _ _ _ _ (r .before .byte .ensures) (r .byte2 .ensures) (q .head-of .ensures) (p .if1 .left) true (eq-eqb _ 0 (c .if3 .taken))
 
 returns-4 : tie.Need-returns-4
-returns-4 c = let p = c .before in let q = p .before in let r = q .before in
+returns-4 c =
+    let p = c .before in
+    let q = p .before in
+    let r = q .before in
     laws.fault-new _ _ _ _ (r .before .byte .ensures) (r .byte2 .ensures) (q .head-of .ensures) (p .if1 .left) false (ne-eqb _ 0 (c .if3 .left))
 
 pub fault-of-spec : {M : Type 1} → statement M

@@ -22,7 +22,9 @@ returns : tie.Need-returns
 returns c = rw (c .before .before .wide .ensures) refl
 
 returns-2 : tie.Need-returns-2
-returns-2 c = let p = c .before in sym (getD-past (p .before .before .args .heads .now) _ 0 (omega (arith, p .wide .ensures, c .if1 .left)))
+returns-2 c =
+    let p = c .before in
+    sym (getD-past (p .before .before .args .heads .now) _ 0 (omega (arith, p .wide .ensures, c .if1 .left)))
 
 pub head-of-spec : {M : Type 1} → statement M
 head-of-spec =

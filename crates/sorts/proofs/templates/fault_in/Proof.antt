@@ -49,7 +49,9 @@ loop-less : tie.Need-loop-less Inv-loop μ-loop
 loop-less c = search needs
 
 loop-again : tie.Need-loop-again Inv-loop μ-loop
-loop-again c = let p = c .before .before in laws.testing-next (turn (read c) .before .loop .inv) (turn (read c) .loop-test .taken) refl
+loop-again c =
+    let p = c .before .before in
+    laws.testing-next (turn (read c) .before .loop .inv) (turn (read c) .loop-test .taken) refl
     (read c .wide .ensures) (p .before .before .if1 .left) (p .fill .kept .0) (p .fill .ensures)
 
 same-length-2 : tie.Need-same-length-2 Inv-loop μ-loop

@@ -30,7 +30,10 @@ slice-write-stack : tie.Need-slice-write-stack Inv-loop μ-loop
 slice-write-stack c = search laws.opening-room
 
 add-top : tie.Need-add-top Inv-loop μ-loop
-add-top c = let p = c .before in let q = p .before in let r = q .before .before .before .before in
+add-top c =
+    let p = c .before in
+    let q = p .before in
+    let r = q .before .before .before .before in
     omega (arith, laws.opening-room (r .pre) (q .loop .inv) (p .loop-test .taken))
 
 loop-less : tie.Need-loop-less Inv-loop μ-loop
