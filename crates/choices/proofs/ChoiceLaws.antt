@@ -1,14 +1,15 @@
 -- Laws of the choice of a production: the walk over a nonterminal's own places gives the rule that `choice` gives.
-use Prim.Native.Nat.{ℕ, zero, suc, _+_, _-_, _<_, _≤_}
+use Prim.Native.Nat.{ℕ, zero, suc, _+_, _-_, _*_, _<_, _≤_}
 use mathlib.Core.Path.{_≡_, refl, sym, ap, _∙_, subst, subst⁻¹}
 use mathlib.Core.Bool.{Bool, true, false, _&&_, and-eq-true-iff}
 use mathlib.Core.List.{List, [], _∷_, map}
 use native.Mathlib.Nat.{sub-self, sub-zero}
 use native.Mathlib.Numerals.{add-one}
 use native.Mathlib.Omega.{arith}
+use native.Mathlib.Decide.{ℕ-discrete}
 use lib.Dec.{eqb, ltb}
-use lib.ListN.{length, getD, drop, length-drop, length-map, drop-of-length-le}
-use lib.Seq.{drop-cons, drop-nil, drop-drop, getD-drop}
+use lib.ListN.{length, getD, set, drop, length-set, length-drop, length-map, drop-of-length-le, replicate, length-replicate, getD-replicate}
+use lib.Seq.{drop-cons, drop-nil, drop-drop, getD-drop, getD-set-same, getD-set-other}
 use borrow.Author.Tests.{eq-eqb, ne-eqb, eqb-true, lt-ltb, le-ltb, ltb-true, ltb-false}
 use Rattle.spellings.proofs.BytesLaws.{by-test}
 use Rattle.kinds.specs.Kinds.{hasKind}
@@ -25,7 +26,7 @@ use Rattle.firsts.specs.Room.{entryAt, productionsIn, tableRoom, HoldsGrammar}
 use Rattle.firsts.proofs.StepLaws.{length-sets}
 use Rattle.expansion.specs.Expansion.{Rule, ruleOf, Choice, unfit, chosen, firstRule, choice, ready}
 use Rattle.choices.specs.Held.{Held}
-use Rattle.choices.specs.Chosen.{setsOf, entriesOf, opensOf, chosenPlace}
+use Rattle.choices.specs.Chosen.{setsOf, entriesOf, opensOf, chosenPlace, kindsInAll, memorySize, slot, Remembers}
 
 -- ------------------------------------------------------------------ places
 
@@ -161,6 +162,40 @@ module _ (es : List Entry) (n kind : ℕ) where
   pub chosen-nullable : {j : ℕ} → j ≡ placeFrom (opensOf n kind) es 0 → 256 ≤ j → placeFrom (isNullableOf n) es 0 ≡ chosenPlace es n kind
   unfolding chosenPlace
   chosen-nullable e l = sym (rw (le-ltb (placeFrom (opensOf n kind) es 0) 256 (omega (arith, e)), chosenPlace) refl)
+
+-- ------------------------------------------------------------------ choices that are remembered
+
+-- Nothing is remembered.
+pub remembers-none : (bs : List ℕ) → Remembers bs (replicate memorySize 0)
+remembers-none bs =
+    record {
+      long = length-replicate {A = ℕ} memorySize 0;
+      known = λ n kind few fits l. absurd (omega (arith, l, getD-replicate {A = ℕ} memorySize (slot n kind) 0 0 (omega arith)));
+    }
+
+module _ {bs memory : List ℕ} (m : Remembers bs memory) {n kind : ℕ} (few : n < 64) (fits : kind < kindsInAll) where
+  -- What is remembered is what is chosen.
+  pub remembered : {k : ℕ} → k ≡ getD memory (slot n kind) 0 → 0 < k → k - 1 ≡ chosenPlace (entriesOf bs) n kind
+  remembered e l = omega (arith, e, m .known n kind few fits (omega (arith, e)))
+
+  -- One more choice is remembered.
+  pub remembers-more : {place : ℕ} → place ≡ chosenPlace (entriesOf bs) n kind → Remembers bs (set memory (slot n kind) (place + 1))
+  remembers-more {place} e =
+      record {
+        long = length-set memory (slot n kind) (place + 1) ∙ m .long;
+        known = λ n′ kind′ few′ fits′. by n′ kind′ few′ fits′ (ℕ-discrete (slot n′ kind′) (slot n kind));
+      }
+    where
+      by : (n′ kind′ : ℕ) → n′ < 64 → kind′ < kindsInAll → Dec (slot n′ kind′ ≡ slot n kind)
+          → 0 < getD (set memory (slot n kind) (place + 1)) (slot n′ kind′) 0
+          → getD (set memory (slot n kind) (place + 1)) (slot n′ kind′) 0 ≡ chosenPlace (entriesOf bs) n′ kind′ + 1
+      by n′ kind′ few′ fits′ (yes s) l =
+          let en : n′ ≡ n = omega arith in
+          let ek : kind′ ≡ kind = omega arith in
+          rw (s, getD-set-same memory (slot n kind) (place + 1) 0 (omega (arith, m .long)), en, ek) (omega (arith, e))
+      by n′ kind′ few′ fits′ (no f) l =
+          let other = getD-set-other memory (slot n kind) (slot n′ kind′) (place + 1) 0 f in
+          other ∙ m .known n′ kind′ few′ fits′ (omega (arith, other))
 
 -- ------------------------------------------------------------------ what a place stands for
 

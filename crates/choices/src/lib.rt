@@ -11,7 +11,7 @@ ghost use mathlib.Core.List.{List};
 ghost use lib.ListN.{getD};
 ghost use Rattle.productions.specs.Room.{placeFrom};
 ghost use Rattle.choices.specs.Held.{Held, HoldsSome};
-ghost use Rattle.choices.specs.Chosen.{setsOf, entriesOf, opensOf, chosenPlace};
+ghost use Rattle.choices.specs.Chosen.{setsOf, entriesOf, opensOf, chosenPlace, Remembers, Chooses};
 
 // The place of the first production of nonterminal n whose first set holds a kind, 256 if there is none.
 fn opened(room: &[u64; 641], n: u8, kind: u32) -> usize
@@ -31,7 +31,7 @@ fn opened(room: &[u64; 641], n: u8, kind: u32) -> usize
 
 // The place of the production whose first set holds the kind of the next token, else of the nullable one; 256 if there is neither. It
 // looks at the productions of the nonterminal only.
-pub fn choose(room: &[u64; 641], n: u8, kind: u32) -> usize
+fn search(room: &[u64; 641], n: u8, kind: u32) -> usize
     requires { ⌜ HoldsSome (now room) ⌝ }
     ensures { λ r. ⌜ ((bs : List ℕ) → Held bs (now (room .entry)) → r ≡ chosenPlace (entriesOf bs) n kind) ⌝ }
 {
@@ -43,6 +43,37 @@ pub fn choose(room: &[u64; 641], n: u8, kind: u32) -> usize
         return j;
     }
     nullable_place(room, n)
+}
+
+fn wide(x: u8) -> usize
+    ensures { λ r. ⌜ r ≡ x ⌝ }
+{
+    x as usize
+}
+
+// The same, remembered: a choice is searched for where it is met first, and then looked up. A place is remembered as one more than it is;
+// 255 and 256 are searched for each time.
+pub fn choose(room: &[u64; 641], memory: &mut [u8; 4160], n: u8, kind: u32) -> usize
+    requires { ⌜ HoldsSome (now room) ⌝ }
+    ensures { λ r. ⌜ ((bs : List ℕ) → Held bs (now (room .entry)) → Remembers bs (now (memory .entry)) → Chooses bs n kind r (now (memory
+        .exit))) ⌝ }
+{
+    if 64 <= n {
+        return 256;
+    }
+    if 64 < kind {
+        return search(room, n, kind);
+    }
+    let at = n as usize * 65 + kind as usize;
+    let known = wide(memory[at]);
+    if 0 < known {
+        return known - 1;
+    }
+    let place = search(room, n, kind);
+    if place < 255 {
+        memory[at] = place as u8 + 1;
+    }
+    place
 }
 
 // The first set of a nonterminal, empty for what is none.

@@ -1,1 +1,3 @@
+pub mod BeginLaws
+pub mod TurnLaws
 pub mod CallLaws

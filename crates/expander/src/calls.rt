@@ -1,195 +1,88 @@
 // Calls: a rule is chosen, its items are done from the left, and its result is built.
-use answers::Refusal;
+use crate::begins::Begun;
+use crate::begins::begin;
+use crate::turns::Progress;
+use crate::turns::Resumption;
+use crate::turns::Turn;
+use crate::turns::calling;
+use crate::turns::enter;
+use crate::turns::leave;
+use crate::turns::resumed;
+use crate::turns::valued;
 use answers::refuse;
-use choices::choose;
-use choices::kinds_of;
 use expansion::Outcome;
 use expansion::State;
-use frames::FRAME;
 use frames::copy;
-use frames::count_of;
-use frames::load;
-use frames::next_of;
 use frames::save;
-use productions::room::start;
-use scanner::tokens::kind_at;
 use steps::Step;
-use steps::Variables;
-use steps::finish;
 use steps::item_step;
-use steps::tokens::misfit;
-use templates::put;
-ghost use Prim.Native.Nat.{ℕ, _≤_};
+ghost use Prim.Native.Nat.{ℕ};
 ghost use mathlib.Core.Path.{_≡_};
 ghost use mathlib.Core.List.{List};
 ghost use lib.ListN.{length};
-ghost use Rattle.answers.specs.Refusals.{refusal};
 ghost use Rattle.expansion.specs.Run.{Result, after, ran};
-ghost use Rattle.expansion.specs.Expansion.{Input, callBegun, mostCalls, ended, run};
+ghost use Rattle.expansion.specs.Expansion.{Input, ended, run};
 ghost use Rattle.templates.specs.Built.{rowsIn};
-ghost use Rattle.choices.specs.Held.{Held};
-ghost use Rattle.expander.specs.Lent.{MayBegin, lentInput, Lent};
+ghost use Rattle.choices.specs.Chosen.{Remembers};
 ghost use Rattle.frames.specs.Frames.{Standing};
-ghost use Rattle.expander.specs.Calls.{rootItems, Goes, Begins, Enters, Stands, MayGo, MayGoOn};
+ghost use Rattle.expander.specs.Lent.{lentInput, Lent};
+ghost use Rattle.expander.specs.Turns.{Goes};
+ghost use Rattle.expander.specs.Calls.{rootItems, MayBeginRoot, MayGo, MayGoOn};
 
-// How many calls may be open at once, how many may wait, and how many may be begun in all.
+// How many calls may be open at once.
 const MOST_OPEN: usize = 1024;
 
-const MOST_WAITING: usize = 1023;
-
-const MOST_CALLS: u32 = 65536;
-
-// How a call begins: it refuses, or a production is entered at an offset.
-pub enum Begun {
-    Refused(Refusal),
-    Entered(usize, State),
-}
-
-// How far the items of a call go: to an outcome, or to a level that the room of the frames does not hold.
-pub enum Progress {
-    Ended(Outcome),
-    Paused(usize, State),
-}
-
-// The state with one more call begun.
-fn with_call(s: State) -> State
-    requires { ⌜ s .calls ≤ mostCalls ⌝ }
-    ensures { λ r. ⌜ r ≡ callBegun s ⌝ }
-{
-    State {
-        at: s.at,
-        fresh: s.fresh,
-        calls: s.calls + 1,
-        made: s.made,
-    }
-}
-
-// The beginning of a call of a nonterminal, while `depth` more calls may be open: tested 19, 20, 17.
-fn begin(
-    room: &[u64; 641],
-    tokens: &[u32],
-    n: usize,
-    depth: usize,
-    nonterminal: u8,
-    s: State,
-) -> Begun
-    requires { ⌜ MayBegin (now room) (now tokens) n ⌝ }
-    ensures { λ r. ⌜ ((bs : List ℕ) (rows : ℕ) → Held bs (now (room .entry)) → Begins (lentInput bs (now (tokens .entry)) n rows) bs depth
-        nonterminal s r) ⌝ }
-    ensures { λ r. ⌜ ((bs : List ℕ) → Held bs (now (room .entry)) → Enters bs depth s r) ⌝ }
-{
-    let at = s.at;
-    let calls = s.calls;
-    if depth == 0 {
-        return Begun::Refused(refuse(19, at as u64, 0, 0));
-    }
-    if MOST_CALLS <= calls {
-        return Begun::Refused(refuse(20, at as u64, 0, 0));
-    }
-    let kind = kind_at(tokens, n, at);
-    let place = choose(room, nonterminal, kind);
-    if place < 256 {
-        return Begun::Entered(start(room, place), with_call(s));
-    }
-    Begun::Refused(misfit(at, kinds_of(room, nonterminal)))
-}
-
 // The items of the call at a level of `frames`, its result, and so on with the calls that wait below it. The call that goes on is kept
-// apart from its frame; where another is called it is saved, and where the room has no two levels more it pauses.
+// apart from its frame.
 fn items(
     table: &[u8],
     room: &[u64; 641],
+    memory: &mut [u8; 4160],
     tokens: &[u32],
     n: usize,
     cells: &mut [u32],
     stack: &mut [u32],
     frames: &mut [u32],
-    from: usize,
-    s: State,
+    from: Resumption,
 ) -> Progress
-    requires { ⌜ MayGo (now table) (now room) (now tokens) n (now cells) (now stack) (now frames) from s ⌝ }
+    requires { ⌜ MayGo (now table) (now room) (now memory) (now tokens) n (now cells) (now stack) (now frames) from ⌝ }
     ensures { λ r. ⌜ ((R : Result ℕ) → Standing (lentInput (now (table .entry)) (now (tokens .entry)) n (rowsIn (now (cells .entry)))) (now
-        (table .entry)) (now (frames .entry)) from s (now (cells .entry)) R → Goes (lentInput (now (table .entry)) (now (tokens .entry)) n
-        (rowsIn (now (cells .entry)))) (now (table .entry)) R (now (frames .exit)) (now (cells .exit)) r) ⌝ }
+        (table .entry)) (now (frames .entry)) (from .level) (from .state) (now (cells .entry)) R → Goes (lentInput (now (table .entry)) (now
+        (tokens .entry)) n (rowsIn (now (cells .entry)))) (now (table .entry)) R (now (frames .exit)) (now (cells .exit)) r) ⌝ }
+    ensures { λ r. ⌜ Remembers (now (table .entry)) (now (memory .exit)) ⌝ }
 {
-    let mut vars = load(frames, from);
-    let mut count = count_of(frames, from);
-    let mut at = next_of(frames, from);
+    let mut vars = [0u32; 16];
     let mut args = [0u32; 16];
-    let mut level = from;
-    let mut here = s;
+    let mut c = resumed(frames, &mut vars, from);
     loop {
-        let step = item_step(
-            table,
-            at,
-            tokens,
-            n,
-            Variables {
-                values: vars,
-                count,
-            },
-            &mut args,
-            here,
-            cells,
-            stack,
-        );
+        let step = item_step(table, tokens, n, &vars, c, &mut args, cells, stack);
         match step {
             Step::Finished => {
-                let outcome = finish(
-                    table,
-                    at,
-                    Variables {
-                        values: vars,
-                        count,
-                    },
-                    here,
-                    cells,
-                    stack,
-                );
-                match outcome {
-                    Outcome::Halted(r) => {
-                        return Progress::Ended(Outcome::Halted(r));
+                let turn = leave(table, c, &mut vars, cells, stack, frames);
+                match turn {
+                    Turn::Over(p) => {
+                        return p;
                     }
-                    Outcome::Value(x, t) => {
-                        if level == 0 {
-                            return Progress::Ended(Outcome::Value(x, t));
-                        }
-                        level -= 1;
-                        vars = load(frames, level);
-                        count = count_of(frames, level);
-                        at = next_of(frames, level);
-                        put(&mut vars, count, x);
-                        count += 1;
-                        here = t;
+                    Turn::On(d) => {
+                        c = d;
                     }
                 }
             }
             Step::Stopped(r) => {
                 return Progress::Ended(Outcome::Halted(r));
             }
-            Step::Taken(x, after, t) => {
-                put(&mut vars, count, x);
-                count += 1;
-                at = after;
-                here = t;
+            Step::Taken(x, next, t) => {
+                c = valued(&mut vars, c, x, next, t);
             }
-            Step::Opened(callee, given, after, t) => {
-                let begun = begin(room, tokens, n, MOST_WAITING - level, callee, t);
-                match begun {
-                    Begun::Refused(r) => {
-                        return Progress::Ended(Outcome::Halted(r));
+            Step::Opened(callee, given, next, t) => {
+                let call = calling(callee, given, next, t);
+                let turn = enter(room, memory, tokens, n, frames, &mut vars, &args, c, call);
+                match turn {
+                    Turn::Over(p) => {
+                        return p;
                     }
-                    Begun::Entered(first, u) => {
-                        save(frames, level, &vars, count, after);
-                        level += 1;
-                        vars = args;
-                        count = given;
-                        at = first;
-                        here = u;
-                        if frames.len() < (level + 2) * FRAME {
-                            save(frames, level, &vars, count, at);
-                            return Progress::Paused(level, here);
-                        }
+                    Turn::On(d) => {
+                        c = d;
                     }
                 }
             }
@@ -201,24 +94,34 @@ fn items(
 fn deep_items(
     table: &[u8],
     room: &[u64; 641],
+    memory: &mut [u8; 4160],
     tokens: &[u32],
     n: usize,
     cells: &mut [u32],
     stack: &mut [u32],
     short: &[u32; 576],
-    from: usize,
-    s: State,
+    from: Resumption,
 ) -> Outcome
-    requires { ⌜ MayGoOn (now table) (now room) (now tokens) n (now cells) (now stack) (now short) from s ⌝ }
+    requires { ⌜ MayGoOn (now table) (now room) (now memory) (now tokens) n (now cells) (now stack) (now short) from ⌝ }
     ensures { λ r. ⌜ ((R : Result ℕ) → Standing (lentInput (now (table .entry)) (now (tokens .entry)) n (rowsIn (now (cells .entry)))) (now
-        (table .entry)) (now (short .entry)) from s (now (cells .entry)) R → ran r (now (cells .exit)) ≡ R) ⌝ }
+        (table .entry)) (now (short .entry)) (from .level) (from .state) (now (cells .entry)) R → ran r (now (cells .exit)) ≡ R) ⌝ }
 {
     let mut frames = [0u32; 18450];
     copy(&mut frames, short);
-    let progress = items(table, room, tokens, n, cells, stack, &mut frames, from, s);
+    let progress = items(
+        table,
+        room,
+        memory,
+        tokens,
+        n,
+        cells,
+        stack,
+        &mut frames,
+        from,
+    );
     match progress {
         Progress::Ended(o) => o,
-        Progress::Paused(_, t) => Outcome::Halted(refuse(19, t.at as u64, 0, 0)),
+        Progress::Paused(_) => Outcome::Halted(refuse(19, 0, 0, 0)),
     }
 }
 
@@ -226,6 +129,7 @@ fn deep_items(
 fn root_items(
     table: &[u8],
     room: &[u64; 641],
+    memory: &mut [u8; 4160],
     tokens: &[u32],
     n: usize,
     cells: &mut [u32],
@@ -233,28 +137,30 @@ fn root_items(
     start: usize,
     s: State,
 ) -> Outcome
-    requires { ⌜ Lent (now table) (now room) (now tokens) n (now stack) ⌝ }
-    requires { ⌜ Stands (now table) start s ⌝ }
+    requires { ⌜ MayBeginRoot (now table) (now room) (now memory) (now tokens) n (now stack) start s ⌝ }
     ensures { λ r. ⌜ ran r (now (cells .exit)) ≡ rootItems (lentInput (now (table .entry)) (now (tokens .entry)) n (rowsIn (now (cells
         .entry)))) (now (table .entry)) start s (now (cells .entry)) ⌝ }
 {
     let vars = [0u32; 16];
     let mut frames = [0u32; 576];
     save(&mut frames, 0, &vars, 0, start);
-    let progress = items(table, room, tokens, n, cells, stack, &mut frames, 0, s);
+    let from = Resumption { level: 0, state: s };
+    let progress = items(
+        table,
+        room,
+        memory,
+        tokens,
+        n,
+        cells,
+        stack,
+        &mut frames,
+        from,
+    );
     match progress {
         Progress::Ended(o) => o,
-        Progress::Paused(level, t) => deep_items(
-            table,
-            room,
-            tokens,
-            n,
-            cells,
-            stack,
-            &frames,
-            level,
-            t,
-        ),
+        Progress::Paused(r) => {
+            deep_items(table, room, memory, tokens, n, cells, stack, &frames, r)
+        }
     }
 }
 
@@ -292,8 +198,10 @@ pub fn run(
     ensures { λ r. ⌜ ran r (now (cells .exit)) ≡ run (lentInput (now (table .entry)) (now (tokens .entry)) n (rowsIn (now (cells .entry))))
         root (now (cells .entry)) ⌝ }
 {
+    let mut memory = [0u8; 4160];
     let begun = begin(
         room,
+        &mut memory,
         tokens,
         n,
         MOST_OPEN,
@@ -308,7 +216,7 @@ pub fn run(
     match begun {
         Begun::Refused(r) => Outcome::Halted(r),
         Begun::Entered(start, t) => {
-            let outcome = root_items(table, room, tokens, n, cells, stack, start, t);
+            let outcome = root_items(table, room, &mut memory, tokens, n, cells, stack, start, t);
             ended(n, outcome)
         }
     }

@@ -1,2 +1,4 @@
 // The expander: from tokens to cells.
+mod begins;
 pub mod calls;
+mod turns;

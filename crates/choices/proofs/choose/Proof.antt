@@ -1,32 +1,86 @@
--- `choose`: a first set that holds the kind, else the nullable place.
+-- `choose`: what is remembered is what is chosen; what is not is searched for, and remembered.
+use native.Mathlib.Omega.{arith}
 use borrow.Author.Needs.{needs}
 use Rattle.choices.proofs.ChoiceLaws as laws
 use Rattle.choices.proofs.choose.Statement.{statement}
 use Rattle.choices.proofs.choose.Tie as tie
 
 returns : tie.Need-returns
-returns c = λ bs h. laws.chosen-outside h _ _ (c .if1 .taken)
+returns c =
+    λ bs h m.
+    record { place-is = laws.chosen-outside h _ _ (c .if1 .taken); memory-is = m }
 
-opened-requires : tie.Need-opened-requires
-opened-requires c κs = search needs
+search-requires : tie.Need-search-requires
+search-requires c κs = search needs
 
 returns-2 : tie.Need-returns-2
-returns-2 c =
-    λ bs h.
-    let entry-place = c .before .before .before in
-    laws.place-opened h (c .before .before .if1 .left) (entry-place .args .kind) (c .before .opened .ensures bs h) (c .if2 .taken)
+returns-2 c = λ bs h m. record { place-is = c .search .ensures bs h; memory-is = m }
 
-nullable-place-requires : tie.Need-nullable-place-requires
-nullable-place-requires c κs = search needs
+mul-at : tie.Need-mul-at
+mul-at c = search needs
+
+add-at : tie.Need-add-at
+add-at c = search needs
+
+element-copy-out-wide : tie.Need-element-copy-out-wide
+element-copy-out-wide c = search needs
+
+wide-requires : tie.Need-wide-requires
+wide-requires c κs = search needs
+
+sub-result : tie.Need-sub-result
+sub-result c = search needs
 
 returns-3 : tie.Need-returns-3
 returns-3 c =
-    λ bs h.
-    let opened-place = c .before .before in
-    let entry-place = opened-place .before .before in
-    laws.place-nullable h (opened-place .before .if1 .left) (entry-place .args .kind) (opened-place .opened .ensures bs h) (c .before .if2 .left)
-    (c .nullable-place .ensures)
+    λ bs h m.
+    let at-place = c .before .before .before in
+    record {
+      place-is = laws.remembered m (at-place .before .if1 .left) (omega (arith, at-place .if2 .left)) (c .before .wide .ensures) (c .if3 .taken);
+      memory-is = m;
+    }
+
+search-requires-2 : tie.Need-search-requires-2
+search-requires-2 c κs = search needs
+
+cast-memory : tie.Need-cast-memory
+cast-memory c = search needs
+
+add-memory : tie.Need-add-memory
+add-memory c = search needs
+
+element-write-memory : tie.Need-element-write-memory
+element-write-memory c = search needs
+
+returns-4 : tie.Need-returns-4
+returns-4 c =
+    λ bs h m.
+    let at-place = c .before .before .before .before .before in
+    let place-is = c .before .search2 .ensures bs h in
+    record {
+      place-is = place-is;
+      memory-is = laws.remembers-more m (at-place .before .if1 .left) (omega (arith, at-place .if2 .left)) place-is;
+    }
+
+returns-5 : tie.Need-returns-5
+returns-5 c = λ bs h m. record { place-is = c .before .search2 .ensures bs h; memory-is = m }
 
 pub choose-spec : {M : Type 1} → statement M
 choose-spec =
-    tie.close (tie.spec returns opened-requires returns-2 nullable-place-requires returns-3)
+    tie.close
+    (tie.spec
+    returns
+    search-requires
+    returns-2
+    mul-at
+    add-at
+    element-copy-out-wide
+    wide-requires
+    sub-result
+    returns-3
+    search-requires-2
+    cast-memory
+    add-memory
+    element-write-memory
+    returns-4
+    returns-5)

@@ -10,7 +10,7 @@ use Rattle.expansion.specs.Expansion.{Input}
 use Rattle.templates.specs.Built.{rowsIn}
 use Rattle.expander.specs.Lent.{lentInput}
 use Rattle.frames.specs.Frames.{longFrames, Fits, Standing}
-use Rattle.expander.specs.Calls.{Goes}
+use Rattle.expander.specs.Turns.{Goes}
 use Rattle.frames.proofs.FrameLaws.{standing-same}
 use Rattle.expander.proofs.CallLaws as laws
 use Rattle.expander.proofs.calls.deep_items.Statement.{statement}
@@ -25,7 +25,7 @@ module _ (p : tie.After-copy) where
   input = lentInput (entry .args .table .now) (entry .args .tokens .now) (entry .args .n) (rowsIn (entry .args .cells .now))
 
   abbrev Stands : List ℕ → Result ℕ → Type 0
-  Stands frames R = Standing input (entry .args .table .now) frames (entry .args .from) (entry .args .s) (entry .args .cells .now) R
+  Stands frames R = Standing input (entry .args .table .now) frames (entry .args .from .level) (entry .args .from .state) (entry .args .cells .now) R
 
   long : length (p .copy .last .0) ≡ longFrames
   long = p .copy .kept .0
@@ -38,20 +38,20 @@ module _ (p : tie.After-copy) where
 -- after the items
 module _ (q : tie.After-items) where
   abbrev q-copy : tie.After-copy
-  q-copy = q .before .before .before .before .before
+  q-copy = q .before .before .before .before .before .before
 
   abbrev cells′ : List ℕ
-  cells′ = q .items .last .1 .1 .1 .1 .0
+  cells′ = q .items .last .1 .1 .1 .1 .1 .0
 
   abbrev frames′ : List ℕ
-  frames′ = q .items .last .1 .1 .1 .1 .1 .1 .0
+  frames′ = q .items .last .1 .1 .1 .1 .1 .1 .1 .0
 
   went : {R : Result ℕ} → Stands q-copy (entry q-copy .args .short .now) R
       → Goes (input q-copy) (entry q-copy .args .table .now) R frames′ cells′ (q .items .result)
-  went {R} s = q .items .ensures R (copied q-copy s)
+  went {R} s = q .items .ensures .0 R (copied q-copy s)
 
   same : length frames′ ≡ longFrames
-  same = q .items .kept .1 .1 .1 .1 .1 .1 .0 ∙ long q-copy
+  same = q .items .kept .1 .1 .1 .1 .1 .1 .1 .0 ∙ long q-copy
 
 copy-requires : tie.Need-copy-requires
 copy-requires c κs = search needs
@@ -64,20 +64,19 @@ slice-aggregate-items c = search needs
 
 items-requires : tie.Need-items-requires
 items-requires c κs =
-    let p = c .before .before .before .before in
-    let may = entry p .pre in
+    let p = c .before .before .before .before .before in
+    let may = entry p .pre .stands in
     record {
-      lent = may .lent;
-      result = may .result;
-      standing = copied p (may .standing);
+      stands =
+          record { lent = may .lent; remembers = may .remembers; result = may .result; standing = copied p (may .standing) };
       next-fits = omega (arith, long p, may .standing .fits .few);
     }
 
 enum-known-progress : tie.Need-enum-known-progress
 enum-known-progress c = search needs
 
-enum-known-progress-2 : tie.Need-enum-known-progress-2
-enum-known-progress-2 c = search needs
+enum-told : tie.Need-enum-told
+enum-told c = search needs
 
 refuse-requires : tie.Need-refuse-requires
 refuse-requires c κs = search needs
@@ -103,11 +102,11 @@ same-length-4 c = search needs
 -- it does not pause
 returns-2 : tie.Need-returns-2
 returns-2 c =
-    let progress-place = c .before .before in
-    let match-place = progress-place .before in
+    let told = c .before in
+    let match-place = told .before in
     let q = match-place .before .before .before .before .before .before in
     λ R s.
-    let paused = laws.goes-paused _ _ R (frames′ q) (cells′ q) (q .items .result) (went q s) (progress-place .progress2 .given .1) in
+    let paused = laws.goes-paused _ _ R (frames′ q) (cells′ q) (q .items .result) (went q s) (told .enum-told .given .1) in
     absurd (omega (arith, paused .1, same q))
 
 pub deep-items-spec : {M : Type 1} → statement M
@@ -119,7 +118,7 @@ deep-items-spec =
     slice-aggregate-items
     items-requires
     enum-known-progress
-    enum-known-progress-2
+    enum-told
     refuse-requires
     same-length
     same-length-2

@@ -11,8 +11,10 @@ use Rattle.expansion.specs.Expansion.{Input}
 use Rattle.templates.specs.Built.{rowsFor, rowsIn}
 use Rattle.expander.specs.Lent.{lentInput}
 use Rattle.frames.specs.Frames.{shortFrames, Fits, Standing}
-use Rattle.expander.specs.Calls.{rootItems, Goes}
-use Rattle.expander.specs.declared.calls.Progress.the-variants.{Paused}
+use Rattle.expander.specs.Calls.{rootItems}
+use Rattle.expander.specs.declared.turns.Resumption.{Resumption}
+use Rattle.expander.specs.declared.turns.Progress.the-variants.{Paused}
+use Rattle.expander.specs.Turns.{Goes}
 use Rattle.expander.proofs.CallLaws as laws
 use Rattle.expander.proofs.calls.root_items.Statement.{statement}
 use Rattle.expander.proofs.calls.root_items.Tie as tie
@@ -38,27 +40,27 @@ module _ (p : tie.After-save) where
   fits = record { few = omega arith; inside = omega (arith, long) }
 
   standing : Standing input (entry .args .table .now) (p .save .last .0) 0 (entry .args .s) (entry .args .cells .now) result
-  standing = laws.standing-root (entry .pre .1) (entry .args .cells .now) fits (p .save .ensures)
+  standing = laws.standing-root (entry .pre .stands) (entry .args .cells .now) fits (p .save .ensures)
 
 -- after the items
 module _ (q : tie.After-items) where
   abbrev q-save : tie.After-save
-  q-save = q .before .before .before .before .before
+  q-save = q .before .before .before .before .before .before
 
   abbrev cells′ : List ℕ
-  cells′ = q .items .last .1 .1 .1 .1 .0
+  cells′ = q .items .last .1 .1 .1 .1 .1 .0
 
   abbrev frames′ : List ℕ
-  frames′ = q .items .last .1 .1 .1 .1 .1 .1 .0
+  frames′ = q .items .last .1 .1 .1 .1 .1 .1 .1 .0
 
   went : Goes (input q-save) (entry q-save .args .table .now) (result q-save) frames′ cells′ (q .items .result)
-  went = q .items .ensures (result q-save) (standing q-save)
+  went = q .items .ensures .0 (result q-save) (standing q-save)
 
-  paused : {level : ℕ} {here : State} → q .items .result ≡ Paused level here
+  paused : {from : Resumption} → q .items .result ≡ Paused from
       → Standing (lentInput (entry q-save .args .table .now) (entry q-save .args .tokens .now) (entry q-save .args .n) (rowsIn cells′))
-      (entry q-save .args .table .now) frames′ level here cells′ (result q-save)
+      (entry q-save .args .table .now) frames′ (from .level) (from .state) cells′ (result q-save)
   paused e =
-      laws.standing-rows (entry q-save .args .tokens .now) (entry q-save .args .n) (ap rowsFor (sym (q .items .kept .1 .1 .1 .1 .0)))
+      laws.standing-rows (entry q-save .args .tokens .now) (entry q-save .args .n) (ap rowsFor (sym (q .items .kept .1 .1 .1 .1 .1 .0)))
       (laws.goes-paused _ _ (result q-save) frames′ cells′ (q .items .result) went e .0)
 
 slice-aggregate-save : tie.Need-slice-aggregate-save
@@ -72,8 +74,12 @@ slice-aggregate-items c = search needs
 
 items-requires : tie.Need-items-requires
 items-requires c κs =
-    let p = c .before .before .before .before in
-    record { lent = entry p .pre .0; result = result p; standing = standing p; next-fits = omega (arith, long p) }
+    let p = c .before .before .before .before .before in
+    record {
+      stands =
+          record { lent = entry p .pre .lent; remembers = entry p .pre .remembers; result = result p; standing = standing p };
+      next-fits = omega (arith, long p);
+    }
 
 enum-known-progress : tie.Need-enum-known-progress
 enum-known-progress c = search needs
@@ -83,20 +89,24 @@ enum-known-progress-2 c = search needs
 
 deep-items-requires : tie.Need-deep-items-requires
 deep-items-requires c κs =
-    let progress-place = c .before .before .before .before in
+    let progress-place = c .before .before .before .before .before in
     let match-place = progress-place .before in
     let q = match-place .before .before .before .before .before .before in
-    let lent = entry (q-save q) .pre .0 in
+    let lent = entry (q-save q) .pre .lent in
     record {
-      lent =
+      stands =
           record {
-            table = lent .table;
-            tokens-fit = lent .tokens-fit;
-            stack-long = omega (arith, lent .stack-long, q .items .kept .1 .1 .1 .1 .1 .0);
+            lent =
+                record {
+                  table = lent .table;
+                  tokens-fit = lent .tokens-fit;
+                  stack-long = omega (arith, lent .stack-long, q .items .kept .1 .1 .1 .1 .1 .1 .0);
+                };
+            remembers = q .items .ensures .1;
+            result = result (q-save q);
+            standing = paused q (progress-place .progress2 .given .1);
           };
-      result = result (q-save q);
-      standing = paused q (progress-place .progress2 .given .1);
-      frames-short = q .items .kept .1 .1 .1 .1 .1 .1 .0 ∙ long (q-save q);
+      frames-short = q .items .kept .1 .1 .1 .1 .1 .1 .1 .0 ∙ long (q-save q);
     }
 
 same-length : tie.Need-same-length
@@ -120,7 +130,7 @@ same-length-4 c = search needs
 returns-2 : tie.Need-returns-2
 returns-2 c =
     let deep-place = c .before .before .before .before in
-    let progress-place = deep-place .before .before .before .before .before in
+    let progress-place = deep-place .before .before .before .before .before .before in
     let match-place = progress-place .before in
     let q = match-place .before .before .before .before .before .before in
     deep-place .deep-items .ensures (result (q-save q)) (paused q (progress-place .progress2 .given .1))

@@ -3,13 +3,14 @@ use Prim.Native.Nat.{ℕ}
 use mathlib.Core.Path.{_≡_, _∙_}
 use mathlib.Core.List.{[]}
 use borrow.Author.Needs.{needs}
-use Rattle.expander.specs.declared.calls.Begun.{Begun}
 use Rattle.expansion.specs.Run.{Result, after}
 use Rattle.expansion.specs.Expansion.{Input, runCall, mostOpen, start, ended, run}
 use Rattle.templates.specs.Built.{rowsIn}
 use Rattle.expander.specs.Lent.{lentInput}
-use Rattle.expander.specs.Calls.{Begins, Entry}
-use Rattle.expander.specs.declared.calls.Begun.the-variants.{Entered}
+use Rattle.expander.specs.declared.begins.Begun.{Begun}
+use Rattle.expander.specs.declared.begins.Begun.the-variants.{Entered}
+use Rattle.expander.specs.Begins.{Begins, Entry, Starts}
+use Rattle.choices.proofs.ChoiceLaws.{remembers-none}
 use Rattle.steps.proofs.TokenLaws.{token-count}
 use Rattle.expander.proofs.CallLaws as laws
 use Rattle.expander.proofs.calls.run.Statement.{statement}
@@ -18,18 +19,21 @@ use Rattle.expander.proofs.calls.run.Tie as tie
 -- after the beginning of the root's call
 module _ (p : tie.After-begin) where
   abbrev entry : tie.Start
-  entry = p .before .before .before .before .before
+  entry = p .before .before .before .before .before .before
 
   abbrev input : Input
   input = lentInput (entry .args .table .now) (entry .args .tokens .now) (entry .args .n) (rowsIn (entry .args .cells .now))
 
+  starts : Starts input (entry .args .table .now) 1024 (entry .args .root) start (p .begin .result) (p .begin .last .1 .0)
+  starts =
+      p .begin .ensures (entry .args .table .now) (rowsIn (entry .args .cells .now)) (entry .pre .table) (remembers-none (entry .args .table .now))
+
   begins : {q : Begun} → p .begin .result ≡ q → Begins input (entry .args .table .now) 1024 (entry .args .root) start q
   begins e =
-      laws.begins-as input (entry .args .table .now) 1024 (entry .args .root) start (p .begin .result) e
-      (p .begin .ensures .0 (entry .args .table .now) (rowsIn (entry .args .cells .now)) (entry .pre .table))
+      laws.begins-as input (entry .args .table .now) 1024 (entry .args .root) start (p .begin .result) e (starts .begins)
 
   enters : {first : ℕ} {t : _} → p .begin .result ≡ Entered first t → Entry (entry .args .table .now) 1024 start first t
-  enters e = laws.entry-of (p .begin .result) e (p .begin .ensures .1 (entry .args .table .now) (entry .pre .table))
+  enters e = laws.entry-of (p .begin .result) e (starts .enters)
 
   runs : {R : Result ℕ} → R ≡ runCall mostOpen input (entry .args .root) [] start (entry .args .cells .now)
       → after R (ended input) ≡ run input (entry .args .root) (entry .args .cells .now)
@@ -46,9 +50,13 @@ enum-known-begun-2 c = search needs
 
 root-items-requires : tie.Need-root-items-requires
 root-items-requires c κs =
-    let begun-place = c .before .before .before in
+    let begun-place = c .before .before .before .before in
     let p = begun-place .before .before in
-    (entry p .pre, laws.stands-start (enters p (begun-place .begun2 .given .1)) (entry p .pre .table .grammar .small))
+    record {
+      lent = entry p .pre;
+      remembers = starts p .remembers;
+      stands = laws.stands-start (enters p (begun-place .begun2 .given .1)) (entry p .pre .table .grammar .small);
+    }
 
 ended-requires : tie.Need-ended-requires
 ended-requires c κs = search needs
@@ -67,10 +75,10 @@ same-length-2 c = search needs
 returns-2 : tie.Need-returns-2
 returns-2 c =
     let root-place = c .before .before .before .before .before in
-    let begun-place = root-place .before .before .before .before in
+    let begun-place = root-place .before .before .before .before .before in
     let p = begun-place .before .before in
     let lent = entry p .args in
-    c .ended .ensures (input p) (root-place .root-items .last .1 .1 .1 .1 .0) (token-count (lent .tokens .now) (lent .n))
+    c .ended .ensures (input p) (root-place .root-items .last .1 .1 .1 .1 .1 .0) (token-count (lent .tokens .now) (lent .n))
     ∙ runs p (root-place .root-items .ensures ∙ begins p (begun-place .begun2 .given .1) [] (lent .cells .now))
 
 pub run-spec : {M : Type 1} → statement M

@@ -1,0 +1,481 @@
+-- Laws of one turn: what is left of the call that goes on, and of the calls that wait, gives what the whole gives.
+use Prim.Native.Nat.{ℕ, suc, _+_, _-_, _*_, _^_, _<_, _≤_}
+use mathlib.Core.Path.{_≡_, refl, sym, ap, _∙_, subst, subst⁻¹}
+use mathlib.Core.Bool.{true}
+use mathlib.Core.List.{List, [], _∷_, _++_}
+use native.Mathlib.Omega.{arith}
+use lib.ListN.{length, getD}
+use Rattle.answers.specs.declared.Refusal.{Refusal}
+use Rattle.grammar.specs.Table.{Item}
+use Rattle.grammar.specs.Lookup.{fieldsAt}
+use Rattle.productions.specs.Index.{itemsOf, resultOf, wholeBody}
+use Rattle.expansion.specs.declared.State.{State}
+use Rattle.expansion.specs.declared.Outcome.{Outcome}
+use Rattle.expansion.specs.declared.Outcome.the-variants.{Value, Halted}
+use Rattle.expansion.specs.Run.{Result, done, halt, Run, after, ran}
+use Rattle.expansion.specs.Expansion.{Input, build, runItems, runCall}
+use Rattle.templates.specs.Built.{Holds}
+use Rattle.choices.specs.Chosen.{Remembers}
+use Rattle.steps.specs.declared.Step.{Step}
+use Rattle.steps.specs.declared.Step.the-variants.{Finished, Stopped, Taken, Opened}
+use Rattle.steps.specs.Steps.{body, weight, Steps, Onward, Advances, Stays}
+use Rattle.frames.specs.Frames.{frameSize, mostWaiting, Fits, Saved, Loaded, Frame, resume, owed, Waits, Stacked}
+use Rattle.frames.specs.Frames.{stacked-none, stacked-one, Standing}
+use Rattle.frames.proofs.FrameLaws.{resume-halt, stacked-same, stacked-more, waits-saved, waits-holds}
+use Rattle.expander.specs.declared.begins.Begun.{Begun}
+use Rattle.expander.specs.declared.begins.Begun.the-variants.{Refused, Entered}
+use Rattle.expander.specs.declared.turns.Resumption.{Resumption}
+use Rattle.steps.specs.declared.Cursor.{Cursor}
+use Rattle.expander.specs.declared.turns.Call.{Call}
+use Rattle.expander.specs.declared.turns.Progress.{Progress}
+use Rattle.expander.specs.declared.turns.Progress.the-variants.{Ended, Paused}
+use Rattle.expander.specs.declared.turns.Turn.{Turn}
+use Rattle.expander.specs.declared.turns.Turn.the-variants.{Over, On}
+use Rattle.expander.specs.Begins.{Begins, Entry, Enters, Starts}
+use Rattle.expander.specs.Turns.{cursorAt, moved, callOf, Resumes, Values, left, Going, Calling, Goes, Turned, leftOf, Turns}
+use Rattle.expander.proofs.BeginLaws.{positive, entry-weight}
+
+-- The last turn: less is left than any number.
+pub turns-over : {I : Input} {bs : List ℕ} {R : Result ℕ} {cells : List ℕ} {o : Outcome} → ran o cells ≡ R → (most : ℕ) (frames vars : List ℕ)
+    → Turns I bs most R frames vars cells (Over (Ended o))
+turns-over e most frames vars = record { stands = e; less = omega arith }
+
+abbrev resuming : Resumption → ℕ → ℕ → Cursor
+resuming from count at = record { count = count; at = at; level = from .level; state = from .state }
+
+-- The call at a level of the room is read back.
+pub resumes-at : {frames : List ℕ} {from : Resumption} {vars : List ℕ} → Loaded frames (from .level) vars → {count at : ℕ}
+    → count ≡ cursorAt frames from .count
+    → at ≡ cursorAt frames from .at
+    → Resumes frames from vars (record { count = count; at = at; level = from .level; state = from .state })
+resumes-at {frames} {from} l {count} ec ea =
+    record {
+      loaded = l;
+      cursor-is =
+          ap (resuming from count) ea ∙ ap (λ (k : ℕ). resuming from k (cursorAt frames from .at)) ec;
+    }
+
+-- The call at a level of the room is loaded.
+pub going-resumed : {I : Input} {bs frames : List ℕ} {from : Resumption} {cells : List ℕ} {R : Result ℕ}
+    → Standing I bs frames (from .level) (from .state) cells R
+    → {vars : List ℕ} {c : Cursor}
+    → Resumes frames from vars c
+    → Going I bs frames vars c cells R
+going-resumed {I} {bs} {frames} {from} {cells} {R} s {vars} r =
+    let w = s .on-top in
+    let e = w .next-is in
+    subst⁻¹ (λ (c : Cursor). Going I bs frames vars c cells R) (r .cursor-is)
+    (record {
+      whole = ap (λ (a : ℕ). wholeBody (fieldsAt bs a)) e ∙ w .whole;
+      inside = omega (arith, e, w .inside);
+      counted = omega (arith, e, w .counted, s .counted);
+      waiting = s .waiting;
+      many = s .many;
+      fits = s .fits;
+      stacked = s .stacked;
+      light = omega (arith, s .light, ap (λ (a : ℕ). length bs - a) e);
+      M = s .current .values;
+      holds = waits-holds w (r .loaded) refl;
+      rest =
+          ap
+          (λ (a : ℕ). resume I bs (s .waiting) (body (runCall (mostWaiting - from .level) I) bs a I (s .current .values) (from .state) cells)) e
+          ∙ s .rest;
+    })
+
+-- an item takes no more than it leaves behind
+onward-light : {bs : List ℕ} {at next : ℕ} {s t : State} → Onward bs at next s t → (more : ℕ) {most : ℕ} → weight s + (length bs - at) + more ≤ most
+    → weight t + (length bs - next) + more ≤ most
+onward-light o more h = omega (arith, h, o .less, o .inside, o .counted, ap (λ (q : ℕ). 16384 * (65536 - q)) (o .called))
+
+light-below : {wt wh : ℕ} (x o y o′ : ℕ) {most : ℕ} → wt ≡ wh → o ≡ y + o′ → wh + x + o ≤ most → wt + y + o′ ≤ most
+light-below x o y o′ e f h = omega arith
+
+-- What the item at a cursor does, and how far it goes.
+pub record Stepped (I : Input) (bs vars : List ℕ) (c : Cursor) (cells : List ℕ) (step : Step) (args cells′ : List ℕ) : Type 0 where
+  pub does : (M : List ℕ) → Holds vars (c .count) M → Steps bs (c .at) I M (c .state) cells step args cells′
+  pub advances : Advances bs (c .at) (c .state) step
+
+-- No item stands at a cursor, and what the result of the alternative gives.
+pub record Resulting (I : Input) (bs vars : List ℕ) (c : Cursor) (cells : List ℕ) (o : Outcome) (cells′ : List ℕ) : Type 0 where
+  pub no-item : itemsOf (fieldsAt bs (c .at)) ≡ []
+  pub gives : (M : List ℕ) → Holds vars (c .count) M → ran o cells′ ≡ build (resultOf (fieldsAt bs (c .at))) I M (c .state) cells
+  pub stays : Stays (c .state) o
+
+module _ {I : Input} {bs frames vars : List ℕ} {c : Cursor} {cells : List ℕ} {R : Result ℕ} (g : Going I bs frames vars c cells R) where
+  abbrev callee : ℕ → List ℕ → Run ℕ
+  callee = runCall (mostWaiting - c .level) I
+
+  abbrev now-left : Result ℕ
+  now-left = body callee bs (c .at) I (g .M) (c .state) cells
+
+  -- The counters are small.
+  pub going-bounds : (c .state .at < 2 ^ 32) × (c .state .fresh < 2 ^ 31)
+  going-bounds = (omega (arith, g .light), omega (arith, g .light))
+
+  -- A room that is too short: the call that goes on is saved too.
+  pub going-paused : {frames′ : List ℕ} → Saved frames frames′ (c .level) vars (c .count) (c .at) → length frames′ ≡ length frames
+      → Standing I bs frames′ (c .level) (c .state) cells R
+  going-paused saved long =
+      record {
+        fits = record { few = g .fits .few; inside = omega (arith, g .fits .inside, long) };
+        current = record { next = c .at; values = g .M };
+        waiting = g .waiting;
+        many = g .many;
+        on-top = waits-saved saved (g .holds) (g .whole) (g .inside);
+        counted = omega (arith, g .counted, g .holds .count);
+        stacked = stacked-same (λ i l. saved .same i (omega (arith, g .many))) (g .stacked);
+        light = g .light;
+        rest = g .rest;
+      }
+
+  -- a result in place of what is left
+  instead : {r : Result ℕ} → r ≡ now-left → resume I bs (g .waiting) r ≡ R
+  instead e = ap (resume I bs (g .waiting)) e ∙ g .rest
+
+  halted : {r : Refusal} {cs : List ℕ} → halt r cs ≡ now-left → halt r cs ≡ R
+  halted {r} {cs} e = sym (resume-halt I bs (g .waiting) r cs) ∙ instead e
+
+  -- ---------------------------------------------------------------- the item that stands at the cursor
+
+  module _ {step : Step} {args cells′ : List ℕ} (d : Stepped I bs vars c cells step args cells′) where
+    steps : {q : Step} → step ≡ q → Steps bs (c .at) I (g .M) (c .state) cells q args cells′
+    steps e = subst (λ (x : Step). Steps bs (c .at) I (g .M) (c .state) cells x args cells′) e (d .does (g .M) (g .holds))
+
+    -- The item refuses.
+    pub step-stopped : {r : Refusal} → step ≡ Stopped r → halt r cells′ ≡ R
+    step-stopped e = halted (sym (steps e callee))
+
+    -- No item is left.
+    pub step-none : step ≡ Finished → itemsOf (fieldsAt bs (c .at)) ≡ []
+    step-none e = subst (Advances bs (c .at) (c .state)) e (d .advances)
+
+    pub step-finished : step ≡ Finished → Going I bs frames vars c cells′ R
+    step-finished e = subst⁻¹ (λ (cs : List ℕ). Going I bs frames vars c cs R) (steps e) g
+
+    -- The item gives a value.
+    module _ {x next : ℕ} {t : State} (e : step ≡ Taken x next t) where
+      taken-onward : Onward bs (c .at) next (c .state) t
+      taken-onward = subst (Advances bs (c .at) (c .state)) e (d .advances)
+
+      pub taken-few : c .count ≤ length bs + length bs
+      taken-few = omega (arith, g .counted, taken-onward .less, taken-onward .inside)
+
+      pub step-taken : {vars′ : List ℕ} {u : Cursor} → Values vars c x next t vars′ u → (c .level + 2) * frameSize ≤ length frames
+          → Turns I bs (left bs c) R frames vars′ cells′ (On u)
+      step-taken {vars′} v spare =
+          let o = taken-onward in
+          subst⁻¹ (λ (u : Cursor). Turns I bs (left bs c) R frames vars′ cells′ (On u)) (v .cursor-is)
+          (record {
+            stands = (
+              record {
+                whole = o .whole;
+                inside = o .inside;
+                counted = omega (arith, g .counted, o .less);
+                waiting = g .waiting;
+                many = g .many;
+                fits = g .fits;
+                stacked = g .stacked;
+                light = onward-light o (owed bs (g .waiting)) (g .light);
+                M = g .M ++ (x ∷ []);
+                holds = v .holds (g .M) (g .holds);
+                rest = instead (sym (steps e callee));
+              },
+              spare,
+            );
+            less = omega (arith, o .less, o .inside, ap (λ (q : ℕ). 40000 * (65536 - q)) (o .called));
+          })
+
+    opened-as : {n k next : ℕ} {t : State} → step ≡ Opened n k next t → (c .level + 2) * frameSize ≤ length frames
+        → Calling I bs frames vars c args (callOf n k next t) cells′ R
+    opened-as e spare =
+        let q = steps e in
+        let a : Onward _ _ _ _ _ × (_ ≤ _) = subst (Advances bs (c .at) (c .state)) e (d .advances) in
+        record {
+          onward = a .0;
+          few-given = a .1;
+          counted = g .counted;
+          waiting = g .waiting;
+          many = g .many;
+          few = g .fits .few;
+          spare = spare;
+          stacked = g .stacked;
+          light = g .light;
+          M = g .M;
+          holds = g .holds;
+          vs = q .0;
+          given = q .1;
+          rest = instead (sym (q .2 callee));
+        }
+
+    -- The item calls.
+    pub step-opened : {n k next : ℕ} {t : State} → step ≡ Opened n k next t → {call : Call} → call ≡ callOf n k next t
+        → (c .level + 2) * frameSize ≤ length frames
+        → Calling I bs frames vars c args call cells′ R
+    step-opened e ec spare =
+        subst⁻¹ (λ (call : Call). Calling I bs frames vars c args call cells′ R) ec (opened-as e spare)
+
+  -- ---------------------------------------------------------------- the result of the call
+
+  module _ {o : Outcome} {cells′ : List ℕ} (d : Resulting I bs vars c cells o cells′) where
+    gives-all : ran o cells′ ≡ now-left
+    unfolding body runItems
+    gives-all =
+        d .gives (g .M) (g .holds)
+        ∙ ap
+        (λ (is : List Item). after (runItems callee I is (g .M) (c .state) cells) (λ M. build (resultOf (fieldsAt bs (c .at))) I M)) (sym (d .no-item))
+
+    given-by : {q : Outcome} → o ≡ q → ran q cells′ ≡ now-left
+    given-by e = ap (λ (x : Outcome). ran x cells′) (sym e) ∙ gives-all
+
+    -- It refuses.
+    pub closed-halted : {x : Refusal} → o ≡ Halted x → halt x cells′ ≡ R
+    closed-halted e = halted (given-by e)
+
+    module _ {x : ℕ} {t : State} (e : o ≡ Value x t) where
+      -- No call waits.
+      pub closed-root : c .level ≡ 0 → done x t cells′ ≡ R
+      unfolding resume
+      closed-root z = by (g .waiting) refl
+        where
+          by : (fs : List Frame) → g .waiting ≡ fs → done x t cells′ ≡ R
+          by [] ef = ap (λ (fs : List Frame). resume I bs fs (done x t cells′)) (sym ef) ∙ instead (given-by e)
+          by (f ∷ fs) ef = absurd (omega (arith, g .many, ap length ef))
+
+      -- The innermost of those that wait goes on.
+      module _ (below : c .level ≡ 0 → ⊥) where
+        abbrev from : Resumption
+        from = record { level = c .level - 1; state = t }
+
+        pub below-fits : Fits frames (from .level)
+        below-fits = record { few = omega (arith, g .fits .few); inside = omega (arith, g .fits .inside) }
+
+        unmoved : (t .at ≡ c .state .at) × (t .fresh ≡ c .state .fresh) × (t .calls ≡ c .state .calls)
+        unmoved = subst (Stays (c .state)) e (d .stays)
+
+        top-frame : (f : Frame) × (fs : List Frame) × (g .waiting ≡ f ∷ fs) × (length fs ≡ from .level)
+            × Waits bs frames (from .level) f × Stacked bs frames fs
+            × (length (f .values) < length bs + f .next)
+        top-frame = by (g .waiting) refl (g .stacked)
+          where
+            by : (ws : List Frame) → g .waiting ≡ ws → Stacked bs frames ws
+                → (f : Frame) × (fs : List Frame) × (g .waiting ≡ f ∷ fs) × (length fs ≡ from .level)
+                × Waits bs frames (from .level) f × Stacked bs frames fs
+                × (length (f .values) < length bs + f .next)
+            by [] ef stacked-none = absurd (below (sym (g .many) ∙ ap length ef))
+            by (f ∷ fs) ef (stacked-one w few st) =
+                let l : length fs ≡ from .level = omega (arith, g .many, ap length ef) in
+                (f, fs, ef, l, subst (λ (k : ℕ). Waits bs frames k f) l w, st, few)
+
+        weight-same : weight t ≡ weight (c .state)
+        weight-same = omega (arith, unmoved .0, unmoved .1, ap (λ (k : ℕ). 16384 * (65536 - k)) (unmoved .2))
+
+        module _ {vars₁ : List ℕ} {v : Cursor} (r : Resumes frames from vars₁ v) where
+          abbrev at-top : Cursor
+          at-top = cursorAt frames from
+
+          at-few : at-top .count < length bs + at-top .at
+          at-few = omega (arith, top-frame .4 .next-is, top-frame .4 .counted, top-frame .6)
+
+          pub closed-few : v .count < length bs + length bs
+          closed-few = rw (r .cursor-is) (omega (arith, at-few, top-frame .4 .next-is, top-frame .4 .inside))
+
+          closed-going : {vars₂ : List ℕ} → ((M : List ℕ) → Holds vars₁ (at-top .count) M → Holds vars₂ (at-top .count + 1) (M ++ (x ∷ [])))
+              → Going I bs frames vars₂ (moved at-top (at-top .at) t) cells′ R
+          unfolding resume owed
+          closed-going put =
+              let f = top-frame .0 in
+              let fs = top-frame .1 in
+              let w = top-frame .4 in
+              record {
+                whole = ap (λ (a : ℕ). wholeBody (fieldsAt bs a)) (w .next-is) ∙ w .whole;
+                inside = omega (arith, w .next-is, w .inside);
+                counted = omega (arith, at-few);
+                waiting = fs;
+                many = top-frame .3;
+                fits = below-fits;
+                stacked = top-frame .5;
+                light =
+                    light-below (length bs - c .at) (owed bs (g .waiting)) (length bs - at-top .at) (owed bs fs) weight-same
+                    (ap (owed bs) (top-frame .2) ∙ ap (λ (a : ℕ). length bs - a + owed bs fs) (sym (w .next-is))) (g .light);
+                M = f .values ++ (x ∷ []);
+                holds = put (f .values) (waits-holds w (r .loaded) refl);
+                rest =
+                    ap
+                    (λ (k : ℕ). resume I bs fs (body (runCall (mostWaiting - k) I) bs (at-top .at) I (f .values ++ (x ∷ [])) t cells′))
+                    (sym (top-frame .3))
+                    ∙ ap
+                    (λ (a : ℕ). resume I bs fs (body (runCall (mostWaiting - length fs) I) bs a I (f .values ++ (x ∷ [])) t cells′)) (w .next-is)
+                    ∙ ap (λ (ws : List Frame). resume I bs ws (done x t cells′)) (sym (top-frame .2))
+                    ∙ instead (given-by e);
+              }
+
+          pub closed-on : {vars₂ : List ℕ} {u : Cursor} → Values vars₁ v x (v .at) t vars₂ u → length bs ≤ 16384
+              → Turns I bs (left bs c) R frames vars₂ cells′ (On u)
+          closed-on {vars₂} put small =
+              subst⁻¹ (λ (u : Cursor). Turns I bs (left bs c) R frames vars₂ cells′ (On u))
+              (put .cursor-is ∙ ap (λ (q : Cursor). moved q (q .at) t) (r .cursor-is))
+              (record {
+                stands = (
+                  closed-going
+                      (subst (λ (q : Cursor). (M : List ℕ) → Holds vars₁ (q .count) M → Holds vars₂ (q .count + 1) (M ++ (x ∷ []))) (r .cursor-is)
+                      (put .holds)),
+                  omega (arith, g .fits .inside),
+                );
+                less =
+                    let p : 0 < c .level = positive (c .level) below in
+                    omega (arith, ap (λ (k : ℕ). 40000 * (65536 - k)) (unmoved .2));
+              })
+
+-- ------------------------------------------------------------------ a call that is begun
+
+module _ {I : Input} {bs frames vars : List ℕ} {c : Cursor} {args : List ℕ} {call : Call} {cells : List ℕ} {R : Result ℕ}
+    (k : Calling I bs frames vars c args call cells R) where
+  abbrev depth : ℕ
+  depth = mostWaiting - c .level
+
+  -- what the call that waits makes of what the call gives
+  abbrev waiting-for : ℕ → Result ℕ → Result ℕ
+  waiting-for l r = after r (λ x. body (runCall (mostWaiting - l) I) bs (call .next) I (k .M ++ (x ∷ [])))
+
+  pub calling-fits : Fits frames (c .level)
+  calling-fits = record { few = k .few; inside = omega (arith, k .spare) }
+
+  -- The numbers that are saved are small.
+  pub calling-few : (c .count ≤ length bs + length bs) × (call .next ≤ length bs)
+  calling-few = (omega (arith, k .counted, k .onward .less, k .onward .inside), k .onward .inside)
+
+  module _ {b : Begun} {memory : List ℕ} (s : Starts I bs depth (call .callee) (call .state) b memory) where
+    begun-as : {q : Begun} → b ≡ q → Begins I bs depth (call .callee) (call .state) q
+    begun-as e = subst (Begins I bs depth (call .callee) (call .state)) e (s .begins)
+
+    -- It refuses.
+    pub opened-refused : {r : Refusal} → b ≡ Refused r → halt r cells ≡ R
+    opened-refused {r} e =
+        sym (resume-halt I bs (k .waiting) r cells)
+        ∙ ap (λ (q : Result ℕ). resume I bs (k .waiting) (waiting-for (c .level) q)) (begun-as e (k .vs) cells)
+        ∙ k .rest
+
+    -- It is entered, and the call that called waits.
+    module _ {first : ℕ} {u : State} (e : b ≡ Entered first u) where
+      pub opened-entry : Entry bs depth (call .state) first u
+      opened-entry = subst (Enters bs depth (call .state)) e (s .enters)
+
+      abbrev pub entered : Cursor
+      entered = record { count = call .given; at = first; level = c .level + 1; state = u }
+
+      module _ {frames′ : List ℕ} (saved : Saved frames frames′ (c .level) vars (c .count) (call .next)) (long : length frames′ ≡ length frames)
+          (small : length bs ≤ 16384) where
+        pub opened-going : Going I bs frames′ args entered cells R
+        unfolding resume owed
+        opened-going =
+            let o = k .onward in
+            record {
+              whole = opened-entry .whole;
+              inside = opened-entry .inside;
+              counted = omega (arith, k .few-given);
+              waiting = record { next = call .next; values = k .M } ∷ k .waiting;
+              many = omega (arith, k .many);
+              fits = record { few = omega (arith, opened-entry .may-open); inside = omega (arith, k .spare, long) };
+              stacked = stacked-more (k .many) saved (k .holds) (o .whole) (omega (arith, k .counted, o .less)) (o .inside) (k .stacked);
+              light = omega (arith, onward-light o (owed bs (k .waiting)) (k .light), entry-weight opened-entry small);
+              M = k .vs;
+              holds = k .given;
+              rest =
+                  let z : mostWaiting - (c .level + 1) ≡ mostWaiting - c .level - 1 = omega arith in
+                  ap
+                  (λ (l : ℕ). resume I bs (k .waiting) (waiting-for l (body (runCall (mostWaiting - (c .level + 1)) I) bs first I (k .vs) u cells)))
+                  (k .many)
+                  ∙ ap
+                  (λ (d : ℕ). resume I bs (k .waiting) (waiting-for (c .level) (body (runCall d I) bs first I (k .vs) u cells)))
+                  z
+                  ∙ ap (λ (q : Result ℕ). resume I bs (k .waiting) (waiting-for (c .level) q)) (begun-as e (k .vs) cells)
+                  ∙ k .rest;
+            }
+
+        -- The call that is entered goes on.
+        pub opened-on : (c .level + 1 + 2) * frameSize ≤ length frames′ → Turns I bs (left bs c) R frames′ args cells (On entered)
+        opened-on spare =
+            record {
+              stands = (opened-going, spare);
+              less =
+                  omega (
+                    arith,
+                    small,
+                    opened-entry .may-call,
+                    ap (λ (q : State). 40000 * (65536 - q .calls)) (opened-entry .begun),
+                    ap (λ (q : ℕ). 40000 * (65536 - q)) (k .onward .called),
+                  );
+            }
+
+        -- The room is too short: it is saved too.
+        pub opened-paused : {frames″ : List ℕ} → Saved frames′ frames″ (c .level + 1) args (call .given) first → length frames″ ≡ length frames′
+            → length frames′ < (c .level + 1 + 2) * frameSize
+            → (vars″ : List ℕ)
+            → Turns I bs (left bs c) R frames″ vars″ cells (Over (Paused (record { level = c .level + 1; state = u })))
+        opened-paused saved′ long′ full vars″ =
+            record {
+              stands = (going-paused opened-going saved′ long′, omega (arith, opened-going .fits .few));
+              less = omega arith;
+            }
+
+-- ------------------------------------------------------------------ the loop over the turns
+
+-- where the loop stands
+pub record Place : Type 0 where
+  pub cells : List ℕ
+  pub stack : List ℕ
+  pub frames : List ℕ
+  pub vars : List ℕ
+  pub cursor : Cursor
+
+-- what is left at a place gives R
+abbrev pub Stood : Input → List ℕ → Result ℕ → Place → Type 0
+Stood I bs R p = Turned I bs R (p .frames) (p .vars) (p .cells) (On (p .cursor))
+
+-- Rooms are as long as they were, choices are remembered, and what gave R at the first place still gives it.
+pub record Turning (I : Input) (bs : List ℕ) (p q : Place) (memory : List ℕ) : Type 0 where
+  pub cells-long : length (q .cells) ≡ length (p .cells)
+  pub stack-long : length (q .stack) ≡ length (p .stack)
+  pub frames-long : length (q .frames) ≡ length (p .frames)
+  pub remembers : Remembers bs memory
+  pub stands : (R : Result ℕ) → Stood I bs R p → Stood I bs R q
+
+-- The loop begins.
+pub turning-start : {I : Input} {bs : List ℕ} (p : Place) {memory : List ℕ} → Remembers bs memory → Turning I bs p p memory
+turning-start p m = record { cells-long = refl; stack-long = refl; frames-long = refl; remembers = m; stands = λ R s. s }
+
+pub turned-start : {I : Input} {bs frames : List ℕ} {from : Resumption} {cells : List ℕ} {R : Result ℕ}
+    → Standing I bs frames (from .level) (from .state) cells R
+    → {vars : List ℕ} {c : Cursor}
+    → Resumes frames from vars c
+    → (from .level + 2) * frameSize ≤ length frames
+    → Turned I bs R frames vars cells (On c)
+turned-start s r spare = (going-resumed s r, omega (arith, spare, ap (λ (c : Cursor). c .level) (r .cursor-is)))
+
+-- One turn more.
+pub turning-next : {I : Input} {bs : List ℕ} {p q : Place} {memory : List ℕ} → Turning I bs p q memory → (next : Place) {memory′ : List ℕ}
+    → length (next .cells) ≡ length (q .cells)
+    → length (next .stack) ≡ length (q .stack)
+    → length (next .frames) ≡ length (q .frames)
+    → Remembers bs memory′
+    → ((R : Result ℕ) → Stood I bs R p → Stood I bs R next)
+    → Turning I bs p next memory′
+turning-next w next ec es ef m stands =
+    record {
+      cells-long = ec ∙ w .cells-long;
+      stack-long = es ∙ w .stack-long;
+      frames-long = ef ∙ w .frames-long;
+      remembers = m;
+      stands = stands;
+    }
+
+-- How a turn ended.
+module _ (I : Input) (bs : List ℕ) (most : ℕ) (R : Result ℕ) (frames vars cells : List ℕ) (t : Turn) (w : Turns I bs most R frames vars cells t) where
+  pub turned-over : {p : Progress} → t ≡ Over p → Goes I bs R frames cells p
+  turned-over e = subst (Turned I bs R frames vars cells) e (w .stands)
+
+  pub turned-on : {c : Cursor} → t ≡ On c → Turned I bs R frames vars cells (On c)
+  turned-on e = subst (Turned I bs R frames vars cells) e (w .stands)
+
+  pub turned-less : {c : Cursor} → t ≡ On c → left bs c < most
+  turned-less e = omega (arith, w .less, ap (leftOf bs) e)

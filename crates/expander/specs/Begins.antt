@@ -1,0 +1,38 @@
+-- What the code that begins a call answers. These definitions mirror code: nobody needs them to believe `expand`.
+use Prim.Native.Nat.{ℕ, _-_, _<_, _≤_}
+use mathlib.Core.Path.{_≡_}
+use mathlib.Core.Bool.{true}
+use mathlib.Core.List.{List}
+use lib.ListN.{length}
+use Rattle.grammar.specs.Lookup.{fieldsAt}
+use Rattle.productions.specs.Index.{wholeBody}
+use Rattle.expansion.specs.declared.State.{State}
+use Rattle.expansion.specs.Run.{halt}
+use Rattle.expansion.specs.Expansion.{Input, callBegun, mostCalls, runCall}
+use Rattle.choices.specs.Chosen.{Remembers}
+use Rattle.steps.specs.Steps.{body}
+use Rattle.expander.specs.declared.begins.Begun.{Begun}
+use Rattle.expander.specs.declared.begins.Begun.the-variants.{Refused, Entered}
+
+-- a call of nonterminal n refuses, or goes on with the items and the result at an offset
+abbrev pub Begins : Input → List ℕ → ℕ → ℕ → State → Begun → Type 0
+Begins I bs depth n s (Refused r) = (vs cells : List ℕ) → halt r cells ≡ runCall depth I n vs s cells
+Begins I bs depth n s (Entered start t) = (vs cells : List ℕ) → body (runCall (depth - 1) I) bs start I vs t cells ≡ runCall depth I n vs s cells
+
+-- a whole alternative stands at the offset, and one more call is begun
+pub record Entry (bs : List ℕ) (depth : ℕ) (s : State) (start : ℕ) (t : State) : Type 0 where
+  pub whole : wholeBody (fieldsAt bs start) ≡ true
+  pub inside : start ≤ length bs
+  pub may-open : 0 < depth
+  pub may-call : s .calls < mostCalls
+  pub begun : t ≡ callBegun s
+
+abbrev pub Enters : List ℕ → ℕ → State → Begun → Type 0
+Enters bs depth s (Refused r) = Unit {0}
+Enters bs depth s (Entered start t) = Entry bs depth s start t
+
+-- both, and choices are remembered
+pub record Starts (I : Input) (bs : List ℕ) (depth n : ℕ) (s : State) (b : Begun) (memory : List ℕ) : Type 0 where
+  pub begins : Begins I bs depth n s b
+  pub enters : Enters bs depth s b
+  pub remembers : Remembers bs memory

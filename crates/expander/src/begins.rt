@@ -1,0 +1,70 @@
+// The beginning of a call.
+use answers::Refusal;
+use answers::refuse;
+use choices::choose;
+use choices::kinds_of;
+use expansion::State;
+use productions::room::start;
+use scanner::tokens::kind_at;
+use steps::tokens::misfit;
+ghost use Prim.Native.Nat.{ℕ, _≤_};
+ghost use mathlib.Core.Path.{_≡_};
+ghost use mathlib.Core.List.{List};
+ghost use Rattle.answers.specs.Refusals.{refusal};
+ghost use Rattle.expansion.specs.Expansion.{callBegun, mostCalls};
+ghost use Rattle.choices.specs.Held.{Held};
+ghost use Rattle.choices.specs.Chosen.{Remembers};
+ghost use Rattle.expander.specs.Lent.{MayBegin, lentInput};
+ghost use Rattle.expander.specs.Begins.{Starts};
+
+// How many calls may be begun in all.
+const MOST_CALLS: u32 = 65536;
+
+// How a call begins: it refuses, or a production is entered at an offset.
+pub enum Begun {
+    Refused(Refusal),
+    Entered(usize, State),
+}
+
+// The state with one more call begun.
+fn with_call(s: State) -> State
+    requires { ⌜ s .calls ≤ mostCalls ⌝ }
+    ensures { λ r. ⌜ r ≡ callBegun s ⌝ }
+{
+    State {
+        at: s.at,
+        fresh: s.fresh,
+        calls: s.calls + 1,
+        made: s.made,
+    }
+}
+
+// The beginning of a call of a nonterminal, while `depth` more calls may be open: tested 19, 20, 17.
+pub fn begin(
+    room: &[u64; 641],
+    memory: &mut [u8; 4160],
+    tokens: &[u32],
+    n: usize,
+    depth: usize,
+    nonterminal: u8,
+    s: State,
+) -> Begun
+    requires { ⌜ MayBegin (now room) (now tokens) n ⌝ }
+    ensures { λ r. ⌜ ((bs : List ℕ) (rows : ℕ) → Held bs (now (room .entry)) → Remembers bs (now (memory .entry)) → Starts (lentInput bs (now
+        (tokens .entry)) n rows) bs depth nonterminal s r (now (memory .exit))) ⌝ }
+{
+    let at = s.at;
+    let calls = s.calls;
+    if depth == 0 {
+        return Begun::Refused(refuse(19, at as u64, 0, 0));
+    }
+    if MOST_CALLS <= calls {
+        return Begun::Refused(refuse(20, at as u64, 0, 0));
+    }
+    let kind = kind_at(tokens, n, at);
+    let place = choose(room, memory, nonterminal, kind);
+    if place < 256 {
+        return Begun::Entered(start(room, place), with_call(s));
+    }
+    Begun::Refused(misfit(at, kinds_of(room, nonterminal)))
+}
