@@ -1,14 +1,4 @@
 // Calls: a rule is chosen, its items are done from the left, and its result is built.
-use crate::begins::Begun;
-use crate::begins::begin;
-use crate::turns::Progress;
-use crate::turns::Resumption;
-use crate::turns::Turn;
-use crate::turns::calling;
-use crate::turns::enter;
-use crate::turns::leave;
-use crate::turns::resumed;
-use crate::turns::valued;
 use answers::refuse;
 use expansion::Outcome;
 use expansion::State;
@@ -16,6 +6,16 @@ use frames::copy;
 use frames::save;
 use steps::Step;
 use steps::item_step;
+use turns::Progress;
+use turns::Resumption;
+use turns::Turn;
+use turns::begins::Begun;
+use turns::begins::begin;
+use turns::calling;
+use turns::enter;
+use turns::leave;
+use turns::resumed;
+use turns::valued;
 ghost use Prim.Native.Nat.{ℕ};
 ghost use mathlib.Core.Path.{_≡_};
 ghost use mathlib.Core.List.{List};
@@ -26,7 +26,7 @@ ghost use Rattle.templates.specs.Built.{rowsIn};
 ghost use Rattle.choices.specs.Chosen.{Remembers};
 ghost use Rattle.frames.specs.Frames.{Standing};
 ghost use Rattle.expander.specs.Lent.{lentInput, Lent};
-ghost use Rattle.expander.specs.Turns.{Goes};
+ghost use Rattle.turns.specs.Turns.{Goes};
 ghost use Rattle.expander.specs.Calls.{rootItems, MayBeginRoot, MayGo, MayGoOn};
 
 // How many calls may be open at once.

@@ -69,15 +69,18 @@ enum-told c = search needs
 no-row-requires : tie.Need-no-row-requires
 no-row-requires c κs = search needs
 
+abbrev overfull : tie.After-enum-told → tie.After-build-arguments
+overfull told = told .before .before .before .before .before .before
+
 same-length : tie.Need-same-length
-same-length c = same (c .before .before .before .before .before .before .before)
+same-length c = same (overfull (c .before))
 
 same-length-2 : tie.Need-same-length-2
-same-length-2 c = stack-same (c .before .before .before .before .before .before .before)
+same-length-2 c = stack-same (overfull (c .before))
 
 returns : tie.Need-returns
 returns c =
-    let p = c .before .before .before .before .before .before .before in (
+    let p = overfull (c .before) in (
       λ bs at I M h et er g. laws.overfull-step h I M (entry p .args .c .state) _ (byte-place p .byte .ensures) (call-place p .before .byte2 .ensures)
           (call-place p .if1 .taken) _ (out′ p) (cells′ p) (lists p I M er g) (c .before .enum-told .given .1) (c .no-row .ensures),
       λ bs at h. tt,

@@ -26,7 +26,9 @@ module _ (p : tie.After-front-at) where
     inside : entry .args .c .at + (3 + n) ≤ length (entry .args .table .now)
     inside = front-inside (entry .args .table .now) (entry .args .c .at) stands
 
-    item : t ≡ 6 → ItemAt (entry .args .table .now) (entry .args .c .at) (laws.value (entry .args .table .now) (entry .args .c .at) stands) (entry .args .c .at + 3 + n)
+    item : t ≡ 6
+        → ItemAt (entry .args .table .now) (entry .args .c .at) (laws.value (entry .args .table .now) (entry .args .c .at) stands)
+        (entry .args .c .at + 3 + n)
     item i = laws.item-at _ _ stands i (entry .pre .whole)
 
 front-at-requires : tie.Need-front-at-requires

@@ -6,9 +6,9 @@ use native.Mathlib.Omega.{arith}
 use borrow.Author.Needs.{needs}
 use Rattle.expansion.specs.Expansion.{Input}
 use Rattle.templates.specs.Built.{rowsIn}
-use Rattle.expander.proofs.TurnLaws as laws
-use Rattle.expander.proofs.turns.leave.Statement.{statement}
-use Rattle.expander.proofs.turns.leave.Tie as tie
+use Rattle.turns.proofs.TurnLaws as laws
+use Rattle.turns.proofs.leave.Statement.{statement}
+use Rattle.turns.proofs.leave.Tie as tie
 
 -- after the result
 module _ (f : tie.After-finish) where

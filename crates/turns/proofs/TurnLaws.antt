@@ -22,26 +22,23 @@ use Rattle.steps.specs.Steps.{body, weight, Steps, Onward, Advances, Stays}
 use Rattle.frames.specs.Frames.{frameSize, mostWaiting, Fits, Saved, Loaded, Frame, resume, owed, Waits, Stacked}
 use Rattle.frames.specs.Frames.{stacked-none, stacked-one, Standing}
 use Rattle.frames.proofs.FrameLaws.{resume-halt, stacked-same, stacked-more, waits-saved, waits-holds}
-use Rattle.expander.specs.declared.begins.Begun.{Begun}
-use Rattle.expander.specs.declared.begins.Begun.the-variants.{Refused, Entered}
-use Rattle.expander.specs.declared.turns.Resumption.{Resumption}
+use Rattle.turns.specs.declared.begins.Begun.{Begun}
+use Rattle.turns.specs.declared.begins.Begun.the-variants.{Refused, Entered}
+use Rattle.turns.specs.declared.Resumption.{Resumption}
 use Rattle.steps.specs.declared.Cursor.{Cursor}
-use Rattle.expander.specs.declared.turns.Call.{Call}
-use Rattle.expander.specs.declared.turns.Progress.{Progress}
-use Rattle.expander.specs.declared.turns.Progress.the-variants.{Ended, Paused}
-use Rattle.expander.specs.declared.turns.Turn.{Turn}
-use Rattle.expander.specs.declared.turns.Turn.the-variants.{Over, On}
-use Rattle.expander.specs.Begins.{Begins, Entry, Enters, Starts}
-use Rattle.expander.specs.Turns.{cursorAt, moved, callOf, Resumes, Values, left, Going, Calling, Goes, Turned, leftOf, Turns}
-use Rattle.expander.proofs.BeginLaws.{positive, entry-weight}
+use Rattle.turns.specs.declared.Call.{Call}
+use Rattle.turns.specs.declared.Progress.{Progress}
+use Rattle.turns.specs.declared.Progress.the-variants.{Ended, Paused}
+use Rattle.turns.specs.declared.Turn.{Turn}
+use Rattle.turns.specs.declared.Turn.the-variants.{Over, On}
+use Rattle.turns.specs.Begins.{Begins, Entry, Enters, Starts}
+use Rattle.turns.specs.Turns.{cursorAt, moved, callOf, Resumes, Values, left, Going, Calling, Goes, Turned, leftOf, Turns}
+use Rattle.turns.proofs.BeginLaws.{positive, entry-weight}
 
 -- The last turn: less is left than any number.
 pub turns-over : {I : Input} {bs : List ℕ} {R : Result ℕ} {cells : List ℕ} {o : Outcome} → ran o cells ≡ R → (most : ℕ) (frames vars : List ℕ)
     → Turns I bs most R frames vars cells (Over (Ended o))
 turns-over e most frames vars = record { stands = e; less = omega arith }
-
-abbrev resuming : Resumption → ℕ → ℕ → Cursor
-resuming from count at = record { count = count; at = at; level = from .level; state = from .state }
 
 -- The call at a level of the room is read back.
 pub resumes-at : {frames : List ℕ} {from : Resumption} {vars : List ℕ} → Loaded frames (from .level) vars → {count at : ℕ}
@@ -52,7 +49,7 @@ resumes-at {frames} {from} l {count} ec ea =
     record {
       loaded = l;
       cursor-is =
-          ap (resuming from count) ea ∙ ap (λ (k : ℕ). resuming from k (cursorAt frames from .at)) ec;
+          rw (ea, ec);
     }
 
 -- The call at a level of the room is loaded.
@@ -64,9 +61,9 @@ pub going-resumed : {I : Input} {bs frames : List ℕ} {from : Resumption} {cell
 going-resumed {I} {bs} {frames} {from} {cells} {R} s {vars} r =
     let w = s .on-top in
     let e = w .next-is in
-    subst⁻¹ (λ (c : Cursor). Going I bs frames vars c cells R) (r .cursor-is)
+    rw (r .cursor-is)
     (record {
-      whole = ap (λ (a : ℕ). wholeBody (fieldsAt bs a)) e ∙ w .whole;
+      whole = rw e (w .whole);
       inside = omega (arith, e, w .inside);
       counted = omega (arith, e, w .counted, s .counted);
       waiting = s .waiting;
@@ -77,9 +74,7 @@ going-resumed {I} {bs} {frames} {from} {cells} {R} s {vars} r =
       M = s .current .values;
       holds = waits-holds w (r .loaded) refl;
       rest =
-          ap
-          (λ (a : ℕ). resume I bs (s .waiting) (body (runCall (mostWaiting - from .level) I) bs a I (s .current .values) (from .state) cells)) e
-          ∙ s .rest;
+          rw e (s .rest);
     })
 
 -- an item takes no more than it leaves behind
@@ -139,7 +134,7 @@ module _ {I : Input} {bs frames vars : List ℕ} {c : Cursor} {cells : List ℕ}
 
   module _ {step : Step} {args cells′ : List ℕ} (d : Stepped I bs vars c cells step args cells′) where
     steps : {q : Step} → step ≡ q → Steps bs (c .at) I (g .M) (c .state) cells q args cells′
-    steps e = subst (λ (x : Step). Steps bs (c .at) I (g .M) (c .state) cells x args cells′) e (d .does (g .M) (g .holds))
+    steps e = rw e at (d .does (g .M) (g .holds))
 
     -- The item refuses.
     pub step-stopped : {r : Refusal} → step ≡ Stopped r → halt r cells′ ≡ R
@@ -150,7 +145,7 @@ module _ {I : Input} {bs frames vars : List ℕ} {c : Cursor} {cells : List ℕ}
     step-none e = subst (Advances bs (c .at) (c .state)) e (d .advances)
 
     pub step-finished : step ≡ Finished → Going I bs frames vars c cells′ R
-    step-finished e = subst⁻¹ (λ (cs : List ℕ). Going I bs frames vars c cs R) (steps e) g
+    step-finished e = rw (steps e) g
 
     -- The item gives a value.
     module _ {x next : ℕ} {t : State} (e : step ≡ Taken x next t) where
@@ -164,7 +159,7 @@ module _ {I : Input} {bs frames vars : List ℕ} {c : Cursor} {cells : List ℕ}
           → Turns I bs (left bs c) R frames vars′ cells′ (On u)
       step-taken {vars′} v spare =
           let o = taken-onward in
-          subst⁻¹ (λ (u : Cursor). Turns I bs (left bs c) R frames vars′ cells′ (On u)) (v .cursor-is)
+          rw (v .cursor-is)
           (record {
             stands = (
               record {
@@ -212,7 +207,7 @@ module _ {I : Input} {bs frames vars : List ℕ} {c : Cursor} {cells : List ℕ}
         → (c .level + 2) * frameSize ≤ length frames
         → Calling I bs frames vars c args call cells′ R
     step-opened e ec spare =
-        subst⁻¹ (λ (call : Call). Calling I bs frames vars c args call cells′ R) ec (opened-as e spare)
+        rw ec (opened-as e spare)
 
   -- ---------------------------------------------------------------- the result of the call
 
@@ -225,7 +220,7 @@ module _ {I : Input} {bs frames vars : List ℕ} {c : Cursor} {cells : List ℕ}
         (λ (is : List Item). after (runItems callee I is (g .M) (c .state) cells) (λ M. build (resultOf (fieldsAt bs (c .at))) I M)) (sym (d .no-item))
 
     given-by : {q : Outcome} → o ≡ q → ran q cells′ ≡ now-left
-    given-by e = ap (λ (x : Outcome). ran x cells′) (sym e) ∙ gives-all
+    given-by e = rw e at gives-all
 
     -- It refuses.
     pub closed-halted : {x : Refusal} → o ≡ Halted x → halt x cells′ ≡ R
@@ -238,7 +233,7 @@ module _ {I : Input} {bs frames vars : List ℕ} {c : Cursor} {cells : List ℕ}
       closed-root z = by (g .waiting) refl
         where
           by : (fs : List Frame) → g .waiting ≡ fs → done x t cells′ ≡ R
-          by [] ef = ap (λ (fs : List Frame). resume I bs fs (done x t cells′)) (sym ef) ∙ instead (given-by e)
+          by [] ef = rw ef at (instead (given-by e))
           by (f ∷ fs) ef = absurd (omega (arith, g .many, ap length ef))
 
       -- The innermost of those that wait goes on.
@@ -264,7 +259,7 @@ module _ {I : Input} {bs frames vars : List ℕ} {c : Cursor} {cells : List ℕ}
             by [] ef stacked-none = absurd (below (sym (g .many) ∙ ap length ef))
             by (f ∷ fs) ef (stacked-one w few st) =
                 let l : length fs ≡ from .level = omega (arith, g .many, ap length ef) in
-                (f, fs, ef, l, subst (λ (k : ℕ). Waits bs frames k f) l w, st, few)
+                (f, fs, ef, l, rw l at w, st, few)
 
         weight-same : weight t ≡ weight (c .state)
         weight-same = omega (arith, unmoved .0, unmoved .1, ap (λ (k : ℕ). 16384 * (65536 - k)) (unmoved .2))
@@ -287,7 +282,7 @@ module _ {I : Input} {bs frames vars : List ℕ} {c : Cursor} {cells : List ℕ}
               let fs = top-frame .1 in
               let w = top-frame .4 in
               record {
-                whole = ap (λ (a : ℕ). wholeBody (fieldsAt bs a)) (w .next-is) ∙ w .whole;
+                whole = rw (w .next-is) (w .whole);
                 inside = omega (arith, w .next-is, w .inside);
                 counted = omega (arith, at-few);
                 waiting = fs;
@@ -300,25 +295,16 @@ module _ {I : Input} {bs frames vars : List ℕ} {c : Cursor} {cells : List ℕ}
                 M = f .values ++ (x ∷ []);
                 holds = put (f .values) (waits-holds w (r .loaded) refl);
                 rest =
-                    ap
-                    (λ (k : ℕ). resume I bs fs (body (runCall (mostWaiting - k) I) bs (at-top .at) I (f .values ++ (x ∷ [])) t cells′))
-                    (sym (top-frame .3))
-                    ∙ ap
-                    (λ (a : ℕ). resume I bs fs (body (runCall (mostWaiting - length fs) I) bs a I (f .values ++ (x ∷ [])) t cells′)) (w .next-is)
-                    ∙ ap (λ (ws : List Frame). resume I bs ws (done x t cells′)) (sym (top-frame .2))
-                    ∙ instead (given-by e);
+                    rw (w .next-is, sym (top-frame .3)) (rw (top-frame .2) at (instead (given-by e)));
               }
 
           pub closed-on : {vars₂ : List ℕ} {u : Cursor} → Values vars₁ v x (v .at) t vars₂ u → length bs ≤ 16384
               → Turns I bs (left bs c) R frames vars₂ cells′ (On u)
           closed-on {vars₂} put small =
-              subst⁻¹ (λ (u : Cursor). Turns I bs (left bs c) R frames vars₂ cells′ (On u))
-              (put .cursor-is ∙ ap (λ (q : Cursor). moved q (q .at) t) (r .cursor-is))
+              rw (put .cursor-is, r .cursor-is)
               (record {
                 stands = (
-                  closed-going
-                      (subst (λ (q : Cursor). (M : List ℕ) → Holds vars₁ (q .count) M → Holds vars₂ (q .count + 1) (M ++ (x ∷ []))) (r .cursor-is)
-                      (put .holds)),
+                  closed-going (rw (r .cursor-is) at (put .holds)),
                   omega (arith, g .fits .inside),
                 );
                 less =
@@ -352,8 +338,7 @@ module _ {I : Input} {bs frames vars : List ℕ} {c : Cursor} {args : List ℕ} 
     pub opened-refused : {r : Refusal} → b ≡ Refused r → halt r cells ≡ R
     opened-refused {r} e =
         sym (resume-halt I bs (k .waiting) r cells)
-        ∙ ap (λ (q : Result ℕ). resume I bs (k .waiting) (waiting-for (c .level) q)) (begun-as e (k .vs) cells)
-        ∙ k .rest
+        ∙ rw (sym (begun-as e (k .vs) cells)) at (k .rest)
 
     -- It is entered, and the call that called waits.
     module _ {first : ℕ} {u : State} (e : b ≡ Entered first u) where
@@ -382,14 +367,7 @@ module _ {I : Input} {bs frames vars : List ℕ} {c : Cursor} {args : List ℕ} 
               holds = k .given;
               rest =
                   let z : mostWaiting - (c .level + 1) ≡ mostWaiting - c .level - 1 = omega arith in
-                  ap
-                  (λ (l : ℕ). resume I bs (k .waiting) (waiting-for l (body (runCall (mostWaiting - (c .level + 1)) I) bs first I (k .vs) u cells)))
-                  (k .many)
-                  ∙ ap
-                  (λ (d : ℕ). resume I bs (k .waiting) (waiting-for (c .level) (body (runCall d I) bs first I (k .vs) u cells)))
-                  z
-                  ∙ ap (λ (q : Result ℕ). resume I bs (k .waiting) (waiting-for (c .level) q)) (begun-as e (k .vs) cells)
-                  ∙ k .rest;
+                  rw (k .many, z, begun-as e (k .vs) cells) (k .rest);
             }
 
         -- The call that is entered goes on.

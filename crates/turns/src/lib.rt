@@ -1,4 +1,6 @@
 // One turn of an expansion: the call that goes on is kept apart from its frame, which stands in a room of frames with those that wait.
+pub mod begins;
+
 use crate::begins::Begun;
 use crate::begins::begin;
 use expansion::Outcome;
@@ -20,8 +22,8 @@ ghost use Rattle.templates.specs.Built.{rowsIn};
 ghost use Rattle.choices.specs.Held.{Held};
 ghost use Rattle.choices.specs.Chosen.{Remembers};
 ghost use Rattle.frames.specs.Frames.{Fits};
-ghost use Rattle.expander.specs.Lent.{lentInput};
-ghost use Rattle.expander.specs.Turns.{callOf, Resumes, Values, left, Going, Calling, MayLeave, MayEnter, Turns, Calls};
+ghost use Rattle.turns.specs.Lent.{lentInput};
+ghost use Rattle.turns.specs.Turns.{callOf, Resumes, Values, left, Going, Calling, MayLeave, MayEnter, Turns, Calls};
 
 // How many calls may wait.
 const MOST_WAITING: usize = 1023;

@@ -15,14 +15,14 @@ use Rattle.choices.specs.Held.{Held}
 use Rattle.choices.specs.Chosen.{Remembers}
 use Rattle.steps.specs.Steps.{body, weight, mostWeight, Small, Onward}
 use Rattle.frames.specs.Frames.{frameSize, longFrames, mostWaiting, Fits, Loaded, Frame, resume, owed, Stacked, Standing}
-use Rattle.expander.specs.Lent.{MayBegin, lentInput}
-use Rattle.expander.specs.declared.turns.Resumption.{Resumption}
+use Rattle.turns.specs.Lent.{MayBegin, lentInput}
+use Rattle.turns.specs.declared.Resumption.{Resumption}
 use Rattle.steps.specs.declared.Cursor.{Cursor}
-use Rattle.expander.specs.declared.turns.Call.{Call}
-use Rattle.expander.specs.declared.turns.Progress.{Progress}
-use Rattle.expander.specs.declared.turns.Progress.the-variants.{Ended, Paused}
-use Rattle.expander.specs.declared.turns.Turn.{Turn}
-use Rattle.expander.specs.declared.turns.Turn.the-variants.{Over, On}
+use Rattle.turns.specs.declared.Call.{Call}
+use Rattle.turns.specs.declared.Progress.{Progress}
+use Rattle.turns.specs.declared.Progress.the-variants.{Ended, Paused}
+use Rattle.turns.specs.declared.Turn.{Turn}
+use Rattle.turns.specs.declared.Turn.the-variants.{Over, On}
 
 -- ------------------------------------------------------------------ cursors
 
