@@ -145,7 +145,7 @@ module _ (es : List Entry) (few : length es ≤ 256) (n kind : ℕ) where
         → k ≡ placeFrom (isOf (getD es j noEntry .owner)) (drop (j + 1) es) (j + 1)
         → (j < k) × Walking es n kind k
     walking-next t e =
-        let q = onto (j + 1) (omega (arith, w .inside less)) (e ∙ ap (λ o. placeFrom (isOf o) (drop (j + 1) es) (j + 1)) (w .own less))
+        let q = onto (j + 1) (omega (arith, w .inside less)) (rw (w .own less) at e)
         (sym (rw here (place-miss (opensOf n kind) (getD es j noEntry) (drop (j + 1) es) j (rw (owned, t) refl))) ∙ w .rest) in
         (omega (arith, q .0), q .1)
 
@@ -301,7 +301,7 @@ module _ {bs room : List ℕ} (h : Held bs room) where
 
     module _ {j : ℕ} (w : Walking (entriesOf bs) n kind j) (less : j < 256) {set : ℕ} (es : set ≡ firstIn room j) where
       tested : {b : Bool} → hasKind set kind ≡ b → hasKind (getD (entriesOf bs) j noEntry .first) kind ≡ b
-      tested t = ap (λ x. hasKind x kind) (sym (es ∙ first-in entries-held j (w .inside less))) ∙ t
+      tested t = rw (sym (es ∙ first-in entries-held j (w .inside less))) t
 
       pub walk-found : hasKind set kind ≡ true → j ≡ placeFrom (opensOf n kind) (entriesOf bs) 0
       walk-found t = walking-found (entriesOf bs) entries-few n kind w less (tested t)
@@ -377,8 +377,9 @@ module _ {bs room : List ℕ} (h : Held bs room) where
         let l : opened-at < length (placesOf bs)
         = omega (arith, place-inside (opensOf n kind) (entriesOf bs) entries-few (ltb-true _ _ t), entries-count) in
         choice-is ∙ choice-inside R _ (placesOf bs) opened-at l ∙ rw (t, chosenPlace) (sym (choice-inside R unfit (placesOf bs) opened-at l)))
-        (λ t. choice-is ∙ choice-outside R (choiceAt R (placesOf bs) nullable-at unfit) (placesOf bs) opened-at (omega (arith, ltb-false opened-at noPlace t, few))
-        ∙ rw (t, chosenPlace) refl)
+        (λ t.
+        let l : length (placesOf bs) ≤ opened-at = omega (arith, ltb-false opened-at noPlace t, few) in
+        choice-is ∙ choice-outside R (choiceAt R (placesOf bs) nullable-at unfit) (placesOf bs) opened-at l ∙ rw (t, chosenPlace) refl)
 
     chosen-small : chosenPlace (entriesOf bs) n kind < 256 → chosenPlace (entriesOf bs) n kind < length (placesOf bs)
     unfolding chosenPlace
@@ -394,7 +395,7 @@ module _ {bs room : List ℕ} (h : Held bs room) where
 
       module _ (l : j < 256) where
         at-place : j < length (placesOf bs)
-        at-place = omega (arith, e, chosen-small (subst (λ k. k < 256) e l))
+        at-place = omega (arith, e, chosen-small (rw e at l))
 
         abbrev place : Place
         place = getD (placesOf bs) j somewhere
@@ -405,10 +406,10 @@ module _ {bs room : List ℕ} (h : Held bs room) where
         -- A place: the rule whose items and result stand at its offset, in a whole alternative.
         pub chosen-here : choice (ready (productionsIn bs)) n kind ≡ chosen (R (getD (placesOf bs) j somewhere))
         chosen-here =
-            chosen-is ∙ ap (λ k. choiceAt R (placesOf bs) k unfit) (sym e) ∙ choice-inside R unfit (placesOf bs) j at-place
+            chosen-is ∙ rw (sym e) (choice-inside R unfit (placesOf bs) j at-place)
 
         pub chosen-whole : wholeBody (fieldsAt bs (startIn room j)) ≡ true
-        chosen-whole = ap (λ a. wholeBody (fieldsAt bs a)) start-is ∙ each-at (h .grammar .whole) j at-place
+        chosen-whole = rw start-is (each-at (h .grammar .whole) j at-place)
 
         pub chosen-inside : startIn room j ≤ length bs
         chosen-inside = let w : Whole bs place = each-at (h .places) j at-place in omega (arith, start-is, w .inside)

@@ -19,16 +19,16 @@ use Rattle.expansion.specs.Limits.{mostOpen}
 use Rattle.templates.specs.Built.{Holds}
 use Rattle.frames.specs.Frames.{longFrames, Fits, Saved, resume, owed, stacked-none, Standing}
 use Rattle.frames.proofs.FrameLaws.{waits-saved}
-use Rattle.expander.specs.declared.begins.Begun.{Begun}
-use Rattle.expander.specs.declared.begins.Begun.the-variants.{Refused, Entered}
-use Rattle.expander.specs.declared.turns.Resumption.{Resumption}
-use Rattle.expander.specs.declared.turns.Progress.{Progress}
-use Rattle.expander.specs.declared.turns.Progress.the-variants.{Ended, Paused}
+use Rattle.turns.specs.declared.begins.Begun.{Begun}
+use Rattle.turns.specs.declared.begins.Begun.the-variants.{Refused, Entered}
+use Rattle.turns.specs.declared.Resumption.{Resumption}
+use Rattle.turns.specs.declared.Progress.{Progress}
+use Rattle.turns.specs.declared.Progress.the-variants.{Ended, Paused}
 use Rattle.expander.specs.Lent.{lentInput}
-use Rattle.expander.specs.Begins.{Begins, Entry, Enters}
-use Rattle.expander.specs.Turns.{Goes}
+use Rattle.turns.specs.Begins.{Begins, Entry, Enters}
+use Rattle.turns.specs.Turns.{Goes}
 use Rattle.expander.specs.Calls.{rootItems, Stands}
-use Rattle.expander.proofs.BeginLaws.{entry-weight}
+use Rattle.turns.proofs.BeginLaws.{entry-weight}
 
 -- No variables.
 pub holds-none : Holds (replicate 16 0) 0 []
@@ -61,7 +61,7 @@ pub standing-rows : {bs : List ℕ} (tokens : List ℕ) (n : ℕ) {frames : List
     → Standing (lentInput bs tokens n j) bs frames level here cells R
     → Standing (lentInput bs tokens n k) bs frames level here cells R
 standing-rows {bs} tokens n {frames} {level} {here} {cells} {R} e s =
-    subst (λ (i : ℕ). Standing (lentInput bs tokens n i) bs frames level here cells R) e s
+    rw e at s
 
 -- what a loop gave, by how it ended
 module _ (I : Input) (bs : List ℕ) (R : Result ℕ) (frames cells : List ℕ) (p : Progress) (g : Goes I bs R frames cells p) where
@@ -84,7 +84,7 @@ begins-as I bs depth n s b e h = subst (Begins I bs depth n s) e h
 
 module _ (I : Input) (cells : List ℕ) (n : ℕ) (count : length (I .tokens) ≡ n) (o : Outcome) where
   pub ended-halted : {r : Refusal} → o ≡ Halted r → halt r cells ≡ after (ran o cells) (ended I)
-  ended-halted e = ap (λ (x : Outcome). after (ran x cells) (ended I)) (sym e)
+  ended-halted e = rw e
 
   ended-by : {v : ℕ} {s : State} → o ≡ Value v s → (b : Bool) → ltb (s .at) n ≡ b
       → (elim b [ true ↦ halt (refusal 18 (s .at) 0 0) cells | false ↦ done v s cells ]) ≡ after (ran o cells) (ended I)
@@ -95,11 +95,18 @@ module _ (I : Input) (cells : List ℕ) (n : ℕ) (count : length (I .tokens) �
 
   pub ended-left : {v : ℕ} {s : State} → o ≡ Value v s → s .at < n → {r : Refusal} → r ≡ refusal 18 (s .at) 0 0
       → halt r cells ≡ after (ran o cells) (ended I)
-  ended-left {v} {s} e h er = ap (λ (x : Refusal). halt x cells) er ∙ ended-by e true (lt-ltb (s .at) n h)
+  ended-left {v} {s} e h er = rw er (ended-by e true (lt-ltb (s .at) n h))
 
   pub ended-done : {v : ℕ} {s : State} → o ≡ Value v s → n ≤ s .at → done v s cells ≡ after (ran o cells) (ended I)
   ended-done {v} {s} e h = ended-by e false (le-ltb (s .at) n h)
 
 pub run-is : (I : Input) (root : ℕ) (cells : List ℕ) {R : Result ℕ} → R ≡ runCall mostOpen I root [] start cells → after R (ended I) ≡ run I root cells
 unfolding run
-run-is I root cells e = ap (λ (r : Result ℕ). after r (ended I)) e
+run-is I root cells e = rw e
+
+-- The root's call, entered at an offset.
+pub run-root : (I : Input) (bs : List ℕ) (root first : ℕ) (t : State) → Begins I bs mostOpen root start (Entered first t) → (cells : List ℕ)
+    → {R : Result ℕ}
+    → R ≡ rootItems I bs first t cells
+    → R ≡ runCall mostOpen I root [] start cells
+run-root I bs root first t b cells e = e ∙ b [] cells

@@ -13,7 +13,7 @@ use Rattle.templates.specs.Built.{rowsIn}
 use Rattle.choices.specs.Chosen.{Remembers}
 use Rattle.steps.specs.Steps.{body, weight, mostWeight}
 use Rattle.frames.specs.Frames.{frameSize, shortFrames, mostWaiting, Standing}
-use Rattle.expander.specs.declared.turns.Resumption.{Resumption}
+use Rattle.turns.specs.declared.Resumption.{Resumption}
 use Rattle.expander.specs.Lent.{lentInput, Lent}
 
 -- the items of the root's alternative from an offset on, and its result: as many more calls may be open as may wait

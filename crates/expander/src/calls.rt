@@ -1,22 +1,21 @@
 // Calls: a rule is chosen, its items are done from the left, and its result is built.
-use crate::begins::Begun;
-use crate::begins::begin;
-use crate::turns::Call;
-use crate::turns::Progress;
-use crate::turns::Resumption;
-use crate::turns::Turn;
-use crate::turns::enter;
-use crate::turns::leave;
-use crate::turns::resumed;
-use crate::turns::valued;
 use answers::refuse;
 use expansion::Outcome;
 use expansion::State;
 use frames::copy;
 use frames::save;
 use steps::Step;
-use steps::Variables;
 use steps::item_step;
+use turns::Progress;
+use turns::Resumption;
+use turns::Turn;
+use turns::begins::Begun;
+use turns::begins::begin;
+use turns::calling;
+use turns::enter;
+use turns::leave;
+use turns::resumed;
+use turns::valued;
 ghost use Prim.Native.Nat.{ℕ};
 ghost use mathlib.Core.Path.{_≡_};
 ghost use mathlib.Core.List.{List};
@@ -28,7 +27,7 @@ ghost use Rattle.templates.specs.Built.{rowsIn};
 ghost use Rattle.choices.specs.Chosen.{Remembers};
 ghost use Rattle.frames.specs.Frames.{Standing};
 ghost use Rattle.expander.specs.Lent.{lentInput, Lent};
-ghost use Rattle.expander.specs.Turns.{Goes};
+ghost use Rattle.turns.specs.Turns.{Goes};
 ghost use Rattle.expander.specs.Calls.{rootItems, MayBeginRoot, MayGo, MayGoOn};
 
 // How many calls may be open at once.
@@ -55,39 +54,36 @@ fn items(
 {
     let mut vars = [0u32; 16];
     let mut args = [0u32; 16];
-    let mut turn = Turn::On(resumed(frames, &mut vars, from));
+    let mut c = resumed(frames, &mut vars, from);
     loop {
-        match turn {
-            Turn::Over(p) => {
-                return p;
+        let step = item_step(table, tokens, n, &vars, c, &mut args, cells, stack);
+        match step {
+            Step::Finished => {
+                let turn = leave(table, c, &mut vars, cells, stack, frames);
+                match turn {
+                    Turn::Over(p) => {
+                        return p;
+                    }
+                    Turn::On(d) => {
+                        c = d;
+                    }
+                }
             }
-            Turn::On(c) => {
-                let at = c.at;
-                let count = c.count;
-                let here = c.state;
-                let known = Variables {
-                    values: vars,
-                    count,
-                };
-                let step = item_step(table, at, tokens, n, known, &mut args, here, cells, stack);
-                match step {
-                    Step::Finished => {
-                        turn = leave(table, c, &mut vars, cells, stack, frames);
+            Step::Stopped(r) => {
+                return Progress::Ended(Outcome::Halted(r));
+            }
+            Step::Taken(x, next, t) => {
+                c = valued(&mut vars, c, x, next, t);
+            }
+            Step::Opened(callee, given, next, t) => {
+                let call = calling(callee, given, next, t);
+                let turn = enter(room, memory, tokens, n, frames, &mut vars, &args, c, call);
+                match turn {
+                    Turn::Over(p) => {
+                        return p;
                     }
-                    Step::Stopped(r) => {
-                        return Progress::Ended(Outcome::Halted(r));
-                    }
-                    Step::Taken(x, next, t) => {
-                        turn = Turn::On(valued(&mut vars, c, x, next, t));
-                    }
-                    Step::Opened(callee, given, next, t) => {
-                        let call = Call {
-                            callee,
-                            given,
-                            next,
-                            state: t,
-                        };
-                        turn = enter(room, memory, tokens, n, frames, &mut vars, &args, c, call);
+                    Turn::On(d) => {
+                        c = d;
                     }
                 }
             }

@@ -1,4 +1,2 @@
 // The expander: from tokens to cells.
-mod begins;
 pub mod calls;
-mod turns;

@@ -41,12 +41,11 @@ saving-next {old} {new} {base} {vars} {i} c h room =
   where
     by : (j : ℕ) → j < i + 1 → Dec (j ≡ i) → getD (set new (base + i) (getD vars i 0)) (base + j) 0 ≡ getD vars j 0
     by j l (yes e) =
-        ap (λ (k : ℕ). getD (set new (base + i) (getD vars i 0)) (base + k) 0) e
-        ∙ getD-set-same new (base + i) (getD vars i 0) 0 (omega (arith, c .long))
-        ∙ ap (λ (k : ℕ). getD vars k 0) (sym e)
+        rw (e, getD-set-same new (base + i) (getD vars i 0) 0 (omega (arith, c .long)))
     by j l (no n) = getD-set-other new (base + i) (base + j) (getD vars i 0) 0 (λ e. n (omega arith)) ∙ c .values j (omega arith)
 
-pub saving-end : {old new : List ℕ} {level : ℕ} {vars : List ℕ} {i : ℕ} → Saving old new (level * frameSize) vars i → 16 ≤ i → level * frameSize + frameSize ≤ length old
+pub saving-end : {old new : List ℕ} {level : ℕ} {vars : List ℕ} {i : ℕ} → Saving old new (level * frameSize) vars i → 16 ≤ i
+    → level * frameSize + frameSize ≤ length old
     → (count next : ℕ)
     → Saved old (set (set new (level * frameSize + 16) count) (level * frameSize + 17) next) level vars count next
 saving-end {old} {new} {level} {vars} {i} c h room count next =
@@ -86,9 +85,7 @@ loading-next {frames} {base} {vars} {i} c h =
   where
     by : (j : ℕ) → j < i + 1 → Dec (j ≡ i) → getD (set vars i (getD frames (base + i) 0)) j 0 ≡ getD frames (base + j) 0
     by j l (yes e) =
-        ap (λ (k : ℕ). getD (set vars i (getD frames (base + i) 0)) k 0) e
-        ∙ getD-set-same vars i (getD frames (base + i) 0) 0 (omega (arith, c .long))
-        ∙ ap (λ (k : ℕ). getD frames (base + k) 0) (sym e)
+        rw (e, getD-set-same vars i (getD frames (base + i) 0) 0 (omega (arith, c .long)))
     by j l (no n) = getD-set-other vars i j (getD frames (base + i) 0) 0 n ∙ c .values j (omega arith)
 
 pub loading-end : {frames : List ℕ} {level : ℕ} {vars : List ℕ} {i : ℕ} → Loading frames (level * frameSize) vars i → 16 ≤ i → Loaded frames level vars
@@ -143,9 +140,8 @@ pub stacked-more : {bs old new vars : List ℕ} {count next level : ℕ} {M : Li
     → next ≤ length bs
     → Stacked bs old fs
     → Stacked bs new (record { next = next; values = M } ∷ fs)
-stacked-more {bs} {old} {new} {next = next} {M = M} e v g w few inside s =
-    stacked-one
-    (subst (λ (n : ℕ). Waits bs new n (record { next = next; values = M })) (sym e) (waits-saved v g w inside))
+stacked-more {next = next} {M = M} {fs = fs} e v g w few inside s =
+    stacked-one {f = record { next = next; values = M }} {fs = fs} (rw e (waits-saved v g w inside))
     (omega (arith, g .count))
     (stacked-same (λ i l. v .same i (omega arith)) s)
 
@@ -197,7 +193,5 @@ copying-next {short} {old} {frames} {i} c h fits =
   where
     by : (j : ℕ) → j < i + 1 → Dec (j ≡ i) → getD (set frames i (getD short i 0)) j 0 ≡ getD short j 0
     by j l (yes e) =
-        ap (λ (k : ℕ). getD (set frames i (getD short i 0)) k 0) e
-        ∙ getD-set-same frames i (getD short i 0) 0 (omega (arith, c .long))
-        ∙ ap (λ (k : ℕ). getD short k 0) (sym e)
+        rw (e, getD-set-same frames i (getD short i 0) 0 (omega (arith, c .long)))
     by j l (no n) = getD-set-other frames i j (getD short i 0) 0 n ∙ c .values j (omega arith)

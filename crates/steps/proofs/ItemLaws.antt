@@ -66,7 +66,7 @@ module _ (v : List ℕ) (kind operand : ℕ) (ek : kind ≡ getD v 0 0) (eo : op
 
   module _ (C : ℕ → List ℕ → Run ℕ) (I : Input) (M : List ℕ) (s : State) (cells : List ℕ) where
     runs : {i : Item} → i ≡ itemOf v → {R : Result ℕ} → R ≡ runItem C I i M s cells → R ≡ runItem C I (itemOf v) M s cells
-    runs e f = f ∙ ap (λ (i : Item). runItem C I i M s cells) e
+    runs e f = rw e at f
 
     pub keyword-read : kind ≡ 0 → {R : Result ℕ} → R ≡ Expansion.takeToken I (operand + 2) (λ x. 0) s cells → R ≡ runItem C I (itemOf v) M s cells
     keyword-read e f = runs (item-is 0 e) f
@@ -132,11 +132,11 @@ module _ {bs : List ℕ} {at : ℕ} {v : List ℕ} {after′ : ℕ} (h : ItemAt 
   -- an item that is no call
   module _ (o : Outcome) (f : (C : ℕ → List ℕ → Run ℕ) → ran o cells ≡ runItem C I (itemOf v) M s cells) where
     pub stopped-step : {r : Refusal} → o ≡ Halted r → (C : ℕ → List ℕ → Run ℕ) → body C bs at I M s cells ≡ halt r cells
-    stopped-step e C = body-runs C (ap (λ (x : Outcome). ran x cells) (sym e) ∙ f C)
+    stopped-step e C = body-runs C (rw e at (f C))
 
     pub taken-step : {x : ℕ} {t : State} → o ≡ Value x t → (C : ℕ → List ℕ → Run ℕ)
         → body C bs at I M s cells ≡ body C bs after′ I (M ++ (x ∷ [])) t cells
-    taken-step e C = body-runs C (ap (λ (y : Outcome). ran y cells) (sym e) ∙ f C)
+    taken-step e C = body-runs C (rw e at (f C))
 
   -- a call, by what its arguments give
   module _ {kind operand : ℕ} (ek : kind ≡ getD v 0 0) (eo : operand ≡ getD v 1 0) (is-call : kind ≡ 4) (a : Arguments) (out cells′ : List ℕ)
@@ -146,14 +146,14 @@ module _ {bs : List ℕ} {at : ℕ} {v : List ℕ} {after′ : ℕ} (h : ItemAt 
     overfull-step e er C =
         body-runs C
         (call-read v kind operand ek eo C I M s cells is-call
-        (subst (λ (x : Arguments). Lists s x out cells′ (buildAll (own v) I M s cells)) e l))
+        (rw e at l))
         ∙ ap (λ (x : Refusal). halt x cells′) (sym er)
 
     pub listed-step : {g m : ℕ} → a ≡ Listed g m → {t : State} → t ≡ withMade s m
         → Steps bs at I M s cells (Opened operand g after′ t) out cells′
     listed-step {g} {m} e et =
         let q : Lists s (Listed g m) out cells′ (buildAll (own v) I M s cells)
-        = subst (λ (x : Arguments). Lists s x out cells′ (buildAll (own v) I M s cells)) e l in (
+        = rw e at l in (
           q .0,
           q .2,
           λ C.
@@ -276,7 +276,7 @@ module _ (bs : List ℕ) (at : ℕ) where
 pub variable-value : (i : ℕ) (I : Input) (M : List ℕ) (s : State) (cells : List ℕ) {x : ℕ} → x ≡ getD M i 0
     → done x s cells ≡ build (variable i) I M s cells
 unfolding build
-variable-value i I M s cells e = ap (λ (y : ℕ). done y s cells) e
+variable-value i I M s cells e = rw e
 
 module _ (s : State) (b : Built) where
   pub made-outcome : {v a m : ℕ} → b ≡ Made v a m → {t : State} → t ≡ withMade s m → (cells : List ℕ) → done v t cells ≡ built s b cells

@@ -19,7 +19,6 @@ use Rattle.expansion.specs.Run.{Run, halt, after}
 use Rattle.expansion.specs.Expansion.{Input, build, runItems}
 use Rattle.productions.specs.Index.{wholeBody}
 use Rattle.templates.specs.Built.{Holds}
-use Rattle.steps.specs.declared.Variables.{Variables}
 
 -- the items from an offset on and the result behind them, under the values of the variables; `callee` is what a call does
 unfoldable pub body : (ℕ → List ℕ → Run ℕ) → List ℕ → ℕ → Input → List ℕ → Run ℕ
@@ -27,10 +26,6 @@ body callee bs at I M s cells =
     after (runItems callee I (itemsOf (fieldsAt bs at)) M s cells) (λ M′. build (resultOf (fieldsAt bs at)) I M′)
 
 -- ------------------------------------------------------------------ what is asked
-
--- the values of the variables
-abbrev pub Named : Variables → List ℕ → Type 0
-Named vars M = Holds (vars .values) (vars .count) M
 
 -- a table, or the value of one of its fields, is small, and the stack is as long
 pub record Small (v stack : List ℕ) : Type 0 where

@@ -31,8 +31,8 @@ ghost use Rattle.productions.specs.Index.{resultOf};
 ghost use Rattle.expansion.specs.Run.{Run};
 ghost use Rattle.expansion.specs.Outcomes.{ran};
 ghost use Rattle.expansion.specs.Expansion.{Input, wordValue, freshMade, build, runItem};
-ghost use Rattle.templates.specs.Built.{rowsIn, withMade, built};
-ghost use Rattle.steps.specs.Steps.{Named, MayRead, MayDo, MayStep, MayFinish, Stays, ItemAt, Steps, Advances, Spends};
+ghost use Rattle.templates.specs.Built.{rowsIn, Holds, withMade, built};
+ghost use Rattle.steps.specs.Steps.{MayRead, MayDo, MayStep, MayFinish, Stays, ItemAt, Steps, Advances, Spends};
 
 // What is done at an offset: there is no item, the item refuses, it gives a value (with the offset behind it and where the expansion
 // then stands), or it calls a nonterminal with a number of arguments.
@@ -43,10 +43,13 @@ pub enum Step {
     Opened(u8, usize, usize, State),
 }
 
-// The values of the variables of an alternative, and how many there are; the seventeenth and later ones are named by no template.
-pub struct Variables {
-    pub values: [u32; 16],
+// Where a call goes on: how many variables it has, the offset of its next item, how many calls wait below it, and the state. The values of
+// its variables stand in an array; the seventeenth and later ones are named by no template.
+pub struct Cursor {
     pub count: usize,
+    pub at: usize,
+    pub level: usize,
+    pub state: State,
 }
 
 // A word read at a sort: a label is its spelling number, any other a name.
@@ -105,25 +108,26 @@ fn do_item(
     next: usize,
     tokens: &[u32],
     n: usize,
-    vars: Variables,
+    vars: &[u32; 16],
+    c: Cursor,
     out: &mut [u32; 16],
-    s: State,
     cells: &mut [u32],
     stack: &mut [u32],
 ) -> Step
-    requires { ⌜ MayDo (now v) (now tokens) n s (now stack) ⌝ }
+    requires { ⌜ MayDo (now v) (now tokens) n (c .state) (now stack) ⌝ }
     ensures { λ r. ⌜ ((bs : List ℕ) (at : ℕ) (I : Input) (M : List ℕ) → ItemAt bs at (now (v .entry)) next → I .tokens ≡ tokensIn (now
-        (tokens .entry)) n → I .rows ≡ rowsIn (now (cells .entry)) → Named vars M → Steps bs at I M s (now (cells .entry)) r (now (out
-        .exit)) (now (cells .exit))) ⌝ }
-    ensures { λ r. ⌜ ((bs : List ℕ) (at : ℕ) → ItemAt bs at (now (v .entry)) next → Advances bs at s r) ⌝ }
+        (tokens .entry)) n → I .rows ≡ rowsIn (now (cells .entry)) → Holds (now (vars .entry)) (c .count) M → Steps bs at I M (c .state) (now
+        (cells .entry)) r (now (out .exit)) (now (cells .exit))) ⌝ }
+    ensures { λ r. ⌜ ((bs : List ℕ) (at : ℕ) → ItemAt bs at (now (v .entry)) next → Advances bs at (c .state) r) ⌝ }
 {
+    let s = c.state;
+    let count = c.count;
     let kind = byte(v, 0);
     let operand = byte(v, 1);
     if kind == 4 {
         let rows = rows_of(cells.len());
-        let count = vars.count;
         let made = s.made;
-        let listed = build_arguments(v, 2, &vars.values, count, rows, made, out, cells, stack);
+        let listed = build_arguments(v, 2, vars, count, rows, made, out, cells, stack);
         match listed {
             Arguments::Overfull => {
                 return Step::Stopped(no_row(s));
@@ -143,20 +147,21 @@ fn do_item(
 // What is done at an offset of the table.
 pub fn item_step(
     table: &[u8],
-    at: usize,
     tokens: &[u32],
     n: usize,
-    vars: Variables,
+    vars: &[u32; 16],
+    c: Cursor,
     out: &mut [u32; 16],
-    s: State,
     cells: &mut [u32],
     stack: &mut [u32],
 ) -> Step
-    requires { ⌜ MayStep (now table) at (now tokens) n s (now stack) ⌝ }
+    requires { ⌜ MayStep (now table) (c .at) (now tokens) n (c .state) (now stack) ⌝ }
     ensures { λ r. ⌜ ((I : Input) (M : List ℕ) → I .tokens ≡ tokensIn (now (tokens .entry)) n → I .rows ≡ rowsIn (now (cells .entry)) →
-        Named vars M → Steps (now (table .entry)) at I M s (now (cells .entry)) r (now (out .exit)) (now (cells .exit))) ⌝ }
-    ensures { λ r. ⌜ Advances (now (table .entry)) at s r ⌝ }
+        Holds (now (vars .entry)) (c .count) M → Steps (now (table .entry)) (c .at) I M (c .state) (now (cells .entry)) r (now (out .exit))
+        (now (cells .exit))) ⌝ }
+    ensures { λ r. ⌜ Advances (now (table .entry)) (c .at) (c .state) r ⌝ }
 {
+    let at = c.at;
     let front = front_at(table, at);
     match front {
         Front::Nothing => Step::Finished,
@@ -173,8 +178,8 @@ pub fn item_step(
                 tokens,
                 n,
                 vars,
+                c,
                 out,
-                s,
                 cells,
                 stack,
             )
@@ -206,51 +211,43 @@ fn outcome_of(b: Built, s: State) -> Outcome
 }
 
 // The first variable, which stands for a result that is not there.
-fn first_variable(vars: Variables, s: State) -> Outcome
-    ensures { λ r. ⌜ ((I : Input) (M cells : List ℕ) → Named vars M → ran r cells ≡ build (Template.variable 0) I M s cells) ⌝ }
+fn first_variable(vars: &[u32; 16], count: usize, s: State) -> Outcome
+    ensures { λ r. ⌜ ((I : Input) (M cells : List ℕ) → Holds (now (vars .entry)) count M → ran r cells ≡ build (Template.variable 0) I M s
+        cells) ⌝ }
     ensures { λ r. ⌜ Stays s r ⌝ }
 {
-    let count = vars.count;
-    Outcome::Value(pick(&vars.values, count, 0), s)
+    Outcome::Value(pick(vars, count, 0), s)
 }
 
 // The result of the alternative whose items end at an offset.
 pub fn finish(
     table: &[u8],
-    at: usize,
-    vars: Variables,
-    s: State,
+    vars: &[u32; 16],
+    c: Cursor,
     cells: &mut [u32],
     stack: &mut [u32],
 ) -> Outcome
-    requires { ⌜ MayFinish (now table) at (now stack) ⌝ }
-    ensures { λ r. ⌜ ((I : Input) (M : List ℕ) → I .rows ≡ rowsIn (now (cells .entry)) → Named vars M → ran r (now (cells .exit)) ≡ build
-        (resultOf (fieldsAt (now (table .entry)) at)) I M s (now (cells .entry))) ⌝ }
-    ensures { λ r. ⌜ Stays s r ⌝ }
+    requires { ⌜ MayFinish (now table) (c .at) (now stack) ⌝ }
+    ensures { λ r. ⌜ ((I : Input) (M : List ℕ) → I .rows ≡ rowsIn (now (cells .entry)) → Holds (now (vars .entry)) (c .count) M → ran r (now
+        (cells .exit)) ≡ build (resultOf (fieldsAt (now (table .entry)) (c .at))) I M (c .state) (now (cells .entry))) ⌝ }
+    ensures { λ r. ⌜ Stays (c .state) r ⌝ }
 {
+    let s = c.state;
+    let at = c.at;
+    let count = c.count;
     let front = front_at(table, at);
     match front {
-        Front::Nothing => first_variable(vars, s),
-        Front::Short => first_variable(vars, s),
+        Front::Nothing => first_variable(vars, count, s),
+        Front::Short => first_variable(vars, count, s),
         Front::Field(tag, size) => {
             if tag != 7 {
-                return first_variable(vars, s);
+                return first_variable(vars, count, s);
             }
             let from = at + 3;
             let to = from + size;
             let rows = rows_of(cells.len());
-            let count = vars.count;
             let made = s.made;
-            let value = build(
-                &table[from..to],
-                0,
-                &vars.values,
-                count,
-                rows,
-                made,
-                cells,
-                stack,
-            );
+            let value = build(&table[from..to], 0, vars, count, rows, made, cells, stack);
             outcome_of(value, s)
         }
     }

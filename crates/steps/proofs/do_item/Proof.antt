@@ -11,9 +11,8 @@ use Rattle.scanner.specs.Rooms.{tokensIn}
 use Rattle.expansion.specs.Run.{Run}
 use Rattle.expansion.specs.Outcomes.{ran}
 use Rattle.expansion.specs.Expansion.{Input, buildAll, runItem}
-use Rattle.templates.specs.Built.{rowsIn, Lists}
+use Rattle.templates.specs.Built.{rowsIn, Holds, Lists}
 use Rattle.templates.proofs.VariableLaws.{rooms-fit}
-use Rattle.steps.specs.Steps.{Named}
 use Rattle.steps.proofs.ItemLaws as laws
 use Rattle.steps.proofs.do_item.Statement.{statement}
 use Rattle.steps.proofs.do_item.Tie as tie
@@ -29,15 +28,15 @@ rows-of-requires c κs = search needs
 
 build-arguments-requires : tie.Need-build-arguments-requires
 build-arguments-requires c κs =
-    let rows-place = c .before .before .before .before .before in
+    let rows-place = c .before .before .before in
     let byte-place = rows-place .before .before .before in
-    let may = byte-place .before .before .before .before .before .pre in
+    let may = byte-place .before .before .before .before .before .before .pre in
     (may .whole, rooms-fit (may .small .few) (may .small .stack-long) (rows-place .rows-of .ensures))
 
 -- after the arguments
 module _ (p : tie.After-build-arguments) where
   abbrev rows-place : tie.After-rows-of
-  rows-place = p .before .before .before .before .before .before
+  rows-place = p .before .before .before .before
 
   abbrev call-place : tie.Then1
   call-place = rows-place .before
@@ -46,7 +45,7 @@ module _ (p : tie.After-build-arguments) where
   byte-place = call-place .before .before
 
   abbrev entry : tie.Start
-  entry = byte-place .before .before .before .before .before
+  entry = byte-place .before .before .before .before .before .before
 
   abbrev out′ : List ℕ
   out′ = p .build-arguments .last .1 .1 .1 .1 .1 .1 .0
@@ -54,10 +53,10 @@ module _ (p : tie.After-build-arguments) where
   abbrev cells′ : List ℕ
   cells′ = p .build-arguments .last .1 .1 .1 .1 .1 .1 .1 .0
 
-  lists : (I : Input) (M : List ℕ) → I .rows ≡ rowsIn (entry .args .cells .now) → Named (entry .args .t5) M
-      → Lists (entry .args .s) (p .build-arguments .result) out′ cells′
-      (buildAll (found (templatesOf (drop 2 (entry .args .v .now)))) I M (entry .args .s) (entry .args .cells .now))
-  lists I M er g = p .build-arguments .ensures .0 I (entry .args .s) M (er ∙ sym (rows-place .rows-of .ensures)) g
+  lists : (I : Input) (M : List ℕ) → I .rows ≡ rowsIn (entry .args .cells .now) → Holds (entry .args .vars .now) (entry .args .c .count) M
+      → Lists (entry .args .c .state) (p .build-arguments .result) out′ cells′
+      (buildAll (found (templatesOf (drop 2 (entry .args .v .now)))) I M (entry .args .c .state) (entry .args .cells .now))
+  lists I M er g = p .build-arguments .ensures .0 I (entry .args .c .state) M (er ∙ sym (rows-place .rows-of .ensures)) g
 
   same : length cells′ ≡ length (entry .args .cells .now)
   same = p .build-arguments .kept .1 .1 .1 .1 .1 .1 .1 .0
@@ -71,16 +70,19 @@ enum-told c = search needs
 no-row-requires : tie.Need-no-row-requires
 no-row-requires c κs = search needs
 
+abbrev overfull : tie.After-enum-told → tie.After-build-arguments
+overfull told = told .before .before .before .before .before .before
+
 same-length : tie.Need-same-length
-same-length c = same (c .before .before .before .before .before .before .before)
+same-length c = same (overfull (c .before))
 
 same-length-2 : tie.Need-same-length-2
-same-length-2 c = stack-same (c .before .before .before .before .before .before .before)
+same-length-2 c = stack-same (overfull (c .before))
 
 returns : tie.Need-returns
 returns c =
-    let p = c .before .before .before .before .before .before .before in (
-      λ bs at I M h et er g. laws.overfull-step h I M (entry p .args .s) _ (byte-place p .byte .ensures) (call-place p .before .byte2 .ensures)
+    let p = overfull (c .before) in (
+      λ bs at I M h et er g. laws.overfull-step h I M (entry p .args .c .state) _ (byte-place p .byte .ensures) (call-place p .before .byte2 .ensures)
           (call-place p .if1 .taken) _ (out′ p) (cells′ p) (lists p I M er g) (c .before .enum-told .given .1) (c .no-row .ensures),
       λ bs at h. tt,
     )
@@ -105,10 +107,10 @@ returns-2 : tie.Need-returns-2
 returns-2 c =
     let listed-place = c .before .before in
     let p = listed-place .before .before .before .before .before .before in (
-      λ bs at I M h et er g. laws.listed-step h I M (entry p .args .s) _ (byte-place p .byte .ensures) (call-place p .before .byte2 .ensures)
+      λ bs at I M h et er g. laws.listed-step h I M (entry p .args .c .state) _ (byte-place p .byte .ensures) (call-place p .before .byte2 .ensures)
           (call-place p .if1 .taken) _ (out′ p) (cells′ p) (lists p I M er g) (listed-place .listed .given .1) (c .with-made .ensures),
       λ bs at h. (
-        laws.onward-made h (entry p .args .s) (c .with-made .ensures),
+        laws.onward-made h (entry p .args .c .state) (c .with-made .ensures),
         omega (
           arith,
           h .shorter,
@@ -120,7 +122,7 @@ returns-2 c =
 read-item-requires : tie.Need-read-item-requires
 read-item-requires c κs =
     let byte-place = c .before .before in
-    byte-place .before .before .before .before .before .pre .may-read
+    byte-place .before .before .before .before .before .before .pre .may-read
 
 -- after a token or a fresh name
 module _ (q : tie.After-read-item) where
@@ -128,11 +130,11 @@ module _ (q : tie.After-read-item) where
   q-byte = q .before .before .before
 
   abbrev q-entry : tie.Start
-  q-entry = q-byte .before .before .before .before .before
+  q-entry = q-byte .before .before .before .before .before .before
 
   reads : (I : Input) (M : List ℕ) → I .tokens ≡ tokensIn (q-entry .args .tokens .now) (q-entry .args .n) → (C : ℕ → List ℕ → Run ℕ)
       → ran (q .read-item .result) (q-entry .args .cells .now)
-      ≡ runItem C I (itemOf (q-entry .args .v .now)) M (q-entry .args .s) (q-entry .args .cells .now)
+      ≡ runItem C I (itemOf (q-entry .args .v .now)) M (q-entry .args .c .state) (q-entry .args .cells .now)
   reads I M et C =
       q .read-item .ensures .0 (q-entry .args .v .now) C I M (q-entry .args .cells .now) et (q-byte .byte .ensures)
       (q .before .before .byte2 .ensures) (q .before .if1 .left)
@@ -146,14 +148,14 @@ enum-known-outcome-2 c = search needs
 returns-3 : tie.Need-returns-3
 returns-3 c =
     let q = c .before .before .before in (
-      λ bs at I M h et er g. laws.stopped-step h I M (q-entry q .args .s) _ (q .read-item .result) (reads q I M et) (c .before .outcome .given .1),
+      λ bs at I M h et er g. laws.stopped-step h I M (q-entry q .args .c .state) _ (q .read-item .result) (reads q I M et) (c .before .outcome .given .1),
       λ bs at h. tt,
     )
 
 returns-4 : tie.Need-returns-4
 returns-4 c =
     let q = c .before .before .before in (
-      λ bs at I M h et er g. laws.taken-step h I M (q-entry q .args .s) _ (q .read-item .result) (reads q I M et) (c .before .outcome2 .given .1),
+      λ bs at I M h et er g. laws.taken-step h I M (q-entry q .args .c .state) _ (q .read-item .result) (reads q I M et) (c .before .outcome2 .given .1),
       λ bs at h. laws.spent-step h (c .before .outcome2 .given .1) (q .read-item .ensures .1),
     )
 

@@ -21,23 +21,23 @@ use Rattle.steps.proofs.finish.Tie as tie
 -- after a field is looked at
 module _ (p : tie.After-front-at) where
   abbrev entry : tie.Start
-  entry = p .before .before .before .before
+  entry = p .before .before .before .before .before
 
   -- what a template gives is what the result gives
   module _ (I : Input) (M : List ℕ) where
     abbrev gives : Template → Result ℕ
-    gives t = build t I M (entry .args .s) (entry .args .cells .now)
+    gives t = build t I M (entry .args .c .state) (entry .args .cells .now)
 
-    as-result : {t : Template} → t ≡ resultOf (fieldsAt (entry .args .table .now) (entry .args .at)) → {r : Result ℕ} → r ≡ gives t
-        → r ≡ gives (resultOf (fieldsAt (entry .args .table .now) (entry .args .at)))
+    as-result : {t : Template} → t ≡ resultOf (fieldsAt (entry .args .table .now) (entry .args .c .at)) → {r : Result ℕ} → r ≡ gives t
+        → r ≡ gives (resultOf (fieldsAt (entry .args .table .now) (entry .args .c .at)))
     as-result e f = f ∙ ap gives e
 
   module _ {t n : ℕ} (e : p .front-at .result ≡ Field t n) where
-    stands : Field t n ≡ frontOf (drop (entry .args .at) (entry .args .table .now))
+    stands : Field t n ≡ frontOf (drop (entry .args .c .at) (entry .args .table .now))
     stands = sym e ∙ p .front-at .ensures
 
-    inside : entry .args .at + (3 + n) ≤ length (entry .args .table .now)
-    inside = front-inside (entry .args .table .now) (entry .args .at) stands
+    inside : entry .args .c .at + (3 + n) ≤ length (entry .args .table .now)
+    inside = front-inside (entry .args .table .now) (entry .args .c .at) stands
 
 front-at-requires : tie.Need-front-at-requires
 front-at-requires c κs = search needs
@@ -95,7 +95,7 @@ part-build-end c =
 
 build-requires : tie.Need-build-requires
 build-requires c κs =
-    let rows-place = c .before .before .before .before .before in
+    let rows-place = c .before .before .before in
     let if1-place = rows-place .before in
     let front-place = if1-place .before .before in
     let p = front-place .before .before in
@@ -138,13 +138,13 @@ same-length-2 c =
 returns-4 : tie.Need-returns-4
 returns-4 c =
     let build-place = c .before .before .before .before .before in
-    let rows-place = build-place .before .before .before .before .before .before in
+    let rows-place = build-place .before .before .before .before in
     let if1-place = rows-place .before in
     let front-place = if1-place .before .before in
     let p = front-place .before .before in (
       λ I M e g. as-result p I M (laws.result-is _ _ (stands p (front-place .front .given .1)) (entry p .pre .no-item) (if1-place .if1 .left))
           (c .outcome-of .ensures .0 (build-place .build .last .1 .1 .1 .1 .1 .1 .0)
-          ∙ build-place .build .ensures .0 I (entry p .args .s) M (e ∙ sym (rows-place .rows-of .ensures)) g),
+          ∙ build-place .build .ensures .0 I (entry p .args .c .state) M (e ∙ sym (rows-place .rows-of .ensures)) g),
       c .outcome-of .ensures .1,
     )
 

@@ -10,8 +10,7 @@ pick-requires c κs = search needs
 
 returns : tie.Need-returns
 returns c =
-    let entry-place = c .before .before .before in
-    (λ I M cells g. laws.variable-value 0 I M (entry-place .args .s) cells (c .pick .ensures M g), omega arith)
+    (λ I M cells g. laws.variable-value 0 I M (c .before .args .s) cells (c .pick .ensures M g), omega arith)
 
 pub first-variable-spec : {M : Type 1} → statement M
 first-variable-spec = tie.close (tie.spec pick-requires returns)

@@ -20,13 +20,15 @@ module _ (p : tie.After-front-at) where
   entry = p .before .before .before .before .before
 
   module _ {t n : ℕ} (e : p .front-at .result ≡ Field t n) where
-    stands : Field t n ≡ frontOf (drop (entry .args .at) (entry .args .table .now))
+    stands : Field t n ≡ frontOf (drop (entry .args .c .at) (entry .args .table .now))
     stands = sym e ∙ p .front-at .ensures
 
-    inside : entry .args .at + (3 + n) ≤ length (entry .args .table .now)
-    inside = front-inside (entry .args .table .now) (entry .args .at) stands
+    inside : entry .args .c .at + (3 + n) ≤ length (entry .args .table .now)
+    inside = front-inside (entry .args .table .now) (entry .args .c .at) stands
 
-    item : t ≡ 6 → ItemAt (entry .args .table .now) (entry .args .at) (laws.value (entry .args .table .now) (entry .args .at) stands) (entry .args .at + 3 + n)
+    item : t ≡ 6
+        → ItemAt (entry .args .table .now) (entry .args .c .at) (laws.value (entry .args .table .now) (entry .args .c .at) stands)
+        (entry .args .c .at + 3 + n)
     item i = laws.item-at _ _ stands i (entry .pre .whole)
 
 front-at-requires : tie.Need-front-at-requires

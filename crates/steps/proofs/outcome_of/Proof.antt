@@ -17,10 +17,18 @@ no-row-requires : tie.Need-no-row-requires
 no-row-requires c κs = search needs
 
 returns : tie.Need-returns
-returns c = (laws.made-outcome (c .before .before .before .before .args .s) (c .before .before .before .before .args .b) (c .before .before .b .given .1) (c .with-made .ensures), laws.made-stays (c .before .before .before .before .args .s) (c .before .before .before .before .args .b) _ (c .with-made .ensures))
+returns c =
+    let made = c .before .before in
+    let entry = made .before .before .args in (
+      laws.made-outcome (entry .s) (entry .b) (made .b .given .1) (c .with-made .ensures),
+      laws.made-stays (entry .s) (entry .b) _ (c .with-made .ensures),
+    )
 
 returns-2 : tie.Need-returns-2
-returns-2 c = (laws.full-outcome (c .before .before .before .args .s) (c .before .before .before .args .b) (c .before .enum-told .given .1) (c .no-row .ensures), tt)
+returns-2 c =
+    let told = c .before in
+    let entry = told .before .before .args in
+    (laws.full-outcome (entry .s) (entry .b) (told .enum-told .given .1) (c .no-row .ensures), tt)
 
 pub outcome-of-spec : {M : Type 1} → statement M
 outcome-of-spec =

@@ -12,9 +12,9 @@ use Rattle.templates.specs.Built.{rowsFor, rowsIn}
 use Rattle.expander.specs.Lent.{lentInput}
 use Rattle.frames.specs.Frames.{shortFrames, Fits, Standing}
 use Rattle.expander.specs.Calls.{rootItems}
-use Rattle.expander.specs.declared.turns.Resumption.{Resumption}
-use Rattle.expander.specs.declared.turns.Progress.the-variants.{Paused}
-use Rattle.expander.specs.Turns.{Goes}
+use Rattle.turns.specs.declared.Resumption.{Resumption}
+use Rattle.turns.specs.declared.Progress.the-variants.{Paused}
+use Rattle.turns.specs.Turns.{Goes}
 use Rattle.expander.proofs.CallLaws as laws
 use Rattle.expander.proofs.calls.root_items.Statement.{statement}
 use Rattle.expander.proofs.calls.root_items.Tie as tie

@@ -8,9 +8,9 @@ use Rattle.expansion.specs.Expansion.{Input, runCall, start, ended, run}
 use Rattle.expansion.specs.Limits.{mostOpen}
 use Rattle.templates.specs.Built.{rowsIn}
 use Rattle.expander.specs.Lent.{lentInput}
-use Rattle.expander.specs.declared.begins.Begun.{Begun}
-use Rattle.expander.specs.declared.begins.Begun.the-variants.{Entered}
-use Rattle.expander.specs.Begins.{Begins, Entry, Starts}
+use Rattle.turns.specs.declared.begins.Begun.{Begun}
+use Rattle.turns.specs.declared.begins.Begun.the-variants.{Entered}
+use Rattle.turns.specs.Begins.{Begins, Entry, Starts}
 use Rattle.choices.proofs.ChoiceLaws.{remembers-none}
 use Rattle.steps.proofs.TokenLaws.{token-count}
 use Rattle.expander.proofs.CallLaws as laws
@@ -80,7 +80,7 @@ returns-2 c =
     let p = begun-place .before .before in
     let lent = entry p .args in
     c .ended .ensures (input p) (root-place .root-items .last .1 .1 .1 .1 .1 .0) (token-count (lent .tokens .now) (lent .n))
-    ∙ runs p (root-place .root-items .ensures ∙ begins p (begun-place .begun2 .given .1) [] (lent .cells .now))
+    ∙ runs p (laws.run-root (input p) _ _ _ _ (begins p (begun-place .begun2 .given .1)) (lent .cells .now) (root-place .root-items .ensures))
 
 pub run-spec : {M : Type 1} → statement M
 run-spec =

@@ -1,8 +1,8 @@
 -- `begin`: tested 19, 20, 17.
 use borrow.Author.Needs.{needs}
-use Rattle.expander.proofs.BeginLaws as laws
-use Rattle.expander.proofs.begins.begin.Statement.{statement}
-use Rattle.expander.proofs.begins.begin.Tie as tie
+use Rattle.turns.proofs.BeginLaws as laws
+use Rattle.turns.proofs.begins.begin.Statement.{statement}
+use Rattle.turns.proofs.begins.begin.Tie as tie
 
 refuse-requires : tie.Need-refuse-requires
 refuse-requires c κs = search needs

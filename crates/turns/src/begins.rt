@@ -15,8 +15,8 @@ ghost use Rattle.expansion.specs.Expansion.{callBegun};
 ghost use Rattle.expansion.specs.Limits.{mostCalls};
 ghost use Rattle.choices.specs.Held.{Held};
 ghost use Rattle.choices.specs.Chosen.{Remembers};
-ghost use Rattle.expander.specs.Lent.{MayBegin, lentInput};
-ghost use Rattle.expander.specs.Begins.{Starts};
+ghost use Rattle.turns.specs.Lent.{MayBegin, lentInput};
+ghost use Rattle.turns.specs.Begins.{Starts};
 
 // How many calls may be begun in all.
 const MOST_CALLS: u32 = 65536;

@@ -6,20 +6,20 @@ use native.Mathlib.Omega.{arith}
 use borrow.Author.Needs.{needs}
 use Rattle.expansion.specs.Expansion.{Input}
 use Rattle.templates.specs.Built.{rowsIn}
-use Rattle.expander.proofs.TurnLaws as laws
-use Rattle.expander.proofs.turns.leave.Statement.{statement}
-use Rattle.expander.proofs.turns.leave.Tie as tie
+use Rattle.turns.proofs.TurnLaws as laws
+use Rattle.turns.proofs.leave.Statement.{statement}
+use Rattle.turns.proofs.leave.Tie as tie
 
 -- after the result
 module _ (f : tie.After-finish) where
-  abbrev at-here : tie.After-here
-  at-here = f .before .before .before .before
+  abbrev known : tie.After-shared-slice-known2
+  known = f .before .before .before .before
 
   abbrev entry : tie.Start
-  entry = at-here .before .before .before .before .before
+  entry = known .before .before .before .before
 
   abbrev cells′ : List ℕ
-  cells′ = f .finish .last .1 .1 .1 .1 .0
+  cells′ = f .finish .last .1 .1 .1 .0
 
   resulting : {I : Input} → I .rows ≡ rowsIn (entry .args .cells .now)
       → laws.Resulting I (entry .args .table .now) (entry .args .vars .now) (entry .args .c) (entry .args .cells .now) (f .finish .result) cells′
@@ -49,8 +49,8 @@ returns c =
     let o = c .before .before in
     λ I R e g. laws.turns-over (laws.closed-root g (resulting (finished o) e) (o .outcome2 .given .1) (c .if1 .taken)) _ _ _
 
-sub-t30 : tie.Need-sub-t30
-sub-t30 c = search needs
+sub-below : tie.Need-sub-below
+sub-below c = search needs
 
 resumed-requires : tie.Need-resumed-requires
 resumed-requires c κs = search needs
@@ -103,7 +103,7 @@ leave-spec =
     same-length
     same-length-2
     returns
-    sub-t30
+    sub-below
     resumed-requires
     valued-requires
     same-length-3

@@ -16,14 +16,14 @@ use Rattle.choices.specs.Held.{Held}
 use Rattle.choices.specs.Chosen.{Remembers}
 use Rattle.steps.specs.Steps.{body, weight, mostWeight, Small, Onward}
 use Rattle.frames.specs.Frames.{frameSize, longFrames, mostWaiting, Fits, Loaded, Frame, resume, owed, Stacked, Standing}
-use Rattle.expander.specs.Lent.{MayBegin, lentInput}
-use Rattle.expander.specs.declared.turns.Resumption.{Resumption}
-use Rattle.expander.specs.declared.turns.Cursor.{Cursor}
-use Rattle.expander.specs.declared.turns.Call.{Call}
-use Rattle.expander.specs.declared.turns.Progress.{Progress}
-use Rattle.expander.specs.declared.turns.Progress.the-variants.{Ended, Paused}
-use Rattle.expander.specs.declared.turns.Turn.{Turn}
-use Rattle.expander.specs.declared.turns.Turn.the-variants.{Over, On}
+use Rattle.turns.specs.Lent.{MayBegin, lentInput}
+use Rattle.turns.specs.declared.Resumption.{Resumption}
+use Rattle.steps.specs.declared.Cursor.{Cursor}
+use Rattle.turns.specs.declared.Call.{Call}
+use Rattle.turns.specs.declared.Progress.{Progress}
+use Rattle.turns.specs.declared.Progress.the-variants.{Ended, Paused}
+use Rattle.turns.specs.declared.Turn.{Turn}
+use Rattle.turns.specs.declared.Turn.the-variants.{Over, On}
 
 -- ------------------------------------------------------------------ cursors
 
@@ -40,6 +40,9 @@ cursorAt frames from =
 -- the cursor of a call that has one variable more and goes on at an offset
 abbrev pub moved : Cursor → ℕ → State → Cursor
 moved c next t = record { count = c .count + 1; at = next; level = c .level; state = t }
+
+abbrev pub callOf : ℕ → ℕ → ℕ → State → Call
+callOf n given next t = record { callee = n; given = given; next = next; state = t }
 
 -- the call at a level, read back
 pub record Resumes (frames : List ℕ) (from : Resumption) (vars : List ℕ) (c : Cursor) : Type 0 where

@@ -22,26 +22,23 @@ use Rattle.steps.specs.declared.Step.the-variants.{Finished, Stopped, Taken, Op
 use Rattle.steps.specs.Steps.{body, weight, Steps, Onward, Advances, Stays}
 use Rattle.frames.specs.Frames.{frameSize, mostWaiting, Fits, Saved, Loaded, Frame, resume, owed, Waits, Stacked, stacked-none, stacked-one, Standing}
 use Rattle.frames.proofs.FrameLaws.{resume-halt, stacked-same, stacked-more, waits-saved, waits-holds}
-use Rattle.expander.specs.declared.begins.Begun.{Begun}
-use Rattle.expander.specs.declared.begins.Begun.the-variants.{Refused, Entered}
-use Rattle.expander.specs.declared.turns.Resumption.{Resumption}
-use Rattle.expander.specs.declared.turns.Cursor.{Cursor}
-use Rattle.expander.specs.declared.turns.Call.{Call}
-use Rattle.expander.specs.declared.turns.Progress.{Progress}
-use Rattle.expander.specs.declared.turns.Progress.the-variants.{Ended, Paused}
-use Rattle.expander.specs.declared.turns.Turn.{Turn}
-use Rattle.expander.specs.declared.turns.Turn.the-variants.{Over, On}
-use Rattle.expander.specs.Begins.{Begins, Entry, Enters, Starts}
-use Rattle.expander.specs.Turns.{cursorAt, moved, Resumes, Values, left, Going, Calling, Goes, Turned, leftOf, Turns}
-use Rattle.expander.proofs.BeginLaws.{positive, entry-weight}
+use Rattle.turns.specs.declared.begins.Begun.{Begun}
+use Rattle.turns.specs.declared.begins.Begun.the-variants.{Refused, Entered}
+use Rattle.turns.specs.declared.Resumption.{Resumption}
+use Rattle.steps.specs.declared.Cursor.{Cursor}
+use Rattle.turns.specs.declared.Call.{Call}
+use Rattle.turns.specs.declared.Progress.{Progress}
+use Rattle.turns.specs.declared.Progress.the-variants.{Ended, Paused}
+use Rattle.turns.specs.declared.Turn.{Turn}
+use Rattle.turns.specs.declared.Turn.the-variants.{Over, On}
+use Rattle.turns.specs.Begins.{Begins, Entry, Enters, Starts}
+use Rattle.turns.specs.Turns.{cursorAt, moved, callOf, Resumes, Values, left, Going, Calling, Goes, Turned, leftOf, Turns}
+use Rattle.turns.proofs.BeginLaws.{positive, entry-weight}
 
 -- The last turn: less is left than any number.
 pub turns-over : {I : Input} {bs : List ℕ} {R : Result ℕ} {cells : List ℕ} {o : Outcome} → ran o cells ≡ R → (most : ℕ) (frames vars : List ℕ)
     → Turns I bs most R frames vars cells (Over (Ended o))
 turns-over e most frames vars = record { stands = e; less = omega arith }
-
-abbrev resuming : Resumption → ℕ → ℕ → Cursor
-resuming from count at = record { count = count; at = at; level = from .level; state = from .state }
 
 -- The call at a level of the room is read back.
 pub resumes-at : {frames : List ℕ} {from : Resumption} {vars : List ℕ} → Loaded frames (from .level) vars → {count at : ℕ}
@@ -52,7 +49,7 @@ resumes-at {frames} {from} l {count} ec ea =
     record {
       loaded = l;
       cursor-is =
-          ap (resuming from count) ea ∙ ap (λ (k : ℕ). resuming from k (cursorAt frames from .at)) ec;
+          rw (ea, ec);
     }
 
 -- The call at a level of the room is loaded.
@@ -64,9 +61,9 @@ pub going-resumed : {I : Input} {bs frames : List ℕ} {from : Resumption} {cell
 going-resumed {I} {bs} {frames} {from} {cells} {R} s {vars} r =
     let w = s .on-top in
     let e = w .next-is in
-    subst⁻¹ (λ (c : Cursor). Going I bs frames vars c cells R) (r .cursor-is)
+    rw (r .cursor-is)
     (record {
-      whole = ap (λ (a : ℕ). wholeBody (fieldsAt bs a)) e ∙ w .whole;
+      whole = rw e (w .whole);
       inside = omega (arith, e, w .inside);
       counted = omega (arith, e, w .counted, s .counted);
       waiting = s .waiting;
@@ -77,9 +74,7 @@ going-resumed {I} {bs} {frames} {from} {cells} {R} s {vars} r =
       M = s .current .values;
       holds = waits-holds w (r .loaded) refl;
       rest =
-          ap
-          (λ (a : ℕ). resume I bs (s .waiting) (body (runCall (mostWaiting - from .level) I) bs a I (s .current .values) (from .state) cells)) e
-          ∙ s .rest;
+          rw e (s .rest);
     })
 
 -- an item takes no more than it leaves behind
@@ -139,7 +134,7 @@ module _ {I : Input} {bs frames vars : List ℕ} {c : Cursor} {cells : List ℕ}
 
   module _ {step : Step} {args cells′ : List ℕ} (d : Stepped I bs vars c cells step args cells′) where
     steps : {q : Step} → step ≡ q → Steps bs (c .at) I (g .M) (c .state) cells q args cells′
-    steps e = subst (λ (x : Step). Steps bs (c .at) I (g .M) (c .state) cells x args cells′) e (d .does (g .M) (g .holds))
+    steps e = rw e at (d .does (g .M) (g .holds))
 
     -- The item refuses.
     pub step-stopped : {r : Refusal} → step ≡ Stopped r → halt r cells′ ≡ R
@@ -150,7 +145,7 @@ module _ {I : Input} {bs frames vars : List ℕ} {c : Cursor} {cells : List ℕ}
     step-none e = subst (Advances bs (c .at) (c .state)) e (d .advances)
 
     pub step-finished : step ≡ Finished → Going I bs frames vars c cells′ R
-    step-finished e = subst⁻¹ (λ (cs : List ℕ). Going I bs frames vars c cs R) (steps e) g
+    step-finished e = rw (steps e) g
 
     -- The item gives a value.
     module _ {x next : ℕ} {t : State} (e : step ≡ Taken x next t) where
@@ -164,7 +159,7 @@ module _ {I : Input} {bs frames vars : List ℕ} {c : Cursor} {cells : List ℕ}
           → Turns I bs (left bs c) R frames vars′ cells′ (On u)
       step-taken {vars′} v spare =
           let o = taken-onward in
-          subst⁻¹ (λ (u : Cursor). Turns I bs (left bs c) R frames vars′ cells′ (On u)) (v .cursor-is)
+          rw (v .cursor-is)
           (record {
             stands = (
               record {
@@ -185,10 +180,9 @@ module _ {I : Input} {bs frames vars : List ℕ} {c : Cursor} {cells : List ℕ}
             less = omega (arith, o .less, o .inside, ap (λ (q : ℕ). 40000 * (65536 - q)) (o .called));
           })
 
-    -- The item calls.
-    pub step-opened : {n k next : ℕ} {t : State} → step ≡ Opened n k next t → (c .level + 2) * frameSize ≤ length frames
-        → Calling I bs frames vars c args (record { callee = n; given = k; next = next; state = t }) cells′ R
-    step-opened e spare =
+    opened-as : {n k next : ℕ} {t : State} → step ≡ Opened n k next t → (c .level + 2) * frameSize ≤ length frames
+        → Calling I bs frames vars c args (callOf n k next t) cells′ R
+    opened-as e spare =
         let q = steps e in
         let a : Onward _ _ _ _ _ × (_ ≤ _) = subst (Advances bs (c .at) (c .state)) e (d .advances) in
         record {
@@ -208,6 +202,13 @@ module _ {I : Input} {bs frames vars : List ℕ} {c : Cursor} {cells : List ℕ}
           rest = instead (sym (q .2 callee));
         }
 
+    -- The item calls.
+    pub step-opened : {n k next : ℕ} {t : State} → step ≡ Opened n k next t → {call : Call} → call ≡ callOf n k next t
+        → (c .level + 2) * frameSize ≤ length frames
+        → Calling I bs frames vars c args call cells′ R
+    step-opened e ec spare =
+        rw ec (opened-as e spare)
+
   -- ---------------------------------------------------------------- the result of the call
 
   module _ {o : Outcome} {cells′ : List ℕ} (d : Resulting I bs vars c cells o cells′) where
@@ -219,7 +220,7 @@ module _ {I : Input} {bs frames vars : List ℕ} {c : Cursor} {cells : List ℕ}
         (λ (is : List Item). after (runItems callee I is (g .M) (c .state) cells) (λ M. build (resultOf (fieldsAt bs (c .at))) I M)) (sym (d .no-item))
 
     given-by : {q : Outcome} → o ≡ q → ran q cells′ ≡ now-left
-    given-by e = ap (λ (x : Outcome). ran x cells′) (sym e) ∙ gives-all
+    given-by e = rw e at gives-all
 
     -- It refuses.
     pub closed-halted : {x : Refusal} → o ≡ Halted x → halt x cells′ ≡ R
@@ -232,7 +233,7 @@ module _ {I : Input} {bs frames vars : List ℕ} {c : Cursor} {cells : List ℕ}
       closed-root z = by (g .waiting) refl
         where
           by : (fs : List Frame) → g .waiting ≡ fs → done x t cells′ ≡ R
-          by [] ef = ap (λ (fs : List Frame). resume I bs fs (done x t cells′)) (sym ef) ∙ instead (given-by e)
+          by [] ef = rw ef at (instead (given-by e))
           by (f ∷ fs) ef = absurd (omega (arith, g .many, ap length ef))
 
       -- The innermost of those that wait goes on.
@@ -258,7 +259,7 @@ module _ {I : Input} {bs frames vars : List ℕ} {c : Cursor} {cells : List ℕ}
             by [] ef stacked-none = absurd (below (sym (g .many) ∙ ap length ef))
             by (f ∷ fs) ef (stacked-one w few st) =
                 let l : length fs ≡ from .level = omega (arith, g .many, ap length ef) in
-                (f, fs, ef, l, subst (λ (k : ℕ). Waits bs frames k f) l w, st, few)
+                (f, fs, ef, l, rw l at w, st, few)
 
         weight-same : weight t ≡ weight (c .state)
         weight-same = omega (arith, unmoved .0, unmoved .1, ap (λ (k : ℕ). 16384 * (65536 - k)) (unmoved .2))
@@ -281,7 +282,7 @@ module _ {I : Input} {bs frames vars : List ℕ} {c : Cursor} {cells : List ℕ}
               let fs = top-frame .1 in
               let w = top-frame .4 in
               record {
-                whole = ap (λ (a : ℕ). wholeBody (fieldsAt bs a)) (w .next-is) ∙ w .whole;
+                whole = rw (w .next-is) (w .whole);
                 inside = omega (arith, w .next-is, w .inside);
                 counted = omega (arith, at-few);
                 waiting = fs;
@@ -294,25 +295,16 @@ module _ {I : Input} {bs frames vars : List ℕ} {c : Cursor} {cells : List ℕ}
                 M = f .values ++ (x ∷ []);
                 holds = put (f .values) (waits-holds w (r .loaded) refl);
                 rest =
-                    ap
-                    (λ (k : ℕ). resume I bs fs (body (runCall (mostWaiting - k) I) bs (at-top .at) I (f .values ++ (x ∷ [])) t cells′))
-                    (sym (top-frame .3))
-                    ∙ ap
-                    (λ (a : ℕ). resume I bs fs (body (runCall (mostWaiting - length fs) I) bs a I (f .values ++ (x ∷ [])) t cells′)) (w .next-is)
-                    ∙ ap (λ (ws : List Frame). resume I bs ws (done x t cells′)) (sym (top-frame .2))
-                    ∙ instead (given-by e);
+                    rw (w .next-is, sym (top-frame .3)) (rw (top-frame .2) at (instead (given-by e)));
               }
 
           pub closed-on : {vars₂ : List ℕ} {u : Cursor} → Values vars₁ v x (v .at) t vars₂ u → length bs ≤ 16384
               → Turns I bs (left bs c) R frames vars₂ cells′ (On u)
           closed-on {vars₂} put small =
-              subst⁻¹ (λ (u : Cursor). Turns I bs (left bs c) R frames vars₂ cells′ (On u))
-              (put .cursor-is ∙ ap (λ (q : Cursor). moved q (q .at) t) (r .cursor-is))
+              rw (put .cursor-is, r .cursor-is)
               (record {
                 stands = (
-                  closed-going
-                      (subst (λ (q : Cursor). (M : List ℕ) → Holds vars₁ (q .count) M → Holds vars₂ (q .count + 1) (M ++ (x ∷ []))) (r .cursor-is)
-                      (put .holds)),
+                  closed-going (rw (r .cursor-is) at (put .holds)),
                   omega (arith, g .fits .inside),
                 );
                 less =
@@ -346,8 +338,7 @@ module _ {I : Input} {bs frames vars : List ℕ} {c : Cursor} {args : List ℕ} 
     pub opened-refused : {r : Refusal} → b ≡ Refused r → halt r cells ≡ R
     opened-refused {r} e =
         sym (resume-halt I bs (k .waiting) r cells)
-        ∙ ap (λ (q : Result ℕ). resume I bs (k .waiting) (waiting-for (c .level) q)) (begun-as e (k .vs) cells)
-        ∙ k .rest
+        ∙ rw (sym (begun-as e (k .vs) cells)) at (k .rest)
 
     -- It is entered, and the call that called waits.
     module _ {first : ℕ} {u : State} (e : b ≡ Entered first u) where
@@ -376,14 +367,7 @@ module _ {I : Input} {bs frames vars : List ℕ} {c : Cursor} {args : List ℕ} 
               holds = k .given;
               rest =
                   let z : mostWaiting - (c .level + 1) ≡ mostWaiting - c .level - 1 = omega arith in
-                  ap
-                  (λ (l : ℕ). resume I bs (k .waiting) (waiting-for l (body (runCall (mostWaiting - (c .level + 1)) I) bs first I (k .vs) u cells)))
-                  (k .many)
-                  ∙ ap
-                  (λ (d : ℕ). resume I bs (k .waiting) (waiting-for (c .level) (body (runCall d I) bs first I (k .vs) u cells)))
-                  z
-                  ∙ ap (λ (q : Result ℕ). resume I bs (k .waiting) (waiting-for (c .level) q)) (begun-as e (k .vs) cells)
-                  ∙ k .rest;
+                  rw (k .many, z, begun-as e (k .vs) cells) (k .rest);
             }
 
         -- The call that is entered goes on.
@@ -420,10 +404,11 @@ pub record Place : Type 0 where
   pub stack : List ℕ
   pub frames : List ℕ
   pub vars : List ℕ
-  pub turn : Turn
+  pub cursor : Cursor
 
+-- what is left at a place gives R
 abbrev pub Stood : Input → List ℕ → Result ℕ → Place → Type 0
-Stood I bs R p = Turned I bs R (p .frames) (p .vars) (p .cells) (p .turn)
+Stood I bs R p = Turned I bs R (p .frames) (p .vars) (p .cells) (On (p .cursor))
 
 -- Rooms are as long as they were, choices are remembered, and what gave R at the first place still gives it.
 pub record Turning (I : Input) (bs : List ℕ) (p q : Place) (memory : List ℕ) : Type 0 where
@@ -445,32 +430,30 @@ pub turned-start : {I : Input} {bs frames : List ℕ} {from : Resumption} {cells
     → Turned I bs R frames vars cells (On c)
 turned-start s r spare = (going-resumed s r, omega (arith, spare, ap (λ (c : Cursor). c .level) (r .cursor-is)))
 
-module _ {I : Input} {bs : List ℕ} {p q : Place} {memory : List ℕ} (w : Turning I bs p q memory) where
-  module _ (R : Result ℕ) (s : Stood I bs R p) where
-    -- The last turn is over.
-    pub turning-over : {r : Progress} → q .turn ≡ Over r → Goes I bs R (q .frames) (q .cells) r
-    turning-over e = subst (Turned I bs R (q .frames) (q .vars) (q .cells)) e (w .stands R s)
+-- One turn more.
+pub turning-next : {I : Input} {bs : List ℕ} {p q : Place} {memory : List ℕ} → Turning I bs p q memory → (next : Place) {memory′ : List ℕ}
+    → length (next .cells) ≡ length (q .cells)
+    → length (next .stack) ≡ length (q .stack)
+    → length (next .frames) ≡ length (q .frames)
+    → Remembers bs memory′
+    → ((R : Result ℕ) → Stood I bs R p → Stood I bs R next)
+    → Turning I bs p next memory′
+turning-next w next ec es ef m stands =
+    record {
+      cells-long = ec ∙ w .cells-long;
+      stack-long = es ∙ w .stack-long;
+      frames-long = ef ∙ w .frames-long;
+      remembers = m;
+      stands = stands;
+    }
 
-    -- A call goes on.
-    pub turning-on : {c : Cursor} → q .turn ≡ On c
-        → Going I bs (q .frames) (q .vars) c (q .cells) R × ((c .level + 2) * frameSize ≤ length (q .frames))
-    turning-on e = subst (Turned I bs R (q .frames) (q .vars) (q .cells)) e (w .stands R s)
+-- How a turn ended.
+module _ (I : Input) (bs : List ℕ) (most : ℕ) (R : Result ℕ) (frames vars cells : List ℕ) (t : Turn) (w : Turns I bs most R frames vars cells t) where
+  pub turned-over : {p : Progress} → t ≡ Over p → Goes I bs R frames cells p
+  turned-over e = subst (Turned I bs R frames vars cells) e (w .stands)
 
-  -- One turn more.
-  pub turning-next : (next : Place) {memory′ : List ℕ} → length (next .cells) ≡ length (q .cells) → length (next .stack) ≡ length (q .stack)
-      → length (next .frames) ≡ length (q .frames)
-      → Remembers bs memory′
-      → ((R : Result ℕ) → Stood I bs R p → Stood I bs R next)
-      → Turning I bs p next memory′
-  turning-next next ec es ef m stands =
-      record {
-        cells-long = ec ∙ w .cells-long;
-        stack-long = es ∙ w .stack-long;
-        frames-long = ef ∙ w .frames-long;
-        remembers = m;
-        stands = stands;
-      }
+  pub turned-on : {c : Cursor} → t ≡ On c → Turned I bs R frames vars cells (On c)
+  turned-on e = subst (Turned I bs R frames vars cells) e (w .stands)
 
--- Less is left than at the cursor of the turn before.
-pub turn-less : (bs : List ℕ) (t : Turn) {c : Cursor} → t ≡ On c → {k : ℕ} → k ≤ left bs c → k < leftOf bs t
-turn-less bs t e h = omega (arith, h, ap (leftOf bs) e)
+  pub turned-less : {c : Cursor} → t ≡ On c → left bs c < most
+  turned-less e = omega (arith, w .less, ap (leftOf bs) e)

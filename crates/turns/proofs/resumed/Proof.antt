@@ -1,8 +1,8 @@
 -- `resumed`: the numbers of a frame.
 use borrow.Author.Needs.{needs}
-use Rattle.expander.proofs.TurnLaws as laws
-use Rattle.expander.proofs.turns.resumed.Statement.{statement}
-use Rattle.expander.proofs.turns.resumed.Tie as tie
+use Rattle.turns.proofs.TurnLaws as laws
+use Rattle.turns.proofs.resumed.Statement.{statement}
+use Rattle.turns.proofs.resumed.Tie as tie
 
 load-requires : tie.Need-load-requires
 load-requires c κs = search needs

@@ -1,4 +1,6 @@
 // One turn of an expansion: the call that goes on is kept apart from its frame, which stands in a room of frames with those that wait.
+pub mod begins;
+
 use crate::begins::Begun;
 use crate::begins::begin;
 use expansion::Outcome;
@@ -8,7 +10,7 @@ use frames::count_of;
 use frames::load;
 use frames::next_of;
 use frames::save;
-use steps::Variables;
+use steps::Cursor;
 use steps::finish;
 use templates::put;
 ghost use Prim.Native.Nat.{ℕ, _^_, _<_};
@@ -20,8 +22,8 @@ ghost use Rattle.templates.specs.Built.{rowsIn};
 ghost use Rattle.choices.specs.Held.{Held};
 ghost use Rattle.choices.specs.Chosen.{Remembers};
 ghost use Rattle.frames.specs.Frames.{Fits};
-ghost use Rattle.expander.specs.Lent.{lentInput};
-ghost use Rattle.expander.specs.Turns.{Resumes, Values, left, Going, Calling, MayLeave, MayEnter, Turns, Calls};
+ghost use Rattle.turns.specs.Lent.{lentInput};
+ghost use Rattle.turns.specs.Turns.{callOf, Resumes, Values, left, Going, Calling, MayLeave, MayEnter, Turns, Calls};
 
 // How many calls may wait.
 const MOST_WAITING: usize = 1023;
@@ -38,14 +40,6 @@ pub enum Progress {
     Paused(Resumption),
 }
 
-// Where a call goes on: how many variables it has, the offset of its next item, how many calls wait below it, and the state.
-pub struct Cursor {
-    pub count: usize,
-    pub at: usize,
-    pub level: usize,
-    pub state: State,
-}
-
 // A call of a nonterminal: how many arguments it has, the offset behind the item that calls, and the state.
 pub struct Call {
     pub callee: u8,
@@ -58,6 +52,18 @@ pub struct Call {
 pub enum Turn {
     Over(Progress),
     On(Cursor),
+}
+
+// A call of a nonterminal, by its parts.
+pub fn calling(callee: u8, given: usize, next: usize, state: State) -> Call
+    ensures { λ r. ⌜ r ≡ callOf callee given next state ⌝ }
+{
+    Call {
+        callee,
+        given,
+        next,
+        state,
+    }
 }
 
 // The call that stands at a level of the room goes on: its variables are read into `vars`.
@@ -106,24 +112,20 @@ pub fn leave(
         (now (vars .entry)) c (now (cells .entry)) R → Turns I (now (table .entry)) (left (now (table .entry)) c) R (now (frames .entry)) (now
         (vars .exit)) (now (cells .exit)) r) ⌝ }
 {
-    let at = c.at;
-    let count = c.count;
     let level = c.level;
-    let here = c.state;
-    let values = *vars;
-    let known = Variables { values, count };
-    let outcome = finish(table, at, known, here, cells, stack);
+    let outcome = finish(table, vars, c, cells, stack);
     match outcome {
         Outcome::Halted(r) => Turn::Over(Progress::Ended(Outcome::Halted(r))),
         Outcome::Value(x, t) => {
             if level == 0 {
                 return Turn::Over(Progress::Ended(Outcome::Value(x, t)));
             }
-            let below = Resumption {
-                level: level - 1,
+            let below = level - 1;
+            let from = Resumption {
+                level: below,
                 state: t,
             };
-            let d = resumed(frames, vars, below);
+            let d = resumed(frames, vars, from);
             let next = d.at;
             Turn::On(valued(vars, d, x, next, t))
         }

@@ -6,11 +6,11 @@ use borrow.Author.Needs.{needs}
 use Rattle.choices.specs.Held.{Held}
 use Rattle.choices.specs.Chosen.{Remembers}
 use Rattle.expansion.specs.Run.{Result}
-use Rattle.expander.specs.Lent.{lentInput}
-use Rattle.expander.specs.Turns.{Going, Calling}
-use Rattle.expander.proofs.TurnLaws as laws
-use Rattle.expander.proofs.turns.enter.Statement.{statement}
-use Rattle.expander.proofs.turns.enter.Tie as tie
+use Rattle.turns.specs.Lent.{lentInput}
+use Rattle.turns.specs.Turns.{Going, Calling}
+use Rattle.turns.proofs.TurnLaws as laws
+use Rattle.turns.proofs.enter.Statement.{statement}
+use Rattle.turns.proofs.enter.Tie as tie
 
 -- after the caller is saved
 module _ (w : tie.After-save) where

@@ -12,8 +12,8 @@ use Rattle.expansion.specs.Expansion.{Input, callBegun, runCall}
 use Rattle.expansion.specs.Limits.{mostCalls}
 use Rattle.choices.specs.Chosen.{Remembers}
 use Rattle.steps.specs.Steps.{body}
-use Rattle.expander.specs.declared.begins.Begun.{Begun}
-use Rattle.expander.specs.declared.begins.Begun.the-variants.{Refused, Entered}
+use Rattle.turns.specs.declared.begins.Begun.{Begun}
+use Rattle.turns.specs.declared.begins.Begun.the-variants.{Refused, Entered}
 
 -- a call of nonterminal n refuses, or goes on with the items and the result at an offset
 abbrev pub Begins : Input → List ℕ → ℕ → ℕ → State → Begun → Type 0

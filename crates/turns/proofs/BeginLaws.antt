@@ -25,10 +25,10 @@ use Rattle.choices.specs.Held.{Held}
 use Rattle.choices.specs.Chosen.{setsOf, Remembers, Chooses}
 use Rattle.choices.proofs.ChoiceLaws.{chosen-nowhere, chosen-here, chosen-whole, chosen-inside, start-is}
 use Rattle.steps.specs.Steps.{body, weight}
-use Rattle.expander.specs.Lent.{lentInput}
-use Rattle.expander.specs.declared.begins.Begun.{Begun}
-use Rattle.expander.specs.declared.begins.Begun.the-variants.{Refused, Entered}
-use Rattle.expander.specs.Begins.{Begins, Entry, Enters, Starts}
+use Rattle.turns.specs.Lent.{lentInput}
+use Rattle.turns.specs.declared.begins.Begun.{Begun}
+use Rattle.turns.specs.declared.begins.Begun.the-variants.{Refused, Entered}
+use Rattle.turns.specs.Begins.{Begins, Entry, Enters, Starts}
 
 -- what a call does with the rule that is chosen
 abbrev entered : ℕ → Input → ℕ → List ℕ → State → List ℕ → Choice → Result ℕ
@@ -38,7 +38,7 @@ entered depth I n vs s cells (chosen r) = after (runItems (runCall depth I) I (r
 module _ (I : Input) (n : ℕ) (vs : List ℕ) (s : State) (cells : List ℕ) where
   call-closed : (depth : ℕ) → depth ≡ 0 → halt (refusal 19 (s .at) 0 0) cells ≡ runCall depth I n vs s cells
   unfolding runCall
-  call-closed depth e = sym (ap (λ (o : ℕ). runCall o I n vs s cells) e)
+  call-closed depth e = rw e
 
   call-by : (depth : ℕ) → (depth ≡ 0 → ⊥) → (b : Bool) → ltb (s .calls) mostCalls ≡ b
       → (elim b [
@@ -117,13 +117,10 @@ module _ {bs room : List ℕ} (h : Held bs room) (tokens : List ℕ) (n rows dep
           record {
             begins =
                 λ vs cells.
-                ap (λ (u : State). body (runCall (depth - 1) input) bs start input vs u cells) et
-                ∙ ap (λ (a : ℕ). body (runCall (depth - 1) input) bs a input vs (callBegun s) cells)
-                (es ∙ start-is h nonterminal kind (ch .place-is) l)
-                ∙ by-choice (chosen-here h nonterminal kind (ch .place-is) l) vs cells;
+                rw (et, es ∙ start-is h nonterminal kind (ch .place-is) l) (by-choice (chosen-here h nonterminal kind (ch .place-is) l) vs cells);
             enters =
                 record {
-                  whole = ap (λ (a : ℕ). wholeBody (fieldsAt bs a)) es ∙ chosen-whole h nonterminal kind (ch .place-is) l;
+                  whole = rw es (chosen-whole h nonterminal kind (ch .place-is) l);
                   inside = omega (arith, es, chosen-inside h nonterminal kind (ch .place-is) l);
                   may-open = positive depth may-open;
                   may-call = may-call;
