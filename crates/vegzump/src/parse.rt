@@ -11,7 +11,7 @@ ghost use Rattle.expansion.specs.Run.{ran};
 ghost use Rattle.expansion.specs.Expansion.{run};
 ghost use Rattle.expander.specs.Lent.{lentInput};
 ghost use Rattle.templates.specs.Built.{rowsIn};
-ghost use Rattle.vegzump.specs.Parse.{Runnable, Rooms, WordRoom, Parseable, Parses, ParsesTo};
+ghost use Rattle.vegzump.specs.Parse.{Runnable, Rooms, WordRoom, Parseable, Parses, ParsesTo, parsedInto, parseInto};
 
 // The outcome of a parse, and how many words the formula has that are neither keywords nor outside names.
 pub struct Parsed {
@@ -108,6 +108,37 @@ fn parse_in(
         Verdict::Refused(r) => halted(r),
         Verdict::Passed => parse_checked(table, &room, formula, tokens, words, cells),
     }
+}
+
+fn length_of(numbers: &[u32]) -> usize
+    ensures { λ r. ⌜ r ≡ length (now (numbers .entry)) ⌝ }
+{
+    numbers.len()
+}
+
+// Full rooms are as long as their types say: looking at them makes that known.
+fn known_rooms(tokens: &[u32; 16384], words: &[u32; 8192]) -> usize
+    ensures { λ _. ⌜ (length (now (tokens .entry)) ≡ 16384) × (length (now (words .entry)) ≡ 8192) ⌝ }
+{
+    length_of(tokens);
+    length_of(words)
+}
+
+// Check, scan and run in one, with rooms for all tokens and words that a formula may have. The promise fixes the answer and every lent
+// room. It rules out, among others, a parse that scans under a table that the check refuses, and so changes the rooms, and one that leaves
+// the cells of a run that halts as they were.
+pub fn parse(
+    table: &[u8],
+    formula: &[u8],
+    tokens: &mut [u32; 16384],
+    words: &mut [u32; 8192],
+    cells: &mut [u32],
+) -> Parsed
+    ensures { λ r. ⌜ parsedInto r (now (tokens .exit)) (now (words .exit)) (now (cells .exit)) ≡ parseInto (now (table .entry))
+        (now (formula .entry)) (now (tokens .entry)) (now (words .entry)) (now (cells .entry)) ⌝ }
+{
+    known_rooms(tokens, words);
+    parse_in(table, formula, tokens, words, cells)
 }
 
 // The same with a room of the size that a formula's tokens need at most.
