@@ -1,10 +1,11 @@
 -- The steps of the last step joined: the answer and the buffer are those of `emitted`.
-use Prim.Native.Nat.{ℕ, _<_, _≤_}
+use Prim.Native.Nat.{ℕ, _-_, _<_, _≤_}
 use mathlib.Core.Path.{_≡_, sym, ap, ap₂, _∙_}
 use mathlib.Core.List.{List}
 use native.Mathlib.Omega.{arith}
 use native.Mathlib.Decide.{decLe}
-use lib.ListN.{length}
+use lib.ListN.{length, take}
+use lib.Seq.{length-take-le}
 use borrow.Author.Tests.{le-leb, lt-leb}
 use Rattle.answers.specs.declared.Answer.{Answer}
 use Rattle.answers.specs.declared.Answer.the-variants.{Accepted, Refusing}
@@ -22,7 +23,7 @@ use Rattle.resolver.specs.declared.Resolution.{Resolution}
 use Rattle.resolver.specs.declared.Resolution.the-variants.{Loose, Numbered}
 use Rattle.resolver.specs.Numbers.{walkOf, ResolvedAs}
 use Rattle.printer.specs.Printed.{textBy, Prints}
-use Rattle.emitter.specs.Emittable.{answerBy}
+use Rattle.emitter.specs.Emittable.{Emittable, Markable, answerBy}
 
 module _ (made constructors needed room : ℕ) where
   pub answer-long : room < needed → Refusing (refusal 24 needed 0 0) ≡ answerBy made constructors needed room
@@ -38,7 +39,8 @@ fitted-by : (made constructors : ℕ) (out text : List ℕ)
     → fitted made constructors out text ≡ leaves (answerBy made constructors (length out) (length text)) (written out text)
 fitted-by made constructors out text = by (decLe (length out) (length text))
   where
-    by : Dec (length out ≤ length text) → fitted made constructors out text ≡ leaves (answerBy made constructors (length out) (length text)) (written out text)
+    by : Dec (length out ≤ length text)
+        → fitted made constructors out text ≡ leaves (answerBy made constructors (length out) (length text)) (written out text)
     by (yes h) =
         fitted-whole made constructors out text h
         ∙ ap₂ leaves (answer-whole made constructors (length out) (length text) h) (sym (written-fits out text h))
@@ -78,3 +80,11 @@ module _ (S : ℕ → List ℕ) (cells : List ℕ) (made root : ℕ) where
         emitted-fitted textOf made T text (omega (arith, sized)) (resolved .answer ∙ ap (λ w. walkOf w (size T)) en)
         ∙ fitted-by made (size T) (textOf T) text
         ∙ ap₂ leaves answer (ap (λ out. written out text) (sym same) ∙ sym (p .placed))
+
+-- A room of as many marks as the term has constructors.
+pub markable : {table formula words cells : List ℕ} {count made root left : ℕ} (room : List ℕ) → Emittable table formula words count cells made root
+    → left ≡ 16385 - sizeAt cells made root → (left ≡ 0 → ⊥) → 16385 - left ≤ length room
+    → Markable table formula words count cells made root (take (16385 - left) room)
+markable {left = left} room e counted some l =
+    let long = length-take-le (16385 - left) room l in
+    record { emittable = e; counted = omega (arith, long); few = omega (arith, long) }

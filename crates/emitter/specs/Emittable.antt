@@ -1,5 +1,6 @@
 -- What the last step of an expansion asks of what it is lent, and the answer by counts alone. Nobody needs this to believe `expand`.
-use Prim.Native.Nat.{ℕ, _<_, _≤_}
+use Prim.Native.Nat.{ℕ, _*_, _<_, _≤_}
+use mathlib.Core.Path.{_≡_}
 use mathlib.Core.Bool.{true, false}
 use mathlib.Core.List.{List}
 use lib.Dec.{leb}
@@ -10,17 +11,24 @@ use Rattle.answers.specs.Refusals.{refusal}
 use Rattle.grammar.specs.Lookup.{lexiconOf}
 use Rattle.terms.specs.Rows.{termAt}
 use Rattle.terms.specs.Names.{Distinct, WellNamed}
-use Rattle.rows.specs.Sizes.{WholeRows}
+use Rattle.rows.specs.Sizes.{WholeRows, sizeAt}
 use Rattle.writer.specs.Pool.{oneOf, spanned, spelledBy}
 
 -- Words and outside names as a scan of a passed table gives them, and the term of the rows that an expansion made.
 pub record Emittable (table formula words : List ℕ) (count : ℕ) (cells : List ℕ) (made root : ℕ) : Type 0 where
   pub few : count ≤ 4096
+  pub lie : count * 2 ≤ length words
   pub outsidesFit : (m : ℕ) → length (oneOf (lexiconOf table .outsides) m) < 32
   pub wordsFit : (j : ℕ) → j < count → length (spanned formula words j) < 32
   pub distinct : Distinct (spelledBy table formula words count)
   pub whole : WholeRows cells
   pub wellNamed : WellNamed (spelledBy table formula words count) (termAt made (spelledBy table formula words count) cells root)
+
+-- the same with a mark for each constructor of the term
+pub record Markable (table formula words : List ℕ) (count : ℕ) (cells : List ℕ) (made root : ℕ) (marks : List ℕ) : Type 0 where
+  pub emittable : Emittable table formula words count cells made root
+  pub counted : length marks ≡ sizeAt cells made root
+  pub few : length marks ≤ 16384
 
 -- the answer where so many bytes are to go into a room
 unfoldable pub answerBy : ℕ → ℕ → ℕ → ℕ → Answer

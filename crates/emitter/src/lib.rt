@@ -1,6 +1,6 @@
 // The last step of an expansion: refusals 22, 23 and 24, or the text of its term.
 use answers::Answer;
-use answers::Refusal;
+use answers::refuse;
 use printer::print_text;
 use resolver::Resolution;
 use resolver::resolve;
@@ -10,17 +10,12 @@ ghost use Rattle.answers.specs.Refusals.{refusal};
 ghost use Rattle.terms.specs.Rows.{termAt};
 ghost use Rattle.terms.specs.Emit.{textOf, emitted};
 ghost use Rattle.writer.specs.Pool.{spelledBy};
-ghost use Rattle.emitter.specs.Emittable.{Emittable, answerBy};
+ghost use Rattle.emitter.specs.Emittable.{Emittable, Markable, answerBy};
 
 fn refusing(number: u8, a: usize) -> Answer
     ensures { λ r. ⌜ r ≡ Answer.Refusing (refusal number a 0 0) ⌝ }
 {
-    Answer::Refusing(Refusal {
-        number,
-        a: a as u64,
-        b: 0,
-        c: 0,
-    })
+    Answer::Refusing(refuse(number, a as u64, 0, 0))
 }
 
 // The answer where `needed` bytes are to go into a room.
@@ -33,12 +28,43 @@ fn answered(made: usize, size: usize, needed: usize, room: usize) -> Answer
     Answer::Accepted(made, size, needed)
 }
 
+// Refusals 23 and 24, or the text of the term at a row, with a mark for each of its constructors.
+fn emit_in(
+    table: &[u8],
+    formula: &[u8],
+    words: &[u32],
+    count: usize,
+    cells: &[u32],
+    made: usize,
+    root: u32,
+    marks: &mut [u16],
+    text: &mut [u8],
+) -> Answer
+    requires { ⌜ Markable (now table) (now formula) (now words) count (now cells) made root (now marks) ⌝ }
+    ensures { λ r. ⌜
+        emitted textOf made
+        (termAt made (spelledBy (now (table .entry)) (now (formula .entry)) (now (words .entry)) count) (now (cells .entry)) root)
+        (now (text .entry)) ≡ record { answer = r; text = now (text .exit) }
+        ⌝ }
+{
+    let size = marks.len();
+    let resolution = resolve(cells, made, root, marks);
+    match resolution {
+        Resolution::Loose(p) => refusing(23, p),
+        Resolution::Numbered => {
+            let room = text.len();
+            let needed = print_text(table, formula, words, count, cells, made, root, marks, text);
+            answered(made, size, needed, room)
+        }
+    }
+}
+
 // Refusals 22, 23 and 24, or the text of the term at a row, at the front of `text`. `cells` are the rows made; `words` has the offset and
 // the length of each of the formula's `count` words. On a refusal the text is as it was; bytes behind a text are as before.
 pub fn emit(
     table: &[u8],
     formula: &[u8],
-    words: &[u32; 8192],
+    words: &[u32],
     count: usize,
     cells: &[u32],
     made: usize,
@@ -57,24 +83,30 @@ pub fn emit(
         return refusing(22, made);
     }
     let size = 16385 - left;
-    let mut marks = [0u16; 16384];
-    let resolution = resolve(cells, made, root, size, &mut marks);
-    match resolution {
-        Resolution::Loose(p) => refusing(23, p),
-        Resolution::Numbered => {
-            let room = text.len();
-            let needed = print_text(
-                table,
-                formula,
-                words,
-                count,
-                cells,
-                made,
-                root,
-                &marks,
-                text,
-            );
-            answered(made, size, needed, room)
-        }
+    if size <= 256 {
+        let mut marks = [0u16; 256];
+        return emit_in(
+            table,
+            formula,
+            words,
+            count,
+            cells,
+            made,
+            root,
+            &mut marks[..size],
+            text,
+        );
     }
+    let mut marks = [0u16; 16384];
+    emit_in(
+        table,
+        formula,
+        words,
+        count,
+        cells,
+        made,
+        root,
+        &mut marks[..size],
+        text,
+    )
 }

@@ -19,7 +19,7 @@ use Rattle.terms.specs.Print.{print}
 use Rattle.terms.specs.TextSize.{textSize, textSizeFields}
 use Rattle.terms.specs.Labelled.{nameShown, labelled, labelledFields}
 use Rattle.writer.specs.Openings.{spellIn}
-use Rattle.printer.specs.Printed.{term, partText, Fits}
+use Rattle.printer.specs.Printed.{term, partText, Fits, PrintableBy}
 use Rattle.writer.specs.Pool.{ShortSpellings}
 use Rattle.rows.specs.Sizes.{noSpell, sizeAt}
 use Rattle.rows.proofs.RowLaws.{as-word, as-fresh, as-outside}
@@ -61,7 +61,8 @@ module _ (S : ℕ → List ℕ) (cells numbers : List ℕ) (short : (m : ℕ) �
     by-term mkFieldCons = omega (arith, decimal-bound 0 0 (omega arith))
     by-term mkTermNum = omega (arith, decimal-bound 9 (column cells r 1) (omega (arith, wide (r * 4 + 1))))
 
-    by-fields : (b : Bool) → textSizeFields (labelledFields numbers p (fieldsBy b S cells r terms fields)) ≤ 64 * sizeFields (fieldsBy b S cells r terms fields)
+    by-fields : (b : Bool)
+        → textSizeFields (labelledFields numbers p (fieldsBy b S cells r terms fields)) ≤ 64 * sizeFields (fieldsBy b S cells r terms fields)
     unfolding fieldsBy textSizeFields labelledFields sizeFields
     by-fields true =
         omega (arith, st (column cells r 2) (suc p), sf (column cells r 3) (suc p + size (terms (column cells r 2))), short (column cells r 1))
@@ -88,17 +89,20 @@ unfolding spellIn
 spelling-short pool h m = omega (arith, h m, length-take (getD pool (m * 32) 0) (drop (m * 32 + 1) pool))
 
 -- the text of a term that is not too large is not too long
-pub text-fits : {pool cells numbers : List ℕ} {made root : ℕ} → ShortSpellings pool → sizeAt cells made root ≤ 16384
+pub text-fits : {pool cells numbers : List ℕ} {made root : ℕ} → PrintableBy pool cells made root numbers
     → ((i : ℕ) → getD cells i 0 < 4294967296) → ((i : ℕ) → getD numbers i 0 < 65536) → Fits pool cells numbers (term made root) 0 0
 unfolding partText
-text-fits {pool} {cells} {numbers} {made} {root} h l wide few =
+text-fits {pool} {cells} {numbers} {made} {root} h wide few =
     record {
       room =
           omega (
             arith,
             size-spell made noSpell (spellIn pool) cells root,
             text-length (labelled numbers 0 (termAt made (spellIn pool) cells root)),
-            short-text (spellIn pool) cells numbers (spelling-short pool h) few wide made root 0,
+            short-text (spellIn pool) cells numbers (spelling-short pool (h .short)) few wide made root 0,
+            h .marked,
+            h .small,
           );
-      inside = omega arith;
+      inside = omega (arith, h .marked);
+      few = h .small;
     }

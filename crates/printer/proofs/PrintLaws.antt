@@ -75,6 +75,7 @@ module _ {pool cells numbers : List ℕ} {x : Part} {at place : ℕ} {out : List
               length-append (partText pool cells numbers y place′) rest,
             );
         inside = omega (arith, f .inside, P .moved);
+        few = f .few;
       }
 
   -- one piece more is written
@@ -202,6 +203,7 @@ module _ {pool cells numbers : List ℕ} {k row at p : ℕ} where
       record {
         room = omega (arith, f .room, opening-part (labelled numbers p (termAt k (spellIn pool) cells row)));
         inside = omega (arith, f .inside, size-some (termAt k noSpell cells row));
+        few = f .few;
       }
 
   pub fields-opening-fits : Fits pool cells numbers (fields k row) at p → FieldsOpeningFits pool cells k row at
@@ -210,4 +212,4 @@ module _ {pool cells numbers : List ℕ} {k row at p : ℕ} where
       record { room = omega (arith, f .room, opening-part-fields numbers p (fieldsAt k (spellIn pool) cells row)) }
 
   pub fields-inside : Fits pool cells numbers (fields k row) at p → p < 16384
-  fields-inside f = omega (arith, f .inside, size-some-fields (fieldsAt k noSpell cells row))
+  fields-inside f = omega (arith, f .inside, f .few, size-some-fields (fieldsAt k noSpell cells row))

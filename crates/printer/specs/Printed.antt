@@ -1,5 +1,5 @@
 -- The text of a term by the numbers of new names at its places, as the printing walk has it. Nobody needs this to believe `expand`.
-use Prim.Native.Nat.{ℕ, _+_, _^_, _<_, _≤_}
+use Prim.Native.Nat.{ℕ, _+_, _*_, _^_, _<_, _≤_}
 use mathlib.Core.Path.{_≡_}
 use mathlib.Core.List.{List, []}
 use lib.ListN.{length}
@@ -10,7 +10,7 @@ use Rattle.terms.specs.Print.{print, showThen, treeOfFields}
 use Rattle.terms.specs.Labelled.{labelled, labelledFields}
 use Rattle.rows.specs.Sizes.{sizeAt, sizeFieldsAt}
 use Rattle.writer.specs.Openings.{spellIn, Wrote}
-use Rattle.writer.specs.Pool.{oneOf, spanned}
+use Rattle.writer.specs.Pool.{oneOf, spanned, ShortSpellings}
 
 -- what is printed of a row, by a bound of the depth: its term or its field list
 pub data Part : Type 0 where
@@ -26,10 +26,11 @@ abbrev pub partSize : List ℕ → Part → ℕ
 partSize cells (term k row) = sizeAt cells k row
 partSize cells (fields k row) = sizeFieldsAt cells k row
 
--- a part is neither too long, behind `at` bytes, nor too large, from a place on
+-- a part is not too long, behind `at` bytes, and there is a number for each of its constructors, from a place on
 pub record Fits (pool cells numbers : List ℕ) (x : Part) (at place : ℕ) : Type 0 where
   pub room : at + length (partText pool cells numbers x place) < 2 ^ 62
-  pub inside : place + partSize cells x ≤ 16384
+  pub inside : place + partSize cells x ≤ length numbers
+  pub few : length numbers ≤ 16384
 
 -- a part was to be written behind `at` bytes, and the places of its constructors are passed
 pub record Printed (pool cells numbers : List ℕ) (x : Part) (at place : ℕ) (out : List ℕ) (r place′ : ℕ) (out′ : List ℕ) : Type 0 where
@@ -47,9 +48,17 @@ pub record Prints (out text text′ : List ℕ) (r : ℕ) : Type 0 where
   pub needed : r ≡ length out
   pub placed : text′ ≡ written out text
 
--- what printing asks: few words, spellings that fit the room, and a term that is not too large
-pub record Printable (table formula words : List ℕ) (count : ℕ) (cells : List ℕ) (made root : ℕ) : Type 0 where
+-- what printing asks: few words, spellings that fit the room, and a number for each constructor of the term, not too many
+pub record Printable (table formula words : List ℕ) (count : ℕ) (cells : List ℕ) (made root : ℕ) (numbers : List ℕ) : Type 0 where
   pub few : count ≤ 4096
+  pub lie : count * 2 ≤ length words
   pub outsidesFit : (m : ℕ) → length (oneOf (lexiconOf table .outsides) m) < 32
   pub wordsFit : (j : ℕ) → j < count → length (spanned formula words j) < 32
-  pub small : sizeAt cells made root ≤ 16384
+  pub marked : sizeAt cells made root ≤ length numbers
+  pub small : length numbers ≤ 16384
+
+-- and with all spellings in a room
+pub record PrintableBy (pool cells : List ℕ) (made root : ℕ) (numbers : List ℕ) : Type 0 where
+  pub short : ShortSpellings pool
+  pub marked : sizeAt cells made root ≤ length numbers
+  pub small : length numbers ≤ 16384

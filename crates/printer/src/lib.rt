@@ -3,10 +3,9 @@ use crate::printing::print_term;
 use writer::pool::fill;
 ghost use Prim.Native.Nat.{ℕ, _≤_, _<_};
 ghost use mathlib.Core.Path.{_≡_};
-ghost use lib.ListN.{length, getD};
-ghost use Rattle.rows.specs.Sizes.{sizeAt};
-ghost use Rattle.writer.specs.Pool.{ShortSpellings, spelledBy};
-ghost use Rattle.printer.specs.Printed.{term, partText, textBy, Printable, Prints};
+ghost use lib.ListN.{getD};
+ghost use Rattle.writer.specs.Pool.{spelledBy};
+ghost use Rattle.printer.specs.Printed.{term, partText, textBy, Printable, PrintableBy, Prints};
 
 pub mod printing;
 
@@ -34,12 +33,12 @@ fn narrow_numbers(s: &[u16]) -> u16
 fn print_into(
     pool: &[u8],
     cells: &[u32],
-    shown: &[u16; 16384],
+    shown: &[u16],
     made: usize,
     root: u32,
     text: &mut [u8],
 ) -> usize
-    requires { ⌜ ShortSpellings (now pool) × (sizeAt (now cells) made root ≤ 16384) ⌝ }
+    requires { ⌜ PrintableBy (now pool) (now cells) made root (now shown) ⌝ }
     ensures { λ r. ⌜
         Prints (partText (now (pool .entry)) (now (cells .entry)) (now (shown .entry)) (term made root) 0) (now (text .entry))
         (now (text .exit)) r
@@ -54,7 +53,7 @@ fn print_into(
         0,
         &pool,
         &cells,
-        shown,
+        &shown,
         made,
         root,
         &mut place,
@@ -63,22 +62,46 @@ fn print_into(
         return needed;
     }
     let mut again: usize = 0;
-    print_term(text, 0, &pool, &cells, shown, made, root, &mut again)
+    print_term(text, 0, &pool, &cells, &shown, made, root, &mut again)
 }
 
 // The text with the spellings of a table and a formula, with room for a few words.
 fn print_small(
     table: &[u8],
     formula: &[u8],
-    words: &[u32; 8192],
+    words: &[u32],
     count: usize,
     cells: &[u32],
     made: usize,
     root: u32,
-    shown: &[u16; 16384],
+    shown: &[u16],
     text: &mut [u8],
 ) -> usize
-    requires { ⌜ Printable (now table) (now formula) (now words) count (now cells) made root × (count ≤ 256) ⌝ }
+    requires { ⌜ Printable (now table) (now formula) (now words) count (now cells) made root (now shown) × (count ≤ 64) ⌝ }
+    ensures { λ r. ⌜
+        Prints
+        (textBy (spelledBy (now (table .entry)) (now (formula .entry)) (now (words .entry)) count) (now (cells .entry)) (now (shown .entry)) made root)
+        (now (text .entry)) (now (text .exit)) r
+        ⌝ }
+{
+    let mut pool = [0u8; 4096];
+    fill(table, formula, words, count, &mut pool);
+    print_into(&pool, cells, shown, made, root, text)
+}
+
+// The same, with room for more words.
+fn print_medium(
+    table: &[u8],
+    formula: &[u8],
+    words: &[u32],
+    count: usize,
+    cells: &[u32],
+    made: usize,
+    root: u32,
+    shown: &[u16],
+    text: &mut [u8],
+) -> usize
+    requires { ⌜ Printable (now table) (now formula) (now words) count (now cells) made root (now shown) × (count ≤ 256) ⌝ }
     ensures { λ r. ⌜
         Prints
         (textBy (spelledBy (now (table .entry)) (now (formula .entry)) (now (words .entry)) count) (now (cells .entry)) (now (shown .entry)) made root)
@@ -94,15 +117,15 @@ fn print_small(
 fn print_large(
     table: &[u8],
     formula: &[u8],
-    words: &[u32; 8192],
+    words: &[u32],
     count: usize,
     cells: &[u32],
     made: usize,
     root: u32,
-    shown: &[u16; 16384],
+    shown: &[u16],
     text: &mut [u8],
 ) -> usize
-    requires { ⌜ Printable (now table) (now formula) (now words) count (now cells) made root ⌝ }
+    requires { ⌜ Printable (now table) (now formula) (now words) count (now cells) made root (now shown) ⌝ }
     ensures { λ r. ⌜
         Prints
         (textBy (spelledBy (now (table .entry)) (now (formula .entry)) (now (words .entry)) count) (now (cells .entry)) (now (shown .entry)) made root)
@@ -118,23 +141,26 @@ fn print_large(
 pub fn print_text(
     table: &[u8],
     formula: &[u8],
-    words: &[u32; 8192],
+    words: &[u32],
     count: usize,
     cells: &[u32],
     made: usize,
     root: u32,
-    shown: &[u16; 16384],
+    shown: &[u16],
     text: &mut [u8],
 ) -> usize
-    requires { ⌜ Printable (now table) (now formula) (now words) count (now cells) made root ⌝ }
+    requires { ⌜ Printable (now table) (now formula) (now words) count (now cells) made root (now shown) ⌝ }
     ensures { λ r. ⌜
         Prints
         (textBy (spelledBy (now (table .entry)) (now (formula .entry)) (now (words .entry)) count) (now (cells .entry)) (now (shown .entry)) made root)
         (now (text .entry)) (now (text .exit)) r
         ⌝ }
 {
-    if count <= 256 {
+    if count <= 64 {
         return print_small(table, formula, words, count, cells, made, root, shown, text);
+    }
+    if count <= 256 {
+        return print_medium(table, formula, words, count, cells, made, root, shown, text);
     }
     print_large(table, formula, words, count, cells, made, root, shown, text)
 }

@@ -12,19 +12,19 @@ pub fn print_term(
     at: usize,
     pool: &&[u8],
     cells: &&[u32],
-    shown: &[u16; 16384],
+    shown: &&[u16],
     bound: usize,
     row: u32,
     place: &mut usize,
 ) -> usize
-    requires { ⌜ Fits (now (now pool)) (now (now cells)) (now shown) (term bound row) at (now place) ⌝ }
+    requires { ⌜ Fits (now (now pool)) (now (now cells)) (now (now shown)) (term bound row) at (now place) ⌝ }
     ensures { λ r. ⌜
-        Printed (now (now (pool .entry))) (now (now (cells .entry))) (now (shown .entry)) (term bound row) at (now (place .entry))
+        Printed (now (now (pool .entry))) (now (now (cells .entry))) (now (now (shown .entry))) (term bound row) at (now (place .entry))
         (now (out .entry)) r (now (place .exit)) (now (out .exit))
         ⌝ }
 {
     let here = *place;
-    let first = open_term(out, at, pool, cells, shown, bound, row, here);
+    let first = open_term(out, at, pool, cells, *shown, bound, row, here);
     *place = here + 1;
     if bound == 0 {
         return byte_at(out, first, b')');
@@ -68,14 +68,14 @@ fn print_fields(
     at: usize,
     pool: &&[u8],
     cells: &&[u32],
-    shown: &[u16; 16384],
+    shown: &&[u16],
     bound: usize,
     row: u32,
     place: &mut usize,
 ) -> usize
-    requires { ⌜ Fits (now (now pool)) (now (now cells)) (now shown) (fields bound row) at (now place) ⌝ }
+    requires { ⌜ Fits (now (now pool)) (now (now cells)) (now (now shown)) (fields bound row) at (now place) ⌝ }
     ensures { λ r. ⌜
-        Printed (now (now (pool .entry))) (now (now (cells .entry))) (now (shown .entry)) (fields bound row) at (now (place .entry))
+        Printed (now (now (pool .entry))) (now (now (cells .entry))) (now (now (shown .entry))) (fields bound row) at (now (place .entry))
         (now (out .entry)) r (now (place .exit)) (now (out .exit))
         ⌝ }
 {

@@ -90,7 +90,8 @@ pub record SlotIs (cells : List ℕ) (x n r : ℕ) : Type 0 where
   pub named : column cells r 1 ≡ x
   pub is-first : First cells r
 
-slot-is : (cells : List ℕ) (x n : ℕ) → n ≤ 16384 → slotFrom n cells 0 x < 16384 → SlotIs cells x n (slotFrom n cells 0 x)
+-- The slot of a name that some row binds.
+pub slot-is : (cells : List ℕ) (x n : ℕ) → n ≤ 16384 → slotFrom n cells 0 x < 16384 → SlotIs cells x n (slotFrom n cells 0 x)
 unfolding slotFrom
 slot-is cells x zero l h = absurd (omega arith)
 slot-is cells x (suc n) l h =

@@ -10,7 +10,7 @@ use native.Mathlib.Decide.{decLt}
 use lib.Bits.{bitOr}
 use lib.Dec.{eqb}
 use lib.ListN.{length, getD, set, length-set, length-append}
-use lib.Seq.{sets, set-comm}
+use lib.Seq.{sets, set-comm, set-set}
 use borrow.Author.Tests.{eqb-true, eqb-false}
 use Rattle.spellings.specs.Bytes.{isWord}
 use Rattle.spellings.proofs.BytesLaws.{by-test}
@@ -26,11 +26,13 @@ use Rattle.terms.specs.Binding.{Binder}
 use Rattle.terms.specs.Occurrences.{ownerOf}
 use Rattle.resolver.specs.Marks.{markOf, ownerCode, binderMark, marks, marksFields, slotOf, Bindable, bindable-word, bindable-fresh, Around}
 use Rattle.resolver.specs.Marks.{Holds, MarksVariable, MarksBinder, Walked, WalkedFields, ResolvesTerm, ResolvesFields}
+use Rattle.resolver.specs.Walks.{Exchanged, Walkable, WalksTerm}
 use Rattle.terms.specs.Names.{Distinct, VariableName, BinderName, WellNamed, WellNamedFields}
-use Rattle.rows.specs.Sizes.{WholeRows, noSpell}
+use Rattle.rows.specs.Sizes.{WholeRows, noSpell, sizeAt}
 use Rattle.rows.proofs.ListLaws.{sets-append, set-sets}
 use Rattle.rows.proofs.RowLaws as rows
 use Rattle.rows.proofs.SizeLaws.{size-spell, size-some, size-some-fields}
+use Rattle.resolver.proofs.LinkLaws.{slot-is}
 use Rattle.resolver.proofs.SlotLaws.{slot-there, around-binder, restored}
 
 -- ------------------------------------------------------------------ marks
@@ -91,7 +93,7 @@ module _ {spell : ℕ → List ℕ} {around : List Binder} {p : ℕ} where
   nil-walked current room = record { holding = λ m h w. has-none m; kept = refl; marked = refl }
 
   function-walked : {b : Name} {t : Term Name} {held v : ℕ} {current current₁ current₂ current₃ room room₁ : List ℕ}
-      → Walked spell (record { name = b; place = p } ∷ around) (p + 1) t held current₁ current₂ room room₁
+      → Walked spell (record { name = b; place = p } ∷ around) (p + 1) t held current₁ current₂ (set room p 0) room₁
       → v ≡ binderMark (isRenamed b t) → current₃ ≡ current
       → Walked spell around p (function b t) held current current₃ room (set room₁ p v)
   unfolding holds marks
@@ -101,8 +103,9 @@ module _ {spell : ℕ → List ℕ} {around : List Binder} {p : ℕ} where
         holding = w .holding;
         kept = c;
         marked =
-            ap₂ (λ l n. set l p n) (w .marked ∙ ap (λ n. sets room n (body n t)) (add-one p)) e
-            ∙ set-sets room p (suc p) (binderMark (isRenamed b t)) (body (suc p) t) (omega arith);
+            ap₂ (λ l n. set l p n) (w .marked ∙ ap (λ n. sets (set room p 0) n (body n t)) (add-one p)) e
+            ∙ set-sets (set room p 0) p (suc p) (binderMark (isRenamed b t)) (body (suc p) t) (omega arith)
+            ∙ ap (λ l. sets l (suc p) (body (suc p) t)) (set-set room p 0 (binderMark (isRenamed b t)));
       }
 
   apply-walked : {t u : Term Name} {h₁ h₂ h q : ℕ} {current current₁ current₂ room room₁ room₂ : List ℕ}
@@ -198,15 +201,15 @@ module _ (cells : List ℕ) (k row p : ℕ) where
       walked-fields-as (ap (λ n. fieldsAt n spell cells row) e) er (nil-walked current room)
 
   module _ (some : k ≡ 0 → ⊥) {code : ℕ} (at : code ≡ column cells row 0) where
-    pub variable-resolves : code ≡ 32 → {x m h : ℕ} {room₁ : List ℕ} (current room : List ℕ) → x ≡ column cells row 1
-        → MarksVariable cells current x m
+    pub variable-resolves : code ≡ 32 → {x m h : ℕ} {room₀ room₁ : List ℕ} (current room : List ℕ) → x ≡ column cells row 1
+        → room₀ ≡ set room p 0 → MarksVariable cells current x m
         → ((spell : ℕ → List ℕ) → Distinct spell → VariableName spell (nameOf spell x) → Holds spell h (λ s. isOutside s (nameOf spell x)))
-        → room₁ ≡ set room p m → ResolvesTerm cells k row p current current room room₁ h
+        → room₁ ≡ set room₀ p m → ResolvesTerm cells k row p current current room room₁ h
     unfolding WellNamed
-    variable-resolves e current room ex em eh er spell around apart wh kn len env =
+    variable-resolves e {m = m} current room ex e₀ em eh er spell around apart wh kn len env =
         let t = rows.var-row spell cells k row some at e ∙ ap (λ n. variable (nameOf spell n)) (sym ex) in
         let kn′ = subst (WellNamed spell) t kn in
-        walked-as t er (variable-walked current room (em spell around kn′ env) (eh spell apart kn′))
+        walked-as t (er ∙ ap (λ l. set l p m) e₀ ∙ set-set room p 0 m) (variable-walked current room (em spell around kn′ env) (eh spell apart kn′))
 
     pub number-resolves : (code ≡ 32 → ⊥) → (code ≡ 33 → ⊥) → (code ≡ 34 → ⊥) → (code ≡ 35 → ⊥) → (code ≡ 36 → ⊥) → {room₁ : List ℕ} (current room : List ℕ)
         → room₁ ≡ set room p 0 → ResolvesTerm cells k row p current current room room₁ 0
@@ -214,27 +217,26 @@ module _ (cells : List ℕ) (k row p : ℕ) where
         rows.number-row spell cells k row some at (λ t. Walked spell around p t 0 current current room room₁)
         (λ n. walked-as refl er (number-walked n current room)) v a b c d
 
-    pub function-resolves : code ≡ 33 → {x q outer held v : ℕ} {current current₁ current₂ current₃ room room₁ room₂ : List ℕ} → x ≡ column cells row 1
-        → q ≡ column cells row 2
-        → current₁ ≡ set current (slotOf cells x) (p + 1) → outer ≡ getD current (slotOf cells x) 0
-        → ResolvesTerm cells (k - 1) q (p + 1) current₁ current₂ room room₁ held
-        → current₃ ≡ set current₂ (slotOf cells x) outer
-        → MarksBinder x held v
+    pub function-resolves : code ≡ 33 → {x outer held v : ℕ} {current current₁ current₂ current₃ room room₀ room₁ room₂ : List ℕ} → x ≡ column cells row 1
+        → room₀ ≡ set room p 0 → Exchanged cells x (p + 1) current current₁ outer
+        → ResolvesTerm cells (k - 1) (column cells row 2) (p + 1) current₁ current₂ room₀ room₁ held
+        → current₃ ≡ set current₂ (slotOf cells x) outer → MarksBinder x held v
         → room₂ ≡ set room₁ p v → ResolvesTerm cells k row p current current₃ room room₂ held
     unfolding WellNamed
-    function-resolves e {x} {q} {current = current} {current₁ = current₁} ex eq e₁ eo body e₃ mark er spell around apart wh kn len env =
-        let t = rows.fun-row spell cells k row some at e ∙ ap₂ (λ n r. function (nameOf spell n) (termAt (k - 1) spell cells r)) (sym ex) (sym eq) in
+    function-resolves e {x} {current = current} {current₁ = current₁} ex e₀ ee body e₃ mark er spell around apart wh kn len env =
+        let t = rows.fun-row spell cells k row some at e ∙ ap (λ n. function (nameOf spell n) (termAt (k - 1) spell cells (column cells row 2))) (sym ex) in
         let kn′ = subst (WellNamed spell) t kn in
         let slot : slotOf cells x < 16384 =
         subst (λ n. slotOf cells n < 16384) (sym ex) (slot-there cells row (row-inside cells row wh (sym at ∙ e)) (wh .few) (sym at ∙ e)) in
+        let inside : slotOf cells x < length cells / 4 = slot-is cells x (length cells / 4) (omega (arith, wh .few)) slot .inside in
         let inner : Around spell cells (record { name = nameOf spell x; place = p } ∷ around) current₁ =
-        subst (Around spell cells (record { name = nameOf spell x; place = p } ∷ around)) (sym e₁)
-        (around-binder spell apart cells around current x p (bindable-of spell x (kn′ .0)) slot len env) in
+        subst (Around spell cells (record { name = nameOf spell x; place = p } ∷ around)) (sym (ee .stored))
+        (around-binder spell apart cells around current x p (bindable-of spell x (kn′ .0)) slot (omega (arith, inside, len)) env) in
         let w = body spell (record { name = nameOf spell x; place = p } ∷ around) apart wh (kn′ .1)
-        (ap length e₁ ∙ length-set current (slotOf cells x) (p + 1) ∙ len) inner in
+        (omega (arith, ap length (ee .stored), length-set current (slotOf cells x) (p + 1), len)) inner in
         walked-as t er
-        (function-walked w (mark spell (termAt (k - 1) spell cells q) apart (kn′ .1) (kn′ .0) (w .holding))
-        (e₃ ∙ ap₂ (λ l o. set l (slotOf cells x) o) (w .kept ∙ e₁) eo ∙ restored current (slotOf cells x) (p + 1)))
+        (function-walked (from-room e₀ w) (mark spell (termAt (k - 1) spell cells (column cells row 2)) apart (kn′ .1) (kn′ .0) (w .holding))
+        (e₃ ∙ ap₂ (λ l o. set l (slotOf cells x) o) (w .kept ∙ ee .stored) (ee .was) ∙ restored current (slotOf cells x) (p + 1)))
 
     pub apply-resolves : code ≡ 34 → {q q′ p′ h₁ h₂ h : ℕ} {current current₁ current₂ room room₀ room₁ room₂ : List ℕ} → q ≡ column cells row 1
         → q′ ≡ column cells row 2
@@ -247,7 +249,7 @@ module _ (cells : List ℕ) (k row p : ℕ) where
         (sym eq′) in
         let kn′ = subst (WellNamed spell) t kn in
         let w = first spell around apart wh (kn′ .0) len env in
-        let w′ = second spell around apart wh (kn′ .1) (ap length (w .kept) ∙ len) (subst (Around spell cells around) (sym (w .kept)) env) in
+        let w′ = second spell around apart wh (kn′ .1) (omega (arith, ap length (w .kept))) (subst (Around spell cells around) (sym (w .kept)) env) in
         walked-as t refl (apply-walked (from-room e₀ w) w′ (ep ∙ ap (λ n. p + 1 + n) (size-spell (k - 1) noSpell spell cells q)) eh)
 
     pub rcd-resolves : code ≡ 35 → {q h : ℕ} {current current₁ room room₀ room₁ : List ℕ} → q ≡ column cells row 1
@@ -276,7 +278,7 @@ module _ (cells : List ℕ) (k row p : ℕ) where
         (λ a b. cons (spell (column cells row 1)) (termAt (k - 1) spell cells a) (fieldsAt (k - 1) spell cells b)) (sym eq) (sym eq′) in
         let kn′ = subst (WellNamedFields spell) t kn in
         let w = first spell around apart wh (kn′ .0) len env in
-        let w′ = second spell around apart wh (kn′ .1) (ap length (w .kept) ∙ len) (subst (Around spell cells around) (sym (w .kept)) env) in
+        let w′ = second spell around apart wh (kn′ .1) (omega (arith, ap length (w .kept))) (subst (Around spell cells around) (sym (w .kept)) env) in
         walked-fields-as t refl
         (cons-walked (spell (column cells row 1)) (from-room e₀ w) w′ (ep ∙ ap (λ n. p + 1 + n) (size-spell (k - 1) noSpell spell cells q)) eh)
 
@@ -337,8 +339,46 @@ module _ (cells : List ℕ) (k row p : ℕ) where
     unfolding sizeFields
     nil-place e = rw (rows.nil-row noSpell cells k row some at e) refl
 
-pub place-inside : (cells : List ℕ) (k row p : ℕ) → p + size (termAt k noSpell cells row) ≤ 16384 → p < 16384
+pub place-inside : (cells : List ℕ) (k row p : ℕ) {n : ℕ} → p + size (termAt k noSpell cells row) ≤ n → p < n
 place-inside cells k row p h = omega (arith, size-some (T cells k row))
 
-pub place-inside-fields : (cells : List ℕ) (k row p : ℕ) → p + sizeFields (fieldsAt k noSpell cells row) ≤ 16384 → p < 16384
+pub place-inside-fields : (cells : List ℕ) (k row p : ℕ) {n : ℕ} → p + sizeFields (fieldsAt k noSpell cells row) ≤ n → p < n
 place-inside-fields cells k row p h = omega (arith, size-some-fields (F cells k row))
+
+-- ------------------------------------------------------------------ rooms
+
+-- A place among as many marks.
+pub fits-as : {p n n′ : ℕ} → n′ ≡ n → (p < n) × (n ≤ 16384) → (p < n′) × (n′ ≤ 16384)
+fits-as e f = (omega (arith, f .0), omega (arith, f .1))
+
+module _ {cells links : List ℕ} where
+  -- The marks of a term go on behind its first place.
+  pub term-fits : (k row p : ℕ) {room : List ℕ} → Walkable cells links (size (termAt k noSpell cells row)) p room → (p < length room) × (length room ≤ 16384)
+  term-fits k row p w = (place-inside cells k row p (w .inside), w .few)
+
+  pub fields-fit : (k row p : ℕ) {room : List ℕ} → Walkable cells links (sizeFields (fieldsAt k noSpell cells row)) p room
+      → (p < length room) × (length room ≤ 16384)
+  fields-fit k row p w = (place-inside-fields cells k row p (w .inside), w .few)
+
+  -- A room of as many marks.
+  pub walkable-in : {n p : ℕ} {room room′ : List ℕ} → Walkable cells links n p room → length room′ ≡ length room → Walkable cells links n p room′
+  walkable-in w e = record { linked = w .linked; inside = omega (arith, w .inside); few = omega (arith, w .few) }
+
+  -- The walk of a part.
+  pub walkable-part : {n p n′ p′ : ℕ} {room : List ℕ} → Walkable cells links n p room → p′ + n′ ≤ p + n → Walkable cells links n′ p′ room
+  walkable-part w l = record { linked = w .linked; inside = omega (arith, w .inside); few = w .few }
+
+  -- The same of a term whose row was read.
+  pub walkable-row : (k : ℕ) {row row′ p : ℕ} {room : List ℕ} → row′ ≡ row → Walkable cells links (sizeAt cells k row) p room
+      → Walkable cells links (sizeAt cells k row′) p room
+  walkable-row k {p = p} {room} e w = subst (λ r. Walkable cells links (sizeAt cells k r) p room) (sym e) w
+
+pub walks-row : {cells : List ℕ} {k row row′ p p′ : ℕ} {current current′ room room′ : List ℕ} {held : ℕ} → row′ ≡ row
+    → WalksTerm cells k row′ p p′ current current′ room room′ held → WalksTerm cells k row p p′ current current′ room room′ held
+walks-row {cells} {k} {p = p} {p′} {current} {current′} {room} {room′} {held} e w =
+    subst (λ r. WalksTerm cells k r p p′ current current′ room room′ held) e w
+
+-- A binder's place and one more, stored in its slot.
+pub entered : {cells : List ℕ} (p : ℕ) {x v : ℕ} {current current′ : List ℕ} {r : ℕ} → Exchanged cells x v current current′ r → v ≡ p + 1
+    → Exchanged cells x (p + 1) current current′ r
+entered {cells} p {x} {current = current} {current′} {r} h e = subst (λ n. Exchanged cells x n current current′ r) e h

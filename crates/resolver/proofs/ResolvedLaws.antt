@@ -3,8 +3,7 @@ use Prim.Native.Nat.{ℕ, _≤_}
 use mathlib.Core.Path.{_≡_, refl, sym, ap, _∙_}
 use mathlib.Core.List.{List, [], _∷_, _++_}
 use native.Mathlib.Omega.{arith}
-use lib.ListN.{length, take, drop, replicate, length-replicate}
-use lib.Seq.{length-sets}
+use lib.ListN.{length, getD, take, drop, replicate}
 use Rattle.terms.specs.Term.{Name, Term, size}
 use Rattle.terms.specs.Rows.{termAt}
 use Rattle.terms.specs.Loose.{Walk, loose, reached}
@@ -16,15 +15,16 @@ use Rattle.rows.proofs.SizeLaws.{size-spell}
 use Rattle.resolver.specs.declared.Resolution.{Resolution}
 use Rattle.resolver.specs.declared.Resolution.the-variants.{Loose, Numbered}
 use Rattle.resolver.specs.Marks.{marks, Around, slotOf, ResolvesTerm}
+use Rattle.resolver.specs.Walks.{Prepared}
 use Rattle.resolver.specs.Numbers.{numbered, looseIn, firstLoose, walkOf, Resolvable, Resolves}
 use Rattle.resolver.proofs.ResolveLaws.{length-marks}
 use Rattle.resolver.proofs.LooseLaws.{walk-by-marks}
 use Rattle.resolver.proofs.NumberLaws.{numbered-is-renamed}
 
 -- under no binder, a room of zeros
-around-none : (spell : ℕ → List ℕ) (cells : List ℕ) (n : ℕ) → Around spell cells [] (replicate n 0)
+around-none : (spell : ℕ → List ℕ) (cells current : List ℕ) → current ≡ replicate (length current) 0 → Around spell cells [] current
 unfolding ownerOf
-around-none spell cells n x b = zeros n (slotOf cells x)
+around-none spell cells current e x b = ap (λ l. getD l (slotOf cells x) 0) e ∙ zeros (length current) (slotOf cells x)
 
 -- the first place without an owner is where the walk stops
 stops-first : (ps : List ℕ) (end : ℕ) {r : Resolution} → r ≡ firstLoose ps → stopsAtFirst ps end ≡ walkOf r end
@@ -32,16 +32,17 @@ stops-first [] end e = sym (ap (λ r. walkOf r end) e)
 stops-first (p ∷ ps) end e = sym (ap (λ r. walkOf r end) e)
 
 -- a walk's marks, numbered, are a resolution
-pub resolves-numbered : {cells room room₁ room₂ current′ : List ℕ} {made root held n : ℕ} {r : Resolution}
-    → Resolvable cells made root n → n ≤ length room₁ → ResolvesTerm cells made root 0 (replicate 16385 0) current′ room room₁ held
+pub resolves-numbered : {cells links current room room₁ room₂ current′ : List ℕ} {made root held n : ℕ} {r : Resolution}
+    → Resolvable cells made root room → Prepared cells links current → n ≡ length room
+    → ResolvesTerm cells made root 0 current current′ room room₁ held
     → r ≡ firstLoose (looseIn 0 (take n room₁)) → (r ≡ Numbered → room₂ ≡ numbered [] 1 (take n room₁) ++ drop n room₁)
     → Resolves cells made root room₂ r
-resolves-numbered {cells} {room} {room₁} {made = made} {root} {n = n} {r} pre fit resolves er named spell apart known =
+resolves-numbered {cells} {current = current} {room} {room₁} {made = made} {root} {n = n} pre begun en resolves er named spell apart known =
     let t : Term Name = termAt made spell cells root in
-    let w = resolves spell [] apart (pre .whole) known (length-replicate {A = ℕ} 16385 0) (around-none spell cells 16385) in
-    let same : size t ≡ n = size-spell made spell noSpell cells root ∙ sym (pre .counted) in
+    let w = resolves spell [] apart (pre .whole) known (begun .room) (around-none spell cells current (begun .none)) in
+    let same : size t ≡ n = size-spell made spell noSpell cells root ∙ sym (pre .counted) ∙ sym en in
     let small : size t ≤ 16384 = omega (arith, pre .few) in
-    let long : n ≤ length room = omega (arith, ap length (w .marked), length-sets room 0 (marks [] 0 t)) in
+    let long : n ≤ length room = omega (arith, en) in
     let front : take n room₁ ≡ marks [] 0 t = ap (take n) (w .marked) ∙ sets-front room (marks [] 0 t) n (length-marks [] 0 t ∙ same) long in
     record {
       answer = walk-by-marks t small ∙ stops-first (looseIn 0 (marks [] 0 t)) (size t) (er ∙ ap (λ ms. firstLoose (looseIn 0 ms)) front);

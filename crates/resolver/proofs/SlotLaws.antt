@@ -6,7 +6,7 @@ use mathlib.Core.List.{List, [], _∷_}
 use native.Mathlib.Omega.{arith}
 use lib.Dec.{eqb}
 use lib.ListN.{length, getD, set}
-use lib.Seq.{getD-set-same, getD-set-other, set-getD, set-set}
+use lib.Seq.{getD-set-same, getD-set-other, set-getD, set-set, set-out}
 use borrow.Author.Tests.{eq-eqb, ne-eqb, eqb-true, eqb-false}
 use Rattle.spellings.specs.Bytes.{same, isWord}
 use Rattle.spellings.proofs.BytesLaws.{by-test, same-true, same-refl}
@@ -17,6 +17,7 @@ use Rattle.terms.specs.Rename.{belongs}
 use Rattle.terms.specs.Binding.{Owner, unbound, boundAt, Binder}
 use Rattle.terms.specs.Occurrences.{ownerOf}
 use Rattle.resolver.specs.Marks.{ownerCode, binds, slotFrom, slotOf, Bindable, bindable-word, bindable-fresh, Around}
+use Rattle.resolver.specs.Walks.{Exchanged}
 use Rattle.terms.specs.Names.{Distinct}
 
 -- ------------------------------------------------------------------ slots
@@ -96,7 +97,7 @@ module _ (spell : ℕ → List ℕ) where
 
   -- under one more binder, at a place: its slot has the place and one more
   pub around-binder : Distinct spell → (cells : List ℕ) (around : List Binder) (current : List ℕ) (y p : ℕ) → Bindable spell y → slotOf cells y < 16384
-      → length current ≡ 16385
+      → slotOf cells y < length current
       → Around spell cells around current → Around spell cells (record { name = nameOf spell y; place = p } ∷ around) (set current (slotOf cells y) (p + 1))
   around-binder apart cells around current y p b l n env x a =
       by-test (eqb x y)
@@ -117,3 +118,12 @@ module _ (spell : ℕ → List ℕ) where
 -- left again, the slot is as before
 pub restored : (current : List ℕ) (s v : ℕ) → set (set current s v) s (getD current s 0) ≡ current
 restored current s v = set-set current s v (getD current s 0) ∙ set-getD current s 0
+
+module _ {cells current : List ℕ} {x v s r : ℕ} (at : s ≡ slotOf cells x) (was : r ≡ getD current s 0) where
+  -- A store in a name's slot.
+  pub exchanged : Exchanged cells x v current (set current s v) r
+  exchanged = record { stored = ap (λ n. set current n v) at; was = was ∙ ap (λ n. getD current n 0) at }
+
+  -- A name without a slot.
+  pub not-exchanged : length current ≤ s → Exchanged cells x v current current r
+  not-exchanged l = record { stored = sym (set-out current s v l) ∙ ap (λ n. set current n v) at; was = was ∙ ap (λ n. getD current n 0) at }

@@ -1,3 +1,4 @@
 pub mod Marks
 pub mod Links
+pub mod Walks
 pub mod Numbers

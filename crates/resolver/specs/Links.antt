@@ -5,7 +5,7 @@ use Prim.Native.Nat.{ℕ, suc, _+_, _/_, _%_, _<_, _≤_}
 use mathlib.Core.Path.{_≡_}
 use mathlib.Core.Bool.{true}
 use mathlib.Core.List.{List}
-use lib.ListN.{length, getD, set}
+use lib.ListN.{length, getD, set, replicate}
 use Rattle.terms.specs.Cells.{column}
 use Rattle.resolver.specs.Marks.{binds, slotFrom}
 
@@ -33,6 +33,13 @@ pub record LinkedTo (n : ℕ) (cells links : List ℕ) : Type 0 where
 pub record Linked (cells links : List ℕ) : Type 0 where
   pub few : length cells ≤ 65536
   pub linked : LinkedTo (length cells / 4) cells links
+
+-- what linking asks: room for all rows, and no links
+pub record Linkable (cells links : List ℕ) : Type 0 where
+  pub few : length cells ≤ 65536
+  pub some : 0 < length links / 2
+  pub room : length cells / 4 ≤ length links / 2
+  pub none : links ≡ replicate (length links) 0
 
 -- the links with one more row, whose name is x
 abbrev pub linksWith : List ℕ → ℕ → ℕ → List ℕ

@@ -108,12 +108,13 @@ pub record WalkedFields (spell : ℕ → List ℕ) (around : List Binder) (p : �
 -- under any binders around that `current` has
 abbrev pub ResolvesTerm : List ℕ → ℕ → ℕ → ℕ → List ℕ → List ℕ → List ℕ → List ℕ → ℕ → Type 0
 ResolvesTerm cells k row p current current′ room room′ held =
-    (spell : ℕ → List ℕ) (around : List Binder) → Distinct spell → WholeRows cells → WellNamed spell (termAt k spell cells row) → length current ≡ 16385
+    (spell : ℕ → List ℕ) (around : List Binder) → Distinct spell → WholeRows cells → WellNamed spell (termAt k spell cells row)
+    → length cells / 4 ≤ length current
     → Around spell cells around current
     → Walked spell around p (termAt k spell cells row) held current current′ room room′
 
 abbrev pub ResolvesFields : List ℕ → ℕ → ℕ → ℕ → List ℕ → List ℕ → List ℕ → List ℕ → ℕ → Type 0
 ResolvesFields cells k row p current current′ room room′ held =
     (spell : ℕ → List ℕ) (around : List Binder) → Distinct spell → WholeRows cells → WellNamedFields spell (fieldsAt k spell cells row)
-    → length current ≡ 16385 → Around spell cells around current
+    → length cells / 4 ≤ length current → Around spell cells around current
     → WalkedFields spell around p (fieldsAt k spell cells row) held current current′ room room′

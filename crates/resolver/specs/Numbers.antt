@@ -5,7 +5,7 @@ use mathlib.Core.Path.{_≡_}
 use mathlib.Core.Bool.{true, false}
 use mathlib.Core.List.{List, [], _∷_, _++_}
 use lib.Dec.{eqb}
-use lib.ListN.{getD}
+use lib.ListN.{length, getD}
 use Rattle.terms.specs.Term.{Name, Term, size}
 use Rattle.terms.specs.Rows.{termAt}
 use Rattle.terms.specs.Names.{Distinct, WellNamed}
@@ -44,11 +44,11 @@ firstLoose (p ∷ ps) = Loose p
 
 -- ------------------------------------------------------------------ a resolution
 
--- what a resolution asks: whole rows, and a term of `count` constructors, not too many
-pub record Resolvable (cells : List ℕ) (made root count : ℕ) : Type 0 where
+-- what a resolution asks: whole rows, and a mark for each constructor of a term, not too many
+pub record Resolvable (cells : List ℕ) (made root : ℕ) (room : List ℕ) : Type 0 where
   pub whole : WholeRows cells
-  pub counted : count ≡ sizeAt cells made root
-  pub few : count ≤ 16384
+  pub counted : length room ≡ sizeAt cells made root
+  pub few : length room ≤ 16384
 
 -- the walk of a term that an answer stands for
 abbrev pub walkOf : Resolution → ℕ → Walk

@@ -2,9 +2,9 @@
 use rows::column;
 ghost use Prim.Native.Nat.{_+_, _/_, _≤_, _<_};
 ghost use mathlib.Core.Path.{_≡_};
-ghost use lib.ListN.{length, getD, replicate};
+ghost use lib.ListN.{length, getD};
 ghost use Rattle.resolver.specs.Marks.{slotFrom};
-ghost use Rattle.resolver.specs.Links.{LinkedTo, Linked, linksWith};
+ghost use Rattle.resolver.specs.Links.{LinkedTo, Linked, Linkable, linksWith};
 
 fn wide(x: u16) -> usize
     ensures { λ r. ⌜ (r ≡ x) × (r < 65536) ⌝ }
@@ -53,9 +53,7 @@ fn add(links: &mut [u16], row: usize, x: u32)
 
 // Links all rows; the links are 0 before.
 pub fn link(cells: &[u32], links: &mut [u16])
-    requires { ⌜ length (now cells) ≤ 65536 ⌝ }
-    requires { ⌜ (0 < length (now links) / 2) × (length (now cells) / 4 ≤ length (now links) / 2) ⌝ }
-    requires { ⌜ now links ≡ replicate (length (now links)) 0 ⌝ }
+    requires { ⌜ Linkable (now cells) (now links) ⌝ }
     ensures { λ _. ⌜ Linked (now (cells .entry)) (now (links .exit)) ⌝ }
 {
     let mut row: usize = 0;

@@ -3,11 +3,9 @@ use crate::binders::link;
 use crate::numbering::number;
 use crate::resolving::resolve_term;
 ghost use Prim.Native.Nat.{_/_, _≤_};
-ghost use mathlib.Core.Path.{_≡_};
 ghost use lib.ListN.{length};
-ghost use Rattle.rows.specs.Sizes.{sizeAt};
-ghost use Rattle.resolver.specs.Links.{Linked};
 ghost use Rattle.resolver.specs.Numbers.{Resolvable, Resolves};
+ghost use Rattle.resolver.specs.Walks.{Prepared};
 
 pub mod binders;
 pub mod numbering;
@@ -23,65 +21,50 @@ pub enum Resolution {
 fn resolved(
     cells: &[u32],
     links: &[u16],
+    current: &mut [u16],
     made: usize,
     root: u32,
-    count: usize,
-    marks: &mut [u16; 16384],
+    marks: &mut [u16],
 ) -> Resolution
-    requires { ⌜ Resolvable (now cells) made root count × Linked (now cells) (now links) ⌝ }
+    requires { ⌜ Resolvable (now cells) made root (now marks) × Prepared (now cells) (now links) (now current) ⌝ }
     ensures { λ r. ⌜ Resolves (now (cells .entry)) made root (now (marks .exit)) r ⌝ }
 {
-    let mut current = [0u16; 16385];
     let mut place: usize = 0;
-    resolve_term(&cells, &links, made, root, &mut place, &mut current, marks);
+    resolve_term(&cells, &links, made, root, &mut place, current, marks);
+    let count = marks.len();
     number(marks, count)
 }
 
-// With room for the links of a few rows.
-fn resolve_small(
-    cells: &[u32],
-    made: usize,
-    root: u32,
-    count: usize,
-    marks: &mut [u16; 16384],
-) -> Resolution
-    requires { ⌜ Resolvable (now cells) made root count × (length (now cells) / 4 ≤ 256) ⌝ }
+// With room for the binders of a few rows.
+fn resolve_small(cells: &[u32], made: usize, root: u32, marks: &mut [u16]) -> Resolution
+    requires { ⌜ Resolvable (now cells) made root (now marks) × (length (now cells) / 4 ≤ 256) ⌝ }
     ensures { λ r. ⌜ Resolves (now (cells .entry)) made root (now (marks .exit)) r ⌝ }
 {
     let mut links = [0u16; 512];
+    let mut current = [0u16; 256];
     link(cells, &mut links);
-    resolved(cells, &links, made, root, count, marks)
+    resolved(cells, &links, &mut current, made, root, marks)
 }
 
-// With room for the links of all rows that an expansion makes.
-fn resolve_large(
-    cells: &[u32],
-    made: usize,
-    root: u32,
-    count: usize,
-    marks: &mut [u16; 16384],
-) -> Resolution
-    requires { ⌜ Resolvable (now cells) made root count ⌝ }
+// With room for the binders of all rows that an expansion makes.
+fn resolve_large(cells: &[u32], made: usize, root: u32, marks: &mut [u16]) -> Resolution
+    requires { ⌜ Resolvable (now cells) made root (now marks) ⌝ }
     ensures { λ r. ⌜ Resolves (now (cells .entry)) made root (now (marks .exit)) r ⌝ }
 {
     let mut links = [0u16; 32768];
+    let mut current = [0u16; 16384];
     link(cells, &mut links);
-    resolved(cells, &links, made, root, count, marks)
+    resolved(cells, &links, &mut current, made, root, marks)
 }
 
-// Resolves the term of `count` constructors at a row: refusal 23, or at each place the number of the new name that stands there.
-pub fn resolve(
-    cells: &[u32],
-    made: usize,
-    root: u32,
-    count: usize,
-    marks: &mut [u16; 16384],
-) -> Resolution
-    requires { ⌜ Resolvable (now cells) made root count ⌝ }
+// Resolves the term at a row, with a mark for each of its constructors: refusal 23, or at each place the number of the new name that stands
+// there.
+pub fn resolve(cells: &[u32], made: usize, root: u32, marks: &mut [u16]) -> Resolution
+    requires { ⌜ Resolvable (now cells) made root (now marks) ⌝ }
     ensures { λ r. ⌜ Resolves (now (cells .entry)) made root (now (marks .exit)) r ⌝ }
 {
     if cells.len() / 4 <= 256 {
-        return resolve_small(cells, made, root, count, marks);
+        return resolve_small(cells, made, root, marks);
     }
-    resolve_large(cells, made, root, count, marks)
+    resolve_large(cells, made, root, marks)
 }

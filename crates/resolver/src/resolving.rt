@@ -1,32 +1,44 @@
 // Resolution: each variable's binder, and which binders are renamed, by places. A place is a constructor's number from the left.
 use crate::binders::find;
 use rows::column;
-ghost use Prim.Native.Nat.{ℕ, _+_, _≤_, _<_};
+ghost use Prim.Native.Nat.{ℕ, _+_, _<_, _≤_};
 ghost use mathlib.Core.Path.{_≡_};
 ghost use mathlib.Core.List.{List};
-ghost use lib.ListN.{getD, set};
+ghost use lib.ListN.{length, getD, set};
+ghost use Rattle.terms.specs.Cells.{column};
 ghost use Rattle.terms.specs.Rows.{nameOf};
 ghost use Rattle.terms.specs.Rename.{isOutside};
 ghost use Rattle.terms.specs.Names.{Distinct, VariableName};
 ghost use Rattle.rows.specs.Sizes.{sizeAt, sizeFieldsAt};
 ghost use Rattle.resolver.specs.Links.{Linked};
-ghost use Rattle.resolver.specs.Marks.{slotOf, Holds, MarksVariable, MarksBinder, ResolvesTerm, ResolvesFields};
+ghost use Rattle.resolver.specs.Marks.{Holds, MarksVariable, MarksBinder};
+ghost use Rattle.resolver.specs.Walks.{Exchanged, Walkable, WalksTerm, WalksFields};
 
-fn put(room: &mut [u16; 16384], at: usize, v: u16)
-    requires { ⌜ at < 16384 ⌝ }
+fn put(room: &mut [u16], at: usize, v: u16)
+    requires { ⌜ (at < length (now room)) × (length (now room) ≤ 16384) ⌝ }
     ensures { λ _. ⌜ now (room .exit) ≡ set (now (room .entry)) at v ⌝ }
 {
     room[at] = v;
 }
 
+// The innermost binder of a slot; a name that no row binds has no slot, and 0.
+fn innermost(current: &[u16], slot: usize) -> u16
+    ensures { λ r. ⌜ r ≡ getD (now (current .entry)) slot 0 ⌝ }
+{
+    if slot < current.len() {
+        return current[slot];
+    }
+    0
+}
+
 // The mark of a variable of name x.
-fn variable_mark(cells: &[u32], links: &[u16], current: &[u16; 16385], x: u32) -> u16
+fn variable_mark(cells: &[u32], links: &[u16], current: &[u16], x: u32) -> u16
     requires { ⌜ Linked (now cells) (now links) ⌝ }
     ensures { λ r. ⌜ MarksVariable (now (cells .entry)) (now (current .entry)) x r ⌝ }
 {
     let class = x / 16777216;
     let slot = find(cells, links, cells.len() / 4, x);
-    let inner = current[slot];
+    let inner = innermost(current, slot);
     match class {
         1 => inner,
         2 => {
@@ -54,25 +66,17 @@ fn held_by(x: u32) -> u64
     }
 }
 
-// A binder of name x at a place becomes the innermost of its slot; the answer is the one before.
-fn enter(cells: &[u32], links: &[u16], current: &mut [u16; 16385], x: u32, place: usize) -> u16
+// Sets the binder of a name's slot; the answer is the one before.
+fn exchange(cells: &[u32], links: &[u16], current: &mut [u16], x: u32, v: u16) -> u16
     requires { ⌜ Linked (now cells) (now links) ⌝ }
-    requires { ⌜ place < 16384 ⌝ }
-    ensures { λ r. ⌜ now (current .exit) ≡ set (now (current .entry)) (slotOf (now (cells .entry)) x) (place + 1) ⌝ }
-    ensures { λ r. ⌜ r ≡ getD (now (current .entry)) (slotOf (now (cells .entry)) x) 0 ⌝ }
+    ensures { λ r. ⌜ Exchanged (now (cells .entry)) x v (now (current .entry)) (now (current .exit)) r ⌝ }
 {
     let slot = find(cells, links, cells.len() / 4, x);
-    let outer = current[slot];
-    current[slot] = (place + 1) as u16;
+    let outer = innermost(current, slot);
+    if slot < current.len() {
+        current[slot] = v;
+    }
     outer
-}
-
-fn leave(cells: &[u32], links: &[u16], current: &mut [u16; 16385], x: u32, outer: u16)
-    requires { ⌜ Linked (now cells) (now links) ⌝ }
-    ensures { λ _. ⌜ now (current .exit) ≡ set (now (current .entry)) (slotOf (now (cells .entry)) x) outer ⌝ }
-{
-    let slot = find(cells, links, cells.len() / 4, x);
-    current[slot] = outer;
 }
 
 // The mark of a binder of name x whose body holds some outside names.
@@ -94,6 +98,14 @@ fn binder_mark(x: u32, held: u64) -> u16
     65534
 }
 
+// The binder at a place, as slots have it.
+fn binder_at(place: usize) -> u16
+    requires { ⌜ place < 16384 ⌝ }
+    ensures { λ r. ⌜ r ≡ place + 1 ⌝ }
+{
+    (place + 1) as u16
+}
+
 // Marks the term at a row; the answer is the set of the outside names that stand in it as variables. `place` moves on by its
 // constructors; `current` has the innermost binder of each slot, and is as before when the walk comes back.
 pub fn resolve_term(
@@ -102,99 +114,69 @@ pub fn resolve_term(
     bound: usize,
     row: u32,
     place: &mut usize,
-    current: &mut [u16; 16385],
-    marks: &mut [u16; 16384],
+    current: &mut [u16],
+    marks: &mut [u16],
 ) -> u64
-    requires { ⌜ Linked (now (now cells)) (now (now links)) ⌝ }
-    requires { ⌜ now place + sizeAt (now (now cells)) bound row ≤ 16384 ⌝ }
+    requires { ⌜ Walkable (now (now cells)) (now (now links)) (sizeAt (now (now cells)) bound row) (now place) (now marks) ⌝ }
     ensures { λ r. ⌜
-        ResolvesTerm (now (now (cells .entry))) bound row (now (place .entry)) (now (current .entry)) (now (current .exit))
-        (now (marks .entry)) (now (marks .exit)) r
+        WalksTerm (now (now (cells .entry))) bound row (now (place .entry)) (now (place .exit)) (now (current .entry))
+        (now (current .exit)) (now (marks .entry)) (now (marks .exit)) r
         ⌝ }
-    ensures { λ r. ⌜ now (place .exit) ≡ now (place .entry) + sizeAt (now (now (cells .entry))) bound row ⌝ }
 {
     let here = *place;
     *place = here + 1;
+    put(marks, here, 0);
     if bound == 0 {
-        put(marks, here, 0);
         return 0;
     }
+    let deep = bound - 1;
     let code = column(*cells, row, 0);
+    let x = column(*cells, row, 1);
     match code {
         32 => {
-            let x = column(*cells, row, 1);
             let m = variable_mark(*cells, *links, current, x);
             put(marks, here, m);
             held_by(x)
         }
         33 => {
-            let x = column(*cells, row, 1);
-            let outer = enter(*cells, *links, current, x, here);
-            let held = resolve_term(
-                cells,
-                links,
-                bound - 1,
-                column(*cells, row, 2),
-                place,
-                current,
-                marks,
-            );
-            leave(*cells, *links, current, x, outer);
+            let outer = exchange(*cells, *links, current, x, binder_at(here));
+            let held = resolve_part(cells, links, deep, row, 2, place, current, marks);
+            exchange(*cells, *links, current, x, outer);
             let m = binder_mark(x, held);
             put(marks, here, m);
             held
         }
         34 => {
-            put(marks, here, 0);
-            let first = resolve_term(
-                cells,
-                links,
-                bound - 1,
-                column(*cells, row, 1),
-                place,
-                current,
-                marks,
-            );
-            let second = resolve_term(
-                cells,
-                links,
-                bound - 1,
-                column(*cells, row, 2),
-                place,
-                current,
-                marks,
-            );
+            let first = resolve_part(cells, links, deep, row, 1, place, current, marks);
+            let second = resolve_part(cells, links, deep, row, 2, place, current, marks);
             kinds::join(first, second)
         }
-        35 => {
-            put(marks, here, 0);
-            resolve_fields(
-                cells,
-                links,
-                bound - 1,
-                column(*cells, row, 1),
-                place,
-                current,
-                marks,
-            )
-        }
-        36 => {
-            put(marks, here, 0);
-            resolve_term(
-                cells,
-                links,
-                bound - 1,
-                column(*cells, row, 1),
-                place,
-                current,
-                marks,
-            )
-        }
-        _ => {
-            put(marks, here, 0);
-            0
-        }
+        35 => resolve_fields(cells, links, deep, x, place, current, marks),
+        36 => resolve_part(cells, links, deep, row, 1, place, current, marks),
+        _ => 0,
     }
+}
+
+// The same of the term whose row stands in a column of a row.
+fn resolve_part(
+    cells: &&[u32],
+    links: &&[u16],
+    bound: usize,
+    row: u32,
+    i: usize,
+    place: &mut usize,
+    current: &mut [u16],
+    marks: &mut [u16],
+) -> u64
+    requires { ⌜ (i < 4) × Walkable (now (now cells)) (now (now links)) (sizeAt (now (now cells)) bound (column (now
+        (now cells)) row i)) (now place) (now marks) ⌝ }
+    ensures { λ r. ⌜
+        WalksTerm (now (now (cells .entry))) bound (column (now (now (cells .entry))) row i) (now (place .entry)) (now (place .exit))
+        (now (current .entry)) (now (current .exit)) (now (marks .entry)) (now (marks .exit)) r
+        ⌝ }
+{
+    let part = column(*cells, row, i);
+    resolve_term(cells, links, bound, part, place, current, marks)
 }
 
 // The same of the field list at a row.
@@ -204,16 +186,14 @@ fn resolve_fields(
     bound: usize,
     row: u32,
     place: &mut usize,
-    current: &mut [u16; 16385],
-    marks: &mut [u16; 16384],
+    current: &mut [u16],
+    marks: &mut [u16],
 ) -> u64
-    requires { ⌜ Linked (now (now cells)) (now (now links)) ⌝ }
-    requires { ⌜ now place + sizeFieldsAt (now (now cells)) bound row ≤ 16384 ⌝ }
+    requires { ⌜ Walkable (now (now cells)) (now (now links)) (sizeFieldsAt (now (now cells)) bound row) (now place) (now marks) ⌝ }
     ensures { λ r. ⌜
-        ResolvesFields (now (now (cells .entry))) bound row (now (place .entry)) (now (current .entry)) (now (current .exit))
-        (now (marks .entry)) (now (marks .exit)) r
+        WalksFields (now (now (cells .entry))) bound row (now (place .entry)) (now (place .exit)) (now (current .entry))
+        (now (current .exit)) (now (marks .entry)) (now (marks .exit)) r
         ⌝ }
-    ensures { λ r. ⌜ now (place .exit) ≡ now (place .entry) + sizeFieldsAt (now (now (cells .entry))) bound row ⌝ }
 {
     let here = *place;
     *place = here + 1;
@@ -221,26 +201,12 @@ fn resolve_fields(
     if bound == 0 {
         return 0;
     }
+    let deep = bound - 1;
     let code = column(*cells, row, 0);
     if code == 38 {
-        let first = resolve_term(
-            cells,
-            links,
-            bound - 1,
-            column(*cells, row, 2),
-            place,
-            current,
-            marks,
-        );
-        let rest = resolve_fields(
-            cells,
-            links,
-            bound - 1,
-            column(*cells, row, 3),
-            place,
-            current,
-            marks,
-        );
+        let first = resolve_part(cells, links, deep, row, 2, place, current, marks);
+        let next = column(*cells, row, 3);
+        let rest = resolve_fields(cells, links, deep, next, place, current, marks);
         return kinds::join(first, rest);
     }
     0

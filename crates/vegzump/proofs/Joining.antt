@@ -5,7 +5,7 @@ use mathlib.Core.Bool.{true}
 use mathlib.Core.List.{List, []}
 use native.Mathlib.Omega.{arith}
 use lib.ListN.{length, getD, take}
-use lib.Seq.{length-take-le}
+use lib.Seq.{sets, length-sets, length-take-le}
 use Rattle.answers.specs.declared.Refusal.{Refusal}
 use Rattle.answers.specs.declared.Answer.{Answer}
 use Rattle.answers.specs.declared.Answer.the-variants.{Accepted, Refusing}
@@ -23,7 +23,7 @@ use Rattle.scanner.specs.declared.Token.{Token}
 use Rattle.scanner.specs.declared.Scanned.{Scanned}
 use Rattle.scanner.specs.declared.Scanned.the-variants.{Tokens, Unscanned}
 use Rattle.scanner.specs.Scan.{Lexed, scan}
-use Rattle.scanner.specs.Rooms.{Filled, filled, scanInto, tokensIn, TokensFit, wordsIn, RoomFor}
+use Rattle.scanner.specs.Rooms.{Filled, filled, scanInto, rows, places, tokensIn, TokensFit, wordsIn, RoomFor}
 use Rattle.scanner.specs.Tokens.{spelled}
 use Rattle.scanner.proofs.AfterScan.{Holds, scan-holds, scan-refused}
 use Rattle.productions.specs.Normal.{Production}
@@ -55,7 +55,7 @@ use Rattle.soundness.proofs.ExpansionTheorems as expansion
 use Rattle.vegzump.specs.Expand.{Expanded, expanded, refused, withCells, inputOf, finished, expand}
 use Rattle.vegzump.specs.Meaning as Meaning
 use Rattle.vegzump.specs.declared.parse.Parsed.{Parsed}
-use Rattle.vegzump.specs.Parse.{parse, HoldsPassed, WordsKnown, RowsLie, Parses}
+use Rattle.vegzump.specs.Parse.{parse, HoldsPassed, Rooms, WordsKnown, RowsLie, Parses, ParsesTo, haltedParse, parsedInto, parseInto}
 use Rattle.vegzump.proofs.Naming as naming
 use Rattle.vegzump.proofs.Parsing as parsing
 use Rattle.vegzump.proofs.Root.{root-last}
@@ -93,12 +93,30 @@ module _ {bs : List ℕ} (bytes : Bytes bs) where
           let f = ap (λ (x : Scanned). filled x tokens′ words′) (sym h) ∙ in-lexicon e in
           sym (parsing.parse-unscanned bs formula cells passed (scan-refused lex few formula room f))
 
+      -- The same with all rooms.
+      pub stops-whole : {a : Scanned} {r : Refusal} {q : Parsed} {tokens′ words′ : List ℕ}
+          → filled a tokens′ words′ ≡ scanInto (lexiconOf bs) formula tokens words
+          → a ≡ Unscanned r → q ≡ haltedParse r → parsedInto q tokens′ words′ cells ≡ parseInto bs formula tokens words cells
+      stops-whole {tokens′ = tokens′} {words′} e h =
+          parsing.into-unscanned bs formula tokens words cells passed (ap (λ (x : Scanned). filled x tokens′ words′) (sym h) ∙ in-lexicon e)
+
       -- One that does not leaves its tokens and words in the rooms.
       pub scan-fills : {a : Scanned} {n count : ℕ} {tokens′ words′ : List ℕ} → filled a tokens′ words′ ≡ scanInto (lexiconOf bs) formula tokens words
           → a ≡ Tokens n count → Holds lex few formula tokens′ words′ n count
       scan-fills {tokens′ = tokens′} {words′} e h = scan-holds lex few formula room (ap (λ (x : Scanned). filled x tokens′ words′) (sym h) ∙ in-lexicon e)
 
     -- ------------------------------------------------------------------ the run
+
+    -- the rooms are as long after a scan
+    same-rooms : (tokens words : List ℕ) {a : Scanned} {tokens′ words′ : List ℕ} → filled a tokens′ words′ ≡ scanInto (lexiconOf bs) formula tokens words
+        → (length tokens′ ≡ length tokens) × (length words′ ≡ length words)
+    unfolding scanInto
+    same-rooms tokens words {tokens′ = tokens′} {words′} e =
+        let t : tokens′ ≡ sets tokens 0 (rows (scan (lexiconOf bs) formula .tokens)) = cc in
+        let w : words′ ≡ sets words 0 (places 0 (scan (lexiconOf bs) formula .tokens)) = cc in (
+          ap length t ∙ length-sets tokens 0 (rows (scan (lexiconOf bs) formula .tokens)),
+          ap length w ∙ length-sets words 0 (places 0 (scan (lexiconOf bs) formula .tokens)),
+        )
 
     module _ {tokens words : List ℕ} {n count : ℕ} (H : Holds lex few formula tokens words n count) where
       -- The run of the tokens in the room is the parse.
@@ -109,12 +127,13 @@ module _ {bs : List ℕ} (bytes : Bytes bs) where
           ∙ ap (λ (r : ℕ). run (input (grammarOf (P .table)) (scan lex formula .tokens) (rowsIn cells)) r cells) (root-last (P .table) (P .encoded))
           ∙ sym (parsing.parse-run bs formula cells passed (H .answered))
 
-      pub known : WordsKnown bs formula words count
-      known =
+      pub known : length tokens ≤ length words * 2 → WordsKnown bs formula words count
+      known half =
           record {
             passes = P;
             tokens = n;
             few = omega (arith, H .few-words, H .tokens-fit .few);
+            lie = omega (arith, H .few-words, H .tokens-fit .long);
             answered = H .answered;
             words-are = H .words-are;
           }
@@ -184,6 +203,7 @@ module _ {bs : List ℕ} (bytes : Bytes bs) (cells : List ℕ) {formula words ce
   emittable =
       record {
         few = K .few;
+        lie = K .lie;
         outsidesFit = naming.outsides-fit bs bytes P;
         wordsFit = naming.words-fit bs bytes P formula words (K .answered) (K .words-are);
         distinct = naming.distinct bs bytes P formula words (K .answered) (K .words-are);
@@ -207,8 +227,8 @@ module _ {bs : List ℕ} (bytes : Bytes bs) (cells : List ℕ) {formula words ce
 -- ------------------------------------------------------------------ the promises of the parse and of the whole call
 
 -- A parse that refused before its run.
-pub refused-parses : {bs formula cells : List ℕ} (words′ : List ℕ) {r : Refusal} {q : Parsed} → q ≡ record { outcome = Halted r; words = 0 }
-    → halt r cells ≡ parse bs formula cells → Parses bs formula cells words′ cells q
+pub refused-parses : {bs formula cells : List ℕ} (words′ : List ℕ) {r : Refusal} {q : Parsed} → q ≡ haltedParse r → halt r cells ≡ parse bs formula cells
+    → ParsesTo bs formula cells words′ cells q
 refused-parses {cells = cells} words′ {r} {q} e h =
     let never : (v : ℕ) (s : State) → q .outcome ≡ Value v s → ⊥ = λ v s z. let n : _≡_ {A = ℕ} 0 1 = cc in omega arith in
     record {
@@ -218,19 +238,30 @@ refused-parses {cells = cells} words′ {r} {q} e h =
     }
 
 -- A parse that ran.
-pub ran-parses : {bs : List ℕ} (bytes : Bytes bs) (P : Passes bs) (formula cells : List ℕ) {tokens′ words′ cells′ : List ℕ} {n count : ℕ} {o : Outcome}
-    → Holds (lexiconOfTable (P .table)) (P .within .outsideCount) formula tokens′ words′ n count
+pub ran-parses : {bs : List ℕ} (bytes : Bytes bs) (P : Passes bs) (formula cells : List ℕ) {tokens words : List ℕ} (rooms : Rooms formula tokens words)
+    {tokens′ words′ cells′ : List ℕ} {a : Scanned} {n count : ℕ} {o : Outcome}
+    → filled a tokens′ words′ ≡ scanInto (lexiconOf bs) formula tokens words → a ≡ Tokens n count
     → ran o cells′ ≡ run (lentInput bs tokens′ n (rowsIn cells)) (getD bs (length bs - 1) 0) cells
-    → Parses bs formula cells words′ cells′ (record { outcome = o; words = count })
-ran-parses bytes P formula cells {cells′ = cells′} H e =
+    → Parses bs formula tokens words cells tokens′ words′ cells′ (record { outcome = o; words = count })
+ran-parses {bs} bytes P formula cells {tokens} {words} rooms {tokens′} {words′} {cells′} {n = n} {count} {o} f h e =
+    let H = scan-fills bytes P formula cells (rooms .enough) f h in
     let same = e ∙ parse-runs bytes P formula cells H in
+    let long = same-rooms bytes P formula cells tokens words f in
+    let K : WordsKnown bs formula words′ count = known bytes P formula cells H (omega (arith, rooms .half, long .0, long .1)) in
     record {
-      equal = same;
-      words-known = λ v s z. known bytes P formula cells H;
-      rows-lie = λ v s z. rows-lie bytes cells (known bytes P formula cells H) (ap (λ (x : Outcome). ran x cells′) (sym z) ∙ same);
+      parsed =
+          record {
+            equal = same;
+            words-known = λ v s z. K;
+            rows-lie = λ v s z. rows-lie bytes cells K (ap (λ (x : Outcome). ran x cells′) (sym z) ∙ same);
+          };
+      whole =
+          parsing.into-run bs formula tokens words cells (passed bytes P formula cells) o
+          (ap (λ (x : Scanned). filled x tokens′ words′) (sym h) ∙ in-lexicon bytes P formula cells (rooms .enough) f)
+          (same ∙ parsing.parse-run bs formula cells (passed bytes P formula cells) (H .answered));
     }
 
-module _ {bs formula cells words′ cells′ : List ℕ} {q : Parsed} (p : Parses bs formula cells words′ cells′ q) where
+module _ {bs formula cells words′ cells′ : List ℕ} {q : Parsed} (p : ParsesTo bs formula cells words′ cells′ q) where
   -- A call whose parse refuses.
   pub call-refuses : (text : List ℕ) {r : Refusal} → q .outcome ≡ Halted r → expanded (Refusing r) cells′ text ≡ expand bs formula cells text
   call-refuses text e =

@@ -1,6 +1,6 @@
 -- An expansion is the parse of its formula and the last step.
 use Prim.Native.Nat.{ℕ}
-use mathlib.Core.Path.{_≡_, refl, sym, ap, _∙_}
+use mathlib.Core.Path.{_≡_, refl, sym, ap, ap₂, _∙_}
 use mathlib.Core.List.{List}
 use native.Mathlib.Omega.{arith}
 use Rattle.answers.specs.declared.Refusal.{Refusal}
@@ -10,13 +10,19 @@ use Rattle.grammar.specs.Table.{Table, lexiconOfTable}
 use Rattle.scanner.specs.declared.Scanned.{Scanned}
 use Rattle.scanner.specs.declared.Scanned.the-variants.{Tokens, Unscanned}
 use Rattle.scanner.specs.Scan.{Lexed, scan}
+use Rattle.scanner.specs.Rooms.{Filled, filled, scanInto}
 use Rattle.scanner.specs.Tokens.{spelled}
 use Rattle.checker.specs.Check.{passedTable, check}
 use Rattle.expansion.specs.declared.State.{State}
+use Rattle.expansion.specs.declared.Outcome.{Outcome}
+use Rattle.expansion.specs.declared.Outcome.the-variants.{Value, Halted}
 use Rattle.expansion.specs.Run.{Result, done, halt}
+use Rattle.expansion.specs.Outcomes.{ran}
 use Rattle.expansion.specs.Expansion.{run}
 use Rattle.vegzump.specs.Expand.{Expanded, refused, inputOf, finished, scanned, expandTable, checkedFirst, expand}
-use Rattle.vegzump.specs.Parse.{parseScanned, parseChecked, parse}
+use Rattle.vegzump.specs.declared.parse.Parsed.{Parsed}
+use Rattle.vegzump.specs.Parse.{parseScanned, parseChecked, parse, parsedInto, haltedParse, outcomeOf, cellsOf}
+use Rattle.vegzump.specs.Parse.{parseFilled, parseIntoChecked, parseInto}
 
 -- ------------------------------------------------------------------ what the parse gives
 
@@ -45,6 +51,52 @@ module _ (bs formula cells : List ℕ) where
     parse-run e =
         ap (λ (c : Checked Table). parseChecked c formula cells) passed
         ∙ ap (λ (s : Scanned). parseScanned t (scan (lexiconOfTable t) formula) s cells) e
+
+-- ------------------------------------------------------------------ with the rooms that are lent
+
+outcome-ran : (o : Outcome) (cells : List ℕ) → outcomeOf (ran o cells) ≡ o
+outcome-ran (Value v s) cells = refl
+outcome-ran (Halted r) cells = refl
+
+cells-ran : (o : Outcome) (cells : List ℕ) → cellsOf (ran o cells) ≡ cells
+cells-ran (Value v s) cells = refl
+cells-ran (Halted r) cells = refl
+
+module _ (bs formula tokens words cells : List ℕ) where
+  -- A table that the check refuses leaves all rooms as they were.
+  pub into-refused : {r : Refusal} {q : Parsed} → check bs ≡ Refused r → q ≡ haltedParse r
+      → parsedInto q tokens words cells ≡ parseInto bs formula tokens words cells
+  unfolding check parseInto
+  into-refused {r} {q} e eq = ap (λ (p : Parsed). parsedInto p tokens words cells) eq ∙ go (passedTable bs) e
+    where
+      go : (c : Checked Table) → verdict c ≡ Refused r → parsedInto (haltedParse r) tokens words cells ≡ parseIntoChecked c formula tokens words cells
+      go (bad x) h = let z : x ≡ r = cc in rw z refl
+      go (ok t) h = let z : _≡_ {A = ℕ} 0 1 = cc in absurd (omega arith)
+
+  module _ {t : Table} (passed : passedTable bs ≡ ok t) where
+    into-filled : {f : Filled} → f ≡ scanInto (lexiconOfTable t) formula tokens words
+        → parseInto bs formula tokens words cells ≡ parseFilled t (scan (lexiconOfTable t) formula) f cells
+    unfolding parseInto
+    into-filled e =
+        ap (λ (c : Checked Table). parseIntoChecked c formula tokens words cells) passed
+        ∙ ap (λ (g : Filled). parseFilled t (scan (lexiconOfTable t) formula) g cells) (sym e)
+
+    -- A formula that the scan refuses.
+    pub into-unscanned : {tokens′ words′ : List ℕ} {r : Refusal} {q : Parsed}
+        → filled (Unscanned r) tokens′ words′ ≡ scanInto (lexiconOfTable t) formula tokens words
+        → q ≡ haltedParse r → parsedInto q tokens′ words′ cells ≡ parseInto bs formula tokens words cells
+    into-unscanned {tokens′} {words′} e eq = ap (λ (p : Parsed). parsedInto p tokens′ words′ cells) eq ∙ sym (into-filled e)
+
+    -- A formula whose tokens are run.
+    pub into-run : {tokens′ words′ : List ℕ} {n m : ℕ} (o : Outcome) {cells′ : List ℕ}
+        → filled (Tokens n m) tokens′ words′ ≡ scanInto (lexiconOfTable t) formula tokens words
+        → ran o cells′ ≡ run (inputOf t (scan (lexiconOfTable t) formula .tokens) cells) (t .root) cells
+        → parsedInto (record { outcome = o; words = m }) tokens′ words′ cells′ ≡ parseInto bs formula tokens words cells
+    into-run {tokens′} {words′} {m = m} o {cells′} e er =
+        ap₂ (λ (x : Outcome) (c : List ℕ). parsedInto (record { outcome = x; words = m }) tokens′ words′ c) (sym (outcome-ran o cells′))
+        (sym (cells-ran o cells′))
+        ∙ ap (λ (x : Result ℕ). parsedInto (record { outcome = outcomeOf x; words = m }) tokens′ words′ (cellsOf x)) er
+        ∙ sym (into-filled e)
 
 -- ------------------------------------------------------------------ what the expansion makes of it
 

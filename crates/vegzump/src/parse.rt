@@ -11,7 +11,7 @@ ghost use Rattle.expansion.specs.Outcomes.{ran};
 ghost use Rattle.expansion.specs.Expansion.{run};
 ghost use Rattle.expander.specs.Lent.{lentInput};
 ghost use Rattle.templates.specs.Built.{rowsIn};
-ghost use Rattle.vegzump.specs.Parse.{Runnable, TokenRoom, Parseable, Parses};
+ghost use Rattle.vegzump.specs.Parse.{Runnable, Rooms, WordRoom, Parseable, Parses, ParsesTo, parsedInto, parseInto};
 
 // The outcome of a parse, and how many words the formula has that are neither keywords nor outside names.
 pub struct Parsed {
@@ -60,32 +60,21 @@ fn run_tokens(
     run(table, room, root, tokens, n, cells, &mut stack)
 }
 
-fn length_of(numbers: &[u32]) -> usize
-    ensures { λ r. ⌜ r ≡ length (now (numbers .entry)) ⌝ }
-{
-    numbers.len()
-}
-
-// The room of the words is as long as its type says: looking at it makes that known.
-fn known_words(words: &[u32; 8192]) -> usize
-    ensures { λ _. ⌜ length (now (words .entry)) ≡ 8192 ⌝ }
-{
-    length_of(words)
-}
-
 // The scan of a formula under a table that passes, and the run of its tokens.
 fn parse_checked(
     table: &[u8],
     room: &[u64; 641],
     formula: &[u8],
     tokens: &mut [u32],
-    words: &mut [u32; 8192],
+    words: &mut [u32],
     cells: &mut [u32],
 ) -> Parsed
-    requires { ⌜ Parseable (now table) (now room) (now formula) (now tokens) ⌝ }
-    ensures { λ r. ⌜ Parses (now (table .entry)) (now (formula .entry)) (now (cells .entry)) (now (words .exit)) (now (cells .exit)) r ⌝ }
+    requires { ⌜ Parseable (now table) (now room) (now formula) (now tokens) (now words) ⌝ }
+    ensures { λ r. ⌜
+        Parses (now (table .entry)) (now (formula .entry)) (now (tokens .entry)) (now (words .entry)) (now (cells .entry))
+        (now (tokens .exit)) (now (words .exit)) (now (cells .exit)) r
+        ⌝ }
 {
-    known_words(words);
     let scanned = scanner::scan(table, formula, tokens, words);
     match scanned {
         Scanned::Unscanned(r) => halted(r),
@@ -99,16 +88,19 @@ fn parse_checked(
     }
 }
 
-// Checks a table, scans a formula and runs its tokens, with a room that takes all tokens of the formula.
-pub fn parse_in(
+// Checks a table, scans a formula and runs its tokens, with rooms that take all tokens and all words of the formula.
+fn parse_in(
     table: &[u8],
     formula: &[u8],
     tokens: &mut [u32],
-    words: &mut [u32; 8192],
+    words: &mut [u32],
     cells: &mut [u32],
 ) -> Parsed
-    requires { ⌜ TokenRoom (now formula) (now tokens) ⌝ }
-    ensures { λ r. ⌜ Parses (now (table .entry)) (now (formula .entry)) (now (cells .entry)) (now (words .exit)) (now (cells .exit)) r ⌝ }
+    requires { ⌜ Rooms (now formula) (now tokens) (now words) ⌝ }
+    ensures { λ r. ⌜
+        Parses (now (table .entry)) (now (formula .entry)) (now (tokens .entry)) (now (words .entry)) (now (cells .entry))
+        (now (tokens .exit)) (now (words .exit)) (now (cells .exit)) r
+        ⌝ }
 {
     let mut room = [0u64; 641];
     let verdict = checker::check_into(table, &mut room);
@@ -116,4 +108,53 @@ pub fn parse_in(
         Verdict::Refused(r) => halted(r),
         Verdict::Passed => parse_checked(table, &room, formula, tokens, words, cells),
     }
+}
+
+fn length_of(numbers: &[u32]) -> usize
+    ensures { λ r. ⌜ r ≡ length (now (numbers .entry)) ⌝ }
+{
+    numbers.len()
+}
+
+// Full rooms are as long as their types say: looking at them makes that known.
+fn known_rooms(tokens: &[u32; 16384], words: &[u32; 8192]) -> usize
+    ensures { λ _. ⌜ (length (now (tokens .entry)) ≡ 16384) × (length (now (words .entry)) ≡ 8192) ⌝ }
+{
+    length_of(tokens);
+    length_of(words)
+}
+
+// Check, scan and run in one, with rooms for all tokens and words that a formula may have. The promise fixes the answer and every lent
+// room. It rules out, among others, a parse that scans under a table that the check refuses, and so changes the rooms, and one that leaves
+// the cells of a run that halts as they were.
+pub fn parse(
+    table: &[u8],
+    formula: &[u8],
+    tokens: &mut [u32; 16384],
+    words: &mut [u32; 8192],
+    cells: &mut [u32],
+) -> Parsed
+    ensures { λ r. ⌜ parsedInto r (now (tokens .exit)) (now (words .exit)) (now (cells .exit)) ≡ parseInto (now (table .entry))
+        (now (formula .entry)) (now (tokens .entry)) (now (words .entry)) (now (cells .entry)) ⌝ }
+{
+    known_rooms(tokens, words);
+    parse_in(table, formula, tokens, words, cells)
+}
+
+// The same with a room of the size that a formula's tokens need at most.
+pub(crate) fn parse_by_size(
+    table: &[u8],
+    formula: &[u8],
+    words: &mut [u32],
+    cells: &mut [u32],
+) -> Parsed
+    requires { ⌜ WordRoom (now formula) (now words) ⌝ }
+    ensures { λ r. ⌜ ParsesTo (now (table .entry)) (now (formula .entry)) (now (cells .entry)) (now (words .exit)) (now (cells .exit)) r ⌝ }
+{
+    if formula.len() <= 128 {
+        let mut tokens = [0u32; 512];
+        return parse_in(table, formula, &mut tokens, words, cells);
+    }
+    let mut tokens = [0u32; 16384];
+    parse_in(table, formula, &mut tokens, words, cells)
 }

@@ -55,7 +55,8 @@ pub record NameFits (pool : List ℕ) (x shown at : ℕ) : Type 0 where
 
 pub record OpeningFits (pool cells numbers : List ℕ) (k row at place : ℕ) : Type 0 where
   pub room : at + length (termOpening pool cells numbers k row place) < 2 ^ 62
-  pub inside : place < 16384
+  pub inside : place < length numbers
+  pub few : length numbers ≤ 16384
 
 pub record FieldsOpeningFits (pool cells : List ℕ) (k row at : ℕ) : Type 0 where
   pub room : at + length (fieldsOpening pool cells k row) < 2 ^ 62

@@ -41,3 +41,12 @@ filledTo outsides formula room i m =
 -- the spelling of a spelling number, by a table, a formula and the places of its words
 abbrev pub spelledBy : List ℕ → List ℕ → List ℕ → ℕ → ℕ → List ℕ
 spelledBy table formula words count = filledTo (lexiconOf table .outsides) formula words count
+
+-- what filling a room asks: room for all spellings, none in it, each shorter than 32 bytes, and the words' places
+pub record Fillable (table formula words : List ℕ) (count : ℕ) (pool : List ℕ) : Type 0 where
+  pub room : 2048 + count * 32 ≤ length pool
+  pub few : count ≤ 4096
+  pub lie : count * 2 ≤ length words
+  pub none : Pooled pool noneOf
+  pub outsidesFit : (m : ℕ) → length (oneOf (lexiconOf table .outsides) m) < 32
+  pub wordsFit : (j : ℕ) → j < count → length (spanned formula words j) < 32

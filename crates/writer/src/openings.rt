@@ -4,7 +4,7 @@ use crate::writing::byte_at;
 use crate::writing::copy_at;
 use crate::writing::decimal_at;
 use rows::column;
-ghost use Prim.Native.Nat.{_+_, _^_, _<_};
+ghost use Prim.Native.Nat.{_+_, _^_, _<_, _≤_};
 ghost use mathlib.Core.Path.{_≡_};
 ghost use lib.ListN.{length, getD};
 ghost use Rattle.terms.specs.Rows.{nameOf};
@@ -33,8 +33,8 @@ fn name_at(out: &mut [u8], at: usize, pool: &&[u8], x: u32, shown: u16) -> usize
     copy_at(out, at, spelling(*pool, x % 16777216))
 }
 
-fn shown_at(shown: &[u16; 16384], place: usize) -> u16
-    requires { ⌜ place < 16384 ⌝ }
+fn shown_at(shown: &[u16], place: usize) -> u16
+    requires { ⌜ (place < length (now shown)) × (length (now shown) ≤ 16384) ⌝ }
     ensures { λ r. ⌜ r ≡ getD (now (shown .entry)) place 0 ⌝ }
 {
     shown[place]
@@ -63,7 +63,7 @@ pub fn open_term(
     at: usize,
     pool: &&[u8],
     cells: &&[u32],
-    shown: &[u16; 16384],
+    shown: &[u16],
     bound: usize,
     row: u32,
     place: usize,

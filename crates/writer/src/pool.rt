@@ -3,14 +3,14 @@ use crate::writing::byte_at;
 use crate::writing::copy_at;
 use grammar::reader::byte;
 use grammar::reader::part;
-ghost use Prim.Native.Nat.{ℕ, _+_, _*_, _≤_, _<_};
+ghost use Prim.Native.Nat.{ℕ, _*_, _+_, _≤_, _<_};
 ghost use mathlib.Core.Path.{_≡_};
 ghost use mathlib.Core.List.{_∷_};
 ghost use lib.ListN.{length};
 ghost use lib.Seq.{sets};
 ghost use Rattle.grammar.specs.Lookup.{lexiconOf};
 ghost use Rattle.writer.specs.Openings.{spellIn};
-ghost use Rattle.writer.specs.Pool.{Pooled, noneOf, oneOf, spanned, filledTo};
+ghost use Rattle.writer.specs.Pool.{Pooled, noneOf, oneOf, filledTo, Fillable};
 
 fn wide(x: u8) -> usize
     ensures { λ r. ⌜ r ≡ x ⌝ }
@@ -83,11 +83,8 @@ fn offset(x: u32) -> usize
 }
 
 // The table's outside names, and the formula's words, whose offsets and lengths stand in `words`.
-pub fn fill(table: &[u8], formula: &[u8], words: &[u32; 8192], count: usize, pool: &mut [u8])
-    requires { ⌜ (2048 + count * 32 ≤ length (now pool)) × (count ≤ 4096) ⌝ }
-    requires { ⌜ Pooled (now pool) noneOf ⌝ }
-    requires { ⌜ ((m : ℕ) → length (oneOf (lexiconOf (now table) .outsides) m) < 32) ⌝ }
-    requires { ⌜ ((j : ℕ) → j < count → length (spanned (now formula) (now words) j) < 32) ⌝ }
+pub fn fill(table: &[u8], formula: &[u8], words: &[u32], count: usize, pool: &mut [u8])
+    requires { ⌜ Fillable (now table) (now formula) (now words) count (now pool) ⌝ }
     ensures { λ _. ⌜
         Pooled (now (pool .exit))
         (filledTo (lexiconOf (now (table .entry)) .outsides) (now (formula .entry)) (now (words .entry)) count)

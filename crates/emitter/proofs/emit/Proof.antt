@@ -1,77 +1,86 @@
--- `emit`: size, names, text.
+-- `emit`: the size, then a room for as many marks.
+use Prim.Native.Nat.{ℕ}
+use mathlib.Core.Path.{sym}
 use native.Mathlib.Omega.{arith}
-use borrow.Author.Needs.{needs}
+use lib.ListN.{replicate, length-replicate}
+use lib.Seq.{length-take-le}
 use Rattle.emitter.proofs.EmitterLaws as laws
+use borrow.Author.Needs.{needs}
 use Rattle.emitter.proofs.emit.Statement.{statement}
 use Rattle.emitter.proofs.emit.Tie as tie
+use Rattle.emitter.proofs.emit.Reads as reads
+use Rattle.emitter.proofs.emit.Lts as lts
+use Rattle.emitter.proofs.emit_in.Reads as emit-in-reads
+use Rattle.emitter.proofs.refusing.Reads as refusing-reads
+use Rattle.rows.proofs.sizes.size_term.Reads as size-term-reads
 
+-- src/lib.rt:91:9
 size-term-requires : tie.Need-size-term-requires
 size-term-requires c κs = search needs
 
+-- src/lib.rt:93:9
 refusing-requires : tie.Need-refusing-requires
 refusing-requires c κs = search needs
 
+-- src/lib.rt:93:9
 returns : tie.Need-returns
 returns c = laws.emit-large _ _ _ _ _ (omega (arith, c .before .before .size-term .ensures, c .before .if1 .taken)) (c .refusing .ensures)
 
+-- src/lib.rt:95:16
 sub-size : tie.Need-sub-size
 sub-size c = omega (arith, c .before .size-term .ensures)
 
-resolve-requires : tie.Need-resolve-requires
-resolve-requires c κs =
-    let back = c .before .before .before .before .before .before in
-    let entry = back .before in
-    let counted = c .before .before .size-term .ensures in
-    let some = c .before .if1 .left in
-    record { whole = entry .pre .whole; counted = omega arith; few = omega arith }
+-- src/lib.rt:106:13
+array-borrow-prefix-marks : tie.Need-array-borrow-prefix-marks
+array-borrow-prefix-marks c = search needs
 
-enum-known-resolution : tie.Need-enum-known-resolution
-enum-known-resolution c = search needs
+-- src/lib.rt:106:13
+slice-aggregate-emit-in : tie.Need-slice-aggregate-emit-in
+slice-aggregate-emit-in c =
+    let counted = c .before .before .before .size-term .ensures in
+    sym (length-take-le _ _ (omega (arith, length-replicate {A = ℕ} 256 0, counted, c .before .if2 .taken, c .before .before .if1 .left)))
 
-refusing-requires-2 : tie.Need-refusing-requires-2
-refusing-requires-2 c κs = search needs
+-- src/lib.rt:98:9
+emit-in-requires : tie.Need-emit-in-requires
+emit-in-requires c κs =
+    let sized = c .before .before .before .before in
+    let entry = sized .before .before .before .before .before .before in
+    laws.markable (replicate 256 0) (entry .pre) (sized .size-term .ensures) (c .before .before .before .if1 .left)
+    (omega (arith, length-replicate {A = ℕ} 256 0, sized .size-term .ensures, c .before .before .if2 .taken, c .before .before .before .if1 .left))
 
-enum-told : tie.Need-enum-told
-enum-told c = search needs
-
-print-text-requires : tie.Need-print-text-requires
-print-text-requires c κs =
-    let back = c .before .before .before .before .before .before in
-    let at-size-term = back .before in
-    let entry = at-size-term .before .before .before .before .before in
-    let pre = entry .pre in
-    let counted = at-size-term .size-term .ensures in
-    let some = c .before .before .before .before .before .before .if1 .left in
-    record { few = pre .few; outsidesFit = pre .outsidesFit; wordsFit = pre .wordsFit; small = omega arith }
-
-answered-requires : tie.Need-answered-requires
-answered-requires c κs = search needs
-
-returns-2 : tie.Need-returns-2
-returns-2 c =
-    let back = c .before .before .before .before .before .before in
-    let at-size-term = back .before in
-    let entry = at-size-term .before .before .before .before .before in
-    let counted = at-size-term .size-term .ensures in
-    let some = c .before .before .before .before .before .before .if1 .left in
-    laws.emit-loose _ _ _ _ _ (omega arith) (c .before .before .before .before .resolve .ensures _ (entry .pre .distinct) (entry .pre .wellNamed))
-    (c .before .before .resolution .given .1) (c .refusing2 .ensures)
-
+-- src/lib.rt:98:9
 same-length : tie.Need-same-length
 same-length c = search needs
 
+-- src/lib.rt:98:9
+returns-2 : tie.Need-returns-2
+returns-2 c = search needs
+
+-- src/lib.rt:119:9
+array-borrow-prefix-marks-2 : tie.Need-array-borrow-prefix-marks-2
+array-borrow-prefix-marks-2 c = search needs
+
+-- src/lib.rt:119:9
+slice-aggregate-emit-in-2 : tie.Need-slice-aggregate-emit-in-2
+slice-aggregate-emit-in-2 c =
+    let counted = c .before .before .before .size-term .ensures in
+    sym (length-take-le _ _ (omega (arith, length-replicate {A = ℕ} 16384 0, counted, c .before .if2 .left, c .before .before .if1 .left)))
+
+-- src/lib.rt:111:5
+emit-in-requires-2 : tie.Need-emit-in-requires-2
+emit-in-requires-2 c κs =
+    let sized = c .before .before .before .before in
+    let entry = sized .before .before .before .before .before .before in
+    laws.markable (replicate 16384 0) (entry .pre) (sized .size-term .ensures) (c .before .before .before .if1 .left)
+    (omega (arith, length-replicate {A = ℕ} 16384 0, sized .size-term .ensures, c .before .before .if2 .left, c .before .before .before .if1 .left))
+
+-- src/lib.rt:74:1
+same-length-2 : tie.Need-same-length-2
+same-length-2 c = search needs
+
+-- src/lib.rt:74:1
 returns-3 : tie.Need-returns-3
-returns-3 c =
-    let back = c .before .before .before .before .before .before in
-    let at-resolve = back .before .before in
-    let at-if1 = at-resolve .before .before in
-    let at-size-term = at-if1 .before in
-    let entry = at-size-term .before .before .before .before .before in
-    let counted = at-size-term .size-term .ensures in
-    let some = at-if1 .if1 .left in
-    laws.emit-text _ _ _ _ _ (omega arith) (at-resolve .resolve .ensures _ (entry .pre .distinct) (entry .pre .wellNamed))
-    (c .before .before .before .before .before .before .enum-told .given .1) (omega arith)
-    (c .before .before .before .print-text .ensures) (c .answered .ensures)
+returns-3 c = search needs
 
 pub emit-spec : {M : Type 1} → statement M
 emit-spec =
@@ -81,12 +90,13 @@ emit-spec =
     refusing-requires
     returns
     sub-size
-    resolve-requires
-    enum-known-resolution
-    refusing-requires-2
-    enum-told
-    print-text-requires
-    answered-requires
-    returns-2
+    array-borrow-prefix-marks
+    slice-aggregate-emit-in
+    emit-in-requires
     same-length
+    returns-2
+    array-borrow-prefix-marks-2
+    slice-aggregate-emit-in-2
+    emit-in-requires-2
+    same-length-2
     returns-3)

@@ -19,31 +19,32 @@ slice-aggregate-print-term c = search needs
 
 print-term-requires : tie.Need-print-term-requires
 print-term-requires c κs =
-    let at-narrow-numbers = c .before .before .before .before in
-    let at-wide-numbers = at-narrow-numbers .before .before in
-    let entry = at-wide-numbers .before .before .before .before in
-    text-fits (entry .pre .0) (entry .pre .1) (at-wide-numbers .wide-numbers .ensures) (at-narrow-numbers .narrow-numbers .ensures)
+    let at-narrow-numbers = c .before .before .before .before .before in
+    let at-wide-numbers = at-narrow-numbers .before in
+    let entry = at-wide-numbers .before .before .before .before .before in
+    text-fits (entry .pre) (at-wide-numbers .wide-numbers .ensures) (at-narrow-numbers .narrow-numbers .ensures)
 
 returns : tie.Need-returns
 returns c = laws.prints-none _ _ (c .before .before .print-term .ensures .wrote .end) (c .if1 .taken)
 
 print-term-requires-2 : tie.Need-print-term-requires-2
 print-term-requires-2 c κs =
-    let back = c .before .before .before .before .before .before in
-    let at-narrow-numbers = back .before .before .before .before .before in
-    let at-wide-numbers = at-narrow-numbers .before .before in
-    let entry = at-wide-numbers .before .before .before .before in
-    text-fits (entry .pre .0) (entry .pre .1) (at-wide-numbers .wide-numbers .ensures) (at-narrow-numbers .narrow-numbers .ensures)
+    let at-if1 = c .before .before .before .before .before in
+    let back = at-if1 .before .before .before .before .before .before in
+    let at-narrow-numbers = back .before .before in
+    let at-wide-numbers = at-narrow-numbers .before in
+    let entry = at-wide-numbers .before .before .before .before .before in
+    text-fits (entry .pre) (at-wide-numbers .wide-numbers .ensures) (at-narrow-numbers .narrow-numbers .ensures)
 
 same-length : tie.Need-same-length
 same-length c = search needs
 
 returns-2 : tie.Need-returns-2
 returns-2 c =
-    let back = c .before .before .before .before .before .before in
-    let at-if1 = back .before in
-    let at-print-term = at-if1 .before .before in
-    laws.prints-whole (at-print-term .print-term .ensures .wrote .end) (at-if1 .if1 .left) (c .before .before .print-term2 .ensures .wrote)
+    let second = c .before .before in
+    let at-if1 = second .before .before .before .before .before .before in
+    let first = at-if1 .before .before in
+    laws.prints-whole (first .print-term .ensures .wrote .end) (at-if1 .if1 .left) (second .print-term2 .ensures .wrote)
 
 pub print-into-spec : {M : Type 1} → statement M
 print-into-spec =

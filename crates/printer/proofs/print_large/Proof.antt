@@ -13,8 +13,16 @@ slice-aggregate-fill c = search needs
 
 fill-requires : tie.Need-fill-requires
 fill-requires c κs =
-    let pre = c .before .before .before .before .before .pre in
-    ((omega (arith, length-replicate {A = ℕ} 133120 0, pre .few), pre .few), (pooled-none 133120, (pre .outsidesFit, pre .wordsFit)))
+    let back = c .before .before .before .before .before .before in
+    let pre = back .before .pre in
+    record {
+      room = omega (arith, length-replicate {A = ℕ} 133120 0, pre .few);
+      few = pre .few;
+      lie = pre .lie;
+      none = pooled-none 133120;
+      outsidesFit = pre .outsidesFit;
+      wordsFit = pre .wordsFit;
+    }
 
 slice-aggregate-print-into : tie.Need-slice-aggregate-print-into
 slice-aggregate-print-into c = search needs
@@ -22,8 +30,8 @@ slice-aggregate-print-into c = search needs
 print-into-requires : tie.Need-print-into-requires
 print-into-requires c κs =
     let back = c .before .before .before .before .before .before in
-    let entry = back .before .before .before in
-    (c .before .before .before .fill .ensures .small, entry .pre .small)
+    let entry = back .before .before .before .before .before in
+    record { short = c .before .before .before .fill .ensures .small; marked = entry .pre .marked; small = entry .pre .small }
 
 same-length : tie.Need-same-length
 same-length c = search needs

@@ -13,9 +13,17 @@ slice-aggregate-fill c = search needs
 
 fill-requires : tie.Need-fill-requires
 fill-requires c κs =
-    let entry = c .before .before .before .before .before in
+    let back = c .before .before .before .before .before .before in
+    let entry = back .before in
     let pre = entry .pre .0 in
-    ((omega (arith, length-replicate {A = ℕ} 10240 0, entry .pre .1), pre .few), (pooled-none 10240, (pre .outsidesFit, pre .wordsFit)))
+    record {
+      room = omega (arith, length-replicate {A = ℕ} 4096 0, entry .pre .1);
+      few = pre .few;
+      lie = pre .lie;
+      none = pooled-none 4096;
+      outsidesFit = pre .outsidesFit;
+      wordsFit = pre .wordsFit;
+    }
 
 slice-aggregate-print-into : tie.Need-slice-aggregate-print-into
 slice-aggregate-print-into c = search needs
@@ -23,8 +31,8 @@ slice-aggregate-print-into c = search needs
 print-into-requires : tie.Need-print-into-requires
 print-into-requires c κs =
     let back = c .before .before .before .before .before .before in
-    let entry = back .before .before .before in
-    (c .before .before .before .fill .ensures .small, entry .pre .0 .small)
+    let entry = back .before .before .before .before .before in
+    record { short = c .before .before .before .fill .ensures .small; marked = entry .pre .0 .marked; small = entry .pre .0 .small }
 
 same-length : tie.Need-same-length
 same-length c = search needs

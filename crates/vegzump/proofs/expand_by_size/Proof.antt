@@ -1,4 +1,4 @@
--- `expand_by_size`: a formula has no more tokens than bytes.
+-- `expand_by_size`: a formula has no more words than bytes.
 use native.Mathlib.Omega.{arith}
 use borrow.Author.Needs.{needs}
 use Rattle.vegzump.proofs.expand_by_size.Statement.{statement}
@@ -8,7 +8,9 @@ slice-aggregate-expand-in : tie.Need-slice-aggregate-expand-in
 slice-aggregate-expand-in c = search needs
 
 expand-in-requires : tie.Need-expand-in-requires
-expand-in-requires c κs = record { for-tokens = λ n a b. omega arith }
+expand-in-requires c κs =
+    let short = c .before .before .before .if1 .taken in
+    record { few = omega arith; all = λ h. omega (arith, short) }
 
 same-length : tie.Need-same-length
 same-length c = search needs
@@ -23,7 +25,7 @@ slice-aggregate-expand-in-2 : tie.Need-slice-aggregate-expand-in-2
 slice-aggregate-expand-in-2 c = search needs
 
 expand-in-requires-2 : tie.Need-expand-in-requires-2
-expand-in-requires-2 c κs = record { for-tokens = λ n a b. omega arith }
+expand-in-requires-2 c κs = record { few = omega arith; all = λ h. omega arith }
 
 same-length-3 : tie.Need-same-length-3
 same-length-3 c = search needs

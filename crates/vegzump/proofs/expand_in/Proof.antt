@@ -10,21 +10,24 @@ use Rattle.vegzump.proofs.expand_in.Tie as tie
 use Rattle.vegzump.proofs.expand_in.Reads as reads
 use Rattle.vegzump.proofs.expand_in.Lts as lts
 use Rattle.emitter.proofs.emit.Reads as emit-reads
-use Rattle.vegzump.proofs.parse.parse_in.Reads as parse-in-reads
+use Rattle.vegzump.proofs.parse.parse_by_size.Reads as parse-by-size-reads
 
 abbrev claims : lts.Claims
-claims = (parse-in-reads.Asked, parse-in-reads.Learnt, emit-reads.Asked, emit-reads.Learnt)
+claims = (parse-by-size-reads.Asked, parse-by-size-reads.Learnt, emit-reads.Asked, emit-reads.Learnt)
 
 -- the formula has been parsed
-module _ (p : lts.After-parse-in claims reads.Pre reads.Post) where
+module _ (p : lts.After-parse-by-size claims reads.Pre reads.Post) where
+  abbrev arguments : lts.After-parse-by-size-arg claims reads.Pre reads.Post
+  arguments = p .before .before
+
   abbrev known : lts.After-shared-slice-known claims reads.Pre reads.Post
-  known = p .before .before .before .before .before .before .before .before
+  known = arguments .before .before .before .before .before
 
   bytes : Bytes (known .before .args .table .now)
   bytes i = omega (arith, known .shared-slice-known .given i)
 
-parse-in-requires : tie.Need-parse-in-requires
-parse-in-requires c κs = search needs
+parse-by-size-requires : tie.Need-parse-by-size-requires
+parse-by-size-requires c κs = search needs
 
 enum-known-outcome : tie.Need-enum-known-outcome
 enum-known-outcome c = search needs
@@ -36,25 +39,25 @@ mul-end : tie.Need-mul-end
 mul-end c =
     let told = c .before in
     let p = told .before .before .before .before .before .before in
-    omega (arith, p .parse-in .ensures .rows-lie _ _ (told .outcome2 .given .1) .few)
+    omega (arith, p .parse-by-size .ensures .rows-lie _ _ (told .outcome2 .given .1) .few)
 
 slice-reshare-prefix-emit : tie.Need-slice-reshare-prefix-emit
 slice-reshare-prefix-emit c =
     let told = c .before .before in
     let p = told .before .before .before .before .before .before in
-    p .parse-in .ensures .rows-lie _ _ (told .outcome2 .given .1) .inside
+    p .parse-by-size .ensures .rows-lie _ _ (told .outcome2 .given .1) .inside
 
 slice-aggregate-emit : tie.Need-slice-aggregate-emit
 slice-aggregate-emit c =
     let told = c .before .before .before in
     let p = told .before .before .before .before .before .before in
-    sym (length-take-le _ _ (p .parse-in .ensures .rows-lie _ _ (told .outcome2 .given .1) .inside))
+    sym (length-take-le _ _ (p .parse-by-size .ensures .rows-lie _ _ (told .outcome2 .given .1) .inside))
 
 emit-requires : tie.Need-emit-requires
 emit-requires c κs =
     let told = c .before .before .before .before in
     let p = told .before .before .before .before .before .before in
-    let q = p .parse-in .ensures in
+    let q = p .parse-by-size .ensures in
     let e = told .outcome2 .given .1 in
     joining.emittable (bytes p) _ (q .words-known _ _ e) (joining.value-reached q e)
 
@@ -62,14 +65,14 @@ returns : tie.Need-returns
 returns c =
     let told = c .before in
     let p = told .before .before .before .before .before .before in
-    joining.call-refuses (p .parse-in .ensures) _ (told .outcome .given .1)
+    joining.call-refuses (p .parse-by-size .ensures) _ (told .outcome .given .1)
 
 returns-2 : tie.Need-returns-2
 returns-2 c =
     let emitted = c .before .before in
     let told = emitted .before .before .before .before .before in
     let p = told .before .before .before .before .before .before in
-    let q = p .parse-in .ensures in
+    let q = p .parse-by-size .ensures in
     let v = told .outcome2 .given .1 in
     joining.emits (bytes p) _ (q .words-known _ _ v) (joining.value-reached q v) _ (emitted .emit .ensures)
 
@@ -92,7 +95,7 @@ pub expand-in-spec : {M : Type 1} → statement M
 expand-in-spec =
     tie.close
     (tie.spec
-    parse-in-requires
+    parse-by-size-requires
     enum-known-outcome
     enum-known-outcome-2
     mul-end

@@ -25,31 +25,31 @@ use Rattle.printer.proofs.printing.+print_fields+print_term.Tie.{close}
 
 -- constructor to its parts.
 
-abbrev μ-print-fields : Measures 7 print-fields-kinds.ps ℕ
+abbrev μ-print-fields : Measures 8 print-fields-kinds.ps ℕ
 μ-print-fields κs a = a .1 .1 .1 .1 .1 .0
 
-abbrev μ-print-term : Measures 7 print-term-kinds.ps ℕ
+abbrev μ-print-term : Measures 8 print-term-kinds.ps ℕ
 μ-print-term κs a = a .1 .1 .1 .1 .1 .0
 
-abbrev print-fields-at : ℕ → In 7 print-fields-kinds.ps
+abbrev print-fields-at : ℕ → In 8 print-fields-kinds.ps
 print-fields-at t =
-    and 7 print-fields-kinds.ps (is 7 print-fields-kinds.ps μ-print-fields t) print-fields.Pre
+    and 8 print-fields-kinds.ps (is 8 print-fields-kinds.ps μ-print-fields t) print-fields.Pre
 
-abbrev print-fields-below : ℕ → In 7 print-fields-kinds.ps
+abbrev print-fields-below : ℕ → In 8 print-fields-kinds.ps
 print-fields-below t =
     and
-    7
+    8
     print-fields-kinds.ps
-    (falls 7 print-fields-kinds.ps _<_ μ-print-fields t)
+    (falls 8 print-fields-kinds.ps _<_ μ-print-fields t)
     print-fields.Pre
 
-abbrev print-term-at : ℕ → In 7 print-term-kinds.ps
+abbrev print-term-at : ℕ → In 8 print-term-kinds.ps
 print-term-at t =
-    and 7 print-term-kinds.ps (is 7 print-term-kinds.ps μ-print-term t) print-term.Pre
+    and 8 print-term-kinds.ps (is 8 print-term-kinds.ps μ-print-term t) print-term.Pre
 
-abbrev print-term-below : ℕ → In 7 print-term-kinds.ps
+abbrev print-term-below : ℕ → In 8 print-term-kinds.ps
 print-term-below t =
-    and 7 print-term-kinds.ps (falls 7 print-term-kinds.ps _<_ μ-print-term t) print-term.Pre
+    and 8 print-term-kinds.ps (falls 8 print-term-kinds.ps _<_ μ-print-term t) print-term.Pre
 
 abbrev print-fields-claims : ℕ → print-fields-lts.Claims
 print-fields-claims t = (
@@ -257,17 +257,18 @@ print-term-claims t = (
 )
 
 print-term-open-term-requires : (t : ℕ) → print-term-lts.Need-open-term-requires (print-term-claims t) (print-term-at t) print-term.Post
-print-term-open-term-requires t c κs = laws.opening-fits (c .before .before .before .pre .1)
+print-term-open-term-requires t c κs = laws.opening-fits (c .before .before .before .before .pre .1)
 
 print-term-add-place : (t : ℕ) → print-term-lts.Need-add-place (print-term-claims t) (print-term-at t) print-term.Post
 print-term-add-place t c =
-    let entry = c .before .before .before .before .before .before in
-    omega (arith, laws.opening-fits (entry .pre .1) .inside)
+    let at-open-term = c .before .before in
+    let entry = at-open-term .before .before .before .before .before in
+    omega (arith, laws.opening-fits (entry .pre .1) .inside, entry .pre .1 .few)
 
 print-term-byte-at-requires : (t : ℕ) → print-term-lts.Need-byte-at-requires (print-term-claims t) (print-term-at t) print-term.Post
 print-term-byte-at-requires t c κs =
     let at-open-term = c .before .before .before .before in
-    let entry = at-open-term .before .before .before .before in
+    let entry = at-open-term .before .before .before .before .before in
     laws.next-room
     (laws.opened-shallow (at-open-term .open-term .ensures) (c .before .if1 .taken))
     (entry .pre .1)
@@ -302,7 +303,7 @@ print-term-print-term-requires t c κs =
     let at-column = at-match .before in
     let at-if1 = at-column .before .before in
     let at-open-term = at-if1 .before .before .before in
-    let entry = at-open-term .before .before .before .before in (
+    let entry = at-open-term .before .before .before .before .before in (
       omega (arith, entry .pre .0),
       laws.next-fits
           (laws.opened-fun (at-open-term .open-term .ensures) (at-if1 .if1 .left) (at-column .column .ensures) (at-match .match .keys1)
@@ -317,7 +318,7 @@ print-term-byte-at-requires-2 t c κs =
     let at-column = at-match .before in
     let at-if1 = at-column .before .before in
     let at-open-term = at-if1 .before .before .before in
-    let entry = at-open-term .before .before .before .before in
+    let entry = at-open-term .before .before .before .before .before in
     laws.next-room
     (laws.next-part
     (laws.opened-fun (at-open-term .open-term .ensures) (at-if1 .if1 .left) (at-column .column .ensures) (at-match .match .keys1)
@@ -334,7 +335,7 @@ print-term-print-term-requires-2 t c κs =
     let at-column = at-match .before in
     let at-if1 = at-column .before .before in
     let at-open-term = at-if1 .before .before .before in
-    let entry = at-open-term .before .before .before .before in (
+    let entry = at-open-term .before .before .before .before .before in (
       omega (arith, entry .pre .0),
       laws.next-fits
           (laws.opened-app (at-open-term .open-term .ensures) (at-if1 .if1 .left) (at-column .column .ensures) (at-match .match .keys2)
@@ -349,7 +350,7 @@ print-term-byte-at-requires-3 t c κs =
     let at-column = at-match .before in
     let at-if1 = at-column .before .before in
     let at-open-term = at-if1 .before .before .before in
-    let entry = at-open-term .before .before .before .before in
+    let entry = at-open-term .before .before .before .before .before in
     laws.next-room
     (laws.next-part
     (laws.opened-app (at-open-term .open-term .ensures) (at-if1 .if1 .left) (at-column .column .ensures) (at-match .match .keys2)
@@ -369,7 +370,7 @@ print-term-print-term-requires-3 t c κs =
     let at-column = at-match .before in
     let at-if1 = at-column .before .before in
     let at-open-term = at-if1 .before .before .before in
-    let entry = at-open-term .before .before .before .before in (
+    let entry = at-open-term .before .before .before .before .before in (
       omega (arith, entry .pre .0),
       laws.next-fits
           (laws.next-text
@@ -391,7 +392,7 @@ print-term-byte-at-requires-4 t c κs =
     let at-column = at-match .before in
     let at-if1 = at-column .before .before in
     let at-open-term = at-if1 .before .before .before in
-    let entry = at-open-term .before .before .before .before in
+    let entry = at-open-term .before .before .before .before .before in
     laws.next-room
     (laws.next-part
     (laws.next-text
@@ -412,7 +413,7 @@ print-term-print-fields-requires t c κs =
     let at-column = at-match .before in
     let at-if1 = at-column .before .before in
     let at-open-term = at-if1 .before .before .before in
-    let entry = at-open-term .before .before .before .before in (
+    let entry = at-open-term .before .before .before .before .before in (
       omega (arith, entry .pre .0),
       laws.next-fits
           (laws.opened-rcd (at-open-term .open-term .ensures) (at-if1 .if1 .left) (at-column .column .ensures) (at-match .match .keys3)
@@ -427,7 +428,7 @@ print-term-byte-at-requires-5 t c κs =
     let at-column = at-match .before in
     let at-if1 = at-column .before .before in
     let at-open-term = at-if1 .before .before .before in
-    let entry = at-open-term .before .before .before .before in
+    let entry = at-open-term .before .before .before .before .before in
     laws.next-room
     (laws.next-part
     (laws.opened-rcd (at-open-term .open-term .ensures) (at-if1 .if1 .left) (at-column .column .ensures) (at-match .match .keys3)
@@ -444,7 +445,7 @@ print-term-print-term-requires-4 t c κs =
     let at-column = at-match .before in
     let at-if1 = at-column .before .before in
     let at-open-term = at-if1 .before .before .before in
-    let entry = at-open-term .before .before .before .before in (
+    let entry = at-open-term .before .before .before .before .before in (
       omega (arith, entry .pre .0),
       laws.next-fits
           (laws.opened-dot (at-open-term .open-term .ensures) (at-if1 .if1 .left) (at-column .column .ensures) (at-match .match .keys4)
@@ -459,7 +460,7 @@ print-term-byte-at-requires-6 t c κs =
     let at-column = at-match .before in
     let at-if1 = at-column .before .before in
     let at-open-term = at-if1 .before .before .before in
-    let entry = at-open-term .before .before .before .before in
+    let entry = at-open-term .before .before .before .before .before in
     laws.next-room
     (laws.next-part
     (laws.opened-dot (at-open-term .open-term .ensures) (at-if1 .if1 .left) (at-column .column .ensures) (at-match .match .keys4)
@@ -479,7 +480,7 @@ print-term-label-at-requires t c κs =
     let at-column = at-match .before in
     let at-if1 = at-column .before .before in
     let at-open-term = at-if1 .before .before .before in
-    let entry = at-open-term .before .before .before .before in
+    let entry = at-open-term .before .before .before .before .before in
     laws.next-room
     (laws.next-text
     (laws.next-part
@@ -499,7 +500,7 @@ print-term-byte-at-requires-7 t c κs =
     let at-column = at-match .before in
     let at-if1 = at-column .before .before in
     let at-open-term = at-if1 .before .before .before in
-    let entry = at-open-term .before .before .before .before in
+    let entry = at-open-term .before .before .before .before .before in
     laws.next-room
     (laws.next-text
     (laws.next-text
@@ -515,7 +516,7 @@ print-term-byte-at-requires-8 : (t : ℕ) → print-term-lts.Need-byte-at-requir
 print-term-byte-at-requires-8 t c κs =
     let at-if1 = c .before .before .before .before in
     let at-open-term = at-if1 .before .before .before in
-    let entry = at-open-term .before .before .before .before in
+    let entry = at-open-term .before .before .before .before .before in
     laws.next-room
     (laws.opened-bare (at-open-term .open-term .ensures) (at-if1 .if1 .left) (c .before .before .column .ensures)
     (c .before .match .rest .0 .0 .0 .1) (c .before .match .rest .0 .0 .1) (c .before .match .rest .0 .1) (c .before .match .rest .1))

@@ -20,12 +20,12 @@ abbrev μ-loop : tie.MeasureT-loop
 μ-loop cells links₀ row₀ links row = (length cells / 4) - row
 
 loop-holds : tie.Need-loop-holds Inv-loop μ-loop
-loop-holds c = laws.linking-start _ _ (c .before .before .pre .1 .0 .0) (c .before .before .pre .1 .1)
+loop-holds c = laws.linking-start _ _ (c .before .before .pre .some) (c .before .before .pre .none)
 
 cast-column : tie.Need-cast-column Inv-loop μ-loop
 cast-column c =
     let entry = c .before .before .before .before in
-    omega (arith, laws.row-small (c .before .loop .inv) (entry .pre .0) (entry .pre .1 .0 .1) (c .loop-test .taken))
+    omega (arith, laws.row-small (c .before .loop .inv) (entry .pre .few) (entry .pre .room) (c .loop-test .taken))
 
 column-requires : tie.Need-column-requires Inv-loop μ-loop
 column-requires c κs = search needs
@@ -33,7 +33,7 @@ column-requires c κs = search needs
 cast-column-2 : tie.Need-cast-column-2 Inv-loop μ-loop
 cast-column-2 c =
     let entry = c .before .before .before .before .before in
-    omega (arith, laws.row-small (c .before .before .loop .inv) (entry .pre .0) (entry .pre .1 .0 .1) (c .before .loop-test .taken))
+    omega (arith, laws.row-small (c .before .before .loop .inv) (entry .pre .few) (entry .pre .room) (c .before .loop-test .taken))
 
 column-requires-2 : tie.Need-column-requires-2 Inv-loop μ-loop
 column-requires-2 c κs = search needs
@@ -47,9 +47,9 @@ add-requires c κs =
     let at-loop-test = back .before in
     let at-loop = at-loop-test .before in
     let entry = at-loop .before .before .before in (
-      laws.row-fits (at-loop .loop .inv) (entry .pre .0) (entry .pre .1 .0 .1) (at-loop-test .loop-test .taken),
+      laws.row-fits (at-loop .loop .inv) (entry .pre .few) (entry .pre .room) (at-loop-test .loop-test .taken),
       laws.row-small
-          (at-loop .loop .inv) (entry .pre .0) (entry .pre .1 .0 .1) (at-loop-test .loop-test .taken),
+          (at-loop .loop .inv) (entry .pre .few) (entry .pre .room) (at-loop-test .loop-test .taken),
     )
 
 add-row : tie.Need-add-row Inv-loop μ-loop
@@ -58,7 +58,7 @@ add-row c =
     let at-loop-test = back .before .before .before .before in
     let at-loop = at-loop-test .before in
     let entry = at-loop .before .before .before in
-    omega (arith, laws.row-small (at-loop .loop .inv) (entry .pre .0) (entry .pre .1 .0 .1) (at-loop-test .loop-test .taken))
+    omega (arith, laws.row-small (at-loop .loop .inv) (entry .pre .few) (entry .pre .room) (at-loop-test .loop-test .taken))
 
 loop-less : tie.Need-loop-less Inv-loop μ-loop
 loop-less c = omega arith
@@ -72,7 +72,7 @@ loop-again c =
     let at-loop-test = at-column .before in
     let at-loop = at-loop-test .before in
     let entry = at-loop .before .before .before in
-    laws.add-row (at-loop .loop .inv) (entry .pre .0) (entry .pre .1 .0 .1) (at-loop-test .loop-test .taken) (at-column .column .ensures)
+    laws.add-row (at-loop .loop .inv) (entry .pre .few) (entry .pre .room) (at-loop-test .loop-test .taken) (at-column .column .ensures)
     (at-column2 .column2 .ensures) (at-if1 .if1 .taken) (c .before .before .before .before .before .find .ensures .0)
     (c .before .before .before .before .if2 .taken) (c .before .before .add .ensures)
 
@@ -83,7 +83,7 @@ add-row-2 c =
     let entry = at-loop .before .before .before in
     omega (
       arith,
-      laws.row-small (at-loop .loop .inv) (entry .pre .0) (entry .pre .1 .0 .1)
+      laws.row-small (at-loop .loop .inv) (entry .pre .few) (entry .pre .room)
           (c .before .before .before .before .before .before .loop-test .taken),
     )
 
@@ -95,7 +95,7 @@ loop-again-2 c =
     let back = c .before .before .before .before .before .before in
     let at-loop = back .before in
     let entry = at-loop .before .before .before in
-    laws.skip-found (at-loop .loop .inv) (entry .pre .0) (entry .pre .1 .0 .1)
+    laws.skip-found (at-loop .loop .inv) (entry .pre .few) (entry .pre .room)
     (c .before .before .before .before .before .before .loop-test .taken) (c .before .before .before .before .column2 .ensures)
     (c .before .find .ensures .0) (c .if2 .left)
 
@@ -105,7 +105,7 @@ add-row-3 c =
     let entry = back .before in
     omega (
       arith,
-      laws.row-small (c .before .before .before .before .loop .inv) (entry .pre .0) (entry .pre .1 .0 .1)
+      laws.row-small (c .before .before .before .before .loop .inv) (entry .pre .few) (entry .pre .room)
           (c .before .before .before .loop-test .taken),
     )
 
@@ -116,14 +116,14 @@ loop-again-3 : tie.Need-loop-again-3 Inv-loop μ-loop
 loop-again-3 c =
     let back = c .before .before .before .before .before .before in
     let entry = back .before in
-    laws.skip-code (c .before .before .before .before .loop .inv) (entry .pre .0) (entry .pre .1 .0 .1)
+    laws.skip-code (c .before .before .before .before .loop .inv) (entry .pre .few) (entry .pre .room)
     (c .before .before .before .loop-test .taken) (c .before .before .column .ensures) (c .if1 .left)
 
 same-length : tie.Need-same-length Inv-loop μ-loop
 same-length c = (c .before .loop .inv) .long
 
 returns : tie.Need-returns Inv-loop μ-loop
-returns c = laws.linking-end (c .before .loop .inv) (c .before .before .before .before .pre .0) (c .loop-test .left)
+returns c = laws.linking-end (c .before .loop .inv) (c .before .before .before .before .pre .few) (c .loop-test .left)
 
 pub link-spec : {M : Type 1} → statement M
 link-spec =

@@ -1,4 +1,5 @@
-use mathlib.Core.Path.{ap}
+-- `variable_mark`: the class of the name decides.
+use mathlib.Core.Path.{ap, _∙_}
 use lib.ListN.{getD}
 use Rattle.resolver.proofs.NameLaws.{word-mark, fresh-bound-mark, fresh-loose-mark, outside-mark}
 use borrow.Author.Needs.{needs}
@@ -7,48 +8,49 @@ use Rattle.resolver.proofs.resolving.variable_mark.Tie as tie
 use Rattle.resolver.proofs.resolving.variable_mark.Reads as reads
 use Rattle.resolver.proofs.resolving.variable_mark.Lts as lts
 use Rattle.resolver.proofs.binders.find.Reads as find-reads
+use Rattle.resolver.proofs.resolving.innermost.Reads as innermost-reads
 
--- src/resolving.rt:47:9
+-- src/resolving.rt:40:9
 find-requires : tie.Need-find-requires
-find-requires c κs = c .before .before .pre .linked
+find-requires c κs = c .before .before .before .pre .linked
 
--- src/resolving.rt:48:17
-mul-inner : tie.Need-mul-inner
-mul-inner c = search needs
+-- src/resolving.rt:41:9
+innermost-requires : tie.Need-innermost-requires
+innermost-requires c κs = search needs
 
--- src/resolving.rt:48:17
-element-copy-out-inner : tie.Need-element-copy-out-inner
-element-copy-out-inner c = search needs
-
--- src/resolving.rt:53:17
+-- src/resolving.rt:46:17
 returns : tie.Need-returns
 returns c =
-    let entry = c .before .before .before .before .before .before in
-    λ spell around known env. fresh-loose-mark spell (entry .args .x) (entry .args .cells .now) (entry .args .current .now) around known env
-    (c .before .match .keys2) (ap (λ n. getD (entry .args .current .now) n 0) (c .before .before .before .find .ensures .0)) (c .if1 .taken)
+    let s = c .before .before .before .before .before .before in
+    let e = s .before in
+    λ spell around known env.
+    fresh-loose-mark spell (e .args .x) (e .args .cells .now) (e .args .current .now) around known env (c .before .match .keys2)
+    (c .before .before .innermost .ensures ∙ ap (λ n. getD (e .args .current .now) n 0) (c .before .before .before .find .ensures .0)) (c .if1 .taken)
 
--- src/resolving.rt:42:1
+-- src/resolving.rt:35:1
 returns-2 : tie.Need-returns-2
 returns-2 c =
-    let entry = c .before .before .before .before .before in
-    λ spell around known env. word-mark spell (entry .args .x) (entry .args .cells .now) (entry .args .current .now) around known env
-    (c .match .keys1) (ap (λ n. getD (entry .args .current .now) n 0) (c .before .before .find .ensures .0))
+    let e = c .before .before .before .before .before .before in
+    λ spell around known env.
+    word-mark spell (e .args .x) (e .args .cells .now) (e .args .current .now) around known env (c .match .keys1)
+    (c .before .innermost .ensures ∙ ap (λ n. getD (e .args .current .now) n 0) (c .before .before .find .ensures .0))
 
--- src/resolving.rt:42:1
+-- src/resolving.rt:35:1
 returns-3 : tie.Need-returns-3
 returns-3 c =
-    let entry = c .before .before .before .before .before .before in
-    λ spell around known env. fresh-bound-mark spell (entry .args .x) (entry .args .cells .now) (entry .args .current .now) around known env
-    (c .before .match .keys2) (ap (λ n. getD (entry .args .current .now) n 0) (c .before .before .before .find .ensures .0)) (c .if1 .left)
+    let s = c .before .before .before .before .before .before in
+    let e = s .before in
+    λ spell around known env.
+    fresh-bound-mark spell (e .args .x) (e .args .cells .now) (e .args .current .now) around known env (c .before .match .keys2)
+    (c .before .before .innermost .ensures ∙ ap (λ n. getD (e .args .current .now) n 0) (c .before .before .before .find .ensures .0)) (c .if1 .left)
 
--- src/resolving.rt:42:1
+-- src/resolving.rt:35:1
 returns-4 : tie.Need-returns-4
 returns-4 c =
-    let entry = c .before .before .before .before .before in
-    λ spell around known env. outside-mark spell (entry .args .x) (entry .args .cells .now) (entry .args .current .now) around known env
-    (c .match .rest .0 .1) (c .match .rest .1)
+    let e = c .before .before .before .before .before .before in
+    λ spell around known env.
+    outside-mark spell (e .args .x) (e .args .cells .now) (e .args .current .now) around known env (c .match .rest .0 .1) (c .match .rest .1)
 
 pub variable-mark-spec : {M : Type 1} → statement M
 variable-mark-spec =
-    tie.close
-    (tie.spec find-requires mul-inner element-copy-out-inner returns returns-2 returns-3 returns-4)
+    tie.close (tie.spec find-requires innermost-requires returns returns-2 returns-3 returns-4)

@@ -25,11 +25,14 @@ claims = (
 
 -- the table has been checked
 module _ (p : lts.After-check-into claims reads.Pre reads.Post) where
+  abbrev first : lts.After-shared-slice-known claims reads.Pre reads.Post
+  first = p .before .before .before .before .before .before
+
   abbrev start : lts.Start claims reads.Pre reads.Post
-  start = p .before .before .before .before .before .before
+  start = first .before
 
   bytes : Bytes (start .args .table .now)
-  bytes i = omega (arith, p .before .before .before .before .before .shared-slice-known .given i)
+  bytes i = omega (arith, first .shared-slice-known .given i)
 
 check-into-requires : tie.Need-check-into-requires
 check-into-requires c κs = search needs
@@ -48,23 +51,29 @@ parse-checked-requires c κs =
     let p = c .before .before .before .before .before .before in
     record {
       checked = joining.checked-passes (bytes p) (p .check-into .ensures) (c .before .before .before .before .enum-told .given .1);
-      tokens-room = start p .pre;
+      rooms = start p .pre;
     }
 
 returns : tie.Need-returns
 returns c =
     let p = c .before .before .before .before in
-    joining.refused-parses _ (c .halted .ensures)
-    (sym (parsing.parse-refused _ _ _ (sym (p .check-into .ensures .answer) ∙ c .before .before .verdict .given .1)))
-
-returns-2 : tie.Need-returns-2
-returns-2 c = search needs
+    let refused = sym (p .check-into .ensures .answer) ∙ c .before .before .verdict .given .1 in
+    record {
+      parsed = joining.refused-parses _ (c .halted .ensures) (sym (parsing.parse-refused _ _ _ refused));
+      whole = parsing.into-refused _ _ _ _ _ refused (c .halted .ensures);
+    }
 
 same-length : tie.Need-same-length
 same-length c = search needs
 
 same-length-2 : tie.Need-same-length-2
 same-length-2 c = search needs
+
+same-length-3 : tie.Need-same-length-3
+same-length-3 c = search needs
+
+returns-2 : tie.Need-returns-2
+returns-2 c = search needs
 
 pub parse-in-spec : {M : Type 1} → statement M
 parse-in-spec =
@@ -78,4 +87,5 @@ parse-in-spec =
     returns
     same-length
     same-length-2
+    same-length-3
     returns-2)

@@ -9,7 +9,7 @@ use Rattle.writer.proofs.openings.open_term.Tie as tie
 
 open-number-requires : tie.Need-open-number-requires
 open-number-requires c κs =
-    let entry = c .before .before .before in
+    let entry = c .before .before .before .before in
     pieces.go-room (laws.open-shallow (entry .args .out .now) (entry .pre) (c .before .if1 .taken)) (entry .pre .room)
 
 same-length : tie.Need-same-length
@@ -18,7 +18,7 @@ same-length c = c .before .before .open-number .ensures .same
 returns : tie.Need-returns
 returns c =
     let at-if1 = c .before .before .before .before in
-    let entry = at-if1 .before .before in
+    let entry = at-if1 .before .before .before in
     pieces.go-last (laws.open-shallow (entry .args .out .now) (entry .pre) (at-if1 .if1 .taken)) (c .before .before .open-number .ensures)
 
 column-requires : tie.Need-column-requires
@@ -34,7 +34,7 @@ copy-at-requires : tie.Need-copy-at-requires
 copy-at-requires c κs =
     let at-column = c .before .before .before .before .before in
     let at-if1 = at-column .before .before in
-    let entry = at-if1 .before .before in
+    let entry = at-if1 .before .before .before in
     pieces.go-room (laws.open-var (entry .args .out .now) (entry .pre) (at-if1 .if1 .left) (at-column .column .ensures)
     (c .before .before .match .keys1) (c .before .before .before .column2 .ensures) refl) (entry .pre .room)
 
@@ -42,8 +42,8 @@ shown-at-requires : tie.Need-shown-at-requires
 shown-at-requires c κs =
     let back = c .before .before .before .before .before .before in
     let back2 = back .before .before .before .before .before .before in
-    let entry = back2 .before in
-    entry .pre .inside
+    let entry = back2 .before .before in
+    (entry .pre .inside, entry .pre .few)
 
 name-at-requires : tie.Need-name-at-requires
 name-at-requires c κs =
@@ -52,7 +52,7 @@ name-at-requires c κs =
     let at-column2 = at-match .before in
     let at-column = at-column2 .before .before in
     let at-if1 = at-column .before .before in
-    let entry = at-if1 .before .before in
+    let entry = at-if1 .before .before .before in
     record {
       room = pieces.go-room
           (pieces.go-next (laws.open-var (entry .args .out .now) (entry .pre) (at-if1 .if1 .left) (at-column .column .ensures)
@@ -66,7 +66,7 @@ copy-at-requires-2 : tie.Need-copy-at-requires-2
 copy-at-requires-2 c κs =
     let at-column = c .before .before .before .before .before in
     let at-if1 = at-column .before .before in
-    let entry = at-if1 .before .before in
+    let entry = at-if1 .before .before .before in
     pieces.go-room (laws.open-fun (entry .args .out .now) (entry .pre) (at-if1 .if1 .left) (at-column .column .ensures)
     (c .before .before .match .keys2) (c .before .before .before .column2 .ensures) refl) (entry .pre .room)
 
@@ -74,8 +74,8 @@ shown-at-requires-2 : tie.Need-shown-at-requires-2
 shown-at-requires-2 c κs =
     let back = c .before .before .before .before .before .before in
     let back2 = back .before .before .before .before .before .before in
-    let entry = back2 .before in
-    entry .pre .inside
+    let entry = back2 .before .before in
+    (entry .pre .inside, entry .pre .few)
 
 name-at-requires-2 : tie.Need-name-at-requires-2
 name-at-requires-2 c κs =
@@ -84,7 +84,7 @@ name-at-requires-2 c κs =
     let at-column2 = at-match .before in
     let at-column = at-column2 .before .before in
     let at-if1 = at-column .before .before in
-    let entry = at-if1 .before .before in
+    let entry = at-if1 .before .before .before in
     record {
       room = pieces.go-room
           (pieces.go-next (laws.open-fun (entry .args .out .now) (entry .pre) (at-if1 .if1 .left) (at-column .column .ensures)
@@ -99,7 +99,7 @@ byte-at-requires c κs =
     let at-column2 = at-match .before in
     let at-column = at-column2 .before .before in
     let at-if1 = at-column .before .before in
-    let entry = at-if1 .before .before in
+    let entry = at-if1 .before .before .before in
     pieces.go-room (pieces.go-next
     (pieces.go-next (laws.open-fun (entry .args .out .now) (entry .pre) (at-if1 .if1 .left) (at-column .column .ensures)
     (at-match .match .keys2) (at-column2 .column2 .ensures) (at-shown-at2 .shown-at2 .ensures)) (at-copy-at2 .copy-at2 .ensures))
@@ -112,7 +112,7 @@ copy-at-requires-3 : tie.Need-copy-at-requires-3
 copy-at-requires-3 c κs =
     let at-column = c .before .before .before .before .before in
     let at-if1 = at-column .before .before in
-    let entry = at-if1 .before .before in
+    let entry = at-if1 .before .before .before in
     pieces.go-room (laws.open-app (entry .args .out .now) (entry .pre) (at-if1 .if1 .left) (at-column .column .ensures)
     (c .before .before .match .keys3)) (entry .pre .room)
 
@@ -123,7 +123,7 @@ copy-at-requires-4 : tie.Need-copy-at-requires-4
 copy-at-requires-4 c κs =
     let at-column = c .before .before .before .before .before in
     let at-if1 = at-column .before .before in
-    let entry = at-if1 .before .before in
+    let entry = at-if1 .before .before .before in
     pieces.go-room (laws.open-rcd (entry .args .out .now) (entry .pre) (at-if1 .if1 .left) (at-column .column .ensures)
     (c .before .before .match .keys4)) (entry .pre .room)
 
@@ -134,7 +134,7 @@ copy-at-requires-5 : tie.Need-copy-at-requires-5
 copy-at-requires-5 c κs =
     let at-column = c .before .before .before .before .before in
     let at-if1 = at-column .before .before in
-    let entry = at-if1 .before .before in
+    let entry = at-if1 .before .before .before in
     pieces.go-room (laws.open-dot (entry .args .out .now) (entry .pre) (at-if1 .if1 .left) (at-column .column .ensures)
     (c .before .before .match .keys5)) (entry .pre .room)
 
@@ -142,7 +142,7 @@ open-number-requires-2 : tie.Need-open-number-requires-2
 open-number-requires-2 c κs =
     let at-column = c .before .before .before .before in
     let at-if1 = at-column .before .before in
-    let entry = at-if1 .before .before in
+    let entry = at-if1 .before .before .before in
     pieces.go-room (laws.open-zero (entry .args .out .now) (entry .pre) (at-if1 .if1 .left) (at-column .column .ensures)
     (inl (c .before .match .keys6))) (entry .pre .room)
 
@@ -150,7 +150,7 @@ open-number-requires-3 : tie.Need-open-number-requires-3
 open-number-requires-3 c κs =
     let at-column = c .before .before .before .before in
     let at-if1 = at-column .before .before in
-    let entry = at-if1 .before .before in
+    let entry = at-if1 .before .before .before in
     pieces.go-room (laws.open-zero (entry .args .out .now) (entry .pre) (at-if1 .if1 .left) (at-column .column .ensures)
     (inr (c .before .match .keys7))) (entry .pre .room)
 
@@ -158,7 +158,7 @@ open-number-requires-4 : tie.Need-open-number-requires-4
 open-number-requires-4 c κs =
     let at-column = c .before .before .before .before in
     let at-if1 = at-column .before .before in
-    let entry = at-if1 .before .before in
+    let entry = at-if1 .before .before .before in
     pieces.go-room (laws.open-num (entry .args .out .now) (entry .pre) (at-if1 .if1 .left) (at-column .column .ensures)
     (c .before .match .rest .0 .0 .0 .0 .0 .0 .1) (c .before .match .rest .0 .0 .0 .0 .0 .1) (c .before .match .rest .0 .0 .0 .0 .1)
     (c .before .match .rest .0 .0 .0 .1) (c .before .match .rest .0 .0 .1) (c .before .match .rest .0 .1) (c .before .match .rest .1)
@@ -178,7 +178,7 @@ returns-2 c =
     let at-column2 = at-match .before in
     let at-column = at-column2 .before .before in
     let at-if1 = at-column .before .before in
-    let entry = at-if1 .before .before in
+    let entry = at-if1 .before .before .before in
     pieces.go-last (pieces.go-next
     (laws.open-var (entry .args .out .now) (entry .pre) (at-if1 .if1 .left) (at-column .column .ensures) (at-match .match .keys1)
     (at-column2 .column2 .ensures) (c .before .before .before .shown-at .ensures)) (at-copy-at .copy-at .ensures))
@@ -199,7 +199,7 @@ returns-3 c =
     let at-column2 = at-match .before in
     let at-column = at-column2 .before .before in
     let at-if1 = at-column .before .before in
-    let entry = at-if1 .before .before in
+    let entry = at-if1 .before .before .before in
     pieces.go-last (pieces.go-next
     (pieces.go-next (laws.open-fun (entry .args .out .now) (entry .pre) (at-if1 .if1 .left) (at-column .column .ensures)
     (at-match .match .keys2) (at-column2 .column2 .ensures) (at-shown-at2 .shown-at2 .ensures)) (at-copy-at2 .copy-at2 .ensures))
@@ -213,7 +213,7 @@ returns-4 c =
     let at-match = c .before .before .before .before .before in
     let at-column = at-match .before .before .before in
     let at-if1 = at-column .before .before in
-    let entry = at-if1 .before .before in
+    let entry = at-if1 .before .before .before in
     pieces.go-last (laws.open-app (entry .args .out .now) (entry .pre) (at-if1 .if1 .left) (at-column .column .ensures)
     (at-match .match .keys3)) (c .before .before .copy-at3 .ensures)
 
@@ -225,7 +225,7 @@ returns-5 c =
     let at-match = c .before .before .before .before .before in
     let at-column = at-match .before .before .before in
     let at-if1 = at-column .before .before in
-    let entry = at-if1 .before .before in
+    let entry = at-if1 .before .before .before in
     pieces.go-last (laws.open-rcd (entry .args .out .now) (entry .pre) (at-if1 .if1 .left) (at-column .column .ensures)
     (at-match .match .keys4)) (c .before .before .copy-at4 .ensures)
 
@@ -237,7 +237,7 @@ returns-6 c =
     let at-match = c .before .before .before .before .before in
     let at-column = at-match .before .before .before in
     let at-if1 = at-column .before .before in
-    let entry = at-if1 .before .before in
+    let entry = at-if1 .before .before .before in
     pieces.go-last (laws.open-dot (entry .args .out .now) (entry .pre) (at-if1 .if1 .left) (at-column .column .ensures)
     (at-match .match .keys5)) (c .before .before .copy-at5 .ensures)
 
@@ -249,7 +249,7 @@ returns-7 c =
     let at-match = c .before .before .before .before in
     let at-column = at-match .before .before .before in
     let at-if1 = at-column .before .before in
-    let entry = at-if1 .before .before in
+    let entry = at-if1 .before .before .before in
     pieces.go-last (laws.open-zero (entry .args .out .now) (entry .pre) (at-if1 .if1 .left) (at-column .column .ensures)
     (inl (at-match .match .keys6))) (c .before .before .open-number2 .ensures)
 
@@ -261,7 +261,7 @@ returns-8 c =
     let at-match = c .before .before .before .before in
     let at-column = at-match .before .before .before in
     let at-if1 = at-column .before .before in
-    let entry = at-if1 .before .before in
+    let entry = at-if1 .before .before .before in
     pieces.go-last (laws.open-zero (entry .args .out .now) (entry .pre) (at-if1 .if1 .left) (at-column .column .ensures)
     (inr (at-match .match .keys7))) (c .before .before .open-number3 .ensures)
 
@@ -274,7 +274,7 @@ returns-9 c =
     let at-column2 = at-match .before in
     let at-column = at-column2 .before .before in
     let at-if1 = at-column .before .before in
-    let entry = at-if1 .before .before in
+    let entry = at-if1 .before .before .before in
     pieces.go-last (laws.open-num (entry .args .out .now) (entry .pre) (at-if1 .if1 .left) (at-column .column .ensures)
     (at-match .match .rest .0 .0 .0 .0 .0 .0 .1) (at-match .match .rest .0 .0 .0 .0 .0 .1) (at-match .match .rest .0 .0 .0 .0 .1)
     (at-match .match .rest .0 .0 .0 .1) (at-match .match .rest .0 .0 .1) (at-match .match .rest .0 .1) (at-match .match .rest .1)

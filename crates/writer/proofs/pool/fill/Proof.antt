@@ -23,8 +23,8 @@ abbrev μ-loop : tie.MeasureT-loop
 
 fill-outsides-requires : tie.Need-fill-outsides-requires Inv-loop μ-loop
 fill-outsides-requires c κs =
-    let entry = c .before .before .before .before in
-    (omega (arith, entry .pre .0 .0), (entry .pre .1 .0, entry .pre .1 .1 .0))
+    let entry = c .before .before .before .before .before in
+    (omega (arith, entry .pre .room), (entry .pre .none, entry .pre .outsidesFit))
 
 loop-holds : tie.Need-loop-holds Inv-loop μ-loop
 loop-holds c = laws.storing-start _ _ _ _ (c .before .before .fill-outsides .ensures)
@@ -32,20 +32,20 @@ loop-holds c = laws.storing-start _ _ _ _ (c .before .before .fill-outsides .ens
 mul-offset : tie.Need-mul-offset Inv-loop μ-loop
 mul-offset c =
     let back = c .before .before .before .before .before .before in
-    let entry = back .before .before .before in
-    omega (arith, entry .pre .0 .1, c .loop-test .taken)
+    let entry = back .before .before .before .before in
+    omega (arith, entry .pre .few, c .loop-test .taken)
 
 mul-offset-2 : tie.Need-mul-offset-2 Inv-loop μ-loop
 mul-offset-2 c =
     let back = c .before .before .before .before .before .before in
-    let entry = back .before .before .before in
-    omega (arith, entry .pre .0 .1, c .loop-test .taken)
+    let entry = back .before .before .before .before in
+    omega (arith, entry .pre .few, c .loop-test .taken)
 
-element-copy-out-offset : tie.Need-element-copy-out-offset Inv-loop μ-loop
-element-copy-out-offset c =
+shared-slice-read-offset : tie.Need-shared-slice-read-offset Inv-loop μ-loop
+shared-slice-read-offset c =
     let back = c .before .before .before .before .before .before in
-    let entry = back .before .before .before in
-    omega (arith, entry .pre .0 .1, c .loop-test .taken)
+    let entry = back .before .before .before .before .before in
+    omega (arith, entry .pre .lie, c .before .loop-test .taken)
 
 offset-requires : tie.Need-offset-requires Inv-loop μ-loop
 offset-requires c κs = search needs
@@ -53,26 +53,27 @@ offset-requires c κs = search needs
 mul-offset-3 : tie.Need-mul-offset-3 Inv-loop μ-loop
 mul-offset-3 c =
     let back = c .before .before .before .before .before .before in
-    let entry = back .before .before .before .before .before in
-    omega (arith, entry .pre .0 .1, c .before .before .loop-test .taken)
+    let entry = back .before .before .before .before .before .before in
+    omega (arith, entry .pre .few, c .before .before .loop-test .taken)
 
 add-offset : tie.Need-add-offset Inv-loop μ-loop
 add-offset c =
     let back = c .before .before .before .before .before .before in
-    let entry = back .before .before .before .before .before in
-    omega (arith, entry .pre .0 .1, c .before .before .loop-test .taken)
+    let entry = back .before .before .before .before .before .before in
+    omega (arith, entry .pre .few, c .before .before .loop-test .taken)
 
 mul-offset-4 : tie.Need-mul-offset-4 Inv-loop μ-loop
 mul-offset-4 c =
     let back = c .before .before .before .before .before .before in
-    let entry = back .before .before .before .before .before in
-    omega (arith, entry .pre .0 .1, c .before .before .loop-test .taken)
+    let entry = back .before .before .before .before .before .before in
+    omega (arith, entry .pre .few, c .before .before .loop-test .taken)
 
-element-copy-out-offset-2 : tie.Need-element-copy-out-offset-2 Inv-loop μ-loop
-element-copy-out-offset-2 c =
+shared-slice-read-offset-2 : tie.Need-shared-slice-read-offset-2 Inv-loop μ-loop
+shared-slice-read-offset-2 c =
     let back = c .before .before .before .before .before .before in
-    let entry = back .before .before .before .before .before in
-    omega (arith, entry .pre .0 .1, c .before .before .loop-test .taken)
+    let back2 = back .before .before .before .before .before .before in
+    let entry = back2 .before in
+    omega (arith, entry .pre .lie, c .before .before .before .loop-test .taken)
 
 offset-requires-2 : tie.Need-offset-requires-2 Inv-loop μ-loop
 offset-requires-2 c κs = search needs
@@ -81,8 +82,8 @@ add-store : tie.Need-add-store Inv-loop μ-loop
 add-store c =
     let back = c .before .before .before .before .before .before in
     let back2 = back .before .before .before .before .before .before in
-    let entry = back2 .before .before in
-    omega (arith, entry .pre .0 .1, c .before .before .before .before .before .loop-test .taken)
+    let entry = back2 .before .before .before in
+    omega (arith, entry .pre .few, c .before .before .before .before .before .loop-test .taken)
 
 part-requires : tie.Need-part-requires Inv-loop μ-loop
 part-requires c κs = search needs
@@ -92,10 +93,10 @@ store-requires c κs =
     let at-loop-test = c .before .before .before .before .before .before in
     let at-loop = at-loop-test .before in
     let at-fill-outsides = at-loop .before .before .before in
-    let entry = at-fill-outsides .before .before .before .before .before in (
+    let entry = at-fill-outsides .before .before .before .before .before .before in (
       (
         (laws.word-short (lexiconOf (entry .args .table .now) .outsides) (entry .args .formula .now) (entry .args .words .now)
-            (at-loop .loop .i) (entry .args .count) (entry .pre .1 .1 .1) (at-loop-test .loop-test .taken)
+            (at-loop .loop .i) (entry .args .count) (entry .pre .wordsFit) (at-loop-test .loop-test .taken)
             (laws.word-is (lexiconOf (entry .args .table .now) .outsides) (entry .args .formula .now) (entry .args .words .now) (at-loop .loop .i)
             (c .before .before .before .before .offset .ensures) (c .before .before .offset2 .ensures) (c .part .ensures))),
         (omega (
@@ -103,10 +104,10 @@ store-requires c κs =
           at-loop-test .loop-test .taken,
           (at-loop .loop .inv) .long,
           at-fill-outsides .fill-outsides .kept .1 .0,
-          entry .pre .0 .0,
+          entry .pre .room,
         )),
       ),
-      omega (arith, at-loop-test .loop-test .taken, entry .pre .0 .1),
+      omega (arith, at-loop-test .loop-test .taken, entry .pre .few),
     )
 
 add-i : tie.Need-add-i Inv-loop μ-loop
@@ -114,16 +115,16 @@ add-i c =
     let back = c .before .before .before .before .before .before in
     let at-loop-test = back .before .before .before in
     let back2 = at-loop-test .before .before .before .before .before .before in
-    let entry = back2 .before .before .before in
-    omega (arith, entry .pre .0 .1, at-loop-test .loop-test .taken)
+    let entry = back2 .before .before .before .before in
+    omega (arith, entry .pre .few, at-loop-test .loop-test .taken)
 
 loop-less : tie.Need-loop-less Inv-loop μ-loop
 loop-less c =
     let back = c .before .before .before .before .before .before in
     let at-loop-test = back .before .before .before in
     let back2 = at-loop-test .before .before .before .before .before .before in
-    let entry = back2 .before .before .before in
-    omega (arith, entry .pre .0 .1, at-loop-test .loop-test .taken)
+    let entry = back2 .before .before .before .before in
+    omega (arith, entry .pre .few, at-loop-test .loop-test .taken)
 
 loop-again : tie.Need-loop-again Inv-loop μ-loop
 loop-again c =
@@ -133,12 +134,12 @@ loop-again c =
     let at-loop-test = at-offset .before .before in
     let at-loop = at-loop-test .before in
     let at-fill-outsides = at-loop .before .before .before in
-    let entry = at-fill-outsides .before .before .before .before .before in
+    let entry = at-fill-outsides .before .before .before .before .before .before in
     laws.storing-next (at-loop .loop .inv) (at-loop-test .loop-test .taken)
     (laws.word-is (lexiconOf (entry .args .table .now) .outsides) (entry .args .formula .now) (entry .args .words .now) (at-loop .loop .i)
     (at-offset .offset .ensures) (at-offset2 .offset2 .ensures) (at-part .part .ensures))
     (laws.word-short (lexiconOf (entry .args .table .now) .outsides) (entry .args .formula .now) (entry .args .words .now)
-    (at-loop .loop .i) (entry .args .count) (entry .pre .1 .1 .1) (at-loop-test .loop-test .taken)
+    (at-loop .loop .i) (entry .args .count) (entry .pre .wordsFit) (at-loop-test .loop-test .taken)
     (laws.word-is (lexiconOf (entry .args .table .now) .outsides) (entry .args .formula .now) (entry .args .words .now) (at-loop .loop .i)
     (at-offset .offset .ensures) (at-offset2 .offset2 .ensures) (at-part .part .ensures)))
     (omega (
@@ -146,7 +147,7 @@ loop-again c =
       at-loop-test .loop-test .taken,
       (at-loop .loop .inv) .long,
       at-fill-outsides .fill-outsides .kept .1 .0,
-      entry .pre .0 .0,
+      entry .pre .room,
     )) (c .before .before .store .ensures)
 
 same-length : tie.Need-same-length Inv-loop μ-loop
@@ -165,12 +166,12 @@ fill-spec =
     loop-holds
     mul-offset
     mul-offset-2
-    element-copy-out-offset
+    shared-slice-read-offset
     offset-requires
     mul-offset-3
     add-offset
     mul-offset-4
-    element-copy-out-offset-2
+    shared-slice-read-offset-2
     offset-requires-2
     add-store
     part-requires

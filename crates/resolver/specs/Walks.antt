@@ -1,0 +1,34 @@
+-- What a walk of a term asks of its rooms and what it leaves in them. Nobody needs this to believe `expand`.
+use Prim.Native.Nat.{ℕ, _+_, _/_, _≤_}
+use mathlib.Core.Path.{_≡_}
+use mathlib.Core.List.{List}
+use lib.ListN.{length, getD, set, replicate}
+use Rattle.rows.specs.Sizes.{sizeAt, sizeFieldsAt}
+use Rattle.resolver.specs.Marks.{slotOf, ResolvesTerm, ResolvesFields}
+use Rattle.resolver.specs.Links.{Linked}
+
+-- v is stored in the slot of the name x, and r was there before; a name that no row binds has no slot
+pub record Exchanged (cells : List ℕ) (x v : ℕ) (current current′ : List ℕ) (r : ℕ) : Type 0 where
+  pub stored : current′ ≡ set current (slotOf cells x) v
+  pub was : r ≡ getD current (slotOf cells x) 0
+
+-- linked rows, and a mark for each of so many constructors from a place on
+pub record Walkable (cells links : List ℕ) (constructors place : ℕ) (room : List ℕ) : Type 0 where
+  pub linked : Linked cells links
+  pub inside : place + constructors ≤ length room
+  pub few : length room ≤ 16384
+
+-- the marks of the term, or of the field list, at a row, and the place behind it
+pub record WalksTerm (cells : List ℕ) (k row place place′ : ℕ) (current current′ room room′ : List ℕ) (held : ℕ) : Type 0 where
+  pub resolves : ResolvesTerm cells k row place current current′ room room′ held
+  pub moved : place′ ≡ place + sizeAt cells k row
+
+pub record WalksFields (cells : List ℕ) (k row place place′ : ℕ) (current current′ room room′ : List ℕ) (held : ℕ) : Type 0 where
+  pub resolves : ResolvesFields cells k row place current current′ room room′ held
+  pub moved : place′ ≡ place + sizeFieldsAt cells k row
+
+-- what the walk of a whole term begins with: linked rows, and no binder in any slot
+pub record Prepared (cells links current : List ℕ) : Type 0 where
+  pub linked : Linked cells links
+  pub none : current ≡ replicate (length current) 0
+  pub room : length cells / 4 ≤ length current
