@@ -12,7 +12,7 @@ use lib.Seq.{getD-set-same, getD-set-other}
 use borrow.Author.Tests.{lt-ltb, ltb-true}
 use Rattle.kinds.specs.Kinds.{hasKind}
 use Rattle.kinds.proofs.KindsLaws.{has-none, has-join}
-use Rattle.firsts.specs.SetCalls.{holds, SetsLent, UsedBelow, StepLent, joinedIf, withCallee, CalleeJoined, CalleeTaken, ClosedBelow, ClosedBoth}
+use Rattle.firsts.specs.SetCalls.{holds, SetsLent, UsedBelow, Above, StepLent, joinedIf, withCallee, CalleeJoined, CalleeTaken, ClosedBelow, ClosedBoth}
 use Rattle.firsts.proofs.Rounds.{or-left, or-right, or-split}
 
 -- ------------------------------------------------------------------ one callee, nonterminal by nonterminal
@@ -171,10 +171,10 @@ module _ {many k : ℕ} {calls sets sets′ : List ℕ} (r : CalleeJoined k many
 pub both-start : (calls kinds : List ℕ) → ClosedBoth 0 calls kinds calls kinds
 both-start calls kinds = record { calls-closed = closed-start calls calls; kinds-closed = closed-start calls kinds }
 
-module _ {many : ℕ} {calls₀ kinds₀ : List ℕ} (u : UsedBelow many calls₀ kinds₀) {k : ℕ} {calls kinds : List ℕ}
+module _ {callers : ℕ} {calls₀ kinds₀ : List ℕ} (u : UsedBelow callers calls₀) {k : ℕ} {calls kinds : List ℕ}
     (c : ClosedBoth k calls₀ kinds₀ calls kinds) where
   -- the arrays stay as long as they were
-  pub both-lent : SetsLent calls₀ kinds₀ → StepLent many calls kinds
+  pub both-lent : SetsLent calls₀ kinds₀ → StepLent callers calls kinds
   both-lent l =
       record {
         lent = record { calls-many = c .calls-closed .as-many ∙ l .calls-many; kinds-many = c .kinds-closed .as-many ∙ l .kinds-many };
@@ -182,9 +182,9 @@ module _ {many : ℕ} {calls₀ kinds₀ : List ℕ} (u : UsedBelow many calls�
       }
 
   -- one callee more
-  pub both-next : {calls′ kinds′ : List ℕ} → CalleeTaken k many calls kinds calls′ kinds′ → ClosedBoth (k + 1) calls₀ kinds₀ calls′ kinds′
+  pub both-next : {calls′ kinds′ : List ℕ} → CalleeTaken k callers calls kinds calls′ kinds′ → ClosedBoth (k + 1) calls₀ kinds₀ calls′ kinds′
   both-next {calls′} {kinds′} t =
-      let none : (n : ℕ) → holds calls n k ≡ true → n < many = λ n e. no-set (c .calls-closed) (u .no-calls) (u .no-calls) n k e in
+      let none : (n : ℕ) → holds calls n k ≡ true → n < callers = λ n e. no-set (c .calls-closed) (u .none) (u .none) n k e in
       let a = t .calls-joined in
       let x = t .kinds-joined in
       record {
@@ -196,62 +196,41 @@ module _ {many : ℕ} {calls₀ kinds₀ : List ℕ} (u : UsedBelow many calls�
             (c .kinds-closed) (x .as-many);
       }
 
-  -- the callees from `many` on give nothing
-  pub both-end : many ≤ k → ClosedBoth 64 calls₀ kinds₀ calls kinds
-  both-end h =
+  -- the other callees give nothing
+  pub both-end : {givers : ℕ} → UsedBelow givers kinds₀ → {many : ℕ} → Above callers givers many → many ≤ k
+      → ClosedBoth 64 calls₀ kinds₀ calls kinds
+  both-end v l h =
       record {
-        calls-closed = whole (c .calls-closed) (u .no-calls);
-        kinds-closed = whole (c .kinds-closed) (u .no-kinds);
+        calls-closed = whole (c .calls-closed) (λ n g. u .none n (omega (arith, l .first)));
+        kinds-closed = whole (c .kinds-closed) (λ n g. v .none n (omega (arith, l .second)));
       }
     where
-      whole : {sets₀ sets : List ℕ} → ClosedBelow k calls₀ sets₀ calls sets → ((n : ℕ) → many ≤ n → getD sets₀ n 0 ≡ 0)
+      whole : {sets₀ sets : List ℕ} → ClosedBelow k calls₀ sets₀ calls sets → ((n : ℕ) → k ≤ n → getD sets₀ n 0 ≡ 0)
           → ClosedBelow 64 calls₀ sets₀ calls sets
       whole d none =
           record {
             as-many = d .as-many;
             kept = d .kept;
-            through = λ n j b l e f. d .through n j b (omega (arith, no-set d (u .no-calls) none j b f)) e f;
+            through =
+                λ n j b m e f.
+                d .through n j b (no-set {many = k} d (λ i g. u .none i (omega (arith, l .first))) none j b f) e f;
             least = d .least;
           }
 
 -- ------------------------------------------------------------------ the sets that are not empty
 
--- from number n on all sets are empty
-pub record Unused (calls kinds : List ℕ) (n : ℕ) : Type 0 where
-  pub used : UsedBelow n calls kinds
-
 -- there are no more than 64 sets
-pub unused-start : {calls kinds : List ℕ} → SetsLent calls kinds → Unused calls kinds 64
-unused-start {calls} {kinds} l =
-    record {
-      used =
-          record {
-            small = omega arith;
-            no-calls = λ n h. List·getD-eq-default {A = ℕ} calls 0 {n = n} (omega (arith, l .calls-many));
-            no-kinds = λ n h. List·getD-eq-default {A = ℕ} kinds 0 {n = n} (omega (arith, l .kinds-many));
-          };
-    }
+pub used-start : (sets : List ℕ) → length sets ≡ 64 → UsedBelow 64 sets
+used-start sets e = record { small = omega arith; none = λ n h. List·getD-eq-default {A = ℕ} sets 0 {n = n} (omega arith) }
 
--- a nonterminal with two empty sets is not used
-pub unused-next : {calls kinds : List ℕ} {n : ℕ} → Unused calls kinds n → 0 < n → getD calls (n - 1) 0 ≤ 0 → getD kinds (n - 1) 0 ≤ 0
-    → Unused calls kinds (n - 1)
-unused-next {calls} {kinds} {n} u h hc hk =
-    record {
-      used =
-          record {
-            small = omega (arith, u .used .small);
-            no-calls = lower calls (u .used .no-calls) (omega arith);
-            no-kinds = lower kinds (u .used .no-kinds) (omega arith);
-          };
-    }
+-- a nonterminal with an empty set is not used
+pub used-next : {sets : List ℕ} {n : ℕ} → UsedBelow n sets → 0 < n → getD sets (n - 1) 0 ≤ 0 → UsedBelow (n - 1) sets
+used-next {sets} {n} u h e = record { small = omega (arith, u .small); none = λ i l. by i l (ℕ-discrete i (n - 1)) }
   where
-    lower : (sets : List ℕ) → ((i : ℕ) → n ≤ i → getD sets i 0 ≡ 0) → getD sets (n - 1) 0 ≡ 0 → (i : ℕ) → n - 1 ≤ i → getD sets i 0 ≡ 0
-    lower sets none e i l = by (ℕ-discrete i (n - 1))
-      where
-        by : Dec (i ≡ n - 1) → getD sets i 0 ≡ 0
-        by (yes z) = rw z e
-        by (no z) = none i (omega arith)
+    by : (i : ℕ) → n - 1 ≤ i → Dec (i ≡ n - 1) → getD sets i 0 ≡ 0
+    by i l (yes z) = rw z (let y : getD sets (n - 1) 0 ≡ 0 = omega arith in y)
+    by i l (no z) = u .none i (omega arith)
 
 -- or none is used
-pub unused-end : {calls kinds : List ℕ} {n : ℕ} → Unused calls kinds n → n ≤ 0 → UsedBelow 0 calls kinds
-unused-end {n = n} u h = let z : n ≡ 0 = omega arith in rw z at (u .used)
+pub used-end : {sets : List ℕ} {n : ℕ} → UsedBelow n sets → n ≤ 0 → UsedBelow 0 sets
+used-end {n = n} u h = let z : n ≡ 0 = omega arith in rw z at u

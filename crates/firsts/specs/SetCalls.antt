@@ -45,12 +45,16 @@ pub record SetsLent (calls kinds : List ℕ) : Type 0 where
   pub kinds-many : length kinds ≡ 64
 
 -- the nonterminals from `many` on have empty sets
-pub record UsedBelow (many : ℕ) (calls kinds : List ℕ) : Type 0 where
+pub record UsedBelow (many : ℕ) (sets : List ℕ) : Type 0 where
   pub small : many ≤ 64
-  pub no-calls : (n : ℕ) → many ≤ n → getD calls n 0 ≡ 0
-  pub no-kinds : (n : ℕ) → many ≤ n → getD kinds n 0 ≡ 0
+  pub none : (n : ℕ) → many ≤ n → getD sets n 0 ≡ 0
 
--- the same, for the next callee
+-- a number that is neither below a nor below b
+pub record Above (a b r : ℕ) : Type 0 where
+  pub first : a ≤ r
+  pub second : b ≤ r
+
+-- two arrays of sets, for the next callee
 pub record StepLent (many : ℕ) (calls kinds : List ℕ) : Type 0 where
   pub lent : SetsLent calls kinds
   pub small : many ≤ 64

@@ -9,9 +9,9 @@ use kinds::join;
 use productions::index::offset;
 ghost use mathlib.Core.Path.{_≡_};
 ghost use lib.Bits.{bitOr};
-ghost use lib.ListN.{getD, set};
+ghost use lib.ListN.{length, getD, set};
 ghost use Rattle.kinds.specs.Kinds.{hasKind};
-ghost use Rattle.firsts.specs.SetCalls.{StepTaken, RoundTaken, BothSets, joinedIf, SetsLent, StepLent, UsedBelow, CalleeTaken, ClosedBoth};
+ghost use Rattle.firsts.specs.SetCalls.{StepTaken, RoundTaken, BothSets, joinedIf, SetsLent, StepLent, UsedBelow, Above, CalleeTaken, ClosedBoth};
 ghost use Rattle.productions.specs.Index.{productionAt, productionsBy};
 
 // Joins what was found to the set of nonterminal n.
@@ -91,19 +91,15 @@ fn take_callee(calls: &mut [u64], kinds: &mut [u64], many: u8, k: u8)
 }
 
 // One more than the highest nonterminal with a set that is not empty.
-fn used(calls: &[u64], kinds: &[u64]) -> u8
-    requires { ⌜ SetsLent (now calls) (now kinds) ⌝ }
-    ensures { λ r. ⌜ UsedBelow r (now (calls .entry)) (now (kinds .entry)) ⌝ }
+fn used(sets: &[u64]) -> u8
+    requires { ⌜ length (now sets) ≡ 64 ⌝ }
+    ensures { λ r. ⌜ UsedBelow r (now (sets .entry)) ⌝ }
 {
     let mut n: u8 = 64;
     while 0 < n {
         let i = (n - 1) as usize;
-        let called = calls[i];
-        if 0 < called {
-            return n;
-        }
-        let given = kinds[i];
-        if 0 < given {
+        let set = sets[i];
+        if 0 < set {
             return n;
         }
         n -= 1;
@@ -111,15 +107,24 @@ fn used(calls: &[u64], kinds: &[u64]) -> u8
     0
 }
 
+// The larger of two numbers.
+fn larger(a: u8, b: u8) -> u8
+    ensures { λ r. ⌜ Above a b r ⌝ }
+{
+    if a < b { b } else { a }
+}
+
 // Closes the calls over themselves, and the kinds over the calls. This rules out that a callee's callee is lost.
 fn close(calls: &mut [u64], kinds: &mut [u64])
     requires { ⌜ SetsLent (now calls) (now kinds) ⌝ }
     ensures { λ r. ⌜ ClosedBoth 64 (now (calls .entry)) (now (kinds .entry)) (now (calls .exit)) (now (kinds .exit)) ⌝ }
 {
-    let many = used(calls, kinds);
+    let callers = used(calls);
+    let givers = used(kinds);
+    let many = larger(callers, givers);
     let mut k: u8 = 0;
     while k < many {
-        take_callee(calls, kinds, many, k);
+        take_callee(calls, kinds, callers, k);
         k += 1;
     }
 }

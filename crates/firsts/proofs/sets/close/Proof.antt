@@ -7,13 +7,24 @@ use Rattle.firsts.proofs.sets.close.Statement.{statement}
 use Rattle.firsts.proofs.sets.close.Tie as tie
 
 abbrev Inv-loop : tie.InvT-loop
-Inv-loop calls₀ kinds₀ many k₀ calls kinds k = ClosedBoth k calls₀ kinds₀ calls kinds
+Inv-loop calls₀ kinds₀ callers givers many k₀ calls kinds k = ClosedBoth k calls₀ kinds₀ calls kinds
 
 abbrev μ-loop : tie.MeasureT-loop
-μ-loop calls₀ kinds₀ many k₀ calls kinds k = many - k
+μ-loop calls₀ kinds₀ callers givers many k₀ calls kinds k = many - k
+
+-- before the loop
+module _ (l : tie.After-larger Inv-loop μ-loop) where
+  abbrev counted : tie.After-used Inv-loop μ-loop
+  counted = l .before .before .before
 
 used-requires : tie.Need-used-requires Inv-loop μ-loop
 used-requires c κs = search needs
+
+used-requires-2 : tie.Need-used-requires-2 Inv-loop μ-loop
+used-requires-2 c κs = search needs
+
+larger-requires : tie.Need-larger-requires Inv-loop μ-loop
+larger-requires c κs = search needs
 
 loop-holds : tie.Need-loop-holds Inv-loop μ-loop
 loop-holds c = laws.both-start _ _
@@ -21,8 +32,8 @@ loop-holds c = laws.both-start _ _
 take-callee-requires : tie.Need-take-callee-requires Inv-loop μ-loop
 take-callee-requires c κs =
     let tested = c .before .before in
-    let counted = tested .before .before in
-    laws.both-lent (counted .used .ensures) (tested .before .loop .inv) (counted .before .before .before .before .before .pre)
+    let from = counted (tested .before .before) in
+    laws.both-lent (from .used .ensures) (tested .before .loop .inv) (from .before .before .before .before .pre)
 
 add-k : tie.Need-add-k Inv-loop μ-loop
 add-k c = search needs
@@ -34,7 +45,7 @@ loop-again : tie.Need-loop-again Inv-loop μ-loop
 loop-again c =
     let taken = c .before .before .before .before in
     let looped = taken .before .before .before .before in
-    laws.both-next (looped .before .used .ensures) (looped .loop .inv) (taken .take-callee .ensures)
+    laws.both-next (counted (looped .before) .used .ensures) (looped .loop .inv) (taken .take-callee .ensures)
 
 same-length : tie.Need-same-length Inv-loop μ-loop
 same-length c = c .before .loop .inv .calls-closed .as-many
@@ -43,7 +54,9 @@ same-length-2 : tie.Need-same-length-2 Inv-loop μ-loop
 same-length-2 c = c .before .loop .inv .kinds-closed .as-many
 
 returns : tie.Need-returns Inv-loop μ-loop
-returns c = laws.both-end (c .before .before .used .ensures) (c .before .loop .inv) (c .loop-test .left)
+returns c =
+    let from = c .before .before in
+    laws.both-end (counted from .used .ensures) (c .before .loop .inv) (from .before .used2 .ensures) (from .larger .ensures) (c .loop-test .left)
 
 pub close-spec : {M : Type 1} → statement M
 close-spec =
@@ -52,6 +65,8 @@ close-spec =
     Inv-loop
     μ-loop
     used-requires
+    used-requires-2
+    larger-requires
     loop-holds
     take-callee-requires
     add-k
