@@ -1,5 +1,5 @@
 -- Laws of the choice of a production: the walk over a nonterminal's own places gives the rule that `choice` gives.
-use Prim.Native.Nat.{ℕ, zero, suc, _+_, _-_, _*_, _<_, _≤_}
+use Prim.Native.Nat.{ℕ, zero, suc, _+_, _-_, _<_, _≤_}
 use mathlib.Core.Path.{_≡_, refl, sym, ap, _∙_, subst, subst⁻¹}
 use mathlib.Core.Bool.{Bool, true, false, _&&_, and-eq-true-iff}
 use mathlib.Core.List.{List, [], _∷_, map}
@@ -10,7 +10,7 @@ use native.Mathlib.Decide.{ℕ-discrete}
 use lib.Dec.{eqb, ltb}
 use lib.ListN.{length, getD, set, drop, length-set, length-drop, length-map, drop-of-length-le, replicate, length-replicate, getD-replicate}
 use lib.Seq.{drop-cons, drop-nil, drop-drop, getD-drop, getD-set-same, getD-set-other}
-use borrow.Author.Tests.{eq-eqb, ne-eqb, eqb-true, lt-ltb, le-ltb, ltb-true, ltb-false}
+use borrow.Author.Tests.{eq-eqb, eqb-true, lt-ltb, le-ltb, ltb-true, ltb-false}
 use Rattle.spellings.proofs.BytesLaws.{by-test}
 use Rattle.kinds.specs.Kinds.{hasKind}
 use Rattle.grammar.proofs.ReaderLaws.{getD-past}
@@ -19,10 +19,10 @@ use Rattle.layout.specs.Within.{Each, each-none, each-more}
 use Rattle.productions.specs.Normal.{Production}
 use Rattle.productions.specs.Index.{Place, placesOf, productionAt, wholeBody, Whole}
 use Rattle.productions.specs.Room.{Entry, noEntry, noPlace, HoldsEntries, placeFrom, isOf, isNullableOf, firstIn, startIn, firstSetIn}
-use Rattle.productions.specs.Room.{firstPlaceIn, nextPlaceIn, nullablePlaceIn, roomOf}
+use Rattle.productions.specs.Room.{firstPlaceIn, nextPlaceIn, nullablePlaceIn}
 use Rattle.productions.proofs.RoomLaws.{first-set-in, first-place-in, nullable-place-in, first-in, start-in, next-place-in}
 use Rattle.firsts.specs.FirstSets.{nullables}
-use Rattle.firsts.specs.Room.{entryAt, productionsIn, tableRoom, HoldsGrammar}
+use Rattle.firsts.specs.Room.{entryAt, productionsIn, tableRoom}
 use Rattle.firsts.proofs.StepLaws.{length-sets}
 use Rattle.expansion.specs.Expansion.{Rule, ruleOf, Choice, unfit, chosen, firstRule, choice, ready}
 use Rattle.choices.specs.Held.{Held}

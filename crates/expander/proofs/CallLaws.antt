@@ -1,5 +1,5 @@
 -- Laws of the root's call and of the whole formula.
-use Prim.Native.Nat.{ℕ, _+_, _-_, _*_, _<_, _≤_}
+use Prim.Native.Nat.{ℕ, _<_, _≤_}
 use mathlib.Core.Path.{_≡_, refl, sym, ap, _∙_, subst}
 use mathlib.Core.Bool.{Bool, true, false}
 use mathlib.Core.List.{List, []}
@@ -20,7 +20,7 @@ use Rattle.templates.specs.Built.{Holds}
 use Rattle.frames.specs.Frames.{longFrames, Fits, Saved, resume, owed, stacked-none, Standing}
 use Rattle.frames.proofs.FrameLaws.{waits-saved}
 use Rattle.turns.specs.declared.begins.Begun.{Begun}
-use Rattle.turns.specs.declared.begins.Begun.the-variants.{Refused, Entered}
+use Rattle.turns.specs.declared.begins.Begun.the-variants.{Entered}
 use Rattle.turns.specs.declared.Resumption.{Resumption}
 use Rattle.turns.specs.declared.Progress.{Progress}
 use Rattle.turns.specs.declared.Progress.the-variants.{Ended, Paused}

@@ -1,6 +1,6 @@
 -- Laws of the beginning of a call.
-use Prim.Native.Nat.{ℕ, zero, suc, _+_, _-_, _*_, _<_, _≤_}
-use mathlib.Core.Path.{_≡_, refl, sym, ap, _∙_, subst}
+use Prim.Native.Nat.{ℕ, zero, suc, _+_, _-_, _<_, _≤_}
+use mathlib.Core.Path.{_≡_, refl, sym, ap, _∙_}
 use mathlib.Core.Bool.{Bool, true, false}
 use mathlib.Core.List.{List}
 use native.Mathlib.Numerals.{sub-one}
@@ -11,8 +11,7 @@ use lib.ListN.{length, getD}
 use borrow.Author.Tests.{lt-ltb, le-ltb}
 use Rattle.answers.specs.declared.Refusal.{Refusal}
 use Rattle.answers.specs.Refusals.{refusal}
-use Rattle.grammar.specs.Lookup.{fieldsAt}
-use Rattle.productions.specs.Index.{wholeBody, productionAt}
+use Rattle.productions.specs.Index.{productionAt}
 use Rattle.productions.specs.Room.{startIn}
 use Rattle.firsts.specs.Room.{productionsIn}
 use Rattle.scanner.specs.Rooms.{tokensIn}
@@ -28,7 +27,7 @@ use Rattle.steps.specs.Steps.{body, weight}
 use Rattle.turns.specs.Lent.{lentInput}
 use Rattle.turns.specs.declared.begins.Begun.{Begun}
 use Rattle.turns.specs.declared.begins.Begun.the-variants.{Refused, Entered}
-use Rattle.turns.specs.Begins.{Begins, Entry, Enters, Starts}
+use Rattle.turns.specs.Begins.{Entry, Starts}
 
 -- what a call does with the rule that is chosen
 abbrev entered : ℕ → Input → ℕ → List ℕ → State → List ℕ → Choice → Result ℕ

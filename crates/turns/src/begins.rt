@@ -10,7 +10,6 @@ use steps::tokens::misfit;
 ghost use Prim.Native.Nat.{ℕ, _≤_};
 ghost use mathlib.Core.Path.{_≡_};
 ghost use mathlib.Core.List.{List};
-ghost use Rattle.answers.specs.Refusals.{refusal};
 ghost use Rattle.expansion.specs.Expansion.{callBegun};
 ghost use Rattle.expansion.specs.Limits.{mostCalls};
 ghost use Rattle.choices.specs.Held.{Held};

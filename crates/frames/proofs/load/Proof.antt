@@ -1,7 +1,5 @@
 -- `load`: 16 variables, one by one.
 use Prim.Native.Nat.{_-_}
-use mathlib.Core.Path.{refl, sym, ap, _∙_}
-use native.Mathlib.Omega.{arith}
 use borrow.Author.Needs.{needs}
 use Rattle.frames.proofs.FrameLaws as laws
 use Rattle.frames.proofs.load.Statement.{statement}
@@ -16,41 +14,31 @@ abbrev μ-loop : tie.MeasureT-loop
     16 - i
 
 mul-base : tie.Need-mul-base Inv-loop μ-loop
-mul-base c = omega (arith, c .pre .few)
+mul-base c = search needs
 
 loop-holds : tie.Need-loop-holds Inv-loop μ-loop
 loop-holds c = laws.loading-start _ _
 
 add-vars : tie.Need-add-vars Inv-loop μ-loop
-add-vars c = omega (arith, c .before .before .pre .few, c .before .before .pre .inside, (c .before .loop .inv) .long, (c .before .loop .inv) .small)
+add-vars c = search needs
 
 mul-vars : tie.Need-mul-vars Inv-loop μ-loop
-mul-vars c = omega (arith, c .before .before .pre .few, c .before .before .pre .inside, (c .before .loop .inv) .long, (c .before .loop .inv) .small)
+mul-vars c = search needs
 
 shared-slice-read-vars : tie.Need-shared-slice-read-vars Inv-loop μ-loop
-shared-slice-read-vars c =
-    let entry-place = c .before .before .before in
-    omega (arith, entry-place .pre .few, entry-place .pre .inside, (c .before .before .loop .inv) .long, (c .before .before .loop .inv) .small)
+shared-slice-read-vars c = search needs
 
 mul-vars-2 : tie.Need-mul-vars-2 Inv-loop μ-loop
-mul-vars-2 c =
-    let entry-place = c .before .before .before in
-    omega (arith, entry-place .pre .few, entry-place .pre .inside, (c .before .before .loop .inv) .long, (c .before .before .loop .inv) .small)
+mul-vars-2 c = search needs
 
 array-write-vars : tie.Need-array-write-vars Inv-loop μ-loop
-array-write-vars c =
-    let entry-place = c .before .before .before in
-    omega (arith, entry-place .pre .few, entry-place .pre .inside, (c .before .before .loop .inv) .long, (c .before .before .loop .inv) .small)
+array-write-vars c = search needs
 
 add-i : tie.Need-add-i Inv-loop μ-loop
-add-i c =
-    let entry-place = c .before .before .before in
-    omega (arith, entry-place .pre .few, entry-place .pre .inside, (c .before .before .loop .inv) .long, (c .before .before .loop .inv) .small)
+add-i c = search needs
 
 loop-less : tie.Need-loop-less Inv-loop μ-loop
-loop-less c =
-    let entry-place = c .before .before .before in
-    omega (arith, entry-place .pre .few, entry-place .pre .inside, (c .before .before .loop .inv) .long, (c .before .before .loop .inv) .small)
+loop-less c = search needs
 
 loop-again : tie.Need-loop-again Inv-loop μ-loop
 loop-again c = laws.loading-next (c .before .before .loop .inv) (c .before .loop-test .taken)

@@ -1,8 +1,7 @@
 -- `save`: 16 variables, one by one, then two numbers.
 use Prim.Native.Nat.{_-_}
-use mathlib.Core.Path.{refl, sym, ap, _∙_}
 use native.Mathlib.Omega.{arith}
-use lib.ListN.{length, length-set}
+use lib.ListN.{length-set}
 use borrow.Author.Needs.{needs}
 use Rattle.frames.proofs.FrameLaws as laws
 use Rattle.frames.proofs.save.Statement.{statement}
@@ -17,92 +16,71 @@ abbrev μ-loop : tie.MeasureT-loop
     16 - i
 
 mul-base : tie.Need-mul-base Inv-loop μ-loop
-mul-base c = omega (arith, c .pre .0 .few)
+mul-base c = search needs
 
 loop-holds : tie.Need-loop-holds Inv-loop μ-loop
 loop-holds c = laws.saving-start _ _ _
 
 mul-frames : tie.Need-mul-frames Inv-loop μ-loop
-mul-frames c = omega (arith, c .before .before .pre .0 .few, c .before .before .pre .0 .inside, (c .before .loop .inv) .long, (c .before .loop .inv) .small)
+mul-frames c = search needs
 
 element-copy-out-frames : tie.Need-element-copy-out-frames Inv-loop μ-loop
-element-copy-out-frames c =
-    omega (arith, c .before .before .pre .0 .few, c .before .before .pre .0 .inside, (c .before .loop .inv) .long, (c .before .loop .inv) .small)
+element-copy-out-frames c = search needs
 
 add-frames : tie.Need-add-frames Inv-loop μ-loop
-add-frames c =
-    let entry-place = c .before .before .before in
-    omega (arith, entry-place .pre .0 .few, entry-place .pre .0 .inside, (c .before .before .loop .inv) .long, (c .before .before .loop .inv) .small)
+add-frames c = search needs
 
 mul-frames-2 : tie.Need-mul-frames-2 Inv-loop μ-loop
-mul-frames-2 c =
-    let entry-place = c .before .before .before in
-    omega (arith, entry-place .pre .0 .few, entry-place .pre .0 .inside, (c .before .before .loop .inv) .long, (c .before .before .loop .inv) .small)
+mul-frames-2 c = search needs
 
 slice-write-frames : tie.Need-slice-write-frames Inv-loop μ-loop
-slice-write-frames c =
-    let entry-place = c .before .before .before in
-    omega (arith, entry-place .pre .0 .few, entry-place .pre .0 .inside, (c .before .before .loop .inv) .long, (c .before .before .loop .inv) .small)
+slice-write-frames c = search needs
 
 add-i : tie.Need-add-i Inv-loop μ-loop
-add-i c =
-    let entry-place = c .before .before .before in
-    omega (arith, entry-place .pre .0 .few, entry-place .pre .0 .inside, (c .before .before .loop .inv) .long, (c .before .before .loop .inv) .small)
+add-i c = search needs
 
 loop-less : tie.Need-loop-less Inv-loop μ-loop
-loop-less c =
-    let entry-place = c .before .before .before in
-    omega (arith, entry-place .pre .0 .few, entry-place .pre .0 .inside, (c .before .before .loop .inv) .long, (c .before .before .loop .inv) .small)
+loop-less c = search needs
 
 loop-again : tie.Need-loop-again Inv-loop μ-loop
 loop-again c =
-    let entry-place = c .before .before .before in
-    laws.saving-next (c .before .before .loop .inv) (c .before .loop-test .taken) (omega (arith, entry-place .pre .0 .few, entry-place .pre .0 .inside))
+    let l = c .before .before in
+    laws.saving-next (l .loop .inv) (c .before .loop-test .taken) (omega (arith, l .before .pre .0 .inside))
 
 cast-frames : tie.Need-cast-frames Inv-loop μ-loop
-cast-frames c = omega (arith, c .before .before .pre .1 .0)
+cast-frames c = search needs
 
 add-frames-2 : tie.Need-add-frames-2 Inv-loop μ-loop
-add-frames-2 c =
-    omega (arith, c .before .before .pre .0 .few, c .before .before .pre .0 .inside, (c .before .loop .inv) .long, (c .before .loop .inv) .small)
+add-frames-2 c = search needs
 
 mul-frames-3 : tie.Need-mul-frames-3 Inv-loop μ-loop
-mul-frames-3 c =
-    omega (arith, c .before .before .pre .0 .few, c .before .before .pre .0 .inside, (c .before .loop .inv) .long, (c .before .loop .inv) .small)
+mul-frames-3 c = search needs
 
 slice-write-frames-2 : tie.Need-slice-write-frames-2 Inv-loop μ-loop
-slice-write-frames-2 c =
-    omega (arith, c .before .before .pre .0 .few, c .before .before .pre .0 .inside, (c .before .loop .inv) .long, (c .before .loop .inv) .small)
+slice-write-frames-2 c = search needs
 
 cast-frames-2 : tie.Need-cast-frames-2 Inv-loop μ-loop
-cast-frames-2 c = omega (arith, c .before .before .pre .1 .1)
+cast-frames-2 c = search needs
 
 add-frames-3 : tie.Need-add-frames-3 Inv-loop μ-loop
-add-frames-3 c =
-    omega (arith, c .before .before .pre .0 .few, c .before .before .pre .0 .inside, (c .before .loop .inv) .long, (c .before .loop .inv) .small)
+add-frames-3 c = search needs
 
 mul-frames-4 : tie.Need-mul-frames-4 Inv-loop μ-loop
-mul-frames-4 c =
-    omega (arith, c .before .before .pre .0 .few, c .before .before .pre .0 .inside, (c .before .loop .inv) .long, (c .before .loop .inv) .small)
+mul-frames-4 c = search needs
 
 slice-write-frames-3 : tie.Need-slice-write-frames-3 Inv-loop μ-loop
 slice-write-frames-3 c =
-    simp length-set (omega (
-      arith,
-      c .before .before .pre .0 .few,
-      c .before .before .pre .0 .inside,
-      (c .before .loop .inv) .long,
-      (c .before .loop .inv)
-          .small,
-    ))
+    let l = c .before in
+    simp length-set (omega (arith, l .before .pre .0 .inside, l .loop .inv .long))
 
 same-length : tie.Need-same-length Inv-loop μ-loop
-same-length c = simp length-set ((c .before .loop .inv) .long)
+same-length c = search needs
 
 returns : tie.Need-returns Inv-loop μ-loop
 returns c =
-    laws.saving-end (c .before .loop .inv) (c .loop-test .left) (omega (arith, c .before .before .pre .0 .few, c .before .before .pre .0 .inside)) (c
-    .before .before .args .count) (c .before .before .args .next)
+    let l = c .before in
+    let entry = l .before in
+    laws.saving-end (l .loop .inv) (c .loop-test .left) (entry .pre .0 .inside) (entry .args .count) (entry .args .next)
 
 pub save-spec : {M : Type 1} → statement M
 save-spec =

@@ -1,13 +1,6 @@
 -- `enter`: the beginning of a call, and the call that calls, saved.
-use Prim.Native.Nat.{ℕ}
-use mathlib.Core.List.{List}
 use native.Mathlib.Omega.{arith}
 use borrow.Author.Needs.{needs}
-use Rattle.choices.specs.Held.{Held}
-use Rattle.choices.specs.Chosen.{Remembers}
-use Rattle.expansion.specs.Run.{Result}
-use Rattle.turns.specs.Lent.{lentInput}
-use Rattle.turns.specs.Turns.{Going, Calling}
 use Rattle.turns.proofs.TurnLaws as laws
 use Rattle.turns.proofs.enter.Statement.{statement}
 use Rattle.turns.proofs.enter.Tie as tie

@@ -9,7 +9,7 @@ use Rattle.expansion.specs.Run.{Result}
 use Rattle.expansion.specs.Expansion.{Input}
 use Rattle.templates.specs.Built.{rowsIn}
 use Rattle.expander.specs.Lent.{lentInput}
-use Rattle.frames.specs.Frames.{longFrames, Fits, Standing}
+use Rattle.frames.specs.Frames.{longFrames, Standing}
 use Rattle.turns.specs.Turns.{Goes}
 use Rattle.frames.proofs.FrameLaws.{standing-same}
 use Rattle.expander.proofs.CallLaws as laws
