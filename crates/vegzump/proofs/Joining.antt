@@ -215,7 +215,8 @@ module _ {bs : List ℕ} (bytes : Bytes bs) (cells : List ℕ) {formula words ce
 
   -- What the last step answers and writes is what the expansion does.
   pub emits : (text : List ℕ) {r : Answer} {text′ : List ℕ}
-      → emitted textOf (s .made) (termAt (s .made) (spelledBy bs formula words count) (take (s .made * columns) cells′) v) text ≡ record { answer = r; text = text′ }
+      → emitted textOf (s .made) (termAt (s .made) (spelledBy bs formula words count) (take (s .made * columns) cells′) v) text
+      ≡ record { answer = r; text = text′ }
       → expanded r cells′ text′ ≡ expand bs formula cells text
   emits text {r} {text′} e =
       sym

@@ -8,39 +8,27 @@ use Rattle.emitter.proofs.EmitterLaws as laws
 use borrow.Author.Needs.{needs}
 use Rattle.emitter.proofs.emit.Statement.{statement}
 use Rattle.emitter.proofs.emit.Tie as tie
-use Rattle.emitter.proofs.emit.Reads as reads
-use Rattle.emitter.proofs.emit.Lts as lts
-use Rattle.emitter.proofs.emit_in.Reads as emit-in-reads
-use Rattle.emitter.proofs.refusing.Reads as refusing-reads
-use Rattle.rows.proofs.sizes.size_term.Reads as size-term-reads
 
--- src/lib.rt:91:9
 size-term-requires : tie.Need-size-term-requires
 size-term-requires c κs = search needs
 
--- src/lib.rt:93:9
 refusing-requires : tie.Need-refusing-requires
 refusing-requires c κs = search needs
 
--- src/lib.rt:93:9
 returns : tie.Need-returns
 returns c = laws.emit-large _ _ _ _ _ (omega (arith, c .before .before .size-term .ensures, c .before .if1 .taken)) (c .refusing .ensures)
 
--- src/lib.rt:95:16
 sub-size : tie.Need-sub-size
 sub-size c = omega (arith, c .before .size-term .ensures)
 
--- src/lib.rt:106:13
 array-borrow-prefix-marks : tie.Need-array-borrow-prefix-marks
 array-borrow-prefix-marks c = search needs
 
--- src/lib.rt:106:13
 slice-aggregate-emit-in : tie.Need-slice-aggregate-emit-in
 slice-aggregate-emit-in c =
     let counted = c .before .before .before .size-term .ensures in
     sym (length-take-le _ _ (omega (arith, length-replicate {A = ℕ} 256 0, counted, c .before .if2 .taken, c .before .before .if1 .left)))
 
--- src/lib.rt:98:9
 emit-in-requires : tie.Need-emit-in-requires
 emit-in-requires c κs =
     let sized = c .before .before .before .before in
@@ -48,25 +36,20 @@ emit-in-requires c κs =
     laws.markable (replicate 256 0) (entry .pre) (sized .size-term .ensures) (c .before .before .before .if1 .left)
     (omega (arith, length-replicate {A = ℕ} 256 0, sized .size-term .ensures, c .before .before .if2 .taken, c .before .before .before .if1 .left))
 
--- src/lib.rt:98:9
 same-length : tie.Need-same-length
 same-length c = search needs
 
--- src/lib.rt:98:9
 returns-2 : tie.Need-returns-2
 returns-2 c = search needs
 
--- src/lib.rt:119:9
 array-borrow-prefix-marks-2 : tie.Need-array-borrow-prefix-marks-2
 array-borrow-prefix-marks-2 c = search needs
 
--- src/lib.rt:119:9
 slice-aggregate-emit-in-2 : tie.Need-slice-aggregate-emit-in-2
 slice-aggregate-emit-in-2 c =
     let counted = c .before .before .before .size-term .ensures in
     sym (length-take-le _ _ (omega (arith, length-replicate {A = ℕ} 16384 0, counted, c .before .if2 .left, c .before .before .if1 .left)))
 
--- src/lib.rt:111:5
 emit-in-requires-2 : tie.Need-emit-in-requires-2
 emit-in-requires-2 c κs =
     let sized = c .before .before .before .before in
@@ -74,11 +57,9 @@ emit-in-requires-2 c κs =
     laws.markable (replicate 16384 0) (entry .pre) (sized .size-term .ensures) (c .before .before .before .if1 .left)
     (omega (arith, length-replicate {A = ℕ} 16384 0, sized .size-term .ensures, c .before .before .if2 .left, c .before .before .before .if1 .left))
 
--- src/lib.rt:74:1
 same-length-2 : tie.Need-same-length-2
 same-length-2 c = search needs
 
--- src/lib.rt:74:1
 returns-3 : tie.Need-returns-3
 returns-3 c = search needs
 

@@ -4,33 +4,22 @@ use Rattle.emitter.proofs.EmitterLaws as laws
 use borrow.Author.Needs.{needs}
 use Rattle.emitter.proofs.emit_in.Statement.{statement}
 use Rattle.emitter.proofs.emit_in.Tie as tie
-use Rattle.emitter.proofs.emit_in.Reads as reads
-use Rattle.emitter.proofs.emit_in.Lts as lts
-use Rattle.emitter.proofs.answered.Reads as answered-reads
-use Rattle.emitter.proofs.refusing.Reads as refusing-reads
-use Rattle.printer.proofs.print_text.Reads as print-text-reads
-use Rattle.resolver.proofs.resolve.Reads as resolve-reads
 
--- src/lib.rt:51:9
 resolve-requires : tie.Need-resolve-requires
 resolve-requires c κs =
     let back = c .before .before .before .before .before .before in
     let pre = back .before .pre in
     record { whole = pre .emittable .whole; counted = pre .counted; few = pre .few }
 
--- src/lib.rt:53:27
 enum-known-resolution : tie.Need-enum-known-resolution
 enum-known-resolution c = search needs
 
--- src/lib.rt:53:33
 refusing-requires : tie.Need-refusing-requires
 refusing-requires c κs = search needs
 
--- src/lib.rt:55:17
 enum-told : tie.Need-enum-told
 enum-told c = search needs
 
--- src/lib.rt:56:17
 print-text-requires : tie.Need-print-text-requires
 print-text-requires c κs =
     let marks = c .before .before .before .before .before in
@@ -46,15 +35,12 @@ print-text-requires c κs =
       small = omega (arith, pre .few, marks .marks .given);
     }
 
--- src/lib.rt:67:13
 answered-requires : tie.Need-answered-requires
 answered-requires c κs = search needs
 
--- src/lib.rt:32:1
 same-length : tie.Need-same-length
 same-length c = search needs
 
--- src/lib.rt:32:1
 returns : tie.Need-returns
 returns c =
     let resolved = c .before .before .before .before .before .before in
@@ -63,15 +49,12 @@ returns c =
     laws.emit-loose _ _ _ _ _ (omega (arith, pre .counted, pre .few))
     (resolved .resolve .ensures _ (pre .emittable .distinct) (pre .emittable .wellNamed)) (c .before .before .resolution .given .1) (c .refusing .ensures)
 
--- src/lib.rt:32:1
 same-length-2 : tie.Need-same-length-2
 same-length-2 c = search needs
 
--- src/lib.rt:32:1
 same-length-3 : tie.Need-same-length-3
 same-length-3 c = search needs
 
--- src/lib.rt:32:1
 returns-2 : tie.Need-returns-2
 returns-2 c =
     let told = c .before .before .before .before .before .before in

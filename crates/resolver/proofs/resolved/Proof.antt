@@ -3,28 +3,19 @@ use Rattle.resolver.proofs.ResolvedLaws.{resolves-numbered}
 use borrow.Author.Needs.{needs}
 use Rattle.resolver.proofs.resolved.Statement.{statement}
 use Rattle.resolver.proofs.resolved.Tie as tie
-use Rattle.resolver.proofs.resolved.Reads as reads
-use Rattle.resolver.proofs.resolved.Lts as lts
-use Rattle.resolver.proofs.numbering.number.Reads as number-reads
-use Rattle.resolver.proofs.resolving.resolve_term.Reads as resolve-term-reads
 
--- src/lib.rt:33:5
 resolve-term-requires : tie.Need-resolve-term-requires
 resolve-term-requires c κs = search needs
 
--- src/lib.rt:35:5
 number-requires : tie.Need-number-requires
 number-requires c κs = search needs
 
--- src/lib.rt:21:1
 same-length : tie.Need-same-length
 same-length c = search needs
 
--- src/lib.rt:21:1
 same-length-2 : tie.Need-same-length-2
 same-length-2 c = search needs
 
--- src/lib.rt:21:1
 returns : tie.Need-returns
 returns c =
     let number = c .before .before in

@@ -1,11 +1,10 @@
 -- `resolve_term`, `resolve_part` and `resolve_fields`: the code of a row decides; a binder's slot is set before its body and set back behind it.
 use Prim.Native.Nat.{ℕ, _+_, _*_, _<_}
-use mathlib.Core.Path.{_≡_, refl, sym, ap, _∙_}
+use mathlib.Core.Path.{refl, _∙_}
 use native.Mathlib.Omega.{arith}
 use borrow.Author.Needs.{needs}
 use borrow.Fn.Kinds.{In}
 use borrow.Fn.PlainCycle.{Measures, is, falls, and}
-use lib.ListN.{length, length-set}
 use Rattle.resolver.proofs.ResolveLaws as laws
 use Rattle.resolver.proofs.resolving.resolve_fields.Reads as resolve-fields
 use Rattle.resolver.proofs.resolving.resolve_fields.Kinds as resolve-fields-kinds
@@ -487,12 +486,13 @@ term-returns-7 : (t : ℕ) → term-lts.Need-returns-7 (term-claims t) (term-at 
 term-returns-7 t c =
     let p = c .before in
     let no = c .match .rest in
+    let first = no .0 .0 in
     record {
       resolves =
-          laws.number-resolves _ _ _ _ (term-test t p .if1 .left) (p .before .before .column .ensures) (no .0 .0 .0 .0 .1)
-          (no .0 .0 .0 .1) (no .0 .0 .1) (no .0 .1) (no .1) _ _ (term-put t p .put .ensures);
-      moved = laws.number-place _ _ _ _ (term-test t p .if1 .left) (p .before .before .column .ensures) (no .0 .0 .0 .0 .1)
-          (no .0 .0 .0 .1) (no .0 .0 .1) (no .0 .1) (no .1);
+          laws.number-resolves _ _ _ _ (term-test t p .if1 .left) (p .before .before .column .ensures) (first .0 .0 .1)
+          (first .0 .1) (first .1) (no .0 .1) (no .1) _ _ (term-put t p .put .ensures);
+      moved = laws.number-place _ _ _ _ (term-test t p .if1 .left) (p .before .before .column .ensures) (first .0 .0 .1)
+          (first .0 .1) (first .1) (no .0 .1) (no .1);
     }
 
 pub +resolve-fields+resolve-part+resolve-term-spec : {M : Type 1} → statement M

@@ -4,22 +4,16 @@ use Rattle.grammar.proofs.ReaderLaws.{getD-past}
 use borrow.Author.Needs.{needs}
 use Rattle.resolver.proofs.resolving.innermost.Statement.{statement}
 use Rattle.resolver.proofs.resolving.innermost.Tie as tie
-use Rattle.resolver.proofs.resolving.innermost.Reads as reads
-use Rattle.resolver.proofs.resolving.innermost.Lts as lts
 
--- src/resolving.rt:29:16
 mul-result : tie.Need-mul-result
 mul-result c = search needs
 
--- src/resolving.rt:29:16
 shared-slice-read-result : tie.Need-shared-slice-read-result
 shared-slice-read-result c = search needs
 
--- src/resolving.rt:29:9
 returns : tie.Need-returns
 returns c = search needs
 
--- src/resolving.rt:25:1
 returns-2 : tie.Need-returns-2
 returns-2 c = sym (getD-past (c .before .args .current .now) (c .before .args .slot) 0 (c .if1 .left))
 

@@ -5,20 +5,13 @@ use Rattle.resolver.proofs.NameLaws.{word-mark, fresh-bound-mark, fresh
 use borrow.Author.Needs.{needs}
 use Rattle.resolver.proofs.resolving.variable_mark.Statement.{statement}
 use Rattle.resolver.proofs.resolving.variable_mark.Tie as tie
-use Rattle.resolver.proofs.resolving.variable_mark.Reads as reads
-use Rattle.resolver.proofs.resolving.variable_mark.Lts as lts
-use Rattle.resolver.proofs.binders.find.Reads as find-reads
-use Rattle.resolver.proofs.resolving.innermost.Reads as innermost-reads
 
--- src/resolving.rt:40:9
 find-requires : tie.Need-find-requires
 find-requires c κs = c .before .before .before .pre .linked
 
--- src/resolving.rt:41:9
 innermost-requires : tie.Need-innermost-requires
 innermost-requires c κs = search needs
 
--- src/resolving.rt:46:17
 returns : tie.Need-returns
 returns c =
     let s = c .before .before .before .before .before .before in
@@ -27,7 +20,6 @@ returns c =
     fresh-loose-mark spell (e .args .x) (e .args .cells .now) (e .args .current .now) around known env (c .before .match .keys2)
     (c .before .before .innermost .ensures ∙ ap (λ n. getD (e .args .current .now) n 0) (c .before .before .before .find .ensures .0)) (c .if1 .taken)
 
--- src/resolving.rt:35:1
 returns-2 : tie.Need-returns-2
 returns-2 c =
     let e = c .before .before .before .before .before .before in
@@ -35,7 +27,6 @@ returns-2 c =
     word-mark spell (e .args .x) (e .args .cells .now) (e .args .current .now) around known env (c .match .keys1)
     (c .before .innermost .ensures ∙ ap (λ n. getD (e .args .current .now) n 0) (c .before .before .find .ensures .0))
 
--- src/resolving.rt:35:1
 returns-3 : tie.Need-returns-3
 returns-3 c =
     let s = c .before .before .before .before .before .before in
@@ -44,7 +35,6 @@ returns-3 c =
     fresh-bound-mark spell (e .args .x) (e .args .cells .now) (e .args .current .now) around known env (c .before .match .keys2)
     (c .before .before .innermost .ensures ∙ ap (λ n. getD (e .args .current .now) n 0) (c .before .before .before .find .ensures .0)) (c .if1 .left)
 
--- src/resolving.rt:35:1
 returns-4 : tie.Need-returns-4
 returns-4 c =
     let e = c .before .before .before .before .before .before in
