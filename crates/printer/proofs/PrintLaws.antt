@@ -160,10 +160,14 @@ module _ {pool cells numbers : List ℕ} {k row at p : ℕ} {out : List ℕ} {r 
           opened _ (rw (eq, el, rows.dot-row (spellIn pool) cells k row some c e, add-one p) (print-dot _ _))
           (rw (eq, rows.dot-row noSpell cells k row some c e) (omega arith))
 
-      pub opened-bare : (code ≡ 33 → ⊥) → (code ≡ 34 → ⊥) → (code ≡ 35 → ⊥) → (code ≡ 36 → ⊥)
+      pub opened-bare : (((Unit {0} × (code ≡ 33 → ⊥)) × (code ≡ 34 → ⊥)) × (code ≡ 35 → ⊥)) × (code ≡ 36 → ⊥)
           → Printing pool cells numbers (term k row) at p out (text close ∷ []) r (p + 1) out′
       unfolding partText termOpening labelled piecesText piecesSize size
-      opened-bare a b d e =
+      opened-bare others =
+          let (before-dot, e) = others in
+          let (before-rcd, d) = before-dot in
+          let (before-app, b) = before-rcd in
+          let a = before-app .1 in
           opened (text close ∷ [])
           (rows.bare-row (spellIn pool) cells k row some c (λ t. print (labelled numbers p t) ≡ opening (labelled numbers p t) ++ close)
           (λ v. print-var _) (λ n. print-num n) a b d e)
