@@ -1,5 +1,5 @@
 -- Printing, constructor by constructor: what the parts' walks write, the whole writes.
-use Prim.Native.Nat.{ℕ, _+_, _-_, _^_, _<_, _≤_}
+use Prim.Native.Nat.{ℕ, _+_, _-_, _^_, _<_}
 use mathlib.Core.Path.{_≡_, refl, sym, ap, _∙_}
 use mathlib.Core.List.{List, [], _∷_, _++_, append-assoc, append-nil}
 use native.Mathlib.Numerals.{add-one}
@@ -16,7 +16,7 @@ use Rattle.rows.proofs.SizeLaws.{size-spell, size-some, size-some-fields}
 use Rattle.writer.specs.Openings.{opening, openingFields, spellIn, termOpening, fieldsOpening, Wrote, OpeningFits, FieldsOpeningFits}
 use Rattle.printer.specs.Printed.{Part, term, fields, partText, partSize, Fits, Printed}
 use Rattle.writer.proofs.Pieces.{then, as-text}
-use Rattle.printer.proofs.Texts.{fieldsPrint, print-fun, print-app, print-rcd, print-dot, print-var, print-num, print-cons, print-nil}
+use Rattle.printer.proofs.Texts.{print-fun, print-app, print-rcd, print-dot, print-var, print-num, print-cons, print-nil}
 use Rattle.printer.proofs.Texts.{opening-part, opening-part-fields}
 
 -- ------------------------------------------------------------------ pieces of a part
@@ -100,8 +100,7 @@ module _ {pool cells numbers : List ℕ} {x : Part} {at place : ℕ} {out : List
       record {
         done = P .done ++ s;
         split =
-            P .split ∙ ap (λ n. P .done ++ (s ++ piecesText pool cells numbers ps n)) (sym (w .moved))
-            ∙ sym (append-assoc (P .done) s (piecesText pool cells numbers ps _));
+            cc (P .split, w .moved, append-assoc (P .done) s (piecesText pool cells numbers ps _));
         wrote = then (P .wrote) (w .wrote);
         moved = omega (arith, P .moved, w .moved);
       }
@@ -143,7 +142,13 @@ module _ {pool cells numbers : List ℕ} {k row at p : ℕ} {out : List ℕ} {r 
       unfolding partText termOpening labelled piecesText piecesSize size
       opened-app {q} e eq eq′ =
           opened _
-          (rw (size-spell (k - 1) noSpell (spellIn pool) cells q, eq, eq′, rows.app-row (spellIn pool) cells k row some c e, add-one p) (print-app _ _))
+          (rw (
+            size-spell (k - 1) noSpell (spellIn pool) cells q,
+            eq,
+            eq′,
+            rows.app-row (spellIn pool) cells k row some c e,
+            add-one p,
+          ) (print-app _ _))
           (rw (eq, eq′, rows.app-row noSpell cells k row some c e) (omega arith))
 
       pub opened-rcd : {q : ℕ} → code ≡ 35 → q ≡ column cells row 1
@@ -160,10 +165,14 @@ module _ {pool cells numbers : List ℕ} {k row at p : ℕ} {out : List ℕ} {r 
           opened _ (rw (eq, el, rows.dot-row (spellIn pool) cells k row some c e, add-one p) (print-dot _ _))
           (rw (eq, rows.dot-row noSpell cells k row some c e) (omega arith))
 
-      pub opened-bare : (code ≡ 33 → ⊥) → (code ≡ 34 → ⊥) → (code ≡ 35 → ⊥) → (code ≡ 36 → ⊥)
+      pub opened-bare : (((Unit {0} × (code ≡ 33 → ⊥)) × (code ≡ 34 → ⊥)) × (code ≡ 35 → ⊥)) × (code ≡ 36 → ⊥)
           → Printing pool cells numbers (term k row) at p out (text close ∷ []) r (p + 1) out′
       unfolding partText termOpening labelled piecesText piecesSize size
-      opened-bare a b d e =
+      opened-bare others =
+          let (before-dot, e) = others in
+          let (before-rcd, d) = before-dot in
+          let (before-app, b) = before-rcd in
+          let a = before-app .1 in
           opened (text close ∷ [])
           (rows.bare-row (spellIn pool) cells k row some c (λ t. print (labelled numbers p t) ≡ opening (labelled numbers p t) ++ close)
           (λ v. print-var _) (λ n. print-num n) a b d e)
@@ -185,7 +194,13 @@ module _ {pool cells numbers : List ℕ} {k row at p : ℕ} {out : List ℕ} {r 
       unfolding partText fieldsOpening labelledFields openingFields piecesText piecesSize sizeFields
       opened-cons {q} e eq eq′ =
           opened-fields _
-          (rw (size-spell (k - 1) noSpell (spellIn pool) cells q, eq, eq′, rows.cons-row (spellIn pool) cells k row some c e, add-one p) (print-cons _ _ _))
+          (rw (
+            size-spell (k - 1) noSpell (spellIn pool) cells q,
+            eq,
+            eq′,
+            rows.cons-row (spellIn pool) cells k row some c e,
+            add-one p,
+          ) (print-cons _ _ _))
           (rw (eq, eq′, rows.cons-row noSpell cells k row some c e) (omega arith))
 
       pub opened-nil : (code ≡ 38 → ⊥) → Printing pool cells numbers (fields k row) at p out (text close ∷ []) r (p + 1) out′

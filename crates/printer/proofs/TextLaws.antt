@@ -1,15 +1,12 @@
 -- A whole text: measured first, then written if it fits.
 use Prim.Native.Nat.{ℕ, _+_, _<_, _≤_}
-use mathlib.Core.Path.{_≡_, sym, ap, _∙_}
-use mathlib.Core.List.{List, _++_}
+use mathlib.Core.Path.{_≡_, sym, _∙_}
+use mathlib.Core.List.{List}
 use native.Mathlib.Nat.{zero-add}
 use native.Mathlib.Omega.{arith}
-use lib.ListN.{length, drop}
+use lib.ListN.{length}
 use lib.Seq.{sets-eq}
 use Rattle.spellings.proofs.BuffersLaws.{written-fits, written-not}
-use Rattle.terms.specs.Rows.{termAt}
-use Rattle.terms.specs.Print.{print}
-use Rattle.terms.specs.Labelled.{labelled}
 use Rattle.writer.specs.Openings.{spellIn, Wrote}
 use Rattle.printer.specs.Printed.{term, partText, textBy, Prints}
 use Rattle.writer.specs.Pool.{Pooled}
@@ -25,7 +22,7 @@ prints-whole {out} {text} e l w =
     let z : 0 + length out ≡ length out = zero-add (length out) in
     record {
       needed = w .end ∙ z;
-      placed = w .put (omega arith) ∙ sets-eq out text 0 (omega arith) ∙ ap (λ n. out ++ drop n text) z ∙ sym (written-fits out text fits);
+      placed = cc (w .put (omega arith), sets-eq out text 0 (omega arith), written-fits out text fits);
     }
 
 -- the text by what the room spells

@@ -1,6 +1,6 @@
 -- The text of a term and of a field list: what it begins with, then its parts.
 use Prim.Native.Nat.{ℕ, suc, _+_, _≤_}
-use mathlib.Core.Path.{_≡_, refl, sym, ap, _∙_}
+use mathlib.Core.Path.{_≡_, refl, sym, ap}
 use mathlib.Core.List.{List, [], _∷_, _++_, append-assoc}
 use native.Mathlib.Omega.{arith}
 use lib.ListN.{length, length-append}
@@ -16,22 +16,22 @@ mutual
   follow : (t : Tree) (s : List ℕ) → showThen t s ≡ showThen t [] ++ s
   follow (leaf x) s = sym (append-assoc x [] s)
   follow (node x ts) s =
-      ap (λ l. x ++ 0x28 ∷ l)
-      (follow-all ts (0x29 ∷ s) ∙ sym (append-assoc (argumentsThen ts []) (0x29 ∷ []) s) ∙ ap (λ l. l ++ s) (sym (follow-all ts (0x29 ∷ []))))
-      ∙ sym (append-assoc x (0x28 ∷ argumentsThen ts (0x29 ∷ [])) s)
+      cc (
+        follow-all ts (0x29 ∷ s),
+        append-assoc (argumentsThen ts []) (0x29 ∷ []) s,
+        follow-all ts (0x29 ∷ []),
+        append-assoc x (0x28 ∷ argumentsThen ts (0x29 ∷ [])) s,
+      )
 
   follow-all : (ts : Trees) (s : List ℕ) → argumentsThen ts s ≡ argumentsThen ts [] ++ s
   follow-all none s = refl
   follow-all (more t ts) s =
-      follow t (othersThen ts s) ∙ ap (λ l. showThen t [] ++ l) (follow-others ts s) ∙ sym (append-assoc (showThen t []) (othersThen ts []) s)
-      ∙ ap (λ l. l ++ s) (sym (follow t (othersThen ts [])))
+      cc (follow t (othersThen ts s), follow-others ts s, append-assoc (showThen t []) (othersThen ts []) s, follow t (othersThen ts []))
 
   follow-others : (ts : Trees) (s : List ℕ) → othersThen ts s ≡ othersThen ts [] ++ s
   follow-others none s = refl
   follow-others (more t ts) s =
-      ap (λ l. 0x20 ∷ l)
-      (follow t (othersThen ts s) ∙ ap (λ l. showThen t [] ++ l) (follow-others ts s) ∙ sym (append-assoc (showThen t []) (othersThen ts []) s)
-      ∙ ap (λ l. l ++ s) (sym (follow t (othersThen ts []))))
+      cc (follow t (othersThen ts s), follow-others ts s, append-assoc (showThen t []) (othersThen ts []) s, follow t (othersThen ts []))
 
 abbrev pub fieldsPrint : Fields (List ℕ) → List ℕ
 fieldsPrint f = showThen (treeOfFields f) []

@@ -117,10 +117,16 @@ module _ {pool cells numbers : List ℕ} {k row at p : ℕ} (out : List ℕ) (f 
     unfolding termOpening labelled opening numberOpening
     open-zero e = go-start out (rw (rows.zero-row (spellIn pool) cells k row some c e) refl)
 
-    pub open-num : (code ≡ 32 → ⊥) → (code ≡ 33 → ⊥) → (code ≡ 34 → ⊥) → (code ≡ 35 → ⊥) → (code ≡ 36 → ⊥) → (code ≡ 37 → ⊥) → (code ≡ 38 → ⊥)
-        → {x : ℕ} → x ≡ column cells row 1 → Opening (numberOpening x ∷ [])
+    pub open-num : ((((((Unit {0} × (code ≡ 32 → ⊥)) × (code ≡ 33 → ⊥)) × (code ≡ 34 → ⊥)) × (code ≡ 35 → ⊥)) × (code ≡ 36 → ⊥)) × (code ≡ 37 → ⊥))
+        × (code ≡ 38 → ⊥) → {x : ℕ} → x ≡ column cells row 1 → Opening (numberOpening x ∷ [])
     unfolding termOpening labelled opening numberOpening
-    open-num a b d e f g h ex = go-start out (rw (ex, rows.num-row (spellIn pool) cells k row some c a b d e f g h) refl)
+    open-num others ex =
+        let (before-cons, not-cons) = others in
+        let (before-nil, not-nil) = before-cons in
+        let (before-dot, not-dot) = before-nil in
+        let (until-app, not-rcd) = before-dot in
+        go-start out
+        (rw (ex, rows.num-row (spellIn pool) cells k row some c (until-app .0 .0 .1) (until-app .0 .1) (until-app .1) not-rcd not-dot not-nil not-cons) refl)
 
 module _ {pool cells : List ℕ} {k row at : ℕ} (out : List ℕ) (f : FieldsOpeningFits pool cells k row at) where
   abbrev OpeningFields : List (List ℕ) → Type 0

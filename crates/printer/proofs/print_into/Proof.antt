@@ -5,6 +5,13 @@ use Rattle.printer.proofs.TextLaws as laws
 use Rattle.printer.proofs.print_into.Statement.{statement}
 use Rattle.printer.proofs.print_into.Tie as tie
 
+-- places, each from a later one
+abbrev else1 : tie.After-again → tie.Else1
+else1 p = p .before .before .before .before .before
+
+abbrev at-start : tie.After-wide-numbers → tie.Start
+at-start p = p .before .before .before .before .before
+
 wide-numbers-requires : tie.Need-wide-numbers-requires
 wide-numbers-requires c κs = search needs
 
@@ -21,7 +28,7 @@ print-term-requires : tie.Need-print-term-requires
 print-term-requires c κs =
     let at-narrow-numbers = c .before .before .before .before .before in
     let at-wide-numbers = at-narrow-numbers .before in
-    let entry = at-wide-numbers .before .before .before .before .before in
+    let entry = at-start at-wide-numbers in
     text-fits (entry .pre) (at-wide-numbers .wide-numbers .ensures) (at-narrow-numbers .narrow-numbers .ensures)
 
 returns : tie.Need-returns
@@ -29,11 +36,11 @@ returns c = laws.prints-none _ _ (c .before .before .print-term .ensures .wrote 
 
 print-term-requires-2 : tie.Need-print-term-requires-2
 print-term-requires-2 c κs =
-    let at-if1 = c .before .before .before .before .before in
+    let at-if1 = else1 c in
     let back = at-if1 .before .before .before .before .before .before in
     let at-narrow-numbers = back .before .before in
     let at-wide-numbers = at-narrow-numbers .before in
-    let entry = at-wide-numbers .before .before .before .before .before in
+    let entry = at-start at-wide-numbers in
     text-fits (entry .pre) (at-wide-numbers .wide-numbers .ensures) (at-narrow-numbers .narrow-numbers .ensures)
 
 same-length : tie.Need-same-length
@@ -42,7 +49,7 @@ same-length c = search needs
 returns-2 : tie.Need-returns-2
 returns-2 c =
     let second = c .before .before in
-    let at-if1 = second .before .before .before .before .before .before in
+    let at-if1 = else1 (second .before) in
     let first = at-if1 .before .before in
     laws.prints-whole (first .print-term .ensures .wrote .end) (at-if1 .if1 .left) (second .print-term2 .ensures .wrote)
 

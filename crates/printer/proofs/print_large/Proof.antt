@@ -29,15 +29,18 @@ slice-aggregate-print-into c = search needs
 
 print-into-requires : tie.Need-print-into-requires
 print-into-requires c κs =
-    let back = c .before .before .before .before .before .before in
+    let fill-place = c .before .before .before in
+    let back = fill-place .before .before .before in
     let entry = back .before .before .before .before .before in
-    record { short = c .before .before .before .fill .ensures .small; marked = entry .pre .marked; small = entry .pre .small }
+    record { short = fill-place .fill .ensures .small; marked = entry .pre .marked; small = entry .pre .small }
 
 same-length : tie.Need-same-length
 same-length c = search needs
 
 returns : tie.Need-returns
-returns c = prints-spelled _ _ _ _ (c .before .before .before .before .before .before .fill .ensures) (c .before .before .print-into .ensures)
+returns c =
+    let print-into-place = c .before .before in
+    prints-spelled _ _ _ _ (print-into-place .before .before .before .before .fill .ensures) (print-into-place .print-into .ensures)
 
 pub print-large-spec : {M : Type 1} → statement M
 print-large-spec =

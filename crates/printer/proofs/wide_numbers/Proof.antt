@@ -1,9 +1,6 @@
 -- `wide_numbers`: a read makes the fact known of all elements.
-use Prim.Native.Nat.{ℕ, _+_, _-_, _*_, _≤_}
-use mathlib.Core.Path.{_≡_, refl, sym, ap, _∙_}
 use native.Mathlib.Omega.{arith}
 use borrow.Author.Needs.{needs}
-use lib.ListN.{length, replicate, length-replicate}
 use Rattle.grammar.proofs.ReaderLaws.{getD-past}
 use borrow.Author.Needs.{needs}
 use Rattle.printer.proofs.wide_numbers.Statement.{statement}

@@ -21,15 +21,11 @@ use Rattle.rows.proofs.column.Reads as column-reads
 use Rattle.printer.proofs.printing.+print_fields+print_term.{statement}
 use Rattle.printer.proofs.printing.+print_fields+print_term.Tie.{close}
 
--- constructor to its parts.
-
--- constructor to its parts.
-
 abbrev μ-print-fields : Measures 8 print-fields-kinds.ps ℕ
-μ-print-fields κs a = a .1 .1 .1 .1 .1 .0
+μ-print-fields κs a = let from-cells = a .1 .1 .1 in from-cells .1 .1 .0
 
 abbrev μ-print-term : Measures 8 print-term-kinds.ps ℕ
-μ-print-term κs a = a .1 .1 .1 .1 .1 .0
+μ-print-term κs a = let from-cells = a .1 .1 .1 in from-cells .1 .1 .0
 
 abbrev print-fields-at : ℕ → In 8 print-fields-kinds.ps
 print-fields-at t =
@@ -65,36 +61,79 @@ print-fields-claims t = (
   print-fields.Post,
 )
 
+-- places, each from a later one
+abbrev after-print-term : {t : ℕ} → print-fields-lts.After-byte-at-arg2 (print-fields-claims t) (print-fields-at t) print-fields.Post
+    → print-fields-lts.After-print-term (print-fields-claims t) (print-fields-at t) print-fields.Post
+after-print-term p = p .before .before .before
+
+abbrev after-print-fields : {t : ℕ} → print-fields-lts.After-byte-at-arg3 (print-fields-claims t) (print-fields-at t) print-fields.Post
+    → print-fields-lts.After-print-fields (print-fields-claims t) (print-fields-at t) print-fields.Post
+after-print-fields p = p .before .before .before
+
+abbrev else1 : {t : ℕ} → print-fields-lts.After-column (print-fields-claims t) (print-fields-at t) print-fields.Post
+    → print-fields-lts.Else1 (print-fields-claims t) (print-fields-at t) print-fields.Post
+else1 p = p .before .before
+
+abbrev after-column : {t : ℕ} → print-fields-lts.After-column2 (print-fields-claims t) (print-fields-at t) print-fields.Post
+    → print-fields-lts.After-column (print-fields-claims t) (print-fields-at t) print-fields.Post
+after-column p = p .before .before .before
+
+abbrev then2 : {t : ℕ} → print-fields-lts.After-column2 (print-fields-claims t) (print-fields-at t) print-fields.Post
+    → print-fields-lts.Then2 (print-fields-claims t) (print-fields-at t) print-fields.Post
+then2 p = p .before .before
+
+abbrev after-byte-at2 : {t : ℕ} → print-fields-lts.After-column3 (print-fields-claims t) (print-fields-at t) print-fields.Post
+    → print-fields-lts.After-byte-at2 (print-fields-claims t) (print-fields-at t) print-fields.Post
+after-byte-at2 p = p .before .before .before .before
+
+abbrev at-start : {t : ℕ} → print-fields-lts.After-open-fields (print-fields-claims t) (print-fields-at t) print-fields.Post
+    → print-fields-lts.Start (print-fields-claims t) (print-fields-at t) print-fields.Post
+at-start p = p .before .before .before .before
+
+abbrev after-column3 : {t : ℕ} → print-fields-lts.After-print-fields-arg2 (print-fields-claims t) (print-fields-at t) print-fields.Post
+    → print-fields-lts.After-column3 (print-fields-claims t) (print-fields-at t) print-fields.Post
+after-column3 p = p .before .before
+
+abbrev after-column2 : {t : ℕ} → print-fields-lts.After-print-term (print-fields-claims t) (print-fields-at t) print-fields.Post
+    → print-fields-lts.After-column2 (print-fields-claims t) (print-fields-at t) print-fields.Post
+after-column2 p = p .before .before .before
+
+abbrev after-open-fields : {t : ℕ} → print-fields-lts.Else1 (print-fields-claims t) (print-fields-at t) print-fields.Post
+    → print-fields-lts.After-open-fields (print-fields-claims t) (print-fields-at t) print-fields.Post
+after-open-fields p = p .before .before .before
+
 print-fields-open-fields-requires : (t : ℕ) → print-fields-lts.Need-open-fields-requires (print-fields-claims t) (print-fields-at t) print-fields.Post
 print-fields-open-fields-requires t c κs = laws.fields-opening-fits (c .before .before .before .pre .1)
 
 print-fields-add-place : (t : ℕ) → print-fields-lts.Need-add-place (print-fields-claims t) (print-fields-at t) print-fields.Post
 print-fields-add-place t c =
-    let entry = c .before .before .before .before .before .before in
+    let entry = at-start (c .before .before) in
     omega (arith, laws.fields-inside (entry .pre .1))
 
 print-fields-byte-at-requires : (t : ℕ) → print-fields-lts.Need-byte-at-requires (print-fields-claims t) (print-fields-at t) print-fields.Post
 print-fields-byte-at-requires t c κs =
     let at-open-fields = c .before .before .before .before in
-    let entry = at-open-fields .before .before .before .before in
+    let entry = at-start at-open-fields in
     laws.next-room
     (laws.opened-shallow-fields (at-open-fields .open-fields .ensures) (c .before .if1 .taken))
     (entry .pre .1)
 
 print-fields-same-length : (t : ℕ) → print-fields-lts.Need-same-length (print-fields-claims t) (print-fields-at t) print-fields.Post
 print-fields-same-length t c =
-    let back = c .before .before .before .before .before .before in
+    let byte-at-place = c .before .before in
+    let back = byte-at-place .before .before .before .before in
     let at-open-fields = back .before in
-    c .before .before .byte-at .ensures .same ∙ at-open-fields .open-fields .ensures .same
+    byte-at-place .byte-at .ensures .same ∙ at-open-fields .open-fields .ensures .same
 
 print-fields-returns : (t : ℕ) → print-fields-lts.Need-returns (print-fields-claims t) (print-fields-at t) print-fields.Post
 print-fields-returns t c =
-    let at-if1 = c .before .before .before .before in
+    let byte-at-place = c .before .before in
+    let at-if1 = byte-at-place .before .before in
     let at-open-fields = at-if1 .before .before .before in
     laws.all-printed
     (laws.next-text
     (laws.opened-shallow-fields (at-open-fields .open-fields .ensures) (at-if1 .if1 .taken))
-    (c .before .before .byte-at .ensures))
+    (byte-at-place .byte-at .ensures))
 
 print-fields-sub-deep : (t : ℕ) → print-fields-lts.Need-sub-deep (print-fields-claims t) (print-fields-at t) print-fields.Post
 print-fields-sub-deep t c = omega (arith, c .if1 .left)
@@ -107,31 +146,33 @@ print-fields-column-requires-2 t c κs = search needs
 
 print-fields-print-term-requires : (t : ℕ) → print-fields-lts.Need-print-term-requires (print-fields-claims t) (print-fields-at t) print-fields.Post
 print-fields-print-term-requires t c κs =
-    let at-if2 = c .before .before .before .before in
-    let at-column = at-if2 .before in
-    let at-if1 = at-column .before .before in
-    let at-open-fields = at-if1 .before .before .before in
-    let entry = at-open-fields .before .before .before .before in (
+    let column2-place = c .before .before in
+    let at-if2 = then2 column2-place in
+    let at-column = after-column column2-place in
+    let at-if1 = else1 at-column in
+    let at-open-fields = after-open-fields at-if1 in
+    let entry = at-start at-open-fields in (
       omega (arith, entry .pre .0),
       laws.next-fits
           (laws.opened-cons (at-open-fields .open-fields .ensures) (at-if1 .if1 .left) (at-column .column .ensures) (at-if2 .if2 .taken)
-          (c .before .before .column2 .ensures) refl)
+          (column2-place .column2 .ensures) refl)
           (entry .pre .1),
     )
 
 print-fields-byte-at-requires-2 : (t : ℕ) → print-fields-lts.Need-byte-at-requires-2 (print-fields-claims t) (print-fields-at t) print-fields.Post
 print-fields-byte-at-requires-2 t c κs =
-    let at-column2 = c .before .before .before .before .before .before in
-    let at-if2 = at-column2 .before .before in
-    let at-column = at-if2 .before in
-    let at-if1 = at-column .before .before in
-    let at-open-fields = at-if1 .before .before .before in
-    let entry = at-open-fields .before .before .before .before in
+    let print-term-place = after-print-term c in
+    let at-column2 = after-column2 print-term-place in
+    let at-if2 = then2 at-column2 in
+    let at-column = after-column at-column2 in
+    let at-if1 = else1 at-column in
+    let at-open-fields = after-open-fields at-if1 in
+    let entry = at-start at-open-fields in
     laws.next-room
     (laws.next-part
     (laws.opened-cons (at-open-fields .open-fields .ensures) (at-if1 .if1 .left) (at-column .column .ensures) (at-if2 .if2 .taken)
     (at-column2 .column2 .ensures) refl)
-    (c .before .before .before .print-term .ensures))
+    (print-term-place .print-term .ensures))
     (entry .pre .1)
 
 print-fields-column-requires-3 : (t : ℕ) → print-fields-lts.Need-column-requires-3 (print-fields-claims t) (print-fields-at t) print-fields.Post
@@ -139,20 +180,21 @@ print-fields-column-requires-3 t c κs = search needs
 
 print-fields-print-fields-requires : (t : ℕ) → print-fields-lts.Need-print-fields-requires (print-fields-claims t) (print-fields-at t) print-fields.Post
 print-fields-print-fields-requires t c κs =
-    let at-byte-at2 = c .before .before .before .before .before .before in
-    let at-print-term = at-byte-at2 .before .before .before .before in
-    let at-column2 = at-print-term .before .before .before in
-    let at-if2 = at-column2 .before .before in
-    let at-column = at-if2 .before in
-    let at-if1 = at-column .before .before in
-    let at-open-fields = at-if1 .before .before .before in
-    let entry = at-open-fields .before .before .before .before in (
+    let column3-place = after-column3 c in
+    let at-byte-at2 = after-byte-at2 column3-place in
+    let at-print-term = after-print-term (at-byte-at2 .before) in
+    let at-column2 = after-column2 at-print-term in
+    let at-if2 = then2 at-column2 in
+    let at-column = after-column at-column2 in
+    let at-if1 = else1 at-column in
+    let at-open-fields = after-open-fields at-if1 in
+    let entry = at-start at-open-fields in (
       omega (arith, entry .pre .0),
       laws.next-fits
           (laws.next-text
           (laws.next-part
           (laws.opened-cons (at-open-fields .open-fields .ensures) (at-if1 .if1 .left) (at-column .column .ensures) (at-if2 .if2 .taken)
-          (at-column2 .column2 .ensures) (c .before .before .column3 .ensures))
+          (at-column2 .column2 .ensures) (column3-place .column3 .ensures))
           (at-print-term .print-term .ensures))
           (at-byte-at2 .byte-at2 .ensures))
           (entry .pre .1),
@@ -160,15 +202,16 @@ print-fields-print-fields-requires t c κs =
 
 print-fields-byte-at-requires-3 : (t : ℕ) → print-fields-lts.Need-byte-at-requires-3 (print-fields-claims t) (print-fields-at t) print-fields.Post
 print-fields-byte-at-requires-3 t c κs =
-    let at-column3 = c .before .before .before .before .before .before in
-    let at-byte-at2 = at-column3 .before .before .before .before in
-    let at-print-term = at-byte-at2 .before .before .before .before in
-    let at-column2 = at-print-term .before .before .before in
-    let at-if2 = at-column2 .before .before in
-    let at-column = at-if2 .before in
-    let at-if1 = at-column .before .before in
-    let at-open-fields = at-if1 .before .before .before in
-    let entry = at-open-fields .before .before .before .before in
+    let print-fields-place = after-print-fields c in
+    let at-column3 = after-column3 (print-fields-place .before) in
+    let at-byte-at2 = after-byte-at2 at-column3 in
+    let at-print-term = after-print-term (at-byte-at2 .before) in
+    let at-column2 = after-column2 at-print-term in
+    let at-if2 = then2 at-column2 in
+    let at-column = after-column at-column2 in
+    let at-if1 = else1 at-column in
+    let at-open-fields = after-open-fields at-if1 in
+    let entry = at-start at-open-fields in
     laws.next-room
     (laws.next-part
     (laws.next-text
@@ -177,31 +220,33 @@ print-fields-byte-at-requires-3 t c κs =
     (at-column2 .column2 .ensures) (at-column3 .column3 .ensures))
     (at-print-term .print-term .ensures))
     (at-byte-at2 .byte-at2 .ensures))
-    (c .before .before .before .print-fields .ensures))
+    (print-fields-place .print-fields .ensures))
     (entry .pre .1)
 
 print-fields-same-length-2 : (t : ℕ) → print-fields-lts.Need-same-length-2 (print-fields-claims t) (print-fields-at t) print-fields.Post
 print-fields-same-length-2 t c =
-    let at-print-fields = c .before .before .before .before .before .before in
-    let back = at-print-fields .before .before .before .before .before .before in
+    let byte-at3-place = c .before .before in
+    let at-print-fields = after-print-fields (byte-at3-place .before) in
+    let back = (after-column3 (at-print-fields .before)) .before .before .before in
     let at-byte-at2 = back .before in
-    let at-print-term = at-byte-at2 .before .before .before .before in
-    let back5 = at-print-term .before .before .before .before .before .before in
-    let at-open-fields = back5 .before .before .before .before .before in
-    c .before .before .byte-at3 .ensures .same ∙ at-print-fields .print-fields .ensures .wrote .same ∙ at-byte-at2 .byte-at2 .ensures .same
+    let at-print-term = after-print-term (at-byte-at2 .before) in
+    let back5 = after-column (after-column2 at-print-term) in
+    let at-open-fields = after-open-fields (else1 back5) in
+    byte-at3-place .byte-at3 .ensures .same ∙ at-print-fields .print-fields .ensures .wrote .same ∙ at-byte-at2 .byte-at2 .ensures .same
     ∙ at-print-term .print-term .ensures .wrote .same ∙ at-open-fields .open-fields .ensures .same
 
 print-fields-returns-2 : (t : ℕ) → print-fields-lts.Need-returns-2 (print-fields-claims t) (print-fields-at t) print-fields.Post
 print-fields-returns-2 t c =
-    let at-print-fields = c .before .before .before .before .before .before in
-    let at-column3 = at-print-fields .before .before .before in
-    let at-byte-at2 = at-column3 .before .before .before .before in
-    let at-print-term = at-byte-at2 .before .before .before .before in
-    let at-column2 = at-print-term .before .before .before in
-    let at-if2 = at-column2 .before .before in
-    let at-column = at-if2 .before in
-    let at-if1 = at-column .before .before in
-    let at-open-fields = at-if1 .before .before .before in
+    let byte-at3-place = c .before .before in
+    let at-print-fields = after-print-fields (byte-at3-place .before) in
+    let at-column3 = after-column3 (at-print-fields .before) in
+    let at-byte-at2 = after-byte-at2 at-column3 in
+    let at-print-term = after-print-term (at-byte-at2 .before) in
+    let at-column2 = after-column2 at-print-term in
+    let at-if2 = then2 at-column2 in
+    let at-column = after-column at-column2 in
+    let at-if1 = else1 at-column in
+    let at-open-fields = after-open-fields at-if1 in
     laws.all-printed
     (laws.next-text
     (laws.next-part
@@ -212,33 +257,36 @@ print-fields-returns-2 t c =
     (at-print-term .print-term .ensures))
     (at-byte-at2 .byte-at2 .ensures))
     (at-print-fields .print-fields .ensures))
-    (c .before .before .byte-at3 .ensures))
+    (byte-at3-place .byte-at3 .ensures))
 
 print-fields-byte-at-requires-4 : (t : ℕ) → print-fields-lts.Need-byte-at-requires-4 (print-fields-claims t) (print-fields-at t) print-fields.Post
 print-fields-byte-at-requires-4 t c κs =
-    let at-if1 = c .before .before .before .before in
-    let at-open-fields = at-if1 .before .before .before in
-    let entry = at-open-fields .before .before .before .before in
+    let column-place = c .before .before in
+    let at-if1 = else1 column-place in
+    let at-open-fields = after-open-fields at-if1 in
+    let entry = at-start at-open-fields in
     laws.next-room
-    (laws.opened-nil (at-open-fields .open-fields .ensures) (at-if1 .if1 .left) (c .before .before .column .ensures) (c .before .if2 .left))
+    (laws.opened-nil (at-open-fields .open-fields .ensures) (at-if1 .if1 .left) (column-place .column .ensures) (c .before .if2 .left))
     (entry .pre .1)
 
 print-fields-same-length-3 : (t : ℕ) → print-fields-lts.Need-same-length-3 (print-fields-claims t) (print-fields-at t) print-fields.Post
 print-fields-same-length-3 t c =
-    let back = c .before .before .before .before .before .before in
-    let at-open-fields = back .before .before .before .before in
-    c .before .before .byte-at4 .ensures .same ∙ at-open-fields .open-fields .ensures .same
+    let byte-at4-place = c .before .before in
+    let back = byte-at4-place .before .before .before .before in
+    let at-open-fields = after-open-fields (back .before) in
+    byte-at4-place .byte-at4 .ensures .same ∙ at-open-fields .open-fields .ensures .same
 
 print-fields-returns-3 : (t : ℕ) → print-fields-lts.Need-returns-3 (print-fields-claims t) (print-fields-at t) print-fields.Post
 print-fields-returns-3 t c =
-    let at-if2 = c .before .before .before .before in
+    let byte-at4-place = c .before .before in
+    let at-if2 = byte-at4-place .before .before in
     let at-column = at-if2 .before in
-    let at-if1 = at-column .before .before in
-    let at-open-fields = at-if1 .before .before .before in
+    let at-if1 = else1 at-column in
+    let at-open-fields = after-open-fields at-if1 in
     laws.all-printed
     (laws.next-text
     (laws.opened-nil (at-open-fields .open-fields .ensures) (at-if1 .if1 .left) (at-column .column .ensures) (at-if2 .if2 .left))
-    (c .before .before .byte-at4 .ensures))
+    (byte-at4-place .byte-at4 .ensures))
 
 abbrev print-term-claims : ℕ → print-term-lts.Claims
 print-term-claims t = (
@@ -256,37 +304,132 @@ print-term-claims t = (
   label-at-reads.Learnt,
 )
 
+-- places, each from a later one
+abbrev after-print-term′ : {t : ℕ} → print-term-lts.After-byte-at-arg2 (print-term-claims t) (print-term-at t) print-term.Post
+    → print-term-lts.After-print-term (print-term-claims t) (print-term-at t) print-term.Post
+after-print-term′ p = p .before .before .before
+
+abbrev after-print-term2 : {t : ℕ} → print-term-lts.After-byte-at-arg3 (print-term-claims t) (print-term-at t) print-term.Post
+    → print-term-lts.After-print-term2 (print-term-claims t) (print-term-at t) print-term.Post
+after-print-term2 p = p .before .before .before
+
+abbrev after-print-term3 : {t : ℕ} → print-term-lts.After-byte-at-arg4 (print-term-claims t) (print-term-at t) print-term.Post
+    → print-term-lts.After-print-term3 (print-term-claims t) (print-term-at t) print-term.Post
+after-print-term3 p = p .before .before .before
+
+abbrev after-print-fields′ : {t : ℕ} → print-term-lts.After-byte-at-arg5 (print-term-claims t) (print-term-at t) print-term.Post
+    → print-term-lts.After-print-fields (print-term-claims t) (print-term-at t) print-term.Post
+after-print-fields′ p = p .before .before .before
+
+abbrev after-print-term4 : {t : ℕ} → print-term-lts.After-byte-at-arg6 (print-term-claims t) (print-term-at t) print-term.Post
+    → print-term-lts.After-print-term4 (print-term-claims t) (print-term-at t) print-term.Post
+after-print-term4 p = p .before .before .before
+
+abbrev after-label-at : {t : ℕ} → print-term-lts.After-byte-at-arg7 (print-term-claims t) (print-term-at t) print-term.Post
+    → print-term-lts.After-label-at (print-term-claims t) (print-term-at t) print-term.Post
+after-label-at p = p .before .before .before
+
+abbrev after-open-term : {t : ℕ} → print-term-lts.After-column (print-term-claims t) (print-term-at t) print-term.Post
+    → print-term-lts.After-open-term (print-term-claims t) (print-term-at t) print-term.Post
+after-open-term p = p .before .before .before .before .before
+
+abbrev else1′ : {t : ℕ} → print-term-lts.After-column (print-term-claims t) (print-term-at t) print-term.Post
+    → print-term-lts.Else1 (print-term-claims t) (print-term-at t) print-term.Post
+else1′ p = p .before .before
+
+abbrev at-match-keys1 : {t : ℕ} → print-term-lts.After-column2 (print-term-claims t) (print-term-at t) print-term.Post
+    → print-term-lts.At-match-keys1 (print-term-claims t) (print-term-at t) print-term.Post
+at-match-keys1 p = p .before .before
+
+abbrev after-column′ : {t : ℕ} → print-term-lts.After-column3 (print-term-claims t) (print-term-at t) print-term.Post
+    → print-term-lts.After-column (print-term-claims t) (print-term-at t) print-term.Post
+after-column′ p = p .before .before .before
+
+abbrev at-match-keys2 : {t : ℕ} → print-term-lts.After-column3 (print-term-claims t) (print-term-at t) print-term.Post
+    → print-term-lts.At-match-keys2 (print-term-claims t) (print-term-at t) print-term.Post
+at-match-keys2 p = p .before .before
+
+abbrev after-byte-at3 : {t : ℕ} → print-term-lts.After-column4 (print-term-claims t) (print-term-at t) print-term.Post
+    → print-term-lts.After-byte-at3 (print-term-claims t) (print-term-at t) print-term.Post
+after-byte-at3 p = p .before .before .before .before
+
+abbrev at-match-keys3 : {t : ℕ} → print-term-lts.After-column5 (print-term-claims t) (print-term-at t) print-term.Post
+    → print-term-lts.At-match-keys3 (print-term-claims t) (print-term-at t) print-term.Post
+at-match-keys3 p = p .before .before
+
+abbrev after-column′′ : {t : ℕ} → print-term-lts.After-column6 (print-term-claims t) (print-term-at t) print-term.Post
+    → print-term-lts.After-column (print-term-claims t) (print-term-at t) print-term.Post
+after-column′′ p = p .before .before .before
+
+abbrev at-match-keys4 : {t : ℕ} → print-term-lts.After-column6 (print-term-claims t) (print-term-at t) print-term.Post
+    → print-term-lts.At-match-keys4 (print-term-claims t) (print-term-at t) print-term.Post
+at-match-keys4 p = p .before .before
+
+abbrev after-byte-at6 : {t : ℕ} → print-term-lts.After-column7 (print-term-claims t) (print-term-at t) print-term.Post
+    → print-term-lts.After-byte-at6 (print-term-claims t) (print-term-at t) print-term.Post
+after-byte-at6 p = p .before .before .before .before
+
+abbrev at-start′ : {t : ℕ} → print-term-lts.After-open-term (print-term-claims t) (print-term-at t) print-term.Post
+    → print-term-lts.Start (print-term-claims t) (print-term-at t) print-term.Post
+at-start′ p = p .before .before .before .before .before
+
+abbrev after-column5 : {t : ℕ} → print-term-lts.After-print-fields-arg2 (print-term-claims t) (print-term-at t) print-term.Post
+    → print-term-lts.After-column5 (print-term-claims t) (print-term-at t) print-term.Post
+after-column5 p = p .before .before
+
+abbrev after-column2′ : {t : ℕ} → print-term-lts.After-print-term-arg2 (print-term-claims t) (print-term-at t) print-term.Post
+    → print-term-lts.After-column2 (print-term-claims t) (print-term-at t) print-term.Post
+after-column2′ p = p .before .before
+
+abbrev after-column4 : {t : ℕ} → print-term-lts.After-print-term-arg6 (print-term-claims t) (print-term-at t) print-term.Post
+    → print-term-lts.After-column4 (print-term-claims t) (print-term-at t) print-term.Post
+after-column4 p = p .before .before
+
+abbrev after-column3′ : {t : ℕ} → print-term-lts.After-print-term2 (print-term-claims t) (print-term-at t) print-term.Post
+    → print-term-lts.After-column3 (print-term-claims t) (print-term-at t) print-term.Post
+after-column3′ p = p .before .before .before
+
+abbrev after-column6 : {t : ℕ} → print-term-lts.After-print-term4 (print-term-claims t) (print-term-at t) print-term.Post
+    → print-term-lts.After-column6 (print-term-claims t) (print-term-at t) print-term.Post
+after-column6 p = p .before .before .before
+
+abbrev after-open-term′ : {t : ℕ} → print-term-lts.After-slice-known2 (print-term-claims t) (print-term-at t) print-term.Post
+    → print-term-lts.After-open-term (print-term-claims t) (print-term-at t) print-term.Post
+after-open-term′ p = p .before .before
+
 print-term-open-term-requires : (t : ℕ) → print-term-lts.Need-open-term-requires (print-term-claims t) (print-term-at t) print-term.Post
 print-term-open-term-requires t c κs = laws.opening-fits (c .before .before .before .before .pre .1)
 
 print-term-add-place : (t : ℕ) → print-term-lts.Need-add-place (print-term-claims t) (print-term-at t) print-term.Post
 print-term-add-place t c =
-    let at-open-term = c .before .before in
-    let entry = at-open-term .before .before .before .before .before in
+    let at-open-term = after-open-term′ c in
+    let entry = at-start′ at-open-term in
     omega (arith, laws.opening-fits (entry .pre .1) .inside, entry .pre .1 .few)
 
 print-term-byte-at-requires : (t : ℕ) → print-term-lts.Need-byte-at-requires (print-term-claims t) (print-term-at t) print-term.Post
 print-term-byte-at-requires t c κs =
-    let at-open-term = c .before .before .before .before in
-    let entry = at-open-term .before .before .before .before .before in
+    let at-open-term = after-open-term′ (c .before .before) in
+    let entry = at-start′ at-open-term in
     laws.next-room
     (laws.opened-shallow (at-open-term .open-term .ensures) (c .before .if1 .taken))
     (entry .pre .1)
 
 print-term-same-length : (t : ℕ) → print-term-lts.Need-same-length (print-term-claims t) (print-term-at t) print-term.Post
 print-term-same-length t c =
-    let back = c .before .before .before .before .before .before in
+    let byte-at-place = c .before .before in
+    let back = byte-at-place .before .before .before .before in
     let at-open-term = back .before in
-    c .before .before .byte-at .ensures .same ∙ at-open-term .open-term .ensures .same
+    byte-at-place .byte-at .ensures .same ∙ at-open-term .open-term .ensures .same
 
 print-term-returns : (t : ℕ) → print-term-lts.Need-returns (print-term-claims t) (print-term-at t) print-term.Post
 print-term-returns t c =
-    let at-if1 = c .before .before .before .before in
-    let at-open-term = at-if1 .before .before .before in
+    let byte-at-place = c .before .before in
+    let at-if1 = byte-at-place .before .before in
+    let at-open-term = after-open-term′ (at-if1 .before) in
     laws.all-printed
     (laws.next-text
     (laws.opened-shallow (at-open-term .open-term .ensures) (at-if1 .if1 .taken))
-    (c .before .before .byte-at .ensures))
+    (byte-at-place .byte-at .ensures))
 
 print-term-sub-deep : (t : ℕ) → print-term-lts.Need-sub-deep (print-term-claims t) (print-term-at t) print-term.Post
 print-term-sub-deep t c = omega (arith, c .if1 .left)
@@ -299,31 +442,33 @@ print-term-column-requires-2 t c κs = search needs
 
 print-term-print-term-requires : (t : ℕ) → print-term-lts.Need-print-term-requires (print-term-claims t) (print-term-at t) print-term.Post
 print-term-print-term-requires t c κs =
-    let at-match = c .before .before .before .before in
+    let column2-place = after-column2′ c in
+    let at-match = at-match-keys1 column2-place in
     let at-column = at-match .before in
-    let at-if1 = at-column .before .before in
-    let at-open-term = at-if1 .before .before .before in
-    let entry = at-open-term .before .before .before .before .before in (
+    let at-if1 = else1′ at-column in
+    let at-open-term = after-open-term at-column in
+    let entry = at-start′ at-open-term in (
       omega (arith, entry .pre .0),
       laws.next-fits
           (laws.opened-fun (at-open-term .open-term .ensures) (at-if1 .if1 .left) (at-column .column .ensures) (at-match .match .keys1)
-          (c .before .before .column2 .ensures))
+          (column2-place .column2 .ensures))
           (entry .pre .1),
     )
 
 print-term-byte-at-requires-2 : (t : ℕ) → print-term-lts.Need-byte-at-requires-2 (print-term-claims t) (print-term-at t) print-term.Post
 print-term-byte-at-requires-2 t c κs =
-    let at-column2 = c .before .before .before .before .before .before in
-    let at-match = at-column2 .before .before in
+    let print-term-place = after-print-term′ c in
+    let at-column2 = after-column2′ (print-term-place .before) in
+    let at-match = at-match-keys1 at-column2 in
     let at-column = at-match .before in
-    let at-if1 = at-column .before .before in
-    let at-open-term = at-if1 .before .before .before in
-    let entry = at-open-term .before .before .before .before .before in
+    let at-if1 = else1′ at-column in
+    let at-open-term = after-open-term at-column in
+    let entry = at-start′ at-open-term in
     laws.next-room
     (laws.next-part
     (laws.opened-fun (at-open-term .open-term .ensures) (at-if1 .if1 .left) (at-column .column .ensures) (at-match .match .keys1)
     (at-column2 .column2 .ensures))
-    (c .before .before .before .print-term .ensures))
+    (print-term-place .print-term .ensures))
     (entry .pre .1)
 
 print-term-column-requires-3 : (t : ℕ) → print-term-lts.Need-column-requires-3 (print-term-claims t) (print-term-at t) print-term.Post
@@ -331,31 +476,33 @@ print-term-column-requires-3 t c κs = search needs
 
 print-term-print-term-requires-2 : (t : ℕ) → print-term-lts.Need-print-term-requires-2 (print-term-claims t) (print-term-at t) print-term.Post
 print-term-print-term-requires-2 t c κs =
-    let at-match = c .before .before .before .before in
-    let at-column = at-match .before in
-    let at-if1 = at-column .before .before in
-    let at-open-term = at-if1 .before .before .before in
-    let entry = at-open-term .before .before .before .before .before in (
+    let column3-place = c .before .before in
+    let at-match = at-match-keys2 column3-place in
+    let at-column = after-column′ column3-place in
+    let at-if1 = else1′ at-column in
+    let at-open-term = after-open-term at-column in
+    let entry = at-start′ at-open-term in (
       omega (arith, entry .pre .0),
       laws.next-fits
           (laws.opened-app (at-open-term .open-term .ensures) (at-if1 .if1 .left) (at-column .column .ensures) (at-match .match .keys2)
-          (c .before .before .column3 .ensures) refl)
+          (column3-place .column3 .ensures) refl)
           (entry .pre .1),
     )
 
 print-term-byte-at-requires-3 : (t : ℕ) → print-term-lts.Need-byte-at-requires-3 (print-term-claims t) (print-term-at t) print-term.Post
 print-term-byte-at-requires-3 t c κs =
-    let at-column3 = c .before .before .before .before .before .before in
-    let at-match = at-column3 .before .before in
-    let at-column = at-match .before in
-    let at-if1 = at-column .before .before in
-    let at-open-term = at-if1 .before .before .before in
-    let entry = at-open-term .before .before .before .before .before in
+    let print-term2-place = after-print-term2 c in
+    let at-column3 = after-column3′ print-term2-place in
+    let at-match = at-match-keys2 at-column3 in
+    let at-column = after-column′ at-column3 in
+    let at-if1 = else1′ at-column in
+    let at-open-term = after-open-term at-column in
+    let entry = at-start′ at-open-term in
     laws.next-room
     (laws.next-part
     (laws.opened-app (at-open-term .open-term .ensures) (at-if1 .if1 .left) (at-column .column .ensures) (at-match .match .keys2)
     (at-column3 .column3 .ensures) refl)
-    (c .before .before .before .print-term2 .ensures))
+    (print-term2-place .print-term2 .ensures))
     (entry .pre .1)
 
 print-term-column-requires-4 : (t : ℕ) → print-term-lts.Need-column-requires-4 (print-term-claims t) (print-term-at t) print-term.Post
@@ -363,20 +510,21 @@ print-term-column-requires-4 t c κs = search needs
 
 print-term-print-term-requires-3 : (t : ℕ) → print-term-lts.Need-print-term-requires-3 (print-term-claims t) (print-term-at t) print-term.Post
 print-term-print-term-requires-3 t c κs =
-    let at-byte-at3 = c .before .before .before .before .before .before in
-    let at-print-term2 = at-byte-at3 .before .before .before .before in
-    let at-column3 = at-print-term2 .before .before .before in
-    let at-match = at-column3 .before .before in
-    let at-column = at-match .before in
-    let at-if1 = at-column .before .before in
-    let at-open-term = at-if1 .before .before .before in
-    let entry = at-open-term .before .before .before .before .before in (
+    let column4-place = after-column4 c in
+    let at-byte-at3 = after-byte-at3 column4-place in
+    let at-print-term2 = after-print-term2 (at-byte-at3 .before) in
+    let at-column3 = after-column3′ at-print-term2 in
+    let at-match = at-match-keys2 at-column3 in
+    let at-column = after-column′ at-column3 in
+    let at-if1 = else1′ at-column in
+    let at-open-term = after-open-term at-column in
+    let entry = at-start′ at-open-term in (
       omega (arith, entry .pre .0),
       laws.next-fits
           (laws.next-text
           (laws.next-part
           (laws.opened-app (at-open-term .open-term .ensures) (at-if1 .if1 .left) (at-column .column .ensures) (at-match .match .keys2)
-          (at-column3 .column3 .ensures) (c .before .before .column4 .ensures))
+          (at-column3 .column3 .ensures) (column4-place .column4 .ensures))
           (at-print-term2 .print-term2 .ensures))
           (at-byte-at3 .byte-at3 .ensures))
           (entry .pre .1),
@@ -384,15 +532,16 @@ print-term-print-term-requires-3 t c κs =
 
 print-term-byte-at-requires-4 : (t : ℕ) → print-term-lts.Need-byte-at-requires-4 (print-term-claims t) (print-term-at t) print-term.Post
 print-term-byte-at-requires-4 t c κs =
-    let at-column4 = c .before .before .before .before .before .before in
-    let at-byte-at3 = at-column4 .before .before .before .before in
-    let at-print-term2 = at-byte-at3 .before .before .before .before in
-    let at-column3 = at-print-term2 .before .before .before in
-    let at-match = at-column3 .before .before in
-    let at-column = at-match .before in
-    let at-if1 = at-column .before .before in
-    let at-open-term = at-if1 .before .before .before in
-    let entry = at-open-term .before .before .before .before .before in
+    let print-term3-place = after-print-term3 c in
+    let at-column4 = after-column4 (print-term3-place .before) in
+    let at-byte-at3 = after-byte-at3 at-column4 in
+    let at-print-term2 = after-print-term2 (at-byte-at3 .before) in
+    let at-column3 = after-column3′ at-print-term2 in
+    let at-match = at-match-keys2 at-column3 in
+    let at-column = after-column′ at-column3 in
+    let at-if1 = else1′ at-column in
+    let at-open-term = after-open-term at-column in
+    let entry = at-start′ at-open-term in
     laws.next-room
     (laws.next-part
     (laws.next-text
@@ -401,7 +550,7 @@ print-term-byte-at-requires-4 t c κs =
     (at-column3 .column3 .ensures) (at-column4 .column4 .ensures))
     (at-print-term2 .print-term2 .ensures))
     (at-byte-at3 .byte-at3 .ensures))
-    (c .before .before .before .print-term3 .ensures))
+    (print-term3-place .print-term3 .ensures))
     (entry .pre .1)
 
 print-term-column-requires-5 : (t : ℕ) → print-term-lts.Need-column-requires-5 (print-term-claims t) (print-term-at t) print-term.Post
@@ -409,31 +558,33 @@ print-term-column-requires-5 t c κs = search needs
 
 print-term-print-fields-requires : (t : ℕ) → print-term-lts.Need-print-fields-requires (print-term-claims t) (print-term-at t) print-term.Post
 print-term-print-fields-requires t c κs =
-    let at-match = c .before .before .before .before in
+    let column5-place = after-column5 c in
+    let at-match = at-match-keys3 column5-place in
     let at-column = at-match .before in
-    let at-if1 = at-column .before .before in
-    let at-open-term = at-if1 .before .before .before in
-    let entry = at-open-term .before .before .before .before .before in (
+    let at-if1 = else1′ at-column in
+    let at-open-term = after-open-term at-column in
+    let entry = at-start′ at-open-term in (
       omega (arith, entry .pre .0),
       laws.next-fits
           (laws.opened-rcd (at-open-term .open-term .ensures) (at-if1 .if1 .left) (at-column .column .ensures) (at-match .match .keys3)
-          (c .before .before .column5 .ensures))
+          (column5-place .column5 .ensures))
           (entry .pre .1),
     )
 
 print-term-byte-at-requires-5 : (t : ℕ) → print-term-lts.Need-byte-at-requires-5 (print-term-claims t) (print-term-at t) print-term.Post
 print-term-byte-at-requires-5 t c κs =
-    let at-column5 = c .before .before .before .before .before .before in
-    let at-match = at-column5 .before .before in
+    let print-fields-place = after-print-fields′ c in
+    let at-column5 = after-column5 (print-fields-place .before) in
+    let at-match = at-match-keys3 at-column5 in
     let at-column = at-match .before in
-    let at-if1 = at-column .before .before in
-    let at-open-term = at-if1 .before .before .before in
-    let entry = at-open-term .before .before .before .before .before in
+    let at-if1 = else1′ at-column in
+    let at-open-term = after-open-term at-column in
+    let entry = at-start′ at-open-term in
     laws.next-room
     (laws.next-part
     (laws.opened-rcd (at-open-term .open-term .ensures) (at-if1 .if1 .left) (at-column .column .ensures) (at-match .match .keys3)
     (at-column5 .column5 .ensures))
-    (c .before .before .before .print-fields .ensures))
+    (print-fields-place .print-fields .ensures))
     (entry .pre .1)
 
 print-term-column-requires-6 : (t : ℕ) → print-term-lts.Need-column-requires-6 (print-term-claims t) (print-term-at t) print-term.Post
@@ -441,31 +592,33 @@ print-term-column-requires-6 t c κs = search needs
 
 print-term-print-term-requires-4 : (t : ℕ) → print-term-lts.Need-print-term-requires-4 (print-term-claims t) (print-term-at t) print-term.Post
 print-term-print-term-requires-4 t c κs =
-    let at-match = c .before .before .before .before in
-    let at-column = at-match .before in
-    let at-if1 = at-column .before .before in
-    let at-open-term = at-if1 .before .before .before in
-    let entry = at-open-term .before .before .before .before .before in (
+    let column6-place = c .before .before in
+    let at-match = at-match-keys4 column6-place in
+    let at-column = after-column′′ column6-place in
+    let at-if1 = else1′ at-column in
+    let at-open-term = after-open-term at-column in
+    let entry = at-start′ at-open-term in (
       omega (arith, entry .pre .0),
       laws.next-fits
           (laws.opened-dot (at-open-term .open-term .ensures) (at-if1 .if1 .left) (at-column .column .ensures) (at-match .match .keys4)
-          (c .before .before .column6 .ensures) refl)
+          (column6-place .column6 .ensures) refl)
           (entry .pre .1),
     )
 
 print-term-byte-at-requires-6 : (t : ℕ) → print-term-lts.Need-byte-at-requires-6 (print-term-claims t) (print-term-at t) print-term.Post
 print-term-byte-at-requires-6 t c κs =
-    let at-column6 = c .before .before .before .before .before .before in
-    let at-match = at-column6 .before .before in
-    let at-column = at-match .before in
-    let at-if1 = at-column .before .before in
-    let at-open-term = at-if1 .before .before .before in
-    let entry = at-open-term .before .before .before .before .before in
+    let print-term4-place = after-print-term4 c in
+    let at-column6 = after-column6 print-term4-place in
+    let at-match = at-match-keys4 at-column6 in
+    let at-column = after-column′′ at-column6 in
+    let at-if1 = else1′ at-column in
+    let at-open-term = after-open-term at-column in
+    let entry = at-start′ at-open-term in
     laws.next-room
     (laws.next-part
     (laws.opened-dot (at-open-term .open-term .ensures) (at-if1 .if1 .left) (at-column .column .ensures) (at-match .match .keys4)
     (at-column6 .column6 .ensures) refl)
-    (c .before .before .before .print-term4 .ensures))
+    (print-term4-place .print-term4 .ensures))
     (entry .pre .1)
 
 print-term-column-requires-7 : (t : ℕ) → print-term-lts.Need-column-requires-7 (print-term-claims t) (print-term-at t) print-term.Post
@@ -473,14 +626,14 @@ print-term-column-requires-7 t c κs = search needs
 
 print-term-label-at-requires : (t : ℕ) → print-term-lts.Need-label-at-requires (print-term-claims t) (print-term-at t) print-term.Post
 print-term-label-at-requires t c κs =
-    let at-byte-at6 = c .before .before .before .before .before in
-    let at-print-term4 = at-byte-at6 .before .before .before .before in
-    let at-column6 = at-print-term4 .before .before .before in
-    let at-match = at-column6 .before .before in
-    let at-column = at-match .before in
-    let at-if1 = at-column .before .before in
-    let at-open-term = at-if1 .before .before .before in
-    let entry = at-open-term .before .before .before .before .before in
+    let at-byte-at6 = after-byte-at6 (c .before) in
+    let at-print-term4 = after-print-term4 (at-byte-at6 .before) in
+    let at-column6 = after-column6 at-print-term4 in
+    let at-match = at-match-keys4 at-column6 in
+    let at-column = after-column′′ at-column6 in
+    let at-if1 = else1′ at-column in
+    let at-open-term = after-open-term at-column in
+    let entry = at-start′ at-open-term in
     laws.next-room
     (laws.next-text
     (laws.next-part
@@ -492,15 +645,16 @@ print-term-label-at-requires t c κs =
 
 print-term-byte-at-requires-7 : (t : ℕ) → print-term-lts.Need-byte-at-requires-7 (print-term-claims t) (print-term-at t) print-term.Post
 print-term-byte-at-requires-7 t c κs =
-    let at-column7 = c .before .before .before .before .before in
-    let at-byte-at6 = at-column7 .before .before .before .before in
-    let at-print-term4 = at-byte-at6 .before .before .before .before in
-    let at-column6 = at-print-term4 .before .before .before in
-    let at-match = at-column6 .before .before in
-    let at-column = at-match .before in
-    let at-if1 = at-column .before .before in
-    let at-open-term = at-if1 .before .before .before in
-    let entry = at-open-term .before .before .before .before .before in
+    let label-at-place = after-label-at c in
+    let at-column7 = label-at-place .before .before in
+    let at-byte-at6 = after-byte-at6 at-column7 in
+    let at-print-term4 = after-print-term4 (at-byte-at6 .before) in
+    let at-column6 = after-column6 at-print-term4 in
+    let at-match = at-match-keys4 at-column6 in
+    let at-column = after-column′′ at-column6 in
+    let at-if1 = else1′ at-column in
+    let at-open-term = after-open-term at-column in
+    let entry = at-start′ at-open-term in
     laws.next-room
     (laws.next-text
     (laws.next-text
@@ -509,64 +663,70 @@ print-term-byte-at-requires-7 t c κs =
     (at-column6 .column6 .ensures) (at-column7 .column7 .ensures))
     (at-print-term4 .print-term4 .ensures))
     (at-byte-at6 .byte-at6 .ensures))
-    (c .before .before .before .label-at .ensures))
+    (label-at-place .label-at .ensures))
     (entry .pre .1)
 
 print-term-byte-at-requires-8 : (t : ℕ) → print-term-lts.Need-byte-at-requires-8 (print-term-claims t) (print-term-at t) print-term.Post
 print-term-byte-at-requires-8 t c κs =
-    let at-if1 = c .before .before .before .before in
-    let at-open-term = at-if1 .before .before .before in
-    let entry = at-open-term .before .before .before .before .before in
+    let match-rest-place = c .before in
+    let column-place = match-rest-place .before in
+    let at-if1 = else1′ column-place in
+    let at-open-term = after-open-term column-place in
+    let entry = at-start′ at-open-term in
     laws.next-room
-    (laws.opened-bare (at-open-term .open-term .ensures) (at-if1 .if1 .left) (c .before .before .column .ensures)
-    (c .before .match .rest .0 .0 .0 .1) (c .before .match .rest .0 .0 .1) (c .before .match .rest .0 .1) (c .before .match .rest .1))
+    (laws.opened-bare (at-open-term .open-term .ensures) (at-if1 .if1 .left) (column-place .column .ensures)
+    (match-rest-place .match .rest))
     (entry .pre .1)
 
 print-term-same-length-2 : (t : ℕ) → print-term-lts.Need-same-length-2 (print-term-claims t) (print-term-at t) print-term.Post
 print-term-same-length-2 t c =
-    let at-print-term = c .before .before .before .before .before .before in
-    let back = at-print-term .before .before .before .before .before .before in
-    let at-open-term = back .before .before .before .before .before in
-    c .before .before .byte-at2 .ensures .same ∙ at-print-term .print-term .ensures .wrote .same ∙ at-open-term .open-term .ensures .same
+    let byte-at2-place = c .before .before in
+    let at-print-term = after-print-term′ (byte-at2-place .before) in
+    let back = (at-match-keys1 (after-column2′ (at-print-term .before))) .before in
+    let at-open-term = after-open-term back in
+    byte-at2-place .byte-at2 .ensures .same ∙ at-print-term .print-term .ensures .wrote .same ∙ at-open-term .open-term .ensures .same
 
 print-term-returns-2 : (t : ℕ) → print-term-lts.Need-returns-2 (print-term-claims t) (print-term-at t) print-term.Post
 print-term-returns-2 t c =
-    let at-print-term = c .before .before .before .before .before .before in
-    let at-column2 = at-print-term .before .before .before in
-    let at-match = at-column2 .before .before in
+    let byte-at2-place = c .before .before in
+    let at-print-term = after-print-term′ (byte-at2-place .before) in
+    let at-column2 = after-column2′ (at-print-term .before) in
+    let at-match = at-match-keys1 at-column2 in
     let at-column = at-match .before in
-    let at-if1 = at-column .before .before in
-    let at-open-term = at-if1 .before .before .before in
+    let at-if1 = else1′ at-column in
+    let at-open-term = after-open-term at-column in
     laws.all-printed
     (laws.next-text
     (laws.next-part
     (laws.opened-fun (at-open-term .open-term .ensures) (at-if1 .if1 .left) (at-column .column .ensures) (at-match .match .keys1)
     (at-column2 .column2 .ensures))
     (at-print-term .print-term .ensures))
-    (c .before .before .byte-at2 .ensures))
+    (byte-at2-place .byte-at2 .ensures))
 
 print-term-same-length-3 : (t : ℕ) → print-term-lts.Need-same-length-3 (print-term-claims t) (print-term-at t) print-term.Post
 print-term-same-length-3 t c =
-    let at-print-term3 = c .before .before .before .before .before .before in
-    let back = at-print-term3 .before .before .before .before .before .before in
+    let byte-at4-place = c .before .before in
+    let at-print-term3 = after-print-term3 (byte-at4-place .before) in
+    let back = (after-column4 (at-print-term3 .before)) .before .before .before in
     let at-byte-at3 = back .before in
-    let at-print-term2 = at-byte-at3 .before .before .before .before in
-    let back5 = at-print-term2 .before .before .before .before .before .before in
-    let at-open-term = back5 .before .before .before .before .before in
-    c .before .before .byte-at4 .ensures .same ∙ at-print-term3 .print-term3 .ensures .wrote .same ∙ at-byte-at3 .byte-at3 .ensures .same ∙
+    let at-print-term2 = after-print-term2 (at-byte-at3 .before) in
+    let back5 = after-column′ (after-column3′ at-print-term2) in
+    let at-open-term = after-open-term back5 in
+    byte-at4-place .byte-at4 .ensures .same ∙ at-print-term3 .print-term3 .ensures .wrote .same ∙ at-byte-at3 .byte-at3 .ensures .same ∙
     at-print-term2 .print-term2 .ensures .wrote .same ∙ at-open-term .open-term .ensures .same
 
 print-term-returns-3 : (t : ℕ) → print-term-lts.Need-returns-3 (print-term-claims t) (print-term-at t) print-term.Post
 print-term-returns-3 t c =
-    let at-print-term3 = c .before .before .before .before .before .before in
-    let at-column4 = at-print-term3 .before .before .before in
-    let at-byte-at3 = at-column4 .before .before .before .before in
-    let at-print-term2 = at-byte-at3 .before .before .before .before in
-    let at-column3 = at-print-term2 .before .before .before in
-    let at-match = at-column3 .before .before in
-    let at-column = at-match .before in
-    let at-if1 = at-column .before .before in
-    let at-open-term = at-if1 .before .before .before in
+    let byte-at4-place = c .before .before in
+    let at-print-term3 = after-print-term3 (byte-at4-place .before) in
+    let at-column4 = after-column4 (at-print-term3 .before) in
+    let at-byte-at3 = after-byte-at3 at-column4 in
+    let at-print-term2 = after-print-term2 (at-byte-at3 .before) in
+    let at-column3 = after-column3′ at-print-term2 in
+    let at-match = at-match-keys2 at-column3 in
+    let at-column = after-column′ at-column3 in
+    let at-if1 = else1′ at-column in
+    let at-open-term = after-open-term at-column in
     laws.all-printed
     (laws.next-text
     (laws.next-part
@@ -577,53 +737,57 @@ print-term-returns-3 t c =
     (at-print-term2 .print-term2 .ensures))
     (at-byte-at3 .byte-at3 .ensures))
     (at-print-term3 .print-term3 .ensures))
-    (c .before .before .byte-at4 .ensures))
+    (byte-at4-place .byte-at4 .ensures))
 
 print-term-same-length-4 : (t : ℕ) → print-term-lts.Need-same-length-4 (print-term-claims t) (print-term-at t) print-term.Post
 print-term-same-length-4 t c =
-    let at-print-fields = c .before .before .before .before .before .before in
-    let back = at-print-fields .before .before .before .before .before .before in
-    let at-open-term = back .before .before .before .before .before in
-    c .before .before .byte-at5 .ensures .same ∙ at-print-fields .print-fields .ensures .wrote .same ∙
+    let byte-at5-place = c .before .before in
+    let at-print-fields = after-print-fields′ (byte-at5-place .before) in
+    let back = (at-match-keys3 (after-column5 (at-print-fields .before))) .before in
+    let at-open-term = after-open-term back in
+    byte-at5-place .byte-at5 .ensures .same ∙ at-print-fields .print-fields .ensures .wrote .same ∙
     at-open-term .open-term .ensures .same
 
 print-term-returns-4 : (t : ℕ) → print-term-lts.Need-returns-4 (print-term-claims t) (print-term-at t) print-term.Post
 print-term-returns-4 t c =
-    let at-print-fields = c .before .before .before .before .before .before in
-    let at-column5 = at-print-fields .before .before .before in
-    let at-match = at-column5 .before .before in
+    let byte-at5-place = c .before .before in
+    let at-print-fields = after-print-fields′ (byte-at5-place .before) in
+    let at-column5 = after-column5 (at-print-fields .before) in
+    let at-match = at-match-keys3 at-column5 in
     let at-column = at-match .before in
-    let at-if1 = at-column .before .before in
-    let at-open-term = at-if1 .before .before .before in
+    let at-if1 = else1′ at-column in
+    let at-open-term = after-open-term at-column in
     laws.all-printed
     (laws.next-text
     (laws.next-part
     (laws.opened-rcd (at-open-term .open-term .ensures) (at-if1 .if1 .left) (at-column .column .ensures) (at-match .match .keys3)
     (at-column5 .column5 .ensures))
     (at-print-fields .print-fields .ensures))
-    (c .before .before .byte-at5 .ensures))
+    (byte-at5-place .byte-at5 .ensures))
 
 print-term-same-length-5 : (t : ℕ) → print-term-lts.Need-same-length-5 (print-term-claims t) (print-term-at t) print-term.Post
 print-term-same-length-5 t c =
-    let at-label-at = c .before .before .before .before .before .before in
-    let at-byte-at6 = at-label-at .before .before .before .before .before .before in
-    let at-print-term4 = at-byte-at6 .before .before .before .before in
-    let back = at-print-term4 .before .before .before .before .before .before in
-    let at-open-term = back .before .before .before .before .before in
-    c .before .before .byte-at7 .ensures .same ∙ at-label-at .label-at .ensures .same ∙ at-byte-at6 .byte-at6 .ensures .same ∙
+    let byte-at7-place = c .before .before in
+    let at-label-at = after-label-at (byte-at7-place .before) in
+    let at-byte-at6 = after-byte-at6 (at-label-at .before .before) in
+    let at-print-term4 = after-print-term4 (at-byte-at6 .before) in
+    let back = after-column′′ (after-column6 at-print-term4) in
+    let at-open-term = after-open-term back in
+    byte-at7-place .byte-at7 .ensures .same ∙ at-label-at .label-at .ensures .same ∙ at-byte-at6 .byte-at6 .ensures .same ∙
     at-print-term4 .print-term4 .ensures .wrote .same ∙ at-open-term .open-term .ensures .same
 
 print-term-returns-5 : (t : ℕ) → print-term-lts.Need-returns-5 (print-term-claims t) (print-term-at t) print-term.Post
 print-term-returns-5 t c =
-    let at-label-at = c .before .before .before .before .before .before in
+    let byte-at7-place = c .before .before in
+    let at-label-at = after-label-at (byte-at7-place .before) in
     let at-column7 = at-label-at .before .before in
-    let at-byte-at6 = at-column7 .before .before .before .before in
-    let at-print-term4 = at-byte-at6 .before .before .before .before in
-    let at-column6 = at-print-term4 .before .before .before in
-    let at-match = at-column6 .before .before in
-    let at-column = at-match .before in
-    let at-if1 = at-column .before .before in
-    let at-open-term = at-if1 .before .before .before in
+    let at-byte-at6 = after-byte-at6 at-column7 in
+    let at-print-term4 = after-print-term4 (at-byte-at6 .before) in
+    let at-column6 = after-column6 at-print-term4 in
+    let at-match = at-match-keys4 at-column6 in
+    let at-column = after-column′′ at-column6 in
+    let at-if1 = else1′ at-column in
+    let at-open-term = after-open-term at-column in
     laws.all-printed
     (laws.next-text
     (laws.next-text
@@ -634,25 +798,27 @@ print-term-returns-5 t c =
     (at-print-term4 .print-term4 .ensures))
     (at-byte-at6 .byte-at6 .ensures))
     (at-label-at .label-at .ensures))
-    (c .before .before .byte-at7 .ensures))
+    (byte-at7-place .byte-at7 .ensures))
 
 print-term-same-length-6 : (t : ℕ) → print-term-lts.Need-same-length-6 (print-term-claims t) (print-term-at t) print-term.Post
 print-term-same-length-6 t c =
-    let back = c .before .before .before .before .before .before in
-    let at-open-term = back .before .before .before .before in
-    c .before .before .byte-at8 .ensures .same ∙ at-open-term .open-term .ensures .same
+    let byte-at8-place = c .before .before in
+    let back = byte-at8-place .before .before .before .before in
+    let at-open-term = after-open-term′ (back .before .before) in
+    byte-at8-place .byte-at8 .ensures .same ∙ at-open-term .open-term .ensures .same
 
 print-term-returns-6 : (t : ℕ) → print-term-lts.Need-returns-6 (print-term-claims t) (print-term-at t) print-term.Post
 print-term-returns-6 t c =
-    let at-match = c .before .before .before .before in
+    let byte-at8-place = c .before .before in
+    let at-match = byte-at8-place .before .before in
     let at-column = at-match .before in
-    let at-if1 = at-column .before .before in
-    let at-open-term = at-if1 .before .before .before in
+    let at-if1 = else1′ at-column in
+    let at-open-term = after-open-term at-column in
     laws.all-printed
     (laws.next-text
     (laws.opened-bare (at-open-term .open-term .ensures) (at-if1 .if1 .left) (at-column .column .ensures)
-    (at-match .match .rest .0 .0 .0 .1) (at-match .match .rest .0 .0 .1) (at-match .match .rest .0 .1) (at-match .match .rest .1))
-    (c .before .before .byte-at8 .ensures))
+    (at-match .match .rest))
+    (byte-at8-place .byte-at8 .ensures))
 
 pub +print-fields+print-term-spec : {M : Type 1} → statement M
 +print-fields+print-term-spec = close μ-print-fields μ-print-term (λ t. print-fields-lts.spec (print-fields-claims t)

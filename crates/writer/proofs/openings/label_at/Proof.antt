@@ -19,7 +19,9 @@ same-length : tie.Need-same-length
 same-length c = search needs
 
 returns : tie.Need-returns
-returns c = as-text (c .before .before .before .spelling .ensures) (c .before .before .copy-at .ensures)
+returns c =
+    let copy-at-place = c .before .before in
+    as-text (copy-at-place .before .spelling .ensures) (copy-at-place .copy-at .ensures)
 
 pub label-at-spec : {M : Type 1} → statement M
 label-at-spec = tie.close (tie.spec spelling-requires copy-at-requires same-length returns)

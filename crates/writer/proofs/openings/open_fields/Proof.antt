@@ -6,23 +6,41 @@ use Rattle.writer.proofs.OpeningLaws as laws
 use Rattle.writer.proofs.openings.open_fields.Statement.{statement}
 use Rattle.writer.proofs.openings.open_fields.Tie as tie
 
+-- places, each from a later one
+abbrev after-label-at : tie.After-byte-at-arg → tie.After-label-at
+after-label-at p = p .before .before .before
+
+abbrev else1 : tie.After-column → tie.Else1
+else1 p = p .before .before
+
+abbrev after-copy-at2 : tie.After-column2 → tie.After-copy-at2
+after-copy-at2 p = p .before .before .before .before .before
+
+abbrev then2 : tie.After-copy-at-arg4 → tie.Then2
+then2 p = p .before .before
+
+abbrev at-start : tie.Else1 → tie.Start
+at-start p = p .before .before
+
 slice-aggregate-copy-at : tie.Need-slice-aggregate-copy-at
 slice-aggregate-copy-at c = search needs
 
 copy-at-requires : tie.Need-copy-at-requires
 copy-at-requires c κs =
-    let entry = c .before .before .before .before in
-    pieces.go-room (laws.open-shallow-fields (entry .args .out .now) (entry .pre) (c .before .before .if1 .taken)) (entry .pre .room)
+    let then1 = c .before .before in
+    let entry = then1 .before .before in
+    pieces.go-room (laws.open-shallow-fields (entry .args .out .now) (entry .pre) (then1 .if1 .taken)) (entry .pre .room)
 
 same-length : tie.Need-same-length
 same-length c = c .before .before .copy-at .ensures .same
 
 returns : tie.Need-returns
 returns c =
-    let at-if1 = c .before .before .before .before .before in
+    let copy-at-place = c .before .before in
+    let at-if1 = copy-at-place .before .before .before in
     let entry = at-if1 .before .before in
     pieces.go-last (laws.open-shallow-fields (entry .args .out .now) (entry .pre) (at-if1 .if1 .taken))
-    (c .before .before .copy-at .ensures)
+    (copy-at-place .copy-at .ensures)
 
 column-requires : tie.Need-column-requires
 column-requires c κs = search needs
@@ -32,79 +50,87 @@ slice-aggregate-copy-at-2 c = search needs
 
 copy-at-requires-2 : tie.Need-copy-at-requires-2
 copy-at-requires-2 c κs =
-    let at-if1 = c .before .before .before .before .before in
-    let entry = at-if1 .before .before in
-    pieces.go-room (laws.open-cons (entry .args .out .now) (entry .pre) (at-if1 .if1 .left) (c .before .before .before .column .ensures)
-    (c .before .before .if2 .taken) refl) (entry .pre .room)
+    let then2 = then2 c in
+    let column-place = then2 .before in
+    let at-if1 = else1 column-place in
+    let entry = at-start at-if1 in
+    pieces.go-room (laws.open-cons (entry .args .out .now) (entry .pre) (at-if1 .if1 .left) (column-place .column .ensures)
+    (then2 .if2 .taken) refl) (entry .pre .room)
 
 column-requires-2 : tie.Need-column-requires-2
 column-requires-2 c κs = search needs
 
 label-at-requires : tie.Need-label-at-requires
 label-at-requires c κs =
-    let at-copy-at2 = c .before .before .before .before .before in
-    let at-if2 = at-copy-at2 .before .before .before in
+    let at-copy-at2 = after-copy-at2 c in
+    let at-if2 = then2 (at-copy-at2 .before) in
     let at-column = at-if2 .before in
-    let at-if1 = at-column .before .before in
-    let entry = at-if1 .before .before in
+    let at-if1 = else1 at-column in
+    let entry = at-start at-if1 in
     pieces.go-room (pieces.go-next
     (laws.open-cons (entry .args .out .now) (entry .pre) (at-if1 .if1 .left) (at-column .column .ensures) (at-if2 .if2 .taken)
     (c .column2 .ensures)) (at-copy-at2 .copy-at2 .ensures)) (entry .pre .room)
 
 byte-at-requires : tie.Need-byte-at-requires
 byte-at-requires c κs =
-    let at-column2 = c .before .before .before .before in
-    let at-copy-at2 = at-column2 .before .before .before .before .before in
-    let at-if2 = at-copy-at2 .before .before .before in
+    let label-at-place = after-label-at c in
+    let at-column2 = label-at-place .before in
+    let at-copy-at2 = after-copy-at2 at-column2 in
+    let at-if2 = then2 (at-copy-at2 .before) in
     let at-column = at-if2 .before in
-    let at-if1 = at-column .before .before in
-    let entry = at-if1 .before .before in
+    let at-if1 = else1 at-column in
+    let entry = at-start at-if1 in
     pieces.go-room (pieces.go-next
     (pieces.go-next (laws.open-cons (entry .args .out .now) (entry .pre) (at-if1 .if1 .left) (at-column .column .ensures)
-    (at-if2 .if2 .taken) (at-column2 .column2 .ensures)) (at-copy-at2 .copy-at2 .ensures)) (c .before .before .before .label-at .ensures))
+    (at-if2 .if2 .taken) (at-column2 .column2 .ensures)) (at-copy-at2 .copy-at2 .ensures)) (label-at-place .label-at .ensures))
     (entry .pre .room)
 
 same-length-2 : tie.Need-same-length-2
 same-length-2 c =
-    let at-label-at = c .before .before .before .before .before .before in
-    let at-copy-at2 = at-label-at .before .before .before .before .before .before in
-    c .before .before .byte-at .ensures .same ∙ at-label-at .label-at .ensures .same ∙ at-copy-at2 .copy-at2 .ensures .same
+    let byte-at-place = c .before .before in
+    let at-label-at = after-label-at (byte-at-place .before) in
+    let at-copy-at2 = after-copy-at2 (at-label-at .before) in
+    byte-at-place .byte-at .ensures .same ∙ at-label-at .label-at .ensures .same ∙ at-copy-at2 .copy-at2 .ensures .same
 
 returns-2 : tie.Need-returns-2
 returns-2 c =
-    let at-label-at = c .before .before .before .before .before .before in
+    let byte-at-place = c .before .before in
+    let at-label-at = after-label-at (byte-at-place .before) in
     let at-column2 = at-label-at .before in
-    let at-copy-at2 = at-column2 .before .before .before .before .before in
-    let at-if2 = at-copy-at2 .before .before .before in
+    let at-copy-at2 = after-copy-at2 at-column2 in
+    let at-if2 = then2 (at-copy-at2 .before) in
     let at-column = at-if2 .before in
-    let at-if1 = at-column .before .before in
-    let entry = at-if1 .before .before in
+    let at-if1 = else1 at-column in
+    let entry = at-start at-if1 in
     pieces.go-last (pieces.go-next
     (pieces.go-next (laws.open-cons (entry .args .out .now) (entry .pre) (at-if1 .if1 .left) (at-column .column .ensures)
     (at-if2 .if2 .taken) (at-column2 .column2 .ensures)) (at-copy-at2 .copy-at2 .ensures)) (at-label-at .label-at .ensures))
-    (c .before .before .byte-at .ensures)
+    (byte-at-place .byte-at .ensures)
 
 slice-aggregate-copy-at-3 : tie.Need-slice-aggregate-copy-at-3
 slice-aggregate-copy-at-3 c = search needs
 
 copy-at-requires-3 : tie.Need-copy-at-requires-3
 copy-at-requires-3 c κs =
-    let at-if1 = c .before .before .before .before .before in
-    let entry = at-if1 .before .before in
-    pieces.go-room (laws.open-nil (entry .args .out .now) (entry .pre) (at-if1 .if1 .left) (c .before .before .before .column .ensures)
-    (c .before .before .if2 .left)) (entry .pre .room)
+    let else2 = c .before .before in
+    let column-place = else2 .before in
+    let at-if1 = else1 column-place in
+    let entry = at-start at-if1 in
+    pieces.go-room (laws.open-nil (entry .args .out .now) (entry .pre) (at-if1 .if1 .left) (column-place .column .ensures)
+    (else2 .if2 .left)) (entry .pre .room)
 
 same-length-3 : tie.Need-same-length-3
 same-length-3 c = c .before .before .copy-at3 .ensures .same
 
 returns-3 : tie.Need-returns-3
 returns-3 c =
-    let at-if2 = c .before .before .before .before .before in
+    let copy-at3-place = c .before .before in
+    let at-if2 = copy-at3-place .before .before .before in
     let at-column = at-if2 .before in
-    let at-if1 = at-column .before .before in
-    let entry = at-if1 .before .before in
+    let at-if1 = else1 at-column in
+    let entry = at-start at-if1 in
     pieces.go-last (laws.open-nil (entry .args .out .now) (entry .pre) (at-if1 .if1 .left) (at-column .column .ensures) (at-if2 .if2 .left))
-    (c .before .before .copy-at3 .ensures)
+    (copy-at3-place .copy-at3 .ensures)
 
 pub open-fields-spec : {M : Type 1} → statement M
 open-fields-spec =

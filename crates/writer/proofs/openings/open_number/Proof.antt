@@ -6,6 +6,10 @@ use Rattle.writer.proofs.OpeningLaws as laws
 use Rattle.writer.proofs.openings.open_number.Statement.{statement}
 use Rattle.writer.proofs.openings.open_number.Tie as tie
 
+-- places, each from a later one
+abbrev after-copy-at : tie.After-number-at-arg → tie.After-copy-at
+after-copy-at p = p .before .before .before
+
 slice-aggregate-copy-at : tie.Need-slice-aggregate-copy-at
 slice-aggregate-copy-at c = search needs
 
@@ -16,22 +20,25 @@ copy-at-requires c κs =
 
 number-at-requires : tie.Need-number-at-requires
 number-at-requires c κs =
-    let back = c .before .before .before .before .before .before in
+    let copy-at-place = after-copy-at c in
+    let back = copy-at-place .before .before .before in
     let entry = back .before in
     pieces.go-room (pieces.go-next (laws.open-number (entry .args .out .now) (entry .args .n))
-    (c .before .before .before .copy-at .ensures)) (entry .pre)
+    (copy-at-place .copy-at .ensures)) (entry .pre)
 
 same-length : tie.Need-same-length
 same-length c =
-    let at-copy-at = c .before .before .before .before .before .before in
-    c .before .before .number-at .ensures .same ∙ at-copy-at .copy-at .ensures .same
+    let number-at-place = c .before .before in
+    let at-copy-at = after-copy-at (number-at-place .before) in
+    number-at-place .number-at .ensures .same ∙ at-copy-at .copy-at .ensures .same
 
 returns : tie.Need-returns
 returns c =
-    let at-copy-at = c .before .before .before .before .before .before in
+    let number-at-place = c .before .before in
+    let at-copy-at = after-copy-at (number-at-place .before) in
     let entry = at-copy-at .before .before .before .before in
     pieces.go-last (pieces.go-next (laws.open-number (entry .args .out .now) (entry .args .n)) (at-copy-at .copy-at .ensures))
-    (c .before .before .number-at .ensures)
+    (number-at-place .number-at .ensures)
 
 pub open-number-spec : {M : Type 1} → statement M
 open-number-spec =

@@ -21,6 +21,22 @@ Inv-loop table formula words count pool₀ i₀ pool i = laws.Storing (lexiconOf
 abbrev μ-loop : tie.MeasureT-loop
 μ-loop table formula words count pool₀ i₀ pool i = count - i
 
+-- places, each from a later one
+abbrev in-loop : tie.After-offset Inv-loop μ-loop → tie.In-loop Inv-loop μ-loop
+in-loop p = p .before .before
+
+abbrev after-shared-slice-known5 : tie.After-slice-known3 Inv-loop μ-loop → tie.After-shared-slice-known5 Inv-loop μ-loop
+after-shared-slice-known5 p = p .before .before .before .before .before .before
+
+abbrev after-fill-outsides : tie.At-loop Inv-loop μ-loop → tie.After-fill-outsides Inv-loop μ-loop
+after-fill-outsides p = p .before .before .before
+
+abbrev after-slice-known : tie.In-loop Inv-loop μ-loop → tie.After-slice-known Inv-loop μ-loop
+after-slice-known p = p .before .before .before .before .before .before
+
+abbrev at-start : tie.In-loop Inv-loop μ-loop → tie.Start Inv-loop μ-loop
+at-start p = p .before .before .before .before .before .before .before .before .before .before
+
 fill-outsides-requires : tie.Need-fill-outsides-requires Inv-loop μ-loop
 fill-outsides-requires c κs =
     let entry = c .before .before .before .before .before in
@@ -31,20 +47,17 @@ loop-holds c = laws.storing-start _ _ _ _ (c .before .before .fill-outsides .ens
 
 mul-offset : tie.Need-mul-offset Inv-loop μ-loop
 mul-offset c =
-    let back = c .before .before .before .before .before .before in
-    let entry = back .before .before .before .before in
+    let entry = at-start c in
     omega (arith, entry .pre .few, c .loop-test .taken)
 
 mul-offset-2 : tie.Need-mul-offset-2 Inv-loop μ-loop
 mul-offset-2 c =
-    let back = c .before .before .before .before .before .before in
-    let entry = back .before .before .before .before in
+    let entry = at-start c in
     omega (arith, entry .pre .few, c .loop-test .taken)
 
 shared-slice-read-offset : tie.Need-shared-slice-read-offset Inv-loop μ-loop
 shared-slice-read-offset c =
-    let back = c .before .before .before .before .before .before in
-    let entry = back .before .before .before .before .before in
+    let entry = at-start (c .before) in
     omega (arith, entry .pre .lie, c .before .loop-test .taken)
 
 offset-requires : tie.Need-offset-requires Inv-loop μ-loop
@@ -52,53 +65,53 @@ offset-requires c κs = search needs
 
 mul-offset-3 : tie.Need-mul-offset-3 Inv-loop μ-loop
 mul-offset-3 c =
-    let back = c .before .before .before .before .before .before in
-    let entry = back .before .before .before .before .before .before in
-    omega (arith, entry .pre .few, c .before .before .loop-test .taken)
+    let turn-test = in-loop c in
+    let entry = at-start turn-test in
+    omega (arith, entry .pre .few, turn-test .loop-test .taken)
 
 add-offset : tie.Need-add-offset Inv-loop μ-loop
 add-offset c =
-    let back = c .before .before .before .before .before .before in
-    let entry = back .before .before .before .before .before .before in
-    omega (arith, entry .pre .few, c .before .before .loop-test .taken)
+    let turn-test = in-loop c in
+    let entry = at-start turn-test in
+    omega (arith, entry .pre .few, turn-test .loop-test .taken)
 
 mul-offset-4 : tie.Need-mul-offset-4 Inv-loop μ-loop
 mul-offset-4 c =
-    let back = c .before .before .before .before .before .before in
-    let entry = back .before .before .before .before .before .before in
-    omega (arith, entry .pre .few, c .before .before .loop-test .taken)
+    let turn-test = in-loop c in
+    let entry = at-start turn-test in
+    omega (arith, entry .pre .few, turn-test .loop-test .taken)
 
 shared-slice-read-offset-2 : tie.Need-shared-slice-read-offset-2 Inv-loop μ-loop
 shared-slice-read-offset-2 c =
-    let back = c .before .before .before .before .before .before in
-    let back2 = back .before .before .before .before .before .before in
-    let entry = back2 .before in
-    omega (arith, entry .pre .lie, c .before .before .before .loop-test .taken)
+    let turn-test = in-loop (c .before) in
+    let entry = at-start turn-test in
+    omega (arith, entry .pre .lie, turn-test .loop-test .taken)
 
 offset-requires-2 : tie.Need-offset-requires-2 Inv-loop μ-loop
 offset-requires-2 c κs = search needs
 
 add-store : tie.Need-add-store Inv-loop μ-loop
 add-store c =
-    let back = c .before .before .before .before .before .before in
-    let back2 = back .before .before .before .before .before .before in
-    let entry = back2 .before .before .before in
-    omega (arith, entry .pre .few, c .before .before .before .before .before .loop-test .taken)
+    let turn-test = in-loop (c .before .before .before) in
+    let entry = at-start turn-test in
+    omega (arith, entry .pre .few, turn-test .loop-test .taken)
 
 part-requires : tie.Need-part-requires Inv-loop μ-loop
 part-requires c κs = search needs
 
 store-requires : tie.Need-store-requires Inv-loop μ-loop
 store-requires c κs =
-    let at-loop-test = c .before .before .before .before .before .before in
+    let offset2-place = c .before .before in
+    let offset-place = offset2-place .before .before in
+    let at-loop-test = in-loop offset-place in
     let at-loop = at-loop-test .before in
-    let at-fill-outsides = at-loop .before .before .before in
-    let entry = at-fill-outsides .before .before .before .before .before .before in (
+    let at-fill-outsides = after-fill-outsides at-loop in
+    let entry = at-start at-loop-test in (
       (
         (laws.word-short (lexiconOf (entry .args .table .now) .outsides) (entry .args .formula .now) (entry .args .words .now)
             (at-loop .loop .i) (entry .args .count) (entry .pre .wordsFit) (at-loop-test .loop-test .taken)
             (laws.word-is (lexiconOf (entry .args .table .now) .outsides) (entry .args .formula .now) (entry .args .words .now) (at-loop .loop .i)
-            (c .before .before .before .before .offset .ensures) (c .before .before .offset2 .ensures) (c .part .ensures))),
+            (offset-place .offset .ensures) (offset2-place .offset2 .ensures) (c .part .ensures))),
         (omega (
           arith,
           at-loop-test .loop-test .taken,
@@ -112,29 +125,28 @@ store-requires c κs =
 
 add-i : tie.Need-add-i Inv-loop μ-loop
 add-i c =
-    let back = c .before .before .before .before .before .before in
-    let at-loop-test = back .before .before .before in
-    let back2 = at-loop-test .before .before .before .before .before .before in
-    let entry = back2 .before .before .before .before in
+    let back = after-shared-slice-known5 c in
+    let at-loop-test = in-loop (back .before) in
+    let entry = at-start at-loop-test in
     omega (arith, entry .pre .few, at-loop-test .loop-test .taken)
 
 loop-less : tie.Need-loop-less Inv-loop μ-loop
 loop-less c =
-    let back = c .before .before .before .before .before .before in
-    let at-loop-test = back .before .before .before in
-    let back2 = at-loop-test .before .before .before .before .before .before in
-    let entry = back2 .before .before .before .before in
+    let back = after-shared-slice-known5 c in
+    let at-loop-test = in-loop (back .before) in
+    let entry = at-start at-loop-test in
     omega (arith, entry .pre .few, at-loop-test .loop-test .taken)
 
 loop-again : tie.Need-loop-again Inv-loop μ-loop
 loop-again c =
-    let at-part = c .before .before .before in
+    let store-place = c .before .before in
+    let at-part = store-place .before in
     let at-offset2 = at-part .before .before in
-    let at-offset = at-offset2 .before .before in
-    let at-loop-test = at-offset .before .before in
+    let at-offset = (after-shared-slice-known5 c) .before in
+    let at-loop-test = in-loop at-offset in
     let at-loop = at-loop-test .before in
-    let at-fill-outsides = at-loop .before .before .before in
-    let entry = at-fill-outsides .before .before .before .before .before .before in
+    let at-fill-outsides = after-fill-outsides at-loop in
+    let entry = at-start at-loop-test in
     laws.storing-next (at-loop .loop .inv) (at-loop-test .loop-test .taken)
     (laws.word-is (lexiconOf (entry .args .table .now) .outsides) (entry .args .formula .now) (entry .args .words .now) (at-loop .loop .i)
     (at-offset .offset .ensures) (at-offset2 .offset2 .ensures) (at-part .part .ensures))
@@ -148,10 +160,10 @@ loop-again c =
       (at-loop .loop .inv) .long,
       at-fill-outsides .fill-outsides .kept .1 .0,
       entry .pre .room,
-    )) (c .before .before .store .ensures)
+    )) (store-place .store .ensures)
 
 same-length : tie.Need-same-length Inv-loop μ-loop
-same-length c = (c .before .loop .inv) .long ∙ c .before .before .before .before .fill-outsides .kept .1 .0
+same-length c = (c .before .loop .inv) .long ∙ (after-fill-outsides (c .before)) .fill-outsides .kept .1 .0
 
 returns : tie.Need-returns Inv-loop μ-loop
 returns c = laws.storing-end (c .before .loop .inv) (c .loop-test .left)

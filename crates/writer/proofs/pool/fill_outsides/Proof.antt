@@ -23,11 +23,24 @@ Inv-loop table pool₀ start at₀ i₀ pool at i = laws.Filling table pool₀ p
 abbrev μ-loop : tie.MeasureT-loop
 μ-loop table pool₀ start at₀ i₀ pool at i = 64 - i
 
+-- places, each from a later one
+abbrev at-start : tie.After-after-leading Inv-loop μ-loop → tie.Start Inv-loop μ-loop
+at-start p = p .before .before .before
+
+abbrev after-front-at : tie.After-front Inv-loop μ-loop → tie.After-front-at Inv-loop μ-loop
+after-front-at p = p .before .before
+
+abbrev after-after-leading : tie.After-front-at Inv-loop μ-loop → tie.After-after-leading Inv-loop μ-loop
+after-after-leading p = p .before .before .before
+
+abbrev at-loop : tie.After-front-at Inv-loop μ-loop → tie.At-loop Inv-loop μ-loop
+at-loop p = p .before .before
+
 after-leading-requires : tie.Need-after-leading-requires Inv-loop μ-loop
 after-leading-requires c κs = search needs
 
 loop-holds : tie.Need-loop-holds Inv-loop μ-loop
-loop-holds c = laws.filling-start _ _ (c .after-leading .result) (c .before .before .before .pre .1 .0)
+loop-holds c = laws.filling-start _ _ (c .after-leading .result) ((at-start c) .pre .1 .0)
 
 front-at-requires : tie.Need-front-at-requires Inv-loop μ-loop
 front-at-requires c κs = search needs
@@ -36,43 +49,51 @@ enum-told : tie.Need-enum-told Inv-loop μ-loop
 enum-told c = search needs
 
 same-length : tie.Need-same-length Inv-loop μ-loop
-same-length c = (c .before .before .before .before .loop .inv) .long
+same-length c = ((at-loop (c .before .before)) .loop .inv) .long
 
 returns : tie.Need-returns Inv-loop μ-loop
 returns c =
-    laws.filling-out (c .before .before .before .before .loop .inv) (c .before .before .before .before .before .after-leading .ensures)
-    Nothing (sym (c .enum-told .given .1) ∙ c .before .before .front-at .ensures) tt
+    let front-at-place = c .before .before in
+    let turn = at-loop front-at-place in
+    laws.filling-out (turn .loop .inv) ((after-after-leading front-at-place) .after-leading .ensures)
+    Nothing (sym (c .enum-told .given .1) ∙ front-at-place .front-at .ensures) tt
 
 enum-told-2 : tie.Need-enum-told-2 Inv-loop μ-loop
 enum-told-2 c = search needs
 
 same-length-2 : tie.Need-same-length-2 Inv-loop μ-loop
-same-length-2 c = (c .before .before .before .before .loop .inv) .long
+same-length-2 c = ((at-loop (c .before .before)) .loop .inv) .long
 
 returns-2 : tie.Need-returns-2 Inv-loop μ-loop
 returns-2 c =
-    laws.filling-out (c .before .before .before .before .loop .inv) (c .before .before .before .before .before .after-leading .ensures)
-    Short (sym (c .enum-told2 .given .1) ∙ c .before .before .front-at .ensures) tt
+    let front-at-place = c .before .before in
+    let turn = at-loop front-at-place in
+    laws.filling-out (turn .loop .inv) ((after-after-leading front-at-place) .after-leading .ensures)
+    Short (sym (c .enum-told2 .given .1) ∙ front-at-place .front-at .ensures) tt
 
 enum-known-front : tie.Need-enum-known-front Inv-loop μ-loop
 enum-known-front c = search needs
 
 same-length-3 : tie.Need-same-length-3 Inv-loop μ-loop
-same-length-3 c = (c .before .before .before .before .before .before .loop .inv) .long
+same-length-3 c = ((at-loop (after-front-at (c .before .before))) .loop .inv) .long
 
 returns-3 : tie.Need-returns-3 Inv-loop μ-loop
 returns-3 c =
-    let back = c .before .before .before .before .before .before in
-    let at-after-leading = back .before in
-    laws.filling-out (c .before .before .before .before .before .before .loop .inv) (at-after-leading .after-leading .ensures) (Field _ _)
-    (sym (c .before .before .front .given .1) ∙ c .before .before .before .before .front-at .ensures) (c .if1 .taken)
+    let front-place = c .before .before in
+    let front-at-place = after-front-at front-place in
+    let back = at-loop front-at-place in
+    let at-after-leading = after-after-leading front-at-place in
+    laws.filling-out (back .loop .inv) (at-after-leading .after-leading .ensures) (Field _ _)
+    (sym (front-place .front .given .1) ∙ front-at-place .front-at .ensures) (c .if1 .taken)
 
 add-from : tie.Need-add-from Inv-loop μ-loop
 add-from c =
+    let front-place = c .before .before in
+    let front-at-place = after-front-at front-place in
     omega (
       arith,
-      front-inside _ (c .before .before .before .before .before .before .loop .at)
-          (sym (c .before .before .front .given .1) ∙ c .before .before .before .before .front-at .ensures),
+      front-inside _ ((at-loop front-at-place) .loop .at)
+          (sym (front-place .front .given .1) ∙ front-at-place .front-at .ensures),
     )
 
 part-requires : tie.Need-part-requires Inv-loop μ-loop
@@ -80,15 +101,17 @@ part-requires c κs = search needs
 
 store-requires : tie.Need-store-requires Inv-loop μ-loop
 store-requires c κs =
-    let back = c .before .before .before .before .before .before in
+    let else1 = c .before .before in
+    let front-place = else1 .before .before in
+    let back = after-front-at front-place in
     let at-loop-test = back .before in
-    let at-loop = at-loop-test .before in
-    let at-after-leading = at-loop .before in
-    let entry = at-after-leading .before .before .before in (
+    let at-loop = at-loop back in
+    let at-after-leading = after-after-leading back in
+    let entry = at-start at-after-leading in (
       (
         laws.value-short (at-loop .loop .inv) (at-after-leading .after-leading .ensures) (at-loop-test .loop-test .taken)
-            (sym (c .before .before .before .before .front .given .1) ∙ c .before .before .before .before .before .before .front-at .ensures)
-            (c .before .before .if1 .left) (entry .pre .1 .1) (c .part .ensures),
+            (sym (front-place .front .given .1) ∙ back .front-at .ensures)
+            (else1 .if1 .left) (entry .pre .1 .1) (c .part .ensures),
         omega
             (arith, at-loop-test .loop-test .taken, (at-loop .loop .inv) .long, entry .pre .0),
       ),
@@ -99,8 +122,8 @@ add-at : tie.Need-add-at Inv-loop μ-loop
 add-at c =
     let back = c .before .before .before .before .before .before in
     let at-front = back .before in
-    let at-front-at = at-front .before .before in
-    let at-loop = at-front-at .before .before in
+    let at-front-at = after-front-at at-front in
+    let at-loop = at-loop at-front-at in
     omega (arith, front-inside _ (at-loop .loop .at) (sym (at-front .front .given .1) ∙ at-front-at .front-at .ensures))
 
 add-i : tie.Need-add-i Inv-loop μ-loop
@@ -111,16 +134,19 @@ loop-less c = search needs
 
 loop-again : tie.Need-loop-again Inv-loop μ-loop
 loop-again c =
-    let back = c .before .before .before .before .before .before in
+    let store-place = c .before .before in
+    let part-place = store-place .before in
+    let else1 = part-place .before .before in
+    let back = else1 .before in
     let at-front = back .before in
-    let at-front-at = at-front .before .before in
+    let at-front-at = after-front-at at-front in
     let at-loop-test = at-front-at .before in
-    let at-loop = at-loop-test .before in
-    let at-after-leading = at-loop .before in
-    let entry = at-after-leading .before .before .before in
+    let at-loop = at-loop at-front-at in
+    let at-after-leading = after-after-leading at-front-at in
+    let entry = at-start at-after-leading in
     laws.filling-next (at-loop .loop .inv) (at-after-leading .after-leading .ensures) (at-loop-test .loop-test .taken)
-    (sym (at-front .front .given .1) ∙ at-front-at .front-at .ensures) (c .before .before .before .before .before .if1 .left)
-    (entry .pre .1 .1) (entry .pre .0) (c .before .before .before .part .ensures) (c .before .before .store .ensures)
+    (sym (at-front .front .given .1) ∙ at-front-at .front-at .ensures) (else1 .if1 .left)
+    (entry .pre .1 .1) (entry .pre .0) (part-place .part .ensures) (store-place .store .ensures)
 
 same-length-4 : tie.Need-same-length-4 Inv-loop μ-loop
 same-length-4 c = (c .before .loop .inv) .long

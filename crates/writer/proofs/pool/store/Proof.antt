@@ -28,11 +28,12 @@ same-length c = search needs
 
 returns : tie.Need-returns
 returns c =
-    let back = c .before .before .before .before .before .before in
+    let copy-at-place = c .before .before in
+    let back = copy-at-place .before .before .before .before in
     let at-narrow = back .before in
     let entry = at-narrow .before .before .before .before in
-    laws.stored-both (at-narrow .narrow .ensures) (c .before .before .before .before .before .before .byte-at .ensures)
-    (c .before .before .copy-at .ensures) (omega (arith, entry .pre .0 .0, entry .pre .0 .1))
+    laws.stored-both (at-narrow .narrow .ensures) (back .byte-at .ensures)
+    (copy-at-place .copy-at .ensures) (omega (arith, entry .pre .0 .0, entry .pre .0 .1))
 
 pub store-spec : {M : Type 1} → statement M
 store-spec =

@@ -27,9 +27,10 @@ same-length c = search needs
 
 returns : tie.Need-returns
 returns c =
-    let at-within = c .before .before .before .before in
-    lent _ _ _ (at-within .within .result) (at-within .within .ensures) (c .before .before .copy-into .ensures .0)
-    (c .before .before .copy-into .ensures .1)
+    let copy-into-place = c .before .before in
+    let at-within = copy-into-place .before .before in
+    lent _ _ _ (at-within .within .result) (at-within .within .ensures) (copy-into-place .copy-into .ensures .0)
+    (copy-into-place .copy-into .ensures .1)
 
 pub copy-at-spec : {M : Type 1} → statement M
 copy-at-spec =

@@ -28,9 +28,10 @@ same-length c = search needs
 
 returns : tie.Need-returns
 returns c =
-    let at-within = c .before .before .before .before in
-    lent _ (decimal _) _ (at-within .within .result) (at-within .within .ensures) (c .before .before .write-decimal .ensures .0)
-    (c .before .before .write-decimal .ensures .1)
+    let write-decimal-place = c .before .before in
+    let at-within = write-decimal-place .before .before in
+    lent _ (decimal _) _ (at-within .within .result) (at-within .within .ensures) (write-decimal-place .write-decimal .ensures .0)
+    (write-decimal-place .write-decimal .ensures .1)
 
 pub decimal-at-spec : {M : Type 1} → statement M
 decimal-at-spec =
