@@ -294,7 +294,7 @@ module _ {owners needs : List ℕ} {down : Bool} {nulls k j set : ℕ} (c : Pass
   pub passing-end : k ≤ j → set ≡ needPass (stepPlace down k) k owners needs nulls
   passing-end h = let z : j ≡ k = omega (arith, c .within) in rw z at (c .done)
 
--- a step
+-- needs that are all nullable bring in the owner
 pub need-taken : (owner needs nulls : ℕ) {both : ℕ} → both ≡ bitOr nulls needs → both ≡ nulls → {o : ℕ} → o ≡ only owner → {r : ℕ} → r ≡ bitOr nulls o
     → r ≡ needStep owner needs nulls
 need-taken owner needs nulls e f eo er =

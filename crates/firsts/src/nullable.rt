@@ -13,7 +13,8 @@ ghost use Rattle.firsts.specs.FirstSets.{nullables};
 ghost use Rattle.firsts.specs.Needs.{needStep, stepPlace, needPass, NeedsLent, NeedsHeld};
 ghost use Rattle.firsts.specs.Room.{WholeIndex};
 
-// Holds the nonterminal and the needs of each production that has only locals and calls, and tells how many there are.
+// Holds the nonterminal and the needs of each production that has only locals and calls, and tells how many there are. The items are
+// walked as if every nonterminal were nullable: what is called then is what is needed.
 fn needs_of(
     table: &[u8],
     owners: &[u8],
