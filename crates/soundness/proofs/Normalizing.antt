@@ -144,6 +144,7 @@ module _ (K N : ℕ) where
 abbrev pub scopeOf : (t : Table) → WellSorted t → Scope
 scopeOf t w = scope (length (t .keywords)) (length (t .outsides)) (w .env)
 
+-- each production of a well sorted table fits its scope
 pub each-fits : (t : Table) → Within t → (w : WellSorted t) → (p : Production) → In (normalized (t .blocks)) p → Fit (scopeOf t w) p
 each-fits t z w p m = each-in (sequence-fits _ _ (w .sequence) (z .blocks) each-none) m
 
