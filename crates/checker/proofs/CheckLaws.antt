@@ -48,6 +48,7 @@ module _ (bs : List ℕ) where
   refused-layout r e =
       refused-by-layout bs r (cc (refused-bad (layout bs) r e))
 
+  -- a table refused for its layout leaves the room as it was
   pub into-layout : (r : Refusal) → verdict (layout bs) ≡ Refused r → (room : List ℕ) → CheckedInto bs room room (Refused r)
   unfolding decode roomAfter
   into-layout r e room =
@@ -75,6 +76,7 @@ module _ (bs : List ℕ) where
     room-left r e room =
         cc (refused-bad (checkSorts (encoded .0)) r (sym sorts-here ∙ e), decoded)
 
+    -- and so does one refused for its sorts
     pub into-sorts : (r : Refusal) → sortsOf bs ≡ Refused r → (room : List ℕ) → CheckedInto bs room room (Refused r)
     into-sorts r e room = record { answer = sym (refused-sorts r e); held = room-left r e room }
 
@@ -110,6 +112,7 @@ module _ (bs : List ℕ) where
       room-written room =
           cc (decoded, sorts-ok)
 
+      -- a table with neither refusal is answered by the check of its first sets
       pub into-firsts : {m : ℕ} {owners starts : List ℕ} → Index (placesOf bs) 256 m owners starts → {room₀ room : List ℕ} {r : Verdict}
           → FirstsChecked bs (placesIn m owners starts) room₀ room r → CheckedInto bs room₀ room r
       unfolding tableRoom

@@ -61,10 +61,14 @@ module _ {bs : List ℕ} (bytes : Bytes bs) (p : Passes bs) where
 
 -- What a caller has of a room after a check that passed.
 pub record Joined (bs room : List ℕ) : Type 0 where
+  -- the bytes are those of a table that passes
   pub passes : Passes bs
+  -- its productions are those found by place
   pub grammar : productionsIn bs ≡ grammarOf (passes .table)
+  -- the room holds what an expansion reads
   pub holds : HoldsGrammar bs room
 
+-- bytes that pass, and the room that their check filled
 pub joined : {bs : List ℕ} → Bytes bs → check bs ≡ Passed → {room₀ room : List ℕ} {r : Verdict} → CheckedInto bs room₀ room r → Joined bs room
 joined {bs} bytes h c =
     let p : Passes bs = check-exactly bs bytes .0 h in

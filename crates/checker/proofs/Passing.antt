@@ -23,6 +23,7 @@ use Rattle.checker.specs.Passes.{grammarOf, Passes}
 abbrev rules : Table → Checked Table
 rules t = checkSorts t >> checkFirsts (grammarOf t) >> ok t
 
+-- a refusal is no pass
 pub never : {A : Type 0} (r : Refusal) → Refused r ≡ Passed → A
 never r e = let z : _≡_ {A = ℕ} 0 1 = cc in absurd (omega arith)
 
@@ -64,22 +65,27 @@ module _ (bs : List ℕ) where
         (sorts-exactly (p .table) (p .within) .1 (p .meets .sorted))
         (passes-exactly (grammarOf (p .table)) .1 (p .meets .not-left-recursive, p .meets .without-clash))
 
+    -- the bytes that pass are exactly those of a table that meets the demands
     pub check-exactly : (check bs ≡ Passed) ↔ Passes bs
     check-exactly = (passing, passed)
 
+    -- the same of any verdict that is the check's
     pub verdict-exactly : {r : Verdict} → r ≡ check bs → (r ≡ Passed) ↔ Passes bs
     verdict-exactly e = (λ h. passing (sym e ∙ h), λ p. e ∙ passed p)
 
   -- ------------------------------------------------------------------ the first refusal
 
+  -- bytes that are not decoded are refused as decoding refuses them
   pub refused-by-layout : (r : Refusal) → decode bs ≡ bad r → check bs ≡ Refused r
   unfolding check passedTable
   refused-by-layout r e = cc
 
+  -- then a table is refused as the check of sorts refuses it
   pub refused-by-sorts : (t : Table) (r : Refusal) → decode bs ≡ ok t → checkSorts t ≡ bad r → check bs ≡ Refused r
   unfolding check passedTable
   refused-by-sorts t r e s = cc
 
+  -- and then as the check of first sets refuses it
   pub refused-by-firsts : (t : Table) (r : Refusal) → decode bs ≡ ok t → checkSorts t ≡ ok tt → checkFirsts (grammarOf t) ≡ bad r → check bs ≡ Refused r
   unfolding check passedTable
   refused-by-firsts t r e s f =

@@ -28,6 +28,7 @@ abbrev pub kindOf : List Token → ℕ
 kindOf [] = noKind
 kindOf (t ∷ s) = t .kind
 
+-- the next token's kind, or the end's, is that of the tokens left
 pub kind-next : (at : ℕ) (tokens : List Token) → getD tokens at endToken .kind ≡ kindOf (drop at tokens)
 kind-next zero [] = refl
 kind-next (suc at) [] = refl
@@ -57,14 +58,21 @@ members (in-later m) = omega arith
 
 module _ (rule : Production → Rule) (owned : (p : Production) → rule p .owner ≡ p .owner) (test : Rule → Bool) (n : ℕ) (other : Choice) where
   pub record Found (g : List Production) : Type 0 where
+    -- the production that is found
     pub production : Production
+    -- it is one of the grammar
     pub member : In g production
+    -- it is of the nonterminal
     pub of : production .owner ≡ n
+    -- its rule passes the test
     pub passed : test (rule production) ≡ true
+    -- it is the one that is answered
     pub answer : firstRule test n (map rule g) other ≡ chosen (rule production)
 
   pub record Missing (g : List Production) : Type 0 where
+    -- no production of the nonterminal passes the test
     pub none-passed : (p : Production) → In g p → p .owner ≡ n → test (rule p) ≡ true → ⊥
+    -- the other answer is given
     pub answer : firstRule test n (map rule g) other ≡ other
 
   here : (p : Production) (g : List Production) (b : Bool) → (eqb (rule p .owner) n && test (rule p)) ≡ b
@@ -93,6 +101,7 @@ module _ (rule : Production → Rule) (owned : (p : Production) → rule p .owne
 -- ------------------------------------------------------------------ the choice
 
 module _ (g : List Production) where
+  -- the rule that a run reads of a production
   abbrev pub rule : Production → Rule
   rule p = ruleOf (nullables g) (firstSets (nullables g) g) p
 
@@ -115,6 +124,7 @@ module _ (g : List Production) where
   none-taken m k p (taken-opened o h) = m .none-passed p (o .member) (o .owned) (opened-first h)
   none-taken m k p (taken-nullable o h z) = k .none-passed p (o .member) (o .owned) (production-nullable-exactly g p .1 z)
 
+  -- the choice by the next kind picks the production that the tokens take
   pub choice-picks : (n : ℕ) → n < 64 → (s : List Token) → Picks n s (choice (ready g) n (kindOf s))
   unfolding ready
   choice-picks n l s =
@@ -137,6 +147,7 @@ module _ (g : List Production) where
 
   -- one production is taken at most
   module _ (passed : checkFirsts g ≡ ok tt) where
+    -- the tokens take one production at most
     pub taken-one : {n : ℕ} {s : List Token} {p q : Production} → Taken g n s p → Taken g n s q → p ≡ q
     taken-one {n} {s} {p} {q} (taken-opened o h) (taken-opened k i) =
         one-production g passed n p q o k .0 (h .kind) (h .first)

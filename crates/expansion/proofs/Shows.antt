@@ -17,20 +17,26 @@ use Rattle.expansion.specs.Figure3 as Figure3
 
 -- the rows below `made` are the same
 pub record Agree (made : ℕ) (cells cells′ : List ℕ) : Type 0 where
+  -- the cells of the rows made are the same
   pub same : (j : ℕ) → j < made * columns → getD cells′ j 0 ≡ getD cells j 0
 
 -- from `made` rows to more: the old ones are the same, and as many numbers are lent
 pub record Grown (made : ℕ) (cells : List ℕ) (made′ : ℕ) (cells′ : List ℕ) : Type 0 where
+  -- no row is lost
   pub more : made ≤ made′
+  -- the rows made before are kept
   pub agree : Agree made cells cells′
+  -- the cells are as many
   pub as-many : length cells′ ≡ length cells
 
+-- no row is made
 pub grown-not : (made : ℕ) (cells : List ℕ) → Grown made cells made cells
 grown-not made cells = record { more = omega arith; agree = record { same = λ j h. refl }; as-many = refl }
 
 agree-trans : {m n : ℕ} {cells cells′ cells″ : List ℕ} → m ≤ n → Agree m cells cells′ → Agree n cells′ cells″ → Agree m cells cells″
 agree-trans l h k = record { same = λ j b. k .same j (omega arith) ∙ h .same j b }
 
+-- rows made in two steps
 pub grown-trans : {m m′ m″ : ℕ} {cells cells′ cells″ : List ℕ} → Grown m cells m′ cells′ → Grown m′ cells′ m″ cells″ → Grown m cells m″ cells″
 grown-trans h k = record { more = omega arith; agree = agree-trans (h .more) (h .agree) (k .agree); as-many = k .as-many ∙ h .as-many }
 
@@ -38,11 +44,15 @@ grown-trans h k = record { more = omega arith; agree = agree-trans (h .more) (h 
 
 -- row x is made, and every reading of the cells that has the rows made gives the term
 pub record ShowsTerm (spell : ℕ → List ℕ) (made : ℕ) (cells : List ℕ) (x : ℕ) (t : Term Name) : Type 0 where
+  -- its row is made
   pub below : x < made
+  -- all cells that keep the rows show it
   pub read : (cells′ : List ℕ) → Agree made cells cells′ → (k : ℕ) → x < k → termAt k spell cells′ x ≡ t
 
 pub record ShowsFields (spell : ℕ → List ℕ) (made : ℕ) (cells : List ℕ) (x : ℕ) (f : Fields Name) : Type 0 where
+  -- their row is made
   pub below : x < made
+  -- all cells that keep the rows show them
   pub read : (cells′ : List ℕ) → Agree made cells cells′ → (k : ℕ) → x < k → fieldsAt k spell cells′ x ≡ f
 
 pub data Shows (spell : ℕ → List ℕ) (made : ℕ) (cells : List ℕ) : ℕ → Value → Type 0 where
@@ -72,6 +82,7 @@ shows-later g (shows-term {x = x} {t = t} h) =
 shows-later g (shows-fields {x = x} {f = f} h) =
     shows-fields {x = x} {f = f} (record { below = omega arith; read = λ cells″ a k l. h .read cells″ (agree-trans (g .more) (g .agree) a) k l })
 
+-- what is shown stays shown as rows are made
 pub all-later : {spell : ℕ → List ℕ} {m m′ : ℕ} {cells cells′ : List ℕ} {xs : List ℕ} {vs : List Value} → Grown m cells m′ cells′
     → ShowAll spell m cells xs vs → ShowAll spell m′ cells′ xs vs
 all-later g show-none = show-none
@@ -83,6 +94,7 @@ pub all-and : {spell : ℕ → List ℕ} {m : ℕ} {cells : List ℕ} {xs : List
 all-and show-none k = show-more k show-none
 all-and (show-more h hs) k = show-more h (all-and hs k)
 
+-- a variable's value is shown at its place
 pub shows-bound : {spell : ℕ → List ℕ} {m : ℕ} {cells : List ℕ} {xs : List ℕ} {vs : List Value} {i : ℕ} {v : Value} → ShowAll spell m cells xs vs
     → Bound vs i v → Shows spell m cells (getD xs i 0) v
 shows-bound (show-more h hs) bound-first = h
@@ -97,14 +109,17 @@ module _ (spell : ℕ → List ℕ) (n : ℕ) (small : n < nameBase) where
   number-of : (c : ℕ) → (c * nameBase + n) % nameBase ≡ n
   number-of c = omega arith
 
+  -- the number of a word is read as the word
   pub word-named : nameOf spell (wordName n) ≡ word (spell n)
   unfolding nameOf
   word-named = rw (class 1, nameOf) (cc (number-of 1))
 
+  -- that of a new name as the new name
   pub fresh-named : nameOf spell (freshName n) ≡ fresh n
   unfolding nameOf
   fresh-named = rw (class 2, nameOf) (rw (class 2) (ap fresh (number-of 2)))
 
+  -- that of an outside name as the outside name
   pub outside-named : nameOf spell (outsideName n) ≡ outside (spell n)
   unfolding nameOf
   outside-named = rw (class 3, nameOf) (rw (class 3) (cc (number-of 3)))
@@ -144,6 +159,7 @@ module _ (made : ℕ) (cells : List ℕ) (code : ℕ) (xs : List ℕ) (room : ma
   in-row k h =
       cc (split (made * 4 + k) (omega arith), front-length, getD-append-add front (rowOf code xs) k 0)
 
+  -- one row more
   pub row-grown : Grown made cells (made + 1) (withRow cells made code xs)
   row-grown = record { more = omega arith; agree = record { same = before-row }; as-many = length-sets cells (made * 4) (rowOf code xs) }
 
@@ -213,6 +229,7 @@ module _ (spell : ℕ → List ℕ) (made : ℕ) (cells : List ℕ) (room : made
   variable-row x n =
       row-term 0x20 (x ∷ []) refl (λ cells′ a k l. ap variable (name-in made cells 0x20 (x ∷ []) room spell cells′ a 1 (omega arith) refl n))
 
+  -- a constructor's row shows what it constructs
   pub row-shows : {c : ℕ} {xs : List ℕ} {vs : List Value} {v : Value} → Constructs c vs v → ShowAll spell made cells xs vs → After c xs v
   unfolding constructorOf termBy fieldsBy
   row-shows Figure3.mkTermVar-var (show-more (shows-var {x = x} n) show-none) = variable-row x n

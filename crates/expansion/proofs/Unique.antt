@@ -94,6 +94,7 @@ module _ {g : List Production} (passed : checkFirsts g ≡ ok tt) {spell : ℕ �
       let b = gives-one (p .result) q (subst₂ (λ m x. Gives spell m (x .result) w) (sym (a .0)) (sym (taken-one g passed t t′)) q′) in
       derives-one r (subst₃ (λ v t j. Derives g spell (M ++ (v ∷ [])) t j is M₂ s₂ i₂) (sym b) (sym (a .1)) (sym (a .2)) r′)
 
+  -- tokens have one parse at most
   pub parses-one : {root : ℕ} {tokens : List Token} {t u : Term Name} → Parses g spell root tokens t → Parses g spell root tokens u → t ≡ u
   parses-one {t = t} {u} P Q =
       let e : _≡_ {A = List Value} (term t ∷ []) (term u ∷ []) = derives-one (P .derived) (Q .derived) .0 in

@@ -33,6 +33,7 @@ module _ (table : List ℕ) (at : ℕ) where
   size-at : sizeOf (drop at table) ≡ getD table (at + 1) 0 * 256 + getD table (at + 2) 0
   size-at = rw (getD-drop at table 1 0, getD-drop at table 2 0) refl
 
+  -- past the end nothing stands
   pub front-nothing : length table ≤ at → frontOf (drop at table) ≡ Nothing
   unfolding frontOf
   front-nothing h = rw (drop-of-length-le table h) refl
@@ -40,11 +41,13 @@ module _ (table : List ℕ) (at : ℕ) where
   not-empty : at < length table → eqb (length (drop at table)) 0 ≡ false
   not-empty h = ne-eqb (length (drop at table)) 0 (λ e. omega (arith, length-drop at table))
 
+  -- fewer than three bytes are no field
   pub front-short : at < length table → length table - at < 3 → frontOf (drop at table) ≡ Short
   front-short h k =
       front-tests (drop at table) false false (not-empty h)
       (lt-leb (3 + sizeOf (drop at table)) (length (drop at table)) (omega (arith, length-drop at table)))
 
+  -- a field whose value runs past the end is none
   pub front-cut : at < length table → length table - at - 3 < getD table (at + 1) 0 * 256 + getD table (at + 2) 0 → frontOf (drop at table) ≡ Short
   front-cut h k =
       front-tests (drop at table) false false (not-empty h)
@@ -58,6 +61,7 @@ module _ (table : List ℕ) (at : ℕ) where
       (le-leb (3 + sizeOf (drop at table)) (length (drop at table)) (omega (arith, length-drop at table, size-at)))
       ∙ rw (size-at, getD-drop at table 0 0, add-zero) refl
 
+  -- a field whose value ends in time stands with its tag and its size
   pub front-is : at < length table → 3 ≤ length table - at → {high low : ℕ} → high ≡ getD table (at + 1) 0
       → low ≡ getD table (at + 2) 0
       → high * 256 + low ≤ length table - at - 3
@@ -89,6 +93,7 @@ front-inside-by table at false true e f =
 front-inside-by table at false false e f =
     rw (front-tests (drop at table) false false e f) (omega (arith, length-drop at table, not-empty-drop at table e))
 
+-- a field that stands somewhere lies within the table
 pub front-inside : (table : List ℕ) (at : ℕ) {r : Front} → r ≡ frontOf (drop at table) → Inside table at r
 front-inside table at e =
     rw e (front-inside-by table at _ _ refl refl)
@@ -144,12 +149,14 @@ opened-from table at Short = refl
 opened-from table at (Field t n) =
     rw (drop-drop 3 at table, drop-drop (3 + n) at table, add-assoc at 3 n) refl
 
+-- the fields from an offset on, by what stands there
 pub fields-at : (table : List ℕ) (at : ℕ) {r : Front} → r ≡ frontOf (drop at table) → fieldsAt table at ≡ opened table at r
 fields-at table at {r} e =
     fields-more table at ∙ from-front (length table) at (drop at table)
     ∙ ap (openedFrom (length table) at (drop at table)) (sym e)
     ∙ opened-from table at r
 
+-- all fields are those from offset 0 on
 pub fields-of : (table : List ℕ) → fieldsOf table ≡ fieldsAt table 0
 unfolding fieldsOf fieldsAt
 fields-of table = refl
@@ -170,10 +177,12 @@ found-tests : (s : List ℕ) (vs : List (List ℕ)) (b : Bool) → ltb (indexOf 
 unfolding foundIn
 found-tests s vs b e = rw (e, foundIn) refl
 
+-- nothing is found among no spellings
 pub found-nil : (s : List ℕ) → foundIn s [] ≡ Absent
 unfolding foundIn indexOf
 found-nil s = refl
 
+-- the first spelling is found at 0
 pub found-here : (s v : List ℕ) (vs : List (List ℕ)) → same v s ≡ true → foundIn s (v ∷ vs) ≡ At 0
 unfolding indexOf
 found-here s v vs e =
@@ -188,6 +197,7 @@ found-later-by s v vs true z e =
 found-later-by s v vs false z e =
     found-tests s (v ∷ vs) false (rw (z, leb·suc-suc) e) ∙ sym (ap (shifted 1) (found-tests s vs false e))
 
+-- another one is looked for among those behind
 pub found-later : (s v : List ℕ) (vs : List (List ℕ)) → same v s ≡ false → foundIn s (v ∷ vs) ≡ shifted 1 (foundIn s vs)
 unfolding indexOf
 found-later s v vs e = found-later-by s v vs _ (rw (e, indexOf) refl) refl
@@ -225,7 +235,9 @@ module _ (table : List ℕ) (at tag : ℕ) where
 
 -- i fields of the tag do not have the spelling; those from `at` on give what is asked
 pub record Searching (table s : List ℕ) (tag most start at i : ℕ) : Type 0 where
+  -- no more are passed than count
   pub small : i ≤ most
+  -- what is left gives what all of them give
   pub rest :
       shifted i (foundIn s (take (most - i) (leading tag (fieldsAt table at))))
       ≡ foundIn s (take most (leading tag (fieldsAt table start)))
@@ -234,6 +246,7 @@ shifted-none : (f : Found) → shifted 0 f ≡ f
 shifted-none (At k) = ap At (zero-add k)
 shifted-none Absent = refl
 
+-- nothing is passed at the start
 pub searching-start : (table s : List ℕ) (tag most start : ℕ) → Searching table s tag most start start 0
 searching-start table s tag most start = record { small = omega arith; rest = rw (sub-zero, shifted-none) refl }
 
@@ -247,12 +260,14 @@ module _ {table s : List ℕ} {tag most start at i : ℕ} (c : Searching table s
       → Absent ≡ foundIn s (take most (leading tag (fieldsAt table start)))
   none-left e = sym (ap (shifted i) (found-nil s)) ∙ rest-is [] e
 
+  -- where the fields of the tag end, the spelling is absent
   pub searching-out : (r : Front) → r ≡ frontOf (drop at table) → Stops tag r
       → Absent ≡ foundIn s (take most (leading tag (fieldsAt table start)))
   searching-out r e h =
       none-left
       (cc (fields-at table at e, leading-stop table at tag r h, take-nil (most - i)))
 
+  -- behind the last that counts, the spelling is absent
   pub searching-end : most ≤ i → Absent ≡ foundIn s (take most (leading tag (fieldsAt table start)))
   searching-end h =
       let z : most - i ≡ 0 = omega arith in
@@ -271,11 +286,13 @@ module _ {table s : List ℕ} {tag most start at i : ℕ} (c : Searching table s
         let z : at + 3 + n - (at + 3) ≡ n = omega arith in
         cc
 
+    -- the field here spells it
     pub searching-found : same (take (at + 3 + n - (at + 3)) (drop (at + 3) table)) s ≡ true
         → At i ≡ foundIn s (take most (leading tag (fieldsAt table start)))
     searching-found q =
         sym (ap (shifted i) (found-here s _ _ (rw value-is at q)) ∙ ap At (add-zero i)) ∙ rest-is _ one-left
 
+    -- the field here does not: those behind it are left
     pub searching-next : same (take (at + 3 + n - (at + 3)) (drop (at + 3) table)) s ≡ false
         → Searching table s tag most start (at + 3 + n) (i + 1)
     searching-next q =
@@ -290,14 +307,17 @@ module _ {table s : List ℕ} {tag most start at i : ℕ} (c : Searching table s
 
 -- the fields of the tag before `at` are passed
 pub record Passing (table : List ℕ) (tag at : ℕ) : Type 0 where
+  -- what stands behind the leading fields is the same from here
   pub rest : afterLeading tag (fieldsAt table at) ≡ afterLeading tag (fieldsAt table 0)
 
 module _ {table : List ℕ} {tag at : ℕ} (c : Passing table tag at) where
+  -- at another field, or at none, the leading fields are passed
   pub passing-out : (r : Front) → r ≡ frontOf (drop at table) → Stops tag r
       → fieldsAt table at ≡ afterLeading tag (fieldsAt table 0)
   passing-out r e h =
       fields-at table at e ∙ sym (after-stop table at tag r h) ∙ sym (ap (afterLeading tag) (fields-at table at e)) ∙ c .rest
 
+  -- one leading field is passed
   pub passing-next : {t n : ℕ} → Field t n ≡ frontOf (drop at table) → t ≡ tag → Passing table tag (at + (3 + n))
   passing-next {t} {n} e h =
       record {
@@ -307,20 +327,24 @@ module _ {table : List ℕ} {tag at : ℕ} (c : Passing table tag at) where
 
 -- ------------------------------------------------------------------ the lexicon of a table
 
+-- the keywords are the leading fields 01, 62 at most
 pub keywords-at : (table : List ℕ) → lexiconOf table .keywords ≡ take 62 (leading 1 (fieldsAt table 0))
 unfolding lexiconOf
 keywords-at table = cc (fields-of table)
 
+-- the outside names are the fields 02 behind them, 64 at most
 pub outsides-at : (table : List ℕ) (at : ℕ) → fieldsAt table at ≡ afterLeading 1 (fieldsAt table 0)
     → lexiconOf table .outsides ≡ take 64 (leading 2 (fieldsAt table at))
 unfolding lexiconOf
 outsides-at table at e =
     cc (fields-of table)
 
+-- the keywords are 62 at most
 pub few-keywords : (table : List ℕ) → length (lexiconOf table .keywords) ≤ 62
 unfolding lexiconOf
 few-keywords table = omega (arith, length-take 62 (leading 1 (fieldsOf table)))
 
+-- the outside names are 64 at most
 pub few-outsides : (table : List ℕ) → length (lexiconOf table .outsides) ≤ 64
 unfolding lexiconOf
 few-outsides table = omega (arith, length-take 64 (leading 2 (afterLeading 1 (fieldsOf table))))
@@ -335,6 +359,7 @@ found-within-by s vs true e =
     rw (found-tests s vs true e) (ltb-true (indexOf s vs) (length vs) e)
 found-within-by s vs false e = rw (found-tests s vs false e) tt
 
+-- what is found is an index of the list
 pub found-within : (s : List ℕ) (vs : List (List ℕ)) {f : Found} → f ≡ foundIn s vs → Within vs f
 found-within s vs e = rw e (found-within-by s vs _ refl)
 
@@ -348,5 +373,6 @@ found-spells-by s vs true e =
     subst (Spells s vs) (sym (found-tests s vs true e)) (index-found s vs (ltb-true (indexOf s vs) (length vs) e))
 found-spells-by s vs false e = subst (Spells s vs) (sym (found-tests s vs false e)) tt
 
+-- at the index that is found the spelling stands
 pub found-spells : (s : List ℕ) (vs : List (List ℕ)) {k : ℕ} → At k ≡ foundIn s vs → getD vs k [] ≡ s
 found-spells s vs e = subst (Spells s vs) (sym e) (found-spells-by s vs _ refl)

@@ -21,15 +21,18 @@ getD-past (x ∷ xs) (suc n) d h = getD-past xs n d (omega arith)
 abbrev pub arities : List ℕ
 arities = 1 ∷ 2 ∷ 2 ∷ 1 ∷ 2 ∷ 0 ∷ 3 ∷ 1 ∷ []
 
+-- the arity of a constructor is the one listed for it
 pub arity-at : (c : ℕ) → getD arities (c - 32) 0 ≡ arity c
 unfolding constructors constructor
 arity-at c = List·getD-map (λ (s : Signature). length (s .params)) constructors (c - 32) (gives [] unit)
 
+-- a code below the constructors counts as the first of them
 pub arity-low : (c : ℕ) → c < 32 → 1 ≡ arity c
 arity-low c h =
     let z : c - 32 ≡ 0 = omega arith in
     cc (arity-at c)
 
+-- a code above them has no argument
 pub arity-high : (c : ℕ) → 8 ≤ c - 32 → 0 ≡ arity c
 arity-high c h = sym (getD-past arities (c - 32) 0 h) ∙ arity-at c
 
@@ -47,14 +50,17 @@ arity-few c = omega (arith, arity-at c, entry-few arities (c - 32) refl)
 -- ------------------------------------------------------------------ a part of a slice
 
 module _ (s : List ℕ) (at n : ℕ) where
+  -- past the end a part is empty
   pub part-past : length s ≤ at → [] ≡ take n (drop at s)
   part-past h = sym (ap (take n) (drop-of-length-le s h) ∙ take-nil n)
 
+  -- a part that runs past the end stops there
   pub part-rest : length s - at ≤ n → take (length s - at) (drop at s) ≡ take n (drop at s)
   part-rest h =
       let k : length (drop at s) ≤ n = omega (arith, length-drop at s) in
       let j : length (drop at s) ≤ length s - at = omega (arith, length-drop at s) in
       take-all (length s - at) (drop at s) j ∙ sym (take-all n (drop at s) k)
 
+  -- a part that ends in time is the one asked for
   pub part-within : take (at + n - at) (drop at s) ≡ take n (drop at s)
   part-within = let z : at + n - at ≡ n = omega arith in cc

@@ -15,21 +15,26 @@ use Rattle.grammar.proofs.ReaderLaws.{getD-past, arities, arity-at, ari
 pub code-low : (l : List ℕ) (c : ℕ) → c < 32 → getD l 0 0 ≡ getD l (c - 32) 0
 code-low l c h = let z : 0 ≡ c - 32 = omega arith in cc
 
+-- past a list of eight stands the default
 pub code-high : (l : List ℕ) (c : ℕ) → length l ≡ 8 → 8 ≤ c - 32 → 0 ≡ getD l (c - 32) 0
 code-high l c e h = sym (getD-past l (c - 32) 0 (omega arith))
 
+-- the results of the eight constructors
 pub results : (c : ℕ) → getD (4 ∷ 4 ∷ 4 ∷ 4 ∷ 4 ∷ 5 ∷ 5 ∷ 4 ∷ []) (c - 32) 0 ≡ constructor c .result
 unfolding constructors constructor
 results c = List·getD-map (λ (s : Signature). s .result) constructors (c - 32) (gives [] unit)
 
+-- the sorts of their first arguments
 pub firsts : (c : ℕ) → getD (1 ∷ 2 ∷ 4 ∷ 5 ∷ 4 ∷ 0 ∷ 3 ∷ 6 ∷ []) (c - 32) 0 ≡ getD (constructor c .params) 0 unit
 unfolding constructors constructor
 firsts c = List·getD-map (λ (s : Signature). getD (s .params) 0 unit) constructors (c - 32) (gives [] unit)
 
+-- of their second arguments
 pub seconds : (c : ℕ) → getD (0 ∷ 4 ∷ 4 ∷ 0 ∷ 3 ∷ 0 ∷ 4 ∷ 0 ∷ []) (c - 32) 0 ≡ getD (constructor c .params) 1 unit
 unfolding constructors constructor
 seconds c = List·getD-map (λ (s : Signature). getD (s .params) 1 unit) constructors (c - 32) (gives [] unit)
 
+-- and of their third arguments
 pub thirds : (c : ℕ) → getD (0 ∷ 0 ∷ 0 ∷ 0 ∷ 0 ∷ 0 ∷ 5 ∷ 0 ∷ []) (c - 32) 0 ≡ getD (constructor c .params) 2 unit
 unfolding constructors constructor
 thirds c = List·getD-map (λ (s : Signature). getD (s .params) 2 unit) constructors (c - 32) (gives [] unit)
@@ -42,6 +47,7 @@ arity-small c =
     (λ e. rw (← (arity-at c)) (leb-true _ 3 (every-at (λ n. leb n 3) arities (c - 32) refl (ltb-true _ 8 e))))
     (λ e. omega (arith, arity-high c (ltb-false _ 8 e)))
 
+-- no constructor has a fourth argument
 pub arguments-end : (c k : ℕ) → 3 ≤ k → unit ≡ getD (constructor c .params) k unit
 arguments-end c k h = sym (getD-past (constructor c .params) k unit (omega (arith, arity-small c)))
 

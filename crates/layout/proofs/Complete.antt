@@ -21,6 +21,7 @@ use Rattle.layout.proofs.Spelled.{Spelled, each-all, spelled-first, spe
 
 -- fields are accepted wherever they stand
 pub record Accepted (before : List Field) (s : Progress) (fs : List Field) : Type 0 where
+  -- wherever they begin
   pub from : (at : ℕ) → checkFields (spread at fs) before s ≡ ok tt
 
 -- one field more

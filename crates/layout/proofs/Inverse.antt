@@ -44,6 +44,7 @@ passed-first : {A : Type 0} (c : Checked (Unit {0})) (x : A) (y : A) → (c >> o
 passed-first (ok tt) x y h = (refl, cc)
 passed-first (bad r) x y h = absurd (subst⁻¹ Accepts h tt)
 
+-- bytes that are decoded have the layout of a table, and it is built from them
 pub decoded-layout : (bs : List ℕ) (t : Table) → decode bs ≡ ok t → (layout bs ≡ ok tt) × (tableOf (build (fieldsOf bs)) ≡ t)
 unfolding decode
 decoded-layout bs t h = passed-first (layout bs) (tableOf (build (fieldsOf bs))) t h
@@ -68,6 +69,7 @@ layout-encoded bs b h =
     bytes-of-fields bs b (accepted-uncut (fieldsOf bs) [] start (parts .1)) ∙ ap fieldBytes (found .1) in
     (found .0, same, found .2 (rw (← same) (parts .0)))
 
+-- bytes that are decoded as a table are its encoding
 pub decoded-encoding : (bs : List ℕ) → Bytes bs → (t : Table) → decode bs ≡ ok t → (bs ≡ encode t) × Within t
 decoded-encoding bs b t h =
     let found = layout-encoded bs b (decoded-layout bs t h .0) in

@@ -24,22 +24,27 @@ use Rattle.layout.specs.Due.{headSize, arguments, isWholly}
 -- ------------------------------------------------------------------ what a byte begins
 
 module _ (b : ℕ) where
+  -- a name has two bytes
   pub head-name : isNameTag b ≡ true → headSize b ≡ 2
   unfolding headSize
   head-name e = rw (e, headSize) refl
 
+  -- a variable and a constructor have one
   pub head-byte : isNameTag b ≡ false → (ltb b 0x10 || isConstructor b) ≡ true → headSize b ≡ 1
   unfolding headSize
   head-byte e f = rw (e, f, headSize) refl
 
+  -- any other byte begins no template
   pub head-unknown : isNameTag b ≡ false → (ltb b 0x10 || isConstructor b) ≡ false → headSize b ≡ 0
   unfolding headSize
   head-unknown e f = rw (e, f, headSize) refl
 
+  -- a constructor waits for its arguments
   pub arguments-constructor : isConstructor b ≡ true → arguments b ≡ arity b
   unfolding arguments
   arguments-constructor e = rw (e, arguments) refl
 
+  -- nothing else waits for any
   pub arguments-other : isConstructor b ≡ false → arguments b ≡ 0
   unfolding arguments
   arguments-other e = rw (e, arguments) refl
@@ -244,13 +249,16 @@ arguments-few b =
 
 -- after the bytes before i, what is left makes up for the templates due
 pub record Due (v : List ℕ) (from : ℕ) (single : Bool) (due i : ℕ) : Type 0 where
+  -- no more are due than bytes were read
   pub small : due ≤ 2 * i + 1
+  -- what is left, with those due, reads as the whole
   pub rest : meets single due (templatesOf (drop i v)) ≡ isWholly single (templatesOf (drop from v))
 
 first-small : (single : Bool) → oneIf single ≤ 1
 first-small true = omega arith
 first-small false = omega arith
 
+-- at the start one template is due, or any number
 pub due-start : (v : List ℕ) (from : ℕ) (single : Bool) (due : ℕ) → due ≡ oneIf single → Due v from single due from
 due-start v from single due e =
     record {
@@ -259,6 +267,7 @@ due-start v from single due e =
     }
 
 module _ {v : List ℕ} {from : ℕ} {single : Bool} {due i : ℕ} (c : Due v from single due i) where
+  -- at the end none may be due
   pub due-end : length v ≤ i → eqb due 0 ≡ isWholly single (templatesOf (drop from v))
   due-end h =
       cc (meets-none single due, drop-of-length-le v h, c .rest)
@@ -273,13 +282,16 @@ module _ {v : List ℕ} {from : ℕ} {single : Bool} {due i : ℕ} (c : Due v fr
         let z : suc (length (drop (i + 1) v)) ≡ length v - i = omega (arith, length-drop (i + 1) v) in
         (λ j. stops (sym hs j) (z j) (single && eqb due 0)) ∙ f
 
+    -- where the code stops, the bytes are no templates
     pub due-stop : stops size (length v - i) (single && eqb due 0) ≡ true → false ≡ isWholly single (templatesOf (drop from v))
     due-stop f =
         sym (stop-by single due (getD v i 0) (drop (i + 1) v) (head-of (getD v i 0)) (left-is true f)) ∙ front-is
 
+    -- where it goes on, the head stands within the bytes
     pub due-room : stops size (length v - i) (single && eqb due 0) ≡ false → (0 < size) × (size ≤ length v - i)
     due-room f = stops-false size (length v - i) (single && eqb due 0) f
 
+    -- one head more is read
     pub due-next : stops size (length v - i) (single && eqb due 0) ≡ false → {less more : ℕ} → less ≡ due - 1
         → more ≡ arguments (getD v i 0)
         → Due v from single (less + more) (i + size)

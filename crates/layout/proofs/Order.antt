@@ -82,71 +82,87 @@ module _ (tag : ℕ) (b : Built) (fs : List Field) where
 
 -- ------------------------------------------------------------------ the parts with one field more, those before it not yet begun
 
+-- what is built, with one more of each in front: a keyword
 abbrev pub withKeyword : List ℕ → Built → Built
 withKeyword v b = built (v ∷ b .keywords) (b .outsides) (b .blocks) (b .root) [] [] [] (b .result)
 
+-- an outside name
 abbrev pub withOutside : List ℕ → Built → Built
 withOutside v b = built [] (v ∷ b .outsides) (b .blocks) (b .root) [] [] [] (b .result)
 
+-- a block
 abbrev pub withBlock : Built → Built
 withBlock b = built [] [] (b .definitions ∷ b .blocks) (b .root) [] [] [] (b .result)
 
+-- a definition
 abbrev pub withDefinition : Definition → Built → Built
 withDefinition d b = built [] [] (b .blocks) (b .root) (d ∷ b .definitions) [] [] (b .result)
 
 abbrev pub alternativeOf : Built → Alternative
 alternativeOf b = record { items = b .items; result = b .result }
 
+-- an alternative
 abbrev pub withAlternative : Built → Built
 withAlternative b = built [] [] (b .blocks) (b .root) (b .definitions) (alternativeOf b ∷ b .alternatives) [] (b .result)
 
+-- an item
 abbrev pub withItem : Item → Built → Built
 withItem i b = built [] [] (b .blocks) (b .root) (b .definitions) (b .alternatives) (i ∷ b .items) (b .result)
 
+-- a result
 abbrev pub withResult : Template → Built → Built
 withResult t b = built [] [] (b .blocks) (b .root) (b .definitions) (b .alternatives) [] t
 
+-- and a root
 abbrev pub withRoot : ℕ → Built → Built
 withRoot r b = built [] [] [] r [] [] [] (b .result)
 
 -- The field stands in front of what follows it, after each tag that it may follow.
 module _ (b : Built) where
+  -- a keyword stands in front of what may follow it
   pub opens-keyword : (v : List ℕ) → Opens 1 (withKeyword v b) (field 1 v ∷ left 1 b)
   unfolding left follows spellingsThen
   opens-keyword v =
       by-last 1 (withKeyword v b) (field 1 v ∷ left 1 b) (λ e. refl) (λ e. refl) never never never never never never never
 
+  -- and so does an outside name
   pub opens-outside : (v : List ℕ) → Opens 2 (withOutside v b) (field 2 v ∷ left 2 b)
   unfolding left follows spellingsThen
   opens-outside v =
       by-last 2 (withOutside v b) (field 2 v ∷ left 2 b) (λ e. refl) (λ e. refl) (λ e. refl) never never never never never never
 
+  -- a block
   pub opens-block : Opens 3 (withBlock b) (field 3 [] ∷ left 3 b)
   unfolding left follows spellingsThen blocksThen definitionsThen alternativesThen
   opens-block =
       by-last 3 (withBlock b) (field 3 [] ∷ left 3 b) (λ e. refl) (λ e. refl) (λ e. refl) (λ e. refl) never never never (λ e. refl) never
 
+  -- a definition
   pub opens-definition : (d : Definition) → d .alternatives ≡ b .alternatives
       → Opens 4 (withDefinition d b) (field 4 (headValue d) ∷ left 4 b)
   unfolding left follows definitionsThen alternativesThen
   opens-definition d a =
       by-last 4 (withDefinition d b) (field 4 (headValue d) ∷ left 4 b) never never never (λ e. cc) never never never (λ e. cc) never
 
+  -- an alternative
   pub opens-alternative : Opens 5 (withAlternative b) (field 5 [] ∷ left 5 b)
   unfolding left follows alternativesThen
   opens-alternative =
       by-last 5 (withAlternative b) (field 5 [] ∷ left 5 b) never never never never (λ e. refl) never never (λ e. refl) never
 
+  -- an item
   pub opens-item : (i : Item) → Opens 6 (withItem i b) (field 6 (itemValue i) ∷ left 6 b)
   unfolding left follows itemsThen
   opens-item i =
       by-last 6 (withItem i b) (field 6 (itemValue i) ∷ left 6 b) never never never never never (λ e. refl) (λ e. refl) never never
 
+  -- a result
   pub opens-result : (t : Template) → Opens 7 (withResult t b) (field 7 (templateThen t []) ∷ left 7 b)
   unfolding left follows itemsThen
   opens-result t =
       by-last 7 (withResult t b) (field 7 (templateThen t []) ∷ left 7 b) never never never never never (λ e. refl) (λ e. refl) never never
 
+  -- and the root
   pub opens-root : (r : ℕ) → Opens 8 (withRoot r b) (field 8 (r ∷ []) ∷ left 8 b)
   unfolding left follows spellingsThen blocksThen definitionsThen alternativesThen
   opens-root r =

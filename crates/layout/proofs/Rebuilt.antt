@@ -85,5 +85,6 @@ parts-built t at w =
     ∙ keywords-built (t .blocks) (t .root) (spellingsThen 2 (t .outsides) blocks) (t .keywords) (t .outsides)
     (outsides-built (t .blocks) (t .root) blocks (t .outsides) (blocks-built (t .root) (w .blocks)))
 
+-- from the fields of a table the table is built
 pub table-built : (t : Table) (at : ℕ) → Within t → tableOf (build (spread at (tableFields t))) ≡ t
 table-built t at w = ap tableOf (parts-built t at w)

@@ -81,6 +81,7 @@ module _ {table : List ℕ} {at : ℕ} {s : Progress} {K N : List ℕ} (c : Turn
   pub keyword-room : eqb t 1 ≡ true → s .keywords < 64
   keyword-room h = below (s .keywords) 62 (eqb t 1) (room-of t s (passes .0) .keywords) (omega arith) h
 
+  -- an outside name has room among the 64
   pub outside-room : eqb t 2 ≡ true → s .outsides < 64
   outside-room h = below (s .outsides) 64 (eqb t 2) (room-of t s (passes .0) .outsides) (omega arith) h
 

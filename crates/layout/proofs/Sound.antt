@@ -36,10 +36,12 @@ pub record Room (s : Progress) (b : Built) : Type 0 where
   pub items : length (b .items) ≤ 12 - s .items
 
 module _ (s : Progress) where
+  -- a keyword has room among the 62
   pub room-1 : hasRoom 1 s ≡ true → s .keywords < 62
   unfolding hasRoom
   room-1 h = ltb-true (s .keywords) 62 (simp and-true at h)
 
+  -- an outside name has room among the 64
   pub room-2 : hasRoom 2 s ≡ true → s .outsides < 64
   unfolding hasRoom
   room-2 h = ltb-true (s .outsides) 64 (simp and-true at h)

@@ -9,6 +9,7 @@ use Rattle.grammar.specs.Values.{Field, field}
 use Rattle.layout.specs.Layout.{isRepeated}
 use Rattle.layout.specs.Within.{Each, each-none, each-more, Different, different-none, different-more}
 
+-- what holds of each gives what follows from it
 pub each-map : {A : Type 0} {P Q : A → Type 0} → ((x : A) → P x → Q x) → {xs : List A} → Each P xs → Each Q xs
 each-map f each-none = each-none
 each-map f (each-more {x} h t) = each-more (f x h) (each-map f t)
@@ -17,6 +18,7 @@ each-both : {A : Type 0} {P Q R : A → Type 0} → ((x : A) → P x → Q x →
 each-both f each-none each-none = each-none
 each-both f (each-more {x} h t) (each-more g u) = each-more (f x h g) (each-both f t u)
 
+-- what holds of all holds of each
 pub each-all : {A : Type 0} {P : A → Type 0} → ((x : A) → P x) → (xs : List A) → Each P xs
 each-all f [] = each-none
 each-all f (x ∷ xs) = each-more (f x) (each-all f xs)
@@ -42,12 +44,14 @@ or-false-right true b e = absurd (true≢false e)
 or-false-right false b e = e
 
 module _ (test : List ℕ → Bool) (tag : ℕ) (before : List Field) where
+  -- no spelling
   pub spelled-none : Spelled test tag before []
   spelled-none = record { spelled = each-none; fresh = each-none; different = different-none }
 
   -- a field of the tag counts among those before
   module _ (v : List ℕ) (vs : List (List ℕ))
       (repeats : (w : List ℕ) → isRepeated tag w (field tag v ∷ before) ≡ (same v w || isRepeated tag w before)) where
+    -- one spelling more, that no earlier field has
     pub spelled-more : test v ≡ true → isRepeated tag v before ≡ false → Spelled test tag (field tag v ∷ before) vs
         → Spelled test tag before (v ∷ vs)
     spelled-more t n s =
@@ -60,9 +64,11 @@ module _ (test : List ℕ → Bool) (tag : ℕ) (before : List Field) where
               (s .different);
         }
 
+    -- the first is spelled well and is new
     pub spelled-first : Spelled test tag before (v ∷ vs) → (test v ≡ true) × (isRepeated tag v before ≡ false)
     spelled-first s = (each-parts (s .spelled) .0, each-parts (s .fresh) .0)
 
+    -- so are those behind it
     pub spelled-rest : Spelled test tag before (v ∷ vs) → Spelled test tag (field tag v ∷ before) vs
     spelled-rest s =
         let different = different-parts (s .different) in

@@ -94,6 +94,7 @@ split-bytes (f ∷ fs) (suc k) at h =
     ∙ ap (next at (f .tag) (f .value))
     (split-bytes fs k (at + (3 + length (f .value))) (omega (arith, length-append (f .value) (fieldBytes fs))))
 
+-- the bytes of fields are read as the fields
 pub fields-of-bytes : (fs : List Field) → fieldsOf (fieldBytes fs) ≡ spread 0 fs
 unfolding fieldsOf
 fields-of-bytes fs = split-bytes fs (length (fieldBytes fs)) 0 (omega arith)
@@ -137,6 +138,7 @@ split-uncut (suc k) at (c ∷ cs) b h u =
     (omega (arith, length-drop (3 + sizeOf rest) rest)) (rw next-is at u))))
     (λ e. absurd (rw (from-cut k at rest (λ z. omega arith) e) at u))
 
+-- bytes that are read to their end are those of their fields
 pub bytes-of-fields : (bs : List ℕ) → Bytes bs → Uncut (fieldsOf bs) → bs ≡ fieldBytes (flat (fieldsOf bs))
 unfolding fieldsOf
 bytes-of-fields bs b u = split-uncut (length bs) 0 bs b (omega arith) u
@@ -155,6 +157,7 @@ split-values (suc k) at (c ∷ cs) b =
     ))
     (λ e. rw (from-cut k at rest (λ z. omega arith) e) tt)
 
+-- the values of fields of bytes are bytes
 pub value-bytes : (bs : List ℕ) → Bytes bs → ValueBytes (fieldsOf bs)
 unfolding fieldsOf
 value-bytes bs b = split-values (length bs) 0 bs b

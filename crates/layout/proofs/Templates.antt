@@ -24,6 +24,7 @@ no-name b e f = rw (ne-eqb b 0x10 e, ne-eqb b 0x11 f) refl
 
 -- ------------------------------------------------------------------ lists of templates
 
+-- some templates in front of others
 unfoldable pub join : Templates → Templates → Templates
 join none us = us
 join (more t ts) us = more t (join ts us)
@@ -93,6 +94,7 @@ pub read-templates : {ts : Templates} → TemplatesWithin ts → templatesOf (te
 unfolding templatesOf
 read-templates {ts} w = templates-read w [] ∙ front-parsed ts none ∙ ap parsed (join-none ts)
 
+-- the bytes of a template are read as the template
 pub read-template : {t : Template} → TemplateWithin t → templatesOf (templateThen t []) ≡ parsed (more t none)
 unfolding templatesOf
 read-template w = template-read w []
@@ -115,6 +117,7 @@ took zero ts = (refl, refl)
 took (suc k) none = tt
 took (suc k) (more t ts) = also-took k t ts (takeTemplates k ts) (took k ts)
 
+-- a first template and the others
 pub more-parts : {t : Template} {ts : Templates} → TemplatesWithin (more t ts) → TemplateWithin t × TemplatesWithin ts
 more-parts (more-within w ws) = (w, ws)
 

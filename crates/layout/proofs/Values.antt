@@ -26,9 +26,11 @@ pub by-either : {A : Type 0} (a b : Bool) → (a || b) ≡ true → (a ≡ true 
 by-either true b e f g = f refl
 by-either false b e f g = g e
 
+-- both tests hold: the left one
 pub and-left : (a b : Bool) → (a && b) ≡ true → a ≡ true
 and-left a b e = and-eq-true-iff a b .0 e .0
 
+-- and the right one
 pub and-right : (a b : Bool) → (a && b) ≡ true → b ≡ true
 and-right a b e = and-eq-true-iff a b .0 e .1
 
@@ -63,14 +65,17 @@ empty-value : (v : List ℕ) → isEmpty v ≡ true → v ≡ []
 empty-value [] e = refl
 empty-value (b ∷ bs) e = absurd (omega (arith, eqb-true (length (b ∷ bs)) 0 e))
 
+-- a block has no value
 pub block-value : (v : List ℕ) → isKnown 3 v ≡ true → v ≡ []
 block-value v e = empty-value v (sym (known-block v) ∙ e)
 
+-- an alternative has none
 pub alternative-value : (v : List ℕ) → isKnown 5 v ≡ true → v ≡ []
 alternative-value v e = empty-value v (sym (known-alternative v) ∙ e)
 
 -- ------------------------------------------------------------------ roots
 
+-- a root has one byte, a nonterminal
 pub root-value : (v : List ℕ) → isKnown 8 v ≡ true → (r : ℕ) × (v ≡ r ∷ []) × (r ≤ 63)
 unfolding isRoot
 root-value v e = by v (sym (known-root v) ∙ e)
@@ -80,6 +85,7 @@ root-value v e = by v (sym (known-root v) ∙ e)
     by (r ∷ []) h = (r, refl, leb-true r 63 h)
     by (r ∷ b ∷ bs) h = absurd (omega (arith, eqb-true (length (r ∷ b ∷ bs)) 1 (and-left _ _ h)))
 
+-- a nonterminal is the value of a root
 pub root-known : (r : ℕ) → r ≤ 63 → isKnown 8 (r ∷ []) ≡ true
 unfolding isRoot
 root-known r h = known-root (r ∷ []) ∙ le-leb r 63 h
@@ -112,6 +118,7 @@ mode-low add = omega arith
 mode-low extend = omega arith
 mode-low update = omega arith
 
+-- a head that is known is that of a definition
 pub head-value : (v : List ℕ) → isKnown 4 v ≡ true → (rest : List Alternative) → Each AlternativeWithin rest → 1 ≤ length rest
     → (v ≡ headValue (definitionOf v rest)) × DefinitionWithin (definitionOf v rest)
 unfolding isHead headValue definitionOf every
@@ -139,6 +146,7 @@ head-value v e rest w l = by v (sym (known-head v) ∙ e)
           },
         )
 
+-- the head of a definition is known
 pub head-known : {d : Definition} → DefinitionWithin d → isKnown 4 (headValue d) ≡ true
 unfolding headValue isHead every
 head-known {d} w =
@@ -152,6 +160,7 @@ head-known {d} w =
     )
     (each-sorts (w .params))
 
+-- it is read as the definition
 pub head-read : (d : Definition) → definitionOf (headValue d) (d .alternatives) ≡ d
 unfolding headValue definitionOf
 head-read d =
@@ -167,14 +176,17 @@ one-template v (parsed none) f e = absurd (false≢true e)
 one-template v (parsed (more t none)) f e = (t, f .0, more-parts (f .1) .0)
 one-template v (parsed (more t (more u ts))) f e = absurd (false≢true e)
 
+-- a whole result is a template's bytes
 pub result-value : (v : List ℕ) → Bytes v → isWhole 7 v ≡ true → (t : Template) × (v ≡ templateThen t []) × TemplateWithin t
 unfolding isWhole
 result-value v b e = one-template v (templatesOf v) (forms v b) e
 
+-- a template's bytes are a whole result
 pub result-whole : {t : Template} → TemplateWithin t → isWhole 7 (templateThen t []) ≡ true
 unfolding isWhole
 result-whole w = ap isTemplate (read-template w)
 
+-- they are read as the template
 pub result-read : {t : Template} → TemplateWithin t → firstOf (found (templatesOf (templateThen t []))) ≡ t
 result-read w = cc (read-template w)
 
@@ -255,6 +267,7 @@ module _ (v : List ℕ) (b : Bytes v) where
         call-within (leb-true (getD v 1 0) 63 (tests .2)) (arguments .2),
       )
 
+  -- a known and whole item is an item's bytes
   pub item-value : isKnown 6 v ≡ true → isWhole 6 v ≡ true → (i : Item) × (v ≡ itemValue i) × ItemWithin i
   unfolding isItem isWhole itemValue
   item-value e w =
@@ -266,6 +279,7 @@ module _ (v : List ℕ) (b : Bytes v) where
       (λ e. (local, plain 3 e, local-within)))
       (λ e. a-call e (and-left (argumentsTest v) true w))
 
+-- an item's bytes are known
 pub item-known : {i : Item} → ItemWithin i → isKnown 6 (itemValue i) ≡ true
 unfolding itemValue isItem
 item-known (keyword-within {k} h) = known-item (0 ∷ k ∷ [])
@@ -276,6 +290,7 @@ item-known (call-within {n} {ts} h w) =
     known-item (4 ∷ n ∷ templatesThen ts [])
     ∙ rw (le-leb 2 (length (4 ∷ n ∷ templatesThen ts [])) (omega arith), le-leb n 63 h) refl
 
+-- they are whole
 pub item-whole : {i : Item} → ItemWithin i → isWhole 6 (itemValue i) ≡ true
 unfolding itemValue isWhole
 item-whole (keyword-within h) = refl
@@ -284,6 +299,7 @@ item-whole number-within = refl
 item-whole local-within = refl
 item-whole (call-within {n} {ts} h w) = and-true (isTemplates (templatesOf (templatesThen ts []))) ∙ ap isTemplates (read-templates w)
 
+-- they are read as the item
 pub item-read : {i : Item} → ItemWithin i → itemOf (itemValue i) ≡ i
 unfolding itemValue itemOf
 item-read (keyword-within h) = refl

@@ -173,26 +173,32 @@ module _ (spell : ℕ → List ℕ) (cells : List ℕ) (k r : ℕ) where
     by-code e =
         cc deeper
 
+    -- a function's row has its name and its body
     pub fun-row : code ≡ 33 → termAt k spell cells r ≡ function (nameOf spell (column cells r 1)) (Below (column cells r 2))
     unfolding constructorOf termBy
     fun-row e = by-code {c = mkTermFun} (rw e refl)
 
+    -- an application's row has its two terms
     pub app-row : code ≡ 34 → termAt k spell cells r ≡ apply (Below (column cells r 1)) (Below (column cells r 2))
     unfolding constructorOf termBy
     app-row e = by-code {c = mkTermApp} (rw e refl)
 
+    -- a record's row has its fields
     pub rcd-row : code ≡ 35 → termAt k spell cells r ≡ rcd (BelowFields (column cells r 1))
     unfolding constructorOf termBy
     rcd-row e = by-code {c = mkTermRcd} (rw e refl)
 
+    -- a selection's row has its term and its label
     pub dot-row : code ≡ 36 → termAt k spell cells r ≡ dot (Below (column cells r 1)) (spell (column cells r 2))
     unfolding constructorOf termBy
     dot-row e = by-code {c = mkTermDot} (rw e refl)
 
+    -- a variable's row has its name
     pub var-row : code ≡ 32 → termAt k spell cells r ≡ variable (nameOf spell (column cells r 1))
     unfolding constructorOf termBy
     var-row e = by-code {c = mkTermVar} (rw e refl)
 
+    -- a row of fields, read as a term, is the number 0
     pub zero-row : (code ≡ 37) ⊎ (code ≡ 38) → termAt k spell cells r ≡ number 0
     unfolding constructorOf termBy
     zero-row (inl e) = by-code {c = mkFieldNil} (rw e refl)
@@ -232,10 +238,12 @@ module _ (spell : ℕ → List ℕ) (cells : List ℕ) (k r : ℕ) where
     fields-by b e =
         cc deeper
 
+    -- a row of fields has a label, its term and the other fields
     pub cons-row : code ≡ 38 → fieldsAt k spell cells r ≡ cons (spell (column cells r 1)) (Below (column cells r 2)) (BelowFields (column cells r 3))
     unfolding constructorOf fieldsBy
     cons-row e = fields-by true (rw e refl)
 
+    -- any other row, read as fields, has none
     pub nil-row : (code ≡ 38 → ⊥) → fieldsAt k spell cells r ≡ nil
     unfolding fieldsBy
     nil-row e = fields-by false (no-cons code e)
@@ -243,14 +251,17 @@ module _ (spell : ℕ → List ℕ) (cells : List ℕ) (k r : ℕ) where
 -- ------------------------------------------------------------------ names
 
 module _ (spell : ℕ → List ℕ) (x : ℕ) where
+  -- a name of class 1 is a word
   pub as-word : x / nameBase ≡ 1 → nameOf spell x ≡ word (spell (x % nameBase))
   unfolding nameOf
   as-word e = rw (eq-eqb (x / nameBase) 1 e, nameOf) refl
 
+  -- one of class 2 is a new name
   pub as-fresh : x / nameBase ≡ 2 → nameOf spell x ≡ fresh (x % nameBase)
   unfolding nameOf
   as-fresh e = rw (ne-eqb (x / nameBase) 1 (λ d. omega arith), nameOf) (rw (eq-eqb (x / nameBase) 2 e) refl)
 
+  -- any other is an outside name
   pub as-outside : (x / nameBase ≡ 1 → ⊥) → (x / nameBase ≡ 2 → ⊥) → nameOf spell x ≡ outside (spell (x % nameBase))
   unfolding nameOf
   as-outside a b = rw (ne-eqb (x / nameBase) 1 a, nameOf) (rw (ne-eqb (x / nameBase) 2 b) refl)

@@ -15,44 +15,54 @@ use Rattle.rows.proofs.RowLaws as rows
 abbrev pub Left : List ℕ → ℕ → ℕ → ℕ → ℕ → Type 0
 Left cells k row left r = r ≡ left - sizeAt cells k row
 
+-- the same of the fields at a row
 abbrev pub LeftFields : List ℕ → ℕ → ℕ → ℕ → ℕ → Type 0
 LeftFields cells k row left r = r ≡ left - sizeFieldsAt cells k row
 
+-- where no depth is left, a term counts as one constructor
 pub shallow : (cells : List ℕ) (k row left : ℕ) → k ≡ 0 → Left cells k row left (left - 1)
 unfolding size termAt
 shallow cells k row left e = rw e refl
 
+-- and so does a list of fields
 pub shallow-fields : (cells : List ℕ) (k row left : ℕ) → k ≡ 0 → LeftFields cells k row left (left - 1)
 unfolding sizeFields fieldsAt
 shallow-fields cells k row left e = rw e refl
 
 module _ (cells : List ℕ) (k row left : ℕ) (some : k ≡ 0 → ⊥) {code : ℕ} (at : code ≡ column cells row 0) where
+  -- a function counts one, and its body
   pub fun-left : code ≡ 33 → {q r : ℕ} → q ≡ column cells row 2 → Left cells (k - 1) q (left - 1) r → Left cells k row left r
   unfolding size
   fun-left e eq h = rw (rows.fun-row noSpell cells k row some at e, ← eq) (omega arith)
 
+  -- an application counts one, and its two terms
   pub app-left : code ≡ 34 → {q q′ r r′ : ℕ} → q ≡ column cells row 1 → q′ ≡ column cells row 2
       → Left cells (k - 1) q (left - 1) r → Left cells (k - 1) q′ r r′ → Left cells k row left r′
   unfolding size
   app-left e eq eq′ h h′ = rw (rows.app-row noSpell cells k row some at e, ← eq, ← eq′) (omega arith)
 
+  -- a record counts one, and its fields
   pub rcd-left : code ≡ 35 → {q r : ℕ} → q ≡ column cells row 1 → LeftFields cells (k - 1) q (left - 1) r → Left cells k row left r
   unfolding size
   rcd-left e eq h = rw (rows.rcd-row noSpell cells k row some at e, ← eq) (omega arith)
 
+  -- a selection counts one, and its term
   pub dot-left : code ≡ 36 → {q r : ℕ} → q ≡ column cells row 1 → Left cells (k - 1) q (left - 1) r → Left cells k row left r
   unfolding size
   dot-left e eq h = rw (rows.dot-row noSpell cells k row some at e, ← eq) (omega arith)
 
+  -- any other term counts one
   pub bare-left : (code ≡ 33 → ⊥) → (code ≡ 34 → ⊥) → (code ≡ 35 → ⊥) → (code ≡ 36 → ⊥) → Left cells k row left (left - 1)
   unfolding size
   bare-left a b c d = rows.bare-row noSpell cells k row some at (λ t. left - 1 ≡ left - size t) (λ v. refl) (λ n. refl) a b c d
 
+  -- a field counts one, its term, and the other fields
   pub cons-left : code ≡ 38 → {q q′ r r′ : ℕ} → q ≡ column cells row 2 → q′ ≡ column cells row 3
       → Left cells (k - 1) q (left - 1) r → LeftFields cells (k - 1) q′ r r′ → LeftFields cells k row left r′
   unfolding sizeFields
   cons-left e eq eq′ h h′ = rw (rows.cons-row noSpell cells k row some at e, ← eq, ← eq′) (omega arith)
 
+  -- no fields count one
   pub nil-left : (code ≡ 38 → ⊥) → LeftFields cells k row left (left - 1)
   unfolding sizeFields
   nil-left e = rw (rows.nil-row noSpell cells k row some at e) refl
@@ -84,6 +94,7 @@ size-by-fields false k s s′ cells r t f = refl
 mutual
   unfolding termAt fieldsAt
 
+  -- how names are spelled does not matter to the size
   pub size-spell : (k : ℕ) (s s′ : ℕ → List ℕ) (cells : List ℕ) (r : ℕ) → size (termAt k s cells r) ≡ size (termAt k s′ cells r)
   size-spell zero s s′ cells r = refl
   size-spell (suc k) s s′ cells r =
@@ -96,6 +107,7 @@ mutual
 
 -- ------------------------------------------------------------------ every term has a constructor
 
+-- a term has a constructor
 pub size-some : (t : Term Name) → 0 < size t
 unfolding size
 size-some (variable v) = omega arith
@@ -105,6 +117,7 @@ size-some (rcd f) = omega arith
 size-some (dot t l) = omega arith
 size-some (number n) = omega arith
 
+-- and so has a list of fields
 pub size-some-fields : (f : Fields Name) → 0 < sizeFields f
 unfolding sizeFields
 size-some-fields nil = omega arith

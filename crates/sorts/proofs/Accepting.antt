@@ -15,6 +15,7 @@ pub need-passed : (b : Bool) (n at : ℕ) (P : Unit {0} → Type 0) → Accepts 
 need-passed true n at P h = (refl, h)
 need-passed false n at P h = absurd h
 
+-- a demand that is met passes
 pub need-passes : (b : Bool) (n at : ℕ) (P : Unit {0} → Type 0) → b ≡ true → P tt → Accepts (need b n at) P
 need-passes b n at P e h = rw e h
 
@@ -26,6 +27,7 @@ needs-passed true true m n at P h = (refl, refl, h)
 needs-passed true false m n at P h = absurd h
 needs-passed false c m n at P h = absurd h
 
+-- two demands that are met pass
 pub needs-passes :
     (b c : Bool) (m n at : ℕ) (P : Unit {0} → Type 0) → b ≡ true → c ≡ true → P tt
     → Accepts (need b m at >> need c n at) P
@@ -37,6 +39,7 @@ module _ {A B : Type 0} (P : B → Type 0) where
   bind-passed (ok a) k h = h
   bind-passed (bad r) k h = h
 
+  -- a check that passes goes on with the next
   pub bind-passes : (c : Checked A) (k : A → Checked B) → Accepts c (λ a. Accepts (k a) P) → Accepts (c >>= k) P
   bind-passes (ok a) k h = h
   bind-passes (bad r) k h = h
@@ -46,6 +49,7 @@ module _ {A B : Type 0} (P : B → Type 0) where
   then-passed (ok a) k h = h
   then-passed (bad r) k h = h
 
+  -- the same where the first gives no value
   pub then-passes : (c : Checked A) (k : Checked B) → Accepts c (λ a. Accepts k P) → Accepts (c >> k) P
   then-passes (ok a) k h = h
   then-passes (bad r) k h = h
@@ -54,6 +58,7 @@ module _ {A B : Type 0} (P : B → Type 0) where
 pub passed : (c : Checked (Unit {0})) → c ≡ ok tt → Accepts c (λ u. Unit {0})
 passed c e = rw e tt
 
+-- what is accepted passes
 pub passes : (c : Checked (Unit {0})) → Accepts c (λ u. Unit {0}) → c ≡ ok tt
 passes (ok a) h = refl
 passes (bad r) h = absurd h

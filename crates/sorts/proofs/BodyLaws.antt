@@ -21,9 +21,13 @@ use Rattle.sorts.proofs.TemplateLoops.{places-set}
 -- ------------------------------------------------------------------ the places of parameters
 
 pub record Loading (sig room₀ room : List ℕ) (top j : ℕ) : Type 0 where
+  -- the room is as long as it was
   pub as-many : length room ≡ length room₀
+  -- the places taken and those to come are the signature
   pub height : top + j ≡ length sig
+  -- the result is not taken
   pub least : 1 ≤ j
+  -- the places taken hold the last parameters
   pub opened : places room top ≡ drop j sig
 
 module _ {sig room₀ : List ℕ} where
@@ -62,9 +66,13 @@ module _ {sig room₀ : List ℕ} where
 -- ------------------------------------------------------------------ the sorts of variables
 
 pub record Copying (sig L₀ L : List ℕ) (n i : ℕ) : Type 0 where
+  -- the sorts are as many as they were
   pub as-many : length L ≡ length L₀
+  -- the next parameter
   pub next : i ≡ n + 1
+  -- no more are copied than there are
   pub most : n ≤ length sig - 1
+  -- the first ones are copied
   pub copied : take n L ≡ take n (drop 1 sig)
 
 module _ {sig L₀ : List ℕ} where

@@ -125,6 +125,7 @@ module _ (G : Scope) where
   rule-bodies P {S} at (by-choice {a = a} b bs) p =
       then-passes P (checkAlternative G S at a) _ (rule-alternative _ S at a b (rule-bodies P _ bs p))
 
+  -- bodies that the check accepts are derived
   pub ok-rule :
       (P : Unit {0} → Type 0) (at : ℕ) (ds : List Definition) → Each DefinitionWithin ds → Accepts (checkBodies G at ds) P → Ok G ds × P tt
   unfolding checkBodies
@@ -137,6 +138,7 @@ module _ (G : Scope) where
       let q = ok-rule P (at + definitionSize d) ds ws (r .1) in
       (ok-definition (r .0) (q .0), q .1)
 
+  -- bodies that are derived are accepted
   pub rule-ok : (P : Unit {0} → Type 0) (at : ℕ) {ds : List Definition} → Ok G ds → P tt → Accepts (checkBodies G at ds) P
   unfolding checkBodies
   rule-ok P at ok-empty p = p

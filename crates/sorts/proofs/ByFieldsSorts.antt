@@ -240,6 +240,7 @@ module _ (K N : ℕ) where
 
 -- ------------------------------------------------------------------ the whole table
 
+-- the check field by field is the check of the table
 pub fields-sorts : (t : Table) → Within t → checkSortsBy (encode t) ≡ checkSorts t
 unfolding checkSortsBy checkSorts encode tableFields
 fields-sorts t w =

@@ -316,6 +316,7 @@ module _ (bs : List ℕ) where
         below = λ n. omega (arith, no-heads 64 n);
       }
 
+  -- the check by bytes is the check field by field
   pub bytes-sorts : Bytes bs → layout bs ≡ ok tt → sortsOf bs ≡ verdict (checkSortsBy bs)
   unfolding checkSortsBy
   bytes-sorts b e =

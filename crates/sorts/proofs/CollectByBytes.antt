@@ -92,6 +92,7 @@ module _ (bs : List ℕ) (E : Env) (block : ℕ) where
     field-agrees false true c b h = h refl b
     field-agrees false false c b h = other b
 
+  -- the heads of a block are collected from the bytes as from the fields
   pub collect-agrees :
       (fs : Fields) (before : List Field) (s : Progress) (own : Env) (H : List ℕ) → checkFields fs before s ≡ ok tt
       → Placed bs (block + 1) fs → Collects bs E own block H → Below H (endOf fs)

@@ -21,7 +21,9 @@ use Rattle.sorts.specs.ByBytes.{faultOf, withHead, Defined, Collected, c
 use Rattle.sorts.proofs.TemplateInduction.{choose}
 
 pub record Collecting (bs : List ℕ) (block from : ℕ) (H₀ : List ℕ) (at : ℕ) (H : List ℕ) : Type 0 where
+  -- the heads are as many as they were
   pub as-many : length H ≡ length H₀
+  -- the fields left give what all of them give
   pub rest : collectFrom (fieldsAt bs at) bs block H ≡ collectFrom (fieldsAt bs from) bs block H₀
 
 -- no field yet

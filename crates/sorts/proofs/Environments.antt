@@ -16,14 +16,17 @@ pub defined-here : (e : Entry) (E : Env) (n : ℕ) → eqb (e .nonterminal) n �
 unfolding isDefined
 defined-here e E n h = rw (h, isDefined) refl
 
+-- another entry does not matter to what is defined
 pub defined-later : (e : Entry) (E : Env) (n : ℕ) → eqb (e .nonterminal) n ≡ false → isDefined (e ∷ E) n ≡ isDefined E n
 unfolding isDefined
 defined-later e E n h = rw (h, isDefined) refl
 
+-- an entry gives its signature
 pub signature-here : (e : Entry) (E : Env) (n : ℕ) → eqb (e .nonterminal) n ≡ true → signatureOf (e ∷ E) n ≡ e .signature
 unfolding signatureOf
 signature-here e E n h = rw (h, signatureOf) refl
 
+-- another entry does not matter to a signature
 pub signature-later : (e : Entry) (E : Env) (n : ℕ) → eqb (e .nonterminal) n ≡ false → signatureOf (e ∷ E) n ≡ signatureOf E n
 unfolding signatureOf
 signature-later e E n h = rw (h, signatureOf) refl
@@ -38,10 +41,12 @@ defined-newest (e ∷ E) n h =
     (λ q. rw (signature-later e E n q)
     (newest-later (eqb-false _ n q) (defined-newest E n (sym (defined-later e E n q) ∙ h))))
 
+-- what has a newest entry is defined
 pub newest-defined : {E : Env} {n : ℕ} {S : Signature} → Newest E n S → isDefined E n ≡ true
 newest-defined (newest-first {e = e} {E = E}) = defined-here e E (e .nonterminal) (eq-eqb (e .nonterminal) (e .nonterminal) refl)
 newest-defined (newest-later {e = e} {E = E} {n = n} d h) = defined-later e E n (ne-eqb _ n d) ∙ newest-defined h
 
+-- with its signature
 pub newest-signature : {E : Env} {n : ℕ} {S : Signature} → Newest E n S → signatureOf E n ≡ S
 newest-signature (newest-first {e = e} {E = E}) = signature-here e E (e .nonterminal) (eq-eqb (e .nonterminal) (e .nonterminal) refl)
 newest-signature (newest-later {e = e} {E = E} {n = n} d h) = signature-later e E n (ne-eqb _ n d) ∙ newest-signature h
@@ -54,6 +59,7 @@ undefined-absent (e ∷ E) n h =
     by-test (eqb (e .nonterminal) n) (λ q. absurd (true≢false (sym (defined-here e E n q) ∙ h)))
     (λ q. absent-entry (eqb-false _ n q) (undefined-absent E n (sym (defined-later e E n q) ∙ h)))
 
+-- what is absent is not defined
 pub absent-undefined : {E : Env} {n : ℕ} → Absent E n → isDefined E n ≡ false
 unfolding isDefined
 absent-undefined absent-empty = refl
@@ -68,11 +74,13 @@ rest-of : List ℕ → List ℕ
 rest-of [] = []
 rest-of (x ∷ xs) = xs
 
+-- signatures that are alike code by code are equal
 pub same-signature : (S S′ : Signature) → sameSignature S S′ ≡ true → S ≡ S′
 unfolding head-of rest-of
 same-signature S S′ h =
     let e : S .result ∷ S .params ≡ S′ .result ∷ S′ .params = same-true _ _ h in
     ap₂ gives (ap rest-of e) (ap head-of e)
 
+-- equal signatures are alike
 pub signature-same : (S S′ : Signature) → S ≡ S′ → sameSignature S S′ ≡ true
 signature-same S S′ e = rw (← e) (same-refl (S .result ∷ S .params))

@@ -76,6 +76,7 @@ module _ (bs : List ℕ) where
       ))
       (λ f. subst⁻¹ (Placed bs from) (fields-by k at rest false false e f) h))
 
+  -- the fields of bytes stand at their offsets
   pub placed-fields : Placed bs 0 (fieldsOf bs)
   unfolding fieldsOf
   placed-fields = placed-from (length bs) 0 0 (omega arith)

@@ -106,6 +106,7 @@ blocks-sort K N E at [] = none
 blocks-sort K N E at (g ∷ gs) =
     bind _ _ (collect-sort E [] _ g) (λ own. after _ _ (bodies-sort _ _ g) (blocks-sort K N (own ++ E) (at + 3 + definitionsSize g) gs))
 
+-- the check of sorts refuses with 7, 8, 9 or 11 only
 pub table-sort : (t : Table) (r : Refusal) → checkSorts t ≡ bad r → IsSortRefusal r
 unfolding checkSorts checkRoot
 table-sort t r e =

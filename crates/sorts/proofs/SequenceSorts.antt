@@ -141,9 +141,13 @@ module _ (K N : ℕ) (P : Env → Type 0) where
 
 -- defined, without parameters, of sort Term
 pub record IsRoot (E : Env) (n : ℕ) : Type 0 where
+  -- the root's signature
   pub signature : Signature
+  -- it is defined
   pub defined : Newest E n signature
+  -- without parameters
   pub without : signature .params ≡ []
+  -- of sort Term
   pub of-term : signature .result ≡ term
 
 empty : (L : List ℕ) → length L ≡ 0 → L ≡ []
@@ -176,6 +180,7 @@ rule-root E at n r =
 
 -- ------------------------------------------------------------------ the whole table
 
+-- a table that the check accepts is well sorted
 pub table-rule : (t : Table) → Within t → Accepts (checkSorts t) (λ u. Unit {0}) → WellSorted t
 unfolding checkSorts
 table-rule t w h =
@@ -191,6 +196,7 @@ table-rule t w h =
       of-term = r .of-term;
     }
 
+-- a table that is well sorted is accepted
 pub rule-table : (t : Table) → WellSorted t → Accepts (checkSorts t) (λ u. Unit {0})
 unfolding checkSorts
 rule-table t w =

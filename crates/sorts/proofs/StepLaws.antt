@@ -237,11 +237,17 @@ sorts-short bs h =
 
 -- The fields from an offset on, with what is known there, give what all fields give.
 pub record Sorting (bs H₀ L₀ stack₀ H L stack : List ℕ) (at : ℕ) (k : Known) : Type 0 where
+  -- the heads are as many as they were
   pub heads : length H ≡ length H₀
+  -- the sorts are as many
   pub sorts : length L ≡ length L₀
+  -- the stack is as long
   pub full : length stack ≡ length stack₀
+  -- no more keywords than bytes were read
   pub keywords : k .keywords ≤ at
+  -- nor outside names
   pub outsides : k .outsides ≤ at
+  -- the fields left give what all of them give
   pub rest : sortsFrom (fieldsAt bs at) bs (context k H L) ≡ sortsFrom (fieldsAt bs 0) bs (unknown H₀)
 
 -- at the first field nothing is known

@@ -19,9 +19,13 @@ Whole Q (parsed ts) = Q ts
 
 -- Q holds of bytes and templates by how the templates are read
 pub record Read (Q : List ℕ → Templates → Type 0) : Type 0 where
+  -- no bytes, no templates
   pub at-end : Q [] none
+  -- a name in front
   pub at-name : (b x : ℕ) (bs : List ℕ) (ts : Templates) → isNameTag b ≡ true → Q bs ts → Q (b ∷ x ∷ bs) (more (nameBy (eqb b 0x10) x) ts)
+  -- a variable in front
   pub at-variable : (b : ℕ) (bs : List ℕ) (ts : Templates) → isNameTag b ≡ false → ltb b 0x10 ≡ true → Q bs ts → Q (b ∷ bs) (more (variable b) ts)
+  -- a constructor in front, with its arguments
   pub at-constructor :
       (b : ℕ) (bs : List ℕ) (ts us vs : Templates) → isNameTag b ≡ false → ltb b 0x10 ≡ false → isConstructor b ≡ true
       → takeTemplates (arity b) ts ≡ taken us vs → Q bs ts → Q (b ∷ bs) (more (make b us) vs)
@@ -60,6 +64,7 @@ module _ (Q : List ℕ → Templates → Type 0) (read : Read Q) where
   front-read : (b : ℕ) (bs : List ℕ) → isNameTag b ≡ false → Whole (Q bs) (templatesOf bs) → Whole (Q (b ∷ bs)) (templatesOf (b ∷ bs))
   front-read b bs n h = subst⁻¹ (Whole (Q (b ∷ bs))) (byte-first b bs n) (byte-read b bs (templatesOf bs) n h)
 
+  -- so it holds of all bytes that are read as templates
   pub whole : (bs : List ℕ) → Whole (Q bs) (templatesOf bs)
   unfolding templatesOf
   whole [] = read .at-end

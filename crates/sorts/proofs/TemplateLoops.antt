@@ -68,9 +68,13 @@ params-small b =
 
 -- Opening the places of a constructor's arguments, k of them left.
 pub record Opening (room₀ : List ℕ) (start b : ℕ) (room : List ℕ) (top k : ℕ) : Type 0 where
+  -- the room is as long as it was
   pub as-many : length room ≡ length room₀
+  -- the places taken and those to come are the parameters
   pub height : top + k ≡ start + arity b
+  -- no more are left than there are
   pub most : k ≤ arity b
+  -- the places taken hold the last parameters
   pub opened : places room top ≡ drop k (constructor b .params) ++ places room₀ start
 
 module _ {room₀ : List ℕ} {start b : ℕ} where
@@ -212,10 +216,15 @@ left-end name L room (suc (suc k)) = ne-eqb (suc (suc k)) 1 (λ e. omega arith)
 
 -- The bytes from i on and the places open give what all the bytes and the first places give.
 pub record Testing (v L : List ℕ) (N : ℕ) (room₀ : List ℕ) (start : ℕ) (room : List ℕ) (height : ℕ) (name : Bool) (i : ℕ) : Type 0 where
+  -- the byte is within the template
   pub within : i ≤ length v
+  -- the room is as long as it was
   pub as-many : length room ≡ length room₀
+  -- the room holds what the bytes left may open
   pub enough : height + 2 * (length v - i) + 2 ≤ length room
+  -- the bytes left are closed exactly if all are
   pub closed : closedBytes name (drop i v) N (length L) ≡ closedBytes false v N (length L)
+  -- the bytes left fill the places exactly if all do
   pub fills : fillLeft name (drop i v) L (placesAt room height) ≡ fillBytes false v L (places room₀ start)
 
 -- no byte yet

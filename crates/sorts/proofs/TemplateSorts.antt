@@ -22,9 +22,11 @@ use Rattle.sorts.specs.Judgements.{by-constructor, Fill, fill-none, fill
 pub both : (a b : Bool) → (a && b) ≡ true → (a ≡ true) × (b ≡ true)
 both a b h = and-eq-true-iff a b .0 h
 
+-- both tests hold
 pub pair : (a b : Bool) → a ≡ true → b ≡ true → (a && b) ≡ true
 pair a b h k = and-eq-true-iff a b .1 (h, k)
 
+-- one of two tests holds
 pub either : {A : Type 0} (a b : Bool) → (a || b) ≡ true → (a ≡ true → A) → (b ≡ true → A) → A
 either true b h f g = f refl
 either false b h f g = g h
@@ -34,6 +36,7 @@ first a b h = cc
 
 -- ------------------------------------------------------------------ sorts that fit, sorts of variables
 
+-- a sort that fits by its code fits by the rules
 pub fits-rule : (A B : ℕ) → fits A B ≡ true → Fits A B
 unfolding fits
 fits-rule A B h =
@@ -42,6 +45,7 @@ fits-rule A B h =
     let k = both (eqb A binder) (eqb B var) e in
     subst₂ Fits (sym (eqb-true A binder (k .0))) (sym (eqb-true B var (k .1))) fits-binder)
 
+-- and the other way round
 pub rule-fits : {A B : ℕ} → Fits A B → fits A B ≡ true
 unfolding fits
 rule-fits (fits-equal {B = B}) = first (eqb B B) (eqb B binder && eqb B var) (eq-eqb B B refl)
@@ -66,6 +70,7 @@ module _ (G : Scope) (L : List ℕ) where
   mutual
     unfolding isClosed areClosed isSorted fill
 
+    -- a template that is closed and sorted has its sort by the rules
     pub sorted-rule :
         (t : Template) → TemplateWithin t → isClosed t G (length L) ≡ true → isSorted t L ≡ true → Sorted (G .outsides) L t (sortOf t L)
     sorted-rule (variable i) w c s = by-variable (has-at L i (ltb-true i (length L) c))
@@ -73,6 +78,7 @@ module _ (G : Scope) (L : List ℕ) where
     sorted-rule (outsideLabel x) w c s = by-label (ltb-true x (G .outsides) c)
     sorted-rule (make k ts) (make-within l h e ws) c s = by-constructor l h (fill-rule ts (constructor k .params) ws c s)
 
+    -- templates that fill places fill them by the rules
     pub fill-rule :
         (ts : Templates) (Bs : List ℕ) → TemplatesWithin ts → areClosed ts G (length L) ≡ true → fill ts L Bs ≡ true → Fill (G .outsides) L ts Bs
     fill-rule none [] ws c s = fill-none
@@ -87,6 +93,7 @@ module _ (G : Scope) (L : List ℕ) where
   mutual
     unfolding isClosed areClosed isSorted fill
 
+    -- a template with a sort by the rules is closed and sorted
     pub rule-sorted :
         (t : Template) {A : ℕ} → Sorted (G .outsides) L t A
         → (isClosed t G (length L) ≡ true) × (isSorted t L ≡ true) × (sortOf t L ≡ A)
@@ -95,6 +102,7 @@ module _ (G : Scope) (L : List ℕ) where
     rule-sorted (outsideLabel x) (by-label h) = (lt-ltb x (G .outsides) h, refl, refl)
     rule-sorted (make c ts) (by-constructor l u h) = let f = rule-fill ts h in (f .0, f .1, refl)
 
+    -- templates that fill places by the rules fill them
     pub rule-fill :
         (ts : Templates) {Bs : List ℕ} → Fill (G .outsides) L ts Bs
         → (areClosed ts G (length L) ≡ true) × (fill ts L Bs ≡ true)

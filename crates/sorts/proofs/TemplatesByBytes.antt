@@ -97,9 +97,11 @@ module _ (G : Scope) (n : ℕ) where
 
 -- the sort of a template by its first byte, test by test
 module _ (L : List ℕ) (b : ℕ) where
+  -- the sort of a first byte, by three tests
   abbrev pub sortBy : Bool → Bool → Bool → ℕ
   sortBy small tagged labelled = choose (getD L b unit) (choose var (choose label (constructor b .result) labelled) tagged) small
 
+  -- it is so
   pub head-sort :
       (small tagged labelled : Bool) → ltb b 0x10 ≡ small → eqb b 0x10 ≡ tagged → eqb b 0x11 ≡ labelled
       → headSort b L ≡ sortBy small tagged labelled
@@ -107,13 +109,16 @@ module _ (L : List ℕ) (b : ℕ) where
   head-sort small tagged labelled e f g =
       cc
 
+  -- a variable has the sort it is bound with
   pub head-variable : ltb b 0x10 ≡ true → headSort b L ≡ getD L b unit
   head-variable e = head-sort true (eqb b 0x10) (eqb b 0x11) e refl refl
 
+  -- a constructor has the sort of its result
   pub head-constructor : 0x12 ≤ b → headSort b L ≡ constructor b .result
   head-constructor h =
       head-sort false false false (le-ltb b 0x10 (omega arith)) (ne-eqb b 0x10 (λ e. omega arith)) (ne-eqb b 0x11 (λ e. omega arith))
 
+  -- a name has its own sort
   pub head-name : (x : ℕ) → isNameTag b ≡ true → headSort b L ≡ sortOf (nameBy (eqb b 0x10) x) L
   head-name x e =
       by-name b e
@@ -124,10 +129,12 @@ module _ (L : List ℕ) (b : ℕ) where
         ne-eqb b 0x10 (λ k. omega arith),
       ))
 
+-- below 0x20 nothing has parameters
 pub params-none : (b : ℕ) → b < 0x20 → headParams b ≡ []
 unfolding headParams
 params-none b h = ap (choose [] (constructor b .params)) (lt-ltb b 0x20 h)
 
+-- a constructor has its own
 pub params-some : (b : ℕ) → 0x20 ≤ b → headParams b ≡ constructor b .params
 unfolding headParams
 params-some b h = ap (choose [] (constructor b .params)) (le-ltb b 0x20 h)

@@ -29,12 +29,14 @@ abbrev pub Ends : {A : Type 0} → (A → State → List ℕ → Type 0) → (Re
 Ends P H (done a s cells) = P a s cells
 Ends P H (halt r cells) = H r
 
+-- a run that ends well, and then another
 pub ends-after : {A B : Type 0} (P : A → State → List ℕ → Type 0) (H : Refusal → Type 0) (Q : B → State → List ℕ → Type 0) (K : Refusal → Type 0)
     (r : Result A) (k : A → Run B) → Ends P H r → ((a : A) (s : State) (cells : List ℕ) → P a s cells → Ends Q K (k a s cells))
     → ((q : Refusal) → H q → K q) → Ends Q K (after r k)
 ends-after P H Q K (done a s cells) k p f h = f a s cells p
 ends-after P H Q K (halt q cells) k p f h = h q p
 
+-- a run ends as well as what follows from it
 pub ends-map : {A : Type 0} (P : A → State → List ℕ → Type 0) (H : Refusal → Type 0) (Q : A → State → List ℕ → Type 0) (K : Refusal → Type 0)
     (r : Result A) → Ends P H r → ((a : A) (s : State) (cells : List ℕ) → P a s cells → Q a s cells) → ((q : Refusal) → H q → K q) → Ends Q K r
 ends-map P H Q K (done a s cells) p f h = f a s cells p
@@ -57,22 +59,32 @@ ends-both P Q H K (halt r c) p q = (p, q)
 
 -- n cells more, and nothing else moved; no more than the rows there are
 pub record Made (rows n : ℕ) (s : State) (cells : List ℕ) (s′ : State) (cells′ : List ℕ) : Type 0 where
+  -- rows are added only
   pub grown : Grown (s .made) cells (s′ .made) cells′
+  -- no token is read
   pub at-kept : s′ .at ≡ s .at
+  -- no new name is drawn
   pub fresh-kept : s′ .fresh ≡ s .fresh
+  -- no call is begun
   pub calls-kept : s′ .calls ≡ s .calls
+  -- n rows are made
   pub made-is : s′ .made ≡ s .made + n
+  -- there is room for them
   pub fits : s′ .made ≤ rows
 
 -- refusal 21 where the cells wanted are more than the rows
 pub record Full (rows n : ℕ) (r : Refusal) : Type 0 where
+  -- the refusal is 21
   pub is-21 : r .number ≡ 21
+  -- the rows are more than there are
   pub beyond : rows < n
 
 module _ (spell : ℕ → List ℕ) (I : Input) where
+  -- a template is built as its value
   abbrev pub Built : ℕ → State → List ℕ → Value → ℕ → State → List ℕ → Type 0
   Built n s cells v x s′ cells′ = Made (I .rows) n s cells s′ cells′ × Shows spell (s′ .made) cells′ x v
 
+  -- templates are built as their values
   abbrev pub BuiltAll : ℕ → State → List ℕ → List Value → List ℕ → State → List ℕ → Type 0
   BuiltAll n s cells vs xs s′ cells′ = Made (I .rows) n s cells s′ cells′ × ShowAll spell (s′ .made) cells′ xs vs
 
@@ -121,6 +133,7 @@ module _ (spell : ℕ → List ℕ) (I : Input) where
   mutual
     unfolding build buildAll rowsOf rowsOfAll
 
+    -- a template that gives a value is built as it, or no row is left
     pub build-ends : {N : ℕ} {L : List ℕ} {A : ℕ} {M : List Value} (t : Template) {v : Value} {xs : List ℕ} (s : State) (cells : List ℕ)
         → Gives spell M t v → Sorted N L t A → N ≤ nameBase → I .rows * 4 ≤ length cells → s .made ≤ I .rows → ShowAll spell (s .made) cells xs M
         → Ends (Built (rowsOf t) s cells v) (Full (I .rows) (s .made + rowsOf t)) (build t I xs s cells)
@@ -140,6 +153,7 @@ module _ (spell : ℕ → List ℕ) (I : Input) where
         (full-more (omega (arith, b .0 .made-is))))
         (full-more (omega arith))
 
+    -- so are templates
     pub build-all-ends : {N : ℕ} {L : List ℕ} {Bs : List ℕ} {M : List Value} (ts : Templates) {vs : List Value} {xs : List ℕ} (s : State) (cells : List ℕ)
         → GiveAll spell M ts vs → Fill N L ts Bs → N ≤ nameBase → I .rows * 4 ≤ length cells → s .made ≤ I .rows → ShowAll spell (s .made) cells xs M
         → Ends (BuiltAll (rowsOfAll ts) s cells vs) (Full (I .rows) (s .made + rowsOfAll ts)) (buildAll ts I xs s cells)

@@ -54,6 +54,7 @@ take-done : (I : Input) (kind : ℕ) (value : ℕ → ℕ) (s : State) (cells : 
     → takeToken I kind value s cells ≡ done (value (nextToken I s .value)) (tokenTaken s) cells
 take-done I kind value s cells e = rw (eq-eqb (nextToken I s .kind) kind e, takeToken) refl
 
+-- the items behind one that is read
 pub items-after : (C : ℕ → List ℕ → Run ℕ) (I : Input) (i : Item) (is : List Item) (xs : List ℕ) (s : State) (cells : List ℕ) (x : ℕ) (s′ : State)
     (cells′ : List ℕ)
     → runItem C I i xs s cells ≡ done x s′ cells′ → runItems C I (i ∷ is) xs s cells ≡ runItems C I is (xs ++ (x ∷ [])) s′ cells′
@@ -94,30 +95,42 @@ module _ {g : List Production} (X : Setting g) where
   abbrev rows : ℕ
   rows = X .rows
 
+  -- what a run reads
   abbrev pub I : Input
   I = input g tokens rows
 
+  -- the tokens that are left
   abbrev pub from : State → List Token
   from s = drop (s .at) tokens
 
   -- the way from a state with b calls begun and m cells made: o calls open, c calls begun and n cells made, to the place t and the counter i
   pub record Went (k d o c n : ℕ) (t : List Token) (i b m : ℕ) (cells : List ℕ) (s′ : State) (cells′ : List ℕ) : Type 0 where
+    -- rows are added only
     pub grown : Grown m cells (s′ .made) cells′
+    -- the bounds of a run still hold
     pub kept : Kept rows k s′ cells′
+    -- the tokens left are those of the derivation
     pub place : from s′ ≡ t
+    -- so is the counter of new names
     pub counter : s′ .fresh ≡ i
+    -- the calls begun
     pub calls-are : s′ .calls ≡ b + c
+    -- the rows made
     pub made-are : s′ .made ≡ m + n
+    -- the calls open at once
     pub deep : o ≤ d
 
+  -- the run is where the derivation is, with its values shown
   abbrev pub Reached : (k d o c n : ℕ) → List Token → ℕ → List Value → ℕ → ℕ → List ℕ → List ℕ → State → List ℕ → Type 0
   Reached k d o c n t i M b m cells xs s′ cells′ = Went k d o c n t i b m cells s′ cells′ × ShowAll spell (s′ .made) cells′ xs M
 
+  -- the run gives what the derivation gives
   abbrev pub Gave : (k d o c n : ℕ) → List Token → ℕ → Value → ℕ → ℕ → List ℕ → ℕ → State → List ℕ → Type 0
   Gave k d o c n t i v b m cells x s′ cells′ = Went k d o c n t i b m cells s′ cells′ × Shows spell (s′ .made) cells′ x v
 
   -- the run of items beside a derivation with its costs
   pub record Along (o c n : ℕ) (t : List Token) (i : ℕ) (is : List Item) (M M′ : List Value) (t′ : List Token) (i′ : ℕ) : Type 0 where
+    -- from any state that fits, the run goes along
     pub along : (d k : ℕ) (r : Template) (B : ℕ) (L xs : List ℕ) (s : State) (cells : List ℕ) → Body (F .scope) L is r B → from s ≡ t → s .fresh ≡ i
         → Kept rows (k + length is) s cells → ShowAll spell (s .made) cells xs M
         → Ends (Reached k d o c n t′ i′ M′ (s .calls) (s .made) cells) (Beyond rows d o (s .calls + c) (s .made + n)) (runItems (runCall d I) I is xs s cells)
@@ -152,11 +165,13 @@ module _ {g : List Production} (X : Setting g) where
   -- a call beside the derivation of its production
   module _ {o c n m : ℕ} {t t′ : List Token} {i i′ : ℕ} {vs M : List Value} {v : Value} (p : Production) (taken : Taken g m t p)
       (A : Along o c n t i (p .items) vs M t′ i′) (gives : Gives spell M (p .result) v) where
+    -- the calls and rows of a derivation
     abbrev pub cost : ℕ
     cost = n + rowsOf (p .result)
 
     module _ (k : ℕ) (xs : List ℕ) (s : State) (cells : List ℕ) (e : from s ≡ t) (f : s .fresh ≡ i) (h : Kept rows k s cells)
         (a : ShowAll spell (s .made) cells xs vs) where
+      -- a call goes along, or a limit is passed
       abbrev pub Called : ℕ → Result ℕ → Type 0
       Called d z = Ends (Gave k d (o + 1) (c + 1) cost t′ i′ v (s .calls) (s .made) cells) (Beyond rows d (o + 1) (s .calls + (c + 1)) (s .made + cost)) z
 
@@ -296,6 +311,7 @@ module _ {g : List Production} (X : Setting g) where
           (beyond-more (omega arith) (omega (arith, y .0 .calls-are)) (omega (arith, y .0 .made-are))))
           (beyond-more (omega arith) (omega arith) (omega arith))
 
+  -- the run of items goes along their derivation
   pub items-along : {M M′ : List Value} {s s′ : List Token} {i i′ : ℕ} {is : List Item} (D : Derives g spell M s i is M′ s′ i′)
       → Along (openIn D) (callsIn D) (rowsIn D) s i is M M′ s′ i′
   unfolding openIn callsIn rowsIn runItems
@@ -361,8 +377,11 @@ module _ {g : List Production} (X : Setting g) where
   module _ {t : Term Name} (P : Parses g spell (X .root) tokens t) where
     -- accepted with the term, within the limits
     pub record Accepts (v : ℕ) (s : State) (cells : List ℕ) : Type 0 where
+      -- the row given shows the term
       pub term-is : termAt (s .made) spell cells v ≡ t
+      -- the limits allow the derivation
       pub affords : Affords rows 0 0 0 (P .derived)
+      -- the rows made
       pub made-are : s .made ≡ rowsIn (P .derived)
 
     abbrev Exceeds : Refusal → Type 0

@@ -140,11 +140,14 @@ module _ (K N : ℕ) where
   sequence-fits no-grammar each-none h = h
   sequence-fits (by-grammar d o s) (each-more z zs) h = sequence-fits s zs (definitions-fit (fits-more (defines-more d) h) (defines-all d) o z)
 
+-- the scope in which the bodies of a table are sorted
 abbrev pub scopeOf : (t : Table) → WellSorted t → Scope
 scopeOf t w = scope (length (t .keywords)) (length (t .outsides)) (w .env)
 
-each-fits : (t : Table) → Within t → (w : WellSorted t) → (p : Production) → In (normalized (t .blocks)) p → Fit (scopeOf t w) p
+-- each production of a well sorted table fits its scope
+pub each-fits : (t : Table) → Within t → (w : WellSorted t) → (p : Production) → In (normalized (t .blocks)) p → Fit (scopeOf t w) p
 each-fits t z w p m = each-in (sequence-fits _ _ (w .sequence) (z .blocks) each-none) m
 
+-- the productions of a well sorted table fit it
 abbrev pub table-fits : (t : Table) → Within t → WellSorted t → FitAll (normalized (t .blocks))
 table-fits t z w = record { scope = scopeOf t w; keywordCount = z .keywordCount; outsideCount = z .outsideCount; each = each-fits t z w }

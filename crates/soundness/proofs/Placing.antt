@@ -134,6 +134,7 @@ pub data Supplied (tokens : List Token) (N : ℕ) : Given → Type 0 where
   supplied-outside : {n : ℕ} → n < N → Supplied tokens N (outside-name n)
   supplied-label : {n : ℕ} → n < N → Supplied tokens N (outside-label n)
 
+-- what holds of each holds of one among them
 pub each-at : {A : Type 0} {P : A → Type 0} {xs : List A} {x : A} → Each P xs → Among xs x → P x
 each-at (each-more h hs) among-first = h
 each-at (each-more h hs) (among-later k) = each-at hs k
@@ -225,6 +226,7 @@ module _ {tokens : List Token} {N : ℕ} {G : List Given} (spell : ℕ → List 
   mutual
     unfolding isWorded isWordedFields
 
+    -- a term whose names are placed has words only
     pub placed-worded : {u : Term Name} → Placed G spell u → isWorded u ≡ true
     placed-worded (placed-variable x) = var-worded x
     placed-worded (placed-function x t) = and-eq-true-iff _ _ .1 (var-worded (binder-var G spell x), placed-worded t)

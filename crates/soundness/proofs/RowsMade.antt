@@ -27,8 +27,11 @@ use Rattle.soundness.proofs.Sound.{Any, Root, root-called}
 module _ {g : List Production} (X : Setting g) where
   -- what is left after the value v: no more rows than there are, as many numbers as before, and the term in the rows made
   pub record Leaves (cells : List ℕ) (v : ℕ) (s : State) (cells′ : List ℕ) : Type 0 where
+    -- no more rows are made than there are
     pub few : s .made ≤ X .rows
+    -- the cells are as many
     pub as-many : length cells′ ≡ length cells
+    -- the rows made are all that the term reads
     pub same : termAt (s .made) (X .spell) (take (s .made * columns) cells′) v ≡ termAt (s .made) (X .spell) cells′ v
 
   term-rows : {cells′ : List ℕ} {x made : ℕ} (v : Value) → Typed v Sorts.term → Shows (X .spell) made cells′ x v

@@ -18,17 +18,29 @@ use Rattle.expansion.specs.ValueSorts.{Matches, matches-none}
 use Rattle.soundness.proofs.Typing.{FitAll}
 
 pub record Setting (g : List Production) : Type 0 where
+  -- the productions fit a scope
   pub fit : FitAll g
+  -- the first sets pass
   pub passed : checkFirsts g ≡ ok tt
+  -- how tokens are spelled
   pub spell : ℕ → List ℕ
+  -- the tokens
   pub tokens : List Token
+  -- the rows that there are
   pub rows : ℕ
+  -- the numbers of words are small
   pub small : SmallWords tokens
+  -- the root
   pub root : ℕ
+  -- it is a nonterminal
   pub root-small : root < 64
+  -- its signature
   pub signature : Signature
+  -- it is defined
   pub defined : Newest (fit .scope .env) root signature
+  -- without parameters
   pub without : signature .params ≡ []
+  -- of sort Term
   pub of-term : signature .result ≡ Sorts.term
 
 module _ {g : List Production} (X : Setting g) where
@@ -45,5 +57,6 @@ module _ {g : List Production} (X : Setting g) where
   pub root-body : Body (X .fit .scope) [] (call (X .root) none ∷ []) (make 0x25 none) Sorts.fields
   root-body = item-body (Judgements.by-call (X .defined) (subst⁻¹ (Fill (X .fit .scope .outsides) [] none) (X .without) fill-none))
 
+  -- the call of the root is an item
   pub root-within : Each ItemWithin (call (X .root) none ∷ [])
   root-within = each-more (call-within {n = X .root} (omega (arith, X .root-small)) none-within) each-none

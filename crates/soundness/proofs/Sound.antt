@@ -43,6 +43,7 @@ use Rattle.expansion.proofs.Choosing.{kindOf, kind-next, Picks, picks, picks-no
 
 -- ------------------------------------------------------------------ the tokens from a place on
 
+-- a token that is left is the first of those left
 pub token-here : (tokens : List Token) (at : ℕ) → at < length tokens → drop at tokens ≡ getD tokens at endToken ∷ drop (at + 1) tokens
 token-here tokens at h = rw (add-one at) (drop-cons tokens at endToken h)
 
@@ -58,11 +59,16 @@ token-before tokens at {k} e l =
 
 -- The rows have room in the cells, and the fresh names in a name: each call begun has at most 12 of them, k of which are to come.
 pub record Kept (rows k : ℕ) (s : State) (cells : List ℕ) : Type 0 where
+  -- the cells have room for all rows
   pub room : rows * 4 ≤ length cells
+  -- the rows made are not more
   pub fits : s .made ≤ rows
+  -- twelve new names a call at most
   pub names : s .fresh + k ≤ 2 + 12 * s .calls
+  -- the calls are not more than the limit
   pub begun : s .calls ≤ mostCalls
 
+-- the bounds hold after rows are made
 pub kept-made : {rows n k : ℕ} {s s′ : State} {cells cells′ : List ℕ} → Kept rows k s cells → Made rows n s cells s′ cells′ → Kept rows k s′ cells′
 kept-made h m =
     record {
@@ -72,21 +78,25 @@ kept-made h m =
       begun = omega (arith, h .begun, m .calls-kept);
     }
 
+-- and with one name fewer to come
 pub kept-less : {rows k : ℕ} {s : State} {cells : List ℕ} → Kept rows (k + 1) s cells → Kept rows k s cells
 kept-less h = record { room = h .room; fits = h .fits; names = omega (arith, h .names); begun = h .begun }
 
 -- ------------------------------------------------------------------ a call's tests
 
 module _ (d : ℕ) (I : Input) (n : ℕ) (xs : List ℕ) (s : State) (cells : List ℕ) where
+  -- no call is left: refusal 20
   pub call-full : ltb (s .calls) mostCalls ≡ false → runCall (suc d) I n xs s cells ≡ halt (refusal 20 (s .at) 0 0) cells
   unfolding runCall
   call-full e = rw (e, runCall) refl
 
+  -- no production fits: refusal 17
   pub call-unfit : ltb (s .calls) mostCalls ≡ true → choice (I .grammar) n (nextToken I s .kind) ≡ unfit
       → runCall (suc d) I n xs s cells ≡ misfit (getD (I .grammar .firsts) n 0) s cells
   unfolding runCall
   call-unfit e f = rw (e, f, runCall) refl
 
+  -- the production chosen is run
   pub call-chosen : (r : Rule) → ltb (s .calls) mostCalls ≡ true → choice (I .grammar) n (nextToken I s .kind) ≡ chosen r
       → runCall (suc d) I n xs s cells ≡ after (runItems (runCall d I) I (r .items) xs (callBegun s) cells) (λ ys. build (r .result) I ys)
   unfolding runCall
@@ -105,9 +115,11 @@ module _ {g : List Production} (X : Setting g) where
   abbrev rows : ℕ
   rows = X .rows
 
+  -- what a run reads
   abbrev pub I : Input
   I = input g tokens rows
 
+  -- the tokens that are left
   abbrev pub from : State → List Token
   from s = drop (s .at) tokens
 
@@ -183,6 +195,7 @@ module _ {g : List Production} (X : Setting g) where
   at-ide P (suc (suc (suc (suc B)))) l h a b c = absurd (omega arith)
 
   module _ (C : ℕ → List ℕ → Run ℕ) (callee : Callee C) where
+    -- an item that is run is derived
     pub item-sound : (k : ℕ) {i : Item} {A : ℕ} {M : List Value} {L xs : List ℕ} (s : State) (cells : List ℕ) → ItemSorted (F .scope) L i A → ItemWithin i
         → Matches M L
         → Kept rows (k + 1) s cells → ShowAll spell (s .made) cells xs M → Ends (Stepped k i A M s cells) Any (runItem C I i xs s cells)
@@ -247,6 +260,7 @@ module _ {g : List Production} (X : Setting g) where
       pub grown : Grown (s .made) cells (s′ .made) cells′
       pub kept : Kept rows k s′ cells′
 
+    -- items that are run are derived
     pub items-sound : (k : ℕ) (is : List Item) {r : Template} {B : ℕ} {M : List Value} {L xs : List ℕ} (s : State) (cells : List ℕ) → Body (F .scope) L is r B
         → Each ItemWithin is → Matches M L
         → Kept rows (k + length is) s cells → ShowAll spell (s .made) cells xs M → Ends (Derived k is r B M s cells) Any (runItems C I is xs s cells)
@@ -333,6 +347,7 @@ module _ {g : List Production} (X : Setting g) where
       go true e (picks-none f c) =
           subst⁻¹ (Ends (Called k n vs s cells) Any) (call-unfit d I n xs s cells e (ap (choice (ready g) n) (kind-next (s .at) tokens) ∙ c)) tt
 
+  -- a call that is run is derived
   pub call-sound : (d : ℕ) → Callee (runCall d I)
   unfolding runCall
   call-sound zero k n S vs xs s cells w l m h a = tt
@@ -340,9 +355,11 @@ module _ {g : List Production} (X : Setting g) where
 
   -- ------------------------------------------------------------------ the whole formula
 
+  -- the row of a term is read as the term
   pub shown : {made : ℕ} {cells : List ℕ} {x : ℕ} {t : Term Name} → Shows spell made cells x (term t) → termAt made spell cells x ≡ t
   shown {made} {cells} (shows-term h) = h .read cells (record { same = λ j l. refl }) made (h .below)
 
+  -- a run of the whole gives a term that its tokens derive
   abbrev pub Root : List ℕ → ℕ → State → List ℕ → Type 0
   Root cells = Called 0 (X .root) [] start cells
 

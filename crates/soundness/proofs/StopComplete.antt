@@ -393,6 +393,7 @@ module _ {g : List Production} (X : Setting g) where
           let b : ltb (s .at) (length tokens) ≡ true = lt-ltb (s .at) (length tokens) (omega (arith, length-drop (s .at) tokens)) in
           (c, rw (b, ended) (cc (index-is X s (u .0 .0 .place) (u .1))))
 
+  -- a run stops with the refusal that the rules give
   pub refuses-halts : {r : Refusal} → Refuses g spell rows tokens (X .root) r → (cells : List ℕ) → rows * 4 ≤ length cells
       → HaltsWith r (run J (X .root) cells)
   unfolding run

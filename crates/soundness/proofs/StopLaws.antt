@@ -83,6 +83,7 @@ module _ (I : Input) where
   mutual
     unfolding build buildAll
 
+    -- building a template reads no token
     pub build-stays : (t : Template) (M : List ℕ) (s : State) (cells : List ℕ) → Stays s (build t I M s cells)
     build-stays (Table.variable i) M s cells = refl
     build-stays (Table.outside n) M s cells = refl
@@ -90,6 +91,7 @@ module _ (I : Input) where
     build-stays (Table.make c ts) M s cells =
         stays-after s (buildAll ts I M s cells) (λ vs. cell I c vs) (build-all-stays ts M s cells) (λ vs s′ c′. cell-stays c vs s′ c′)
 
+    -- nor does building templates
     pub build-all-stays : (ts : Templates) (M : List ℕ) (s : State) (cells : List ℕ) → Stays s (buildAll ts I M s cells)
     build-all-stays none M s cells = refl
     build-all-stays (more t ts) M s cells =
@@ -124,6 +126,7 @@ module _ {g : List Production} (X : Setting g) where
   abbrev rest : State → List Token
   rest s = drop (s .at) tokens
 
+  -- the index of what is left is the state's place
   pub index-is : (s : State) {t : List Token} → rest s ≡ t → s .at ≤ length tokens → indexOf tokens t ≡ s .at
   index-is s e l = omega (arith, ap length e, length-drop (s .at) tokens)
 
@@ -131,15 +134,18 @@ module _ {g : List Production} (X : Setting g) where
   next-kind : (s : State) {k : ℕ} → nextToken J s .kind ≡ k → k < 64 → Next (rest s) k
   next-kind s e l = is-next (rest s) (sym (kind-next (s .at) tokens) ∙ e) l
 
+  -- the next token's kind
   pub kind-of-next : (s : State) {k : ℕ} → Next (rest s) k → nextToken J s .kind ≡ k
   kind-of-next s n = kind-next (s .at) tokens ∙ next-is n
 
+  -- a token of another kind stops the run
   pub take-halts : (kind : ℕ) (value : ℕ → ℕ) (s : State) (cells : List ℕ) → kind < 64 → (Next (rest s) kind → ⊥)
       → takeToken J kind value s cells ≡ halt (refusal 17 (s .at) (only kind) (ones (only kind))) cells
   take-halts kind value s cells l n = rw (ne-eqb (nextToken J s .kind) kind (λ e. n (next-kind s e l)), takeToken) refl
 
   -- ------------------------------------------------------------------ the place
 
+  -- the run stays within the tokens
   abbrev pub Bounded : {A : Type 0} → Result A → Type 0
   Bounded x = Ends (λ a s c. s .at ≤ length tokens) (λ r. Unit {0}) x
 
@@ -163,6 +169,7 @@ module _ {g : List Production} (X : Setting g) where
 
   module _ (C : ℕ → List ℕ → Run ℕ)
       (callee : (n : ℕ) (vs : List ℕ) (s : State) (cells : List ℕ) → n < 64 → s .at ≤ length tokens → Bounded (C n vs s cells)) where
+    -- an item does
     pub item-bounded : {i : Item} {A : ℕ} {L : List ℕ} (xs : List ℕ) (s : State) (cells : List ℕ) → ItemSorted (F .scope) L i A → ItemWithin i
         → s .at ≤ length tokens → Bounded (runItem C J i xs s cells)
     item-bounded xs s cells (Judgements.by-keyword {k = k} l) z h = take-bounded (keywordKind k) (λ v. 0) s cells (omega (arith, l, F .keywordCount))
@@ -173,6 +180,7 @@ module _ {g : List Production} (X : Setting g) where
         bounded-after (buildAll ts J xs s cells) (λ vs. C n vs) (stays-bounded s (buildAll ts J xs s cells) h (build-all-stays J ts xs s cells))
         (λ vs s′ c′ b. callee n vs s′ c′ (omega arith) b)
 
+    -- items do
     pub items-bounded : (is : List Item) {r : Template} {B : ℕ} {L : List ℕ} (xs : List ℕ) (s : State) (cells : List ℕ) → Body (F .scope) L is r B
         → Each ItemWithin is → s .at ≤ length tokens → Bounded (runItems C J is xs s cells)
     unfolding runItems
@@ -181,6 +189,7 @@ module _ {g : List Production} (X : Setting g) where
         bounded-after (runItem C J i xs s cells) (λ v. runItems C J is (xs ++ (v ∷ []))) (item-bounded xs s cells w z h)
         (λ v s′ c′ l. items-bounded is (xs ++ (v ∷ [])) s′ c′ b zs l)
 
+  -- a call does
   pub call-bounded : (d n : ℕ) (vs : List ℕ) (s : State) (cells : List ℕ) → n < 64 → s .at ≤ length tokens → Bounded (runCall d J n vs s cells)
   unfolding runCall
   call-bounded zero n vs s cells l h = tt

@@ -268,6 +268,7 @@ module _ {g : List Production} (X : Setting g) where
         few-rows = omega (arith, z .0 .made-are, z .0 .kept .fits);
       }))
 
+  -- a run that stops is refused by the rules
   pub run-halts : (cells : List ℕ) → rows * 4 ≤ length cells → Ends Fine (Refuses g spell rows tokens (X .root)) (run J (X .root) cells)
   unfolding run
   run-halts cells room =

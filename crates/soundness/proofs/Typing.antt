@@ -31,6 +31,7 @@ typed-at : {v : Value} {A B : ℕ} → Typed v A → Fits A B → Typed v B
 typed-at h fits-equal = h
 typed-at typed-binder fits-binder = typed-either
 
+-- one value more, of its sort
 pub matches-and : {M : List Value} {L : List ℕ} {v : Value} {B : ℕ} → Matches M L → Typed v B → Matches (M ++ (v ∷ [])) (L ++ (B ∷ []))
 matches-and matches-none k = matches-more k matches-none
 matches-and (matches-more h hs) k = matches-more h (matches-and hs k)
@@ -83,6 +84,7 @@ constructs-exists c l h {vs} m =
 module _ (spell : ℕ → List ℕ) {N : ℕ} {M : List Value} {L : List ℕ} (m : Matches M L) where
   -- a sorted template gives a value
   mutual
+    -- a sorted template gives a value of its sort
     pub gives-exists : {A : ℕ} (t : Template) → Sorted N L t A → (v : Value) × Gives spell M t v × Typed v A
     gives-exists (Table.variable i) (Judgements.by-variable h) = let b = bound-exists m h in (b .0, by-variable (b .1), b .2)
     gives-exists (Table.outside n) (Judgements.by-global h) = (_, by-global, typed-var)
@@ -92,6 +94,7 @@ module _ (spell : ℕ → List ℕ) {N : ℕ} {M : List Value} {L : List ℕ} (m
         let k = constructs-exists c l h (r .2) in
         (k .0, by-constructor (r .1) (k .1), constructs-typed (k .1))
 
+    -- so do templates that fill places
     pub give-all-exist : {Bs : List ℕ} (ts : Templates) → Fill N L ts Bs → (vs : List Value) × GiveAll spell M ts vs × Matches vs Bs
     give-all-exist none fill-none = ([], give-none, matches-none)
     give-all-exist (more t ts) (fill-more s f ss) =
@@ -115,18 +118,28 @@ module _ (spell : ℕ → List ℕ) {N : ℕ} {M : List Value} {L : List ℕ} (m
 
 -- a production as the sort judgements and the ranges and counts of a table allow
 pub record Fit (G : Scope) (p : Production) : Type 0 where
+  -- the signature of its nonterminal
   pub signature : Signature
+  -- it is the newest one
   pub newest : Newest (G .env) (p .owner) signature
+  -- the body is sorted by it
   pub body : Body G (signature .params) (p .items) (p .result) (signature .result)
+  -- the items are within the ranges
   pub items : Each ItemWithin (p .items)
+  -- twelve at most
   pub itemCount : length (p .items) ≤ 12
+  -- so is the result
   pub result : TemplateWithin (p .result)
 
 -- a grammar all of whose productions are
 pub record FitAll (g : List Production) : Type 0 where
+  -- one scope for all
   pub scope : Scope
+  -- 62 keywords at most
   pub keywordCount : scope .keywords ≤ 62
+  -- 64 outside names at most
   pub outsideCount : scope .outsides ≤ 64
+  -- each production fits it
   pub each : (p : Production) → In g p → Fit scope p
 
 -- what a terminal gives has its sort
@@ -144,6 +157,7 @@ pub result-sorted : {G : Scope} {L : List ℕ} {is : List Item} {r : Template} {
 result-sorted (by-result {L = L} {A = A} w f) = (L, A, w)
 result-sorted (by-binding i b) = result-sorted b
 
+-- a production that the tokens take is of its nonterminal
 pub taken-of : {g : List Production} {n : ℕ} {s : List Token} {p : Production} → Taken g n s p → Of g n p
 taken-of (taken-opened o k) = o
 taken-of (taken-nullable o k z) = o

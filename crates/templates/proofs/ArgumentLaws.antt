@@ -65,6 +65,7 @@ first-by : (v : List ℕ) (at : ℕ) (ts : Templates) → Some (parsed ts) → t
 first-by v at none s e = absurd s
 first-by v at (more t ts) s e = (record { template = t; others = ts; read = e }, refl)
 
+-- the first template ahead, and those behind it
 pub first-of : (v : List ℕ) (at : ℕ) (ts : Templates) → at < length v → templatesOf (drop at v) ≡ parsed ts → First v at ts
 first-of v at ts h e =
     first-by v at ts
@@ -95,6 +96,7 @@ same-after : (r : Result (List ℕ)) → after r (λ ys. return ([] ++ ys)) ≡ 
 same-after (done vs s cs) = refl
 same-after (halt r cs) = refl
 
+-- no template is built at the start
 pub listing-start : (v : List ℕ) (start : ℕ) (env : List ℕ) (k rows made : ℕ) (cells out : List ℕ) → length out ≡ 16
     → isTemplates (templatesOf (drop start v)) ≡ true
     → Listing v start env k rows made cells out cells start 0 made
@@ -113,6 +115,7 @@ listing-start v start env k rows made cells out l w =
 module _ {v : List ℕ} {start : ℕ} {env : List ℕ} {k rows made : ℕ} {cells₀ out cells : List ℕ} {at n count : ℕ}
     (c : Listing v start env k rows made cells₀ out cells at n count) where
   module _ (less : at < length v) where
+    -- a template stands ahead
     pub listing-first : First v at (c .ahead)
     listing-first = first-of v at (c .ahead) less (c .read)
 
@@ -132,16 +135,19 @@ module _ {v : List ℕ} {start : ℕ} {env : List ℕ} {k rows made : ℕ} {cell
     module _ (cells′ : List ℕ) (r : Built)
         (f : (I : Input) (s : State) (M : List ℕ) → I .rows ≡ rows → Holds env k M
         → built s r cells′ ≡ build (templateAt v at) I M (withMade s count) cells) where
+      -- no row is left: refusal 21
       pub listing-full : r ≡ Full → (I : Input) (s : State) (M : List ℕ) → I .rows ≡ rows → Holds env k M
           → buildAll (found (templatesOf (drop start v))) I M (withMade s made) cells₀ ≡ noRow s cells′
       listing-full er I s M e g =
           sym (listing-one (noRow s cells′) I s M e g (cc (f I s M e g)))
 
+      -- a template takes a byte at least
       pub listing-less : {x after′ made′ : ℕ} → r ≡ Made x after′ made′ → Behind v at r → length v - after′ < length v - at
       listing-less {x} {after′} {made′} er bh =
           let q : Behind v at (Made x after′ made′) = subst (Behind v at) er bh in
           omega (arith, q .0, q .1)
 
+      -- one template more is built
       pub listing-next : {x after′ made′ : ℕ} → length cells′ ≡ length cells → r ≡ Made x after′ made′ → Behind v at r
           → (out′ : List ℕ)
           → ((M : List ℕ) → Holds out n M → Holds out′ (n + 1) (M ++ (x ∷ [])))
@@ -163,6 +169,7 @@ module _ {v : List ℕ} {start : ℕ} {env : List ℕ} {k rows made : ℕ} {cell
                 (cc (f I s M e g));
           }
 
+  -- all templates are built
   pub listing-end : length v ≤ at → (I : Input) (s : State) (M : List ℕ) → I .rows ≡ rows → Holds env k M
       → Lists s (Listed n count) out cells (buildAll (found (templatesOf (drop start v))) I M (withMade s made) cells₀)
   unfolding buildAll templatesOf

@@ -30,6 +30,7 @@ use Rattle.templates.proofs.StackLaws.{stands-top, stands-number, stand
 
 -- ------------------------------------------------------------------ what stands in front
 
+-- a byte from 0x20 on begins a constructor
 pub node-head : {v : List ℕ} {at : ℕ} (a : Ahead v at) {b : ℕ} → b ≡ getD v at 0 → 32 ≤ b → b < 256 → Takes v at b
 node-head {v} {at} a {b} eb h small =
     let m = makes v at a eb h in
@@ -53,6 +54,7 @@ variable-head {v} {at} a eb h {env} {k} {x} f =
       record { less = q .0; inside = q .1; read = q .2 },
     )
 
+-- a byte 0x10 to 0x1f and the next one are a name
 pub name-head : {v : List ℕ} {at : ℕ} (a : Ahead v at) {b : ℕ} → b ≡ getD v at 0 → 16 ≤ b → b < 32 → {n : ℕ} → n ≡ getD v (at + 1) 0 → {x : ℕ}
     → ((I : Input) (M : List ℕ) (s : State) (cells : List ℕ) → build (nameBy (eqb b 0x10) n) I M s cells ≡ done x s cells)
     → {env : List ℕ} {k : ℕ}
@@ -65,9 +67,11 @@ name-head {v} {at} a eb low high en {x} f =
 
 -- ------------------------------------------------------------------ the arguments of a constructor, in the stack
 
+-- an argument that is given stands in the stack
 pub given-in : (stack : List ℕ) (pos : ℕ) {n i : ℕ} → i < n → getD stack (pos + i) 0 ≡ getD (take n (drop pos stack)) i 0
 given-in stack pos {n} {i} h = sym (getD-take n (drop pos stack) i 0 h ∙ getD-drop pos stack i 0)
 
+-- one that is not given counts as 0
 pub given-out : (stack : List ℕ) (pos : ℕ) {n i : ℕ} → n ≤ i → 0 ≡ getD (take n (drop pos stack)) i 0
 given-out stack pos {n} {i} h = sym (getD-past (take n (drop pos stack)) i 0 (omega (arith, length-take n (drop pos stack))))
 
@@ -77,6 +81,7 @@ spare-is (a ∷ []) = refl
 spare-is (a ∷ b ∷ []) = refl
 spare-is (a ∷ b ∷ c ∷ l) = refl
 
+-- a row is its code and three arguments
 pub cell-stored : (cells l : List ℕ) (row code : ℕ) {cells′ : List ℕ} {x y z : ℕ} → x ≡ getD l 0 0 → y ≡ getD l 1 0 → z ≡ getD l 2 0
     → cells′ ≡ sets cells (row * columns) (code ∷ x ∷ y ∷ z ∷ [])
     → cells′ ≡ withRow cells row code l
@@ -126,6 +131,7 @@ pub record Building (W : Whole) (T : Turn) : Type 0 where
   pub read : templatesOf (drop (T .at) (W .v)) ≡ parsed (join (inner .left) (lefts around (othersAt (W .v) (W .from))))
   pub rest : Same W (λ I s M. resume I M around (going I M inner (withMade s (T .made)) (T .cells)))
 
+-- the outermost constructor is open
 pub building-start : {v : List ℕ} {from code : ℕ} (t : Takes v from code) (env : List ℕ) (k rows made : ℕ) (cells stack : List ℕ) {w : ℕ}
     → length v ≤ length stack
     → w ≡ code + 256 * 0
@@ -162,6 +168,7 @@ unfolding count
 none-left none h = refl
 none-left (more t us) h = absurd (omega arith)
 
+-- the innermost one has its place in the stack
 pub building-pos : {W : Whole} {T : Turn} → Building W T → (0 < T .pos) × (T .pos ≤ T .top) × (T .top ≤ W .size)
 unfolding place
 building-pos c =
@@ -193,13 +200,14 @@ module _ {W : Whole} {T : Turn} {w code n : ℕ} (d : Looked W T w code n) where
 
   -- a template is left to it
   module _ (less : T .top - T .pos < n) where
-    next-left : (t : Template) × (us : Templates) × (c .inner .left ≡ more t us)
+    pub next-left : (t : Template) × (us : Templates) × (c .inner .left ≡ more t us)
     next-left = some-left (c .inner .left) (omega (arith, n-is, stands-top (c .stands)))
 
-    next-read : templatesOf (drop (T .at) (W .v)) ≡ parsed (more (next-left .0) (join (next-left .1) (lefts (c .around) (othersAt (W .v) (W .from)))))
+    pub next-read : templatesOf (drop (T .at) (W .v)) ≡ parsed (more (next-left .0) (join (next-left .1) (lefts (c .around) (othersAt (W .v) (W .from)))))
     unfolding join
     next-read = cc (c .read, next-left .2)
 
+    -- a template stands ahead
     abbrev pub building-ahead : Ahead (W .v) (T .at)
     building-ahead =
         record {
@@ -212,6 +220,7 @@ module _ {W : Whole} {T : Turn} {w code n : ℕ} (d : Looked W T w code n) where
     unfolding count
     one-counted = omega (arith, c .many, ap count (next-left .2))
 
+    -- the stack has room for one more
     pub building-inside : T .top < length (T .stack)
     building-inside = omega (arith, c .past, c .wide, c .stack-long, ahead-inside (W .v) (T .at) building-ahead)
 
@@ -287,6 +296,7 @@ module _ {W : Whole} {T : Turn} {w code n : ℕ} (d : Looked W T w code n) where
         let z : n ≡ T .top - T .pos = omega (arith, n-is, stands-top (c .stands)) in
         cc (stands-given (c .stands))
 
+    -- the arguments stand within the stack
     pub building-fits : T .pos + n ≤ length (T .stack)
     building-fits = omega (arith, n-is, stands-top (c .stands), c .stands .fits)
 
@@ -302,6 +312,7 @@ module _ {W : Whole} {T : Turn} {w code n : ℕ} (d : Looked W T w code n) where
     cell-by b f I s M e g =
         cc (makes-cell I M (c .inner) (withMade s (T .made)) (T .cells) inner-none, c .rest I s M e g)
 
+    -- no row is left: refusal 21
     pub building-full : W .rows ≤ T .made → Same W (λ I s M. noRow s (T .cells))
     building-full h I s M e g = sym (resume-halt I M (c .around) _ (T .cells)) ∙ cell-by false (le-ltb (T .made) (W .rows) h) I s M e g
 
@@ -338,10 +349,12 @@ module _ {W : Whole} {T : Turn} {code n out : ℕ} {cells : List ℕ} (d : Closi
     alone : b .around ≡ []
     alone = place-none (b .around) (sym out-place ∙ e0)
 
+    -- the outermost constructor is made
     pub closing-made : Same W (λ I s M. done (T .made) (withMade s (T .made + 1)) cells)
     unfolding resume
     closing-made I s M e g = cc (alone, made-is I s M e g)
 
+    -- what is behind the template is left
     pub closing-behind : (W .from < T .at) × (T .at ≤ length (W .v)) × (templatesOf (drop (T .at) (W .v)) ≡ parsed (othersAt (W .v) (W .from)))
     unfolding lefts
     closing-behind = (
@@ -354,6 +367,7 @@ module _ {W : Whole} {T : Turn} {code n out : ℕ} {cells : List ℕ} (d : Closi
   abbrev pub closed : Turn
   closed = record { cells = cells; stack = set (T .stack) (T .pos - 1) (T .made); at = T .at; made = T .made + 1; pos = out; top = T .pos }
 
+  -- an inner one is made: it is an argument of the one around it
   pub closing-next : (out ≡ 0 → ⊥) → (out < T .pos) × Building W closed
   unfolding lefts Filling place
   closing-next ne = by (b .around) refl
@@ -387,9 +401,11 @@ module _ {W : Whole} {T : Turn} {code n out : ℕ} {cells : List ℕ} (d : Closi
 
 -- ------------------------------------------------------------------ the template, by its head
 
+-- a head that is a constructor takes its arguments
 pub node-takes : {v : List ℕ} {at b : ℕ} (r : Head) → r ≡ Node b → Heads v at r → Takes v at b
 node-takes {v} {at} r e h = subst (Heads v at) e h
 
+-- a template with no argument is built at once
 pub leaf-built : (v : List ℕ) (at : ℕ) {env : List ℕ} {k x next : ℕ} (r : Head) → r ≡ Leaf x next → ((M : List ℕ) → Holds env k M → Leads v at M r)
     → Heads v at r
     → (rows made : ℕ) (cells : List ℕ)
@@ -400,5 +416,6 @@ leaf-built v at {x = x} {next = next} r e l h rows made cells =
     let q : Past v at next = subst (Heads v at) e h in
     (λ I s M ei g. sym (subst (Leads v at M) e (l M g) I (withMade s made) cells), (q .less, q .inside, q .read))
 
+-- it takes a byte at least
 pub leaf-past : {v : List ℕ} {at x next : ℕ} (r : Head) → r ≡ Leaf x next → Heads v at r → Past v at next
 leaf-past {v} {at} r e h = subst (Heads v at) e h

@@ -28,9 +28,11 @@ pub record Pending : Type 0 where
 abbrev pub fed : Pending → ℕ → Templates → Pending
 fed p x ts = record { code = p .code; given = p .given ++ (x ∷ []); left = ts }
 
+-- a constructor that waits for an argument
 abbrev pub waits : Pending → Templates → Pending
 waits p ts = record { code = p .code; given = p .given; left = ts }
 
+-- a constructor with no argument yet
 abbrev pub opened : ℕ → Templates → Pending
 opened b ts = record { code = b; given = []; left = ts }
 
@@ -47,6 +49,7 @@ resume I M (p ∷ ps) r =
     resume I M ps
     (after (after r (λ x. buildAll (p .left) I M >>= λ ys. return (x ∷ ys))) (λ ys. cell I (p .code) (p .given ++ ys)))
 
+-- a refusal stays a refusal
 pub resume-halt : (I : Input) (M : List ℕ) (ps : List Pending) (r : Refusal) (cells : List ℕ) → resume I M ps (halt r cells) ≡ halt r cells
 unfolding resume
 resume-halt I M [] r cells = refl
@@ -71,6 +74,7 @@ module _ (I : Input) (M : List ℕ) (p : Pending) (s : State) (cells : List ℕ)
   makes-cell e =
       cc (append-nil (p .given))
 
+-- building a constructor begins with no argument
 pub going-make : (I : Input) (M : List ℕ) (b : ℕ) (own : Templates) (s : State) (cells : List ℕ)
     → build (make b own) I M s cells ≡ going I M (opened b own) s cells
 unfolding build
@@ -78,6 +82,7 @@ going-make I M b own s cells = refl
 
 -- ------------------------------------------------------------------ the templates left to them
 
+-- what is left of all that are open
 unfoldable pub lefts : List Pending → Templates → Templates
 lefts [] ts = ts
 lefts (p ∷ ps) ts = join (p .left) (lefts ps ts)
@@ -103,6 +108,7 @@ took zero ts = (refl, refl)
 took (suc k) none = tt
 took (suc k) (more t ts) = also-took k t ts (takeTemplates k ts) (took k ts)
 
+-- templates taken, and those behind them
 pub took-are : {k : ℕ} {ts us vs : Templates} → takeTemplates k ts ≡ taken us vs → (count us ≡ k) × (ts ≡ join us vs)
 took-are {k} {ts} e = subst (Took k ts) e (took k ts)
 
@@ -118,11 +124,13 @@ unfoldable mutual
   place [] = 0
   place (p ∷ ps) = length (image ps) + 1
 
+-- only the outermost one has place 0
 pub place-none : (ps : List Pending) → place ps ≡ 0 → ps ≡ []
 unfolding place
 place-none [] e = refl
 place-none (p ∷ ps) e = absurd (omega arith)
 
+-- how long the stack is
 pub image-length : (p : Pending) (ps : List Pending) → length (image (p ∷ ps)) ≡ place (p ∷ ps) + length (p .given)
 unfolding image place
 image-length p ps = length-append (image ps) ((p .code + 256 * place ps) ∷ p .given) ∙ omega arith
@@ -143,6 +151,7 @@ pub record Stands (stack : List ℕ) (pos top : ℕ) (p : Pending) (ps : List Pe
   pub pos-is : pos ≡ place (p ∷ ps)
 
 module _ {stack : List ℕ} {pos top : ℕ} {p : Pending} {ps : List Pending} (h : Stands stack pos top p ps) where
+  -- the top is behind the arguments given
   pub stands-top : top ≡ pos + length (p .given)
   stands-top =
       cc (length-take-le top stack (h .fits), h .held, image-length p ps, h .pos-is)
@@ -160,6 +169,7 @@ module _ {stack : List ℕ} {pos top : ℕ} {p : Pending} {ps : List Pending} (h
       ∙ ap (take (pos - 1)) (h .held)
       ∙ take-at (image ps) ((p .code + 256 * place ps) ∷ p .given) (pos - 1) e
 
+  -- the number in front of them
   pub stands-number : getD stack (pos - 1) 0 ≡ p .code + 256 * place ps
   unfolding image
   stands-number =
@@ -170,6 +180,7 @@ module _ {stack : List ℕ} {pos top : ℕ} {p : Pending} {ps : List Pending} (h
         getD-at (image ps) (p .code + 256 * place ps) (p .given) 0 (pos - 1) e,
       )
 
+  -- the arguments given
   pub stands-given : take (top - pos) (drop pos stack) ≡ p .given
   unfolding image
   stands-given =
@@ -191,6 +202,7 @@ module _ {stack : List ℕ} {pos top : ℕ} {p : Pending} {ps : List Pending} (h
     one-more x =
         cc (add-one top, take-suc-set stack top x less, h .held)
 
+    -- one argument more
     pub stands-fed : (x : ℕ) (ts : Templates) → Stands (set stack top x) pos (top + 1) (fed p x ts) ps
     unfolding place
     stands-fed x ts =
@@ -200,6 +212,7 @@ module _ {stack : List ℕ} {pos top : ℕ} {p : Pending} {ps : List Pending} (h
           pos-is = h .pos-is;
         }
 
+    -- one constructor more
     pub stands-opened : {w b : ℕ} → w ≡ b + 256 * pos → (us ts : Templates)
         → Stands (set stack top w) (top + 1) (top + 1) (opened b ts) (waits p us ∷ ps)
     unfolding place image

@@ -57,12 +57,15 @@ no-name : (b : ℕ) → (b ≡ 0x10 → ⊥) → (b ≡ 0x11 → ⊥) → isName
 no-name b e f = rw (ne-eqb b 0x10 e, ne-eqb b 0x11 f) refl
 
 module _ (v : List ℕ) (at : ℕ) (a : Ahead v at) where
+  -- the template ahead
   pub template-is : templateAt v at ≡ a .template
   template-is = cc (a .read)
 
+  -- those behind it
   pub others-are : othersAt v at ≡ a .others
   others-are = cc (a .read)
 
+  -- it begins within the bytes
   pub ahead-inside : at < length v
   unfolding templatesOf
   ahead-inside = by (decLt at (length v))
@@ -89,12 +92,15 @@ module _ (v : List ℕ) (at : ℕ) (a : Ahead v at) where
         ∙ variable-first b (templatesOf (drop (at + 1) v)) (lt-ltb b 16 h))
         ∙ first-byte)
 
+    -- a byte below 0x10 is a variable
     pub at-variable : b < 16 → templateAt v at ≡ variable b
     at-variable h = template-is ∙ variable-read h .0
 
+    -- behind it, one byte on
     pub behind-variable : b < 16 → (x made : ℕ) → Behind v at (Made x (at + 1) made)
     behind-variable h x made = (omega arith, omega (arith, ahead-inside), variable-read h .1 ∙ ap parsed (sym others-are))
 
+    -- a variable is built as its value
     pub variable-built : b < 16 → (env : List ℕ) (k x : ℕ) → ((M : List ℕ) → Holds env k M → x ≡ getD M b 0)
         → (rows made : ℕ) (cells : List ℕ) (I : Input) (s : State) (M : List ℕ) → I .rows ≡ rows → Holds env k M
         → done x (withMade s made) cells ≡ build (templateAt v at) I M (withMade s made) cells
@@ -153,9 +159,11 @@ module _ (v : List ℕ) (at : ℕ) (a : Ahead v at) where
             front-read (nameBy (eqb b 0x10) n) (templatesOf (drop (at + 2) v)) (a .template) (a .others)
             (sym (name-first b n (drop (at + 2) v) (name-tag (n ∷ drop (at + 2) v) second-byte)) ∙ second-byte)
 
+        -- a name is read with its number
         pub at-name : templateAt v at ≡ nameBy (eqb b 0x10) n
         at-name = template-is ∙ name-read .0
 
+        -- behind it, two bytes on
         pub behind-name : (x made : ℕ) → Behind v at (Made x (at + 2) made)
         behind-name x made = (omega arith, omega (arith, name-inside), name-read .1 ∙ ap parsed (sym others-are))
 
@@ -163,11 +171,13 @@ module _ (v : List ℕ) (at : ℕ) (a : Ahead v at) where
 
 -- values that are given, and those of the templates ahead, handed on together
 module _ {B : Type 0} (K : List ℕ → Run B) (given : List ℕ) where
+  -- values in front of others, grouped in another way
   pub regroup : (x : ℕ) (R : Result (List ℕ))
       → after R (λ ys. K ((given ++ (x ∷ [])) ++ ys)) ≡ after (after R (λ ys. return (x ∷ ys))) (λ ys. K (given ++ ys))
   regroup x (done ys s cs) = cc (append-assoc given (x ∷ []) ys)
   regroup x (halt r cs) = refl
 
+  -- a template is built, and then the others
   pub first-built : (I : Input) (M : List ℕ) (t : Template) (ts : Templates) (R : Result ℕ) (s : State) (cells : List ℕ)
       → R ≡ build t I M s cells
       → after (after R (λ x. buildAll ts I M >>= λ ys. return (x ∷ ys))) (λ ys. K (given ++ ys))

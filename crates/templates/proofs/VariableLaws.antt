@@ -21,9 +21,11 @@ use Rattle.templates.specs.Built.{rowsIn, RoomsFit, Holds}
 -- ------------------------------------------------------------------ variables
 
 module _ (env M : List ℕ) (k : ℕ) (h : Holds env k M) where
+  -- a variable that is bound has its value
   pub picked : (i : ℕ) → i < 16 → i < k → getD env i 0 ≡ getD M i 0
   picked i small less = h .same i small less
 
+  -- one that is not counts as 0
   pub not-picked : (i : ℕ) → k ≤ i → 0 ≡ getD M i 0
   not-picked i l = sym (getD-past M i 0 (omega (arith, h .count)))
 
@@ -34,6 +36,7 @@ module _ (env M : List ℕ) (k : ℕ) (h : Holds env k M) where
   older : (v i : ℕ) → i < k → getD (M ++ (v ∷ [])) i 0 ≡ getD M i 0
   older v i l = List·getD-append M (v ∷ []) 0 i (omega (arith, h .count))
 
+  -- from the seventeenth on, no value is kept
   pub put-outside : (v : ℕ) → 16 ≤ k → Holds env (k + 1) (M ++ (v ∷ []))
   put-outside v l =
       record {
@@ -42,6 +45,7 @@ module _ (env M : List ℕ) (k : ℕ) (h : Holds env k M) where
         same = λ i small less. h .same i small (omega arith) ∙ sym (older v i (omega arith));
       }
 
+  -- a value is kept at its place
   pub put-inside : (v : ℕ) → k < 16 → Holds (set env k v) (k + 1) (M ++ (v ∷ []))
   put-inside v l =
       record {
@@ -70,9 +74,11 @@ module _ (tag n : ℕ) (I : Input) (M : List ℕ) (s : State) (cells : List ℕ)
       → build (nameBy (eqb tag 0x10) n) I M s cells ≡ done (elim b [ true ↦ outsideName n | false ↦ n ]) s cells
   name-is b e = cc (name-by b n I M s cells)
 
+  -- a name after 0x10 is an outside name
   pub name-var : tag ≡ 0x10 → build (nameBy (eqb tag 0x10) n) I M s cells ≡ done (outsideName n) s cells
   name-var e = name-is true (eq-eqb tag 0x10 e)
 
+  -- after any other it is a label
   pub name-label : (tag ≡ 0x10 → ⊥) → build (nameBy (eqb tag 0x10) n) I M s cells ≡ done n s cells
   name-label e = name-is false (ne-eqb tag 0x10 e)
 

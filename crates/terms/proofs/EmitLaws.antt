@@ -16,9 +16,11 @@ abbrev pub leaves : Answer → List ℕ → Emitted
 leaves r text = record { answer = r; text = text }
 
 module _ (made constructors : ℕ) (out text : List ℕ) where
+  -- a text that does not fit is refused: 24
   pub fitted-long : length text < length out → fitted made constructors out text ≡ leaves (Refusing (refusal 24 (length out) 0 0)) text
   fitted-long h = rw (lt-leb (length out) (length text) h, fitted) refl
 
+  -- one that fits is written in front
   pub fitted-whole : length out ≤ length text
       → fitted made constructors out text ≡ leaves (Accepted made constructors (length out)) (out ++ drop (length out) text)
   fitted-whole h = rw (le-leb (length out) (length text) h, fitted) refl

@@ -97,6 +97,7 @@ returns-3 c =
     let p = after-layout built in
     laws.into-firsts (bs p) (bytes p) (laid p) (sorted (after-sorts built)) (built .build-index .ensures) (c .check-firsts .ensures)
 
+-- the function meets its contract
 pub check-into-spec : {M : Type 1} → statement M
 check-into-spec =
     tie.close

@@ -16,5 +16,6 @@ returns c =
     let bytes : Bytes (entry .args .table .now) = λ i. omega (arith, p .shared-slice-known .given i) in
     (c .check-into .ensures .answer, verdict-exactly _ bytes (c .check-into .ensures .answer))
 
+-- the function meets its contract
 pub check-table-spec : {M : Type 1} → statement M
 check-table-spec = tie.close (tie.spec check-into-requires returns)

@@ -70,6 +70,7 @@ loop-again c = search (laws.passing-next, stands (c .before))
 returns-4 : tie.Need-returns-4 Inv-loop μ-loop
 returns-4 c = laws.passing-out (c .before .loop .inv) Nothing (sym (laws.front-nothing _ _ (c .loop-test .left))) tt
 
+-- the function meets its contract
 pub after-leading-spec : {M : Type 1} → statement M
 after-leading-spec =
     tie.close

@@ -92,6 +92,7 @@ loop-again c =
 returns-5 : tie.Need-returns-5 Inv-loop μ-loop
 returns-5 c = search laws.searching-end
 
+-- the function meets its contract
 pub find-leading-spec : {M : Type 1} → statement M
 find-leading-spec =
     tie.close

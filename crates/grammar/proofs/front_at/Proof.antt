@@ -63,6 +63,7 @@ returns-4 c =
     let s = r .before .before in
     sym (laws.front-is _ _ (s .before .if1 .left) (s .if2 .left) (r .wide .ensures) (q .wide2 .ensures) (p .if3 .left))
 
+-- the function meets its contract
 pub front-at-spec : {M : Type 1} → statement M
 front-at-spec =
     tie.close

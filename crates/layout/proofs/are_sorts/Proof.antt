@@ -36,6 +36,7 @@ loop-again c = search laws.sorts-next
 returns-2 : tie.Need-returns-2 Inv-loop μ-loop
 returns-2 c = search laws.sorts-end
 
+-- the function meets its contract
 pub are-sorts-spec : {M : Type 1} → statement M
 are-sorts-spec =
     tie.close

@@ -1,5 +1,5 @@
 -- `are_templates`: what is left makes up for the templates due.
-use Prim.Native.Nat.{_+_, _-_, _<_, _≤_}
+use Prim.Native.Nat.{ℕ, _+_, _-_, _<_, _≤_}
 use native.Mathlib.Omega.{arith}
 use lib.ListN.{length}
 use Rattle.layout.proofs.LawsTemplates as laws
@@ -13,25 +13,25 @@ Inv-loop v from single due₀ i₀ due i = laws.Due v from single due i
 abbrev μ-loop : tie.MeasureT-loop
 μ-loop v from single due₀ i₀ due i = length v - i
 
-abbrev start : tie.At-loop Inv-loop μ-loop → tie.Start Inv-loop μ-loop
-start p = p .before .before .before
-
 -- a whole template's first bytes stand here
-room : (c : tie.Else1 Inv-loop μ-loop)
-    → (0 < c .before .head-size .result)
-    × (c .before .head-size .result ≤ length (start (c .before .before .before .before) .args .v .now) - c .before .before .before .before .loop .i)
-room c =
-    laws.due-room (c .before .before .before .before .loop .inv) (c .before .before .before .loop-test .taken) (c .before .head-size .ensures)
-    (c .if1 .left)
+module _ (c : tie.Else1 Inv-loop μ-loop) where
+  abbrev turn : tie.At-loop Inv-loop μ-loop
+  turn = c .before .before .before .before
 
-next : (c : tie.After-argument-count Inv-loop μ-loop)
-    → let a = start (c .before .before .before .before .before .before) .args in
-    laws.Due (a .v .now) (a .from) (a .single) (c .before .less-one .result + c .argument-count .result)
-    (c .before .before .before .before .before .before .loop .i + c .before .before .before .head-size .result)
-next c =
-    laws.due-next (c .before .before .before .before .before .before .loop .inv) (c .before .before .before .before .before .loop-test .taken)
-    (c .before .before .before .head-size .ensures) (c .before .before .if1 .left)
-    (c .before .less-one .ensures) (c .argument-count .ensures)
+  abbrev start : tie.Start Inv-loop μ-loop
+  start = turn .before .before .before
+
+  abbrev size : ℕ
+  size = c .before .head-size .result
+
+  room : (0 < size) × (size ≤ length (start .args .v .now) - turn .loop .i)
+  room = laws.due-room (turn .loop .inv) (c .before .before .before .loop-test .taken) (c .before .head-size .ensures) (c .if1 .left)
+
+next :
+    (c : tie.After-argument-count Inv-loop μ-loop)
+    → let p = c .before .before in let a = start p .args in
+    laws.Due (a .v .now) (a .from) (a .single) (c .before .less-one .result + c .argument-count .result) (turn p .loop .i + size p)
+next c = search laws.due-next
 
 one-if-requires : tie.Need-one-if-requires Inv-loop μ-loop
 one-if-requires c κs = search needs
@@ -75,6 +75,7 @@ loop-again c = next c
 returns-2 : tie.Need-returns-2 Inv-loop μ-loop
 returns-2 c = search laws.due-end
 
+-- the function meets its contract
 pub are-templates-spec : {M : Type 1} → statement M
 are-templates-spec =
     tie.close

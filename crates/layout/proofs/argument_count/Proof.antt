@@ -14,5 +14,6 @@ returns c = search laws.arguments-constructor
 returns-2 : tie.Need-returns-2
 returns-2 c = sym (laws.arguments-other _ (c .if1 .left))
 
+-- the function meets its contract
 pub argument-count-spec : {M : Type 1} → statement M
 argument-count-spec = tie.close (tie.spec arity-of-requires returns returns-2)

@@ -14,5 +14,6 @@ refused-requires c κs = search needs
 returns-2 : tie.Need-returns-2
 returns-2 c = search laws.end-other
 
+-- the function meets its contract
 pub check-end-spec : {M : Type 1} → statement M
 check-end-spec = tie.close (tie.spec returns refused-requires returns-2)

@@ -86,9 +86,11 @@ stopped-requires-4 : tie.Need-stopped-requires-4
 stopped-requires-4 c κs = search needs
 
 returns-4 : tie.Need-returns-4
-returns-4 c = cc (ap checking (laws.field-by _ _ _ _ _ true true true false _ (known (second (third (c .before .before .before))))
-    (ordered (third (c .before .before .before))) (spelled (c .before .before .before))
-    (laws.fails (c .before .before .has-room .ensures) (c .before .if4 .taken)) refl))
+returns-4 c =
+    let q = c .before .before in
+    let p = q .before in
+    cc (ap checking (laws.field-by _ _ _ _ _ true true true false _ (known (second (third p))) (ordered (third p)) (spelled p)
+    (laws.fails (q .has-room .ensures) (c .before .if4 .taken)) refl))
 
 is-whole-requires : tie.Need-is-whole-requires
 is-whole-requires c κs = search needs
@@ -97,9 +99,11 @@ stopped-requires-5 : tie.Need-stopped-requires-5
 stopped-requires-5 c κs = search needs
 
 returns-5 : tie.Need-returns-5
-returns-5 c = cc (ap checking (laws.field-by _ _ _ _ _ true true true true false (known (second (third (fourth (c .before .before .before)))))
-    (ordered (third (fourth (c .before .before .before)))) (spelled (fourth (c .before .before .before))) (room (c .before .before .before))
-    (laws.fails (c .before .before .is-whole .ensures) (c .before .if5 .taken))))
+returns-5 c =
+    let q = c .before .before in
+    let p = q .before in
+    cc (ap checking (laws.field-by _ _ _ _ _ true true true true false (known (second (third (fourth p)))) (ordered (third (fourth p)))
+    (spelled (fourth p)) (room p) (laws.fails (q .is-whole .ensures) (c .before .if5 .taken))))
 
 further-requires : tie.Need-further-requires
 further-requires c κs = room (c .before .before)
@@ -113,6 +117,7 @@ returns-6 c =
     ∙ sym (ap checking (laws.field-by _ _ _ _ _ true true true true true (known (second (third (fourth p)))) (ordered (third (fourth p))) (spelled (fourth p))
     (room p) (laws.passes (r .is-whole .ensures) (q .if5 .left))))
 
+-- the function meets its contract
 pub check-field-spec : {M : Type 1} → statement M
 check-field-spec =
     tie.close

@@ -174,6 +174,7 @@ loop-again c =
       remembered-next (turn p .loop .inv .0) (turn p .loop .inv .1) (stands p) (further q) (r .enter .ensures) (c .enter2 .ensures),
     )
 
+-- the function meets its contract
 pub check-layout-spec : {M : Type 1} → statement M
 check-layout-spec =
     tie.close

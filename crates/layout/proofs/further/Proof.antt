@@ -75,6 +75,7 @@ returns c =
       items = c .items-after .ensures i;
     }
 
+-- the function meets its contract
 pub further-spec : {M : Type 1} → statement M
 further-spec =
     tie.close

@@ -8,5 +8,6 @@ returns : tie.Need-returns
 unfolding hasRoom
 returns c = refl
 
+-- the function meets its contract
 pub has-room-spec : {M : Type 1} → statement M
 has-room-spec = tie.close (tie.spec returns)

@@ -13,5 +13,6 @@ returns-2 c = search laws.head-byte
 returns-3 : tie.Need-returns-3
 returns-3 c = search laws.head-unknown
 
+-- the function meets its contract
 pub head-size-spec : {M : Type 1} → statement M
 head-size-spec = tie.close (tie.spec returns returns-2 returns-3)

@@ -23,6 +23,7 @@ are-sorts-requires c κs = search needs
 returns-2 : tie.Need-returns-2
 returns-2 c = cc (laws.head-by _ (c .before .before .before .byte .ensures) (c .before .before .byte2 .ensures) true (not-false _ (c .before .if1 .left)))
 
+-- the function meets its contract
 pub is-head-spec : {M : Type 1} → statement M
 is-head-spec =
     tie.close (tie.spec byte-requires byte-requires-2 returns are-sorts-requires returns-2)

@@ -18,5 +18,6 @@ returns : tie.Need-returns
 unfolding isItem
 returns c = cc
 
+-- the function meets its contract
 pub is-item-spec : {M : Type 1} → statement M
 is-item-spec = tie.close (tie.spec byte-requires byte-requires-2 is-ide-code-requires returns)

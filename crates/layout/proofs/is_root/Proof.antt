@@ -11,5 +11,6 @@ returns : tie.Need-returns
 unfolding isRoot
 returns c = cc
 
+-- the function meets its contract
 pub is-root-spec : {M : Type 1} → statement M
 is-root-spec = tie.close (tie.spec byte-requires returns)

@@ -34,6 +34,7 @@ returns-2 c =
 returns-3 : tie.Need-returns-3
 returns-3 c = search laws.spelled-other
 
+-- the function meets its contract
 pub is-spelled-spec : {M : Type 1} → statement M
 is-spelled-spec =
     tie.close

@@ -27,6 +27,7 @@ returns-2 c = search laws.whole-result
 returns-3 : tie.Need-returns-3
 returns-3 c = search laws.whole-other
 
+-- the function meets its contract
 pub is-whole-spec : {M : Type 1} → statement M
 is-whole-spec =
     tie.close

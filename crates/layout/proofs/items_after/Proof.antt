@@ -22,5 +22,6 @@ add-result c =
 returns-2 : tie.Need-returns-2
 returns-2 c = cc (laws.items-more _ _ (c .before .before .if1 .left))
 
+-- the function meets its contract
 pub items-after-spec : {M : Type 1} → statement M
 items-after-spec = tie.close (tie.spec returns one-if-requires add-result returns-2)

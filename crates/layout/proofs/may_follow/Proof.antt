@@ -8,5 +8,6 @@ returns : tie.Need-returns
 unfolding follows
 returns c = refl
 
+-- the function meets its contract
 pub may-follow-spec : {M : Type 1} → statement M
 may-follow-spec = tie.close (tie.spec returns)

@@ -23,6 +23,7 @@ returns c = search needs
 returns-2 : tie.Need-returns-2
 returns-2 c = search getD-past
 
+-- the function meets its contract
 pub column-spec : {M : Type 1} → statement M
 column-spec =
     tie.close (tie.spec mul-i add-i mul-result shared-slice-read-result returns returns-2)

@@ -94,6 +94,7 @@ returns-5 c = search laws.step-root
 returns-6 : tie.Need-returns-6
 returns-6 c = search laws.step-counts
 
+-- the function meets its contract
 pub check-field-spec : {M : Type 1} → statement M
 check-field-spec =
     tie.close

@@ -159,6 +159,7 @@ loop-again c =
     laws.sorting-next (turn (field p) .loop .inv) (stands (field p)) (value (field p)) (p .check-field .ensures) (q .step2 .given .1)
     (p .check-field .kept .0) (p .check-field .kept .1 .0) (p .check-field .kept .1 .1 .0)
 
+-- the function meets its contract
 pub check-fields-spec : {M : Type 1} → statement M
 check-fields-spec =
     tie.close

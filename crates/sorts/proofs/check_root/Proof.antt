@@ -31,6 +31,7 @@ returns-3 c =
     let r = q .before in
     laws.root-tested _ _ _ (r .before .head-of .ensures) (r .if1 .left) (q .signature-at .ensures) (p .byte .ensures) false (c .if2 .left)
 
+-- the function meets its contract
 pub check-root-spec : {M : Type 1} → statement M
 check-root-spec =
     tie.close

@@ -19,6 +19,7 @@ check-large-requires c κs = search needs
 returns-3 : tie.Need-returns-3
 returns-3 c = search needs
 
+-- the function meets its contract
 pub check-sorts-spec : {M : Type 1} → statement M
 check-sorts-spec =
     tie.close (tie.spec returns check-small-requires returns-2 check-large-requires returns-3)

@@ -41,6 +41,7 @@ same-length-4 c = search needs
 returns-2 : tie.Need-returns-2
 returns-2 c = search laws.item-added
 
+-- the function meets its contract
 pub check-variable-spec : {M : Type 1} → statement M
 check-variable-spec =
     tie.close

@@ -22,5 +22,6 @@ returns-3 c = laws.count-head _ _ _ (c .match .keys3)
 returns-4 : tie.Need-returns-4
 returns-4 c = laws.count-other _ _ _ (c .match .rest)
 
+-- the function meets its contract
 pub count-spec : {M : Type 1} → statement M
 count-spec = tie.close (tie.spec add-t9 add-t10 returns returns-2 returns-3 returns-4)

@@ -15,5 +15,6 @@ returns c = cc
 returns-2 : tie.Need-returns-2
 returns-2 c = cc
 
+-- the function meets its contract
 pub step-of-spec : {M : Type 1} → statement M
 step-of-spec = tie.close (tie.spec enum-told enum-known-v returns returns-2)

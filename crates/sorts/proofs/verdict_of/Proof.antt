@@ -13,5 +13,6 @@ refused-requires c κs = search needs
 returns-2 : tie.Need-returns-2
 returns-2 c = cc (laws.verdict-some _ _ (c .before .if1 .left))
 
+-- the function meets its contract
 pub verdict-of-spec : {M : Type 1} → statement M
 verdict-of-spec = tie.close (tie.spec returns refused-requires returns-2)

@@ -34,6 +34,7 @@ same-length-2 c = search needs
 returns-2 : tie.Need-returns-2
 returns-2 c = search needs
 
+-- the function meets its contract
 pub build-spec : {M : Type 1} → statement M
 build-spec =
     tie.close

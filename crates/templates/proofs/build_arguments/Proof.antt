@@ -28,7 +28,7 @@ module _ (p : tie.After-put Inv-loop μ-loop) where
   turn = built .before .before .before
 
 loop-holds : tie.Need-loop-holds Inv-loop μ-loop
-loop-holds c = search (laws.listing-start, replicate)
+loop-holds c = search laws.listing-start
 
 build-requires : tie.Need-build-requires Inv-loop μ-loop
 build-requires c κs =
@@ -86,6 +86,7 @@ same-length-4 c = search needs
 returns-2 : tie.Need-returns-2 Inv-loop μ-loop
 returns-2 c = search laws.listing-end
 
+-- the function meets its contract
 pub build-arguments-spec : {M : Type 1} → statement M
 build-arguments-spec =
     tie.close

@@ -239,6 +239,7 @@ loop-less-3 c = omega (arith, laws.closing-next (closing (c .before)) (c .if3 .l
 loop-again-3 : tie.Need-loop-again-3 Inv-loop μ-loop
 loop-again-3 c = laws.closing-next (closing (c .before)) (c .if3 .left) .1
 
+-- the function meets its contract
 pub build-node-spec : {M : Type 1} → statement M
 build-node-spec =
     tie.close

@@ -19,6 +19,7 @@ returns c = search laws.given-in
 returns-2 : tie.Need-returns-2
 returns-2 c = search laws.given-out
 
+-- the function meets its contract
 pub given-at-spec : {M : Type 1} → statement M
 given-at-spec =
     tie.close (tie.spec add-result mul-result shared-slice-read-result returns returns-2)

@@ -67,6 +67,7 @@ returns-2 c =
 returns-3 : tie.Need-returns-3
 returns-3 c = search laws.node-head
 
+-- the function meets its contract
 pub head-at-spec : {M : Type 1} → statement M
 head-at-spec =
     tie.close

@@ -13,5 +13,6 @@ returns c = search laws.name-var
 returns-2 : tie.Need-returns-2
 returns-2 c = search laws.name-label
 
+-- the function meets its contract
 pub name-value-spec : {M : Type 1} → statement M
 name-value-spec = tie.close (tie.spec add-result returns returns-2)

@@ -16,5 +16,6 @@ returns c = search laws.picked
 returns-2 : tie.Need-returns-2
 returns-2 c = search laws.not-picked
 
+-- the function meets its contract
 pub pick-spec : {M : Type 1} → statement M
 pick-spec = tie.close (tie.spec mul-result element-copy-out-result returns returns-2)

@@ -16,5 +16,6 @@ returns c = search laws.put-inside
 returns-2 : tie.Need-returns-2
 returns-2 c = search laws.put-outside
 
+-- the function meets its contract
 pub put-spec : {M : Type 1} → statement M
 put-spec = tie.close (tie.spec mul-env element-write-env returns returns-2)

@@ -22,6 +22,7 @@ same-length c = search needs
 returns : tie.Need-returns
 returns c = search laws.cell-stored
 
+-- the function meets its contract
 pub store-cell-spec : {M : Type 1} → statement M
 store-cell-spec =
     tie.close

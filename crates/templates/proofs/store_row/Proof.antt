@@ -59,6 +59,7 @@ same-length c = search needs
 returns : tie.Need-returns
 returns c = search laws.row-stored
 
+-- the function meets its contract
 pub store-row-spec : {M : Type 1} → statement M
 store-row-spec =
     tie.close

@@ -22,6 +22,7 @@ returns-2 c = laws.arity-at _
 returns-3 : tie.Need-returns-3
 returns-3 c = laws.arity-high _ (c .if2 .left)
 
+-- the function meets its contract
 pub arity-of-spec : {M : Type 1} → statement M
 arity-of-spec =
     tie.close (tie.spec returns cast-k mul-result array-read-result returns-2 returns-3)

@@ -13,5 +13,6 @@ returns c = search needs
 returns-2 : tie.Need-returns-2
 returns-2 c = search getD-past
 
+-- the function meets its contract
 pub byte-spec : {M : Type 1} → statement M
 byte-spec = tie.close (tie.spec shared-slice-read-result returns returns-2)

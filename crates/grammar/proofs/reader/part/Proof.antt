@@ -40,6 +40,7 @@ part-result-end-2 c = search needs
 returns-3 : tie.Need-returns-3
 returns-3 c = search laws.part-within
 
+-- the function meets its contract
 pub part-spec : {M : Type 1} → statement M
 part-spec =
     tie.close

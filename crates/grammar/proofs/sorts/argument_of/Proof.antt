@@ -27,6 +27,7 @@ returns-3 c = cc (laws.argument-is _ (c .before .match .keys3) (c .by-code3 .ens
 returns-4 : tie.Need-returns-4
 returns-4 c = laws.arguments-end _ _ (omega (arith, c .match .rest .1, c .match .rest .0 .1, c .match .rest .0 .0 .1))
 
+-- the function meets its contract
 pub argument-of-spec : {M : Type 1} → statement M
 argument-of-spec =
     tie.close

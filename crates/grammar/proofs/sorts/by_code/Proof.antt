@@ -22,6 +22,7 @@ returns-2 c = search needs
 returns-3 : tie.Need-returns-3
 returns-3 c = search laws.code-high
 
+-- the function meets its contract
 pub by-code-spec : {M : Type 1} → statement M
 by-code-spec =
     tie.close (tie.spec array-read-result returns cast-k array-read-result-2 returns-2 returns-3)

@@ -11,5 +11,6 @@ by-code-requires c κs = search needs
 returns : tie.Need-returns
 returns c = c .by-code .ensures ∙ laws.results _
 
+-- the function meets its contract
 pub result-of-spec : {M : Type 1} → statement M
 result-of-spec = tie.close (tie.spec by-code-requires returns)

@@ -90,6 +90,7 @@ element-write-room-5 c = search needs
 returns-2 : tie.Need-returns-2
 returns-2 c = search (laws.entered-some, not-false)
 
+-- the function meets its contract
 pub enter-spec : {M : Type 1} → statement M
 enter-spec =
     tie.close

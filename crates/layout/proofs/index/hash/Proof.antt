@@ -40,6 +40,7 @@ loop-again c = search laws.hashing-next
 returns : tie.Need-returns Inv-loop μ-loop
 returns c = search laws.hashing-end
 
+-- the function meets its contract
 pub hash-spec : {M : Type 1} → statement M
 hash-spec =
     tie.close

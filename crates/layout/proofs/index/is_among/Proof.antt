@@ -96,6 +96,7 @@ loop-again c =
 returns-2 : tie.Need-returns-2 Inv-loop μ-loop
 returns-2 c = λ words x. laws.searching-end (c .before .loop .inv .search words x) (c .loop-test .left)
 
+-- the function meets its contract
 pub is-among-spec : {M : Type 1} → statement M
 is-among-spec =
     tie.close

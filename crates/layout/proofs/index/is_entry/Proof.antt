@@ -63,6 +63,7 @@ returns-2 c =
     λ w p e f. c .equal .ensures
     ∙ laws.entry-same _ e (r .before .before .wide2 .ensures) (r .wide3 .ensures) (q .part .ensures)
 
+-- the function meets its contract
 pub is-entry-spec : {M : Type 1} → statement M
 is-entry-spec =
     tie.close

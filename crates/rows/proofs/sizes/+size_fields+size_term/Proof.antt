@@ -139,6 +139,7 @@ size-term-returns-6 t c = search laws.dot-left
 size-term-returns-7 : (t : ℕ) → size-term-lts.Need-returns-7 (claims t) (size-term-at t) size-term.Post
 size-term-returns-7 t c = search laws.bare-left
 
+-- the functions meet their contracts
 pub +size-fields+size-term-spec : {M : Type 1} → statement M
 +size-fields+size-term-spec = close μ-size-fields μ-size-term (λ t. size-fields-lts.spec (claims t)
     (size-fields-at t)

@@ -19,5 +19,6 @@ returns c = search laws.sort-added
 returns-2 : tie.Need-returns-2
 returns-2 c = search laws.sort-left
 
+-- the function meets its contract
 pub add-sort-spec : {M : Type 1} → statement M
 add-sort-spec = tie.close (tie.spec slice-write-sorts add-result same-length returns returns-2)

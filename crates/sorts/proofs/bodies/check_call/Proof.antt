@@ -81,6 +81,7 @@ same-length-2 c = search needs
 returns-3 : tie.Need-returns-3
 returns-3 c = search (laws.call-fit, fault (tested (c .before .before)))
 
+-- the function meets its contract
 pub check-call-spec : {M : Type 1} → statement M
 check-call-spec =
     tie.close

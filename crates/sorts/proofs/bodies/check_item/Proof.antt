@@ -54,6 +54,7 @@ returns-5 c = cc (laws.item-call _ _ _ (called c .before .before .byte .ensures)
 returns-6 : tie.Need-returns-6
 returns-6 c = search laws.item-other
 
+-- the function meets its contract
 pub check-item-spec : {M : Type 1} → statement M
 check-item-spec =
     tie.close

@@ -38,6 +38,7 @@ returns c =
     laws.result-is (a .table .now) (a .known) [] (a .sorts .now) (a .v .now) (a .stack .now) (p .before .signature-at .ensures) (p .byte .ensures)
     (omega (arith, start p .pre)) (cc (q .fault-in .ensures, r .part .ensures))
 
+-- the function meets its contract
 pub check-result-spec : {M : Type 1} → statement M
 check-result-spec =
     tie.close

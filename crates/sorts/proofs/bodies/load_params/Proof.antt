@@ -37,6 +37,7 @@ same-length c = search needs
 returns : tie.Need-returns Inv-loop μ-loop
 returns c = search laws.copying-end
 
+-- the function meets its contract
 pub load-params-spec : {M : Type 1} → statement M
 load-params-spec =
     tie.close

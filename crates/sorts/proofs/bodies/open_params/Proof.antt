@@ -41,6 +41,7 @@ same-length c = search needs
 returns-2 : tie.Need-returns-2 Inv-loop μ-loop
 returns-2 c = search laws.loading-end
 
+-- the function meets its contract
 pub open-params-spec : {M : Type 1} → statement M
 open-params-spec =
     tie.close

@@ -94,6 +94,7 @@ loop-less c = omega (arith, inside (field (defined (c .before))))
 loop-again : tie.Need-loop-again Inv-loop μ-loop
 loop-again c = search (laws.collecting-next, stands (field (defined (c .before))))
 
+-- the function meets its contract
 pub collect-spec : {M : Type 1} → statement M
 collect-spec =
     tie.close

@@ -47,6 +47,7 @@ same-length-3 c = search needs
 returns-4 : tie.Need-returns-4
 returns-4 c = search (laws.head-left, c .before .wide .ensures ∙ c .before .before .byte .ensures)
 
+-- the function meets its contract
 pub define-spec : {M : Type 1} → statement M
 define-spec =
     tie.close

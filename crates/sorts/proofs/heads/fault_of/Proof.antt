@@ -64,6 +64,7 @@ returns-4 c =
     let r = q .before in
     laws.fault-new _ _ _ _ (r .before .byte .ensures) (r .byte2 .ensures) (q .head-of .ensures) (p .if1 .left) false (ne-eqb _ 0 (c .if3 .left))
 
+-- the function meets its contract
 pub fault-of-spec : {M : Type 1} → statement M
 fault-of-spec =
     tie.close

@@ -26,6 +26,7 @@ returns-2 c =
     let p = c .before in
     sym (getD-past (p .before .before .args .heads .now) _ 0 (omega (arith, p .wide .ensures, c .if1 .left)))
 
+-- the function meets its contract
 pub head-of-spec : {M : Type 1} → statement M
 head-of-spec =
     tie.close

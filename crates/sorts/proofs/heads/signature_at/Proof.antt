@@ -75,6 +75,7 @@ part-requires-4 c κs = search needs
 returns-4 : tie.Need-returns-4
 returns-4 c = cc (laws.signature-most _ _ (high (c .before .before .before)) (low (c .before .before .before)) (c .before .if3 .left))
 
+-- the function meets its contract
 pub signature-at-spec : {M : Type 1} → statement M
 signature-at-spec =
     tie.close

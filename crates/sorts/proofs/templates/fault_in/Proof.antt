@@ -66,6 +66,7 @@ same-length-3 c = search needs
 returns-3 : tie.Need-returns-3 Inv-loop μ-loop
 returns-3 c = search laws.testing-unfilled
 
+-- the function meets its contract
 pub fault-in-spec : {M : Type 1} → statement M
 fault-in-spec =
     tie.close

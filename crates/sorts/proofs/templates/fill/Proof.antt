@@ -47,6 +47,7 @@ same-length c = search needs
 returns-4 : tie.Need-returns-4
 returns-4 c = search (laws.fill-fits, sym (fitted c .before .fits2 .ensures) ∙ not-false _ (fitted c .if3 .left))
 
+-- the function meets its contract
 pub fill-spec : {M : Type 1} → statement M
 fill-spec =
     tie.close

@@ -25,6 +25,7 @@ result-of-requires c κs = search needs
 returns-4 : tie.Need-returns-4
 returns-4 c = search laws.constructor-sort
 
+-- the function meets its contract
 pub head-sort-spec : {M : Type 1} → statement M
 head-sort-spec =
     tie.close

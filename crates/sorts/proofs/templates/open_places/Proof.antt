@@ -48,6 +48,7 @@ same-length c = search needs
 returns-2 : tie.Need-returns-2 Inv-loop μ-loop
 returns-2 c = search laws.opening-end
 
+-- the function meets its contract
 pub open-places-spec : {M : Type 1} → statement M
 open-places-spec =
     tie.close

@@ -8,5 +8,6 @@ returns : tie.Need-returns
 unfolding fits
 returns c = refl
 
+-- the function meets its contract
 pub fits-spec : {M : Type 1} → statement M
 fits-spec = tie.close (tie.spec returns)
