@@ -96,6 +96,7 @@ module _ (p q : Entry → Bool) where
 pub place-inside : (test : Entry → Bool) (es : List Entry) → length es ≤ 256 → placeFrom test es 0 < 256 → placeFrom test es 0 < length es
 place-inside test es few h = omega (arith, landed test test es 0 (omega arith) .inside h)
 
+-- No search ends past 256.
 pub place-small : (test : Entry → Bool) (es : List Entry) → length es ≤ 256 → placeFrom test es 0 ≤ 256
 place-small test es few = landed test test es 0 (omega arith) .small
 
@@ -127,6 +128,7 @@ module _ (es : List Entry) (few : length es ≤ 256) (n kind : ℕ) where
         },
       )
 
+  -- The walk begins at the nonterminal's first place.
   pub walking-start : {j : ℕ} → j ≡ placeFrom (isOf n) es 0 → Walking es n kind j
   walking-start e = onto 0 (omega arith) e refl .1
 
@@ -137,6 +139,7 @@ module _ (es : List Entry) (few : length es ≤ 256) (n kind : ℕ) where
     owned : eqb (getD es j noEntry .owner) n ≡ true
     owned = eq-eqb _ n (w .own less)
 
+    -- It ends at a place whose first set holds the kind.
     pub walking-found : hasKind (getD es j noEntry .first) kind ≡ true → j ≡ placeFrom (opensOf n kind) es 0
     walking-found t = sym (rw here (place-hit (opensOf n kind) (getD es j noEntry) (drop (j + 1) es) j (rw (owned, t) refl))) ∙ w .rest
 
@@ -149,16 +152,19 @@ module _ (es : List Entry) (few : length es ≤ 256) (n kind : ℕ) where
         (sym (rw here (place-miss (opensOf n kind) (getD es j noEntry) (drop (j + 1) es) j (rw (owned, t) refl))) ∙ w .rest) in
         (omega (arith, q .0), q .1)
 
+  -- Past the last place nothing was found.
   pub walking-end : {j : ℕ} → Walking es n kind j → 256 ≤ j → 256 ≡ placeFrom (opensOf n kind) es 0
   unfolding placeFrom
   walking-end {j} w h = sym (rw (drop-of-length-le es {i = j} (omega arith)) refl) ∙ w .rest
 
 -- the search by first sets ends at a place, else the nullable place is taken
 module _ (es : List Entry) (n kind : ℕ) where
+  -- A place that was found is chosen.
   pub chosen-opened : {j : ℕ} → j ≡ placeFrom (opensOf n kind) es 0 → j < 256 → j ≡ chosenPlace es n kind
   unfolding chosenPlace
   chosen-opened e l = e ∙ sym (rw (lt-ltb (placeFrom (opensOf n kind) es 0) 256 (omega (arith, e)), chosenPlace) refl)
 
+  -- Where none was found, the nullable place is.
   pub chosen-nullable : {j : ℕ} → j ≡ placeFrom (opensOf n kind) es 0 → 256 ≤ j → placeFrom (isNullableOf n) es 0 ≡ chosenPlace es n kind
   unfolding chosenPlace
   chosen-nullable e l = sym (rw (le-ltb (placeFrom (opensOf n kind) es 0) 256 (omega (arith, e)), chosenPlace) refl)
@@ -266,6 +272,7 @@ module _ {bs room : List ℕ} (h : Held bs room) where
   few : length (placesOf bs) ≤ 256
   few = h .grammar .few
 
+  -- As many entries as productions.
   pub entries-count : length (entriesOf bs) ≡ length (placesOf bs)
   unfolding entriesOf
   entries-count = length-map (placesOf bs) E
@@ -285,6 +292,7 @@ module _ {bs room : List ℕ} (h : Held bs room) where
       let l : length (entriesOf bs) ≤ j = omega (arith, ltb-false j (length (placesOf bs)) t, entries-count) in
       rw (getD-past (entriesOf bs) j noEntry l) (omega arith))
 
+  -- They are 256 at most.
   pub entries-few : length (entriesOf bs) ≤ 256
   entries-few = omega (arith, entries-count, few)
 
@@ -296,6 +304,7 @@ module _ {bs room : List ℕ} (h : Held bs room) where
 
   -- the walk over the places of one of the 64 nonterminals
   module _ {n : ℕ} (small : n < 64) (kind : ℕ) where
+    -- The walk begins at the first place that the room has.
     pub walk-start : {j : ℕ} → j ≡ firstPlaceIn room n → Walking (entriesOf bs) n kind j
     walk-start e = walking-start (entriesOf bs) entries-few n kind (e ∙ first-place-in entries-held n small)
 
@@ -303,21 +312,26 @@ module _ {bs room : List ℕ} (h : Held bs room) where
       tested : {b : Bool} → hasKind set kind ≡ b → hasKind (getD (entriesOf bs) j noEntry .first) kind ≡ b
       tested t = rw (sym (es ∙ first-in entries-held j (w .inside less))) t
 
+      -- It ends where the first set in the room holds the kind.
       pub walk-found : hasKind set kind ≡ true → j ≡ placeFrom (opensOf n kind) (entriesOf bs) 0
       walk-found t = walking-found (entriesOf bs) entries-few n kind w less (tested t)
 
+      -- Else it goes on at the next place that the room has, a later one.
       pub walk-next : hasKind set kind ≡ false → {k : ℕ} → k ≡ nextPlaceIn room j → (j < k) × Walking (entriesOf bs) n kind k
       walk-next t e =
           walking-next (entriesOf bs) entries-few n kind w less (tested t) (e ∙ next-place-in entries-held j (w .inside less))
 
+    -- At 256 nothing was found.
     pub walk-end : {j : ℕ} → Walking (entriesOf bs) n kind j → 256 ≤ j → 256 ≡ placeFrom (opensOf n kind) (entriesOf bs) 0
     walk-end w l = walking-end (entriesOf bs) entries-few n kind w l
 
     -- the place that is chosen
     module _ {j : ℕ} (e : j ≡ placeFrom (opensOf n kind) (entriesOf bs) 0) where
+      -- A place that the walk found is chosen.
       pub place-opened : j < 256 → j ≡ chosenPlace (entriesOf bs) n kind
       place-opened l = chosen-opened (entriesOf bs) n kind e l
 
+      -- Where it found none, the nullable place of the room is.
       pub place-nullable : 256 ≤ j → {k : ℕ} → k ≡ nullablePlaceIn room n → k ≡ chosenPlace (entriesOf bs) n kind
       place-nullable l ek = ek ∙ nullable-place-in entries-held n small ∙ chosen-nullable (entriesOf bs) n kind e l
 
@@ -331,6 +345,7 @@ module _ {bs room : List ℕ} (h : Held bs room) where
   each-other test n l own (each-more {x = p} {xs = ps} o xs) j =
       by-test (test (E p)) (λ t. absurd (omega (arith, own (E p) t, o .small))) (λ t. place-miss test (E p) (map E ps) j t ∙ each-other test n l own xs (j + 1))
 
+  -- What is no nonterminal has no production.
   pub chosen-outside : (n kind : ℕ) → 64 ≤ n → 256 ≡ chosenPlace (entriesOf bs) n kind
   unfolding entriesOf
   chosen-outside n kind l =
@@ -344,6 +359,7 @@ module _ {bs room : List ℕ} (h : Held bs room) where
   pub set-inside : (n : ℕ) → n < 64 → firstSetIn room n ≡ getD (setsOf bs) n 0
   set-inside n l = first-set-in entries-held n l
 
+  -- What is no nonterminal has the empty first set.
   pub set-outside : (n : ℕ) → 64 ≤ n → 0 ≡ getD (setsOf bs) n 0
   unfolding setsOf
   set-outside n l = sym (getD-past (setsOf bs) n 0 (omega (arith, length-sets false nulls (productionsIn bs))))
@@ -400,6 +416,7 @@ module _ {bs room : List ℕ} (h : Held bs room) where
         abbrev place : Place
         place = getD (placesOf bs) j somewhere
 
+        -- The room has the offset of the place.
         pub start-is : startIn room j ≡ place .start
         start-is = start-in entries-held j (omega (arith, entries-count, at-place)) ∙ ap (λ x. x .start) (entry-is j at-place)
 
@@ -408,8 +425,10 @@ module _ {bs room : List ℕ} (h : Held bs room) where
         chosen-here =
             chosen-is ∙ rw (sym e) (choice-inside R unfit (placesOf bs) j at-place)
 
+        -- A whole alternative stands there.
         pub chosen-whole : wholeBody (fieldsAt bs (startIn room j)) ≡ true
         chosen-whole = rw start-is (each-at (h .grammar .whole) j at-place)
 
+        -- It stands inside the table.
         pub chosen-inside : startIn room j ≤ length bs
         chosen-inside = let w : Whole bs place = each-at (h .places) j at-place in omega (arith, start-is, w .inside)

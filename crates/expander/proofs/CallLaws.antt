@@ -65,9 +65,11 @@ standing-rows {bs} tokens n {frames} {level} {here} {cells} {R} e s =
 
 -- what a loop gave, by how it ended
 module _ (I : Input) (bs : List ℕ) (R : Result ℕ) (frames cells : List ℕ) (p : Progress) (g : Goes I bs R frames cells p) where
+  -- It ended with the result.
   pub goes-ended : {o : Outcome} → p ≡ Ended o → ran o cells ≡ R
   goes-ended e = subst (Goes I bs R frames cells) e g
 
+  -- It paused where the result is still to be had.
   pub goes-paused : {from : Resumption} → p ≡ Paused from → Standing I bs frames (from .level) (from .state) cells R × (length frames < longFrames)
   goes-paused e = subst (Goes I bs R frames cells) e g
 
@@ -76,6 +78,7 @@ pub entry-of : {bs : List ℕ} {depth : ℕ} {s : State} (b : Begun) {start : �
     → Entry bs depth s start t
 entry-of {bs} {depth} {s} b e h = subst (Enters bs depth s) e h
 
+-- How a call began, by what it answered.
 pub begins-as : (I : Input) (bs : List ℕ) (depth n : ℕ) (s : State) (b : Begun) {q : Begun} → b ≡ q → Begins I bs depth n s b
     → Begins I bs depth n s q
 begins-as I bs depth n s b e h = subst (Begins I bs depth n s) e h
@@ -83,6 +86,7 @@ begins-as I bs depth n s b e h = subst (Begins I bs depth n s) e h
 -- ------------------------------------------------------------------ the whole formula
 
 module _ (I : Input) (cells : List ℕ) (n : ℕ) (count : length (I .tokens) ≡ n) (o : Outcome) where
+  -- A refusal stays one.
   pub ended-halted : {r : Refusal} → o ≡ Halted r → halt r cells ≡ after (ran o cells) (ended I)
   ended-halted e = rw e
 
@@ -93,13 +97,16 @@ module _ (I : Input) (cells : List ℕ) (n : ℕ) (count : length (I .tokens) �
       (sym f ∙ ap (λ (k : ℕ). ltb (s .at) k) (sym count))
       ∙ ap (λ (x : Outcome). after (ran x cells) (ended I)) (sym e)
 
+  -- A token is left over: refusal 18.
   pub ended-left : {v : ℕ} {s : State} → o ≡ Value v s → s .at < n → {r : Refusal} → r ≡ refusal 18 (s .at) 0 0
       → halt r cells ≡ after (ran o cells) (ended I)
   ended-left {v} {s} e h er = rw er (ended-by e true (lt-ltb (s .at) n h))
 
+  -- None is left over.
   pub ended-done : {v : ℕ} {s : State} → o ≡ Value v s → n ≤ s .at → done v s cells ≡ after (ran o cells) (ended I)
   ended-done {v} {s} e h = ended-by e false (le-ltb (s .at) n h)
 
+-- A run is a call of the root that leaves no token over.
 pub run-is : (I : Input) (root : ℕ) (cells : List ℕ) {R : Result ℕ} → R ≡ runCall mostOpen I root [] start cells → after R (ended I) ≡ run I root cells
 unfolding run
 run-is I root cells e = rw e

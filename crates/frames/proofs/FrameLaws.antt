@@ -26,9 +26,11 @@ pub record Saving (old new : List ℕ) (base : ℕ) (vars : List ℕ) (i : ℕ) 
   pub same : (j : ℕ) → j < base → getD new j 0 ≡ getD old j 0
   pub values : (j : ℕ) → j < i → getD new (base + j) 0 ≡ getD vars j 0
 
+-- None stands yet.
 pub saving-start : (old : List ℕ) (base : ℕ) (vars : List ℕ) → Saving old old base vars 0
 saving-start old base vars = record { long = refl; small = omega arith; same = λ j h. refl; values = λ j h. absurd (omega arith) }
 
+-- One more stands.
 pub saving-next : {old new : List ℕ} {base : ℕ} {vars : List ℕ} {i : ℕ} → Saving old new base vars i → i < 16 → base + 16 ≤ length old
     → Saving old (set new (base + i) (getD vars i 0)) base vars (i + 1)
 saving-next {old} {new} {base} {vars} {i} c h room =
@@ -44,6 +46,7 @@ saving-next {old} {new} {base} {vars} {i} c h room =
         rw (e, getD-set-same new (base + i) (getD vars i 0) 0 (omega (arith, c .long)))
     by j l (no n) = getD-set-other new (base + i) (base + j) (getD vars i 0) 0 (λ e. n (omega arith)) ∙ c .values j (omega arith)
 
+-- All 16 stand, and the two numbers behind them.
 pub saving-end : {old new : List ℕ} {level : ℕ} {vars : List ℕ} {i : ℕ} → Saving old new (level * frameSize) vars i → 16 ≤ i
     → level * frameSize + frameSize ≤ length old
     → (count next : ℕ)
@@ -71,9 +74,11 @@ pub record Loading (frames : List ℕ) (base : ℕ) (vars : List ℕ) (i : ℕ) 
   pub small : i ≤ 16
   pub values : (j : ℕ) → j < i → getD vars j 0 ≡ getD frames (base + j) 0
 
+-- None is read yet.
 pub loading-start : (frames : List ℕ) (base : ℕ) → Loading frames base (replicate 16 0) 0
 loading-start frames base = record { long = refl; small = omega arith; values = λ j h. absurd (omega arith) }
 
+-- One more is read.
 pub loading-next : {frames : List ℕ} {base : ℕ} {vars : List ℕ} {i : ℕ} → Loading frames base vars i → i < 16
     → Loading frames base (set vars i (getD frames (base + i) 0)) (i + 1)
 loading-next {frames} {base} {vars} {i} c h =
@@ -88,11 +93,13 @@ loading-next {frames} {base} {vars} {i} c h =
         rw (e, getD-set-same vars i (getD frames (base + i) 0) 0 (omega (arith, c .long)))
     by j l (no n) = getD-set-other vars i j (getD frames (base + i) 0) 0 n ∙ c .values j (omega arith)
 
+-- All 16 are read.
 pub loading-end : {frames : List ℕ} {level : ℕ} {vars : List ℕ} {i : ℕ} → Loading frames (level * frameSize) vars i → 16 ≤ i → Loaded frames level vars
 loading-end c h = record { long = c .long; values = λ j l. c .values j (omega arith) }
 
 -- ------------------------------------------------------------------ the calls that wait
 
+-- Calls that wait pass a refusal on.
 pub resume-halt : (I : Input) (bs : List ℕ) (fs : List Frame) (r : Refusal) (cells : List ℕ) → resume I bs fs (halt r cells) ≡ halt r cells
 unfolding resume
 resume-halt I bs [] r cells = refl
@@ -182,6 +189,7 @@ pub record Copying (short old frames : List ℕ) (i : ℕ) : Type 0 where
   pub small : i ≤ shortFrames
   pub values : (j : ℕ) → j < i → getD frames j 0 ≡ getD short j 0
 
+-- One more number is copied.
 pub copying-next : {short old frames : List ℕ} {i : ℕ} → Copying short old frames i → i < shortFrames → shortFrames ≤ length old
     → Copying short old (set frames i (getD short i 0)) (i + 1)
 copying-next {short} {old} {frames} {i} c h fits =

@@ -69,7 +69,7 @@ going-resumed {I} {bs} {frames} {from} {cells} {R} s {vars} r =
       many = s .many;
       fits = s .fits;
       stacked = s .stacked;
-      light = omega (arith, s .light, ap (λ (a : ℕ). length bs - a) e);
+      light = omega (arith, s .light, e);
       M = s .current .values;
       holds = waits-holds w (r .loaded) refl;
       rest =
@@ -79,7 +79,7 @@ going-resumed {I} {bs} {frames} {from} {cells} {R} s {vars} r =
 -- an item takes no more than it leaves behind
 onward-light : {bs : List ℕ} {at next : ℕ} {s t : State} → Onward bs at next s t → (more : ℕ) {most : ℕ} → weight s + (length bs - at) + more ≤ most
     → weight t + (length bs - next) + more ≤ most
-onward-light o more h = omega (arith, h, o .less, o .inside, o .counted, ap (λ (q : ℕ). 16384 * (65536 - q)) (o .called))
+onward-light o more h = omega (arith, h, o .less, o .inside, o .counted, o .called)
 
 light-below : {wt wh : ℕ} (x o y o′ : ℕ) {most : ℕ} → wt ≡ wh → o ≡ y + o′ → wh + x + o ≤ most → wt + y + o′ ≤ most
 light-below x o y o′ e f h = omega arith
@@ -143,6 +143,7 @@ module _ {I : Input} {bs frames vars : List ℕ} {c : Cursor} {cells : List ℕ}
     pub step-none : step ≡ Finished → itemsOf (fieldsAt bs (c .at)) ≡ []
     step-none e = subst (Advances bs (c .at) (c .state)) e (d .advances)
 
+    -- The cells are as they were.
     pub step-finished : step ≡ Finished → Going I bs frames vars c cells′ R
     step-finished e = rw (steps e) g
 
@@ -151,9 +152,11 @@ module _ {I : Input} {bs frames vars : List ℕ} {c : Cursor} {cells : List ℕ}
       taken-onward : Onward bs (c .at) next (c .state) t
       taken-onward = subst (Advances bs (c .at) (c .state)) e (d .advances)
 
+      -- It has few variables.
       pub taken-few : c .count ≤ length bs + length bs
       taken-few = omega (arith, g .counted, taken-onward .less, taken-onward .inside)
 
+      -- The value is its next variable, and it goes on behind the item.
       pub step-taken : {vars′ : List ℕ} {u : Cursor} → Values vars c x next t vars′ u → (c .level + 2) * frameSize ≤ length frames
           → Turns I bs (left bs c) R frames vars′ cells′ (On u)
       step-taken {vars′} v spare =
@@ -176,7 +179,7 @@ module _ {I : Input} {bs frames vars : List ℕ} {c : Cursor} {cells : List ℕ}
               },
               spare,
             );
-            less = omega (arith, o .less, o .inside, ap (λ (q : ℕ). 40000 * (65536 - q)) (o .called));
+            less = omega (arith, o .less, o .inside, o .called);
           })
 
     opened-as : {n k next : ℕ} {t : State} → step ≡ Opened n k next t → (c .level + 2) * frameSize ≤ length frames
@@ -240,6 +243,7 @@ module _ {I : Input} {bs frames vars : List ℕ} {c : Cursor} {cells : List ℕ}
         abbrev from : Resumption
         from = record { level = c .level - 1; state = t }
 
+        -- Its frame stands in the room.
         pub below-fits : Fits frames (from .level)
         below-fits = record { few = omega (arith, g .fits .few); inside = omega (arith, g .fits .inside) }
 
@@ -261,7 +265,7 @@ module _ {I : Input} {bs frames vars : List ℕ} {c : Cursor} {cells : List ℕ}
                 (f, fs, ef, l, rw l at w, st, few)
 
         weight-same : weight t ≡ weight (c .state)
-        weight-same = omega (arith, unmoved .0, unmoved .1, ap (λ (k : ℕ). 16384 * (65536 - k)) (unmoved .2))
+        weight-same = omega (arith, unmoved .0, unmoved .1, unmoved .2)
 
         module _ {vars₁ : List ℕ} {v : Cursor} (r : Resumes frames from vars₁ v) where
           abbrev at-top : Cursor
@@ -270,6 +274,7 @@ module _ {I : Input} {bs frames vars : List ℕ} {c : Cursor} {cells : List ℕ}
           at-few : at-top .count < length bs + at-top .at
           at-few = omega (arith, top-frame .4 .next-is, top-frame .4 .counted, top-frame .6)
 
+          -- It has few variables.
           pub closed-few : v .count < length bs + length bs
           closed-few = rw (r .cursor-is) (omega (arith, at-few, top-frame .4 .next-is, top-frame .4 .inside))
 
@@ -297,6 +302,7 @@ module _ {I : Input} {bs frames vars : List ℕ} {c : Cursor} {cells : List ℕ}
                     rw (w .next-is, sym (top-frame .3)) (rw (top-frame .2) at (instead (given-by e)));
               }
 
+          -- The value is its next variable, and it goes on where it waited.
           pub closed-on : {vars₂ : List ℕ} {u : Cursor} → Values vars₁ v x (v .at) t vars₂ u → length bs ≤ 16384
               → Turns I bs (left bs c) R frames vars₂ cells′ (On u)
           closed-on {vars₂} put small =
@@ -308,7 +314,7 @@ module _ {I : Input} {bs frames vars : List ℕ} {c : Cursor} {cells : List ℕ}
                 );
                 less =
                     let p : 0 < c .level = positive (c .level) below in
-                    omega (arith, ap (λ (k : ℕ). 40000 * (65536 - k)) (unmoved .2));
+                    omega (arith, unmoved .2);
               })
 
 -- ------------------------------------------------------------------ a call that is begun
@@ -322,6 +328,7 @@ module _ {I : Input} {bs frames vars : List ℕ} {c : Cursor} {args : List ℕ} 
   abbrev waiting-for : ℕ → Result ℕ → Result ℕ
   waiting-for l r = after r (λ x. body (runCall (mostWaiting - l) I) bs (call .next) I (k .M ++ (x ∷ [])))
 
+  -- The frame of the call that calls has room.
   pub calling-fits : Fits frames (c .level)
   calling-fits = record { few = k .few; inside = omega (arith, k .spare) }
 
@@ -341,14 +348,17 @@ module _ {I : Input} {bs frames vars : List ℕ} {c : Cursor} {args : List ℕ} 
 
     -- It is entered, and the call that called waits.
     module _ {first : ℕ} {u : State} (e : b ≡ Entered first u) where
+      -- A whole alternative stands where it is entered.
       pub opened-entry : Entry bs depth (call .state) first u
       opened-entry = subst (Enters bs depth (call .state)) e (s .enters)
 
+      -- It is entered with its arguments, one level higher.
       abbrev pub entered : Cursor
       entered = record { count = call .given; at = first; level = c .level + 1; state = u }
 
       module _ {frames′ : List ℕ} (saved : Saved frames frames′ (c .level) vars (c .count) (call .next)) (long : length frames′ ≡ length frames)
           (small : length bs ≤ 16384) where
+        -- What is left of it, and of the calls that wait, gives what was to be given.
         pub opened-going : Going I bs frames′ args entered cells R
         unfolding resume owed
         opened-going =
@@ -380,7 +390,7 @@ module _ {I : Input} {bs frames vars : List ℕ} {c : Cursor} {args : List ℕ} 
                     small,
                     opened-entry .may-call,
                     ap (λ (q : State). 40000 * (65536 - q .calls)) (opened-entry .begun),
-                    ap (λ (q : ℕ). 40000 * (65536 - q)) (k .onward .called),
+                    k .onward .called,
                   );
             }
 
@@ -421,6 +431,7 @@ pub record Turning (I : Input) (bs : List ℕ) (p q : Place) (memory : List ℕ)
 pub turning-start : {I : Input} {bs : List ℕ} (p : Place) {memory : List ℕ} → Remembers bs memory → Turning I bs p p memory
 turning-start p m = record { cells-long = refl; stack-long = refl; frames-long = refl; remembers = m; stands = λ R s. s }
 
+-- What the room of frames says gives what the first place says.
 pub turned-start : {I : Input} {bs frames : List ℕ} {from : Resumption} {cells : List ℕ} {R : Result ℕ}
     → Standing I bs frames (from .level) (from .state) cells R
     → {vars : List ℕ} {c : Cursor}
@@ -448,11 +459,14 @@ turning-next w next ec es ef m stands =
 
 -- How a turn ended.
 module _ (I : Input) (bs : List ℕ) (most : ℕ) (R : Result ℕ) (frames vars cells : List ℕ) (t : Turn) (w : Turns I bs most R frames vars cells t) where
+  -- It was the last one.
   pub turned-over : {p : Progress} → t ≡ Over p → Goes I bs R frames cells p
   turned-over e = subst (Turned I bs R frames vars cells) e (w .stands)
 
+  -- A call goes on.
   pub turned-on : {c : Cursor} → t ≡ On c → Turned I bs R frames vars cells (On c)
   turned-on e = subst (Turned I bs R frames vars cells) e (w .stands)
 
+  -- Less is left then.
   pub turned-less : {c : Cursor} → t ≡ On c → left bs c < most
   turned-less e = omega (arith, w .less, ap (leftOf bs) e)
