@@ -168,6 +168,10 @@ module _ {spell : ℕ → List ℕ} {around : List Binder} {p : ℕ} where
 
 -- ------------------------------------------------------------------ rows
 
+-- no code of a variable, a function, an application, a record or a selection
+abbrev OtherCode : ℕ → Type 0
+OtherCode code = ((((Unit {0} × (code ≡ 32 → ⊥)) × (code ≡ 33 → ⊥)) × (code ≡ 34 → ⊥)) × (code ≡ 35 → ⊥)) × (code ≡ 36 → ⊥)
+
 walked-as : {spell : ℕ → List ℕ} {around : List Binder} {p held : ℕ} {t t′ : Term Name} {current current′ room room₁ room₂ : List ℕ}
     → t ≡ t′ → room₁ ≡ room₂ → Walked spell around p t′ held current current′ room room₂ → Walked spell around p t held current current′ room room₁
 walked-as {spell} {around} {p} {held} {t} {t′} {current} {current′} {room} {room₁} {room₂} e r w =
@@ -211,11 +215,13 @@ module _ (cells : List ℕ) (k row p : ℕ) where
         let kn′ = subst (WellNamed spell) t kn in
         walked-as t (er ∙ ap (λ l. set l p m) e₀ ∙ set-set room p 0 m) (variable-walked current room (em spell around kn′ env) (eh spell apart kn′))
 
-    pub number-resolves : (code ≡ 32 → ⊥) → (code ≡ 33 → ⊥) → (code ≡ 34 → ⊥) → (code ≡ 35 → ⊥) → (code ≡ 36 → ⊥) → {room₁ : List ℕ} (current room : List ℕ)
+    pub number-resolves : OtherCode code → {room₁ : List ℕ} (current room : List ℕ)
         → room₁ ≡ set room p 0 → ResolvesTerm cells k row p current current room room₁ 0
-    number-resolves v a b c d {room₁} current room er spell around apart wh kn len env =
+    number-resolves others {room₁} current room er spell around apart wh kn len env =
+        let (before-dot, d) = others in
+        let (before-rcd, c) = before-dot in
         rows.number-row spell cells k row some at (λ t. Walked spell around p t 0 current current room room₁)
-        (λ n. walked-as refl er (number-walked n current room)) v a b c d
+        (λ n. walked-as refl er (number-walked n current room)) (before-rcd .0 .0 .1) (before-rcd .0 .1) (before-rcd .1) c d
 
     pub function-resolves : code ≡ 33 → {x outer held v : ℕ} {current current₁ current₂ current₃ room room₀ room₁ room₂ : List ℕ} → x ≡ column cells row 1
         → room₀ ≡ set room p 0 → Exchanged cells x (p + 1) current current₁ outer
@@ -326,9 +332,12 @@ module _ (cells : List ℕ) (k row p : ℕ) where
     unfolding size
     dot-place e eq = rw (eq, rows.dot-row noSpell cells k row some at e) (omega arith)
 
-    pub number-place : (code ≡ 32 → ⊥) → (code ≡ 33 → ⊥) → (code ≡ 34 → ⊥) → (code ≡ 35 → ⊥) → (code ≡ 36 → ⊥) → p + 1 ≡ p + size (T cells k row)
+    pub number-place : OtherCode code → p + 1 ≡ p + size (T cells k row)
     unfolding size
-    number-place v a b c d = rows.number-row noSpell cells k row some at (λ t. p + 1 ≡ p + size t) (λ n. refl) v a b c d
+    number-place others =
+        let (before-dot, d) = others in
+        let (before-rcd, c) = before-dot in
+        rows.number-row noSpell cells k row some at (λ t. p + 1 ≡ p + size t) (λ n. refl) (before-rcd .0 .0 .1) (before-rcd .0 .1) (before-rcd .1) c d
 
     pub cons-place : code ≡ 38 → {q q′ : ℕ} → q ≡ column cells row 2 → q′ ≡ column cells row 3
         → p + 1 + size (T cells (k - 1) q) + sizeFields (F cells (k - 1) q′) ≡ p + sizeFields (F cells k row)

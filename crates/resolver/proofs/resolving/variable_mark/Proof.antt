@@ -10,9 +10,13 @@ use Rattle.resolver.proofs.resolving.variable_mark.Lts as lts
 use Rattle.resolver.proofs.binders.find.Reads as find-reads
 use Rattle.resolver.proofs.resolving.innermost.Reads as innermost-reads
 
+-- places, each from a later one
+abbrev at-start : tie.After-shared-slice-known3 → tie.Start
+at-start p = p .before .before .before
+
 -- src/resolving.rt:40:9
 find-requires : tie.Need-find-requires
-find-requires c κs = c .before .before .before .pre .linked
+find-requires c κs = (at-start c) .pre .linked
 
 -- src/resolving.rt:41:9
 innermost-requires : tie.Need-innermost-requires
@@ -21,33 +25,38 @@ innermost-requires c κs = search needs
 -- src/resolving.rt:46:17
 returns : tie.Need-returns
 returns c =
-    let s = c .before .before .before .before .before .before in
+    let innermost-place = c .before .before in
+    let find-place = innermost-place .before in
+    let s = find-place .before .before .before in
     let e = s .before in
     λ spell around known env.
     fresh-loose-mark spell (e .args .x) (e .args .cells .now) (e .args .current .now) around known env (c .before .match .keys2)
-    (c .before .before .innermost .ensures ∙ ap (λ n. getD (e .args .current .now) n 0) (c .before .before .before .find .ensures .0)) (c .if1 .taken)
+    (innermost-place .innermost .ensures ∙ ap (λ n. getD (e .args .current .now) n 0) (find-place .find .ensures .0)) (c .if1 .taken)
 
 -- src/resolving.rt:35:1
 returns-2 : tie.Need-returns-2
 returns-2 c =
-    let e = c .before .before .before .before .before .before in
+    let find-place = c .before .before in
+    let e = at-start (find-place .before) in
     λ spell around known env.
     word-mark spell (e .args .x) (e .args .cells .now) (e .args .current .now) around known env (c .match .keys1)
-    (c .before .innermost .ensures ∙ ap (λ n. getD (e .args .current .now) n 0) (c .before .before .find .ensures .0))
+    (c .before .innermost .ensures ∙ ap (λ n. getD (e .args .current .now) n 0) (find-place .find .ensures .0))
 
 -- src/resolving.rt:35:1
 returns-3 : tie.Need-returns-3
 returns-3 c =
-    let s = c .before .before .before .before .before .before in
+    let innermost-place = c .before .before in
+    let find-place = innermost-place .before in
+    let s = find-place .before .before .before in
     let e = s .before in
     λ spell around known env.
     fresh-bound-mark spell (e .args .x) (e .args .cells .now) (e .args .current .now) around known env (c .before .match .keys2)
-    (c .before .before .innermost .ensures ∙ ap (λ n. getD (e .args .current .now) n 0) (c .before .before .before .find .ensures .0)) (c .if1 .left)
+    (innermost-place .innermost .ensures ∙ ap (λ n. getD (e .args .current .now) n 0) (find-place .find .ensures .0)) (c .if1 .left)
 
 -- src/resolving.rt:35:1
 returns-4 : tie.Need-returns-4
 returns-4 c =
-    let e = c .before .before .before .before .before .before in
+    let e = at-start (c .before .before .before) in
     λ spell around known env.
     outside-mark spell (e .args .x) (e .args .cells .now) (e .args .current .now) around known env (c .match .rest .0 .1) (c .match .rest .1)
 
