@@ -1,6 +1,5 @@
 -- `link`: rows before the present one are linked.
 use Prim.Native.Nat.{_/_, _-_}
-use mathlib.Core.Path.{_≡_, refl, sym, ap, _∙_}
 use native.Mathlib.Omega.{arith}
 use lib.ListN.{length}
 use borrow.Author.Needs.{needs}

@@ -2,7 +2,6 @@
 use Prim.Native.Nat.{ℕ, _-_}
 use mathlib.Core.Path.{_≡_}
 use native.Mathlib.Omega.{arith}
-use borrow.Author.Needs.{needs}
 use Rattle.resolver.proofs.CountLaws as laws
 use Rattle.resolver.proofs.numbering.number.Statement.{statement}
 use Rattle.resolver.proofs.numbering.number.Tie as tie

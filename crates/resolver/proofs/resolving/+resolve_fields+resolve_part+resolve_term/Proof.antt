@@ -1,11 +1,10 @@
 -- `resolve_term`, `resolve_part` and `resolve_fields`: the code of a row decides; a binder's slot is set before its body and set back behind it.
 use Prim.Native.Nat.{ℕ, _+_, _*_, _<_}
-use mathlib.Core.Path.{_≡_, refl, sym, ap, _∙_}
+use mathlib.Core.Path.{refl, _∙_}
 use native.Mathlib.Omega.{arith}
 use borrow.Author.Needs.{needs}
 use borrow.Fn.Kinds.{In}
 use borrow.Fn.PlainCycle.{Measures, is, falls, and}
-use lib.ListN.{length, length-set}
 use Rattle.resolver.proofs.ResolveLaws as laws
 use Rattle.resolver.proofs.resolving.resolve_fields.Reads as resolve-fields
 use Rattle.resolver.proofs.resolving.resolve_fields.Kinds as resolve-fields-kinds

@@ -1,6 +1,4 @@
 -- `variable_mark`: the class of the name decides.
-use mathlib.Core.Path.{ap, _∙_}
-use lib.ListN.{getD}
 use Rattle.resolver.proofs.NameLaws.{word-mark, fresh-bound-mark, fresh-loose-mark, outside-mark}
 use borrow.Author.Needs.{needs}
 use Rattle.resolver.proofs.resolving.variable_mark.Statement.{statement}
@@ -31,7 +29,7 @@ returns c =
     let e = s .before in
     λ spell around known env.
     fresh-loose-mark spell (e .args .x) (e .args .cells .now) (e .args .current .now) around known env (c .before .match .keys2)
-    (innermost-place .innermost .ensures ∙ ap (λ n. getD (e .args .current .now) n 0) (find-place .find .ensures .0)) (c .if1 .taken)
+    (cc (innermost-place .innermost .ensures, find-place .find .ensures .0)) (c .if1 .taken)
 
 -- src/resolving.rt:35:1
 returns-2 : tie.Need-returns-2
@@ -40,7 +38,7 @@ returns-2 c =
     let e = at-start (find-place .before) in
     λ spell around known env.
     word-mark spell (e .args .x) (e .args .cells .now) (e .args .current .now) around known env (c .match .keys1)
-    (c .before .innermost .ensures ∙ ap (λ n. getD (e .args .current .now) n 0) (find-place .find .ensures .0))
+    (cc (c .before .innermost .ensures, find-place .find .ensures .0))
 
 -- src/resolving.rt:35:1
 returns-3 : tie.Need-returns-3
@@ -51,7 +49,7 @@ returns-3 c =
     let e = s .before in
     λ spell around known env.
     fresh-bound-mark spell (e .args .x) (e .args .cells .now) (e .args .current .now) around known env (c .before .match .keys2)
-    (innermost-place .innermost .ensures ∙ ap (λ n. getD (e .args .current .now) n 0) (find-place .find .ensures .0)) (c .if1 .left)
+    (cc (innermost-place .innermost .ensures, find-place .find .ensures .0)) (c .if1 .left)
 
 -- src/resolving.rt:35:1
 returns-4 : tie.Need-returns-4
