@@ -1,6 +1,6 @@
 -- Printed by the numbers that marks give, a term is the renamed term.
 use Prim.Native.Nat.{ℕ, zero, suc, _+_, _≤_, _<_}
-use mathlib.Core.Path.{_≡_, refl, sym, ap, ap₂, _∙_}
+use mathlib.Core.Path.{_≡_, refl, sym, ap, _∙_}
 use mathlib.Core.Bool.{Bool, true, false}
 use mathlib.Core.List.{List, [], _∷_, _++_, append-assoc, append-nil}
 use native.Mathlib.Omega.{arith}
@@ -173,8 +173,8 @@ variable-numbers around shown done c p v h e l =
       as-many = refl;
       runs =
           λ ms.
-          ap (λ k. numbered (done ++ numberAt done (suc c) m ∷ []) k ms)
-          (mark-next (suc c) v (ownerCode (ownerOf around v)) (omega (arith, owner-below h v)) ∙ omega arith);
+          let z : 0 + suc c ≡ suc c = omega arith in
+          cc (mark-next (suc c) v (ownerCode (ownerOf around v)) (omega (arith, owner-below h v)));
       shows =
           λ rest.
           cc (at-end done (numberAt done (suc c) m) p [] rest e, variable-shown done around shown h (omega arith) (suc c) v);
@@ -215,16 +215,12 @@ module _ (around : List Binder) (shown : List Printed) (done : List ℕ) (c p : 
         as-many = ap suc (i .as-many);
         runs =
             λ ms.
-            cc (binder-next c r)
-            ∙ i .runs ms
-            ∙ ap₂ (λ l k. numbered l k ms) (snoc done n (i .numbers)) (omega arith);
+            let last : renames t + suc (one r + c) ≡ one r + renames t + suc c = omega arith in
+            cc (binder-next c r, i .runs ms, snoc done n (i .numbers));
         shows =
             λ rest.
-            ap₂ (λ x u. function x u)
-            (cc (at-end done n p (i .numbers) rest e, binder-number done c b r))
-            (cc (snoc done n (i .numbers))
-            ∙ i .shows rest
-            ∙ ap (λ k. renamed (record { origin = b; shown = binderShown r (suc c) b } ∷ shown) k t) (omega arith));
+            let inner : one r + suc c ≡ suc (one r + c) = omega arith in
+            cc (at-end done n p (i .numbers) rest e, binder-number done c b r, snoc done n (i .numbers), i .shows rest);
       }
 
   -- under a constructor with no name
@@ -274,9 +270,8 @@ module _ (around : List Binder) (shown : List Printed) (done : List ℕ) (c p : 
             );
         shows =
             λ rest.
-            ap₂ (λ x y. apply x y)
-            (rw (← both, append-assoc ((done ++ 0 ∷ []) ++ i .numbers) (j .numbers) rest, i .shows (j .numbers ++ rest)) refl)
-            (rw both refl ∙ j .shows rest ∙ ap (λ k. renamed shown k u) (omega arith));
+            let first : renames t + suc c ≡ suc (renames t + c) = omega arith in
+            cc (append-assoc ((done ++ 0 ∷ []) ++ i .numbers) (j .numbers) rest, i .shows (j .numbers ++ rest), j .shows rest);
       }
 
   cons-numbers : (s : List ℕ) (t : Term Name) (f : Fields Name) (i : TermNumbers around shown (done ++ 0 ∷ []) c (suc p) t)
@@ -301,9 +296,8 @@ module _ (around : List Binder) (shown : List Printed) (done : List ℕ) (c p : 
             );
         shows =
             λ rest.
-            ap₂ (λ x y. cons s x y)
-            (rw (← both, append-assoc ((done ++ 0 ∷ []) ++ i .numbers) (j .numbers) rest, i .shows (j .numbers ++ rest)) refl)
-            (rw both refl ∙ j .shows rest ∙ ap (λ k. renamedFields shown k f) (omega arith));
+            let first : renames t + suc c ≡ suc (renames t + c) = omega arith in
+            cc (append-assoc ((done ++ 0 ∷ []) ++ i .numbers) (j .numbers) rest, i .shows (j .numbers ++ rest), j .shows rest);
       }
 
 -- a binder's entry, with the name that its number gives
@@ -312,7 +306,8 @@ paired-binder : (around : List Binder) (shown : List Printed) (done : List ℕ) 
     (record { origin = b; shown = binderShown r (suc c) b } ∷ shown)
 paired-binder around shown done c p b r h e =
     let n = numberAt done (suc c) (binderMark r) in
-    rw (← (ap (λ k. nameShown k b) (getD-at done n [] 0 p e) ∙ binder-number done c b r)) (paired-more {b = b} {q = p} (omega (arith, snoc-length done n p e)) (paired-later (n ∷ []) h))
+    let same : nameShown (getD (done ++ n ∷ []) p 0) b ≡ binderShown r (suc c) b = cc (getD-at done n [] 0 p e, binder-number done c b r) in
+    rw (← same) (paired-more {b = b} {q = p} (omega (arith, snoc-length done n p e)) (paired-later (n ∷ []) h))
 
 mutual
   unfolding size sizeFields
