@@ -1,16 +1,13 @@
 -- The numbering loop: what is left of the marks gives what the whole gives.
 use Prim.Native.Nat.{ℕ, zero, suc, _+_, _-_, _≤_, _<_}
 use mathlib.Core.Path.{_≡_, refl, sym, ap, ap₂, _∙_}
-use mathlib.Core.Bool.{true, false}
-use mathlib.Core.List.{List, [], _∷_, _++_, append-nil}
+use mathlib.Core.List.{List, [], _∷_, _++_}
 use native.Mathlib.Numerals.{add-one}
 use native.Mathlib.Omega.{arith}
-use lib.Dec.{eqb}
 use lib.ListN.{length, getD, set, take, drop, length-set, take-append-drop}
 use lib.Seq.{drop-cons, take-suc-set, drop-set-lt, getD-take, length-take-le}
-use borrow.Author.Tests.{eq-eqb, ne-eqb}
+use borrow.Author.Tests.{ne-eqb}
 use Rattle.grammar.proofs.ReaderLaws.{getD-past}
-use Rattle.resolver.specs.declared.Resolution.{Resolution}
 use Rattle.resolver.specs.declared.Resolution.the-variants.{Loose, Numbered}
 use Rattle.resolver.specs.Marks.{new, noOwner}
 use Rattle.resolver.specs.Numbers.{ownerNumber, numberAt, nextNumber, numbered, looseIn, firstLoose}
@@ -32,7 +29,7 @@ module _ (done : List ℕ) (c m : ℕ) where
 
 owner-number : (done : List ℕ) (m q : ℕ) → (m ≡ 0 → ⊥) → q ≡ m - 1 → ownerNumber done m ≡ getD done q 0
 owner-number done zero q d e = absurd (d refl)
-owner-number done (suc k) q d e = ap (λ n. getD done n 0) (omega arith)
+owner-number done (suc k) q d e = let z : k ≡ q = omega arith in cc
 
 module _ (room : List ℕ) (p c m : ℕ) (a : m ≡ 65534 → ⊥) (b : m ≡ 65535 → ⊥) where
   pub zero-at : m ≡ 0 → 0 ≡ numberAt (take p room) c m
@@ -69,8 +66,8 @@ counting-start n room =
       inside = omega arith;
       few = omega arith;
       long = refl;
-      names = ap (λ k. numbered [] 1 (take k room)) z;
-      loose = ap (λ k. looseIn 0 (take k room)) z;
+      names = cc;
+      loose = cc;
       behind = refl;
     }
 
@@ -94,18 +91,17 @@ module _ {n : ℕ} {room₀ room : List ℕ} {p count : ℕ} (c : Counting n roo
         → numbered (take (suc p) (set room p v)) k (Ahead (set room p v) n (suc p)) ≡ numbered [] 1 (take n room₀)
     unfolding numbered
     step-names k ek =
-        ap₂ (λ a b. numbered a k (take (n - suc p) b)) (take-suc-set room p v within ∙ ap (λ x. take p room ++ x ∷ []) ev)
-        (drop-set-lt (suc p) room p v (omega arith))
-        ∙ ap (λ j. numbered (take p room ++ numberAt (take p room) (count + 1) (getD room p 0) ∷ []) j (Ahead room n (suc p))) (sym ek)
-        ∙ ap (numbered (take p room) (count + 1)) (sym ahead)
-        ∙ c .names
+        cc (take-suc-set room p v within, ev, drop-set-lt (suc p) room p v (omega arith), ek, ahead, c .names)
 
     step-loose : looseIn (suc p) (Ahead (set room p v) n (suc p)) ≡ looseIn 0 (take n room₀)
     unfolding looseIn
     step-loose =
-        let h : looseIn p (getD room p 0 ∷ Ahead room n (suc p)) ≡ looseIn (suc p) (Ahead room n (suc p)) = rw (ne-eqb (getD room p 0) noOwner d, looseIn)
+        let h : looseIn p (getD room p 0 ∷ Ahead room n (suc p)) ≡ looseIn (suc p) (Ahead room n (suc p)) = rw (
+          ne-eqb (getD room p 0) noOwner d,
+          looseIn,
+        )
         refl in
-        ap (λ b. looseIn (suc p) (take (n - suc p) b)) (drop-set-lt (suc p) room p v (omega arith)) ∙ sym h ∙ ap (looseIn p) (sym ahead) ∙ c .loose
+        cc (drop-set-lt (suc p) room p v (omega arith), h, ahead, c .loose)
 
     counting-next : (k : ℕ) → k ≤ p + 1 → nextNumber (count + 1) (getD room p 0) ≡ k + 1 → Counting n room₀ (set room p v) (p + 1) k
     counting-next k few ek =
@@ -129,7 +125,7 @@ module _ {n : ℕ} {room₀ room : List ℕ} {p count : ℕ} (c : Counting n roo
 
 module _ {n : ℕ} {room₀ room : List ℕ} {p count : ℕ} (c : Counting n room₀ room p count) (l : n ≤ p) where
   none-ahead : Ahead room n p ≡ []
-  none-ahead = let z : n - p ≡ 0 = omega arith in ap (λ k. take k (drop p room)) z
+  none-ahead = let z : n - p ≡ 0 = omega arith in cc
 
   pub counting-named : Numbered ≡ firstLoose (looseIn 0 (take n room₀))
   unfolding looseIn
@@ -139,5 +135,4 @@ module _ {n : ℕ} {room₀ room : List ℕ} {p count : ℕ} (c : Counting n roo
   unfolding numbered
   counting-done =
       let z : p ≡ n = omega (arith, c .inside) in
-      sym (take-append-drop n room) ∙ ap₂ (λ a b. a ++ b)
-      (ap (λ k. take k room) (sym z) ∙ sym (ap (numbered (take p room) (count + 1)) none-ahead) ∙ c .names) (c .behind)
+      cc (take-append-drop n room, z, none-ahead, c .names, c .behind)

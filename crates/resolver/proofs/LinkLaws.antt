@@ -1,14 +1,14 @@
 -- Laws of the links between rows that bind: what a search finds, and that one more row keeps them.
 use Prim.Native.Nat.{ℕ, zero, suc, _+_, _-_, _/_, _%_, _<_, _≤_}
 use mathlib.Core.Path.{_≡_, refl, sym, ap, subst, _∙_}
-use mathlib.Core.Bool.{Bool, true, false, _&&_, and-eq-true-iff}
+use mathlib.Core.Bool.{Bool, true, false, and-eq-true-iff}
 use mathlib.Core.List.{List}
 use native.Mathlib.Nat.{mod-lt}
 use native.Mathlib.Omega.{arith}
 use lib.Dec.{eqb, ltb}
-use lib.ListN.{length, getD, set, replicate, length-set, length-replicate, getD-replicate}
+use lib.ListN.{length, getD, set, replicate, length-set, getD-replicate}
 use lib.Seq.{getD-set-same, getD-set-other}
-use borrow.Author.Tests.{eq-eqb, ne-eqb, eqb-true, eqb-false, ltb-true, ltb-false}
+use borrow.Author.Tests.{eq-eqb, eqb-true, eqb-false, ltb-true, ltb-false}
 use Rattle.spellings.proofs.BytesLaws.{by-test}
 use Rattle.terms.specs.Cells.{column}
 use Rattle.resolver.specs.Marks.{binds, slotFrom}
@@ -38,7 +38,7 @@ module _ (cells : List ℕ) (x : ℕ) where
   unfolding slotFrom
   slot-last zero row h l b =
       let z : row + 0 ≡ row = omega arith in
-      let b′ : binds cells row x ≡ true = ap (λ r. binds cells r x) (sym z) ∙ b in
+      let b′ : binds cells row x ≡ true = cc in
       rw (b′, slotFrom) (sym z)
   slot-last (suc n) row h l b =
       by-test (binds cells row x)
@@ -47,28 +47,28 @@ module _ (cells : List ℕ) (x : ℕ) where
       absurd (omega (arith, g, h)))
       (λ e.
       let z : row + suc n ≡ suc row + n = omega arith in
-      rw (e, slotFrom) (slot-last n (suc row) (rw (e, slotFrom) at h) (omega arith) (ap (λ r. binds cells r x) (sym z) ∙ b) ∙ sym z))
+      rw (e, slotFrom) (slot-last n (suc row) (rw (e, slotFrom) at h) (omega arith) (cc) ∙ sym z))
 
   slot-none : (n row : ℕ) → slotFrom n cells row x ≡ 16384 → binds cells (row + n) x ≡ false → slotFrom (suc n) cells row x ≡ 16384
   unfolding slotFrom
   slot-none zero row h b =
       let z : row + 0 ≡ row = omega arith in
-      let b′ : binds cells row x ≡ false = ap (λ r. binds cells r x) (sym z) ∙ b in
+      let b′ : binds cells row x ≡ false = cc in
       rw (b′, slotFrom) refl
   slot-none (suc n) row h b =
       by-test (binds cells row x)
       (λ e. let g : slotFrom (suc n) cells row x ≡ row = rw (e, slotFrom) refl in rw (e, slotFrom) (sym g ∙ h))
       (λ e.
       let z : row + suc n ≡ suc row + n = omega arith in
-      rw (e, slotFrom) (slot-none n (suc row) (rw (e, slotFrom) at h) (ap (λ r. binds cells r x) (sym z) ∙ b)))
+      rw (e, slotFrom) (slot-none n (suc row) (rw (e, slotFrom) at h) cc))
 
   last-of-all : (n : ℕ) → slotFrom n cells 0 x ≡ 16384 → n < 16384 → binds cells n x ≡ true → slotFrom (suc n) cells 0 x ≡ n
   last-of-all n h l b =
       let z : 0 + n ≡ n = omega arith in
-      slot-last n 0 h (omega arith) (ap (λ r. binds cells r x) z ∙ b) ∙ z
+      slot-last n 0 h (omega arith) (cc) ∙ z
 
   none-of-all : (n : ℕ) → slotFrom n cells 0 x ≡ 16384 → binds cells n x ≡ false → slotFrom (suc n) cells 0 x ≡ 16384
-  none-of-all n h b = let z : 0 + n ≡ n = omega arith in slot-none n 0 h (ap (λ r. binds cells r x) z ∙ b)
+  none-of-all n h b = let z : 0 + n ≡ n = omega arith in slot-none n 0 h cc
 
   -- found among n rows, or not: one row more decides
   slot-grows : (n : ℕ) → n < 16384 → (slotFrom n cells 0 x < 16384 → ⊥) → slotFrom n cells 0 x ≡ 16384
@@ -117,17 +117,16 @@ slot-is cells x (suc n) l h =
 
 -- a first row is the slot of its name among all rows behind it
 slot-stays : (cells : List ℕ) (x r n : ℕ) → slotFrom (suc r) cells 0 x ≡ r → suc (r + n) ≤ 16384 → slotFrom (suc (r + n)) cells 0 x ≡ r
-slot-stays cells x r zero e l = let z : suc (r + 0) ≡ suc r = omega arith in ap (λ k. slotFrom k cells 0 x) z ∙ e
+slot-stays cells x r zero e l = let z : suc (r + 0) ≡ suc r = omega arith in cc
 slot-stays cells x r (suc n) e l =
     let z : suc (r + suc n) ≡ suc (suc (r + n)) = omega arith in
     let s : slotFrom (suc (r + n)) cells 0 x ≡ r = slot-stays cells x r n e (omega arith) in
-    ap (λ k. slotFrom k cells 0 x) z ∙ slot-more cells x (suc (r + n)) 0 (omega arith) (omega arith) ∙ s
+    cc (slot-more cells x (suc (r + n)) 0 (omega arith) (omega arith))
 
 first-slot : {cells : List ℕ} {r : ℕ} → First cells r → (n : ℕ) → r < n → n ≤ 16384 → slotFrom n cells 0 (column cells r 1) ≡ r
 first-slot {cells} {r} f n l m =
     let z : n ≡ suc (r + (n - suc r)) = omega arith in
-    ap (λ k. slotFrom k cells 0 (column cells r 1)) z
-    ∙ slot-stays cells (column cells r 1) r (n - suc r) (last-of-all cells (column cells r 1) r (f .earliest) (omega arith) (f .binding)) (omega arith)
+    cc (slot-stays cells (column cells r 1) r (n - suc r) (last-of-all cells (column cells r 1) r (f .earliest) (omega arith) (f .binding)) (omega arith))
 
 -- ------------------------------------------------------------------ the search
 
@@ -148,7 +147,7 @@ module _ {n : ℕ} {cells links : List ℕ} (k : LinkedTo n cells links) (x : �
   pub chasing-start : {p : ℕ} → p ≡ getD links (x % Half) 0 → Chasing n cells Half x p
   chasing-start e =
       let w : Newest cells Half (x % Half) n (getD links (x % Half) 0) = k .heads (x % Half) hash-small in
-      rw e (record { small = w .small; all = λ j l f h. w .all j l f (ap (λ y. y % Half) h); first = w .first; hashed = w .hashed })
+      rw e (record { small = w .small; all = λ j l f h. w .all j l f cc; first = w .first; hashed = w .hashed })
 
   module _ {p : ℕ} (c : Chasing n cells Half x p) where
     pub chasing-end : p ≤ 0 → 16384 ≡ slotFrom n cells 0 x
@@ -185,8 +184,8 @@ module _ {n : ℕ} {cells links : List ℕ} (k : LinkedTo n cells links) (x : �
               small = omega (arith, newest .small, c .small);
               all =
                   λ j l f e.
-                  let other : j ≡ p - 1 → ⊥ = λ z. d (ey ∙ ap (λ r. column cells r 1) (sym z) ∙ e) in
-                  newest .all j (omega (arith, c .all j l f e, other)) f (ap (λ v. v % Half) e ∙ sym hs);
+                  let other : j ≡ p - 1 → ⊥ = λ z. d cc in
+                  newest .all j (omega (arith, c .all j l f e, other)) f cc;
               first = newest .first;
               hashed = λ q e. newest .hashed q e ∙ hs;
             })
@@ -201,7 +200,7 @@ newest-on {cells} {half} {h} {below} {p} w d =
       all =
           λ j l f e.
           by-test (eqb j below)
-          (λ t. let z : j ≡ below = eqb-true j below t in absurd (d (subst (First cells) z f) (ap (λ r. column cells r 1 % half) (sym z) ∙ e)))
+          (λ t. let z : j ≡ below = eqb-true j below t in absurd (d (subst (First cells) z f) cc))
           (λ t. w .all j (omega (arith, eqb-false j below t)) f e);
       first = w .first;
       hashed = w .hashed;
@@ -256,7 +255,7 @@ module _ {n : ℕ} {cells links : List ℕ} (k : LinkedTo n cells links) (r : n 
 
   half-same : length links₂ / 2 ≡ half
   unfolding half
-  half-same = ap (λ m. m / 2) long
+  half-same = rw long refl
 
   head-same : getD links₂ (x % half) 0 ≡ n + 1
   unfolding links₁ links₂
@@ -297,7 +296,7 @@ module _ {n : ℕ} {cells links : List ℕ} (k : LinkedTo n cells links) (r : n 
         small = omega arith;
         all = λ j b g e. omega arith;
         first = λ q e. subst (First cells) (omega arith) f;
-        hashed = λ q e. let z : q ≡ n = omega arith in ap (λ i. column cells i 1 % half) z;
+        hashed = λ q e. let z : q ≡ n = omega arith in cc;
       })
 
   newest-other : (h : ℕ) → h < half → (h ≡ x % half → ⊥) → Newest cells half h (n + 1) (getD links₂ h 0)
@@ -307,7 +306,7 @@ module _ {n : ℕ} {cells links : List ℕ} (k : LinkedTo n cells links) (r : n 
   heads : (h : ℕ) → h < half → Newest cells half h (n + 1) (getD links₂ h 0)
   heads h b =
       by-test (eqb h (x % half))
-      (λ e. subst (λ j. Newest cells half j (n + 1) (getD links₂ j 0)) (sym (eqb-true h (x % half) e)) newest-same)
+      (λ e. rw (eqb-true h (x % half) e) newest-same)
       (λ e. newest-other h b (eqb-false h (x % half) e))
 
   nexts : (i : ℕ) → i < n + 1 → First cells i → Newest cells half (column cells i 1 % half) i (getD links₂ (half + i) 0)
@@ -316,8 +315,7 @@ module _ {n : ℕ} {cells links : List ℕ} (k : LinkedTo n cells links) (r : n 
       by-test (eqb i n)
       (λ e.
       let z : n ≡ i = sym (eqb-true i n e) in
-      subst (λ j. Newest cells half (column cells j 1 % half) j (getD links₂ (half + j) 0)) z
-      (rw next-same (old-head (x % half) hx)))
+      rw (← z) (rw next-same (old-head (x % half) hx)))
       (λ e.
       let b′ : i < n = omega (arith, eqb-false i n e) in
       rw (next-other i b′) (old-next i b′ g))
@@ -346,7 +344,7 @@ linked-none cells links s e =
       room = omega arith;
       heads =
           λ h b.
-          let z : getD links h 0 ≡ 0 = ap (λ l. getD l h 0) e ∙ getD-replicate {A = ℕ} (length links) h 0 0 (omega arith) in
+          let z : getD links h 0 ≡ 0 = cc (getD-replicate {A = ℕ} (length links) h 0 0 (omega arith)) in
           record {
             small = omega (arith, z);
             all = λ j l. absurd (omega arith);
@@ -399,4 +397,4 @@ linking-start cells links s e = record { inside = omega arith; long = refl; link
 pub linking-end : {cells links₀ links : List ℕ} {row : ℕ} → Linking cells links₀ links row → length cells ≤ 65536 → length cells / 4 ≤ row → Linked cells links
 linking-end {cells} {links₀} {links} {row} w few l =
     let z : row ≡ length cells / 4 = omega (arith, w .inside) in
-    record { few = few; linked = subst (λ n. LinkedTo n cells links) z (w .linked) }
+    record { few = few; linked = rw z at w .linked }

@@ -1,8 +1,8 @@
 -- Refusal 23 by marks: the places with no owner are those of the fresh variables under no binder made with them.
-use Prim.Native.Nat.{ℕ, zero, suc, _+_, _≤_, _<_}
-use mathlib.Core.Path.{_≡_, refl, sym, ap, ap₂, _∙_}
+use Prim.Native.Nat.{ℕ, suc, _+_, _≤_, _<_}
+use mathlib.Core.Path.{_≡_, refl, sym, ap, _∙_}
 use mathlib.Core.Bool.{Bool, true, false}
-use mathlib.Core.List.{List, [], _∷_, _++_, map}
+use mathlib.Core.List.{List, [], _∷_, _++_}
 use native.Mathlib.Nat.{add-zero}
 use native.Mathlib.Omega.{arith}
 use lib.Dec.{eqb}
@@ -12,7 +12,7 @@ use Rattle.spellings.proofs.BytesLaws.{by-test}
 use Rattle.terms.specs.Term.{Name, word, fresh, outside, Term, Fields, variable, function, apply, rcd, dot, number, nil, cons, size, sizeFields}
 use Rattle.terms.specs.Rename.{belongs, isRenamed}
 use Rattle.terms.specs.Loose.{walk}
-use Rattle.terms.specs.Binding.{Owner, unbound, boundAt, Binder, Occurrence}
+use Rattle.terms.specs.Binding.{Owner, unbound, boundAt, Binder}
 use Rattle.terms.specs.Occurrences.{ownerOf, occurrence, occurrences, occurrencesFields, isLoose, loosePlaces, stopsAtFirst}
 use Rattle.resolver.specs.Marks.{noOwner, ownerCode, markOf, binderMark, marks, marksFields}
 use Rattle.resolver.specs.Numbers.{looseIn}
@@ -29,13 +29,12 @@ loose-not p m ms e = rw (e, looseIn) refl
 
 loose-both : (p : ℕ) (ms ns : List ℕ) → looseIn p (ms ++ ns) ≡ looseIn p ms ++ looseIn (p + length ms) ns
 unfolding looseIn
-loose-both p [] ns = ap (λ n. looseIn n ns) (sym (add-zero p))
+loose-both p [] ns = cc (add-zero p)
 loose-both p (m ∷ ms) ns =
+    let z : suc p + length ms ≡ p + length (m ∷ ms) = omega arith in
     by-test (eqb m noOwner)
-    (λ e. loose-there p m (ms ++ ns) e ∙ ap (λ l. p ∷ l) (loose-both (suc p) ms ns ∙ ap (λ n. looseIn (suc p) ms ++ looseIn n ns) (omega arith)) ∙ ap
-    (λ l. l ++ looseIn (p + length (m ∷ ms)) ns) (sym (loose-there p m ms e)))
-    (λ e. loose-not p m (ms ++ ns) e ∙ loose-both (suc p) ms ns ∙ ap (λ n. looseIn (suc p) ms ++ looseIn n ns) (omega arith) ∙ ap
-    (λ l. l ++ looseIn (p + length (m ∷ ms)) ns) (sym (loose-not p m ms e)))
+    (λ e. cc (loose-there p m (ms ++ ns) e, loose-both (suc p) ms ns, loose-there p m ms e))
+    (λ e. cc (loose-not p m (ms ++ ns) e, loose-both (suc p) ms ns, loose-not p m ms e))
 
 -- a mark says whether a variable is loose
 mark-loose : (v : Name) (o : Owner) → ownerCode o ≤ 16384 → eqb (markOf v (ownerCode o)) noOwner ≡ isLoose v o
@@ -75,10 +74,13 @@ mutual
       loose-not p (binderMark (isRenamed b t)) (marks (record { name = b; place = p } ∷ around) (suc p) t) (binder-not (isRenamed b t))
       ∙ loose-marks (record { name = b; place = p } ∷ around) (suc p) t (near-more around b p h (omega arith)) (omega arith)
   loose-marks around p (apply t u) h l =
-      loose-both (suc p) (marks around (suc p) t) (marks around (suc p + size t) u)
-      ∙ ap₂ (λ a b. a ++ b) (loose-marks around (suc p) t h (omega arith))
-      (ap (λ n. looseIn (suc p + n) (marks around (suc p + size t) u)) (length-marks around (suc p) t) ∙ loose-marks around (suc p + size t) u h (omega arith))
-      ∙ sym (loose-append (occurrences around (suc p) t) (occurrences around (suc p + size t) u))
+      cc (
+        loose-both (suc p) (marks around (suc p) t) (marks around (suc p + size t) u),
+        loose-marks around (suc p) t h (omega arith),
+        length-marks around (suc p) t,
+        loose-marks around (suc p + size t) u h (omega arith),
+        loose-append (occurrences around (suc p) t) (occurrences around (suc p + size t) u),
+      )
   loose-marks around p (rcd f) h l = loose-marks-fields around (suc p) f h (omega arith)
   loose-marks around p (dot t s) h l = loose-marks around (suc p) t h (omega arith)
   loose-marks around p (number n) h l = refl
@@ -87,14 +89,16 @@ mutual
       → looseIn p (marksFields around p f) ≡ loosePlaces (occurrencesFields around p f)
   loose-marks-fields around p nil h l = refl
   loose-marks-fields around p (cons s t f) h l =
-      loose-both (suc p) (marks around (suc p) t) (marksFields around (suc p + size t) f)
-      ∙ ap₂ (λ a b. a ++ b) (loose-marks around (suc p) t h (omega arith))
-      (ap (λ n. looseIn (suc p + n) (marksFields around (suc p + size t) f)) (length-marks around (suc p) t) ∙ loose-marks-fields around (suc p + size t) f
-      h (omega arith))
-      ∙ sym (loose-append (occurrences around (suc p) t) (occurrencesFields around (suc p + size t) f))
+      cc (
+        loose-both (suc p) (marks around (suc p) t) (marksFields around (suc p + size t) f),
+        loose-marks around (suc p) t h (omega arith),
+        length-marks around (suc p) t,
+        loose-marks-fields around (suc p + size t) f h (omega arith),
+        loose-append (occurrences around (suc p) t) (occurrencesFields around (suc p + size t) f),
+      )
 
 -- The walk of refusal 23 stops at the first place without an owner.
 pub walk-by-marks : (t : Term Name) → size t ≤ 16384 → walk [] 0 t ≡ stopsAtFirst (looseIn 0 (marks [] 0 t)) (size t)
 unfolding ownerOf
 walk-by-marks t l =
-    walk-stops [] 0 (size t) t (omega arith) ∙ ap (λ ps. stopsAtFirst ps (size t)) (sym (loose-marks [] 0 t (λ v. omega arith) (omega arith)))
+    cc (walk-stops [] 0 (size t) t (omega arith), loose-marks [] 0 t (λ v. omega arith) (omega arith))

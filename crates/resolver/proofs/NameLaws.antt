@@ -2,13 +2,13 @@
 use Prim.Native.Nat.{ℕ, zero, suc, _+_, _*_, _/_, _%_, _≤_, _<_}
 use lib.ListN.{getD}
 use mathlib.Core.Path.{_≡_, refl, sym, ap, ap₂, subst, _∙_}
-use mathlib.Core.Bool.{Bool, true, false, _&&_, _||_}
+use mathlib.Core.Bool.{Bool, true, false, _||_}
 use mathlib.Core.List.{List}
 use native.Mathlib.Omega.{arith}
-use lib.Dec.{eqb, ltb}
+use lib.Dec.{eqb}
 use borrow.Author.Tests.{eq-eqb, ne-eqb, eqb-true, eqb-false, lt-ltb}
 use Rattle.spellings.specs.Bytes.{same, isWord}
-use Rattle.spellings.proofs.BytesLaws.{by-test, same-true, same-refl, same-false}
+use Rattle.spellings.proofs.BytesLaws.{by-test, same-true, same-false}
 use Rattle.kinds.specs.Kinds.{hasKind, only}
 use Rattle.kinds.proofs.KindsLaws.{has-none, has-only}
 use Rattle.terms.specs.Cells.{nameBase}
@@ -17,7 +17,7 @@ use Rattle.terms.specs.Rows.{nameOf}
 use Rattle.terms.specs.Rename.{isOutside, holds, holdsFields, isRenamed}
 use Rattle.terms.specs.Binding.{Binder}
 use Rattle.terms.specs.Occurrences.{ownerOf}
-use Rattle.resolver.specs.Marks.{markOf, ownerCode, slotOf, Bindable, bindable-word, bindable-fresh, Around, Holds, new, binderMark}
+use Rattle.resolver.specs.Marks.{markOf, ownerCode, slotOf, Bindable, bindable-word, bindable-fresh, Around, Holds, binderMark}
 use Rattle.terms.specs.Names.{Distinct, VariableName, BinderName, WellNamed, WellNamedFields}
 use Rattle.rows.proofs.RowLaws.{as-word, as-fresh, as-outside}
 
@@ -38,8 +38,7 @@ module _ (spell : ℕ → List ℕ) (x : ℕ) where
   pub held-outside : (x / nameBase ≡ 1 → ⊥) → (x / nameBase ≡ 2 → ⊥) → {r : ℕ} → r ≡ only (x % nameBase) → Distinct spell
       → Holds spell r (λ s. isOutside s (nameOf spell x))
   held-outside a b er apart n l w =
-      ap (λ k. hasKind k n) er ∙ has-only (x % nameBase) n ∙ ap (λ t. t && eqb n (x % nameBase)) (lt-ltb n 64 l)
-      ∙ same-number apart n (x % nameBase) w ∙ sym (ap (isOutside (spell n)) (as-outside spell x a b))
+      cc (has-only (x % nameBase) n, lt-ltb n 64 l, same-number apart n (x % nameBase) w, as-outside spell x a b)
 
   -- an outside name has a number below 64
   pub outside-small : (x / nameBase ≡ 1 → ⊥) → (x / nameBase ≡ 2 → ⊥) → Distinct spell → VariableName spell (nameOf spell x) → x % nameBase < 64
@@ -83,17 +82,17 @@ module _ (spell : ℕ → List ℕ) (t : Term Name) (x held : ℕ) (apart : Dist
 
   pub near-mark : x / nameBase ≡ 1 → x % nameBase < 64 → (b : Bool) → b ≡ hasKind held (x % nameBase) → binderMark b ≡ binderMark (isRenamed (nameOf spell x) t)
   unfolding isRenamed
-  near-mark e l b eb = marked b (ap (λ v. isRenamed v t) (as-word spell x e) ∙ sym (h (x % nameBase) l (word-is e)) ∙ sym eb)
+  near-mark e l b eb = marked b (cc (as-word spell x e, h (x % nameBase) l (word-is e)))
 
   pub far-mark : x / nameBase ≡ 1 → 64 ≤ x % nameBase → binderMark false ≡ binderMark (isRenamed (nameOf spell x) t)
   unfolding isRenamed
-  far-mark e l = marked false (ap (λ v. isRenamed v t) (as-word spell x e) ∙ far-holds spell apart (x % nameBase) l (word-is e) t known)
+  far-mark e l = marked false (cc (as-word spell x e, far-holds spell apart (x % nameBase) l (word-is e) t known))
 
   pub other-mark : (x / nameBase ≡ 1 → ⊥) → binderMark true ≡ binderMark (isRenamed (nameOf spell x) t)
   unfolding isRenamed
   other-mark a =
       by-test (eqb (x / nameBase) 2)
-      (λ e. marked true (ap (λ v. isRenamed v t) (as-fresh spell x (eqb-true (x / nameBase) 2 e))))
+      (λ e. marked true (cc (as-fresh spell x (eqb-true (x / nameBase) 2 e))))
       (λ e. absurd (subst (BinderName spell) (as-outside spell x a (eqb-false (x / nameBase) 2 e)) kb))
 
 -- ------------------------------------------------------------------ the mark of a variable
@@ -113,18 +112,18 @@ module _ (spell : ℕ → List ℕ) (x : ℕ) (cells current : List ℕ) (around
   pub word-mark : x / nameBase ≡ 1 → {m : ℕ} → m ≡ getD current (slotOf cells x) 0 → m ≡ markOf (nameOf spell x) Owner
   word-mark e em =
       em ∙ env x (bindable-at 1 e (bindable-word {n = x % nameBase} (omega arith) (subst (VariableName spell) (as-word spell x e) known)))
-      ∙ sym (ap (λ v. markOf v Owner) (as-word spell x e))
+      ∙ sym (cc (as-word spell x e))
 
   fresh-owner : x / nameBase ≡ 2 → getD current (slotOf cells x) 0 ≡ Owner
   fresh-owner e = env x (bindable-at 2 e (bindable-fresh {n = x % nameBase} (omega arith)))
 
   pub fresh-bound-mark : x / nameBase ≡ 2 → {m : ℕ} → m ≡ getD current (slotOf cells x) 0 → (m ≡ 0 → ⊥) → m ≡ markOf (nameOf spell x) Owner
   fresh-bound-mark e em d =
-      em ∙ fresh-owner e ∙ fresh-mark (x % nameBase) Owner (λ z. d (em ∙ fresh-owner e ∙ z)) ∙ sym (ap (λ v. markOf v Owner) (as-fresh spell x e))
+      em ∙ fresh-owner e ∙ fresh-mark (x % nameBase) Owner (λ z. d (em ∙ fresh-owner e ∙ z)) ∙ sym (cc (as-fresh spell x e))
 
   pub fresh-loose-mark : x / nameBase ≡ 2 → {m : ℕ} → m ≡ getD current (slotOf cells x) 0 → m ≡ 0 → 65535 ≡ markOf (nameOf spell x) Owner
   fresh-loose-mark e em z =
-      sym (ap (λ v. markOf v Owner) (as-fresh spell x e) ∙ ap (markOf (fresh (x % nameBase))) (sym (fresh-owner e) ∙ sym em ∙ z))
+      sym (cc (as-fresh spell x e, fresh-owner e))
 
   pub outside-mark : (x / nameBase ≡ 1 → ⊥) → (x / nameBase ≡ 2 → ⊥) → 0 ≡ markOf (nameOf spell x) Owner
-  outside-mark a b = sym (ap (λ v. markOf v Owner) (as-outside spell x a b))
+  outside-mark a b = sym (cc (as-outside spell x a b))

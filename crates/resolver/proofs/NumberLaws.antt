@@ -1,18 +1,16 @@
 -- Printed by the numbers that marks give, a term is the renamed term.
 use Prim.Native.Nat.{ℕ, zero, suc, _+_, _≤_, _<_}
-use mathlib.Core.Path.{_≡_, refl, sym, ap, ap₂, subst, _∙_}
+use mathlib.Core.Path.{_≡_, refl, sym, ap, _∙_}
 use mathlib.Core.Bool.{Bool, true, false}
 use mathlib.Core.List.{List, [], _∷_, _++_, append-assoc, append-nil}
 use native.Mathlib.Omega.{arith}
-use lib.Dec.{eqb}
 use lib.ListN.{length, getD, length-append, List·getD-append}
 use lib.Seq.{getD-at}
-use borrow.Author.Tests.{eq-eqb, ne-eqb, eqb-true}
-use Rattle.spellings.specs.Bytes.{same}
+use borrow.Author.Tests.{ne-eqb}
 use Rattle.spellings.proofs.BytesLaws.{by-test, same-true}
 use Rattle.terms.specs.Term.{Name, word, fresh, outside, Term, Fields, variable, function, apply, rcd, dot, number, nil, cons, size, sizeFields}
-use Rattle.terms.specs.Rename.{belongs, isRenamed, one, renames, renamesFields, newName, written, Printed, shownAs, binderShown, renamed, renamedFields, rename}
-use Rattle.terms.specs.Binding.{Owner, unbound, boundAt, Binder}
+use Rattle.terms.specs.Rename.{belongs, isRenamed, one, renames, renamesFields, written, Printed, shownAs, binderShown, renamed, renamedFields, rename}
+use Rattle.terms.specs.Binding.{unbound, Binder}
 use Rattle.terms.specs.Occurrences.{ownerOf}
 use Rattle.terms.specs.Labelled.{nameShown, labelled, labelledFields}
 use Rattle.resolver.specs.Marks.{new, noOwner, ownerCode, markOf, binderMark, marks, marksFields}
@@ -27,9 +25,7 @@ data Paired (done : List ℕ) : List Binder → List Printed → Type 0 where
 paired-later : {done : List ℕ} {around : List Binder} {shown : List Printed} (more : List ℕ) → Paired done around shown → Paired (done ++ more) around shown
 paired-later more paired-none = paired-none
 paired-later {done} more (paired-more {b = b} {q = q} {around = around} {shown = shown} l h) =
-    subst (λ n. Paired (done ++ more) (record { name = b; place = q } ∷ around) (record { origin = b; shown = nameShown n b } ∷ shown))
-    (List·getD-append done more 0 q l)
-    (paired-more {b = b} {q = q} (omega (arith, length-append done more)) (paired-later more h))
+    rw (← List·getD-append done more 0 q l) (paired-more {b = b} {q = q} (omega (arith, length-append done more)) (paired-later more h))
 
 -- ------------------------------------------------------------------ a variable
 
@@ -86,15 +82,15 @@ next-small c m d = rw (ne-eqb m new d, nextNumber) refl
 variable-number : (done : List ℕ) (c : ℕ) (v : Name) (o : ℕ) → o ≤ 16384
     → nameShown (numberAt done c (markOf v o)) v ≡ nameShown (elim v [ word s ↦ ownerNumber done o | fresh n ↦ ownerNumber done o | outside s ↦ 0 ]) v
 unfolding numberAt
-variable-number done c (word s) o l = ap (λ n. nameShown n (word s)) (at-small done c o l)
+variable-number done c (word s) o l = cc (at-small done c o l)
 variable-number done c (fresh n) zero l = refl
-variable-number done c (fresh n) (suc q) l = ap (λ k. nameShown k (fresh n)) (at-small done c (suc q) l)
+variable-number done c (fresh n) (suc q) l = cc (at-small done c (suc q) l)
 variable-number done c (outside s) o l = refl
 
 fresh-number : (done : List ℕ) (c n o : ℕ) → o ≤ 16384 → nameShown (numberAt done c (markOf (fresh n) o)) (fresh n) ≡ nameShown (ownerNumber done o) (fresh n)
 unfolding numberAt
 fresh-number done c n zero l = refl
-fresh-number done c n (suc q) l = ap (λ k. nameShown k (fresh n)) (at-small done c (suc q) l)
+fresh-number done c n (suc q) l = cc (at-small done c (suc q) l)
 
 outside-free : (s : List ℕ) (b : Name) → belongs (outside s) b ≡ false
 outside-free s (word b) = refl
@@ -110,12 +106,11 @@ variable-shown : (done : List ℕ) (around : List Binder) (shown : List Printed)
     → nameShown (numberAt done c (markOf v (ownerCode (ownerOf around v)))) v ≡ shownAs shown v
 unfolding numberAt
 variable-shown done around shown h l c (word s) =
-    ap (λ n. nameShown n (word s)) (at-small done c (ownerCode (ownerOf around (word s))) (omega (arith, owner-below h (word s)))) ∙ sym
-    (shown-by done around shown h (word s))
+    cc (at-small done c (ownerCode (ownerOf around (word s))) (omega (arith, owner-below h (word s))), shown-by done around shown h (word s))
 variable-shown done around shown h l c (fresh n) =
     fresh-number done c n (ownerCode (ownerOf around (fresh n))) (omega (arith, owner-below h (fresh n))) ∙ sym (shown-by done around shown h (fresh n))
 variable-shown done around shown h l c (outside s) =
-    sym (shown-by done around shown h (outside s) ∙ ap (λ o. nameShown (ownerNumber done (ownerCode o)) (outside s)) (outside-unbound s around))
+    sym (cc (shown-by done around shown h (outside s), outside-unbound s around))
 
 mark-next : (c : ℕ) (v : Name) (o : ℕ) → o ≤ 16384 → nextNumber c (markOf v o) ≡ c
 unfolding nextNumber
@@ -163,7 +158,7 @@ snoc : (done : List ℕ) (n : ℕ) (ns : List ℕ) → (done ++ n ∷ []) ++ ns 
 snoc done n ns = append-assoc done (n ∷ []) ns
 
 at-end : (done : List ℕ) (n p : ℕ) (ns rest : List ℕ) → length done ≡ p → getD ((done ++ n ∷ ns) ++ rest) p 0 ≡ n
-at-end done n p ns rest e = ap (λ l. getD l p 0) (append-assoc done (n ∷ ns) rest) ∙ getD-at done n (ns ++ rest) 0 p e
+at-end done n p ns rest e = cc (append-assoc done (n ∷ ns) rest, getD-at done n (ns ++ rest) 0 p e)
 
 snoc-length : (done : List ℕ) (n p : ℕ) → length done ≡ p → length (done ++ n ∷ []) ≡ suc p
 snoc-length done n p e = length-append done (n ∷ []) ∙ omega arith
@@ -178,12 +173,11 @@ variable-numbers around shown done c p v h e l =
       as-many = refl;
       runs =
           λ ms.
-          ap (λ k. numbered (done ++ numberAt done (suc c) m ∷ []) k ms)
-          (mark-next (suc c) v (ownerCode (ownerOf around v)) (omega (arith, owner-below h v)) ∙ omega arith);
+          let z : 0 + suc c ≡ suc c = omega arith in
+          cc (mark-next (suc c) v (ownerCode (ownerOf around v)) (omega (arith, owner-below h v)));
       shows =
           λ rest.
-          ap (λ n. variable (nameShown n v)) (at-end done (numberAt done (suc c) m) p [] rest e)
-          ∙ ap variable (variable-shown done around shown h (omega arith) (suc c) v);
+          cc (at-end done (numberAt done (suc c) m) p [] rest e, variable-shown done around shown h (omega arith) (suc c) v);
     }
 
 number-numbers : (around : List Binder) (shown : List Printed) (done : List ℕ) (c p n : ℕ) → TermNumbers around shown done c p (number n)
@@ -192,7 +186,7 @@ number-numbers around shown done c p n =
     record {
       numbers = 0 ∷ [];
       as-many = refl;
-      runs = λ ms. ap₂ (λ a k. numbered (done ++ a ∷ []) k ms) (none-number done (suc c)) (none-next (suc c) ∙ omega arith);
+      runs = λ ms. let z : 0 + suc c ≡ suc c = omega arith in cc (none-number done (suc c), none-next (suc c));
       shows = λ rest. refl;
     }
 
@@ -202,7 +196,7 @@ nil-numbers around shown done c p =
     record {
       numbers = 0 ∷ [];
       as-many = refl;
-      runs = λ ms. ap₂ (λ a k. numbered (done ++ a ∷ []) k ms) (none-number done (suc c)) (none-next (suc c) ∙ omega arith);
+      runs = λ ms. let z : 0 + suc c ≡ suc c = omega arith in cc (none-number done (suc c), none-next (suc c));
       shows = λ rest. refl;
     }
 
@@ -221,16 +215,12 @@ module _ (around : List Binder) (shown : List Printed) (done : List ℕ) (c p : 
         as-many = ap suc (i .as-many);
         runs =
             λ ms.
-            ap (λ k. numbered (done ++ n ∷ []) k (marks (record { name = b; place = p } ∷ around) (suc p) t ++ ms)) (binder-next c r)
-            ∙ i .runs ms
-            ∙ ap₂ (λ l k. numbered l k ms) (snoc done n (i .numbers)) (omega arith);
+            let last : renames t + suc (one r + c) ≡ one r + renames t + suc c = omega arith in
+            cc (binder-next c r, i .runs ms, snoc done n (i .numbers));
         shows =
             λ rest.
-            ap₂ (λ x u. function x u)
-            (ap (λ k. nameShown k b) (at-end done n p (i .numbers) rest e) ∙ binder-number done c b r)
-            (ap (λ l. labelled (l ++ rest) (suc p) t) (sym (snoc done n (i .numbers)))
-            ∙ i .shows rest
-            ∙ ap (λ k. renamed (record { origin = b; shown = binderShown r (suc c) b } ∷ shown) k t) (omega arith));
+            let inner : one r + suc c ≡ suc (one r + c) = omega arith in
+            cc (at-end done n p (i .numbers) rest e, binder-number done c b r, snoc done n (i .numbers), i .shows rest);
       }
 
   -- under a constructor with no name
@@ -242,9 +232,8 @@ module _ (around : List Binder) (shown : List Printed) (done : List ℕ) (c p : 
         as-many = ap suc (i .as-many);
         runs =
             λ ms.
-            ap₂ (λ a k. numbered (done ++ a ∷ []) k (marksFields around (suc p) f ++ ms)) (none-number done (suc c)) (none-next (suc c))
-            ∙ i .runs ms ∙ ap (λ l. numbered l (renamesFields f + suc c) ms) (snoc done 0 (i .numbers));
-        shows = λ rest. ap rcd (ap (λ l. labelledFields (l ++ rest) (suc p) f) (sym (snoc done 0 (i .numbers))) ∙ i .shows rest);
+            cc (none-number done (suc c), none-next (suc c), i .runs ms, snoc done 0 (i .numbers));
+        shows = λ rest. ap rcd (cc (snoc done 0 (i .numbers), i .shows rest));
       }
 
   dot-numbers : (t : Term Name) (s : List ℕ) → TermNumbers around shown (done ++ 0 ∷ []) c (suc p) t → TermNumbers around shown done c p (dot t s)
@@ -255,9 +244,8 @@ module _ (around : List Binder) (shown : List Printed) (done : List ℕ) (c p : 
         as-many = ap suc (i .as-many);
         runs =
             λ ms.
-            ap₂ (λ a k. numbered (done ++ a ∷ []) k (marks around (suc p) t ++ ms)) (none-number done (suc c)) (none-next (suc c))
-            ∙ i .runs ms ∙ ap (λ l. numbered l (renames t + suc c) ms) (snoc done 0 (i .numbers));
-        shows = λ rest. ap (λ u. dot u s) (ap (λ l. labelled (l ++ rest) (suc p) t) (sym (snoc done 0 (i .numbers))) ∙ i .shows rest);
+            cc (none-number done (suc c), none-next (suc c), i .runs ms, snoc done 0 (i .numbers));
+        shows = λ rest. cc (snoc done 0 (i .numbers), i .shows rest);
       }
 
   apply-numbers : (t u : Term Name) (i : TermNumbers around shown (done ++ 0 ∷ []) c (suc p) t)
@@ -268,22 +256,22 @@ module _ (around : List Binder) (shown : List Printed) (done : List ℕ) (c p : 
       append-assoc (done ++ 0 ∷ []) (i .numbers) (j .numbers) ∙ snoc done 0 (i .numbers ++ j .numbers) in
       record {
         numbers = 0 ∷ (i .numbers ++ j .numbers);
-        as-many = ap suc (length-append (i .numbers) (j .numbers) ∙ ap₂ (λ a b. a + b) (i .as-many) (j .as-many));
+        as-many = ap suc (rw (← j .as-many, ← i .as-many, ← length-append (i .numbers) (j .numbers)) refl);
         runs =
             λ ms.
-            ap₂ (λ a k. numbered (done ++ a ∷ []) k ((marks around (suc p) t ++ marks around (suc p + size t) u) ++ ms)) (none-number done (suc c))
-            (none-next (suc c))
-            ∙ ap (numbered (done ++ 0 ∷ []) (suc c)) (append-assoc (marks around (suc p) t) (marks around (suc p + size t) u) ms)
-            ∙ i .runs (marks around (suc p + size t) u ++ ms)
-            ∙ ap (λ k. numbered ((done ++ 0 ∷ []) ++ i .numbers) k (marks around (suc p + size t) u ++ ms)) (omega arith)
-            ∙ j .runs ms
-            ∙ ap₂ (λ l k. numbered l k ms) both (omega arith);
+            let first : renames t + suc c ≡ suc (renames t + c) = omega arith in
+            let last : renames u + suc (renames t + c) ≡ renames t + renames u + suc c = omega arith in
+            cc (
+              none-number done (suc c),
+              none-next (suc c),
+              append-assoc (marks around (suc p) t) (marks around (suc p + size t) u) ms,
+              i .runs (marks around (suc p + size t) u ++ ms),
+              j .runs ms,
+            );
         shows =
             λ rest.
-            ap₂ (λ x y. apply x y)
-            (ap (λ l. labelled l (suc p) t) (ap (λ l. l ++ rest) (sym both) ∙ append-assoc ((done ++ 0 ∷ []) ++ i .numbers) (j .numbers) rest)
-            ∙ i .shows (j .numbers ++ rest))
-            (ap (λ l. labelled (l ++ rest) (suc p + size t) u) (sym both) ∙ j .shows rest ∙ ap (λ k. renamed shown k u) (omega arith));
+            let first : renames t + suc c ≡ suc (renames t + c) = omega arith in
+            cc (append-assoc ((done ++ 0 ∷ []) ++ i .numbers) (j .numbers) rest, i .shows (j .numbers ++ rest), j .shows rest);
       }
 
   cons-numbers : (s : List ℕ) (t : Term Name) (f : Fields Name) (i : TermNumbers around shown (done ++ 0 ∷ []) c (suc p) t)
@@ -294,22 +282,22 @@ module _ (around : List Binder) (shown : List Printed) (done : List ℕ) (c p : 
       append-assoc (done ++ 0 ∷ []) (i .numbers) (j .numbers) ∙ snoc done 0 (i .numbers ++ j .numbers) in
       record {
         numbers = 0 ∷ (i .numbers ++ j .numbers);
-        as-many = ap suc (length-append (i .numbers) (j .numbers) ∙ ap₂ (λ a b. a + b) (i .as-many) (j .as-many));
+        as-many = ap suc (rw (← j .as-many, ← i .as-many, ← length-append (i .numbers) (j .numbers)) refl);
         runs =
             λ ms.
-            ap₂ (λ a k. numbered (done ++ a ∷ []) k ((marks around (suc p) t ++ marksFields around (suc p + size t) f) ++ ms)) (none-number done (suc c))
-            (none-next (suc c))
-            ∙ ap (numbered (done ++ 0 ∷ []) (suc c)) (append-assoc (marks around (suc p) t) (marksFields around (suc p + size t) f) ms)
-            ∙ i .runs (marksFields around (suc p + size t) f ++ ms)
-            ∙ ap (λ k. numbered ((done ++ 0 ∷ []) ++ i .numbers) k (marksFields around (suc p + size t) f ++ ms)) (omega arith)
-            ∙ j .runs ms
-            ∙ ap₂ (λ l k. numbered l k ms) both (omega arith);
+            let first : renames t + suc c ≡ suc (renames t + c) = omega arith in
+            let last : renamesFields f + suc (renames t + c) ≡ renames t + renamesFields f + suc c = omega arith in
+            cc (
+              none-number done (suc c),
+              none-next (suc c),
+              append-assoc (marks around (suc p) t) (marksFields around (suc p + size t) f) ms,
+              i .runs (marksFields around (suc p + size t) f ++ ms),
+              j .runs ms,
+            );
         shows =
             λ rest.
-            ap₂ (λ x y. cons s x y)
-            (ap (λ l. labelled l (suc p) t) (ap (λ l. l ++ rest) (sym both) ∙ append-assoc ((done ++ 0 ∷ []) ++ i .numbers) (j .numbers) rest)
-            ∙ i .shows (j .numbers ++ rest))
-            (ap (λ l. labelledFields (l ++ rest) (suc p + size t) f) (sym both) ∙ j .shows rest ∙ ap (λ k. renamedFields shown k f) (omega arith));
+            let first : renames t + suc c ≡ suc (renames t + c) = omega arith in
+            cc (append-assoc ((done ++ 0 ∷ []) ++ i .numbers) (j .numbers) rest, i .shows (j .numbers ++ rest), j .shows rest);
       }
 
 -- a binder's entry, with the name that its number gives
@@ -318,9 +306,8 @@ paired-binder : (around : List Binder) (shown : List Printed) (done : List ℕ) 
     (record { origin = b; shown = binderShown r (suc c) b } ∷ shown)
 paired-binder around shown done c p b r h e =
     let n = numberAt done (suc c) (binderMark r) in
-    subst (λ x. Paired (done ++ n ∷ []) (record { name = b; place = p } ∷ around) (record { origin = b; shown = x } ∷ shown))
-    (ap (λ k. nameShown k b) (getD-at done n [] 0 p e) ∙ binder-number done c b r)
-    (paired-more {b = b} {q = p} (omega (arith, snoc-length done n p e)) (paired-later (n ∷ []) h))
+    let same : nameShown (getD (done ++ n ∷ []) p 0) b ≡ binderShown r (suc c) b = cc (getD-at done n [] 0 p e, binder-number done c b r) in
+    rw (← same) (paired-more {b = b} {q = p} (omega (arith, snoc-length done n p e)) (paired-later (n ∷ []) h))
 
 mutual
   unfolding size sizeFields
@@ -338,7 +325,7 @@ mutual
       let i = term-numbers around shown (done ++ 0 ∷ []) c (suc p) t (paired-later (0 ∷ []) h) (snoc-length done 0 p e) (omega arith) in
       apply-numbers around shown done c p e t u i
       (term-numbers around shown ((done ++ 0 ∷ []) ++ i .numbers) (renames t + c) (suc p + size t) u (paired-later (i .numbers) (paired-later (0 ∷ []) h))
-      (length-append (done ++ 0 ∷ []) (i .numbers) ∙ ap₂ (λ a b. a + b) (snoc-length done 0 p e) (i .as-many)) (omega arith))
+      (cc (length-append (done ++ 0 ∷ []) (i .numbers), snoc-length done 0 p e, i .as-many)) (omega arith))
   term-numbers around shown done c p (rcd f) h e l =
       rcd-numbers around shown done c p e f
       (field-numbers around shown (done ++ 0 ∷ []) c (suc p) f (paired-later (0 ∷ []) h) (snoc-length done 0 p e) (omega arith))
@@ -355,11 +342,11 @@ mutual
       let i = term-numbers around shown (done ++ 0 ∷ []) c (suc p) t (paired-later (0 ∷ []) h) (snoc-length done 0 p e) (omega arith) in
       cons-numbers around shown done c p e s t f i
       (field-numbers around shown ((done ++ 0 ∷ []) ++ i .numbers) (renames t + c) (suc p + size t) f (paired-later (i .numbers) (paired-later (0 ∷ []) h))
-      (length-append (done ++ 0 ∷ []) (i .numbers) ∙ ap₂ (λ a b. a + b) (snoc-length done 0 p e) (i .as-many)) (omega arith))
+      (cc (length-append (done ++ 0 ∷ []) (i .numbers), snoc-length done 0 p e, i .as-many)) (omega arith))
 
 -- Printed by the numbers of its marks, a term of at most 16,384 constructors is the renamed term, whatever stands behind the numbers.
 pub numbered-is-renamed : (t : Term Name) → size t ≤ 16384 → (rest : List ℕ) → labelled (numbered [] 1 (marks [] 0 t) ++ rest) 0 t ≡ rename t
 unfolding numbered
 numbered-is-renamed t l rest =
     let n = term-numbers [] [] [] 0 0 t paired-none refl (omega arith) in
-    ap (λ m. labelled (m ++ rest) 0 t) (ap (numbered [] 1) (sym (append-nil (marks [] 0 t))) ∙ n .runs []) ∙ n .shows rest
+    cc (append-nil (marks [] 0 t), n .runs [], n .shows rest)

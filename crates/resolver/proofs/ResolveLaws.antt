@@ -1,26 +1,22 @@
 -- Resolution, constructor by constructor: what the parts' walks give, the whole gives.
-use Prim.Native.Nat.{ℕ, zero, suc, _+_, _-_, _*_, _/_, _%_, _≤_, _<_}
+use Prim.Native.Nat.{ℕ, suc, _+_, _-_, _*_, _/_, _%_, _≤_, _<_}
 use mathlib.Core.Path.{_≡_, refl, sym, ap, ap₂, subst, _∙_}
-use mathlib.Core.Bool.{Bool, true, false, _||_}
-use mathlib.Core.List.{List, [], _∷_, _++_}
-use native.Mathlib.Nat.{add-zero}
+use mathlib.Core.List.{List, _∷_}
 use native.Mathlib.Numerals.{add-one}
 use native.Mathlib.Omega.{arith}
 use native.Mathlib.Decide.{decLt}
 use lib.Bits.{bitOr}
 use lib.Dec.{eqb}
-use lib.ListN.{length, getD, set, length-set, length-append}
-use lib.Seq.{sets, set-comm, set-set}
-use borrow.Author.Tests.{eqb-true, eqb-false}
-use Rattle.spellings.specs.Bytes.{isWord}
+use lib.ListN.{length, set, length-set, length-append}
+use lib.Seq.{sets, set-set}
+use borrow.Author.Tests.{eqb-true}
 use Rattle.spellings.proofs.BytesLaws.{by-test}
-use Rattle.kinds.specs.Kinds.{hasKind}
 use Rattle.kinds.proofs.KindsLaws.{has-none, has-join}
 use Rattle.terms.specs.Cells.{column, nameBase}
 use Rattle.grammar.proofs.ReaderLaws.{getD-past}
-use Rattle.terms.specs.Term.{Name, word, fresh, outside, Term, Fields, variable, function, apply, rcd, dot, number, nil, cons, size, sizeFields}
-use Rattle.terms.specs.Rows.{nameOf, Constructor, mkTermVar, mkTermFun, mkTermApp, mkTermRcd, mkTermDot, mkFieldNil, mkFieldCons, mkTermNum}
-use Rattle.terms.specs.Rows.{constructorOf, termBy, isCons, fieldsBy, termAt, fieldsAt}
+use Rattle.terms.specs.Term.{Name, Term, Fields, variable, function, apply, rcd, dot, number, nil, cons, size, sizeFields}
+use Rattle.terms.specs.Rows.{nameOf}
+use Rattle.terms.specs.Rows.{termAt, fieldsAt}
 use Rattle.terms.specs.Rename.{isRenamed, isOutside, holds, holdsFields}
 use Rattle.terms.specs.Binding.{Binder}
 use Rattle.terms.specs.Occurrences.{ownerOf}
@@ -44,8 +40,11 @@ mutual
   length-marks around p (variable v) = refl
   length-marks around p (function b t) = ap suc (length-marks (record { name = b; place = p } ∷ around) (suc p) t)
   length-marks around p (apply t u) =
-      ap suc (length-append (marks around (suc p) t) (marks around (suc p + size t) u) ∙ ap₂ (λ a b. a + b) (length-marks around (suc p) t)
-      (length-marks around (suc p + size t) u))
+      ap suc (cc (
+        length-append (marks around (suc p) t) (marks around (suc p + size t) u),
+        length-marks around (suc p) t,
+        length-marks around (suc p + size t) u,
+      ))
   length-marks around p (rcd f) = ap suc (length-marks-fields around (suc p) f)
   length-marks around p (dot t l) = ap suc (length-marks around (suc p) t)
   length-marks around p (number n) = refl
@@ -53,8 +52,11 @@ mutual
   length-marks-fields : (around : List Binder) (p : ℕ) (f : Fields Name) → length (marksFields around p f) ≡ sizeFields f
   length-marks-fields around p nil = refl
   length-marks-fields around p (cons l t f) =
-      ap suc (length-append (marks around (suc p) t) (marksFields around (suc p + size t) f) ∙ ap₂ (λ a b. a + b) (length-marks around (suc p) t)
-      (length-marks-fields around (suc p + size t) f))
+      ap suc (cc (
+        length-append (marks around (suc p) t) (marksFields around (suc p + size t) f),
+        length-marks around (suc p) t,
+        length-marks-fields around (suc p + size t) f,
+      ))
 
 -- ------------------------------------------------------------------ names
 
@@ -103,9 +105,12 @@ module _ {spell : ℕ → List ℕ} {around : List Binder} {p : ℕ} where
         holding = w .holding;
         kept = c;
         marked =
-            ap₂ (λ l n. set l p n) (w .marked ∙ ap (λ n. sets (set room p 0) n (body n t)) (add-one p)) e
-            ∙ set-sets (set room p 0) p (suc p) (binderMark (isRenamed b t)) (body (suc p) t) (omega arith)
-            ∙ ap (λ l. sets l (suc p) (body (suc p) t)) (set-set room p 0 (binderMark (isRenamed b t)));
+            cc (
+              w .marked,
+              add-one p,
+              set-sets (set room p 0) p (suc p) (binderMark (isRenamed b t)) (body (suc p) t) (omega arith),
+              set-set room p 0 (binderMark (isRenamed b t)),
+            );
       }
 
   apply-walked : {t u : Term Name} {h₁ h₂ h q : ℕ} {current current₁ current₂ room room₁ room₂ : List ℕ}
@@ -116,15 +121,17 @@ module _ {spell : ℕ → List ℕ} {around : List Binder} {p : ℕ} where
   unfolding holds marks
   apply-walked {t} {u} {h₁} {h₂} {h} {q} {room = room} w w′ eq eh =
       let z : q ≡ suc p + length (marks around (suc p) t) = omega (arith, length-marks around (suc p) t) in
+      let z′ : q ≡ suc p + size t = omega arith in
       record {
-        holding = λ n l d. ap (λ m. hasKind m n) eh ∙ has-join h₁ h₂ n ∙ ap₂ _||_ (w .holding n l d) (w′ .holding n l d);
+        holding = λ n l d. rw (eh, has-join h₁ h₂ n, w .holding n l d, w′ .holding n l d) refl;
         kept = w′ .kept ∙ w .kept;
         marked =
-            w′ .marked
-            ∙ ap (λ l. sets l q (marks around q u)) (w .marked ∙ ap (λ n. sets (set room p 0) n (marks around n t)) (add-one p))
-            ∙ ap (λ n. sets (sets (set room p 0) (suc p) (marks around (suc p) t)) n (marks around q u)) z
-            ∙ ap (λ n. sets (sets (set room p 0) (suc p) (marks around (suc p) t)) (suc p + length (marks around (suc p) t)) (marks around n u)) (omega arith)
-            ∙ sym (sets-append (set room p 0) (suc p) (marks around (suc p) t) (marks around (suc p + size t) u));
+            cc (
+              w′ .marked,
+              w .marked,
+              add-one p,
+              sets-append (set room p 0) (suc p) (marks around (suc p) t) (marks around (suc p + size t) u),
+            );
       }
 
   rcd-walked : {f : Fields Name} {h : ℕ} {current current₁ room room₁ : List ℕ}
@@ -132,14 +139,14 @@ module _ {spell : ℕ → List ℕ} {around : List Binder} {p : ℕ} where
       → Walked spell around p (rcd f) h current current₁ room room₁
   unfolding holds marks
   rcd-walked {f} {room = room} w =
-      record { holding = w .holding; kept = w .kept; marked = w .marked ∙ ap (λ n. sets (set room p 0) n (marksFields around n f)) (add-one p) }
+      record { holding = w .holding; kept = w .kept; marked = cc (w .marked, add-one p) }
 
   dot-walked : {t : Term Name} (l : List ℕ) {h : ℕ} {current current₁ room room₁ : List ℕ}
       → Walked spell around (p + 1) t h current current₁ (set room p 0) room₁
       → Walked spell around p (dot t l) h current current₁ room room₁
   unfolding holds marks
   dot-walked {t} l {room = room} w =
-      record { holding = w .holding; kept = w .kept; marked = w .marked ∙ ap (λ n. sets (set room p 0) n (marks around n t)) (add-one p) }
+      record { holding = w .holding; kept = w .kept; marked = cc (w .marked, add-one p) }
 
   cons-walked : (l : List ℕ) {t : Term Name} {f : Fields Name} {h₁ h₂ h q : ℕ} {current current₁ current₂ room room₁ room₂ : List ℕ}
       → Walked spell around (p + 1) t h₁ current current₁ (set room p 0) room₁
@@ -149,16 +156,17 @@ module _ {spell : ℕ → List ℕ} {around : List Binder} {p : ℕ} where
   unfolding holdsFields marksFields
   cons-walked l {t} {f} {h₁} {h₂} {h} {q} {room = room} w w′ eq eh =
       let z : q ≡ suc p + length (marks around (suc p) t) = omega (arith, length-marks around (suc p) t) in
+      let z′ : q ≡ suc p + size t = omega arith in
       record {
-        holding = λ n l d. ap (λ m. hasKind m n) eh ∙ has-join h₁ h₂ n ∙ ap₂ _||_ (w .holding n l d) (w′ .holding n l d);
+        holding = λ n l d. rw (eh, has-join h₁ h₂ n, w .holding n l d, w′ .holding n l d) refl;
         kept = w′ .kept ∙ w .kept;
         marked =
-            w′ .marked
-            ∙ ap (λ l. sets l q (marksFields around q f)) (w .marked ∙ ap (λ n. sets (set room p 0) n (marks around n t)) (add-one p))
-            ∙ ap (λ n. sets (sets (set room p 0) (suc p) (marks around (suc p) t)) n (marksFields around q f)) z
-            ∙ ap (λ n. sets (sets (set room p 0) (suc p) (marks around (suc p) t)) (suc p + length (marks around (suc p) t)) (marksFields around n f))
-            (omega arith)
-            ∙ sym (sets-append (set room p 0) (suc p) (marks around (suc p) t) (marksFields around (suc p + size t) f));
+            cc (
+              w′ .marked,
+              w .marked,
+              add-one p,
+              sets-append (set room p 0) (suc p) (marks around (suc p) t) (marksFields around (suc p + size t) f),
+            );
       }
 
   variable-walked : {v : Name} {m h : ℕ} (current room : List ℕ) → m ≡ markOf v (ownerCode (ownerOf around v)) → Holds spell h (λ s. isOutside s v)
@@ -168,37 +176,38 @@ module _ {spell : ℕ → List ℕ} {around : List Binder} {p : ℕ} where
 
 -- ------------------------------------------------------------------ rows
 
+-- no code of a variable, a function, an application, a record or a selection
+abbrev OtherCode : ℕ → Type 0
+OtherCode code = ((((Unit {0} × (code ≡ 32 → ⊥)) × (code ≡ 33 → ⊥)) × (code ≡ 34 → ⊥)) × (code ≡ 35 → ⊥)) × (code ≡ 36 → ⊥)
+
 walked-as : {spell : ℕ → List ℕ} {around : List Binder} {p held : ℕ} {t t′ : Term Name} {current current′ room room₁ room₂ : List ℕ}
     → t ≡ t′ → room₁ ≡ room₂ → Walked spell around p t′ held current current′ room room₂ → Walked spell around p t held current current′ room room₁
-walked-as {spell} {around} {p} {held} {t} {t′} {current} {current′} {room} {room₁} {room₂} e r w =
-    subst (λ u. Walked spell around p u held current current′ room room₁) (sym e) (subst (λ l. Walked spell around p t′ held current current′ room l) (sym r) w)
+walked-as e r w = rw (e, r) w
 
 walked-fields-as : {spell : ℕ → List ℕ} {around : List Binder} {p held : ℕ} {t t′ : Fields Name} {current current′ room room₁ room₂ : List ℕ}
     → t ≡ t′ → room₁ ≡ room₂ → WalkedFields spell around p t′ held current current′ room room₂ → WalkedFields spell around p t held current current′ room room₁
-walked-fields-as {spell} {around} {p} {held} {t} {t′} {current} {current′} {room} {room₁} {room₂} e r w =
-    subst (λ u. WalkedFields spell around p u held current current′ room room₁) (sym e)
-    (subst (λ l. WalkedFields spell around p t′ held current current′ room l) (sym r) w)
+walked-fields-as e r w = rw (e, r) w
 
 -- the room before a walk, as it was written
 from-room : {spell : ℕ → List ℕ} {around : List Binder} {p held : ℕ} {t : Term Name} {current current′ room room₁ room₂ : List ℕ}
     → room₁ ≡ room₂ → Walked spell around p t held current current′ room₁ room → Walked spell around p t held current current′ room₂ room
-from-room {spell} {around} {p} {held} {t} {current} {current′} {room} e w = subst (λ l. Walked spell around p t held current current′ l room) e w
+from-room e w = rw e at w
 
 from-room-fields : {spell : ℕ → List ℕ} {around : List Binder} {p held : ℕ} {t : Fields Name} {current current′ room room₁ room₂ : List ℕ}
     → room₁ ≡ room₂ → WalkedFields spell around p t held current current′ room₁ room → WalkedFields spell around p t held current current′ room₂ room
-from-room-fields {spell} {around} {p} {held} {t} {current} {current′} {room} e w = subst (λ l. WalkedFields spell around p t held current current′ l room) e w
+from-room-fields e w = rw e at w
 
 module _ (cells : List ℕ) (k row p : ℕ) where
   pub shallow-resolves : k ≡ 0 → {room₁ : List ℕ} (current room : List ℕ) → room₁ ≡ set room p 0 → ResolvesTerm cells k row p current current room room₁ 0
   unfolding termAt
   shallow-resolves e current room er spell around apart wh kn len env =
-      walked-as (ap (λ n. termAt n spell cells row) e) er (number-walked 0 current room)
+      walked-as (cc) er (number-walked 0 current room)
 
   pub shallow-resolves-fields : k ≡ 0 → {room₁ : List ℕ} (current room : List ℕ) → room₁ ≡ set room p 0
       → ResolvesFields cells k row p current current room room₁ 0
   unfolding fieldsAt
   shallow-resolves-fields e current room er spell around apart wh kn len env =
-      walked-fields-as (ap (λ n. fieldsAt n spell cells row) e) er (nil-walked current room)
+      walked-fields-as (cc) er (nil-walked current room)
 
   module _ (some : k ≡ 0 → ⊥) {code : ℕ} (at : code ≡ column cells row 0) where
     pub variable-resolves : code ≡ 32 → {x m h : ℕ} {room₀ room₁ : List ℕ} (current room : List ℕ) → x ≡ column cells row 1
@@ -206,16 +215,18 @@ module _ (cells : List ℕ) (k row p : ℕ) where
         → ((spell : ℕ → List ℕ) → Distinct spell → VariableName spell (nameOf spell x) → Holds spell h (λ s. isOutside s (nameOf spell x)))
         → room₁ ≡ set room₀ p m → ResolvesTerm cells k row p current current room room₁ h
     unfolding WellNamed
-    variable-resolves e {m = m} current room ex e₀ em eh er spell around apart wh kn len env =
-        let t = rows.var-row spell cells k row some at e ∙ ap (λ n. variable (nameOf spell n)) (sym ex) in
+    variable-resolves e {x} {m} current room ex e₀ em eh er spell around apart wh kn len env =
+        let t : termAt k spell cells row ≡ variable (nameOf spell x) = rw ex (rows.var-row spell cells k row some at e) in
         let kn′ = subst (WellNamed spell) t kn in
-        walked-as t (er ∙ ap (λ l. set l p m) e₀ ∙ set-set room p 0 m) (variable-walked current room (em spell around kn′ env) (eh spell apart kn′))
+        walked-as t (cc (set-set room p 0 m)) (variable-walked current room (em spell around kn′ env) (eh spell apart kn′))
 
-    pub number-resolves : (code ≡ 32 → ⊥) → (code ≡ 33 → ⊥) → (code ≡ 34 → ⊥) → (code ≡ 35 → ⊥) → (code ≡ 36 → ⊥) → {room₁ : List ℕ} (current room : List ℕ)
+    pub number-resolves : OtherCode code → {room₁ : List ℕ} (current room : List ℕ)
         → room₁ ≡ set room p 0 → ResolvesTerm cells k row p current current room room₁ 0
-    number-resolves v a b c d {room₁} current room er spell around apart wh kn len env =
+    number-resolves others {room₁} current room er spell around apart wh kn len env =
+        let (before-dot, d) = others in
+        let (before-rcd, c) = before-dot in
         rows.number-row spell cells k row some at (λ t. Walked spell around p t 0 current current room room₁)
-        (λ n. walked-as refl er (number-walked n current room)) v a b c d
+        (λ n. walked-as refl er (number-walked n current room)) (before-rcd .0 .0 .1) (before-rcd .0 .1) (before-rcd .1) c d
 
     pub function-resolves : code ≡ 33 → {x outer held v : ℕ} {current current₁ current₂ current₃ room room₀ room₁ room₂ : List ℕ} → x ≡ column cells row 1
         → room₀ ≡ set room p 0 → Exchanged cells x (p + 1) current current₁ outer
@@ -224,10 +235,11 @@ module _ (cells : List ℕ) (k row p : ℕ) where
         → room₂ ≡ set room₁ p v → ResolvesTerm cells k row p current current₃ room room₂ held
     unfolding WellNamed
     function-resolves e {x} {current = current} {current₁ = current₁} ex e₀ ee body e₃ mark er spell around apart wh kn len env =
-        let t = rows.fun-row spell cells k row some at e ∙ ap (λ n. function (nameOf spell n) (termAt (k - 1) spell cells (column cells row 2))) (sym ex) in
+        let t : termAt k spell cells row ≡ function (nameOf spell x) (termAt (k - 1) spell cells (column cells row 2)) =
+        rw ex (rows.fun-row spell cells k row some at e) in
         let kn′ = subst (WellNamed spell) t kn in
         let slot : slotOf cells x < 16384 =
-        subst (λ n. slotOf cells n < 16384) (sym ex) (slot-there cells row (row-inside cells row wh (sym at ∙ e)) (wh .few) (sym at ∙ e)) in
+        rw ex (slot-there cells row (row-inside cells row wh (sym at ∙ e)) (wh .few) (sym at ∙ e)) in
         let inside : slotOf cells x < length cells / 4 = slot-is cells x (length cells / 4) (omega (arith, wh .few)) slot .inside in
         let inner : Around spell cells (record { name = nameOf spell x; place = p } ∷ around) current₁ =
         subst (Around spell cells (record { name = nameOf spell x; place = p } ∷ around)) (sym (ee .stored))
@@ -236,7 +248,7 @@ module _ (cells : List ℕ) (k row p : ℕ) where
         (omega (arith, ap length (ee .stored), length-set current (slotOf cells x) (p + 1), len)) inner in
         walked-as t er
         (function-walked (from-room e₀ w) (mark spell (termAt (k - 1) spell cells (column cells row 2)) apart (kn′ .1) (kn′ .0) (w .holding))
-        (e₃ ∙ ap₂ (λ l o. set l (slotOf cells x) o) (w .kept ∙ ee .stored) (ee .was) ∙ restored current (slotOf cells x) (p + 1)))
+        (cc (w .kept, ee .stored, ee .was, restored current (slotOf cells x) (p + 1))))
 
     pub apply-resolves : code ≡ 34 → {q q′ p′ h₁ h₂ h : ℕ} {current current₁ current₂ room room₀ room₁ room₂ : List ℕ} → q ≡ column cells row 1
         → q′ ≡ column cells row 2
@@ -245,26 +257,27 @@ module _ (cells : List ℕ) (k row p : ℕ) where
         → h ≡ bitOr h₁ h₂ → ResolvesTerm cells k row p current current₂ room room₂ h
     unfolding WellNamed
     apply-resolves e {q} {q′} {current₁ = current₁} eq eq′ e₀ first ep second eh spell around apart wh kn len env =
-        let t = rows.app-row spell cells k row some at e ∙ ap₂ (λ a b. apply (termAt (k - 1) spell cells a) (termAt (k - 1) spell cells b)) (sym eq)
-        (sym eq′) in
+        let t : termAt k spell cells row ≡ apply (termAt (k - 1) spell cells q) (termAt (k - 1) spell cells q′) =
+        rw (eq, eq′) (rows.app-row spell cells k row some at e) in
         let kn′ = subst (WellNamed spell) t kn in
         let w = first spell around apart wh (kn′ .0) len env in
         let w′ = second spell around apart wh (kn′ .1) (omega (arith, ap length (w .kept))) (subst (Around spell cells around) (sym (w .kept)) env) in
-        walked-as t refl (apply-walked (from-room e₀ w) w′ (ep ∙ ap (λ n. p + 1 + n) (size-spell (k - 1) noSpell spell cells q)) eh)
+        walked-as t refl (apply-walked (from-room e₀ w) w′ (cc (size-spell (k - 1) noSpell spell cells q)) eh)
 
     pub rcd-resolves : code ≡ 35 → {q h : ℕ} {current current₁ room room₀ room₁ : List ℕ} → q ≡ column cells row 1
         → room₀ ≡ set room p 0 → ResolvesFields cells (k - 1) q (p + 1) current current₁ room₀ room₁ h
         → ResolvesTerm cells k row p current current₁ room room₁ h
     unfolding WellNamed
     rcd-resolves e {q} eq e₀ first spell around apart wh kn len env =
-        let t = rows.rcd-row spell cells k row some at e ∙ ap (λ a. rcd (fieldsAt (k - 1) spell cells a)) (sym eq) in
+        let t : termAt k spell cells row ≡ rcd (fieldsAt (k - 1) spell cells q) = rw eq (rows.rcd-row spell cells k row some at e) in
         walked-as t refl (rcd-walked (from-room-fields e₀ (first spell around apart wh (subst (WellNamed spell) t kn) len env)))
 
     pub dot-resolves : code ≡ 36 → {q h : ℕ} {current current₁ room room₀ room₁ : List ℕ} → q ≡ column cells row 1
         → room₀ ≡ set room p 0 → ResolvesTerm cells (k - 1) q (p + 1) current current₁ room₀ room₁ h → ResolvesTerm cells k row p current current₁ room room₁ h
     unfolding WellNamed
     dot-resolves e {q} eq e₀ first spell around apart wh kn len env =
-        let t = rows.dot-row spell cells k row some at e ∙ ap (λ a. dot (termAt (k - 1) spell cells a) (spell (column cells row 2))) (sym eq) in
+        let t : termAt k spell cells row ≡ dot (termAt (k - 1) spell cells q) (spell (column cells row 2)) =
+        rw eq (rows.dot-row spell cells k row some at e) in
         walked-as t refl (dot-walked (spell (column cells row 2)) (from-room e₀ (first spell around apart wh (subst (WellNamed spell) t kn) len env)))
 
     pub cons-resolves : code ≡ 38 → {q q′ p′ h₁ h₂ h : ℕ} {current current₁ current₂ room room₀ room₁ room₂ : List ℕ} → q ≡ column cells row 2
@@ -274,13 +287,13 @@ module _ (cells : List ℕ) (k row p : ℕ) where
         → h ≡ bitOr h₁ h₂ → ResolvesFields cells k row p current current₂ room room₂ h
     unfolding WellNamedFields
     cons-resolves e {q} {q′} eq eq′ e₀ first ep second eh spell around apart wh kn len env =
-        let t = rows.cons-row spell cells k row some at e ∙ ap₂
-        (λ a b. cons (spell (column cells row 1)) (termAt (k - 1) spell cells a) (fieldsAt (k - 1) spell cells b)) (sym eq) (sym eq′) in
+        let t : fieldsAt k spell cells row ≡ cons (spell (column cells row 1)) (termAt (k - 1) spell cells q) (fieldsAt (k - 1) spell cells q′) =
+        rw (eq, eq′) (rows.cons-row spell cells k row some at e) in
         let kn′ = subst (WellNamedFields spell) t kn in
         let w = first spell around apart wh (kn′ .0) len env in
         let w′ = second spell around apart wh (kn′ .1) (omega (arith, ap length (w .kept))) (subst (Around spell cells around) (sym (w .kept)) env) in
         walked-fields-as t refl
-        (cons-walked (spell (column cells row 1)) (from-room e₀ w) w′ (ep ∙ ap (λ n. p + 1 + n) (size-spell (k - 1) noSpell spell cells q)) eh)
+        (cons-walked (spell (column cells row 1)) (from-room e₀ w) w′ (cc (size-spell (k - 1) noSpell spell cells q)) eh)
 
     pub nil-resolves : (code ≡ 38 → ⊥) → {room₁ : List ℕ} (current room : List ℕ) → room₁ ≡ set room p 0
         → ResolvesFields cells k row p current current room room₁ 0
@@ -326,9 +339,12 @@ module _ (cells : List ℕ) (k row p : ℕ) where
     unfolding size
     dot-place e eq = rw (eq, rows.dot-row noSpell cells k row some at e) (omega arith)
 
-    pub number-place : (code ≡ 32 → ⊥) → (code ≡ 33 → ⊥) → (code ≡ 34 → ⊥) → (code ≡ 35 → ⊥) → (code ≡ 36 → ⊥) → p + 1 ≡ p + size (T cells k row)
+    pub number-place : OtherCode code → p + 1 ≡ p + size (T cells k row)
     unfolding size
-    number-place v a b c d = rows.number-row noSpell cells k row some at (λ t. p + 1 ≡ p + size t) (λ n. refl) v a b c d
+    number-place others =
+        let (before-dot, d) = others in
+        let (before-rcd, c) = before-dot in
+        rows.number-row noSpell cells k row some at (λ t. p + 1 ≡ p + size t) (λ n. refl) (before-rcd .0 .0 .1) (before-rcd .0 .1) (before-rcd .1) c d
 
     pub cons-place : code ≡ 38 → {q q′ : ℕ} → q ≡ column cells row 2 → q′ ≡ column cells row 3
         → p + 1 + size (T cells (k - 1) q) + sizeFields (F cells (k - 1) q′) ≡ p + sizeFields (F cells k row)
@@ -371,14 +387,14 @@ module _ {cells links : List ℕ} where
   -- The same of a term whose row was read.
   pub walkable-row : (k : ℕ) {row row′ p : ℕ} {room : List ℕ} → row′ ≡ row → Walkable cells links (sizeAt cells k row) p room
       → Walkable cells links (sizeAt cells k row′) p room
-  walkable-row k {p = p} {room} e w = subst (λ r. Walkable cells links (sizeAt cells k r) p room) (sym e) w
+  walkable-row k {p = p} {room} e w = rw e w
 
 pub walks-row : {cells : List ℕ} {k row row′ p p′ : ℕ} {current current′ room room′ : List ℕ} {held : ℕ} → row′ ≡ row
     → WalksTerm cells k row′ p p′ current current′ room room′ held → WalksTerm cells k row p p′ current current′ room room′ held
 walks-row {cells} {k} {p = p} {p′} {current} {current′} {room} {room′} {held} e w =
-    subst (λ r. WalksTerm cells k r p p′ current current′ room room′ held) e w
+    rw e at w
 
 -- A binder's place and one more, stored in its slot.
 pub entered : {cells : List ℕ} (p : ℕ) {x v : ℕ} {current current′ : List ℕ} {r : ℕ} → Exchanged cells x v current current′ r → v ≡ p + 1
     → Exchanged cells x (p + 1) current current′ r
-entered {cells} p {x} {current = current} {current′} {r} h e = subst (λ n. Exchanged cells x n current current′ r) e h
+entered {cells} p {x} {current = current} {current′} {r} h e = rw e at h

@@ -1,19 +1,17 @@
 -- From the marks of a walk to the answer and the numbers of new names.
 use Prim.Native.Nat.{ℕ, _≤_}
-use mathlib.Core.Path.{_≡_, refl, sym, ap, _∙_}
+use mathlib.Core.Path.{_≡_, sym, ap, _∙_}
 use mathlib.Core.List.{List, [], _∷_, _++_}
 use native.Mathlib.Omega.{arith}
-use lib.ListN.{length, getD, take, drop, replicate}
+use lib.ListN.{length, take, drop, replicate}
 use Rattle.terms.specs.Term.{Name, Term, size}
 use Rattle.terms.specs.Rows.{termAt}
-use Rattle.terms.specs.Loose.{Walk, loose, reached}
 use Rattle.terms.specs.Occurrences.{ownerOf, stopsAtFirst}
-use Rattle.terms.specs.Labelled.{labelled}
 use Rattle.rows.specs.Sizes.{noSpell}
 use Rattle.rows.proofs.ListLaws.{zeros, sets-front}
 use Rattle.rows.proofs.SizeLaws.{size-spell}
 use Rattle.resolver.specs.declared.Resolution.{Resolution}
-use Rattle.resolver.specs.declared.Resolution.the-variants.{Loose, Numbered}
+use Rattle.resolver.specs.declared.Resolution.the-variants.{Numbered}
 use Rattle.resolver.specs.Marks.{marks, Around, slotOf, ResolvesTerm}
 use Rattle.resolver.specs.Walks.{Prepared}
 use Rattle.resolver.specs.Numbers.{numbered, looseIn, firstLoose, walkOf, Resolvable, Resolves}
@@ -24,12 +22,12 @@ use Rattle.resolver.proofs.NumberLaws.{numbered-is-renamed}
 -- under no binder, a room of zeros
 around-none : (spell : ℕ → List ℕ) (cells current : List ℕ) → current ≡ replicate (length current) 0 → Around spell cells [] current
 unfolding ownerOf
-around-none spell cells current e x b = ap (λ l. getD l (slotOf cells x) 0) e ∙ zeros (length current) (slotOf cells x)
+around-none spell cells current e x b = cc (zeros (length current) (slotOf cells x))
 
 -- the first place without an owner is where the walk stops
 stops-first : (ps : List ℕ) (end : ℕ) {r : Resolution} → r ≡ firstLoose ps → stopsAtFirst ps end ≡ walkOf r end
-stops-first [] end e = sym (ap (λ r. walkOf r end) e)
-stops-first (p ∷ ps) end e = sym (ap (λ r. walkOf r end) e)
+stops-first [] end e = sym cc
+stops-first (p ∷ ps) end e = sym cc
 
 -- a walk's marks, numbered, are a resolution
 pub resolves-numbered : {cells links current room room₁ room₂ current′ : List ℕ} {made root held n : ℕ} {r : Resolution}
@@ -45,9 +43,8 @@ resolves-numbered {cells} {current = current} {room} {room₁} {made = made} {ro
     let long : n ≤ length room = omega (arith, en) in
     let front : take n room₁ ≡ marks [] 0 t = ap (take n) (w .marked) ∙ sets-front room (marks [] 0 t) n (length-marks [] 0 t ∙ same) long in
     record {
-      answer = walk-by-marks t small ∙ stops-first (looseIn 0 (marks [] 0 t)) (size t) (er ∙ ap (λ ms. firstLoose (looseIn 0 ms)) front);
+      answer = walk-by-marks t small ∙ stops-first (looseIn 0 (marks [] 0 t)) (size t) (rw front at er);
       named =
           λ e.
-          ap (λ l. labelled l 0 t) (named e ∙ ap (λ ms. numbered [] 1 ms ++ drop n room₁) front)
-          ∙ numbered-is-renamed t small (drop n room₁);
+          cc (named e, numbered-is-renamed t small (drop n room₁));
     }

@@ -1,20 +1,20 @@
 -- The slots of names, and the environment of a walk under binders.
-use Prim.Native.Nat.{ℕ, zero, suc, _+_, _-_, _*_, _/_, _%_, _≤_, _<_}
-use mathlib.Core.Path.{_≡_, refl, sym, ap, subst, _∙_}
-use mathlib.Core.Bool.{Bool, true, false, _&&_, and-eq-true-iff}
-use mathlib.Core.List.{List, [], _∷_}
+use Prim.Native.Nat.{ℕ, zero, suc, _+_, _*_, _/_, _%_, _≤_, _<_}
+use mathlib.Core.Path.{_≡_, refl, sym, ap, _∙_}
+use mathlib.Core.Bool.{Bool, true, false, and-eq-true-iff}
+use mathlib.Core.List.{List, _∷_}
 use native.Mathlib.Omega.{arith}
 use lib.Dec.{eqb}
 use lib.ListN.{length, getD, set}
 use lib.Seq.{getD-set-same, getD-set-other, set-getD, set-set, set-out}
 use borrow.Author.Tests.{eq-eqb, ne-eqb, eqb-true, eqb-false}
-use Rattle.spellings.specs.Bytes.{same, isWord}
+use Rattle.spellings.specs.Bytes.{same}
 use Rattle.spellings.proofs.BytesLaws.{by-test, same-true, same-refl}
 use Rattle.terms.specs.Cells.{column, nameBase}
-use Rattle.terms.specs.Term.{Name, word, fresh, outside}
+use Rattle.terms.specs.Term.{Name, word, fresh}
 use Rattle.terms.specs.Rows.{nameOf}
 use Rattle.terms.specs.Rename.{belongs}
-use Rattle.terms.specs.Binding.{Owner, unbound, boundAt, Binder}
+use Rattle.terms.specs.Binding.{boundAt, Binder}
 use Rattle.terms.specs.Occurrences.{ownerOf}
 use Rattle.resolver.specs.Marks.{ownerCode, binds, slotFrom, slotOf, Bindable, bindable-word, bindable-fresh, Around}
 use Rattle.resolver.specs.Walks.{Exchanged}
@@ -41,7 +41,7 @@ slot-first zero cells row x r a b m e = absurd (omega arith)
 slot-first (suc n) cells row x r a b m e =
     by-test (binds cells row x) (λ t. rw (t, slotFrom) (omega arith))
     (λ f.
-    let other : row ≡ r → ⊥ = λ z. absurd (clash (binds cells r x) e (ap (λ q. binds cells q x) (sym z) ∙ f)) in
+    let other : row ≡ r → ⊥ = λ z. absurd (clash (binds cells r x) e cc) in
     rw (f, slotFrom) (slot-first n cells (suc row) x r (omega (arith, other)) (omega arith) (omega arith) e))
   where
     clash : (b : Bool) → b ≡ true → b ≡ false → ⊥
@@ -62,7 +62,7 @@ module _ (spell : ℕ → List ℕ) where
   named-word n h =
       let c : (1 * nameBase + n) / nameBase ≡ 1 = omega arith in
       let d : (1 * nameBase + n) % nameBase ≡ n = omega arith in
-      rw (c, nameOf) (ap (λ m. word (spell m)) d)
+      rw (c, nameOf) cc
 
   named-fresh : (n : ℕ) → n < nameBase → nameOf spell (2 * nameBase + n) ≡ fresh n
   unfolding nameOf
@@ -79,11 +79,11 @@ module _ (spell : ℕ → List ℕ) where
   pub belongs-other : Distinct spell → (x y : ℕ) → Bindable spell x → Bindable spell y → (x ≡ y → ⊥) → belongs (nameOf spell x) (nameOf spell y) ≡ false
   belongs-other apart _ _ (bindable-word {n = n} h w) (bindable-word {n = m} k v) d =
       rw (named-word n h, named-word m k)
-      (by-test (same (spell n) (spell m)) (λ e. absurd (d (ap (λ i. 1 * nameBase + i) (apart n m w (same-true (spell n) (spell m) e))))) (λ e. e))
+      (by-test (same (spell n) (spell m)) (λ e. absurd (d (cc (apart n m w (same-true (spell n) (spell m) e))))) (λ e. e))
   belongs-other apart _ _ (bindable-word {n = n} h w) (bindable-fresh {n = m} k) d = rw (named-word n h, named-fresh m k) refl
   belongs-other apart _ _ (bindable-fresh {n = n} h) (bindable-word {n = m} k v) d = rw (named-fresh n h, named-word m k) refl
   belongs-other apart _ _ (bindable-fresh {n = n} h) (bindable-fresh {n = m} k) d =
-      rw (named-fresh n h, named-fresh m k) (ne-eqb n m (λ e. d (ap (λ i. 2 * nameBase + i) e)))
+      rw (named-fresh n h, named-fresh m k) (ne-eqb n m (λ e. d cc))
 
   -- ------------------------------------------------------------------ the environment
 
@@ -103,14 +103,14 @@ module _ (spell : ℕ → List ℕ) where
       by-test (eqb x y)
       (λ e.
       let z : x ≡ y = eqb-true x y e in
-      ap (λ q. getD (set current (slotOf cells y) (p + 1)) (slotOf cells q) 0) z
+      rw z refl
       ∙ getD-set-same current (slotOf cells y) (p + 1) 0 (omega arith)
       ∙ sym (ap ownerCode (owner-own around (record { name = nameOf spell y; place = p }) (nameOf spell x)
-      (ap (λ q. belongs (nameOf spell q) (nameOf spell y)) z ∙ belongs-same y b)) ∙ omega arith))
+      (cc (z, belongs-same y b))) ∙ omega arith))
       (λ e.
       let d : x ≡ y → ⊥ = eqb-false x y e in
       let apart-slots : slotOf cells x ≡ slotOf cells y → ⊥ =
-      λ s. d (sym (slot-name cells x (omega arith)) ∙ ap (λ r. column cells r 1) s ∙ slot-name cells y l) in
+      λ s. d (cc (slot-name cells x (omega arith), s, slot-name cells y l)) in
       getD-set-other current (slotOf cells y) (slotOf cells x) (p + 1) 0 apart-slots
       ∙ env x a
       ∙ sym (ap ownerCode (owner-outer around (record { name = nameOf spell y; place = p }) (nameOf spell x) (belongs-other apart x y a b d))))
@@ -122,8 +122,8 @@ restored current s v = set-set current s v (getD current s 0) ∙ set-getD curre
 module _ {cells current : List ℕ} {x v s r : ℕ} (at : s ≡ slotOf cells x) (was : r ≡ getD current s 0) where
   -- A store in a name's slot.
   pub exchanged : Exchanged cells x v current (set current s v) r
-  exchanged = record { stored = ap (λ n. set current n v) at; was = was ∙ ap (λ n. getD current n 0) at }
+  exchanged = record { stored = cc; was = cc }
 
   -- A name without a slot.
   pub not-exchanged : length current ≤ s → Exchanged cells x v current current r
-  not-exchanged l = record { stored = sym (set-out current s v l) ∙ ap (λ n. set current n v) at; was = was ∙ ap (λ n. getD current n 0) at }
+  not-exchanged l = record { stored = cc (set-out current s v l); was = cc }

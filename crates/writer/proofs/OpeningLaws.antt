@@ -2,7 +2,7 @@
 use Prim.Native.Nat.{ℕ, zero, suc, _/_, _%_, _<_, _≤_}
 use mathlib.Core.Path.{_≡_, refl, sym, ap, _∙_}
 use mathlib.Core.Logic.{_⊎_}
-use mathlib.Core.List.{List, [], _∷_, _++_}
+use mathlib.Core.List.{List, [], _∷_}
 use native.Mathlib.Omega.{arith}
 use lib.Dec.{eqb}
 use lib.ListN.{getD}
@@ -14,7 +14,7 @@ use Rattle.terms.specs.Term.{Name}
 use Rattle.terms.specs.Rows.{nameOf, termAt, fieldsAt}
 use Rattle.terms.specs.Rename.{newName, written}
 use Rattle.terms.specs.Print.{numeral}
-use Rattle.terms.specs.Labelled.{nameShown, labelled, labelledFields}
+use Rattle.terms.specs.Labelled.{nameShown, labelled}
 use Rattle.rows.proofs.RowLaws as rows
 use Rattle.rows.proofs.RowLaws.{as-word, as-fresh, as-outside}
 use Rattle.writer.specs.Openings.{opening, openingFields, spellIn, numberOpening, termOpening, fieldsOpening, NameFits, OpeningFits, FieldsOpeningFits}
@@ -25,7 +25,7 @@ use Rattle.writer.proofs.Pieces.{Going, go-start}
 new-split : (k n : ℕ) (v : Name) → 0 < k → n ≡ k → nameShown k v ≡ 0x5F ∷ decimal n
 unfolding newName
 new-split zero n v h e = absurd (omega arith)
-new-split (suc k) n v h e = ap (λ m. 0x5F ∷ decimal m) (sym e)
+new-split (suc k) n v h e = cc
 
 -- a new name
 pub new-name : {pool : List ℕ} {x shown at n : ℕ} (out : List ℕ) → NameFits pool x shown at → 0 < shown → n ≡ shown
@@ -126,7 +126,10 @@ module _ {pool cells numbers : List ℕ} {k row at p : ℕ} (out : List ℕ) (f 
         let (before-dot, not-dot) = before-nil in
         let (until-app, not-rcd) = before-dot in
         go-start out
-        (rw (ex, rows.num-row (spellIn pool) cells k row some c (until-app .0 .0 .1) (until-app .0 .1) (until-app .1) not-rcd not-dot not-nil not-cons) refl)
+        (rw (
+          ex,
+          rows.num-row (spellIn pool) cells k row some c (until-app .0 .0 .1) (until-app .0 .1) (until-app .1) not-rcd not-dot not-nil not-cons,
+        ) refl)
 
 module _ {pool cells : List ℕ} {k row at : ℕ} (out : List ℕ) (f : FieldsOpeningFits pool cells k row at) where
   abbrev OpeningFields : List (List ℕ) → Type 0

@@ -1,10 +1,9 @@
 -- Writes one behind the other: a text that is written piece by piece.
 use Prim.Native.Nat.{ℕ, _+_, _^_, _<_, _≤_}
-use mathlib.Core.Path.{_≡_, refl, sym, ap, ap₂, subst, _∙_}
+use mathlib.Core.Path.{_≡_, refl, sym, ap, _∙_}
 use mathlib.Core.List.{List, [], _∷_, _++_, append-assoc}
 use native.Mathlib.Omega.{arith}
 use lib.ListN.{length, length-append}
-use lib.Seq.{sets}
 use Rattle.rows.proofs.ListLaws.{sets-append}
 use Rattle.writer.specs.Openings.{Wrote}
 
@@ -19,11 +18,11 @@ then {out} {out₁} {out₂} {at} {r₁} {r₂} {a} {b} h k =
           λ l.
           let first : at + length a ≤ length out = omega arith in
           let second : r₁ + length b ≤ length out₁ = omega (arith, h .end, h .same) in
-          k .put second ∙ ap₂ (λ o i. sets o i b) (h .put first) (h .end) ∙ sym (sets-append out at a b);
+          cc (k .put second, h .put first, h .end, sets-append out at a b);
     }
 
 pub as-text : {out out′ : List ℕ} {at r : ℕ} {a b : List ℕ} → a ≡ b → Wrote out at a r out′ → Wrote out at b r out′
-as-text {out} {out′} {at} {r} e h = subst (λ t. Wrote out at t r out′) e h
+as-text {out} {out′} {at} {r} e h = rw e at h
 
 -- pieces of a text, joined
 abbrev pub joined : List (List ℕ) → List ℕ

@@ -1,21 +1,19 @@
 -- Laws of the room of spellings: one more spelling, and the loops that store them.
-use Prim.Native.Nat.{ℕ, zero, suc, _+_, _-_, _*_, _<_, _≤_, _^_}
-use mathlib.Core.Path.{_≡_, refl, sym, ap, ap₂, subst, _∙_}
+use Prim.Native.Nat.{ℕ, zero, suc, _+_, _-_, _*_, _<_, _≤_}
+use mathlib.Core.Path.{_≡_, refl, sym, ap, _∙_}
 use mathlib.Core.Logic.{_⊎_, inl, inr}
-use mathlib.Core.Bool.{Bool, true, false}
 use mathlib.Core.List.{List, [], _∷_, _++_, append-assoc, append-nil}
-use native.Mathlib.Numerals.{add-one}
 use native.Mathlib.Omega.{arith}
 use lib.Dec.{eqb, ltb}
-use lib.ListN.{length, getD, set, take, drop, replicate, length-append, length-take, length-drop, getD-replicate, length-replicate, List·getD-append}
-use lib.Seq.{length-take-le, sets, sets-eq, length-sets, getD-set-other, ext-getD, getD-take, getD-drop, take-at, drop-at, getD-at, take-append-seam}
+use lib.ListN.{length, getD, set, take, drop, replicate, length-append, length-take, length-drop, List·getD-append}
+use lib.Seq.{length-take-le, sets, sets-eq, length-sets, getD-set-other, ext-getD, getD-take, getD-drop, drop-at, getD-at, take-append-seam}
 use borrow.Author.Tests.{eq-eqb, ne-eqb, eqb-true, eqb-false, lt-ltb, le-ltb, ltb-true, ltb-false}
 use Rattle.spellings.proofs.BytesLaws.{by-test}
 use Rattle.grammar.specs.declared.Front.{Front}
 use Rattle.grammar.specs.declared.Front.the-variants.{Nothing, Short, Field}
 use Rattle.grammar.specs.Fields.{Fields, next}
 use Rattle.grammar.specs.Lookup.{leading, afterLeading, lexiconOf, frontOf, fieldsAt}
-use Rattle.grammar.proofs.LookupLaws.{opened, fields-at, Stops, outsides-at, few-outsides, front-inside}
+use Rattle.grammar.proofs.LookupLaws.{opened, fields-at, Stops, outsides-at, few-outsides}
 use Rattle.grammar.proofs.ReaderLaws.{getD-past}
 use Rattle.writer.specs.Openings.{spellIn, Wrote}
 use Rattle.terms.specs.Rows.{spell}
@@ -54,22 +52,26 @@ module _ (pool s : List ℕ) (i : ℕ) (short : length s < 32) (fits : i * 32 + 
 
   length-there : getD stored (i * 32) 0 ≡ length s
   length-there =
-      ap (λ l. getD l (i * 32) 0) (stored-is ∙ append-assoc (take (i * 32) pool) (length s ∷ s) (drop (i * 32 + suc (length s)) pool))
-      ∙ getD-at (take (i * 32) pool) (length s) (s ++ drop (i * 32 + suc (length s)) pool) 0 (i * 32) front-length
+      cc (
+        stored-is,
+        append-assoc (take (i * 32) pool) (length s ∷ s) (drop (i * 32 + suc (length s)) pool),
+        getD-at (take (i * 32) pool) (length s) (s ++ drop (i * 32 + suc (length s)) pool) 0 (i * 32) front-length,
+      )
 
   bytes-there : take (length s) (drop (i * 32 + 1) stored) ≡ s
   bytes-there =
       let rest : List ℕ = drop (i * 32 + suc (length s)) pool in
       let split : stored ≡ (take (i * 32) pool ++ length s ∷ []) ++ (s ++ rest) =
       stored-is ∙ append-assoc (take (i * 32) pool) (length s ∷ s) rest ∙ sym (append-assoc (take (i * 32) pool) (length s ∷ []) (s ++ rest)) in
-      let len : length (take (i * 32) pool ++ length s ∷ []) ≡ i * 32 + 1 = length-append (take (i * 32) pool) (length s ∷ []) ∙ ap (λ n. n + 1) front-length in
-      ap (λ l. take (length s) (drop (i * 32 + 1) l)) split
-      ∙ ap (take (length s)) (drop-at (take (i * 32) pool ++ length s ∷ []) (s ++ rest) (i * 32 + 1) len)
-      ∙ take-append-seam s rest
+      let len : length (take (i * 32) pool ++ length s ∷ []) ≡ i * 32 + 1 = cc (
+        length-append (take (i * 32) pool) (length s ∷ []),
+        front-length,
+      ) in
+      cc (drop-at (take (i * 32) pool ++ length s ∷ []) (s ++ rest) (i * 32 + 1) len, take-append-seam s rest)
 
   spelled-here : spellIn stored i ≡ s
   unfolding spellIn
-  spelled-here = ap (λ n. take n (drop (i * 32 + 1) stored)) length-there ∙ bytes-there
+  spelled-here = rw (length-there, bytes-there) refl
 
   apart-from : (m k : ℕ) → (m ≡ i → ⊥) → m * 32 ≤ k → k < m * 32 + 32 → getD stored k 0 ≡ getD pool k 0
   unfolding stored
@@ -81,9 +83,11 @@ module _ (pool s : List ℕ) (i : ℕ) (short : length s < 32) (fits : i * 32 + 
   spelled-there : (m : ℕ) → (m ≡ i → ⊥) → getD pool (m * 32) 0 < 32 → spellIn stored m ≡ spellIn pool m
   unfolding spellIn stored
   spelled-there m d h =
-      ap (λ n. take n (drop (m * 32 + 1) stored)) (apart-from m (m * 32) d (omega arith) (omega arith))
-      ∙ same-part stored pool (getD pool (m * 32) 0) (m * 32 + 1) (length-sets pool (i * 32) (length s ∷ s))
-      (λ j b. apart-from m (m * 32 + 1 + j) d (omega arith) (omega arith))
+      cc (
+        apart-from m (m * 32) d (omega arith) (omega arith),
+        same-part stored pool (getD pool (m * 32) 0) (m * 32 + 1) (length-sets pool (i * 32) (length s ∷ s))
+            (λ j b. apart-from m (m * 32 + 1 + j) d (omega arith) (omega arith)),
+      )
 
   module _ {S R : ℕ → List ℕ} (p : Pooled pool S) (here : R i ≡ s) (there : (m : ℕ) → (m ≡ i → ⊥) → R m ≡ S m) where
     small-by : (m : ℕ) → getD stored (m * 32) 0 < 32
@@ -108,7 +112,7 @@ module _ (pool s : List ℕ) (i : ℕ) (short : length s < 32) (fits : i * 32 + 
 -- the bytes as the code stores them: the length, then the rest
 pub stored-both : {pool pool₁ pool₂ : List ℕ} {at r₁ r₂ n : ℕ} {s : List ℕ} → n ≡ length s → Wrote pool at (n ∷ []) r₁ pool₁ → Wrote pool₁ r₁ s r₂ pool₂
     → at + suc (length s) ≤ length pool → pool₂ ≡ sets pool at (length s ∷ s)
-stored-both {pool} {at = at} {s = s} e a b h = then a b .put (omega (arith, e)) ∙ ap (λ k. sets pool at (k ∷ s)) e
+stored-both {pool} {at = at} {s = s} e a b h = cc (then a b .put (omega (arith, e)))
 
 -- a room of zeros has no spelling
 pub pooled-none : (n : ℕ) → Pooled (replicate n 0) noneOf
@@ -116,7 +120,7 @@ unfolding spellIn
 pooled-none n =
     record {
       small = λ m. omega (arith, zeros n (m * 32));
-      spelled = λ m. ap (λ k. take k (drop (m * 32 + 1) (replicate n 0))) (zeros n (m * 32));
+      spelled = λ m. cc (zeros n (m * 32));
     }
 
 -- ------------------------------------------------------------------ the outside names
@@ -152,8 +156,8 @@ module _ {table pool₀ pool : List ℕ} {start at i : ℕ} (c : Filling table p
 
   finished : take (64 - i) (leading 2 (fieldsAt table at)) ≡ [] → Pooled pool (oneOf (lexiconOf table .outsides))
   finished e =
-      let z : lexiconOf table .outsides ≡ c .done = outs ∙ ap (λ l. c .done ++ l) e ∙ append-nil (c .done) in
-      record { small = c .pooled .small; spelled = λ m. c .pooled .spelled m ∙ ap (λ l. getD l m []) (sym z) }
+      let z : lexiconOf table .outsides ≡ c .done = cc (outs, e, append-nil (c .done)) in
+      record { small = c .pooled .small; spelled = λ m. cc (c .pooled .spelled m) }
 
   take-none : (n : ℕ) → take {A = List ℕ} n [] ≡ []
   take-none zero = refl
@@ -162,10 +166,10 @@ module _ {table pool₀ pool : List ℕ} {start at i : ℕ} (c : Filling table p
   pub filling-out : (r : Front) → r ≡ frontOf (drop at table) → Stops 2 r → Pooled pool (oneOf (lexiconOf table .outsides))
   filling-out r e h =
       finished
-      (ap (λ fs. take (64 - i) (leading 2 fs)) (fields-at table at e) ∙ ap (take (64 - i)) (stop-leading table at 2 r h) ∙ take-none (64 - i))
+      (cc (fields-at table at e, stop-leading table at 2 r h, take-none (64 - i)))
 
   pub filling-end : 64 ≤ i → Pooled pool (oneOf (lexiconOf table .outsides))
-  filling-end h = let z : 64 - i ≡ 0 = omega arith in finished (ap (λ k. take k (leading 2 (fieldsAt table at))) z)
+  filling-end h = let z : 64 - i ≡ 0 = omega arith in finished cc
 
   module _ (h : i < 64) {t n : ℕ} (e : Field t n ≡ frontOf (drop at table)) (tagged : t ≡ 2) where
     abbrev Value : List ℕ
@@ -176,12 +180,11 @@ module _ {table pool₀ pool : List ℕ} {start at i : ℕ} (c : Filling table p
         let z : 64 - i ≡ suc (64 - (i + 1)) = omega arith in
         ap (λ fs. take (64 - i) (leading 2 fs)) (fields-at table at e)
         ∙ ap (take (64 - i)) (one-leading table at 2 t _ _ tagged)
-        ∙ ap (λ k. take k (Value ∷ leading 2 (fieldsAt table (at + 3 + n)))) z
+        ∙ rw z refl
 
     pub value-there : oneOf (lexiconOf table .outsides) i ≡ Value
     value-there =
-        ap (λ l. getD l i []) (outs ∙ ap (λ l. c .done ++ l) one-left)
-        ∙ getD-at (c .done) Value (take (64 - (i + 1)) (leading 2 (fieldsAt table (at + 3 + n)))) [] i (c .many)
+        cc (outs, one-left, getD-at (c .done) Value (take (64 - (i + 1)) (leading 2 (fieldsAt table (at + 3 + n)))) [] i (c .many))
 
     pub value-short : ((m : ℕ) → length (oneOf (lexiconOf table .outsides) m) < 32) → {v : List ℕ} → v ≡ Value → length v < 32
     value-short hs ev = omega (arith, hs i, ap length value-there, ap length ev)
@@ -214,10 +217,9 @@ module _ {table pool₀ pool : List ℕ} {start at i : ℕ} (c : Filling table p
             few = omega arith;
             long = ap length ep ∙ length-sets pool (i * 32) (length v ∷ v) ∙ c .long;
             done = more;
-            many = length-append (c .done) (v ∷ []) ∙ ap (λ k. k + 1) (c .many);
+            many = cc (length-append (c .done) (v ∷ []), c .many);
             rest =
-                c .rest ∙ ap (λ l. c .done ++ l) (one-left ∙ ap (λ x. x ∷ take (64 - (i + 1)) (leading 2 (fieldsAt table (at + 3 + n)))) (sym ev))
-                ∙ sym (append-assoc (c .done) (v ∷ []) (take (64 - (i + 1)) (leading 2 (fieldsAt table (at + 3 + n)))));
+                cc (c .rest, one-left, ev, append-assoc (c .done) (v ∷ []) (take (64 - (i + 1)) (leading 2 (fieldsAt table (at + 3 + n)))));
             pooled = pooled-more;
           }
 
@@ -285,7 +287,7 @@ module _ (outs : List (List ℕ)) (formula room : List ℕ) where
   -- a word as the code reads it
   pub word-is : (i : ℕ) {at size : ℕ} {v : List ℕ} → at ≡ getD room (i * 2) 0 → size ≡ getD room (i * 2 + 1) 0 → v ≡ take size (drop at formula)
       → v ≡ spanned formula room i
-  word-is i ea es ev = ev ∙ ap₂ (λ a b. take b (drop a formula)) ea es
+  word-is i ea es ev = cc
 
   pub word-short : (i count : ℕ) {v : List ℕ} → ((j : ℕ) → j < count → length (spanned formula room j) < 32) → i < count → v ≡ spanned formula room i
       → length v < 32
@@ -316,4 +318,4 @@ pub storing-end : {outs : List (List ℕ)} {formula room pool₀ pool : List ℕ
     → Pooled pool (filledTo outs formula room count)
 storing-end {outs} {formula} {room} {pool₀} {pool} {count} {i} c l =
     let z : i ≡ count = omega (arith, c .inside) in
-    subst (λ n. Pooled pool (filledTo outs formula room n)) z (c .pooled)
+    rw z at c .pooled

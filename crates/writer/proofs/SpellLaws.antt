@@ -1,7 +1,7 @@
 -- What `finish` asks of spellings, from what is known of the lists of names and words.
-use Prim.Native.Nat.{ℕ, zero, suc, _+_, _-_, _<_, _≤_}
-use mathlib.Core.Path.{_≡_, refl, sym, ap, subst, _∙_}
-use mathlib.Core.Bool.{Bool, true, false, true≢false, _&&_, and-eq-true-iff}
+use Prim.Native.Nat.{ℕ, suc, _-_, _<_, _≤_}
+use mathlib.Core.Path.{_≡_, refl, sym, ap, _∙_}
+use mathlib.Core.Bool.{true, true≢false, _&&_, and-eq-true-iff}
 use mathlib.Core.List.{List, [], _∷_}
 use native.Mathlib.Omega.{arith}
 use lib.Dec.{ltb, leb}
@@ -11,9 +11,9 @@ use Rattle.spellings.specs.Bytes.{isWord, isLetter, isWordByte, every}
 use Rattle.spellings.proofs.BytesLaws.{by-test}
 use Rattle.grammar.specs.Lookup.{lexiconOf}
 use Rattle.grammar.proofs.ReaderLaws.{getD-past}
-use Rattle.terms.specs.Rows.{termAt, spell}
-use Rattle.terms.specs.Names.{Distinct, WellNamed}
-use Rattle.writer.specs.Pool.{oneOf, spanned, Words, filledTo, spelledBy}
+use Rattle.terms.specs.Rows.{spell}
+use Rattle.terms.specs.Names.{Distinct}
+use Rattle.writer.specs.Pool.{oneOf, Words, spelledBy}
 use Rattle.writer.proofs.PoolLaws.{filled-end}
 
 -- the empty spelling is no word

@@ -1,6 +1,6 @@
 -- Writes into what remains of a buffer: a byte, and bytes by a writer to whom the rest is lent.
-use Prim.Native.Nat.{ℕ, zero, suc, _+_, _-_, _*_, _≤_, _<_, min}
-use mathlib.Core.Path.{_≡_, refl, sym, ap, subst, _∙_}
+use Prim.Native.Nat.{ℕ, _+_, _-_, _*_, _≤_, min}
+use mathlib.Core.Path.{_≡_, refl, sym, ap, _∙_}
 use mathlib.Core.List.{List, [], _∷_, _++_, append-assoc, append-nil}
 use native.Mathlib.Omega.{arith}
 use Rattle.grammar.proofs.ReaderLaws.{getD-past}
@@ -29,18 +29,19 @@ module _ (out s : List ℕ) (at from : ℕ) (ef : from ≡ min at (length out)) 
       let e : from ≡ at = omega arith in
       let all : length (drop from out) ≤ length out - from = omega (arith, rest) in
       let none : drop (length out - from) (drop from out) ≡ [] = drop-of-length-le (drop from out) all in
-      ap (λ l. take from out ++ ((s ++ drop (length s) (drop from out)) ++ l)) none
-      ∙ ap (λ l. take from out ++ l) (append-nil (s ++ drop (length s) (drop from out)) ∙ ap (λ l. s ++ l) (drop-drop (length s) from out))
-      ∙ sym (append-assoc (take from out) s (drop (from + length s) out))
-      ∙ ap (λ n. take n out ++ s ++ drop (n + length s) out) e
-      ∙ sym (sets-eq s out at h)
+      cc (
+        append-nil (s ++ drop (length s) (drop from out)),
+        drop-drop (length s) from out,
+        append-assoc (take from out) s (drop (from + length s) out),
+        sets-eq s out at h,
+      )
 
   -- a writer to whom the rest was lent, and that wrote s there if it fits
   pub lent : {r : ℕ} {last : List ℕ} → r ≡ length s → last ≡ written s (midOf from (length out - from) out)
       → Wrote out at s (at + r) (putMid from (length out - from) out last)
   lent {r} {last} er el =
       record {
-        end = ap (λ n. at + n) er;
+        end = cc;
         same = same-len-mid from (length out - from) out last (ap length el ∙ length-written s (midOf from (length out - from) out));
         put =
             λ h.
@@ -51,8 +52,8 @@ module _ (out s : List ℕ) (at from : ℕ) (ef : from ≡ min at (length out)) 
 -- the spelling of a number, read off the room
 pub spelled : (pool : List ℕ) (n : ℕ) {m : ℕ} {r : List ℕ} → m ≡ getD pool (n * 32) 0 → r ≡ take m (drop (n * 32 + 1) pool) → r ≡ spellIn pool n
 unfolding spellIn
-spelled pool n e h = h ∙ ap (λ k. take k (drop (n * 32 + 1) pool)) e
+spelled pool n e h = cc
 
 pub spelled-past : (pool : List ℕ) (n : ℕ) {r : List ℕ} → length pool ≤ n * 32 → r ≡ take 0 (drop 0 pool) → r ≡ spellIn pool n
 unfolding spellIn
-spelled-past pool n l h = h ∙ ap (λ k. take k (drop (n * 32 + 1) pool)) (sym (getD-past pool (n * 32) 0 l))
+spelled-past pool n l h = cc (getD-past pool (n * 32) 0 l)

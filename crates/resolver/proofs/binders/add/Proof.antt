@@ -18,11 +18,12 @@ mul-links c = omega (arith, c .pre .0, mod-lt (c .args .x) {m = length (c .args 
 
 slice-read-links : tie.Need-slice-read-links
 slice-read-links c =
+    let start = c .before in
     omega (
       arith,
-      c .before .pre .0,
-      mod-lt (c .before .args .x) {m = length (c .before .args .links .now) / 2}
-          (omega (arith, c .before .pre .0)),
+      start .pre .0,
+      mod-lt (start .args .x) {m = length (start .args .links .now) / 2}
+          (omega (arith, start .pre .0)),
     )
 
 add-links : tie.Need-add-links
@@ -42,26 +43,28 @@ cast-links c = search needs
 
 mul-links-3 : tie.Need-mul-links-3
 mul-links-3 c =
+    let start = c .before in
     omega (
       arith,
-      c .before .pre .0,
-      mod-lt (c .before .args .x) {m = length (c .before .args .links .now) / 2}
-          (omega (arith, c .before .pre .0)),
-      length-set (c .before .args .links .now)
-          (length (c .before .args .links .now) / 2 + c .before .args .row)
-          (getD (c .before .args .links .now) (c .before .args .x % (length (c .before .args .links .now) / 2)) 0),
+      start .pre .0,
+      mod-lt (start .args .x) {m = length (start .args .links .now) / 2}
+          (omega (arith, start .pre .0)),
+      length-set (start .args .links .now)
+          (length (start .args .links .now) / 2 + start .args .row)
+          (getD (start .args .links .now) (start .args .x % (length (start .args .links .now) / 2)) 0),
     )
 
 slice-write-links-2 : tie.Need-slice-write-links-2
 slice-write-links-2 c =
+    let start = c .before in
     omega (
       arith,
-      c .before .pre .0,
-      mod-lt (c .before .args .x) {m = length (c .before .args .links .now) / 2}
-          (omega (arith, c .before .pre .0)),
-      length-set (c .before .args .links .now)
-          (length (c .before .args .links .now) / 2 + c .before .args .row)
-          (getD (c .before .args .links .now) (c .before .args .x % (length (c .before .args .links .now) / 2)) 0),
+      start .pre .0,
+      mod-lt (start .args .x) {m = length (start .args .links .now) / 2}
+          (omega (arith, start .pre .0)),
+      length-set (start .args .links .now)
+          (length (start .args .links .now) / 2 + start .args .row)
+          (getD (start .args .links .now) (start .args .x % (length (start .args .links .now) / 2)) 0),
     )
 
 same-length : tie.Need-same-length

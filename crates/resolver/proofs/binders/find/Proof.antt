@@ -1,6 +1,6 @@
 -- `find`: every first row of the name is older than where the links have led.
-use Prim.Native.Nat.{_/_, _-_}
-use mathlib.Core.Path.{_≡_, refl, sym, ap, _∙_}
+use Prim.Native.Nat.{_/_}
+use mathlib.Core.Path.{_≡_, refl}
 use native.Mathlib.Omega.{arith}
 use lib.ListN.{length}
 use borrow.Author.Needs.{needs}
@@ -18,6 +18,10 @@ Inv-loop cells links n x half p₀ p = laws.Chasing n cells (length links / 2) x
 abbrev μ-loop : tie.MeasureT-loop
 μ-loop cells links n x half p₀ p = p
 
+-- places, each from a later one
+abbrev at-start : tie.At-loop Inv-loop μ-loop → tie.Start Inv-loop μ-loop
+at-start p = p .before .before .before .before
+
 rem-link-at : tie.Need-rem-link-at Inv-loop μ-loop
 rem-link-at c = omega (arith, (c .before .before .pre) .some)
 
@@ -32,48 +36,54 @@ sub-row c = search needs
 
 cast-column : tie.Need-cast-column Inv-loop μ-loop
 cast-column c =
-    omega (arith, laws.chasing-inside (c .before .before .before .before .before .pre) _ (c .before .loop .inv .0) (c .loop-test .taken))
+    omega (arith, laws.chasing-inside ((at-start (c .before)) .pre) _ (c .before .loop .inv .0) (c .loop-test .taken))
 
 column-requires : tie.Need-column-requires Inv-loop μ-loop
 column-requires c κs = search needs
 
 returns : tie.Need-returns Inv-loop μ-loop
 returns c =
-    let at-loop = c .before .before .before in
-    let entry = at-loop .before .before .before .before in (
-      laws.chasing-found (entry .pre) _ (at-loop .loop .inv .0) (c .before .before .loop-test .taken) (c .before .column .ensures)
+    let turn-test = c .before .before in
+    let at-loop = turn-test .before in
+    let entry = at-start at-loop in (
+      laws.chasing-found (entry .pre) _ (at-loop .loop .inv .0) (turn-test .loop-test .taken) (c .before .column .ensures)
           (c .if1 .taken),
-      omega (arith, laws.chasing-inside (entry .pre) _ (at-loop .loop .inv .0) (c .before .before .loop-test .taken)),
+      omega (arith, laws.chasing-inside (entry .pre) _ (at-loop .loop .inv .0) (turn-test .loop-test .taken)),
     )
 
 add-link-at : tie.Need-add-link-at Inv-loop μ-loop
 add-link-at c =
-    let back = c .before .before .before .before .before .before in
-    let entry = back .before in
-    omega (arith, laws.chasing-inside (entry .pre) _ (c .before .before .before .loop .inv .0) (c .before .before .loop-test .taken))
+    let turn-test = c .before .before in
+    let turn = turn-test .before in
+    let entry = at-start turn in
+    omega (arith, laws.chasing-inside (entry .pre) _ (turn .loop .inv .0) (turn-test .loop-test .taken))
 
 link-at-requires-2 : tie.Need-link-at-requires-2 Inv-loop μ-loop
 link-at-requires-2 c κs = search needs
 
 loop-less : tie.Need-loop-less Inv-loop μ-loop
 loop-less c =
-    let back = c .before .before .before .before .before .before in
-    let entry = back .before .before in
-    laws.chasing-less (entry .pre) _ (c .before .before .before .before .loop .inv .0) (c .before .before .before .loop-test .taken)
-    (c .before .before .column .ensures) (c .before .if1 .left) (c .link-at2 .ensures)
+    let column-place = c .before .before in
+    let turn-test = column-place .before in
+    let turn = turn-test .before in
+    let entry = at-start turn in
+    laws.chasing-less (entry .pre) _ (turn .loop .inv .0) (turn-test .loop-test .taken)
+    (column-place .column .ensures) (c .before .if1 .left) (c .link-at2 .ensures)
 
 loop-again : tie.Need-loop-again Inv-loop μ-loop
 loop-again c =
-    let at-loop = c .before .before .before .before in
-    let entry = at-loop .before .before .before .before in (
-      laws.chasing-next (entry .pre) _ (at-loop .loop .inv .0) (c .before .before .before .loop-test .taken)
-          (c .before .before .column .ensures) (c .before .if1 .left) (c .link-at2 .ensures),
+    let column-place = c .before .before in
+    let turn-test = column-place .before in
+    let at-loop = turn-test .before in
+    let entry = at-start at-loop in (
+      laws.chasing-next (entry .pre) _ (at-loop .loop .inv .0) (turn-test .loop-test .taken)
+          (column-place .column .ensures) (c .before .if1 .left) (c .link-at2 .ensures),
       at-loop .loop .inv .1,
     )
 
 returns-2 : tie.Need-returns-2 Inv-loop μ-loop
 returns-2 c =
-    (laws.chasing-end (c .before .before .before .before .before .pre) _ (c .before .loop .inv .0) (c .loop-test .left), omega arith)
+    (laws.chasing-end ((at-start (c .before)) .pre) _ (c .before .loop .inv .0) (c .loop-test .left), omega arith)
 
 pub find-spec : {M : Type 1} → statement M
 find-spec =

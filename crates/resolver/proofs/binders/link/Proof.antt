@@ -1,6 +1,5 @@
 -- `link`: rows before the present one are linked.
 use Prim.Native.Nat.{_/_, _-_}
-use mathlib.Core.Path.{_≡_, refl, sym, ap, _∙_}
 use native.Mathlib.Omega.{arith}
 use lib.ListN.{length}
 use borrow.Author.Needs.{needs}
@@ -19,12 +18,21 @@ Inv-loop cells links₀ row₀ links row = laws.Linking cells links₀ links row
 abbrev μ-loop : tie.MeasureT-loop
 μ-loop cells links₀ row₀ links row = (length cells / 4) - row
 
+-- places, each from a later one
+abbrev in-loop : tie.After-column2 Inv-loop μ-loop → tie.In-loop Inv-loop μ-loop
+in-loop p = p .before .before
+
+abbrev at-start : tie.At-loop Inv-loop μ-loop → tie.Start Inv-loop μ-loop
+at-start p = p .before .before .before
+
 loop-holds : tie.Need-loop-holds Inv-loop μ-loop
-loop-holds c = laws.linking-start _ _ (c .before .before .pre .some) (c .before .before .pre .none)
+loop-holds c =
+    let start = c .before .before in
+    laws.linking-start _ _ (start .pre .some) (start .pre .none)
 
 cast-column : tie.Need-cast-column Inv-loop μ-loop
 cast-column c =
-    let entry = c .before .before .before .before in
+    let entry = at-start (c .before) in
     omega (arith, laws.row-small (c .before .loop .inv) (entry .pre .few) (entry .pre .room) (c .loop-test .taken))
 
 column-requires : tie.Need-column-requires Inv-loop μ-loop
@@ -32,21 +40,22 @@ column-requires c κs = search needs
 
 cast-column-2 : tie.Need-cast-column-2 Inv-loop μ-loop
 cast-column-2 c =
-    let entry = c .before .before .before .before .before in
-    omega (arith, laws.row-small (c .before .before .loop .inv) (entry .pre .few) (entry .pre .room) (c .before .loop-test .taken))
+    let turn = c .before .before in
+    let entry = at-start turn in
+    omega (arith, laws.row-small (turn .loop .inv) (entry .pre .few) (entry .pre .room) (c .before .loop-test .taken))
 
 column-requires-2 : tie.Need-column-requires-2 Inv-loop μ-loop
 column-requires-2 c κs = search needs
 
 find-requires : tie.Need-find-requires Inv-loop μ-loop
-find-requires c κs = (c .before .before .before .before .before .loop .inv) .linked
+find-requires c κs = ((in-loop (c .before .before)) .before .loop .inv) .linked
 
 add-requires : tie.Need-add-requires Inv-loop μ-loop
 add-requires c κs =
     let back = c .before .before .before .before .before .before in
     let at-loop-test = back .before in
     let at-loop = at-loop-test .before in
-    let entry = at-loop .before .before .before in (
+    let entry = at-start at-loop in (
       laws.row-fits (at-loop .loop .inv) (entry .pre .few) (entry .pre .room) (at-loop-test .loop-test .taken),
       laws.row-small
           (at-loop .loop .inv) (entry .pre .few) (entry .pre .room) (at-loop-test .loop-test .taken),
@@ -55,9 +64,9 @@ add-requires c κs =
 add-row : tie.Need-add-row Inv-loop μ-loop
 add-row c =
     let back = c .before .before .before .before .before .before in
-    let at-loop-test = back .before .before .before .before in
+    let at-loop-test = in-loop (back .before .before) in
     let at-loop = at-loop-test .before in
-    let entry = at-loop .before .before .before in
+    let entry = at-start at-loop in
     omega (arith, laws.row-small (at-loop .loop .inv) (entry .pre .few) (entry .pre .room) (at-loop-test .loop-test .taken))
 
 loop-less : tie.Need-loop-less Inv-loop μ-loop
@@ -65,26 +74,29 @@ loop-less c = omega arith
 
 loop-again : tie.Need-loop-again Inv-loop μ-loop
 loop-again c =
-    let back = c .before .before .before .before .before .before in
+    let add-place = c .before .before in
+    let then2 = add-place .before .before in
+    let find-place = then2 .before in
+    let back = find-place .before in
     let at-if1 = back .before in
     let at-column2 = at-if1 .before in
     let at-column = at-column2 .before in
-    let at-loop-test = at-column .before in
+    let at-loop-test = in-loop at-column2 in
     let at-loop = at-loop-test .before in
-    let entry = at-loop .before .before .before in
+    let entry = at-start at-loop in
     laws.add-row (at-loop .loop .inv) (entry .pre .few) (entry .pre .room) (at-loop-test .loop-test .taken) (at-column .column .ensures)
-    (at-column2 .column2 .ensures) (at-if1 .if1 .taken) (c .before .before .before .before .before .find .ensures .0)
-    (c .before .before .before .before .if2 .taken) (c .before .before .add .ensures)
+    (at-column2 .column2 .ensures) (at-if1 .if1 .taken) (find-place .find .ensures .0)
+    (then2 .if2 .taken) (add-place .add .ensures)
 
 add-row-2 : tie.Need-add-row-2 Inv-loop μ-loop
 add-row-2 c =
-    let back = c .before .before .before .before .before .before in
+    let back = in-loop (c .before .before .before .before) in
     let at-loop = back .before in
-    let entry = at-loop .before .before .before in
+    let entry = at-start at-loop in
     omega (
       arith,
       laws.row-small (at-loop .loop .inv) (entry .pre .few) (entry .pre .room)
-          (c .before .before .before .before .before .before .loop-test .taken),
+          (back .loop-test .taken),
     )
 
 loop-less-2 : tie.Need-loop-less-2 Inv-loop μ-loop
@@ -92,21 +104,23 @@ loop-less-2 c = omega arith
 
 loop-again-2 : tie.Need-loop-again-2 Inv-loop μ-loop
 loop-again-2 c =
-    let back = c .before .before .before .before .before .before in
+    let column2-place = c .before .before .before .before in
+    let back = in-loop column2-place in
     let at-loop = back .before in
-    let entry = at-loop .before .before .before in
+    let entry = at-start at-loop in
     laws.skip-found (at-loop .loop .inv) (entry .pre .few) (entry .pre .room)
-    (c .before .before .before .before .before .before .loop-test .taken) (c .before .before .before .before .column2 .ensures)
+    (back .loop-test .taken) (column2-place .column2 .ensures)
     (c .before .find .ensures .0) (c .if2 .left)
 
 add-row-3 : tie.Need-add-row-3 Inv-loop μ-loop
 add-row-3 c =
-    let back = c .before .before .before .before .before .before in
-    let entry = back .before in
+    let turn-test = in-loop (c .before) in
+    let turn = turn-test .before in
+    let entry = at-start turn in
     omega (
       arith,
-      laws.row-small (c .before .before .before .before .loop .inv) (entry .pre .few) (entry .pre .room)
-          (c .before .before .before .loop-test .taken),
+      laws.row-small (turn .loop .inv) (entry .pre .few) (entry .pre .room)
+          (turn-test .loop-test .taken),
     )
 
 loop-less-3 : tie.Need-loop-less-3 Inv-loop μ-loop
@@ -114,16 +128,18 @@ loop-less-3 c = omega arith
 
 loop-again-3 : tie.Need-loop-again-3 Inv-loop μ-loop
 loop-again-3 c =
-    let back = c .before .before .before .before .before .before in
-    let entry = back .before in
-    laws.skip-code (c .before .before .before .before .loop .inv) (entry .pre .few) (entry .pre .room)
-    (c .before .before .before .loop-test .taken) (c .before .before .column .ensures) (c .if1 .left)
+    let column-place = c .before .before in
+    let turn-test = column-place .before in
+    let turn = turn-test .before in
+    let entry = at-start turn in
+    laws.skip-code (turn .loop .inv) (entry .pre .few) (entry .pre .room)
+    (turn-test .loop-test .taken) (column-place .column .ensures) (c .if1 .left)
 
 same-length : tie.Need-same-length Inv-loop μ-loop
 same-length c = (c .before .loop .inv) .long
 
 returns : tie.Need-returns Inv-loop μ-loop
-returns c = laws.linking-end (c .before .loop .inv) (c .before .before .before .before .pre .few) (c .loop-test .left)
+returns c = laws.linking-end (c .before .loop .inv) ((at-start (c .before)) .pre .few) (c .loop-test .left)
 
 pub link-spec : {M : Type 1} → statement M
 link-spec =

@@ -22,7 +22,9 @@ returns : tie.Need-returns
 returns c = search needs
 
 returns-2 : tie.Need-returns-2
-returns-2 c = sym (getD-past (c .before .before .args .links .now) (c .before .before .args .i) 0 (c .if1 .left))
+returns-2 c =
+    let start = c .before .before in
+    sym (getD-past (start .args .links .now) (start .args .i) 0 (c .if1 .left))
 
 pub link-at-spec : {M : Type 1} → statement M
 link-at-spec = tie.close (tie.spec mul-wide shared-slice-read-wide wide-requires returns returns-2)

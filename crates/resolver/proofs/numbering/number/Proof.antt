@@ -2,7 +2,6 @@
 use Prim.Native.Nat.{ℕ, _-_}
 use mathlib.Core.Path.{_≡_}
 use native.Mathlib.Omega.{arith}
-use borrow.Author.Needs.{needs}
 use Rattle.resolver.proofs.CountLaws as laws
 use Rattle.resolver.proofs.numbering.number.Statement.{statement}
 use Rattle.resolver.proofs.numbering.number.Tie as tie
@@ -16,17 +15,25 @@ Inv-loop marks₀ n p₀ count₀ marks p count = laws.Counting n marks₀ marks
 abbrev μ-loop : tie.MeasureT-loop
 μ-loop marks₀ n p₀ count₀ marks p count = n - p
 
+-- places, each from a later one
+abbrev in-loop : tie.After-number-of Inv-loop μ-loop → tie.In-loop Inv-loop μ-loop
+in-loop p = p .before .before .before .before
+
+abbrev at-start : tie.At-loop Inv-loop μ-loop → tie.Start Inv-loop μ-loop
+at-start p = p .before .before
+
 loop-holds : tie.Need-loop-holds Inv-loop μ-loop
 loop-holds c = laws.counting-start _ _
 
 mul-m : tie.Need-mul-m Inv-loop μ-loop
 mul-m c =
-    let entry = c .before .before .before in
+    let turn = c .before in
+    let entry = at-start turn in
     omega (
       arith,
-      (c .before .loop .inv) .inside,
-      (c .before .loop .inv) .few,
-      (c .before .loop .inv) .long,
+      (turn .loop .inv) .inside,
+      (turn .loop .inv) .few,
+      (turn .loop .inv) .long,
       c .loop-test .taken,
       entry .pre .0,
       entry .pre .1,
@@ -34,12 +41,13 @@ mul-m c =
 
 slice-read-m : tie.Need-slice-read-m Inv-loop μ-loop
 slice-read-m c =
-    let entry = c .before .before .before .before in
+    let turn = c .before .before in
+    let entry = at-start turn in
     omega (
       arith,
-      (c .before .before .loop .inv) .inside,
-      (c .before .before .loop .inv) .few,
-      (c .before .before .loop .inv) .long,
+      (turn .loop .inv) .inside,
+      (turn .loop .inv) .few,
+      (turn .loop .inv) .long,
       c .before .loop-test .taken,
       entry .pre .0,
       entry .pre .1,
@@ -49,17 +57,19 @@ same-length : tie.Need-same-length Inv-loop μ-loop
 same-length c = (c .before .before .before .loop .inv) .long
 
 returns : tie.Need-returns Inv-loop μ-loop
-returns c = (
-  laws.counting-loose (c .before .before .before .loop .inv) (c .before .before .loop-test .taken)
-      (c .before .before .before .before .before .pre .0) (c .if1 .taken),
-  λ e. absurd (let z : _≡_ {A = ℕ} 0 1 = cc in omega arith),
-)
+returns c =
+    let turn-test = c .before .before in
+    let turn = turn-test .before in (
+      laws.counting-loose (turn .loop .inv) (turn-test .loop-test .taken)
+          ((at-start turn) .pre .0) (c .if1 .taken),
+      λ e. absurd (let z : _≡_ {A = ℕ} 0 1 = cc in omega arith),
+    )
 
 number-of-requires : tie.Need-number-of-requires Inv-loop μ-loop
 number-of-requires c κs =
     let at-loop-test = c .before .before .before in
     let at-loop = at-loop-test .before in
-    let entry = at-loop .before .before in (
+    let entry = at-start at-loop in (
       omega (
         arith,
         (at-loop .loop .inv) .inside,
@@ -82,116 +92,127 @@ number-of-requires c κs =
 
 mul-marks : tie.Need-mul-marks Inv-loop μ-loop
 mul-marks c =
-    let at-loop = c .before .before .before .before .before in
-    let entry = at-loop .before .before in
+    let turn-test = in-loop c in
+    let at-loop = turn-test .before in
+    let entry = at-start at-loop in
     omega (
       arith,
       (at-loop .loop .inv) .inside,
       (at-loop .loop .inv) .few,
       (at-loop .loop .inv) .long,
-      c .before .before .before .before .loop-test .taken,
+      turn-test .loop-test .taken,
       entry .pre .0,
       entry .pre .1,
     )
 
 slice-write-marks : tie.Need-slice-write-marks Inv-loop μ-loop
 slice-write-marks c =
-    let at-loop = c .before .before .before .before .before in
-    let entry = at-loop .before .before in
+    let turn-test = in-loop c in
+    let at-loop = turn-test .before in
+    let entry = at-start at-loop in
     omega (
       arith,
       (at-loop .loop .inv) .inside,
       (at-loop .loop .inv) .few,
       (at-loop .loop .inv) .long,
-      c .before .before .before .before .loop-test .taken,
+      turn-test .loop-test .taken,
       entry .pre .0,
       entry .pre .1,
     )
 
 add-count : tie.Need-add-count Inv-loop μ-loop
 add-count c =
-    let at-loop = c .before .before .before .before .before .before in
-    let entry = at-loop .before .before in
+    let turn-test = in-loop (c .before) in
+    let at-loop = turn-test .before in
+    let entry = at-start at-loop in
     omega (
       arith,
       (at-loop .loop .inv) .inside,
       (at-loop .loop .inv) .few,
       (at-loop .loop .inv) .long,
-      c .before .before .before .before .before .loop-test .taken,
+      turn-test .loop-test .taken,
       entry .pre .0,
       entry .pre .1,
     )
 
 add-p : tie.Need-add-p Inv-loop μ-loop
 add-p c =
-    let at-loop = c .before .before .before .before .before .before in
-    let entry = at-loop .before .before in
+    let turn-test = in-loop (c .before) in
+    let at-loop = turn-test .before in
+    let entry = at-start at-loop in
     omega (
       arith,
       (at-loop .loop .inv) .inside,
       (at-loop .loop .inv) .few,
       (at-loop .loop .inv) .long,
-      c .before .before .before .before .before .loop-test .taken,
+      turn-test .loop-test .taken,
       entry .pre .0,
       entry .pre .1,
     )
 
 loop-less : tie.Need-loop-less Inv-loop μ-loop
 loop-less c =
-    let at-loop = c .before .before .before .before .before .before in
-    let entry = at-loop .before .before in
+    let turn-test = in-loop (c .before) in
+    let at-loop = turn-test .before in
+    let entry = at-start at-loop in
     omega (
       arith,
       (at-loop .loop .inv) .inside,
       (at-loop .loop .inv) .few,
       (at-loop .loop .inv) .long,
-      c .before .before .before .before .before .loop-test .taken,
+      turn-test .loop-test .taken,
       entry .pre .0,
       entry .pre .1,
     )
 
 loop-again : tie.Need-loop-again Inv-loop μ-loop
 loop-again c =
-    let back = c .before .before .before .before .before .before in
-    let entry = back .before .before in
-    laws.counting-new (c .before .before .before .before .before .before .loop .inv)
-    (c .before .before .before .before .before .loop-test .taken) (entry .pre .0) (c .before .before .before .if1 .left)
+    let else1 = c .before .before .before in
+    let turn-test = in-loop (c .before) in
+    let back = turn-test .before in
+    let entry = at-start back in
+    laws.counting-new (back .loop .inv)
+    (turn-test .loop-test .taken) (entry .pre .0) (else1 .if1 .left)
     (c .before .number-of .ensures) (c .if2 .taken)
 
 add-p-2 : tie.Need-add-p-2 Inv-loop μ-loop
 add-p-2 c =
-    let at-loop = c .before .before .before .before .before .before in
-    let entry = at-loop .before .before in
+    let turn-test = in-loop (c .before) in
+    let at-loop = turn-test .before in
+    let entry = at-start at-loop in
     omega (
       arith,
       (at-loop .loop .inv) .inside,
       (at-loop .loop .inv) .few,
       (at-loop .loop .inv) .long,
-      c .before .before .before .before .before .loop-test .taken,
+      turn-test .loop-test .taken,
       entry .pre .0,
       entry .pre .1,
     )
 
 loop-less-2 : tie.Need-loop-less-2 Inv-loop μ-loop
 loop-less-2 c =
-    let at-loop = c .before .before .before .before .before .before in
-    let entry = at-loop .before .before in
+    let turn-test = in-loop (c .before) in
+    let at-loop = turn-test .before in
+    let entry = at-start at-loop in
     omega (
       arith,
       (at-loop .loop .inv) .inside,
       (at-loop .loop .inv) .few,
       (at-loop .loop .inv) .long,
-      c .before .before .before .before .before .loop-test .taken,
+      turn-test .loop-test .taken,
       entry .pre .0,
       entry .pre .1,
     )
 
 loop-again-2 : tie.Need-loop-again-2 Inv-loop μ-loop
 loop-again-2 c =
-    let back = c .before .before .before .before .before .before in
-    let entry = back .before .before in
-    laws.counting-old (c .before .before .before .before .before .before .loop .inv)
-    (c .before .before .before .before .before .loop-test .taken) (entry .pre .0) (c .before .before .before .if1 .left)
+    let else1 = c .before .before .before in
+    let turn-test = in-loop (c .before) in
+    let back = turn-test .before in
+    let entry = at-start back in
+    laws.counting-old (back .loop .inv)
+    (turn-test .loop-test .taken) (entry .pre .0) (else1 .if1 .left)
     (c .before .number-of .ensures) (c .if2 .left)
 
 same-length-2 : tie.Need-same-length-2 Inv-loop μ-loop
@@ -199,7 +220,8 @@ same-length-2 c = (c .before .loop .inv) .long
 
 returns-2 : tie.Need-returns-2 Inv-loop μ-loop
 returns-2 c =
-    (laws.counting-named (c .before .loop .inv) (c .loop-test .left), λ e. laws.counting-done (c .before .loop .inv) (c .loop-test .left))
+    let turn = c .before in
+    (laws.counting-named (turn .loop .inv) (c .loop-test .left), λ e. laws.counting-done (turn .loop .inv) (c .loop-test .left))
 
 pub number-spec : {M : Type 1} → statement M
 number-spec =

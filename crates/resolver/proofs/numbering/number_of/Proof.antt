@@ -11,23 +11,29 @@ use Rattle.resolver.proofs.numbering.number_of.Reads as reads
 use Rattle.resolver.proofs.numbering.number_of.Lts as lts
 use Rattle.resolver.proofs.numbering.wide.Reads as wide-reads
 
+-- places, each from a later one
+abbrev at-start : tie.Else1 → tie.Start
+at-start p = p .before .before
+
 add-result : tie.Need-add-result
 add-result c = search needs
 
 returns : tie.Need-returns
 returns c =
-    laws.new-at (take (c .before .before .args .p) (c .before .before .args .marks .now)) (c .before .before .args .count + 1)
-    (c .before .before .args .m) (c .if1 .taken)
+    let start = c .before .before in
+    laws.new-at (take (start .args .p) (start .args .marks .now)) (start .args .count + 1)
+    (start .args .m) (c .if1 .taken)
 
 returns-2 : tie.Need-returns-2
 returns-2 c =
-    let entry = c .before .before .before in
+    let entry = at-start (c .before) in
     laws.none-at (take (entry .args .p) (entry .args .marks .now)) (entry .args .count + 1) (entry .args .m) (c .if2 .taken)
 
 returns-3 : tie.Need-returns-3
 returns-3 c =
-    let entry = c .before .before .before .before in
-    laws.zero-at (entry .args .marks .now) (entry .args .p) (entry .args .count + 1) (entry .args .m) (c .before .before .if1 .left)
+    let else1 = c .before .before in
+    let entry = at-start else1 in
+    laws.zero-at (entry .args .marks .now) (entry .args .p) (entry .args .count + 1) (entry .args .m) (else1 .if1 .left)
     (c .before .if2 .left) (c .if3 .taken)
 
 wide-requires : tie.Need-wide-requires
@@ -47,17 +53,23 @@ shared-slice-read-result c =
 
 returns-4 : tie.Need-returns-4
 returns-4 c =
-    let back = c .before .before .before .before .before .before in
-    let entry = back .before in
-    laws.found-at _ _ (entry .args .count + 1) _ (c .before .before .before .before .before .if1 .left)
-    (c .before .before .before .before .if2 .left) (c .before .before .before .if3 .left) (c .before .before .wide .ensures)
+    let wide-place = c .before .before in
+    let else3 = wide-place .before in
+    let else2 = else3 .before in
+    let else1 = else2 .before in
+    let entry = at-start else1 in
+    laws.found-at _ _ (entry .args .count + 1) _ (else1 .if1 .left)
+    (else2 .if2 .left) (else3 .if3 .left) (wide-place .wide .ensures)
     (c .before .if4 .taken)
 
 returns-5 : tie.Need-returns-5
 returns-5 c =
-    let entry = c .before .before .before .before .before .before in
-    laws.far-at _ _ (entry .args .count + 1) _ (c .before .before .before .before .if1 .left) (c .before .before .before .if2 .left)
-    (c .before .before .if3 .left) (c .before .wide .ensures) (c .if4 .left) (entry .pre .0)
+    let else3 = c .before .before in
+    let else2 = else3 .before in
+    let else1 = else2 .before in
+    let entry = at-start else1 in
+    laws.far-at _ _ (entry .args .count + 1) _ (else1 .if1 .left) (else2 .if2 .left)
+    (else3 .if3 .left) (c .before .wide .ensures) (c .if4 .left) (entry .pre .0)
 
 pub number-of-spec : {M : Type 1} → statement M
 number-of-spec =

@@ -127,7 +127,9 @@ module _ (t : ℕ) (p : fields-lts.After-column (fields-claims t) (fields-at t) 
   fields-entry = fields-put .before .before .before .before .before
 
 fields-add-place : (t : ℕ) → fields-lts.Need-add-place (fields-claims t) (fields-at t) resolve-fields.Post
-fields-add-place t c = let e = c .before .before .before in omega (arith, laws.fields-fit _ _ _ (e .pre .1))
+fields-add-place t c =
+    let e = c .before .before .before in
+    omega (arith, laws.fields-fit _ _ _ (e .pre .1))
 
 fields-put-requires : (t : ℕ) → fields-lts.Need-put-requires (fields-claims t) (fields-at t) resolve-fields.Post
 fields-put-requires t c κs = laws.fields-fit _ _ _ (c .before .before .before .before .pre .1)
@@ -150,11 +152,12 @@ fields-column-requires t c κs = search needs
 
 fields-resolve-part-requires : (t : ℕ) → fields-lts.Need-resolve-part-requires (fields-claims t) (fields-at t) resolve-fields.Post
 fields-resolve-part-requires t c κs =
-    let p = c .before .before .before .before in
+    let then2 = c .before .before .before in
+    let p = then2 .before in
     let a = fields-entry t p .args in
     let w = laws.walkable-in (fields-entry t p .pre .1) (fields-marks t p .marks .given) in
     let place = laws.cons-place (a .cells .now .now) (a .bound) (a .row) (a .place .now)
-    (fields-test t p .if1 .left) (p .column .ensures) (c .before .before .before .if2 .taken) refl refl in
+    (fields-test t p .if1 .left) (p .column .ensures) (then2 .if2 .taken) refl refl in
     (omega (arith, fields-entry t p .pre .0, fields-test t p .if1 .left), (omega arith, laws.walkable-part w (omega (arith, place))))
 
 fields-column-requires-2 : (t : ℕ) → fields-lts.Need-column-requires-2 (fields-claims t) (fields-at t) resolve-fields.Post
@@ -162,15 +165,18 @@ fields-column-requires-2 t c κs = search needs
 
 fields-resolve-fields-requires : (t : ℕ) → fields-lts.Need-resolve-fields-requires (fields-claims t) (fields-at t) resolve-fields.Post
 fields-resolve-fields-requires t c κs =
-    let s0 = c .before .before .before .before .before .before in
-    let s1 = s0 .before .before .before .before .before .before in
-    let p = s1 .before .before in
+    let column2-place = c .before .before .before in
+    let s0 = column2-place .before .before .before in
+    let resolve-part-place = s0 .before .before .before in
+    let s1 = resolve-part-place .before .before .before in
+    let then2 = s1 .before in
+    let p = then2 .before in
     let a = fields-entry t p .args in
     let w = laws.walkable-in (fields-entry t p .pre .1) (s0 .marks2 .given ∙ fields-marks t p .marks .given) in
     let place = laws.cons-place (a .cells .now .now) (a .bound) (a .row) (a .place .now)
-    (fields-test t p .if1 .left) (p .column .ensures) (s1 .before .if2 .taken) refl (c .before .before .before .column2 .ensures) in (
+    (fields-test t p .if1 .left) (p .column .ensures) (then2 .if2 .taken) refl (column2-place .column2 .ensures) in (
       omega (arith, fields-entry t p .pre .0, fields-test t p .if1 .left),
-      laws.walkable-part w (omega (arith, place, s0 .before .before .before .resolve-part .ensures .moved)),
+      laws.walkable-part w (omega (arith, place, resolve-part-place .resolve-part .ensures .moved)),
     )
 
 fields-join-requires : (t : ℕ) → fields-lts.Need-join-requires (fields-claims t) (fields-at t) resolve-fields.Post
@@ -184,15 +190,15 @@ fields-same-length-3 t c = search needs
 
 fields-returns-2 : (t : ℕ) → fields-lts.Need-returns-2 (fields-claims t) (fields-at t) resolve-fields.Post
 fields-returns-2 t c =
-    let s0 = c .before .before .before .before .before .before in
-    let s1 = s0 .before .before .before .before .before .before in
-    let s2 = s1 .before .before .before .before .before .before in
-    let p = s2 .before .before in
-    let a = fields-entry t p .args in
-    let is = s2 .before in
-    let first = s1 .before .before .before in
     let second = c .before .before .before .before .before in
+    let s0 = second .before in
     let next = s0 .before .before .before in
+    let s1 = next .before .before .before in
+    let first = s1 .before .before .before in
+    let s2 = first .before .before .before in
+    let is = s2 .before in
+    let p = is .before in
+    let a = fields-entry t p .args in
     record {
       resolves =
           laws.cons-resolves _ _ _ _ (fields-test t p .if1 .left) (p .column .ensures) (is .if2 .taken) refl (next .column2 .ensures)
@@ -239,8 +245,35 @@ part-returns t c =
     let s0 = c .before .before .before .before in
     laws.walks-row (s0 .before .before .before .before .column .ensures) (s0 .resolve-term .ensures)
 
+-- places, each from a later one
+abbrev at-match-keys2 : {t : ℕ} → term-lts.After-binder-at (term-claims t) (term-at t) resolve-term.Post
+    → term-lts.At-match-keys2 (term-claims t) (term-at t) resolve-term.Post
+at-match-keys2 p = p .before .before .before .before
+
+abbrev after-column : {t : ℕ} → term-lts.After-column2 (term-claims t) (term-at t) resolve-term.Post
+    → term-lts.After-column (term-claims t) (term-at t) resolve-term.Post
+after-column p = p .before .before
+
+abbrev after-column2 : {t : ℕ} → term-lts.After-exchange-arg2 (term-claims t) (term-at t) resolve-term.Post
+    → term-lts.After-column2 (term-claims t) (term-at t) resolve-term.Post
+after-column2 p = p .before .before .before
+
+abbrev after-marks3 : {t : ℕ} → term-lts.After-exchange-arg5 (term-claims t) (term-at t) resolve-term.Post
+    → term-lts.After-marks3 (term-claims t) (term-at t) resolve-term.Post
+after-marks3 p = p .before .before .before
+
+abbrev at-match-keys3 : {t : ℕ} → term-lts.After-resolve-part-arg6 (term-claims t) (term-at t) resolve-term.Post
+    → term-lts.At-match-keys3 (term-claims t) (term-at t) resolve-term.Post
+at-match-keys3 p = p .before .before .before
+
+abbrev after-column2′ : {t : ℕ} → term-lts.After-variable-mark-arg3 (term-claims t) (term-at t) resolve-term.Post
+    → term-lts.After-column2 (term-claims t) (term-at t) resolve-term.Post
+after-column2′ p = p .before .before .before .before
+
 term-add-place : (t : ℕ) → term-lts.Need-add-place (term-claims t) (term-at t) resolve-term.Post
-term-add-place t c = let e = c .before .before .before in omega (arith, laws.term-fits _ _ _ (e .pre .1))
+term-add-place t c =
+    let e = c .before .before .before in
+    omega (arith, laws.term-fits _ _ _ (e .pre .1))
 
 term-put-requires : (t : ℕ) → term-lts.Need-put-requires (term-claims t) (term-at t) resolve-term.Post
 term-put-requires t c κs = laws.term-fits _ _ _ (c .before .before .before .before .pre .1)
@@ -265,38 +298,44 @@ term-column-requires-2 : (t : ℕ) → term-lts.Need-column-requires-2 (term-cla
 term-column-requires-2 t c κs = search needs
 
 term-variable-mark-requires : (t : ℕ) → term-lts.Need-variable-mark-requires (term-claims t) (term-at t) resolve-term.Post
-term-variable-mark-requires t c κs = let p = c .before .before .before .before in term-entry t p .pre .1 .linked
+term-variable-mark-requires t c κs =
+    let p = after-column2′ c in
+    term-entry t p .pre .1 .linked
 
 term-put-requires-2 : (t : ℕ) → term-lts.Need-put-requires-2 (term-claims t) (term-at t) resolve-term.Post
 term-put-requires-2 t c κs =
-    let p = c .before .before .before .before .before .before in
+    let p = after-column2′ (c .before .before) in
     laws.fits-as (term-marks t p .marks .given) (laws.term-fits _ _ _ (term-entry t p .pre .1))
 
 term-held-by-requires : (t : ℕ) → term-lts.Need-held-by-requires (term-claims t) (term-at t) resolve-term.Post
 term-held-by-requires t c κs = search needs
 
 term-binder-at-requires : (t : ℕ) → term-lts.Need-binder-at-requires (term-claims t) (term-at t) resolve-term.Post
-term-binder-at-requires t c κs = let p = c .before .before .before .before in omega (arith, laws.term-fits _ _ _ (term-entry t p .pre .1))
+term-binder-at-requires t c κs =
+    let p = after-column2 (c .before) in
+    omega (arith, laws.term-fits _ _ _ (term-entry t p .pre .1))
 
 term-exchange-requires : (t : ℕ) → term-lts.Need-exchange-requires (term-claims t) (term-at t) resolve-term.Post
-term-exchange-requires t c κs = let p = c .before .before .before .before .before in term-entry t p .pre .1 .linked
+term-exchange-requires t c κs =
+    let p = (at-match-keys2 c) .before in
+    term-entry t p .pre .1 .linked
 
 term-resolve-part-requires : (t : ℕ) → term-lts.Need-resolve-part-requires (term-claims t) (term-at t) resolve-term.Post
 term-resolve-part-requires t c κs =
     let s0 = c .before .before .before .before .before .before in
-    let p = s0 .before .before .before .before .before in
+    let m = at-match-keys2 s0 in
+    let p = m .before in
     let a = term-entry t p .args in
-    let m = s0 .before .before .before .before in
     let w = laws.walkable-in (term-entry t p .pre .1) (term-marks t p .marks .given) in
     let place = laws.function-place (a .cells .now .now) (a .bound) (a .row) (a .place .now)
-    (term-test t p .if1 .left) (p .before .before .column .ensures) (m .match .keys2) refl in
+    (term-test t p .if1 .left) ((after-column p) .column .ensures) (m .match .keys2) refl in
     (omega (arith, term-entry t p .pre .0, term-test t p .if1 .left), (omega arith, laws.walkable-part w (omega (arith, place))))
 
 term-exchange-requires-2 : (t : ℕ) → term-lts.Need-exchange-requires-2 (term-claims t) (term-at t) resolve-term.Post
 term-exchange-requires-2 t c κs =
-    let s0 = c .before .before .before .before .before .before in
+    let s0 = (after-marks3 (c .before)) .before .before in
     let s1 = s0 .before .before .before .before .before .before in
-    let s2 = s1 .before .before .before .before .before .before in
+    let s2 = at-match-keys2 (s1 .before .before) in
     let p = s2 .before in
     term-entry t p .pre .1 .linked
 
@@ -306,33 +345,35 @@ term-binder-mark-requires t c κs = search needs
 term-put-requires-3 : (t : ℕ) → term-lts.Need-put-requires-3 (term-claims t) (term-at t) resolve-term.Post
 term-put-requires-3 t c κs =
     let s0 = c .before .before .before .before .before .before in
-    let s1 = s0 .before .before .before .before .before .before in
+    let at-marks = after-marks3 s0 in
+    let s1 = at-marks .before .before .before in
     let s2 = s1 .before .before .before .before .before .before in
-    let p = s2 .before .before .before .before .before .before in
-    let at-marks = s0 .before .before .before in
+    let p = (at-match-keys2 (s2 .before)) .before in
     laws.fits-as (at-marks .marks3 .given ∙ term-marks t p .marks .given) (laws.term-fits _ _ _ (term-entry t p .pre .1))
 
 term-resolve-part-requires-2 : (t : ℕ) → term-lts.Need-resolve-part-requires-2 (term-claims t) (term-at t) resolve-term.Post
 term-resolve-part-requires-2 t c κs =
-    let p = c .before .before .before .before in
+    let m = at-match-keys3 c in
+    let p = m .before in
     let a = term-entry t p .args in
-    let m = c .before .before .before in
     let w = laws.walkable-in (term-entry t p .pre .1) (term-marks t p .marks .given) in
     let place = laws.apply-place (a .cells .now .now) (a .bound) (a .row) (a .place .now)
-    (term-test t p .if1 .left) (p .before .before .column .ensures) (m .match .keys3) refl refl in
+    (term-test t p .if1 .left) ((after-column p) .column .ensures) (m .match .keys3) refl refl in
     (omega (arith, term-entry t p .pre .0, term-test t p .if1 .left), (omega arith, laws.walkable-part w (omega (arith, place))))
 
 term-resolve-part-requires-3 : (t : ℕ) → term-lts.Need-resolve-part-requires-3 (term-claims t) (term-at t) resolve-term.Post
 term-resolve-part-requires-3 t c κs =
-    let s0 = c .before .before .before .before .before .before in
-    let p = s0 .before .before .before .before .before .before in
+    let marks5-place = c .before .before .before .before in
+    let s0 = marks5-place .before .before in
+    let resolve-part2-place = s0 .before in
+    let m = at-match-keys3 (resolve-part2-place .before) in
+    let p = m .before in
     let a = term-entry t p .args in
-    let m = s0 .before .before .before .before .before in
-    let w = laws.walkable-in (term-entry t p .pre .1) (c .before .before .before .before .marks5 .given ∙ term-marks t p .marks .given) in
+    let w = laws.walkable-in (term-entry t p .pre .1) (marks5-place .marks5 .given ∙ term-marks t p .marks .given) in
     let place = laws.apply-place (a .cells .now .now) (a .bound) (a .row) (a .place .now)
-    (term-test t p .if1 .left) (p .before .before .column .ensures) (m .match .keys3) refl refl in (
+    (term-test t p .if1 .left) ((after-column p) .column .ensures) (m .match .keys3) refl refl in (
       omega (arith, term-entry t p .pre .0, term-test t p .if1 .left),
-      (omega arith, laws.walkable-part w (omega (arith, place, s0 .before .resolve-part2 .ensures .moved))),
+      (omega arith, laws.walkable-part w (omega (arith, place, resolve-part2-place .resolve-part2 .ensures .moved))),
     )
 
 term-join-requires : (t : ℕ) → term-lts.Need-join-requires (term-claims t) (term-at t) resolve-term.Post
@@ -340,22 +381,22 @@ term-join-requires t c κs = search needs
 
 term-resolve-fields-requires : (t : ℕ) → term-lts.Need-resolve-fields-requires (term-claims t) (term-at t) resolve-term.Post
 term-resolve-fields-requires t c κs =
-    let p = c .before .before .before .before in
-    let a = term-entry t p .args in
     let m = c .before .before .before in
+    let p = m .before in
+    let a = term-entry t p .args in
     let w = laws.walkable-in (term-entry t p .pre .1) (term-marks t p .marks .given) in
     let place = laws.rcd-place (a .cells .now .now) (a .bound) (a .row) (a .place .now)
-    (term-test t p .if1 .left) (p .before .before .column .ensures) (m .match .keys4) (p .column2 .ensures) in
+    (term-test t p .if1 .left) ((after-column p) .column .ensures) (m .match .keys4) (p .column2 .ensures) in
     (omega (arith, term-entry t p .pre .0, term-test t p .if1 .left), laws.walkable-part w (omega (arith, place)))
 
 term-resolve-part-requires-4 : (t : ℕ) → term-lts.Need-resolve-part-requires-4 (term-claims t) (term-at t) resolve-term.Post
 term-resolve-part-requires-4 t c κs =
-    let p = c .before .before .before .before in
-    let a = term-entry t p .args in
     let m = c .before .before .before in
+    let p = m .before in
+    let a = term-entry t p .args in
     let w = laws.walkable-in (term-entry t p .pre .1) (term-marks t p .marks .given) in
     let place = laws.dot-place (a .cells .now .now) (a .bound) (a .row) (a .place .now)
-    (term-test t p .if1 .left) (p .before .before .column .ensures) (m .match .keys5) refl in
+    (term-test t p .if1 .left) ((after-column p) .column .ensures) (m .match .keys5) refl in
     (omega (arith, term-entry t p .pre .0, term-test t p .if1 .left), (omega arith, laws.walkable-part w (omega (arith, place))))
 
 term-same-length-2 : (t : ℕ) → term-lts.Need-same-length-2 (term-claims t) (term-at t) resolve-term.Post
@@ -366,15 +407,18 @@ term-same-length-3 t c = search needs
 
 term-returns-2 : (t : ℕ) → term-lts.Need-returns-2 (term-claims t) (term-at t) resolve-term.Post
 term-returns-2 t c =
-    let s0 = c .before .before .before .before .before .before in
-    let p = s0 .before .before .before .before in
+    let put2-place = c .before .before .before in
+    let variable-mark-place = put2-place .before .before in
+    let s0 = variable-mark-place .before in
     let m = s0 .before .before .before in
+    let p = after-column2′ s0 in
+    let column-place = after-column p in
     record {
       resolves =
-          laws.variable-resolves _ _ _ _ (term-test t p .if1 .left) (p .before .before .column .ensures) (m .match .keys1) _ _ (p .column2 .ensures)
-          (term-put t p .put .ensures) (c .before .before .before .before .before .variable-mark .ensures) (c .held-by .ensures)
-          (c .before .before .before .put2 .ensures);
-      moved = laws.variable-place _ _ _ _ (term-test t p .if1 .left) (p .before .before .column .ensures) (m .match .keys1);
+          laws.variable-resolves _ _ _ _ (term-test t p .if1 .left) (column-place .column .ensures) (m .match .keys1) _ _ (p .column2 .ensures)
+          (term-put t p .put .ensures) (variable-mark-place .variable-mark .ensures) (c .held-by .ensures)
+          (put2-place .put2 .ensures);
+      moved = laws.variable-place _ _ _ _ (term-test t p .if1 .left) (column-place .column .ensures) (m .match .keys1);
     }
 
 term-same-length-4 : (t : ℕ) → term-lts.Need-same-length-4 (term-claims t) (term-at t) resolve-term.Post
@@ -383,30 +427,36 @@ term-same-length-4 t c = search needs
 term-same-length-5 : (t : ℕ) → term-lts.Need-same-length-5 (term-claims t) (term-at t) resolve-term.Post
 term-same-length-5 t c =
     let s0 = c .before .before .before .before .before .before in
-    let s1 = s0 .before .before .before .before .before .before in
+    let s1 = after-marks3 (s0 .before .before .before) in
     let s2 = s1 .before .before .before .before .before .before in
     let s3 = s2 .before .before .before .before .before .before in
-    let p = s3 .before .before .before in
+    let p = after-column2 s3 in
     c .before .marks4 .given ∙ s1 .marks3 .given ∙ term-marks t p .marks .given
 
 term-returns-3 : (t : ℕ) → term-lts.Need-returns-3 (term-claims t) (term-at t) resolve-term.Post
 term-returns-3 t c =
-    let s0 = c .before .before .before .before .before .before in
-    let s1 = s0 .before .before .before .before .before .before in
-    let s2 = s1 .before .before .before .before .before .before in
-    let s3 = s2 .before .before .before .before .before .before in
-    let p = s3 .before .before .before in
-    let m = s3 .before .before in
+    let put3-place = c .before .before in
+    let binder-mark-place = put3-place .before .before in
+    let s0 = binder-mark-place .before .before in
+    let exchange2-place = s0 .before in
+    let s1 = after-marks3 (exchange2-place .before .before) in
     let part = s1 .before .before .before in
+    let s2 = part .before .before .before in
+    let exchange-place = s2 .before .before .before in
+    let binder-at-place = exchange-place .before in
+    let s3 = binder-at-place .before .before in
+    let m = at-match-keys2 binder-at-place in
+    let p = after-column2 s3 in
+    let column-place = after-column p in
     record {
       resolves =
-          laws.function-resolves _ _ _ _ (term-test t p .if1 .left) (p .before .before .column .ensures) (m .match .keys2)
+          laws.function-resolves _ _ _ _ (term-test t p .if1 .left) (column-place .column .ensures) (m .match .keys2)
           (p .column2 .ensures) (term-put t p .put .ensures)
-          (laws.entered _ (s2 .before .before .before .exchange .ensures) (s2 .before .before .before .before .binder-at .ensures))
-          (part .resolve-part .ensures .resolves) (s0 .before .exchange2 .ensures .stored) (c .before .before .before .before .binder-mark .ensures)
-          (c .before .before .put3 .ensures);
+          (laws.entered _ (exchange-place .exchange .ensures) (binder-at-place .binder-at .ensures))
+          (part .resolve-part .ensures .resolves) (exchange2-place .exchange2 .ensures .stored) (binder-mark-place .binder-mark .ensures)
+          (put3-place .put3 .ensures);
       moved = part .resolve-part .ensures .moved ∙ laws.function-place _ _ _ _ (term-test t p .if1 .left)
-          (p .before .before .column .ensures) (m .match .keys2) refl;
+          (column-place .column .ensures) (m .match .keys2) refl;
     }
 
 term-same-length-6 : (t : ℕ) → term-lts.Need-same-length-6 (term-claims t) (term-at t) resolve-term.Post
@@ -417,16 +467,17 @@ term-same-length-7 t c = search needs
 
 term-returns-4 : (t : ℕ) → term-lts.Need-returns-4 (term-claims t) (term-at t) resolve-term.Post
 term-returns-4 t c =
-    let s0 = c .before .before .before .before .before .before in
-    let s1 = s0 .before .before .before .before .before .before in
-    let p = s1 .before .before .before .before .before .before in
-    let a = term-entry t p .args in
-    let m = s1 .before .before .before .before .before in
-    let first = s1 .before in
     let second = c .before .before .before .before .before in
+    let s0 = second .before in
+    let s1 = s0 .before .before .before .before .before .before in
+    let first = s1 .before in
+    let m = at-match-keys3 (first .before) in
+    let p = m .before in
+    let column-place = after-column p in
+    let a = term-entry t p .args in
     record {
       resolves =
-          laws.apply-resolves _ _ _ _ (term-test t p .if1 .left) (p .before .before .column .ensures) (m .match .keys3) refl refl (term-put t p .put .ensures)
+          laws.apply-resolves _ _ _ _ (term-test t p .if1 .left) (column-place .column .ensures) (m .match .keys3) refl refl (term-put t p .put .ensures)
           (first .resolve-part2 .ensures .resolves) (first .resolve-part2 .ensures .moved) (second .resolve-part3 .ensures .resolves) (c .join .ensures);
       moved =
           omega (
@@ -434,7 +485,7 @@ term-returns-4 t c =
             first .resolve-part2 .ensures .moved,
             second .resolve-part3 .ensures .moved,
             laws.apply-place (a .cells .now .now) (a .bound) (a .row) (a .place .now)
-                (term-test t p .if1 .left) (p .before .before .column .ensures) (m .match .keys3) refl refl,
+                (term-test t p .if1 .left) (column-place .column .ensures) (m .match .keys3) refl refl,
           );
     }
 
@@ -446,17 +497,18 @@ term-same-length-9 t c = search needs
 
 term-returns-5 : (t : ℕ) → term-lts.Need-returns-5 (term-claims t) (term-at t) resolve-term.Post
 term-returns-5 t c =
-    let s0 = c .before .before .before .before .before .before in
-    let p = s0 .before .before .before in
-    let m = s0 .before .before in
     let part = c .before .before .before .before in
+    let s0 = part .before .before in
+    let m = s0 .before .before in
+    let p = m .before in
+    let column-place = after-column p in
     record {
       resolves =
-          laws.rcd-resolves _ _ _ _ (term-test t p .if1 .left) (p .before .before .column .ensures) (m .match .keys4)
+          laws.rcd-resolves _ _ _ _ (term-test t p .if1 .left) (column-place .column .ensures) (m .match .keys4)
           (p .column2 .ensures) (term-put t p .put .ensures)
           (part .resolve-fields .ensures .resolves);
       moved = part .resolve-fields .ensures .moved ∙ laws.rcd-place _ _ _ _ (term-test t p .if1 .left)
-          (p .before .before .column .ensures) (m .match .keys4) (p .column2 .ensures);
+          (column-place .column .ensures) (m .match .keys4) (p .column2 .ensures);
     }
 
 term-same-length-10 : (t : ℕ) → term-lts.Need-same-length-10 (term-claims t) (term-at t) resolve-term.Post
@@ -467,15 +519,16 @@ term-same-length-11 t c = search needs
 
 term-returns-6 : (t : ℕ) → term-lts.Need-returns-6 (term-claims t) (term-at t) resolve-term.Post
 term-returns-6 t c =
-    let s0 = c .before .before .before .before .before .before in
-    let p = s0 .before .before .before in
-    let m = s0 .before .before in
     let part = c .before .before .before .before in
+    let s0 = part .before .before in
+    let m = s0 .before .before in
+    let p = m .before in
+    let column-place = after-column p in
     record {
       resolves =
-          laws.dot-resolves _ _ _ _ (term-test t p .if1 .left) (p .before .before .column .ensures) (m .match .keys5) refl (term-put t p .put .ensures)
+          laws.dot-resolves _ _ _ _ (term-test t p .if1 .left) (column-place .column .ensures) (m .match .keys5) refl (term-put t p .put .ensures)
           (part .resolve-part4 .ensures .resolves);
-      moved = part .resolve-part4 .ensures .moved ∙ laws.dot-place _ _ _ _ (term-test t p .if1 .left) (p .before .before .column .ensures)
+      moved = part .resolve-part4 .ensures .moved ∙ laws.dot-place _ _ _ _ (term-test t p .if1 .left) (column-place .column .ensures)
           (m .match .keys5) refl;
     }
 
@@ -485,6 +538,7 @@ term-same-length-12 t c = search needs
 term-returns-7 : (t : ℕ) → term-lts.Need-returns-7 (term-claims t) (term-at t) resolve-term.Post
 term-returns-7 t c =
     let p = c .before in
+<<<<<<< HEAD
     let no = c .match .rest in
     let first = no .0 .0 in
     record {
@@ -493,6 +547,13 @@ term-returns-7 t c =
           (first .0 .1) (first .1) (no .0 .1) (no .1) _ _ (term-put t p .put .ensures);
       moved = laws.number-place _ _ _ _ (term-test t p .if1 .left) (p .before .before .column .ensures) (first .0 .0 .1)
           (first .0 .1) (first .1) (no .0 .1) (no .1);
+=======
+    let column-place = after-column p in
+    record {
+      resolves =
+          laws.number-resolves _ _ _ _ (term-test t p .if1 .left) (column-place .column .ensures) (c .match .rest) _ _ (term-put t p .put .ensures);
+      moved = laws.number-place _ _ _ _ (term-test t p .if1 .left) (column-place .column .ensures) (c .match .rest);
+>>>>>>> 2549cdb79c6d740a0e0853dfd70e7cd7c7a2fb5d
     }
 
 pub +resolve-fields+resolve-part+resolve-term-spec : {M : Type 1} → statement M

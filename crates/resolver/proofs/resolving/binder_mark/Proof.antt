@@ -21,15 +21,17 @@ has-requires c κs = search needs
 returns : tie.Need-returns
 unfolding binderMark
 returns c =
-    λ spell t apart known kb h. near-mark spell t _ _ apart known kb h (c .before .before .before .if1 .taken)
-    (c .before .before .if2 .taken) true (sym (c .if3 .taken) ∙ c .before .has .ensures)
+    let then2 = c .before .before in
+    λ spell t apart known kb h. near-mark spell t _ _ apart known kb h (then2 .before .if1 .taken)
+    (then2 .if2 .taken) true (sym (c .if3 .taken) ∙ c .before .has .ensures)
 
 -- src/resolving.rt:103:13
 returns-2 : tie.Need-returns-2
 unfolding binderMark
 returns-2 c =
-    λ spell t apart known kb h. near-mark spell t _ _ apart known kb h (c .before .before .before .if1 .taken)
-    (c .before .before .if2 .taken) false (sym (c .if3 .left) ∙ c .before .has .ensures)
+    let then2 = c .before .before in
+    λ spell t apart known kb h. near-mark spell t _ _ apart known kb h (then2 .before .if1 .taken)
+    (then2 .if2 .taken) false (sym (c .if3 .left) ∙ c .before .has .ensures)
 
 -- src/resolving.rt:105:9
 returns-3 : tie.Need-returns-3

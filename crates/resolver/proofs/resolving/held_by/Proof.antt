@@ -26,14 +26,16 @@ returns-2 c = λ spell apart k. held-fresh spell _ (c .match .keys2)
 -- src/resolving.rt:55:1
 returns-3 : tie.Need-returns-3
 returns-3 c =
-    λ spell apart k. held-outside spell _ (c .before .before .match .rest .0 .1) (c .before .before .match .rest .1) (c .only .ensures)
+    let match-rest-place = c .before .before in
+    λ spell apart k. held-outside spell _ (match-rest-place .match .rest .0 .1) (match-rest-place .match .rest .1) (c .only .ensures)
     apart
 
 -- src/resolving.rt:55:1
 returns-4 : tie.Need-returns-4
 returns-4 c =
+    let match-rest-place = c .before in
     λ spell apart k. absurd
-    (omega (arith, c .if1 .left, outside-small spell _ (c .before .match .rest .0 .1) (c .before .match .rest .1) apart k))
+    (omega (arith, c .if1 .left, outside-small spell _ (match-rest-place .match .rest .0 .1) (match-rest-place .match .rest .1) apart k))
 
 pub held-by-spec : {M : Type 1} → statement M
 held-by-spec = tie.close (tie.spec cast-only only-requires returns returns-2 returns-3 returns-4)

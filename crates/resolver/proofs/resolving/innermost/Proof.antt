@@ -15,7 +15,9 @@ returns : tie.Need-returns
 returns c = search needs
 
 returns-2 : tie.Need-returns-2
-returns-2 c = sym (getD-past (c .before .args .current .now) (c .before .args .slot) 0 (c .if1 .left))
+returns-2 c =
+    let start = c .before in
+    sym (getD-past (start .args .current .now) (start .args .slot) 0 (c .if1 .left))
 
 pub innermost-spec : {M : Type 1} → statement M
 innermost-spec = tie.close (tie.spec mul-result shared-slice-read-result returns returns-2)

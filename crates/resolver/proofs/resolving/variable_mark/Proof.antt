@@ -1,43 +1,54 @@
 -- `variable_mark`: the class of the name decides.
-use mathlib.Core.Path.{ap, _∙_}
-use lib.ListN.{getD}
 use Rattle.resolver.proofs.NameLaws.{word-mark, fresh-bound-mark, fresh-loose-mark, outside-mark}
 use borrow.Author.Needs.{needs}
 use Rattle.resolver.proofs.resolving.variable_mark.Statement.{statement}
 use Rattle.resolver.proofs.resolving.variable_mark.Tie as tie
 
+<<<<<<< HEAD
+=======
+-- places, each from a later one
+abbrev at-start : tie.After-shared-slice-known3 → tie.Start
+at-start p = p .before .before .before
+
+-- src/resolving.rt:40:9
+>>>>>>> 2549cdb79c6d740a0e0853dfd70e7cd7c7a2fb5d
 find-requires : tie.Need-find-requires
-find-requires c κs = c .before .before .before .pre .linked
+find-requires c κs = (at-start c) .pre .linked
 
 innermost-requires : tie.Need-innermost-requires
 innermost-requires c κs = search needs
 
 returns : tie.Need-returns
 returns c =
-    let s = c .before .before .before .before .before .before in
+    let innermost-place = c .before .before in
+    let find-place = innermost-place .before in
+    let s = find-place .before .before .before in
     let e = s .before in
     λ spell around known env.
     fresh-loose-mark spell (e .args .x) (e .args .cells .now) (e .args .current .now) around known env (c .before .match .keys2)
-    (c .before .before .innermost .ensures ∙ ap (λ n. getD (e .args .current .now) n 0) (c .before .before .before .find .ensures .0)) (c .if1 .taken)
+    (cc (innermost-place .innermost .ensures, find-place .find .ensures .0)) (c .if1 .taken)
 
 returns-2 : tie.Need-returns-2
 returns-2 c =
-    let e = c .before .before .before .before .before .before in
+    let find-place = c .before .before in
+    let e = at-start (find-place .before) in
     λ spell around known env.
     word-mark spell (e .args .x) (e .args .cells .now) (e .args .current .now) around known env (c .match .keys1)
-    (c .before .innermost .ensures ∙ ap (λ n. getD (e .args .current .now) n 0) (c .before .before .find .ensures .0))
+    (cc (c .before .innermost .ensures, find-place .find .ensures .0))
 
 returns-3 : tie.Need-returns-3
 returns-3 c =
-    let s = c .before .before .before .before .before .before in
+    let innermost-place = c .before .before in
+    let find-place = innermost-place .before in
+    let s = find-place .before .before .before in
     let e = s .before in
     λ spell around known env.
     fresh-bound-mark spell (e .args .x) (e .args .cells .now) (e .args .current .now) around known env (c .before .match .keys2)
-    (c .before .before .innermost .ensures ∙ ap (λ n. getD (e .args .current .now) n 0) (c .before .before .before .find .ensures .0)) (c .if1 .left)
+    (cc (innermost-place .innermost .ensures, find-place .find .ensures .0)) (c .if1 .left)
 
 returns-4 : tie.Need-returns-4
 returns-4 c =
-    let e = c .before .before .before .before .before .before in
+    let e = at-start (c .before .before .before) in
     λ spell around known env.
     outside-mark spell (e .args .x) (e .args .cells .now) (e .args .current .now) around known env (c .match .rest .0 .1) (c .match .rest .1)
 

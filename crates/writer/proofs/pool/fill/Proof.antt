@@ -1,9 +1,8 @@
 -- `fill`: the outside names, then word by word.
-use Prim.Native.Nat.{_-_, _+_, _*_, _≤_}
-use mathlib.Core.Path.{_≡_, refl, sym, ap, _∙_}
+use Prim.Native.Nat.{_-_}
+use mathlib.Core.Path.{_∙_}
 use native.Mathlib.Omega.{arith}
 use borrow.Author.Needs.{needs}
-use lib.ListN.{length}
 use Rattle.grammar.specs.Lookup.{lexiconOf}
 use Rattle.writer.proofs.PoolLaws as laws
 use Rattle.writer.proofs.pool.fill.Statement.{statement}
@@ -35,7 +34,9 @@ abbrev after-slice-known : tie.In-loop Inv-loop μ-loop → tie.After-slice-know
 after-slice-known p = p .before .before .before .before .before .before
 
 abbrev at-start : tie.In-loop Inv-loop μ-loop → tie.Start Inv-loop μ-loop
-at-start p = p .before .before .before .before .before .before .before .before .before .before
+at-start p =
+    let q = p .before .before .before .before .before in
+    q .before .before .before .before .before
 
 fill-outsides-requires : tie.Need-fill-outsides-requires Inv-loop μ-loop
 fill-outsides-requires c κs =

@@ -1,11 +1,9 @@
 -- `fill_outsides`: the names before the present field are stored, and the others stand from it on.
-use Prim.Native.Nat.{_-_, _+_, _≤_}
-use mathlib.Core.Path.{_≡_, refl, sym, ap, _∙_}
+use Prim.Native.Nat.{_-_}
+use mathlib.Core.Path.{sym, _∙_}
 use native.Mathlib.Omega.{arith}
 use borrow.Author.Needs.{needs}
-use lib.ListN.{length}
 use Rattle.grammar.specs.declared.Front.the-variants.{Nothing, Short, Field}
-use Rattle.grammar.specs.Lookup.{afterLeading, fieldsAt}
 use Rattle.grammar.proofs.LookupLaws.{front-inside}
 use Rattle.writer.proofs.PoolLaws as laws
 use Rattle.writer.proofs.pool.fill_outsides.Statement.{statement}
