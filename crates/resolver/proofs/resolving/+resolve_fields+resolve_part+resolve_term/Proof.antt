@@ -538,22 +538,11 @@ term-same-length-12 t c = search needs
 term-returns-7 : (t : ℕ) → term-lts.Need-returns-7 (term-claims t) (term-at t) resolve-term.Post
 term-returns-7 t c =
     let p = c .before in
-<<<<<<< HEAD
-    let no = c .match .rest in
-    let first = no .0 .0 in
-    record {
-      resolves =
-          laws.number-resolves _ _ _ _ (term-test t p .if1 .left) (p .before .before .column .ensures) (first .0 .0 .1)
-          (first .0 .1) (first .1) (no .0 .1) (no .1) _ _ (term-put t p .put .ensures);
-      moved = laws.number-place _ _ _ _ (term-test t p .if1 .left) (p .before .before .column .ensures) (first .0 .0 .1)
-          (first .0 .1) (first .1) (no .0 .1) (no .1);
-=======
     let column-place = after-column p in
     record {
       resolves =
           laws.number-resolves _ _ _ _ (term-test t p .if1 .left) (column-place .column .ensures) (c .match .rest) _ _ (term-put t p .put .ensures);
       moved = laws.number-place _ _ _ _ (term-test t p .if1 .left) (column-place .column .ensures) (c .match .rest);
->>>>>>> 2549cdb79c6d740a0e0853dfd70e7cd7c7a2fb5d
     }
 
 pub +resolve-fields+resolve-part+resolve-term-spec : {M : Type 1} → statement M

@@ -3,21 +3,24 @@ use Rattle.resolver.proofs.NameLaws.{word-mark, fresh-bound-mark, fresh
 use borrow.Author.Needs.{needs}
 use Rattle.resolver.proofs.resolving.variable_mark.Statement.{statement}
 use Rattle.resolver.proofs.resolving.variable_mark.Tie as tie
+use Rattle.resolver.proofs.resolving.variable_mark.Reads as reads
+use Rattle.resolver.proofs.resolving.variable_mark.Lts as lts
+use Rattle.resolver.proofs.binders.find.Reads as find-reads
+use Rattle.resolver.proofs.resolving.innermost.Reads as innermost-reads
 
-<<<<<<< HEAD
-=======
 -- places, each from a later one
 abbrev at-start : tie.After-shared-slice-known3 → tie.Start
 at-start p = p .before .before .before
 
 -- src/resolving.rt:40:9
->>>>>>> 2549cdb79c6d740a0e0853dfd70e7cd7c7a2fb5d
 find-requires : tie.Need-find-requires
 find-requires c κs = (at-start c) .pre .linked
 
+-- src/resolving.rt:41:9
 innermost-requires : tie.Need-innermost-requires
 innermost-requires c κs = search needs
 
+-- src/resolving.rt:46:17
 returns : tie.Need-returns
 returns c =
     let innermost-place = c .before .before in
@@ -28,6 +31,7 @@ returns c =
     fresh-loose-mark spell (e .args .x) (e .args .cells .now) (e .args .current .now) around known env (c .before .match .keys2)
     (cc (innermost-place .innermost .ensures, find-place .find .ensures .0)) (c .if1 .taken)
 
+-- src/resolving.rt:35:1
 returns-2 : tie.Need-returns-2
 returns-2 c =
     let find-place = c .before .before in
@@ -36,6 +40,7 @@ returns-2 c =
     word-mark spell (e .args .x) (e .args .cells .now) (e .args .current .now) around known env (c .match .keys1)
     (cc (c .before .innermost .ensures, find-place .find .ensures .0))
 
+-- src/resolving.rt:35:1
 returns-3 : tie.Need-returns-3
 returns-3 c =
     let innermost-place = c .before .before in
@@ -46,6 +51,7 @@ returns-3 c =
     fresh-bound-mark spell (e .args .x) (e .args .cells .now) (e .args .current .now) around known env (c .before .match .keys2)
     (cc (innermost-place .innermost .ensures, find-place .find .ensures .0)) (c .if1 .left)
 
+-- src/resolving.rt:35:1
 returns-4 : tie.Need-returns-4
 returns-4 c =
     let e = at-start (c .before .before .before) in
