@@ -125,11 +125,16 @@ module _ (bs : List ℕ) (bytes : (i : ℕ) → getD bs i 0 < 256) (P : Passes b
     words-fit j l =
         let plain = scan-plain (lexiconOfTable (P .table)) (P .within .outsideCount) formula in
         let at = words-list .each j l in
-        omega (arith, word-length (getD (scan (lexiconOfTable (P .table)) formula .words) j []) (plain .are-words j (omega (arith, words-list .many))), ap length at)
+        omega (
+          arith,
+          word-length (getD (scan (lexiconOfTable (P .table)) formula .words) j []) (plain .are-words j (omega (arith, words-list .many))),
+          ap length at,
+        )
 
     pub distinct : Distinct (spelledBy bs formula words count)
     unfolding spell
     distinct =
         let plain = scan-plain (lexiconOfTable (P .table)) (P .within .outsideCount) formula in
         rw spelled-by
-        (apart-lists (P .table .outsides) (scan (lexiconOfTable (P .table)) formula .words) (different-once (P .within .outsidesDiffer)) (plain .once) (plain .no-outside))
+        (apart-lists (P .table .outsides) (scan (lexiconOfTable (P .table)) formula .words)
+        (different-once (P .within .outsidesDiffer)) (plain .once) (plain .no-outside))
