@@ -10,6 +10,7 @@ ghost use Rattle.answers.specs.Refusals.{refusal};
 ghost use Rattle.terms.specs.Rows.{termAt};
 ghost use Rattle.terms.specs.Emit.{textOf, emitted};
 ghost use Rattle.writer.specs.Pool.{spelledBy};
+ghost use Rattle.printer.specs.Printed.{textBy, Printable, Prints};
 ghost use Rattle.emitter.specs.Emittable.{Emittable, Markable, answerBy};
 
 fn refusing(number: u8, a: usize) -> Answer
@@ -28,8 +29,8 @@ fn answered(made: usize, size: usize, needed: usize, room: usize) -> Answer
     Answer::Accepted(made, size, needed)
 }
 
-// Refusals 23 and 24, or the text of the term at a row, with a mark for each of its constructors.
-fn emit_in(
+// The text with the numbers of new names in a room that is lent to be written.
+fn print_marked(
     table: &[u8],
     formula: &[u8],
     words: &[u32],
@@ -39,8 +40,30 @@ fn emit_in(
     root: u32,
     marks: &mut [u16],
     text: &mut [u8],
+) -> usize
+    requires { ⌜ Printable (now table) (now formula) (now words) count (now cells) made root (now marks) ⌝ }
+    ensures { λ r. ⌜
+        Prints
+        (textBy (spelledBy (now (table .entry)) (now (formula .entry)) (now (words .entry)) count) (now (cells .entry)) (now (marks .entry)) made root)
+        (now (text .entry)) (now (text .exit)) r
+        ⌝ }
+{
+    print_text(table, formula, words, count, cells, made, root, marks, text)
+}
+
+// Refusals 23 and 24, or the text of the term at a row, with a mark for each of its constructors.
+fn emit_in(
+    table: &[u8],
+    formula: &[u8],
+    words: &[u32],
+    count: usize,
+    cells: &[u32],
+    made: usize,
+    root: u32,
+    marks: &mut &mut [u16],
+    text: &mut [u8],
 ) -> Answer
-    requires { ⌜ Markable (now table) (now formula) (now words) count (now cells) made root (now marks) ⌝ }
+    requires { ⌜ Markable (now table) (now formula) (now words) count (now cells) made root (now (now marks)) ⌝ }
     ensures { λ r. ⌜
         emitted textOf made
         (termAt made (spelledBy (now (table .entry)) (now (formula .entry)) (now (words .entry)) count) (now (cells .entry)) root)
@@ -53,7 +76,17 @@ fn emit_in(
         Resolution::Loose(p) => refusing(23, p),
         Resolution::Numbered => {
             let room = text.len();
-            let needed = print_text(table, formula, words, count, cells, made, root, marks, text);
+            let needed = print_marked(
+                table,
+                formula,
+                words,
+                count,
+                cells,
+                made,
+                root,
+                *marks,
+                text,
+            );
             answered(made, size, needed, room)
         }
     }
@@ -85,6 +118,7 @@ pub fn emit(
     let size = 16385 - left;
     if size <= 256 {
         let mut marks = [0u16; 256];
+        let mut room = &mut marks[..size];
         return emit_in(
             table,
             formula,
@@ -93,11 +127,12 @@ pub fn emit(
             cells,
             made,
             root,
-            &mut marks[..size],
+            &mut room,
             text,
         );
     }
     let mut marks = [0u16; 16384];
+    let mut room = &mut marks[..size];
     emit_in(
         table,
         formula,
@@ -106,7 +141,7 @@ pub fn emit(
         cells,
         made,
         root,
-        &mut marks[..size],
+        &mut room,
         text,
     )
 }

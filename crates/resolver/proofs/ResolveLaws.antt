@@ -169,10 +169,11 @@ module _ {spell : ℕ → List ℕ} {around : List Binder} {p : ℕ} where
             );
       }
 
-  variable-walked : {v : Name} {m h : ℕ} (current room : List ℕ) → m ≡ markOf v (ownerCode (ownerOf around v)) → Holds spell h (λ s. isOutside s v)
-      → Walked spell around p (variable v) h current current room (set room p m)
+  variable-walked : {v : Name} {m h : ℕ} {current′ : List ℕ} (current room : List ℕ) → current′ ≡ current
+      → m ≡ markOf v (ownerCode (ownerOf around v)) → Holds spell h (λ s. isOutside s v)
+      → Walked spell around p (variable v) h current current′ room (set room p m)
   unfolding holds marks
-  variable-walked current room e h = record { holding = h; kept = refl; marked = ap (set room p) e }
+  variable-walked current room k e h = record { holding = h; kept = k; marked = ap (set room p) e }
 
 -- ------------------------------------------------------------------ rows
 
@@ -210,15 +211,15 @@ module _ (cells : List ℕ) (k row p : ℕ) where
       walked-fields-as (cc) er (nil-walked current room)
 
   module _ (some : k ≡ 0 → ⊥) {code : ℕ} (at : code ≡ column cells row 0) where
-    pub variable-resolves : code ≡ 32 → {x m h : ℕ} {room₀ room₁ : List ℕ} (current room : List ℕ) → x ≡ column cells row 1
-        → room₀ ≡ set room p 0 → MarksVariable cells current x m
+    pub variable-resolves : code ≡ 32 → {x m h : ℕ} {current′ room₀ room₁ : List ℕ} (current room : List ℕ) → x ≡ column cells row 1
+        → current′ ≡ current → room₀ ≡ set room p 0 → MarksVariable cells current x m
         → ((spell : ℕ → List ℕ) → Distinct spell → VariableName spell (nameOf spell x) → Holds spell h (λ s. isOutside s (nameOf spell x)))
-        → room₁ ≡ set room₀ p m → ResolvesTerm cells k row p current current room room₁ h
+        → room₁ ≡ set room₀ p m → ResolvesTerm cells k row p current current′ room room₁ h
     unfolding WellNamed
-    variable-resolves e {x} {m} current room ex e₀ em eh er spell around apart wh kn len env =
+    variable-resolves e {x} {m} current room ex ek e₀ em eh er spell around apart wh kn len env =
         let t : termAt k spell cells row ≡ variable (nameOf spell x) = rw ex (rows.var-row spell cells k row some at e) in
         let kn′ = subst (WellNamed spell) t kn in
-        walked-as t (cc (set-set room p 0 m)) (variable-walked current room (em spell around kn′ env) (eh spell apart kn′))
+        walked-as t (cc (set-set room p 0 m)) (variable-walked current room ek (em spell around kn′ env) (eh spell apart kn′))
 
     pub number-resolves : OtherCode code → {room₁ : List ℕ} (current room : List ℕ)
         → room₁ ≡ set room p 0 → ResolvesTerm cells k row p current current room room₁ 0

@@ -22,10 +22,12 @@ pub record Walkable (cells links : List ℕ) (constructors place : ℕ) (room : 
 pub record WalksTerm (cells : List ℕ) (k row place place′ : ℕ) (current current′ room room′ : List ℕ) (held : ℕ) : Type 0 where
   pub resolves : ResolvesTerm cells k row place current current′ room room′ held
   pub moved : place′ ≡ place + sizeAt cells k row
+  pub long : length room′ ≡ length room
 
 pub record WalksFields (cells : List ℕ) (k row place place′ : ℕ) (current current′ room room′ : List ℕ) (held : ℕ) : Type 0 where
   pub resolves : ResolvesFields cells k row place current current′ room room′ held
   pub moved : place′ ≡ place + sizeFieldsAt cells k row
+  pub long : length room′ ≡ length room
 
 -- what the walk of a whole term begins with: linked rows, and no binder in any slot
 pub record Prepared (cells links current : List ℕ) : Type 0 where

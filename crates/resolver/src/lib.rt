@@ -3,6 +3,7 @@ use crate::binders::link;
 use crate::numbering::number;
 use crate::resolving::resolve_term;
 ghost use Prim.Native.Nat.{_/_, _≤_};
+ghost use mathlib.Core.Path.{_≡_};
 ghost use lib.ListN.{length};
 ghost use Rattle.resolver.specs.Numbers.{Resolvable, Resolves};
 ghost use Rattle.resolver.specs.Walks.{Prepared};
@@ -21,47 +22,57 @@ pub enum Resolution {
 fn resolved(
     cells: &[u32],
     links: &[u16],
-    current: &mut [u16],
+    current: &mut &mut [u16],
     made: usize,
     root: u32,
-    marks: &mut [u16],
+    marks: &mut &mut [u16],
 ) -> Resolution
-    requires { ⌜ Resolvable (now cells) made root (now marks) × Prepared (now cells) (now links) (now current) ⌝ }
-    ensures { λ r. ⌜ Resolves (now (cells .entry)) made root (now (marks .exit)) r ⌝ }
+    requires { ⌜ Resolvable (now cells) made root (now (now marks)) × Prepared (now cells) (now links) (now (now current)) ⌝ }
+    ensures { λ r. ⌜
+        Resolves (now (cells .entry)) made root (now (now (marks .exit))) r × (length (now (now (marks .exit))) ≡ length (now (now (marks .entry))))
+        ⌝ }
 {
     let mut place: usize = 0;
     resolve_term(&cells, &links, made, root, &mut place, current, marks);
     let count = marks.len();
-    number(marks, count)
+    number(*marks, count)
 }
 
 // With room for the binders of a few rows.
-fn resolve_small(cells: &[u32], made: usize, root: u32, marks: &mut [u16]) -> Resolution
-    requires { ⌜ Resolvable (now cells) made root (now marks) × (length (now cells) / 4 ≤ 256) ⌝ }
-    ensures { λ r. ⌜ Resolves (now (cells .entry)) made root (now (marks .exit)) r ⌝ }
+fn resolve_small(cells: &[u32], made: usize, root: u32, marks: &mut &mut [u16]) -> Resolution
+    requires { ⌜ Resolvable (now cells) made root (now (now marks)) × (length (now cells) / 4 ≤ 256) ⌝ }
+    ensures { λ r. ⌜
+        Resolves (now (cells .entry)) made root (now (now (marks .exit))) r × (length (now (now (marks .exit))) ≡ length (now (now (marks .entry))))
+        ⌝ }
 {
     let mut links = [0u16; 512];
     let mut current = [0u16; 256];
     link(cells, &mut links);
-    resolved(cells, &links, &mut current, made, root, marks)
+    let mut slots = &mut current[..];
+    resolved(cells, &links, &mut slots, made, root, marks)
 }
 
 // With room for the binders of all rows that an expansion makes.
-fn resolve_large(cells: &[u32], made: usize, root: u32, marks: &mut [u16]) -> Resolution
-    requires { ⌜ Resolvable (now cells) made root (now marks) ⌝ }
-    ensures { λ r. ⌜ Resolves (now (cells .entry)) made root (now (marks .exit)) r ⌝ }
+fn resolve_large(cells: &[u32], made: usize, root: u32, marks: &mut &mut [u16]) -> Resolution
+    requires { ⌜ Resolvable (now cells) made root (now (now marks)) ⌝ }
+    ensures { λ r. ⌜
+        Resolves (now (cells .entry)) made root (now (now (marks .exit))) r × (length (now (now (marks .exit))) ≡ length (now (now (marks .entry))))
+        ⌝ }
 {
     let mut links = [0u16; 32768];
     let mut current = [0u16; 16384];
     link(cells, &mut links);
-    resolved(cells, &links, &mut current, made, root, marks)
+    let mut slots = &mut current[..];
+    resolved(cells, &links, &mut slots, made, root, marks)
 }
 
 // Resolves the term at a row, with a mark for each of its constructors: refusal 23, or at each place the number of the new name that stands
 // there.
-pub fn resolve(cells: &[u32], made: usize, root: u32, marks: &mut [u16]) -> Resolution
-    requires { ⌜ Resolvable (now cells) made root (now marks) ⌝ }
-    ensures { λ r. ⌜ Resolves (now (cells .entry)) made root (now (marks .exit)) r ⌝ }
+pub fn resolve(cells: &[u32], made: usize, root: u32, marks: &mut &mut [u16]) -> Resolution
+    requires { ⌜ Resolvable (now cells) made root (now (now marks)) ⌝ }
+    ensures { λ r. ⌜
+        Resolves (now (cells .entry)) made root (now (now (marks .exit))) r × (length (now (now (marks .exit))) ≡ length (now (now (marks .entry))))
+        ⌝ }
 {
     if cells.len() / 4 <= 256 {
         return resolve_small(cells, made, root, marks);

@@ -14,9 +14,11 @@ ghost use Rattle.resolver.specs.Links.{Linked};
 ghost use Rattle.resolver.specs.Marks.{Holds, MarksVariable, MarksBinder};
 ghost use Rattle.resolver.specs.Walks.{Exchanged, Walkable, WalksTerm, WalksFields};
 
-fn put(room: &mut [u16], at: usize, v: u16)
-    requires { ⌜ (at < length (now room)) × (length (now room) ≤ 16384) ⌝ }
-    ensures { λ _. ⌜ now (room .exit) ≡ set (now (room .entry)) at v ⌝ }
+fn put(room: &mut &mut [u16], at: usize, v: u16)
+    requires { ⌜ (at < length (now (now room))) × (length (now (now room)) ≤ 16384) ⌝ }
+    ensures { λ _. ⌜
+        (now (now (room .exit)) ≡ set (now (now (room .entry))) at v) × (length (now (now (room .exit))) ≡ length (now (now (room .entry))))
+        ⌝ }
 {
     room[at] = v;
 }
@@ -32,9 +34,9 @@ fn innermost(current: &[u16], slot: usize) -> u16
 }
 
 // The mark of a variable of name x.
-fn variable_mark(cells: &[u32], links: &[u16], current: &[u16], x: u32) -> u16
+fn variable_mark(cells: &[u32], links: &[u16], current: &mut [u16], x: u32) -> u16
     requires { ⌜ Linked (now cells) (now links) ⌝ }
-    ensures { λ r. ⌜ MarksVariable (now (cells .entry)) (now (current .entry)) x r ⌝ }
+    ensures { λ r. ⌜ MarksVariable (now (cells .entry)) (now (current .entry)) x r × (now (current .exit) ≡ now (current .entry)) ⌝ }
 {
     let class = x / 16777216;
     let slot = find(cells, links, cells.len() / 4, x);
@@ -114,13 +116,13 @@ pub fn resolve_term(
     bound: usize,
     row: u32,
     place: &mut usize,
-    current: &mut [u16],
-    marks: &mut [u16],
+    current: &mut &mut [u16],
+    marks: &mut &mut [u16],
 ) -> u64
-    requires { ⌜ Walkable (now (now cells)) (now (now links)) (sizeAt (now (now cells)) bound row) (now place) (now marks) ⌝ }
+    requires { ⌜ Walkable (now (now cells)) (now (now links)) (sizeAt (now (now cells)) bound row) (now place) (now (now marks)) ⌝ }
     ensures { λ r. ⌜
-        WalksTerm (now (now (cells .entry))) bound row (now (place .entry)) (now (place .exit)) (now (current .entry))
-        (now (current .exit)) (now (marks .entry)) (now (marks .exit)) r
+        WalksTerm (now (now (cells .entry))) bound row (now (place .entry)) (now (place .exit)) (now (now (current .entry)))
+        (now (now (current .exit))) (now (now (marks .entry))) (now (now (marks .exit))) r
         ⌝ }
 {
     let here = *place;
@@ -134,14 +136,14 @@ pub fn resolve_term(
     let x = column(*cells, row, 1);
     match code {
         32 => {
-            let m = variable_mark(*cells, *links, current, x);
+            let m = variable_mark(*cells, *links, *current, x);
             put(marks, here, m);
             held_by(x)
         }
         33 => {
-            let outer = exchange(*cells, *links, current, x, binder_at(here));
+            let outer = exchange(*cells, *links, *current, x, binder_at(here));
             let held = resolve_part(cells, links, deep, row, 2, place, current, marks);
-            exchange(*cells, *links, current, x, outer);
+            exchange(*cells, *links, *current, x, outer);
             let m = binder_mark(x, held);
             put(marks, here, m);
             held
@@ -165,14 +167,14 @@ fn resolve_part(
     row: u32,
     i: usize,
     place: &mut usize,
-    current: &mut [u16],
-    marks: &mut [u16],
+    current: &mut &mut [u16],
+    marks: &mut &mut [u16],
 ) -> u64
     requires { ⌜ (i < 4) × Walkable (now (now cells)) (now (now links)) (sizeAt (now (now cells)) bound (column (now
-        (now cells)) row i)) (now place) (now marks) ⌝ }
+        (now cells)) row i)) (now place) (now (now marks)) ⌝ }
     ensures { λ r. ⌜
         WalksTerm (now (now (cells .entry))) bound (column (now (now (cells .entry))) row i) (now (place .entry)) (now (place .exit))
-        (now (current .entry)) (now (current .exit)) (now (marks .entry)) (now (marks .exit)) r
+        (now (now (current .entry))) (now (now (current .exit))) (now (now (marks .entry))) (now (now (marks .exit))) r
         ⌝ }
 {
     let part = column(*cells, row, i);
@@ -186,13 +188,13 @@ fn resolve_fields(
     bound: usize,
     row: u32,
     place: &mut usize,
-    current: &mut [u16],
-    marks: &mut [u16],
+    current: &mut &mut [u16],
+    marks: &mut &mut [u16],
 ) -> u64
-    requires { ⌜ Walkable (now (now cells)) (now (now links)) (sizeFieldsAt (now (now cells)) bound row) (now place) (now marks) ⌝ }
+    requires { ⌜ Walkable (now (now cells)) (now (now links)) (sizeFieldsAt (now (now cells)) bound row) (now place) (now (now marks)) ⌝ }
     ensures { λ r. ⌜
-        WalksFields (now (now (cells .entry))) bound row (now (place .entry)) (now (place .exit)) (now (current .entry))
-        (now (current .exit)) (now (marks .entry)) (now (marks .exit)) r
+        WalksFields (now (now (cells .entry))) bound row (now (place .entry)) (now (place .exit)) (now (now (current .entry)))
+        (now (now (current .exit))) (now (now (marks .entry))) (now (now (marks .exit))) r
         ⌝ }
 {
     let here = *place;

@@ -24,17 +24,23 @@ sub-size c = omega (arith, c .before .size-term .ensures)
 array-borrow-prefix-marks : tie.Need-array-borrow-prefix-marks
 array-borrow-prefix-marks c = search needs
 
-slice-aggregate-emit-in : tie.Need-slice-aggregate-emit-in
-slice-aggregate-emit-in c =
+slice-aggregate-room : tie.Need-slice-aggregate-room
+slice-aggregate-room c =
     let counted = c .before .before .before .size-term .ensures in
     sym (length-take-le _ _ (omega (arith, length-replicate {A = ℕ} 256 0, counted, c .before .if2 .taken, c .before .before .if1 .left)))
 
 emit-in-requires : tie.Need-emit-in-requires
 emit-in-requires c κs =
-    let sized = c .before .before .before .before in
+    let sized = c .before .before .before .before .before in
     let entry = sized .before .before .before .before .before .before in
-    laws.markable (replicate 256 0) (entry .pre) (sized .size-term .ensures) (c .before .before .before .if1 .left)
-    (omega (arith, length-replicate {A = ℕ} 256 0, sized .size-term .ensures, c .before .before .if2 .taken, c .before .before .before .if1 .left))
+    laws.markable (replicate 256 0) (entry .pre) (sized .size-term .ensures) (c .before .before .before .before .if1 .left)
+    (omega (
+      arith,
+      length-replicate {A = ℕ} 256 0,
+      sized .size-term .ensures,
+      c .before .before .before .if2 .taken,
+      c .before .before .before .before .if1 .left,
+    ))
 
 same-length : tie.Need-same-length
 same-length c = search needs
@@ -45,17 +51,23 @@ returns-2 c = search needs
 array-borrow-prefix-marks-2 : tie.Need-array-borrow-prefix-marks-2
 array-borrow-prefix-marks-2 c = search needs
 
-slice-aggregate-emit-in-2 : tie.Need-slice-aggregate-emit-in-2
-slice-aggregate-emit-in-2 c =
+slice-aggregate-room-2 : tie.Need-slice-aggregate-room-2
+slice-aggregate-room-2 c =
     let counted = c .before .before .before .size-term .ensures in
     sym (length-take-le _ _ (omega (arith, length-replicate {A = ℕ} 16384 0, counted, c .before .if2 .left, c .before .before .if1 .left)))
 
 emit-in-requires-2 : tie.Need-emit-in-requires-2
 emit-in-requires-2 c κs =
-    let sized = c .before .before .before .before in
+    let sized = c .before .before .before .before .before in
     let entry = sized .before .before .before .before .before .before in
-    laws.markable (replicate 16384 0) (entry .pre) (sized .size-term .ensures) (c .before .before .before .if1 .left)
-    (omega (arith, length-replicate {A = ℕ} 16384 0, sized .size-term .ensures, c .before .before .if2 .left, c .before .before .before .if1 .left))
+    laws.markable (replicate 16384 0) (entry .pre) (sized .size-term .ensures) (c .before .before .before .before .if1 .left)
+    (omega (
+      arith,
+      length-replicate {A = ℕ} 16384 0,
+      sized .size-term .ensures,
+      c .before .before .before .if2 .left,
+      c .before .before .before .before .if1 .left,
+    ))
 
 same-length-2 : tie.Need-same-length-2
 same-length-2 c = search needs
@@ -72,12 +84,12 @@ emit-spec =
     returns
     sub-size
     array-borrow-prefix-marks
-    slice-aggregate-emit-in
+    slice-aggregate-room
     emit-in-requires
     same-length
     returns-2
     array-borrow-prefix-marks-2
-    slice-aggregate-emit-in-2
+    slice-aggregate-room-2
     emit-in-requires-2
     same-length-2
     returns-3)

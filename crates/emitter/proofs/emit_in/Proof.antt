@@ -7,8 +7,7 @@ use Rattle.emitter.proofs.emit_in.Tie as tie
 
 resolve-requires : tie.Need-resolve-requires
 resolve-requires c κs =
-    let back = c .before .before .before .before .before .before in
-    let pre = back .before .pre in
+    let pre = c .before .before .before .before .before .before .pre in
     record { whole = pre .emittable .whole; counted = pre .counted; few = pre .few }
 
 enum-known-resolution : tie.Need-enum-known-resolution
@@ -20,50 +19,48 @@ refusing-requires c κs = search needs
 enum-told : tie.Need-enum-told
 enum-told c = search needs
 
-print-text-requires : tie.Need-print-text-requires
-print-text-requires c κs =
-    let marks = c .before .before .before .before .before in
-    let back = marks .before .before .before .before .before .before in
-    let pre = back .before .before .before .pre in
+slice-aggregate-print-marked : tie.Need-slice-aggregate-print-marked
+slice-aggregate-print-marked c = search needs
+
+print-marked-requires : tie.Need-print-marked-requires
+print-marked-requires c κs =
+    let resolved = c .before .before .before .before in
+    let back = resolved .before .before .before .before .before .before in
+    let pre = back .before .pre in
     let given = pre .emittable in
+    let long = resolved .resolve .ensures .1 in
     record {
       few = given .few;
       lie = given .lie;
       outsidesFit = given .outsidesFit;
       wordsFit = given .wordsFit;
-      marked = omega (arith, pre .counted, marks .marks .given);
-      small = omega (arith, pre .few, marks .marks .given);
+      marked = omega (arith, pre .counted, long);
+      small = omega (arith, pre .few, long);
     }
 
 answered-requires : tie.Need-answered-requires
 answered-requires c κs = search needs
 
-same-length : tie.Need-same-length
-same-length c = search needs
-
 returns : tie.Need-returns
 returns c =
-    let resolved = c .before .before .before .before .before .before in
+    let resolved = c .before .before .before .before in
     let back = resolved .before .before .before .before .before .before in
-    let pre = back .before .before .pre in
+    let pre = back .before .pre in
     laws.emit-loose _ _ _ _ _ (omega (arith, pre .counted, pre .few))
-    (resolved .resolve .ensures _ (pre .emittable .distinct) (pre .emittable .wellNamed)) (c .before .before .resolution .given .1) (c .refusing .ensures)
+    (resolved .resolve .ensures .0 _ (pre .emittable .distinct) (pre .emittable .wellNamed)) (c .before .before .resolution .given .1) (c .refusing .ensures)
 
-same-length-2 : tie.Need-same-length-2
-same-length-2 c = search needs
-
-same-length-3 : tie.Need-same-length-3
-same-length-3 c = search needs
+same-length : tie.Need-same-length
+same-length c = search needs
 
 returns-2 : tie.Need-returns-2
 returns-2 c =
     let told = c .before .before .before .before .before .before in
-    let resolved = told .before .before .before .before in
+    let resolved = told .before .before in
     let back = resolved .before .before .before .before .before .before in
-    let pre = back .before .before .pre in
+    let pre = back .before .pre in
     laws.emit-text _ _ _ _ _ (omega (arith, pre .counted, pre .few))
-    (resolved .resolve .ensures _ (pre .emittable .distinct) (pre .emittable .wellNamed)) (told .enum-told .given .1) (pre .counted)
-    (c .before .before .before .print-text .ensures) (c .answered .ensures)
+    (resolved .resolve .ensures .0 _ (pre .emittable .distinct) (pre .emittable .wellNamed)) (told .enum-told .given .1) (pre .counted)
+    (c .before .before .before .print-marked .ensures) (c .answered .ensures)
 
 pub emit-in-spec : {M : Type 1} → statement M
 emit-in-spec =
@@ -73,10 +70,9 @@ emit-in-spec =
     enum-known-resolution
     refusing-requires
     enum-told
-    print-text-requires
+    slice-aggregate-print-marked
+    print-marked-requires
     answered-requires
-    same-length
     returns
-    same-length-2
-    same-length-3
+    same-length
     returns-2)

@@ -2,8 +2,8 @@
 use Prim.Native.Nat.{ℕ}
 use mathlib.Core.Path.{sym, ap}
 use native.Mathlib.Omega.{arith}
-use lib.ListN.{replicate, length-replicate}
 use borrow.Author.Needs.{needs}
+use lib.ListN.{replicate, length-replicate}
 use Rattle.resolver.proofs.resolve_large.Statement.{statement}
 use Rattle.resolver.proofs.resolve_large.Tie as tie
 
@@ -13,20 +13,17 @@ slice-aggregate-link c = search needs
 link-requires : tie.Need-link-requires
 link-requires c κs =
     let long = length-replicate {A = ℕ} 32768 0 in
-    let few = c .before .before .before .pre .whole .few in
+    let few = c .before .before .pre .whole .few in
     record { few = few; some = omega arith; room = omega arith; none = ap (λ k. replicate k 0) (sym long) }
+
+slice-aggregate-slots : tie.Need-slice-aggregate-slots
+slice-aggregate-slots c = search needs
 
 slice-aggregate-resolved : tie.Need-slice-aggregate-resolved
 slice-aggregate-resolved c = search needs
 
-slice-aggregate-resolved-2 : tie.Need-slice-aggregate-resolved-2
-slice-aggregate-resolved-2 c = search needs
-
 resolved-requires : tie.Need-resolved-requires
 resolved-requires c κs = search needs
-
-same-length : tie.Need-same-length
-same-length c = search needs
 
 returns : tie.Need-returns
 returns c = search needs
@@ -34,11 +31,4 @@ returns c = search needs
 pub resolve-large-spec : {M : Type 1} → statement M
 resolve-large-spec =
     tie.close
-    (tie.spec
-    slice-aggregate-link
-    link-requires
-    slice-aggregate-resolved
-    slice-aggregate-resolved-2
-    resolved-requires
-    same-length
-    returns)
+    (tie.spec slice-aggregate-link link-requires slice-aggregate-slots slice-aggregate-resolved resolved-requires returns)

@@ -26,32 +26,32 @@ use Rattle.rows.proofs.column.Reads as column-reads
 use Rattle.resolver.proofs.resolving.+resolve_fields+resolve_part+resolve_term.{statement}
 use Rattle.resolver.proofs.resolving.+resolve_fields+resolve_part+resolve_term.Tie.{close}
 
-abbrev μ-fields : Measures 7 resolve-fields-kinds.ps ℕ
+abbrev μ-fields : Measures 9 resolve-fields-kinds.ps ℕ
 μ-fields κs a = a .1 .1 .0 * 2
 
-abbrev fields-at : ℕ → In 7 resolve-fields-kinds.ps
-fields-at t = and 7 resolve-fields-kinds.ps (is 7 resolve-fields-kinds.ps μ-fields t) resolve-fields.Pre
+abbrev fields-at : ℕ → In 9 resolve-fields-kinds.ps
+fields-at t = and 9 resolve-fields-kinds.ps (is 9 resolve-fields-kinds.ps μ-fields t) resolve-fields.Pre
 
-abbrev fields-below : ℕ → In 7 resolve-fields-kinds.ps
-fields-below t = and 7 resolve-fields-kinds.ps (falls 7 resolve-fields-kinds.ps _<_ μ-fields t) resolve-fields.Pre
+abbrev fields-below : ℕ → In 9 resolve-fields-kinds.ps
+fields-below t = and 9 resolve-fields-kinds.ps (falls 9 resolve-fields-kinds.ps _<_ μ-fields t) resolve-fields.Pre
 
-abbrev μ-part : Measures 7 resolve-part-kinds.ps ℕ
+abbrev μ-part : Measures 9 resolve-part-kinds.ps ℕ
 μ-part κs a = a .1 .1 .0 * 2 + 1
 
-abbrev part-at : ℕ → In 7 resolve-part-kinds.ps
-part-at t = and 7 resolve-part-kinds.ps (is 7 resolve-part-kinds.ps μ-part t) resolve-part.Pre
+abbrev part-at : ℕ → In 9 resolve-part-kinds.ps
+part-at t = and 9 resolve-part-kinds.ps (is 9 resolve-part-kinds.ps μ-part t) resolve-part.Pre
 
-abbrev part-below : ℕ → In 7 resolve-part-kinds.ps
-part-below t = and 7 resolve-part-kinds.ps (falls 7 resolve-part-kinds.ps _<_ μ-part t) resolve-part.Pre
+abbrev part-below : ℕ → In 9 resolve-part-kinds.ps
+part-below t = and 9 resolve-part-kinds.ps (falls 9 resolve-part-kinds.ps _<_ μ-part t) resolve-part.Pre
 
-abbrev μ-term : Measures 7 resolve-term-kinds.ps ℕ
+abbrev μ-term : Measures 9 resolve-term-kinds.ps ℕ
 μ-term κs a = a .1 .1 .0 * 2
 
-abbrev term-at : ℕ → In 7 resolve-term-kinds.ps
-term-at t = and 7 resolve-term-kinds.ps (is 7 resolve-term-kinds.ps μ-term t) resolve-term.Pre
+abbrev term-at : ℕ → In 9 resolve-term-kinds.ps
+term-at t = and 9 resolve-term-kinds.ps (is 9 resolve-term-kinds.ps μ-term t) resolve-term.Pre
 
-abbrev term-below : ℕ → In 7 resolve-term-kinds.ps
-term-below t = and 7 resolve-term-kinds.ps (falls 7 resolve-term-kinds.ps _<_ μ-term t) resolve-term.Pre
+abbrev term-below : ℕ → In 9 resolve-term-kinds.ps
+term-below t = and 9 resolve-term-kinds.ps (falls 9 resolve-term-kinds.ps _<_ μ-term t) resolve-term.Pre
 
 abbrev fields-claims : ℕ → fields-lts.Claims
 fields-claims t = (
@@ -104,44 +104,34 @@ module _ (t : ℕ) (p : term-lts.After-column2 (term-claims t) (term-at t) resol
   abbrev term-test : term-lts.Else1 (term-claims t) (term-at t) resolve-term.Post
   term-test = p .before .before .before .before
 
-  abbrev term-marks : term-lts.After-marks (term-claims t) (term-at t) resolve-term.Post
-  term-marks = term-test .before .before
-
   abbrev term-put : term-lts.After-put (term-claims t) (term-at t) resolve-term.Post
-  term-put = term-marks .before
+  term-put = term-test .before
 
   abbrev term-entry : term-lts.Start (term-claims t) (term-at t) resolve-term.Post
-  term-entry = term-put .before .before .before .before .before
+  term-entry = term-put .before .before .before
 
 module _ (t : ℕ) (p : fields-lts.After-column (fields-claims t) (fields-at t) resolve-fields.Post) where
   abbrev fields-test : fields-lts.Else1 (fields-claims t) (fields-at t) resolve-fields.Post
   fields-test = p .before .before
 
-  abbrev fields-marks : fields-lts.After-marks (fields-claims t) (fields-at t) resolve-fields.Post
-  fields-marks = fields-test .before .before
-
   abbrev fields-put : fields-lts.After-put (fields-claims t) (fields-at t) resolve-fields.Post
-  fields-put = fields-marks .before
+  fields-put = fields-test .before
 
   abbrev fields-entry : fields-lts.Start (fields-claims t) (fields-at t) resolve-fields.Post
-  fields-entry = fields-put .before .before .before .before .before
+  fields-entry = fields-put .before .before .before
 
 fields-add-place : (t : ℕ) → fields-lts.Need-add-place (fields-claims t) (fields-at t) resolve-fields.Post
-fields-add-place t c =
-    let e = c .before .before .before in
-    omega (arith, laws.fields-fit _ _ _ (e .pre .1))
+fields-add-place t c = omega (arith, laws.fields-fit _ _ _ (c .before .pre .1))
 
 fields-put-requires : (t : ℕ) → fields-lts.Need-put-requires (fields-claims t) (fields-at t) resolve-fields.Post
-fields-put-requires t c κs = laws.fields-fit _ _ _ (c .before .before .before .before .pre .1)
-
-fields-same-length : (t : ℕ) → fields-lts.Need-same-length (fields-claims t) (fields-at t) resolve-fields.Post
-fields-same-length t c = search needs
+fields-put-requires t c κs = laws.fields-fit _ _ _ (c .before .before .pre .1)
 
 fields-returns : (t : ℕ) → fields-lts.Need-returns (fields-claims t) (fields-at t) resolve-fields.Post
 fields-returns t c =
     record {
-      resolves = laws.shallow-resolves-fields _ _ _ _ (c .if1 .taken) _ _ (c .before .before .before .put .ensures);
+      resolves = laws.shallow-resolves-fields _ _ _ _ (c .if1 .taken) _ _ (c .before .put .ensures .0);
       moved = laws.shallow-fields-place _ _ _ _ (c .if1 .taken);
+      long = c .before .put .ensures .1;
     }
 
 fields-sub-deep : (t : ℕ) → fields-lts.Need-sub-deep (fields-claims t) (fields-at t) resolve-fields.Post
@@ -152,12 +142,11 @@ fields-column-requires t c κs = search needs
 
 fields-resolve-part-requires : (t : ℕ) → fields-lts.Need-resolve-part-requires (fields-claims t) (fields-at t) resolve-fields.Post
 fields-resolve-part-requires t c κs =
-    let then2 = c .before .before .before in
-    let p = then2 .before in
+    let p = c .before .before .before .before in
     let a = fields-entry t p .args in
-    let w = laws.walkable-in (fields-entry t p .pre .1) (fields-marks t p .marks .given) in
-    let place = laws.cons-place (a .cells .now .now) (a .bound) (a .row) (a .place .now)
-    (fields-test t p .if1 .left) (p .column .ensures) (then2 .if2 .taken) refl refl in
+    let w = laws.walkable-in (fields-entry t p .pre .1) (fields-put t p .put .ensures .1) in
+    let place = laws.cons-place (a .cells .now .now) (a .bound) (a .row) (a .place .now) (fields-test t p .if1 .left) (p .column .ensures)
+    (c .before .before .before .if2 .taken) refl refl in
     (omega (arith, fields-entry t p .pre .0, fields-test t p .if1 .left), (omega arith, laws.walkable-part w (omega (arith, place))))
 
 fields-column-requires-2 : (t : ℕ) → fields-lts.Need-column-requires-2 (fields-claims t) (fields-at t) resolve-fields.Post
@@ -165,127 +154,76 @@ fields-column-requires-2 t c κs = search needs
 
 fields-resolve-fields-requires : (t : ℕ) → fields-lts.Need-resolve-fields-requires (fields-claims t) (fields-at t) resolve-fields.Post
 fields-resolve-fields-requires t c κs =
-    let column2-place = c .before .before .before in
-    let s0 = column2-place .before .before .before in
-    let resolve-part-place = s0 .before .before .before in
-    let s1 = resolve-part-place .before .before .before in
-    let then2 = s1 .before in
-    let p = then2 .before in
+    let s0 = c .before .before .before .before .before .before in
+    let p = s0 .before .before .before .before in
     let a = fields-entry t p .args in
-    let w = laws.walkable-in (fields-entry t p .pre .1) (s0 .marks2 .given ∙ fields-marks t p .marks .given) in
+    let first = c .before .before .before .before .before .resolve-part .ensures in
+    let w = laws.walkable-in (fields-entry t p .pre .1) (first .long ∙ fields-put t p .put .ensures .1) in
     let place = laws.cons-place (a .cells .now .now) (a .bound) (a .row) (a .place .now)
-    (fields-test t p .if1 .left) (p .column .ensures) (then2 .if2 .taken) refl (column2-place .column2 .ensures) in (
-      omega (arith, fields-entry t p .pre .0, fields-test t p .if1 .left),
-      laws.walkable-part w (omega (arith, place, resolve-part-place .resolve-part .ensures .moved)),
-    )
+    (fields-test t p .if1 .left) (p .column .ensures) (s0 .before .before .before .if2 .taken) refl (c .before .before .before .column2 .ensures) in
+    (omega (arith, fields-entry t p .pre .0, fields-test t p .if1 .left), laws.walkable-part w (omega (arith, place, first .moved)))
 
 fields-join-requires : (t : ℕ) → fields-lts.Need-join-requires (fields-claims t) (fields-at t) resolve-fields.Post
 fields-join-requires t c κs = search needs
 
-fields-same-length-2 : (t : ℕ) → fields-lts.Need-same-length-2 (fields-claims t) (fields-at t) resolve-fields.Post
-fields-same-length-2 t c = search needs
-
-fields-same-length-3 : (t : ℕ) → fields-lts.Need-same-length-3 (fields-claims t) (fields-at t) resolve-fields.Post
-fields-same-length-3 t c = search needs
-
 fields-returns-2 : (t : ℕ) → fields-lts.Need-returns-2 (fields-claims t) (fields-at t) resolve-fields.Post
 fields-returns-2 t c =
-    let second = c .before .before .before .before .before in
-    let s0 = second .before in
-    let next = s0 .before .before .before in
-    let s1 = next .before .before .before in
-    let first = s1 .before .before .before in
-    let s2 = first .before .before .before in
-    let is = s2 .before in
-    let p = is .before in
+    let s0 = c .before .before .before .before .before .before in
+    let p = s0 .before .before .before .before .before .before in
+    let is = s0 .before .before .before .before .before in
+    let first = s0 .before .resolve-part .ensures in
+    let second = c .before .resolve-fields .ensures in
+    let next = c .before .before .before .before .before in
     let a = fields-entry t p .args in
     record {
       resolves =
           laws.cons-resolves _ _ _ _ (fields-test t p .if1 .left) (p .column .ensures) (is .if2 .taken) refl (next .column2 .ensures)
-          (fields-put t p .put .ensures)
-          (first .resolve-part .ensures .resolves) (first .resolve-part .ensures .moved) (second .resolve-fields .ensures .resolves) (c .join .ensures);
+          (fields-put t p .put .ensures .0)
+          (first .resolves) (first .moved) (second .resolves) (c .join .ensures);
       moved =
           omega (
             arith,
-            first .resolve-part .ensures .moved,
-            second .resolve-fields .ensures .moved,
-            laws.cons-place (a .cells .now .now) (a .bound) (a .row) (a .place .now)
-                (fields-test t p .if1 .left) (p .column .ensures) (is .if2 .taken) refl (next .column2 .ensures),
+            first .moved,
+            second .moved,
+            laws.cons-place (a .cells .now .now) (a .bound) (a .row) (a .place .now) (fields-test t p .if1 .left) (p .column .ensures) (is .if2 .taken) refl
+                (next .column2 .ensures),
           );
+      long = second .long ∙ first .long ∙ fields-put t p .put .ensures .1;
     }
-
-fields-same-length-4 : (t : ℕ) → fields-lts.Need-same-length-4 (fields-claims t) (fields-at t) resolve-fields.Post
-fields-same-length-4 t c = search needs
 
 fields-returns-3 : (t : ℕ) → fields-lts.Need-returns-3 (fields-claims t) (fields-at t) resolve-fields.Post
 fields-returns-3 t c =
     let p = c .before in
     record {
-      resolves = laws.nil-resolves _ _ _ _ (fields-test t p .if1 .left) (p .column .ensures) (c .if2 .left) _ _ (fields-put t p .put .ensures);
+      resolves = laws.nil-resolves _ _ _ _ (fields-test t p .if1 .left) (p .column .ensures) (c .if2 .left) _ _ (fields-put t p .put .ensures .0);
       moved = laws.nil-place _ _ _ _ (fields-test t p .if1 .left) (p .column .ensures) (c .if2 .left);
+      long = fields-put t p .put .ensures .1;
     }
 
 part-column-requires : (t : ℕ) → part-lts.Need-column-requires (part-claims t) (part-at t) resolve-part.Post
-part-column-requires t c κs = c .before .before .before .pre .1 .0
+part-column-requires t c κs = c .before .pre .1 .0
 
 part-resolve-term-requires : (t : ℕ) → part-lts.Need-resolve-term-requires (part-claims t) (part-at t) resolve-part.Post
 part-resolve-term-requires t c κs =
-    let s0 = c .before .before .before in
-    let e = s0 .before .before .before .before in
-    (omega (arith, e .pre .0), laws.walkable-row _ (s0 .column .ensures) (e .pre .1 .1))
-
-part-same-length : (t : ℕ) → part-lts.Need-same-length (part-claims t) (part-at t) resolve-part.Post
-part-same-length t c = search needs
-
-part-same-length-2 : (t : ℕ) → part-lts.Need-same-length-2 (part-claims t) (part-at t) resolve-part.Post
-part-same-length-2 t c = search needs
+    let column = c .before .before .before in
+    let e = column .before .before in
+    (omega (arith, e .pre .0), laws.walkable-row _ (column .column .ensures) (e .pre .1 .1))
 
 part-returns : (t : ℕ) → part-lts.Need-returns (part-claims t) (part-at t) resolve-part.Post
-part-returns t c =
-    let s0 = c .before .before .before .before in
-    laws.walks-row (s0 .before .before .before .before .column .ensures) (s0 .resolve-term .ensures)
-
--- places, each from a later one
-abbrev at-match-keys2 : {t : ℕ} → term-lts.After-binder-at (term-claims t) (term-at t) resolve-term.Post
-    → term-lts.At-match-keys2 (term-claims t) (term-at t) resolve-term.Post
-at-match-keys2 p = p .before .before .before .before
-
-abbrev after-column : {t : ℕ} → term-lts.After-column2 (term-claims t) (term-at t) resolve-term.Post
-    → term-lts.After-column (term-claims t) (term-at t) resolve-term.Post
-after-column p = p .before .before
-
-abbrev after-column2 : {t : ℕ} → term-lts.After-exchange-arg2 (term-claims t) (term-at t) resolve-term.Post
-    → term-lts.After-column2 (term-claims t) (term-at t) resolve-term.Post
-after-column2 p = p .before .before .before
-
-abbrev after-marks3 : {t : ℕ} → term-lts.After-exchange-arg5 (term-claims t) (term-at t) resolve-term.Post
-    → term-lts.After-marks3 (term-claims t) (term-at t) resolve-term.Post
-after-marks3 p = p .before .before .before
-
-abbrev at-match-keys3 : {t : ℕ} → term-lts.After-resolve-part-arg6 (term-claims t) (term-at t) resolve-term.Post
-    → term-lts.At-match-keys3 (term-claims t) (term-at t) resolve-term.Post
-at-match-keys3 p = p .before .before .before
-
-abbrev after-column2′ : {t : ℕ} → term-lts.After-variable-mark-arg3 (term-claims t) (term-at t) resolve-term.Post
-    → term-lts.After-column2 (term-claims t) (term-at t) resolve-term.Post
-after-column2′ p = p .before .before .before .before
+part-returns t c = laws.walks-row (c .before .before .before .before .column .ensures) (c .resolve-term .ensures)
 
 term-add-place : (t : ℕ) → term-lts.Need-add-place (term-claims t) (term-at t) resolve-term.Post
-term-add-place t c =
-    let e = c .before .before .before in
-    omega (arith, laws.term-fits _ _ _ (e .pre .1))
+term-add-place t c = omega (arith, laws.term-fits _ _ _ (c .before .pre .1))
 
 term-put-requires : (t : ℕ) → term-lts.Need-put-requires (term-claims t) (term-at t) resolve-term.Post
-term-put-requires t c κs = laws.term-fits _ _ _ (c .before .before .before .before .pre .1)
-
-term-same-length : (t : ℕ) → term-lts.Need-same-length (term-claims t) (term-at t) resolve-term.Post
-term-same-length t c = search needs
+term-put-requires t c κs = laws.term-fits _ _ _ (c .before .before .pre .1)
 
 term-returns : (t : ℕ) → term-lts.Need-returns (term-claims t) (term-at t) resolve-term.Post
 term-returns t c =
     record {
-      resolves = laws.shallow-resolves _ _ _ _ (c .if1 .taken) _ _ (c .before .before .before .put .ensures);
+      resolves = laws.shallow-resolves _ _ _ _ (c .if1 .taken) _ _ (c .before .put .ensures .0);
       moved = laws.shallow-place _ _ _ _ (c .if1 .taken);
+      long = c .before .put .ensures .1;
     }
 
 term-sub-deep : (t : ℕ) → term-lts.Need-sub-deep (term-claims t) (term-at t) resolve-term.Post
@@ -297,46 +235,53 @@ term-column-requires t c κs = search needs
 term-column-requires-2 : (t : ℕ) → term-lts.Need-column-requires-2 (term-claims t) (term-at t) resolve-term.Post
 term-column-requires-2 t c κs = search needs
 
+term-slice-aggregate-variable-mark : (t : ℕ) → term-lts.Need-slice-aggregate-variable-mark (term-claims t) (term-at t) resolve-term.Post
+term-slice-aggregate-variable-mark t c = search needs
+
 term-variable-mark-requires : (t : ℕ) → term-lts.Need-variable-mark-requires (term-claims t) (term-at t) resolve-term.Post
 term-variable-mark-requires t c κs =
-    let p = after-column2′ c in
+    let p = c .before .before .before .before in
     term-entry t p .pre .1 .linked
 
 term-put-requires-2 : (t : ℕ) → term-lts.Need-put-requires-2 (term-claims t) (term-at t) resolve-term.Post
 term-put-requires-2 t c κs =
-    let p = after-column2′ (c .before .before) in
-    laws.fits-as (term-marks t p .marks .given) (laws.term-fits _ _ _ (term-entry t p .pre .1))
+    let p = c .before .before .before .before .before .before in
+    laws.fits-as (term-put t p .put .ensures .1) (laws.term-fits _ _ _ (term-entry t p .pre .1))
 
 term-held-by-requires : (t : ℕ) → term-lts.Need-held-by-requires (term-claims t) (term-at t) resolve-term.Post
 term-held-by-requires t c κs = search needs
 
+term-slice-aggregate-exchange : (t : ℕ) → term-lts.Need-slice-aggregate-exchange (term-claims t) (term-at t) resolve-term.Post
+term-slice-aggregate-exchange t c = search needs
+
 term-binder-at-requires : (t : ℕ) → term-lts.Need-binder-at-requires (term-claims t) (term-at t) resolve-term.Post
 term-binder-at-requires t c κs =
-    let p = after-column2 (c .before) in
+    let p = c .before .before .before .before in
     omega (arith, laws.term-fits _ _ _ (term-entry t p .pre .1))
 
 term-exchange-requires : (t : ℕ) → term-lts.Need-exchange-requires (term-claims t) (term-at t) resolve-term.Post
 term-exchange-requires t c κs =
-    let p = (at-match-keys2 c) .before in
+    let p = c .before .before .before .before .before in
     term-entry t p .pre .1 .linked
 
 term-resolve-part-requires : (t : ℕ) → term-lts.Need-resolve-part-requires (term-claims t) (term-at t) resolve-term.Post
 term-resolve-part-requires t c κs =
     let s0 = c .before .before .before .before .before .before in
-    let m = at-match-keys2 s0 in
-    let p = m .before in
+    let p = s0 .before .before .before in
     let a = term-entry t p .args in
-    let w = laws.walkable-in (term-entry t p .pre .1) (term-marks t p .marks .given) in
+    let w = laws.walkable-in (term-entry t p .pre .1) (term-put t p .put .ensures .1) in
     let place = laws.function-place (a .cells .now .now) (a .bound) (a .row) (a .place .now)
-    (term-test t p .if1 .left) ((after-column p) .column .ensures) (m .match .keys2) refl in
+    (term-test t p .if1 .left) (p .before .before .column .ensures) (s0 .before .before .match .keys2) refl in
     (omega (arith, term-entry t p .pre .0, term-test t p .if1 .left), (omega arith, laws.walkable-part w (omega (arith, place))))
+
+term-slice-aggregate-exchange-2 : (t : ℕ) → term-lts.Need-slice-aggregate-exchange-2 (term-claims t) (term-at t) resolve-term.Post
+term-slice-aggregate-exchange-2 t c = search needs
 
 term-exchange-requires-2 : (t : ℕ) → term-lts.Need-exchange-requires-2 (term-claims t) (term-at t) resolve-term.Post
 term-exchange-requires-2 t c κs =
-    let s0 = (after-marks3 (c .before)) .before .before in
+    let s0 = c .before .before .before .before .before .before in
     let s1 = s0 .before .before .before .before .before .before in
-    let s2 = at-match-keys2 (s1 .before .before) in
-    let p = s2 .before in
+    let p = s1 .before in
     term-entry t p .pre .1 .linked
 
 term-binder-mark-requires : (t : ℕ) → term-lts.Need-binder-mark-requires (term-claims t) (term-at t) resolve-term.Post
@@ -345,35 +290,34 @@ term-binder-mark-requires t c κs = search needs
 term-put-requires-3 : (t : ℕ) → term-lts.Need-put-requires-3 (term-claims t) (term-at t) resolve-term.Post
 term-put-requires-3 t c κs =
     let s0 = c .before .before .before .before .before .before in
-    let at-marks = after-marks3 s0 in
-    let s1 = at-marks .before .before .before in
-    let s2 = s1 .before .before .before .before .before .before in
-    let p = (at-match-keys2 (s2 .before)) .before in
-    laws.fits-as (at-marks .marks3 .given ∙ term-marks t p .marks .given) (laws.term-fits _ _ _ (term-entry t p .pre .1))
+    let s1 = s0 .before .before .before .before .before .before in
+    let p = s1 .before .before .before .before in
+    laws.fits-as (c .before .before .before .before .before .before .resolve-part .ensures .long ∙ term-put t p .put .ensures .1)
+    (laws.term-fits _ _ _ (term-entry t p .pre .1))
 
 term-resolve-part-requires-2 : (t : ℕ) → term-lts.Need-resolve-part-requires-2 (term-claims t) (term-at t) resolve-term.Post
 term-resolve-part-requires-2 t c κs =
-    let m = at-match-keys3 c in
-    let p = m .before in
+    let p = c .before .before .before .before in
     let a = term-entry t p .args in
-    let w = laws.walkable-in (term-entry t p .pre .1) (term-marks t p .marks .given) in
+    let w = laws.walkable-in (term-entry t p .pre .1) (term-put t p .put .ensures .1) in
     let place = laws.apply-place (a .cells .now .now) (a .bound) (a .row) (a .place .now)
-    (term-test t p .if1 .left) ((after-column p) .column .ensures) (m .match .keys3) refl refl in
+    (term-test t p .if1 .left) (p .before .before .column .ensures) (c .before .before .before .match .keys3) refl refl in
     (omega (arith, term-entry t p .pre .0, term-test t p .if1 .left), (omega arith, laws.walkable-part w (omega (arith, place))))
 
 term-resolve-part-requires-3 : (t : ℕ) → term-lts.Need-resolve-part-requires-3 (term-claims t) (term-at t) resolve-term.Post
 term-resolve-part-requires-3 t c κs =
-    let marks5-place = c .before .before .before .before in
-    let s0 = marks5-place .before .before in
-    let resolve-part2-place = s0 .before in
-    let m = at-match-keys3 (resolve-part2-place .before) in
-    let p = m .before in
+    let s0 = c .before .before .before .before .before .before in
+    let p = s0 .before .before in
     let a = term-entry t p .args in
-    let w = laws.walkable-in (term-entry t p .pre .1) (marks5-place .marks5 .given ∙ term-marks t p .marks .given) in
+    let w = laws.walkable-in (term-entry t p .pre .1) (c .before .before .before .resolve-part2 .ensures .long ∙ term-put t p .put .ensures .1) in
     let place = laws.apply-place (a .cells .now .now) (a .bound) (a .row) (a .place .now)
-    (term-test t p .if1 .left) ((after-column p) .column .ensures) (m .match .keys3) refl refl in (
+    (term-test t p .if1 .left) (p .before .before .column .ensures) (s0 .before .match .keys3) refl refl in (
       omega (arith, term-entry t p .pre .0, term-test t p .if1 .left),
-      (omega arith, laws.walkable-part w (omega (arith, place, resolve-part2-place .resolve-part2 .ensures .moved))),
+      (
+        omega arith,
+        laws.walkable-part w (omega
+            (arith, place, c .before .before .before .resolve-part2 .ensures .moved)),
+      ),
     )
 
 term-join-requires : (t : ℕ) → term-lts.Need-join-requires (term-claims t) (term-at t) resolve-term.Post
@@ -381,168 +325,110 @@ term-join-requires t c κs = search needs
 
 term-resolve-fields-requires : (t : ℕ) → term-lts.Need-resolve-fields-requires (term-claims t) (term-at t) resolve-term.Post
 term-resolve-fields-requires t c κs =
-    let m = c .before .before .before in
-    let p = m .before in
+    let p = c .before .before .before .before in
     let a = term-entry t p .args in
-    let w = laws.walkable-in (term-entry t p .pre .1) (term-marks t p .marks .given) in
+    let w = laws.walkable-in (term-entry t p .pre .1) (term-put t p .put .ensures .1) in
     let place = laws.rcd-place (a .cells .now .now) (a .bound) (a .row) (a .place .now)
-    (term-test t p .if1 .left) ((after-column p) .column .ensures) (m .match .keys4) (p .column2 .ensures) in
+    (term-test t p .if1 .left) (p .before .before .column .ensures) (c .before .before .before .match .keys4) (p .column2 .ensures) in
     (omega (arith, term-entry t p .pre .0, term-test t p .if1 .left), laws.walkable-part w (omega (arith, place)))
 
 term-resolve-part-requires-4 : (t : ℕ) → term-lts.Need-resolve-part-requires-4 (term-claims t) (term-at t) resolve-term.Post
 term-resolve-part-requires-4 t c κs =
-    let m = c .before .before .before in
-    let p = m .before in
+    let p = c .before .before .before .before in
     let a = term-entry t p .args in
-    let w = laws.walkable-in (term-entry t p .pre .1) (term-marks t p .marks .given) in
+    let w = laws.walkable-in (term-entry t p .pre .1) (term-put t p .put .ensures .1) in
     let place = laws.dot-place (a .cells .now .now) (a .bound) (a .row) (a .place .now)
-    (term-test t p .if1 .left) ((after-column p) .column .ensures) (m .match .keys5) refl in
+    (term-test t p .if1 .left) (p .before .before .column .ensures) (c .before .before .before .match .keys5) refl in
     (omega (arith, term-entry t p .pre .0, term-test t p .if1 .left), (omega arith, laws.walkable-part w (omega (arith, place))))
-
-term-same-length-2 : (t : ℕ) → term-lts.Need-same-length-2 (term-claims t) (term-at t) resolve-term.Post
-term-same-length-2 t c = search needs
-
-term-same-length-3 : (t : ℕ) → term-lts.Need-same-length-3 (term-claims t) (term-at t) resolve-term.Post
-term-same-length-3 t c = search needs
 
 term-returns-2 : (t : ℕ) → term-lts.Need-returns-2 (term-claims t) (term-at t) resolve-term.Post
 term-returns-2 t c =
-    let put2-place = c .before .before .before in
-    let variable-mark-place = put2-place .before .before in
-    let s0 = variable-mark-place .before in
-    let m = s0 .before .before .before in
-    let p = after-column2′ s0 in
-    let column-place = after-column p in
+    let s0 = c .before .before .before .before .before .before in
+    let p = s0 .before .before in
     record {
       resolves =
-          laws.variable-resolves _ _ _ _ (term-test t p .if1 .left) (column-place .column .ensures) (m .match .keys1) _ _ (p .column2 .ensures)
-          (term-put t p .put .ensures) (variable-mark-place .variable-mark .ensures) (c .held-by .ensures)
-          (put2-place .put2 .ensures);
-      moved = laws.variable-place _ _ _ _ (term-test t p .if1 .left) (column-place .column .ensures) (m .match .keys1);
+          laws.variable-resolves _ _ _ _ (term-test t p .if1 .left) (p .before .before .column .ensures) (s0 .before .match .keys1) _ _ (p .column2 .ensures)
+          (c .before .before .before .variable-mark .ensures .1) (term-put t p .put .ensures .0)
+          (c .before .before .before .variable-mark .ensures .0) (c .held-by .ensures)
+          (c .before .put2 .ensures .0);
+      moved = laws.variable-place _ _ _ _ (term-test t p .if1 .left) (p .before .before .column .ensures) (s0 .before .match .keys1);
+      long = c .before .put2 .ensures .1 ∙ term-put t p .put .ensures .1;
     }
-
-term-same-length-4 : (t : ℕ) → term-lts.Need-same-length-4 (term-claims t) (term-at t) resolve-term.Post
-term-same-length-4 t c = search needs
-
-term-same-length-5 : (t : ℕ) → term-lts.Need-same-length-5 (term-claims t) (term-at t) resolve-term.Post
-term-same-length-5 t c =
-    let s0 = c .before .before .before .before .before .before in
-    let s1 = after-marks3 (s0 .before .before .before) in
-    let s2 = s1 .before .before .before .before .before .before in
-    let s3 = s2 .before .before .before .before .before .before in
-    let p = after-column2 s3 in
-    c .before .marks4 .given ∙ s1 .marks3 .given ∙ term-marks t p .marks .given
 
 term-returns-3 : (t : ℕ) → term-lts.Need-returns-3 (term-claims t) (term-at t) resolve-term.Post
 term-returns-3 t c =
-    let put3-place = c .before .before in
-    let binder-mark-place = put3-place .before .before in
-    let s0 = binder-mark-place .before .before in
-    let exchange2-place = s0 .before in
-    let s1 = after-marks3 (exchange2-place .before .before) in
-    let part = s1 .before .before .before in
-    let s2 = part .before .before .before in
-    let exchange-place = s2 .before .before .before in
-    let binder-at-place = exchange-place .before in
-    let s3 = binder-at-place .before .before in
-    let m = at-match-keys2 binder-at-place in
-    let p = after-column2 s3 in
-    let column-place = after-column p in
+    let s0 = c .before .before .before .before .before .before in
+    let s1 = s0 .before .before .before .before .before .before in
+    let p = s1 .before .before .before .before .before in
+    let m = s1 .before .before .before .before in
+    let part = s0 .before .resolve-part .ensures in
     record {
       resolves =
-          laws.function-resolves _ _ _ _ (term-test t p .if1 .left) (column-place .column .ensures) (m .match .keys2)
-          (p .column2 .ensures) (term-put t p .put .ensures)
-          (laws.entered _ (exchange-place .exchange .ensures) (binder-at-place .binder-at .ensures))
-          (part .resolve-part .ensures .resolves) (exchange2-place .exchange2 .ensures .stored) (binder-mark-place .binder-mark .ensures)
-          (put3-place .put3 .ensures);
-      moved = part .resolve-part .ensures .moved ∙ laws.function-place _ _ _ _ (term-test t p .if1 .left)
-          (column-place .column .ensures) (m .match .keys2) refl;
+          laws.function-resolves _ _ _ _ (term-test t p .if1 .left) (p .before .before .column .ensures) (m .match .keys2)
+          (p .column2 .ensures) (term-put t p .put .ensures .0)
+          (laws.entered _ (s0 .before .before .before .before .before .exchange .ensures)
+          (s0 .before .before .before .before .before .before .binder-at .ensures)) (part .resolves)
+          (c .before .before .before .exchange2 .ensures .stored) (c .before .before .binder-mark .ensures) (c .put3 .ensures .0);
+      moved = part .moved ∙ laws.function-place _ _ _ _ (term-test t p .if1 .left) (p .before .before .column .ensures) (m .match .keys2) refl;
+      long = c .put3 .ensures .1 ∙ part .long ∙ term-put t p .put .ensures .1;
     }
-
-term-same-length-6 : (t : ℕ) → term-lts.Need-same-length-6 (term-claims t) (term-at t) resolve-term.Post
-term-same-length-6 t c = search needs
-
-term-same-length-7 : (t : ℕ) → term-lts.Need-same-length-7 (term-claims t) (term-at t) resolve-term.Post
-term-same-length-7 t c = search needs
 
 term-returns-4 : (t : ℕ) → term-lts.Need-returns-4 (term-claims t) (term-at t) resolve-term.Post
 term-returns-4 t c =
-    let second = c .before .before .before .before .before in
-    let s0 = second .before in
-    let s1 = s0 .before .before .before .before .before .before in
-    let first = s1 .before in
-    let m = at-match-keys3 (first .before) in
-    let p = m .before in
-    let column-place = after-column p in
+    let s0 = c .before .before .before .before .before .before in
+    let p = s0 .before .before .before .before in
+    let m = s0 .before .before .before in
+    let first = c .before .before .before .before .before .resolve-part2 .ensures in
+    let second = c .before .resolve-part3 .ensures in
     let a = term-entry t p .args in
     record {
       resolves =
-          laws.apply-resolves _ _ _ _ (term-test t p .if1 .left) (column-place .column .ensures) (m .match .keys3) refl refl (term-put t p .put .ensures)
-          (first .resolve-part2 .ensures .resolves) (first .resolve-part2 .ensures .moved) (second .resolve-part3 .ensures .resolves) (c .join .ensures);
+          laws.apply-resolves _ _ _ _ (term-test t p .if1 .left) (p .before .before .column .ensures) (m .match .keys3) refl refl
+          (term-put t p .put .ensures .0)
+          (first .resolves) (first .moved) (second .resolves) (c .join .ensures);
       moved =
           omega (
             arith,
-            first .resolve-part2 .ensures .moved,
-            second .resolve-part3 .ensures .moved,
-            laws.apply-place (a .cells .now .now) (a .bound) (a .row) (a .place .now)
-                (term-test t p .if1 .left) (column-place .column .ensures) (m .match .keys3) refl refl,
+            first .moved,
+            second .moved,
+            laws.apply-place (a .cells .now .now) (a .bound) (a .row) (a .place .now) (term-test t p .if1 .left)
+                (p .before .before .column .ensures) (m .match .keys3) refl refl,
           );
+      long = second .long ∙ first .long ∙ term-put t p .put .ensures .1;
     }
-
-term-same-length-8 : (t : ℕ) → term-lts.Need-same-length-8 (term-claims t) (term-at t) resolve-term.Post
-term-same-length-8 t c = search needs
-
-term-same-length-9 : (t : ℕ) → term-lts.Need-same-length-9 (term-claims t) (term-at t) resolve-term.Post
-term-same-length-9 t c = search needs
 
 term-returns-5 : (t : ℕ) → term-lts.Need-returns-5 (term-claims t) (term-at t) resolve-term.Post
 term-returns-5 t c =
-    let part = c .before .before .before .before in
-    let s0 = part .before .before in
-    let m = s0 .before .before in
-    let p = m .before in
-    let column-place = after-column p in
+    let p = c .before .before .before .before .before in
+    let m = c .before .before .before .before in
+    let part = c .resolve-fields .ensures in
     record {
-      resolves =
-          laws.rcd-resolves _ _ _ _ (term-test t p .if1 .left) (column-place .column .ensures) (m .match .keys4)
-          (p .column2 .ensures) (term-put t p .put .ensures)
-          (part .resolve-fields .ensures .resolves);
-      moved = part .resolve-fields .ensures .moved ∙ laws.rcd-place _ _ _ _ (term-test t p .if1 .left)
-          (column-place .column .ensures) (m .match .keys4) (p .column2 .ensures);
+      resolves = laws.rcd-resolves _ _ _ _ (term-test t p .if1 .left) (p .before .before .column .ensures) (m .match .keys4)
+          (p .column2 .ensures) (term-put t p .put .ensures .0) (part .resolves);
+      moved = part .moved ∙ laws.rcd-place _ _ _ _ (term-test t p .if1 .left) (p .before .before .column .ensures) (m .match .keys4) (p .column2 .ensures);
+      long = part .long ∙ term-put t p .put .ensures .1;
     }
-
-term-same-length-10 : (t : ℕ) → term-lts.Need-same-length-10 (term-claims t) (term-at t) resolve-term.Post
-term-same-length-10 t c = search needs
-
-term-same-length-11 : (t : ℕ) → term-lts.Need-same-length-11 (term-claims t) (term-at t) resolve-term.Post
-term-same-length-11 t c = search needs
 
 term-returns-6 : (t : ℕ) → term-lts.Need-returns-6 (term-claims t) (term-at t) resolve-term.Post
 term-returns-6 t c =
-    let part = c .before .before .before .before in
-    let s0 = part .before .before in
-    let m = s0 .before .before in
-    let p = m .before in
-    let column-place = after-column p in
+    let p = c .before .before .before .before .before in
+    let m = c .before .before .before .before in
+    let part = c .resolve-part4 .ensures in
     record {
-      resolves =
-          laws.dot-resolves _ _ _ _ (term-test t p .if1 .left) (column-place .column .ensures) (m .match .keys5) refl (term-put t p .put .ensures)
-          (part .resolve-part4 .ensures .resolves);
-      moved = part .resolve-part4 .ensures .moved ∙ laws.dot-place _ _ _ _ (term-test t p .if1 .left) (column-place .column .ensures)
-          (m .match .keys5) refl;
+      resolves = laws.dot-resolves _ _ _ _ (term-test t p .if1 .left) (p .before .before .column .ensures) (m .match .keys5) refl
+          (term-put t p .put .ensures .0) (part .resolves);
+      moved = part .moved ∙ laws.dot-place _ _ _ _ (term-test t p .if1 .left) (p .before .before .column .ensures) (m .match .keys5) refl;
+      long = part .long ∙ term-put t p .put .ensures .1;
     }
-
-term-same-length-12 : (t : ℕ) → term-lts.Need-same-length-12 (term-claims t) (term-at t) resolve-term.Post
-term-same-length-12 t c = search needs
 
 term-returns-7 : (t : ℕ) → term-lts.Need-returns-7 (term-claims t) (term-at t) resolve-term.Post
 term-returns-7 t c =
     let p = c .before in
-    let column-place = after-column p in
+    let code-is = p .before .before .column .ensures in
     record {
-      resolves =
-          laws.number-resolves _ _ _ _ (term-test t p .if1 .left) (column-place .column .ensures) (c .match .rest) _ _ (term-put t p .put .ensures);
-      moved = laws.number-place _ _ _ _ (term-test t p .if1 .left) (column-place .column .ensures) (c .match .rest);
+      resolves = laws.number-resolves _ _ _ _ (term-test t p .if1 .left) code-is (c .match .rest) _ _ (term-put t p .put .ensures .0);
+      moved = laws.number-place _ _ _ _ (term-test t p .if1 .left) code-is (c .match .rest);
+      long = term-put t p .put .ensures .1;
     }
 
 pub +resolve-fields+resolve-part+resolve-term-spec : {M : Type 1} → statement M
@@ -551,7 +437,6 @@ pub +resolve-fields+resolve-part+resolve-term-spec : {M : Type 1} → statement 
     (λ t. fields-lts.spec (fields-claims t) (fields-at t) resolve-fields.Post
     (fields-add-place t)
     (fields-put-requires t)
-    (fields-same-length t)
     (fields-returns t)
     (fields-sub-deep t)
     (fields-column-requires t)
@@ -559,31 +444,28 @@ pub +resolve-fields+resolve-part+resolve-term-spec : {M : Type 1} → statement 
     (fields-column-requires-2 t)
     (fields-resolve-fields-requires t)
     (fields-join-requires t)
-    (fields-same-length-2 t)
-    (fields-same-length-3 t)
     (fields-returns-2 t)
-    (fields-same-length-4 t)
     (fields-returns-3 t))
     (λ t. part-lts.spec (part-claims t) (part-at t) resolve-part.Post
     (part-column-requires t)
     (part-resolve-term-requires t)
-    (part-same-length t)
-    (part-same-length-2 t)
     (part-returns t))
     (λ t. term-lts.spec (term-claims t) (term-at t) resolve-term.Post
     (term-add-place t)
     (term-put-requires t)
-    (term-same-length t)
     (term-returns t)
     (term-sub-deep t)
     (term-column-requires t)
     (term-column-requires-2 t)
+    (term-slice-aggregate-variable-mark t)
     (term-variable-mark-requires t)
     (term-put-requires-2 t)
     (term-held-by-requires t)
+    (term-slice-aggregate-exchange t)
     (term-binder-at-requires t)
     (term-exchange-requires t)
     (term-resolve-part-requires t)
+    (term-slice-aggregate-exchange-2 t)
     (term-exchange-requires-2 t)
     (term-binder-mark-requires t)
     (term-put-requires-3 t)
@@ -592,20 +474,9 @@ pub +resolve-fields+resolve-part+resolve-term-spec : {M : Type 1} → statement 
     (term-join-requires t)
     (term-resolve-fields-requires t)
     (term-resolve-part-requires-4 t)
-    (term-same-length-2 t)
-    (term-same-length-3 t)
     (term-returns-2 t)
-    (term-same-length-4 t)
-    (term-same-length-5 t)
     (term-returns-3 t)
-    (term-same-length-6 t)
-    (term-same-length-7 t)
     (term-returns-4 t)
-    (term-same-length-8 t)
-    (term-same-length-9 t)
     (term-returns-5 t)
-    (term-same-length-10 t)
-    (term-same-length-11 t)
     (term-returns-6 t)
-    (term-same-length-12 t)
     (term-returns-7 t))

@@ -1,63 +1,79 @@
 -- `variable_mark`: the class of the name decides.
-use Rattle.resolver.proofs.NameLaws.{word-mark, fresh-bound-mark, fresh-loose-mark, outside-mark}
+use mathlib.Core.Path.{refl, ap, _∙_}
+use lib.ListN.{getD}
 use borrow.Author.Needs.{needs}
+use Rattle.resolver.proofs.NameLaws.{word-mark, fresh-bound-mark, fresh-loose-mark, outside-mark}
 use Rattle.resolver.proofs.resolving.variable_mark.Statement.{statement}
 use Rattle.resolver.proofs.resolving.variable_mark.Tie as tie
-use Rattle.resolver.proofs.resolving.variable_mark.Reads as reads
-use Rattle.resolver.proofs.resolving.variable_mark.Lts as lts
-use Rattle.resolver.proofs.binders.find.Reads as find-reads
-use Rattle.resolver.proofs.resolving.innermost.Reads as innermost-reads
 
--- places, each from a later one
-abbrev at-start : tie.After-shared-slice-known3 → tie.Start
-at-start p = p .before .before .before
-
--- src/resolving.rt:40:9
 find-requires : tie.Need-find-requires
-find-requires c κs = (at-start c) .pre .linked
+find-requires c κs = c .before .before .before .pre .linked
 
--- src/resolving.rt:41:9
 innermost-requires : tie.Need-innermost-requires
 innermost-requires c κs = search needs
 
--- src/resolving.rt:46:17
+same-length : tie.Need-same-length
+same-length c = search needs
+
 returns : tie.Need-returns
 returns c =
-    let innermost-place = c .before .before in
-    let find-place = innermost-place .before in
-    let s = find-place .before .before .before in
-    let e = s .before in
-    λ spell around known env.
-    fresh-loose-mark spell (e .args .x) (e .args .cells .now) (e .args .current .now) around known env (c .before .match .keys2)
-    (cc (innermost-place .innermost .ensures, find-place .find .ensures .0)) (c .if1 .taken)
+    let found = c .before .before .before .before in
+    let e = found .before .before .before .before in (
+      λ spell around known env.
+          fresh-loose-mark spell (e .args .x) (e .args .cells .now) (e .args .current .now) around known env (c .before .match .keys2)
+          (c .before .before .innermost .ensures ∙ ap (λ n. getD (e .args .current .now) n 0) (found .find .ensures .0)) (c .if1 .taken),
+      refl,
+    )
 
--- src/resolving.rt:35:1
+same-length-2 : tie.Need-same-length-2
+same-length-2 c = search needs
+
 returns-2 : tie.Need-returns-2
 returns-2 c =
-    let find-place = c .before .before in
-    let e = at-start (find-place .before) in
-    λ spell around known env.
-    word-mark spell (e .args .x) (e .args .cells .now) (e .args .current .now) around known env (c .match .keys1)
-    (cc (c .before .innermost .ensures, find-place .find .ensures .0))
+    let found = c .before .before .before in
+    let e = found .before .before .before .before in (
+      λ spell around known env.
+          word-mark spell (e .args .x) (e .args .cells .now) (e .args .current .now) around known env (c .match .keys1)
+          (c .before .innermost .ensures ∙ ap (λ n. getD (e .args .current .now) n 0) (found .find .ensures .0)),
+      refl,
+    )
 
--- src/resolving.rt:35:1
+same-length-3 : tie.Need-same-length-3
+same-length-3 c = search needs
+
 returns-3 : tie.Need-returns-3
 returns-3 c =
-    let innermost-place = c .before .before in
-    let find-place = innermost-place .before in
-    let s = find-place .before .before .before in
-    let e = s .before in
-    λ spell around known env.
-    fresh-bound-mark spell (e .args .x) (e .args .cells .now) (e .args .current .now) around known env (c .before .match .keys2)
-    (cc (innermost-place .innermost .ensures, find-place .find .ensures .0)) (c .if1 .left)
+    let found = c .before .before .before .before in
+    let e = found .before .before .before .before in (
+      λ spell around known env.
+          fresh-bound-mark spell (e .args .x) (e .args .cells .now) (e .args .current .now) around known env (c .before .match .keys2)
+          (c .before .before .innermost .ensures ∙ ap (λ n. getD (e .args .current .now) n 0) (found .find .ensures .0)) (c .if1 .left),
+      refl,
+    )
 
--- src/resolving.rt:35:1
+same-length-4 : tie.Need-same-length-4
+same-length-4 c = search needs
+
 returns-4 : tie.Need-returns-4
 returns-4 c =
-    let e = at-start (c .before .before .before) in
-    λ spell around known env.
-    outside-mark spell (e .args .x) (e .args .cells .now) (e .args .current .now) around known env (c .match .rest .0 .1) (c .match .rest .1)
+    let found = c .before .before .before in
+    let e = found .before .before .before .before in (
+      λ spell around known env.
+          outside-mark spell (e .args .x) (e .args .cells .now) (e .args .current .now) around known env (c .match .rest .0 .1) (c .match .rest .1),
+      refl,
+    )
 
 pub variable-mark-spec : {M : Type 1} → statement M
 variable-mark-spec =
-    tie.close (tie.spec find-requires innermost-requires returns returns-2 returns-3 returns-4)
+    tie.close
+    (tie.spec
+    find-requires
+    innermost-requires
+    same-length
+    returns
+    same-length-2
+    returns-2
+    same-length-3
+    returns-3
+    same-length-4
+    returns-4)
