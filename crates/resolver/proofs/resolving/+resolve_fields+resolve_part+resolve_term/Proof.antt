@@ -126,13 +126,30 @@ module _ (t : ℕ) (p : fields-lts.After-column (fields-claims t) (fields-at t) 
   abbrev fields-entry : fields-lts.Start (fields-claims t) (fields-at t) resolve-fields.Post
   fields-entry = fields-put .before .before .before .before .before
 
+-- places, each from a later one
+abbrev after-resolve-part : {t : ℕ} → fields-lts.After-marks2 (fields-claims t) (fields-at t) resolve-fields.Post
+    → fields-lts.After-resolve-part (fields-claims t) (fields-at t) resolve-fields.Post
+after-resolve-part p = p .before .before .before
+
+abbrev after-column2 : {t : ℕ} → fields-lts.After-resolve-fields-arg3 (fields-claims t) (fields-at t) resolve-fields.Post
+    → fields-lts.After-column2 (fields-claims t) (fields-at t) resolve-fields.Post
+after-column2 p = p .before .before .before
+
+abbrev then2 : {t : ℕ} → fields-lts.After-resolve-part-arg3 (fields-claims t) (fields-at t) resolve-fields.Post
+    → fields-lts.Then2 (fields-claims t) (fields-at t) resolve-fields.Post
+then2 p = p .before .before .before
+
+abbrev at-start : {t : ℕ} → fields-lts.After-row-known (fields-claims t) (fields-at t) resolve-fields.Post
+    → fields-lts.Start (fields-claims t) (fields-at t) resolve-fields.Post
+at-start p = p .before .before .before
+
 fields-add-place : (t : ℕ) → fields-lts.Need-add-place (fields-claims t) (fields-at t) resolve-fields.Post
 fields-add-place t c =
-    let e = c .before .before .before in
+    let e = at-start c in
     omega (arith, laws.fields-fit _ _ _ (e .pre .1))
 
 fields-put-requires : (t : ℕ) → fields-lts.Need-put-requires (fields-claims t) (fields-at t) resolve-fields.Post
-fields-put-requires t c κs = laws.fields-fit _ _ _ (c .before .before .before .before .pre .1)
+fields-put-requires t c κs = laws.fields-fit _ _ _ ((at-start (c .before)) .pre .1)
 
 fields-same-length : (t : ℕ) → fields-lts.Need-same-length (fields-claims t) (fields-at t) resolve-fields.Post
 fields-same-length t c = search needs
@@ -152,7 +169,7 @@ fields-column-requires t c κs = search needs
 
 fields-resolve-part-requires : (t : ℕ) → fields-lts.Need-resolve-part-requires (fields-claims t) (fields-at t) resolve-fields.Post
 fields-resolve-part-requires t c κs =
-    let then2 = c .before .before .before in
+    let then2 = then2 c in
     let p = then2 .before in
     let a = fields-entry t p .args in
     let w = laws.walkable-in (fields-entry t p .pre .1) (fields-marks t p .marks .given) in
@@ -165,11 +182,10 @@ fields-column-requires-2 t c κs = search needs
 
 fields-resolve-fields-requires : (t : ℕ) → fields-lts.Need-resolve-fields-requires (fields-claims t) (fields-at t) resolve-fields.Post
 fields-resolve-fields-requires t c κs =
-    let column2-place = c .before .before .before in
+    let column2-place = after-column2 c in
     let s0 = column2-place .before .before .before in
-    let resolve-part-place = s0 .before .before .before in
-    let s1 = resolve-part-place .before .before .before in
-    let then2 = s1 .before in
+    let resolve-part-place = after-resolve-part s0 in
+    let then2 = then2 (resolve-part-place .before) in
     let p = then2 .before in
     let a = fields-entry t p .args in
     let w = laws.walkable-in (fields-entry t p .pre .1) (s0 .marks2 .given ∙ fields-marks t p .marks .given) in
@@ -191,12 +207,9 @@ fields-same-length-3 t c = search needs
 fields-returns-2 : (t : ℕ) → fields-lts.Need-returns-2 (fields-claims t) (fields-at t) resolve-fields.Post
 fields-returns-2 t c =
     let second = c .before .before .before .before .before in
-    let s0 = second .before in
-    let next = s0 .before .before .before in
-    let s1 = next .before .before .before in
-    let first = s1 .before .before .before in
-    let s2 = first .before .before .before in
-    let is = s2 .before in
+    let next = after-column2 (second .before) in
+    let first = after-resolve-part (next .before .before .before) in
+    let is = then2 (first .before) in
     let p = is .before in
     let a = fields-entry t p .args in
     record {
@@ -225,13 +238,22 @@ fields-returns-3 t c =
       moved = laws.nil-place _ _ _ _ (fields-test t p .if1 .left) (p .column .ensures) (c .if2 .left);
     }
 
+-- places, each from a later one
+abbrev at-start′ : {t : ℕ} → part-lts.After-column-arg (part-claims t) (part-at t) resolve-part.Post
+    → part-lts.Start (part-claims t) (part-at t) resolve-part.Post
+at-start′ p = p .before .before .before
+
+abbrev after-column : {t : ℕ} → part-lts.After-resolve-term-arg3 (part-claims t) (part-at t) resolve-part.Post
+    → part-lts.After-column (part-claims t) (part-at t) resolve-part.Post
+after-column p = p .before .before .before
+
 part-column-requires : (t : ℕ) → part-lts.Need-column-requires (part-claims t) (part-at t) resolve-part.Post
-part-column-requires t c κs = c .before .before .before .pre .1 .0
+part-column-requires t c κs = (at-start′ c) .pre .1 .0
 
 part-resolve-term-requires : (t : ℕ) → part-lts.Need-resolve-term-requires (part-claims t) (part-at t) resolve-part.Post
 part-resolve-term-requires t c κs =
-    let s0 = c .before .before .before in
-    let e = s0 .before .before .before .before in
+    let s0 = after-column c in
+    let e = at-start′ (s0 .before) in
     (omega (arith, e .pre .0), laws.walkable-row _ (s0 .column .ensures) (e .pre .1 .1))
 
 part-same-length : (t : ℕ) → part-lts.Need-same-length (part-claims t) (part-at t) resolve-part.Post
@@ -243,40 +265,64 @@ part-same-length-2 t c = search needs
 part-returns : (t : ℕ) → part-lts.Need-returns (part-claims t) (part-at t) resolve-part.Post
 part-returns t c =
     let s0 = c .before .before .before .before in
-    laws.walks-row (s0 .before .before .before .before .column .ensures) (s0 .resolve-term .ensures)
+    laws.walks-row ((after-column (s0 .before)) .column .ensures) (s0 .resolve-term .ensures)
 
 -- places, each from a later one
-abbrev at-match-keys2 : {t : ℕ} → term-lts.After-binder-at (term-claims t) (term-at t) resolve-term.Post
-    → term-lts.At-match-keys2 (term-claims t) (term-at t) resolve-term.Post
-at-match-keys2 p = p .before .before .before .before
-
-abbrev after-column : {t : ℕ} → term-lts.After-column2 (term-claims t) (term-at t) resolve-term.Post
+abbrev after-column′ : {t : ℕ} → term-lts.After-column2 (term-claims t) (term-at t) resolve-term.Post
     → term-lts.After-column (term-claims t) (term-at t) resolve-term.Post
-after-column p = p .before .before
+after-column′ p = p .before .before
 
-abbrev after-column2 : {t : ℕ} → term-lts.After-exchange-arg2 (term-claims t) (term-at t) resolve-term.Post
-    → term-lts.After-column2 (term-claims t) (term-at t) resolve-term.Post
-after-column2 p = p .before .before .before
+abbrev after-resolve-part2 : {t : ℕ} → term-lts.After-marks5 (term-claims t) (term-at t) resolve-term.Post
+    → term-lts.After-resolve-part2 (term-claims t) (term-at t) resolve-term.Post
+after-resolve-part2 p = p .before .before .before
 
-abbrev after-marks3 : {t : ℕ} → term-lts.After-exchange-arg5 (term-claims t) (term-at t) resolve-term.Post
-    → term-lts.After-marks3 (term-claims t) (term-at t) resolve-term.Post
-after-marks3 p = p .before .before .before
+abbrev at-match-keys4 : {t : ℕ} → term-lts.After-resolve-fields-arg3 (term-claims t) (term-at t) resolve-term.Post
+    → term-lts.At-match-keys4 (term-claims t) (term-at t) resolve-term.Post
+at-match-keys4 p = p .before .before .before
+
+abbrev at-match-keys5 : {t : ℕ} → term-lts.After-resolve-part-arg12 (term-claims t) (term-at t) resolve-term.Post
+    → term-lts.At-match-keys5 (term-claims t) (term-at t) resolve-term.Post
+at-match-keys5 p = p .before .before .before
 
 abbrev at-match-keys3 : {t : ℕ} → term-lts.After-resolve-part-arg6 (term-claims t) (term-at t) resolve-term.Post
     → term-lts.At-match-keys3 (term-claims t) (term-at t) resolve-term.Post
 at-match-keys3 p = p .before .before .before
 
-abbrev after-column2′ : {t : ℕ} → term-lts.After-variable-mark-arg3 (term-claims t) (term-at t) resolve-term.Post
+abbrev at-start′′ : {t : ℕ} → term-lts.After-row-known (term-claims t) (term-at t) resolve-term.Post
+    → term-lts.Start (term-claims t) (term-at t) resolve-term.Post
+at-start′′ p = p .before .before .before
+
+abbrev at-match-keys2 : {t : ℕ} → term-lts.After-binder-at (term-claims t) (term-at t) resolve-term.Post
+    → term-lts.At-match-keys2 (term-claims t) (term-at t) resolve-term.Post
+at-match-keys2 p = p .before .before .before .before
+
+abbrev after-column2′′′ : {t : ℕ} → term-lts.After-exchange-arg3 (term-claims t) (term-at t) resolve-term.Post
     → term-lts.After-column2 (term-claims t) (term-at t) resolve-term.Post
-after-column2′ p = p .before .before .before .before
+after-column2′′′ p = p .before .before .before .before
+
+abbrev after-column2′′ : {t : ℕ} → term-lts.After-variable-mark-arg3 (term-claims t) (term-at t) resolve-term.Post
+    → term-lts.After-column2 (term-claims t) (term-at t) resolve-term.Post
+after-column2′′ p = p .before .before .before .before
+
+abbrev after-marks3 : {t : ℕ} → term-lts.After-put-arg3 (term-claims t) (term-at t) resolve-term.Post
+    → term-lts.After-marks3 (term-claims t) (term-at t) resolve-term.Post
+after-marks3 p =
+    let q = p .before .before .before .before in
+    q .before .before .before .before .before
+
+abbrev after-column2′ : {t : ℕ} → term-lts.After-marks3 (term-claims t) (term-at t) resolve-term.Post
+    → term-lts.After-column2 (term-claims t) (term-at t) resolve-term.Post
+after-column2′ p =
+    let near = p .before .before .before .before .before .before in
+    after-column2′′′ (near .before .before .before .before .before)
 
 term-add-place : (t : ℕ) → term-lts.Need-add-place (term-claims t) (term-at t) resolve-term.Post
 term-add-place t c =
-    let e = c .before .before .before in
+    let e = at-start′′ c in
     omega (arith, laws.term-fits _ _ _ (e .pre .1))
 
 term-put-requires : (t : ℕ) → term-lts.Need-put-requires (term-claims t) (term-at t) resolve-term.Post
-term-put-requires t c κs = laws.term-fits _ _ _ (c .before .before .before .before .pre .1)
+term-put-requires t c κs = laws.term-fits _ _ _ ((at-start′′ (c .before)) .pre .1)
 
 term-same-length : (t : ℕ) → term-lts.Need-same-length (term-claims t) (term-at t) resolve-term.Post
 term-same-length t c = search needs
@@ -299,12 +345,12 @@ term-column-requires-2 t c κs = search needs
 
 term-variable-mark-requires : (t : ℕ) → term-lts.Need-variable-mark-requires (term-claims t) (term-at t) resolve-term.Post
 term-variable-mark-requires t c κs =
-    let p = after-column2′ c in
+    let p = after-column2′′ c in
     term-entry t p .pre .1 .linked
 
 term-put-requires-2 : (t : ℕ) → term-lts.Need-put-requires-2 (term-claims t) (term-at t) resolve-term.Post
 term-put-requires-2 t c κs =
-    let p = after-column2′ (c .before .before) in
+    let p = after-column2′′ (c .before .before) in
     laws.fits-as (term-marks t p .marks .given) (laws.term-fits _ _ _ (term-entry t p .pre .1))
 
 term-held-by-requires : (t : ℕ) → term-lts.Need-held-by-requires (term-claims t) (term-at t) resolve-term.Post
@@ -312,31 +358,27 @@ term-held-by-requires t c κs = search needs
 
 term-binder-at-requires : (t : ℕ) → term-lts.Need-binder-at-requires (term-claims t) (term-at t) resolve-term.Post
 term-binder-at-requires t c κs =
-    let p = after-column2 (c .before) in
+    let p = after-column2′′′ c in
     omega (arith, laws.term-fits _ _ _ (term-entry t p .pre .1))
 
 term-exchange-requires : (t : ℕ) → term-lts.Need-exchange-requires (term-claims t) (term-at t) resolve-term.Post
 term-exchange-requires t c κs =
-    let p = (at-match-keys2 c) .before in
+    let p = after-column2′′′ (c .before) in
     term-entry t p .pre .1 .linked
 
 term-resolve-part-requires : (t : ℕ) → term-lts.Need-resolve-part-requires (term-claims t) (term-at t) resolve-term.Post
 term-resolve-part-requires t c κs =
-    let s0 = c .before .before .before .before .before .before in
-    let m = at-match-keys2 s0 in
+    let m = at-match-keys2 (c .before .before .before .before .before .before) in
     let p = m .before in
     let a = term-entry t p .args in
     let w = laws.walkable-in (term-entry t p .pre .1) (term-marks t p .marks .given) in
     let place = laws.function-place (a .cells .now .now) (a .bound) (a .row) (a .place .now)
-    (term-test t p .if1 .left) ((after-column p) .column .ensures) (m .match .keys2) refl in
+    (term-test t p .if1 .left) ((after-column′ p) .column .ensures) (m .match .keys2) refl in
     (omega (arith, term-entry t p .pre .0, term-test t p .if1 .left), (omega arith, laws.walkable-part w (omega (arith, place))))
 
 term-exchange-requires-2 : (t : ℕ) → term-lts.Need-exchange-requires-2 (term-claims t) (term-at t) resolve-term.Post
 term-exchange-requires-2 t c κs =
-    let s0 = (after-marks3 (c .before)) .before .before in
-    let s1 = s0 .before .before .before .before .before .before in
-    let s2 = at-match-keys2 (s1 .before .before) in
-    let p = s2 .before in
+    let p = after-column2′ (c .before .before .before .before) in
     term-entry t p .pre .1 .linked
 
 term-binder-mark-requires : (t : ℕ) → term-lts.Need-binder-mark-requires (term-claims t) (term-at t) resolve-term.Post
@@ -344,11 +386,8 @@ term-binder-mark-requires t c κs = search needs
 
 term-put-requires-3 : (t : ℕ) → term-lts.Need-put-requires-3 (term-claims t) (term-at t) resolve-term.Post
 term-put-requires-3 t c κs =
-    let s0 = c .before .before .before .before .before .before in
-    let at-marks = after-marks3 s0 in
-    let s1 = at-marks .before .before .before in
-    let s2 = s1 .before .before .before .before .before .before in
-    let p = (at-match-keys2 (s2 .before)) .before in
+    let at-marks = after-marks3 c in
+    let p = after-column2′ at-marks in
     laws.fits-as (at-marks .marks3 .given ∙ term-marks t p .marks .given) (laws.term-fits _ _ _ (term-entry t p .pre .1))
 
 term-resolve-part-requires-2 : (t : ℕ) → term-lts.Need-resolve-part-requires-2 (term-claims t) (term-at t) resolve-term.Post
@@ -358,20 +397,19 @@ term-resolve-part-requires-2 t c κs =
     let a = term-entry t p .args in
     let w = laws.walkable-in (term-entry t p .pre .1) (term-marks t p .marks .given) in
     let place = laws.apply-place (a .cells .now .now) (a .bound) (a .row) (a .place .now)
-    (term-test t p .if1 .left) ((after-column p) .column .ensures) (m .match .keys3) refl refl in
+    (term-test t p .if1 .left) ((after-column′ p) .column .ensures) (m .match .keys3) refl refl in
     (omega (arith, term-entry t p .pre .0, term-test t p .if1 .left), (omega arith, laws.walkable-part w (omega (arith, place))))
 
 term-resolve-part-requires-3 : (t : ℕ) → term-lts.Need-resolve-part-requires-3 (term-claims t) (term-at t) resolve-term.Post
 term-resolve-part-requires-3 t c κs =
     let marks5-place = c .before .before .before .before in
-    let s0 = marks5-place .before .before in
-    let resolve-part2-place = s0 .before in
+    let resolve-part2-place = after-resolve-part2 marks5-place in
     let m = at-match-keys3 (resolve-part2-place .before) in
     let p = m .before in
     let a = term-entry t p .args in
     let w = laws.walkable-in (term-entry t p .pre .1) (marks5-place .marks5 .given ∙ term-marks t p .marks .given) in
     let place = laws.apply-place (a .cells .now .now) (a .bound) (a .row) (a .place .now)
-    (term-test t p .if1 .left) ((after-column p) .column .ensures) (m .match .keys3) refl refl in (
+    (term-test t p .if1 .left) ((after-column′ p) .column .ensures) (m .match .keys3) refl refl in (
       omega (arith, term-entry t p .pre .0, term-test t p .if1 .left),
       (omega arith, laws.walkable-part w (omega (arith, place, resolve-part2-place .resolve-part2 .ensures .moved))),
     )
@@ -381,22 +419,22 @@ term-join-requires t c κs = search needs
 
 term-resolve-fields-requires : (t : ℕ) → term-lts.Need-resolve-fields-requires (term-claims t) (term-at t) resolve-term.Post
 term-resolve-fields-requires t c κs =
-    let m = c .before .before .before in
+    let m = at-match-keys4 c in
     let p = m .before in
     let a = term-entry t p .args in
     let w = laws.walkable-in (term-entry t p .pre .1) (term-marks t p .marks .given) in
     let place = laws.rcd-place (a .cells .now .now) (a .bound) (a .row) (a .place .now)
-    (term-test t p .if1 .left) ((after-column p) .column .ensures) (m .match .keys4) (p .column2 .ensures) in
+    (term-test t p .if1 .left) ((after-column′ p) .column .ensures) (m .match .keys4) (p .column2 .ensures) in
     (omega (arith, term-entry t p .pre .0, term-test t p .if1 .left), laws.walkable-part w (omega (arith, place)))
 
 term-resolve-part-requires-4 : (t : ℕ) → term-lts.Need-resolve-part-requires-4 (term-claims t) (term-at t) resolve-term.Post
 term-resolve-part-requires-4 t c κs =
-    let m = c .before .before .before in
+    let m = at-match-keys5 c in
     let p = m .before in
     let a = term-entry t p .args in
     let w = laws.walkable-in (term-entry t p .pre .1) (term-marks t p .marks .given) in
     let place = laws.dot-place (a .cells .now .now) (a .bound) (a .row) (a .place .now)
-    (term-test t p .if1 .left) ((after-column p) .column .ensures) (m .match .keys5) refl in
+    (term-test t p .if1 .left) ((after-column′ p) .column .ensures) (m .match .keys5) refl in
     (omega (arith, term-entry t p .pre .0, term-test t p .if1 .left), (omega arith, laws.walkable-part w (omega (arith, place))))
 
 term-same-length-2 : (t : ℕ) → term-lts.Need-same-length-2 (term-claims t) (term-at t) resolve-term.Post
@@ -409,10 +447,9 @@ term-returns-2 : (t : ℕ) → term-lts.Need-returns-2 (term-claims t) (term-at 
 term-returns-2 t c =
     let put2-place = c .before .before .before in
     let variable-mark-place = put2-place .before .before in
-    let s0 = variable-mark-place .before in
-    let m = s0 .before .before .before in
-    let p = after-column2′ s0 in
-    let column-place = after-column p in
+    let m = variable-mark-place .before .before .before .before in
+    let p = m .before in
+    let column-place = after-column′ p in
     record {
       resolves =
           laws.variable-resolves _ _ _ _ (term-test t p .if1 .left) (column-place .column .ensures) (m .match .keys1) _ _ (p .column2 .ensures)
@@ -426,28 +463,21 @@ term-same-length-4 t c = search needs
 
 term-same-length-5 : (t : ℕ) → term-lts.Need-same-length-5 (term-claims t) (term-at t) resolve-term.Post
 term-same-length-5 t c =
-    let s0 = c .before .before .before .before .before .before in
-    let s1 = after-marks3 (s0 .before .before .before) in
-    let s2 = s1 .before .before .before .before .before .before in
-    let s3 = s2 .before .before .before .before .before .before in
-    let p = after-column2 s3 in
+    let s1 = after-marks3 (c .before .before .before) in
+    let p = after-column2′ s1 in
     c .before .marks4 .given ∙ s1 .marks3 .given ∙ term-marks t p .marks .given
 
 term-returns-3 : (t : ℕ) → term-lts.Need-returns-3 (term-claims t) (term-at t) resolve-term.Post
 term-returns-3 t c =
     let put3-place = c .before .before in
     let binder-mark-place = put3-place .before .before in
-    let s0 = binder-mark-place .before .before in
-    let exchange2-place = s0 .before in
-    let s1 = after-marks3 (exchange2-place .before .before) in
-    let part = s1 .before .before .before in
-    let s2 = part .before .before .before in
-    let exchange-place = s2 .before .before .before in
+    let exchange2-place = binder-mark-place .before .before .before in
+    let part = (after-marks3 (put3-place .before)) .before .before .before in
+    let exchange-place = part .before .before .before .before .before .before in
     let binder-at-place = exchange-place .before in
-    let s3 = binder-at-place .before .before in
     let m = at-match-keys2 binder-at-place in
-    let p = after-column2 s3 in
-    let column-place = after-column p in
+    let p = m .before in
+    let column-place = after-column′ p in
     record {
       resolves =
           laws.function-resolves _ _ _ _ (term-test t p .if1 .left) (column-place .column .ensures) (m .match .keys2)
@@ -468,12 +498,10 @@ term-same-length-7 t c = search needs
 term-returns-4 : (t : ℕ) → term-lts.Need-returns-4 (term-claims t) (term-at t) resolve-term.Post
 term-returns-4 t c =
     let second = c .before .before .before .before .before in
-    let s0 = second .before in
-    let s1 = s0 .before .before .before .before .before .before in
-    let first = s1 .before in
+    let first = after-resolve-part2 (second .before .before .before .before .before) in
     let m = at-match-keys3 (first .before) in
     let p = m .before in
-    let column-place = after-column p in
+    let column-place = after-column′ p in
     let a = term-entry t p .args in
     record {
       resolves =
@@ -498,10 +526,9 @@ term-same-length-9 t c = search needs
 term-returns-5 : (t : ℕ) → term-lts.Need-returns-5 (term-claims t) (term-at t) resolve-term.Post
 term-returns-5 t c =
     let part = c .before .before .before .before in
-    let s0 = part .before .before in
-    let m = s0 .before .before in
+    let m = at-match-keys4 (part .before) in
     let p = m .before in
-    let column-place = after-column p in
+    let column-place = after-column′ p in
     record {
       resolves =
           laws.rcd-resolves _ _ _ _ (term-test t p .if1 .left) (column-place .column .ensures) (m .match .keys4)
@@ -520,10 +547,9 @@ term-same-length-11 t c = search needs
 term-returns-6 : (t : ℕ) → term-lts.Need-returns-6 (term-claims t) (term-at t) resolve-term.Post
 term-returns-6 t c =
     let part = c .before .before .before .before in
-    let s0 = part .before .before in
-    let m = s0 .before .before in
+    let m = at-match-keys5 (part .before) in
     let p = m .before in
-    let column-place = after-column p in
+    let column-place = after-column′ p in
     record {
       resolves =
           laws.dot-resolves _ _ _ _ (term-test t p .if1 .left) (column-place .column .ensures) (m .match .keys5) refl (term-put t p .put .ensures)
@@ -538,7 +564,7 @@ term-same-length-12 t c = search needs
 term-returns-7 : (t : ℕ) → term-lts.Need-returns-7 (term-claims t) (term-at t) resolve-term.Post
 term-returns-7 t c =
     let p = c .before in
-    let column-place = after-column p in
+    let column-place = after-column′ p in
     record {
       resolves =
           laws.number-resolves _ _ _ _ (term-test t p .if1 .left) (column-place .column .ensures) (c .match .rest) _ _ (term-put t p .put .ensures);

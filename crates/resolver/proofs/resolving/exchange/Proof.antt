@@ -8,6 +8,10 @@ use Rattle.resolver.proofs.resolving.exchange.Lts as lts
 use Rattle.resolver.proofs.binders.find.Reads as find-reads
 use Rattle.resolver.proofs.resolving.innermost.Reads as innermost-reads
 
+-- places, each from a later one
+abbrev after-find : tie.After-innermost → tie.After-find
+after-find p = p .before .before
+
 -- src/resolving.rt:74:9
 find-requires : tie.Need-find-requires
 find-requires c κs = c .before .before .before .pre .linked
@@ -30,7 +34,7 @@ same-length c = search needs
 
 -- src/resolving.rt:70:1
 returns : tie.Need-returns
-returns c = exchanged (c .before .before .before .find .ensures .0) (c .before .innermost .ensures)
+returns c = exchanged ((after-find (c .before)) .find .ensures .0) (c .before .innermost .ensures)
 
 -- src/resolving.rt:70:1
 same-length-2 : tie.Need-same-length-2
@@ -38,7 +42,7 @@ same-length-2 c = search needs
 
 -- src/resolving.rt:70:1
 returns-2 : tie.Need-returns-2
-returns-2 c = not-exchanged (c .before .before .before .find .ensures .0) (c .before .innermost .ensures) (c .if1 .left)
+returns-2 c = not-exchanged ((after-find (c .before)) .find .ensures .0) (c .before .innermost .ensures) (c .if1 .left)
 
 pub exchange-spec : {M : Type 1} → statement M
 exchange-spec =

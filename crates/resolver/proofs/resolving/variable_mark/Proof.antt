@@ -1,4 +1,6 @@
 -- `variable_mark`: the class of the name decides.
+use mathlib.Core.Path.{ap, _∙_}
+use lib.ListN.{getD}
 use Rattle.resolver.proofs.NameLaws.{word-mark, fresh-bound-mark, fresh-loose-mark, outside-mark}
 use borrow.Author.Needs.{needs}
 use Rattle.resolver.proofs.resolving.variable_mark.Statement.{statement}
@@ -11,6 +13,9 @@ use Rattle.resolver.proofs.resolving.innermost.Reads as innermost-reads
 -- places, each from a later one
 abbrev at-start : tie.After-shared-slice-known3 → tie.Start
 at-start p = p .before .before .before
+
+abbrev at-start′ : tie.After-find → tie.Start
+at-start′ p = at-start (p .before)
 
 -- src/resolving.rt:40:9
 find-requires : tie.Need-find-requires
@@ -25,8 +30,7 @@ returns : tie.Need-returns
 returns c =
     let innermost-place = c .before .before in
     let find-place = innermost-place .before in
-    let s = find-place .before .before .before in
-    let e = s .before in
+    let e = at-start′ find-place in
     λ spell around known env.
     fresh-loose-mark spell (e .args .x) (e .args .cells .now) (e .args .current .now) around known env (c .before .match .keys2)
     (cc (innermost-place .innermost .ensures, find-place .find .ensures .0)) (c .if1 .taken)
@@ -35,7 +39,7 @@ returns c =
 returns-2 : tie.Need-returns-2
 returns-2 c =
     let find-place = c .before .before in
-    let e = at-start (find-place .before) in
+    let e = at-start′ find-place in
     λ spell around known env.
     word-mark spell (e .args .x) (e .args .cells .now) (e .args .current .now) around known env (c .match .keys1)
     (cc (c .before .innermost .ensures, find-place .find .ensures .0))
@@ -45,8 +49,7 @@ returns-3 : tie.Need-returns-3
 returns-3 c =
     let innermost-place = c .before .before in
     let find-place = innermost-place .before in
-    let s = find-place .before .before .before in
-    let e = s .before in
+    let e = at-start′ find-place in
     λ spell around known env.
     fresh-bound-mark spell (e .args .x) (e .args .cells .now) (e .args .current .now) around known env (c .before .match .keys2)
     (cc (innermost-place .innermost .ensures, find-place .find .ensures .0)) (c .if1 .left)
@@ -54,7 +57,7 @@ returns-3 c =
 -- src/resolving.rt:35:1
 returns-4 : tie.Need-returns-4
 returns-4 c =
-    let e = at-start (c .before .before .before) in
+    let e = at-start′ (c .before .before) in
     λ spell around known env.
     outside-mark spell (e .args .x) (e .args .cells .now) (e .args .current .now) around known env (c .match .rest .0 .1) (c .match .rest .1)
 
