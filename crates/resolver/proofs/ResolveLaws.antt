@@ -1,6 +1,6 @@
 -- Resolution, constructor by constructor: what the parts' walks give, the whole gives.
 use Prim.Native.Nat.{ℕ, suc, _+_, _-_, _*_, _/_, _%_, _≤_, _<_}
-use mathlib.Core.Path.{_≡_, refl, sym, ap, ap₂, subst, _∙_}
+use mathlib.Core.Path.{_≡_, refl, sym, ap, subst, _∙_}
 use mathlib.Core.List.{List, _∷_}
 use native.Mathlib.Numerals.{add-one}
 use native.Mathlib.Omega.{arith}
@@ -8,7 +8,7 @@ use native.Mathlib.Decide.{decLt}
 use lib.Bits.{bitOr}
 use lib.Dec.{eqb}
 use lib.ListN.{length, set, length-set, length-append}
-use lib.Seq.{sets, set-set}
+use lib.Seq.{set-set}
 use borrow.Author.Tests.{eqb-true}
 use Rattle.spellings.proofs.BytesLaws.{by-test}
 use Rattle.kinds.proofs.KindsLaws.{has-none, has-join}

@@ -6,8 +6,8 @@ use Rattle.printer.proofs.print_into.Statement.{statement}
 use Rattle.printer.proofs.print_into.Tie as tie
 
 -- places, each from a later one
-abbrev else1 : tie.After-again → tie.Else1
-else1 p = p .before .before .before .before .before
+abbrev after-narrow-numbers : tie.After-place → tie.After-narrow-numbers
+after-narrow-numbers p = p .before .before .before .before .before
 
 abbrev at-start : tie.After-wide-numbers → tie.Start
 at-start p = p .before .before .before .before .before
@@ -26,7 +26,7 @@ slice-aggregate-print-term c = search needs
 
 print-term-requires : tie.Need-print-term-requires
 print-term-requires c κs =
-    let at-narrow-numbers = c .before .before .before .before .before in
+    let at-narrow-numbers = after-narrow-numbers c in
     let at-wide-numbers = at-narrow-numbers .before in
     let entry = at-start at-wide-numbers in
     text-fits (entry .pre) (at-wide-numbers .wide-numbers .ensures) (at-narrow-numbers .narrow-numbers .ensures)
@@ -36,9 +36,8 @@ returns c = laws.prints-none _ _ (c .before .before .print-term .ensures .wrote 
 
 print-term-requires-2 : tie.Need-print-term-requires-2
 print-term-requires-2 c κs =
-    let at-if1 = else1 c in
-    let back = at-if1 .before .before .before .before .before .before in
-    let at-narrow-numbers = back .before .before in
+    let near = c .before .before .before .before in
+    let at-narrow-numbers = after-narrow-numbers (near .before .before .before .before) in
     let at-wide-numbers = at-narrow-numbers .before in
     let entry = at-start at-wide-numbers in
     text-fits (entry .pre) (at-wide-numbers .wide-numbers .ensures) (at-narrow-numbers .narrow-numbers .ensures)
@@ -49,7 +48,7 @@ same-length c = search needs
 returns-2 : tie.Need-returns-2
 returns-2 c =
     let second = c .before .before in
-    let at-if1 = else1 (second .before) in
+    let at-if1 = second .before .before .before .before .before .before in
     let first = at-if1 .before .before in
     laws.prints-whole (first .print-term .ensures .wrote .end) (at-if1 .if1 .left) (second .print-term2 .ensures .wrote)
 

@@ -8,13 +8,21 @@ use Rattle.printer.proofs.TextLaws.{prints-spelled}
 use Rattle.printer.proofs.print_small.Statement.{statement}
 use Rattle.printer.proofs.print_small.Tie as tie
 
+-- places, each from a later one
+abbrev after-fill : tie.After-print-into-arg → tie.After-fill
+after-fill p = p .before .before .before
+
+abbrev at-start : tie.After-pool → tie.Start
+at-start p =
+    let q = p .before .before .before in
+    q .before .before .before .before
+
 slice-aggregate-fill : tie.Need-slice-aggregate-fill
 slice-aggregate-fill c = search needs
 
 fill-requires : tie.Need-fill-requires
 fill-requires c κs =
-    let back = c .before .before .before .before .before .before in
-    let entry = back .before in
+    let entry = at-start c in
     let pre = entry .pre .0 in
     record {
       room = omega (arith, length-replicate {A = ℕ} 4096 0, entry .pre .1);
@@ -30,9 +38,8 @@ slice-aggregate-print-into c = search needs
 
 print-into-requires : tie.Need-print-into-requires
 print-into-requires c κs =
-    let fill-place = c .before .before .before in
-    let back = fill-place .before .before .before in
-    let entry = back .before .before .before .before .before in
+    let fill-place = after-fill c in
+    let entry = at-start (fill-place .before) in
     record { short = fill-place .fill .ensures .small; marked = entry .pre .0 .marked; small = entry .pre .0 .small }
 
 same-length : tie.Need-same-length
@@ -41,7 +48,7 @@ same-length c = search needs
 returns : tie.Need-returns
 returns c =
     let print-into-place = c .before .before in
-    prints-spelled _ _ _ _ (print-into-place .before .before .before .before .fill .ensures) (print-into-place .print-into .ensures)
+    prints-spelled _ _ _ _ ((after-fill (print-into-place .before)) .fill .ensures) (print-into-place .print-into .ensures)
 
 pub print-small-spec : {M : Type 1} → statement M
 print-small-spec =

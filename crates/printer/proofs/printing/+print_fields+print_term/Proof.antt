@@ -62,6 +62,18 @@ print-fields-claims t = (
 )
 
 -- places, each from a later one
+abbrev else1 : {t : ℕ} → print-fields-lts.After-column (print-fields-claims t) (print-fields-at t) print-fields.Post
+    → print-fields-lts.Else1 (print-fields-claims t) (print-fields-at t) print-fields.Post
+else1 p = p .before .before
+
+abbrev then2 : {t : ℕ} → print-fields-lts.After-column2 (print-fields-claims t) (print-fields-at t) print-fields.Post
+    → print-fields-lts.Then2 (print-fields-claims t) (print-fields-at t) print-fields.Post
+then2 p = p .before .before
+
+abbrev after-column3 : {t : ℕ} → print-fields-lts.After-print-fields-arg2 (print-fields-claims t) (print-fields-at t) print-fields.Post
+    → print-fields-lts.After-column3 (print-fields-claims t) (print-fields-at t) print-fields.Post
+after-column3 p = p .before .before
+
 abbrev after-print-term : {t : ℕ} → print-fields-lts.After-byte-at-arg2 (print-fields-claims t) (print-fields-at t) print-fields.Post
     → print-fields-lts.After-print-term (print-fields-claims t) (print-fields-at t) print-fields.Post
 after-print-term p = p .before .before .before
@@ -70,17 +82,21 @@ abbrev after-print-fields : {t : ℕ} → print-fields-lts.After-byte-at-arg3 (p
     → print-fields-lts.After-print-fields (print-fields-claims t) (print-fields-at t) print-fields.Post
 after-print-fields p = p .before .before .before
 
-abbrev else1 : {t : ℕ} → print-fields-lts.After-column (print-fields-claims t) (print-fields-at t) print-fields.Post
-    → print-fields-lts.Else1 (print-fields-claims t) (print-fields-at t) print-fields.Post
-else1 p = p .before .before
-
 abbrev after-column : {t : ℕ} → print-fields-lts.After-column2 (print-fields-claims t) (print-fields-at t) print-fields.Post
     → print-fields-lts.After-column (print-fields-claims t) (print-fields-at t) print-fields.Post
-after-column p = p .before .before .before
+after-column p = (then2 p) .before
 
-abbrev then2 : {t : ℕ} → print-fields-lts.After-column2 (print-fields-claims t) (print-fields-at t) print-fields.Post
-    → print-fields-lts.Then2 (print-fields-claims t) (print-fields-at t) print-fields.Post
-then2 p = p .before .before
+abbrev after-column2 : {t : ℕ} → print-fields-lts.After-print-term (print-fields-claims t) (print-fields-at t) print-fields.Post
+    → print-fields-lts.After-column2 (print-fields-claims t) (print-fields-at t) print-fields.Post
+after-column2 p = p .before .before .before
+
+abbrev after-open-fields′ : {t : ℕ} → print-fields-lts.Then1 (print-fields-claims t) (print-fields-at t) print-fields.Post
+    → print-fields-lts.After-open-fields (print-fields-claims t) (print-fields-at t) print-fields.Post
+after-open-fields′ p = p .before .before .before
+
+abbrev after-print-term′ : {t : ℕ} → print-fields-lts.After-byte-at2 (print-fields-claims t) (print-fields-at t) print-fields.Post
+    → print-fields-lts.After-print-term (print-fields-claims t) (print-fields-at t) print-fields.Post
+after-print-term′ p = after-print-term (p .before)
 
 abbrev after-byte-at2 : {t : ℕ} → print-fields-lts.After-column3 (print-fields-claims t) (print-fields-at t) print-fields.Post
     → print-fields-lts.After-byte-at2 (print-fields-claims t) (print-fields-at t) print-fields.Post
@@ -90,17 +106,9 @@ abbrev at-start : {t : ℕ} → print-fields-lts.After-open-fields (print-fields
     → print-fields-lts.Start (print-fields-claims t) (print-fields-at t) print-fields.Post
 at-start p = p .before .before .before .before
 
-abbrev after-column3 : {t : ℕ} → print-fields-lts.After-print-fields-arg2 (print-fields-claims t) (print-fields-at t) print-fields.Post
-    → print-fields-lts.After-column3 (print-fields-claims t) (print-fields-at t) print-fields.Post
-after-column3 p = p .before .before
-
-abbrev after-column2 : {t : ℕ} → print-fields-lts.After-print-term (print-fields-claims t) (print-fields-at t) print-fields.Post
-    → print-fields-lts.After-column2 (print-fields-claims t) (print-fields-at t) print-fields.Post
-after-column2 p = p .before .before .before
-
-abbrev after-open-fields : {t : ℕ} → print-fields-lts.Else1 (print-fields-claims t) (print-fields-at t) print-fields.Post
+abbrev after-open-fields : {t : ℕ} → print-fields-lts.After-column (print-fields-claims t) (print-fields-at t) print-fields.Post
     → print-fields-lts.After-open-fields (print-fields-claims t) (print-fields-at t) print-fields.Post
-after-open-fields p = p .before .before .before
+after-open-fields p = (else1 p) .before .before .before
 
 print-fields-open-fields-requires : (t : ℕ) → print-fields-lts.Need-open-fields-requires (print-fields-claims t) (print-fields-at t) print-fields.Post
 print-fields-open-fields-requires t c κs = laws.fields-opening-fits (c .before .before .before .pre .1)
@@ -112,7 +120,7 @@ print-fields-add-place t c =
 
 print-fields-byte-at-requires : (t : ℕ) → print-fields-lts.Need-byte-at-requires (print-fields-claims t) (print-fields-at t) print-fields.Post
 print-fields-byte-at-requires t c κs =
-    let at-open-fields = c .before .before .before .before in
+    let at-open-fields = after-open-fields′ (c .before) in
     let entry = at-start at-open-fields in
     laws.next-room
     (laws.opened-shallow-fields (at-open-fields .open-fields .ensures) (c .before .if1 .taken))
@@ -121,15 +129,14 @@ print-fields-byte-at-requires t c κs =
 print-fields-same-length : (t : ℕ) → print-fields-lts.Need-same-length (print-fields-claims t) (print-fields-at t) print-fields.Post
 print-fields-same-length t c =
     let byte-at-place = c .before .before in
-    let back = byte-at-place .before .before .before .before in
-    let at-open-fields = back .before in
+    let at-open-fields = after-open-fields′ (byte-at-place .before .before) in
     byte-at-place .byte-at .ensures .same ∙ at-open-fields .open-fields .ensures .same
 
 print-fields-returns : (t : ℕ) → print-fields-lts.Need-returns (print-fields-claims t) (print-fields-at t) print-fields.Post
 print-fields-returns t c =
     let byte-at-place = c .before .before in
     let at-if1 = byte-at-place .before .before in
-    let at-open-fields = at-if1 .before .before .before in
+    let at-open-fields = after-open-fields′ at-if1 in
     laws.all-printed
     (laws.next-text
     (laws.opened-shallow-fields (at-open-fields .open-fields .ensures) (at-if1 .if1 .taken))
@@ -150,7 +157,7 @@ print-fields-print-term-requires t c κs =
     let at-if2 = then2 column2-place in
     let at-column = after-column column2-place in
     let at-if1 = else1 at-column in
-    let at-open-fields = after-open-fields at-if1 in
+    let at-open-fields = after-open-fields at-column in
     let entry = at-start at-open-fields in (
       omega (arith, entry .pre .0),
       laws.next-fits
@@ -166,7 +173,7 @@ print-fields-byte-at-requires-2 t c κs =
     let at-if2 = then2 at-column2 in
     let at-column = after-column at-column2 in
     let at-if1 = else1 at-column in
-    let at-open-fields = after-open-fields at-if1 in
+    let at-open-fields = after-open-fields at-column in
     let entry = at-start at-open-fields in
     laws.next-room
     (laws.next-part
@@ -182,12 +189,12 @@ print-fields-print-fields-requires : (t : ℕ) → print-fields-lts.Need-print-f
 print-fields-print-fields-requires t c κs =
     let column3-place = after-column3 c in
     let at-byte-at2 = after-byte-at2 column3-place in
-    let at-print-term = after-print-term (at-byte-at2 .before) in
+    let at-print-term = after-print-term′ at-byte-at2 in
     let at-column2 = after-column2 at-print-term in
     let at-if2 = then2 at-column2 in
     let at-column = after-column at-column2 in
     let at-if1 = else1 at-column in
-    let at-open-fields = after-open-fields at-if1 in
+    let at-open-fields = after-open-fields at-column in
     let entry = at-start at-open-fields in (
       omega (arith, entry .pre .0),
       laws.next-fits
@@ -205,12 +212,12 @@ print-fields-byte-at-requires-3 t c κs =
     let print-fields-place = after-print-fields c in
     let at-column3 = after-column3 (print-fields-place .before) in
     let at-byte-at2 = after-byte-at2 at-column3 in
-    let at-print-term = after-print-term (at-byte-at2 .before) in
+    let at-print-term = after-print-term′ at-byte-at2 in
     let at-column2 = after-column2 at-print-term in
     let at-if2 = then2 at-column2 in
     let at-column = after-column at-column2 in
     let at-if1 = else1 at-column in
-    let at-open-fields = after-open-fields at-if1 in
+    let at-open-fields = after-open-fields at-column in
     let entry = at-start at-open-fields in
     laws.next-room
     (laws.next-part
@@ -227,11 +234,9 @@ print-fields-same-length-2 : (t : ℕ) → print-fields-lts.Need-same-length-2 (
 print-fields-same-length-2 t c =
     let byte-at3-place = c .before .before in
     let at-print-fields = after-print-fields (byte-at3-place .before) in
-    let back = (after-column3 (at-print-fields .before)) .before .before .before in
-    let at-byte-at2 = back .before in
-    let at-print-term = after-print-term (at-byte-at2 .before) in
-    let back5 = after-column (after-column2 at-print-term) in
-    let at-open-fields = after-open-fields (else1 back5) in
+    let at-byte-at2 = after-byte-at2 (after-column3 (at-print-fields .before)) in
+    let at-print-term = after-print-term′ at-byte-at2 in
+    let at-open-fields = after-open-fields (after-column (after-column2 at-print-term)) in
     byte-at3-place .byte-at3 .ensures .same ∙ at-print-fields .print-fields .ensures .wrote .same ∙ at-byte-at2 .byte-at2 .ensures .same
     ∙ at-print-term .print-term .ensures .wrote .same ∙ at-open-fields .open-fields .ensures .same
 
@@ -241,12 +246,12 @@ print-fields-returns-2 t c =
     let at-print-fields = after-print-fields (byte-at3-place .before) in
     let at-column3 = after-column3 (at-print-fields .before) in
     let at-byte-at2 = after-byte-at2 at-column3 in
-    let at-print-term = after-print-term (at-byte-at2 .before) in
+    let at-print-term = after-print-term′ at-byte-at2 in
     let at-column2 = after-column2 at-print-term in
     let at-if2 = then2 at-column2 in
     let at-column = after-column at-column2 in
     let at-if1 = else1 at-column in
-    let at-open-fields = after-open-fields at-if1 in
+    let at-open-fields = after-open-fields at-column in
     laws.all-printed
     (laws.next-text
     (laws.next-part
@@ -263,7 +268,7 @@ print-fields-byte-at-requires-4 : (t : ℕ) → print-fields-lts.Need-byte-at-re
 print-fields-byte-at-requires-4 t c κs =
     let column-place = c .before .before in
     let at-if1 = else1 column-place in
-    let at-open-fields = after-open-fields at-if1 in
+    let at-open-fields = after-open-fields column-place in
     let entry = at-start at-open-fields in
     laws.next-room
     (laws.opened-nil (at-open-fields .open-fields .ensures) (at-if1 .if1 .left) (column-place .column .ensures) (c .before .if2 .left))
@@ -272,8 +277,7 @@ print-fields-byte-at-requires-4 t c κs =
 print-fields-same-length-3 : (t : ℕ) → print-fields-lts.Need-same-length-3 (print-fields-claims t) (print-fields-at t) print-fields.Post
 print-fields-same-length-3 t c =
     let byte-at4-place = c .before .before in
-    let back = byte-at4-place .before .before .before .before in
-    let at-open-fields = after-open-fields (back .before) in
+    let at-open-fields = after-open-fields (byte-at4-place .before .before .before) in
     byte-at4-place .byte-at4 .ensures .same ∙ at-open-fields .open-fields .ensures .same
 
 print-fields-returns-3 : (t : ℕ) → print-fields-lts.Need-returns-3 (print-fields-claims t) (print-fields-at t) print-fields.Post
@@ -282,7 +286,7 @@ print-fields-returns-3 t c =
     let at-if2 = byte-at4-place .before .before in
     let at-column = at-if2 .before in
     let at-if1 = else1 at-column in
-    let at-open-fields = after-open-fields at-if1 in
+    let at-open-fields = after-open-fields at-column in
     laws.all-printed
     (laws.next-text
     (laws.opened-nil (at-open-fields .open-fields .ensures) (at-if1 .if1 .left) (at-column .column .ensures) (at-if2 .if2 .left))
@@ -305,9 +309,41 @@ print-term-claims t = (
 )
 
 -- places, each from a later one
-abbrev after-print-term′ : {t : ℕ} → print-term-lts.After-byte-at-arg2 (print-term-claims t) (print-term-at t) print-term.Post
+abbrev else1′ : {t : ℕ} → print-term-lts.After-column (print-term-claims t) (print-term-at t) print-term.Post
+    → print-term-lts.Else1 (print-term-claims t) (print-term-at t) print-term.Post
+else1′ p = p .before .before
+
+abbrev at-match-keys1 : {t : ℕ} → print-term-lts.After-column2 (print-term-claims t) (print-term-at t) print-term.Post
+    → print-term-lts.At-match-keys1 (print-term-claims t) (print-term-at t) print-term.Post
+at-match-keys1 p = p .before .before
+
+abbrev at-match-keys2 : {t : ℕ} → print-term-lts.After-column3 (print-term-claims t) (print-term-at t) print-term.Post
+    → print-term-lts.At-match-keys2 (print-term-claims t) (print-term-at t) print-term.Post
+at-match-keys2 p = p .before .before
+
+abbrev at-match-keys3 : {t : ℕ} → print-term-lts.After-column5 (print-term-claims t) (print-term-at t) print-term.Post
+    → print-term-lts.At-match-keys3 (print-term-claims t) (print-term-at t) print-term.Post
+at-match-keys3 p = p .before .before
+
+abbrev at-match-keys4 : {t : ℕ} → print-term-lts.After-column6 (print-term-claims t) (print-term-at t) print-term.Post
+    → print-term-lts.At-match-keys4 (print-term-claims t) (print-term-at t) print-term.Post
+at-match-keys4 p = p .before .before
+
+abbrev after-column5 : {t : ℕ} → print-term-lts.After-print-fields-arg2 (print-term-claims t) (print-term-at t) print-term.Post
+    → print-term-lts.After-column5 (print-term-claims t) (print-term-at t) print-term.Post
+after-column5 p = p .before .before
+
+abbrev after-column2′ : {t : ℕ} → print-term-lts.After-print-term-arg2 (print-term-claims t) (print-term-at t) print-term.Post
+    → print-term-lts.After-column2 (print-term-claims t) (print-term-at t) print-term.Post
+after-column2′ p = p .before .before
+
+abbrev after-column4 : {t : ℕ} → print-term-lts.After-print-term-arg6 (print-term-claims t) (print-term-at t) print-term.Post
+    → print-term-lts.After-column4 (print-term-claims t) (print-term-at t) print-term.Post
+after-column4 p = p .before .before
+
+abbrev after-print-term′′ : {t : ℕ} → print-term-lts.After-byte-at-arg2 (print-term-claims t) (print-term-at t) print-term.Post
     → print-term-lts.After-print-term (print-term-claims t) (print-term-at t) print-term.Post
-after-print-term′ p = p .before .before .before
+after-print-term′′ p = p .before .before .before
 
 abbrev after-print-term2 : {t : ℕ} → print-term-lts.After-byte-at-arg3 (print-term-claims t) (print-term-at t) print-term.Post
     → print-term-lts.After-print-term2 (print-term-claims t) (print-term-at t) print-term.Post
@@ -329,61 +365,13 @@ abbrev after-label-at : {t : ℕ} → print-term-lts.After-byte-at-arg7 (print-t
     → print-term-lts.After-label-at (print-term-claims t) (print-term-at t) print-term.Post
 after-label-at p = p .before .before .before
 
-abbrev after-open-term : {t : ℕ} → print-term-lts.After-column (print-term-claims t) (print-term-at t) print-term.Post
-    → print-term-lts.After-open-term (print-term-claims t) (print-term-at t) print-term.Post
-after-open-term p = p .before .before .before .before .before
-
-abbrev else1′ : {t : ℕ} → print-term-lts.After-column (print-term-claims t) (print-term-at t) print-term.Post
-    → print-term-lts.Else1 (print-term-claims t) (print-term-at t) print-term.Post
-else1′ p = p .before .before
-
-abbrev at-match-keys1 : {t : ℕ} → print-term-lts.After-column2 (print-term-claims t) (print-term-at t) print-term.Post
-    → print-term-lts.At-match-keys1 (print-term-claims t) (print-term-at t) print-term.Post
-at-match-keys1 p = p .before .before
-
 abbrev after-column′ : {t : ℕ} → print-term-lts.After-column3 (print-term-claims t) (print-term-at t) print-term.Post
     → print-term-lts.After-column (print-term-claims t) (print-term-at t) print-term.Post
-after-column′ p = p .before .before .before
-
-abbrev at-match-keys2 : {t : ℕ} → print-term-lts.After-column3 (print-term-claims t) (print-term-at t) print-term.Post
-    → print-term-lts.At-match-keys2 (print-term-claims t) (print-term-at t) print-term.Post
-at-match-keys2 p = p .before .before
-
-abbrev after-byte-at3 : {t : ℕ} → print-term-lts.After-column4 (print-term-claims t) (print-term-at t) print-term.Post
-    → print-term-lts.After-byte-at3 (print-term-claims t) (print-term-at t) print-term.Post
-after-byte-at3 p = p .before .before .before .before
-
-abbrev at-match-keys3 : {t : ℕ} → print-term-lts.After-column5 (print-term-claims t) (print-term-at t) print-term.Post
-    → print-term-lts.At-match-keys3 (print-term-claims t) (print-term-at t) print-term.Post
-at-match-keys3 p = p .before .before
+after-column′ p = (at-match-keys2 p) .before
 
 abbrev after-column′′ : {t : ℕ} → print-term-lts.After-column6 (print-term-claims t) (print-term-at t) print-term.Post
     → print-term-lts.After-column (print-term-claims t) (print-term-at t) print-term.Post
-after-column′′ p = p .before .before .before
-
-abbrev at-match-keys4 : {t : ℕ} → print-term-lts.After-column6 (print-term-claims t) (print-term-at t) print-term.Post
-    → print-term-lts.At-match-keys4 (print-term-claims t) (print-term-at t) print-term.Post
-at-match-keys4 p = p .before .before
-
-abbrev after-byte-at6 : {t : ℕ} → print-term-lts.After-column7 (print-term-claims t) (print-term-at t) print-term.Post
-    → print-term-lts.After-byte-at6 (print-term-claims t) (print-term-at t) print-term.Post
-after-byte-at6 p = p .before .before .before .before
-
-abbrev at-start′ : {t : ℕ} → print-term-lts.After-open-term (print-term-claims t) (print-term-at t) print-term.Post
-    → print-term-lts.Start (print-term-claims t) (print-term-at t) print-term.Post
-at-start′ p = p .before .before .before .before .before
-
-abbrev after-column5 : {t : ℕ} → print-term-lts.After-print-fields-arg2 (print-term-claims t) (print-term-at t) print-term.Post
-    → print-term-lts.After-column5 (print-term-claims t) (print-term-at t) print-term.Post
-after-column5 p = p .before .before
-
-abbrev after-column2′ : {t : ℕ} → print-term-lts.After-print-term-arg2 (print-term-claims t) (print-term-at t) print-term.Post
-    → print-term-lts.After-column2 (print-term-claims t) (print-term-at t) print-term.Post
-after-column2′ p = p .before .before
-
-abbrev after-column4 : {t : ℕ} → print-term-lts.After-print-term-arg6 (print-term-claims t) (print-term-at t) print-term.Post
-    → print-term-lts.After-column4 (print-term-claims t) (print-term-at t) print-term.Post
-after-column4 p = p .before .before
+after-column′′ p = (at-match-keys4 p) .before
 
 abbrev after-column3′ : {t : ℕ} → print-term-lts.After-print-term2 (print-term-claims t) (print-term-at t) print-term.Post
     → print-term-lts.After-column3 (print-term-claims t) (print-term-at t) print-term.Post
@@ -393,22 +381,45 @@ abbrev after-column6 : {t : ℕ} → print-term-lts.After-print-term4 (print-ter
     → print-term-lts.After-column6 (print-term-claims t) (print-term-at t) print-term.Post
 after-column6 p = p .before .before .before
 
-abbrev after-open-term′ : {t : ℕ} → print-term-lts.After-slice-known2 (print-term-claims t) (print-term-at t) print-term.Post
+abbrev after-open-term′ : {t : ℕ} → print-term-lts.Then1 (print-term-claims t) (print-term-at t) print-term.Post
     → print-term-lts.After-open-term (print-term-claims t) (print-term-at t) print-term.Post
-after-open-term′ p = p .before .before
+after-open-term′ p = p .before .before .before
+
+abbrev after-print-term2′ : {t : ℕ} → print-term-lts.After-byte-at3 (print-term-claims t) (print-term-at t) print-term.Post
+    → print-term-lts.After-print-term2 (print-term-claims t) (print-term-at t) print-term.Post
+after-print-term2′ p = after-print-term2 (p .before)
+
+abbrev after-print-term4′ : {t : ℕ} → print-term-lts.After-byte-at6 (print-term-claims t) (print-term-at t) print-term.Post
+    → print-term-lts.After-print-term4 (print-term-claims t) (print-term-at t) print-term.Post
+after-print-term4′ p = after-print-term4 (p .before)
+
+abbrev after-byte-at3 : {t : ℕ} → print-term-lts.After-column4 (print-term-claims t) (print-term-at t) print-term.Post
+    → print-term-lts.After-byte-at3 (print-term-claims t) (print-term-at t) print-term.Post
+after-byte-at3 p = p .before .before .before .before
+
+abbrev after-byte-at6 : {t : ℕ} → print-term-lts.After-column7 (print-term-claims t) (print-term-at t) print-term.Post
+    → print-term-lts.After-byte-at6 (print-term-claims t) (print-term-at t) print-term.Post
+after-byte-at6 p = p .before .before .before .before
+
+abbrev after-open-term : {t : ℕ} → print-term-lts.After-column (print-term-claims t) (print-term-at t) print-term.Post
+    → print-term-lts.After-open-term (print-term-claims t) (print-term-at t) print-term.Post
+after-open-term p = (else1′ p) .before .before .before
+
+abbrev at-start′ : {t : ℕ} → print-term-lts.After-open-term (print-term-claims t) (print-term-at t) print-term.Post
+    → print-term-lts.Start (print-term-claims t) (print-term-at t) print-term.Post
+at-start′ p = p .before .before .before .before .before
 
 print-term-open-term-requires : (t : ℕ) → print-term-lts.Need-open-term-requires (print-term-claims t) (print-term-at t) print-term.Post
 print-term-open-term-requires t c κs = laws.opening-fits (c .before .before .before .before .pre .1)
 
 print-term-add-place : (t : ℕ) → print-term-lts.Need-add-place (print-term-claims t) (print-term-at t) print-term.Post
 print-term-add-place t c =
-    let at-open-term = after-open-term′ c in
-    let entry = at-start′ at-open-term in
+    let entry = at-start′ (c .before .before) in
     omega (arith, laws.opening-fits (entry .pre .1) .inside, entry .pre .1 .few)
 
 print-term-byte-at-requires : (t : ℕ) → print-term-lts.Need-byte-at-requires (print-term-claims t) (print-term-at t) print-term.Post
 print-term-byte-at-requires t c κs =
-    let at-open-term = after-open-term′ (c .before .before) in
+    let at-open-term = after-open-term′ (c .before) in
     let entry = at-start′ at-open-term in
     laws.next-room
     (laws.opened-shallow (at-open-term .open-term .ensures) (c .before .if1 .taken))
@@ -417,15 +428,14 @@ print-term-byte-at-requires t c κs =
 print-term-same-length : (t : ℕ) → print-term-lts.Need-same-length (print-term-claims t) (print-term-at t) print-term.Post
 print-term-same-length t c =
     let byte-at-place = c .before .before in
-    let back = byte-at-place .before .before .before .before in
-    let at-open-term = back .before in
+    let at-open-term = after-open-term′ (byte-at-place .before .before) in
     byte-at-place .byte-at .ensures .same ∙ at-open-term .open-term .ensures .same
 
 print-term-returns : (t : ℕ) → print-term-lts.Need-returns (print-term-claims t) (print-term-at t) print-term.Post
 print-term-returns t c =
     let byte-at-place = c .before .before in
     let at-if1 = byte-at-place .before .before in
-    let at-open-term = after-open-term′ (at-if1 .before) in
+    let at-open-term = after-open-term′ at-if1 in
     laws.all-printed
     (laws.next-text
     (laws.opened-shallow (at-open-term .open-term .ensures) (at-if1 .if1 .taken))
@@ -457,7 +467,7 @@ print-term-print-term-requires t c κs =
 
 print-term-byte-at-requires-2 : (t : ℕ) → print-term-lts.Need-byte-at-requires-2 (print-term-claims t) (print-term-at t) print-term.Post
 print-term-byte-at-requires-2 t c κs =
-    let print-term-place = after-print-term′ c in
+    let print-term-place = after-print-term′′ c in
     let at-column2 = after-column2′ (print-term-place .before) in
     let at-match = at-match-keys1 at-column2 in
     let at-column = at-match .before in
@@ -512,7 +522,7 @@ print-term-print-term-requires-3 : (t : ℕ) → print-term-lts.Need-print-term-
 print-term-print-term-requires-3 t c κs =
     let column4-place = after-column4 c in
     let at-byte-at3 = after-byte-at3 column4-place in
-    let at-print-term2 = after-print-term2 (at-byte-at3 .before) in
+    let at-print-term2 = after-print-term2′ at-byte-at3 in
     let at-column3 = after-column3′ at-print-term2 in
     let at-match = at-match-keys2 at-column3 in
     let at-column = after-column′ at-column3 in
@@ -535,7 +545,7 @@ print-term-byte-at-requires-4 t c κs =
     let print-term3-place = after-print-term3 c in
     let at-column4 = after-column4 (print-term3-place .before) in
     let at-byte-at3 = after-byte-at3 at-column4 in
-    let at-print-term2 = after-print-term2 (at-byte-at3 .before) in
+    let at-print-term2 = after-print-term2′ at-byte-at3 in
     let at-column3 = after-column3′ at-print-term2 in
     let at-match = at-match-keys2 at-column3 in
     let at-column = after-column′ at-column3 in
@@ -627,7 +637,7 @@ print-term-column-requires-7 t c κs = search needs
 print-term-label-at-requires : (t : ℕ) → print-term-lts.Need-label-at-requires (print-term-claims t) (print-term-at t) print-term.Post
 print-term-label-at-requires t c κs =
     let at-byte-at6 = after-byte-at6 (c .before) in
-    let at-print-term4 = after-print-term4 (at-byte-at6 .before) in
+    let at-print-term4 = after-print-term4′ at-byte-at6 in
     let at-column6 = after-column6 at-print-term4 in
     let at-match = at-match-keys4 at-column6 in
     let at-column = after-column′′ at-column6 in
@@ -648,7 +658,7 @@ print-term-byte-at-requires-7 t c κs =
     let label-at-place = after-label-at c in
     let at-column7 = label-at-place .before .before in
     let at-byte-at6 = after-byte-at6 at-column7 in
-    let at-print-term4 = after-print-term4 (at-byte-at6 .before) in
+    let at-print-term4 = after-print-term4′ at-byte-at6 in
     let at-column6 = after-column6 at-print-term4 in
     let at-match = at-match-keys4 at-column6 in
     let at-column = after-column′′ at-column6 in
@@ -681,15 +691,14 @@ print-term-byte-at-requires-8 t c κs =
 print-term-same-length-2 : (t : ℕ) → print-term-lts.Need-same-length-2 (print-term-claims t) (print-term-at t) print-term.Post
 print-term-same-length-2 t c =
     let byte-at2-place = c .before .before in
-    let at-print-term = after-print-term′ (byte-at2-place .before) in
-    let back = (at-match-keys1 (after-column2′ (at-print-term .before))) .before in
-    let at-open-term = after-open-term back in
+    let at-print-term = after-print-term′′ (byte-at2-place .before) in
+    let at-open-term = after-open-term ((at-match-keys1 (after-column2′ (at-print-term .before))) .before) in
     byte-at2-place .byte-at2 .ensures .same ∙ at-print-term .print-term .ensures .wrote .same ∙ at-open-term .open-term .ensures .same
 
 print-term-returns-2 : (t : ℕ) → print-term-lts.Need-returns-2 (print-term-claims t) (print-term-at t) print-term.Post
 print-term-returns-2 t c =
     let byte-at2-place = c .before .before in
-    let at-print-term = after-print-term′ (byte-at2-place .before) in
+    let at-print-term = after-print-term′′ (byte-at2-place .before) in
     let at-column2 = after-column2′ (at-print-term .before) in
     let at-match = at-match-keys1 at-column2 in
     let at-column = at-match .before in
@@ -707,11 +716,9 @@ print-term-same-length-3 : (t : ℕ) → print-term-lts.Need-same-length-3 (prin
 print-term-same-length-3 t c =
     let byte-at4-place = c .before .before in
     let at-print-term3 = after-print-term3 (byte-at4-place .before) in
-    let back = (after-column4 (at-print-term3 .before)) .before .before .before in
-    let at-byte-at3 = back .before in
-    let at-print-term2 = after-print-term2 (at-byte-at3 .before) in
-    let back5 = after-column′ (after-column3′ at-print-term2) in
-    let at-open-term = after-open-term back5 in
+    let at-byte-at3 = after-byte-at3 (after-column4 (at-print-term3 .before)) in
+    let at-print-term2 = after-print-term2′ at-byte-at3 in
+    let at-open-term = after-open-term (after-column′ (after-column3′ at-print-term2)) in
     byte-at4-place .byte-at4 .ensures .same ∙ at-print-term3 .print-term3 .ensures .wrote .same ∙ at-byte-at3 .byte-at3 .ensures .same ∙
     at-print-term2 .print-term2 .ensures .wrote .same ∙ at-open-term .open-term .ensures .same
 
@@ -721,7 +728,7 @@ print-term-returns-3 t c =
     let at-print-term3 = after-print-term3 (byte-at4-place .before) in
     let at-column4 = after-column4 (at-print-term3 .before) in
     let at-byte-at3 = after-byte-at3 at-column4 in
-    let at-print-term2 = after-print-term2 (at-byte-at3 .before) in
+    let at-print-term2 = after-print-term2′ at-byte-at3 in
     let at-column3 = after-column3′ at-print-term2 in
     let at-match = at-match-keys2 at-column3 in
     let at-column = after-column′ at-column3 in
@@ -743,8 +750,7 @@ print-term-same-length-4 : (t : ℕ) → print-term-lts.Need-same-length-4 (prin
 print-term-same-length-4 t c =
     let byte-at5-place = c .before .before in
     let at-print-fields = after-print-fields′ (byte-at5-place .before) in
-    let back = (at-match-keys3 (after-column5 (at-print-fields .before))) .before in
-    let at-open-term = after-open-term back in
+    let at-open-term = after-open-term ((at-match-keys3 (after-column5 (at-print-fields .before))) .before) in
     byte-at5-place .byte-at5 .ensures .same ∙ at-print-fields .print-fields .ensures .wrote .same ∙
     at-open-term .open-term .ensures .same
 
@@ -770,9 +776,8 @@ print-term-same-length-5 t c =
     let byte-at7-place = c .before .before in
     let at-label-at = after-label-at (byte-at7-place .before) in
     let at-byte-at6 = after-byte-at6 (at-label-at .before .before) in
-    let at-print-term4 = after-print-term4 (at-byte-at6 .before) in
-    let back = after-column′′ (after-column6 at-print-term4) in
-    let at-open-term = after-open-term back in
+    let at-print-term4 = after-print-term4′ at-byte-at6 in
+    let at-open-term = after-open-term (after-column′′ (after-column6 at-print-term4)) in
     byte-at7-place .byte-at7 .ensures .same ∙ at-label-at .label-at .ensures .same ∙ at-byte-at6 .byte-at6 .ensures .same ∙
     at-print-term4 .print-term4 .ensures .wrote .same ∙ at-open-term .open-term .ensures .same
 
@@ -782,7 +787,7 @@ print-term-returns-5 t c =
     let at-label-at = after-label-at (byte-at7-place .before) in
     let at-column7 = at-label-at .before .before in
     let at-byte-at6 = after-byte-at6 at-column7 in
-    let at-print-term4 = after-print-term4 (at-byte-at6 .before) in
+    let at-print-term4 = after-print-term4′ at-byte-at6 in
     let at-column6 = after-column6 at-print-term4 in
     let at-match = at-match-keys4 at-column6 in
     let at-column = after-column′′ at-column6 in
@@ -803,8 +808,7 @@ print-term-returns-5 t c =
 print-term-same-length-6 : (t : ℕ) → print-term-lts.Need-same-length-6 (print-term-claims t) (print-term-at t) print-term.Post
 print-term-same-length-6 t c =
     let byte-at8-place = c .before .before in
-    let back = byte-at8-place .before .before .before .before in
-    let at-open-term = after-open-term′ (back .before .before) in
+    let at-open-term = after-open-term (byte-at8-place .before .before .before) in
     byte-at8-place .byte-at8 .ensures .same ∙ at-open-term .open-term .ensures .same
 
 print-term-returns-6 : (t : ℕ) → print-term-lts.Need-returns-6 (print-term-claims t) (print-term-at t) print-term.Post

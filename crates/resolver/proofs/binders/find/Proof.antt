@@ -19,17 +19,26 @@ abbrev μ-loop : tie.MeasureT-loop
 μ-loop cells links n x half p₀ p = p
 
 -- places, each from a later one
+abbrev at-start′ : tie.After-shared-slice-known2 Inv-loop μ-loop → tie.Start Inv-loop μ-loop
+at-start′ p = p .before .before
+
+abbrev in-loop : tie.Else1 Inv-loop μ-loop → tie.In-loop Inv-loop μ-loop
+in-loop p = p .before .before
+
+abbrev at-loop : tie.Else1 Inv-loop μ-loop → tie.At-loop Inv-loop μ-loop
+at-loop p = (in-loop p) .before
+
 abbrev at-start : tie.At-loop Inv-loop μ-loop → tie.Start Inv-loop μ-loop
-at-start p = p .before .before .before .before
+at-start p = at-start′ (p .before .before)
 
 rem-link-at : tie.Need-rem-link-at Inv-loop μ-loop
-rem-link-at c = omega (arith, (c .before .before .pre) .some)
+rem-link-at c = omega (arith, ((at-start′ c) .pre) .some)
 
 link-at-requires : tie.Need-link-at-requires Inv-loop μ-loop
 link-at-requires c κs = search needs
 
 loop-holds : tie.Need-loop-holds Inv-loop μ-loop
-loop-holds c = (laws.chasing-start (c .before .before .before .pre) _ (c .link-at .ensures), refl)
+loop-holds c = (laws.chasing-start ((at-start′ (c .before)) .pre) _ (c .link-at .ensures), refl)
 
 sub-row : tie.Need-sub-row Inv-loop μ-loop
 sub-row c = search needs
@@ -53,8 +62,8 @@ returns c =
 
 add-link-at : tie.Need-add-link-at Inv-loop μ-loop
 add-link-at c =
-    let turn-test = c .before .before in
-    let turn = turn-test .before in
+    let turn-test = in-loop c in
+    let turn = at-loop c in
     let entry = at-start turn in
     omega (arith, laws.chasing-inside (entry .pre) _ (turn .loop .inv .0) (turn-test .loop-test .taken))
 

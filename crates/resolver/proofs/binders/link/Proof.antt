@@ -19,11 +19,17 @@ abbrev μ-loop : tie.MeasureT-loop
 μ-loop cells links₀ row₀ links row = (length cells / 4) - row
 
 -- places, each from a later one
-abbrev in-loop : tie.After-column2 Inv-loop μ-loop → tie.In-loop Inv-loop μ-loop
-in-loop p = p .before .before
+abbrev at-loop : tie.After-column Inv-loop μ-loop → tie.At-loop Inv-loop μ-loop
+at-loop p = p .before .before
 
 abbrev at-start : tie.At-loop Inv-loop μ-loop → tie.Start Inv-loop μ-loop
 at-start p = p .before .before .before
+
+abbrev in-loop : tie.After-find Inv-loop μ-loop → tie.In-loop Inv-loop μ-loop
+in-loop p = p .before .before .before .before .before
+
+abbrev in-loop′ : tie.After-add-arg Inv-loop μ-loop → tie.In-loop Inv-loop μ-loop
+in-loop′ p = in-loop (p .before .before)
 
 loop-holds : tie.Need-loop-holds Inv-loop μ-loop
 loop-holds c =
@@ -40,7 +46,7 @@ column-requires c κs = search needs
 
 cast-column-2 : tie.Need-cast-column-2 Inv-loop μ-loop
 cast-column-2 c =
-    let turn = c .before .before in
+    let turn = at-loop c in
     let entry = at-start turn in
     omega (arith, laws.row-small (turn .loop .inv) (entry .pre .few) (entry .pre .room) (c .before .loop-test .taken))
 
@@ -48,12 +54,11 @@ column-requires-2 : tie.Need-column-requires-2 Inv-loop μ-loop
 column-requires-2 c κs = search needs
 
 find-requires : tie.Need-find-requires Inv-loop μ-loop
-find-requires c κs = ((in-loop (c .before .before)) .before .loop .inv) .linked
+find-requires c κs = ((at-loop (c .before .before .before)) .loop .inv) .linked
 
 add-requires : tie.Need-add-requires Inv-loop μ-loop
 add-requires c κs =
-    let back = c .before .before .before .before .before .before in
-    let at-loop-test = back .before in
+    let at-loop-test = in-loop′ c in
     let at-loop = at-loop-test .before in
     let entry = at-start at-loop in (
       laws.row-fits (at-loop .loop .inv) (entry .pre .few) (entry .pre .room) (at-loop-test .loop-test .taken),
@@ -63,8 +68,7 @@ add-requires c κs =
 
 add-row : tie.Need-add-row Inv-loop μ-loop
 add-row c =
-    let back = c .before .before .before .before .before .before in
-    let at-loop-test = in-loop (back .before .before) in
+    let at-loop-test = in-loop′ (c .before .before .before) in
     let at-loop = at-loop-test .before in
     let entry = at-start at-loop in
     omega (arith, laws.row-small (at-loop .loop .inv) (entry .pre .few) (entry .pre .room) (at-loop-test .loop-test .taken))
@@ -77,12 +81,11 @@ loop-again c =
     let add-place = c .before .before in
     let then2 = add-place .before .before in
     let find-place = then2 .before in
-    let back = find-place .before in
-    let at-if1 = back .before in
+    let at-if1 = find-place .before .before in
     let at-column2 = at-if1 .before in
     let at-column = at-column2 .before in
-    let at-loop-test = in-loop at-column2 in
-    let at-loop = at-loop-test .before in
+    let at-loop-test = in-loop find-place in
+    let at-loop = at-loop at-column in
     let entry = at-start at-loop in
     laws.add-row (at-loop .loop .inv) (entry .pre .few) (entry .pre .room) (at-loop-test .loop-test .taken) (at-column .column .ensures)
     (at-column2 .column2 .ensures) (at-if1 .if1 .taken) (find-place .find .ensures .0)
@@ -90,13 +93,13 @@ loop-again c =
 
 add-row-2 : tie.Need-add-row-2 Inv-loop μ-loop
 add-row-2 c =
-    let back = in-loop (c .before .before .before .before) in
-    let at-loop = back .before in
+    let turn-test = in-loop (c .before) in
+    let at-loop = turn-test .before in
     let entry = at-start at-loop in
     omega (
       arith,
       laws.row-small (at-loop .loop .inv) (entry .pre .few) (entry .pre .room)
-          (back .loop-test .taken),
+          (turn-test .loop-test .taken),
     )
 
 loop-less-2 : tie.Need-loop-less-2 Inv-loop μ-loop
@@ -105,16 +108,16 @@ loop-less-2 c = omega arith
 loop-again-2 : tie.Need-loop-again-2 Inv-loop μ-loop
 loop-again-2 c =
     let column2-place = c .before .before .before .before in
-    let back = in-loop column2-place in
-    let at-loop = back .before in
+    let turn-test = in-loop (c .before) in
+    let at-loop = turn-test .before in
     let entry = at-start at-loop in
     laws.skip-found (at-loop .loop .inv) (entry .pre .few) (entry .pre .room)
-    (back .loop-test .taken) (column2-place .column2 .ensures)
+    (turn-test .loop-test .taken) (column2-place .column2 .ensures)
     (c .before .find .ensures .0) (c .if2 .left)
 
 add-row-3 : tie.Need-add-row-3 Inv-loop μ-loop
 add-row-3 c =
-    let turn-test = in-loop (c .before) in
+    let turn-test = c .before .before .before in
     let turn = turn-test .before in
     let entry = at-start turn in
     omega (
@@ -130,7 +133,7 @@ loop-again-3 : tie.Need-loop-again-3 Inv-loop μ-loop
 loop-again-3 c =
     let column-place = c .before .before in
     let turn-test = column-place .before in
-    let turn = turn-test .before in
+    let turn = at-loop column-place in
     let entry = at-start turn in
     laws.skip-code (turn .loop .inv) (entry .pre .few) (entry .pre .room)
     (turn-test .loop-test .taken) (column-place .column .ensures) (c .if1 .left)

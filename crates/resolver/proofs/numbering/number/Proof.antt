@@ -16,11 +16,23 @@ abbrev μ-loop : tie.MeasureT-loop
 μ-loop marks₀ n p₀ count₀ marks p count = n - p
 
 -- places, each from a later one
-abbrev in-loop : tie.After-number-of Inv-loop μ-loop → tie.In-loop Inv-loop μ-loop
-in-loop p = p .before .before .before .before
+abbrev else1 : tie.After-number-of Inv-loop μ-loop → tie.Else1 Inv-loop μ-loop
+else1 p = p .before .before
 
 abbrev at-start : tie.At-loop Inv-loop μ-loop → tie.Start Inv-loop μ-loop
 at-start p = p .before .before
+
+abbrev in-loop : tie.After-number-of Inv-loop μ-loop → tie.In-loop Inv-loop μ-loop
+in-loop p = (else1 p) .before .before
+
+abbrev at-loop : tie.After-number-of Inv-loop μ-loop → tie.At-loop Inv-loop μ-loop
+at-loop p = (in-loop p) .before
+
+abbrev in-loop′ : tie.Then2 Inv-loop μ-loop → tie.In-loop Inv-loop μ-loop
+in-loop′ p = in-loop (p .before)
+
+abbrev at-loop′ : tie.Then2 Inv-loop μ-loop → tie.At-loop Inv-loop μ-loop
+at-loop′ p = at-loop (p .before)
 
 loop-holds : tie.Need-loop-holds Inv-loop μ-loop
 loop-holds c = laws.counting-start _ _
@@ -93,7 +105,7 @@ number-of-requires c κs =
 mul-marks : tie.Need-mul-marks Inv-loop μ-loop
 mul-marks c =
     let turn-test = in-loop c in
-    let at-loop = turn-test .before in
+    let at-loop = at-loop c in
     let entry = at-start at-loop in
     omega (
       arith,
@@ -108,7 +120,7 @@ mul-marks c =
 slice-write-marks : tie.Need-slice-write-marks Inv-loop μ-loop
 slice-write-marks c =
     let turn-test = in-loop c in
-    let at-loop = turn-test .before in
+    let at-loop = at-loop c in
     let entry = at-start at-loop in
     omega (
       arith,
@@ -122,8 +134,8 @@ slice-write-marks c =
 
 add-count : tie.Need-add-count Inv-loop μ-loop
 add-count c =
-    let turn-test = in-loop (c .before) in
-    let at-loop = turn-test .before in
+    let turn-test = in-loop′ c in
+    let at-loop = at-loop′ c in
     let entry = at-start at-loop in
     omega (
       arith,
@@ -137,8 +149,8 @@ add-count c =
 
 add-p : tie.Need-add-p Inv-loop μ-loop
 add-p c =
-    let turn-test = in-loop (c .before) in
-    let at-loop = turn-test .before in
+    let turn-test = in-loop′ c in
+    let at-loop = at-loop′ c in
     let entry = at-start at-loop in
     omega (
       arith,
@@ -152,8 +164,8 @@ add-p c =
 
 loop-less : tie.Need-loop-less Inv-loop μ-loop
 loop-less c =
-    let turn-test = in-loop (c .before) in
-    let at-loop = turn-test .before in
+    let turn-test = in-loop′ c in
+    let at-loop = at-loop′ c in
     let entry = at-start at-loop in
     omega (
       arith,
@@ -167,11 +179,11 @@ loop-less c =
 
 loop-again : tie.Need-loop-again Inv-loop μ-loop
 loop-again c =
-    let else1 = c .before .before .before in
-    let turn-test = in-loop (c .before) in
-    let back = turn-test .before in
-    let entry = at-start back in
-    laws.counting-new (back .loop .inv)
+    let else1 = else1 (c .before) in
+    let turn-test = in-loop′ c in
+    let turn = at-loop′ c in
+    let entry = at-start turn in
+    laws.counting-new (turn .loop .inv)
     (turn-test .loop-test .taken) (entry .pre .0) (else1 .if1 .left)
     (c .before .number-of .ensures) (c .if2 .taken)
 
@@ -207,11 +219,11 @@ loop-less-2 c =
 
 loop-again-2 : tie.Need-loop-again-2 Inv-loop μ-loop
 loop-again-2 c =
-    let else1 = c .before .before .before in
+    let else1 = else1 (c .before) in
     let turn-test = in-loop (c .before) in
-    let back = turn-test .before in
-    let entry = at-start back in
-    laws.counting-old (back .loop .inv)
+    let turn = turn-test .before in
+    let entry = at-start turn in
+    laws.counting-old (turn .loop .inv)
     (turn-test .loop-test .taken) (entry .pre .0) (else1 .if1 .left)
     (c .before .number-of .ensures) (c .if2 .left)
 

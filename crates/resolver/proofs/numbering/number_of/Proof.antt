@@ -47,8 +47,7 @@ mul-result c = search needs
 
 shared-slice-read-result : tie.Need-shared-slice-read-result
 shared-slice-read-result c =
-    let back = c .before .before .before .before .before .before in
-    let entry = back .before in
+    let entry = at-start (c .before .before .before .before .before) in
     omega (arith, c .before .if4 .taken, entry .pre .0)
 
 returns-4 : tie.Need-returns-4

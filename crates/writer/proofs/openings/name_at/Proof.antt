@@ -9,11 +9,32 @@ use Rattle.writer.proofs.openings.name_at.Statement.{statement}
 use Rattle.writer.proofs.openings.name_at.Tie as tie
 
 -- places, each from a later one
+abbrev then1 : tie.After-byte-at → tie.Then1
+then1 p = p .before .before
+
+abbrev then2 : tie.After-copy-at-arg2 → tie.Then2
+then2 p = p .before .before
+
+abbrev after-decimal-at : tie.After-slice-known3 → tie.After-decimal-at
+after-decimal-at p = p .before .before
+
+abbrev after-copy-at : tie.After-slice-known4 → tie.After-copy-at
+after-copy-at p = p .before .before
+
+abbrev after-copy-at2 : tie.After-slice-known5 → tie.After-copy-at2
+after-copy-at2 p = p .before .before
+
 abbrev at-start : tie.Else1 → tie.Start
 at-start p = p .before .before
 
 abbrev at-start′ : tie.Then1 → tie.Start
 at-start′ p = p .before .before
+
+abbrev else2 : tie.After-spelling → tie.Else2
+else2 p = p .before .before .before
+
+abbrev after-byte-at : tie.After-wide → tie.After-byte-at
+after-byte-at p = p .before .before .before .before
 
 byte-at-requires : tie.Need-byte-at-requires
 byte-at-requires c κs =
@@ -25,26 +46,24 @@ wide-requires c κs = search needs
 
 decimal-at-requires : tie.Need-decimal-at-requires
 decimal-at-requires c κs =
-    let at-byte-at = c .before .before .before .before in
-    let at-if1 = at-byte-at .before .before in
+    let at-byte-at = after-byte-at c in
+    let at-if1 = then1 at-byte-at in
     let entry = at-start′ at-if1 in
     pieces.go-room (pieces.go-next (laws.new-name (entry .args .out .now) (entry .pre) (at-if1 .if1 .taken) (c .wide .ensures))
     (at-byte-at .byte-at .ensures)) (entry .pre .room)
 
 same-length : tie.Need-same-length
 same-length c =
-    let decimal-at-place = c .before .before in
-    let back = decimal-at-place .before .before .before .before in
-    let at-byte-at = back .before in
+    let decimal-at-place = after-decimal-at c in
+    let at-byte-at = after-byte-at (decimal-at-place .before) in
     decimal-at-place .decimal-at .ensures .same ∙ at-byte-at .byte-at .ensures .same
 
 returns : tie.Need-returns
 returns c =
-    let decimal-at-place = c .before .before in
+    let decimal-at-place = after-decimal-at c in
     let wide-place = decimal-at-place .before in
-    let back = wide-place .before .before .before in
-    let at-byte-at = back .before in
-    let at-if1 = at-byte-at .before .before in
+    let at-byte-at = after-byte-at wide-place in
+    let at-if1 = then1 at-byte-at in
     let entry = at-start′ at-if1 in
     pieces.go-last (pieces.go-next
     (laws.new-name (entry .args .out .now) (entry .pre) (at-if1 .if1 .taken) (wide-place .wide .ensures))
@@ -55,7 +74,7 @@ slice-aggregate-copy-at c = search needs
 
 copy-at-requires : tie.Need-copy-at-requires
 copy-at-requires c κs =
-    let then2 = c .before .before in
+    let then2 = then2 c in
     let else1 = then2 .before in
     let entry = at-start else1 in
     omega (
@@ -66,12 +85,12 @@ copy-at-requires c κs =
     )
 
 same-length-2 : tie.Need-same-length-2
-same-length-2 c = c .before .before .copy-at .ensures .same
+same-length-2 c = (after-copy-at c) .copy-at .ensures .same
 
 returns-2 : tie.Need-returns-2
 returns-2 c =
-    let copy-at-place = c .before .before in
-    let at-if2 = copy-at-place .before .before .before in
+    let copy-at-place = after-copy-at c in
+    let at-if2 = then2 (copy-at-place .before) in
     let at-if1 = at-if2 .before in
     let entry = at-start at-if1 in
     pieces.as-text (laws.fresh-name (entry .pre) (at-if1 .if1 .left) (at-if2 .if2 .taken)) (copy-at-place .copy-at .ensures)
@@ -81,7 +100,7 @@ spelling-requires c κs = search needs
 
 copy-at-requires-2 : tie.Need-copy-at-requires-2
 copy-at-requires-2 c κs =
-    let else2 = c .before .before .before in
+    let else2 = else2 c in
     let at-if1 = else2 .before in
     let entry = at-start at-if1 in
     omega (
@@ -92,13 +111,13 @@ copy-at-requires-2 c κs =
     )
 
 same-length-3 : tie.Need-same-length-3
-same-length-3 c = c .before .before .copy-at2 .ensures .same
+same-length-3 c = (after-copy-at2 c) .copy-at2 .ensures .same
 
 returns-3 : tie.Need-returns-3
 returns-3 c =
-    let copy-at2-place = c .before .before in
+    let copy-at2-place = after-copy-at2 c in
     let spelling-place = copy-at2-place .before in
-    let at-if2 = spelling-place .before .before .before in
+    let at-if2 = else2 spelling-place in
     let at-if1 = at-if2 .before in
     let entry = at-start at-if1 in
     pieces.as-text (spelling-place .spelling .ensures ∙ laws.plain-name (entry .pre) (at-if1 .if1 .left) (at-if2 .if2 .left))

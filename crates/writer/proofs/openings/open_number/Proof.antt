@@ -7,6 +7,12 @@ use Rattle.writer.proofs.openings.open_number.Statement.{statement}
 use Rattle.writer.proofs.openings.open_number.Tie as tie
 
 -- places, each from a later one
+abbrev after-number-at : tie.After-slice-known3 → tie.After-number-at
+after-number-at p = p .before .before
+
+abbrev at-start : tie.After-copy-at-arg2 → tie.Start
+at-start p = p .before .before .before
+
 abbrev after-copy-at : tie.After-number-at-arg → tie.After-copy-at
 after-copy-at p = p .before .before .before
 
@@ -15,28 +21,27 @@ slice-aggregate-copy-at c = search needs
 
 copy-at-requires : tie.Need-copy-at-requires
 copy-at-requires c κs =
-    let entry = c .before .before .before in
+    let entry = at-start c in
     pieces.go-room (laws.open-number (entry .args .out .now) (entry .args .n)) (entry .pre)
 
 number-at-requires : tie.Need-number-at-requires
 number-at-requires c κs =
     let copy-at-place = after-copy-at c in
-    let back = copy-at-place .before .before .before in
-    let entry = back .before in
+    let entry = at-start (copy-at-place .before) in
     pieces.go-room (pieces.go-next (laws.open-number (entry .args .out .now) (entry .args .n))
     (copy-at-place .copy-at .ensures)) (entry .pre)
 
 same-length : tie.Need-same-length
 same-length c =
-    let number-at-place = c .before .before in
+    let number-at-place = after-number-at c in
     let at-copy-at = after-copy-at (number-at-place .before) in
     number-at-place .number-at .ensures .same ∙ at-copy-at .copy-at .ensures .same
 
 returns : tie.Need-returns
 returns c =
-    let number-at-place = c .before .before in
+    let number-at-place = after-number-at c in
     let at-copy-at = after-copy-at (number-at-place .before) in
-    let entry = at-copy-at .before .before .before .before in
+    let entry = at-start (at-copy-at .before) in
     pieces.go-last (pieces.go-next (laws.open-number (entry .args .out .now) (entry .args .n)) (at-copy-at .copy-at .ensures))
     (number-at-place .number-at .ensures)
 

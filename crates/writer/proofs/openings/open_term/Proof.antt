@@ -8,43 +8,88 @@ use Rattle.writer.proofs.openings.open_term.Statement.{statement}
 use Rattle.writer.proofs.openings.open_term.Tie as tie
 
 -- places, each from a later one
-abbrev after-name-at2 : tie.After-byte-at-arg → tie.After-name-at2
-after-name-at2 p = p .before .before .before
-
 abbrev else1 : tie.After-column → tie.Else1
 else1 p = p .before .before
 
 abbrev after-column : tie.After-column2 → tie.After-column
 after-column p = p .before .before
 
+abbrev at-match-keys5 : tie.After-copy-at-arg10 → tie.At-match-keys5
+at-match-keys5 p = p .before .before
+
 abbrev at-match-keys1 : tie.After-copy-at-arg2 → tie.At-match-keys1
 at-match-keys1 p = p .before .before
 
-abbrev at-match-keys2 : tie.After-copy-at2 → tie.At-match-keys2
-at-match-keys2 p = p .before .before .before
+abbrev at-match-keys2 : tie.After-copy-at-arg4 → tie.At-match-keys2
+at-match-keys2 p = p .before .before
 
-abbrev at-start′ : tie.After-shared-slice-known → tie.Start
-at-start′ p = p .before .before
+abbrev at-match-keys3 : tie.After-copy-at-arg6 → tie.At-match-keys3
+at-match-keys3 p = p .before .before
+
+abbrev at-match-keys4 : tie.After-copy-at-arg8 → tie.At-match-keys4
+at-match-keys4 p = p .before .before
+
+abbrev after-copy-at5 : tie.After-slice-known10 → tie.After-copy-at5
+after-copy-at5 p = p .before .before
+
+abbrev after-open-number2 : tie.After-slice-known11 → tie.After-open-number2
+after-open-number2 p = p .before .before
+
+abbrev after-open-number3 : tie.After-slice-known12 → tie.After-open-number3
+after-open-number3 p = p .before .before
+
+abbrev after-open-number4 : tie.After-slice-known13 → tie.After-open-number4
+after-open-number4 p = p .before .before
+
+abbrev after-open-number : tie.After-slice-known2 → tie.After-open-number
+after-open-number p = p .before .before
+
+abbrev after-name-at : tie.After-slice-known4 → tie.After-name-at
+after-name-at p = p .before .before
+
+abbrev after-byte-at : tie.After-slice-known7 → tie.After-byte-at
+after-byte-at p = p .before .before
+
+abbrev after-copy-at3 : tie.After-slice-known8 → tie.After-copy-at3
+after-copy-at3 p = p .before .before
+
+abbrev after-copy-at4 : tie.After-slice-known9 → tie.After-copy-at4
+after-copy-at4 p = p .before .before
+
+abbrev after-name-at2 : tie.After-byte-at-arg → tie.After-name-at2
+after-name-at2 p = p .before .before .before
+
+abbrev at-match-keys2′ : tie.After-copy-at2 → tie.At-match-keys2
+at-match-keys2′ p = at-match-keys2 (p .before)
+
+abbrev at-start′ : tie.Then1 → tie.Start
+at-start′ p = p .before .before .before
+
+abbrev after-column2 : tie.After-copy-at2 → tie.After-column2
+after-column2 p = (at-match-keys2′ p) .before
+
+abbrev after-copy-at : tie.After-shown-at → tie.After-copy-at
+after-copy-at p = p .before .before .before .before
 
 abbrev after-copy-at2 : tie.After-shown-at2 → tie.After-copy-at2
 after-copy-at2 p = p .before .before .before .before
 
-abbrev at-start : tie.Else1 → tie.Start
-at-start p = p .before .before .before
+abbrev at-start : tie.After-column → tie.Start
+at-start p = (else1 p) .before .before .before
 
 open-number-requires : tie.Need-open-number-requires
 open-number-requires c κs =
-    let entry = at-start′ (c .before .before) in
+    let entry = at-start′ (c .before) in
     pieces.go-room (laws.open-shallow (entry .args .out .now) (entry .pre) (c .before .if1 .taken)) (entry .pre .room)
 
 same-length : tie.Need-same-length
-same-length c = c .before .before .open-number .ensures .same
+same-length c = (after-open-number c) .open-number .ensures .same
 
 returns : tie.Need-returns
 returns c =
-    let open-number-place = c .before .before in
+    let open-number-place = after-open-number c in
     let at-if1 = open-number-place .before .before in
-    let entry = at-start′ (at-if1 .before) in
+    let entry = at-start′ at-if1 in
     pieces.go-last (laws.open-shallow (entry .args .out .now) (entry .pre) (at-if1 .if1 .taken)) (open-number-place .open-number .ensures)
 
 column-requires : tie.Need-column-requires
@@ -62,25 +107,23 @@ copy-at-requires c κs =
     let column2-place = match-keys1-place .before in
     let at-column = after-column column2-place in
     let at-if1 = else1 at-column in
-    let entry = at-start at-if1 in
+    let entry = at-start at-column in
     pieces.go-room (laws.open-var (entry .args .out .now) (entry .pre) (at-if1 .if1 .left) (at-column .column .ensures)
     (match-keys1-place .match .keys1) (column2-place .column2 .ensures) refl) (entry .pre .room)
 
 shown-at-requires : tie.Need-shown-at-requires
 shown-at-requires c κs =
-    let back = at-match-keys1 (c .before .before .before .before) in
-    let back2 = (else1 (after-column (back .before))) .before in
-    let entry = at-start′ back2 in
+    let entry = at-start (after-column ((at-match-keys1 (c .before .before .before .before)) .before)) in
     (entry .pre .inside, entry .pre .few)
 
 name-at-requires : tie.Need-name-at-requires
 name-at-requires c κs =
-    let at-copy-at = c .before .before .before .before in
+    let at-copy-at = after-copy-at c in
     let at-match = at-match-keys1 (at-copy-at .before) in
     let at-column2 = at-match .before in
     let at-column = after-column at-column2 in
     let at-if1 = else1 at-column in
-    let entry = at-start at-if1 in
+    let entry = at-start at-column in
     record {
       room = pieces.go-room
           (pieces.go-next (laws.open-var (entry .args .out .now) (entry .pre) (at-if1 .if1 .left) (at-column .column .ensures)
@@ -92,29 +135,27 @@ slice-aggregate-copy-at-2 c = search needs
 
 copy-at-requires-2 : tie.Need-copy-at-requires-2
 copy-at-requires-2 c κs =
-    let match-keys2-place = c .before .before in
+    let match-keys2-place = at-match-keys2 c in
     let column2-place = match-keys2-place .before in
     let at-column = after-column column2-place in
     let at-if1 = else1 at-column in
-    let entry = at-start at-if1 in
+    let entry = at-start at-column in
     pieces.go-room (laws.open-fun (entry .args .out .now) (entry .pre) (at-if1 .if1 .left) (at-column .column .ensures)
     (match-keys2-place .match .keys2) (column2-place .column2 .ensures) refl) (entry .pre .room)
 
 shown-at-requires-2 : tie.Need-shown-at-requires-2
 shown-at-requires-2 c κs =
-    let back = at-match-keys2 (c .before .before .before) in
-    let back2 = (else1 (after-column (back .before))) .before in
-    let entry = at-start′ back2 in
+    let entry = at-start (after-column (after-column2 (c .before .before .before))) in
     (entry .pre .inside, entry .pre .few)
 
 name-at-requires-2 : tie.Need-name-at-requires-2
 name-at-requires-2 c κs =
     let at-copy-at2 = after-copy-at2 c in
-    let at-match = at-match-keys2 at-copy-at2 in
-    let at-column2 = at-match .before in
+    let at-match = at-match-keys2′ at-copy-at2 in
+    let at-column2 = after-column2 at-copy-at2 in
     let at-column = after-column at-column2 in
     let at-if1 = else1 at-column in
-    let entry = at-start at-if1 in
+    let entry = at-start at-column in
     record {
       room = pieces.go-room
           (pieces.go-next (laws.open-fun (entry .args .out .now) (entry .pre) (at-if1 .if1 .left) (at-column .column .ensures)
@@ -126,11 +167,11 @@ byte-at-requires c κs =
     let name-at2-place = after-name-at2 c in
     let at-shown-at2 = name-at2-place .before in
     let at-copy-at2 = after-copy-at2 at-shown-at2 in
-    let at-match = at-match-keys2 at-copy-at2 in
-    let at-column2 = at-match .before in
+    let at-match = at-match-keys2′ at-copy-at2 in
+    let at-column2 = after-column2 at-copy-at2 in
     let at-column = after-column at-column2 in
     let at-if1 = else1 at-column in
-    let entry = at-start at-if1 in
+    let entry = at-start at-column in
     pieces.go-room (pieces.go-next
     (pieces.go-next (laws.open-fun (entry .args .out .now) (entry .pre) (at-if1 .if1 .left) (at-column .column .ensures)
     (at-match .match .keys2) (at-column2 .column2 .ensures) (at-shown-at2 .shown-at2 .ensures)) (at-copy-at2 .copy-at2 .ensures))
@@ -141,10 +182,10 @@ slice-aggregate-copy-at-3 c = search needs
 
 copy-at-requires-3 : tie.Need-copy-at-requires-3
 copy-at-requires-3 c κs =
-    let match-keys3-place = c .before .before in
+    let match-keys3-place = at-match-keys3 c in
     let at-column = after-column (match-keys3-place .before) in
     let at-if1 = else1 at-column in
-    let entry = at-start at-if1 in
+    let entry = at-start at-column in
     pieces.go-room (laws.open-app (entry .args .out .now) (entry .pre) (at-if1 .if1 .left) (at-column .column .ensures)
     (match-keys3-place .match .keys3)) (entry .pre .room)
 
@@ -153,10 +194,10 @@ slice-aggregate-copy-at-4 c = search needs
 
 copy-at-requires-4 : tie.Need-copy-at-requires-4
 copy-at-requires-4 c κs =
-    let match-keys4-place = c .before .before in
+    let match-keys4-place = at-match-keys4 c in
     let at-column = after-column (match-keys4-place .before) in
     let at-if1 = else1 at-column in
-    let entry = at-start at-if1 in
+    let entry = at-start at-column in
     pieces.go-room (laws.open-rcd (entry .args .out .now) (entry .pre) (at-if1 .if1 .left) (at-column .column .ensures)
     (match-keys4-place .match .keys4)) (entry .pre .room)
 
@@ -165,10 +206,10 @@ slice-aggregate-copy-at-5 c = search needs
 
 copy-at-requires-5 : tie.Need-copy-at-requires-5
 copy-at-requires-5 c κs =
-    let match-keys5-place = c .before .before in
+    let match-keys5-place = at-match-keys5 c in
     let at-column = after-column (match-keys5-place .before) in
     let at-if1 = else1 at-column in
-    let entry = at-start at-if1 in
+    let entry = at-start at-column in
     pieces.go-room (laws.open-dot (entry .args .out .now) (entry .pre) (at-if1 .if1 .left) (at-column .column .ensures)
     (match-keys5-place .match .keys5)) (entry .pre .room)
 
@@ -176,7 +217,7 @@ open-number-requires-2 : tie.Need-open-number-requires-2
 open-number-requires-2 c κs =
     let at-column = after-column (c .before .before) in
     let at-if1 = else1 at-column in
-    let entry = at-start at-if1 in
+    let entry = at-start at-column in
     pieces.go-room (laws.open-zero (entry .args .out .now) (entry .pre) (at-if1 .if1 .left) (at-column .column .ensures)
     (inl (c .before .match .keys6))) (entry .pre .room)
 
@@ -184,7 +225,7 @@ open-number-requires-3 : tie.Need-open-number-requires-3
 open-number-requires-3 c κs =
     let at-column = after-column (c .before .before) in
     let at-if1 = else1 at-column in
-    let entry = at-start at-if1 in
+    let entry = at-start at-column in
     pieces.go-room (laws.open-zero (entry .args .out .now) (entry .pre) (at-if1 .if1 .left) (at-column .column .ensures)
     (inr (c .before .match .keys7))) (entry .pre .room)
 
@@ -194,29 +235,27 @@ open-number-requires-4 c κs =
     let column2-place = match-rest-place .before in
     let at-column = after-column column2-place in
     let at-if1 = else1 at-column in
-    let entry = at-start at-if1 in
+    let entry = at-start at-column in
     pieces.go-room (laws.open-num (entry .args .out .now) (entry .pre) (at-if1 .if1 .left) (at-column .column .ensures)
     (match-rest-place .match .rest)
     (column2-place .column2 .ensures)) (entry .pre .room)
 
 same-length-2 : tie.Need-same-length-2
 same-length-2 c =
-    let name-at-place = c .before .before in
-    let back = name-at-place .before .before .before .before in
-    let at-copy-at = back .before in
+    let name-at-place = after-name-at c in
+    let at-copy-at = after-copy-at (name-at-place .before) in
     name-at-place .name-at .ensures .same ∙ at-copy-at .copy-at .ensures .same
 
 returns-2 : tie.Need-returns-2
 returns-2 c =
-    let name-at-place = c .before .before in
+    let name-at-place = after-name-at c in
     let shown-at-place = name-at-place .before in
-    let back = shown-at-place .before .before .before in
-    let at-copy-at = back .before in
+    let at-copy-at = after-copy-at shown-at-place in
     let at-match = at-match-keys1 (at-copy-at .before) in
     let at-column2 = at-match .before in
     let at-column = after-column at-column2 in
     let at-if1 = else1 at-column in
-    let entry = at-start at-if1 in
+    let entry = at-start at-column in
     pieces.go-last (pieces.go-next
     (laws.open-var (entry .args .out .now) (entry .pre) (at-if1 .if1 .left) (at-column .column .ensures) (at-match .match .keys1)
     (at-column2 .column2 .ensures) (shown-at-place .shown-at .ensures)) (at-copy-at .copy-at .ensures))
@@ -224,103 +263,103 @@ returns-2 c =
 
 same-length-3 : tie.Need-same-length-3
 same-length-3 c =
-    let byte-at-place = c .before .before in
+    let byte-at-place = after-byte-at c in
     let at-name-at2 = after-name-at2 (byte-at-place .before) in
     let at-copy-at2 = after-copy-at2 (at-name-at2 .before) in
     byte-at-place .byte-at .ensures .same ∙ at-name-at2 .name-at2 .ensures .same ∙ at-copy-at2 .copy-at2 .ensures .same
 
 returns-3 : tie.Need-returns-3
 returns-3 c =
-    let byte-at-place = c .before .before in
+    let byte-at-place = after-byte-at c in
     let at-name-at2 = after-name-at2 (byte-at-place .before) in
     let at-shown-at2 = at-name-at2 .before in
     let at-copy-at2 = after-copy-at2 at-shown-at2 in
-    let at-match = at-match-keys2 at-copy-at2 in
-    let at-column2 = at-match .before in
+    let at-match = at-match-keys2′ at-copy-at2 in
+    let at-column2 = after-column2 at-copy-at2 in
     let at-column = after-column at-column2 in
     let at-if1 = else1 at-column in
-    let entry = at-start at-if1 in
+    let entry = at-start at-column in
     pieces.go-last (pieces.go-next
     (pieces.go-next (laws.open-fun (entry .args .out .now) (entry .pre) (at-if1 .if1 .left) (at-column .column .ensures)
     (at-match .match .keys2) (at-column2 .column2 .ensures) (at-shown-at2 .shown-at2 .ensures)) (at-copy-at2 .copy-at2 .ensures))
     (at-name-at2 .name-at2 .ensures)) (byte-at-place .byte-at .ensures)
 
 same-length-4 : tie.Need-same-length-4
-same-length-4 c = c .before .before .copy-at3 .ensures .same
+same-length-4 c = (after-copy-at3 c) .copy-at3 .ensures .same
 
 returns-4 : tie.Need-returns-4
 returns-4 c =
-    let copy-at3-place = c .before .before in
-    let at-match = copy-at3-place .before .before .before in
+    let copy-at3-place = after-copy-at3 c in
+    let at-match = at-match-keys3 (copy-at3-place .before) in
     let at-column = after-column (at-match .before) in
     let at-if1 = else1 at-column in
-    let entry = at-start at-if1 in
+    let entry = at-start at-column in
     pieces.go-last (laws.open-app (entry .args .out .now) (entry .pre) (at-if1 .if1 .left) (at-column .column .ensures)
     (at-match .match .keys3)) (copy-at3-place .copy-at3 .ensures)
 
 same-length-5 : tie.Need-same-length-5
-same-length-5 c = c .before .before .copy-at4 .ensures .same
+same-length-5 c = (after-copy-at4 c) .copy-at4 .ensures .same
 
 returns-5 : tie.Need-returns-5
 returns-5 c =
-    let copy-at4-place = c .before .before in
-    let at-match = copy-at4-place .before .before .before in
+    let copy-at4-place = after-copy-at4 c in
+    let at-match = at-match-keys4 (copy-at4-place .before) in
     let at-column = after-column (at-match .before) in
     let at-if1 = else1 at-column in
-    let entry = at-start at-if1 in
+    let entry = at-start at-column in
     pieces.go-last (laws.open-rcd (entry .args .out .now) (entry .pre) (at-if1 .if1 .left) (at-column .column .ensures)
     (at-match .match .keys4)) (copy-at4-place .copy-at4 .ensures)
 
 same-length-6 : tie.Need-same-length-6
-same-length-6 c = c .before .before .copy-at5 .ensures .same
+same-length-6 c = (after-copy-at5 c) .copy-at5 .ensures .same
 
 returns-6 : tie.Need-returns-6
 returns-6 c =
-    let copy-at5-place = c .before .before in
-    let at-match = copy-at5-place .before .before .before in
+    let copy-at5-place = after-copy-at5 c in
+    let at-match = at-match-keys5 (copy-at5-place .before) in
     let at-column = after-column (at-match .before) in
     let at-if1 = else1 at-column in
-    let entry = at-start at-if1 in
+    let entry = at-start at-column in
     pieces.go-last (laws.open-dot (entry .args .out .now) (entry .pre) (at-if1 .if1 .left) (at-column .column .ensures)
     (at-match .match .keys5)) (copy-at5-place .copy-at5 .ensures)
 
 same-length-7 : tie.Need-same-length-7
-same-length-7 c = c .before .before .open-number2 .ensures .same
+same-length-7 c = (after-open-number2 c) .open-number2 .ensures .same
 
 returns-7 : tie.Need-returns-7
 returns-7 c =
-    let open-number2-place = c .before .before in
+    let open-number2-place = after-open-number2 c in
     let at-match = open-number2-place .before .before in
     let at-column = after-column (at-match .before) in
     let at-if1 = else1 at-column in
-    let entry = at-start at-if1 in
+    let entry = at-start at-column in
     pieces.go-last (laws.open-zero (entry .args .out .now) (entry .pre) (at-if1 .if1 .left) (at-column .column .ensures)
     (inl (at-match .match .keys6))) (open-number2-place .open-number2 .ensures)
 
 same-length-8 : tie.Need-same-length-8
-same-length-8 c = c .before .before .open-number3 .ensures .same
+same-length-8 c = (after-open-number3 c) .open-number3 .ensures .same
 
 returns-8 : tie.Need-returns-8
 returns-8 c =
-    let open-number3-place = c .before .before in
+    let open-number3-place = after-open-number3 c in
     let at-match = open-number3-place .before .before in
     let at-column = after-column (at-match .before) in
     let at-if1 = else1 at-column in
-    let entry = at-start at-if1 in
+    let entry = at-start at-column in
     pieces.go-last (laws.open-zero (entry .args .out .now) (entry .pre) (at-if1 .if1 .left) (at-column .column .ensures)
     (inr (at-match .match .keys7))) (open-number3-place .open-number3 .ensures)
 
 same-length-9 : tie.Need-same-length-9
-same-length-9 c = c .before .before .open-number4 .ensures .same
+same-length-9 c = (after-open-number4 c) .open-number4 .ensures .same
 
 returns-9 : tie.Need-returns-9
 returns-9 c =
-    let open-number4-place = c .before .before in
+    let open-number4-place = after-open-number4 c in
     let at-match = open-number4-place .before .before in
     let at-column2 = at-match .before in
     let at-column = after-column at-column2 in
     let at-if1 = else1 at-column in
-    let entry = at-start at-if1 in
+    let entry = at-start at-column in
     pieces.go-last (laws.open-num (entry .args .out .now) (entry .pre) (at-if1 .if1 .left) (at-column .column .ensures)
     (at-match .match .rest)
     (at-column2 .column2 .ensures)) (open-number4-place .open-number4 .ensures)

@@ -24,19 +24,23 @@ abbrev μ-loop : tie.MeasureT-loop
 abbrev in-loop : tie.After-offset Inv-loop μ-loop → tie.In-loop Inv-loop μ-loop
 in-loop p = p .before .before
 
-abbrev after-shared-slice-known5 : tie.After-slice-known3 Inv-loop μ-loop → tie.After-shared-slice-known5 Inv-loop μ-loop
-after-shared-slice-known5 p = p .before .before .before .before .before .before
+abbrev after-offset : tie.After-offset2 Inv-loop μ-loop → tie.After-offset Inv-loop μ-loop
+after-offset p = p .before .before
 
-abbrev after-fill-outsides : tie.At-loop Inv-loop μ-loop → tie.After-fill-outsides Inv-loop μ-loop
-after-fill-outsides p = p .before .before .before
+abbrev after-offset2 : tie.After-part Inv-loop μ-loop → tie.After-offset2 Inv-loop μ-loop
+after-offset2 p = p .before .before
 
-abbrev after-slice-known : tie.In-loop Inv-loop μ-loop → tie.After-slice-known Inv-loop μ-loop
-after-slice-known p = p .before .before .before .before .before .before
+abbrev after-fill-outsides : tie.After-slice-known2 Inv-loop μ-loop → tie.After-fill-outsides Inv-loop μ-loop
+after-fill-outsides p = p .before .before
+
+abbrev after-fill-outsides′ : tie.At-loop Inv-loop μ-loop → tie.After-fill-outsides Inv-loop μ-loop
+after-fill-outsides′ p = after-fill-outsides (p .before)
+
+abbrev in-loop′ : tie.After-slice-known3 Inv-loop μ-loop → tie.In-loop Inv-loop μ-loop
+in-loop′ p = in-loop (after-offset (after-offset2 (p .before .before .before)))
 
 abbrev at-start : tie.In-loop Inv-loop μ-loop → tie.Start Inv-loop μ-loop
-at-start p =
-    let q = p .before .before .before .before .before in
-    q .before .before .before .before .before
+at-start p = (after-fill-outsides′ (p .before)) .before .before .before .before .before .before
 
 fill-outsides-requires : tie.Need-fill-outsides-requires Inv-loop μ-loop
 fill-outsides-requires c κs =
@@ -44,7 +48,7 @@ fill-outsides-requires c κs =
     (omega (arith, entry .pre .room), (entry .pre .none, entry .pre .outsidesFit))
 
 loop-holds : tie.Need-loop-holds Inv-loop μ-loop
-loop-holds c = laws.storing-start _ _ _ _ (c .before .before .fill-outsides .ensures)
+loop-holds c = laws.storing-start _ _ _ _ ((after-fill-outsides c) .fill-outsides .ensures)
 
 mul-offset : tie.Need-mul-offset Inv-loop μ-loop
 mul-offset c =
@@ -93,7 +97,7 @@ offset-requires-2 c κs = search needs
 
 add-store : tie.Need-add-store Inv-loop μ-loop
 add-store c =
-    let turn-test = in-loop (c .before .before .before) in
+    let turn-test = in-loop (after-offset (c .before)) in
     let entry = at-start turn-test in
     omega (arith, entry .pre .few, turn-test .loop-test .taken)
 
@@ -102,11 +106,11 @@ part-requires c κs = search needs
 
 store-requires : tie.Need-store-requires Inv-loop μ-loop
 store-requires c κs =
-    let offset2-place = c .before .before in
-    let offset-place = offset2-place .before .before in
+    let offset2-place = after-offset2 c in
+    let offset-place = after-offset offset2-place in
     let at-loop-test = in-loop offset-place in
     let at-loop = at-loop-test .before in
-    let at-fill-outsides = after-fill-outsides at-loop in
+    let at-fill-outsides = after-fill-outsides′ at-loop in
     let entry = at-start at-loop-test in (
       (
         (laws.word-short (lexiconOf (entry .args .table .now) .outsides) (entry .args .formula .now) (entry .args .words .now)
@@ -126,15 +130,13 @@ store-requires c κs =
 
 add-i : tie.Need-add-i Inv-loop μ-loop
 add-i c =
-    let back = after-shared-slice-known5 c in
-    let at-loop-test = in-loop (back .before) in
+    let at-loop-test = in-loop′ c in
     let entry = at-start at-loop-test in
     omega (arith, entry .pre .few, at-loop-test .loop-test .taken)
 
 loop-less : tie.Need-loop-less Inv-loop μ-loop
 loop-less c =
-    let back = after-shared-slice-known5 c in
-    let at-loop-test = in-loop (back .before) in
+    let at-loop-test = in-loop′ c in
     let entry = at-start at-loop-test in
     omega (arith, entry .pre .few, at-loop-test .loop-test .taken)
 
@@ -142,11 +144,11 @@ loop-again : tie.Need-loop-again Inv-loop μ-loop
 loop-again c =
     let store-place = c .before .before in
     let at-part = store-place .before in
-    let at-offset2 = at-part .before .before in
-    let at-offset = (after-shared-slice-known5 c) .before in
+    let at-offset2 = after-offset2 at-part in
+    let at-offset = after-offset at-offset2 in
     let at-loop-test = in-loop at-offset in
     let at-loop = at-loop-test .before in
-    let at-fill-outsides = after-fill-outsides at-loop in
+    let at-fill-outsides = after-fill-outsides′ at-loop in
     let entry = at-start at-loop-test in
     laws.storing-next (at-loop .loop .inv) (at-loop-test .loop-test .taken)
     (laws.word-is (lexiconOf (entry .args .table .now) .outsides) (entry .args .formula .now) (entry .args .words .now) (at-loop .loop .i)
@@ -164,7 +166,7 @@ loop-again c =
     )) (store-place .store .ensures)
 
 same-length : tie.Need-same-length Inv-loop μ-loop
-same-length c = (c .before .loop .inv) .long ∙ (after-fill-outsides (c .before)) .fill-outsides .kept .1 .0
+same-length c = (c .before .loop .inv) .long ∙ (after-fill-outsides′ (c .before)) .fill-outsides .kept .1 .0
 
 returns : tie.Need-returns Inv-loop μ-loop
 returns c = laws.storing-end (c .before .loop .inv) (c .loop-test .left)

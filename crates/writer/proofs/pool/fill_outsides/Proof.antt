@@ -22,17 +22,23 @@ abbrev μ-loop : tie.MeasureT-loop
 μ-loop table pool₀ start at₀ i₀ pool at i = 64 - i
 
 -- places, each from a later one
-abbrev at-start : tie.After-after-leading Inv-loop μ-loop → tie.Start Inv-loop μ-loop
-at-start p = p .before .before .before
-
 abbrev after-front-at : tie.After-front Inv-loop μ-loop → tie.After-front-at Inv-loop μ-loop
 after-front-at p = p .before .before
 
-abbrev after-after-leading : tie.After-front-at Inv-loop μ-loop → tie.After-after-leading Inv-loop μ-loop
-after-after-leading p = p .before .before .before
-
 abbrev at-loop : tie.After-front-at Inv-loop μ-loop → tie.At-loop Inv-loop μ-loop
 at-loop p = p .before .before
+
+abbrev else1 : tie.After-part Inv-loop μ-loop → tie.Else1 Inv-loop μ-loop
+else1 p = p .before .before
+
+abbrev after-front : tie.Else1 Inv-loop μ-loop → tie.After-front Inv-loop μ-loop
+after-front p = p .before .before
+
+abbrev at-start : tie.After-after-leading Inv-loop μ-loop → tie.Start Inv-loop μ-loop
+at-start p = p .before .before .before
+
+abbrev after-after-leading : tie.After-front-at Inv-loop μ-loop → tie.After-after-leading Inv-loop μ-loop
+after-after-leading p = (at-loop p) .before
 
 after-leading-requires : tie.Need-after-leading-requires Inv-loop μ-loop
 after-leading-requires c κs = search needs
@@ -79,14 +85,14 @@ returns-3 : tie.Need-returns-3 Inv-loop μ-loop
 returns-3 c =
     let front-place = c .before .before in
     let front-at-place = after-front-at front-place in
-    let back = at-loop front-at-place in
+    let turn = at-loop front-at-place in
     let at-after-leading = after-after-leading front-at-place in
-    laws.filling-out (back .loop .inv) (at-after-leading .after-leading .ensures) (Field _ _)
+    laws.filling-out (turn .loop .inv) (at-after-leading .after-leading .ensures) (Field _ _)
     (sym (front-place .front .given .1) ∙ front-at-place .front-at .ensures) (c .if1 .taken)
 
 add-from : tie.Need-add-from Inv-loop μ-loop
 add-from c =
-    let front-place = c .before .before in
+    let front-place = after-front c in
     let front-at-place = after-front-at front-place in
     omega (
       arith,
@@ -99,16 +105,16 @@ part-requires c κs = search needs
 
 store-requires : tie.Need-store-requires Inv-loop μ-loop
 store-requires c κs =
-    let else1 = c .before .before in
-    let front-place = else1 .before .before in
-    let back = after-front-at front-place in
-    let at-loop-test = back .before in
-    let at-loop = at-loop back in
-    let at-after-leading = after-after-leading back in
+    let else1 = else1 c in
+    let front-place = after-front else1 in
+    let front-at-place = after-front-at front-place in
+    let at-loop-test = front-at-place .before in
+    let at-loop = at-loop front-at-place in
+    let at-after-leading = after-after-leading front-at-place in
     let entry = at-start at-after-leading in (
       (
         laws.value-short (at-loop .loop .inv) (at-after-leading .after-leading .ensures) (at-loop-test .loop-test .taken)
-            (sym (front-place .front .given .1) ∙ back .front-at .ensures)
+            (sym (front-place .front .given .1) ∙ front-at-place .front-at .ensures)
             (else1 .if1 .left) (entry .pre .1 .1) (c .part .ensures),
         omega
             (arith, at-loop-test .loop-test .taken, (at-loop .loop .inv) .long, entry .pre .0),
@@ -118,8 +124,7 @@ store-requires c κs =
 
 add-at : tie.Need-add-at Inv-loop μ-loop
 add-at c =
-    let back = c .before .before .before .before .before .before in
-    let at-front = back .before in
+    let at-front = after-front (else1 (c .before .before .before)) in
     let at-front-at = after-front-at at-front in
     let at-loop = at-loop at-front-at in
     omega (arith, front-inside _ (at-loop .loop .at) (sym (at-front .front .given .1) ∙ at-front-at .front-at .ensures))
@@ -134,9 +139,8 @@ loop-again : tie.Need-loop-again Inv-loop μ-loop
 loop-again c =
     let store-place = c .before .before in
     let part-place = store-place .before in
-    let else1 = part-place .before .before in
-    let back = else1 .before in
-    let at-front = back .before in
+    let else1 = else1 part-place in
+    let at-front = after-front else1 in
     let at-front-at = after-front-at at-front in
     let at-loop-test = at-front-at .before in
     let at-loop = at-loop at-front-at in

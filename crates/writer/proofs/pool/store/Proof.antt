@@ -29,10 +29,10 @@ same-length c = search needs
 returns : tie.Need-returns
 returns c =
     let copy-at-place = c .before .before in
-    let back = copy-at-place .before .before .before .before in
-    let at-narrow = back .before in
+    let byte-at-place = copy-at-place .before .before .before .before in
+    let at-narrow = byte-at-place .before in
     let entry = at-narrow .before .before .before .before in
-    laws.stored-both (at-narrow .narrow .ensures) (back .byte-at .ensures)
+    laws.stored-both (at-narrow .narrow .ensures) (byte-at-place .byte-at .ensures)
     (copy-at-place .copy-at .ensures) (omega (arith, entry .pre .0 .0, entry .pre .0 .1))
 
 pub store-spec : {M : Type 1} → statement M
