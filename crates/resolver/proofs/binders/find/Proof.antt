@@ -45,7 +45,8 @@ sub-row c = search needs
 
 cast-column : tie.Need-cast-column Inv-loop μ-loop
 cast-column c =
-    omega (arith, laws.chasing-inside ((at-start (c .before)) .pre) _ (c .before .loop .inv .0) (c .loop-test .taken))
+    let turn = c .before in
+    omega (arith, laws.chasing-inside ((at-start (turn)) .pre) _ (turn .loop .inv .0) (c .loop-test .taken))
 
 column-requires : tie.Need-column-requires Inv-loop μ-loop
 column-requires c κs = search needs
@@ -92,7 +93,8 @@ loop-again c =
 
 returns-2 : tie.Need-returns-2 Inv-loop μ-loop
 returns-2 c =
-    (laws.chasing-end ((at-start (c .before)) .pre) _ (c .before .loop .inv .0) (c .loop-test .left), omega arith)
+    let turn = c .before in
+    (laws.chasing-end ((at-start (turn)) .pre) _ (turn .loop .inv .0) (c .loop-test .left), omega arith)
 
 pub find-spec : {M : Type 1} → statement M
 find-spec =

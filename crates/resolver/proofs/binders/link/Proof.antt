@@ -38,8 +38,9 @@ loop-holds c =
 
 cast-column : tie.Need-cast-column Inv-loop μ-loop
 cast-column c =
-    let entry = at-start (c .before) in
-    omega (arith, laws.row-small (c .before .loop .inv) (entry .pre .few) (entry .pre .room) (c .loop-test .taken))
+    let turn = c .before in
+    let entry = at-start (turn) in
+    omega (arith, laws.row-small (turn .loop .inv) (entry .pre .few) (entry .pre .room) (c .loop-test .taken))
 
 column-requires : tie.Need-column-requires Inv-loop μ-loop
 column-requires c κs = search needs
@@ -142,7 +143,9 @@ same-length : tie.Need-same-length Inv-loop μ-loop
 same-length c = (c .before .loop .inv) .long
 
 returns : tie.Need-returns Inv-loop μ-loop
-returns c = laws.linking-end (c .before .loop .inv) ((at-start (c .before)) .pre .few) (c .loop-test .left)
+returns c =
+    let turn = c .before in
+    laws.linking-end (turn .loop .inv) ((at-start (turn)) .pre .few) (c .loop-test .left)
 
 pub link-spec : {M : Type 1} → statement M
 link-spec =

@@ -179,13 +179,14 @@ loop-less c =
 
 loop-again : tie.Need-loop-again Inv-loop μ-loop
 loop-again c =
-    let else1 = else1 (c .before) in
+    let number-of-place = c .before in
+    let else1 = else1 (number-of-place) in
     let turn-test = in-loop′ c in
     let turn = at-loop′ c in
     let entry = at-start turn in
     laws.counting-new (turn .loop .inv)
     (turn-test .loop-test .taken) (entry .pre .0) (else1 .if1 .left)
-    (c .before .number-of .ensures) (c .if2 .taken)
+    (number-of-place .number-of .ensures) (c .if2 .taken)
 
 add-p-2 : tie.Need-add-p-2 Inv-loop μ-loop
 add-p-2 c =

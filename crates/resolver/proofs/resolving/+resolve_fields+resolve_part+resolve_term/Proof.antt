@@ -120,6 +120,11 @@ module _ (t : ℕ) (p : fields-lts.After-column (fields-claims t) (fields-at t) 
   abbrev fields-entry : fields-lts.Start (fields-claims t) (fields-at t) resolve-fields.Post
   fields-entry = fields-put .before .before .before
 
+-- places, each from a later one
+abbrev then2 : {t : ℕ} → fields-lts.After-resolve-part-arg3 (fields-claims t) (fields-at t) resolve-fields.Post
+    → fields-lts.Then2 (fields-claims t) (fields-at t) resolve-fields.Post
+then2 p = p .before .before .before
+
 fields-add-place : (t : ℕ) → fields-lts.Need-add-place (fields-claims t) (fields-at t) resolve-fields.Post
 fields-add-place t c = omega (arith, laws.fields-fit _ _ _ (c .before .pre .1))
 
@@ -128,10 +133,11 @@ fields-put-requires t c κs = laws.fields-fit _ _ _ (c .before .before .pre .1)
 
 fields-returns : (t : ℕ) → fields-lts.Need-returns (fields-claims t) (fields-at t) resolve-fields.Post
 fields-returns t c =
+    let put-place = c .before in
     record {
-      resolves = laws.shallow-resolves-fields _ _ _ _ (c .if1 .taken) _ _ (c .before .put .ensures .0);
+      resolves = laws.shallow-resolves-fields _ _ _ _ (c .if1 .taken) _ _ (put-place .put .ensures .0);
       moved = laws.shallow-fields-place _ _ _ _ (c .if1 .taken);
-      long = c .before .put .ensures .1;
+      long = put-place .put .ensures .1;
     }
 
 fields-sub-deep : (t : ℕ) → fields-lts.Need-sub-deep (fields-claims t) (fields-at t) resolve-fields.Post
@@ -142,11 +148,12 @@ fields-column-requires t c κs = search needs
 
 fields-resolve-part-requires : (t : ℕ) → fields-lts.Need-resolve-part-requires (fields-claims t) (fields-at t) resolve-fields.Post
 fields-resolve-part-requires t c κs =
-    let p = c .before .before .before .before in
+    let then2 = then2 c in
+    let p = then2 .before in
     let a = fields-entry t p .args in
     let w = laws.walkable-in (fields-entry t p .pre .1) (fields-put t p .put .ensures .1) in
     let place = laws.cons-place (a .cells .now .now) (a .bound) (a .row) (a .place .now) (fields-test t p .if1 .left) (p .column .ensures)
-    (c .before .before .before .if2 .taken) refl refl in
+    (then2 .if2 .taken) refl refl in
     (omega (arith, fields-entry t p .pre .0, fields-test t p .if1 .left), (omega arith, laws.walkable-part w (omega (arith, place))))
 
 fields-column-requires-2 : (t : ℕ) → fields-lts.Need-column-requires-2 (fields-claims t) (fields-at t) resolve-fields.Post
@@ -154,13 +161,16 @@ fields-column-requires-2 t c κs = search needs
 
 fields-resolve-fields-requires : (t : ℕ) → fields-lts.Need-resolve-fields-requires (fields-claims t) (fields-at t) resolve-fields.Post
 fields-resolve-fields-requires t c κs =
-    let s0 = c .before .before .before .before .before .before in
-    let p = s0 .before .before .before .before in
+    let column2-place = c .before .before .before in
+    let resolve-part-place = column2-place .before .before in
+    let s0 = resolve-part-place .before in
+    let then2 = then2 s0 in
+    let p = then2 .before in
     let a = fields-entry t p .args in
-    let first = c .before .before .before .before .before .resolve-part .ensures in
+    let first = resolve-part-place .resolve-part .ensures in
     let w = laws.walkable-in (fields-entry t p .pre .1) (first .long ∙ fields-put t p .put .ensures .1) in
     let place = laws.cons-place (a .cells .now .now) (a .bound) (a .row) (a .place .now)
-    (fields-test t p .if1 .left) (p .column .ensures) (s0 .before .before .before .if2 .taken) refl (c .before .before .before .column2 .ensures) in
+    (fields-test t p .if1 .left) (p .column .ensures) (then2 .if2 .taken) refl (column2-place .column2 .ensures) in
     (omega (arith, fields-entry t p .pre .0, fields-test t p .if1 .left), laws.walkable-part w (omega (arith, place, first .moved)))
 
 fields-join-requires : (t : ℕ) → fields-lts.Need-join-requires (fields-claims t) (fields-at t) resolve-fields.Post
@@ -168,12 +178,13 @@ fields-join-requires t c κs = search needs
 
 fields-returns-2 : (t : ℕ) → fields-lts.Need-returns-2 (fields-claims t) (fields-at t) resolve-fields.Post
 fields-returns-2 t c =
-    let s0 = c .before .before .before .before .before .before in
-    let p = s0 .before .before .before .before .before .before in
-    let is = s0 .before .before .before .before .before in
-    let first = s0 .before .resolve-part .ensures in
-    let second = c .before .resolve-fields .ensures in
     let next = c .before .before .before .before .before in
+    let s0 = next .before in
+    let resolve-part-place = s0 .before in
+    let is = then2 (resolve-part-place .before) in
+    let p = is .before in
+    let first = resolve-part-place .resolve-part .ensures in
+    let second = c .before .resolve-fields .ensures in
     let a = fields-entry t p .args in
     record {
       resolves =
@@ -212,6 +223,23 @@ part-resolve-term-requires t c κs =
 part-returns : (t : ℕ) → part-lts.Need-returns (part-claims t) (part-at t) resolve-part.Post
 part-returns t c = laws.walks-row (c .before .before .before .before .column .ensures) (c .resolve-term .ensures)
 
+-- places, each from a later one
+abbrev after-column : {t : ℕ} → term-lts.After-column2 (term-claims t) (term-at t) resolve-term.Post
+    → term-lts.After-column (term-claims t) (term-at t) resolve-term.Post
+after-column p = p .before .before
+
+abbrev at-match-keys2 : {t : ℕ} → term-lts.After-exchange-arg2 (term-claims t) (term-at t) resolve-term.Post
+    → term-lts.At-match-keys2 (term-claims t) (term-at t) resolve-term.Post
+at-match-keys2 p = p .before .before
+
+abbrev after-column2 : {t : ℕ} → term-lts.After-exchange-arg3 (term-claims t) (term-at t) resolve-term.Post
+    → term-lts.After-column2 (term-claims t) (term-at t) resolve-term.Post
+after-column2 p = p .before .before .before .before
+
+abbrev after-column2′ : {t : ℕ} → term-lts.After-variable-mark-arg3 (term-claims t) (term-at t) resolve-term.Post
+    → term-lts.After-column2 (term-claims t) (term-at t) resolve-term.Post
+after-column2′ p = p .before .before .before .before
+
 term-add-place : (t : ℕ) → term-lts.Need-add-place (term-claims t) (term-at t) resolve-term.Post
 term-add-place t c = omega (arith, laws.term-fits _ _ _ (c .before .pre .1))
 
@@ -220,10 +248,11 @@ term-put-requires t c κs = laws.term-fits _ _ _ (c .before .before .pre .1)
 
 term-returns : (t : ℕ) → term-lts.Need-returns (term-claims t) (term-at t) resolve-term.Post
 term-returns t c =
+    let put-place = c .before in
     record {
-      resolves = laws.shallow-resolves _ _ _ _ (c .if1 .taken) _ _ (c .before .put .ensures .0);
+      resolves = laws.shallow-resolves _ _ _ _ (c .if1 .taken) _ _ (put-place .put .ensures .0);
       moved = laws.shallow-place _ _ _ _ (c .if1 .taken);
-      long = c .before .put .ensures .1;
+      long = put-place .put .ensures .1;
     }
 
 term-sub-deep : (t : ℕ) → term-lts.Need-sub-deep (term-claims t) (term-at t) resolve-term.Post
@@ -240,12 +269,12 @@ term-slice-aggregate-variable-mark t c = search needs
 
 term-variable-mark-requires : (t : ℕ) → term-lts.Need-variable-mark-requires (term-claims t) (term-at t) resolve-term.Post
 term-variable-mark-requires t c κs =
-    let p = c .before .before .before .before in
+    let p = after-column2′ c in
     term-entry t p .pre .1 .linked
 
 term-put-requires-2 : (t : ℕ) → term-lts.Need-put-requires-2 (term-claims t) (term-at t) resolve-term.Post
 term-put-requires-2 t c κs =
-    let p = c .before .before .before .before .before .before in
+    let p = after-column2′ (c .before .before) in
     laws.fits-as (term-put t p .put .ensures .1) (laws.term-fits _ _ _ (term-entry t p .pre .1))
 
 term-held-by-requires : (t : ℕ) → term-lts.Need-held-by-requires (term-claims t) (term-at t) resolve-term.Post
@@ -256,22 +285,23 @@ term-slice-aggregate-exchange t c = search needs
 
 term-binder-at-requires : (t : ℕ) → term-lts.Need-binder-at-requires (term-claims t) (term-at t) resolve-term.Post
 term-binder-at-requires t c κs =
-    let p = c .before .before .before .before in
+    let p = after-column2 c in
     omega (arith, laws.term-fits _ _ _ (term-entry t p .pre .1))
 
 term-exchange-requires : (t : ℕ) → term-lts.Need-exchange-requires (term-claims t) (term-at t) resolve-term.Post
 term-exchange-requires t c κs =
-    let p = c .before .before .before .before .before in
+    let p = after-column2 (c .before) in
     term-entry t p .pre .1 .linked
 
 term-resolve-part-requires : (t : ℕ) → term-lts.Need-resolve-part-requires (term-claims t) (term-at t) resolve-term.Post
 term-resolve-part-requires t c κs =
     let s0 = c .before .before .before .before .before .before in
-    let p = s0 .before .before .before in
+    let match-keys2-place = at-match-keys2 s0 in
+    let p = match-keys2-place .before in
     let a = term-entry t p .args in
     let w = laws.walkable-in (term-entry t p .pre .1) (term-put t p .put .ensures .1) in
     let place = laws.function-place (a .cells .now .now) (a .bound) (a .row) (a .place .now)
-    (term-test t p .if1 .left) (p .before .before .column .ensures) (s0 .before .before .match .keys2) refl in
+    (term-test t p .if1 .left) ((after-column p) .column .ensures) (match-keys2-place .match .keys2) refl in
     (omega (arith, term-entry t p .pre .0, term-test t p .if1 .left), (omega arith, laws.walkable-part w (omega (arith, place))))
 
 term-slice-aggregate-exchange-2 : (t : ℕ) → term-lts.Need-slice-aggregate-exchange-2 (term-claims t) (term-at t) resolve-term.Post
@@ -280,7 +310,7 @@ term-slice-aggregate-exchange-2 t c = search needs
 term-exchange-requires-2 : (t : ℕ) → term-lts.Need-exchange-requires-2 (term-claims t) (term-at t) resolve-term.Post
 term-exchange-requires-2 t c κs =
     let s0 = c .before .before .before .before .before .before in
-    let s1 = s0 .before .before .before .before .before .before in
+    let s1 = at-match-keys2 (s0 .before .before .before .before) in
     let p = s1 .before in
     term-entry t p .pre .1 .linked
 
@@ -291,32 +321,35 @@ term-put-requires-3 : (t : ℕ) → term-lts.Need-put-requires-3 (term-claims t)
 term-put-requires-3 t c κs =
     let s0 = c .before .before .before .before .before .before in
     let s1 = s0 .before .before .before .before .before .before in
-    let p = s1 .before .before .before .before in
-    laws.fits-as (c .before .before .before .before .before .before .resolve-part .ensures .long ∙ term-put t p .put .ensures .1)
+    let p = after-column2 s1 in
+    laws.fits-as (s0 .resolve-part .ensures .long ∙ term-put t p .put .ensures .1)
     (laws.term-fits _ _ _ (term-entry t p .pre .1))
 
 term-resolve-part-requires-2 : (t : ℕ) → term-lts.Need-resolve-part-requires-2 (term-claims t) (term-at t) resolve-term.Post
 term-resolve-part-requires-2 t c κs =
-    let p = c .before .before .before .before in
+    let match-keys3-place = c .before .before .before in
+    let p = match-keys3-place .before in
     let a = term-entry t p .args in
     let w = laws.walkable-in (term-entry t p .pre .1) (term-put t p .put .ensures .1) in
     let place = laws.apply-place (a .cells .now .now) (a .bound) (a .row) (a .place .now)
-    (term-test t p .if1 .left) (p .before .before .column .ensures) (c .before .before .before .match .keys3) refl refl in
+    (term-test t p .if1 .left) ((after-column p) .column .ensures) (match-keys3-place .match .keys3) refl refl in
     (omega (arith, term-entry t p .pre .0, term-test t p .if1 .left), (omega arith, laws.walkable-part w (omega (arith, place))))
 
 term-resolve-part-requires-3 : (t : ℕ) → term-lts.Need-resolve-part-requires-3 (term-claims t) (term-at t) resolve-term.Post
 term-resolve-part-requires-3 t c κs =
-    let s0 = c .before .before .before .before .before .before in
-    let p = s0 .before .before in
+    let resolve-part2-place = c .before .before .before in
+    let s0 = resolve-part2-place .before .before .before in
+    let match-keys3-place = s0 .before in
+    let p = match-keys3-place .before in
     let a = term-entry t p .args in
-    let w = laws.walkable-in (term-entry t p .pre .1) (c .before .before .before .resolve-part2 .ensures .long ∙ term-put t p .put .ensures .1) in
+    let w = laws.walkable-in (term-entry t p .pre .1) (resolve-part2-place .resolve-part2 .ensures .long ∙ term-put t p .put .ensures .1) in
     let place = laws.apply-place (a .cells .now .now) (a .bound) (a .row) (a .place .now)
-    (term-test t p .if1 .left) (p .before .before .column .ensures) (s0 .before .match .keys3) refl refl in (
+    (term-test t p .if1 .left) ((after-column p) .column .ensures) (match-keys3-place .match .keys3) refl refl in (
       omega (arith, term-entry t p .pre .0, term-test t p .if1 .left),
       (
         omega arith,
         laws.walkable-part w (omega
-            (arith, place, c .before .before .before .resolve-part2 .ensures .moved)),
+            (arith, place, resolve-part2-place .resolve-part2 .ensures .moved)),
       ),
     )
 
@@ -325,65 +358,78 @@ term-join-requires t c κs = search needs
 
 term-resolve-fields-requires : (t : ℕ) → term-lts.Need-resolve-fields-requires (term-claims t) (term-at t) resolve-term.Post
 term-resolve-fields-requires t c κs =
-    let p = c .before .before .before .before in
+    let match-keys4-place = c .before .before .before in
+    let p = match-keys4-place .before in
     let a = term-entry t p .args in
     let w = laws.walkable-in (term-entry t p .pre .1) (term-put t p .put .ensures .1) in
     let place = laws.rcd-place (a .cells .now .now) (a .bound) (a .row) (a .place .now)
-    (term-test t p .if1 .left) (p .before .before .column .ensures) (c .before .before .before .match .keys4) (p .column2 .ensures) in
+    (term-test t p .if1 .left) ((after-column p) .column .ensures) (match-keys4-place .match .keys4) (p .column2 .ensures) in
     (omega (arith, term-entry t p .pre .0, term-test t p .if1 .left), laws.walkable-part w (omega (arith, place)))
 
 term-resolve-part-requires-4 : (t : ℕ) → term-lts.Need-resolve-part-requires-4 (term-claims t) (term-at t) resolve-term.Post
 term-resolve-part-requires-4 t c κs =
-    let p = c .before .before .before .before in
+    let match-keys5-place = c .before .before .before in
+    let p = match-keys5-place .before in
     let a = term-entry t p .args in
     let w = laws.walkable-in (term-entry t p .pre .1) (term-put t p .put .ensures .1) in
     let place = laws.dot-place (a .cells .now .now) (a .bound) (a .row) (a .place .now)
-    (term-test t p .if1 .left) (p .before .before .column .ensures) (c .before .before .before .match .keys5) refl in
+    (term-test t p .if1 .left) ((after-column p) .column .ensures) (match-keys5-place .match .keys5) refl in
     (omega (arith, term-entry t p .pre .0, term-test t p .if1 .left), (omega arith, laws.walkable-part w (omega (arith, place))))
 
 term-returns-2 : (t : ℕ) → term-lts.Need-returns-2 (term-claims t) (term-at t) resolve-term.Post
 term-returns-2 t c =
-    let s0 = c .before .before .before .before .before .before in
-    let p = s0 .before .before in
+    let put2-place = c .before in
+    let variable-mark-place = put2-place .before .before in
+    let s0 = variable-mark-place .before .before .before in
+    let match-keys1-place = s0 .before in
+    let p = match-keys1-place .before in
+    let column-place = after-column p in
     record {
       resolves =
-          laws.variable-resolves _ _ _ _ (term-test t p .if1 .left) (p .before .before .column .ensures) (s0 .before .match .keys1) _ _ (p .column2 .ensures)
-          (c .before .before .before .variable-mark .ensures .1) (term-put t p .put .ensures .0)
-          (c .before .before .before .variable-mark .ensures .0) (c .held-by .ensures)
-          (c .before .put2 .ensures .0);
-      moved = laws.variable-place _ _ _ _ (term-test t p .if1 .left) (p .before .before .column .ensures) (s0 .before .match .keys1);
-      long = c .before .put2 .ensures .1 ∙ term-put t p .put .ensures .1;
+          laws.variable-resolves _ _ _ _ (term-test t p .if1 .left) (column-place .column .ensures) (match-keys1-place .match .keys1) _ _ (p .column2 .ensures)
+          (variable-mark-place .variable-mark .ensures .1) (term-put t p .put .ensures .0)
+          (variable-mark-place .variable-mark .ensures .0) (c .held-by .ensures)
+          (put2-place .put2 .ensures .0);
+      moved = laws.variable-place _ _ _ _ (term-test t p .if1 .left) (column-place .column .ensures) (match-keys1-place .match .keys1);
+      long = put2-place .put2 .ensures .1 ∙ term-put t p .put .ensures .1;
     }
 
 term-returns-3 : (t : ℕ) → term-lts.Need-returns-3 (term-claims t) (term-at t) resolve-term.Post
 term-returns-3 t c =
-    let s0 = c .before .before .before .before .before .before in
-    let s1 = s0 .before .before .before .before .before .before in
-    let p = s1 .before .before .before .before .before in
-    let m = s1 .before .before .before .before in
-    let part = s0 .before .resolve-part .ensures in
+    let binder-mark-place = c .before .before in
+    let exchange2-place = binder-mark-place .before in
+    let s0 = exchange2-place .before .before .before in
+    let resolve-part-place = s0 .before in
+    let exchange-place = resolve-part-place .before .before .before .before in
+    let s1 = exchange-place .before in
+    let m = at-match-keys2 (s1 .before .before) in
+    let p = m .before in
+    let column-place = after-column p in
+    let part = resolve-part-place .resolve-part .ensures in
     record {
       resolves =
-          laws.function-resolves _ _ _ _ (term-test t p .if1 .left) (p .before .before .column .ensures) (m .match .keys2)
+          laws.function-resolves _ _ _ _ (term-test t p .if1 .left) (column-place .column .ensures) (m .match .keys2)
           (p .column2 .ensures) (term-put t p .put .ensures .0)
-          (laws.entered _ (s0 .before .before .before .before .before .exchange .ensures)
-          (s0 .before .before .before .before .before .before .binder-at .ensures)) (part .resolves)
-          (c .before .before .before .exchange2 .ensures .stored) (c .before .before .binder-mark .ensures) (c .put3 .ensures .0);
-      moved = part .moved ∙ laws.function-place _ _ _ _ (term-test t p .if1 .left) (p .before .before .column .ensures) (m .match .keys2) refl;
+          (laws.entered _ (exchange-place .exchange .ensures)
+          (s1 .binder-at .ensures)) (part .resolves)
+          (exchange2-place .exchange2 .ensures .stored) (binder-mark-place .binder-mark .ensures) (c .put3 .ensures .0);
+      moved = part .moved ∙ laws.function-place _ _ _ _ (term-test t p .if1 .left) (column-place .column .ensures) (m .match .keys2) refl;
       long = c .put3 .ensures .1 ∙ part .long ∙ term-put t p .put .ensures .1;
     }
 
 term-returns-4 : (t : ℕ) → term-lts.Need-returns-4 (term-claims t) (term-at t) resolve-term.Post
 term-returns-4 t c =
-    let s0 = c .before .before .before .before .before .before in
-    let p = s0 .before .before .before .before in
+    let resolve-part2-place = c .before .before .before .before .before in
+    let s0 = resolve-part2-place .before in
     let m = s0 .before .before .before in
-    let first = c .before .before .before .before .before .resolve-part2 .ensures in
+    let p = m .before in
+    let column-place = after-column p in
+    let first = resolve-part2-place .resolve-part2 .ensures in
     let second = c .before .resolve-part3 .ensures in
     let a = term-entry t p .args in
     record {
       resolves =
-          laws.apply-resolves _ _ _ _ (term-test t p .if1 .left) (p .before .before .column .ensures) (m .match .keys3) refl refl
+          laws.apply-resolves _ _ _ _ (term-test t p .if1 .left) (column-place .column .ensures) (m .match .keys3) refl refl
           (term-put t p .put .ensures .0)
           (first .resolves) (first .moved) (second .resolves) (c .join .ensures);
       moved =
@@ -392,39 +438,41 @@ term-returns-4 t c =
             first .moved,
             second .moved,
             laws.apply-place (a .cells .now .now) (a .bound) (a .row) (a .place .now) (term-test t p .if1 .left)
-                (p .before .before .column .ensures) (m .match .keys3) refl refl,
+                (column-place .column .ensures) (m .match .keys3) refl refl,
           );
       long = second .long ∙ first .long ∙ term-put t p .put .ensures .1;
     }
 
 term-returns-5 : (t : ℕ) → term-lts.Need-returns-5 (term-claims t) (term-at t) resolve-term.Post
 term-returns-5 t c =
-    let p = c .before .before .before .before .before in
     let m = c .before .before .before .before in
+    let p = m .before in
+    let column-place = after-column p in
     let part = c .resolve-fields .ensures in
     record {
-      resolves = laws.rcd-resolves _ _ _ _ (term-test t p .if1 .left) (p .before .before .column .ensures) (m .match .keys4)
+      resolves = laws.rcd-resolves _ _ _ _ (term-test t p .if1 .left) (column-place .column .ensures) (m .match .keys4)
           (p .column2 .ensures) (term-put t p .put .ensures .0) (part .resolves);
-      moved = part .moved ∙ laws.rcd-place _ _ _ _ (term-test t p .if1 .left) (p .before .before .column .ensures) (m .match .keys4) (p .column2 .ensures);
+      moved = part .moved ∙ laws.rcd-place _ _ _ _ (term-test t p .if1 .left) (column-place .column .ensures) (m .match .keys4) (p .column2 .ensures);
       long = part .long ∙ term-put t p .put .ensures .1;
     }
 
 term-returns-6 : (t : ℕ) → term-lts.Need-returns-6 (term-claims t) (term-at t) resolve-term.Post
 term-returns-6 t c =
-    let p = c .before .before .before .before .before in
     let m = c .before .before .before .before in
+    let p = m .before in
+    let column-place = after-column p in
     let part = c .resolve-part4 .ensures in
     record {
-      resolves = laws.dot-resolves _ _ _ _ (term-test t p .if1 .left) (p .before .before .column .ensures) (m .match .keys5) refl
+      resolves = laws.dot-resolves _ _ _ _ (term-test t p .if1 .left) (column-place .column .ensures) (m .match .keys5) refl
           (term-put t p .put .ensures .0) (part .resolves);
-      moved = part .moved ∙ laws.dot-place _ _ _ _ (term-test t p .if1 .left) (p .before .before .column .ensures) (m .match .keys5) refl;
+      moved = part .moved ∙ laws.dot-place _ _ _ _ (term-test t p .if1 .left) (column-place .column .ensures) (m .match .keys5) refl;
       long = part .long ∙ term-put t p .put .ensures .1;
     }
 
 term-returns-7 : (t : ℕ) → term-lts.Need-returns-7 (term-claims t) (term-at t) resolve-term.Post
 term-returns-7 t c =
     let p = c .before in
-    let code-is = p .before .before .column .ensures in
+    let code-is = (after-column p) .column .ensures in
     record {
       resolves = laws.number-resolves _ _ _ _ (term-test t p .if1 .left) code-is (c .match .rest) _ _ (term-put t p .put .ensures .0);
       moved = laws.number-place _ _ _ _ (term-test t p .if1 .left) code-is (c .match .rest);

@@ -6,8 +6,15 @@ use Rattle.resolver.proofs.NameLaws.{word-mark, fresh-bound-mark, fresh
 use Rattle.resolver.proofs.resolving.variable_mark.Statement.{statement}
 use Rattle.resolver.proofs.resolving.variable_mark.Tie as tie
 
+-- places, each from a later one
+abbrev after-find : tie.After-innermost → tie.After-find
+after-find p = p .before .before
+
+abbrev at-start : tie.After-slice-known → tie.Start
+at-start p = p .before .before .before
+
 find-requires : tie.Need-find-requires
-find-requires c κs = c .before .before .before .pre .linked
+find-requires c κs = (at-start c) .pre .linked
 
 innermost-requires : tie.Need-innermost-requires
 innermost-requires c κs = search needs
@@ -17,11 +24,12 @@ same-length c = search needs
 
 returns : tie.Need-returns
 returns c =
-    let found = c .before .before .before .before in
-    let e = found .before .before .before .before in (
+    let innermost-place = c .before .before in
+    let found = after-find innermost-place in
+    let e = at-start (found .before) in (
       λ spell around known env.
           fresh-loose-mark spell (e .args .x) (e .args .cells .now) (e .args .current .now) around known env (c .before .match .keys2)
-          (c .before .before .innermost .ensures ∙ ap (λ n. getD (e .args .current .now) n 0) (found .find .ensures .0)) (c .if1 .taken),
+          (innermost-place .innermost .ensures ∙ ap (λ n. getD (e .args .current .now) n 0) (found .find .ensures .0)) (c .if1 .taken),
       refl,
     )
 
@@ -30,8 +38,8 @@ same-length-2 c = search needs
 
 returns-2 : tie.Need-returns-2
 returns-2 c =
-    let found = c .before .before .before in
-    let e = found .before .before .before .before in (
+    let found = after-find (c .before) in
+    let e = at-start (found .before) in (
       λ spell around known env.
           word-mark spell (e .args .x) (e .args .cells .now) (e .args .current .now) around known env (c .match .keys1)
           (c .before .innermost .ensures ∙ ap (λ n. getD (e .args .current .now) n 0) (found .find .ensures .0)),
@@ -43,11 +51,12 @@ same-length-3 c = search needs
 
 returns-3 : tie.Need-returns-3
 returns-3 c =
-    let found = c .before .before .before .before in
-    let e = found .before .before .before .before in (
+    let innermost-place = c .before .before in
+    let found = after-find innermost-place in
+    let e = at-start (found .before) in (
       λ spell around known env.
           fresh-bound-mark spell (e .args .x) (e .args .cells .now) (e .args .current .now) around known env (c .before .match .keys2)
-          (c .before .before .innermost .ensures ∙ ap (λ n. getD (e .args .current .now) n 0) (found .find .ensures .0)) (c .if1 .left),
+          (innermost-place .innermost .ensures ∙ ap (λ n. getD (e .args .current .now) n 0) (found .find .ensures .0)) (c .if1 .left),
       refl,
     )
 
@@ -56,8 +65,8 @@ same-length-4 c = search needs
 
 returns-4 : tie.Need-returns-4
 returns-4 c =
-    let found = c .before .before .before in
-    let e = found .before .before .before .before in (
+    let found = after-find (c .before) in
+    let e = at-start (found .before) in (
       λ spell around known env.
           outside-mark spell (e .args .x) (e .args .cells .now) (e .args .current .now) around known env (c .match .rest .0 .1) (c .match .rest .1),
       refl,
