@@ -48,10 +48,10 @@ module _ (p : tie.After-build-arguments) where
   entry = byte-place .before .before .before .before .before .before
 
   abbrev out′ : List ℕ
-  out′ = p .build-arguments .last .1 .1 .1 .1 .1 .1 .0
+  out′ = let from-3 = p .build-arguments .last .1 .1 .1 in let from-6 = from-3 .1 .1 .1 in from-6 .0
 
   abbrev cells′ : List ℕ
-  cells′ = p .build-arguments .last .1 .1 .1 .1 .1 .1 .1 .0
+  cells′ = let from-3 = p .build-arguments .last .1 .1 .1 in let from-6 = from-3 .1 .1 .1 in from-6 .1 .0
 
   lists : (I : Input) (M : List ℕ) → I .rows ≡ rowsIn (entry .args .cells .now) → Holds (entry .args .vars .now) (entry .args .c .count) M
       → Lists (entry .args .c .state) (p .build-arguments .result) out′ cells′
@@ -59,10 +59,10 @@ module _ (p : tie.After-build-arguments) where
   lists I M er g = p .build-arguments .ensures .0 I (entry .args .c .state) M (er ∙ sym (rows-place .rows-of .ensures)) g
 
   same : length cells′ ≡ length (entry .args .cells .now)
-  same = p .build-arguments .kept .1 .1 .1 .1 .1 .1 .1 .0
+  same = let from-3 = p .build-arguments .kept .1 .1 .1 in let from-6 = from-3 .1 .1 .1 in from-6 .1 .0
 
-  stack-same : length (p .build-arguments .last .1 .1 .1 .1 .1 .1 .1 .1 .0) ≡ length (entry .args .stack .now)
-  stack-same = p .build-arguments .kept .1 .1 .1 .1 .1 .1 .1 .1 .0
+  stack-same : length (let from-3 = p .build-arguments .last .1 .1 .1 in let from-6 = from-3 .1 .1 .1 in from-6 .1 .1 .0) ≡ length (entry .args .stack .now)
+  stack-same = let from-3 = p .build-arguments .kept .1 .1 .1 in let from-6 = from-3 .1 .1 .1 in from-6 .1 .1 .0
 
 enum-told : tie.Need-enum-told
 enum-told c = search needs

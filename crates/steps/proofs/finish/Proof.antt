@@ -128,12 +128,12 @@ returns-3 c =
 same-length : tie.Need-same-length
 same-length c =
     let build-place = c .before .before .before .before .before in
-    build-place .build .kept .1 .1 .1 .1 .1 .1 .0
+    (let from-3 = build-place .build .kept .1 .1 .1 in let from-6 = from-3 .1 .1 .1 in from-6 .0)
 
 same-length-2 : tie.Need-same-length-2
 same-length-2 c =
     let build-place = c .before .before .before .before .before in
-    build-place .build .kept .1 .1 .1 .1 .1 .1 .1 .0
+    (let from-3 = build-place .build .kept .1 .1 .1 in let from-6 = from-3 .1 .1 .1 in from-6 .1 .0)
 
 returns-4 : tie.Need-returns-4
 returns-4 c =
@@ -143,7 +143,7 @@ returns-4 c =
     let front-place = if1-place .before .before in
     let p = front-place .before .before in (
       λ I M e g. as-result p I M (laws.result-is _ _ (stands p (front-place .front .given .1)) (entry p .pre .no-item) (if1-place .if1 .left))
-          (c .outcome-of .ensures .0 (build-place .build .last .1 .1 .1 .1 .1 .1 .0)
+          (c .outcome-of .ensures .0 (let from-3 = build-place .build .last .1 .1 .1 in let from-6 = from-3 .1 .1 .1 in from-6 .0)
           ∙ build-place .build .ensures .0 I (entry p .args .c .state) M (e ∙ sym (rows-place .rows-of .ensures)) g),
       c .outcome-of .ensures .1,
     )

@@ -90,12 +90,12 @@ returns-3 c = (λ I M et er g. refl, laws.cut-items _ _ (sym (c .enum-told2 .giv
 same-length : tie.Need-same-length
 same-length c =
     let do-item-place = c .before .before .before .before in
-    do-item-place .do-item .kept .1 .1 .1 .1 .1 .1 .1 .0
+    (let from-3 = do-item-place .do-item .kept .1 .1 .1 in let from-6 = from-3 .1 .1 .1 in from-6 .1 .0)
 
 same-length-2 : tie.Need-same-length-2
 same-length-2 c =
     let do-item-place = c .before .before .before .before in
-    do-item-place .do-item .kept .1 .1 .1 .1 .1 .1 .1 .1 .0
+    (let from-3 = do-item-place .do-item .kept .1 .1 .1 in let from-6 = from-3 .1 .1 .1 in from-6 .1 .1 .0)
 
 returns-4 : tie.Need-returns-4
 returns-4 c =

@@ -19,7 +19,7 @@ module _ (f : tie.After-finish) where
   entry = known .before .before .before .before
 
   abbrev cells′ : List ℕ
-  cells′ = f .finish .last .1 .1 .1 .0
+  cells′ = let from-3 = f .finish .last .1 .1 .1 in from-3 .0
 
   resulting : {I : Input} → I .rows ≡ rowsIn (entry .args .cells .now)
       → laws.Resulting I (entry .args .table .now) (entry .args .vars .now) (entry .args .c) (entry .args .cells .now) (f .finish .result) cells′

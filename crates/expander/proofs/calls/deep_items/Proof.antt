@@ -41,17 +41,17 @@ module _ (q : tie.After-items) where
   q-copy = q .before .before .before .before .before .before
 
   abbrev cells′ : List ℕ
-  cells′ = q .items .last .1 .1 .1 .1 .1 .0
+  cells′ = let from-3 = q .items .last .1 .1 .1 in from-3 .1 .1 .0
 
   abbrev frames′ : List ℕ
-  frames′ = q .items .last .1 .1 .1 .1 .1 .1 .1 .0
+  frames′ = let from-3 = q .items .last .1 .1 .1 in let from-6 = from-3 .1 .1 .1 in from-6 .1 .0
 
   went : {R : Result ℕ} → Stands q-copy (entry q-copy .args .short .now) R
       → Goes (input q-copy) (entry q-copy .args .table .now) R frames′ cells′ (q .items .result)
   went {R} s = q .items .ensures .0 R (copied q-copy s)
 
   same : length frames′ ≡ longFrames
-  same = q .items .kept .1 .1 .1 .1 .1 .1 .1 .0 ∙ long q-copy
+  same = (let from-3 = q .items .kept .1 .1 .1 in let from-6 = from-3 .1 .1 .1 in from-6 .1 .0) ∙ long q-copy
 
 copy-requires : tie.Need-copy-requires
 copy-requires c κs = search needs

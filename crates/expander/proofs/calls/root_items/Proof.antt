@@ -47,10 +47,10 @@ module _ (q : tie.After-items) where
   q-save = q .before .before .before .before .before .before
 
   abbrev cells′ : List ℕ
-  cells′ = q .items .last .1 .1 .1 .1 .1 .0
+  cells′ = let from-3 = q .items .last .1 .1 .1 in from-3 .1 .1 .0
 
   abbrev frames′ : List ℕ
-  frames′ = q .items .last .1 .1 .1 .1 .1 .1 .1 .0
+  frames′ = let from-3 = q .items .last .1 .1 .1 in let from-6 = from-3 .1 .1 .1 in from-6 .1 .0
 
   went : Goes (input q-save) (entry q-save .args .table .now) (result q-save) frames′ cells′ (q .items .result)
   went = q .items .ensures .0 (result q-save) (standing q-save)
@@ -59,7 +59,7 @@ module _ (q : tie.After-items) where
       → Standing (lentInput (entry q-save .args .table .now) (entry q-save .args .tokens .now) (entry q-save .args .n) (rowsIn cells′))
       (entry q-save .args .table .now) frames′ (from .level) (from .state) cells′ (result q-save)
   paused e =
-      laws.standing-rows (entry q-save .args .tokens .now) (entry q-save .args .n) (ap rowsFor (sym (q .items .kept .1 .1 .1 .1 .1 .0)))
+      laws.standing-rows (entry q-save .args .tokens .now) (entry q-save .args .n) (ap rowsFor (sym (let from-3 = q .items .kept .1 .1 .1 in from-3 .1 .1 .0)))
       (laws.goes-paused _ _ (result q-save) frames′ cells′ (q .items .result) went e .0)
 
 slice-aggregate-save : tie.Need-slice-aggregate-save
@@ -99,13 +99,13 @@ deep-items-requires c κs =
                 record {
                   table = lent .table;
                   tokens-fit = lent .tokens-fit;
-                  stack-long = omega (arith, lent .stack-long, q .items .kept .1 .1 .1 .1 .1 .1 .0);
+                  stack-long = omega (arith, lent .stack-long, (let from-3 = q .items .kept .1 .1 .1 in let from-6 = from-3 .1 .1 .1 in from-6 .0));
                 };
             remembers = q .items .ensures .1;
             result = result (q-save q);
             standing = paused q (progress-place .progress2 .given .1);
           };
-      frames-short = q .items .kept .1 .1 .1 .1 .1 .1 .1 .0 ∙ long (q-save q);
+      frames-short = (let from-3 = q .items .kept .1 .1 .1 in let from-6 = from-3 .1 .1 .1 in from-6 .1 .0) ∙ long (q-save q);
     }
 
 same-length : tie.Need-same-length

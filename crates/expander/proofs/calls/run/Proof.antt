@@ -79,7 +79,7 @@ returns-2 c =
     let begun-place = root-place .before .before .before .before .before in
     let p = begun-place .before .before in
     let lent = entry p .args in
-    c .ended .ensures (input p) (root-place .root-items .last .1 .1 .1 .1 .1 .0) (token-count (lent .tokens .now) (lent .n))
+    c .ended .ensures (input p) (let from-3 = root-place .root-items .last .1 .1 .1 in from-3 .1 .1 .0) (token-count (lent .tokens .now) (lent .n))
     ∙ runs p (laws.run-root (input p) _ _ _ _ (begins p (begun-place .begun2 .given .1)) (lent .cells .now) (root-place .root-items .ensures))
 
 pub run-spec : {M : Type 1} → statement M
