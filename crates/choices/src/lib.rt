@@ -5,6 +5,7 @@ use productions::room::first_place;
 use productions::room::first_set;
 use productions::room::next_place;
 use productions::room::nullable_place;
+use spellings::wide_byte;
 ghost use Prim.Native.Nat.{ℕ, _<_};
 ghost use mathlib.Core.Path.{_≡_};
 ghost use mathlib.Core.List.{List};
@@ -45,12 +46,6 @@ fn search(room: &[u64; 641], n: u8, kind: u32) -> usize
     nullable_place(room, n)
 }
 
-fn wide(x: u8) -> usize
-    ensures { λ r. ⌜ r ≡ x ⌝ }
-{
-    x as usize
-}
-
 // The same, remembered: a choice is searched for where it is met first, and then looked up. A place is remembered as one more than it is;
 // 255 and 256 are searched for each time.
 pub fn choose(room: &[u64; 641], memory: &mut [u8; 4160], n: u8, kind: u32) -> usize
@@ -65,7 +60,7 @@ pub fn choose(room: &[u64; 641], memory: &mut [u8; 4160], n: u8, kind: u32) -> u
         return search(room, n, kind);
     }
     let at = n as usize * 65 + kind as usize;
-    let known = wide(memory[at]);
+    let known = wide_byte(memory[at]);
     if 0 < known {
         return known - 1;
     }

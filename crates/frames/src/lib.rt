@@ -1,4 +1,5 @@
 // The calls that wait, 18 numbers each: the values of 16 variables, how many variables there are, and the offset to go on at.
+use spellings::wide_number;
 ghost use Prim.Native.Nat.{ℕ, _+_, _*_, _^_, _≤_, _<_};
 ghost use mathlib.Core.Path.{_≡_};
 ghost use lib.ListN.{length, getD};
@@ -38,18 +39,12 @@ pub fn load(frames: &[u32], level: usize) -> [u32; 16]
     vars
 }
 
-fn wide(x: u32) -> usize
-    ensures { λ r. ⌜ r ≡ x ⌝ }
-{
-    x as usize
-}
-
 // How many variables it has.
 pub fn count_of(frames: &[u32], level: usize) -> usize
     requires { ⌜ Fits (now frames) level ⌝ }
     ensures { λ r. ⌜ r ≡ getD (now (frames .entry)) (level * frameSize + 16) 0 ⌝ }
 {
-    wide(frames[level * FRAME + 16])
+    wide_number(frames[level * FRAME + 16])
 }
 
 // Where it goes on.
@@ -57,7 +52,7 @@ pub fn next_of(frames: &[u32], level: usize) -> usize
     requires { ⌜ Fits (now frames) level ⌝ }
     ensures { λ r. ⌜ r ≡ getD (now (frames .entry)) (level * frameSize + 17) 0 ⌝ }
 {
-    wide(frames[level * FRAME + 17])
+    wide_number(frames[level * FRAME + 17])
 }
 
 // The frames of a short room at the front of a long one.

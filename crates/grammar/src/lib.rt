@@ -3,6 +3,7 @@ pub mod reader;
 pub mod sorts;
 
 use spellings::equal;
+use spellings::wide_byte;
 ghost use mathlib.Core.Path.{_≡_};
 ghost use lib.ListN.{drop, take};
 ghost use Rattle.grammar.specs.Lookup.{leading, afterLeading, frontOf, fieldsAt};
@@ -33,17 +34,11 @@ pub fn front_at(table: &[u8], at: usize) -> Front
     if left < 3 {
         return Front::Short;
     }
-    let size = wide(table[at + 1]) * 256 + wide(table[at + 2]);
+    let size = wide_byte(table[at + 1]) * 256 + wide_byte(table[at + 2]);
     if left - 3 < size {
         return Front::Short;
     }
     Front::Field(table[at], size)
-}
-
-fn wide(b: u8) -> usize
-    ensures { λ r. ⌜ r ≡ b ⌝ }
-{
-    b as usize
 }
 
 // Where a spelling stands among the first fields of one tag from an offset on, `most` of them at most.

@@ -1,6 +1,7 @@
 // The spellings of one tag by their hash, so that a repeated one is found without comparing it with all of them.
 use grammar::reader::part;
 use spellings::equal;
+use spellings::wide_number;
 ghost use Prim.Native.Nat.{ℕ, _<_, _≤_};
 ghost use mathlib.Core.Path.{_≡_};
 ghost use mathlib.Core.Bool.{true, false};
@@ -8,13 +9,6 @@ ghost use mathlib.Core.List.{List};
 ghost use lib.ListN.{length};
 ghost use Rattle.spellings.specs.Bytes.{same};
 ghost use Rattle.layout.specs.Index.{isAmong, hashOf, Entered, Indexed, Falling, entered};
-
-// A number of a room as an offset.
-fn wide(x: u32) -> usize
-    ensures { λ r. ⌜ r ≡ x ⌝ }
-{
-    x as usize
-}
 
 // The hash of a spelling.
 fn hash(v: &[u8]) -> usize
@@ -36,12 +30,12 @@ fn is_entry(room: &[u32; 320], table: &[u8], n: usize, h: usize, v: &[u8]) -> bo
         → r ≡ same w (now (v .entry))) ⌝ }
 {
     let at = 60 + 4 * n;
-    let stored = wide(room[at + 1]);
+    let stored = wide_number(room[at + 1]);
     if stored != h {
         return false;
     }
-    let from = wide(room[at + 2]);
-    let size = wide(room[at + 3]);
+    let from = wide_number(room[at + 2]);
+    let size = wide_number(room[at + 3]);
     equal(part(table, from, size), v)
 }
 
@@ -51,13 +45,13 @@ pub fn is_among(room: &[u32; 320], table: &[u8], v: &[u8]) -> bool
     ensures { λ r. ⌜ ((words : List (List ℕ)) → Indexed (now (table .entry)) (now (room .entry)) words → r ≡ isAmong (now (v .entry)) words) ⌝ }
 {
     let h = hash(v);
-    let mut p = wide(room[h % 64]);
+    let mut p = wide_number(room[h % 64]);
     while 0 < p {
         let here = is_entry(room, table, p, h, v);
         if here {
             return true;
         }
-        p = wide(room[60 + 4 * p]);
+        p = wide_number(room[60 + 4 * p]);
     }
     false
 }

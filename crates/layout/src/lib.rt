@@ -3,6 +3,7 @@ mod index;
 
 use answers::Refusal;
 use answers::Verdict;
+use answers::refuse;
 use grammar::Front;
 use grammar::front_at;
 use grammar::reader::arity_of;
@@ -261,12 +262,7 @@ fn is_whole(tag: u8, v: &[u8]) -> bool
 fn stopped(number: u8, at: usize) -> Checking
     ensures { λ r. ⌜ r ≡ Checking.Stopped (refusal number at 0 0) ⌝ }
 {
-    Checking::Stopped(Refusal {
-        number,
-        a: at as u64,
-        b: 0,
-        c: 0,
-    })
+    Checking::Stopped(refuse(number, at as u64, 0, 0))
 }
 
 // One field of a table at an offset, after those that begin before it, whose spellings the rooms have.
@@ -308,12 +304,7 @@ fn check_field(
 fn refused(number: u8, at: usize) -> Verdict
     ensures { λ r. ⌜ r ≡ Verdict.Refused (refusal number at 0 0) ⌝ }
 {
-    Verdict::Refused(Refusal {
-        number,
-        a: at as u64,
-        b: 0,
-        c: 0,
-    })
+    Verdict::Refused(refuse(number, at as u64, 0, 0))
 }
 
 // The end of a table: the root is last.

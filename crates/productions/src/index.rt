@@ -2,23 +2,22 @@
 use grammar::Front;
 use grammar::front_at;
 use grammar::reader::byte;
+use spellings::wide_short;
 ghost use Prim.Native.Nat.{_+_, _≤_};
 ghost use mathlib.Core.Path.{_≡_};
 ghost use lib.ListN.{getD};
 ghost use Rattle.productions.specs.Index.{placesIn, placesOf, placesWithout};
 ghost use Rattle.productions.specs.IndexCalls.{RoomFor, Index, FitsIndex, behind, redefined};
 
-fn wide(x: u16) -> usize
-    ensures { λ r. ⌜ r ≡ x ⌝ }
-{
-    x as usize
-}
-
 // The offset at a place of the index, 0 past its end.
 pub fn offset(starts: &[u16], j: usize) -> usize
     ensures { λ r. ⌜ r ≡ getD (now (starts .entry)) j 0 ⌝ }
 {
-    if j < starts.len() { wide(starts[j]) } else { 0 }
+    if j < starts.len() {
+        wide_short(starts[j])
+    } else {
+        0
+    }
 }
 
 // Lays a production behind the first k.

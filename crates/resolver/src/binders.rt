@@ -1,5 +1,6 @@
 // Binders by name: the first row whose mkTermFun binds a name stands for all binders of that name.
 use rows::column;
+use terms::COLUMNS;
 ghost use Prim.Native.Nat.{_+_, _/_, _≤_, _<_};
 ghost use mathlib.Core.Path.{_≡_};
 ghost use lib.ListN.{length, getD};
@@ -57,7 +58,7 @@ pub fn link(cells: &[u32], links: &mut [u16])
     ensures { λ _. ⌜ Linked (now (cells .entry)) (now (links .exit)) ⌝ }
 {
     let mut row: usize = 0;
-    while row < cells.len() / 4 {
+    while row < cells.len() / COLUMNS {
         let code = column(cells, row as u32, 0);
         let x = column(cells, row as u32, 1);
         if code == 33 {

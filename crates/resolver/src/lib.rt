@@ -2,6 +2,7 @@
 use crate::binders::link;
 use crate::numbering::number;
 use crate::resolving::resolve_term;
+use terms::COLUMNS;
 ghost use Prim.Native.Nat.{_/_, _≤_};
 ghost use mathlib.Core.Path.{_≡_};
 ghost use lib.ListN.{length};
@@ -74,7 +75,7 @@ pub fn resolve(cells: &[u32], made: usize, root: u32, marks: &mut &mut [u16]) ->
         Resolves (now (cells .entry)) made root (now (now (marks .exit))) r × (length (now (now (marks .exit))) ≡ length (now (now (marks .entry))))
         ⌝ }
 {
-    if cells.len() / 4 <= 256 {
+    if cells.len() / COLUMNS <= 256 {
         return resolve_small(cells, made, root, marks);
     }
     resolve_large(cells, made, root, marks)

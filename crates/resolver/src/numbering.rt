@@ -1,16 +1,11 @@
 // Resolution: the marks of a term become the numbers of the new names, from the left.
 use crate::Resolution;
+use spellings::wide_short;
 ghost use Prim.Native.Nat.{_+_, _≤_, _<_};
 ghost use mathlib.Core.Path.{_≡_};
 ghost use mathlib.Core.List.{[], _++_};
 ghost use lib.ListN.{length, take, drop};
 ghost use Rattle.resolver.specs.Numbers.{numberAt, numbered, looseIn, firstLoose};
-
-fn wide(x: u16) -> usize
-    ensures { λ r. ⌜ r ≡ x ⌝ }
-{
-    x as usize
-}
 
 // The number at place p with the mark m, when `count` numbers were given.
 fn number_of(marks: &[u16], p: usize, m: u16, count: u16) -> u16
@@ -26,7 +21,7 @@ fn number_of(marks: &[u16], p: usize, m: u16, count: u16) -> u16
     if m == 0 {
         return 0;
     }
-    let owner = wide(m) - 1;
+    let owner = wide_short(m) - 1;
     if owner < p {
         return marks[owner];
     }

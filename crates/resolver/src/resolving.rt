@@ -1,6 +1,8 @@
 // Resolution: each variable's binder, and which binders are renamed, by places. A place is a constructor's number from the left.
 use crate::binders::find;
 use rows::column;
+use terms::COLUMNS;
+use terms::NAME_BASE;
 ghost use Prim.Native.Nat.{ℕ, _+_, _<_, _≤_};
 ghost use mathlib.Core.Path.{_≡_};
 ghost use mathlib.Core.List.{List};
@@ -38,8 +40,8 @@ fn variable_mark(cells: &[u32], links: &[u16], current: &mut [u16], x: u32) -> u
     requires { ⌜ Linked (now cells) (now links) ⌝ }
     ensures { λ r. ⌜ MarksVariable (now (cells .entry)) (now (current .entry)) x r × (now (current .exit) ≡ now (current .entry)) ⌝ }
 {
-    let class = x / 16777216;
-    let slot = find(cells, links, cells.len() / 4, x);
+    let class = x / NAME_BASE;
+    let slot = find(cells, links, cells.len() / COLUMNS, x);
     let inner = innermost(current, slot);
     match class {
         1 => inner,
@@ -59,8 +61,8 @@ fn held_by(x: u32) -> u64
         ((spell : ℕ → List ℕ) → Distinct spell → VariableName spell (nameOf spell x) → Holds spell r (λ s. isOutside s (nameOf spell x)))
         ⌝ }
 {
-    let class = x / 16777216;
-    let n = x % 16777216;
+    let class = x / NAME_BASE;
+    let n = x % NAME_BASE;
     match class {
         1 => 0,
         2 => 0,
@@ -73,7 +75,7 @@ fn exchange(cells: &[u32], links: &[u16], current: &mut [u16], x: u32, v: u16) -
     requires { ⌜ Linked (now cells) (now links) ⌝ }
     ensures { λ r. ⌜ Exchanged (now (cells .entry)) x v (now (current .entry)) (now (current .exit)) r ⌝ }
 {
-    let slot = find(cells, links, cells.len() / 4, x);
+    let slot = find(cells, links, cells.len() / COLUMNS, x);
     let outer = innermost(current, slot);
     if slot < current.len() {
         current[slot] = v;
@@ -85,8 +87,8 @@ fn exchange(cells: &[u32], links: &[u16], current: &mut [u16], x: u32, v: u16) -
 fn binder_mark(x: u32, held: u64) -> u16
     ensures { λ r. ⌜ MarksBinder x held r ⌝ }
 {
-    let class = x / 16777216;
-    let n = x % 16777216;
+    let class = x / NAME_BASE;
+    let n = x % NAME_BASE;
     if class == 1 {
         if n < 64 {
             let has = kinds::has(held, n as u8);

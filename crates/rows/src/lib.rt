@@ -1,4 +1,5 @@
 // Rows of cells as terms: what stands in a row, and the size of the tree below it.
+use terms::COLUMNS;
 ghost use Prim.Native.Nat.{_<_};
 ghost use mathlib.Core.Path.{_≡_};
 ghost use Rattle.terms.specs.Cells.{column};
@@ -10,6 +11,6 @@ pub fn column(cells: &[u32], row: u32, k: usize) -> u32
     requires { ⌜ k < 4 ⌝ }
     ensures { λ r. ⌜ r ≡ column (now (cells .entry)) row k ⌝ }
 {
-    let i = (row as usize) * 4 + k;
+    let i = (row as usize) * COLUMNS + k;
     if i < cells.len() { cells[i] } else { 0 }
 }

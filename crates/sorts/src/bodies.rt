@@ -4,9 +4,9 @@ use crate::Sorted;
 use crate::heads::head_of;
 use crate::heads::signature_at;
 use crate::templates::fault_in;
-use crate::templates::wide;
 use grammar::reader::byte;
 use grammar::reader::part;
+use spellings::wide_byte;
 ghost use Prim.Native.Nat.{_+_, _*_, _≤_};
 ghost use mathlib.Core.Path.{_≡_};
 ghost use mathlib.Core.List.{[], _∷_, _++_};
@@ -74,7 +74,7 @@ pub fn check_item(
     let operand = byte(v, 1);
     match kind {
         0 => {
-            if wide(operand) < known.keywords {
+            if wide_byte(operand) < known.keywords {
                 return Sorted::As(0);
             }
             Sorted::Unsorted(9)

@@ -1,12 +1,12 @@
 // The heads of definitions: signatures, and refusals 7 and 8.
-use crate::templates::wide;
-use answers::Refusal;
 use answers::Verdict;
+use answers::refuse;
 use grammar::Front;
 use grammar::front_at;
 use grammar::reader::byte;
 use grammar::reader::part;
 use spellings::equal;
+use spellings::wide_byte;
 ghost use Prim.Native.Nat.{_+_, _≤_};
 ghost use mathlib.Core.Path.{_≡_};
 ghost use lib.ListN.{length, getD, take, drop, set};
@@ -16,12 +16,7 @@ ghost use Rattle.sorts.specs.ByBytes.{signatureAt, faultOf, Defined, col
 pub fn refused(number: u8, at: usize) -> Verdict
     ensures { λ r. ⌜ r ≡ Verdict.Refused (refusal number at 0 0) ⌝ }
 {
-    Verdict::Refused(Refusal {
-        number,
-        a: at as u64,
-        b: 0,
-        c: 0,
-    })
+    Verdict::Refused(refuse(number, at as u64, 0, 0))
 }
 
 // The signature in the head at an offset: the sort of the result, then those of the parameters, four at most.
@@ -31,7 +26,7 @@ pub fn signature_at(table: &[u8], at: usize) -> &[u8]
     if table.len() <= at {
         return part(table, at, 0);
     }
-    let size = wide(byte(table, at + 1)) * 256 + wide(byte(table, at + 2));
+    let size = wide_byte(byte(table, at + 1)) * 256 + wide_byte(byte(table, at + 2));
     if size < 2 {
         return part(table, at + 5, 0);
     }
@@ -45,7 +40,7 @@ pub fn signature_at(table: &[u8], at: usize) -> &[u8]
 pub fn head_of(heads: &[u16], n: u8) -> usize
     ensures { λ r. ⌜ r ≡ getD (now (heads .entry)) n 0 ⌝ }
 {
-    let i = wide(n);
+    let i = wide_byte(n);
     if i < heads.len() {
         heads[i] as usize
     } else {
@@ -83,7 +78,7 @@ fn define(heads: &mut [u16], table: &[u8], at: usize, tag: u8, block: usize) -> 
     if fault != 0 {
         return fault;
     }
-    let n = wide(byte(table, at + 3));
+    let n = wide_byte(byte(table, at + 3));
     if n < heads.len() {
         heads[n] = at as u16;
     }

@@ -4,25 +4,19 @@ use grammar::reader::byte;
 use grammar::sorts::Sort;
 use grammar::sorts::argument_of;
 use grammar::sorts::result_of;
+use spellings::wide_byte;
 ghost use Prim.Native.Nat.{_+_, _*_, _≤_};
 ghost use mathlib.Core.Path.{_≡_};
 ghost use mathlib.Core.List.{_++_};
 ghost use lib.ListN.{length};
 ghost use Rattle.sorts.specs.TemplateBytes.{headSort, headParams, places, Opened, Filled, templatesFault};
 
-// A byte as a number of the width of offsets.
-pub fn wide(b: u8) -> usize
-    ensures { λ r. ⌜ r ≡ b ⌝ }
-{
-    b as usize
-}
-
 // The sort of the template that begins with a byte, where `sorts` has those of the variables.
 fn head_sort(b: u8, sorts: &[u8]) -> Sort
     ensures { λ r. ⌜ r .0 ≡ headSort b (now (sorts .entry)) ⌝ }
 {
     if b < 16 {
-        return Sort(byte(sorts, wide(b)));
+        return Sort(byte(sorts, wide_byte(b)));
     }
     if b == 16 {
         return Sort::VAR;
@@ -84,7 +78,7 @@ pub fn fault_in(stack: &mut [u8], start: usize, v: &[u8], outsides: usize, sorts
     let mut i: usize = 0;
     while i < v.len() {
         let b = v[i];
-        let n = wide(b);
+        let n = wide_byte(b);
         let closed = (name & (n < outsides)) | (!name & ((16 <= n) | (n < sorts.len())));
         if !closed {
             return 9;

@@ -2,6 +2,9 @@
 // of lent numbers.
 use grammar::reader::arity_of;
 use grammar::reader::byte;
+use terms::COLUMNS;
+use terms::MOST_CELLS;
+use terms::OUTSIDE;
 ghost use Prim.Native.Nat.{ℕ, _+_, _*_, _/_, _%_, _<_, _≤_};
 ghost use mathlib.Core.Path.{_≡_};
 ghost use mathlib.Core.List.{List, [], _∷_, _++_};
@@ -17,18 +20,6 @@ ghost use Rattle.expansion.specs.Run.{done};
 ghost use Rattle.expansion.specs.Expansion.{Input, build, buildAll};
 ghost use Rattle.templates.specs.Built.{mostCells, rowsFor, RoomsFit, Holds, withMade, Ahead, Evaluates, Behind, Lists, Few};
 ghost use Rattle.templates.specs.Heads.{Leads, Heads, Takes};
-
-// The numbers of a row, and how many rows there may be.
-pub const COLUMNS: usize = 4;
-
-pub const MOST_CELLS: usize = 16384;
-
-// The numbers from which names count: those of formula words, fresh names, outside names.
-pub const WORD: u32 = 0x1000000;
-
-pub const FRESH: u32 = 0x2000000;
-
-pub const OUTSIDE: u32 = 0x3000000;
 
 // What a template gives: its value, the offset behind it and the cells then made; or no row is left for a cell.
 pub enum Built {

@@ -4,6 +4,7 @@ use crate::writing::byte_at;
 use crate::writing::copy_at;
 use crate::writing::decimal_at;
 use rows::column;
+use terms::NAME_BASE;
 ghost use Prim.Native.Nat.{_+_, _^_, _<_, _≤_};
 ghost use mathlib.Core.Path.{_≡_};
 ghost use lib.ListN.{length, getD};
@@ -27,10 +28,10 @@ fn name_at(out: &mut [u8], at: usize, pool: &&[u8], x: u32, shown: u16) -> usize
         let behind = byte_at(out, at, b'_');
         return decimal_at(out, behind, wide(shown));
     }
-    if x / 16777216 == 2 {
+    if x / NAME_BASE == 2 {
         return copy_at(out, at, b"_0");
     }
-    copy_at(out, at, spelling(*pool, x % 16777216))
+    copy_at(out, at, spelling(*pool, x % NAME_BASE))
 }
 
 fn shown_at(shown: &[u16], place: usize) -> u16

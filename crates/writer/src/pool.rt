@@ -3,6 +3,7 @@ use crate::writing::byte_at;
 use crate::writing::copy_at;
 use grammar::reader::byte;
 use grammar::reader::part;
+use spellings::wide_byte;
 ghost use Prim.Native.Nat.{ℕ, _*_, _+_, _≤_, _<_};
 ghost use mathlib.Core.Path.{_≡_};
 ghost use mathlib.Core.List.{_∷_};
@@ -12,18 +13,12 @@ ghost use Rattle.grammar.specs.Lookup.{lexiconOf};
 ghost use Rattle.writer.specs.Openings.{spellIn};
 ghost use Rattle.writer.specs.Pool.{Pooled, noneOf, oneOf, filledTo, Fillable};
 
-fn wide(x: u8) -> usize
-    ensures { λ r. ⌜ r ≡ x ⌝ }
-{
-    x as usize
-}
-
 // The spelling of a spelling number.
 pub fn spelling(pool: &[u8], n: u32) -> &[u8]
     ensures { λ r. ⌜ now r ≡ spellIn (now (pool .entry)) n ⌝ }
 {
     let i = (n as usize) * 32;
-    part(pool, i + 1, wide(byte(pool, i)))
+    part(pool, i + 1, wide_byte(byte(pool, i)))
 }
 
 fn narrow(n: usize) -> u8

@@ -22,11 +22,11 @@ mul-at c = search needs
 add-at : tie.Need-add-at
 add-at c = search needs
 
-element-copy-out-wide : tie.Need-element-copy-out-wide
-element-copy-out-wide c = search needs
+element-copy-out-wide-byte : tie.Need-element-copy-out-wide-byte
+element-copy-out-wide-byte c = search needs
 
-wide-requires : tie.Need-wide-requires
-wide-requires c κs = search needs
+wide-byte-requires : tie.Need-wide-byte-requires
+wide-byte-requires c κs = search needs
 
 sub-result : tie.Need-sub-result
 sub-result c = search needs
@@ -36,7 +36,7 @@ returns-3 c =
     λ bs h m.
     let at-place = c .before .before .before in
     record {
-      place-is = laws.remembered m (at-place .before .if1 .left) (omega (arith, at-place .if2 .left)) (c .before .wide .ensures) (c .if3 .taken);
+      place-is = laws.remembered m (at-place .before .if1 .left) (omega (arith, at-place .if2 .left)) (c .before .wide-byte .ensures) (c .if3 .taken);
       memory-is = m;
     }
 
@@ -74,8 +74,8 @@ choose-spec =
     returns-2
     mul-at
     add-at
-    element-copy-out-wide
-    wide-requires
+    element-copy-out-wide-byte
+    wide-byte-requires
     sub-result
     returns-3
     search-requires-2

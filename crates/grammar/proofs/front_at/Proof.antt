@@ -16,41 +16,41 @@ sub-left c = search needs
 returns-2 : tie.Need-returns-2
 returns-2 c = search laws.front-short
 
-add-wide : tie.Need-add-wide
-add-wide c = search needs
+add-wide-byte : tie.Need-add-wide-byte
+add-wide-byte c = search needs
 
-shared-slice-read-wide : tie.Need-shared-slice-read-wide
-shared-slice-read-wide c = search needs
+shared-slice-read-wide-byte : tie.Need-shared-slice-read-wide-byte
+shared-slice-read-wide-byte c = search needs
 
-wide-requires : tie.Need-wide-requires
-wide-requires c κs = search needs
+wide-byte-requires : tie.Need-wide-byte-requires
+wide-byte-requires c κs = search needs
 
 mul-size : tie.Need-mul-size
 mul-size c =
     let p = c .before in
     let q = p .before .before .before .before in
-    omega (arith, c .wide .ensures, p .shared-slice-known2 .given (q .args .at + 1))
+    omega (arith, c .wide-byte .ensures, p .shared-slice-known2 .given (q .args .at + 1))
 
-add-wide-2 : tie.Need-add-wide-2
-add-wide-2 c = search needs
+add-wide-byte-2 : tie.Need-add-wide-byte-2
+add-wide-byte-2 c = search needs
 
-shared-slice-read-wide-2 : tie.Need-shared-slice-read-wide-2
-shared-slice-read-wide-2 c = search needs
+shared-slice-read-wide-byte-2 : tie.Need-shared-slice-read-wide-byte-2
+shared-slice-read-wide-byte-2 c = search needs
 
-wide-requires-2 : tie.Need-wide-requires-2
-wide-requires-2 c κs = search needs
+wide-byte-requires-2 : tie.Need-wide-byte-requires-2
+wide-byte-requires-2 c κs = search needs
 
 add-size : tie.Need-add-size
 add-size c =
     let p = c .before in
     let q = p .before .before .before .before .before .before in
-    omega (arith, c .wide2 .ensures, p .shared-slice-known3 .given (q .args .at + 1), p .shared-slice-known3 .given (q .args .at + 2))
+    omega (arith, c .wide-byte2 .ensures, p .shared-slice-known3 .given (q .args .at + 1), p .shared-slice-known3 .given (q .args .at + 2))
 
 returns-3 : tie.Need-returns-3
 returns-3 c =
     let p = c .before in
     let q = p .before .before in
-    sym (laws.front-cut _ _ (q .before .before .before .if1 .left) (omega (arith, p .wide2 .ensures, q .wide .ensures, c .if3 .taken)))
+    sym (laws.front-cut _ _ (q .before .before .before .if1 .left) (omega (arith, p .wide-byte2 .ensures, q .wide-byte .ensures, c .if3 .taken)))
 
 shared-slice-read-t14 : tie.Need-shared-slice-read-t14
 shared-slice-read-t14 c = search needs
@@ -61,7 +61,7 @@ returns-4 c =
     let q = p .before in
     let r = q .before .before in
     let s = r .before .before in
-    sym (laws.front-is _ _ (s .before .if1 .left) (s .if2 .left) (r .wide .ensures) (q .wide2 .ensures) (p .if3 .left))
+    sym (laws.front-is _ _ (s .before .if1 .left) (s .if2 .left) (r .wide-byte .ensures) (q .wide-byte2 .ensures) (p .if3 .left))
 
 -- the function meets its contract
 pub front-at-spec : {M : Type 1} → statement M
@@ -71,13 +71,13 @@ front-at-spec =
     returns
     sub-left
     returns-2
-    add-wide
-    shared-slice-read-wide
-    wide-requires
+    add-wide-byte
+    shared-slice-read-wide-byte
+    wide-byte-requires
     mul-size
-    add-wide-2
-    shared-slice-read-wide-2
-    wide-requires-2
+    add-wide-byte-2
+    shared-slice-read-wide-byte-2
+    wide-byte-requires-2
     add-size
     returns-3
     shared-slice-read-t14

@@ -18,7 +18,7 @@ abbrev μ-loop : tie.MeasureT-loop
 μ-loop room table v h p₀ p = p
 
 -- the hash is known
-module _ (p : tie.After-wide Inv-loop μ-loop) where
+module _ (p : tie.After-wide-number Inv-loop μ-loop) where
   abbrev hashed : tie.After-hash Inv-loop μ-loop
   hashed = p .before .before
 
@@ -41,20 +41,20 @@ module _ (p : tie.After-is-entry Inv-loop μ-loop) where
 hash-requires : tie.Need-hash-requires Inv-loop μ-loop
 hash-requires c κs = search needs
 
-mul-wide : tie.Need-mul-wide Inv-loop μ-loop
-mul-wide c = omega arith
+mul-wide-number : tie.Need-mul-wide-number Inv-loop μ-loop
+mul-wide-number c = omega arith
 
-element-copy-out-wide : tie.Need-element-copy-out-wide Inv-loop μ-loop
-element-copy-out-wide c = omega arith
+element-copy-out-wide-number : tie.Need-element-copy-out-wide-number Inv-loop μ-loop
+element-copy-out-wide-number c = omega arith
 
-wide-requires : tie.Need-wide-requires Inv-loop μ-loop
-wide-requires c κs = search needs
+wide-number-requires : tie.Need-wide-number-requires Inv-loop μ-loop
+wide-number-requires c κs = search needs
 
 loop-holds : tie.Need-loop-holds Inv-loop μ-loop
 loop-holds c =
     record {
-      small = omega (arith, c .wide .ensures, start c .pre .heads (hashed c .hash .result % 64) (omega arith));
-      search = λ words x. laws.searching-start x (hashed c .hash .ensures) (c .wide .ensures);
+      small = omega (arith, c .wide-number .ensures, start c .pre .heads (hashed c .hash .result % 64) (omega arith));
+      search = λ words x. laws.searching-start x (hashed c .hash .ensures) (c .wide-number .ensures);
     }
 
 is-entry-requires : tie.Need-is-entry-requires Inv-loop μ-loop
@@ -65,20 +65,20 @@ returns c =
     let p = c .before in
     λ words x. laws.searching-found (turn p .loop .inv .search words x) (p .before .loop-test .taken) (here p) (c .if1 .taken)
 
-mul-wide-2 : tie.Need-mul-wide-2 Inv-loop μ-loop
-mul-wide-2 c = omega arith
+mul-wide-number-2 : tie.Need-mul-wide-number-2 Inv-loop μ-loop
+mul-wide-number-2 c = omega arith
 
-add-wide : tie.Need-add-wide Inv-loop μ-loop
-add-wide c = omega arith
+add-wide-number : tie.Need-add-wide-number Inv-loop μ-loop
+add-wide-number c = omega arith
 
-mul-wide-3 : tie.Need-mul-wide-3 Inv-loop μ-loop
-mul-wide-3 c = omega arith
+mul-wide-number-3 : tie.Need-mul-wide-number-3 Inv-loop μ-loop
+mul-wide-number-3 c = omega arith
 
-element-copy-out-wide-2 : tie.Need-element-copy-out-wide-2 Inv-loop μ-loop
-element-copy-out-wide-2 c = omega arith
+element-copy-out-wide-number-2 : tie.Need-element-copy-out-wide-number-2 Inv-loop μ-loop
+element-copy-out-wide-number-2 c = omega arith
 
-wide-requires-2 : tie.Need-wide-requires-2 Inv-loop μ-loop
-wide-requires-2 c κs = search needs
+wide-number-requires-2 : tie.Need-wide-number-requires-2 Inv-loop μ-loop
+wide-number-requires-2 c κs = search needs
 
 loop-less : tie.Need-loop-less Inv-loop μ-loop
 loop-less c = omega (arith, falls (c .before .before .before))
@@ -88,9 +88,9 @@ loop-again c =
     let q = c .before .before in
     let p = q .before in
     record {
-      small = omega (arith, c .wide2 .ensures, falls p, turn p .loop .inv .small);
+      small = omega (arith, c .wide-number2 .ensures, falls p, turn p .loop .inv .small);
       search =
-          λ words x. laws.searching-next (turn p .loop .inv .search words x) (p .before .loop-test .taken) (here p) (q .if1 .left) (c .wide2 .ensures);
+          λ words x. laws.searching-next (turn p .loop .inv .search words x) (p .before .loop-test .taken) (here p) (q .if1 .left) (c .wide-number2 .ensures);
     }
 
 returns-2 : tie.Need-returns-2 Inv-loop μ-loop
@@ -104,17 +104,17 @@ is-among-spec =
     Inv-loop
     μ-loop
     hash-requires
-    mul-wide
-    element-copy-out-wide
-    wide-requires
+    mul-wide-number
+    element-copy-out-wide-number
+    wide-number-requires
     loop-holds
     is-entry-requires
     returns
-    mul-wide-2
-    add-wide
-    mul-wide-3
-    element-copy-out-wide-2
-    wide-requires-2
+    mul-wide-number-2
+    add-wide-number
+    mul-wide-number-3
+    element-copy-out-wide-number-2
+    wide-number-requires-2
     loop-less
     loop-again
     returns-2)

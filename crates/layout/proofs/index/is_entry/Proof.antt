@@ -11,44 +11,44 @@ mul-at c = search needs
 add-at : tie.Need-add-at
 add-at c = search needs
 
-add-wide : tie.Need-add-wide
-add-wide c = search needs
+add-wide-number : tie.Need-add-wide-number
+add-wide-number c = search needs
 
-mul-wide : tie.Need-mul-wide
-mul-wide c = search needs
+mul-wide-number : tie.Need-mul-wide-number
+mul-wide-number c = search needs
 
-element-copy-out-wide : tie.Need-element-copy-out-wide
-element-copy-out-wide c = search needs
+element-copy-out-wide-number : tie.Need-element-copy-out-wide-number
+element-copy-out-wide-number c = search needs
 
-wide-requires : tie.Need-wide-requires
-wide-requires c κs = search needs
+wide-number-requires : tie.Need-wide-number-requires
+wide-number-requires c κs = search needs
 
 returns : tie.Need-returns
 returns c = search laws.entry-other
 
-add-wide-2 : tie.Need-add-wide-2
-add-wide-2 c = search needs
+add-wide-number-2 : tie.Need-add-wide-number-2
+add-wide-number-2 c = search needs
 
-mul-wide-2 : tie.Need-mul-wide-2
-mul-wide-2 c = search needs
+mul-wide-number-2 : tie.Need-mul-wide-number-2
+mul-wide-number-2 c = search needs
 
-element-copy-out-wide-2 : tie.Need-element-copy-out-wide-2
-element-copy-out-wide-2 c = search needs
+element-copy-out-wide-number-2 : tie.Need-element-copy-out-wide-number-2
+element-copy-out-wide-number-2 c = search needs
 
-wide-requires-2 : tie.Need-wide-requires-2
-wide-requires-2 c κs = search needs
+wide-number-requires-2 : tie.Need-wide-number-requires-2
+wide-number-requires-2 c κs = search needs
 
-add-wide-3 : tie.Need-add-wide-3
-add-wide-3 c = search needs
+add-wide-number-3 : tie.Need-add-wide-number-3
+add-wide-number-3 c = search needs
 
-mul-wide-3 : tie.Need-mul-wide-3
-mul-wide-3 c = search needs
+mul-wide-number-3 : tie.Need-mul-wide-number-3
+mul-wide-number-3 c = search needs
 
-element-copy-out-wide-3 : tie.Need-element-copy-out-wide-3
-element-copy-out-wide-3 c = search needs
+element-copy-out-wide-number-3 : tie.Need-element-copy-out-wide-number-3
+element-copy-out-wide-number-3 c = search needs
 
-wide-requires-3 : tie.Need-wide-requires-3
-wide-requires-3 c κs = search needs
+wide-number-requires-3 : tie.Need-wide-number-requires-3
+wide-number-requires-3 c κs = search needs
 
 part-requires : tie.Need-part-requires
 part-requires c κs = search needs
@@ -61,7 +61,7 @@ returns-2 c =
     let q = c .before in
     let r = q .before in
     λ w p e f. c .equal .ensures
-    ∙ laws.entry-same _ e (r .before .before .wide2 .ensures) (r .wide3 .ensures) (q .part .ensures)
+    ∙ laws.entry-same _ e (r .before .before .wide-number2 .ensures) (r .wide-number3 .ensures) (q .part .ensures)
 
 -- the function meets its contract
 pub is-entry-spec : {M : Type 1} → statement M
@@ -70,19 +70,19 @@ is-entry-spec =
     (tie.spec
     mul-at
     add-at
-    add-wide
-    mul-wide
-    element-copy-out-wide
-    wide-requires
+    add-wide-number
+    mul-wide-number
+    element-copy-out-wide-number
+    wide-number-requires
     returns
-    add-wide-2
-    mul-wide-2
-    element-copy-out-wide-2
-    wide-requires-2
-    add-wide-3
-    mul-wide-3
-    element-copy-out-wide-3
-    wide-requires-3
+    add-wide-number-2
+    mul-wide-number-2
+    element-copy-out-wide-number-2
+    wide-number-requires-2
+    add-wide-number-3
+    mul-wide-number-3
+    element-copy-out-wide-number-3
+    wide-number-requires-3
     part-requires
     equal-requires
     returns-2)

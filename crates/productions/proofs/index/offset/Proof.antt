@@ -5,14 +5,14 @@ use Rattle.grammar.proofs.ReaderLaws.{getD-past}
 use Rattle.productions.proofs.index.offset.Statement.{statement}
 use Rattle.productions.proofs.index.offset.Tie as tie
 
-mul-wide : tie.Need-mul-wide
-mul-wide c = search needs
+mul-wide-short : tie.Need-mul-wide-short
+mul-wide-short c = search needs
 
-shared-slice-read-wide : tie.Need-shared-slice-read-wide
-shared-slice-read-wide c = search needs
+shared-slice-read-wide-short : tie.Need-shared-slice-read-wide-short
+shared-slice-read-wide-short c = search needs
 
-wide-requires : tie.Need-wide-requires
-wide-requires c κs = search needs
+wide-short-requires : tie.Need-wide-short-requires
+wide-short-requires c κs = search needs
 
 returns : tie.Need-returns
 returns c = search needs
@@ -21,4 +21,4 @@ returns-2 : tie.Need-returns-2
 returns-2 c = sym (getD-past (c .before .before .args .starts .now) _ 0 (c .if1 .left))
 
 pub offset-spec : {M : Type 1} → statement M
-offset-spec = tie.close (tie.spec mul-wide shared-slice-read-wide wide-requires returns returns-2)
+offset-spec = tie.close (tie.spec mul-wide-short shared-slice-read-wide-short wide-short-requires returns returns-2)

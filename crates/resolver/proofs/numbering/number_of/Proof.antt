@@ -9,7 +9,7 @@ use Rattle.resolver.proofs.numbering.number_of.Statement.{statement}
 use Rattle.resolver.proofs.numbering.number_of.Tie as tie
 use Rattle.resolver.proofs.numbering.number_of.Reads as reads
 use Rattle.resolver.proofs.numbering.number_of.Lts as lts
-use Rattle.resolver.proofs.numbering.wide.Reads as wide-reads
+use Rattle.spellings.proofs.wide_short.Reads as wide-short-reads
 
 -- places, each from a later one
 abbrev at-start : tie.Else1 → tie.Start
@@ -36,11 +36,11 @@ returns-3 c =
     laws.zero-at (entry .args .marks .now) (entry .args .p) (entry .args .count + 1) (entry .args .m) (else1 .if1 .left)
     (c .before .if2 .left) (c .if3 .taken)
 
-wide-requires : tie.Need-wide-requires
-wide-requires c κs = search needs
+wide-short-requires : tie.Need-wide-short-requires
+wide-short-requires c κs = search needs
 
 sub-owner : tie.Need-sub-owner
-sub-owner c = omega (arith, c .before .if3 .left, c .wide .ensures)
+sub-owner c = omega (arith, c .before .if3 .left, c .wide-short .ensures)
 
 mul-result : tie.Need-mul-result
 mul-result c = search needs
@@ -52,13 +52,13 @@ shared-slice-read-result c =
 
 returns-4 : tie.Need-returns-4
 returns-4 c =
-    let wide-place = c .before .before in
-    let else3 = wide-place .before in
+    let wide-short-place = c .before .before in
+    let else3 = wide-short-place .before in
     let else2 = else3 .before in
     let else1 = else2 .before in
     let entry = at-start else1 in
     laws.found-at _ _ (entry .args .count + 1) _ (else1 .if1 .left)
-    (else2 .if2 .left) (else3 .if3 .left) (wide-place .wide .ensures)
+    (else2 .if2 .left) (else3 .if3 .left) (wide-short-place .wide-short .ensures)
     (c .before .if4 .taken)
 
 returns-5 : tie.Need-returns-5
@@ -68,7 +68,7 @@ returns-5 c =
     let else1 = else2 .before in
     let entry = at-start else1 in
     laws.far-at _ _ (entry .args .count + 1) _ (else1 .if1 .left) (else2 .if2 .left)
-    (else3 .if3 .left) (c .before .wide .ensures) (c .if4 .left) (entry .pre .0)
+    (else3 .if3 .left) (c .before .wide-short .ensures) (c .if4 .left) (entry .pre .0)
 
 pub number-of-spec : {M : Type 1} → statement M
 number-of-spec =
@@ -78,7 +78,7 @@ number-of-spec =
     returns
     returns-2
     returns-3
-    wide-requires
+    wide-short-requires
     sub-owner
     mul-result
     shared-slice-read-result

@@ -21,8 +21,8 @@ byte-requires c κs = search needs
 byte-requires-2 : tie.Need-byte-requires-2
 byte-requires-2 c κs = search needs
 
-wide-requires : tie.Need-wide-requires
-wide-requires c κs = search needs
+wide-byte-requires : tie.Need-wide-byte-requires
+wide-byte-requires c κs = search needs
 
 returns : tie.Need-returns
 returns c = search laws.item-keyword
@@ -61,7 +61,7 @@ check-item-spec =
     (tie.spec
     byte-requires
     byte-requires-2
-    wide-requires
+    wide-byte-requires
     returns
     part-requires
     check-call-requires

@@ -23,8 +23,8 @@ add-byte c = search needs
 byte-requires : tie.Need-byte-requires
 byte-requires c κs = search needs
 
-wide-requires : tie.Need-wide-requires
-wide-requires c κs = search needs
+wide-byte-requires : tie.Need-wide-byte-requires
+wide-byte-requires c κs = search needs
 
 cast-heads : tie.Need-cast-heads
 cast-heads c = search needs
@@ -39,13 +39,13 @@ same-length-2 : tie.Need-same-length-2
 same-length-2 c = search needs
 
 returns-3 : tie.Need-returns-3
-returns-3 c = search (laws.head-put, c .before .wide .ensures ∙ c .before .before .byte .ensures)
+returns-3 c = search (laws.head-put, c .before .wide-byte .ensures ∙ c .before .before .byte .ensures)
 
 same-length-3 : tie.Need-same-length-3
 same-length-3 c = search needs
 
 returns-4 : tie.Need-returns-4
-returns-4 c = search (laws.head-left, c .before .wide .ensures ∙ c .before .before .byte .ensures)
+returns-4 c = search (laws.head-left, c .before .wide-byte .ensures ∙ c .before .before .byte .ensures)
 
 -- the function meets its contract
 pub define-spec : {M : Type 1} → statement M
@@ -58,7 +58,7 @@ define-spec =
     returns-2
     add-byte
     byte-requires
-    wide-requires
+    wide-byte-requires
     cast-heads
     mul-heads
     slice-write-heads

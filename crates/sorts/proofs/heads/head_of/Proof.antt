@@ -6,8 +6,8 @@ use borrow.Author.Needs.{needs}
 use Rattle.sorts.proofs.heads.head_of.Statement.{statement}
 use Rattle.sorts.proofs.heads.head_of.Tie as tie
 
-wide-requires : tie.Need-wide-requires
-wide-requires c κs = search needs
+wide-byte-requires : tie.Need-wide-byte-requires
+wide-byte-requires c κs = search needs
 
 mul-result : tie.Need-mul-result
 mul-result c = search needs
@@ -16,18 +16,18 @@ shared-slice-read-result : tie.Need-shared-slice-read-result
 shared-slice-read-result c = search needs
 
 cast-result : tie.Need-cast-result
-cast-result c = omega (arith, c .shared-slice-known2 .given (c .before .before .wide .result))
+cast-result c = omega (arith, c .shared-slice-known2 .given (c .before .before .wide-byte .result))
 
 returns : tie.Need-returns
-returns c = rw (c .before .before .wide .ensures) refl
+returns c = rw (c .before .before .wide-byte .ensures) refl
 
 returns-2 : tie.Need-returns-2
 returns-2 c =
     let p = c .before in
-    sym (getD-past (p .before .before .args .heads .now) _ 0 (omega (arith, p .wide .ensures, c .if1 .left)))
+    sym (getD-past (p .before .before .args .heads .now) _ 0 (omega (arith, p .wide-byte .ensures, c .if1 .left)))
 
 -- the function meets its contract
 pub head-of-spec : {M : Type 1} → statement M
 head-of-spec =
     tie.close
-    (tie.spec wide-requires mul-result shared-slice-read-result cast-result returns returns-2)
+    (tie.spec wide-byte-requires mul-result shared-slice-read-result cast-result returns returns-2)

@@ -8,15 +8,15 @@ use Rattle.sorts.proofs.heads.signature_at.Statement.{statement}
 use Rattle.sorts.proofs.heads.signature_at.Tie as tie
 
 -- the two bytes of the length
-module _ (p : tie.After-wide2) where
+module _ (p : tie.After-wide-byte2) where
   abbrev start : tie.After-shared-slice-known
   start = p .before .before .before .before .before
 
-  high : p .before .before .wide .result ≡ getD (start .before .args .table .now) (start .before .args .at + 1) 0
-  high = p .before .before .wide .ensures ∙ p .before .before .before .byte .ensures
+  high : p .before .before .wide-byte .result ≡ getD (start .before .args .table .now) (start .before .args .at + 1) 0
+  high = p .before .before .wide-byte .ensures ∙ p .before .before .before .byte .ensures
 
-  low : p .wide2 .result ≡ getD (start .before .args .table .now) (start .before .args .at + 2) 0
-  low = p .wide2 .ensures ∙ p .before .byte2 .ensures
+  low : p .wide-byte2 .result ≡ getD (start .before .args .table .now) (start .before .args .at + 2) 0
+  low = p .wide-byte2 .ensures ∙ p .before .byte2 .ensures
 
 part-requires : tie.Need-part-requires
 part-requires c κs = search needs
@@ -30,8 +30,8 @@ add-byte c = search needs
 byte-requires : tie.Need-byte-requires
 byte-requires c κs = search needs
 
-wide-requires : tie.Need-wide-requires
-wide-requires c κs = search needs
+wide-byte-requires : tie.Need-wide-byte-requires
+wide-byte-requires c κs = search needs
 
 mul-size : tie.Need-mul-size
 mul-size c = search needs
@@ -42,8 +42,8 @@ add-byte-2 c = search needs
 byte-requires-2 : tie.Need-byte-requires-2
 byte-requires-2 c κs = search needs
 
-wide-requires-2 : tie.Need-wide-requires-2
-wide-requires-2 c κs = search needs
+wide-byte-requires-2 : tie.Need-wide-byte-requires-2
+wide-byte-requires-2 c κs = search needs
 
 add-size : tie.Need-add-size
 add-size c = search needs
@@ -84,11 +84,11 @@ signature-at-spec =
     returns
     add-byte
     byte-requires
-    wide-requires
+    wide-byte-requires
     mul-size
     add-byte-2
     byte-requires-2
-    wide-requires-2
+    wide-byte-requires-2
     add-size
     add-part
     part-requires-2

@@ -15,10 +15,10 @@ abbrev μ-loop : tie.MeasureT-loop
 μ-loop stack₀ start v outsides sorts height₀ name₀ i₀ stack height name i = length v - i
 
 -- a turn of the loop, and its byte read
-abbrev turn : tie.After-wide Inv-loop μ-loop → tie.In-loop Inv-loop μ-loop
+abbrev turn : tie.After-wide-byte Inv-loop μ-loop → tie.In-loop Inv-loop μ-loop
 turn p = p .before .before
 
-abbrev read : tie.After-slice-known2 Inv-loop μ-loop → tie.After-wide Inv-loop μ-loop
+abbrev read : tie.After-slice-known2 Inv-loop μ-loop → tie.After-wide-byte Inv-loop μ-loop
 read c = c .before .before .before .before .before
 
 add-height : tie.Need-add-height Inv-loop μ-loop
@@ -30,8 +30,8 @@ loop-holds c = search laws.testing-start
 shared-slice-read-b : tie.Need-shared-slice-read-b Inv-loop μ-loop
 shared-slice-read-b c = search needs
 
-wide-requires : tie.Need-wide-requires Inv-loop μ-loop
-wide-requires c κs = search needs
+wide-byte-requires : tie.Need-wide-byte-requires Inv-loop μ-loop
+wide-byte-requires c κs = search needs
 
 same-length : tie.Need-same-length Inv-loop μ-loop
 same-length c = search needs
@@ -52,7 +52,7 @@ loop-again : tie.Need-loop-again Inv-loop μ-loop
 loop-again c =
     let p = c .before .before in
     laws.testing-next (turn (read c) .before .loop .inv) (turn (read c) .loop-test .taken) refl
-    (read c .wide .ensures) (p .before .before .if1 .left) (p .fill .kept .0) (p .fill .ensures)
+    (read c .wide-byte .ensures) (p .before .before .if1 .left) (p .fill .kept .0) (p .fill .ensures)
 
 same-length-2 : tie.Need-same-length-2 Inv-loop μ-loop
 same-length-2 c = search needs
@@ -76,7 +76,7 @@ fault-in-spec =
     add-height
     loop-holds
     shared-slice-read-b
-    wide-requires
+    wide-byte-requires
     same-length
     returns
     fill-requires

@@ -4,8 +4,8 @@ use borrow.Author.Needs.{needs}
 use Rattle.sorts.proofs.templates.head_sort.Statement.{statement}
 use Rattle.sorts.proofs.templates.head_sort.Tie as tie
 
-wide-requires : tie.Need-wide-requires
-wide-requires c κs = search needs
+wide-byte-requires : tie.Need-wide-byte-requires
+wide-byte-requires c κs = search needs
 
 byte-requires : tie.Need-byte-requires
 byte-requires c κs = search needs
@@ -29,4 +29,4 @@ returns-4 c = search laws.constructor-sort
 pub head-sort-spec : {M : Type 1} → statement M
 head-sort-spec =
     tie.close
-    (tie.spec wide-requires byte-requires returns returns-2 returns-3 result-of-requires returns-4)
+    (tie.spec wide-byte-requires byte-requires returns returns-2 returns-3 result-of-requires returns-4)
