@@ -5,7 +5,7 @@ use mathlib.Core.Path.{_≡_}
 use mathlib.Core.List.{List}
 use lib.ListN.{length, getD, drop}
 use Rattle.answers.specs.Refusals.{refusal}
-use Rattle.terms.specs.Cells.{columns}
+use Rattle.terms.specs.Cells.{columns, mostCells}
 use Rattle.grammar.specs.Table.{Template, Templates, none, more}
 use Rattle.layout.specs.Prefix.{parsed, templatesOf, found, firstOf}
 use Rattle.expansion.specs.declared.State.{State}
@@ -17,10 +17,6 @@ use Rattle.expansion.specs.Run.{Result, done, halt}
 use Rattle.expansion.specs.Expansion.{Input, build}
 
 -- ------------------------------------------------------------------ rows and variables
-
--- as many cells as may be made
-abbrev pub mostCells : ℕ
-mostCells = 16384
 
 -- how many rows some numbers make
 abbrev pub rowsFor : ℕ → ℕ
