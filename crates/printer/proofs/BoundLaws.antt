@@ -1,4 +1,4 @@
--- A text has at most 64 bytes a constructor.
+-- A text has at most 46 bytes a constructor.
 use Prim.Native.Nat.{ℕ, zero, suc, _+_, _*_, _/_, _%_, _<_, _≤_}
 use mathlib.Core.Bool.{Bool, true, false}
 use mathlib.Core.List.{List}
@@ -41,13 +41,13 @@ module _ (S : ℕ → List ℕ) (cells numbers : List ℕ) (short : (m : ℕ) �
   name-short (suc n) x h = omega (arith, decimal-bound 4 (suc n) (omega arith))
 
   abbrev Short : (ℕ → Term Name) → Type 0
-  Short terms = (q p : ℕ) → textSize (labelled numbers p (terms q)) ≤ 64 * size (terms q)
+  Short terms = (q p : ℕ) → textSize (labelled numbers p (terms q)) ≤ 46 * size (terms q)
 
   abbrev ShortFields : (ℕ → Fields Name) → Type 0
-  ShortFields fields = (q p : ℕ) → textSizeFields (labelledFields numbers p (fields q)) ≤ 64 * sizeFields (fields q)
+  ShortFields fields = (q p : ℕ) → textSizeFields (labelledFields numbers p (fields q)) ≤ 46 * sizeFields (fields q)
 
   module _ (terms : ℕ → Term Name) (fields : ℕ → Fields Name) (st : Short terms) (sf : ShortFields fields) (r p : ℕ) where
-    by-term : (c : Constructor) → textSize (labelled numbers p (termBy c S cells r terms fields)) ≤ 64 * size (termBy c S cells r terms fields)
+    by-term : (c : Constructor) → textSize (labelled numbers p (termBy c S cells r terms fields)) ≤ 46 * size (termBy c S cells r terms fields)
     unfolding termBy textSize labelled size
     by-term mkTermVar = omega (arith, name-short (getD numbers p 0) (column cells r 1) (few p))
     by-term mkTermFun = omega (arith, name-short (getD numbers p 0) (column cells r 1) (few p), st (column cells r 2) (suc p))
@@ -59,7 +59,7 @@ module _ (S : ℕ → List ℕ) (cells numbers : List ℕ) (short : (m : ℕ) �
     by-term mkTermNum = omega (arith, decimal-bound 9 (column cells r 1) (omega (arith, wide (r * 4 + 1))))
 
     by-fields : (b : Bool)
-        → textSizeFields (labelledFields numbers p (fieldsBy b S cells r terms fields)) ≤ 64 * sizeFields (fieldsBy b S cells r terms fields)
+        → textSizeFields (labelledFields numbers p (fieldsBy b S cells r terms fields)) ≤ 46 * sizeFields (fieldsBy b S cells r terms fields)
     unfolding fieldsBy textSizeFields labelledFields sizeFields
     by-fields true =
         omega (arith, st (column cells r 2) (suc p), sf (column cells r 3) (suc p + size (terms (column cells r 2))), short (column cells r 1))
@@ -68,13 +68,13 @@ module _ (S : ℕ → List ℕ) (cells numbers : List ℕ) (short : (m : ℕ) �
   mutual
     unfolding termAt fieldsAt textSize textSizeFields labelled labelledFields size sizeFields
 
-    short-text : (k r p : ℕ) → textSize (labelled numbers p (termAt k S cells r)) ≤ 64 * size (termAt k S cells r)
+    short-text : (k r p : ℕ) → textSize (labelled numbers p (termAt k S cells r)) ≤ 46 * size (termAt k S cells r)
     short-text zero r p = omega (arith, decimal-bound 0 0 (omega arith))
     short-text (suc k) r p =
         by-term (λ q. termAt k S cells q) (λ q. fieldsAt k S cells q) (λ q n. short-text k q n) (λ q n. short-fields k q n) r p
         (constructorOf (column cells r 0))
 
-    short-fields : (k r p : ℕ) → textSizeFields (labelledFields numbers p (fieldsAt k S cells r)) ≤ 64 * sizeFields (fieldsAt k S cells r)
+    short-fields : (k r p : ℕ) → textSizeFields (labelledFields numbers p (fieldsAt k S cells r)) ≤ 46 * sizeFields (fieldsAt k S cells r)
     short-fields zero r p = omega arith
     short-fields (suc k) r p =
         by-fields (λ q. termAt k S cells q) (λ q. fieldsAt k S cells q) (λ q n. short-text k q n) (λ q n. short-fields k q n) r p
@@ -85,21 +85,24 @@ spelling-short : (pool : List ℕ) → ShortSpellings pool → (m : ℕ) → len
 unfolding spellIn
 spelling-short pool h m = omega (arith, h m, length-take (getD pool (m * 32) 0) (drop (m * 32 + 1) pool))
 
--- the text of a term that is not too large is not too long
-pub text-fits : {pool cells numbers : List ℕ} {made root : ℕ} → PrintableBy pool cells made root numbers
-    → ((i : ℕ) → getD cells i 0 < 4294967296) → ((i : ℕ) → getD numbers i 0 < 65536) → Fits pool cells numbers (term made root) 0 0
-unfolding partText
-text-fits {pool} {cells} {numbers} {made} {root} h wide few =
-    record {
-      room =
-          omega (
-            arith,
-            size-spell made noSpell (spellIn pool) cells root,
-            text-length (labelled numbers 0 (termAt made (spellIn pool) cells root)),
-            short-text (spellIn pool) cells numbers (spelling-short pool (h .short)) few wide made root 0,
-            h .marked,
-            h .small,
-          );
-      inside = omega (arith, h .marked);
-      few = h .small;
-    }
+module _ {pool cells numbers : List ℕ} {made root : ℕ} (h : PrintableBy pool cells made root numbers)
+    (wide : (i : ℕ) → getD cells i 0 < 4294967296) (few : (i : ℕ) → getD numbers i 0 < 65536) where
+  -- the text of a term has at most 46 bytes for each number
+  text-short : length (partText pool cells numbers (term made root) 0) ≤ length numbers * 46
+  unfolding partText
+  text-short =
+      omega (
+        arith,
+        size-spell made noSpell (spellIn pool) cells root,
+        text-length (labelled numbers 0 (termAt made (spellIn pool) cells root)),
+        short-text (spellIn pool) cells numbers (spelling-short pool (h .short)) few wide made root 0,
+        h .marked,
+      )
+
+  -- it fits where so many bytes are lent
+  pub text-within : {n : ℕ} → length numbers * 46 ≤ n → length (partText pool cells numbers (term made root) 0) ≤ n
+  text-within l = omega (arith, text-short)
+
+  -- the text of a term that is not too large is not too long
+  pub text-fits : Fits pool cells numbers (term made root) 0 0
+  text-fits = record { room = omega (arith, text-short, h .small); inside = omega (arith, h .marked); few = h .small }

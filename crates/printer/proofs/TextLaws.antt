@@ -1,4 +1,4 @@
--- A whole text: measured first, then written if it fits.
+-- A whole text: written if it fits.
 use Prim.Native.Nat.{ℕ, _+_, _<_, _≤_}
 use mathlib.Core.Path.{_≡_, sym, _∙_}
 use mathlib.Core.List.{List}
@@ -12,13 +12,12 @@ use Rattle.printer.specs.Printed.{term, partText, textBy, Prints}
 use Rattle.writer.specs.Pool.{Pooled}
 
 -- a text that is too long
-pub prints-none : (out text : List ℕ) {r : ℕ} → r ≡ 0 + length out → length text < r → Prints out text text r
-prints-none out text e l = record { needed = e ∙ zero-add (length out); placed = sym (written-not out text (omega arith)) }
+pub prints-none : (out text : List ℕ) {r : ℕ} → r ≡ length out → length text < r → Prints out text text r
+prints-none out text e l = record { needed = e; placed = sym (written-not out text (omega arith)) }
 
 -- a text that fits
-pub prints-whole : {out text text′ : List ℕ} {n r : ℕ} → n ≡ 0 + length out → n ≤ length text → Wrote text 0 out r text′ → Prints out text text′ r
-prints-whole {out} {text} e l w =
-    let fits : length out ≤ length text = omega arith in
+pub prints-whole : {out text text′ : List ℕ} {r : ℕ} → length out ≤ length text → Wrote text 0 out r text′ → Prints out text text′ r
+prints-whole {out} {text} fits w =
     let z : 0 + length out ≡ length out = zero-add (length out) in
     record {
       needed = w .end ∙ z;

@@ -3,11 +3,14 @@ use crate::printing::print_term;
 use writer::pool::fill;
 ghost use Prim.Native.Nat.{ℕ, _≤_, _<_};
 ghost use mathlib.Core.Path.{_≡_};
-ghost use lib.ListN.{getD};
+ghost use lib.ListN.{length, getD};
 ghost use Rattle.writer.specs.Pool.{spelledBy};
-ghost use Rattle.printer.specs.Printed.{term, partText, textBy, Printable, PrintableBy, Prints};
+ghost use Rattle.printer.specs.Printed.{term, partText, textBy, Fits, Printable, PrintableBy, Prints};
 
 pub mod printing;
+
+// The most bytes that a constructor adds to a text: mkFieldCons with a label of 31 bytes takes 46.
+const LONGEST: usize = 46;
 
 // Numbers of 32 bits are below 2^32. Nothing is done: a read makes the fact known of all of them.
 fn wide_numbers(s: &[u32]) -> u32
@@ -29,7 +32,47 @@ fn narrow_numbers(s: &[u16]) -> u16
     0
 }
 
-// The text of the term at a row, at the front of a buffer, if it fits; the answer is its length.
+// The length of the text of the term at a row: it is printed into nothing.
+fn measure(pool: &[u8], cells: &[u32], shown: &[u16], made: usize, root: u32) -> usize
+    requires { ⌜ Fits (now pool) (now cells) (now shown) (term made root) 0 0 ⌝ }
+    ensures { λ r. ⌜ r ≡ length (partText (now (pool .entry)) (now (cells .entry)) (now (shown .entry)) (term made root) 0) ⌝ }
+{
+    let mut none = [0u8; 1];
+    let mut place: usize = 0;
+    print_term(
+        &mut none[..0],
+        0,
+        &pool,
+        &cells,
+        &shown,
+        made,
+        root,
+        &mut place,
+    )
+}
+
+// The text of the term at a row, at the front of a buffer that has room for it.
+fn print_whole(
+    pool: &[u8],
+    cells: &[u32],
+    shown: &[u16],
+    made: usize,
+    root: u32,
+    text: &mut [u8],
+) -> usize
+    requires { ⌜ Fits (now pool) (now cells) (now shown) (term made root) 0 0 ⌝ }
+    requires { ⌜ length (partText (now pool) (now cells) (now shown) (term made root) 0) ≤ length (now text) ⌝ }
+    ensures { λ r. ⌜
+        Prints (partText (now (pool .entry)) (now (cells .entry)) (now (shown .entry)) (term made root) 0) (now (text .entry))
+        (now (text .exit)) r
+        ⌝ }
+{
+    let mut place: usize = 0;
+    print_term(text, 0, &pool, &cells, &shown, made, root, &mut place)
+}
+
+// The text of the term at a row, at the front of a buffer, if it fits; the answer is its length. Where it could be longer than the buffer,
+// it is measured first.
 fn print_into(
     pool: &[u8],
     cells: &[u32],
@@ -46,23 +89,14 @@ fn print_into(
 {
     wide_numbers(cells);
     narrow_numbers(shown);
-    let mut none = [0u8; 1];
-    let mut place: usize = 0;
-    let needed = print_term(
-        &mut none[..0],
-        0,
-        &pool,
-        &cells,
-        &shown,
-        made,
-        root,
-        &mut place,
-    );
+    if shown.len() * LONGEST <= text.len() {
+        return print_whole(pool, cells, shown, made, root, text);
+    }
+    let needed = measure(pool, cells, shown, made, root);
     if text.len() < needed {
         return needed;
     }
-    let mut again: usize = 0;
-    print_term(text, 0, &pool, &cells, &shown, made, root, &mut again)
+    print_whole(pool, cells, shown, made, root, text)
 }
 
 // The text with the spellings of a table and a formula, with room for a few words.

@@ -1,16 +1,9 @@
--- `print_into`: measured in an empty buffer, then written.
+-- `print_into`: measured where the text could be longer than the buffer, then written.
 use borrow.Author.Needs.{needs}
-use Rattle.printer.proofs.BoundLaws.{text-fits}
-use Rattle.printer.proofs.TextLaws as laws
+use Rattle.printer.proofs.BoundLaws.{text-within, text-fits}
+use Rattle.printer.proofs.TextLaws.{prints-none}
 use Rattle.printer.proofs.print_into.Statement.{statement}
 use Rattle.printer.proofs.print_into.Tie as tie
-
--- places, each from a later one
-abbrev after-narrow-numbers : tie.After-place → tie.After-narrow-numbers
-after-narrow-numbers p = p .before .before .before .before .before
-
-abbrev at-start : tie.After-wide-numbers → tie.Start
-at-start p = p .before .before .before .before .before
 
 wide-numbers-requires : tie.Need-wide-numbers-requires
 wide-numbers-requires c κs = search needs
@@ -18,39 +11,32 @@ wide-numbers-requires c κs = search needs
 narrow-numbers-requires : tie.Need-narrow-numbers-requires
 narrow-numbers-requires c κs = search needs
 
-array-borrow-prefix-none : tie.Need-array-borrow-prefix-none
-array-borrow-prefix-none c = search needs
+mul-if1 : tie.Need-mul-if1
+mul-if1 c = search needs
 
-slice-aggregate-print-term : tie.Need-slice-aggregate-print-term
-slice-aggregate-print-term c = search needs
-
-print-term-requires : tie.Need-print-term-requires
-print-term-requires c κs =
-    let at-narrow-numbers = after-narrow-numbers c in
-    let at-wide-numbers = at-narrow-numbers .before in
-    let entry = at-start at-wide-numbers in
-    text-fits (entry .pre) (at-wide-numbers .wide-numbers .ensures) (at-narrow-numbers .narrow-numbers .ensures)
-
-returns : tie.Need-returns
-returns c = laws.prints-none _ _ (c .before .before .print-term .ensures .wrote .end) (c .if1 .taken)
-
-print-term-requires-2 : tie.Need-print-term-requires-2
-print-term-requires-2 c κs =
-    let near = c .before .before .before .before in
-    let at-narrow-numbers = after-narrow-numbers (near .before .before .before .before) in
-    let at-wide-numbers = at-narrow-numbers .before in
-    let entry = at-start at-wide-numbers in
-    text-fits (entry .pre) (at-wide-numbers .wide-numbers .ensures) (at-narrow-numbers .narrow-numbers .ensures)
+print-whole-requires : tie.Need-print-whole-requires
+print-whole-requires c κs = (search text-fits, search text-within)
 
 same-length : tie.Need-same-length
 same-length c = search needs
 
+returns : tie.Need-returns
+returns c = search needs
+
+measure-requires : tie.Need-measure-requires
+measure-requires c κs = search text-fits
+
 returns-2 : tie.Need-returns-2
-returns-2 c =
-    let second = c .before .before in
-    let at-if1 = second .before .before .before .before .before .before in
-    let first = at-if1 .before .before in
-    laws.prints-whole (first .print-term .ensures .wrote .end) (at-if1 .if1 .left) (second .print-term2 .ensures .wrote)
+returns-2 c = search prints-none
+
+print-whole-requires-2 : tie.Need-print-whole-requires-2
+print-whole-requires-2 c κs = search needs
+
+same-length-2 : tie.Need-same-length-2
+same-length-2 c = search needs
+
+returns-3 : tie.Need-returns-3
+returns-3 c = search needs
 
 pub print-into-spec : {M : Type 1} → statement M
 print-into-spec =
@@ -58,10 +44,12 @@ print-into-spec =
     (tie.spec
     wide-numbers-requires
     narrow-numbers-requires
-    array-borrow-prefix-none
-    slice-aggregate-print-term
-    print-term-requires
-    returns
-    print-term-requires-2
+    mul-if1
+    print-whole-requires
     same-length
-    returns-2)
+    returns
+    measure-requires
+    returns-2
+    print-whole-requires-2
+    same-length-2
+    returns-3)
