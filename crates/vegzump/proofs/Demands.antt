@@ -1,7 +1,8 @@
 -- Everything that is promised of an expansion, from the bytes of a table and a formula to the answer and to all that was lent, on one page.
--- `expand` (specs/Expand) is what the public call promises by equation. What its answers mean, by rules: specs/Meaning (the term of a formula,
--- refusals 14 to 24, acceptance), specs/Origins and specs/Hygiene (demand 3); below them the rules of the scanner (Tiling, Unscanned), of 001's
--- Figure 3 and of where an expansion stops (expansion: Figure3, Costs, Stopping, Places), and of a table that passes (checker: Passes).
+-- `expand` (meaning/specs/Expand) is what the public call promises by equation. What its answers mean, by rules: meaning/specs/Meaning (the term
+-- of a formula, refusals 14 to 24, acceptance), Origins and Hygiene (demand 3); below them the rules of the scanner (Tiling, Unscanned), of 001's
+-- Figure 3 and its costs (expansion: Figure3, Costs), of where an expansion stops and what stands at a place (soundness: Stopping, Places), and of
+-- a table that passes (checker: Passes).
 use Prim.Native.Nat.{ℕ, _≤_, _<_}
 use mathlib.Core.Path.{_≡_, subst⁻¹}
 use mathlib.Core.Logic.{_↔_}
@@ -26,12 +27,12 @@ use Rattle.terms.specs.Term.{Name, Term}
 use Rattle.terms.specs.Rows.{termAt}
 use Rattle.terms.specs.Rename.{rename}
 use Rattle.terms.specs.Print.{print}
-use Rattle.vegzump.specs.Expand.{Expanded, expanded, refused, expand}
-use Rattle.vegzump.specs.Meaning.{spellOf, Means, rowsLent, textLength, Cause, Accepts, Left}
-use Rattle.vegzump.specs.Hygiene.{Demand3}
-use Rattle.vegzump.proofs.Stages.{expand-passed, means-one}
-use Rattle.vegzump.proofs.Exactly as exactly
-use Rattle.vegzump.proofs.Hygiene as hygiene
+use Rattle.meaning.specs.Expand.{Expanded, expanded, refused, expand}
+use Rattle.meaning.specs.Meaning.{spellOf, Means, rowsLent, textLength, Cause, Accepts, Left}
+use Rattle.meaning.specs.Hygiene.{Demand3}
+use Rattle.meaning.proofs.Stages.{expand-passed, means-one}
+use Rattle.meaning.proofs.Exactly as exactly
+use Rattle.meaning.proofs.Hygiene as hygiene
 
 -- every list of bytes as table, every formula, cells and text
 module _ (table : List ℕ) (bytes : (i : ℕ) → getD table i 0 < 256) (formula cells text : List ℕ) where

@@ -52,14 +52,14 @@ use Rattle.expander.specs.Lent.{Held, lentInput}
 use Rattle.templates.specs.Built.{rowsIn}
 use Rattle.soundness.specs.Passing.{Passing, Lexemes}
 use Rattle.soundness.proofs.ExpansionTheorems as expansion
-use Rattle.vegzump.specs.Expand.{Expanded, expanded, refused, withCells, inputOf, finished, expand}
-use Rattle.vegzump.specs.Meaning as Meaning
+use Rattle.meaning.specs.Expand.{Expanded, expanded, refused, withCells, inputOf, finished, expand}
+use Rattle.meaning.specs.Meaning as Meaning
 use Rattle.vegzump.specs.declared.parse.Parsed.{Parsed}
 use Rattle.vegzump.specs.Parse.{parse, HoldsPassed, Rooms, WordsKnown, RowsLie, Parses, ParsesTo, haltedParse, parsedInto, parseInto}
 use Rattle.vegzump.proofs.Naming as naming
 use Rattle.vegzump.proofs.Parsing as parsing
 use Rattle.vegzump.proofs.Root.{root-last}
-use Rattle.vegzump.proofs.Stages as stages
+use Rattle.meaning.proofs.Stages as stages
 
 -- ------------------------------------------------------------------ the check
 

@@ -1,10 +1,4 @@
 pub mod Demands
-pub mod Hygiene
-pub mod Exactly
-pub mod Stages
-pub mod Owners
-pub mod CellsLeft
-pub mod Listed
 pub mod Naming
 pub mod Parsing
 pub mod Root

@@ -19,7 +19,7 @@ use Rattle.expansion.specs.declared.Outcome.the-variants.{Value, Halted}
 use Rattle.expansion.specs.Run.{Result, done, halt}
 use Rattle.expansion.specs.Outcomes.{ran}
 use Rattle.expansion.specs.Expansion.{run}
-use Rattle.vegzump.specs.Expand.{Expanded, refused, inputOf, finished, scanned, expandTable, checkedFirst, expand}
+use Rattle.meaning.specs.Expand.{Expanded, refused, inputOf, finished, scanned, expandTable, checkedFirst, expand}
 use Rattle.vegzump.specs.declared.parse.Parsed.{Parsed}
 use Rattle.vegzump.specs.Parse.{parseScanned, parseChecked, parse, parsedInto, haltedParse, outcomeOf, cellsOf}
 use Rattle.vegzump.specs.Parse.{parseFilled, parseIntoChecked, parseInto}

@@ -1,8 +1,2 @@
-pub mod Expand
 pub mod Parse
 pub mod Replies
-pub mod Meaning
-pub mod Origins
-pub mod Hygiene
-pub mod House
-pub mod Computing

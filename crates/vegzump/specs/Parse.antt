@@ -21,7 +21,7 @@ use Rattle.expansion.specs.Outcomes.{ran}
 use Rattle.expansion.specs.Expansion.{run}
 use Rattle.expander.specs.Lent.{Held}
 use Rattle.vegzump.specs.declared.parse.Parsed.{Parsed}
-use Rattle.vegzump.specs.Expand.{inputOf}
+use Rattle.meaning.specs.Expand.{inputOf}
 
 abbrev pub parseScanned : Table → Lexed → Scanned → List ℕ → Result ℕ
 parseScanned t l (Unscanned r) cells = halt r cells

@@ -7,7 +7,7 @@ use Rattle.answers.specs.declared.Verdict.the-variants.{Passed, Refused}
 use Rattle.answers.specs.declared.Answer.{Answer}
 use Rattle.answers.specs.Refusals.{refusal, numbered}
 use Rattle.vegzump.specs.declared.hosts.Reply.{Reply}
-use Rattle.vegzump.specs.Expand.{Expanded}
+use Rattle.meaning.specs.Expand.{Expanded}
 
 -- the verdict of a table's check
 abbrev pub numberedVerdict : Verdict → Refusal

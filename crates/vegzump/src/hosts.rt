@@ -6,7 +6,7 @@ use answers::Verdict;
 ghost use mathlib.Core.Path.{_≡_};
 ghost use Rattle.answers.specs.Refusals.{refusal, numbered};
 ghost use Rattle.checker.specs.Check.{check};
-ghost use Rattle.vegzump.specs.Expand.{expand};
+ghost use Rattle.meaning.specs.Expand.{expand};
 ghost use Rattle.vegzump.specs.Replies.{numberedVerdict, reply, replied, replyOf};
 
 // Document 01's number, 0 for acceptance, and the three values.

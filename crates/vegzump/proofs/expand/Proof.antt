@@ -4,7 +4,7 @@ use native.Mathlib.Omega.{arith}
 use borrow.Author.Needs.{needs}
 use Rattle.answers.specs.Refusals.{numbered}
 use Rattle.layout.proofs.Split.{Bytes}
-use Rattle.vegzump.specs.Expand.{Expanded}
+use Rattle.meaning.specs.Expand.{Expanded}
 use Rattle.vegzump.proofs.Demands as demands
 use Rattle.vegzump.proofs.expand.Statement.{statement}
 use Rattle.vegzump.proofs.expand.Tie as tie

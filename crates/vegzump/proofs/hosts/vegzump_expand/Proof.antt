@@ -6,7 +6,7 @@ use borrow.Author.Needs.{needs}
 use Rattle.answers.specs.declared.Answer.{Answer}
 use Rattle.answers.specs.Refusals.{numbered}
 use Rattle.vegzump.specs.declared.hosts.Reply.{Reply}
-use Rattle.vegzump.specs.Expand.{Expanded, expanded}
+use Rattle.meaning.specs.Expand.{Expanded, expanded}
 use Rattle.vegzump.specs.Replies.{reply, Replied, replied, replyOf}
 use Rattle.vegzump.proofs.hosts.vegzump_expand.Statement.{statement}
 use Rattle.vegzump.proofs.hosts.vegzump_expand.Tie as tie

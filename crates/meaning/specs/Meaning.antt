@@ -20,7 +20,7 @@ use Rattle.terms.specs.Term.{Name, Term, size, largestTerm}
 use Rattle.terms.specs.Rename.{rename}
 use Rattle.terms.specs.Print.{print}
 use Rattle.terms.specs.Binding.{Occurrence}
-use Rattle.vegzump.specs.Origins.{Occurs, FirstLoose, NoneLoose}
+use Rattle.meaning.specs.Origins.{Occurs, FirstLoose, NoneLoose}
 
 -- ------------------------------------------------------------------ the term of demand 2
 

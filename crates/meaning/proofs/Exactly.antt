@@ -24,13 +24,13 @@ use Rattle.terms.specs.Rows.{termAt}
 use Rattle.terms.specs.Rename.{rename}
 use Rattle.terms.specs.Print.{print}
 use Rattle.terms.specs.Occurrences.{occurrences, loosePlaces}
-use Rattle.vegzump.specs.Expand.{Expanded, refused, inputOf, expandTable, checkedFirst, expand}
-use Rattle.vegzump.specs.Meaning.{Scans, spellOf, Means, rowsLent, MeansWithin, cellsOf, Cause, unscanned, stopped, Accepts, Left}
-use Rattle.vegzump.specs.Meaning as Meaning
-use Rattle.vegzump.proofs.Owners.{occurs, Says, loose-says, none-places, first-places}
-use Rattle.vegzump.proofs.Stages.{Finish, too-big, is-loose, too-long, prints, scanned-as, means-one, RunsTo, Stage, in-scan, in-parse, at-last, stages}
-use Rattle.vegzump.proofs.Stages.{unscanned-ends, stopped-ends, meant-ends}
-use Rattle.vegzump.proofs.CellsLeft.{Leaves, left-not, run-leaves}
+use Rattle.meaning.specs.Expand.{Expanded, refused, inputOf, expandTable, checkedFirst, expand}
+use Rattle.meaning.specs.Meaning.{Scans, spellOf, Means, rowsLent, MeansWithin, cellsOf, Cause, unscanned, stopped, Accepts, Left}
+use Rattle.meaning.specs.Meaning as Meaning
+use Rattle.meaning.proofs.Owners.{occurs, Says, loose-says, none-places, first-places}
+use Rattle.meaning.proofs.Stages.{Finish, too-big, is-loose, too-long, prints, scanned-as, means-one, RunsTo, Stage, in-scan, in-parse, at-last, stages}
+use Rattle.meaning.proofs.Stages.{unscanned-ends, stopped-ends, meant-ends}
+use Rattle.meaning.proofs.CellsLeft.{Leaves, left-not, run-leaves}
 
 -- ------------------------------------------------------------------ answers
 

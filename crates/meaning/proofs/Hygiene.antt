@@ -23,14 +23,14 @@ use Rattle.terms.specs.Rename.{rename}
 use Rattle.terms.specs.Print.{print}
 use Rattle.terms.specs.Occurrences.{occurrences, loosePlaces}
 use Rattle.terms.proofs.Statements as terms
-use Rattle.vegzump.specs.Expand.{Expanded, expanded, expandTable, expand}
-use Rattle.vegzump.specs.Meaning.{Means, cellsOf}
-use Rattle.vegzump.specs.Hygiene.{Hygienic, Ends, refuses, Demand3}
-use Rattle.vegzump.specs.Hygiene as Hygiene
-use Rattle.vegzump.proofs.Owners.{Says, occurs, loose-says, all-owned}
-use Rattle.vegzump.proofs.Stages.{expand-passed, Finish, too-big, is-loose, prints, words-as-written, outsides-as-listed, worded, means-one, Stage}
-use Rattle.vegzump.proofs.Stages.{in-scan, in-parse, at-last, stages}
-use Rattle.vegzump.proofs.Stages as Stages
+use Rattle.meaning.specs.Expand.{Expanded, expanded, expandTable, expand}
+use Rattle.meaning.specs.Meaning.{Means, cellsOf}
+use Rattle.meaning.specs.Hygiene.{Hygienic, Ends, refuses, Demand3}
+use Rattle.meaning.specs.Hygiene as Hygiene
+use Rattle.meaning.proofs.Owners.{Says, occurs, loose-says, all-owned}
+use Rattle.meaning.proofs.Stages.{expand-passed, Finish, too-big, is-loose, prints, words-as-written, outsides-as-listed, worded, means-one, Stage}
+use Rattle.meaning.proofs.Stages.{in-scan, in-parse, at-last, stages}
+use Rattle.meaning.proofs.Stages as Stages
 
 -- ------------------------------------------------------------------ the numbers of refusals
 

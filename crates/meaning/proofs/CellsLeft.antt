@@ -20,7 +20,7 @@ use Rattle.expansion.specs.Expansion.{Input, Choice, unfit, chosen, choice, nex
 use Rattle.expansion.specs.Expansion.{runItems, callBegun, runCall, start, ended, run}
 use Rattle.expansion.specs.Limits.{mostCalls, mostOpen}
 use Rattle.expansion.specs.Expansion as Expansion
-use Rattle.vegzump.specs.Meaning.{Left}
+use Rattle.meaning.specs.Meaning.{Left}
 
 pub left-not : (m : ℕ) (cells : List ℕ) → Left m cells cells
 left-not m cells = record { as-many = refl; same = λ j h. refl }

@@ -12,9 +12,9 @@ use Rattle.terms.specs.Rename.{belongs}
 use Rattle.terms.specs.Binding.{Owner, unbound, boundAt, Calls, sameSpelling, sameFresh, Binder, Occurrence}
 use Rattle.terms.specs.Occurrences.{ownerOf, occurrences, occurrencesFields, isLoose, loosePlaces}
 use Rattle.terms.proofs.Statements.{origin-calls}
-use Rattle.vegzump.specs.Origins.{Innermost, this-one, further-out, nowhere, at, Occurs, in-variable, in-function, in-apply, in-rcd, in-dot, in-number}
-use Rattle.vegzump.specs.Origins.{OccursFields, in-nil, in-cons, Loose, a-loose, FirstLoose, this-first, later, NoneLoose, Owned, formula-bound}
-use Rattle.vegzump.specs.Origins.{formula-free, fresh-bound, outside-free, IsOwned}
+use Rattle.meaning.specs.Origins.{Innermost, this-one, further-out, nowhere, at, Occurs, in-variable, in-function, in-apply, in-rcd, in-dot, in-number}
+use Rattle.meaning.specs.Origins.{OccursFields, in-nil, in-cons, Loose, a-loose, FirstLoose, this-first, later, NoneLoose, Owned, formula-bound}
+use Rattle.meaning.specs.Origins.{formula-free, fresh-bound, outside-free, IsOwned}
 
 -- ------------------------------------------------------------------ the innermost binder
 

@@ -50,8 +50,8 @@ use Rattle.terms.specs.Emit.{textOf, fitted, emitted}
 use Rattle.terms.proofs.EmitLaws.{fitted-long, fitted-whole, emitted-large, emitted-loose, emitted-fitted}
 use Rattle.terms.specs.Occurrences.{occurrences, loosePlaces, stopsAtFirst, isWorded}
 use Rattle.terms.proofs.Statements as terms
-use Rattle.vegzump.specs.Expand.{Expanded, refused, withCells, inputOf, finished, scanned, expandTable, checkedFirst, expand}
-use Rattle.vegzump.specs.Meaning.{Scans, spellOf, Means, rowsLent, MeansWithin, cellsOf}
+use Rattle.meaning.specs.Expand.{Expanded, refused, withCells, inputOf, finished, scanned, expandTable, checkedFirst, expand}
+use Rattle.meaning.specs.Meaning.{Scans, spellOf, Means, rowsLent, MeansWithin, cellsOf}
 
 -- ------------------------------------------------------------------ the table
 

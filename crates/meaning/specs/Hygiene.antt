@@ -19,8 +19,8 @@ use Rattle.terms.specs.Print.{none, more, treeOf}
 use Rattle.terms.specs.Parts.{constructors, shape}
 use Rattle.terms.specs.Binding.{Occurrence, useOf, constructorsInAll, nestingAll}
 use Rattle.terms.specs.Reading.{readText}
-use Rattle.vegzump.specs.Meaning.{spellOf, Means}
-use Rattle.vegzump.specs.Origins.{Occurs, IsOwned}
+use Rattle.meaning.specs.Meaning.{spellOf, Means}
+use Rattle.meaning.specs.Origins.{Occurs, IsOwned}
 
 -- The text `out` is the one term u of demand 2. Each part of u has the sort that its place demands; its words are the bytes of their tokens,
 -- its outside names the table's spellings. The text has u's constructors and labels, and each of its variables belongs, by nesting and

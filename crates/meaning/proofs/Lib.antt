@@ -1,0 +1,5 @@
+pub mod Owners
+pub mod CellsLeft
+pub mod Stages
+pub mod Exactly
+pub mod Hygiene

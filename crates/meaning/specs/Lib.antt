@@ -1,0 +1,4 @@
+pub mod Expand
+pub mod Origins
+pub mod Meaning
+pub mod Hygiene
