@@ -54,9 +54,11 @@ module _ (g : List Production) where
   pub nullable-exactly : (n : ℕ) → (hasKind (nullables g) n ≡ true) ↔ Nullable g n
   nullable-exactly = firsts.nullable-exactly g
 
+  -- Kind b is in the computed first set of n exactly if it opens n by the rules.
   pub opens-exactly : (n b : ℕ) → (hasKind (getD (firstSets (nullables g) g) n 0) b ≡ true) ↔ Opens g n b
   opens-exactly = firsts.opens-exactly g
 
+  -- m is in the computed set of n's left calls exactly if n reaches m by left calls, by the rules.
   pub reaches-exactly : (n m : ℕ) → (hasKind (getD (leftCalls (nullables g) g) n 0) m ≡ true) ↔ LeftReaches g n m
   reaches-exactly = firsts.reaches-exactly g
 
@@ -81,9 +83,11 @@ module _ (bs : List ℕ) where
   pub refused-by-layout : (r : Refusal) → decode bs ≡ bad r → check bs ≡ Refused r
   refused-by-layout = passing.refused-by-layout bs
 
+  -- A table that decodes has the refusal of its sorts, if they give one.
   pub refused-by-sorts : (t : Table) (r : Refusal) → decode bs ≡ ok t → checkSorts t ≡ bad r → check bs ≡ Refused r
   refused-by-sorts = passing.refused-by-sorts bs
 
+  -- A well sorted table has the refusal of its first sets, 12 or 13, if they give one.
   pub refused-by-firsts : (t : Table) (r : Refusal) → decode bs ≡ ok t → checkSorts t ≡ ok tt → checkFirsts (grammarOf t) ≡ bad r
       → check bs ≡ Refused r
   refused-by-firsts = passing.refused-by-firsts bs

@@ -44,10 +44,15 @@ module _ (test : Entry → Bool) (e : Entry) (es : List Entry) (j : ℕ) where
 
 -- where a search for p ends among entries that stand from place i on, and a search for p and q from there on
 pub record Landed (p q : Entry → Bool) (ds : List Entry) (i k : ℕ) : Type 0 where
+  -- it ends at i or later
   pub later : i ≤ k
+  -- it ends at 256 at the latest
   pub small : k ≤ 256
+  -- before 256 it ends at an entry
   pub inside : k < 256 → k - i < length ds
+  -- that entry passes p
   pub holds : k < 256 → p (getD ds (k - i) noEntry) ≡ true
+  -- from there on both are found where they are found from i on
   pub same : placeFrom (both p q) (drop (k - i) ds) k ≡ placeFrom (both p q) ds i
 
 module _ (p q : Entry → Bool) where
@@ -96,16 +101,15 @@ module _ (p q : Entry → Bool) where
 pub place-inside : (test : Entry → Bool) (es : List Entry) → length es ≤ 256 → placeFrom test es 0 < 256 → placeFrom test es 0 < length es
 place-inside test es few h = omega (arith, landed test test es 0 (omega arith) .inside h)
 
--- No search ends past 256.
-pub place-small : (test : Entry → Bool) (es : List Entry) → length es ≤ 256 → placeFrom test es 0 ≤ 256
-place-small test es few = landed test test es 0 (omega arith) .small
-
 -- ------------------------------------------------------------------ the walk over a nonterminal's own places
 
 -- no place before j is taken
 pub record Walking (es : List Entry) (n kind j : ℕ) : Type 0 where
+  -- before 256 the place is an entry's
   pub inside : j < 256 → j < length es
+  -- the entry is one of n's
   pub own : j < 256 → getD es j noEntry .owner ≡ n
+  -- from there on the search ends where the whole search ends
   pub rest : placeFrom (opensOf n kind) (drop j es) j ≡ placeFrom (opensOf n kind) es 0
 
 abbrev opens : ℕ → Entry → Bool

@@ -26,10 +26,12 @@ use Rattle.printer.specs.Printed.{textBy, Prints}
 use Rattle.emitter.specs.Emittable.{Emittable, Markable, answerBy}
 
 module _ (made constructors needed room : ℕ) where
+  -- a text longer than its buffer is refused with 24 and its length
   pub answer-long : room < needed → Refusing (refusal 24 needed 0 0) ≡ answerBy made constructors needed room
   unfolding answerBy
   answer-long h = sym (rw (lt-leb needed room h, answerBy))
 
+  -- one that fits is accepted with its length
   pub answer-whole : needed ≤ room → Accepted made constructors needed ≡ answerBy made constructors needed room
   unfolding answerBy
   answer-whole h = sym (rw (le-leb needed room h, answerBy))

@@ -57,6 +57,7 @@ members (in-later m) = omega arith
 -- ------------------------------------------------------------------ the first rule that passes a test
 
 module _ (rule : Production → Rule) (owned : (p : Production) → rule p .owner ≡ p .owner) (test : Rule → Bool) (n : ℕ) (other : Choice) where
+  -- a production is found, and the search answers it
   pub record Found (g : List Production) : Type 0 where
     -- the production that is found
     pub production : Production
@@ -69,6 +70,7 @@ module _ (rule : Production → Rule) (owned : (p : Production) → rule p .owne
     -- it is the one that is answered
     pub answer : firstRule test n (map rule g) other ≡ chosen (rule production)
 
+  -- none is found, and the search gives the other answer
   pub record Missing (g : List Production) : Type 0 where
     -- no production of the nonterminal passes the test
     pub none-passed : (p : Production) → In g p → p .owner ≡ n → test (rule p) ≡ true → ⊥

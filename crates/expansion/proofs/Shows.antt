@@ -49,12 +49,14 @@ pub record ShowsTerm (spell : ℕ → List ℕ) (made : ℕ) (cells : List ℕ) 
   -- all cells that keep the rows show it
   pub read : (cells′ : List ℕ) → Agree made cells cells′ → (k : ℕ) → x < k → termAt k spell cells′ x ≡ t
 
+-- the same of a field list
 pub record ShowsFields (spell : ℕ → List ℕ) (made : ℕ) (cells : List ℕ) (x : ℕ) (f : Fields Name) : Type 0 where
   -- their row is made
   pub below : x < made
   -- all cells that keep the rows show them
   pub read : (cells′ : List ℕ) → Agree made cells cells′ → (k : ℕ) → x < k → fieldsAt k spell cells′ x ≡ f
 
+-- the number of a value: a row, a name's code, a label's spelling number or the number itself
 pub data Shows (spell : ℕ → List ℕ) (made : ℕ) (cells : List ℕ) : ℕ → Value → Type 0 where
   shows-unit : Shows spell made cells 0 unit
   shows-var : {x : ℕ} {y : Name} → nameOf spell x ≡ y → Shows spell made cells x (var y)
@@ -64,6 +66,7 @@ pub data Shows (spell : ℕ → List ℕ) (made : ℕ) (cells : List ℕ) : ℕ 
   shows-term : {x : ℕ} {t : Term Name} → ShowsTerm spell made cells x t → Shows spell made cells x (term t)
   shows-fields : {x : ℕ} {f : Fields Name} → ShowsFields spell made cells x f → Shows spell made cells x (fields f)
 
+-- numbers that show values, one each
 pub data ShowAll (spell : ℕ → List ℕ) (made : ℕ) (cells : List ℕ) : List ℕ → List Value → Type 0 where
   show-none : ShowAll spell made cells [] []
   show-more : {x : ℕ} {v : Value} {xs : List ℕ} {vs : List Value} → Shows spell made cells x v → ShowAll spell made cells xs vs

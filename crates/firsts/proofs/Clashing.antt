@@ -97,9 +97,6 @@ module _ (g : List Production) where
 
   -- ---------------------------------------------------------------- a clash
 
-  abbrev bothNull : Production → Production → Bool
-  bothNull p q = allPassed (nullables g) (p .items) && allPassed (nullables g) (q .items)
-
   clash-sound : (n : ℕ) → n < 64 → {p q : Production} → Before g p q → clash (nullables g) firsts n p q ≡ true → Clashes g n
   clash-sound n l {p} {q} apart e =
       let o = and-eq-true-iff (owned n p q) _ .0 e in

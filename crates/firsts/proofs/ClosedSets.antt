@@ -45,8 +45,11 @@ through-call c nulls k b s t h e (i ∷ is) f =
 
 -- a callee in s that stands at the left
 pub record LeftCallee (nulls : ℕ) (s : Numbers) (is : List Item) : Type 0 where
+  -- its number
   pub callee : ℕ
+  -- it is in s
   pub in-it : s callee ≡ true
+  -- a nonterminal stands at the left of the items
   pub stands : callee < 64 → firstIn true nulls callee nothing is ≡ true
 
 -- items give b by themselves, or through a callee at their left

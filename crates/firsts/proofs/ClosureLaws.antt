@@ -36,8 +36,11 @@ module _ {k n : ℕ} {calls sets new : List ℕ} (r : CalleeJoined k n calls set
 
 -- the nonterminals below n of `many` are done
 pub record Taking (many k n : ℕ) (calls₀ kinds₀ calls kinds : List ℕ) : Type 0 where
+  -- n is at most their number
   pub within : n ≤ many
+  -- there is a set for each of them
   pub lent : StepLent many calls kinds
+  -- what the callee k gives is joined to the sets of those below n, and the others are as before
   pub taken : CalleeTaken k n calls₀ kinds₀ calls kinds
 
 -- none is done at first

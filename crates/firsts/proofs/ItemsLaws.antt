@@ -112,10 +112,15 @@ keyword-none k h = sym (only-none (k + 2) (omega arith))
 
 -- an item with this symbol stands at an offset, and another offset is behind it
 pub record ItemAt (bs : List ℕ) (at : ℕ) (s : Symbol) (after : ℕ) : Type 0 where
+  -- the item
   pub item : Item
+  -- its symbol is s
   pub symbol : s ≡ symbolOf item
+  -- it is the first of the items at the offset, and the others are those behind it
   pub items : itemsOf (fieldsAt bs at) ≡ item ∷ itemsOf (fieldsAt bs after)
+  -- the offset behind it is higher
   pub less : at < after
+  -- and not past the table
   pub inside : after ≤ length bs
 
 -- what a step says of the items at an offset
@@ -178,6 +183,7 @@ passes bs at nulls e eb =
 
 -- the items from `at` on decide
 pub record AllPassing (bs : List ℕ) (nulls start at : ℕ) : Type 0 where
+  -- all items left may read nothing exactly if all may
   pub rest : allPassed nulls (itemsOf (fieldsAt bs at)) ≡ allPassed nulls (itemsOf (fieldsAt bs start))
 
 module _ {bs : List ℕ} {nulls start at : ℕ} (c : AllPassing bs nulls start at) where
@@ -211,6 +217,7 @@ module _ {bs : List ℕ} {nulls start at : ℕ} (c : AllPassing bs nulls start a
 
 -- what is found so far and the items from `at` on give what all of them give
 pub record Gathering (bs : List ℕ) (calls : Bool) (nulls : ℕ) (sets : List ℕ) (start found at : ℕ) : Type 0 where
+  -- what was found, joined with what the items left give, is what all give
   pub rest : gather calls nulls sets (itemsOf (fieldsAt bs at)) found ≡ gather calls nulls sets (itemsOf (fieldsAt bs start)) 0
 
 module _ {bs : List ℕ} {calls : Bool} {nulls : ℕ} {sets : List ℕ} {start found at : ℕ} (c : Gathering bs calls nulls sets start found at) where
@@ -248,8 +255,11 @@ module _ {bs : List ℕ} {calls : Bool} {nulls : ℕ} {sets : List ℕ} {start f
 
 -- what both arrays get, and whether all items are nullable
 pub record Walking (bs : List ℕ) (nulls : ℕ) (kinds calls : List ℕ) (start read called at : ℕ) : Type 0 where
+  -- the kinds that the items open with
   pub reading : Gathering bs false nulls kinds start read at
+  -- the calls at their left
   pub calling : Gathering bs true nulls calls start called at
+  -- whether all may read nothing
   pub passing : AllPassing bs nulls start at
 
 -- nothing is found at first

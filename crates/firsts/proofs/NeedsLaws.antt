@@ -205,10 +205,15 @@ round-one k owners needs o v nulls h l =
 
 -- the productions before number j are held, k of them, as far as they have only locals and calls
 pub record Holding (bs owners starts : List ℕ) (m : ℕ) (whose₀ needs₀ : List ℕ) (k j : ℕ) (whose needs : List ℕ) : Type 0 where
+  -- no more are held than were looked at
   pub few : k ≤ j
+  -- the arrays have room for all productions
   pub lent : NeedsLent m whose needs
+  -- the array of owners keeps its length
   pub whose-many : length whose ≡ length whose₀
+  -- the array of needs keeps its length
   pub needs-many : length needs ≡ length needs₀
+  -- a round over those held is one over the productions looked at
   pub over : (nulls : ℕ) → Nonterminals nulls → Over nullStep bs owners starts m nulls j (needRound k whose needs nulls)
 
 -- room for 256 is enough
@@ -273,7 +278,9 @@ module _ {bs owners starts : List ℕ} {m : ℕ} {whose₀ needs₀ : List ℕ} 
 
 -- j of the k steps are done
 pub record Passing (owners needs : List ℕ) (down : Bool) (nulls k j set : ℕ) : Type 0 where
+  -- j is at most k
   pub within : j ≤ k
+  -- the set is what these steps make of the one before
   pub done : set ≡ needPass (stepPlace down k) j owners needs nulls
 
 -- no step is done at first
@@ -373,7 +380,9 @@ place-step false k i h = (i, h, refl)
 
 -- what was found is nullable
 pub record Found (g : List Production) (nulls : ℕ) : Type 0 where
+  -- it has nonterminals only
   pub high : Nonterminals nulls
+  -- each of them is nullable
   pub nullable : (n : ℕ) → hasKind nulls n ≡ true → hasKind (nullables g) n ≡ true
 
 -- nothing is found at first

@@ -17,7 +17,9 @@ use Rattle.firsts.specs.Pairs.{afterIn, linkedFrom, linked}
 
 -- none below n passes
 pub record Lowest (p : ℕ → Bool) (n : ℕ) : Type 0 where
+  -- n is at most 64
   pub small : n ≤ 64
+  -- the search from n on finds what the whole search finds
   pub rest : lowest (64 - n) p n ≡ lowest 64 p 0
 
 module _ {p : ℕ → Bool} {n : ℕ} (c : Lowest p n) where
@@ -94,10 +96,12 @@ module _ (room : List ℕ) where
 
 -- the pairs of the places linked from i on decide, as those from `start` on do
 pub record Row (q : ℕ → ℕ → Bool) (room : List ℕ) (start i : ℕ) : Type 0 where
+  -- there is a pair from i on exactly if there is one from the start on
   pub rest : anyPair q (linked room i) ≡ anyPair q (linked room start)
 
 -- the pairs of place i with those from j on, and the pairs of the places behind i, decide
 pub record Column (q : ℕ → ℕ → Bool) (room : List ℕ) (start i j : ℕ) : Type 0 where
+  -- there is a pair among these exactly if there is one from the start on
   pub rest : (anyWith (q i) (linked room j) || anyPair q (linked room (afterIn room i))) ≡ anyPair q (linked room start)
 
 -- at the first place
@@ -157,10 +161,12 @@ module _ {q : ℕ → ℕ → Bool} {room : List ℕ} {start i j : ℕ} (c : Col
 
 -- what is found, and the pairs of the places linked from i on
 pub record JoinRow (f : ℕ → ℕ → ℕ) (room : List ℕ) (start i found : ℕ) : Type 0 where
+  -- what is found, with the pairs from i on, is what all pairs give
   pub rest : joinPairs f (linked room i) found ≡ joinPairs f (linked room start) 0
 
 -- what is found, the pairs of place i with those from j on, and the pairs of the places behind i
 pub record JoinColumn (f : ℕ → ℕ → ℕ) (room : List ℕ) (start i j found : ℕ) : Type 0 where
+  -- what is found, with these pairs, is what all pairs give
   pub rest : joinPairs f (linked room (afterIn room i)) (joinWith (f i) (linked room j) found) ≡ joinPairs f (linked room start) 0
 
 -- at the first place

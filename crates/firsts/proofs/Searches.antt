@@ -51,9 +51,13 @@ lowest-skips (suc k) t n m l h =
 
 -- ------------------------------------------------------------------ a pair of productions
 
+-- a production of a list that passes a test
 pub record FoundWith (t : Production → Bool) (g : List Production) : Type 0 where
+  -- the production found
   pub production : Production
+  -- it is one of the list
   pub member : In g production
+  -- it passes the test
   pub passes : t production ≡ true
 
 with-sound : (t : Production → Bool) (g : List Production) → anyWith t g ≡ true → FoundWith t g
@@ -68,10 +72,15 @@ unfolding anyWith
 with-complete t in-first e = or-left _ e
 with-complete t (in-later {q = r} m) e = or-right (t r) (with-complete t m e)
 
+-- two productions of a list, one before the other, that pass a test
 pub record FoundPair (t : Production → Production → Bool) (g : List Production) : Type 0 where
+  -- the first of the pair
   pub one : Production
+  -- the second
   pub other : Production
+  -- the first stands before the second in the list
   pub apart : Before g one other
+  -- the two pass the test
   pub passes : t one other ≡ true
 
 pair-sound : (t : Production → Production → Bool) (g : List Production) → anyPair t g ≡ true → FoundPair t g

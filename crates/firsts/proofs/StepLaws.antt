@@ -19,6 +19,7 @@ use Rattle.productions.proofs.IndexLaws.{places-next, places-none}
 
 -- the steps of the productions from number j on lead from x to where those of all lead from x₀
 pub record Over {A : Type 0} (f : Production → A → A) (bs owners starts : List ℕ) (m : ℕ) (x₀ : A) (j : ℕ) (x : A) : Type 0 where
+  -- the productions left lead from x to where all lead from x₀
   pub rest : overAll f (productionsAt bs (placesFrom (m - j) owners starts j)) x ≡ overAll f (productionsBy m bs owners starts) x₀
 
 -- all productions are left at first
@@ -84,9 +85,13 @@ length-sets calls nulls g =
 
 -- the sets after the productions before number j
 pub record Joining (nulls : ℕ) (bs owners starts : List ℕ) (m : ℕ) (kinds₀ calls₀ : List ℕ) (j : ℕ) (kinds calls : List ℕ) : Type 0 where
+  -- the first sets so far, and the productions left, give those after a whole round
   pub kinds-over : Over (firstStep false nulls) bs owners starts m kinds₀ j kinds
+  -- so do the sets of left calls
   pub calls-over : Over (firstStep true nulls) bs owners starts m calls₀ j calls
+  -- the first sets are as many as before
   pub kinds-many : length kinds ≡ length kinds₀
+  -- so are the sets of left calls
   pub calls-many : length calls ≡ length calls₀
 
 -- all productions are left at first

@@ -21,9 +21,13 @@ use Rattle.frames.specs.Frames.{Standing}
 
 -- i of them stand from a base on, and what stands below is as it was
 pub record Saving (old new : List ℕ) (base : ℕ) (vars : List ℕ) (i : ℕ) : Type 0 where
+  -- the room keeps its length
   pub long : length new ≡ length old
+  -- there are 16 at most
   pub small : i ≤ 16
+  -- what stands below the base is as before
   pub same : (j : ℕ) → j < base → getD new j 0 ≡ getD old j 0
+  -- the first i stand in their places
   pub values : (j : ℕ) → j < i → getD new (base + j) 0 ≡ getD vars j 0
 
 -- None stands yet.
@@ -69,9 +73,13 @@ saving-end {old} {new} {level} {vars} {i} c h room count next =
         getD-set-other (set new (level * frameSize + 16) count) (level * frameSize + 17) j next 0 b
         ∙ getD-set-other new (level * frameSize + 16) j count 0 a
 
+-- i of 16 variables are read back from a base on
 pub record Loading (frames : List ℕ) (base : ℕ) (vars : List ℕ) (i : ℕ) : Type 0 where
+  -- the array has 16 places
   pub long : length vars ≡ 16
+  -- i is 16 at most
   pub small : i ≤ 16
+  -- the first i are read
   pub values : (j : ℕ) → j < i → getD vars j 0 ≡ getD frames (base + j) 0
 
 -- None is read yet.
@@ -185,8 +193,11 @@ standing-same f h s =
 
 -- a room of frames copied into a longer one
 pub record Copying (short old frames : List ℕ) (i : ℕ) : Type 0 where
+  -- the longer room keeps its length
   pub long : length frames ≡ length old
+  -- no more is copied than there is
   pub small : i ≤ shortFrames
+  -- the first i numbers are copied
   pub values : (j : ℕ) → j < i → getD frames j 0 ≡ getD short j 0
 
 -- One more number is copied.

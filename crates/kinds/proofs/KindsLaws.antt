@@ -7,8 +7,8 @@ use mathlib.Core.Logic.{_⊎_, inl, inr, ⊎-elim}
 use native.Mathlib.Nat.{div-one, div-div-eq-div-mul, pow-succ', zero-div, mul-div-cancel, mul-mod-left, pow-suc, mod-eq-of-lt, mod-lt, mod-one, div-eq-of-lt}
 use native.Mathlib.Decide.{decLt, ℕ-discrete}
 use native.Mathlib.Omega.{arith}
-use lib.Bits.{bitAnd, bitOr, and-shr, or-shr, and-mod, or-mod, and-lt, or-lt}
-use lib.Count.{ones, ones-cat, trailingZeros, trailing-of-zero}
+use lib.Bits.{bitAnd, bitOr, and-shr, or-shr, and-mod, or-mod}
+use lib.Count.{ones, ones-cat, trailingZeros}
 use lib.Dec.{eqb, ltb, eqb·zero-suc, eqb·suc-zero, eqb·suc-suc, lit<}
 use lib.Pow.{pow-pos, pow-lt, pow-mono, mod-pow-add}
 use borrow.Author.Tests.{lt-ltb, le-ltb, eq-eqb, ne-eqb}
@@ -36,10 +36,12 @@ has-suc m k = cc (pow-succ' 2 k, div-div-eq-div-mul m 2 (2 ^ k))
 
 -- ------------------------------------------------------------------ the empty set, one kind, join and meet
 
+-- the empty set has no kind
 pub has-none : (k : ℕ) → hasKind 0 k ≡ false
 unfolding hasKind
 has-none k = rw (zero-div (2 ^ k)) refl
 
+-- a kind is in a union if it is in one of the two sets
 pub has-join : (a b k : ℕ) → hasKind (bitOr a b) k ≡ (hasKind a k || hasKind b k)
 unfolding hasKind
 has-join a b k =
@@ -51,6 +53,7 @@ has-join a b k =
     by x y (inr e) (inl f) = rw (e, f) refl
     by x y (inr e) (inr f) = rw (e, f) refl
 
+-- a kind is in an intersection if it is in both sets
 pub has-meet : (a b k : ℕ) → hasKind (bitAnd a b) k ≡ (hasKind a k && hasKind b k)
 unfolding hasKind
 has-meet a b k =
@@ -69,14 +72,17 @@ has-power (suc j) zero =
 has-power (suc j) (suc k) =
     rw (has-suc (2 ^ suc j) k, pow-suc 2 j, mul-div-cancel (2 ^ j) (lit< tt), has-power j k, ← eqb·suc-suc k j) refl
 
+-- the set of one kind is its power of two
 pub only-kind : (k : ℕ) → k < 64 → only k ≡ 2 ^ k
 unfolding only
 only-kind k h = rw (lt-ltb k 64 h, only) refl
 
+-- what is no kind makes the empty set
 pub only-none : (k : ℕ) → 64 ≤ k → only k ≡ 0
 unfolding only
 only-none k h = rw (le-ltb k 64 h, only) refl
 
+-- the set of a kind has that kind and no other
 pub has-only : (j k : ℕ) → hasKind (only j) k ≡ (ltb k 64 && eqb k j)
 has-only j k = by (decLt j 64) (ℕ-discrete k j)
   where
@@ -86,23 +92,19 @@ has-only j k = by (decLt j 64) (ℕ-discrete k j)
     by (no g) (yes e) = rw (only-none j (omega arith), le-ltb k 64 (omega arith)) (has-none k)
     by (no g) (no n) = rw (only-none j (omega arith), ne-eqb k j n) (has-none k ∙ sym (and-false (ltb k 64)))
 
+-- the set of a kind has it
 pub has-own : (k : ℕ) → k < 64 → hasKind (only k) k ≡ true
 has-own k h = has-only k k ∙ rw (lt-ltb k 64 h, eq-eqb k k refl) refl
 
 -- ------------------------------------------------------------------ bounds
 
+-- the set of a kind is a 64-bit number
 pub only-bound : (k : ℕ) → only k < 2 ^ 64
 only-bound k = by (decLt k 64)
   where
     by : Dec (k < 64) → only k < 2 ^ 64
     by (yes h) = rw (only-kind k h) (pow-lt h)
     by (no g) = rw (only-none k (omega arith)) (lit< tt)
-
-pub join-bound : (a b : ℕ) → a < 2 ^ 64 → b < 2 ^ 64 → bitOr a b < 2 ^ 64
-join-bound a b = or-lt 64 a b
-
-pub meet-bound : (a b : ℕ) → a < 2 ^ 64 → b < 2 ^ 64 → bitAnd a b < 2 ^ 64
-meet-bound a b = and-lt 64 a b
 
 -- a set of kinds below w has no other
 pub has-above : (w m k : ℕ) → m < 2 ^ w → w ≤ k → hasKind m k ≡ false
@@ -145,16 +147,6 @@ lowest-first (suc w) m zero h =
 lowest-first (suc w) m (suc k) h =
     ⊎-elim (λ e. has-suc m k ∙ lowest-first w (m / 2) k (omega (arith, trailing-even w m e)))
     (λ e. absurd (omega (arith, trailing-odd w m e))) (digit m)
-
--- the empty set has none
-pub lowest-none : (w : ℕ) → trailingZeros w 0 ≡ w
-lowest-none w = trailing-of-zero w
-
--- a set that is not empty has a kind
-pub has-some : (m : ℕ) → m < 2 ^ 64 → (m ≡ 0 → ⊥) → (k : ℕ) × (k < 64) × (hasKind m k ≡ true)
-has-some m h n =
-    let l : trailingZeros 64 m < 64 = lowest-bound 64 m h n in
-    (trailingZeros 64 m, l, lowest-has 64 m l)
 
 -- ------------------------------------------------------------------ sets with the same kinds
 

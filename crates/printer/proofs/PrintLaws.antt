@@ -32,6 +32,7 @@ piecesText pool cells numbers [] p = []
 piecesText pool cells numbers (text s ∷ ps) p = s ++ piecesText pool cells numbers ps p
 piecesText pool cells numbers (part x ∷ ps) p = partText pool cells numbers x p ++ piecesText pool cells numbers ps (p + partSize cells x)
 
+-- how many constructors some pieces have
 unfoldable pub piecesSize : List ℕ → List Piece → ℕ
 piecesSize cells [] = 0
 piecesSize cells (text s ∷ ps) = piecesSize cells ps
@@ -39,9 +40,13 @@ piecesSize cells (part x ∷ ps) = partSize cells x + piecesSize cells ps
 
 -- some of a part is written, and pieces of it are left
 pub record Printing (pool cells numbers : List ℕ) (x : Part) (at place : ℕ) (out : List ℕ) (ps : List Piece) (r place′ : ℕ) (out′ : List ℕ) : Type 0 where
+  -- the bytes written
   pub done : List ℕ
+  -- the part's text is these and the pieces left
   pub split : partText pool cells numbers x place ≡ done ++ piecesText pool cells numbers ps place′
+  -- they are written from `at` to r
   pub wrote : Wrote out at done r out′
+  -- the constructors passed and those left are all of the part
   pub moved : place′ + piecesSize cells ps ≡ place + partSize cells x
 
 module _ {pool cells numbers : List ℕ} {x : Part} {at place : ℕ} {out : List ℕ} where
@@ -59,6 +64,7 @@ module _ {pool cells numbers : List ℕ} {x : Part} {at place : ℕ} {out : List
         length-append s (piecesText pool cells numbers ps place′),
       )
 
+  -- the part fits, so the next part of it does
   pub next-fits : {y : Part} {ps : List Piece} {r place′ : ℕ} {out′ : List ℕ}
       → Printing pool cells numbers x at place out (part y ∷ ps) r place′ out′ → Fits pool cells numbers x at place → Fits pool cells numbers y r place′
   unfolding piecesText piecesSize
@@ -91,6 +97,7 @@ module _ {pool cells numbers : List ℕ} {x : Part} {at place : ℕ} {out : List
         moved = P .moved;
       }
 
+  -- one part more is printed
   pub next-part : {y : Part} {ps : List Piece} {r r′ place′ place″ : ℕ} {out′ out″ : List ℕ}
       → Printing pool cells numbers x at place out (part y ∷ ps) r place′ out′ → Printed pool cells numbers y r place′ out′ r′ place″ out″
       → Printing pool cells numbers x at place out ps r′ place″ out″
@@ -125,11 +132,13 @@ module _ {pool cells numbers : List ℕ} {k row at p : ℕ} {out : List ℕ} {r 
         → 1 + piecesSize cells ps ≡ sizeAt cells k row → Printing pool cells numbers (term k row) at p out ps r (p + 1) out′
     opened ps e m = record { done = termOpening pool cells numbers k row p; split = e; wrote = w; moved = omega (arith, m) }
 
+    -- behind the opening of a term with no depth left: the parenthesis
     pub opened-shallow : k ≡ 0 → Printing pool cells numbers (term k row) at p out (text close ∷ []) r (p + 1) out′
     unfolding partText termOpening termAt labelled piecesText piecesSize size
     opened-shallow e = opened (text close ∷ []) (rw e (print-num 0)) (rw e refl)
 
     module _ (some : k ≡ 0 → ⊥) {code : ℕ} (c : code ≡ column cells row 0) where
+      -- behind that of a function: its body
       pub opened-fun : {q : ℕ} → code ≡ 33 → q ≡ column cells row 2
           → Printing pool cells numbers (term k row) at p out (part (term (k - 1) q) ∷ text close ∷ []) r (p + 1) out′
       unfolding partText termOpening labelled piecesText piecesSize size
@@ -137,6 +146,7 @@ module _ {pool cells numbers : List ℕ} {k row at p : ℕ} {out : List ℕ} {r 
           opened _ (rw (eq, rows.fun-row (spellIn pool) cells k row some c e, add-one p) (print-fun _ _))
           (rw (eq, rows.fun-row noSpell cells k row some c e) (omega arith))
 
+      -- behind that of an application: its two terms, with a space between
       pub opened-app : {q q′ : ℕ} → code ≡ 34 → q ≡ column cells row 1 → q′ ≡ column cells row 2
           → Printing pool cells numbers (term k row) at p out (part (term (k - 1) q) ∷ text space ∷ part (term (k - 1) q′) ∷ text close ∷ []) r (p + 1) out′
       unfolding partText termOpening labelled piecesText piecesSize size
@@ -151,6 +161,7 @@ module _ {pool cells numbers : List ℕ} {k row at p : ℕ} {out : List ℕ} {r 
           ) (print-app _ _))
           (rw (eq, eq′, rows.app-row noSpell cells k row some c e) (omega arith))
 
+      -- behind that of a record: its fields
       pub opened-rcd : {q : ℕ} → code ≡ 35 → q ≡ column cells row 1
           → Printing pool cells numbers (term k row) at p out (part (fields (k - 1) q) ∷ text close ∷ []) r (p + 1) out′
       unfolding partText termOpening labelled piecesText piecesSize size
@@ -158,6 +169,7 @@ module _ {pool cells numbers : List ℕ} {k row at p : ℕ} {out : List ℕ} {r 
           opened _ (rw (eq, rows.rcd-row (spellIn pool) cells k row some c e, add-one p) (print-rcd _))
           (rw (eq, rows.rcd-row noSpell cells k row some c e) (omega arith))
 
+      -- behind that of a selection: its term, a space and its label
       pub opened-dot : {q l : ℕ} → code ≡ 36 → q ≡ column cells row 1 → l ≡ column cells row 2
           → Printing pool cells numbers (term k row) at p out (part (term (k - 1) q) ∷ text space ∷ text (spellIn pool l) ∷ text close ∷ []) r (p + 1) out′
       unfolding partText termOpening labelled piecesText piecesSize size
@@ -165,6 +177,7 @@ module _ {pool cells numbers : List ℕ} {k row at p : ℕ} {out : List ℕ} {r 
           opened _ (rw (eq, el, rows.dot-row (spellIn pool) cells k row some c e, add-one p) (print-dot _ _))
           (rw (eq, rows.dot-row noSpell cells k row some c e) (omega arith))
 
+      -- behind that of a variable or a number: the parenthesis
       pub opened-bare : (((Unit {0} × (code ≡ 33 → ⊥)) × (code ≡ 34 → ⊥)) × (code ≡ 35 → ⊥)) × (code ≡ 36 → ⊥)
           → Printing pool cells numbers (term k row) at p out (text close ∷ []) r (p + 1) out′
       unfolding partText termOpening labelled piecesText piecesSize size
@@ -184,11 +197,13 @@ module _ {pool cells numbers : List ℕ} {k row at p : ℕ} {out : List ℕ} {r 
         → 1 + piecesSize cells ps ≡ sizeFieldsAt cells k row → Printing pool cells numbers (fields k row) at p out ps r (p + 1) out′
     opened-fields ps e m = record { done = fieldsOpening pool cells k row; split = e; wrote = w; moved = omega (arith, m) }
 
+    -- behind that of a field list with no depth left: the parenthesis
     pub opened-shallow-fields : k ≡ 0 → Printing pool cells numbers (fields k row) at p out (text close ∷ []) r (p + 1) out′
     unfolding partText fieldsOpening fieldsAt labelledFields openingFields piecesText piecesSize sizeFields
     opened-shallow-fields e = opened-fields (text close ∷ []) (rw e print-nil) (rw e refl)
 
     module _ (some : k ≡ 0 → ⊥) {code : ℕ} (c : code ≡ column cells row 0) where
+      -- behind that of a field: its term, a space and the fields behind it
       pub opened-cons : {q q′ : ℕ} → code ≡ 38 → q ≡ column cells row 2 → q′ ≡ column cells row 3
           → Printing pool cells numbers (fields k row) at p out (part (term (k - 1) q) ∷ text space ∷ part (fields (k - 1) q′) ∷ text close ∷ []) r (p + 1) out′
       unfolding partText fieldsOpening labelledFields openingFields piecesText piecesSize sizeFields
@@ -203,6 +218,7 @@ module _ {pool cells numbers : List ℕ} {k row at p : ℕ} {out : List ℕ} {r 
           ) (print-cons _ _ _))
           (rw (eq, eq′, rows.cons-row noSpell cells k row some c e) (omega arith))
 
+      -- behind that of the empty field list: the parenthesis
       pub opened-nil : (code ≡ 38 → ⊥) → Printing pool cells numbers (fields k row) at p out (text close ∷ []) r (p + 1) out′
       unfolding partText fieldsOpening labelledFields openingFields piecesText piecesSize sizeFields
       opened-nil e =
@@ -212,6 +228,7 @@ module _ {pool cells numbers : List ℕ} {k row at p : ℕ} {out : List ℕ} {r 
 -- ------------------------------------------------------------------ the opening fits, and its place is there
 
 module _ {pool cells numbers : List ℕ} {k row at p : ℕ} where
+  -- a term fits, so its opening does
   pub opening-fits : Fits pool cells numbers (term k row) at p → OpeningFits pool cells numbers k row at p
   unfolding partText termOpening
   opening-fits f =
@@ -221,10 +238,12 @@ module _ {pool cells numbers : List ℕ} {k row at p : ℕ} where
         few = f .few;
       }
 
+  -- a field list fits, so its opening does
   pub fields-opening-fits : Fits pool cells numbers (fields k row) at p → FieldsOpeningFits pool cells k row at
   unfolding partText fieldsOpening
   fields-opening-fits f =
       record { room = omega (arith, f .room, opening-part-fields numbers p (fieldsAt k (spellIn pool) cells row)) }
 
+  -- a field list that fits has a place below 16,384
   pub fields-inside : Fits pool cells numbers (fields k row) at p → p < 16384
   fields-inside f = omega (arith, f .inside, f .few, size-some-fields (fieldsAt k noSpell cells row))

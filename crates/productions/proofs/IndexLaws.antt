@@ -90,12 +90,19 @@ without-one n p g b e = rw (e, placesWithout) refl
 
 -- of the first k, those before i are dropped or lie below w
 pub record Dropping (n k : ℕ) (owners₀ starts₀ : List ℕ) (i w : ℕ) (owners starts : List ℕ) : Type 0 where
+  -- no more places are kept than were looked at
   pub low : w ≤ i
+  -- no more are looked at than there are
   pub high : i ≤ k
+  -- the array of owners has room for all
   pub owner-room : k ≤ length owners
+  -- the array of offsets has room for all
   pub start-room : k ≤ length starts
+  -- the array of owners keeps its length
   pub owners-many : length owners ≡ length owners₀
+  -- the array of offsets keeps its length
   pub starts-many : length starts ≡ length starts₀
+  -- the places kept, and those left without n's, are all without n's
   pub rest : placesIn w owners starts ++ placesWithout n (placesFrom (k - i) owners starts i) ≡ placesWithout n (placesIn k owners₀ starts₀)
 
 -- all places are left at first
@@ -233,8 +240,11 @@ module _ (at tag : ℕ) (v : List ℕ) (fs : Fields) where
 
 -- the fields before `at` gave the first k entries, and n is the nonterminal of the alternatives to come
 pub record Building (bs : List ℕ) (at n k : ℕ) (owners starts : List ℕ) : Type 0 where
+  -- the table is not too long
   pub short : length bs ≤ 16384
+  -- there is room for the alternatives left
   pub room : k + alternativeFields (fieldsAt bs at) ≤ 256
+  -- the fields left, after the places entered, give the places of the whole table
   pub rest : placesBy (fieldsAt bs at) n (placesIn k owners starts) ≡ placesOf bs
 
 -- at the first field

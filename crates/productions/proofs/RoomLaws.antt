@@ -9,7 +9,7 @@ use lib.Dec.{eqb}
 use lib.ListN.{length, getD, drop, length-append, length-drop, List·getD-append}
 use lib.Seq.{getD-append-add, ext-getD}
 use Rattle.productions.specs.Room.{Entry, noEntry, HoldsEntries, placeFrom, isOf, isNullableOf, valuesOf, placesNumber, flagNumber}
-use Rattle.productions.specs.Room.{linkNumber, entryNumbers, roomOf, countIn, firstSetIn, firstPlaceIn, nullablePlaceIn}
+use Rattle.productions.specs.Room.{linkNumber, entryNumbers, roomOf, firstSetIn, firstPlaceIn, nullablePlaceIn}
 use Rattle.productions.specs.Room.{firstIn, startIn, nextPlaceIn, nullableIn}
 
 -- ------------------------------------------------------------------ values
@@ -159,10 +159,6 @@ module _ {sets : List ℕ} {es : List Entry} {room : List ℕ} (h : HoldsEntries
   parts : room ≡ fourParts (length es) setOf (placesNumber es) (entryNumbers es 0 ++ h .rest)
   unfolding roomOf
   parts = h .held ∙ simp append-assoc
-
-  -- How many entries there are.
-  pub count-in : countIn room ≡ length es
-  count-in = ap countIn parts
 
   at-entries : (i : ℕ) → getD room (129 + i) 0 ≡ getD (entryNumbers es 0 ++ h .rest) i 0
   at-entries i = rw parts (last-part (length es) setOf (placesNumber es) (entryNumbers es 0 ++ h .rest) i)

@@ -17,13 +17,21 @@ use Rattle.productions.proofs.RoomLaws.{second-part, length-parts, part
 
 -- the first sets before number n are written, and the nonterminals before it have no place
 pub record Beginning (m : ℕ) (sets room₀ : List ℕ) (n : ℕ) (room : List ℕ) : Type 0 where
+  -- n is a nonterminal or the end
   pub small : n ≤ 64
+  -- the room has its size
   pub size : length room ≡ 641
+  -- so had the room before
   pub many : length room₀ ≡ 641
+  -- there is a first set for each nonterminal
   pub sets-many : length sets ≡ 64
+  -- the count of productions stands in front
   pub count : getD room 0 0 ≡ m
+  -- the sets written are those given
   pub set-in : (i : ℕ) → i < n → getD room (1 + i) 0 ≡ getD sets i 0
+  -- 131,328 is 256 + 512 × 256: no production, and no nullable one
   pub place-in : (i : ℕ) → i < n → getD room (65 + i) 0 ≡ 131328
+  -- the numbers behind are as before
   pub tail : (i : ℕ) → getD room (129 + i) 0 ≡ getD room₀ (129 + i) 0
 
 -- the count is written first
@@ -148,16 +156,26 @@ module _ (e : Entry) (j : ℕ) {room : List ℕ} (at : RoomAt j (e .owner) room)
 
 -- The entries behind number j are laid. `es` has all of them.
 pub record Filling (sets : List ℕ) (es : List Entry) (room₀ : List ℕ) (j : ℕ) (room : List ℕ) : Type 0 where
+  -- j is at most the number of entries
   pub low : j ≤ length es
+  -- there are at most 256 entries
   pub few : length es ≤ 256
+  -- the room has its size
   pub size : length room ≡ 641
+  -- so had the room before
   pub old-size : length room₀ ≡ 641
+  -- the count of productions stands in front
   pub count : getD room 0 0 ≡ length es
+  -- each nonterminal has its first set
   pub set-in : (n : ℕ) → n < 64 → getD room (1 + n) 0 ≡ getD sets n 0
+  -- each nonterminal has the places of its first and its nullable entry among those laid
   pub places : (n : ℕ) → n < 64
       → getD room (65 + n) 0 ≡ placeFrom (isOf n) (drop j es) j + 512 * placeFrom (isNullableOf n) (drop j es) j
+  -- each entry laid has its first set
   pub first : (i : ℕ) → j ≤ i → i < length es → getD room (129 + 2 * i) 0 ≡ getD es i noEntry .first
+  -- each entry laid has its offset, its next entry and its flag
   pub link : (i : ℕ) → j ≤ i → i < length es → getD room (130 + 2 * i) 0 ≡ linkNumber (getD es i noEntry) (drop (i + 1) es) i
+  -- the numbers behind all entries are as before
   pub tail : (i : ℕ) → 129 + 2 * length es ≤ i → getD room i 0 ≡ getD room₀ i 0
 
 -- begun: no entry is laid

@@ -89,10 +89,15 @@ module _ (lex : Lexicon) (few : length (lex .outsides) ≤ 64) (formula : List �
 
   -- the rooms of an accepted scan hold its tokens and its words
   pub record Holds (tokens words : List ℕ) (n count : ℕ) : Type 0 where
+    -- the scan accepts n tokens and as many words of the formula's own as counted
     pub answered : scan lex formula .answer ≡ Tokens n count
+    -- the first n rows are its tokens
     pub tokens-are : tokensIn tokens n ≡ scan lex formula .tokens
+    -- they can be read off the room
     pub tokens-fit : TokensFit tokens n
+    -- the places stored name its words
     pub words-are : wordsIn formula words count ≡ scan lex formula .words
+    -- there are no more words than tokens
     pub few-words : count ≤ n
 
   module _ {tokens words : List ℕ} (room : RoomFor formula tokens words) where

@@ -122,6 +122,7 @@ module _ (lex : Lexicon) (few : length (lex .outsides) ≤ 64) (formula : List �
       let m : Steps lex met at (drop at formula) t met′ = stands-steps few some st in
       rw (lex-step k lex at (drop at formula) n met (Emit t) some (m .emits), le-ltb n mostTokens (omega arith)) refl
 
+  -- What the rules refuse, the scan refuses with the same refusal.
   pub unscans-answer : {r : Refusal} → Unscans lex formula r → scan lex formula .answer ≡ Unscanned r
   unscans-answer (too-long h) = simp (scan-long lex formula h)
   unscans-answer (a-fault {at = at} {ts = ts} {met = met} short d small h f) =
@@ -205,5 +206,6 @@ module _ (lex : Lexicon) (few : length (lex .outsides) ≤ 64) (formula : List �
       let over : longestFormula < length formula = leb-false (length formula) longestFormula e in
       rw (scan-long lex formula over) (too-long over))
 
+  -- What the scan refuses, the rules refuse with the same refusal.
   pub answer-unscans : {r : Refusal} → scan lex formula .answer ≡ Unscanned r → Unscans lex formula r
   answer-unscans e = rw (e) at scan-unscans

@@ -17,7 +17,7 @@ use Rattle.scanner.proofs.WordLaws.{both}
 
 -- ------------------------------------------------------------------ the classes of bytes are apart
 
-pub separator-low : (b : ℕ) → 33 ≤ b → isSeparator b ≡ false
+separator-low : (b : ℕ) → 33 ≤ b → isSeparator b ≡ false
 separator-low b h =
     rw (
       ne-eqb b 9 (λ e. omega (arith, e)),
@@ -27,7 +27,7 @@ separator-low b h =
     )
     refl
 
-pub letter-high : (b : ℕ) → isLetter b ≡ true → 65 ≤ b
+letter-high : (b : ℕ) → isLetter b ≡ true → 65 ≤ b
 letter-high b e = by-test (leb 65 b) (λ h. leb-true 65 b h) later
   where
     later : leb 65 b ≡ false → 65 ≤ b
@@ -43,22 +43,28 @@ letter-low b e = by-test (leb 65 b && leb b 90) (λ h. omega (arith, leb-true b 
         let f : (leb 97 b && leb b 122) ≡ true = rw h at e in
         omega (arith, leb-true b 122 (both (leb 97 b) (leb b 122) f .1))
 
-pub digit-range : (b : ℕ) → isDigit b ≡ true → (48 ≤ b) × (b ≤ 57)
+digit-range : (b : ℕ) → isDigit b ≡ true → (48 ≤ b) × (b ≤ 57)
 digit-range b e =
     let p = both (leb 48 b) (leb b 57) e in
     (leb-true 48 b (p .0), leb-true b 57 (p .1))
 
-pub digit-no-letter : (b : ℕ) → isDigit b ≡ true → isLetter b ≡ false
+digit-no-letter : (b : ℕ) → isDigit b ≡ true → isLetter b ≡ false
 digit-no-letter b e =
     let r = digit-range b e in
     rw (lt-leb 65 b (omega (arith, r .1)), lt-leb 97 b (omega (arith, r .1))) refl
 
+-- a byte that may be a symbol
 pub record SymbolOnly (b : ℕ) : Type 0 where
+  -- it is not below the first symbol
   pub high : 33 ≤ b
+  -- it is not above the last
   pub low : b ≤ 126
+  -- it is no letter
   pub no-letter : isLetter b ≡ false
+  -- it is no digit
   pub no-digit : isDigit b ≡ false
 
+-- a symbol is a byte of 33 to 126 that is neither letter nor digit
 pub symbol-only : (b : ℕ) → isSymbol b ≡ true → SymbolOnly b
 symbol-only b e =
     let p = both (leb 33 b && leb b 126 && not (isLetter b)) (not (isDigit b)) e in
@@ -81,14 +87,17 @@ module _ (b : ℕ) (out : 33 ≤ b → b ≤ 126 → ⊥) where
 -- ------------------------------------------------------------------ the lexeme that the bytes at the front tell
 
 module _ (rest : List ℕ) where
+  -- a separator byte is a separator
   pub lexeme-separator : isSeparator (getD rest 0 0) ≡ true → Separator ≡ lexemeOf rest
   lexeme-separator s = sym (lexeme-is rest true _ _ _ refl s refl refl refl)
 
+  -- a letter begins the word of all word bytes from it on, if they are not too many
   pub lexeme-word : isLetter (getD rest 0 0) ≡ true → length (run isWordByte rest) ≤ 31 → Word (length (run isWordByte rest)) ≡ lexemeOf rest
   lexeme-word l h =
       let s : isSeparator (getD rest 0 0) ≡ false = separator-low (getD rest 0 0) (omega (arith, letter-high (getD rest 0 0) l)) in
       sym (lexeme-is rest false true _ _ refl s l refl refl ∙ word-fits (length (run isWordByte rest)) h)
 
+  -- a digit begins the number of all digits from it on, if it is not too large
   pub lexeme-number : isDigit (getD rest 0 0) ≡ true → valueOf (run isDigit rest) ≤ largest
       → Number (length (run isDigit rest)) (valueOf (run isDigit rest)) ≡ lexemeOf rest
   lexeme-number d h =
@@ -97,16 +106,19 @@ module _ (rest : List ℕ) where
       = rw (le-leb (valueOf (run isDigit rest)) largest h, numberLexeme) refl in
       sym (lexeme-is rest false false true _ refl s (digit-no-letter (getD rest 0 0) d) d refl ∙ f)
 
+  -- a digit begins a number or a fault
   pub lexeme-digits : isDigit (getD rest 0 0) ≡ true → lexemeOf rest ≡ numberLexeme (run isDigit rest)
   lexeme-digits d =
       let s : isSeparator (getD rest 0 0) ≡ false = separator-low (getD rest 0 0) (omega (arith, digit-range (getD rest 0 0) d .0)) in
       lexeme-is rest false false true _ refl s (digit-no-letter (getD rest 0 0) d) d refl
 
+  -- a symbol byte is a symbol
   pub lexeme-symbol : isSymbol (getD rest 0 0) ≡ true → Symbol ≡ lexemeOf rest
   lexeme-symbol y =
       let o = symbol-only (getD rest 0 0) y in
       sym (lexeme-is rest false false false true refl (separator-low (getD rest 0 0) (o .high)) (o .no-letter) (o .no-digit) y)
 
+  -- a bad byte, a long word or a large number is a fault
   pub lexeme-fault : Faulty rest → Fault ≡ lexemeOf rest
   lexeme-fault (bad-byte s out) =
       let b : ℕ = getD rest 0 0 in

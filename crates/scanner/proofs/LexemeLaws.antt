@@ -2,10 +2,10 @@
 use Prim.Native.Nat.{ℕ, _+_, _<_, _≤_}
 use mathlib.Core.Path.{_≡_, refl, sym, ap, _∙_}
 use mathlib.Core.Bool.{Bool, true, false}
-use mathlib.Core.List.{List, [], _∷_}
+use mathlib.Core.List.{List, []}
 use native.Mathlib.Omega.{arith}
 use lib.Dec.{leb}
-use lib.ListN.{length, getD, take, length-take}
+use lib.ListN.{length, getD, take}
 use borrow.Author.Tests.{le-leb, lt-leb}
 use Rattle.spellings.specs.Bytes.{isLetter, isDigit, isWordByte, isSeparator, isSymbol, run, indexOf, largest, valueOf}
 use Rattle.spellings.proofs.BytesLaws.{run-prefix, run-length}
@@ -15,20 +15,21 @@ use Rattle.spellings.specs.declared.Number.the-variants.{Value, TooLarge}
 use Rattle.grammar.specs.declared.Found.{Found}
 use Rattle.grammar.specs.declared.Found.the-variants.{At, Absent}
 use Rattle.grammar.specs.Table.{Lexicon}
-use Rattle.grammar.specs.Lookup.{leading, afterLeading, lexiconOf, fieldsAt}
 use Rattle.grammar.specs.Found.{foundIn}
-use Rattle.grammar.proofs.LookupLaws.{keywords-at, outsides-at, found-within}
 use Rattle.kinds.specs.Kinds.{wordKind, keywordKind}
 use Rattle.scanner.specs.Scan.{Lexeme, Separator, Word, Number, Symbol, Fault, wordLexeme, numberLexeme, lexemeOf, kindOf, numberOr, spellingOf}
 
 -- ------------------------------------------------------------------ words and numbers
 
+-- a run of at most 31 bytes is a word
 pub word-fits : (n : ℕ) → n ≤ 31 → wordLexeme n ≡ Word n
 word-fits n h = rw (le-leb n 31 h, wordLexeme) refl
 
+-- a longer one is a fault
 pub word-long : (n : ℕ) → 31 < n → wordLexeme n ≡ Fault
 word-long n h = rw (lt-leb n 31 h, wordLexeme) refl
 
+-- the lexeme of n digits, by their number
 abbrev pub numberBy : ℕ → number.Number → Lexeme
 numberBy n (Value v) = Number n v
 numberBy n TooLarge = Fault
@@ -45,15 +46,11 @@ number-is rest {n} v e f =
     number-tests (run isDigit rest) _ refl ∙ rw (← e) refl
     ∙ ap (numberBy n) (sym (f ∙ ap numberOf d))
 
+-- a run of digits ends inside what is left
 pub digits-within : (rest : List ℕ) {n : ℕ} → n ≡ length (run isDigit rest) → n ≤ length rest
 digits-within rest e = omega (arith, run-length isDigit rest)
 
 -- ------------------------------------------------------------------ the lexeme by its first byte
-
-pub lexeme-none : (rest : List ℕ) → length rest ≡ 0 → lexemeOf rest ≡ Fault
-unfolding lexemeOf
-lexeme-none [] h = refl
-lexeme-none (b ∷ bs) h = absurd (omega arith)
 
 -- by the classes of the first byte
 abbrev chosen : List ℕ → Bool → Bool → Bool → Bool → Lexeme
@@ -69,6 +66,7 @@ chosen rest separator letter digit symbol =
           ]
     ]
 
+-- the lexeme, by the four tests of the first byte
 pub lexeme-is : (rest : List ℕ) {b : ℕ} (separator letter digit symbol : Bool) → b ≡ getD rest 0 0
     → isSeparator b ≡ separator → isLetter b ≡ letter → isDigit b ≡ digit → isSymbol b ≡ symbol
     → lexemeOf rest ≡ chosen rest separator letter digit symbol
@@ -82,14 +80,11 @@ abbrev kindBy : Found → ℕ → ℕ
 kindBy (At k) other = keywordKind k
 kindBy Absent other = other
 
+-- a spelling's kind, by what a search among the keywords finds
 pub kind-found : (lex : Lexicon) (s : List ℕ) (other : ℕ) (f : Found) → f ≡ foundIn s (lex .keywords) → kindOf lex s other ≡ kindBy f other
 unfolding kindOf
 kind-found lex s other (At k) e = rw (← e, kindOf) refl
 kind-found lex s other Absent e = rw (← e, kindOf) refl
-
-pub kind-is : (table s : List ℕ) (other : ℕ) (f : Found) → f ≡ foundIn s (take 62 (leading 1 (fieldsAt table 0)))
-    → kindOf (lexiconOf table) s other ≡ kindBy f other
-kind-is table s other f e = kind-found (lexiconOf table) s other f (e ∙ ap (foundIn s) (sym (keywords-at table)))
 
 -- only a word has the kind of a word
 pub word-only : (lex : Lexicon) (s : List ℕ) (other : ℕ) → (other ≡ wordKind → ⊥) → kindOf lex s other ≡ wordKind → ⊥
@@ -99,37 +94,22 @@ word-only lex s other h e = by-found (foundIn s (lex .keywords)) refl
     by-found (At k) p = omega (arith, sym (kind-found lex s other (At k) p) ∙ e)
     by-found Absent p = h (sym (kind-found lex s other Absent p) ∙ e)
 
--- a place among at most `most` spellings
-below : (most : ℕ) (s : List ℕ) (vs : List (List ℕ)) {k : ℕ} → At k ≡ foundIn s (take most vs) → k < most
-below most s vs e = omega (arith, found-within s (take most vs) e, length-take most vs)
-
-pub keyword-below : (table s : List ℕ) {k : ℕ} → At k ≡ foundIn s (take 62 (leading 1 (fieldsAt table 0))) → k < 62
-keyword-below table s e = below 62 s (leading 1 (fieldsAt table 0)) e
-
-pub outside-below : (table s : List ℕ) (names : ℕ) {k : ℕ} → At k ≡ foundIn s (take 64 (leading 2 (fieldsAt table names))) → k < 64
-outside-below table s names e = below 64 s (leading 2 (fieldsAt table names)) e
-
 abbrev numberIs : Found → ℕ → ℕ
 numberIs (At k) fresh = k
 numberIs Absent fresh = fresh
 
-pub number-found : (lex : Lexicon) (s : List ℕ) (fresh : ℕ) (f : Found) → f ≡ foundIn s (lex .outsides)
+number-found : (lex : Lexicon) (s : List ℕ) (fresh : ℕ) (f : Found) → f ≡ foundIn s (lex .outsides)
     → numberOr lex s fresh ≡ numberIs f fresh
 unfolding numberOr
 number-found lex s fresh (At k) e = rw (← e, numberOr) refl
 number-found lex s fresh Absent e = rw (← e, numberOr) refl
 
-pub outside-number : (table s : List ℕ) (names fresh : ℕ) (f : Found) → fieldsAt table names ≡ afterLeading 1 (fieldsAt table 0)
-    → f ≡ foundIn s (take 64 (leading 2 (fieldsAt table names)))
-    → numberOr (lexiconOf table) s fresh ≡ numberIs f fresh
-outside-number table s names fresh f n e =
-    number-found (lexiconOf table) s fresh f (e ∙ ap (foundIn s) (sym (outsides-at table names n)))
-
-pub spelling-number : (lex : Lexicon) (words : List (List ℕ)) (s : List ℕ)
+spelling-number : (lex : Lexicon) (words : List (List ℕ)) (s : List ℕ)
     → numberOr lex s (64 + indexOf s words) ≡ spellingOf lex words s
 unfolding spellingOf
 spelling-number lex words s = refl
 
+-- a word's spelling number, by what a search among the outside names finds
 pub spelling-found : (lex : Lexicon) (words : List (List ℕ)) (s : List ℕ) (f : Found) → f ≡ foundIn s (lex .outsides)
     → spellingOf lex words s ≡ numberIs f (64 + indexOf s words)
 spelling-found lex words s f e = sym (spelling-number lex words s) ∙ number-found lex s (64 + indexOf s words) f e

@@ -66,6 +66,7 @@ module _ (s : List ℕ) (vs us : List (List ℕ)) where
       (λ e. omega (arith, ltb-false (indexOf s vs) (length vs) e, index-le s vs))
 
 module _ {table room tree : List ℕ} (x : Lexical table room tree) where
+  -- the table's spellings can be searched
   pub lexical-planted : Planted table room tree 127 (getD room 381 0)
   lexical-planted =
       record {
@@ -73,9 +74,6 @@ module _ {table room tree : List ℕ} (x : Lexical table room tree) where
         placed = omega (arith, x .spellings, x .long, few-keywords table, few-outsides table);
         linked = omega (arith, x .spellings, x .wide, few-keywords table, few-outsides table);
       }
-
-  pub few-names : getD room 381 0 ≤ 126
-  few-names = omega (arith, x .spellings, few-keywords table, few-outsides table)
 
   module _ {s : List ℕ} where
     module _ {i : ℕ} (f : FoundAt (wordsIn table room (getD room 381 0)) s i) where
@@ -86,16 +84,16 @@ module _ {table room tree : List ℕ} (x : Lexical table room tree) where
       found-small =
           omega (arith, f .inside, ap length (x .spelled), length-append (lexiconOf table .keywords) (lexiconOf table .outsides))
 
-      pub found-fits : i < 126
+      found-fits : i < 126
       found-fits = omega (arith, found-small, few-keywords table, few-outsides table)
 
-      pub name-keyword : i < getD room 380 0 → Named (lexiconOf table) s (Keyword i)
+      name-keyword : i < getD room 380 0 → Named (lexiconOf table) s (Keyword i)
       name-keyword h =
           let z : indexOf s (lexiconOf table .keywords) ≡ i
           = split-front s (lexiconOf table .keywords) (lexiconOf table .outsides) (omega (arith, found-index, x .keywords)) ∙ sym found-index in
           a-keyword (subst (FirstAt s (lexiconOf table .keywords)) z (index-is-first s (lexiconOf table .keywords) (omega (arith, x .keywords))))
 
-      pub name-outside : getD room 380 0 ≤ i → Named (lexiconOf table) s (Outside (i - getD room 380 0))
+      name-outside : getD room 380 0 ≤ i → Named (lexiconOf table) s (Outside (i - getD room 380 0))
       name-outside h =
           let none : indexOf s (lexiconOf table .keywords) ≡ length (lexiconOf table .keywords)
           = split-back s (lexiconOf table .keywords) (lexiconOf table .outsides) (omega (arith, found-index, x .keywords)) in
@@ -105,7 +103,7 @@ module _ {table room tree : List ℕ} (x : Lexical table room tree) where
           (subst (FirstAt s (lexiconOf table .outsides)) z
           (index-is-first s (lexiconOf table .outsides) (omega (arith, z, found-small, x .keywords))))
 
-    pub name-other : {slot : ℕ} → FreeFor 127 (wordsIn table room (getD room 381 0)) tree s slot → Named (lexiconOf table) s Other
+    name-other : {slot : ℕ} → FreeFor 127 (wordsIn table room (getD room 381 0)) tree s slot → Named (lexiconOf table) s Other
     name-other f =
         let ks : List (List ℕ) = lexiconOf table .keywords in
         let os : List (List ℕ) = lexiconOf table .outsides in
@@ -117,13 +115,13 @@ module _ {table room tree : List ℕ} (x : Lexical table room tree) where
 -- ------------------------------------------------------------------ words of the formula's own
 
 module _ {mask : ℕ} {met : List (List ℕ)} {links s : List ℕ} {at size : ℕ} {r : Made} where
-  pub own-again : {i : ℕ} → FoundAt met s i → r ≡ made (Emit (token wordKind at size (64 + i))) (Node 0)
+  own-again : {i : ℕ} → FoundAt met s i → r ≡ made (Emit (token wordKind at size (64 + i))) (Node 0)
       → OwnWord mask met links at size s r
   own-again {i} f e =
       let first : FirstAt s met i = subst (FirstAt s met) (sym (f .index)) (index-is-first s met (omega (arith, f .index, f .inside))) in
       rw e (met-before first)
 
-  pub own-new : {slot count : ℕ} → FreeFor mask met links s slot → count ≡ length met
+  own-new : {slot count : ℕ} → FreeFor mask met links s slot → count ≡ length met
       → r ≡ made (Emit (token wordKind at size (64 + count))) (Free slot)
       → OwnWord mask met links at size s r
   own-new f z e = rw (e, z) (first-met f)
@@ -153,18 +151,18 @@ module _ {lex : Lexicon} (few : length (lex .outsides) ≤ 64) {mask : ℕ} {met
       }
 
   module _ {s : List ℕ} (w : WordFront rest s) where
-    pub keyword-step : {k : ℕ} → FirstAt s (lex .keywords) k
+    keyword-step : {k : ℕ} → FirstAt s (lex .keywords) k
         → Stepped lex mask met links at rest (made (Emit (token (keywordKind k) at (length s) 0)) (Node 0))
     keyword-step {k} f =
         stepped-old (rule.a-keyword w f) (no-word-new (length met) (token (keywordKind k) at (length s) 0) (λ e. omega (arith, e)))
 
-    pub outside-step : {k : ℕ} → NotIn s (lex .keywords) → FirstAt s (lex .outsides) k
+    outside-step : {k : ℕ} → NotIn s (lex .keywords) → FirstAt s (lex .outsides) k
         → Stepped lex mask met links at rest (made (Emit (token wordKind at (length s) k)) (Node 0))
     outside-step {k} n f =
         stepped-old (rule.an-outside-name w n f)
         (known-new (length met) (token wordKind at (length s) k) refl (λ e. omega (arith, e, f .there)))
 
-    pub own-step : {r : Made} → NotIn s (lex .keywords) → NotIn s (lex .outsides) → OwnWord mask met links at (length s) s r
+    own-step : {r : Made} → NotIn s (lex .keywords) → NotIn s (lex .outsides) → OwnWord mask met links at (length s) s r
         → Stepped lex mask met links at rest r
     own-step n o (met-before {k = k} f) =
         stepped-old (rule.a-word-again w n o f)
@@ -186,7 +184,7 @@ module _ {lex : Lexicon} (few : length (lex .outsides) ≤ 64) {mask : ℕ} {met
   mark-stepped m =
       record { step-is = m .step-is met; agrees = λ t e. no-word-new (length met) t (m .no-word t e); free = λ t e. tt }
 
-  pub long-stepped : isLetter (getD rest 0 0) ≡ true → 31 < length (run isWordByte rest)
+  long-stepped : isLetter (getD rest 0 0) ≡ true → 31 < length (run isWordByte rest)
       → Stepped lex mask met links at rest (made Stop (Node 0))
   long-stepped l long =
       record {
@@ -198,7 +196,7 @@ module _ {lex : Lexicon} (few : length (lex .outsides) ≤ 64) {mask : ℕ} {met
 -- ------------------------------------------------------------------ what is no word
 
 module _ {lex : Lexicon} {at : ℕ} {rest : List ℕ} where
-  pub separator-marks : isSeparator (getD rest 0 0) ≡ true → Marks lex at rest Skip
+  separator-marks : isSeparator (getD rest 0 0) ≡ true → Marks lex at rest Skip
   separator-marks s =
       record {
         step-is = λ met. step-by lex met at rest (lexeme-separator rest s);
@@ -226,13 +224,13 @@ module _ {lex : Lexicon} {at : ℕ} {rest : List ℕ} where
       }
 
   module _ (d : isDigit (getD rest 0 0) ≡ true) {n : ℕ} (e : n ≡ length (run isDigit rest)) where
-    pub number-marks : {v : ℕ} → Value v ≡ numberOf (take n rest) → Marks lex at rest (Emit (token numberKind at n v))
+    number-marks : {v : ℕ} → Value v ≡ numberOf (take n rest) → Marks lex at rest (Emit (token numberKind at n v))
     number-marks {v} f = number-lexeme (sym (lexeme-digits rest d ∙ number-is rest (Value v) e f))
 
-    pub large-marks : TooLarge ≡ numberOf (take n rest) → Marks lex at rest Stop
+    large-marks : TooLarge ≡ numberOf (take n rest) → Marks lex at rest Stop
     large-marks f = fault-lexeme (sym (lexeme-digits rest d ∙ number-is rest TooLarge e f))
 
-  pub symbol-marks : {kind : ℕ} → 0 < length rest → isSymbol (getD rest 0 0) ≡ true → kind ≡ kindOf lex (getD rest 0 0 ∷ []) noKind
+  symbol-marks : {kind : ℕ} → 0 < length rest → isSymbol (getD rest 0 0) ≡ true → kind ≡ kindOf lex (getD rest 0 0 ∷ []) noKind
       → Marks lex at rest (Emit (token kind at 1 0))
   symbol-marks {kind} h y e =
       record {
@@ -258,15 +256,19 @@ module _ {table room tree : List ℕ} (x : Lexical table room tree) (s : List �
     node-found : FoundAt (wordsIn table room (getD room 381 0)) s i
     node-found = subst (Searched 127 (wordsIn table room (getD room 381 0)) tree s) e searched-all
 
+    -- a spelling found among the table's is one of 126
     pub node-fits : i < 126
     node-fits = found-fits x node-found
 
+    -- one found among the first is that keyword
     pub node-keyword : i < getD room 380 0 → Named (lexiconOf table) s (Keyword i)
     node-keyword h = name-keyword x node-found h
 
+    -- one found behind the keywords is that outside name
     pub node-outside : getD room 380 0 ≤ i → Named (lexiconOf table) s (Outside (i - getD room 380 0))
     node-outside h = name-outside x node-found h
 
+  -- one that is not found is neither
   pub node-none : {slot : ℕ} → spot ≡ Free slot → Named (lexiconOf table) s Other
   node-none e = name-other x (subst (Searched 127 (wordsIn table room (getD room 381 0)) tree s) e searched-all)
 
@@ -280,13 +282,16 @@ module _ (mask : ℕ) (formula words : List ℕ) (count : ℕ) (links s v : List
     own-found : FoundAt (wordsIn formula words count) s i
     own-found = subst (Searched mask (wordsIn formula words count) links s) e searched-word
 
+    -- a word found is one of those met
     pub own-small : i < count
     own-small = omega (arith, own-found .inside, words-length count formula words 0)
 
+    -- a word met before has the number of its first appearance
     pub own-node : {at size : ℕ} {r : Made} → r ≡ made (Emit (token wordKind at size (64 + i))) (Node 0)
         → OwnWord mask (wordsIn formula words count) links at size s r
     own-node g = own-again own-found g
 
+  -- a word not met before has the next number, and a link is free for it
   pub own-free : {slot at size : ℕ} {r : Made} → spot ≡ Free slot → r ≡ made (Emit (token wordKind at size (64 + count))) (Free slot)
       → OwnWord mask (wordsIn formula words count) links at size s r
   own-free e g =
@@ -294,12 +299,18 @@ module _ (mask : ℕ) (formula words : List ℕ) (count : ℕ) (links s v : List
 
 -- a word at an offset, as the code reads it
 pub record WordHere (formula : List ℕ) (at size hash : ℕ) (s : List ℕ) : Type 0 where
+  -- it begins inside the formula
   pub inside : at < length formula
+  -- its first byte is a letter
   pub letter : isLetter (getD formula at 0) ≡ true
+  -- its size and hash are those of the run
   pub hashed : Hashed (run isWordByte (drop at formula)) size hash
+  -- it is not too long
   pub short : size ≤ 31
+  -- s is its bytes
   pub read : s ≡ take size (drop at formula)
 
+-- these facts of the code make it
 pub word-here : {formula : List ℕ} {at size hash : ℕ} {s : List ℕ} → at < length formula → isLetter (getD formula at 0) ≡ true
     → Hashed (run isWordByte (drop at formula)) size hash
     → size ≤ 31
@@ -312,6 +323,7 @@ module _ {formula : List ℕ} {at size hash : ℕ} {s : List ℕ} (w : WordHere 
   here-run =
       cc (w .read, w .hashed .sized, run-prefix isWordByte (drop at formula))
 
+  -- the hash is that of its bytes
   pub here-hash : hash ≡ hashOf s
   here-hash = w .hashed .hashed ∙ ap hashOf (sym here-run)
 
@@ -331,6 +343,7 @@ module _ {formula : List ℕ} {at size hash : ℕ} {s : List ℕ} (w : WordHere 
 
   module _ {lex : Lexicon} (few : length (lex .outsides) ≤ 64) {mask : ℕ} {met : List (List ℕ)} {links : List ℕ} {name : Name} {r : Made}
       (m : Named lex s name) where
+    -- a word that is a keyword makes its token
     pub keyword-made : {k : ℕ} → name ≡ Keyword k → r ≡ made (Emit (token (k + 2) at size 0)) (Node 0)
         → Stepped lex mask met links at (drop at formula) r
     keyword-made {k} e g = by-name (subst (Named lex s) e m)
@@ -338,6 +351,7 @@ module _ {formula : List ℕ} {at size hash : ℕ} {s : List ℕ} (w : WordHere 
         by-name : Named lex s (Keyword k) → Stepped lex mask met links at (drop at formula) r
         by-name (a-keyword f) = rw (g, ← here-long) (keyword-step few here-some here-front f)
 
+    -- a word that is an outside name makes a word token with the name's number
     pub outside-made : {k : ℕ} → name ≡ Outside k → r ≡ made (Emit (token 0 at size k)) (Node 0)
         → Stepped lex mask met links at (drop at formula) r
     outside-made {k} e g = by-name (subst (Named lex s) e m)
@@ -345,6 +359,7 @@ module _ {formula : List ℕ} {at size hash : ℕ} {s : List ℕ} (w : WordHere 
         by-name : Named lex s (Outside k) → Stepped lex mask met links at (drop at formula) r
         by-name (an-outside n f) = rw (g, ← here-long) (outside-step few here-some here-front n f)
 
+    -- any other word makes the token that its search among the words met gives
     pub other-made : name ≡ Other → OwnWord mask met links at size (take size (drop at formula)) r
         → Stepped lex mask met links at (drop at formula) r
     other-made e o = by-name (subst (Named lex s) e m)
@@ -355,12 +370,14 @@ module _ {formula : List ℕ} {at size hash : ℕ} {s : List ℕ} (w : WordHere 
         by-name : Named lex s Other → Stepped lex mask met links at (drop at formula) r
         by-name (neither n q) = own-step few here-some here-front n q own
 
+-- a keyword's number is below 62
 pub keyword-small : (table s : List ℕ) {name : Name} {k : ℕ} → Named (lexiconOf table) s name → name ≡ Keyword k → k < 62
 keyword-small table s {k = k} m e = by-name (subst (Named (lexiconOf table) s) e m)
   where
     by-name : Named (lexiconOf table) s (Keyword k) → k < 62
     by-name (a-keyword f) = omega (arith, f .there, few-keywords table)
 
+-- a word of more than 31 bytes stops the scan
 pub long-made : (table formula : List ℕ) (at : ℕ) {size hash mask : ℕ} {met : List (List ℕ)} {links : List ℕ} → at < length formula
     → isLetter (getD formula at 0) ≡ true
     → Hashed (run isWordByte (drop at formula)) size hash
@@ -370,20 +387,24 @@ long-made table formula at h l d long =
     long-stepped (few-outsides table) (omega (arith, length-drop at formula)) (ap isLetter (front-byte formula at) ∙ l)
     (omega (arith, d .sized))
 
+-- what is no word makes its step and links nothing
 pub marks-made : (table formula : List ℕ) (at : ℕ) {mask : ℕ} {met : List (List ℕ)} {links : List ℕ} {r : Step} → at < length formula
     → Marks (lexiconOf table) at (drop at formula) r
     → Stepped (lexiconOf table) mask met links at (drop at formula) (made r (Node 0))
 marks-made table formula at h m = mark-stepped (few-outsides table) (omega (arith, length-drop at formula)) m
 
+-- the words met can be searched
 pub ready-planted : {table room tree formula words links : List ℕ} {mask count : ℕ} → Ready table room tree formula words links mask count
     → Planted formula words links mask count
 ready-planted r = record { tree = r .met; placed = r .placed; linked = r .linked }
 
 -- the byte at an offset
 module _ (formula : List ℕ) (at : ℕ) {lex : Lexicon} where
+  -- a separator is skipped
   pub separator-at : isSeparator (getD formula at 0) ≡ true → Marks lex at (drop at formula) Skip
   separator-at s = separator-marks (ap isSeparator (front-byte formula at) ∙ s)
 
+  -- a byte of no class stops the scan
   pub bad-at : isSeparator (getD formula at 0) ≡ false → isLetter (getD formula at 0) ≡ false → isDigit (getD formula at 0) ≡ false
       → isSymbol (getD formula at 0) ≡ false
       → Marks lex at (drop at formula) Stop
@@ -402,15 +423,18 @@ module _ (formula : List ℕ) (at : ℕ) {n : ℕ} (e : n ≡ length (run isDigi
       (length-take-le n (take (length formula - at) (drop at formula))
       (digits-within (take (length formula - at) (drop at formula)) e))
 
+  -- the digits are no more than the formula's bytes
   pub number-small : n ≤ length formula
   number-small = omega (arith, digits-here, run-length isDigit (drop at formula), length-drop at formula)
 
   module _ (d : isDigit (getD formula at 0) ≡ true) (lex : Lexicon) where
+    -- digits worth a number that is not too large make its token
     pub number-at : {v : ℕ} → Value v ≡ numberOf (take n (take (length formula - at) (drop at formula)))
         → Marks lex at (drop at formula) (Emit (token numberKind at n v))
     number-at f =
         number-marks (ap isDigit (front-byte formula at) ∙ d) digits-here (cc (rest-lent formula at))
 
+    -- digits worth a larger one stop the scan
     pub large-at : TooLarge ≡ numberOf (take n (take (length formula - at) (drop at formula))) → Marks lex at (drop at formula) Stop
     large-at f =
         large-marks (ap isDigit (front-byte formula at) ∙ d) digits-here (cc (rest-lent formula at))
@@ -425,12 +449,15 @@ kind-all lex s = by-found (foundIn s (lex .keywords)) refl
 
 -- a symbol's kind in the lexicon's room
 module _ {table room tree : List ℕ} (x : Lexical table room tree) where
+  -- a symbol is below 127
   pub symbol-below : (b : ℕ) → isSymbol b ≡ true → b < 127
   symbol-below b y = omega (arith, symbol-only b y .low)
 
+  -- the room has a number for each symbol
   pub symbol-inside : (b : ℕ) → isSymbol b ≡ true → 252 + b < length room
   symbol-inside b y = omega (arith, symbol-below b y, x .long)
 
+  -- a symbol makes a token of the kind that the room holds for it
   pub symbol-at : (formula : List ℕ) (at : ℕ) → at < length formula → isSymbol (getD formula at 0) ≡ true
       → Marks (lexiconOf table) at (drop at formula) (Emit (token (getD room (252 + getD formula at 0) 0) at 1 0))
   symbol-at formula at h y =
@@ -444,12 +471,14 @@ module _ {table room tree : List ℕ} (x : Lexical table room tree) where
 -- ------------------------------------------------------------------ stores
 
 module _ (words links : List ℕ) (count : ℕ) (t : Token) (spot : Spot) (a : Agrees count t spot) where
+  -- after a token that is no new word, counts, places and links are as they were
   pub node-stored : {i : ℕ} → spot ≡ Node i
       → (count ≡ countWith count t) × (words ≡ sets words (count * 2) (placeThen count t [])) × (links ≡ linksWith links spot count)
   node-stored e =
       let old : isNew count t ≡ false = subst (Agrees count t) e a in
       (count-old words count t old, place-old words count t old, sym (cc))
 
+  -- after a new word one more is counted, its place is stored and its link is set
   pub free-stored : {slot : ℕ} → spot ≡ Free slot
       → (count + 1 ≡ countWith count t)
       × (set (set words (count * 2) (t .at)) (count * 2 + 1) (t .size) ≡ sets words (count * 2) (placeThen count t []))

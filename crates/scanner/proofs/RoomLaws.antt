@@ -117,6 +117,7 @@ module _ (room : List ℕ) where
   pub token-in : (n at : ℕ) → at < n → rowOf room at ≡ getD (tokensIn room n) at endToken
   token-in n at h = ap (rowOf room) (sym (zero-add at)) ∙ sym (token-from n 0 at h)
 
+  -- past the tokens of a room there is the end
   pub token-past : (n at : ℕ) → n ≤ at → endToken ≡ getD (tokensIn room n) at endToken
   token-past n at h = sym (past-from n 0 at h)
 

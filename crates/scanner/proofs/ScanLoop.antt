@@ -46,12 +46,14 @@ lex-by k lex at b bs n words Skip e = rw (← e, lexFrom) refl
 lex-by k lex at b bs n words Stop e = rw (← e, lexFrom) refl
 lex-by k lex at b bs n words (Emit t) e = rw (← e, lexFrom) refl
 
+-- what is left gives what the step at its front makes of it
 pub lex-step : (k : ℕ) (lex : Lexicon) (at : ℕ) (rest : List ℕ) (n : ℕ) (words : List (List ℕ)) (r : Step) → 0 < length rest
     → r ≡ stepOf lex words at rest
     → lexFrom (suc k) lex at rest n words ≡ after k lex at rest n words r
 lex-step k lex at [] n words r h e = absurd (omega arith)
 lex-step k lex at (b ∷ bs) n words r h e = lex-by k lex at b bs n words r e
 
+-- where nothing is left, the tokens counted are accepted
 pub lex-end : (k : ℕ) (lex : Lexicon) (at n : ℕ) (words : List (List ℕ)) → lexFrom k lex at [] n words ≡ ended (Tokens n (length words)) words
 unfolding lexFrom
 lex-end zero lex at n words = refl
@@ -64,6 +66,7 @@ abbrev pub fillFrom : ℕ → ℕ → List ℕ → List ℕ → Lexed → Filled
 fillFrom n count tokens words l =
     filled (l .answer) (sets tokens (n * 4) (rows (l .tokens))) (sets words (count * 2) (places count (l .tokens)))
 
+-- storing tokens is storing the first, then the others behind it
 pub fill-rows : (n : ℕ) (tokens : List ℕ) (t : Token) (ts : List Token)
     → sets tokens (n * 4) (rows (t ∷ ts)) ≡ sets (sets tokens (n * 4) (rowThen t [])) ((n + 1) * 4) (rows ts)
 unfolding rows
@@ -81,6 +84,7 @@ fill-places-by count words t follow true =
     cc
 fill-places-by count words t follow false = refl
 
+-- storing words is storing the first token's, if it is new, then the others' behind it
 pub fill-places : (count : ℕ) (words : List ℕ) (t : Token) (ts : List Token)
     → sets words (count * 2) (places count (t ∷ ts))
     ≡ sets (sets words (count * 2) (placeThen count t [])) (countWith count t * 2) (places (countWith count t) ts)
@@ -93,26 +97,36 @@ fill-token : (n count : ℕ) (tokens words : List ℕ) (t : Token) (l : Lexed)
 fill-token n count tokens words t l =
     ap₂ (filled (l .answer)) (fill-rows n tokens t (l .tokens)) (fill-places count words t (l .tokens))
 
+-- a token adds one word at most
 pub count-grows : (count : ℕ) (t : Token) (new : Bool) → isNew count t ≡ new → countWith count t ≤ count + 1
 count-grows count t true e = rw (e, countWith) (omega arith)
 count-grows count t false e = rw (e, countWith) (omega arith)
 
 -- ------------------------------------------------------------------ the loop
 
+-- n tokens and `count` words of the bytes before `at` are stored, and what is left gives what the whole gives
 pub record Turn (lex : Lexicon) (formula tokens₀ words₀ tokens words : List ℕ) (at n count : ℕ) : Type 0 where
+  -- a bound on the bytes left
   pub fuel : ℕ
+  -- it is large enough
   pub enough : length formula ≤ at + fuel
+  -- there are at most 4,096 tokens
   pub small : n ≤ 4096
+  -- there are no more words than tokens
   pub few : count ≤ n
+  -- there are no more tokens than bytes passed
   pub passed : n ≤ at
+  -- what is left, stored behind what was found, fills the rooms as the whole does
   pub rest :
       fillFrom n count tokens words (lexFrom fuel lex at (drop at formula) n (wordsIn formula words count))
       ≡ scanInto lex formula tokens₀ words₀
 
+-- a formula of at most 65,535 bytes is scanned from its front
 pub scan-short : (lex : Lexicon) (formula : List ℕ) → length formula ≤ 65535 → scan lex formula ≡ lexFrom (length formula) lex 0 formula 0 []
 unfolding scan
 scan-short lex formula h = rw (le-leb (length formula) longestFormula h, scan) refl
 
+-- a longer one is refused with 14
 pub scan-long : (lex : Lexicon) (formula : List ℕ) → 65535 < length formula → scan lex formula ≡ ended (Unscanned (refusal 14 0 0 0)) []
 unfolding scan
 scan-long lex formula h = rw (lt-leb (length formula) longestFormula h, scan) refl
@@ -123,11 +137,13 @@ into : (lex : Lexicon) (formula tokens words : List ℕ) (l : Lexed) → scan le
 unfolding scanInto
 into lex formula tokens words l e = ap (fillFrom 0 0 tokens words) (sym e)
 
+-- 14 leaves the rooms as they were
 pub too-long : (lex : Lexicon) (formula tokens words : List ℕ) → 65535 < length formula
     → filled (Unscanned (refusal 14 0 0 0)) tokens words ≡ scanInto lex formula tokens words
 unfolding rows places
 too-long lex formula tokens words h = into lex formula tokens words _ (scan-long lex formula h)
 
+-- nothing is scanned yet
 pub turn-start : (lex : Lexicon) (formula tokens words : List ℕ) → length formula ≤ 65535
     → Turn lex formula tokens words tokens words 0 0 0
 unfolding wordsFrom
@@ -156,6 +172,7 @@ module _ {lex : Lexicon} {formula tokens₀ words₀ tokens words : List ℕ} {a
       ∙ lex-step (c .fuel - 1) lex at (drop at formula) n (wordsIn formula words count) r some e))
       ∙ c .rest
 
+  -- a separator is passed
   pub turn-skip : at < length formula → Skip ≡ stepOf lex (wordsIn formula words count) at (drop at formula)
       → Turn lex formula tokens₀ words₀ tokens words (at + 1) n count
   turn-skip h e =
@@ -168,6 +185,7 @@ module _ {lex : Lexicon} {formula tokens₀ words₀ tokens words : List ℕ} {a
         rest = rw drop-drop at (rest-by h Skip e);
       }
 
+  -- a fault gives 15 with its offset
   pub turn-stop : at < length formula → Stop ≡ stepOf lex (wordsIn formula words count) at (drop at formula)
       → filled (Unscanned (refusal 15 at 0 0)) tokens words ≡ scanInto lex formula tokens₀ words₀
   unfolding rows places
@@ -185,9 +203,11 @@ module _ {lex : Lexicon} {formula tokens₀ words₀ tokens words : List ℕ} {a
     lies =
         step-lies lex (wordsIn formula words count) at (drop at formula) (Emit t) (omega (arith, length-drop at formula)) e
 
+    -- past a token fewer bytes are left
     pub turn-less : length formula - (at + t .size) < length formula - at
     turn-less = omega (arith, lies .1)
 
+    -- a token after 4,096 others gives 16
     pub turn-full : n ≡ 4096 → filled (Unscanned (refusal 16 0 0 0)) tokens words ≡ scanInto lex formula tokens₀ words₀
     unfolding rows places
     turn-full z = rest-emit false (le-ltb n mostTokens (omega arith))
@@ -225,6 +245,7 @@ module _ {lex : Lexicon} {formula tokens₀ words₀ tokens words : List ℕ} {a
           (wordsWith (wordsIn formula words count) (take (t .size) (drop at formula)) t)))
           ∙ rest-emit true (lt-ltb n mostTokens less)
 
+      -- a token and its word are stored
       pub turn-emit : {tokens′ words′ : List ℕ} {count′ : ℕ} → tokens′ ≡ sets tokens (n * 4) (rowThen t [])
           → words′ ≡ sets words (count * 2) (placeThen count t [])
           → count′ ≡ countWith count t
@@ -241,6 +262,7 @@ module _ {lex : Lexicon} {formula tokens₀ words₀ tokens words : List ℕ} {a
             rest = rw (et, ew, ec) rest-next;
           }
 
+  -- where nothing is left, the rooms are filled and the scan accepts
   pub turn-end : length formula ≤ at → filled (Tokens n count) tokens words ≡ scanInto lex formula tokens₀ words₀
   unfolding rows places
   turn-end h =

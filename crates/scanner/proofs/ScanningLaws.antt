@@ -23,16 +23,26 @@ use Rattle.lexicon.proofs.TreeLaws.{zeros, tree-none, tree-more, links-long}
 use Rattle.scanner.proofs.StepLaws.{step-lies}
 use Rattle.scanner.proofs.ScanLoop.{Turn, turn-start, turn-skip, turn-emit, count-grows}
 
+-- where the scan stands, with the words met in their trees and the rooms as long as they were
 pub record Scanning (table room tree formula tokens₀ words₀ links₀ tokens words links : List ℕ) (mask at n count : ℕ) : Type 0 where
+  -- what is left gives what the whole gives
   pub turn : Turn (lexiconOf table) formula tokens₀ words₀ tokens words at n count
+  -- the lexicon and the words met can be searched
   pub ready : Ready table room tree formula words links mask count
+  -- the rooms for tokens and words are long enough
   pub room-for : RoomFor formula tokens words
+  -- so is the room for links
   pub enough : (m : ℕ) → m ≤ length formula → m ≤ 4096 → mask + 1 + m * 2 ≤ length links
+  -- the formula is not too long
   pub short : length formula < 65536
+  -- the room for tokens keeps its length
   pub tokens-same : length tokens ≡ length tokens₀
+  -- the room for words keeps its length
   pub words-same : length words ≡ length words₀
+  -- the room for links keeps its length
   pub links-same : length links ≡ length links₀
 
+-- nothing is scanned yet
 pub scanning-start : {table room tree formula tokens words links : List ℕ} {mask : ℕ} → Lexical table room tree → RoomFor formula tokens words
     → Scannable formula links mask
     → Scanning table room tree formula tokens words links tokens words links mask 0 0 0
@@ -62,12 +72,11 @@ module _ {table room tree formula tokens₀ words₀ links₀ tokens words links
   step-eq : {step : Step} → r .step ≡ step → step ≡ stepOf (lexiconOf table) (wordsIn formula words count) at (drop at formula)
   step-eq e = sym e ∙ p .step-is
 
-  pub skip-eq : r .step ≡ Skip → Skip ≡ stepOf (lexiconOf table) (wordsIn formula words count) at (drop at formula)
-  skip-eq e = step-eq e
-
+  -- the step found is the definition's: a stop
   pub stop-eq : r .step ≡ Stop → Stop ≡ stepOf (lexiconOf table) (wordsIn formula words count) at (drop at formula)
   stop-eq e = step-eq e
 
+  -- a separator is passed
   pub scanning-skip : r .step ≡ Skip → Scanning table room tree formula tokens₀ words₀ links₀ tokens words links mask (at + 1) n count
   scanning-skip e =
       record {
@@ -82,12 +91,14 @@ module _ {table room tree formula tokens₀ words₀ links₀ tokens words links
       }
 
   module _ {t : Token} (e : r .step ≡ Emit t) where
+    -- the step found is the definition's: this token
     pub emit-eq : Emit t ≡ stepOf (lexiconOf table) (wordsIn formula words count) at (drop at formula)
     emit-eq = step-eq e
 
     counted : length (wordsIn formula words count) ≡ count
     counted = words-length count formula words 0
 
+    -- the token is a new word exactly if a link is free for it
     pub spot-agrees : Agrees count t (r .spot)
     spot-agrees = rw (counted) at (p .agrees t e)
 
@@ -98,6 +109,7 @@ module _ {table room tree formula tokens₀ words₀ links₀ tokens words links
     free-inside (Node i) f = tt
     free-inside (Free slot) f = omega (arith, f .below, counted, c .ready .linked)
 
+    -- a free link is one of the room's
     pub spot-linkable : Linkable links (r .spot)
     unfolding s
     spot-linkable = free-inside (r .spot) (p .free t e)
@@ -105,6 +117,7 @@ module _ {table room tree formula tokens₀ words₀ links₀ tokens words links
     lies : (t .at ≡ at) × (0 < t .size) × (t .size ≤ length (drop at formula))
     lies = step-lies (lexiconOf table) (wordsIn formula words count) at (drop at formula) (Emit t) (omega (arith, length-drop at formula)) emit-eq
 
+    -- the token ends inside the formula
     pub token-inside : at + t .size ≤ length formula
     token-inside = omega (arith, lies .2, length-drop at formula)
 
@@ -112,13 +125,16 @@ module _ {table room tree formula tokens₀ words₀ links₀ tokens words links
       below : n < 4096
       below = omega (arith, c .turn .small, z)
 
+      -- there is room for its row
       pub row-inside : n * 4 + 4 ≤ length tokens
       row-inside = omega (arith, c .room-for .for-tokens (n + 1) (omega (arith, c .turn .passed)) (omega (arith, below)))
 
+      -- there is room for its word's place
       pub place-inside : count * 2 + 2 ≤ length words
       place-inside =
           omega (arith, c .turn .few, c .room-for .for-words (n + 1) (omega (arith, c .turn .passed)) (omega (arith, below)))
 
+      -- the words met are fewer than 4,096
       pub few-inside : count < 4096
       few-inside = omega (arith, c .turn .few, below)
 
@@ -153,6 +169,7 @@ module _ {table room tree formula tokens₀ words₀ links₀ tokens words links
         few-after : count′ ≤ n + 1
         few-after = omega (arith, ec, count-grows count t (isNew count t) refl, c .turn .few)
 
+        -- the token, its word and its link are stored
         pub scanning-emit : Scanning table room tree formula tokens₀ words₀ links₀ tokens′ words′ links′ mask (at + t .size) (n + 1) count′
         unfolding s
         scanning-emit =
@@ -181,6 +198,7 @@ module _ {table room tree formula tokens₀ words₀ links₀ tokens words links
               links-same = same-links ∙ c .links-same;
             }
 
+-- a room of zeros that is long enough is ready for a scan's links
 pub scannable : (formula : List ℕ) (mask room : ℕ) → length formula < 65536
     → ((n : ℕ) → n ≤ length formula → n ≤ 4096 → mask + 1 + n * 2 ≤ room)
     → Scannable formula (replicate room 0) mask

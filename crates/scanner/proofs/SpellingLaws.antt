@@ -35,10 +35,11 @@ run-word (b ∷ bs) l h =
     let n : suc (length (run isWordByte bs)) ≤ 31 = omega (arith, ap length r) in
     ap isWord r ∙ rw (l, every-run isWordByte bs, le-leb _ 31 n) refl
 
+-- the word at the front is a word
 pub front-word : {rest s : List ℕ} → WordFront rest s → isWord s ≡ true
 front-word {rest} w = rw (w .whole) (run-word rest (w .begins) (omega (arith, w .short, ap length (w .whole))))
 
-pub stands-word : {lex : Lexicon} {at : ℕ} {rest : List ℕ} {met met′ : List (List ℕ)} {t : Token} → Stands lex at rest met t met′
+stands-word : {lex : Lexicon} {at : ℕ} {rest : List ℕ} {met met′ : List (List ℕ)} {t : Token} → Stands lex at rest met t met′
     → t .kind ≡ wordKind
     → isWord (take (t .size) rest) ≡ true
 stands-word (a-keyword w f) e = absurd (omega (arith, e))
@@ -53,8 +54,11 @@ stands-word (a-symbol y n) e = absurd (omega (arith, e))
 
 -- a word token, by the words W of the whole scan
 pub record Spelled (lex : Lexicon) (formula : List ℕ) (W : List (List ℕ)) (t : Token) : Type 0 where
+  -- its bytes are a word
   pub is-word : isWord (bytesOf formula t) ≡ true
+  -- its value is the spelling number of its bytes
   pub numbered : t .value ≡ spellingOf lex W (bytesOf formula t)
+  -- its value is that of an outside name or of a word met
   pub known : t .value < 64 + length W
 
 -- a fact of every token
@@ -62,6 +66,7 @@ abbrev pub Every : (Token → Type 0) → List Token → Type 0
 Every P [] = Unit {0}
 Every P (t ∷ ts) = P t × Every P ts
 
+-- a fact of every token is one of each
 pub every-at : (P : Token → Type 0) (ts : List Token) (i : ℕ) (d : Token) → Every P ts → i < length ts → P (getD ts i d)
 every-at P [] i d p h = absurd (omega arith)
 every-at P (t ∷ ts) zero d p h = p .0
@@ -155,6 +160,7 @@ module _ (lex : Lexicon) (few : length (lex .outsides) ≤ 64) where
               );
         }
 
+    -- each word token of a scan is spelled as its number says
     pub scan-spelled : Every (λ t. t .kind ≡ wordKind → Spelled lex formula (scan lex formula .words) t) (scan lex formula .tokens)
     unfolding SpelledFrom
     scan-spelled = scan-kept lex few formula SpelledFrom spelled-kept .2

@@ -104,11 +104,9 @@ module _ (lex : Lexicon) (few : length (lex .outsides) ≤ 64) (met : List (List
 
 -- ------------------------------------------------------------------ the bytes of a token at the front
 
+-- as many bytes as a word has, from the front, are the word
 pub word-taken : {rest s : List ℕ} → WordFront rest s → take (length s) rest ≡ s
 word-taken {rest} w = cc (w .whole, run-prefix isWordByte rest)
-
-pub number-taken : {rest s : List ℕ} → NumberFront rest s → take (length s) rest ≡ s
-number-taken {rest} d = cc (d .whole, run-prefix isDigit rest)
 
 -- ------------------------------------------------------------------ from a step to the rules
 
@@ -161,10 +159,14 @@ module _ (lex : Lexicon) (few : length (lex .outsides) ≤ 64) (met : List (List
 
 -- what a step that emits a token tells of it
 pub record Emits (lex : Lexicon) (words : List (List ℕ)) (at : ℕ) (rest : List ℕ) (t : Token) : Type 0 where
+  -- it stands at the offset
   pub placed : t .at ≡ at
+  -- it stands there by the rules, with the words met
   pub stands : Stands lex at rest words t (wordsWith words (take (t .size) rest) t)
+  -- a word's value is its spelling number
   pub valued : t .kind ≡ wordKind → t .value ≡ spellingOf lex words (take (t .size) rest)
 
+-- what a step tells of the bytes at the front
 abbrev pub Told : Lexicon → List (List ℕ) → ℕ → List ℕ → Step → Type 0
 Told lex words at rest Skip = isSeparator (getD rest 0 0) ≡ true
 Told lex words at rest Stop = Faulty rest
@@ -221,6 +223,7 @@ module _ (lex : Lexicon) (few : length (lex .outsides) ≤ 64) (words : List (Li
       }
   told-by Fault h f = f
 
+  -- the definition's step tells it
   pub step-told : (r : Step) → 0 < length rest → r ≡ stepOf lex words at rest → Told lex words at rest r
   step-told r h e =
       subst (Told lex words at rest) (step-by lex words at rest refl ∙ sym e)
@@ -230,7 +233,9 @@ module _ (lex : Lexicon) (few : length (lex .outsides) ≤ 64) (words : List (Li
 
 -- the token that a step emits, and the words after it
 pub record Steps (lex : Lexicon) (met : List (List ℕ)) (at : ℕ) (rest : List ℕ) (t : Token) (met′ : List (List ℕ)) : Type 0 where
+  -- the step is this token
   pub emits : Emit t ≡ stepOf lex met at rest
+  -- the words met after it
   pub words : wordsWith met (take (t .size) rest) t ≡ met′
 
 module _ {lex : Lexicon} (few : length (lex .outsides) ≤ 64) {at : ℕ} {rest : List ℕ} {met : List (List ℕ)} where
@@ -262,6 +267,7 @@ module _ {lex : Lexicon} (few : length (lex .outsides) ≤ 64) {at : ℕ} {rest 
         words = cc (m .words-are);
       }
 
+  -- a token that stands there by the rules is the one that the step emits
   pub stands-steps : {t : Token} {met′ : List (List ℕ)} → 0 < length rest → Stands lex at rest met t met′ → Steps lex met at rest t met′
   stands-steps h (a-keyword {s = s} w f) = word-steps w refl (makes-keyword lex few met at s wordKind f)
   stands-steps h (a-keyword-symbol {s = s} y f) = symbol-steps h y refl (makes-keyword lex few met at s noKind f)

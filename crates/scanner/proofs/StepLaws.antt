@@ -73,6 +73,7 @@ fits-by rest false false false false s l d y =
     subst (Fits rest) (sym (lexemes.lexeme-is rest false false false false refl s l d y))
     (bad-byte s (no-symbol (getD rest 0 0) l d y))
 
+-- the lexeme at the front is so by its bytes
 pub lexeme-fits : (rest : List ℕ) (l : Lexeme) → l ≡ lexemeOf rest → Fits rest l
 lexeme-fits rest l e = subst (Fits rest) (sym e) (fits-by rest _ _ _ _ refl refl refl refl)
 
@@ -101,11 +102,13 @@ lies-by lex words at rest (Number n v) h f =
 lies-by lex words at rest Symbol h f = (refl, omega (arith, length-take 1 rest), omega (arith, length-take 1 rest))
 lies-by lex words at rest Fault h f = tt
 
+-- the step is the one for the lexeme at the front
 pub step-by : (lex : Lexicon) (words : List (List ℕ)) (at : ℕ) (rest : List ℕ) {l : Lexeme} → l ≡ lexemeOf rest
     → stepBy lex words at rest l ≡ stepOf lex words at rest
 unfolding stepOf
 step-by lex words at rest e = ap (stepBy lex words at rest) e
 
+-- the definition's token lies in what is left
 pub step-lies : (lex : Lexicon) (words : List (List ℕ)) (at : ℕ) (rest : List ℕ) (r : Step) → 0 < length rest
     → r ≡ stepOf lex words at rest
     → Lies at rest r
@@ -116,6 +119,7 @@ step-lies lex words at rest r h e =
 -- ------------------------------------------------------------------ the steps as the code takes them
 
 module _ (lex : Lexicon) (words : List (List ℕ)) (at : ℕ) (s : List ℕ) (other : ℕ) where
+  -- a token of a word has its spelling number
   pub token-word : {kind value : ℕ} → kind ≡ kindOf lex s other → kind ≡ 0 → value ≡ spellingOf lex words s
       → token kind at (length s) value ≡ spelledToken lex words at s (kindOf lex s other)
   token-word {kind} {value} e z v =
@@ -123,6 +127,7 @@ module _ (lex : Lexicon) (words : List (List ℕ)) (at : ℕ) (s : List ℕ) (ot
       (cc (eq-eqb kind wordKind z))
       ∙ ap (spelledToken lex words at s) e
 
+  -- any other has the value 0
   pub token-other : {kind : ℕ} → kind ≡ kindOf lex s other → (kind ≡ 0 → ⊥)
       → token kind at (length s) 0 ≡ spelledToken lex words at s (kindOf lex s other)
   token-other {kind} e z =
@@ -138,25 +143,12 @@ front-byte formula at = cc (getD-drop at formula 0 0, add-zero at)
 pub rest-lent : (formula : List ℕ) (at : ℕ) → take (length formula - at) (drop at formula) ≡ drop at formula
 rest-lent formula at = take-all (length formula - at) (drop at formula) (omega (arith, length-drop at formula))
 
-pub lexeme-lent : (formula : List ℕ) (at : ℕ) {l : Lexeme} → l ≡ lexemeOf (take (length formula - at) (drop at formula))
-    → l ≡ lexemeOf (drop at formula)
-lexeme-lent formula at e = e ∙ ap lexemeOf (rest-lent formula at)
-
-pub number-within : (formula : List ℕ) (at n v : ℕ) → Number n v ≡ lexemeOf (drop at formula) → n ≤ length formula
-number-within formula at n v e =
-    omega
-    (arith, lexeme-fits (drop at formula) (Number n v) e .1, run-length isDigit (drop at formula), length-drop at formula)
-
+-- a part of what is left is no longer than the formula
 pub part-within : (formula : List ℕ) (at n : ℕ) {s : List ℕ} → s ≡ take n (drop at formula) → length s ≤ length formula
 part-within formula at n e =
     omega (arith, ap length e, length-take n (drop at formula), length-drop at formula)
 
-pub emit-word : (lex : Lexicon) (words : List (List ℕ)) (at : ℕ) {s u : List ℕ} {t : Token}
-    → t ≡ spelledToken lex words at s (kindOf lex s 0)
-    → s ≡ u
-    → Emit t ≡ Emit (spelledToken lex words at u (kindOf lex u 0))
-emit-word lex words at e f = ap Emit (cc)
-
+-- a symbol's token is the one that the step emits
 pub emit-symbol : (lex : Lexicon) (words : List (List ℕ)) (at : ℕ) {s u : List ℕ} {t : Token}
     → t ≡ token (kindOf lex s noKind) at (length s) 0
     → s ≡ u

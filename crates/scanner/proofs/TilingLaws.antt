@@ -37,6 +37,7 @@ module _ (lex : Lexicon) (few : length (lex .outsides) ≤ 64) (formula : List �
         emits = λ at n words t l h m told inside p. unrefused (l .answer) (past-token h (told .stands)) p;
       }
 
+  -- an accepted formula is tiled by the scan's tokens
   pub scan-tiled : {n count : ℕ} → scan lex formula .answer ≡ Tokens n count
       → Tiled lex formula 0 [] (scan lex formula .tokens) (length formula) (scan lex formula .words)
   unfolding TiledFrom

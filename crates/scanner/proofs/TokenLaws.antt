@@ -35,11 +35,15 @@ pub data Halts (lex : Lexicon) (formula : List ℕ) (at n : ℕ) (words : List (
 
 -- A fact of what is left at an offset, after n tokens and the words met, that each step hands on.
 pub record Kept (lex : Lexicon) (formula : List ℕ) (P : ℕ → ℕ → List (List ℕ) → Lexed → Type 0) : Type 0 where
+  -- it holds at the end
   pub ends : (n : ℕ) (words : List (List ℕ)) → n ≤ 4096 → P (length formula) n words (ended (Tokens n (length words)) words)
+  -- it holds where a scan stops
   pub stops : (at n : ℕ) (words : List (List ℕ)) (r : Refusal) → Halts lex formula at n words r → P at n words (ended (Unscanned r) words)
+  -- it holds before a separator, if it holds behind it
   pub skips : (at n : ℕ) (words : List (List ℕ)) (l : Lexed) → at < length formula → isSeparator (getD formula at 0) ≡ true
       → P (at + 1) n words l
       → P at n words l
+  -- it holds before a token, if it holds behind it
   pub emits : (at n : ℕ) (words : List (List ℕ)) (t : Token) (l : Lexed) → at < length formula → n < 4096
       → Emits lex words at (drop at formula) t
       → (0 < t .size) × (at + t .size ≤ length formula)

@@ -19,22 +19,27 @@ both false b e = let z : _≡_ {A = ℕ} 0 1 = cc in absurd (omega arith)
 
 -- ------------------------------------------------------------------ stores
 
+-- four stores side by side are a token's row
 pub token-stored : (room : List ℕ) (i : ℕ) (t : Token)
     → set (set (set (set room i (t .kind)) (i + 1) (t .at)) (i + 2) (t .size)) (i + 3) (t .value) ≡ sets room i (rowThen t [])
 token-stored room i t = rw (add-one, add-two, add-three) refl
 
 module _ (room : List ℕ) (count : ℕ) (t : Token) where
+  -- a new word's two stores are its place
   pub place-new : isNew count t ≡ true → set (set room (count * 2) (t .at)) (count * 2 + 1) (t .size) ≡ sets room (count * 2) (placeThen count t [])
   place-new e =
       let p : placeThen count t [] ≡ t .at ∷ t .size ∷ [] = rw (e, placeThen) refl in
       place-stored room (count * 2) (t .at) (t .size) ∙ sym (ap (sets room (count * 2)) p)
 
+  -- a token that is no new word stores no place
   pub place-old : isNew count t ≡ false → room ≡ sets room (count * 2) (placeThen count t [])
   place-old e = let p : placeThen count t [] ≡ [] = rw (e, placeThen) refl in sym (ap (sets room (count * 2)) p)
 
+  -- a new word is counted
   pub count-new : isNew count t ≡ true → count + 1 ≡ countWith count t
   count-new e = rw (e, countWith) refl
 
+  -- a token that is no new word is not counted
   pub count-old : isNew count t ≡ false → count ≡ countWith count t
   count-old e = rw (e, countWith) refl
 
@@ -60,10 +65,12 @@ words-stored formula room count t h =
     [ true ↦ wordsIn formula room count ++ (take (t .size) (drop (t .at) formula) ∷ []) | false ↦ wordsIn formula room count ])
     (sym (words-length count formula room 0))
 
+-- a new word is added to those met
 pub with-new : (words : List (List ℕ)) (s : List ℕ) (t : Token) → isNew (length words) t ≡ true → wordsWith words s t ≡ words ++ (s ∷ [])
 unfolding wordsWith
 with-new words s t e = rw (e, wordsWith) refl
 
+-- a token that is no new word adds none
 pub with-old : (words : List (List ℕ)) (s : List ℕ) (t : Token) → isNew (length words) t ≡ false → wordsWith words s t ≡ words
 unfolding wordsWith
 with-old words s t e = rw (e, wordsWith) refl

@@ -17,10 +17,15 @@ use Rattle.scanner.specs.Tiling.{NotIn, Stands, a-keyword, a-keyword-sym
 use Rattle.scanner.proofs.TokenLaws.{Kept, scan-kept}
 use Rattle.scanner.proofs.SpellingLaws.{front-word}
 
+-- words of a formula's own, each once, and none a name of the table
 pub record PlainWords (lex : Lexicon) (words : List (List ℕ)) : Type 0 where
+  -- each is a word
   pub are-words : (i : ℕ) → i < length words → isWord (getD words i []) ≡ true
+  -- none stands twice
   pub once : (i j : ℕ) → i < length words → j < length words → getD words i [] ≡ getD words j [] → i ≡ j
+  -- none is a keyword
   pub no-keyword : (i j : ℕ) → i < length (lex .keywords) → j < length words → getD (lex .keywords) i [] ≡ getD words j [] → ⊥
+  -- none is an outside name
   pub no-outside : (i j : ℕ) → i < length (lex .outsides) → j < length words → getD (lex .outsides) i [] ≡ getD words j [] → ⊥
 
 no-words : (lex : Lexicon) → PlainWords lex []

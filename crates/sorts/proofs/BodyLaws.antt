@@ -20,6 +20,7 @@ use Rattle.sorts.proofs.TemplateLoops.{places-set}
 
 -- ------------------------------------------------------------------ the places of parameters
 
+-- the last parameters of a signature stand on the stack of places
 pub record Loading (sig room₀ room : List ℕ) (top j : ℕ) : Type 0 where
   -- the room is as long as it was
   pub as-many : length room ≡ length room₀
@@ -65,6 +66,7 @@ module _ {sig room₀ : List ℕ} where
 
 -- ------------------------------------------------------------------ the sorts of variables
 
+-- the first n parameters of a signature are variables
 pub record Copying (sig L₀ L : List ℕ) (n i : ℕ) : Type 0 where
   -- the sorts are as many as they were
   pub as-many : length L ≡ length L₀

@@ -42,8 +42,11 @@ use Rattle.sorts.proofs.BodiesByBytes.{contextOf, sortedAt, item-agrees
 module _ (bs : List ℕ) where
   -- the heads show an environment, and none lies behind the block that the fields begin in
   pub record Shows (E : Env) (H : List ℕ) (fs : Fields) : Type 0 where
+    -- there is a head for each nonterminal
     pub size : length H ≡ 64
+    -- each head shows what the environment has
     pub knows : (n : ℕ) → n < 64 → Knows bs E H n
+    -- no head lies behind the offset of the fields
     pub below : Below H (endOf fs)
 
   -- between alternatives: the tag before, and the signature of the definition begun last, whose head stands at h
@@ -224,6 +227,7 @@ module _ (bs : List ℕ) where
   not-spelling tag at-start a b e = true≢false (sym e ∙ a)
   not-spelling tag after-keyword a b e = true≢false (sym e ∙ b)
 
+  -- after an outside name
   data Naming : ℕ → Type 0 where
     after-name : Naming 2
 

@@ -20,6 +20,7 @@ use Rattle.sorts.specs.ByFields.{endsBlock}
 use Rattle.sorts.specs.ByBytes.{faultOf, withHead, Defined, Collected, collected, collectFrom}
 use Rattle.sorts.proofs.TemplateInduction.{choose}
 
+-- the heads of a block's fields before `at` are collected
 pub record Collecting (bs : List ℕ) (block from : ℕ) (H₀ : List ℕ) (at : ℕ) (H : List ℕ) : Type 0 where
   -- the heads are as many as they were
   pub as-many : length H ≡ length H₀

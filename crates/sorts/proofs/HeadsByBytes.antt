@@ -32,12 +32,19 @@ use Rattle.sorts.proofs.Environments.{defined-here, defined-later, sign
 
 -- a known head: nonterminal, mode, result, parameters
 pub record Head (v : List ℕ) : Type 0 where
+  -- the nonterminal defined
   pub nonterminal : ℕ
+  -- how it is defined: add, extend or update
   pub mode : Mode
+  -- the sort of its result
   pub result : ℕ
+  -- the sorts of its parameters
   pub params : List ℕ
+  -- the value is these bytes in order
   pub shape : v ≡ nonterminal ∷ modeCode mode ∷ result ∷ params
+  -- the nonterminal is below 64
   pub low : nonterminal < 64
+  -- there are at most four parameters
   pub few : length params ≤ 4
 
 -- a value that passes as a head is one
@@ -108,7 +115,9 @@ head-few h = rw (h .shape) (h .few)
 
 -- one nonterminal: its head's offset is not 0 exactly if it is defined, and the head has its newest signature
 pub record Knows (bs : List ℕ) (E : Env) (H : List ℕ) (n : ℕ) : Type 0 where
+  -- it has a head exactly if it is defined
   pub defined : ltb 0 (getD H n 0) ≡ isDefined E n
+  -- the head of a defined one spells its newest signature
   pub shown : isDefined E n ≡ true → signatureAt bs (getD H n 0) ≡ bytesOf (signatureOf E n)
 
 -- a number is 0 exactly if it is not above 0
@@ -136,8 +145,11 @@ append-signature (e ∷ own) E n h =
 
 -- what a block has defined lies behind its beginning
 pub record Collects (bs : List ℕ) (E own : Env) (block : ℕ) (H : List ℕ) : Type 0 where
+  -- there is a head for each nonterminal
   pub size : length H ≡ 64
+  -- each head shows what the block and the environment before it have
   pub knows : (n : ℕ) → n < 64 → Knows bs (own ++ E) H n
+  -- a head lies in front of the block exactly if the block does not define its nonterminal
   pub here : (n : ℕ) → n < 64 → leb (getD H n 0) block ≡ not (isDefined own n)
 
 -- three tests, each of which is asked only after those before it

@@ -44,6 +44,7 @@ each-has [] = each-none
 each-has (x ∷ G) = each-more among-first (each-later (each-has G))
 
 module _ (G : List Given) (spell : ℕ → List ℕ) where
+  -- what a value holds was given where its sort says
   data From : Value → Type 0 where
     from-unit : From unit
     from-var : {x : Name} → VarPlace G spell x → From (var x)

@@ -17,6 +17,7 @@ use Rattle.expansion.specs.Parsing.{SmallWords}
 use Rattle.expansion.specs.ValueSorts.{Matches, matches-none}
 use Rattle.soundness.proofs.Typing.{FitAll}
 
+-- A grammar that passed, the tokens to parse and the rows that there are.
 pub record Setting (g : List Production) : Type 0 where
   -- the productions fit a scope
   pub fit : FitAll g

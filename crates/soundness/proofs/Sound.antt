@@ -127,24 +127,39 @@ module _ {g : List Production} (X : Setting g) where
 
   -- an item derived, with its value, and any derivation of the items after it goes on from it
   pub record Stepped (k : ℕ) (i : Item) (A : ℕ) (M : List Value) (s : State) (cells : List ℕ) (x : ℕ) (s′ : State) (cells′ : List ℕ) : Type 0 where
+    -- the value that Figure 3 gives the item
     pub value : Value
+    -- it is of the item's sort
     pub typed : Typed value A
+    -- the number found shows it in the cells at exit
     pub shows : Shows spell (s′ .made) cells′ x value
+    -- rows are added only
     pub grown : Grown (s .made) cells (s′ .made) cells′
+    -- the bounds hold with one name fewer to come
     pub kept : Kept rows k s′ cells′
+    -- a derivation of the items behind, under this variable too, gives one of this item and those
     pub step : (is : List Item) (M′ : List Value) (t : List Token) (j : ℕ) → Derives g spell (M ++ (value ∷ [])) (from s′) (s′ .fresh) is M′ t j
         → Derives g spell M (from s) (s .fresh) (i ∷ is) M′ t j
 
   -- a call derived
   pub record Called (k n : ℕ) (vs : List Value) (s : State) (cells : List ℕ) (x : ℕ) (s′ : State) (cells′ : List ℕ) : Type 0 where
+    -- the alternative chosen
     pub production : Production
+    -- Figure 3 takes it at these tokens
     pub taken : Taken g n (from s) production
+    -- the values of all its variables, parameters first
     pub variables : List Value
+    -- its items are derived
     pub derived : Derives g spell vs (from s) (s .fresh) (production .items) variables (from s′) (s′ .fresh)
+    -- the call's value
     pub value : Value
+    -- the alternative's result gives it under the variables
     pub given : Gives spell variables (production .result) value
+    -- the number found shows it in the cells at exit
     pub shows : Shows spell (s′ .made) cells′ x value
+    -- rows are added only
     pub grown : Grown (s .made) cells (s′ .made) cells′
+    -- the bounds hold still
     pub kept : Kept rows k s′ cells′
 
   -- of refusals nothing is said here
@@ -249,15 +264,25 @@ module _ {g : List Production} (X : Setting g) where
     -- the items derived, and the result sorted under their variables
     pub record Derived (k : ℕ) (is : List Item) (r : Template) (B : ℕ) (M : List Value) (s : State) (cells : List ℕ) (xs : List ℕ) (s′ : State)
         (cells′ : List ℕ) : Type 0 where
+      -- the values of all variables, the items' own last
       pub variables : List Value
+      -- the items give them
       pub derived : Derives g spell M (from s) (s .fresh) is variables (from s′) (s′ .fresh)
+      -- the variables' sorts
       pub sorts : List ℕ
+      -- each variable is of its sort
       pub matches : Matches variables sorts
+      -- the sort of the result
       pub sort : ℕ
+      -- the result has it under the variables' sorts
       pub sorted : Sorted (F .scope .outsides) sorts r sort
+      -- it fits where the sort B is asked for
       pub fit : Fits sort B
+      -- the numbers found show the variables in the cells at exit
       pub shows : ShowAll spell (s′ .made) cells′ xs variables
+      -- rows are added only
       pub grown : Grown (s .made) cells (s′ .made) cells′
+      -- the bounds hold still
       pub kept : Kept rows k s′ cells′
 
     -- items that are run are derived

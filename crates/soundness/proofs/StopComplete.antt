@@ -82,11 +82,13 @@ module _ {g : List Production} (X : Setting g) where
   index : {c m : ℕ} {t : List Token} {i : ℕ} (s : State) → At c m t i s → indexOf tokens t ≡ s .at
   index s p = index-is X s (p .place) (p .bounded)
 
+  -- a run of these items, begun as the rules are, ends with this refusal
   record Halts (o c m : ℕ) (t : List Token) (i : ℕ) (is : List Item) (M : List Value) (r : Refusal) : Type 0 where
     halts : (d k : ℕ) (result : Template) (B : ℕ) (L xs : List ℕ) (s : State) (cells : List ℕ) → d + o ≡ mostOpen → Body (F .scope) L is result B
         → Each ItemWithin is → At c m t i s
         → Kept rows (k + length is) s cells → ShowAll spell (s .made) cells xs M → HaltsWith r (runItems (runCall d J) J is xs s cells)
 
+  -- so does a run of this call
   record Calls (o c m n : ℕ) (vs : List Value) (t : List Token) (i : ℕ) (r : Refusal) : Type 0 where
     calls : (d k : ℕ) (ys : List ℕ) (s : State) (cells : List ℕ) → d + o ≡ mostOpen → n < 64 → At c m t i s → Kept rows k s cells
         → ShowAll spell (s .made) cells ys vs

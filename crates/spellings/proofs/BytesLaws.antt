@@ -16,11 +16,12 @@ by-test false f g = g refl
 
 -- ------------------------------------------------------------------ runs
 
--- a byte that passes is in the run, and the first that fails ends it
+-- a byte that passes begins the run of those behind it
 pub run-taken : (p : ℕ → Bool) (b : ℕ) (bs : List ℕ) → p b ≡ true → run p (b ∷ bs) ≡ b ∷ run p bs
 unfolding run
 run-taken p b bs e = rw (e, run) refl
 
+-- no run begins at a byte that fails
 pub run-left : (p : ℕ → Bool) (b : ℕ) (bs : List ℕ) → p b ≡ false → run p (b ∷ bs) ≡ []
 unfolding run
 run-left p b bs e = rw (e, run) refl
@@ -40,6 +41,7 @@ module _ (p : ℕ → Bool) where
   run-prefix (b ∷ bs) =
       by-test (p b) (λ e. rw (run-taken p b bs e) (cc (run-prefix bs))) (λ e. rw (run-left p b bs e) refl)
 
+  -- a run is no longer than the bytes it is taken from
   pub run-length : (s : List ℕ) → length (run p s) ≤ length s
   unfolding run
   run-length [] = omega arith
@@ -89,6 +91,7 @@ implied : (t u v w : Bool) → (t ≡ true → u ≡ true) → (t && v && w) ≡
 implied true u v w h = rw (h refl) refl
 implied false u v w h = refl
 
+-- no byte is no word
 pub is-word-empty : (s : List ℕ) → length s ≡ 0 → isWord s ≡ false
 is-word-empty [] h = refl
 is-word-empty (b ∷ bs) h = absurd (omega arith)
@@ -104,12 +107,13 @@ is-word-by (b ∷ bs) h =
       every-whole isWordByte (b ∷ bs),
     )
 
--- a keyword of one byte is a letter or a symbol, any other is a word
+-- a keyword of one byte is a letter or a symbol
 pub is-keyword-one : (s : List ℕ) → length s ≡ 1 → isKeyword s ≡ (isLetter (getD s 0 0) || isSymbol (getD s 0 0))
 is-keyword-one [] h = absurd (omega arith)
 is-keyword-one (b ∷ []) h = refl
 is-keyword-one (b ∷ c ∷ bs) h = absurd (omega arith)
 
+-- a spelling that is not one byte is a keyword's exactly if it is a word
 pub is-keyword-word : (s : List ℕ) → (length s ≡ 1 → ⊥) → isKeyword s ≡ isWord s
 is-keyword-word [] h = refl
 is-keyword-word (b ∷ []) h = absurd (h refl)
@@ -117,6 +121,7 @@ is-keyword-word (b ∷ c ∷ bs) h = refl
 
 -- ------------------------------------------------------------------ equal spellings
 
+-- a spelling equals itself
 pub same-refl : (a : List ℕ) → same a a ≡ true
 unfolding same
 same-refl [] = refl
@@ -132,24 +137,21 @@ same-true (x ∷ xs) (y ∷ ys) e =
     let both = and-eq-true-iff (eqb x y) (same xs ys) .0 e in
     cc (eqb-true x y (both .0), same-true xs ys (both .1))
 
+-- spellings that the test tells apart are two
 pub same-false : (a b : List ℕ) → same a b ≡ false → a ≡ b → ⊥
 same-false a b e f = true≢false (sym (same-refl a) ∙ ap (same a) f ∙ e)
 
--- and one list of bytes is found equal, two different ones not
+-- one list of bytes is found equal
 pub equal-same : (a b : List ℕ) → a ≡ b → same a b ≡ true
 equal-same a b e = ap (same a) (sym e) ∙ same-refl a
 
+-- two different spellings are told apart
 pub differ-same : (a b : List ℕ) → (a ≡ b → ⊥) → same a b ≡ false
 differ-same a b h = by-test (same a b) (λ e. absurd (h (same-true a b e))) (λ e. e)
 
 -- spellings of different lengths are not equal
 pub length-same : (a b : List ℕ) → (length a ≡ length b → ⊥) → same a b ≡ false
 length-same a b h = differ-same a b (λ e. h (ap length e))
-
-pub same-sym : (a b : List ℕ) → same a b ≡ same b a
-same-sym a b =
-    by-test (same a b) (λ e. e ∙ sym (equal-same b a (sym (same-true a b e))))
-    (λ e. e ∙ sym (differ-same b a (λ f. same-false a b e (sym f))))
 
 -- ------------------------------------------------------------------ the place of a spelling in a list
 
@@ -167,6 +169,7 @@ unfolding indexOf
 index-self s = rw (same-refl s, indexOf) refl
 
 module _ (w : List ℕ) where
+  -- a place looked for is at most the list's length
   pub index-le : (vs : List (List ℕ)) → indexOf w vs ≤ length vs
   unfolding indexOf
   index-le [] = omega arith
@@ -199,7 +202,7 @@ module _ (w : List ℕ) where
       by-test (same v w) (λ f. rw (index-hit w v vs f) (omega arith))
       (λ f. rw (index-miss w v vs f) (omega (arith, index-at vs i (omega arith) e)))
 
-  -- what is found in the front of a list is found there in the whole, and what is not, is looked for in the rest
+  -- what is found in the front of a list is found there in the whole
   pub index-front : (vs us : List (List ℕ)) → indexOf w vs < length vs → indexOf w (vs ++ us) ≡ indexOf w vs
   unfolding indexOf
   index-front [] us h = absurd (omega arith)
@@ -208,14 +211,10 @@ module _ (w : List ℕ) where
       (λ e. rw (index-miss w v (vs ++ us) e, index-miss w v vs e)
       (ap suc (index-front vs us (omega (arith, rw (index-miss w v vs e) at h)))))
 
+  -- what is not in the front of a list is looked for in the rest
   pub index-rest : (vs us : List (List ℕ)) → indexOf w vs ≡ length vs → indexOf w (vs ++ us) ≡ length vs + indexOf w us
   unfolding indexOf
   index-rest [] us h = omega arith
   index-rest (v ∷ vs) us h =
       by-test (same v w) (λ e. absurd (omega (arith, rw (index-hit w v vs e) at h)))
       (λ e. rw (index-miss w v (vs ++ us) e) (omega (arith, index-rest vs us (omega (arith, rw (index-miss w v vs e) at h)))))
-
--- two spellings found at one place are equal
-pub index-injective : (v w : List ℕ) (vs : List (List ℕ)) → indexOf v vs < length vs → indexOf v vs ≡ indexOf w vs → v ≡ w
-index-injective v w vs h e =
-    cc (index-found v vs h, index-found w vs (omega arith))

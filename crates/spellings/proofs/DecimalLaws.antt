@@ -12,10 +12,12 @@ use Rattle.spellings.specs.Bytes.{isDigit, every, valueFrom, valueOf, di
 
 -- ------------------------------------------------------------------ one digit, and more
 
+-- a number below ten has one digit
 pub digits-one : (k n : ℕ) (follow : List ℕ) → n < 10 → digitsThen (suc k) n follow ≡ (48 + n) ∷ follow
 unfolding digitsThen
 digits-one k n follow h = rw (lt-ltb n 10 h, digitsThen) refl
 
+-- a larger number has the digits of its tenth, then its last digit
 pub digits-more : (k n : ℕ) (follow : List ℕ) → 10 ≤ n → digitsThen (suc k) n follow ≡ digitsThen k (n / 10) ((48 + n % 10) ∷ follow)
 unfolding digitsThen
 digits-more k n follow h = rw (le-ltb n 10 h, digitsThen) refl
@@ -46,10 +48,12 @@ digits-value =
     (λ n follow h. value-digit 0 n follow ∙ ap (λ m. valueFrom m follow) (omega arith))
     (λ n follow ds h e. e ∙ value-digit (n / 10) (n % 10) follow ∙ ap (λ m. valueFrom m follow) (omega arith))
 
+-- the decimal digits of a number are worth it
 pub decimal-value : (n : ℕ) → valueOf (decimal n) ≡ n
 unfolding valueFrom
 decimal-value n = digits-value (suc n) n [] (omega arith)
 
+-- two numbers with the same digits are one
 pub decimal-injective : (m n : ℕ) → decimal m ≡ decimal n → m ≡ n
 decimal-injective m n e = sym (decimal-value m) ∙ ap valueOf e ∙ decimal-value n
 
@@ -68,6 +72,7 @@ digits-digits =
     (λ n follow h e. every-more n follow h e)
     (λ n follow ds h f e. f (every-more (n % 10) follow (omega arith) e))
 
+-- each byte of a number's digits is a digit
 pub decimal-digits : (n : ℕ) → every isDigit (decimal n) ≡ true
 unfolding every
 decimal-digits n = digits-digits (suc n) n [] (omega arith) refl

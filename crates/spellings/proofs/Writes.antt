@@ -30,15 +30,21 @@ digits-follow (suc k) n follow = by (decLt n 10) (λ d. digits-follow k (n / 10)
 
 -- size - 1 digits of n were counted, and those of `rest` are left
 pub record Sizing (n size rest : ℕ) : Type 0 where
+  -- a bound on the digits left
   pub fuel : ℕ
+  -- it is large enough
   pub enough : rest < fuel
+  -- the digits counted are no more than n and one
   pub few : size + rest ≤ n + 1
+  -- the digits counted and those left are all digits of n
   pub whole : length (digitsThen fuel rest []) + size ≡ length (decimal n) + 1
 
+-- no digit is counted yet
 pub sizing-start : (n : ℕ) → Sizing n 1 n
 sizing-start n = record { fuel = suc n; enough = omega arith; few = omega arith; whole = refl }
 
 module _ {n size rest : ℕ} (r : Sizing n size rest) where
+  -- a digit is counted, and those of a tenth are left
   pub sizing-next : 10 ≤ rest → Sizing n (size + 1) (rest / 10)
   sizing-next h = by (r .fuel) (r .enough) (r .whole)
     where
@@ -53,6 +59,7 @@ module _ {n size rest : ℕ} (r : Sizing n size rest) where
             whole = omega (arith, w, ap length (digits-more k rest [] h), digits-follow k (rest / 10) (d ∷ []));
           }
 
+  -- the last digit is counted: the size is that of the whole
   pub sizing-end : rest < 10 → size ≡ length (decimal n)
   sizing-end h = by (r .fuel) (r .enough) (r .whole)
     where
@@ -98,12 +105,18 @@ stored out i b h =
 
 -- the digits from `at` on are written, and those of `rest` are left
 pub record Writing (out₀ : List ℕ) (n at rest : ℕ) (out : List ℕ) : Type 0 where
+  -- the digits written
   pub digits : List ℕ
+  -- the place is inside the buffer
   pub within : at ≤ length out₀
+  -- the buffer keeps its length
   pub long : length out ≡ length out₀
+  -- from `at` on stand the digits written, then what the buffer had behind the number's place
   pub behind : drop at out ≡ digits ++ drop (length (decimal n)) out₀
+  -- the digits left, in front of those written, are the number's
   pub whole : lowDigits at rest digits ≡ decimal n
 
+-- no digit is written yet
 pub writing-start : (out : List ℕ) (n size : ℕ) → size ≡ length (decimal n) → size ≤ length out → Writing out n size n out
 writing-start out n size e h =
     record {
@@ -115,6 +128,7 @@ writing-start out n size e h =
     }
 
 module _ {out₀ : List ℕ} {n at rest : ℕ} {out : List ℕ} (r : Writing out₀ n at rest out) where
+  -- one more digit is written, in front of the others
   pub writing-next : 0 < at → Writing out₀ n (at - 1) (rest / 10) (set out (at - 1) (48 + rest % 10))
   writing-next h =
       let d = 48 + rest % 10 in
@@ -128,6 +142,7 @@ module _ {out₀ : List ℕ} {n at rest : ℕ} {out : List ℕ} (r : Writing out
         whole = sym (low-next at rest (r .digits) h) ∙ r .whole;
       }
 
+  -- where no digit is left, the number is written
   pub writing-end : at ≤ 0 → length (decimal n) ≤ length out₀ → out ≡ written (decimal n) out₀
   unfolding lowDigits
   writing-end h l =
@@ -138,14 +153,19 @@ module _ {out₀ : List ℕ} {n at rest : ℕ} {out : List ℕ} (r : Writing out
 
 -- the first i bytes of s are copied
 pub record Copying (out₀ s : List ℕ) (i : ℕ) (out : List ℕ) : Type 0 where
+  -- i is no further than the end
   pub within : i ≤ length s
+  -- the buffer keeps its length
   pub long : length out ≡ length out₀
+  -- the copied bytes stand in front, and behind them what the buffer had
   pub text : out ≡ take i s ++ drop i out₀
 
+-- no byte is copied yet
 pub copying-start : (out s : List ℕ) → Copying out s 0 out
 copying-start out s = record { within = omega arith; long = refl; text = refl }
 
 module _ {out₀ s : List ℕ} {i : ℕ} {out : List ℕ} (r : Copying out₀ s i out) where
+  -- one more byte is copied
   pub copying-next : i < length s → i < length out₀ → Copying out₀ s (i + 1) (set out i (getD s i 0))
   copying-next h l =
       let b = getD s i 0 in
@@ -164,6 +184,7 @@ module _ {out₀ s : List ℕ} {i : ℕ} {out : List ℕ} (r : Copying out₀ s 
             );
       }
 
+  -- where no byte is left, the whole is written
   pub copying-end : length s ≤ i → length s ≤ length out₀ → out ≡ written s out₀
   copying-end h l =
       let e : i ≡ length s = omega (arith, r .within) in

@@ -87,36 +87,44 @@ module _ {pool cells numbers : List ℕ} {k row at p : ℕ} (out : List ℕ) (f 
   abbrev Opening : List (List ℕ) → Type 0
   Opening ps = Going out at (termOpening pool cells numbers k row p) at out ps
 
+  -- where no depth is left, a term begins as the number 0
   pub open-shallow : k ≡ 0 → Opening (numberOpening 0 ∷ [])
   unfolding termOpening termAt labelled opening numberOpening
   open-shallow e = go-start out (rw e refl)
 
   module _ (some : k ≡ 0 → ⊥) {code : ℕ} (c : code ≡ column cells row 0) where
+    -- a variable: its constructor, then its name
     pub open-var : code ≡ 32 → {x n : ℕ} → x ≡ column cells row 1 → n ≡ getD numbers p 0 → Opening (VAR ∷ nameShown n (nameOf (spellIn pool) x) ∷ [])
     unfolding bytes termOpening labelled opening
     open-var e ex en = go-start out (rw (ex, en, rows.var-row (spellIn pool) cells k row some c e) refl)
 
+    -- a function: its constructor, its binder's name and a space
     pub open-fun : code ≡ 33 → {x n : ℕ} → x ≡ column cells row 1 → n ≡ getD numbers p 0
         → Opening (FUN ∷ nameShown n (nameOf (spellIn pool) x) ∷ space ∷ [])
     unfolding bytes termOpening labelled opening
     open-fun e ex en = go-start out (rw (ex, en, rows.fun-row (spellIn pool) cells k row some c e) refl)
 
+    -- an application: its constructor
     pub open-app : code ≡ 34 → Opening (APP ∷ [])
     unfolding bytes termOpening labelled opening
     open-app e = go-start out (rw (rows.app-row (spellIn pool) cells k row some c e) refl)
 
+    -- a record: its constructor
     pub open-rcd : code ≡ 35 → Opening (RCD ∷ [])
     unfolding bytes termOpening labelled opening
     open-rcd e = go-start out (rw (rows.rcd-row (spellIn pool) cells k row some c e) refl)
 
+    -- a selection: its constructor
     pub open-dot : code ≡ 36 → Opening (DOT ∷ [])
     unfolding bytes termOpening labelled opening
     open-dot e = go-start out (rw (rows.dot-row (spellIn pool) cells k row some c e) refl)
 
+    -- a row of a field list, read as a term, begins as the number 0
     pub open-zero : (code ≡ 37) ⊎ (code ≡ 38) → Opening (numberOpening 0 ∷ [])
     unfolding termOpening labelled opening numberOpening
     open-zero e = go-start out (rw (rows.zero-row (spellIn pool) cells k row some c e) refl)
 
+    -- any other row: a number
     pub open-num : ((((((Unit {0} × (code ≡ 32 → ⊥)) × (code ≡ 33 → ⊥)) × (code ≡ 34 → ⊥)) × (code ≡ 35 → ⊥)) × (code ≡ 36 → ⊥)) × (code ≡ 37 → ⊥))
         × (code ≡ 38 → ⊥) → {x : ℕ} → x ≡ column cells row 1 → Opening (numberOpening x ∷ [])
     unfolding termOpening labelled opening numberOpening
@@ -135,15 +143,18 @@ module _ {pool cells : List ℕ} {k row at : ℕ} (out : List ℕ) (f : FieldsOp
   abbrev OpeningFields : List (List ℕ) → Type 0
   OpeningFields ps = Going out at (fieldsOpening pool cells k row) at out ps
 
+  -- where no depth is left, a field list begins as the empty one
   pub open-shallow-fields : k ≡ 0 → OpeningFields (NIL ∷ [])
   unfolding bytes fieldsOpening fieldsAt openingFields
   open-shallow-fields e = go-start out (rw e refl)
 
   module _ (some : k ≡ 0 → ⊥) {code : ℕ} (c : code ≡ column cells row 0) where
+    -- a field: its constructor, its label and a space
     pub open-cons : code ≡ 38 → {x : ℕ} → x ≡ column cells row 1 → OpeningFields (CONS ∷ spellIn pool x ∷ space ∷ [])
     unfolding bytes fieldsOpening openingFields
     open-cons e ex = go-start out (rw (ex, rows.cons-row (spellIn pool) cells k row some c e) refl)
 
+    -- any other row: the empty field list
     pub open-nil : (code ≡ 38 → ⊥) → OpeningFields (NIL ∷ [])
     unfolding bytes fieldsOpening openingFields
     open-nil e = go-start out (rw (rows.nil-row (spellIn pool) cells k row some c e) refl)

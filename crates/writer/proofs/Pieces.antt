@@ -21,6 +21,7 @@ then {out} {out₁} {out₂} {at} {r₁} {r₂} {a} {b} h k =
           cc (k .put second, h .put first, h .end, sets-append out at a b);
     }
 
+-- what is written as a text is written as an equal one
 pub as-text : {out out′ : List ℕ} {at r : ℕ} {a b : List ℕ} → a ≡ b → Wrote out at a r out′ → Wrote out at b r out′
 as-text {out} {out′} {at} {r} e h = rw e at h
 
@@ -32,18 +33,20 @@ joined (a ∷ b ∷ ps) = a ++ joined (b ∷ ps)
 
 -- some of a text is written, and pieces of it are left
 pub record Going (out : List ℕ) (at : ℕ) (text : List ℕ) (r : ℕ) (out′ : List ℕ) (pieces : List (List ℕ)) : Type 0 where
+  -- what is written
   pub done : List ℕ
+  -- the text is that and the pieces left
   pub split : text ≡ done ++ joined pieces
+  -- it is written from `at` to r
   pub wrote : Wrote out at done r out′
 
-pub go : {out out₁ : List ℕ} {at r₁ : ℕ} {a text : List ℕ} {ps : List (List ℕ)} → Wrote out at a r₁ out₁ → text ≡ a ++ joined ps → Going out at text r₁ out₁ ps
-go {a = a} w e = record { done = a; split = e; wrote = w }
-
+-- one piece more is written, and others are left
 pub go-next : {out out₁ out₂ : List ℕ} {at r₁ r₂ : ℕ} {a b text : List ℕ} {ps : List (List ℕ)}
     → Going out at text r₁ out₁ (a ∷ b ∷ ps) → Wrote out₁ r₁ a r₂ out₂ → Going out at text r₂ out₂ (b ∷ ps)
 go-next {a = a} {b = b} {ps = ps} g w =
     record { done = g .done ++ a; split = g .split ∙ sym (append-assoc (g .done) a (joined (b ∷ ps))); wrote = then (g .wrote) w }
 
+-- the last piece is written: the text is
 pub go-last : {out out₁ out₂ : List ℕ} {at r₁ r₂ : ℕ} {a text : List ℕ}
     → Going out at text r₁ out₁ (a ∷ []) → Wrote out₁ r₁ a r₂ out₂ → Wrote out at text r₂ out₂
 go-last g w = as-text (sym (g .split)) (then (g .wrote) w)

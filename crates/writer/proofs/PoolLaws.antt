@@ -105,7 +105,7 @@ module _ (pool s : List ℕ) (i : ℕ) (short : length s < 32) (fits : i * 32 + 
     pooled-by : Pooled stored R
     pooled-by = record { small = small-by; spelled = spelled-by }
 
-    pub pooled-store : {pool′ : List ℕ} → pool′ ≡ sets pool (i * 32) (length s ∷ s) → Pooled pool′ R
+    pooled-store : {pool′ : List ℕ} → pool′ ≡ sets pool (i * 32) (length s ∷ s) → Pooled pool′ R
     unfolding stored
     pooled-store e = rw e pooled-by
 
@@ -138,13 +138,20 @@ module _ (table : List ℕ) (at tag : ℕ) where
 
 -- i outside names are stored, and the others stand from `at` on
 pub record Filling (table pool₀ pool : List ℕ) (start at i : ℕ) : Type 0 where
+  -- there are at most 64
   pub few : i ≤ 64
+  -- the room keeps its length
   pub long : length pool ≡ length pool₀
+  -- the names stored
   pub done : List (List ℕ)
+  -- there are i of them
   pub many : length done ≡ i
+  -- they and those from `at` on are the table's, 64 at most
   pub rest : take 64 (leading 2 (fieldsAt table start)) ≡ done ++ take (64 - i) (leading 2 (fieldsAt table at))
+  -- the room has them at their numbers
   pub pooled : Pooled pool (oneOf done)
 
+-- no name is stored yet
 pub filling-start : (table pool : List ℕ) (start : ℕ) → Pooled pool noneOf → Filling table pool pool start start 0
 filling-start table pool start p =
     record { few = omega arith; long = refl; done = []; many = refl; rest = refl; pooled = record { small = p .small; spelled = λ m. p .spelled m } }
@@ -163,11 +170,13 @@ module _ {table pool₀ pool : List ℕ} {start at i : ℕ} (c : Filling table p
   take-none zero = refl
   take-none (suc n) = refl
 
+  -- at a field of another tag, a cut one or none, all are stored
   pub filling-out : (r : Front) → r ≡ frontOf (drop at table) → Stops 2 r → Pooled pool (oneOf (lexiconOf table .outsides))
   filling-out r e h =
       finished
       (cc (fields-at table at e, stop-leading table at 2 r h, take-none (64 - i)))
 
+  -- where 64 are stored, all that count are
   pub filling-end : 64 ≤ i → Pooled pool (oneOf (lexiconOf table .outsides))
   filling-end h = let z : 64 - i ≡ 0 = omega arith in finished cc
 
@@ -182,10 +191,11 @@ module _ {table pool₀ pool : List ℕ} {start at i : ℕ} (c : Filling table p
         ∙ ap (take (64 - i)) (one-leading table at 2 t _ _ tagged)
         ∙ rw z refl
 
-    pub value-there : oneOf (lexiconOf table .outsides) i ≡ Value
+    value-there : oneOf (lexiconOf table .outsides) i ≡ Value
     value-there =
         cc (outs, one-left, getD-at (c .done) Value (take (64 - (i + 1)) (leading 2 (fieldsAt table (at + 3 + n)))) [] i (c .many))
 
+    -- the next name is shorter than 32 bytes, if all are
     pub value-short : ((m : ℕ) → length (oneOf (lexiconOf table .outsides) m) < 32) → {v : List ℕ} → v ≡ Value → length v < 32
     value-short hs ev = omega (arith, hs i, ap length value-there, ap length ev)
 
@@ -210,6 +220,7 @@ module _ {table pool₀ pool : List ℕ} {start at i : ℕ} (c : Filling table p
           pooled-store pool v i (value-short hs ev) (omega (arith, c .long)) (c .pooled)
           (getD-at (c .done) v [] [] i (c .many)) there ep
 
+      -- one more name is stored
       pub filling-next : Filling table pool₀ pool′ start (at + 3 + n) (i + 1)
       unfolding more
       filling-next =
@@ -238,7 +249,7 @@ module _ (outs : List (List ℕ)) (formula room : List ℕ) where
   unfolding filledTo
   further i m h l = rw (le-ltb m 64 h, filledTo) (rw (le-ltb (m - 64) i l) refl)
 
-  pub filled-start : length outs ≤ 64 → {pool : List ℕ} → Pooled pool (oneOf outs) → Pooled pool (filledTo outs formula room 0)
+  filled-start : length outs ≤ 64 → {pool : List ℕ} → Pooled pool (oneOf outs) → Pooled pool (filledTo outs formula room 0)
   filled-start few p =
       record {
         small = p .small;
@@ -261,7 +272,7 @@ module _ (outs : List (List ℕ)) (formula room : List ℕ) where
       let past : i + 1 ≤ m - 64 = omega (arith, ltb-false (m - 64) i t, d) in
       further (i + 1) m far past ∙ sym (further i m far (omega arith))))
 
-  pub filled-next : (i : ℕ) {pool pool′ s : List ℕ} → Pooled pool (filledTo outs formula room i) → s ≡ spanned formula room i → length s < 32
+  filled-next : (i : ℕ) {pool pool′ s : List ℕ} → Pooled pool (filledTo outs formula room i) → s ≡ spanned formula room i → length s < 32
       → (i + 64) * 32 + 32 ≤ length pool → pool′ ≡ sets pool ((i + 64) * 32) (length s ∷ s) → Pooled pool′ (filledTo outs formula room (i + 1))
   filled-next i {pool} {pool′} {s} p es short fits ep =
       let z : i + 64 - 64 ≡ i = omega arith in
@@ -289,21 +300,27 @@ module _ (outs : List (List ℕ)) (formula room : List ℕ) where
       → v ≡ spanned formula room i
   word-is i ea es ev = cc
 
+  -- word i is shorter than 32 bytes, if all are
   pub word-short : (i count : ℕ) {v : List ℕ} → ((j : ℕ) → j < count → length (spanned formula room j) < 32) → i < count → v ≡ spanned formula room i
       → length v < 32
   word-short i count hs l e = omega (arith, hs i l, ap length e)
 
 -- i words are stored
 pub record Storing (outs : List (List ℕ)) (formula room pool₀ pool : List ℕ) (count i : ℕ) : Type 0 where
+  -- i is a word or the end
   pub inside : i ≤ count
+  -- the room keeps its length
   pub long : length pool ≡ length pool₀
+  -- the room has the outside names and the first i words at their numbers
   pub pooled : Pooled pool (filledTo outs formula room i)
 
+-- no word is stored yet
 pub storing-start : (table formula room : List ℕ) {pool : List ℕ} (count : ℕ) → Pooled pool (oneOf (lexiconOf table .outsides))
     → Storing (lexiconOf table .outsides) formula room pool pool count 0
 storing-start table formula room count p =
     record { inside = omega arith; long = refl; pooled = filled-start (lexiconOf table .outsides) formula room (few-outsides table) p }
 
+-- one more word is stored
 pub storing-next : {outs : List (List ℕ)} {formula room pool₀ pool pool′ s : List ℕ} {count i : ℕ} → Storing outs formula room pool₀ pool count i → i < count
     → s ≡ spanned formula room i → length s < 32 → (i + 64) * 32 + 32 ≤ length pool → pool′ ≡ sets pool ((i + 64) * 32) (length s ∷ s)
     → Storing outs formula room pool₀ pool′ count (i + 1)
@@ -314,6 +331,7 @@ storing-next {outs} {formula} {room} {pool₀} {pool} {pool′} {s} {count} {i} 
       pooled = filled-next outs formula room i (c .pooled) es short fits ep;
     }
 
+-- where no word is left, all are stored
 pub storing-end : {outs : List (List ℕ)} {formula room pool₀ pool : List ℕ} {count i : ℕ} → Storing outs formula room pool₀ pool count i → count ≤ i
     → Pooled pool (filledTo outs formula room count)
 storing-end {outs} {formula} {room} {pool₀} {pool} {count} {i} c l =

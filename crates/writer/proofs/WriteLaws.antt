@@ -3,17 +3,14 @@ use Prim.Native.Nat.{ℕ, _+_, _-_, _*_, _≤_, min}
 use mathlib.Core.Path.{_≡_, refl, sym, ap, _∙_}
 use mathlib.Core.List.{List, [], _∷_, _++_, append-assoc, append-nil}
 use native.Mathlib.Omega.{arith}
-use Rattle.grammar.proofs.ReaderLaws.{getD-past}
-use lib.ListN.{length, getD, set, take, drop, length-set, length-drop, drop-of-length-le}
+use lib.ListN.{length, getD, take, drop, length-drop, drop-of-length-le}
 use lib.Seq.{sets, sets-eq, take-all, drop-drop}
 use borrow.Rule.Slice.PartMut.{putMid, midOf, same-len-mid}
 use Rattle.spellings.specs.Buffers.{written}
 use Rattle.spellings.proofs.BuffersLaws.{written-fits, length-written}
 use Rattle.writer.specs.Openings.{Wrote, spellIn}
 
-pub byte-in : (out : List ℕ) (at b : ℕ) → Wrote out at (b ∷ []) (at + 1) (set out at b)
-byte-in out at b = record { end = refl; same = length-set out at b; put = λ h. refl }
-
+-- past the end of a buffer a byte is counted and not stored
 pub byte-out : (out : List ℕ) (at b : ℕ) → length out ≤ at → Wrote out at (b ∷ []) (at + 1) out
 byte-out out at b l = record { end = refl; same = refl; put = λ h. absurd (omega arith) }
 
@@ -53,7 +50,3 @@ module _ (out s : List ℕ) (at from : ℕ) (ef : from ≡ min at (length out)) 
 pub spelled : (pool : List ℕ) (n : ℕ) {m : ℕ} {r : List ℕ} → m ≡ getD pool (n * 32) 0 → r ≡ take m (drop (n * 32 + 1) pool) → r ≡ spellIn pool n
 unfolding spellIn
 spelled pool n e h = cc
-
-pub spelled-past : (pool : List ℕ) (n : ℕ) {r : List ℕ} → length pool ≤ n * 32 → r ≡ take 0 (drop 0 pool) → r ≡ spellIn pool n
-unfolding spellIn
-spelled-past pool n l h = cc (getD-past pool (n * 32) 0 l)

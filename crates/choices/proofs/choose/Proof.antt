@@ -65,6 +65,7 @@ returns-4 c =
 returns-5 : tie.Need-returns-5
 returns-5 c = λ bs h m. record { place-is = c .before .search2 .ensures bs h; memory-is = m }
 
+-- the function meets its contract
 pub choose-spec : {M : Type 1} → statement M
 choose-spec =
     tie.close

@@ -14,5 +14,6 @@ returns c = λ bs h. c .first-set .ensures ∙ laws.set-inside h _ (c .before .i
 returns-2 : tie.Need-returns-2
 returns-2 c = λ bs h. laws.set-outside h _ (c .if1 .left)
 
+-- the function meets its contract
 pub kinds-of-spec : {M : Type 1} → statement M
 kinds-of-spec = tie.close (tie.spec first-set-requires returns returns-2)

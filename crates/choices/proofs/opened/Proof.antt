@@ -74,6 +74,7 @@ returns-2 c =
     let entry-place = c .before .before .before in
     laws.walk-end h (entry-place .pre .1) (entry-place .args .kind) (c .before .loop .inv bs h) (c .loop-test .left)
 
+-- the function meets its contract
 pub opened-spec : {M : Type 1} → statement M
 opened-spec =
     tie.close

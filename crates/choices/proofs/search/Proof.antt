@@ -27,6 +27,7 @@ returns-3 c =
     laws.place-nullable h (opened-place .before .if1 .left) (entry-place .args .kind) (opened-place .opened .ensures bs h) (c .before .if2 .left)
     (c .nullable-place .ensures)
 
+-- the function meets its contract
 pub search-spec : {M : Type 1} → statement M
 search-spec =
     tie.close (tie.spec returns opened-requires returns-2 nullable-place-requires returns-3)

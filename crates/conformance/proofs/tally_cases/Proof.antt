@@ -53,6 +53,7 @@ returns-2 c = search needs
 returns-3 : tie.Need-returns-3 Inv-loop μ-loop
 returns-3 c = search needs
 
+-- the function meets its contract
 pub tally-cases-spec : {M : Type 1} → statement M
 tally-cases-spec =
     tie.close

@@ -14,5 +14,6 @@ returns c = c .refusing .ensures ∙ laws.answer-long _ _ _ _ (c .before .if1 .t
 returns-2 : tie.Need-returns-2
 returns-2 c = laws.answer-whole _ _ _ _ (c .if1 .left)
 
+-- the function meets its contract
 pub answered-spec : {M : Type 1} → statement M
 answered-spec = tie.close (tie.spec refusing-requires returns returns-2)

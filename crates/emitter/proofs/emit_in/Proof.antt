@@ -62,6 +62,7 @@ returns-2 c =
     (resolved .resolve .ensures .0 _ (pre .emittable .distinct) (pre .emittable .wellNamed)) (told .enum-told .given .1) (pre .counted)
     (c .before .before .before .print-marked .ensures) (c .answered .ensures)
 
+-- the function meets its contract
 pub emit-in-spec : {M : Type 1} → statement M
 emit-in-spec =
     tie.close

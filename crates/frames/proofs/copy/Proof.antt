@@ -43,6 +43,7 @@ same-length c = search needs
 returns : tie.Need-returns Inv-loop μ-loop
 returns c = λ i l. c .before .loop .inv .values i (omega (arith, c .loop-test .left))
 
+-- the function meets its contract
 pub copy-spec : {M : Type 1} → statement M
 copy-spec =
     tie.close

@@ -46,6 +46,7 @@ loop-again c = laws.loading-next (c .before .before .loop .inv) (c .before .loop
 returns : tie.Need-returns Inv-loop μ-loop
 returns c = laws.loading-end (c .before .loop .inv) (c .loop-test .left)
 
+-- the function meets its contract
 pub load-spec : {M : Type 1} → statement M
 load-spec =
     tie.close

@@ -82,6 +82,7 @@ returns c =
     let entry = l .before in
     laws.saving-end (l .loop .inv) (c .loop-test .left) (entry .pre .0 .inside) (entry .args .count) (entry .args .next)
 
+-- the function meets its contract
 pub save-spec : {M : Type 1} → statement M
 save-spec =
     tie.close

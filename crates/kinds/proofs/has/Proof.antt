@@ -22,5 +22,6 @@ returns-2 c =
     let start = c .before in
     sym (has-above 64 (start .args .m) (start .args .k) (search needs) (c .if1 .left))
 
+-- the function meets its contract
 pub has-spec : {M : Type 1} → statement M
 has-spec = tie.close (tie.spec shr-result returns returns-2)

@@ -19,5 +19,6 @@ returns-2 c =
     let start = c .before in
     sym (has-above 64 (start .args .set) (start .args .kind) (start .fits .set .fits) (c .if1 .left))
 
+-- the function meets its contract
 pub has-kind-spec : {M : Type 1} → statement M
 has-kind-spec = tie.close (tie.spec cast-has has-requires returns returns-2)

@@ -19,5 +19,6 @@ returns c =
 returns-2 : tie.Need-returns-2
 returns-2 c = sym (only-none (c .before .args .k) (c .if1 .left))
 
+-- the function meets its contract
 pub only-spec : {M : Type 1} → statement M
 only-spec = tie.close (tie.spec shl-result returns returns-2)

@@ -17,5 +17,6 @@ returns c = search needs
 returns-2 : tie.Need-returns-2
 returns-2 c = sym (only-none (c .before .args .kind) (c .if1 .left))
 
+-- the function meets its contract
 pub set-of-kind-spec : {M : Type 1} → statement M
 set-of-kind-spec = tie.close (tie.spec cast-only only-requires returns returns-2)

@@ -13,5 +13,6 @@ same-length c = search needs
 returns : tie.Need-returns
 returns c = search prints-whole
 
+-- the function meets its contract
 pub print-whole-spec : {M : Type 1} → statement M
 print-whole-spec = tie.close (tie.spec print-term-requires same-length returns)

@@ -14,5 +14,6 @@ slice-aggregate-result c = sym (length-take-le _ _ (c .before .if1 .left))
 returns-2 : tie.Need-returns-2
 returns-2 c = search needs
 
+-- the function meets its contract
 pub front-spec : {M : Type 1} → statement M
 front-spec = tie.close (tie.spec returns slice-aggregate-result returns-2)

@@ -90,6 +90,7 @@ returns-4 c =
     (sym (digit .is-digit .ensures) ∙ else2 .if2 .left)
     (sym (c .before .is-symbol .ensures) ∙ c .if3 .left)
 
+-- the function meets its contract
 pub mark-step-spec : {M : Type 1} → statement M
 mark-step-spec =
     tie.close

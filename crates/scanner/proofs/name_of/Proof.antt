@@ -70,6 +70,7 @@ returns-3 c =
     let start = at-start read in
     laws.node-none (start .pre .0) (start .args .s .now) (read .wide-number .ensures) (found .find .result) (found .find .ensures) (c .enum-told .given .1)
 
+-- the function meets its contract
 pub name-of-spec : {M : Type 1} → statement M
 name-of-spec =
     tie.close

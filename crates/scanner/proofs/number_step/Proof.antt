@@ -68,6 +68,7 @@ returns-2 c =
     laws.large-at (start .args .formula .now) (start .args .at) (digits .digit-run .ensures) (start .pre .2) lex
     (sym (c .enum-told .given .1) ∙ valued .value .ensures)
 
+-- the function meets its contract
 pub number-step-spec : {M : Type 1} → statement M
 number-step-spec =
     tie.close

@@ -86,6 +86,7 @@ returns-2 c =
     laws.own-free (args .mask) (args .formula .now) (args .words .now) (args .count) (args .links .now) _ _ (read .part .ensures) (found .find .result)
     (found .find .ensures) (spot2-place .spot2 .given .1) (c .emit2 .ensures)
 
+-- the function meets its contract
 pub own-word-spec : {M : Type 1} → statement M
 own-word-spec =
     tie.close

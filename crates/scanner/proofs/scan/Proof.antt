@@ -88,6 +88,7 @@ same-length-6 c = search needs
 returns-4 : tie.Need-returns-4
 returns-4 c = search needs
 
+-- the function meets its contract
 pub scan-spec : {M : Type 1} → statement M
 scan-spec =
     tie.close

@@ -236,6 +236,7 @@ same-length-9 c = c .before .loop .inv .links-same
 returns-3 : tie.Need-returns-3 Inv-loop μ-loop
 returns-3 c = loop.turn-end (c .before .loop .inv .turn) (c .loop-test .left)
 
+-- the function meets its contract
 pub scan-loop-spec : {M : Type 1} → statement M
 scan-loop-spec =
     tie.close

@@ -37,6 +37,7 @@ same-length-3 c = search needs
 returns : tie.Need-returns
 returns c = search needs
 
+-- the function meets its contract
 pub scan-with-spec : {M : Type 1} → statement M
 scan-with-spec =
     tie.close

@@ -36,6 +36,7 @@ returns-2 c =
     let start = at-start (c .before .before) in
     laws.marks-made (start .args .table .now) (start .args .formula .now) (start .args .at) (start .pre .1 .0) (c .mark-step .ensures)
 
+-- the function meets its contract
 pub step-at-spec : {M : Type 1} → statement M
 step-at-spec =
     tie.close

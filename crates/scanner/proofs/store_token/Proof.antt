@@ -49,6 +49,7 @@ same-length c = search needs
 returns : tie.Need-returns
 returns c = laws.token-stored (c .args .tokens .now) (c .args .n * 4) (c .args .t)
 
+-- the function meets its contract
 pub store-token-spec : {M : Type 1} → statement M
 store-token-spec =
     tie.close

@@ -70,6 +70,7 @@ returns-2 c =
     let stored = laws.free-stored (args .words .now) (args .links .now) (args .count) (args .t) (args .spot) (start .pre .0) (c .before .spot .given .1) in
     (stored .0, (stored .1, stored .2))
 
+-- the function meets its contract
 pub store-word-spec : {M : Type 1} → statement M
 store-word-spec =
     tie.close

@@ -109,6 +109,7 @@ returns-4 c =
     let here = laws.word-here (asked .0) (asked .2) (read .word-at .ensures) (short .if1 .left) (part .part .ensures) in
     laws.other-made here (few-outsides (start .args .table .now)) (named .name-of .ensures) (c .before .enum-told .given .1) (c .own-word .ensures)
 
+-- the function meets its contract
 pub word-step-spec : {M : Type 1} → statement M
 word-step-spec =
     tie.close

@@ -45,6 +45,7 @@ same-length c = search needs
 returns-2 : tie.Need-returns-2 Inv-loop μ-loop
 returns-2 c = (refl, writes.copying-end (c .before .loop .inv) (c .loop-test .left) (c .before .before .if1 .left))
 
+-- the function meets its contract
 pub copy-into-spec : {M : Type 1} → statement M
 copy-into-spec =
     tie.close

@@ -25,6 +25,7 @@ loop-again c = writes.sizing-next (c .before .loop .inv) (c .loop-test .taken)
 returns : tie.Need-returns Inv-loop μ-loop
 returns c = writes.sizing-end (c .before .loop .inv) (c .loop-test .left)
 
+-- the function meets its contract
 pub decimal-size-spec : {M : Type 1} → statement M
 decimal-size-spec =
     tie.close (tie.spec Inv-loop μ-loop loop-holds add-size loop-less loop-again returns)

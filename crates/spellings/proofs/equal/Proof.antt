@@ -49,6 +49,7 @@ loop-again c =
 returns-3 : tie.Need-returns-3 Inv-loop μ-loop
 returns-3 c = loops.agreeing-end (c .before .loop .inv) (c .before .before .if1 .left) (c .loop-test .left)
 
+-- the function meets its contract
 pub equal-spec : {M : Type 1} → statement M
 equal-spec =
     tie.close

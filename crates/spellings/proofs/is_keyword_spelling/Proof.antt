@@ -31,6 +31,7 @@ is-word-requires c κs = search needs
 returns-2 : tie.Need-returns-2
 returns-2 c = c .is-word .ensures ∙ sym (is-keyword-word (c .before .before .before .args .s .now) (c .before .if1 .left))
 
+-- the function meets its contract
 pub is-keyword-spelling-spec : {M : Type 1} → statement M
 is-keyword-spelling-spec =
     tie.close

@@ -13,5 +13,6 @@ returns : tie.Need-returns
 returns c =
     cc (c .before .is-letter .ensures, c .is-digit .ensures)
 
+-- the function meets its contract
 pub is-symbol-spec : {M : Type 1} → statement M
 is-symbol-spec = tie.close (tie.spec is-letter-requires is-digit-requires returns)

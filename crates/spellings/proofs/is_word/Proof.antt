@@ -22,6 +22,7 @@ returns-2 c =
     let s = c .before .before .before .before .before .args .s .now in
     cc (c .before .is-letter .ensures, c .word-run .ensures, is-word-by s (search needs))
 
+-- the function meets its contract
 pub is-word-spec : {M : Type 1} → statement M
 is-word-spec =
     tie.close

@@ -12,5 +12,6 @@ is-digit-requires c κs = search needs
 returns : tie.Need-returns
 returns c = cc (c .before .is-letter .ensures, c .is-digit .ensures)
 
+-- the function meets its contract
 pub is-word-byte-spec : {M : Type 1} → statement M
 is-word-byte-spec = tie.close (tie.spec is-letter-requires is-digit-requires returns)

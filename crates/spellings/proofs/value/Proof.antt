@@ -50,6 +50,7 @@ cast-t10 c = search needs
 returns-2 : tie.Need-returns-2 Inv-loop μ-loop
 returns-2 c = loops.valued-end (c .before .loop .inv) (c .loop-test .left)
 
+-- the function meets its contract
 pub value-spec : {M : Type 1} → statement M
 value-spec =
     tie.close

@@ -53,6 +53,7 @@ returns-2 : tie.Need-returns-2 Inv-loop μ-loop
 returns-2 c =
     (c .before .before .before .decimal-size .ensures, writes.writing-end (c .before .loop .inv) (c .loop-test .left) (omega arith))
 
+-- the function meets its contract
 pub write-decimal-spec : {M : Type 1} → statement M
 write-decimal-spec =
     tie.close

@@ -159,6 +159,7 @@ returns-4 c =
       λ bs at h. laws.spent-step h (c .before .outcome2 .given .1) (q .read-item .ensures .1),
     )
 
+-- the function meets its contract
 pub do-item-spec : {M : Type 1} → statement M
 do-item-spec =
     tie.close

@@ -148,6 +148,7 @@ returns-4 c =
       c .outcome-of .ensures .1,
     )
 
+-- the function meets its contract
 pub finish-spec : {M : Type 1} → statement M
 finish-spec =
     tie.close

@@ -12,5 +12,6 @@ returns : tie.Need-returns
 returns c =
     (λ I M cells g. laws.variable-value 0 I M (c .before .args .s) cells (c .pick .ensures M g), omega arith)
 
+-- the function meets its contract
 pub first-variable-spec : {M : Type 1} → statement M
 first-variable-spec = tie.close (tie.spec pick-requires returns)

@@ -106,6 +106,7 @@ returns-4 c =
     let here = item p (front-place .front .given .1) (if1-place .if1 .left) in
     (λ I M et er g. do-item-place .do-item .ensures .0 _ _ I M here et er g, do-item-place .do-item .ensures .1 _ _ here)
 
+-- the function meets its contract
 pub item-step-spec : {M : Type 1} → statement M
 item-step-spec =
     tie.close

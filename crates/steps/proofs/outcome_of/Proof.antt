@@ -30,6 +30,7 @@ returns-2 c =
     let entry = told .before .before .args in
     (laws.full-outcome (entry .s) (entry .b) (told .enum-told .given .1) (c .no-row .ensures), tt)
 
+-- the function meets its contract
 pub outcome-of-spec : {M : Type 1} → statement M
 outcome-of-spec =
     tie.close

@@ -60,6 +60,7 @@ returns-4 c =
       c .take3 .ensures .1,
     )
 
+-- the function meets its contract
 pub read-item-spec : {M : Type 1} → statement M
 read-item-spec =
     tie.close

@@ -13,5 +13,6 @@ returns c = laws.label-value (c .before .args .sort) (c .before .args .v) (c .if
 returns-2 : tie.Need-returns-2
 returns-2 c = laws.name-value (c .before .args .sort) (c .before .args .v) (c .if1 .left)
 
+-- the function meets its contract
 pub word-value-spec : {M : Type 1} → statement M
 word-value-spec = tie.close (tie.spec add-result returns returns-2)

@@ -32,6 +32,7 @@ loop-again c = omega arith
 returns : tie.Need-returns Inv-loop μ-loop
 returns c = search needs
 
+-- the function meets its contract
 pub clear-cells-spec : {M : Type 1} → statement M
 clear-cells-spec =
     tie.close

@@ -29,6 +29,7 @@ loop-again c = omega arith
 returns : tie.Need-returns Inv-loop μ-loop
 returns c = search needs
 
+-- the function meets its contract
 pub clear-text-spec : {M : Type 1} → statement M
 clear-text-spec =
     tie.close

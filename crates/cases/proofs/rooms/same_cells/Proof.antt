@@ -38,6 +38,7 @@ loop-again c = omega arith
 returns-2 : tie.Need-returns-2 Inv-loop μ-loop
 returns-2 c = search needs
 
+-- the function meets its contract
 pub same-cells-spec : {M : Type 1} → statement M
 same-cells-spec =
     tie.close

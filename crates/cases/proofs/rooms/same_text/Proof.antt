@@ -35,6 +35,7 @@ loop-again c = omega arith
 returns-2 : tie.Need-returns-2 Inv-loop μ-loop
 returns-2 c = search needs
 
+-- the function meets its contract
 pub same-text-spec : {M : Type 1} → statement M
 same-text-spec =
     tie.close

@@ -35,6 +35,7 @@ same-length-4 c = search needs
 returns-2 : tie.Need-returns-2
 returns-2 c = search needs
 
+-- the function meets its contract
 pub in-text-spec : {M : Type 1} → statement M
 in-text-spec =
     tie.close

@@ -109,6 +109,7 @@ returns-2 c =
     let paused = laws.goes-paused _ _ R (frames′ q) (cells′ q) (q .items .result) (went q s) (told .enum-told .given .1) in
     absurd (omega (arith, paused .1, same q))
 
+-- the function meets its contract
 pub deep-items-spec : {M : Type 1} → statement M
 deep-items-spec =
     tie.close

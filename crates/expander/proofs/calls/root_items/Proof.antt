@@ -134,6 +134,7 @@ returns-2 c =
     let q = match-place .before .before .before .before .before .before in
     deep-place .deep-items .ensures (result (q-save q)) (paused q (progress-place .progress2 .given .1))
 
+-- the function meets its contract
 pub root-items-spec : {M : Type 1} → statement M
 root-items-spec =
     tie.close

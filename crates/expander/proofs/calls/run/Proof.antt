@@ -82,6 +82,7 @@ returns-2 c =
     c .ended .ensures (input p) (let from-3 = root-place .root-items .last .1 .1 .1 in from-3 .1 .1 .0) (token-count (lent .tokens .now) (lent .n))
     ∙ runs p (laws.run-root (input p) _ _ _ _ (begins p (begun-place .begun2 .given .1)) (lent .cells .now) (root-place .root-items .ensures))
 
+-- the function meets its contract
 pub run-spec : {M : Type 1} → statement M
 run-spec =
     tie.close

@@ -13,5 +13,6 @@ returns c = laws.after-on (c .before .before .args .room .now) _ (c .before .nex
 returns-2 : tie.Need-returns-2
 returns-2 c = laws.after-end (c .before .before .args .room .now) _ (c .before .next-place .ensures) (c .if1 .left)
 
+-- the function meets its contract
 pub after-spec : {M : Type 1} → statement M
 after-spec = tie.close (tie.spec next-place-requires returns returns-2)

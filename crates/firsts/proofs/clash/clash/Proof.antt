@@ -16,6 +16,7 @@ is-nullable-requires-2 c κs = search needs
 returns : tie.Need-returns
 returns c = cc
 
+-- the function meets its contract
 pub clash-spec : {M : Type 1} → statement M
 clash-spec =
     tie.close (tie.spec shared-by-requires is-nullable-requires is-nullable-requires-2 returns)

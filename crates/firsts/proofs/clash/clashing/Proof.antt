@@ -89,6 +89,7 @@ returns-2 c =
     laws.lowest-stop (search .before .search .inv) (search .search-test .taken)
     (laws.column-found (column .before .loop2 .inv) (column .loop2-test .taken) (c .before .clash .ensures) (c .if1 .taken))
 
+-- the function meets its contract
 pub clashing-spec : {M : Type 1} → statement M
 clashing-spec =
     tie.close

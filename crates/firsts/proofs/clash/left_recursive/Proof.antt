@@ -49,6 +49,7 @@ loop-again c =
 returns-2 : tie.Need-returns-2 Inv-loop μ-loop
 returns-2 c = laws.lowest-end (c .before .loop .inv) (c .loop-test .left)
 
+-- the function meets its contract
 pub left-recursive-spec : {M : Type 1} → statement M
 left-recursive-spec =
     tie.close

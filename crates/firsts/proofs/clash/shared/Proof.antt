@@ -63,6 +63,7 @@ loop-again c = laws.join-column-end (c .before .before .loop2 .inv) (c .before .
 returns : tie.Need-returns Inv-loop2 μ-loop2 Inv-loop μ-loop
 returns c = laws.join-row-end (c .before .loop .inv) (c .loop-test .left)
 
+-- the function meets its contract
 pub shared-spec : {M : Type 1} → statement M
 shared-spec =
     tie.close

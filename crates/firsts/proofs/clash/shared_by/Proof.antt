@@ -16,5 +16,6 @@ meet-requires c κs = search needs
 returns : tie.Need-returns
 returns c = cc
 
+-- the function meets its contract
 pub shared-by-spec : {M : Type 1} → statement M
 shared-by-spec = tie.close (tie.spec first-requires first-requires-2 meet-requires returns)

@@ -85,6 +85,7 @@ found-requires-3 c κs = search needs
 returns-3 : tie.Need-returns-3 Inv-loop μ-loop
 returns-3 c = laws.walk-end (c .before .before .loop .inv) (c .before .loop-test .left) (c .found3 .ensures)
 
+-- the function meets its contract
 pub gather-spec : {M : Type 1} → statement M
 gather-spec =
     tie.close

@@ -78,6 +78,7 @@ returns-4 c =
     let p = c .before .before .before in
     laws.step-past (table p) (entry p .args .at) (field p) (c .before .before .if1 .left) (c .symbol .ensures)
 
+-- the function meets its contract
 pub item-at-spec : {M : Type 1} → statement M
 item-at-spec =
     tie.close

@@ -18,6 +18,7 @@ join-requires-2 c κs = search needs
 returns : tie.Need-returns
 returns c = cc
 
+-- the function meets its contract
 pub joined-spec : {M : Type 1} → statement M
 joined-spec =
     tie.close (tie.spec own-requires join-requires through-requires join-requires-2 returns)

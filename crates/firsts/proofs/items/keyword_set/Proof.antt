@@ -16,5 +16,6 @@ returns c = search needs
 returns-2 : tie.Need-returns-2
 returns-2 c = laws.keyword-none _ (c .if1 .left)
 
+-- the function meets its contract
 pub keyword-set-spec : {M : Type 1} → statement M
 keyword-set-spec = tie.close (tie.spec add-only only-requires returns returns-2)

@@ -77,6 +77,7 @@ returns-9 c = search needs
 returns-10 : tie.Need-returns-10
 returns-10 c = search needs
 
+-- the function meets its contract
 pub own-spec : {M : Type 1} → statement M
 own-spec =
     tie.close

@@ -38,6 +38,7 @@ returns-4 c = search needs
 returns-5 : tie.Need-returns-5
 returns-5 c = c .has .ensures ∙ laws.passed-is _ (c .before .before .s .given .1)
 
+-- the function meets its contract
 pub passed-spec : {M : Type 1} → statement M
 passed-spec =
     tie.close

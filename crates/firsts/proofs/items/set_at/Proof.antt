@@ -17,5 +17,6 @@ returns c = search needs
 returns-2 : tie.Need-returns-2
 returns-2 c = sym (getD-past (c .before .args .sets .now) _ 0 (c .if1 .left))
 
+-- the function meets its contract
 pub set-at-spec : {M : Type 1} → statement M
 set-at-spec = tie.close (tie.spec mul-result shared-slice-read-result returns returns-2)

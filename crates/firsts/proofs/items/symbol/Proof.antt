@@ -27,6 +27,7 @@ returns-5 c =
     let none = c .match .rest .0 .0 in
     laws.symbol-other _ _ _ (c .before .before .byte .ensures) (c .before .byte2 .ensures) (none .0 .1) (none .1) (c .match .rest .0 .1) (c .match .rest .1)
 
+-- the function meets its contract
 pub symbol-spec : {M : Type 1} → statement M
 symbol-spec =
     tie.close

@@ -41,6 +41,7 @@ returns-4 c = search needs
 returns-5 : tie.Need-returns-5
 returns-5 c = c .set-at .ensures ∙ laws.through-is _ (c .before .before .s .given .1)
 
+-- the function meets its contract
 pub through-spec : {M : Type 1} → statement M
 through-spec =
     tie.close

@@ -78,6 +78,7 @@ same-length-2 c = c .before .loop .inv .needs-many
 returns : tie.Need-returns Inv-loop μ-loop
 returns c = laws.holding-end (c .before .loop .inv) (c .loop-test .left)
 
+-- the function meets its contract
 pub needs-of-spec : {M : Type 1} → statement M
 needs-of-spec =
     tie.close

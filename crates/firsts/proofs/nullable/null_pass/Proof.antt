@@ -42,6 +42,7 @@ loop-again c =
 returns : tie.Need-returns Inv-loop μ-loop
 returns c = laws.passing-end (c .before .loop .inv) (c .loop-test .left)
 
+-- the function meets its contract
 pub null-pass-spec : {M : Type 1} → statement M
 null-pass-spec =
     tie.close

@@ -19,5 +19,6 @@ returns c = laws.need-taken _ _ _ (c .before .before .before .join .ensures) (c 
 returns-2 : tie.Need-returns-2
 returns-2 c = laws.need-left _ _ _ (c .before .join .ensures) (c .if1 .left)
 
+-- the function meets its contract
 pub null-step-spec : {M : Type 1} → statement M
 null-step-spec = tie.close (tie.spec join-requires only-requires join-requires-2 returns returns-2)

@@ -50,6 +50,7 @@ loop-again c =
     let looped = c .before .before .before .before in
     laws.found-next (looped .before .before .before .needs-of .ensures) (looped .loop .inv) (looped .loop .down) (c .before .null-pass .ensures)
 
+-- the function meets its contract
 pub nullables-spec : {M : Type 1} → statement M
 nullables-spec =
     tie.close

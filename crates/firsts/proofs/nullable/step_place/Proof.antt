@@ -16,5 +16,6 @@ returns c = laws.place-by _ _ (c .if1 .taken)
 returns-2 : tie.Need-returns-2
 returns-2 c = laws.place-by _ _ (c .if1 .left)
 
+-- the function meets its contract
 pub step-place-spec : {M : Type 1} → statement M
 step-place-spec = tie.close (tie.spec sub-result sub-result-2 returns returns-2)

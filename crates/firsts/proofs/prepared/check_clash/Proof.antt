@@ -32,6 +32,7 @@ returns c =
 returns-2 : tie.Need-returns-2
 returns-2 c = laws.clash-passed (c .before .before .args .room .now) (c .before .clashing .ensures) (c .if1 .left)
 
+-- the function meets its contract
 pub check-clash-spec : {M : Type 1} → statement M
 check-clash-spec =
     tie.close

@@ -36,6 +36,7 @@ returns-2 c =
       held = prepared .prepare .ensures .held;
     }
 
+-- the function meets its contract
 pub check-firsts-spec : {M : Type 1} → statement M
 check-firsts-spec =
     tie.close

@@ -77,6 +77,7 @@ returns c =
     let b = began (c .before) in
     laws.fill-end (entry b .pre) _ (b .begin .ensures) (c .before .loop .inv) (c .loop-test .left)
 
+-- the function meets its contract
 pub fill-spec : {M : Type 1} → statement M
 fill-spec =
     tie.close

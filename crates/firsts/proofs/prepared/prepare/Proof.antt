@@ -33,6 +33,7 @@ returns c =
     laws.prepared _ _ (computed .before .before .before .before .before .nullables .ensures) (computed .sets-of .ensures) (filled .fill .ensures)
     (c .left-recursive .ensures)
 
+-- the function meets its contract
 pub prepare-spec : {M : Type 1} → statement M
 prepare-spec =
     tie.close

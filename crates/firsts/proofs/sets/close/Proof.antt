@@ -58,6 +58,7 @@ returns c =
     let from = c .before .before in
     laws.both-end (counted from .used .ensures) (c .before .loop .inv) (from .before .used2 .ensures) (from .larger .ensures) (c .loop-test .left)
 
+-- the function meets its contract
 pub close-spec : {M : Type 1} → statement M
 close-spec =
     tie.close

@@ -45,6 +45,7 @@ same-length-2 c = c .before .loop .inv .calls-many
 returns : tie.Need-returns Inv-loop μ-loop
 returns c = laws.joining-end (c .before .loop .inv) (c .loop-test .left)
 
+-- the function meets its contract
 pub first-round-spec : {M : Type 1} → statement M
 first-round-spec =
     tie.close

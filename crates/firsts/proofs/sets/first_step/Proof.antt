@@ -27,5 +27,6 @@ returns c =
     let entry = gathered .before .before .before .before .before .before in
     laws.step-is _ (entry .args .table .now) _ _ _ _ (gathered .gather .ensures) (first .join-at .ensures) (second .join-at2 .ensures)
 
+-- the function meets its contract
 pub first-step-spec : {M : Type 1} → statement M
 first-step-spec = tie.close (tie.spec gather-requires join-at-requires join-at-requires-2 same-length same-length-2 returns)

@@ -30,6 +30,7 @@ returns c = ap (set (c .before .before .before .before .args .sets .now) (c .bef
 returns-2 : tie.Need-returns-2
 returns-2 c = laws.join-past _ _ _ (c .if1 .left)
 
+-- the function meets its contract
 pub join-at-spec : {M : Type 1} → statement M
 join-at-spec =
     tie.close

@@ -14,6 +14,7 @@ close-requires c κs = laws.round-lent (c .before .before .first-round .ensures)
 returns : tie.Need-returns
 returns c = closed.closed-sets _ _ (c .before .before .before .first-round .ensures) (c .close .ensures)
 
+-- the function meets its contract
 pub sets-of-spec : {M : Type 1} → statement M
 sets-of-spec =
     tie.close

@@ -76,6 +76,7 @@ same-length-2 c = c .before .loop .inv .taken .kinds-joined .as-many
 returns : tie.Need-returns Inv-loop μ-loop
 returns c = laws.taking-end (c .before .loop .inv) (c .loop-test .left)
 
+-- the function meets its contract
 pub take-callee-spec : {M : Type 1} → statement M
 take-callee-spec =
     tie.close

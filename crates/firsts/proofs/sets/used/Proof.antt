@@ -43,6 +43,7 @@ loop-again c =
 returns-2 : tie.Need-returns-2 Inv-loop μ-loop
 returns-2 c = laws.used-end (c .before .loop .inv) (c .loop-test .left)
 
+-- the function meets its contract
 pub used-spec : {M : Type 1} → statement M
 used-spec =
     tie.close

@@ -17,5 +17,6 @@ returns c = c .join .ensures ∙ laws.joined-by _ _ (c .before .before .has .ens
 returns-2 : tie.Need-returns-2
 returns-2 c = laws.joined-by _ _ (c .before .has .ensures) (c .if1 .left)
 
+-- the function meets its contract
 pub with-callee-spec : {M : Type 1} → statement M
 with-callee-spec = tie.close (tie.spec has-requires join-requires returns returns-2)

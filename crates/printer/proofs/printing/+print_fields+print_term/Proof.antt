@@ -824,6 +824,7 @@ print-term-returns-6 t c =
     (at-match .match .rest))
     (byte-at8-place .byte-at8 .ensures))
 
+-- the function meets its contract
 pub +print-fields+print-term-spec : {M : Type 1} → statement M
 +print-fields+print-term-spec = close μ-print-fields μ-print-term (λ t. print-fields-lts.spec (print-fields-claims t)
     (print-fields-at t)

@@ -139,6 +139,7 @@ loop-again-3 c =
 returns-3 : tie.Need-returns-3 Inv-loop μ-loop
 returns-3 c = laws.building-end (c .before .loop .inv) (c .loop-test .left)
 
+-- the function meets its contract
 pub build-index-spec : {M : Type 1} → statement M
 build-index-spec =
     tie.close

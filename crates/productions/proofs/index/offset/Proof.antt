@@ -20,5 +20,6 @@ returns c = search needs
 returns-2 : tie.Need-returns-2
 returns-2 c = sym (getD-past (c .before .before .args .starts .now) _ 0 (c .if1 .left))
 
+-- the function meets its contract
 pub offset-spec : {M : Type 1} → statement M
 offset-spec = tie.close (tie.spec mul-wide-short shared-slice-read-wide-short wide-short-requires returns returns-2)

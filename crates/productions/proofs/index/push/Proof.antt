@@ -22,6 +22,7 @@ same-length-2 c = search needs
 returns : tie.Need-returns
 returns c = laws.push-is _ _ _ _ _ (c .pre)
 
+-- the function meets its contract
 pub push-spec : {M : Type 1} → statement M
 push-spec =
     tie.close

@@ -32,6 +32,7 @@ returns-2 c =
     let entry = c .before .before .before .before .before .args in
     laws.redefine-other (entry .head .now) (entry .owners .now) (entry .starts .now) (c .before .byte .ensures) (c .if1 .left)
 
+-- the function meets its contract
 pub redefine-spec : {M : Type 1} → statement M
 redefine-spec =
     tie.close

@@ -62,6 +62,7 @@ same-length-2 c = c .before .loop .inv .starts-many
 returns : tie.Need-returns Inv-loop μ-loop
 returns c = laws.dropping-end (c .before .loop .inv) (c .loop-test .left)
 
+-- the function meets its contract
 pub without-spec : {M : Type 1} → statement M
 without-spec =
     tie.close

@@ -59,6 +59,7 @@ same-length c = c .before .loop .inv .size ∙ sym (c .before .before .pre .size
 returns : tie.Need-returns Inv-loop μ-loop
 returns c = laws.beginning-end _ (c .before .before .args .room .now) (c .before .loop .inv) (c .loop-test .left)
 
+-- the function meets its contract
 pub begin-spec : {M : Type 1} → statement M
 begin-spec =
     tie.close

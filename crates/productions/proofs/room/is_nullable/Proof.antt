@@ -9,5 +9,6 @@ link-requires c κs = search needs
 returns : tie.Need-returns
 returns c = cc
 
+-- the function meets its contract
 pub is-nullable-spec : {M : Type 1} → statement M
 is-nullable-spec = tie.close (tie.spec link-requires returns)

@@ -68,6 +68,7 @@ returns : tie.Need-returns
 unfolding laid
 returns c = rw (c .before .flag .ensures, c .places-from .ensures) refl
 
+-- the function meets its contract
 pub lay-spec : {M : Type 1} → statement M
 lay-spec =
     tie.close

@@ -24,6 +24,7 @@ returns c = search needs
 returns-2 : tie.Need-returns-2
 returns-2 c = sym (getD-past (c .before .args .room .now) _ 0 (omega arith))
 
+-- the function meets its contract
 pub number-spec : {M : Type 1} → statement M
 number-spec =
     tie.close

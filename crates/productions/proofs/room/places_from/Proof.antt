@@ -22,6 +22,7 @@ returns c = rw (c .if1 .taken) refl
 returns-2 : tie.Need-returns-2
 returns-2 c = rw (c .if1 .left) refl
 
+-- the function meets its contract
 pub places-from-spec : {M : Type 1} → statement M
 places-from-spec =
     tie.close (tie.spec mul-result add-result mul-result-2 add-result-2 returns returns-2)

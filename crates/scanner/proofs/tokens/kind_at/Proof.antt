@@ -21,6 +21,7 @@ returns c = ap (λ (t : Token). t .kind) (rooms.token-in _ _ _ (c .before .if1 .
 returns-2 : tie.Need-returns-2
 returns-2 c = ap (λ (t : Token). t .kind) (rooms.token-past _ _ _ (c .if1 .left))
 
+-- the function meets its contract
 pub kind-at-spec : {M : Type 1} → statement M
 kind-at-spec =
     tie.close (tie.spec mul-result mul-result-2 shared-slice-read-result returns returns-2)

@@ -27,6 +27,7 @@ returns c =
 returns-2 : tie.Need-returns-2
 returns-2 c = (ap (λ (t : Token). t .value) (rooms.token-past _ _ _ (c .if1 .left)), lit< tt)
 
+-- the function meets its contract
 pub value-at-spec : {M : Type 1} → statement M
 value-at-spec =
     tie.close

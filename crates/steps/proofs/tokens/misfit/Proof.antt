@@ -20,5 +20,6 @@ returns c =
     let entry-place = c .before .before in
     c .refuse .ensures ∙ ap (λ (n : ℕ). refusal 17 (entry-place .args .at) (entry-place .args .kinds) n) (c .before .count .ensures)
 
+-- the function meets its contract
 pub misfit-spec : {M : Type 1} → statement M
 misfit-spec = tie.close (tie.spec count-requires cast-refuse refuse-requires returns)

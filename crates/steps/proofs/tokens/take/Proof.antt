@@ -34,6 +34,7 @@ returns-2 c =
       tt,
     )
 
+-- the function meets its contract
 pub take-spec : {M : Type 1} → statement M
 take-spec =
     tie.close

@@ -23,5 +23,6 @@ returns c =
     let copy-at-place = c .before .before in
     as-text (copy-at-place .before .spelling .ensures) (copy-at-place .copy-at .ensures)
 
+-- the function meets its contract
 pub label-at-spec : {M : Type 1} → statement M
 label-at-spec = tie.close (tie.spec spelling-requires copy-at-requires same-length returns)

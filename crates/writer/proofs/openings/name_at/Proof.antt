@@ -123,6 +123,7 @@ returns-3 c =
     pieces.as-text (spelling-place .spelling .ensures ∙ laws.plain-name (entry .pre) (at-if1 .if1 .left) (at-if2 .if2 .left))
     (copy-at2-place .copy-at2 .ensures)
 
+-- the function meets its contract
 pub name-at-spec : {M : Type 1} → statement M
 name-at-spec =
     tie.close

@@ -156,6 +156,7 @@ returns-3 c =
     pieces.go-last (laws.open-nil (entry .args .out .now) (entry .pre) (at-if1 .if1 .left) (at-column .column .ensures) (at-if2 .if2 .left))
     (copy-at3-place .copy-at3 .ensures)
 
+-- the function meets its contract
 pub open-fields-spec : {M : Type 1} → statement M
 open-fields-spec =
     tie.close

@@ -45,6 +45,7 @@ returns c =
     pieces.go-last (pieces.go-next (laws.open-number (entry .args .out .now) (entry .args .n)) (at-copy-at .copy-at .ensures))
     (number-at-place .number-at .ensures)
 
+-- the function meets its contract
 pub open-number-spec : {M : Type 1} → statement M
 open-number-spec =
     tie.close

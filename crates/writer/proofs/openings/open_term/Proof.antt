@@ -364,6 +364,7 @@ returns-9 c =
     (at-match .match .rest)
     (at-column2 .column2 .ensures)) (open-number4-place .open-number4 .ensures)
 
+-- the function meets its contract
 pub open-term-spec : {M : Type 1} → statement M
 open-term-spec =
     tie.close

@@ -171,6 +171,7 @@ same-length c = (c .before .loop .inv) .long ∙ (after-fill-outsides′ (c .bef
 returns : tie.Need-returns Inv-loop μ-loop
 returns c = laws.storing-end (c .before .loop .inv) (c .loop-test .left)
 
+-- the function meets its contract
 pub fill-spec : {M : Type 1} → statement M
 fill-spec =
     tie.close

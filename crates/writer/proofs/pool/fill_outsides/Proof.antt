@@ -156,6 +156,7 @@ same-length-4 c = (c .before .loop .inv) .long
 returns-4 : tie.Need-returns-4 Inv-loop μ-loop
 returns-4 c = laws.filling-end (c .before .loop .inv) (c .before .before .after-leading .ensures) (c .loop-test .left)
 
+-- the function meets its contract
 pub fill-outsides-spec : {M : Type 1} → statement M
 fill-outsides-spec =
     tie.close

@@ -29,6 +29,7 @@ part-requires c κs = search needs
 returns : tie.Need-returns
 returns c = spelled _ _ (c .before .wide-byte .ensures ∙ c .before .before .byte .ensures) (c .part .ensures)
 
+-- the function meets its contract
 pub spelling-spec : {M : Type 1} → statement M
 spelling-spec =
     tie.close (tie.spec mul-i add-part byte-requires wide-byte-requires part-requires returns)

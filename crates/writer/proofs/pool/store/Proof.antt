@@ -35,6 +35,7 @@ returns c =
     laws.stored-both (at-narrow .narrow .ensures) (byte-at-place .byte-at .ensures)
     (copy-at-place .copy-at .ensures) (omega (arith, entry .pre .0 .0, entry .pre .0 .1))
 
+-- the function meets its contract
 pub store-spec : {M : Type 1} → statement M
 store-spec =
     tie.close

@@ -22,6 +22,7 @@ add-result-2 c = search needs
 returns-2 : tie.Need-returns-2
 returns-2 c = byte-out _ _ _ (c .if1 .left)
 
+-- the function meets its contract
 pub byte-at-spec : {M : Type 1} → statement M
 byte-at-spec =
     tie.close (tie.spec slice-write-out add-result same-length returns add-result-2 returns-2)

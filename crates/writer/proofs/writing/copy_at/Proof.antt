@@ -32,6 +32,7 @@ returns c =
     lent _ _ _ (at-within .within .result) (at-within .within .ensures) (copy-into-place .copy-into .ensures .0)
     (copy-into-place .copy-into .ensures .1)
 
+-- the function meets its contract
 pub copy-at-spec : {M : Type 1} → statement M
 copy-at-spec =
     tie.close

@@ -33,6 +33,7 @@ returns c =
     lent _ (decimal _) _ (at-within .within .result) (at-within .within .ensures) (write-decimal-place .write-decimal .ensures .0)
     (write-decimal-place .write-decimal .ensures .1)
 
+-- the function meets its contract
 pub decimal-at-spec : {M : Type 1} → statement M
 decimal-at-spec =
     tie.close
