@@ -20,9 +20,7 @@ returns c =
     (refl, sym (written-not (start .args .s .now) (start .args .out .now) (c .if1 .taken)))
 
 loop-holds : tie.Need-loop-holds Inv-loop μ-loop
-loop-holds c =
-    let start = c .before in
-    writes.copying-start (start .args .out .now) (start .args .s .now)
+loop-holds c = writes.copying-start _ _
 
 shared-slice-read-out : tie.Need-shared-slice-read-out Inv-loop μ-loop
 shared-slice-read-out c = search needs

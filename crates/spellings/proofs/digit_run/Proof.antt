@@ -14,7 +14,7 @@ abbrev μ-loop : tie.MeasureT-loop
 μ-loop s i₀ i = length s - i
 
 loop-holds : tie.Need-loop-holds Inv-loop μ-loop
-loop-holds c = loops.running-start isDigit (c .before .args .s .now)
+loop-holds c = loops.running-start _ _
 
 shared-slice-read-is-digit : tie.Need-shared-slice-read-is-digit Inv-loop μ-loop
 shared-slice-read-is-digit c = search needs
@@ -29,17 +29,13 @@ loop-less : tie.Need-loop-less Inv-loop μ-loop
 loop-less c = search needs
 
 loop-again : tie.Need-loop-again Inv-loop μ-loop
-loop-again c =
-    let turn-test = c .before .before .before in
-    loops.running-next (turn-test .before .loop .inv) (turn-test .loop-test .taken) (c .before .is-digit .ensures) (c .if1 .taken)
+loop-again c = search loops.running-next
 
 returns : tie.Need-returns Inv-loop μ-loop
-returns c =
-    let turn-test = c .before .before .before in
-    loops.running-stop (turn-test .before .loop .inv) (turn-test .loop-test .taken) (c .before .is-digit .ensures) (c .if1 .left)
+returns c = search loops.running-stop
 
 returns-2 : tie.Need-returns-2 Inv-loop μ-loop
-returns-2 c = loops.running-end (c .before .loop .inv) (c .loop-test .left)
+returns-2 c = search loops.running-end
 
 -- the function meets its contract
 pub digit-run-spec : {M : Type 1} → statement M

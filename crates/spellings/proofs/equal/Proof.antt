@@ -18,9 +18,7 @@ returns : tie.Need-returns Inv-loop μ-loop
 returns c = sym (length-same _ _ (c .if1 .taken))
 
 loop-holds : tie.Need-loop-holds Inv-loop μ-loop
-loop-holds c =
-    let start = c .before in
-    loops.agreeing-start (start .args .a .now) (start .args .b .now)
+loop-holds c = loops.agreeing-start _ _
 
 shared-slice-read-if2 : tie.Need-shared-slice-read-if2 Inv-loop μ-loop
 shared-slice-read-if2 c = search needs
@@ -29,10 +27,7 @@ shared-slice-read-if2-2 : tie.Need-shared-slice-read-if2-2 Inv-loop μ-loop
 shared-slice-read-if2-2 c = search needs
 
 returns-2 : tie.Need-returns-2 Inv-loop μ-loop
-returns-2 c =
-    let turn-test = c .before .before .before in
-    let turn = turn-test .before in
-    loops.agreeing-stop (turn .loop .inv) (turn .before .if1 .left) (turn-test .loop-test .taken) (c .if2 .taken)
+returns-2 c = search loops.agreeing-stop
 
 add-i : tie.Need-add-i Inv-loop μ-loop
 add-i c = search needs
@@ -41,13 +36,10 @@ loop-less : tie.Need-loop-less Inv-loop μ-loop
 loop-less c = search needs
 
 loop-again : tie.Need-loop-again Inv-loop μ-loop
-loop-again c =
-    let turn-test = c .before .before .before in
-    let turn = turn-test .before in
-    loops.agreeing-next (turn .loop .inv) (turn .before .if1 .left) (turn-test .loop-test .taken) (c .if2 .left)
+loop-again c = search loops.agreeing-next
 
 returns-3 : tie.Need-returns-3 Inv-loop μ-loop
-returns-3 c = loops.agreeing-end (c .before .loop .inv) (c .before .before .if1 .left) (c .loop-test .left)
+returns-3 c = search loops.agreeing-end
 
 -- the function meets its contract
 pub equal-spec : {M : Type 1} → statement M

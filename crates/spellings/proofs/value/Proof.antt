@@ -14,7 +14,7 @@ abbrev μ-loop : tie.MeasureT-loop
 μ-loop digits n₀ i₀ n i = length digits - i
 
 loop-holds : tie.Need-loop-holds Inv-loop μ-loop
-loop-holds c = loops.valued-start (c .before .args .digits .now)
+loop-holds c = loops.valued-start _
 
 mul-n : tie.Need-mul-n Inv-loop μ-loop
 mul-n c = search needs
@@ -29,9 +29,7 @@ add-n : tie.Need-add-n Inv-loop μ-loop
 add-n c = omega (arith, c .before .shared-slice-known2 .given (c .before .before .before .loop .i))
 
 returns : tie.Need-returns Inv-loop μ-loop
-returns c =
-    let turn-test = c .before .before .before in
-    loops.valued-stop (turn-test .before .loop .inv) (turn-test .loop-test .taken) (c .before .digit-value .ensures) (c .if1 .taken)
+returns c = search loops.valued-stop
 
 add-i : tie.Need-add-i Inv-loop μ-loop
 add-i c = search needs
@@ -40,15 +38,13 @@ loop-less : tie.Need-loop-less Inv-loop μ-loop
 loop-less c = search needs
 
 loop-again : tie.Need-loop-again Inv-loop μ-loop
-loop-again c =
-    let turn-test = c .before .before .before in
-    loops.valued-next (turn-test .before .loop .inv) (turn-test .loop-test .taken) (c .before .digit-value .ensures) (c .if1 .left)
+loop-again c = search loops.valued-next
 
 cast-t10 : tie.Need-cast-t10 Inv-loop μ-loop
 cast-t10 c = search needs
 
 returns-2 : tie.Need-returns-2 Inv-loop μ-loop
-returns-2 c = loops.valued-end (c .before .loop .inv) (c .loop-test .left)
+returns-2 c = search loops.valued-end
 
 -- the function meets its contract
 pub value-spec : {M : Type 1} → statement M
