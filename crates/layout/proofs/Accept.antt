@@ -15,10 +15,15 @@ use Rattle.layout.proofs.Values.{by-either, and-left}
 
 -- the five tests of a field after the fields before it
 pub record Passes (before : List Field) (tag : ℕ) (v : List ℕ) (s : Progress) : Type 0 where
+  -- its tag, length and value are known
   pub known : isKnown tag v ≡ true
+  -- it may follow the field before it
   pub ordered : follows tag (s .last) ≡ true
+  -- its spelling is good and new
   pub spelled : isSpelled tag v before ≡ true
+  -- there may be one more of its kind
   pub room : hasRoom tag s ≡ true
+  -- its templates are whole
   pub whole : isWhole tag v ≡ true
 
 -- a refusal is no acceptance

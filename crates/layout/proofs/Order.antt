@@ -14,24 +14,31 @@ use Rattle.layout.specs.Decode.{Built, built}
 -- ------------------------------------------------------------------ what is left to come
 
 module _ (b : Built) where
+  -- the root
   abbrev pub rootLeft : List Field
   rootLeft = field 8 (b .root ∷ []) ∷ []
 
+  -- the blocks still to come, then the root
   abbrev pub blocksLeft : List Field
   blocksLeft = blocksThen (b .blocks) rootLeft
 
+  -- the definitions of the block that is open, then the blocks behind it
   abbrev pub definitionsLeft : List Field
   definitionsLeft = definitionsThen (b .definitions) blocksLeft
 
+  -- the alternatives of the definition that is open, then what is behind it
   abbrev pub alternativesLeft : List Field
   alternativesLeft = alternativesThen (b .alternatives) definitionsLeft
 
+  -- the items and the result of the alternative that is open, then what is behind it
   abbrev pub itemsLeft : List Field
   itemsLeft = itemsThen (b .items) (field 7 (templateThen (b .result) []) ∷ alternativesLeft)
 
+  -- the outside names, then the blocks
   abbrev pub outsidesLeft : List Field
   outsidesLeft = spellingsThen 2 (b .outsides) blocksLeft
 
+  -- the keywords, then the outside names
   abbrev pub keywordsLeft : List Field
   keywordsLeft = spellingsThen 1 (b .keywords) outsidesLeft
 
@@ -98,6 +105,7 @@ withBlock b = built [] [] (b .definitions ∷ b .blocks) (b .root) [] [] [] (b .
 abbrev pub withDefinition : Definition → Built → Built
 withDefinition d b = built [] [] (b .blocks) (b .root) (d ∷ b .definitions) [] [] (b .result)
 
+-- the alternative that is open, with its items and its result
 abbrev pub alternativeOf : Built → Alternative
 alternativeOf b = record { items = b .items; result = b .result }
 

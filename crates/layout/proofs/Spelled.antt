@@ -31,8 +31,11 @@ different-parts (different-more h t) = (h, t)
 
 -- spellings that pass the test, differ, and are new after the fields before them
 pub record Spelled (test : List ℕ → Bool) (tag : ℕ) (before : List Field) (vs : List (List ℕ)) : Type 0 where
+  -- each passes the test
   pub spelled : Each (λ w. test w ≡ true) vs
+  -- none stands under this tag among the fields before
   pub fresh : Each (λ w. isRepeated tag w before ≡ false) vs
+  -- no two of them are equal
   pub different : Different vs
 
 or-false-left : (a b : Bool) → (a || b) ≡ false → a ≡ false

@@ -31,13 +31,14 @@ use Rattle.lexicon.proofs.TreeLaws.{zeros, tree-none, tree-with, linkab
 abbrev pub placedAt : List ℕ → ℕ → ℕ → ℕ → List ℕ
 placedAt room e from size = sets room (e * 2) (from ∷ size ∷ [])
 
--- what a search among the spellings asks, and what a link asks after it
 module _ {table room links : List ℕ} {e most : ℕ} (c : Enters table room links e most) where
+  -- the spellings entered can be searched
   pub entered-planted : Planted table room links 127 e
   entered-planted =
       let p = c .spelled in
       record { tree = p .tree; placed = omega (arith, c .enough, p .long); linked = omega (arith, c .enough, p .wide) }
 
+  -- where a search among them ended there is room for a link
   pub entered-linkable : (s : List ℕ) (spot : Spot) → Searched 127 (wordsIn table room e) links s spot → Linkable links spot
   entered-linkable s spot f =
       linkable 127 (wordsIn table room e) links s spot f (omega (arith, c .enough, c .spelled .wide, words-length e table room 0))
@@ -78,21 +79,26 @@ module _ (table : List ℕ) (at tag : ℕ) where
   unfolding leading
   leading-goes t n e h = ap (leading tag) (fields-at table at e) ∙ rw (eq-eqb t tag h, leading) refl
 
-pub field-inside : (table : List ℕ) (at : ℕ) {t n : ℕ} → Field t n ≡ frontOf (drop at table) → at + 3 + n ≤ length table
-field-inside table at e = omega (arith, front-inside table at e)
-
 -- the fields before the offset `at` are entered, spelling `first` to e
 pub record Entering (table room₀ : List ℕ) (start tag most first : ℕ) (room links : List ℕ) (at e : ℕ) : Type 0 where
+  -- offsets of the table are 32-bit numbers
   pub short : length table < 2 ^ 32
+  -- the rooms hold the most that may be entered
   pub enough : first + most ≤ 126
+  -- e counts from `first` on
   pub from : first ≤ e
+  -- no more than `most` are entered
   pub upto : e ≤ first + most
+  -- the trees hold the spellings entered
   pub spelled : Spelled table room links e
+  -- the numbers behind the places stay
   pub behind : Behind room₀ room
+  -- the spellings entered and those of the fields left are those asked for
   pub rest :
       wordsIn table room e ++ take (first + most - e) (leading tag (fieldsAt table at))
       ≡ wordsIn table room₀ first ++ take most (leading tag (fieldsAt table start))
 
+-- no field is entered yet
 pub entering-start : {table room links : List ℕ} {start tag most first : ℕ} → Enters table room links first most
     → Entering table room start tag most first room links start first
 entering-start {table} {room} {start = start} {tag = tag} {most = most} {first = first} c =
@@ -119,17 +125,20 @@ module _ {table room₀ : List ℕ} {start tag most first : ℕ} {room links : L
         behind = c .behind;
       }
 
+  -- at a field of another tag, a cut one or none, all are entered
   pub entering-stop : (r : Front) → r ≡ frontOf (drop at table) → Stops tag r
       → Entered table room₀ room links e (wordsIn table room₀ first ++ take most (leading tag (fieldsAt table start)))
   entering-stop r f h =
       entered (ap (take (first + most - e)) (leading-stop table at tag r f h) ∙ take-nil (first + most - e))
 
+  -- where no more may be entered, all that count are
   pub entering-end : first + most ≤ e
       → Entered table room₀ room links e (wordsIn table room₀ first ++ take most (leading tag (fieldsAt table start)))
   entering-end h =
       let z : first + most - e ≡ 0 = omega arith in
       entered (cc)
 
+  -- one more field's spelling is entered
   pub entering-next : e < first + most → {t n : ℕ} → Field t n ≡ frontOf (drop at table) → t ≡ tag → {room′ links′ : List ℕ}
       → room′ ≡ placedAt room e (at + 3) n
       → Spelled table room′ links′ (e + 1)
@@ -163,8 +172,9 @@ module _ {table room₀ : List ℕ} {start tag most first : ℕ} {room links : L
   pub entering-one : e < first + most → Enters table room links e 1
   entering-one h = record { short = c .short; enough = omega (arith, c .enough); spelled = c .spelled }
 
+  -- a whole field ends inside the table
   pub field-fits : {t n : ℕ} → Field t n ≡ frontOf (drop at table) → at + 3 + n ≤ length table
-  field-fits e = field-inside table at e
+  field-fits e = omega (arith, front-inside table at e)
 
 -- ------------------------------------------------------------------ symbols
 
@@ -174,6 +184,7 @@ one-long (b ∷ []) h = refl
 one-long (b ∷ c ∷ bs) h = absurd (omega arith)
 
 module _ (room : List ℕ) {s : List ℕ} {k : ℕ} where
+  -- the kind stored at a spelling of one byte below 128 marks it
   pub marked-one : length room ≡ 382 → length s ≡ 1 → getD s 0 0 < 128 → Marked room (set room (252 + getD s 0 0) (k + 2)) s k
   marked-one long one small =
       record {
@@ -191,12 +202,14 @@ module _ (room : List ℕ) {s : List ℕ} {k : ℕ} where
         same-length = length-set room (252 + getD s 0 0) (k + 2);
       }
 
-  pub unmarked : ((b : ℕ) → b < 128 → s ≡ b ∷ [] → ⊥) → Marked room room s k
+  unmarked : ((b : ℕ) → b < 128 → s ≡ b ∷ [] → ⊥) → Marked room room s k
   unmarked d = record { this = λ b l e. absurd (d b l e); others = λ b l e. refl; before = λ i l. refl; same-length = refl }
 
+  -- a byte from 128 on is no symbol and needs no mark
   pub unmarked-high : length s ≡ 1 → 128 ≤ getD s 0 0 → Marked room room s k
   unmarked-high one h = unmarked (λ b l e. omega (arith, ap (λ (v : List ℕ). getD v 0 0) e))
 
+  -- a spelling that is not one byte needs no mark
   pub unmarked-long : (length s ≡ 1 → ⊥) → Marked room room s k
   unmarked-long d = unmarked (λ b l e. d (ap length e))
 
@@ -218,12 +231,18 @@ module _ (k : ℕ) (v : List ℕ) (vs : List (List ℕ)) (s : List ℕ) where
 
 -- the symbols are marked by the spellings from spelling k on
 pub record Marking (table room₀ : List ℕ) (count : ℕ) (room : List ℕ) (k : ℕ) : Type 0 where
+  -- there are at most 62 keywords
   pub few : count ≤ 62
+  -- k counts the keywords not yet marked
   pub upto : k ≤ count
+  -- the room has its size
   pub long₀ : length room₀ ≡ 382
+  -- each symbol has its kind by the spellings from k on
   pub symbols : Symbols (wordsIn table room₀ count) k room
+  -- the places of the spellings stay
   pub places : SamePlaces room₀ room
 
+-- no spelling is marked yet
 pub marking-start : (table room : List ℕ) (count : ℕ) → count ≤ 62 → Unmarked room → length room ≡ 382 → Marking table room count room count
 unfolding kindFrom
 marking-start table room count few u long =
@@ -238,9 +257,6 @@ marking-start table room count few u long =
     }
 
 module _ {table room₀ : List ℕ} {count : ℕ} {room : List ℕ} {k : ℕ} (c : Marking table room₀ count room k) (h : 0 < k) where
-  pub marking-long : length room ≡ 382
-  marking-long = c .places .same-length ∙ c .long₀
-
   module _ {at size : ℕ} {s room′ : List ℕ} (ea : at ≡ getD room ((k - 1) * 2) 0) (es : size ≡ getD room ((k - 1) * 2 + 1) 0)
       (e : s ≡ take size (drop at table)) (m : Marked room room′ s (k - 1)) where
     -- the spelling that the code reads
@@ -257,6 +273,7 @@ module _ {table room₀ : List ℕ} {count : ℕ} {room : List ℕ} {k : ℕ} (c
         drop-cons (wordsIn table room₀ count) (k - 1) [] (omega (arith, c .upto, words-length count table room₀ 0))
         ∙ rw (z, spelling-is) refl
 
+    -- the spelling before is marked too, and it counts first
     pub marking-next : Marking table room₀ count room′ (k - 1)
     marking-next =
         let z : k - 1 + 1 ≡ k = omega arith in
@@ -281,6 +298,7 @@ module _ {table room₀ : List ℕ} {count : ℕ} {room : List ℕ} {k : ℕ} (c
               };
         }
 
+-- where none is left, each symbol has its kind by all keywords
 pub marking-end : {table room₀ : List ℕ} {count : ℕ} {room : List ℕ} {k : ℕ} → Marking table room₀ count room k → k ≤ 0
     → Symbols (wordsIn table room₀ count) 0 room × SamePlaces room₀ room
 marking-end {table} {room₀} {count} {room} {k} c h =
@@ -300,6 +318,7 @@ blank =
     }
 
 module _ {table room₀ links₀ : List ℕ} (b : Blank room₀ links₀) (short : length table < 2 ^ 32) where
+  -- blank rooms have room for 62 keywords
   pub first-enters : Enters table room₀ links₀ 0 62
   unfolding wordsFrom
   first-enters =
@@ -318,9 +337,11 @@ module _ {table room₀ links₀ : List ℕ} (b : Blank room₀ links₀) (short
     keywords-counted : k ≡ length (lexiconOf table .keywords)
     keywords-counted = sym (words-length k table room₁ 0) ∙ ap length keywords-listed
 
+    -- the keywords entered are at most 62
     pub few-marks : k ≤ 62
     few-marks = omega (arith, keywords-counted, few-keywords table)
 
+    -- after the keywords are entered no symbol has a kind yet
     pub still-unmarked : Unmarked room₁
     still-unmarked i l = e₁ .behind (252 + i) (omega arith) ∙ b .unmarked i l
 
@@ -328,6 +349,7 @@ module _ {table room₀ links₀ : List ℕ} (b : Blank room₀ links₀) (short
       same-keywords : wordsIn table room₂ k ≡ wordsIn table room₁ k
       same-keywords = words-alike k table room₁ room₂ 0 (λ j l. m .1 .same j (omega (arith, few-marks)))
 
+      -- behind the keywords there is room for 64 outside names
       pub second-enters : Enters table room₂ links₁ k 64
       second-enters =
           let p = e₁ .spelled in
@@ -386,6 +408,7 @@ module _ {table room₀ links₀ : List ℕ} (b : Blank room₀ links₀) (short
               tree = rw listed₃ at (e₂ .spelled .tree);
             }
 
+        -- with both counts stored, the rooms hold the table's lexicon
         pub lexical : Lexical table (set (set room₃ 380 k) 381 total) links₃
         unfolding room₄
         lexical = lexical₄

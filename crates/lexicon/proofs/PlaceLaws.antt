@@ -8,21 +8,18 @@ use native.Mathlib.Numerals.{add-one}
 use native.Mathlib.Omega.{arith}
 use lib.ListN.{length, getD, set, take, drop, length-set}
 use lib.Seq.{sets, getD-set-same, getD-set-other}
-use Rattle.spellings.specs.Bytes.{same, indexOf}
-use Rattle.spellings.proofs.BytesLaws.{index-le}
+use Rattle.spellings.specs.Bytes.{same}
 use Rattle.lexicon.specs.Places.{wordAt, wordsFrom, wordsIn}
 
+-- two stores side by side are one of two numbers
 pub place-stored : (room : List ℕ) (i a b : ℕ) → set (set room i a) (i + 1) b ≡ sets room i (a ∷ b ∷ [])
 place-stored room i a b = rw add-one refl
 
+-- k places name k words
 pub words-length : (k : ℕ) (formula room : List ℕ) (i : ℕ) → length (wordsFrom k formula room i) ≡ k
 unfolding wordsFrom
 words-length zero formula room i = refl
 words-length (suc k) formula room i = ap suc (words-length k formula room (i + 1))
-
-pub index-small : (formula room s : List ℕ) (count : ℕ) {r : ℕ} → r ≡ indexOf s (wordsIn formula room count) → r ≤ count
-index-small formula room s count e =
-    omega (arith, index-le s (wordsIn formula room count), words-length count formula room 0)
 
 words-at : (k : ℕ) (formula room : List ℕ) (i j : ℕ) → j < k
     → getD (wordsFrom k formula room i) j [] ≡ take (getD room ((i + j) * 2 + 1) 0) (drop (getD room ((i + j) * 2) 0) formula)
@@ -33,6 +30,7 @@ words-at (suc k) formula room i (suc j) h =
     let z : i + 1 + j ≡ i + suc j = omega arith in
     cc (words-at k formula room (i + 1) j (omega arith))
 
+-- word j of the list is the one at place j
 pub word-listed : (count : ℕ) (text room : List ℕ) (j : ℕ) → j < count → getD (wordsIn text room count) j [] ≡ wordAt text room j
 word-listed count text room j h = let z : 0 + j ≡ j = omega arith in words-at count text room 0 j h ∙ ap (wordAt text room) z
 

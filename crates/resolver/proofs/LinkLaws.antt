@@ -1,7 +1,7 @@
 -- Laws of the links between rows that bind: what a search finds, and that one more row keeps them.
 use Prim.Native.Nat.{ℕ, zero, suc, _+_, _-_, _/_, _%_, _<_, _≤_}
 use mathlib.Core.Path.{_≡_, refl, sym, ap, subst, _∙_}
-use mathlib.Core.Bool.{Bool, true, false, and-eq-true-iff}
+use mathlib.Core.Bool.{true, false, and-eq-true-iff}
 use mathlib.Core.List.{List}
 use native.Mathlib.Nat.{mod-lt}
 use native.Mathlib.Omega.{arith}
@@ -16,11 +16,8 @@ use Rattle.resolver.specs.Links.{First, Newest, LinkedTo, Linked, linksW
 
 -- ------------------------------------------------------------------ first rows
 
-no-clash : (b : Bool) → b ≡ true → b ≡ false → ⊥
-no-clash b p q = let z : _≡_ {A = ℕ} 0 1 = cc in omega arith
-
 module _ (cells : List ℕ) (x : ℕ) where
-  pub slot-le : (n row : ℕ) → row + n ≤ 16384 → slotFrom n cells row x ≤ 16384
+  slot-le : (n row : ℕ) → row + n ≤ 16384 → slotFrom n cells row x ≤ 16384
   unfolding slotFrom
   slot-le zero row l = omega arith
   slot-le (suc n) row l =
@@ -80,14 +77,17 @@ binds-name cells row x e = eqb-true (column cells row 1) x (and-eq-true-iff (eqb
 binds-code : (cells : List ℕ) (row x : ℕ) → binds cells row x ≡ true → column cells row 0 ≡ 33
 binds-code cells row x e = eqb-true (column cells row 0) 33 (and-eq-true-iff (eqb (column cells row 0) 33) (eqb (column cells row 1) x) .0 e .0)
 
-pub binds-row : (cells : List ℕ) (row x : ℕ) → column cells row 0 ≡ 33 → column cells row 1 ≡ x → binds cells row x ≡ true
+binds-row : (cells : List ℕ) (row x : ℕ) → column cells row 0 ≡ 33 → column cells row 1 ≡ x → binds cells row x ≡ true
 binds-row cells row x a b =
     and-eq-true-iff (eqb (column cells row 0) 33) (eqb (column cells row 1) x) .1 (eq-eqb (column cells row 0) 33 a, eq-eqb (column cells row 1) x b)
 
 -- the slot of x among n rows is a first row, of name x
 pub record SlotIs (cells : List ℕ) (x n r : ℕ) : Type 0 where
+  -- it is one of them
   pub inside : r < n
+  -- it binds x
   pub named : column cells r 1 ≡ x
+  -- and no row before it does
   pub is-first : First cells r
 
 -- The slot of a name that some row binds.
@@ -132,24 +132,30 @@ first-slot {cells} {r} f n l m =
 
 -- every first row of name x is older than where p leads, and that one is a first row with the hash of x
 pub record Chasing (n : ℕ) (cells : List ℕ) (half x p : ℕ) : Type 0 where
+  -- p leads to one of the rows or to none
   pub small : p ≤ n
+  -- the first row of x, if there is one, is not behind where p leads
   pub all : (j : ℕ) → j < n → First cells j → column cells j 1 ≡ x → j < p
+  -- p leads to a row that binds its name first
   pub first : (q : ℕ) → p ≡ suc q → First cells q
+  -- whose name has the hash of x
   pub hashed : (q : ℕ) → p ≡ suc q → column cells q 1 % half ≡ x % half
 
 module _ {n : ℕ} {cells links : List ℕ} (k : LinkedTo n cells links) (x : ℕ) where
   abbrev Half : ℕ
   Half = length links / 2
 
-  pub hash-small : x % Half < Half
+  hash-small : x % Half < Half
   hash-small = mod-lt x (k .some)
 
+  -- the search begins at the link of the hash of x
   pub chasing-start : {p : ℕ} → p ≡ getD links (x % Half) 0 → Chasing n cells Half x p
   chasing-start e =
       let w : Newest cells Half (x % Half) n (getD links (x % Half) 0) = k .heads (x % Half) hash-small in
       rw e (record { small = w .small; all = λ j l f h. w .all j l f cc; first = w .first; hashed = w .hashed })
 
   module _ {p : ℕ} (c : Chasing n cells Half x p) where
+    -- where a link leads to none, no row binds x
     pub chasing-end : p ≤ 0 → 16384 ≡ slotFrom n cells 0 x
     chasing-end h =
         by-test (ltb (slotFrom n cells 0 x) 16384)
@@ -162,9 +168,11 @@ module _ {n : ℕ} {cells links : List ℕ} (k : LinkedTo n cells links) (x : �
       at-first : First cells (p - 1)
       at-first = c .first (p - 1) (omega arith)
 
+      -- the row led to is below 16,384
       pub chasing-inside : p - 1 < 16384
       chasing-inside = omega (arith, c .small, k .few)
 
+      -- a row with the name x is the first that binds it
       pub chasing-found : {y : ℕ} → y ≡ column cells (p - 1) 1 → y ≡ x → p - 1 ≡ slotFrom n cells 0 x
       chasing-found e f =
           sym (first-slot at-first n (omega (arith, c .small)) (k .few)) ∙ ap (slotFrom n cells 0) (sym e ∙ f)
@@ -173,9 +181,11 @@ module _ {n : ℕ} {cells links : List ℕ} (k : LinkedTo n cells links) (x : �
         newest : Newest cells Half (column cells (p - 1) 1 % Half) (p - 1) (getD links (Half + (p - 1)) 0)
         newest = k .nexts (p - 1) (omega (arith, c .small)) at-first
 
+        -- the next link leads to an older row
         pub chasing-less : next < p
         chasing-less = omega (arith, en, newest .small)
 
+        -- at a row with another name the search goes on with the next link
         pub chasing-next : Chasing n cells Half x next
         chasing-next =
             let hs : column cells (p - 1) 1 % Half ≡ x % Half = c .hashed (p - 1) (omega arith) in
@@ -330,13 +340,13 @@ module _ {n : ℕ} {cells links : List ℕ} (k : LinkedTo n cells links) (r : n 
         nexts = λ i b g. rw half-same (nexts i b g);
       }
 
-  pub linked-more : {links′ : List ℕ} → links′ ≡ linksWith links n (column cells n 1) → LinkedTo (n + 1) cells links′
+  linked-more : {links′ : List ℕ} → links′ ≡ linksWith links n (column cells n 1) → LinkedTo (n + 1) cells links′
   unfolding links₁ links₂ x half
   linked-more e = rw e linked-by
 
 -- ------------------------------------------------------------------ the loop
 
-pub linked-none : (cells links : List ℕ) → 0 < length links / 2 → links ≡ replicate (length links) 0 → LinkedTo 0 cells links
+linked-none : (cells links : List ℕ) → 0 < length links / 2 → links ≡ replicate (length links) 0 → LinkedTo 0 cells links
 linked-none cells links s e =
     record {
       few = omega arith;
@@ -356,27 +366,35 @@ linked-none cells links s e =
 
 -- rows before `row` are linked
 pub record Linking (cells links₀ links : List ℕ) (row : ℕ) : Type 0 where
+  -- `row` is a row or the end
   pub inside : row ≤ length cells / 4
+  -- the links keep their number
   pub long : length links ≡ length links₀
+  -- the links lead through the first rows of the names bound so far
   pub linked : LinkedTo row cells links
 
 module _ {cells links₀ links : List ℕ} {row : ℕ}
     (w : Linking cells links₀ links row) (few : length cells ≤ 65536) (fits : length cells / 4 ≤ length links₀ / 2) (l : row < length cells / 4) where
+  -- the row has a link
   pub row-fits : row < length links / 2
   row-fits = omega (arith, ap (λ m. m / 2) (w .long))
 
+  -- it is below 16,384
   pub row-small : row < 16384
   row-small = omega arith
 
   skip : (First cells row → ⊥) → Linking cells links₀ links (row + 1)
   skip d = record { inside = omega arith; long = w .long; linked = linked-skip (w .linked) row-fits row-small d }
 
+  -- a row that is no function binds nothing
   pub skip-code : {code : ℕ} → code ≡ column cells row 0 → (code ≡ 33 → ⊥) → Linking cells links₀ links (row + 1)
   skip-code e d = skip (λ f. d (e ∙ binds-code cells row (column cells row 1) (f .binding)))
 
+  -- a row whose name an earlier one binds is not a first one
   pub skip-found : {x there : ℕ} → x ≡ column cells row 1 → there ≡ slotFrom row cells 0 x → (there ≡ 16384 → ⊥) → Linking cells links₀ links (row + 1)
   skip-found ex et d = skip (λ f. d (et ∙ ap (slotFrom row cells 0) ex ∙ f .earliest))
 
+  -- a row that binds its name first is linked
   pub add-row : {code x there : ℕ} → code ≡ column cells row 0 → x ≡ column cells row 1 → code ≡ 33 → there ≡ slotFrom row cells 0 x → there ≡ 16384
       → {links′ : List ℕ} → links′ ≡ linksWith links row x → Linking cells links₀ links′ (row + 1)
   add-row ec ex e et t {links′} el =
@@ -391,9 +409,11 @@ module _ {cells links₀ links : List ℕ} {row : ℕ}
         linked = linked-more (w .linked) row-fits row-small f el′;
       }
 
+-- no row is linked yet
 pub linking-start : (cells links : List ℕ) → 0 < length links / 2 → links ≡ replicate (length links) 0 → Linking cells links links 0
 linking-start cells links s e = record { inside = omega arith; long = refl; linked = linked-none cells links s e }
 
+-- where no row is left, all are linked
 pub linking-end : {cells links₀ links : List ℕ} {row : ℕ} → Linking cells links₀ links row → length cells ≤ 65536 → length cells / 4 ≤ row → Linked cells links
 linking-end {cells} {links₀} {links} {row} w few l =
     let z : row ≡ length cells / 4 = omega (arith, w .inside) in

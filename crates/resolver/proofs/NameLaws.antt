@@ -24,9 +24,11 @@ use Rattle.rows.proofs.RowLaws.{as-word, as-fresh, as-outside}
 module _ (spell : ℕ → List ℕ) (x : ℕ) where
   -- ------------------------------------------------------------------ the outside names of a variable
 
+  -- a formula's name holds no outside name
   pub held-word : x / nameBase ≡ 1 → Holds spell 0 (λ s. isOutside s (nameOf spell x))
   held-word e n l w = has-none n ∙ sym (ap (isOutside (spell n)) (as-word spell x e))
 
+  -- nor does a fresh one
   pub held-fresh : x / nameBase ≡ 2 → Holds spell 0 (λ s. isOutside s (nameOf spell x))
   held-fresh e n l w = has-none n ∙ sym (ap (isOutside (spell n)) (as-fresh spell x e))
 
@@ -35,6 +37,7 @@ module _ (spell : ℕ → List ℕ) (x : ℕ) where
       by-test (same (spell m) (spell n)) (λ e. eq-eqb m n (apart m n w (same-true (spell m) (spell n) e)) ∙ sym e)
       (λ e. ne-eqb m n (λ z. same-false (spell m) (spell n) e (ap spell z)) ∙ sym e)
 
+  -- an outside name holds itself alone
   pub held-outside : (x / nameBase ≡ 1 → ⊥) → (x / nameBase ≡ 2 → ⊥) → {r : ℕ} → r ≡ only (x % nameBase) → Distinct spell
       → Holds spell r (λ s. isOutside s (nameOf spell x))
   held-outside a b er apart n l w =
@@ -58,7 +61,7 @@ module _ (spell : ℕ → List ℕ) (apart : Distinct spell) (n : ℕ) (far : 64
   mutual
     unfolding holds holdsFields WellNamed WellNamedFields
 
-    pub far-holds : (t : Term Name) → WellNamed spell t → holds (spell n) t ≡ false
+    far-holds : (t : Term Name) → WellNamed spell t → holds (spell n) t ≡ false
     far-holds (variable v) k = far-name v k
     far-holds (function b t) k = far-holds t (k .1)
     far-holds (apply t u) k = ap₂ _||_ (far-holds t (k .0)) (far-holds u (k .1))
@@ -80,14 +83,17 @@ module _ (spell : ℕ → List ℕ) (t : Term Name) (x held : ℕ) (apart : Dist
   marked : (b : Bool) → isRenamed (nameOf spell x) t ≡ b → binderMark b ≡ binderMark (isRenamed (nameOf spell x) t)
   marked b e = ap binderMark (sym e)
 
+  -- a formula binder spelled as an outside name is renamed exactly if its body holds that name
   pub near-mark : x / nameBase ≡ 1 → x % nameBase < 64 → (b : Bool) → b ≡ hasKind held (x % nameBase) → binderMark b ≡ binderMark (isRenamed (nameOf spell x) t)
   unfolding isRenamed
   near-mark e l b eb = marked b (cc (as-word spell x e, h (x % nameBase) l (word-is e)))
 
+  -- a formula binder spelled as no outside name is not renamed
   pub far-mark : x / nameBase ≡ 1 → 64 ≤ x % nameBase → binderMark false ≡ binderMark (isRenamed (nameOf spell x) t)
   unfolding isRenamed
   far-mark e l = marked false (cc (as-word spell x e, far-holds spell apart (x % nameBase) l (word-is e) t known))
 
+  -- a fresh binder is renamed
   pub other-mark : (x / nameBase ≡ 1 → ⊥) → binderMark true ≡ binderMark (isRenamed (nameOf spell x) t)
   unfolding isRenamed
   other-mark a =
@@ -109,6 +115,7 @@ module _ (spell : ℕ → List ℕ) (x : ℕ) (cells current : List ℕ) (around
   bindable-at : (c : ℕ) → x / nameBase ≡ c → Bindable spell (c * nameBase + x % nameBase) → Bindable spell x
   bindable-at c e b = subst (Bindable spell) (omega arith) b
 
+  -- a formula's variable has its owner's mark
   pub word-mark : x / nameBase ≡ 1 → {m : ℕ} → m ≡ getD current (slotOf cells x) 0 → m ≡ markOf (nameOf spell x) Owner
   word-mark e em =
       em ∙ env x (bindable-at 1 e (bindable-word {n = x % nameBase} (omega arith) (subst (VariableName spell) (as-word spell x e) known)))
@@ -117,13 +124,16 @@ module _ (spell : ℕ → List ℕ) (x : ℕ) (cells current : List ℕ) (around
   fresh-owner : x / nameBase ≡ 2 → getD current (slotOf cells x) 0 ≡ Owner
   fresh-owner e = env x (bindable-at 2 e (bindable-fresh {n = x % nameBase} (omega arith)))
 
+  -- so has a fresh one that has an owner
   pub fresh-bound-mark : x / nameBase ≡ 2 → {m : ℕ} → m ≡ getD current (slotOf cells x) 0 → (m ≡ 0 → ⊥) → m ≡ markOf (nameOf spell x) Owner
   fresh-bound-mark e em d =
       em ∙ fresh-owner e ∙ fresh-mark (x % nameBase) Owner (λ z. d (em ∙ fresh-owner e ∙ z)) ∙ sym (cc (as-fresh spell x e))
 
+  -- a fresh one without an owner has the mark for that
   pub fresh-loose-mark : x / nameBase ≡ 2 → {m : ℕ} → m ≡ getD current (slotOf cells x) 0 → m ≡ 0 → 65535 ≡ markOf (nameOf spell x) Owner
   fresh-loose-mark e em z =
       sym (cc (as-fresh spell x e, fresh-owner e))
 
+  -- an outside name has the mark 0
   pub outside-mark : (x / nameBase ≡ 1 → ⊥) → (x / nameBase ≡ 2 → ⊥) → 0 ≡ markOf (nameOf spell x) Owner
   outside-mark a b = sym (cc (as-outside spell x a b))

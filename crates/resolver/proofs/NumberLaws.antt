@@ -67,10 +67,6 @@ owner-below {done} (paired-more {b = b} {q = q} {around = around} l h) v =
 
 -- ------------------------------------------------------------------ numbers by marks
 
-at-new : (done : List ℕ) (c : ℕ) → numberAt done c new ≡ c
-unfolding numberAt
-at-new done c = refl
-
 at-small : (done : List ℕ) (c m : ℕ) → m ≤ 16384 → numberAt done c m ≡ ownerNumber done m
 unfolding numberAt
 at-small done c m l = rw (ne-eqb m new (λ e. omega arith), numberAt) (rw (ne-eqb m noOwner (λ e. omega arith)) refl)
@@ -78,14 +74,6 @@ at-small done c m l = rw (ne-eqb m new (λ e. omega arith), numberAt) (rw (ne-eq
 next-small : (c m : ℕ) → (m ≡ new → ⊥) → nextNumber c m ≡ c
 unfolding nextNumber
 next-small c m d = rw (ne-eqb m new d, nextNumber) refl
-
-variable-number : (done : List ℕ) (c : ℕ) (v : Name) (o : ℕ) → o ≤ 16384
-    → nameShown (numberAt done c (markOf v o)) v ≡ nameShown (elim v [ word s ↦ ownerNumber done o | fresh n ↦ ownerNumber done o | outside s ↦ 0 ]) v
-unfolding numberAt
-variable-number done c (word s) o l = cc (at-small done c o l)
-variable-number done c (fresh n) zero l = refl
-variable-number done c (fresh n) (suc q) l = cc (at-small done c (suc q) l)
-variable-number done c (outside s) o l = refl
 
 fresh-number : (done : List ℕ) (c n o : ℕ) → o ≤ 16384 → nameShown (numberAt done c (markOf (fresh n) o)) (fresh n) ≡ nameShown (ownerNumber done o) (fresh n)
 unfolding numberAt
@@ -141,12 +129,14 @@ none-next c = refl
 
 -- ------------------------------------------------------------------ terms
 
+-- the numbers of a term's places, behind those of the places before it
 record TermNumbers (around : List Binder) (shown : List Printed) (done : List ℕ) (c p : ℕ) (t : Term Name) : Type 0 where
   numbers : List ℕ
   as-many : length numbers ≡ size t
   runs : (ms : List ℕ) → numbered done (suc c) (marks around p t ++ ms) ≡ numbered (done ++ numbers) (renames t + suc c) ms
   shows : (rest : List ℕ) → labelled ((done ++ numbers) ++ rest) p t ≡ renamed shown (suc c) t
 
+-- the same of a field list
 record FieldNumbers (around : List Binder) (shown : List Printed) (done : List ℕ) (c p : ℕ) (f : Fields Name) : Type 0 where
   numbers : List ℕ
   as-many : length numbers ≡ sizeFields f

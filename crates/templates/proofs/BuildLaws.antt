@@ -93,21 +93,36 @@ cell-stored cells l row code {cells′} {x} {y} {z} ex ey ez e =
 
 -- what the loop starts from, and where it stands
 pub record Whole : Type 0 where
+  -- the bytes of the template
   pub v : List ℕ
+  -- where it begins
   pub from : ℕ
+  -- the variables' values
   pub env : List ℕ
+  -- how many there are
   pub k : ℕ
+  -- how many rows there may be
   pub rows : ℕ
+  -- how many were made before
   pub made : ℕ
+  -- the cells before
   pub cells : List ℕ
+  -- the size of the stack
   pub size : ℕ
 
+-- where the loop stands
 pub record Turn : Type 0 where
+  -- the cells now
   pub cells : List ℕ
+  -- the stack
   pub stack : List ℕ
+  -- the offset of the next template
   pub at : ℕ
+  -- how many rows are made
   pub made : ℕ
+  -- where the arguments of the innermost constructor begin in the stack
   pub pos : ℕ
+  -- the first place above them
   pub top : ℕ
 
 -- under any input, state and values of the variables, what is left gives what the whole template gives
@@ -116,19 +131,33 @@ Same W r =
     (I : Input) (s : State) (M : List ℕ) → I .rows ≡ W .rows → Holds (W .env) (W .k) M
     → r I s M ≡ build (templateAt (W .v) (W .from)) I M (withMade s (W .made)) (W .cells)
 
+-- what is left, with the constructors that are open, gives what the whole template gives
 pub record Building (W : Whole) (T : Turn) : Type 0 where
+  -- the cells are as many as before
   pub as-long : length (T .cells) ≡ length (W .cells)
+  -- the stack keeps its size
   pub stack-long : length (T .stack) ≡ W .size
+  -- the stack has room for as many numbers as the template has bytes
   pub wide : length (W .v) ≤ W .size
+  -- the numbers on the stack are no more than the bytes passed
   pub past : T .top + W .from ≤ T .at
+  -- the offset is not past the bytes
   pub inside : T .at ≤ length (W .v)
+  -- the innermost constructor that is open
   pub inner : Pending
+  -- those around it, from the inside
   pub around : List Pending
+  -- they stand in the stack
   pub stands : Stands (T .stack) (T .pos) (T .top) inner around
+  -- the arguments given and left are as many as the innermost one takes
   pub many : count (inner .left) + length (inner .given) ≡ arity (inner .code)
+  -- its code is a byte
   pub small : inner .code < 256
+  -- each of those around it wants the value of the one inside it and what is left to it
   pub filling : Filling around
+  -- the templates left to all of them, then those behind, are read at the offset
   pub read : templatesOf (drop (T .at) (W .v)) ≡ parsed (join (inner .left) (lefts around (othersAt (W .v) (W .from))))
+  -- what is left of all of them gives what the whole template gives
   pub rest : Same W (λ I s M. resume I M around (going I M inner (withMade s (T .made)) (T .cells)))
 
 -- the outermost constructor is open
@@ -177,9 +206,13 @@ building-pos c =
 
 -- the number of the innermost constructor is read, with its code and how many arguments it takes
 pub record Looked (W : Whole) (T : Turn) (w code n : ℕ) : Type 0 where
+  -- where the loop stands
   pub building : Building W T
+  -- the number read is the one below the arguments
   pub number : w ≡ getD (T .stack) (T .pos - 1) 0
+  -- its low byte is the code
   pub code-is : code ≡ w % 256
+  -- n is how many arguments the code takes
   pub arity-is : n ≡ arity code
 
 module _ {W : Whole} {T : Turn} {w code n : ℕ} (d : Looked W T w code n) where
@@ -200,9 +233,11 @@ module _ {W : Whole} {T : Turn} {w code n : ℕ} (d : Looked W T w code n) where
 
   -- a template is left to it
   module _ (less : T .top - T .pos < n) where
+    -- the next template of the innermost constructor, and those left to it behind
     pub next-left : (t : Template) × (us : Templates) × (c .inner .left ≡ more t us)
     next-left = some-left (c .inner .left) (omega (arith, n-is, stands-top (c .stands)))
 
+    -- it is read at the offset
     pub next-read : templatesOf (drop (T .at) (W .v)) ≡ parsed (more (next-left .0) (join (next-left .1) (lefts (c .around) (othersAt (W .v) (W .from)))))
     unfolding join
     next-read = cc (c .read, next-left .2)
@@ -318,12 +353,19 @@ module _ {W : Whole} {T : Turn} {w code n : ℕ} (d : Looked W T w code n) where
 
 -- its row is made
 pub record Closing (W : Whole) (T : Turn) (code n out : ℕ) (cells : List ℕ) : Type 0 where
+  -- the number of the constructor that is closed
   pub w : ℕ
+  -- it is read
   pub looked : Looked W T w code n
+  -- it has all its arguments
   pub stop : n ≤ T .top - T .pos
+  -- there is a row for it
   pub row : T .made < W .rows
+  -- the row is stored with the arguments on the stack
   pub stored : cells ≡ withRow (T .cells) (T .made) code (take n (drop (T .pos) (T .stack)))
+  -- the cells are as many
   pub same : length cells ≡ length (T .cells)
+  -- where the arguments of the one around it begin
   pub out-is : out ≡ w / 256
 
 module _ {W : Whole} {T : Turn} {code n out : ℕ} {cells : List ℕ} (d : Closing W T code n out cells) where

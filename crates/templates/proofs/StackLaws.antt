@@ -20,8 +20,11 @@ use Rattle.templates.proofs.TemplateLaws.{regroup, first-built}
 
 -- a constructor that is open: its arguments so far, and the templates left to it
 pub record Pending : Type 0 where
+  -- its code
   pub code : ℕ
+  -- the arguments that it has
   pub given : List ℕ
+  -- the templates of the others
   pub left : Templates
 
 -- one argument more
@@ -115,6 +118,7 @@ took-are {k} {ts} e = subst (Took k ts) e (took k ts)
 -- ------------------------------------------------------------------ how they stand in the stack
 
 unfoldable mutual
+  -- the numbers of the open constructors: of each its code with the place of the one around it, then its arguments
   pub image : List Pending → List ℕ
   image [] = []
   image (p ∷ ps) = image ps ++ (p .code + 256 * place ps) ∷ p .given
@@ -146,8 +150,11 @@ image-opened p ps b us ts = refl
 
 -- the numbers up to `top` stand for the open constructors
 pub record Stands (stack : List ℕ) (pos top : ℕ) (p : Pending) (ps : List Pending) : Type 0 where
+  -- the stack is that high
   pub fits : top ≤ length stack
+  -- it holds the numbers of the open constructors
   pub held : take top stack ≡ image (p ∷ ps)
+  -- the innermost one's arguments begin at this place
   pub pos-is : pos ≡ place (p ∷ ps)
 
 module _ {stack : List ℕ} {pos top : ℕ} {p : Pending} {ps : List Pending} (h : Stands stack pos top p ps) where

@@ -35,10 +35,15 @@ fault-read t ts e f = let z : _≡_ {A = ℕ} 0 1 = cc in omega arith
 
 -- a constructor and the templates that it takes
 pub record Makes (b : ℕ) (p : Parsed) (t : Template) (ts : Templates) : Type 0 where
+  -- the templates behind the code
   pub ahead : Templates
+  -- those that it takes
   pub own : Templates
+  -- they are read
   pub read : p ≡ parsed ahead
+  -- these are the first, as many as it takes
   pub takes : takeTemplates (arity b) ahead ≡ taken own ts
+  -- the template is the constructor of them
   pub is : t ≡ make b own
 
 applied-read : (b : ℕ) (ws : Templates) (x : Taken) → takeTemplates (arity b) ws ≡ x → (t : Template) (ts : Templates)

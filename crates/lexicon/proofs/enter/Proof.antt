@@ -80,6 +80,7 @@ returns c =
           (link-place .link .ensures)),
     )
 
+-- the function meets its contract
 pub enter-spec : {M : Type 1} → statement M
 enter-spec =
     tie.close

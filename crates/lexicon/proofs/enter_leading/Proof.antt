@@ -141,6 +141,7 @@ same-length-8 c = search needs
 returns-4 : tie.Need-returns-4 Inv-loop μ-loop
 returns-4 c = laws.entering-end (c .before .loop .inv) (c .loop-test .left)
 
+-- the function meets its contract
 pub enter-leading-spec : {M : Type 1} → statement M
 enter-leading-spec =
     tie.close

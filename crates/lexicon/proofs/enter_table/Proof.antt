@@ -82,6 +82,7 @@ returns c =
     laws.lexical (asked .0) (asked .1) (entered .enter-leading .ensures) (marked .mark-symbols .ensures) (after .after-leading .result)
     (after .after-leading .ensures) (named .enter-leading2 .ensures)
 
+-- the function meets its contract
 pub enter-table-spec : {M : Type 1} → statement M
 enter-table-spec =
     tie.close

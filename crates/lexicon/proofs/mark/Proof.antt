@@ -39,6 +39,7 @@ returns-2 c = laws.unmarked-high _ (c .before .before .if1 .taken) (c .if2 .left
 returns-3 : tie.Need-returns-3
 returns-3 c = laws.unmarked-long _ (c .if1 .left)
 
+-- the function meets its contract
 pub mark-spec : {M : Type 1} → statement M
 mark-spec =
     tie.close

@@ -70,6 +70,7 @@ same-length c = search needs
 returns : tie.Need-returns Inv-loop μ-loop
 returns c = laws.marking-end (c .before .loop .inv) (c .loop-test .left)
 
+-- the function meets its contract
 pub mark-symbols-spec : {M : Type 1} → statement M
 mark-symbols-spec =
     tie.close

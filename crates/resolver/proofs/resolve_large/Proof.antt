@@ -28,6 +28,7 @@ resolved-requires c κs = search needs
 returns : tie.Need-returns
 returns c = search needs
 
+-- the function meets its contract
 pub resolve-large-spec : {M : Type 1} → statement M
 resolve-large-spec =
     tie.close

@@ -24,5 +24,6 @@ returns c =
       c .number .kept .0 ∙ walk .resolve-term .ensures .long,
     )
 
+-- the function meets its contract
 pub resolved-spec : {M : Type 1} → statement M
 resolved-spec = tie.close (tie.spec resolve-term-requires slice-aggregate-number number-requires returns)

@@ -91,6 +91,7 @@ returns-3 c =
       remembers = starts .remembers;
     }
 
+-- the function meets its contract
 pub enter-spec : {M : Type 1} → statement M
 enter-spec =
     tie.close

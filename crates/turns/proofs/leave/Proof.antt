@@ -93,6 +93,7 @@ returns-3 c =
     laws.closed-on g (resulting (finished o) e) (o .outcome2 .given .1) (else-place .if1 .left) (r .resumed .ensures) (c .valued .ensures)
     (entry (finished o) .pre .small .few)
 
+-- the function meets its contract
 pub leave-spec : {M : Type 1} → statement M
 leave-spec =
     tie.close

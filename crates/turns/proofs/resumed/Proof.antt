@@ -16,5 +16,6 @@ next-of-requires c κs = search needs
 returns : tie.Need-returns
 returns c = laws.resumes-at (c .before .before .load .ensures) (c .before .count-of .ensures) (c .next-of .ensures)
 
+-- the function meets its contract
 pub resumed-spec : {M : Type 1} → statement M
 resumed-spec = tie.close (tie.spec load-requires count-of-requires next-of-requires returns)

@@ -106,6 +106,7 @@ loop-again c =
 returns-2 : tie.Need-returns-2 Inv-loop μ-loop
 returns-2 c = laws.chasing-end (c .before .loop .inv) (c .loop-test .left)
 
+-- the function meets its contract
 pub find-spec : {M : Type 1} → statement M
 find-spec =
     tie.close

@@ -46,6 +46,7 @@ returns c =
     (c .before .part .ensures)
     (c .equal .ensures)
 
+-- the function meets its contract
 pub is-spelled-spec : {M : Type 1} → statement M
 is-spelled-spec =
     tie.close

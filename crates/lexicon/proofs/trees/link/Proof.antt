@@ -32,6 +32,7 @@ same-length c = search needs
 returns-2 : tie.Need-returns-2
 returns-2 c = laws.free-set _ (c .before .spot .given .1) _
 
+-- the function meets its contract
 pub link-spec : {M : Type 1} → statement M
 link-spec =
     tie.close

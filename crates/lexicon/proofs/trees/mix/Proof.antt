@@ -21,5 +21,6 @@ returns : tie.Need-returns
 unfolding mixed
 returns c = ap (mixed (c .before .args .h)) (c .byte .ensures)
 
+-- the function meets its contract
 pub mix-spec : {M : Type 1} → statement M
 mix-spec = tie.close (tie.spec byte-requires mul-p mul-result add-result returns)

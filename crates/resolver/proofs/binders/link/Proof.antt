@@ -147,6 +147,7 @@ returns c =
     let turn = c .before in
     laws.linking-end (turn .loop .inv) ((at-start (turn)) .pre .few) (c .loop-test .left)
 
+-- the function meets its contract
 pub link-spec : {M : Type 1} → statement M
 link-spec =
     tie.close

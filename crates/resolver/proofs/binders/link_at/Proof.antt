@@ -26,5 +26,6 @@ returns-2 c =
     let start = c .before .before in
     sym (getD-past (start .args .links .now) (start .args .i) 0 (c .if1 .left))
 
+-- the function meets its contract
 pub link-at-spec : {M : Type 1} → statement M
 link-at-spec = tie.close (tie.spec mul-wide shared-slice-read-wide wide-requires returns returns-2)

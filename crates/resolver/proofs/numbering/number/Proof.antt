@@ -236,6 +236,7 @@ returns-2 c =
     let turn = c .before in
     (laws.counting-named (turn .loop .inv) (c .loop-test .left), λ e. laws.counting-done (turn .loop .inv) (c .loop-test .left))
 
+-- the function meets its contract
 pub number-spec : {M : Type 1} → statement M
 number-spec =
     tie.close

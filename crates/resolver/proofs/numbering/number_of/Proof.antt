@@ -70,6 +70,7 @@ returns-5 c =
     laws.far-at _ _ (entry .args .count + 1) _ (else1 .if1 .left) (else2 .if2 .left)
     (else3 .if3 .left) (c .before .wide-short .ensures) (c .if4 .left) (entry .pre .0)
 
+-- the function meets its contract
 pub number-of-spec : {M : Type 1} → statement M
 number-of-spec =
     tie.close

@@ -43,5 +43,6 @@ returns-4 : tie.Need-returns-4
 unfolding binderMark
 returns-4 c = λ spell t apart known kb h. other-mark spell t _ _ apart known kb h (c .if1 .left)
 
+-- the function meets its contract
 pub binder-mark-spec : {M : Type 1} → statement M
 binder-mark-spec = tie.close (tie.spec cast-has has-requires returns returns-2 returns-3 returns-4)

@@ -37,5 +37,6 @@ returns-4 c =
     λ spell apart k. absurd
     (omega (arith, c .if1 .left, outside-small spell _ (match-rest-place .match .rest .0 .1) (match-rest-place .match .rest .1) apart k))
 
+-- the function meets its contract
 pub held-by-spec : {M : Type 1} → statement M
 held-by-spec = tie.close (tie.spec cast-only only-requires returns returns-2 returns-3 returns-4)

@@ -19,5 +19,6 @@ returns-2 c =
     let start = c .before in
     sym (getD-past (start .args .current .now) (start .args .slot) 0 (c .if1 .left))
 
+-- the function meets its contract
 pub innermost-spec : {M : Type 1} → statement M
 innermost-spec = tie.close (tie.spec mul-result shared-slice-read-result returns returns-2)

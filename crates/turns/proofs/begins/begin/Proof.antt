@@ -52,6 +52,7 @@ returns-4 c =
     laws.starts-nowhere h _ _ rows _ _ _ (kind-place .before .before .if1 .left) (kind-place .before .if2 .left) (kind-place .kind-at .ensures)
     (choose-place .choose .ensures bs h m) (c .before .before .if3 .left) (c .before .kinds-of .ensures bs h) (c .misfit .ensures)
 
+-- the function meets its contract
 pub begin-spec : {M : Type 1} → statement M
 begin-spec =
     tie.close
