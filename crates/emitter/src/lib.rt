@@ -111,7 +111,7 @@ pub fn emit(
         (now (text .entry)) ≡ record { answer = r; text = now (text .exit) }
         ⌝ }
 {
-    let left = size_term(cells, made, root, 16385);
+    let left = size_term(&cells, made, root, 16385);
     if left == 0 {
         return refusing(22, made);
     }

@@ -229,13 +229,14 @@ module _ (cells : List ℕ) (k row p : ℕ) where
         rows.number-row spell cells k row some at (λ t. Walked spell around p t 0 current current room room₁)
         (λ n. walked-as refl er (number-walked n current room)) (before-rcd .0 .0 .1) (before-rcd .0 .1) (before-rcd .1) c d
 
-    pub function-resolves : code ≡ 33 → {x outer held v : ℕ} {current current₁ current₂ current₃ room room₀ room₁ room₂ : List ℕ} → x ≡ column cells row 1
-        → room₀ ≡ set room p 0 → Exchanged cells x (p + 1) current current₁ outer
+    pub function-resolves : code ≡ 33 → {x s outer held v : ℕ} {current current₁ current₂ current₃ room room₀ room₁ room₂ : List ℕ} → x ≡ column cells row 1
+        → room₀ ≡ set room p 0 → s ≡ slotOf cells x → Exchanged s (p + 1) current current₁ outer
         → ResolvesTerm cells (k - 1) (column cells row 2) (p + 1) current₁ current₂ room₀ room₁ held
-        → current₃ ≡ set current₂ (slotOf cells x) outer → MarksBinder x held v
+        → current₃ ≡ set current₂ s outer → MarksBinder x held v
         → room₂ ≡ set room₁ p v → ResolvesTerm cells k row p current current₃ room room₂ held
     unfolding WellNamed
-    function-resolves e {x} {current = current} {current₁ = current₁} ex e₀ ee body e₃ mark er spell around apart wh kn len env =
+    function-resolves e {x} {outer = outer} {current = current} {current₁ = current₁} ex e₀ es ee₀ body e₃ mark er spell around apart wh kn len env =
+        let ee : Exchanged (slotOf cells x) (p + 1) current current₁ outer = rw es at ee₀ in
         let t : termAt k spell cells row ≡ function (nameOf spell x) (termAt (k - 1) spell cells (column cells row 2)) =
         rw ex (rows.fun-row spell cells k row some at e) in
         let kn′ = subst (WellNamed spell) t kn in
@@ -396,6 +397,6 @@ walks-row {cells} {k} {p = p} {p′} {current} {current′} {room} {room′} {he
     rw e at w
 
 -- A binder's place and one more, stored in its slot.
-pub entered : {cells : List ℕ} (p : ℕ) {x v : ℕ} {current current′ : List ℕ} {r : ℕ} → Exchanged cells x v current current′ r → v ≡ p + 1
-    → Exchanged cells x (p + 1) current current′ r
-entered {cells} p {x} {current = current} {current′} {r} h e = rw e at h
+pub entered : (p : ℕ) {s v : ℕ} {current current′ : List ℕ} {r : ℕ} → Exchanged s v current current′ r → v ≡ p + 1
+    → Exchanged s (p + 1) current current′ r
+entered p {s} {current = current} {current′} {r} h e = rw e at h

@@ -119,11 +119,6 @@ module _ (spell : ℕ → List ℕ) where
 pub restored : (current : List ℕ) (s v : ℕ) → set (set current s v) s (getD current s 0) ≡ current
 restored current s v = set-set current s v (getD current s 0) ∙ set-getD current s 0
 
-module _ {cells current : List ℕ} {x v s r : ℕ} (at : s ≡ slotOf cells x) (was : r ≡ getD current s 0) where
-  -- A store in a name's slot.
-  pub exchanged : Exchanged cells x v current (set current s v) r
-  exchanged = record { stored = cc; was = cc }
-
-  -- A name without a slot.
-  pub not-exchanged : length current ≤ s → Exchanged cells x v current current r
-  not-exchanged l = record { stored = cc (set-out current s v l); was = cc }
+-- A store in a slot that is not there.
+pub not-exchanged : {current : List ℕ} {s v r : ℕ} → r ≡ getD current s 0 → length current ≤ s → Exchanged s v current current r
+not-exchanged {current} {s} {v} was l = record { stored = sym (set-out current s v l); was = was }

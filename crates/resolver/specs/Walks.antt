@@ -4,13 +4,13 @@ use mathlib.Core.Path.{_≡_}
 use mathlib.Core.List.{List}
 use lib.ListN.{length, getD, set, replicate}
 use Rattle.rows.specs.Sizes.{sizeAt, sizeFieldsAt}
-use Rattle.resolver.specs.Marks.{slotOf, ResolvesTerm, ResolvesFields}
+use Rattle.resolver.specs.Marks.{ResolvesTerm, ResolvesFields}
 use Rattle.resolver.specs.Links.{Linked}
 
--- v is stored in the slot of the name x, and r was there before; a name that no row binds has no slot
-pub record Exchanged (cells : List ℕ) (x v : ℕ) (current current′ : List ℕ) (r : ℕ) : Type 0 where
-  pub stored : current′ ≡ set current (slotOf cells x) v
-  pub was : r ≡ getD current (slotOf cells x) 0
+-- v is stored in a slot, if it is there, and r was there before
+pub record Exchanged (slot v : ℕ) (current current′ : List ℕ) (r : ℕ) : Type 0 where
+  pub stored : current′ ≡ set current slot v
+  pub was : r ≡ getD current slot 0
 
 -- linked rows, and a mark for each of so many constructors from a place on
 pub record Walkable (cells links : List ℕ) (constructors place : ℕ) (room : List ℕ) : Type 0 where

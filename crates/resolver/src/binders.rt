@@ -1,10 +1,10 @@
 // Binders by name: the first row whose mkTermFun binds a name stands for all binders of that name.
 use rows::column;
 use terms::COLUMNS;
-ghost use Prim.Native.Nat.{_+_, _/_, _≤_, _<_};
+ghost use Prim.Native.Nat.{_+_, _/_, _%_, _≤_, _<_};
 ghost use mathlib.Core.Path.{_≡_};
 ghost use lib.ListN.{length, getD};
-ghost use Rattle.resolver.specs.Marks.{slotFrom};
+ghost use Rattle.resolver.specs.Marks.{slotFrom, slotOf};
 ghost use Rattle.resolver.specs.Links.{LinkedTo, Linked, Linkable, linksWith};
 
 fn wide(x: u16) -> usize
@@ -23,13 +23,27 @@ fn link_at(links: &[u16], i: usize) -> usize
     0
 }
 
+// The hash of a name. The two sizes that rooms have are written out, so that nothing is divided for them.
+fn hash(x: u32, half: usize) -> usize
+    requires { ⌜ 0 < half ⌝ }
+    ensures { λ r. ⌜ (r ≡ x % half) × (r < half) ⌝ }
+{
+    if half == 256 {
+        return (x as usize) % 256;
+    }
+    if half == 16384 {
+        return (x as usize) % 16384;
+    }
+    (x as usize) % half
+}
+
 // The first of n linked rows that binds x, or 16,384.
-pub fn find(cells: &[u32], links: &[u16], n: usize, x: u32) -> usize
+fn find(cells: &[u32], links: &[u16], n: usize, x: u32) -> usize
     requires { ⌜ LinkedTo n (now cells) (now links) ⌝ }
     ensures { λ r. ⌜ (r ≡ slotFrom n (now (cells .entry)) 0 x) × (r ≤ 16384) ⌝ }
 {
     let half = links.len() / 2;
-    let mut p = link_at(links, (x as usize) % half);
+    let mut p = link_at(links, hash(x, half));
     while 0 < p {
         let row = p - 1;
         let y = column(cells, row as u32, 1);
@@ -41,13 +55,21 @@ pub fn find(cells: &[u32], links: &[u16], n: usize, x: u32) -> usize
     16384
 }
 
+// The slot of a name: the first row that binds it, or 16,384.
+pub fn slot_of(cells: &[u32], links: &[u16], x: u32) -> usize
+    requires { ⌜ Linked (now cells) (now links) ⌝ }
+    ensures { λ r. ⌜ r ≡ slotOf (now (cells .entry)) x ⌝ }
+{
+    find(cells, links, cells.len() / COLUMNS, x)
+}
+
 // Links a row that is the first to bind x.
 fn add(links: &mut [u16], row: usize, x: u32)
     requires { ⌜ (row < length (now links) / 2) × (row < 16384) ⌝ }
     ensures { λ _. ⌜ now (links .exit) ≡ linksWith (now (links .entry)) row x ⌝ }
 {
     let half = links.len() / 2;
-    let h = (x as usize) % half;
+    let h = hash(x, half);
     links[half + row] = links[h];
     links[h] = (row + 1) as u16;
 }

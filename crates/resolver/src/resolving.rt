@@ -1,7 +1,6 @@
 // Resolution: each variable's binder, and which binders are renamed, by places. A place is a constructor's number from the left.
-use crate::binders::find;
+use crate::binders::slot_of;
 use rows::column;
-use terms::COLUMNS;
 use terms::NAME_BASE;
 ghost use Prim.Native.Nat.{ℕ, _+_, _<_, _≤_};
 ghost use mathlib.Core.Path.{_≡_};
@@ -41,7 +40,7 @@ fn variable_mark(cells: &[u32], links: &[u16], current: &mut [u16], x: u32) -> u
     ensures { λ r. ⌜ MarksVariable (now (cells .entry)) (now (current .entry)) x r × (now (current .exit) ≡ now (current .entry)) ⌝ }
 {
     let class = x / NAME_BASE;
-    let slot = find(cells, links, cells.len() / COLUMNS, x);
+    let slot = slot_of(cells, links, x);
     let inner = innermost(current, slot);
     match class {
         1 => inner,
@@ -70,12 +69,10 @@ fn held_by(x: u32) -> u64
     }
 }
 
-// Sets the binder of a name's slot; the answer is the one before.
-fn exchange(cells: &[u32], links: &[u16], current: &mut [u16], x: u32, v: u16) -> u16
-    requires { ⌜ Linked (now cells) (now links) ⌝ }
-    ensures { λ r. ⌜ Exchanged (now (cells .entry)) x v (now (current .entry)) (now (current .exit)) r ⌝ }
+// Sets the binder of a slot; the answer is the one before.
+fn exchange(current: &mut [u16], slot: usize, v: u16) -> u16
+    ensures { λ r. ⌜ Exchanged slot v (now (current .entry)) (now (current .exit)) r ⌝ }
 {
-    let slot = find(cells, links, cells.len() / COLUMNS, x);
     let outer = innermost(current, slot);
     if slot < current.len() {
         current[slot] = v;
@@ -143,9 +140,10 @@ pub fn resolve_term(
             held_by(x)
         }
         33 => {
-            let outer = exchange(*cells, *links, *current, x, binder_at(here));
+            let slot = slot_of(*cells, *links, x);
+            let outer = exchange(*current, slot, binder_at(here));
             let held = resolve_part(cells, links, deep, row, 2, place, current, marks);
-            exchange(*cells, *links, *current, x, outer);
+            exchange(*current, slot, outer);
             let m = binder_mark(x, held);
             put(marks, here, m);
             held

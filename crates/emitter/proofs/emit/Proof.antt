@@ -32,7 +32,8 @@ slice-aggregate-room c =
 emit-in-requires : tie.Need-emit-in-requires
 emit-in-requires c κs =
     let sized = c .before .before .before .before .before in
-    let entry = sized .before .before .before .before .before .before in
+    let asked = sized .before .before .before in
+    let entry = asked .before .before .before .before in
     laws.markable (replicate 256 0) (entry .pre) (sized .size-term .ensures) (c .before .before .before .before .if1 .left)
     (omega (
       arith,
@@ -59,7 +60,8 @@ slice-aggregate-room-2 c =
 emit-in-requires-2 : tie.Need-emit-in-requires-2
 emit-in-requires-2 c κs =
     let sized = c .before .before .before .before .before in
-    let entry = sized .before .before .before .before .before .before in
+    let asked = sized .before .before .before in
+    let entry = asked .before .before .before .before in
     laws.markable (replicate 16384 0) (entry .pre) (sized .size-term .ensures) (c .before .before .before .before .if1 .left)
     (omega (
       arith,

@@ -1,30 +1,18 @@
 -- `add`: the row leads to the newest of its hash, and the hash to the row.
-use native.Mathlib.Nat.{mod-lt}
 use native.Mathlib.Omega.{arith}
-use lib.ListN.{length, length-set, getD}
-use Prim.Native.Nat.{_/_, _%_, _+_}
 use borrow.Author.Needs.{needs}
-use borrow.Author.Needs.{needs}
+use lib.ListN.{length-set}
 use Rattle.resolver.proofs.binders.add.Statement.{statement}
 use Rattle.resolver.proofs.binders.add.Tie as tie
-use Rattle.resolver.proofs.binders.add.Reads as reads
-use Rattle.resolver.proofs.binders.add.Lts as lts
 
-rem-h : tie.Need-rem-h
-rem-h c = search needs
+hash-requires : tie.Need-hash-requires
+hash-requires c κs = omega (arith, c .before .pre .0)
 
 mul-links : tie.Need-mul-links
-mul-links c = omega (arith, c .pre .0, mod-lt (c .args .x) {m = length (c .args .links .now) / 2} (omega (arith, c .pre .0)))
+mul-links c = search needs
 
 slice-read-links : tie.Need-slice-read-links
-slice-read-links c =
-    let start = c .before in
-    omega (
-      arith,
-      start .pre .0,
-      mod-lt (start .args .x) {m = length (start .args .links .now) / 2}
-          (omega (arith, start .pre .0)),
-    )
+slice-read-links c = search needs
 
 add-links : tie.Need-add-links
 add-links c = search needs
@@ -42,42 +30,22 @@ cast-links : tie.Need-cast-links
 cast-links c = search needs
 
 mul-links-3 : tie.Need-mul-links-3
-mul-links-3 c =
-    let start = c .before in
-    omega (
-      arith,
-      start .pre .0,
-      mod-lt (start .args .x) {m = length (start .args .links .now) / 2}
-          (omega (arith, start .pre .0)),
-      length-set (start .args .links .now)
-          (length (start .args .links .now) / 2 + start .args .row)
-          (getD (start .args .links .now) (start .args .x % (length (start .args .links .now) / 2)) 0),
-    )
+mul-links-3 c = search needs
 
 slice-write-links-2 : tie.Need-slice-write-links-2
-slice-write-links-2 c =
-    let start = c .before in
-    omega (
-      arith,
-      start .pre .0,
-      mod-lt (start .args .x) {m = length (start .args .links .now) / 2}
-          (omega (arith, start .pre .0)),
-      length-set (start .args .links .now)
-          (length (start .args .links .now) / 2 + start .args .row)
-          (getD (start .args .links .now) (start .args .x % (length (start .args .links .now) / 2)) 0),
-    )
+slice-write-links-2 c = simp length-set (omega arith)
 
 same-length : tie.Need-same-length
 same-length c = search needs
 
 returns : tie.Need-returns
-returns c = search needs
+returns c = cc (c .before .hash .ensures .0)
 
 pub add-spec : {M : Type 1} → statement M
 add-spec =
     tie.close
     (tie.spec
-    rem-h
+    hash-requires
     mul-links
     slice-read-links
     add-links

@@ -7,10 +7,6 @@ use borrow.Author.Needs.{needs}
 use Rattle.resolver.proofs.LinkLaws as laws
 use Rattle.resolver.proofs.binders.find.Statement.{statement}
 use Rattle.resolver.proofs.binders.find.Tie as tie
-use Rattle.resolver.proofs.binders.find.Reads as reads
-use Rattle.resolver.proofs.binders.find.Lts as lts
-use Rattle.resolver.proofs.binders.link_at.Reads as link-at-reads
-use Rattle.rows.proofs.column.Reads as column-reads
 
 abbrev Inv-loop : tie.InvT-loop
 Inv-loop cells links n x half p₀ p = laws.Chasing n cells (length links / 2) x p × (half ≡ length links / 2)
@@ -29,16 +25,17 @@ abbrev at-loop : tie.Else1 Inv-loop μ-loop → tie.At-loop Inv-loop μ-loop
 at-loop p = (in-loop p) .before
 
 abbrev at-start : tie.At-loop Inv-loop μ-loop → tie.Start Inv-loop μ-loop
-at-start p = at-start′ (p .before .before)
+at-start p = at-start′ (p .before .before .before)
 
-rem-link-at : tie.Need-rem-link-at Inv-loop μ-loop
-rem-link-at c = omega (arith, ((at-start′ c) .pre) .some)
+hash-requires : tie.Need-hash-requires Inv-loop μ-loop
+hash-requires c κs = (at-start′ c) .pre .some
 
 link-at-requires : tie.Need-link-at-requires Inv-loop μ-loop
 link-at-requires c κs = search needs
 
 loop-holds : tie.Need-loop-holds Inv-loop μ-loop
-loop-holds c = (laws.chasing-start ((at-start′ (c .before)) .pre) _ (c .link-at .ensures), refl)
+loop-holds c =
+    (laws.chasing-start ((at-start′ (c .before .before)) .pre) _ (cc (c .link-at .ensures, c .before .hash .ensures .0)), refl)
 
 sub-row : tie.Need-sub-row Inv-loop μ-loop
 sub-row c = search needs
@@ -102,7 +99,7 @@ find-spec =
     (tie.spec
     Inv-loop
     μ-loop
-    rem-link-at
+    hash-requires
     link-at-requires
     loop-holds
     sub-row

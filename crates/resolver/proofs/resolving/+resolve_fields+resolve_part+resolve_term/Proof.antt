@@ -22,6 +22,7 @@ use Rattle.resolver.proofs.resolving.exchange.Reads as exchange-reads
 use Rattle.resolver.proofs.resolving.held_by.Reads as held-by-reads
 use Rattle.resolver.proofs.resolving.put.Reads as put-reads
 use Rattle.resolver.proofs.resolving.variable_mark.Reads as variable-mark-reads
+use Rattle.resolver.proofs.binders.slot_of.Reads as slot-of-reads
 use Rattle.rows.proofs.column.Reads as column-reads
 use Rattle.resolver.proofs.resolving.+resolve_fields+resolve_part+resolve_term.{statement}
 use Rattle.resolver.proofs.resolving.+resolve_fields+resolve_part+resolve_term.Tie.{close}
@@ -85,6 +86,8 @@ term-claims t = (
   variable-mark-reads.Learnt,
   held-by-reads.Asked,
   held-by-reads.Learnt,
+  slot-of-reads.Asked,
+  slot-of-reads.Learnt,
   binder-at-reads.Asked,
   binder-at-reads.Learnt,
   exchange-reads.Asked,
@@ -228,13 +231,13 @@ abbrev after-column : {t : ℕ} → term-lts.After-column2 (term-claims t) (term
     → term-lts.After-column (term-claims t) (term-at t) resolve-term.Post
 after-column p = p .before .before
 
-abbrev at-match-keys2 : {t : ℕ} → term-lts.After-exchange-arg2 (term-claims t) (term-at t) resolve-term.Post
+abbrev at-match-keys2 : {t : ℕ} → term-lts.After-slot-of-arg2 (term-claims t) (term-at t) resolve-term.Post
     → term-lts.At-match-keys2 (term-claims t) (term-at t) resolve-term.Post
 at-match-keys2 p = p .before .before
 
-abbrev after-column2 : {t : ℕ} → term-lts.After-exchange-arg3 (term-claims t) (term-at t) resolve-term.Post
+abbrev after-column2 : {t : ℕ} → term-lts.After-exchange-arg (term-claims t) (term-at t) resolve-term.Post
     → term-lts.After-column2 (term-claims t) (term-at t) resolve-term.Post
-after-column2 p = p .before .before .before .before
+after-column2 p = (at-match-keys2 (p .before .before)) .before
 
 abbrev after-column2′ : {t : ℕ} → term-lts.After-variable-mark-arg3 (term-claims t) (term-at t) resolve-term.Post
     → term-lts.After-column2 (term-claims t) (term-at t) resolve-term.Post
@@ -280,6 +283,11 @@ term-put-requires-2 t c κs =
 term-held-by-requires : (t : ℕ) → term-lts.Need-held-by-requires (term-claims t) (term-at t) resolve-term.Post
 term-held-by-requires t c κs = search needs
 
+term-slot-of-requires : (t : ℕ) → term-lts.Need-slot-of-requires (term-claims t) (term-at t) resolve-term.Post
+term-slot-of-requires t c κs =
+    let p = (at-match-keys2 c) .before in
+    term-entry t p .pre .1 .linked
+
 term-slice-aggregate-exchange : (t : ℕ) → term-lts.Need-slice-aggregate-exchange (term-claims t) (term-at t) resolve-term.Post
 term-slice-aggregate-exchange t c = search needs
 
@@ -289,14 +297,12 @@ term-binder-at-requires t c κs =
     omega (arith, laws.term-fits _ _ _ (term-entry t p .pre .1))
 
 term-exchange-requires : (t : ℕ) → term-lts.Need-exchange-requires (term-claims t) (term-at t) resolve-term.Post
-term-exchange-requires t c κs =
-    let p = after-column2 (c .before) in
-    term-entry t p .pre .1 .linked
+term-exchange-requires t c κs = search needs
 
 term-resolve-part-requires : (t : ℕ) → term-lts.Need-resolve-part-requires (term-claims t) (term-at t) resolve-term.Post
 term-resolve-part-requires t c κs =
-    let s0 = c .before .before .before .before .before .before in
-    let match-keys2-place = at-match-keys2 s0 in
+    let s0 = c .before .before .before .before .before in
+    let match-keys2-place = at-match-keys2 (s0 .before .before) in
     let p = match-keys2-place .before in
     let a = term-entry t p .args in
     let w = laws.walkable-in (term-entry t p .pre .1) (term-put t p .put .ensures .1) in
@@ -308,18 +314,14 @@ term-slice-aggregate-exchange-2 : (t : ℕ) → term-lts.Need-slice-aggregate-ex
 term-slice-aggregate-exchange-2 t c = search needs
 
 term-exchange-requires-2 : (t : ℕ) → term-lts.Need-exchange-requires-2 (term-claims t) (term-at t) resolve-term.Post
-term-exchange-requires-2 t c κs =
-    let s0 = c .before .before .before .before .before .before in
-    let s1 = at-match-keys2 (s0 .before .before .before .before) in
-    let p = s1 .before in
-    term-entry t p .pre .1 .linked
+term-exchange-requires-2 t c κs = search needs
 
 term-binder-mark-requires : (t : ℕ) → term-lts.Need-binder-mark-requires (term-claims t) (term-at t) resolve-term.Post
 term-binder-mark-requires t c κs = search needs
 
 term-put-requires-3 : (t : ℕ) → term-lts.Need-put-requires-3 (term-claims t) (term-at t) resolve-term.Post
 term-put-requires-3 t c κs =
-    let s0 = c .before .before .before .before .before .before in
+    let s0 = c .before .before .before .before in
     let s1 = s0 .before .before .before .before .before .before in
     let p = after-column2 s1 in
     laws.fits-as (s0 .resolve-part .ensures .long ∙ term-put t p .put .ensures .1)
@@ -398,18 +400,18 @@ term-returns-3 : (t : ℕ) → term-lts.Need-returns-3 (term-claims t) (term-at 
 term-returns-3 t c =
     let binder-mark-place = c .before .before in
     let exchange2-place = binder-mark-place .before in
-    let s0 = exchange2-place .before .before .before in
-    let resolve-part-place = s0 .before in
+    let resolve-part-place = exchange2-place .before .before in
     let exchange-place = resolve-part-place .before .before .before .before in
     let s1 = exchange-place .before in
-    let m = at-match-keys2 (s1 .before .before) in
+    let slot-place = s1 .before .before in
+    let m = at-match-keys2 (slot-place .before) in
     let p = m .before in
     let column-place = after-column p in
     let part = resolve-part-place .resolve-part .ensures in
     record {
       resolves =
           laws.function-resolves _ _ _ _ (term-test t p .if1 .left) (column-place .column .ensures) (m .match .keys2)
-          (p .column2 .ensures) (term-put t p .put .ensures .0)
+          (p .column2 .ensures) (term-put t p .put .ensures .0) (slot-place .slot-of .ensures)
           (laws.entered _ (exchange-place .exchange .ensures)
           (s1 .binder-at .ensures)) (part .resolves)
           (exchange2-place .exchange2 .ensures .stored) (binder-mark-place .binder-mark .ensures) (c .put3 .ensures .0);
@@ -509,6 +511,7 @@ pub +resolve-fields+resolve-part+resolve-term-spec : {M : Type 1} → statement 
     (term-variable-mark-requires t)
     (term-put-requires-2 t)
     (term-held-by-requires t)
+    (term-slot-of-requires t)
     (term-slice-aggregate-exchange t)
     (term-binder-at-requires t)
     (term-exchange-requires t)

@@ -1,11 +1,8 @@
--- `exchange`: the slot of a name, if a row binds it.
-use Rattle.resolver.proofs.SlotLaws.{exchanged, not-exchanged}
+-- `exchange`: a slot, if it is there.
+use Rattle.resolver.proofs.SlotLaws.{not-exchanged}
 use borrow.Author.Needs.{needs}
 use Rattle.resolver.proofs.resolving.exchange.Statement.{statement}
 use Rattle.resolver.proofs.resolving.exchange.Tie as tie
-
-find-requires : tie.Need-find-requires
-find-requires c κs = c .before .before .before .pre .linked
 
 innermost-requires : tie.Need-innermost-requires
 innermost-requires c κs = search needs
@@ -20,19 +17,18 @@ same-length : tie.Need-same-length
 same-length c = search needs
 
 returns : tie.Need-returns
-returns c = exchanged (c .before .before .before .find .ensures .0) (c .before .innermost .ensures)
+returns c = search needs
 
 same-length-2 : tie.Need-same-length-2
 same-length-2 c = search needs
 
 returns-2 : tie.Need-returns-2
-returns-2 c = not-exchanged (c .before .before .before .find .ensures .0) (c .before .innermost .ensures) (c .if1 .left)
+returns-2 c = search not-exchanged
 
 pub exchange-spec : {M : Type 1} → statement M
 exchange-spec =
     tie.close
     (tie.spec
-    find-requires
     innermost-requires
     mul-current
     slice-write-current

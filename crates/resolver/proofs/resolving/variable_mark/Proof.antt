@@ -7,14 +7,14 @@ use Rattle.resolver.proofs.resolving.variable_mark.Statement.{statement
 use Rattle.resolver.proofs.resolving.variable_mark.Tie as tie
 
 -- places, each from a later one
-abbrev after-find : tie.After-innermost → tie.After-find
-after-find p = p .before .before
+abbrev after-slot-of : tie.After-innermost → tie.After-slot-of
+after-slot-of p = p .before .before
 
 abbrev at-start : tie.After-slice-known → tie.Start
 at-start p = p .before .before .before
 
-find-requires : tie.Need-find-requires
-find-requires c κs = (at-start c) .pre .linked
+slot-of-requires : tie.Need-slot-of-requires
+slot-of-requires c κs = (at-start c) .pre
 
 innermost-requires : tie.Need-innermost-requires
 innermost-requires c κs = search needs
@@ -25,11 +25,11 @@ same-length c = search needs
 returns : tie.Need-returns
 returns c =
     let innermost-place = c .before .before in
-    let found = after-find innermost-place in
+    let found = after-slot-of innermost-place in
     let e = at-start (found .before) in (
       λ spell around known env.
           fresh-loose-mark spell (e .args .x) (e .args .cells .now) (e .args .current .now) around known env (c .before .match .keys2)
-          (innermost-place .innermost .ensures ∙ ap (λ n. getD (e .args .current .now) n 0) (found .find .ensures .0)) (c .if1 .taken),
+          (innermost-place .innermost .ensures ∙ ap (λ n. getD (e .args .current .now) n 0) (found .slot-of .ensures)) (c .if1 .taken),
       refl,
     )
 
@@ -38,11 +38,11 @@ same-length-2 c = search needs
 
 returns-2 : tie.Need-returns-2
 returns-2 c =
-    let found = after-find (c .before) in
+    let found = after-slot-of (c .before) in
     let e = at-start (found .before) in (
       λ spell around known env.
           word-mark spell (e .args .x) (e .args .cells .now) (e .args .current .now) around known env (c .match .keys1)
-          (c .before .innermost .ensures ∙ ap (λ n. getD (e .args .current .now) n 0) (found .find .ensures .0)),
+          (c .before .innermost .ensures ∙ ap (λ n. getD (e .args .current .now) n 0) (found .slot-of .ensures)),
       refl,
     )
 
@@ -52,11 +52,11 @@ same-length-3 c = search needs
 returns-3 : tie.Need-returns-3
 returns-3 c =
     let innermost-place = c .before .before in
-    let found = after-find innermost-place in
+    let found = after-slot-of innermost-place in
     let e = at-start (found .before) in (
       λ spell around known env.
           fresh-bound-mark spell (e .args .x) (e .args .cells .now) (e .args .current .now) around known env (c .before .match .keys2)
-          (innermost-place .innermost .ensures ∙ ap (λ n. getD (e .args .current .now) n 0) (found .find .ensures .0)) (c .if1 .left),
+          (innermost-place .innermost .ensures ∙ ap (λ n. getD (e .args .current .now) n 0) (found .slot-of .ensures)) (c .if1 .left),
       refl,
     )
 
@@ -65,7 +65,7 @@ same-length-4 c = search needs
 
 returns-4 : tie.Need-returns-4
 returns-4 c =
-    let found = after-find (c .before) in
+    let found = after-slot-of (c .before) in
     let e = at-start (found .before) in (
       λ spell around known env.
           outside-mark spell (e .args .x) (e .args .cells .now) (e .args .current .now) around known env (c .match .rest .0 .1) (c .match .rest .1),
@@ -76,7 +76,7 @@ pub variable-mark-spec : {M : Type 1} → statement M
 variable-mark-spec =
     tie.close
     (tie.spec
-    find-requires
+    slot-of-requires
     innermost-requires
     same-length
     returns

@@ -15,26 +15,26 @@ use Rattle.rows.proofs.column.Reads as column-reads
 use Rattle.rows.proofs.sizes.+size_fields+size_term.{statement}
 use Rattle.rows.proofs.sizes.+size_fields+size_term.Tie.{close}
 
-abbrev μ-size-fields : Measures 1 size-fields-kinds.ps ℕ
+abbrev μ-size-fields : Measures 2 size-fields-kinds.ps ℕ
 μ-size-fields κs a = a .1 .0
 
-abbrev μ-size-term : Measures 1 size-term-kinds.ps ℕ
+abbrev μ-size-term : Measures 2 size-term-kinds.ps ℕ
 μ-size-term κs a = a .1 .0
 
-abbrev size-fields-at : ℕ → In 1 size-fields-kinds.ps
+abbrev size-fields-at : ℕ → In 2 size-fields-kinds.ps
 size-fields-at t =
-    and 1 size-fields-kinds.ps (is 1 size-fields-kinds.ps μ-size-fields t) size-fields.Pre
+    and 2 size-fields-kinds.ps (is 2 size-fields-kinds.ps μ-size-fields t) size-fields.Pre
 
-abbrev size-fields-below : ℕ → In 1 size-fields-kinds.ps
+abbrev size-fields-below : ℕ → In 2 size-fields-kinds.ps
 size-fields-below t =
-    and 1 size-fields-kinds.ps (falls 1 size-fields-kinds.ps _<_ μ-size-fields t) size-fields.Pre
+    and 2 size-fields-kinds.ps (falls 2 size-fields-kinds.ps _<_ μ-size-fields t) size-fields.Pre
 
-abbrev size-term-at : ℕ → In 1 size-term-kinds.ps
-size-term-at t = and 1 size-term-kinds.ps (is 1 size-term-kinds.ps μ-size-term t) size-term.Pre
+abbrev size-term-at : ℕ → In 2 size-term-kinds.ps
+size-term-at t = and 2 size-term-kinds.ps (is 2 size-term-kinds.ps μ-size-term t) size-term.Pre
 
-abbrev size-term-below : ℕ → In 1 size-term-kinds.ps
+abbrev size-term-below : ℕ → In 2 size-term-kinds.ps
 size-term-below t =
-    and 1 size-term-kinds.ps (falls 1 size-term-kinds.ps _<_ μ-size-term t) size-term.Pre
+    and 2 size-term-kinds.ps (falls 2 size-term-kinds.ps _<_ μ-size-term t) size-term.Pre
 
 abbrev claims : ℕ → size-fields-lts.Claims
 claims t = (

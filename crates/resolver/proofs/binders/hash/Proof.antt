@@ -1,0 +1,22 @@
+-- `hash`: one remainder, for three ways to find it.
+use mathlib.Core.Path.{refl}
+use native.Mathlib.Nat.{mod-lt}
+use native.Mathlib.Omega.{arith}
+use borrow.Author.Needs.{needs}
+use Rattle.resolver.proofs.binders.hash.Statement.{statement}
+use Rattle.resolver.proofs.binders.hash.Tie as tie
+
+returns : tie.Need-returns
+returns c = (cc, omega arith)
+
+returns-2 : tie.Need-returns-2
+returns-2 c = (cc, omega arith)
+
+rem-result : tie.Need-rem-result
+rem-result c = search needs
+
+returns-3 : tie.Need-returns-3
+returns-3 c = (refl, mod-lt _ (c .before .before .pre))
+
+pub hash-spec : {M : Type 1} → statement M
+hash-spec = tie.close (tie.spec returns returns-2 rem-result returns-3)
