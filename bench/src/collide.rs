@@ -6,8 +6,8 @@ use std::collections::HashMap;
 pub enum Hash {
     /// Each byte b takes h to h * multiplier + b, modulo 2^32.
     Polynomial { multiplier: u32 },
-    /// The scanner's (crates/scanner/src/trees.rt): each byte is a product and a fold of a state of 64 bits. The low bits of the hash choose a
-    /// tree, further bits a branch at each node.
+    /// The scanner's (crates/lexicon/src/trees.rt): eight bytes at a time, two products and a fold of a state of 64 bits. The low bits of the hash
+    /// choose a tree, further bits a branch at each node.
     Folded,
 }
 
@@ -63,11 +63,25 @@ fn of_one_polynomial(multiplier: u32, count: usize) -> Vec<String> {
     (0..count).map(|n| blocks[n / 64].clone() + &blocks[n % 64]).collect()
 }
 
+fn fold(state: u64) -> u64 {
+    ((state & 0xffff_ffff) * 2_654_435_761) ^ ((state >> 32) * 2_246_822_519).rotate_left(32)
+}
+
+/// Bytes as a number, the first the lowest.
+fn number(bytes: &[u8]) -> u64 {
+    bytes.iter().rev().fold(0, |number, &byte| number << 8 | u64::from(byte))
+}
+
 fn folded(word: &[u8]) -> u64 {
-    word.iter().chain(&[0]).fold(11_400_714_819_323_198_485, |hash: u64, &byte| {
-        let product = ((hash ^ u64::from(byte)) & 0xffff_ffff) * 2_654_435_761;
-        product << 32 | hash >> 32 ^ product >> 32
-    })
+    let size = word.len();
+    let start = 11_400_714_819_323_198_485 ^ size as u64;
+    let (front, last) = match size {
+        0 => (start, 0),
+        1..=3 => (start, number(&[word[0], word[size / 2], 0, 0, word[size - 1]])),
+        4..=7 => (start, number(&word[..4]) | number(&word[size - 4..]) << 32),
+        _ => (word[..size - 1].chunks_exact(8).fold(start, |state, eight| fold(state ^ number(eight))), number(&word[size - 8..])),
+    };
+    fold(fold(front ^ last))
 }
 
 /// Words whose hashes share the eleven bits that choose a tree. The hash has no structure that is of use here: one word in 2,048 fits.

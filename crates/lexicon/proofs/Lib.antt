@@ -1,3 +1,4 @@
+pub mod HashLaws
 pub mod PlaceLaws
 pub mod TreeLaws
 pub mod LexiconLaws

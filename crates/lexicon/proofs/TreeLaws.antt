@@ -7,71 +7,18 @@ use native.Mathlib.Nat.{add-zero}
 use native.Mathlib.Omega.{arith}
 use lib.Bits.{bitAnd, and-le-r}
 use lib.Dec.{eqb, ltb}
-use lib.ListN.{length, getD, set, drop, replicate, drop-of-length-le, length-set, length-append, List·getD-append}
+use lib.ListN.{length, getD, set, replicate, length-set, length-append, List·getD-append}
 use lib.Seq.{getD-set-same, getD-set-other, getD-at}
 use borrow.Author.Tests.{eqb-true, eqb-false, ltb-true, ltb-false}
-use Rattle.spellings.specs.Bytes.{same, indexOf, run, isWordByte}
-use Rattle.spellings.proofs.BytesLaws.{by-test, same-true, same-false, index-le, index-self, index-found, index-front, index-rest, run-taken, run-left}
-use Rattle.spellings.proofs.Loops.{drop-at-index}
-use Rattle.lexicon.specs.Trees.{mixed, hashFrom, seed, hashOf, Hashed}
+use Rattle.spellings.specs.Bytes.{same, indexOf}
+use Rattle.spellings.proofs.BytesLaws.{by-test, same-true, same-false, index-le, index-self, index-found, index-front, index-rest}
+use Rattle.lexicon.specs.Trees.{hashOf}
 use Rattle.lexicon.specs.Trees.{rootOf, turnsOf, branchOf, Leads, there, further, Linked, Tree, Planted, Extends, FreeFor, FoundAt}
 use Rattle.lexicon.specs.Trees.{Searched, Linkable, linksWith}
 use Rattle.lexicon.specs.declared.trees.Spot.{Spot}
 use Rattle.lexicon.specs.declared.trees.Spot.the-variants.{Node, Free}
 use Rattle.lexicon.specs.Places.{wordAt, wordsIn}
 use Rattle.lexicon.proofs.PlaceLaws.{words-length, word-same}
-
--- ------------------------------------------------------------------ hashes
-
--- the first i bytes have the hash h
-pub record Hashing (s : List ℕ) (i h : ℕ) : Type 0 where
-  pub rest : hashFrom h (drop i s) ≡ hashOf s
-
-module _ {s : List ℕ} {i h : ℕ} (c : Hashing s i h) where
-  pub hashing-next : {h′ : ℕ} → h′ ≡ mixed h (getD s i 0) → i < length s → Hashing s (i + 1) h′
-  unfolding hashFrom
-  hashing-next e l = record { rest = cc (drop-at-index s i l, c .rest) }
-
-  pub hashing-end : {h′ : ℕ} → h′ ≡ mixed h 0 → length s ≤ i → h′ ≡ hashOf s
-  unfolding hashFrom
-  hashing-end e l = e ∙ sym (ap (hashFrom h) (drop-of-length-le s l)) ∙ c .rest
-
--- the run of word bytes at an offset, hashed up to i
-pub record Running (s : List ℕ) (at i h : ℕ) : Type 0 where
-  pub after : at ≤ i
-  pub sized : length (run isWordByte (drop at s)) ≡ i - at + length (run isWordByte (drop i s))
-  pub rest : hashFrom h (run isWordByte (drop i s)) ≡ hashOf (run isWordByte (drop at s))
-
-pub running-start : (s : List ℕ) (at : ℕ) → Running s at at seed
-running-start s at = record { after = omega arith; sized = omega arith; rest = refl }
-
-module _ {s : List ℕ} {at i h : ℕ} (c : Running s at i h) where
-  module _ {h′ : ℕ} (e : h′ ≡ mixed h (getD s i 0)) (l : i < length s) (w : isWordByte (getD s i 0) ≡ true) where
-    taken : run isWordByte (drop i s) ≡ getD s i 0 ∷ run isWordByte (drop (i + 1) s)
-    taken = ap (run isWordByte) (drop-at-index s i l) ∙ run-taken isWordByte (getD s i 0) (drop (i + 1) s) w
-
-    pub running-next : Running s at (i + 1) h′
-    unfolding hashFrom
-    running-next =
-        record {
-          after = omega (arith, c .after);
-          sized = omega (arith, c .after, c .sized, ap length taken);
-          rest = cc (e, taken, c .rest);
-        }
-
-  running-ends : run isWordByte (drop i s) ≡ [] → {h′ : ℕ} → h′ ≡ mixed h 0 → Hashed (run isWordByte (drop at s)) (i - at) h′
-  unfolding hashFrom
-  running-ends z e =
-      record { sized = omega (arith, c .sized, ap length z); hashed = e ∙ sym (ap (hashFrom h) z) ∙ c .rest }
-
-  pub running-stops : {h′ : ℕ} → i < length s → isWordByte (getD s i 0) ≡ false → h′ ≡ mixed h 0
-      → Hashed (run isWordByte (drop at s)) (i - at) h′
-  running-stops l w e =
-      running-ends (ap (run isWordByte) (drop-at-index s i l) ∙ run-left isWordByte (getD s i 0) (drop (i + 1) s) w) e
-
-  pub running-end : {h′ : ℕ} → length s ≤ i → h′ ≡ mixed h 0 → Hashed (run isWordByte (drop at s)) (i - at) h′
-  unfolding run
-  running-end l e = running-ends (ap (run isWordByte) (drop-of-length-le s l)) e
 
 -- ------------------------------------------------------------------ a search
 

@@ -1,9 +1,11 @@
 -- How spellings are found by the bits of a hash. The laws hold for any hash. Nobody needs these definitions to believe `scan`: its
 -- contract does not cite them.
-use Prim.Native.Nat.{ℕ, suc, _+_, _*_, _/_, _%_, _<_, _≤_}
+use Prim.Native.Nat.{ℕ, zero, suc, _+_, _-_, _*_, _/_, _%_, _<_, _≤_}
 use mathlib.Core.Path.{_≡_}
-use mathlib.Core.List.{List, [], _∷_}
+use mathlib.Core.Bool.{true, false}
+use mathlib.Core.List.{List, []}
 use lib.Bits.{bitAnd, bitXor}
+use lib.Dec.{ltb}
 use lib.ListN.{length, getD, set}
 use Rattle.spellings.specs.Bytes.{indexOf}
 use Rattle.lexicon.specs.Places.{wordsIn}
@@ -12,23 +14,53 @@ use Rattle.lexicon.specs.declared.trees.Spot.the-variants.{Node, Free}
 
 -- ------------------------------------------------------------------ the hash
 
-abbrev pub product : ℕ → ℕ → ℕ
-product h b = bitXor h b % 4294967296 * 2654435761
+-- two, four and eight bytes from an index on as one number, the first the lowest
+abbrev pub twoAt : List ℕ → ℕ → ℕ
+twoAt s i = getD s i 0 + getD s (i + 1) 0 * 256
 
--- the hash h with one byte more
-unfoldable pub mixed : ℕ → ℕ → ℕ
-mixed h b = product h b % 4294967296 * 4294967296 + bitXor (h / 4294967296) (product h b / 4294967296) % 4294967296
+abbrev pub fourAt : List ℕ → ℕ → ℕ
+fourAt s i = twoAt s i + twoAt s (i + 2) * 65536
 
--- of a spelling that follows what has the hash h
-unfoldable pub hashFrom : ℕ → List ℕ → ℕ
-hashFrom h [] = mixed h 0
-hashFrom h (b ∷ bs) = hashFrom (mixed h b) bs
+abbrev pub eightAt : List ℕ → ℕ → ℕ
+eightAt s i = fourAt s i + fourAt s (i + 4) * 4294967296
 
-abbrev pub seed : ℕ
-seed = 11400714819323198485
+-- the bytes of a spelling of fewer than eight: two fours, which overlap, or of fewer than four the first, the middle and the last
+unfoldable pub fewOf : List ℕ → ℕ
+fewOf s =
+    elim (ltb (length s) 4) [
+      | true ↦ getD s 0 0 + getD s (length s / 2) 0 * 256 + getD s (length s - 1) 0 * 4294967296
+      | false ↦ fourAt s 0 + fourAt s (length s - 4) * 4294967296
+    ]
 
-abbrev pub hashOf : List ℕ → ℕ
-hashOf s = hashFrom seed s
+abbrev pub crossed : ℕ → ℕ
+crossed q = q % 4294967296 * 4294967296 + q / 4294967296
+
+-- one round: both halves are multiplied, and each product falls on both halves
+abbrev pub folded : ℕ → ℕ
+folded y = bitXor (y % 4294967296 * 2654435761) (crossed (y / 4294967296 * 2246822519))
+
+-- the hash h with eight bytes more
+abbrev pub mixed : ℕ → ℕ → ℕ
+mixed h x = folded (bitXor h x)
+
+-- the hash h with k times eight bytes more, from an index on
+unfoldable pub chunksFrom : ℕ → List ℕ → ℕ → ℕ → ℕ
+chunksFrom zero s i h = h
+chunksFrom (suc k) s i h = chunksFrom k s (i + 8) (mixed h (eightAt s i))
+
+abbrev pub seedOf : List ℕ → ℕ
+seedOf s = bitXor 11400714819323198485 (length s)
+
+-- the last eight bytes of a longer spelling overlap with those before
+unfoldable pub bodyOf : List ℕ → ℕ
+bodyOf s =
+    elim (ltb (length s) 8) [
+      | true ↦ mixed (seedOf s) (fewOf s)
+      | false ↦ mixed (chunksFrom ((length s - 1) / 8) s 0 (seedOf s)) (eightAt s (length s - 8))
+    ]
+
+unfoldable pub hashOf : List ℕ → ℕ
+hashOf s = mixed (bodyOf s) 0
 
 -- the length and the hash of a spelling
 pub record Hashed (s : List ℕ) (size hash : ℕ) : Type 0 where

@@ -1,7 +1,7 @@
 // Finding a spelling among others. Spellings stand in a text, two numbers each in a room of places: offset and length. They are the
 // nodes of trees: the low bits of a spelling's hash choose the tree, further bits at each node one of its two branches. Links are
 // numbers of nodes, counted from 1, and 0 leads to none: first one for each tree, then two for each node. What is found does not depend
-// on the hash; it is a product and a fold of 64 bits at each byte, so that no short list of words has long branches.
+// on the hash; it takes eight bytes at a time, by two products and a fold of 64 bits, so that no short list of words has long branches.
 use grammar::reader::part;
 use spellings::wide_number;
 ghost use mathlib.Core.Path.{_≡_};
@@ -9,7 +9,7 @@ ghost use Prim.Native.Nat.{_+_, _*_, _≤_, _<_};
 ghost use lib.ListN.{length, drop};
 ghost use Rattle.spellings.specs.Bytes.{run, isWordByte, same};
 ghost use Rattle.lexicon.specs.Places.{wordAt, wordsIn};
-ghost use Rattle.lexicon.specs.Trees.{mixed, hashOf, Hashed, Planted, Searched, Linkable, linksWith};
+ghost use Rattle.lexicon.specs.Trees.{twoAt, fourAt, eightAt, fewOf, crossed, folded, mixed, chunksFrom, hashOf, Hashed, Planted, Searched, Linkable, linksWith};
 
 // Where a spelling is: it is the node of a number, or it is none and the link at an index is free for it.
 pub enum Spot {
@@ -23,31 +23,101 @@ pub struct Run {
     pub hash: u64,
 }
 
+// ---------------------------------------------------------------- the hash
+
 fn byte(b: u8) -> u64
-    ensures { λ r. ⌜ r ≡ b ⌝ }
+    ensures { λ r. ⌜ (r ≡ b) × (r < 256) ⌝ }
 {
     b as u64
 }
 
-// The hash with one byte more.
-fn mix(h: u64, b: u8) -> u64
-    ensures { λ r. ⌜ r ≡ mixed h b ⌝ }
+// Two bytes as one number, the first the lower.
+fn two(s: &[u8], i: usize) -> u64
+    requires { ⌜ i + 2 ≤ length (now s) ⌝ }
+    ensures { λ r. ⌜ (r ≡ twoAt (now (s .entry)) i) × (r < 65536) ⌝ }
 {
-    let p = ((h ^ byte(b)) % 4294967296) * 2654435761;
-    (p % 4294967296) * 4294967296 + ((h / 4294967296) ^ (p / 4294967296)) % 4294967296
+    byte(s[i]) + byte(s[i + 1]) * 256
+}
+
+// Four bytes.
+fn four(s: &[u8], i: usize) -> u64
+    requires { ⌜ i + 4 ≤ length (now s) ⌝ }
+    ensures { λ r. ⌜ (r ≡ fourAt (now (s .entry)) i) × (r < 4294967296) ⌝ }
+{
+    two(s, i) + two(s, i + 2) * 65536
+}
+
+// Eight bytes.
+fn eight(s: &[u8], i: usize) -> u64
+    requires { ⌜ i + 8 ≤ length (now s) ⌝ }
+    ensures { λ r. ⌜ r ≡ eightAt (now (s .entry)) i ⌝ }
+{
+    four(s, i) + four(s, i + 4) * 4294967296
+}
+
+// The bytes of a spelling of fewer than eight.
+fn few(s: &[u8]) -> u64
+    requires { ⌜ length (now s) < 8 ⌝ }
+    ensures { λ r. ⌜ r ≡ fewOf (now (s .entry)) ⌝ }
+{
+    let n = s.len();
+    if 4 <= n {
+        return four(s, 0) + four(s, n - 4) * 4294967296;
+    }
+    if n == 0 {
+        return 0;
+    }
+    byte(s[0]) + byte(s[n / 2]) * 256 + byte(s[n - 1]) * 4294967296
+}
+
+// The halves of a number, exchanged.
+fn cross(q: u64) -> u64
+    ensures { λ r. ⌜ r ≡ crossed q ⌝ }
+{
+    (q % 4294967296) * 4294967296 + q / 4294967296
+}
+
+// One round: both halves are multiplied, and each product falls on both halves.
+fn fold(y: u64) -> u64
+    ensures { λ r. ⌜ r ≡ folded y ⌝ }
+{
+    ((y % 4294967296) * 2654435761) ^ cross((y / 4294967296) * 2246822519)
+}
+
+// The hash with eight bytes more.
+fn mix(h: u64, x: u64) -> u64
+    ensures { λ r. ⌜ r ≡ mixed h x ⌝ }
+{
+    fold(h ^ x)
+}
+
+// The hash with k times eight bytes more, from the front.
+fn mix_front(s: &[u8], k: usize, start: u64) -> u64
+    requires { ⌜ k * 8 ≤ length (now s) ⌝ }
+    ensures { λ r. ⌜ r ≡ chunksFrom k (now (s .entry)) 0 start ⌝ }
+{
+    let mut h = start;
+    let mut i: usize = 0;
+    let mut left = k;
+    while 0 < left {
+        h = mix(h, eight(s, i));
+        i += 8;
+        left -= 1;
+    }
+    h
 }
 
 // The hash of a spelling.
 pub fn hash(s: &[u8]) -> u64
     ensures { λ r. ⌜ r ≡ hashOf (now (s .entry)) ⌝ }
 {
-    let mut h: u64 = 11400714819323198485;
-    let mut i: usize = 0;
-    while i < s.len() {
-        h = mix(h, s[i]);
-        i += 1;
+    let n = s.len();
+    let start = 11400714819323198485 ^ n as u64;
+    if n < 8 {
+        return mix(mix(start, few(s)), 0);
     }
-    mix(h, 0)
+    let front = mix_front(s, (n - 1) / 8, start);
+    mix(mix(front, eight(s, n - 8)), 0)
 }
 
 // The run of word bytes at an offset.
@@ -55,26 +125,14 @@ pub fn word_at(s: &[u8], at: usize) -> Run
     requires { ⌜ at ≤ length (now s) ⌝ }
     ensures { λ r. ⌜ Hashed (run isWordByte (drop at (now (s .entry)))) (r .size) (r .hash) ⌝ }
 {
-    let mut h: u64 = 11400714819323198485;
-    let mut i = at;
-    while i < s.len() {
-        let b = s[i];
-        let goes = spellings::is_word_byte(b);
-        if goes {
-            h = mix(h, b);
-            i += 1;
-        } else {
-            return Run {
-                size: i - at,
-                hash: mix(h, 0),
-            };
-        }
-    }
+    let size = spellings::word_run(&s[at..]);
     Run {
-        size: i - at,
-        hash: mix(h, 0),
+        size,
+        hash: hash(part(s, at, size)),
     }
 }
+
+// ---------------------------------------------------------------- trees
 
 // Whether spelling i of a text is s.
 fn is_spelled(text: &[u8], places: &[u32], i: usize, s: &[u8]) -> bool

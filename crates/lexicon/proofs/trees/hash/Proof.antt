@@ -1,55 +1,50 @@
--- `hash`: what is left has the hash of the whole.
-use Prim.Native.Nat.{_-_}
-use mathlib.Core.Path.{refl}
-use lib.ListN.{length}
+-- `hash`: few bytes at once, or eight at a time.
+use Rattle.lexicon.proofs.HashLaws as laws
 use borrow.Author.Needs.{needs}
-use Rattle.lexicon.proofs.TreeLaws as laws
 use Rattle.lexicon.proofs.trees.hash.Statement.{statement}
 use Rattle.lexicon.proofs.trees.hash.Tie as tie
 
-abbrev Inv-loop : tie.InvT-loop
-Inv-loop s h₀ i₀ h i = laws.Hashing s i h
+few-requires : tie.Need-few-requires
+few-requires c κs = search needs
 
-abbrev μ-loop : tie.MeasureT-loop
-μ-loop s h₀ i₀ h i = length s - i
-
-loop-holds : tie.Need-loop-holds Inv-loop μ-loop
-loop-holds c = record { rest = refl }
-
-shared-slice-read-mix : tie.Need-shared-slice-read-mix Inv-loop μ-loop
-shared-slice-read-mix c = search needs
-
-mix-requires : tie.Need-mix-requires Inv-loop μ-loop
+mix-requires : tie.Need-mix-requires
 mix-requires c κs = search needs
 
-add-i : tie.Need-add-i Inv-loop μ-loop
-add-i c = search needs
-
-loop-less : tie.Need-loop-less Inv-loop μ-loop
-loop-less c = search needs
-
-loop-again : tie.Need-loop-again Inv-loop μ-loop
-loop-again c =
-    let turn-test = c .before .before in
-    laws.hashing-next (turn-test .before .loop .inv) (c .mix .ensures) (turn-test .loop-test .taken)
-
-mix-requires-2 : tie.Need-mix-requires-2 Inv-loop μ-loop
+mix-requires-2 : tie.Need-mix-requires-2
 mix-requires-2 c κs = search needs
 
-returns : tie.Need-returns Inv-loop μ-loop
-returns c = laws.hashing-end (c .before .before .loop .inv) (c .mix2 .ensures) (c .before .loop-test .left)
+returns : tie.Need-returns
+returns c = search laws.hash-few
+
+sub-mix-front : tie.Need-sub-mix-front
+sub-mix-front c = search needs
+
+mix-front-requires : tie.Need-mix-front-requires
+mix-front-requires c κs = search needs
+
+eight-requires : tie.Need-eight-requires
+eight-requires c κs = search needs
+
+mix-requires-3 : tie.Need-mix-requires-3
+mix-requires-3 c κs = search needs
+
+mix-requires-4 : tie.Need-mix-requires-4
+mix-requires-4 c κs = search needs
+
+returns-2 : tie.Need-returns-2
+returns-2 c = search laws.hash-long
 
 pub hash-spec : {M : Type 1} → statement M
 hash-spec =
     tie.close
     (tie.spec
-    Inv-loop
-    μ-loop
-    loop-holds
-    shared-slice-read-mix
+    few-requires
     mix-requires
-    add-i
-    loop-less
-    loop-again
     mix-requires-2
-    returns)
+    returns
+    sub-mix-front
+    mix-front-requires
+    eight-requires
+    mix-requires-3
+    mix-requires-4
+    returns-2)

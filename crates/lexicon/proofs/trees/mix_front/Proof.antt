@@ -1,0 +1,51 @@
+-- `mix_front`: what is left gives what the whole gives.
+use Rattle.lexicon.proofs.HashLaws as laws
+use native.Mathlib.Omega.{arith}
+use borrow.Author.Needs.{needs}
+use Rattle.lexicon.proofs.trees.mix_front.Statement.{statement}
+use Rattle.lexicon.proofs.trees.mix_front.Tie as tie
+
+abbrev Inv-loop : tie.InvT-loop
+Inv-loop s k start h₀ i₀ left₀ h i left = laws.Chunking s k start h i left
+
+abbrev μ-loop : tie.MeasureT-loop
+μ-loop s k start h₀ i₀ left₀ h i left = left
+
+loop-holds : tie.Need-loop-holds Inv-loop μ-loop
+loop-holds c = search laws.chunking-start
+
+eight-requires : tie.Need-eight-requires Inv-loop μ-loop
+eight-requires c κs = omega (arith, c .before .loop .inv .within)
+
+mix-requires : tie.Need-mix-requires Inv-loop μ-loop
+mix-requires c κs = search needs
+
+add-i : tie.Need-add-i Inv-loop μ-loop
+add-i c = search needs
+
+sub-left : tie.Need-sub-left Inv-loop μ-loop
+sub-left c = search needs
+
+loop-less : tie.Need-loop-less Inv-loop μ-loop
+loop-less c = search needs
+
+loop-again : tie.Need-loop-again Inv-loop μ-loop
+loop-again c = search laws.chunking-next
+
+returns : tie.Need-returns Inv-loop μ-loop
+returns c = laws.chunking-end (c .before .loop .inv) (c .loop-test .left)
+
+pub mix-front-spec : {M : Type 1} → statement M
+mix-front-spec =
+    tie.close
+    (tie.spec
+    Inv-loop
+    μ-loop
+    loop-holds
+    eight-requires
+    mix-requires
+    add-i
+    sub-left
+    loop-less
+    loop-again
+    returns)
