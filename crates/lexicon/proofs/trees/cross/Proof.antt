@@ -13,5 +13,6 @@ add-result c = record { fits = laws.crossed-fits _ (search needs) }
 returns : tie.Need-returns
 returns c = search needs
 
+-- the function meets its contract
 pub cross-spec : {M : Type 1} → statement M
 cross-spec = tie.close (tie.spec mul-result add-result returns)

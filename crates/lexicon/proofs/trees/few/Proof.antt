@@ -58,6 +58,7 @@ add-result-3 c = search needs
 returns-3 : tie.Need-returns-3
 returns-3 c = laws.few-three _ (search needs) (search needs) (search needs) (search needs)
 
+-- the function meets its contract
 pub few-spec : {M : Type 1} → statement M
 few-spec =
     tie.close

@@ -15,5 +15,6 @@ cross-requires c κs = search needs
 returns : tie.Need-returns
 returns c = cc (c .cross .ensures)
 
+-- the function meets its contract
 pub fold-spec : {M : Type 1} → statement M
 fold-spec = tie.close (tie.spec mul-result mul-cross cross-requires returns)

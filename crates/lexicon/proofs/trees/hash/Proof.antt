@@ -34,6 +34,7 @@ mix-requires-4 c κs = search needs
 returns-2 : tie.Need-returns-2
 returns-2 c = search laws.hash-long
 
+-- the function meets its contract
 pub hash-spec : {M : Type 1} → statement M
 hash-spec =
     tie.close

@@ -35,6 +35,7 @@ loop-again c = search laws.chunking-next
 returns : tie.Need-returns Inv-loop μ-loop
 returns c = laws.chunking-end (c .before .loop .inv) (c .loop-test .left)
 
+-- the function meets its contract
 pub mix-front-spec : {M : Type 1} → statement M
 mix-front-spec =
     tie.close

@@ -25,6 +25,7 @@ hash-requires c κs = search needs
 returns : tie.Need-returns
 returns c = search laws.run-hashed
 
+-- the function meets its contract
 pub word-at-spec : {M : Type 1} → statement M
 word-at-spec =
     tie.close
