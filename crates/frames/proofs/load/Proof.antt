@@ -41,10 +41,10 @@ loop-less : tie.Need-loop-less Inv-loop μ-loop
 loop-less c = search needs
 
 loop-again : tie.Need-loop-again Inv-loop μ-loop
-loop-again c = laws.loading-next (c .before .before .loop .inv) (c .before .loop-test .taken)
+loop-again c = search laws.loading-next
 
 returns : tie.Need-returns Inv-loop μ-loop
-returns c = laws.loading-end (c .before .loop .inv) (c .loop-test .left)
+returns c = search laws.loading-end
 
 -- the function meets its contract
 pub load-spec : {M : Type 1} → statement M

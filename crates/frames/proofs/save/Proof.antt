@@ -77,10 +77,7 @@ same-length : tie.Need-same-length Inv-loop μ-loop
 same-length c = search needs
 
 returns : tie.Need-returns Inv-loop μ-loop
-returns c =
-    let l = c .before in
-    let entry = l .before in
-    laws.saving-end (l .loop .inv) (c .loop-test .left) (entry .pre .0 .inside) (entry .args .count) (entry .args .next)
+returns c = search laws.saving-end
 
 -- the function meets its contract
 pub save-spec : {M : Type 1} → statement M

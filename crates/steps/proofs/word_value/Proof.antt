@@ -8,10 +8,10 @@ add-result : tie.Need-add-result
 add-result c = search needs
 
 returns : tie.Need-returns
-returns c = laws.label-value (c .before .args .sort) (c .before .args .v) (c .if1 .taken)
+returns c = search laws.label-value
 
 returns-2 : tie.Need-returns-2
-returns-2 c = laws.name-value (c .before .args .sort) (c .before .args .v) (c .if1 .left)
+returns-2 c = search laws.name-value
 
 -- the function meets its contract
 pub word-value-spec : {M : Type 1} → statement M

@@ -8,10 +8,10 @@ next-place-requires : tie.Need-next-place-requires
 next-place-requires c κs = search needs
 
 returns : tie.Need-returns
-returns c = laws.after-on (c .before .before .args .room .now) _ (c .before .next-place .ensures) (c .if1 .taken)
+returns c = search laws.after-on
 
 returns-2 : tie.Need-returns-2
-returns-2 c = laws.after-end (c .before .before .args .room .now) _ (c .before .next-place .ensures) (c .if1 .left)
+returns-2 c = search laws.after-end
 
 -- the function meets its contract
 pub after-spec : {M : Type 1} → statement M

@@ -41,7 +41,7 @@ after-requires : tie.Need-after-requires Inv-loop2 μ-loop2 Inv-loop μ-loop Inv
 after-requires c κs = search needs
 
 loop2-holds : tie.Need-loop2-holds Inv-loop2 μ-loop2 Inv-loop μ-loop Inv-search μ-search
-loop2-holds c = laws.column-start (c .before .before .loop .inv) (c .before .loop-test .taken) (c .after .ensures)
+loop2-holds c = search laws.column-start
 
 clash-requires : tie.Need-clash-requires Inv-loop2 μ-loop2 Inv-loop μ-loop Inv-search μ-search
 clash-requires c κs = search needs
@@ -50,23 +50,19 @@ after-requires-2 : tie.Need-after-requires-2 Inv-loop2 μ-loop2 Inv-loop μ-loop
 after-requires-2 c κs = search needs
 
 loop2-less : tie.Need-loop2-less Inv-loop2 μ-loop2 Inv-loop μ-loop Inv-search μ-search
-loop2-less c = laws.column-less (c .before .before .before .before .loop2 .inv) (c .before .before .before .loop2-test .taken) (c .after2 .ensures)
+loop2-less c = search laws.column-less
 
 loop2-again : tie.Need-loop2-again Inv-loop2 μ-loop2 Inv-loop μ-loop Inv-search μ-search
-loop2-again c =
-    let tested = c .before .before .before in
-    laws.column-next (tested .before .loop2 .inv) (tested .loop2-test .taken) (c .before .before .clash .ensures) (c .before .if1 .left) (c .after2 .ensures)
+loop2-again c = search laws.column-next
 
 after-requires-3 : tie.Need-after-requires-3 Inv-loop2 μ-loop2 Inv-loop μ-loop Inv-search μ-search
 after-requires-3 c κs = search needs
 
 loop-less : tie.Need-loop-less Inv-loop2 μ-loop2 Inv-loop μ-loop Inv-search μ-search
-loop-less c =
-    let tested = c .before .before .before .before in
-    laws.row-less (tested .before .loop .inv) (tested .loop-test .taken) (c .after3 .ensures)
+loop-less c = search laws.row-less
 
 loop-again : tie.Need-loop-again Inv-loop2 μ-loop2 Inv-loop μ-loop Inv-search μ-search
-loop-again c = laws.column-end (c .before .before .loop2 .inv) (c .before .loop2-test .left) (c .after3 .ensures)
+loop-again c = search laws.column-end
 
 add-n : tie.Need-add-n Inv-loop2 μ-loop2 Inv-loop μ-loop Inv-search μ-search
 add-n c = search needs

@@ -47,7 +47,7 @@ loop-again c =
     (laws.reach-is _ (c .before .before .set-at .ensures) (c .before .has .ensures) ∙ c .if1 .left)
 
 returns-2 : tie.Need-returns-2 Inv-loop μ-loop
-returns-2 c = laws.lowest-end (c .before .loop .inv) (c .loop-test .left)
+returns-2 c = search laws.lowest-end
 
 -- the function meets its contract
 pub left-recursive-spec : {M : Type 1} → statement M

@@ -29,7 +29,7 @@ after-requires : tie.Need-after-requires Inv-loop2 μ-loop2 Inv-loop μ-loop
 after-requires c κs = search needs
 
 loop2-holds : tie.Need-loop2-holds Inv-loop2 μ-loop2 Inv-loop μ-loop
-loop2-holds c = laws.join-column-start (c .before .before .loop .inv) (c .before .loop-test .taken) (c .after .ensures)
+loop2-holds c = search laws.join-column-start
 
 shared-by-requires : tie.Need-shared-by-requires Inv-loop2 μ-loop2 Inv-loop μ-loop
 shared-by-requires c κs = search needs
@@ -41,27 +41,22 @@ after-requires-2 : tie.Need-after-requires-2 Inv-loop2 μ-loop2 Inv-loop μ-loop
 after-requires-2 c κs = search needs
 
 loop2-less : tie.Need-loop2-less Inv-loop2 μ-loop2 Inv-loop μ-loop
-loop2-less c = laws.join-column-less (c .before .before .before .before .loop2 .inv) (c .before .before .before .loop2-test .taken) (c .after2 .ensures)
+loop2-less c = search laws.join-column-less
 
 loop2-again : tie.Need-loop2-again Inv-loop2 μ-loop2 Inv-loop μ-loop
-loop2-again c =
-    let tested = c .before .before .before in
-    laws.join-column-next (tested .before .loop2 .inv) (tested .loop2-test .taken) (c .before .before .shared-by .ensures) (c .before .join .ensures)
-    (c .after2 .ensures)
+loop2-again c = search laws.join-column-next
 
 after-requires-3 : tie.Need-after-requires-3 Inv-loop2 μ-loop2 Inv-loop μ-loop
 after-requires-3 c κs = search needs
 
 loop-less : tie.Need-loop-less Inv-loop2 μ-loop2 Inv-loop μ-loop
-loop-less c =
-    let tested = c .before .before .before .before in
-    laws.join-row-less (tested .before .loop .inv) (tested .loop-test .taken) (c .after3 .ensures)
+loop-less c = search laws.join-row-less
 
 loop-again : tie.Need-loop-again Inv-loop2 μ-loop2 Inv-loop μ-loop
-loop-again c = laws.join-column-end (c .before .before .loop2 .inv) (c .before .loop2-test .left) (c .after3 .ensures)
+loop-again c = search laws.join-column-end
 
 returns : tie.Need-returns Inv-loop2 μ-loop2 Inv-loop μ-loop
-returns c = laws.join-row-end (c .before .loop .inv) (c .loop-test .left)
+returns c = search laws.join-row-end
 
 -- the function meets its contract
 pub shared-spec : {M : Type 1} → statement M

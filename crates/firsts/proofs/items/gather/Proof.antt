@@ -83,7 +83,7 @@ found-requires-3 : tie.Need-found-requires-3 Inv-loop μ-loop
 found-requires-3 c κs = search needs
 
 returns-3 : tie.Need-returns-3 Inv-loop μ-loop
-returns-3 c = laws.walk-end (c .before .before .loop .inv) (c .before .loop-test .left) (c .found3 .ensures)
+returns-3 c = search laws.walk-end
 
 -- the function meets its contract
 pub gather-spec : {M : Type 1} → statement M

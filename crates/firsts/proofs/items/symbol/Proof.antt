@@ -23,9 +23,7 @@ returns-4 : tie.Need-returns-4
 returns-4 c = laws.symbol-is _ _ _ 4 (c .before .before .byte .ensures) (c .before .byte2 .ensures) (c .match .keys4)
 
 returns-5 : tie.Need-returns-5
-returns-5 c =
-    let none = c .match .rest .0 .0 in
-    laws.symbol-other _ _ _ (c .before .before .byte .ensures) (c .before .byte2 .ensures) (none .0 .1) (none .1) (c .match .rest .0 .1) (c .match .rest .1)
+returns-5 c = search laws.symbol-other
 
 -- the function meets its contract
 pub symbol-spec : {M : Type 1} → statement M

@@ -12,7 +12,7 @@ abbrev μ-loop : tie.MeasureT-loop
 μ-loop table owners starts m whose₀ needs₀ none k₀ j₀ whose needs k j = m - j
 
 loop-holds : tie.Need-loop-holds Inv-loop μ-loop
-loop-holds c = laws.holding-start _ _ _ _ (c .before .before .before .before .before .pre)
+loop-holds c = search laws.holding-start
 
 byte-requires : tie.Need-byte-requires Inv-loop μ-loop
 byte-requires c κs = search needs
@@ -48,12 +48,7 @@ loop-less : tie.Need-loop-less Inv-loop μ-loop
 loop-less c = search needs
 
 loop-again : tie.Need-loop-again Inv-loop μ-loop
-loop-again c =
-    let got = c .before in
-    let offset = got .before .before .before in
-    let tested = offset .before .before in
-    laws.holding-held (tested .before .loop .inv) (tested .loop-test .taken) (offset .before .byte .ensures) (offset .offset .ensures)
-    (got .gather .ensures) (c .if1 .taken)
+loop-again c = search laws.holding-held
 
 add-j-2 : tie.Need-add-j-2 Inv-loop μ-loop
 add-j-2 c = search needs
@@ -62,12 +57,7 @@ loop-less-2 : tie.Need-loop-less-2 Inv-loop μ-loop
 loop-less-2 c = search needs
 
 loop-again-2 : tie.Need-loop-again-2 Inv-loop μ-loop
-loop-again-2 c =
-    let got = c .before in
-    let offset = got .before .before .before in
-    let tested = offset .before .before in
-    laws.holding-other (tested .before .loop .inv) (tested .loop-test .taken) (offset .before .byte .ensures) (offset .offset .ensures)
-    (got .gather .ensures) (c .if1 .left)
+loop-again-2 c = search laws.holding-other
 
 same-length : tie.Need-same-length Inv-loop μ-loop
 same-length c = c .before .loop .inv .whose-many
@@ -76,7 +66,7 @@ same-length-2 : tie.Need-same-length-2 Inv-loop μ-loop
 same-length-2 c = c .before .loop .inv .needs-many
 
 returns : tie.Need-returns Inv-loop μ-loop
-returns c = laws.holding-end (c .before .loop .inv) (c .loop-test .left)
+returns c = search laws.holding-end
 
 -- the function meets its contract
 pub needs-of-spec : {M : Type 1} → statement M

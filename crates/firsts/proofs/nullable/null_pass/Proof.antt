@@ -33,14 +33,10 @@ loop-less : tie.Need-loop-less Inv-loop μ-loop
 loop-less c = search needs
 
 loop-again : tie.Need-loop-again Inv-loop μ-loop
-loop-again c =
-    let placed = c .before .before .before in
-    let tested = placed .before in
-    laws.passing-next (tested .before .loop .inv) (tested .loop-test .taken) (placed .step-place .ensures) (c .before .before .byte .ensures)
-    (c .before .set-at .ensures) (c .null-step .ensures)
+loop-again c = search laws.passing-next
 
 returns : tie.Need-returns Inv-loop μ-loop
-returns c = laws.passing-end (c .before .loop .inv) (c .loop-test .left)
+returns c = search laws.passing-end
 
 -- the function meets its contract
 pub null-pass-spec : {M : Type 1} → statement M

@@ -14,10 +14,10 @@ join-requires-2 : tie.Need-join-requires-2
 join-requires-2 c κs = search needs
 
 returns : tie.Need-returns
-returns c = laws.need-taken _ _ _ (c .before .before .before .join .ensures) (c .before .before .if1 .taken) (c .before .only .ensures) (c .join2 .ensures)
+returns c = search laws.need-taken
 
 returns-2 : tie.Need-returns-2
-returns-2 c = laws.need-left _ _ _ (c .before .join .ensures) (c .if1 .left)
+returns-2 c = search laws.need-left
 
 -- the function meets its contract
 pub null-step-spec : {M : Type 1} → statement M

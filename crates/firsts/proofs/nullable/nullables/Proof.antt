@@ -36,14 +36,10 @@ null-pass-requires : tie.Need-null-pass-requires Inv-loop μ-loop
 null-pass-requires c κs = search needs
 
 returns : tie.Need-returns Inv-loop μ-loop
-returns c =
-    let looped = c .before .before .before .before in
-    laws.found-stop (looped .before .before .before .needs-of .ensures) (looped .loop .inv) (looped .loop .down) (c .before .null-pass .ensures) (c .if1 .taken)
+returns c = search laws.found-stop
 
 loop-less : tie.Need-loop-less Inv-loop μ-loop
-loop-less c =
-    let looped = c .before .before .before .before in
-    laws.found-less (looped .before .before .before .needs-of .ensures) (looped .loop .inv) (looped .loop .down) (c .before .null-pass .ensures) (c .if1 .left)
+loop-less c = search laws.found-less
 
 loop-again : tie.Need-loop-again Inv-loop μ-loop
 loop-again c =

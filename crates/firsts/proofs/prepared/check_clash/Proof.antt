@@ -23,14 +23,10 @@ refuse-requires : tie.Need-refuse-requires
 refuse-requires c κs = search needs
 
 returns : tie.Need-returns
-returns c =
-    let tested = c .before .before .before in
-    let entry = tested .before .before in
-    laws.clash-refused (entry .args .room .now) (tested .before .clashing .ensures) (tested .if1 .taken) (c .before .before .shared .ensures)
-    (c .before .lowest .ensures) (c .refuse .ensures)
+returns c = search laws.clash-refused
 
 returns-2 : tie.Need-returns-2
-returns-2 c = laws.clash-passed (c .before .before .args .room .now) (c .before .clashing .ensures) (c .if1 .left)
+returns-2 c = search laws.clash-passed
 
 -- the function meets its contract
 pub check-clash-spec : {M : Type 1} → statement M

@@ -29,9 +29,7 @@ begin-requires : tie.Need-begin-requires Inv-loop μ-loop
 begin-requires c κs = search needs
 
 loop-holds : tie.Need-loop-holds Inv-loop μ-loop
-loop-holds c =
-    let b = c .before .before in
-    laws.fill-start (entry b .pre) _ (b .begin .ensures)
+loop-holds c = search laws.fill-start
 
 sub-j : tie.Need-sub-j Inv-loop μ-loop
 sub-j c = search needs
@@ -73,9 +71,7 @@ same-length : tie.Need-same-length Inv-loop μ-loop
 same-length c = c .before .loop .inv .size ∙ sym (entry (began (c .before)) .pre .lent .size)
 
 returns : tie.Need-returns Inv-loop μ-loop
-returns c =
-    let b = began (c .before) in
-    laws.fill-end (entry b .pre) _ (b .begin .ensures) (c .before .loop .inv) (c .loop-test .left)
+returns c = search laws.fill-end
 
 -- the function meets its contract
 pub fill-spec : {M : Type 1} → statement M

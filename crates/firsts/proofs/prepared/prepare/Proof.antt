@@ -11,7 +11,7 @@ sets-of-requires : tie.Need-sets-of-requires
 sets-of-requires c κs = search needs
 
 slice-aggregate-fill : tie.Need-slice-aggregate-fill
-slice-aggregate-fill c = laws.kinds-size (c .before .sets-of .ensures)
+slice-aggregate-fill c = search laws.kinds-size
 
 fill-requires : tie.Need-fill-requires
 fill-requires c κs =
@@ -21,17 +21,13 @@ fill-requires c κs =
     record { index = entry .pre; lent = record { size = c .fill-arg .given .0 .1; many = laws.kinds-many (computed .sets-of .ensures) } }
 
 slice-aggregate-left-recursive : tie.Need-slice-aggregate-left-recursive
-slice-aggregate-left-recursive c = laws.calls-size (c .before .before .before .before .sets-of .ensures)
+slice-aggregate-left-recursive c = search laws.calls-size
 
 left-recursive-requires : tie.Need-left-recursive-requires
 left-recursive-requires c κs = search needs
 
 returns : tie.Need-returns
-returns c =
-    let filled = c .before .before in
-    let computed = filled .before .before .before in
-    laws.prepared _ _ (computed .before .before .before .before .before .nullables .ensures) (computed .sets-of .ensures) (filled .fill .ensures)
-    (c .left-recursive .ensures)
+returns c = search laws.prepared
 
 -- the function meets its contract
 pub prepare-spec : {M : Type 1} → statement M

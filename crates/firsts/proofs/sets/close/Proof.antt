@@ -42,10 +42,7 @@ loop-less : tie.Need-loop-less Inv-loop μ-loop
 loop-less c = search needs
 
 loop-again : tie.Need-loop-again Inv-loop μ-loop
-loop-again c =
-    let taken = c .before .before .before .before in
-    let looped = taken .before .before .before .before in
-    laws.both-next (counted (looped .before) .used .ensures) (looped .loop .inv) (taken .take-callee .ensures)
+loop-again c = search laws.both-next
 
 same-length : tie.Need-same-length Inv-loop μ-loop
 same-length c = c .before .loop .inv .calls-closed .as-many
@@ -54,9 +51,7 @@ same-length-2 : tie.Need-same-length-2 Inv-loop μ-loop
 same-length-2 c = c .before .loop .inv .kinds-closed .as-many
 
 returns : tie.Need-returns Inv-loop μ-loop
-returns c =
-    let from = c .before .before in
-    laws.both-end (counted from .used .ensures) (c .before .loop .inv) (from .before .used2 .ensures) (from .larger .ensures) (c .loop-test .left)
+returns c = search laws.both-end
 
 -- the function meets its contract
 pub close-spec : {M : Type 1} → statement M

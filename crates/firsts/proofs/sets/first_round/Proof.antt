@@ -30,11 +30,7 @@ loop-less : tie.Need-loop-less Inv-loop μ-loop
 loop-less c = search needs
 
 loop-again : tie.Need-loop-again Inv-loop μ-loop
-loop-again c =
-    let stepped = c .before .before .before .before in
-    let got = stepped .before .before .before in
-    let tested = got .before .before in
-    laws.joining-next (tested .before .loop .inv) (tested .loop-test .taken) (got .before .byte .ensures) (got .offset .ensures) (stepped .first-step .ensures)
+loop-again c = search laws.joining-next
 
 same-length : tie.Need-same-length Inv-loop μ-loop
 same-length c = c .before .loop .inv .kinds-many
@@ -43,7 +39,7 @@ same-length-2 : tie.Need-same-length-2 Inv-loop μ-loop
 same-length-2 c = c .before .loop .inv .calls-many
 
 returns : tie.Need-returns Inv-loop μ-loop
-returns c = laws.joining-end (c .before .loop .inv) (c .loop-test .left)
+returns c = search laws.joining-end
 
 -- the function meets its contract
 pub first-round-spec : {M : Type 1} → statement M

@@ -20,12 +20,7 @@ same-length-2 : tie.Need-same-length-2
 same-length-2 c = search needs
 
 returns : tie.Need-returns
-returns c =
-    let second = c .before .before in
-    let first = second .before .before .before .before in
-    let gathered = first .before .before in
-    let entry = gathered .before .before .before .before .before .before in
-    laws.step-is _ (entry .args .table .now) _ _ _ _ (gathered .gather .ensures) (first .join-at .ensures) (second .join-at2 .ensures)
+returns c = search laws.step-is
 
 -- the function meets its contract
 pub first-step-spec : {M : Type 1} → statement M

@@ -12,7 +12,7 @@ close-requires : tie.Need-close-requires
 close-requires c κs = laws.round-lent (c .before .before .first-round .ensures)
 
 returns : tie.Need-returns
-returns c = closed.closed-sets _ _ (c .before .before .before .first-round .ensures) (c .close .ensures)
+returns c = search closed.closed-sets
 
 -- the function meets its contract
 pub sets-of-spec : {M : Type 1} → statement M

@@ -18,7 +18,7 @@ set-at-requires-2 : tie.Need-set-at-requires-2 Inv-loop μ-loop
 set-at-requires-2 c κs = search needs
 
 loop-holds : tie.Need-loop-holds Inv-loop μ-loop
-loop-holds c = laws.taking-start _ (c .before .before .before .before .before .before .pre)
+loop-holds c = search laws.taking-start
 
 cast-i : tie.Need-cast-i Inv-loop μ-loop
 cast-i c = search needs
@@ -74,7 +74,7 @@ same-length-2 : tie.Need-same-length-2 Inv-loop μ-loop
 same-length-2 c = c .before .loop .inv .taken .kinds-joined .as-many
 
 returns : tie.Need-returns Inv-loop μ-loop
-returns c = laws.taking-end (c .before .loop .inv) (c .loop-test .left)
+returns c = search laws.taking-end
 
 -- the function meets its contract
 pub take-callee-spec : {M : Type 1} → statement M

@@ -36,12 +36,10 @@ loop-less : tie.Need-loop-less Inv-loop μ-loop
 loop-less c = search needs
 
 loop-again : tie.Need-loop-again Inv-loop μ-loop
-loop-again c =
-    let tested = c .before .before in
-    laws.used-next (tested .before .loop .inv) (tested .loop-test .taken) (c .if1 .left)
+loop-again c = search laws.used-next
 
 returns-2 : tie.Need-returns-2 Inv-loop μ-loop
-returns-2 c = laws.used-end (c .before .loop .inv) (c .loop-test .left)
+returns-2 c = search laws.used-end
 
 -- the function meets its contract
 pub used-spec : {M : Type 1} → statement M

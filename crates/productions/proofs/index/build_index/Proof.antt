@@ -38,7 +38,7 @@ module _ (p : tie.After-known-told Inv-loop μ-loop) where
   less = laws.building-less (looped .loop .inv) field
 
 loop-holds : tie.Need-loop-holds Inv-loop μ-loop
-loop-holds c = laws.building-start _ _ _ (c .before .pre)
+loop-holds c = search laws.building-start
 
 front-at-requires : tie.Need-front-at-requires Inv-loop μ-loop
 front-at-requires c κs = search needs
@@ -137,7 +137,7 @@ loop-again-3 c =
     laws.building-other (looped p .loop .inv) (field p) (c .before .if1 .left) (c .if2 .left)
 
 returns-3 : tie.Need-returns-3 Inv-loop μ-loop
-returns-3 c = laws.building-end (c .before .loop .inv) (c .loop-test .left)
+returns-3 c = search laws.building-end
 
 -- the function meets its contract
 pub build-index-spec : {M : Type 1} → statement M

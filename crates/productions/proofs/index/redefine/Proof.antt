@@ -20,17 +20,10 @@ same-length-2 : tie.Need-same-length-2
 same-length-2 c = search needs
 
 returns : tie.Need-returns
-returns c =
-    let called = c .before .before .before .before in
-    let tested = called .before .before .before .before in
-    let entry = tested .before .before .before .before .before .args in
-    laws.redefine-update (entry .head .now) (entry .owners .now) (entry .starts .now) (tested .before .byte .ensures) (tested .if1 .taken)
-    (called .before .before .before .byte2 .ensures) (called .without .ensures)
+returns c = search laws.redefine-update
 
 returns-2 : tie.Need-returns-2
-returns-2 c =
-    let entry = c .before .before .before .before .before .args in
-    laws.redefine-other (entry .head .now) (entry .owners .now) (entry .starts .now) (c .before .byte .ensures) (c .if1 .left)
+returns-2 c = search laws.redefine-other
 
 -- the function meets its contract
 pub redefine-spec : {M : Type 1} → statement M

@@ -51,13 +51,13 @@ loop-less : tie.Need-loop-less Inv-loop μ-loop
 loop-less c = search needs
 
 loop-again : tie.Need-loop-again Inv-loop μ-loop
-loop-again c = laws.beginning-next (c .before .before .loop .inv) (c .before .loop-test .taken)
+loop-again c = search laws.beginning-next
 
 same-length : tie.Need-same-length Inv-loop μ-loop
 same-length c = c .before .loop .inv .size ∙ sym (c .before .before .pre .size)
 
 returns : tie.Need-returns Inv-loop μ-loop
-returns c = laws.beginning-end _ (c .before .before .args .room .now) (c .before .loop .inv) (c .loop-test .left)
+returns c = search laws.beginning-end
 
 -- the function meets its contract
 pub begin-spec : {M : Type 1} → statement M

@@ -59,15 +59,7 @@ same-length c =
     decimal-at-place .decimal-at .ensures .same ∙ at-byte-at .byte-at .ensures .same
 
 returns : tie.Need-returns
-returns c =
-    let decimal-at-place = after-decimal-at c in
-    let wide-place = decimal-at-place .before in
-    let at-byte-at = after-byte-at wide-place in
-    let at-if1 = then1 at-byte-at in
-    let entry = at-start′ at-if1 in
-    pieces.go-last (pieces.go-next
-    (laws.new-name (entry .args .out .now) (entry .pre) (at-if1 .if1 .taken) (wide-place .wide .ensures))
-    (at-byte-at .byte-at .ensures)) (decimal-at-place .decimal-at .ensures)
+returns c = search (pieces.go-last, pieces.go-next, laws.new-name)
 
 slice-aggregate-copy-at : tie.Need-slice-aggregate-copy-at
 slice-aggregate-copy-at c = search needs
@@ -88,12 +80,7 @@ same-length-2 : tie.Need-same-length-2
 same-length-2 c = (after-copy-at c) .copy-at .ensures .same
 
 returns-2 : tie.Need-returns-2
-returns-2 c =
-    let copy-at-place = after-copy-at c in
-    let at-if2 = then2 (copy-at-place .before) in
-    let at-if1 = at-if2 .before in
-    let entry = at-start at-if1 in
-    pieces.as-text (laws.fresh-name (entry .pre) (at-if1 .if1 .left) (at-if2 .if2 .taken)) (copy-at-place .copy-at .ensures)
+returns-2 c = search (pieces.as-text, laws.fresh-name)
 
 spelling-requires : tie.Need-spelling-requires
 spelling-requires c κs = search needs

@@ -59,12 +59,7 @@ same-length : tie.Need-same-length
 same-length c = (after-copy-at c) .copy-at .ensures .same
 
 returns : tie.Need-returns
-returns c =
-    let copy-at-place = after-copy-at c in
-    let at-if1 = then1 (copy-at-place .before) in
-    let entry = at-start′ at-if1 in
-    pieces.go-last (laws.open-shallow-fields (entry .args .out .now) (entry .pre) (at-if1 .if1 .taken))
-    (copy-at-place .copy-at .ensures)
+returns c = search (pieces.go-last, laws.open-shallow-fields)
 
 column-requires : tie.Need-column-requires
 column-requires c κs = search needs
@@ -147,14 +142,7 @@ same-length-3 : tie.Need-same-length-3
 same-length-3 c = (after-copy-at3 c) .copy-at3 .ensures .same
 
 returns-3 : tie.Need-returns-3
-returns-3 c =
-    let copy-at3-place = after-copy-at3 c in
-    let at-if2 = else2 (copy-at3-place .before) in
-    let at-column = at-if2 .before in
-    let at-if1 = else1 at-column in
-    let entry = at-start at-if1 in
-    pieces.go-last (laws.open-nil (entry .args .out .now) (entry .pre) (at-if1 .if1 .left) (at-column .column .ensures) (at-if2 .if2 .left))
-    (copy-at3-place .copy-at3 .ensures)
+returns-3 c = search (pieces.go-last, laws.open-nil)
 
 -- the function meets its contract
 pub open-fields-spec : {M : Type 1} → statement M

@@ -38,12 +38,7 @@ same-length c =
     number-at-place .number-at .ensures .same ∙ at-copy-at .copy-at .ensures .same
 
 returns : tie.Need-returns
-returns c =
-    let number-at-place = after-number-at c in
-    let at-copy-at = after-copy-at (number-at-place .before) in
-    let entry = at-start (at-copy-at .before) in
-    pieces.go-last (pieces.go-next (laws.open-number (entry .args .out .now) (entry .args .n)) (at-copy-at .copy-at .ensures))
-    (number-at-place .number-at .ensures)
+returns c = search (pieces.go-last, pieces.go-next, laws.open-number)
 
 -- the function meets its contract
 pub open-number-spec : {M : Type 1} → statement M

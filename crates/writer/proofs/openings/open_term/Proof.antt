@@ -86,11 +86,7 @@ same-length : tie.Need-same-length
 same-length c = (after-open-number c) .open-number .ensures .same
 
 returns : tie.Need-returns
-returns c =
-    let open-number-place = after-open-number c in
-    let at-if1 = open-number-place .before .before in
-    let entry = at-start′ at-if1 in
-    pieces.go-last (laws.open-shallow (entry .args .out .now) (entry .pre) (at-if1 .if1 .taken)) (open-number-place .open-number .ensures)
+returns c = search (pieces.go-last, laws.open-shallow)
 
 column-requires : tie.Need-column-requires
 column-requires c κs = search needs
@@ -247,19 +243,7 @@ same-length-2 c =
     name-at-place .name-at .ensures .same ∙ at-copy-at .copy-at .ensures .same
 
 returns-2 : tie.Need-returns-2
-returns-2 c =
-    let name-at-place = after-name-at c in
-    let shown-at-place = name-at-place .before in
-    let at-copy-at = after-copy-at shown-at-place in
-    let at-match = at-match-keys1 (at-copy-at .before) in
-    let at-column2 = at-match .before in
-    let at-column = after-column at-column2 in
-    let at-if1 = else1 at-column in
-    let entry = at-start at-column in
-    pieces.go-last (pieces.go-next
-    (laws.open-var (entry .args .out .now) (entry .pre) (at-if1 .if1 .left) (at-column .column .ensures) (at-match .match .keys1)
-    (at-column2 .column2 .ensures) (shown-at-place .shown-at .ensures)) (at-copy-at .copy-at .ensures))
-    (name-at-place .name-at .ensures)
+returns-2 c = search (pieces.go-last, pieces.go-next, laws.open-var)
 
 same-length-3 : tie.Need-same-length-3
 same-length-3 c =
@@ -288,40 +272,19 @@ same-length-4 : tie.Need-same-length-4
 same-length-4 c = (after-copy-at3 c) .copy-at3 .ensures .same
 
 returns-4 : tie.Need-returns-4
-returns-4 c =
-    let copy-at3-place = after-copy-at3 c in
-    let at-match = at-match-keys3 (copy-at3-place .before) in
-    let at-column = after-column (at-match .before) in
-    let at-if1 = else1 at-column in
-    let entry = at-start at-column in
-    pieces.go-last (laws.open-app (entry .args .out .now) (entry .pre) (at-if1 .if1 .left) (at-column .column .ensures)
-    (at-match .match .keys3)) (copy-at3-place .copy-at3 .ensures)
+returns-4 c = search (pieces.go-last, laws.open-app)
 
 same-length-5 : tie.Need-same-length-5
 same-length-5 c = (after-copy-at4 c) .copy-at4 .ensures .same
 
 returns-5 : tie.Need-returns-5
-returns-5 c =
-    let copy-at4-place = after-copy-at4 c in
-    let at-match = at-match-keys4 (copy-at4-place .before) in
-    let at-column = after-column (at-match .before) in
-    let at-if1 = else1 at-column in
-    let entry = at-start at-column in
-    pieces.go-last (laws.open-rcd (entry .args .out .now) (entry .pre) (at-if1 .if1 .left) (at-column .column .ensures)
-    (at-match .match .keys4)) (copy-at4-place .copy-at4 .ensures)
+returns-5 c = search (pieces.go-last, laws.open-rcd)
 
 same-length-6 : tie.Need-same-length-6
 same-length-6 c = (after-copy-at5 c) .copy-at5 .ensures .same
 
 returns-6 : tie.Need-returns-6
-returns-6 c =
-    let copy-at5-place = after-copy-at5 c in
-    let at-match = at-match-keys5 (copy-at5-place .before) in
-    let at-column = after-column (at-match .before) in
-    let at-if1 = else1 at-column in
-    let entry = at-start at-column in
-    pieces.go-last (laws.open-dot (entry .args .out .now) (entry .pre) (at-if1 .if1 .left) (at-column .column .ensures)
-    (at-match .match .keys5)) (copy-at5-place .copy-at5 .ensures)
+returns-6 c = search (pieces.go-last, laws.open-dot)
 
 same-length-7 : tie.Need-same-length-7
 same-length-7 c = (after-open-number2 c) .open-number2 .ensures .same
@@ -353,16 +316,7 @@ same-length-9 : tie.Need-same-length-9
 same-length-9 c = (after-open-number4 c) .open-number4 .ensures .same
 
 returns-9 : tie.Need-returns-9
-returns-9 c =
-    let open-number4-place = after-open-number4 c in
-    let at-match = open-number4-place .before .before in
-    let at-column2 = at-match .before in
-    let at-column = after-column at-column2 in
-    let at-if1 = else1 at-column in
-    let entry = at-start at-column in
-    pieces.go-last (laws.open-num (entry .args .out .now) (entry .pre) (at-if1 .if1 .left) (at-column .column .ensures)
-    (at-match .match .rest)
-    (at-column2 .column2 .ensures)) (open-number4-place .open-number4 .ensures)
+returns-9 c = search (pieces.go-last, laws.open-num)
 
 -- the function meets its contract
 pub open-term-spec : {M : Type 1} → statement M

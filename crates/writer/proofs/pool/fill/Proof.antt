@@ -169,7 +169,7 @@ same-length : tie.Need-same-length Inv-loop μ-loop
 same-length c = (c .before .loop .inv) .long ∙ (after-fill-outsides′ (c .before)) .fill-outsides .kept .1 .0
 
 returns : tie.Need-returns Inv-loop μ-loop
-returns c = laws.storing-end (c .before .loop .inv) (c .loop-test .left)
+returns c = search laws.storing-end
 
 -- the function meets its contract
 pub fill-spec : {M : Type 1} → statement M

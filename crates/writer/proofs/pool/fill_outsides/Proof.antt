@@ -154,7 +154,7 @@ same-length-4 : tie.Need-same-length-4 Inv-loop μ-loop
 same-length-4 c = (c .before .loop .inv) .long
 
 returns-4 : tie.Need-returns-4 Inv-loop μ-loop
-returns-4 c = laws.filling-end (c .before .loop .inv) (c .before .before .after-leading .ensures) (c .loop-test .left)
+returns-4 c = search laws.filling-end
 
 -- the function meets its contract
 pub fill-outsides-spec : {M : Type 1} → statement M
