@@ -4,20 +4,24 @@ use mathlib.Core.Path.{_≡_, sym, ap, ap₂, _∙_}
 use mathlib.Core.List.{List}
 use native.Mathlib.Omega.{arith}
 use native.Mathlib.Decide.{decLe}
-use lib.ListN.{length, take}
-use lib.Seq.{length-take-le}
-use borrow.Author.Tests.{le-leb, lt-leb}
+use lib.Dec.{ltb}
+use lib.ListN.{length, getD, take, replicate, length-replicate, length-take}
+use lib.Seq.{length-take-le, getD-take}
+use borrow.Author.Tests.{le-leb, lt-leb, ltb-true, ltb-false}
 use Rattle.answers.specs.declared.Answer.{Answer}
 use Rattle.answers.specs.declared.Answer.the-variants.{Accepted, Refusing}
 use Rattle.answers.specs.Refusals.{refusal}
 use Rattle.spellings.specs.Buffers.{written}
+use Rattle.spellings.proofs.BytesLaws.{by-test}
 use Rattle.spellings.proofs.BuffersLaws.{written-fits, written-not}
+use Rattle.grammar.proofs.ReaderLaws.{getD-past}
 use Rattle.terms.specs.Term.{Name, Term, size}
 use Rattle.terms.specs.Rows.{termAt}
 use Rattle.terms.specs.Print.{print}
 use Rattle.terms.specs.Emit.{textOf, fitted, emitted}
 use Rattle.terms.proofs.EmitLaws.{leaves, fitted-long, fitted-whole, emitted-large, emitted-loose, emitted-fitted}
 use Rattle.rows.specs.Sizes.{noSpell, sizeAt}
+use Rattle.rows.proofs.ListLaws.{zeros}
 use Rattle.rows.proofs.SizeLaws.{size-spell}
 use Rattle.resolver.specs.declared.Resolution.{Resolution}
 use Rattle.resolver.specs.declared.Resolution.the-variants.{Loose, Numbered}
@@ -83,10 +87,19 @@ module _ (S : ℕ → List ℕ) (cells : List ℕ) (made root : ℕ) where
         ∙ fitted-by made (size T) (textOf T) text
         ∙ ap₂ leaves answer (ap (λ out. written out text) (sym same) ∙ sym (p .placed))
 
--- A room of as many marks as the term has constructors.
-pub markable : {table formula words cells : List ℕ} {count made root left : ℕ} (room : List ℕ) → Emittable table formula words count cells made root
-    → left ≡ 16385 - sizeAt cells made root → (left ≡ 0 → ⊥) → 16385 - left ≤ length room
-    → Markable table formula words count cells made root (take (16385 - left) room)
-markable {left = left} room e counted some l =
-    let long = length-take-le (16385 - left) room l in
-    record { emittable = e; counted = omega (arith, long); few = omega (arith, long) }
+-- the front of a room of zeros
+zeros-front : (n size i : ℕ) → getD {A = ℕ} (take size (replicate n 0)) i 0 ≡ 0
+zeros-front n size i =
+    by-test (ltb i size)
+    (λ e. getD-take {A = ℕ} size (replicate n 0) i 0 (ltb-true i size e) ∙ zeros n i)
+    (λ e.
+    getD-past {A = ℕ} (take size (replicate n 0)) i 0
+    (omega (arith, ltb-false i size e, length-take {A = ℕ} size (replicate n 0))))
+
+-- A room of as many marks as the term has constructors, at the front of n zeros.
+pub markable : {table formula words cells : List ℕ} {count made root left : ℕ} (n : ℕ) → Emittable table formula words count cells made root
+    → left ≡ 16385 - sizeAt cells made root → (left ≡ 0 → ⊥) → 16385 - left ≤ n
+    → Markable table formula words count cells made root (take (16385 - left) (replicate n 0))
+markable {left = left} n e counted some l =
+    let long = length-take-le {A = ℕ} (16385 - left) (replicate n 0) (omega (arith, length-replicate {A = ℕ} n 0)) in
+    record { emittable = e; counted = omega (arith, long); few = omega (arith, long); blank = zeros-front n (16385 - left) }

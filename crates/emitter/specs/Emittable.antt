@@ -4,7 +4,7 @@ use mathlib.Core.Path.{_≡_}
 use mathlib.Core.Bool.{true, false}
 use mathlib.Core.List.{List}
 use lib.Dec.{leb}
-use lib.ListN.{length}
+use lib.ListN.{length, getD}
 use Rattle.answers.specs.declared.Answer.{Answer}
 use Rattle.answers.specs.declared.Answer.the-variants.{Accepted, Refusing}
 use Rattle.answers.specs.Refusals.{refusal}
@@ -24,11 +24,12 @@ pub record Emittable (table formula words : List ℕ) (count : ℕ) (cells : Lis
   pub whole : WholeRows cells
   pub wellNamed : WellNamed (spelledBy table formula words count) (termAt made (spelledBy table formula words count) cells root)
 
--- the same with a mark for each constructor of the term
+-- the same with a mark for each constructor of the term, all 0
 pub record Markable (table formula words : List ℕ) (count : ℕ) (cells : List ℕ) (made root : ℕ) (marks : List ℕ) : Type 0 where
   pub emittable : Emittable table formula words count cells made root
   pub counted : length marks ≡ sizeAt cells made root
   pub few : length marks ≤ 16384
+  pub blank : (i : ℕ) → getD marks i 0 ≡ 0
 
 -- the answer where so many bytes are to go into a room
 unfoldable pub answerBy : ℕ → ℕ → ℕ → ℕ → Answer

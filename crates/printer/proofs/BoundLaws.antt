@@ -8,7 +8,7 @@ use lib.ListN.{length, getD, drop, length-take}
 use borrow.Author.Tests.{eqb-true, eqb-false}
 use Rattle.spellings.proofs.BytesLaws.{by-test}
 use Rattle.spellings.proofs.DecimalLaws.{decimal-bound}
-use Rattle.terms.specs.Cells.{column, nameBase}
+use Rattle.terms.specs.Cells.{column, nameBase, columns}
 use Rattle.terms.specs.Term.{Name, Term, Fields, size, sizeFields}
 use Rattle.terms.specs.Rows.{nameOf, Constructor, mkTermVar, mkTermFun, mkTermApp, mkTermRcd, mkTermDot, mkFieldNil, mkFieldCons, mkTermNum}
 use Rattle.terms.specs.Rows.{constructorOf, termBy, isCons, fieldsBy, termAt, fieldsAt}
@@ -56,7 +56,7 @@ module _ (S : ℕ → List ℕ) (cells numbers : List ℕ) (short : (m : ℕ) �
     by-term mkTermDot = omega (arith, st (column cells r 1) (suc p), short (column cells r 2))
     by-term mkFieldNil = omega (arith, decimal-bound 0 0 (omega arith))
     by-term mkFieldCons = omega (arith, decimal-bound 0 0 (omega arith))
-    by-term mkTermNum = omega (arith, decimal-bound 9 (column cells r 1) (omega (arith, wide (r * 4 + 1))))
+    by-term mkTermNum = omega (arith, decimal-bound 9 (column cells r 1) (omega (arith, wide (r * columns + 1))))
 
     by-fields : (b : Bool)
         → textSizeFields (labelledFields numbers p (fieldsBy b S cells r terms fields)) ≤ 46 * sizeFields (fieldsBy b S cells r terms fields)

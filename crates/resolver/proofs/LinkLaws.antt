@@ -1,5 +1,5 @@
 -- Laws of the links between rows that bind: what a search finds, and that one more row keeps them.
-use Prim.Native.Nat.{ℕ, zero, suc, _+_, _-_, _/_, _%_, _<_, _≤_}
+use Prim.Native.Nat.{ℕ, zero, suc, _+_, _-_, _*_, _/_, _%_, _<_, _≤_}
 use mathlib.Core.Path.{_≡_, refl, sym, ap, subst, _∙_}
 use mathlib.Core.Bool.{true, false, and-eq-true-iff}
 use mathlib.Core.List.{List}
@@ -10,7 +10,7 @@ use lib.ListN.{length, getD, set, replicate, length-set, getD-replicate}
 use lib.Seq.{getD-set-same, getD-set-other}
 use borrow.Author.Tests.{eq-eqb, eqb-true, eqb-false, ltb-true, ltb-false}
 use Rattle.spellings.proofs.BytesLaws.{by-test}
-use Rattle.terms.specs.Cells.{column}
+use Rattle.terms.specs.Cells.{column, columns, mostCells}
 use Rattle.resolver.specs.Marks.{binds, slotFrom}
 use Rattle.resolver.specs.Links.{First, Newest, LinkedTo, Linked, linksWith}
 
@@ -367,14 +367,15 @@ linked-none cells links s e =
 -- rows before `row` are linked
 pub record Linking (cells links₀ links : List ℕ) (row : ℕ) : Type 0 where
   -- `row` is a row or the end
-  pub inside : row ≤ length cells / 4
+  pub inside : row ≤ length cells / columns
   -- the links keep their number
   pub long : length links ≡ length links₀
   -- the links lead through the first rows of the names bound so far
   pub linked : LinkedTo row cells links
 
 module _ {cells links₀ links : List ℕ} {row : ℕ}
-    (w : Linking cells links₀ links row) (few : length cells ≤ 65536) (fits : length cells / 4 ≤ length links₀ / 2) (l : row < length cells / 4) where
+    (w : Linking cells links₀ links row) (few : length cells ≤ mostCells * columns) (fits : length cells / columns ≤ length links₀ / 2)
+    (l : row < length cells / columns) where
   -- the row has a link
   pub row-fits : row < length links / 2
   row-fits = omega (arith, ap (λ m. m / 2) (w .long))
@@ -414,7 +415,8 @@ pub linking-start : (cells links : List ℕ) → 0 < length links / 2 → links 
 linking-start cells links s e = record { inside = omega arith; long = refl; linked = linked-none cells links s e }
 
 -- where no row is left, all are linked
-pub linking-end : {cells links₀ links : List ℕ} {row : ℕ} → Linking cells links₀ links row → length cells ≤ 65536 → length cells / 4 ≤ row → Linked cells links
+pub linking-end : {cells links₀ links : List ℕ} {row : ℕ} → Linking cells links₀ links row → length cells ≤ mostCells * columns
+    → length cells / columns ≤ row → Linked cells links
 linking-end {cells} {links₀} {links} {row} w few l =
-    let z : row ≡ length cells / 4 = omega (arith, w .inside) in
+    let z : row ≡ length cells / columns = omega (arith, w .inside) in
     record { few = few; linked = rw z at w .linked }

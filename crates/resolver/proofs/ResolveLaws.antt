@@ -12,7 +12,7 @@ use lib.Seq.{set-set}
 use borrow.Author.Tests.{eqb-true}
 use Rattle.spellings.proofs.BytesLaws.{by-test}
 use Rattle.kinds.proofs.KindsLaws.{has-none, has-join}
-use Rattle.terms.specs.Cells.{column, nameBase}
+use Rattle.terms.specs.Cells.{column, nameBase, columns}
 use Rattle.grammar.proofs.ReaderLaws.{getD-past}
 use Rattle.terms.specs.Term.{Name, Term, Fields, variable, function, apply, rcd, dot, number, nil, cons, size, sizeFields}
 use Rattle.terms.specs.Rows.{nameOf}
@@ -75,12 +75,12 @@ bindable-of spell x h =
     (λ f. subst (Bindable spell) (sym (named-at spell x 2 (eqb-true (x / nameBase) 2 f))) (bindable-fresh {n = x % nameBase} (omega arith)))
     (λ f. absurd (rw (e, nameOf, f) at h)))
 
-row-inside : (cells : List ℕ) (row : ℕ) → WholeRows cells → column cells row 0 ≡ 33 → row < length cells / 4
-row-inside cells row w e = by (decLt (row * 4 + 0) (length cells))
+row-inside : (cells : List ℕ) (row : ℕ) → WholeRows cells → column cells row 0 ≡ 33 → row < length cells / columns
+row-inside cells row w e = by (decLt (row * columns + 0) (length cells))
   where
-    by : Dec (row * 4 + 0 < length cells) → row < length cells / 4
+    by : Dec (row * columns + 0 < length cells) → row < length cells / columns
     by (yes h) = omega (arith, w .whole)
-    by (no h) = absurd (omega (arith, e, getD-past cells (row * 4 + 0) 0 (omega arith)))
+    by (no h) = absurd (omega (arith, e, getD-past cells (row * columns + 0) 0 (omega arith)))
 
 -- ------------------------------------------------------------------ constructors
 
@@ -242,7 +242,7 @@ module _ (cells : List ℕ) (k row p : ℕ) where
         let kn′ = subst (WellNamed spell) t kn in
         let slot : slotOf cells x < 16384 =
         rw ex (slot-there cells row (row-inside cells row wh (sym at ∙ e)) (wh .few) (sym at ∙ e)) in
-        let inside : slotOf cells x < length cells / 4 = slot-is cells x (length cells / 4) (omega (arith, wh .few)) slot .inside in
+        let inside : slotOf cells x < length cells / columns = slot-is cells x (length cells / columns) (omega (arith, wh .few)) slot .inside in
         let inner : Around spell cells (record { name = nameOf spell x; place = p } ∷ around) current₁ =
         subst (Around spell cells (record { name = nameOf spell x; place = p } ∷ around)) (sym (ee .stored))
         (around-binder spell apart cells around current x p (bindable-of spell x (kn′ .0)) slot (omega (arith, inside, len)) env) in

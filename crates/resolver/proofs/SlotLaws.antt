@@ -10,7 +10,7 @@ use lib.Seq.{getD-set-same, getD-set-other, set-getD, set-set, set-out}
 use borrow.Author.Tests.{eq-eqb, ne-eqb, eqb-true, eqb-false}
 use Rattle.spellings.specs.Bytes.{same}
 use Rattle.spellings.proofs.BytesLaws.{by-test, same-true, same-refl}
-use Rattle.terms.specs.Cells.{column, nameBase}
+use Rattle.terms.specs.Cells.{column, nameBase, columns, mostCells}
 use Rattle.terms.specs.Term.{Name, word, fresh}
 use Rattle.terms.specs.Rows.{nameOf}
 use Rattle.terms.specs.Rename.{belongs}
@@ -33,7 +33,7 @@ pub slot-name : (cells : List ℕ) (x : ℕ) → slotOf cells x < 16384 → colu
 slot-name cells x h =
     eqb-true (column cells (slotOf cells x) 1) x
     (and-eq-true-iff (eqb (column cells (slotOf cells x) 0) 33) (eqb (column cells (slotOf cells x) 1) x) .0
-    (slot-binds (length cells / 4) cells 0 x h) .1)
+    (slot-binds (length cells / columns) cells 0 x h) .1)
 
 slot-first : (n : ℕ) (cells : List ℕ) (row x r : ℕ) → row ≤ r → r < row + n → row + n ≤ 16384 → binds cells r x ≡ true → slotFrom n cells row x < 16384
 unfolding slotFrom
@@ -48,9 +48,9 @@ slot-first (suc n) cells row x r a b m e =
     clash b p q = let z : _≡_ {A = ℕ} 0 1 = cc in omega arith
 
 -- a name that a row binds has a slot
-pub slot-there : (cells : List ℕ) (r : ℕ) → r < length cells / 4 → length cells ≤ 65536 → column cells r 0 ≡ 33 → slotOf cells (column cells r 1) < 16384
+pub slot-there : (cells : List ℕ) (r : ℕ) → r < length cells / columns → length cells ≤ mostCells * columns → column cells r 0 ≡ 33 → slotOf cells (column cells r 1) < 16384
 slot-there cells r h m e =
-    slot-first (length cells / 4) cells 0 (column cells r 1) r (omega arith) (omega arith) (omega arith)
+    slot-first (length cells / columns) cells 0 (column cells r 1) r (omega arith) (omega arith) (omega arith)
     (and-eq-true-iff (eqb (column cells r 0) 33) (eqb (column cells r 1) (column cells r 1)) .1
     (eq-eqb (column cells r 0) 33 e, eq-eqb (column cells r 1) (column cells r 1) refl))
 

@@ -1,12 +1,12 @@
 -- How the first row that binds a name is found by a hash. The first half of the links leads to the newest such row of each hash, the second
 -- has a link a row, to the next older one of the same hash. A link is a row and one more; 0 leads to none. Nobody needs this to believe
 -- `expand`.
-use Prim.Native.Nat.{ℕ, suc, _+_, _/_, _%_, _<_, _≤_}
+use Prim.Native.Nat.{ℕ, suc, _+_, _*_, _/_, _%_, _<_, _≤_}
 use mathlib.Core.Path.{_≡_}
 use mathlib.Core.Bool.{true}
 use mathlib.Core.List.{List}
 use lib.ListN.{length, getD, set, replicate}
-use Rattle.terms.specs.Cells.{column}
+use Rattle.terms.specs.Cells.{column, columns, mostCells}
 use Rattle.resolver.specs.Marks.{binds, slotFrom}
 
 -- a row binds its name, and no row before it does
@@ -31,14 +31,14 @@ pub record LinkedTo (n : ℕ) (cells links : List ℕ) : Type 0 where
 
 -- the links lead through the first rows of all names that rows bind
 pub record Linked (cells links : List ℕ) : Type 0 where
-  pub few : length cells ≤ 65536
-  pub linked : LinkedTo (length cells / 4) cells links
+  pub few : length cells ≤ mostCells * columns
+  pub linked : LinkedTo (length cells / columns) cells links
 
 -- what linking asks: room for all rows, and no links
 pub record Linkable (cells links : List ℕ) : Type 0 where
-  pub few : length cells ≤ 65536
+  pub few : length cells ≤ mostCells * columns
   pub some : 0 < length links / 2
-  pub room : length cells / 4 ≤ length links / 2
+  pub room : length cells / columns ≤ length links / 2
   pub none : links ≡ replicate (length links) 0
 
 -- the links with one more row, whose name is x

@@ -10,7 +10,7 @@ use lib.ListN.{length, getD}
 use lib.Seq.{sets}
 use Rattle.spellings.specs.Bytes.{isWord}
 use Rattle.kinds.specs.Kinds.{hasKind}
-use Rattle.terms.specs.Cells.{column, nameBase}
+use Rattle.terms.specs.Cells.{column, nameBase, columns}
 use Rattle.terms.specs.Term.{Name, word, fresh, outside, Term, Fields, variable, function, apply, rcd, dot, number, nil, cons, size, sizeFields}
 use Rattle.terms.specs.Rows.{nameOf, termAt, fieldsAt}
 use Rattle.terms.specs.Names.{Distinct, VariableName, BinderName, WellNamed, WellNamedFields}
@@ -64,7 +64,7 @@ slotFrom zero cells row x = 16384
 slotFrom (suc n) cells row x = elim (binds cells row x) [ true ↦ row | false ↦ slotFrom n cells (suc row) x ]
 
 abbrev pub slotOf : List ℕ → ℕ → ℕ
-slotOf cells x = slotFrom (length cells / 4) cells 0 x
+slotOf cells x = slotFrom (length cells / columns) cells 0 x
 
 -- ------------------------------------------------------------------ what is known of names
 
@@ -109,12 +109,12 @@ pub record WalkedFields (spell : ℕ → List ℕ) (around : List Binder) (p : �
 abbrev pub ResolvesTerm : List ℕ → ℕ → ℕ → ℕ → List ℕ → List ℕ → List ℕ → List ℕ → ℕ → Type 0
 ResolvesTerm cells k row p current current′ room room′ held =
     (spell : ℕ → List ℕ) (around : List Binder) → Distinct spell → WholeRows cells → WellNamed spell (termAt k spell cells row)
-    → length cells / 4 ≤ length current
+    → length cells / columns ≤ length current
     → Around spell cells around current
     → Walked spell around p (termAt k spell cells row) held current current′ room room′
 
 abbrev pub ResolvesFields : List ℕ → ℕ → ℕ → ℕ → List ℕ → List ℕ → List ℕ → List ℕ → ℕ → Type 0
 ResolvesFields cells k row p current current′ room room′ held =
     (spell : ℕ → List ℕ) (around : List Binder) → Distinct spell → WholeRows cells → WellNamedFields spell (fieldsAt k spell cells row)
-    → length cells / 4 ≤ length current → Around spell cells around current
+    → length cells / columns ≤ length current → Around spell cells around current
     → WalkedFields spell around p (fieldsAt k spell cells row) held current current′ room room′

@@ -44,11 +44,12 @@ firstLoose (p ∷ ps) = Loose p
 
 -- ------------------------------------------------------------------ a resolution
 
--- what a resolution asks: whole rows, and a mark for each constructor of a term, not too many
+-- what a resolution asks: whole rows, and a mark for each constructor of a term, not too many, and none made
 pub record Resolvable (cells : List ℕ) (made root : ℕ) (room : List ℕ) : Type 0 where
   pub whole : WholeRows cells
   pub counted : length room ≡ sizeAt cells made root
   pub few : length room ≤ 16384
+  pub blank : (i : ℕ) → getD room i 0 ≡ 0
 
 -- the walk of a term that an answer stands for
 abbrev pub walkOf : Resolution → ℕ → Walk

@@ -3,6 +3,7 @@ use Prim.Native.Nat.{ℕ, _+_, _/_, _≤_}
 use mathlib.Core.Path.{_≡_}
 use mathlib.Core.List.{List}
 use lib.ListN.{length, getD, set, replicate}
+use Rattle.terms.specs.Cells.{columns}
 use Rattle.rows.specs.Sizes.{sizeAt, sizeFieldsAt}
 use Rattle.resolver.specs.Marks.{ResolvesTerm, ResolvesFields}
 use Rattle.resolver.specs.Links.{Linked}
@@ -33,4 +34,4 @@ pub record WalksFields (cells : List ℕ) (k row place place′ : ℕ) (current 
 pub record Prepared (cells links current : List ℕ) : Type 0 where
   pub linked : Linked cells links
   pub none : current ≡ replicate (length current) 0
-  pub room : length cells / 4 ≤ length current
+  pub room : length cells / columns ≤ length current

@@ -1,16 +1,19 @@
 // Resolution: the binder of each variable of a term, the binders that are renamed, and the numbers of their new names. Refusal 23.
 use crate::binders::link;
 use crate::numbering::number;
+use crate::quiet::is_quiet;
 use crate::resolving::resolve_term;
 use terms::COLUMNS;
 ghost use Prim.Native.Nat.{_/_, _≤_};
 ghost use mathlib.Core.Path.{_≡_};
 ghost use lib.ListN.{length};
+ghost use Rattle.terms.specs.Cells.{columns};
 ghost use Rattle.resolver.specs.Numbers.{Resolvable, Resolves};
 ghost use Rattle.resolver.specs.Walks.{Prepared};
 
 pub mod binders;
 pub mod numbering;
+pub mod quiet;
 pub mod resolving;
 
 // What a resolution gives: the first place of a fresh variable under no binder made with it, or a number for each name that is new.
@@ -41,7 +44,7 @@ fn resolved(
 
 // With room for the binders of a few rows.
 fn resolve_small(cells: &[u32], made: usize, root: u32, marks: &mut &mut [u16]) -> Resolution
-    requires { ⌜ Resolvable (now cells) made root (now (now marks)) × (length (now cells) / 4 ≤ 256) ⌝ }
+    requires { ⌜ Resolvable (now cells) made root (now (now marks)) × (length (now cells) / columns ≤ 256) ⌝ }
     ensures { λ r. ⌜
         Resolves (now (cells .entry)) made root (now (now (marks .exit))) r × (length (now (now (marks .exit))) ≡ length (now (now (marks .entry))))
         ⌝ }
@@ -68,13 +71,16 @@ fn resolve_large(cells: &[u32], made: usize, root: u32, marks: &mut &mut [u16]) 
 }
 
 // Resolves the term at a row, with a mark for each of its constructors: refusal 23, or at each place the number of the new name that stands
-// there.
+// there. Where no row binds a name and no variable is fresh, nothing is walked: all are 0.
 pub fn resolve(cells: &[u32], made: usize, root: u32, marks: &mut &mut [u16]) -> Resolution
     requires { ⌜ Resolvable (now cells) made root (now (now marks)) ⌝ }
     ensures { λ r. ⌜
         Resolves (now (cells .entry)) made root (now (now (marks .exit))) r × (length (now (now (marks .exit))) ≡ length (now (now (marks .entry))))
         ⌝ }
 {
+    if is_quiet(cells) {
+        return Resolution::Numbered;
+    }
     if cells.len() / COLUMNS <= 256 {
         return resolve_small(cells, made, root, marks);
     }

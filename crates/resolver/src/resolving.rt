@@ -6,7 +6,7 @@ ghost use Prim.Native.Nat.{ℕ, _+_, _<_, _≤_};
 ghost use mathlib.Core.Path.{_≡_};
 ghost use mathlib.Core.List.{List};
 ghost use lib.ListN.{length, getD, set};
-ghost use Rattle.terms.specs.Cells.{column};
+ghost use Rattle.terms.specs.Cells.{column, columns};
 ghost use Rattle.terms.specs.Rows.{nameOf};
 ghost use Rattle.terms.specs.Rename.{isOutside};
 ghost use Rattle.terms.specs.Names.{Distinct, VariableName};
@@ -170,7 +170,7 @@ fn resolve_part(
     current: &mut &mut [u16],
     marks: &mut &mut [u16],
 ) -> u64
-    requires { ⌜ (i < 4) × Walkable (now (now cells)) (now (now links)) (sizeAt (now (now cells)) bound (column (now
+    requires { ⌜ (i < columns) × Walkable (now (now cells)) (now (now links)) (sizeAt (now (now cells)) bound (column (now
         (now cells)) row i)) (now place) (now (now marks)) ⌝ }
     ensures { λ r. ⌜
         WalksTerm (now (now (cells .entry))) bound (column (now (now (cells .entry))) row i) (now (place .entry)) (now (place .exit))

@@ -3,7 +3,7 @@ use Prim.Native.Nat.{ℕ, _*_, _/_, _≤_}
 use mathlib.Core.Path.{_≡_}
 use mathlib.Core.List.{List, []}
 use lib.ListN.{length}
-use Rattle.terms.specs.Cells.{columns}
+use Rattle.terms.specs.Cells.{columns, mostCells}
 use Rattle.terms.specs.Term.{size, sizeFields}
 use Rattle.terms.specs.Rows.{termAt, fieldsAt}
 
@@ -19,5 +19,5 @@ sizeFieldsAt cells bound row = sizeFields (fieldsAt bound noSpell cells row)
 
 -- whole rows, 16,384 at most
 pub record WholeRows (cells : List ℕ) : Type 0 where
-  pub few : length cells ≤ 65536
+  pub few : length cells ≤ mostCells * columns
   pub whole : (length cells / columns) * columns ≡ length cells

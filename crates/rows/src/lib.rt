@@ -2,13 +2,13 @@
 use terms::COLUMNS;
 ghost use Prim.Native.Nat.{_<_};
 ghost use mathlib.Core.Path.{_≡_};
-ghost use Rattle.terms.specs.Cells.{column};
+ghost use Rattle.terms.specs.Cells.{column, columns};
 
 pub mod sizes;
 
 // The number in a column of a row; what is not there reads as 0.
 pub fn column(cells: &[u32], row: u32, k: usize) -> u32
-    requires { ⌜ k < 4 ⌝ }
+    requires { ⌜ k < columns ⌝ }
     ensures { λ r. ⌜ r ≡ column (now (cells .entry)) row k ⌝ }
 {
     let i = (row as usize) * COLUMNS + k;

@@ -2,7 +2,7 @@
 use Prim.Native.Nat.{ℕ}
 use mathlib.Core.Path.{sym}
 use native.Mathlib.Omega.{arith}
-use lib.ListN.{replicate, length-replicate}
+use lib.ListN.{length-replicate}
 use lib.Seq.{length-take-le}
 use Rattle.emitter.proofs.EmitterLaws as laws
 use borrow.Author.Needs.{needs}
@@ -34,14 +34,8 @@ emit-in-requires c κs =
     let sized = c .before .before .before .before .before in
     let asked = sized .before .before .before in
     let entry = asked .before .before .before .before in
-    laws.markable (replicate 256 0) (entry .pre) (sized .size-term .ensures) (c .before .before .before .before .if1 .left)
-    (omega (
-      arith,
-      length-replicate {A = ℕ} 256 0,
-      sized .size-term .ensures,
-      c .before .before .before .if2 .taken,
-      c .before .before .before .before .if1 .left,
-    ))
+    laws.markable 256 (entry .pre) (sized .size-term .ensures) (c .before .before .before .before .if1 .left)
+    (omega (arith, sized .size-term .ensures, c .before .before .before .if2 .taken, c .before .before .before .before .if1 .left))
 
 same-length : tie.Need-same-length
 same-length c = search needs
@@ -62,14 +56,8 @@ emit-in-requires-2 c κs =
     let sized = c .before .before .before .before .before in
     let asked = sized .before .before .before in
     let entry = asked .before .before .before .before in
-    laws.markable (replicate 16384 0) (entry .pre) (sized .size-term .ensures) (c .before .before .before .before .if1 .left)
-    (omega (
-      arith,
-      length-replicate {A = ℕ} 16384 0,
-      sized .size-term .ensures,
-      c .before .before .before .if2 .left,
-      c .before .before .before .before .if1 .left,
-    ))
+    laws.markable 16384 (entry .pre) (sized .size-term .ensures) (c .before .before .before .before .if1 .left)
+    (omega (arith, sized .size-term .ensures, c .before .before .before .if2 .left, c .before .before .before .before .if1 .left))
 
 same-length-2 : tie.Need-same-length-2
 same-length-2 c = search needs

@@ -8,7 +8,7 @@ use Rattle.emitter.proofs.emit_in.Tie as tie
 resolve-requires : tie.Need-resolve-requires
 resolve-requires c κs =
     let pre = c .before .before .before .before .before .before .pre in
-    record { whole = pre .emittable .whole; counted = pre .counted; few = pre .few }
+    record { whole = pre .emittable .whole; counted = pre .counted; few = pre .few; blank = pre .blank }
 
 enum-known-resolution : tie.Need-enum-known-resolution
 enum-known-resolution c = search needs

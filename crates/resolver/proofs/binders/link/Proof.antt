@@ -3,6 +3,7 @@ use Prim.Native.Nat.{_/_, _-_}
 use native.Mathlib.Omega.{arith}
 use lib.ListN.{length}
 use borrow.Author.Needs.{needs}
+use Rattle.terms.specs.Cells.{columns}
 use Rattle.resolver.proofs.LinkLaws as laws
 use Rattle.resolver.proofs.binders.link.Statement.{statement}
 use Rattle.resolver.proofs.binders.link.Tie as tie
@@ -16,7 +17,7 @@ abbrev Inv-loop : tie.InvT-loop
 Inv-loop cells links₀ row₀ links row = laws.Linking cells links₀ links row
 
 abbrev μ-loop : tie.MeasureT-loop
-μ-loop cells links₀ row₀ links row = (length cells / 4) - row
+μ-loop cells links₀ row₀ links row = (length cells / columns) - row
 
 -- places, each from a later one
 abbrev at-loop : tie.After-column Inv-loop μ-loop → tie.At-loop Inv-loop μ-loop

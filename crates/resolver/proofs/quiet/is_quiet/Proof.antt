@@ -1,0 +1,77 @@
+-- `is_quiet`: rows before the present one are quiet.
+use Prim.Native.Nat.{_/_, _-_, _≤_}
+use mathlib.Core.Path.{sym}
+use mathlib.Core.Bool.{true≢false}
+use native.Mathlib.Omega.{arith}
+use lib.ListN.{length}
+use borrow.Author.Needs.{needs}
+use Rattle.terms.specs.Cells.{columns}
+use Rattle.resolver.specs.Quiet.{QuietTo}
+use Rattle.resolver.proofs.QuietLaws as laws
+use Rattle.resolver.proofs.quiet.is_quiet.Statement.{statement}
+use Rattle.resolver.proofs.quiet.is_quiet.Tie as tie
+
+abbrev Inv-loop : tie.InvT-loop
+Inv-loop cells row₀ row = (row ≤ length cells / columns) × QuietTo row cells
+
+abbrev μ-loop : tie.MeasureT-loop
+μ-loop cells row₀ row = (length cells / columns) - row
+
+loop-holds : tie.Need-loop-holds Inv-loop μ-loop
+loop-holds c = (omega arith, λ row l. absurd (omega arith))
+
+cast-column : tie.Need-cast-column Inv-loop μ-loop
+cast-column c = omega arith
+
+column-requires : tie.Need-column-requires Inv-loop μ-loop
+column-requires c κs = search needs
+
+cast-column-2 : tie.Need-cast-column-2 Inv-loop μ-loop
+cast-column-2 c = omega arith
+
+column-requires-2 : tie.Need-column-requires-2 Inv-loop μ-loop
+column-requires-2 c κs = search needs
+
+is-quiet-row-requires : tie.Need-is-quiet-row-requires Inv-loop μ-loop
+is-quiet-row-requires c κs = search needs
+
+add-row : tie.Need-add-row Inv-loop μ-loop
+add-row c = omega arith
+
+loop-less : tie.Need-loop-less Inv-loop μ-loop
+loop-less c = omega arith
+
+loop-again : tie.Need-loop-again Inv-loop μ-loop
+loop-again c =
+    let second = c .before .before in
+    let first = second .before in
+    let turn = first .before .before in (
+      omega arith,
+      laws.quiet-more (turn .before .before .args .cells .now) _ (turn .loop .inv .1) (first .column .ensures) (second .column2 .ensures) (c .before .is-quiet-row .ensures (c .if1 .taken)),
+    )
+
+returns : tie.Need-returns Inv-loop μ-loop
+returns c = λ e. absurd (true≢false (sym e))
+
+returns-2 : tie.Need-returns-2 Inv-loop μ-loop
+returns-2 c =
+    let turn = c .before in
+    λ e. laws.quiet-all _ (turn .before .before .pre) (turn .loop .inv .1) (c .loop-test .left)
+
+pub is-quiet-spec : {M : Type 1} → statement M
+is-quiet-spec =
+    tie.close
+    (tie.spec
+    Inv-loop
+    μ-loop
+    loop-holds
+    cast-column
+    column-requires
+    cast-column-2
+    column-requires-2
+    is-quiet-row-requires
+    add-row
+    loop-less
+    loop-again
+    returns
+    returns-2)
