@@ -1,6 +1,6 @@
 -- An expansion changes no number of the cells behind the rows that it made, on a refusal too.
-use Prim.Native.Nat.{ℕ, zero, suc, _+_, _*_, _≤_, _<_}
-use mathlib.Core.Path.{_≡_, refl, sym, ap, _∙_}
+use Prim.Native.Nat.{ℕ, zero, suc, _+_, _*_, _≤_}
+use mathlib.Core.Path.{_≡_, refl, _∙_}
 use mathlib.Core.Bool.{Bool, true, false}
 use mathlib.Core.List.{List, [], _∷_, _++_}
 use native.Mathlib.Omega.{arith}
@@ -13,7 +13,7 @@ use Rattle.answers.specs.Refusals.{refusal}
 use Rattle.kinds.specs.Kinds.{wordKind, numberKind, keywordKind, only}
 use Rattle.grammar.specs.Table.{Template, Templates, none, more, Item}
 use Rattle.grammar.specs.Table as Table
-use Rattle.terms.specs.Cells.{columns, withRow}
+use Rattle.terms.specs.Cells.{withRow}
 use Rattle.expansion.specs.declared.State.{State}
 use Rattle.expansion.specs.Run.{Result, done, halt, Run, after}
 use Rattle.expansion.specs.Expansion.{Input, Choice, unfit, chosen, choice, nextToken, tokenTaken, takeToken, misfit, cellMade, cell, build, buildAll, runItem}
@@ -22,13 +22,14 @@ use Rattle.expansion.specs.Limits.{mostCalls, mostOpen}
 use Rattle.expansion.specs.Expansion as Expansion
 use Rattle.meaning.specs.Meaning.{Left}
 
+-- Cells that were not touched are left.
 pub left-not : (m : ℕ) (cells : List ℕ) → Left m cells cells
 left-not m cells = record { as-many = refl; same = λ j h. refl }
 
 left-trans : {m n : ℕ} {cells cells′ cells″ : List ℕ} → m ≤ n → Left m cells cells′ → Left n cells′ cells″ → Left n cells cells″
 left-trans l h k = record { as-many = k .as-many ∙ h .as-many; same = λ j b. k .same j b ∙ h .same j (omega arith) }
 
--- what a run leaves that had made m rows: the rows made by then are no more than there are
+-- What a run leaves that had made m rows: the rows made by then are no more than there are.
 abbrev pub Leaves : {A : Type 0} → ℕ → ℕ → List ℕ → Result A → Type 0
 Leaves rows m cells (done a s cells′) = (m ≤ s .made) × (s .made ≤ rows) × Left (s .made) cells cells′
 Leaves rows m cells (halt r cells′) = (n : ℕ) × (m ≤ n) × (n ≤ rows) × Left n cells cells′
@@ -150,7 +151,7 @@ module _ (I : Input) where
       go false c f = (s .made, omega arith, h, left-not (s .made) cells)
       go true c f = chose c f
 
-  -- the whole
+  -- The run of a formula leaves the cells behind the rows that it made.
   pub run-leaves : (root : ℕ) (cells : List ℕ) → Leaves (I .rows) 0 cells (run I root cells)
   unfolding run
   run-leaves root cells =

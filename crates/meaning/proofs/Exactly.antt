@@ -12,7 +12,6 @@ use Rattle.answers.specs.Refusals.{refusal}
 use Rattle.answers.specs.Checked.{Checked, ok, bad, verdict}
 use Rattle.grammar.specs.Table.{Table, lexiconOfTable}
 use Rattle.scanner.specs.Unscanned.{Unscans}
-use Rattle.scanner.specs.Scan.{Lexed}
 use Rattle.scanner.specs.declared.Token.{Token}
 use Rattle.checker.specs.Check.{passedTable, check}
 use Rattle.checker.specs.Passes.{Passes}
@@ -25,10 +24,10 @@ use Rattle.terms.specs.Rename.{rename}
 use Rattle.terms.specs.Print.{print}
 use Rattle.terms.specs.Occurrences.{occurrences, loosePlaces}
 use Rattle.meaning.specs.Expand.{Expanded, refused, inputOf, expandTable, checkedFirst, expand}
-use Rattle.meaning.specs.Meaning.{Scans, spellOf, Means, rowsLent, MeansWithin, cellsOf, Cause, unscanned, stopped, Accepts, Left}
+use Rattle.meaning.specs.Meaning.{spellOf, Means, rowsLent, MeansWithin, cellsOf, Cause, unscanned, stopped, Accepts, Left}
 use Rattle.meaning.specs.Meaning as Meaning
 use Rattle.meaning.proofs.Owners.{occurs, Says, loose-says, none-places, first-places}
-use Rattle.meaning.proofs.Stages.{Finish, too-big, is-loose, too-long, prints, scanned-as, means-one, RunsTo, Stage, in-scan, in-parse, at-last, stages}
+use Rattle.meaning.proofs.Stages.{Finish, too-big, is-loose, too-long, prints, same-words, means-one, RunsTo, Stage, in-scan, in-parse, at-last, stages}
 use Rattle.meaning.proofs.Stages.{unscanned-ends, stopped-ends, meant-ends}
 use Rattle.meaning.proofs.CellsLeft.{Leaves, left-not, run-leaves}
 
@@ -36,9 +35,6 @@ use Rattle.meaning.proofs.CellsLeft.{Leaves, left-not, run-leaves}
 
 same-refusal : {r q : Refusal} → Refusing r ≡ Refusing q → r ≡ q
 same-refusal e = cc
-
-same-number : {r q : Refusal} → Refusing r ≡ Refusing q → r .number ≡ q .number
-same-number e = ap (λ (x : Refusal). x .number) (same-refusal e)
 
 never : {A : Type 0} {a b c : ℕ} {r : Refusal} → Accepted a b c ≡ Refusing r → A
 never e = let z : _≡_ {A = ℕ} 0 1 = cc in absurd (omega arith)
@@ -58,7 +54,7 @@ module _ {made : ℕ} {u : Term Name} {cells text : List ℕ} where
   loose-answer : {x : Expanded} {p : ℕ} {ps : List ℕ} → Finish made u cells text x → size u ≤ largestTerm → loosePlaces (occurrences [] 0 u) ≡ p ∷ ps
       → x .answer ≡ Refusing (refusal 23 p 0 0)
   loose-answer (too-big b) h k = absurd (omega arith)
-  loose-answer {p = p} (is-loose {p = q} s l) h k = let z : q ≡ p = cc in ap (λ (n : ℕ). Refusing (refusal 23 n 0 0)) z
+  loose-answer {p = p} (is-loose {p = q} s l) h k = let z : q ≡ p = cc in rw z
   loose-answer (too-long s l b) h k = differ k l
   loose-answer (prints s l b) h k = differ k l
 
@@ -89,6 +85,7 @@ module _ {made : ℕ} {u : Term Name} {cells text : List ℕ} where
 -- ------------------------------------------------------------------ a table that does not pass
 
 module _ (table : List ℕ) (bytes : (i : ℕ) → getD table i 0 < 256) (formula cells text : List ℕ) where
+  -- A table that does not pass gets the refusal of its check, and nothing that was lent changes.
   pub not-passed : (Passes table → ⊥) → (r : Refusal) × (check table ≡ Refused r) × (expand table formula cells text ≡ refused r cells text)
   unfolding check expand
   not-passed n = go (passedTable table) refl
@@ -96,7 +93,7 @@ module _ (table : List ℕ) (bytes : (i : ℕ) → getD table i 0 < 256) (formul
       go : (c : Checked Table) → passedTable table ≡ c
           → (r : Refusal) × (check table ≡ Refused r) × (checkedFirst (passedTable table) formula cells text ≡ refused r cells text)
       go (ok t) e = absurd (n (check-exactly table bytes .0 (ap verdict e)))
-      go (bad r) e = (r, ap verdict e, ap (λ d. checkedFirst d formula cells text) e)
+      go (bad r) e = (r, ap verdict e, rw e)
 
 -- ------------------------------------------------------------------ an expansion
 
@@ -108,13 +105,13 @@ module _ (t : Table) (T : Passing t) (formula cells text : List ℕ) where
 
   cause-last : {u : Term Name} {cells′ : List ℕ} {x : Expanded} (E : MeansWithin t formula cells u) → Finish (cellsOf E) u cells′ text x → (r : Refusal)
       → x .answer ≡ Refusing r → Cause t formula cells text r
-  cause-last E (too-big b) r e = subst (Cause t formula cells text) (same-refusal e) (Meaning.too-large E b)
+  cause-last E (too-big b) r e = subst (Cause t formula cells text) (same-refusal e) (Meaning.too-large E (omega arith))
   cause-last {u = u} E (is-loose s l) r e =
       subst (Cause t formula cells text) (same-refusal e)
       (Meaning.is-loose E s (occurs [] 0 u) (subst (Says (occurrences [] 0 u)) l (loose-says (occurrences [] 0 u))))
   cause-last {u = u} E (too-long s l b) r e =
       subst (Cause t formula cells text) (same-refusal e)
-      (Meaning.too-long E s (occurs [] 0 u) (subst (Says (occurrences [] 0 u)) l (loose-says (occurrences [] 0 u))) b)
+      (Meaning.too-long E s (occurs [] 0 u) (subst (Says (occurrences [] 0 u)) l (loose-says (occurrences [] 0 u))) (omega arith))
   cause-last E (prints s l b) r e = never e
 
   cause-of : {x : Expanded} → Stage t T formula cells text x → (r : Refusal) → x .answer ≡ Refusing r → Cause t formula cells text r
@@ -123,12 +120,13 @@ module _ (t : Table) (T : Passing t) (formula cells text : List ℕ) where
   cause-of (at-last E R f) r a = cause-last E f r a
 
   answer-of : {r : Refusal} → Cause t formula cells text r → X .answer ≡ Refusing r
-  answer-of (unscanned u) = ap (λ (x : Expanded). x .answer) (unscanned-ends t T formula cells text u)
-  answer-of (stopped S h) = ap (λ (x : Expanded). x .answer) (stopped-ends t T formula cells text S h .1)
+  answer-of (unscanned u) = rw (unscanned-ends t T formula cells text u)
+  answer-of (stopped S h) = rw (stopped-ends t T formula cells text S h .1)
   answer-of (Meaning.too-large E b) = large-answer (meant-ends t T formula cells text E .1) b
   answer-of (Meaning.is-loose E s o f) = loose-answer (meant-ends t T formula cells text E .1) s (first-places o f .1)
   answer-of (Meaning.too-long E s o n b) = long-answer (meant-ends t T formula cells text E .1) s (none-places o n) b
 
+  -- A refusal is given exactly in its case.
   pub refused-exactly : (r : Refusal) → (X .answer ≡ Refusing r) ↔ Cause t formula cells text r
   refused-exactly r = (cause-of (stages t T formula cells text) r, answer-of)
 
@@ -155,6 +153,7 @@ module _ (t : Table) (T : Passing t) (formula cells text : List ℕ) where
   accepts-of (in-parse S h k) e = never (sym e)
   accepts-of (at-last {u = u} E R f) e = (u, accepts-last E f e)
 
+  -- A formula is accepted exactly if a term of it is, with these values.
   pub accepted-exactly : (a b c : ℕ) → (X .answer ≡ Accepted a b c) ↔ ((u : Term Name) × Accepts t formula cells text u a b c)
   accepted-exactly a b c = (
     accepts-of (stages t T formula cells text),
@@ -170,8 +169,9 @@ module _ (t : Table) (T : Passing t) (formula cells text : List ℕ) where
       → x .text ≡ print (rename u) ++ drop (length (print (rename u))) text
   text-of (in-scan u) e M = never (sym e)
   text-of (in-parse S h k) e M = never (sym e)
-  text-of (at-last E R f) e M = prints-of f e .4 ∙ ap (λ w. print (rename w) ++ drop (length (print (rename w))) text) (means-one t T formula (E .means) M)
+  text-of (at-last E R f) e M = rw (means-one t T formula M (E .means)) (prints-of f e .4)
 
+  -- The text of an acceptance is the term, renamed and printed, and what was lent behind it.
   pub accepted-text : (a b c : ℕ) → X .answer ≡ Accepted a b c → {u : Term Name} → Means t formula u
       → X .text ≡ print (rename u) ++ drop (length (print (rename u))) text
   accepted-text a b c = text-of (stages t T formula cells text)
@@ -193,15 +193,12 @@ module _ (t : Table) (T : Passing t) (formula cells text : List ℕ) where
       → (v : ℕ) × (termAt a (spellOf t (M .words)) (x .cells) v ≡ u)
   cells-of (in-scan u) a b c q M = never (sym q)
   cells-of (in-parse S h k) a b c q M = never (sym q)
-  cells-of {x} (at-last {v = v} {s = s} E R f) a b c q M = (
-    v,
-    ap (λ (l : Lexed). termAt a (spellOf t (l .words)) (x .cells) v)
-        (sym (scanned-as t T formula (M .scans)) ∙ scanned-as t T formula (E .means .scans))
-        ∙ ap (λ (n : ℕ). termAt n (spellOf t (E .means .words)) (x .cells) v) (finish-count f a b c q ∙ sym (R .made-is))
-        ∙ ap (λ (w : List ℕ). termAt (s .made) (spellOf t (E .means .words)) w v) (finish-cells f) ∙ R .shows
-        ∙ means-one t T formula (E .means) M,
-  )
+  cells-of (at-last {v = v} {s = s} E R f) a b c q M =
+      let words = same-words t T formula (M .scans) (E .means .scans) in
+      let made : a ≡ s .made = finish-count f a b c q ∙ sym (R .made-is) in
+      (v, rw (words, made, finish-cells f) (R .shows ∙ means-one t T formula (E .means) M))
 
+  -- A row of the cells of an acceptance shows the term.
   pub accepted-cells : (a b c : ℕ) → X .answer ≡ Accepted a b c → {u : Term Name} (M : Means t formula u)
       → (v : ℕ) × (termAt a (spellOf t (M .words)) (X .cells) v ≡ u)
   accepted-cells = cells-of (stages t T formula cells text)
@@ -216,17 +213,23 @@ module _ (t : Table) (T : Passing t) (formula cells text : List ℕ) where
   text-left (at-last E R (too-long s b k)) r a = refl
   text-left (at-last E R (prints s b k)) r a = never a
 
+  -- A refusal leaves the text as it was.
   pub text-kept : (r : Refusal) → X .answer ≡ Refusing r → X .text ≡ text
   text-kept = text-left (stages t T formula cells text)
 
+  -- 14, 15 and 16 leave the cells as they were.
   pub cells-kept : (r : Refusal) → Unscans (lexiconOfTable t) formula r → X .cells ≡ cells
-  cells-kept r u = ap (λ (x : Expanded). x .cells) (unscanned-ends t T formula cells text u)
+  cells-kept r u = rw (unscanned-ends t T formula cells text u)
 
-  -- so many rows were made, and the numbers behind them are as lent
+  -- What an expansion does to the cells.
   pub record Keeps (x : Expanded) : Type 0 where
+    -- So many rows were made,
     pub rows : ℕ
+    -- no more than there are;
     pub few : rows ≤ rowsLent cells
+    -- the numbers behind them are as lent,
     pub left : Left rows cells (x .cells)
+    -- and an acceptance counts them.
     pub counted : (a b c : ℕ) → x .answer ≡ Accepted a b c → a ≡ rows
 
   ran : (ts : List Token) {x : Result ℕ} → RunsTo t T formula cells text ts x → Leaves (rowsLent cells) 0 cells x
@@ -245,5 +248,6 @@ module _ (t : Table) (T : Passing t) (formula cells text : List ℕ) where
             (R .made-is);
       }
 
+  -- Every expansion keeps the cells behind the rows that it made.
   pub keeps : Keeps X
   keeps = keeps-of (stages t T formula cells text)

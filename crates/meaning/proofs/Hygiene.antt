@@ -1,29 +1,27 @@
 -- Demand 3: every expansion of a passed table ends in one of 14 to 24 or in a hygienic text.
 use Prim.Native.Nat.{ℕ, _≤_, _<_}
-use mathlib.Core.Path.{_≡_, subst, subst⁻¹}
+use mathlib.Core.Path.{_≡_, subst}
 use mathlib.Core.List.{List, []}
 use native.Mathlib.Omega.{arith}
 use lib.ListN.{length, getD}
 use Rattle.answers.specs.declared.Refusal.{Refusal}
-use Rattle.answers.specs.declared.Answer.{Answer}
 use Rattle.answers.specs.Refusals.{refusal}
 use Rattle.grammar.specs.Table.{Item, Table, Lexicon}
 use Rattle.scanner.specs.declared.Token.{Token}
 use Rattle.scanner.specs.Unscanned.{Unscans, too-long, a-fault, too-many}
 use Rattle.productions.specs.Normal.{Production}
-use Rattle.checker.specs.Passes.{Passes}
 use Rattle.expansion.specs.Figure3.{Value}
 use Rattle.soundness.specs.Stopping.{Step, Fails, Stops, Enters, Refuses, stops, left-over, at-token, at-arguments, at-call, past-item, at-start, in-items}
 use Rattle.soundness.specs.Stopping.{at-result}
 use Rattle.soundness.specs.Stopping as Stopping
 use Rattle.soundness.specs.Passing.{Passing}
 use Rattle.soundness.proofs.Placing.{parses-placed}
-use Rattle.terms.specs.Term.{Name, Term, size}
+use Rattle.terms.specs.Term.{Name, Term}
 use Rattle.terms.specs.Rename.{rename}
 use Rattle.terms.specs.Print.{print}
 use Rattle.terms.specs.Occurrences.{occurrences, loosePlaces}
 use Rattle.terms.proofs.Statements as terms
-use Rattle.meaning.specs.Expand.{Expanded, expanded, expandTable, expand}
+use Rattle.meaning.specs.Expand.{Expanded, expandTable, expand}
 use Rattle.meaning.specs.Meaning.{Means, cellsOf}
 use Rattle.meaning.specs.Hygiene.{Hygienic, Ends, refuses, Demand3}
 use Rattle.meaning.specs.Hygiene as Hygiene
@@ -105,8 +103,9 @@ module _ (t : Table) (T : Passing t) (formula cells text : List ℕ) where
   table-ends : EndsAs (expandTable t formula cells text)
   table-ends = ends-stage (stages t T formula cells text)
 
+-- Whatever an expansion of a table of bytes answers, it meets demand 3.
 pub demand-3 : (table : List ℕ) → ((i : ℕ) → getD table i 0 < 256) → (formula cells text : List ℕ)
     → Demand3 table formula text (expand table formula cells text .answer) (expand table formula cells text .text)
 demand-3 table bytes formula cells text P =
-    subst⁻¹ (λ x. Ends (P .table) formula text (x .answer) (x .text)) (expand-passed table bytes P formula cells text)
+    rw (expand-passed table bytes P formula cells text)
     (table-ends (P .table) (record { within = P .within; meets = P .meets }) formula cells text)

@@ -1,10 +1,8 @@
 -- The variables of a term and their binders, as terms/specs/Binding computes them, are those of the rules of specs/Origins.
 use Prim.Native.Nat.{ℕ, suc, _+_}
-use mathlib.Core.Path.{_≡_, refl, sym, ap, ap₂, subst, _∙_}
-use mathlib.Core.Logic.{_↔_}
+use mathlib.Core.Path.{_≡_, refl, sym, ap, subst, _∙_}
 use mathlib.Core.Bool.{Bool, true, false, true≢false}
 use mathlib.Core.List.{List, [], _∷_, _++_}
-use native.Mathlib.Omega.{arith}
 use Rattle.spellings.proofs.BytesLaws.{by-test}
 use Rattle.layout.specs.Within.{Each, each-none, each-more}
 use Rattle.terms.specs.Term.{Name, word, fresh, outside, Term, Fields, variable, function, apply, rcd, dot, number, nil, cons, size}
@@ -40,6 +38,7 @@ innermost-one nowhere nowhere = refl
 mutual
   unfolding occurrences occurrencesFields
 
+  -- The variables that are computed are those of the rules,
   pub occurs : (around : List Binder) (p : ℕ) (t : Term Name) → Occurs around p t (occurrences around p t)
   occurs around p (variable v) = in-variable (owner-innermost around v)
   occurs around p (function b t) = in-function (occurs (record { name = b; place = p } ∷ around) (suc p) t)
@@ -55,17 +54,18 @@ mutual
 mutual
   unfolding occurrences occurrencesFields
 
+  -- and the rules give no others.
   pub occurs-one : {around : List Binder} {p : ℕ} (t : Term Name) {os : List Occurrence} → Occurs around p t os → occurrences around p t ≡ os
-  occurs-one {around} {p} (variable v) (in-variable h) = ap (λ o. at p v o ∷ []) (innermost-one (owner-innermost around v) h)
+  occurs-one {around} {p} (variable v) (in-variable h) = rw (innermost-one (owner-innermost around v) h)
   occurs-one (function b t) (in-function h) = occurs-one t h
-  occurs-one (apply t u) (in-apply h k) = ap₂ (λ xs ys. xs ++ ys) (occurs-one t h) (occurs-one u k)
+  occurs-one (apply t u) (in-apply h k) = cc (occurs-one t h, occurs-one u k)
   occurs-one (rcd f) (in-rcd h) = occurs-fields-one f h
   occurs-one (dot t l) (in-dot h) = occurs-one t h
   occurs-one (number n) in-number = refl
 
   occurs-fields-one : {around : List Binder} {p : ℕ} (f : Fields Name) {os : List Occurrence} → OccursFields around p f os → occurrencesFields around p f ≡ os
   occurs-fields-one nil in-nil = refl
-  occurs-fields-one (cons l t f) (in-cons h k) = ap₂ (λ xs ys. xs ++ ys) (occurs-one t h) (occurs-fields-one f k)
+  occurs-fields-one (cons l t f) (in-cons h k) = cc (occurs-one t h, occurs-fields-one f k)
 
 -- ------------------------------------------------------------------ loose ones
 
@@ -89,7 +89,7 @@ loose-further : (o : Occurrence) (os : List Occurrence) → isLoose (o .name) (o
 unfolding loosePlaces
 loose-further o os h = rw (h, loosePlaces) refl
 
--- the places that are computed say whether there is one, and the first of them is the first
+-- The places that are computed say whether there is one, and the first of them is the first.
 abbrev pub Says : List Occurrence → List ℕ → Type 0
 Says os [] = NoneLoose os
 Says os (p ∷ ps) = FirstLoose os p
@@ -98,6 +98,7 @@ says-later : (o : Occurrence) (os : List Occurrence) (ps : List ℕ) → (Loose 
 says-later o os [] n h = each-more n h
 says-later o os (p ∷ ps) n h = later n h
 
+-- They say so of every list.
 pub loose-says : (os : List Occurrence) → Says os (loosePlaces os)
 unfolding loosePlaces
 loose-says [] = each-none
@@ -116,7 +117,7 @@ first-one (this-first l) (later n f) = absurd (n l)
 first-one (later n f) (this-first l) = absurd (n l)
 first-one (later n f) (later m h) = first-one f h
 
--- by the rules there is none exactly if none is computed, and the first is the first computed
+-- If there is none by the rules, none is computed,
 pub none-places : {u : Term Name} {os : List Occurrence} → Occurs [] 0 u os → NoneLoose os → loosePlaces (occurrences [] 0 u) ≡ []
 none-places {u} {os} h n = ap loosePlaces (occurs-one u h) ∙ go (loosePlaces os) (loose-says os)
   where
@@ -124,13 +125,14 @@ none-places {u} {os} h n = ap loosePlaces (occurs-one u h) ∙ go (loosePlaces o
     go [] s = refl
     go (p ∷ ps) s = absurd (first-not-none s n)
 
+-- and the first by the rules is the first computed.
 pub first-places : {u : Term Name} {os : List Occurrence} {p : ℕ} → Occurs [] 0 u os → FirstLoose os p
     → (ps : List ℕ) × (loosePlaces (occurrences [] 0 u) ≡ p ∷ ps)
 first-places {u} {os} {p} h f = let g = go (loosePlaces os) (loose-says os) in (g .0, ap loosePlaces (occurs-one u h) ∙ g .1)
   where
     go : (ps : List ℕ) → Says os ps → (qs : List ℕ) × (ps ≡ p ∷ qs)
     go [] s = absurd (first-not-none f s)
-    go (q ∷ ps) s = (ps, ap (λ x. x ∷ ps) (first-one s f))
+    go (q ∷ ps) s = (ps, cc (first-one s f))
 
 -- ------------------------------------------------------------------ what demand 3 asks of a variable
 
@@ -175,6 +177,7 @@ one-owned : {around : List Binder} {p : ℕ} {v : Name} {o : Owner} → Innermos
 one-owned {p = p} {v = v} h (each-more n each-none) = each-more (owned p v h n) each-none
 
 mutual
+  -- Where no fresh variable is loose, every variable has the binder, or none, that demand 3 asks.
   pub all-owned : {around : List Binder} {p : ℕ} (t : Term Name) {os : List Occurrence} → Occurs around p t os → NoneLoose os → Each IsOwned os
   all-owned (variable v) (in-variable h) n = one-owned h n
   all-owned (function b t) (in-function h) n = all-owned t h n

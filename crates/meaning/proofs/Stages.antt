@@ -1,6 +1,6 @@
 -- Where an expansion of a passed table ends: in the scan, in the parse, or in the last step.
-use Prim.Native.Nat.{ℕ, zero, suc, _*_, _/_, _≤_, _<_, min}
-use mathlib.Core.Path.{_≡_, refl, sym, ap, ap₂, subst, _∙_}
+use Prim.Native.Nat.{ℕ, zero, suc, _*_, _≤_, _<_}
+use mathlib.Core.Path.{_≡_, refl, sym, ap, ap₂, _∙_}
 use mathlib.Core.Bool.{true}
 use mathlib.Core.List.{List, [], _∷_, _++_}
 use native.Mathlib.Omega.{arith}
@@ -8,18 +8,16 @@ use native.Mathlib.Decide.{decLe}
 use lib.ListN.{length, getD, drop}
 use borrow.Author.Tests.{lt-ltb}
 use Rattle.answers.specs.declared.Refusal.{Refusal}
-use Rattle.answers.specs.declared.Answer.the-variants.{Accepted, Refusing}
+use Rattle.answers.specs.declared.Answer.the-variants.{Accepted}
 use Rattle.answers.specs.Refusals.{refusal}
-use Rattle.answers.specs.Checked.{Checked, ok, bad, _>>=_, _>>_}
+use Rattle.answers.specs.Checked.{ok}
 use Rattle.spellings.specs.Bytes.{isWord}
 use Rattle.kinds.specs.Kinds.{wordKind}
 use Rattle.grammar.specs.Table.{Table, Lexicon, lexiconOfTable}
-use Rattle.terms.specs.Cells.{columns, mostCells}
+use Rattle.terms.specs.Cells.{columns}
 use Rattle.layout.specs.Within.{Each, each-none, each-more}
 use Rattle.layout.proofs.LayoutTheorems.{decode-exactly}
-use Rattle.sorts.specs.CheckSorts.{checkSorts}
 use Rattle.sorts.proofs.SortTheorems.{sorts-exactly}
-use Rattle.firsts.specs.First.{checkFirsts}
 use Rattle.firsts.proofs.FirstsTheorems.{passes-exactly}
 use Rattle.scanner.specs.declared.Token.{Token}
 use Rattle.scanner.specs.declared.Scanned.{Scanned}
@@ -35,7 +33,7 @@ use Rattle.checker.specs.Passes.{grammarOf, Passes}
 use Rattle.expansion.specs.declared.State.{State}
 use Rattle.expansion.specs.Run.{Result, done, halt}
 use Rattle.expansion.specs.Expansion.{run}
-use Rattle.expansion.specs.Parsing.{Runs, SmallWords}
+use Rattle.expansion.specs.Parsing.{Runs}
 use Rattle.expansion.specs.Figure3.{Parses}
 use Rattle.soundness.specs.Stopping.{Refuses}
 use Rattle.soundness.specs.Places.{Among, among-first, among-later}
@@ -44,33 +42,36 @@ use Rattle.soundness.proofs.ExpansionTheorems as expansion
 use Rattle.terms.specs.Term.{Name, Term, size, largestTerm}
 use Rattle.terms.specs.Rows.{termAt}
 use Rattle.terms.specs.Rename.{rename}
-use Rattle.terms.specs.Loose.{Walk, loose, reached, walk}
+use Rattle.terms.specs.Loose.{walk}
 use Rattle.terms.specs.Print.{print}
 use Rattle.terms.specs.Emit.{textOf, fitted, emitted}
 use Rattle.terms.proofs.EmitLaws.{fitted-long, fitted-whole, emitted-large, emitted-loose, emitted-fitted}
 use Rattle.terms.specs.Occurrences.{occurrences, loosePlaces, stopsAtFirst, isWorded}
 use Rattle.terms.proofs.Statements as terms
-use Rattle.meaning.specs.Expand.{Expanded, refused, withCells, inputOf, finished, scanned, expandTable, checkedFirst, expand}
+use Rattle.meaning.specs.Expand.{Expanded, refused, withCells, inputOf, finished, scanned, expandTable, expand}
 use Rattle.meaning.specs.Meaning.{Scans, spellOf, Means, rowsLent, MeansWithin, cellsOf}
 
 -- ------------------------------------------------------------------ the table
 
 module _ (bs : List ℕ) (bytes : (i : ℕ) → getD bs i 0 < 256) (P : Passes bs) where
-  -- a table that passes is the one that is expanded
+  -- A table that passes is the one that is expanded,
   pub passed-table : passedTable bs ≡ ok (P .table)
   unfolding passedTable
   passed-table =
-      ap (λ d. d >>= (λ t. checkSorts t >> checkFirsts (grammarOf t) >> ok t)) (decode-exactly bs bytes (P .table) .1 (P .encoded, P .within))
-      ∙ ap (λ c. c >> checkFirsts (grammarOf (P .table)) >> ok (P .table)) (sorts-exactly (P .table) (P .within) .1 (P .meets .sorted))
-      ∙ ap (λ c. c >> ok (P .table)) (passes-exactly (grammarOf (P .table)) .1 (P .meets .not-left-recursive, P .meets .without-clash))
+      rw (
+        decode-exactly bs bytes (P .table) .1 (P .encoded, P .within),
+        sorts-exactly (P .table) (P .within) .1 (P .meets .sorted),
+        passes-exactly (grammarOf (P .table)) .1 (P .meets .not-left-recursive, P .meets .without-clash),
+      )
 
+  -- so that its expansion is that of the table.
   pub expand-passed : (formula cells text : List ℕ) → expand bs formula cells text ≡ expandTable (P .table) formula cells text
   unfolding expand
-  expand-passed formula cells text = ap (λ c. checkedFirst c formula cells text) passed-table
+  expand-passed formula cells text = rw passed-table
 
 -- ------------------------------------------------------------------ the last step
 
--- 22, 23 and 24 in their order, else the text
+-- How the last step ends: by 22, 23 or 24, in their order, else with the text.
 pub data Finish (made : ℕ) (u : Term Name) (cells text : List ℕ) : Expanded → Type 0 where
   too-big : largestTerm < size u → Finish made u cells text (refused (refusal 22 made 0 0) cells text)
   is-loose : {p : ℕ} {ps : List ℕ} → size u ≤ largestTerm → loosePlaces (occurrences [] 0 u) ≡ p ∷ ps
@@ -93,11 +94,12 @@ module _ (made : ℕ) (u : Term Name) (cells text : List ℕ) where
       by (yes h) = rw (fitted-whole made (size u) (textOf u) text h) (prints small none h)
       by (no n) = let h : length text < length (textOf u) = omega arith in rw (fitted-long made (size u) (textOf u) text h) (too-long small none h)
 
+  -- The last step ends so.
   pub finishes : Finish made u cells text (withCells cells (emitted textOf made u text))
   finishes = by (decLe (size u) largestTerm) (loosePlaces (occurrences [] 0 u)) refl
     where
       walks : {ps : List ℕ} → loosePlaces (occurrences [] 0 u) ≡ ps → walk [] 0 u ≡ stopsAtFirst ps (size u)
-      walks e = terms.first-loose u ∙ ap (λ ps. stopsAtFirst ps (size u)) e
+      walks e = rw (terms.first-loose u, e)
 
       by : Dec (size u ≤ largestTerm) → (ps : List ℕ) → loosePlaces (occurrences [] 0 u) ≡ ps
           → Finish made u cells text (withCells cells (emitted textOf made u text))
@@ -111,25 +113,40 @@ every-has : (P : Token → Type 0) {ts : List Token} {w : Token} → Among ts w 
 every-has P among-first p = p .0
 every-has P (among-later a) p = every-has P a (p .1)
 
+-- What holds of each element of a list holds of the one at an index.
 pub each-getD : {A : Type 0} {P : A → Type 0} {xs : List A} → Each P xs → (n : ℕ) (d : A) → n < length xs → P (getD xs n d)
 each-getD each-none n d l = absurd (omega arith)
 each-getD (each-more h hs) zero d l = h
 each-getD (each-more h hs) (suc n) d l = each-getD hs n d (omega arith)
 
 module _ (t : Table) (T : Passing t) (formula : List ℕ) where
+  -- The table's keywords and outside names.
   abbrev pub lex : Lexicon
   lex = lexiconOfTable t
 
   few : length (t .outsides) ≤ 64
   few = T .within .outsideCount
 
-  -- tokens and words by the rules are those of the scan
   abbrev Lexing : List Token → List (List ℕ) → Lexed
   Lexing ts ws = record { answer = Tokens (length ts) (length ws); tokens = ts; words = ws }
 
+  -- Tokens and words by the rules are those of the scan,
   pub scanned-as : {ts : List Token} {ws : List (List ℕ)} → Scans t formula ts ws → scan lex formula ≡ Lexing ts ws
   scanned-as {ts} {ws} S = scanner.accepted-exactly lex few formula ts ws .1 (S .short, S .tiled, S .few)
 
+  module _ {ts us : List Token} {ws vs : List (List ℕ)} (S : Scans t formula ts ws) (R : Scans t formula us vs) where
+    abbrev same-scan : Lexing ts ws ≡ Lexing us vs
+    same-scan = sym (scanned-as S) ∙ scanned-as R
+
+    -- so that a formula has one list of tokens
+    pub same-tokens : ts ≡ us
+    same-tokens = ap (λ (l : Lexed). l .tokens) same-scan
+
+    -- and one of words;
+    pub same-words : ws ≡ vs
+    same-words = ap (λ (l : Lexed). l .words) same-scan
+
+  -- and those of a scan that is not refused are so by the rules.
   pub scans-of : {n m : ℕ} → scan lex formula .answer ≡ Tokens n m → Scans t formula (scan lex formula .tokens) (scan lex formula .words)
   scans-of {n} {m} e =
       let c = scanner.tokens-counted lex few formula e in
@@ -139,68 +156,80 @@ module _ (t : Table) (T : Passing t) (formula : List ℕ) where
       let q = scanner.accepted-exactly lex few formula ts ws .0 same in
       record { short = q .0; tiled = q .1; few = q .2 }
 
+  -- A scan is refused exactly by the rules for 14, 15 and 16.
   pub unscans-exactly : (r : Refusal)
       → (scan lex formula .answer ≡ Unscanned r → Unscans lex formula r) × (Unscans lex formula r → scan lex formula .answer ≡ Unscanned r)
   unscans-exactly r = scanner.refused-exactly lex few formula r
 
   module _ {ts : List Token} {ws : List (List ℕ)} (S : Scans t formula ts ws) where
+    -- The tokens, with what their numbers stand for.
     pub lexemes : Lexemes
     lexemes =
         record {
           spell = spellOf t ws;
           tokens = ts;
-          small = subst (λ (l : Lexed). SmallWords (l .tokens)) (scanned-as S) (expansion.scanned-is-small lex few formula);
+          small = rw (scanned-as S) at (expansion.scanned-is-small lex few formula);
         }
 
+    -- A word's number is that of its spelling.
     pub spelled-at : (w : Token) → Among ts w → w .kind ≡ wordKind → Spelled lex formula ws w
     spelled-at w a k =
         every-has (λ v. v .kind ≡ wordKind → Spelled lex formula ws v) a
-        (subst (λ (l : Lexed). Every (λ v. v .kind ≡ wordKind → Spelled lex formula (l .words) v) (l .tokens)) (scanned-as S) (scan-spelled lex few formula)) k
+        (rw (scanned-as S) at (scan-spelled lex few formula)) k
 
-    -- a word's spelling number stands for its bytes, and an outside name's for the table's spelling
+    -- A word's spelling number stands for its bytes,
     pub words-as-written : (w : Token) → Among ts w → w .kind ≡ wordKind → spellOf t ws (w .value) ≡ bytesOf formula w
     words-as-written w a k = spelled-number lex few formula ws w (spelled-at w a k)
 
+    -- and an outside name's for the table's spelling.
     pub outsides-as-listed : (n : ℕ) → n < length (t .outsides) → spellOf t ws n ≡ getD (t .outsides) n []
     outsides-as-listed n l = rw (lt-ltb n 64 (omega (arith, few)), spelled) refl
 
+    -- All names of a derived term are words.
     pub worded : {u : Term Name} → Parses (grammarOf t) (spellOf t ws) (t .root) ts u → isWorded u ≡ true
     unfolding lexemes
     worded P =
         expansion.derived-is-worded t T lexemes (λ w a k. ap isWord (words-as-written w a k) ∙ spelled-at w a k .is-word)
         (λ n l. ap isWord (outsides-as-listed n l) ∙ each-getD (T .within .outsides) n [] l) P
 
-  -- the term of a formula
+  -- A formula has one term at most.
   pub means-one : {u w : Term Name} → Means t formula u → Means t formula w → u ≡ w
   unfolding lexemes
   means-one {u} {w} M N =
-      let e : Lexing (M .tokens) (M .words) ≡ Lexing (N .tokens) (N .words) = sym (scanned-as (M .scans)) ∙ scanned-as (N .scans) in
       expansion.derived-once t T (lexemes (N .scans))
-      (subst (λ (l : Lexed). Parses (grammarOf t) (spellOf t (l .words)) (t .root) (l .tokens) u) e (M .parsed)) (N .parsed)
+      (rw (same-tokens (M .scans) (N .scans), same-words (M .scans) (N .scans)) at (M .parsed)) (N .parsed)
 
   -- ------------------------------------------------------------------ the stages
 
   module _ (cells text : List ℕ) where
+    -- The rows that may be made lie in the cells lent.
     pub room : rowsLent cells * columns ≤ length cells
     room = omega arith
 
+    -- The run of some tokens in the cells lent gives this.
     abbrev pub RunsTo : List Token → Result ℕ → Type 0
     RunsTo ts x = Runs (grammarOf t) (t .root) ts (rowsLent cells) cells x
 
+    -- By the rules it stops with this refusal.
     abbrev pub Stopped : List Token → List (List ℕ) → Refusal → Type 0
     Stopped ts ws r = Refuses (grammarOf t) (spellOf t ws) (rowsLent cells) ts (t .root) r
 
+    -- A run stops exactly by those rules.
     pub stops-exactly : {ts : List Token} {ws : List (List ℕ)} → Scans t formula ts ws → (r : Refusal)
         → ((cells′ : List ℕ) × RunsTo ts (halt r cells′) → Stopped ts ws r) × (Stopped ts ws r → (cells′ : List ℕ) × RunsTo ts (halt r cells′))
     unfolding lexemes
     stops-exactly S r = expansion.refused-exactly t T (lexemes S) (rowsLent cells) cells room r
 
-    -- a term within the limits is run to its end
+    -- The run of a term's tokens ends: in a value, with so many rows, of which one shows the term.
     pub record Reached {u : Term Name} (E : MeansWithin t formula cells u) (v : ℕ) (s : State) (cells′ : List ℕ) : Type 0 where
+      -- the run's result
       pub runs : RunsTo (E .means .tokens) (done v s cells′)
+      -- the rows made are what the term costs
       pub made-is : s .made ≡ cellsOf E
+      -- the root's row shows the term
       pub shows : termAt (s .made) (spellOf t (E .means .words)) cells′ v ≡ u
 
+    -- A term within the limits is run to its end.
     pub run-to-end : {u : Term Name} (E : MeansWithin t formula cells u) → (v : ℕ) × (s : State) × (cells′ : List ℕ) × Reached E v s cells′
     unfolding lexemes
     run-to-end {u} E =
@@ -209,7 +238,7 @@ module _ (t : Table) (T : Passing t) (formula : List ℕ) where
         let c = expansion.accepted-as-derived t T R (rowsLent cells) cells room (E .means .parsed) (a .0) (a .1) (a .2) (a .3) in
         (a .0, a .1, a .2, record { runs = a .3; made-is = c .1; shows = a .4 })
 
-    -- what is run to its end means a term within the limits
+    -- What is run to its end means a term within the limits.
     pub meant : {ts : List Token} {ws : List (List ℕ)} → Scans t formula ts ws → (v : ℕ) (s : State) (cells′ : List ℕ) → RunsTo ts (done v s cells′)
         → (E : MeansWithin t formula cells (termAt (s .made) (spellOf t ws) cells′ v)) × Reached E v s cells′
     unfolding lexemes
@@ -221,7 +250,7 @@ module _ (t : Table) (T : Passing t) (formula : List ℕ) where
           record { runs = e; made-is = c .1; shows = refl },
         )
 
-    -- the stages, with what is handed back
+    -- Where an expansion ends, with what is handed back: in the scan, in the parse, or in the last step.
     pub data Stage : Expanded → Type 0 where
       in-scan : {r : Refusal} → Unscans lex formula r → Stage (refused r cells text)
       in-parse : {r : Refusal} {ts : List Token} {ws : List (List ℕ)} {cells′ : List ℕ} → Scans t formula ts ws → RunsTo ts (halt r cells′) → Stopped ts ws r
@@ -234,37 +263,41 @@ module _ (t : Table) (T : Passing t) (formula : List ℕ) where
     by-run {ts} {ws} S (done v s cells′) e =
         let m = meant S v s cells′ e in
         let u : Term Name = termAt (s .made) (spellOf t ws) cells′ v in
-        at-last (m .0) (m .1)
-        (subst (λ n. Finish n u cells′ text (withCells cells′ (emitted textOf (s .made) u text))) (m .1 .made-is) (finishes (s .made) u cells′ text))
+        at-last {x = withCells cells′ (emitted textOf (s .made) u text)} (m .0) (m .1)
+        (rw (← m .1 .made-is) (finishes (s .made) u cells′ text))
 
     by-scan : (a : Scanned) → scan lex formula .answer ≡ a → Stage (scanned t (scan lex formula) a cells text)
     by-scan (Unscanned r) e = in-scan (unscans-exactly r .0 e)
     by-scan (Tokens n m) e = by-run (scans-of e) (run (inputOf t (scan lex formula .tokens) cells) (t .root) cells) refl
 
+    -- Every expansion of a passed table ends in one of them.
     pub stages : Stage (expandTable t formula cells text)
     unfolding expandTable
     stages = by-scan (scan lex formula .answer) refl
 
     -- ------------------------------------------------------------------ back from the rules
 
+    -- A refusal of the scan is the answer, and nothing that was lent changes.
     pub unscanned-ends : {r : Refusal} → Unscans lex formula r → expandTable t formula cells text ≡ refused r cells text
     unfolding expandTable
-    unscanned-ends {r} u = ap (λ (a : Scanned). scanned t (scan lex formula) a cells text) (unscans-exactly r .1 u)
+    unscanned-ends {r} u = rw (unscans-exactly r .1 u)
 
     run-ends : {ts : List Token} {ws : List (List ℕ)} → Scans t formula ts ws → (x : Result ℕ) → RunsTo ts x
         → expandTable t formula cells text ≡ finished (spellOf t ws) text x
     unfolding expandTable
-    run-ends {ts} {ws} S x e = ap (λ (l : Lexed). scanned t l (l .answer) cells text) (scanned-as S) ∙ ap (λ (y : Result ℕ). finished (spellOf t ws) text y) e
+    run-ends S x e = rw (scanned-as S, e)
 
+    -- A refusal of the parse is the answer, and the text stays.
     pub stopped-ends : {r : Refusal} {ts : List Token} {ws : List (List ℕ)} → Scans t formula ts ws → Stopped ts ws r
         → (cells′ : List ℕ) × (expandTable t formula cells text ≡ refused r cells′ text)
     stopped-ends {r} S h = let q = stops-exactly S r .1 h in (q .0, run-ends S (halt r (q .0)) (q .1))
 
+    -- The expansion of a term within the limits ends in the last step.
     pub meant-ends : {u : Term Name} (E : MeansWithin t formula cells u)
         → (cells′ : List ℕ) × Finish (cellsOf E) u cells′ text (expandTable t formula cells text)
     meant-ends {u} E =
         let q = run-to-end E in
         let e : expandTable t formula cells text ≡ withCells (q .2) (emitted textOf (cellsOf E) u text)
         = run-ends (E .means .scans) (done (q .0) (q .1) (q .2)) (q .3 .runs)
-        ∙ ap₂ (λ (m : ℕ) (w : Term Name). withCells (q .2) (emitted textOf m w text)) (q .3 .made-is) (q .3 .shows) in
-        (q .2, subst (Finish (cellsOf E) u (q .2) text) (sym e) (finishes (cellsOf E) u (q .2) text))
+        ∙ rw (q .3 .shows, q .3 .made-is) in
+        (q .2, rw e (finishes (cellsOf E) u (q .2) text))

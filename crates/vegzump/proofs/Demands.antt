@@ -4,10 +4,10 @@
 -- Figure 3 and its costs (expansion: Figure3, Costs), of where an expansion stops and what stands at a place (soundness: Stopping, Places), and of
 -- a table that passes (checker: Passes).
 use Prim.Native.Nat.{ℕ, _≤_, _<_}
-use mathlib.Core.Path.{_≡_, subst⁻¹}
+use mathlib.Core.Path.{_≡_}
 use mathlib.Core.Logic.{_↔_}
 use mathlib.Core.List.{List, _++_}
-use lib.ListN.{length, getD, drop}
+use lib.ListN.{getD, drop}
 use Rattle.answers.specs.declared.Refusal.{Refusal}
 use Rattle.answers.specs.declared.Answer.{Answer}
 use Rattle.answers.specs.declared.Answer.the-variants.{Accepted, Refusing}
@@ -49,7 +49,7 @@ module _ (table : List ℕ) (bytes : (i : ℕ) → getD table i 0 < 256) (formul
 
   -- So does every call that answers as `expand` does.
   pub call-meets-demand-3 : {answer : Answer} {cells′ text′ : List ℕ} → expanded answer cells′ text′ ≡ X → Demand3 table formula text answer text′
-  call-meets-demand-3 e = subst⁻¹ (λ (x : Expanded). Demand3 table formula text (x .answer) (x .text)) e demand-3
+  call-meets-demand-3 e = rw (← e) at demand-3
 
   -- ------------------------------------------------------------------ demand 2: a table that does not pass
 
@@ -88,10 +88,11 @@ module _ (table : List ℕ) (bytes : (i : ℕ) → getD table i 0 < 256) (formul
 
     -- ------------------------------------------------------------------ what is left as it was
 
-    -- Every refusal leaves the text as it was; 14, 15 and 16 leave the cells too.
+    -- Every refusal leaves the text as it was.
     pub text-kept : (r : Refusal) → X .answer ≡ Refusing r → X .text ≡ text
     text-kept = rw (expand-passed table bytes P formula cells text) (exactly.text-kept (P .table) T formula cells text)
 
+    -- 14, 15 and 16 leave the cells too.
     pub cells-kept : (r : Refusal) → Unscans (lexiconOfTable (P .table)) formula r → X .cells ≡ cells
     cells-kept = rw (expand-passed table bytes P formula cells text) (exactly.cells-kept (P .table) T formula cells text)
 

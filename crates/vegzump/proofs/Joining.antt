@@ -1,58 +1,51 @@
 -- What the promises of check, scan, run and last step come to, joined.
-use Prim.Native.Nat.{ℕ, _*_, _/_, _-_, _<_, _≤_, min}
-use mathlib.Core.Path.{_≡_, refl, sym, ap, subst, _∙_}
-use mathlib.Core.Bool.{true}
+use Prim.Native.Nat.{ℕ, _*_, _-_, _≤_}
+use mathlib.Core.Path.{_≡_, sym, ap, _∙_}
 use mathlib.Core.List.{List, []}
 use native.Mathlib.Omega.{arith}
 use lib.ListN.{length, getD, take}
 use lib.Seq.{sets, length-sets, length-take-le}
 use Rattle.answers.specs.declared.Refusal.{Refusal}
 use Rattle.answers.specs.declared.Answer.{Answer}
-use Rattle.answers.specs.declared.Answer.the-variants.{Accepted, Refusing}
+use Rattle.answers.specs.declared.Answer.the-variants.{Refusing}
 use Rattle.answers.specs.declared.Verdict.{Verdict}
-use Rattle.answers.specs.declared.Verdict.the-variants.{Passed, Refused}
+use Rattle.answers.specs.declared.Verdict.the-variants.{Passed}
 use Rattle.spellings.specs.Bytes.{isWord}
 use Rattle.answers.specs.Checked.{ok}
-use Rattle.kinds.specs.Kinds.{wordKind}
 use Rattle.grammar.specs.Table.{Lexicon, lexiconOfTable}
 use Rattle.grammar.specs.Lookup.{lexiconOf}
 use Rattle.terms.specs.Cells.{columns}
-use Rattle.layout.specs.Within.{Each}
 use Rattle.layout.proofs.Split.{Bytes}
-use Rattle.scanner.specs.declared.Token.{Token}
 use Rattle.scanner.specs.declared.Scanned.{Scanned}
 use Rattle.scanner.specs.declared.Scanned.the-variants.{Tokens, Unscanned}
 use Rattle.scanner.specs.Scan.{Lexed, scan}
-use Rattle.scanner.specs.Rooms.{Filled, filled, scanInto, rows, places, tokensIn, TokensFit, wordsIn, RoomFor}
+use Rattle.scanner.specs.Rooms.{Filled, filled, scanInto, rows, places, RoomFor}
 use Rattle.scanner.specs.Tokens.{spelled}
 use Rattle.scanner.proofs.AfterScan.{Holds, scan-holds, scan-refused}
-use Rattle.productions.specs.Normal.{Production}
-use Rattle.firsts.specs.Room.{productionsIn}
-use Rattle.checker.specs.Check.{passedTable, check}
+use Rattle.checker.specs.Check.{passedTable}
 use Rattle.checker.specs.CheckedInto.{CheckedInto}
 use Rattle.checker.specs.Passes.{grammarOf, Passes}
 use Rattle.checker.proofs.TableTheorems.{check-exactly}
 use Rattle.checker.proofs.Joined.{passed-grammar, passed-holds, passed-places}
-use Rattle.rows.specs.Sizes.{WholeRows}
 use Rattle.writer.specs.Pool.{spelledBy}
 use Rattle.terms.specs.Term.{Name, Term}
 use Rattle.terms.specs.Rows.{termAt}
 use Rattle.terms.specs.Names.{WellNamed}
-use Rattle.terms.specs.Emit.{textOf, Emitted, emitted}
+use Rattle.terms.specs.Emit.{textOf, emitted}
 use Rattle.emitter.specs.Emittable.{Emittable}
 use Rattle.expansion.specs.declared.State.{State}
 use Rattle.expansion.specs.declared.Outcome.{Outcome}
 use Rattle.expansion.specs.declared.Outcome.the-variants.{Value, Halted}
-use Rattle.expansion.specs.Run.{Result, done, halt}
+use Rattle.expansion.specs.Run.{done, halt}
 use Rattle.expansion.specs.Outcomes.{ran}
 use Rattle.expansion.specs.Expansion.{run}
 use Rattle.expansion.specs.Parsing.{input}
 use Rattle.expansion.specs.Figure3 as Figure3
-use Rattle.expander.specs.Lent.{Held, lentInput}
+use Rattle.expander.specs.Lent.{lentInput}
 use Rattle.templates.specs.Built.{rowsIn}
 use Rattle.soundness.specs.Passing.{Passing, Lexemes}
 use Rattle.soundness.proofs.ExpansionTheorems as expansion
-use Rattle.meaning.specs.Expand.{Expanded, expanded, refused, withCells, inputOf, finished, expand}
+use Rattle.meaning.specs.Expand.{expanded, withCells, finished, expand}
 use Rattle.meaning.specs.Meaning as Meaning
 use Rattle.vegzump.specs.declared.parse.Parsed.{Parsed}
 use Rattle.vegzump.specs.Parse.{parse, HoldsPassed, Rooms, WordsKnown, RowsLie, Parses, ParsesTo, haltedParse, parsedInto, parseInto}
@@ -84,26 +77,23 @@ module _ {bs : List ℕ} (bytes : Bytes bs) where
 
     module _ {tokens words : List ℕ} (room : RoomFor formula tokens words) where
       in-lexicon : {f : Filled} → f ≡ scanInto (lexiconOf bs) formula tokens words → f ≡ scanInto lex formula tokens words
-      in-lexicon e = e ∙ ap (λ (l : Lexicon). scanInto l formula tokens words) (naming.lexicon-passed bs bytes P)
+      in-lexicon e = rw (naming.lexicon-passed bs bytes P) at e
 
       -- A scan that refuses is the end of the parse.
       pub parse-stops : {a : Scanned} {r : Refusal} {tokens′ words′ : List ℕ} → filled a tokens′ words′ ≡ scanInto (lexiconOf bs) formula tokens words
           → a ≡ Unscanned r → halt r cells ≡ parse bs formula cells
-      parse-stops {tokens′ = tokens′} {words′} e h =
-          let f = ap (λ (x : Scanned). filled x tokens′ words′) (sym h) ∙ in-lexicon e in
-          sym (parsing.parse-unscanned bs formula cells passed (scan-refused lex few formula room f))
+      parse-stops e h = sym (parsing.parse-unscanned bs formula cells passed (scan-refused lex few formula room (rw h at (in-lexicon e))))
 
       -- The same with all rooms.
       pub stops-whole : {a : Scanned} {r : Refusal} {q : Parsed} {tokens′ words′ : List ℕ}
           → filled a tokens′ words′ ≡ scanInto (lexiconOf bs) formula tokens words
           → a ≡ Unscanned r → q ≡ haltedParse r → parsedInto q tokens′ words′ cells ≡ parseInto bs formula tokens words cells
-      stops-whole {tokens′ = tokens′} {words′} e h =
-          parsing.into-unscanned bs formula tokens words cells passed (ap (λ (x : Scanned). filled x tokens′ words′) (sym h) ∙ in-lexicon e)
+      stops-whole e h = parsing.into-unscanned bs formula tokens words cells passed (rw h at (in-lexicon e))
 
       -- One that does not leaves its tokens and words in the rooms.
       pub scan-fills : {a : Scanned} {n count : ℕ} {tokens′ words′ : List ℕ} → filled a tokens′ words′ ≡ scanInto (lexiconOf bs) formula tokens words
           → a ≡ Tokens n count → Holds lex few formula tokens′ words′ n count
-      scan-fills {tokens′ = tokens′} {words′} e h = scan-holds lex few formula room (ap (λ (x : Scanned). filled x tokens′ words′) (sym h) ∙ in-lexicon e)
+      scan-fills e h = scan-holds lex few formula room (rw h at (in-lexicon e))
 
     -- ------------------------------------------------------------------ the run
 
@@ -122,11 +112,10 @@ module _ {bs : List ℕ} (bytes : Bytes bs) where
       -- The run of the tokens in the room is the parse.
       pub parse-runs : run (lentInput bs tokens n (rowsIn cells)) (getD bs (length bs - 1) 0) cells ≡ parse bs formula cells
       parse-runs =
-          ap (λ (g : List Production). run (input g (tokensIn tokens n) (rowsIn cells)) (getD bs (length bs - 1) 0) cells) (passed-grammar bytes P)
-          ∙ ap (λ (ts : List Token). run (input (grammarOf (P .table)) ts (rowsIn cells)) (getD bs (length bs - 1) 0) cells) (H .tokens-are)
-          ∙ ap (λ (r : ℕ). run (input (grammarOf (P .table)) (scan lex formula .tokens) (rowsIn cells)) r cells) (root-last (P .table) (P .encoded))
-          ∙ sym (parsing.parse-run bs formula cells passed (H .answered))
+          rw (passed-grammar bytes P, H .tokens-are, root-last (P .table) (P .encoded))
+          (sym (parsing.parse-run bs formula cells passed (H .answered)))
 
+      -- The words are known, in a room half as long as that of the tokens or longer.
       pub known : length tokens ≤ length words * 2 → WordsKnown bs formula words count
       known half =
           record {
@@ -193,7 +182,7 @@ module _ {bs : List ℕ} (bytes : Bytes bs) (cells : List ℕ) {formula words ce
 
   -- the term in the rows made, with the spellings that the last step reads
   term-is : termAt (s .made) (spelledBy bs formula words count) (take (s .made * columns) cells′) v ≡ termAt (s .made) spell cells′ v
-  term-is = ap (λ (f : ℕ → List ℕ). termAt (s .made) f (take (s .made * columns) cells′) v) spelled-is ∙ leaves .2
+  term-is = rw spelled-is (leaves .2)
 
   long : length (take (s .made * columns) cells′) ≡ s .made * columns
   long = length-take-le (s .made * columns) cells′ (rows-lie .inside)
@@ -209,8 +198,7 @@ module _ {bs : List ℕ} (bytes : Bytes bs) (cells : List ℕ) {formula words ce
         distinct = naming.distinct bs bytes P formula words (K .answered) (K .words-are);
         whole = record { few = omega (arith, long, rows-lie .few); whole = omega (arith, long) };
         wellNamed =
-            subst (λ (f : ℕ → List ℕ). WellNamed f (termAt (s .made) f (take (s .made * columns) cells′) v)) (sym spelled-is)
-            (subst (WellNamed spell) (sym (leaves .2)) named);
+            rw (spelled-is, leaves .2) named;
       }
 
   -- What the last step answers and writes is what the expansion does.
@@ -233,7 +221,7 @@ pub refused-parses : {bs formula cells : List ℕ} (words′ : List ℕ) {r : Re
 refused-parses {cells = cells} words′ {r} {q} e h =
     let never : (v : ℕ) (s : State) → q .outcome ≡ Value v s → ⊥ = λ v s z. let n : _≡_ {A = ℕ} 0 1 = cc in omega arith in
     record {
-      equal = ap (λ (p : Parsed). ran (p .outcome) cells) e ∙ h;
+      equal = rw e h;
       words-known = λ v s z. absurd (never v s z);
       rows-lie = λ v s z. absurd (never v s z);
     }
@@ -254,11 +242,11 @@ ran-parses {bs} bytes P formula cells {tokens} {words} rooms {tokens′} {words�
           record {
             equal = same;
             words-known = λ v s z. K;
-            rows-lie = λ v s z. rows-lie bytes cells K (ap (λ (x : Outcome). ran x cells′) (sym z) ∙ same);
+            rows-lie = λ v s z. rows-lie bytes cells K (rw z at same);
           };
       whole =
           parsing.into-run bs formula tokens words cells (passed bytes P formula cells) o
-          (ap (λ (x : Scanned). filled x tokens′ words′) (sym h) ∙ in-lexicon bytes P formula cells (rooms .enough) f)
+          (rw h at (in-lexicon bytes P formula cells (rooms .enough) f))
           (same ∙ parsing.parse-run bs formula cells (passed bytes P formula cells) (H .answered));
     }
 
@@ -266,8 +254,8 @@ module _ {bs formula cells words′ cells′ : List ℕ} {q : Parsed} (p : Parse
   -- A call whose parse refuses.
   pub call-refuses : (text : List ℕ) {r : Refusal} → q .outcome ≡ Halted r → expanded (Refusing r) cells′ text ≡ expand bs formula cells text
   call-refuses text e =
-      sym (parsing.expand-refused bs formula cells text (sym (p .equal) ∙ ap (λ (x : Outcome). ran x cells′) e))
+      sym (parsing.expand-refused bs formula cells text (rw e at (sym (p .equal))))
 
   -- A call whose parse reaches a value.
   pub value-reached : {v : ℕ} {s : State} → q .outcome ≡ Value v s → done v s cells′ ≡ parse bs formula cells
-  value-reached e = ap (λ (x : Outcome). ran x cells′) (sym e) ∙ p .equal
+  value-reached e = rw e at (p .equal)

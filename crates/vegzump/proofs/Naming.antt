@@ -1,12 +1,12 @@
 -- What the last step of an expansion asks of names, from the scan of a formula under a passed table.
-use Prim.Native.Nat.{ℕ, zero, suc, _+_, _*_, _<_, _≤_}
+use Prim.Native.Nat.{ℕ, zero, suc, _+_, _<_, _≤_}
 use mathlib.Core.Path.{_≡_, refl, sym, ap, _∙_}
 use mathlib.Core.Bool.{true}
-use mathlib.Core.List.{List, [], _∷_}
+use mathlib.Core.List.{List, []}
 use native.Mathlib.Omega.{arith}
-use lib.ListN.{length, getD, take, drop}
+use lib.ListN.{length, getD}
 use Rattle.spellings.specs.Bytes.{isWord}
-use Rattle.grammar.specs.Table.{Table, Lexicon, lexiconOfTable}
+use Rattle.grammar.specs.Table.{Lexicon, lexiconOfTable}
 use Rattle.grammar.specs.Lookup.{lexiconOf}
 use Rattle.layout.specs.Within.{Each, each-none, each-more, Different, different-none, different-more}
 use Rattle.layout.proofs.LayoutTheorems.{decode-exactly}
@@ -79,6 +79,7 @@ module _ {tokens : List Token} {N : ℕ} {G : List Given} (spell : ℕ → List 
   mutual
     unfolding WellNamed WellNamedFields
 
+    -- Of a term whose parts are of the sorts that their places demand, every name is one that can be printed.
     pub placed-named : {u : Term Name} → Placed G spell u → WellNamed spell u
     placed-named (placed-variable x) = variable-named x
     placed-named (placed-function x t) = (binder-named x, placed-named t)
@@ -98,6 +99,7 @@ module _ (bs : List ℕ) (bytes : (i : ℕ) → getD bs i 0 < 256) (P : Passes b
   pub lexicon-passed : lexiconOf bs ≡ lexiconOfTable (P .table)
   lexicon-passed = lexicon-decoded bs (P .table) (decode-exactly bs bytes (P .table) .1 (P .encoded, P .within))
 
+  -- An outside name has less than 32 bytes.
   pub outsides-fit : (m : ℕ) → length (oneOf (lexiconOf bs .outsides) m) < 32
   outsides-fit m =
       rw lexicon-passed (short-words (P .table .outsides) (λ i l. each-at (P .within .outsides) i [] l) m)
@@ -111,7 +113,7 @@ module _ (bs : List ℕ) (bytes : (i : ℕ) → getD bs i 0 < 256) (P : Passes b
           each =
               λ i l.
               let z : 0 + i ≡ i = omega arith in
-              ap (λ (ws : List (List ℕ)). getD ws i []) (sym words-are) ∙ words-at count 0 i formula words l ∙ ap (spanned formula words) z;
+              rw (← words-are) (words-at count 0 i formula words l ∙ ap (spanned formula words) z);
         }
 
     -- The spellings that the last step reads are those of the formula's words and the table's outside names.
@@ -121,6 +123,7 @@ module _ (bs : List ℕ) (bytes : (i : ℕ) → getD bs i 0 < 256) (P : Passes b
         spelled-lists bs formula words (scan (lexiconOfTable (P .table)) formula .words) words-list
         ∙ ap (λ (l : Lexicon). spell (l .outsides) (scan (lexiconOfTable (P .table)) formula .words)) lexicon-passed
 
+    -- So has a word of the formula.
     pub words-fit : (j : ℕ) → j < count → length (spanned formula words j) < 32
     words-fit j l =
         let plain = scan-plain (lexiconOfTable (P .table)) (P .within .outsideCount) formula in
@@ -131,6 +134,7 @@ module _ (bs : List ℕ) (bytes : (i : ℕ) → getD bs i 0 < 256) (P : Passes b
           ap length at,
         )
 
+    -- Different numbers stand for different spellings.
     pub distinct : Distinct (spelledBy bs formula words count)
     unfolding spell
     distinct =

@@ -1,6 +1,6 @@
 -- An expansion is the parse of its formula and the last step.
 use Prim.Native.Nat.{ℕ}
-use mathlib.Core.Path.{_≡_, refl, sym, ap, ap₂, _∙_}
+use mathlib.Core.Path.{_≡_, refl, ap, _∙_}
 use mathlib.Core.List.{List}
 use native.Mathlib.Omega.{arith}
 use Rattle.answers.specs.declared.Refusal.{Refusal}
@@ -9,17 +9,16 @@ use Rattle.answers.specs.Checked.{Checked, ok, bad, verdict}
 use Rattle.grammar.specs.Table.{Table, lexiconOfTable}
 use Rattle.scanner.specs.declared.Scanned.{Scanned}
 use Rattle.scanner.specs.declared.Scanned.the-variants.{Tokens, Unscanned}
-use Rattle.scanner.specs.Scan.{Lexed, scan}
+use Rattle.scanner.specs.Scan.{scan}
 use Rattle.scanner.specs.Rooms.{Filled, filled, scanInto}
 use Rattle.scanner.specs.Tokens.{spelled}
 use Rattle.checker.specs.Check.{passedTable, check}
-use Rattle.expansion.specs.declared.State.{State}
 use Rattle.expansion.specs.declared.Outcome.{Outcome}
 use Rattle.expansion.specs.declared.Outcome.the-variants.{Value, Halted}
-use Rattle.expansion.specs.Run.{Result, done, halt}
+use Rattle.expansion.specs.Run.{Result, halt}
 use Rattle.expansion.specs.Outcomes.{ran}
 use Rattle.expansion.specs.Expansion.{run}
-use Rattle.meaning.specs.Expand.{Expanded, refused, inputOf, finished, scanned, expandTable, checkedFirst, expand}
+use Rattle.meaning.specs.Expand.{refused, inputOf, finished, scanned, expandTable, checkedFirst, expand}
 use Rattle.vegzump.specs.declared.parse.Parsed.{Parsed}
 use Rattle.vegzump.specs.Parse.{parseScanned, parseChecked, parse, parsedInto, haltedParse, outcomeOf, cellsOf}
 use Rattle.vegzump.specs.Parse.{parseFilled, parseIntoChecked, parseInto}
@@ -40,17 +39,13 @@ module _ (bs formula cells : List ℕ) where
     -- A formula that the scan refuses.
     pub parse-unscanned : {r : Refusal} → scan (lexiconOfTable t) formula .answer ≡ Unscanned r → parse bs formula cells ≡ halt r cells
     unfolding parse
-    parse-unscanned e =
-        ap (λ (c : Checked Table). parseChecked c formula cells) passed
-        ∙ ap (λ (s : Scanned). parseScanned t (scan (lexiconOfTable t) formula) s cells) e
+    parse-unscanned e = rw (passed, e)
 
     -- A formula that is tokens.
     pub parse-run : {n m : ℕ} → scan (lexiconOfTable t) formula .answer ≡ Tokens n m
         → parse bs formula cells ≡ run (inputOf t (scan (lexiconOfTable t) formula .tokens) cells) (t .root) cells
     unfolding parse
-    parse-run e =
-        ap (λ (c : Checked Table). parseChecked c formula cells) passed
-        ∙ ap (λ (s : Scanned). parseScanned t (scan (lexiconOfTable t) formula) s cells) e
+    parse-run e = rw (passed, e)
 
 -- ------------------------------------------------------------------ with the rooms that are lent
 
@@ -67,7 +62,7 @@ module _ (bs formula tokens words cells : List ℕ) where
   pub into-refused : {r : Refusal} {q : Parsed} → check bs ≡ Refused r → q ≡ haltedParse r
       → parsedInto q tokens words cells ≡ parseInto bs formula tokens words cells
   unfolding check parseInto
-  into-refused {r} {q} e eq = ap (λ (p : Parsed). parsedInto p tokens words cells) eq ∙ go (passedTable bs) e
+  into-refused {r} {q} e eq = rw eq (go (passedTable bs) e)
     where
       go : (c : Checked Table) → verdict c ≡ Refused r → parsedInto (haltedParse r) tokens words cells ≡ parseIntoChecked c formula tokens words cells
       go (bad x) h = let z : x ≡ r = cc in rw z refl
@@ -77,26 +72,20 @@ module _ (bs formula tokens words cells : List ℕ) where
     into-filled : {f : Filled} → f ≡ scanInto (lexiconOfTable t) formula tokens words
         → parseInto bs formula tokens words cells ≡ parseFilled t (scan (lexiconOfTable t) formula) f cells
     unfolding parseInto
-    into-filled e =
-        ap (λ (c : Checked Table). parseIntoChecked c formula tokens words cells) passed
-        ∙ ap (λ (g : Filled). parseFilled t (scan (lexiconOfTable t) formula) g cells) (sym e)
+    into-filled e = rw (passed, ← e)
 
     -- A formula that the scan refuses.
     pub into-unscanned : {tokens′ words′ : List ℕ} {r : Refusal} {q : Parsed}
         → filled (Unscanned r) tokens′ words′ ≡ scanInto (lexiconOfTable t) formula tokens words
         → q ≡ haltedParse r → parsedInto q tokens′ words′ cells ≡ parseInto bs formula tokens words cells
-    into-unscanned {tokens′} {words′} e eq = ap (λ (p : Parsed). parsedInto p tokens′ words′ cells) eq ∙ sym (into-filled e)
+    into-unscanned e eq = rw (eq, into-filled e)
 
     -- A formula whose tokens are run.
     pub into-run : {tokens′ words′ : List ℕ} {n m : ℕ} (o : Outcome) {cells′ : List ℕ}
         → filled (Tokens n m) tokens′ words′ ≡ scanInto (lexiconOfTable t) formula tokens words
         → ran o cells′ ≡ run (inputOf t (scan (lexiconOfTable t) formula .tokens) cells) (t .root) cells
         → parsedInto (record { outcome = o; words = m }) tokens′ words′ cells′ ≡ parseInto bs formula tokens words cells
-    into-run {tokens′} {words′} {m = m} o {cells′} e er =
-        ap₂ (λ (x : Outcome) (c : List ℕ). parsedInto (record { outcome = x; words = m }) tokens′ words′ c) (sym (outcome-ran o cells′))
-        (sym (cells-ran o cells′))
-        ∙ ap (λ (x : Result ℕ). parsedInto (record { outcome = outcomeOf x; words = m }) tokens′ words′ (cellsOf x)) er
-        ∙ sym (into-filled e)
+    into-run o {cells′} e er = rw (into-filled e, ← er, outcome-ran o cells′, cells-ran o cells′)
 
 -- ------------------------------------------------------------------ what the expansion makes of it
 
@@ -113,10 +102,7 @@ module _ (bs formula cells text : List ℕ) where
       ≡ finished (spelled (lexiconOfTable t) (scan (lexiconOfTable t) formula .words)) text (parse bs formula cells)
   unfolding expand expandTable parse
   expand-finishes {t} e =
-      ap (λ (c : Checked Table). checkedFirst c formula cells text) e
-      ∙ scanned-is t (scan (lexiconOfTable t) formula .answer)
-      ∙ ap (finished (spelled (lexiconOfTable t) (scan (lexiconOfTable t) formula .words)) text)
-      (sym (ap (λ (c : Checked Table). parseChecked c formula cells) e))
+      rw e (scanned-is t (scan (lexiconOfTable t) formula .answer))
 
   -- An expansion whose parse refuses gives that refusal, with the cells made and the text as it was.
   pub expand-refused : {r : Refusal} {cells′ : List ℕ} → parse bs formula cells ≡ halt r cells′ → expand bs formula cells text ≡ refused r cells′ text
@@ -125,8 +111,8 @@ module _ (bs formula cells text : List ℕ) where
     where
       go : (c : Checked Table) → passedTable bs ≡ c → checkedFirst (passedTable bs) formula cells text ≡ refused r cells′ text
       go (bad q) h =
-          let a : _≡_ {A = Result ℕ} (halt q cells) (halt r cells′) = sym (ap (λ (c : Checked Table). parseChecked c formula cells) h) ∙ e in
+          let a : _≡_ {A = Result ℕ} (halt q cells) (halt r cells′) = rw h at e in
           let same : q ≡ r = cc in
           let left : cells ≡ cells′ = cc in
-          ap (λ (c : Checked Table). checkedFirst c formula cells text) h ∙ rw (same, left) refl
+          rw (h, same, left)
       go (ok t) h = expand-finishes h ∙ ap (finished (spelled (lexiconOfTable t) (scan (lexiconOfTable t) formula .words)) text) e

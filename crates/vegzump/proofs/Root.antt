@@ -1,6 +1,6 @@
 -- The root of a table is its last byte.
 use Prim.Native.Nat.{ℕ, _-_, _/_, _%_}
-use mathlib.Core.Path.{_≡_, refl, sym, ap, _∙_}
+use mathlib.Core.Path.{_≡_, refl, ap, _∙_}
 use mathlib.Core.List.{List, [], _∷_, _++_, append-assoc}
 use native.Mathlib.Omega.{arith}
 use lib.ListN.{length, getD, length-append}
@@ -9,9 +9,11 @@ use Rattle.grammar.specs.Table.{Table, Item, Alternative, Definition}
 use Rattle.grammar.specs.Encode.{fieldBytes, spellingsThen, itemsThen, alternativesThen, definitionsThen, blocksThen, tableFields, encode}
 use Rattle.grammar.specs.Values.{Field, field}
 
--- the bytes of some fields end with x
+-- The bytes of some fields end with x.
 pub record Ends (x : ℕ) (fs : List Field) : Type 0 where
+  -- what stands before it
   pub front : List ℕ
+  -- and x itself
   pub ends : fieldBytes fs ≡ front ++ (x ∷ [])
 
 module _ {x : ℕ} where
@@ -19,7 +21,7 @@ module _ {x : ℕ} where
   unfolding fieldBytes
   field-before tag v {fs} e =
       let first : List ℕ = tag ∷ length v / 256 ∷ length v % 256 ∷ v in
-      record { front = first ++ e .front; ends = ap (λ (l : List ℕ). first ++ l) (e .ends) ∙ sym (append-assoc first (e .front) (x ∷ [])) }
+      record { front = first ++ e .front; ends = rw (e .ends, append-assoc) }
 
   spellings-before : (tag : ℕ) (ss : List (List ℕ)) {fs : List Field} → Ends x fs → Ends x (spellingsThen tag ss fs)
   unfolding spellingsThen

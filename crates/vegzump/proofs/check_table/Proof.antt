@@ -11,5 +11,6 @@ check-table-requires c κs = search needs
 returns : tie.Need-returns
 returns c = let e = c .check-table .ensures in (e .0, (ap numberedVerdict (e .0), e .1))
 
+-- `check_table` meets its contract.
 pub check-table-spec : {M : Type 1} → statement M
 check-table-spec = tie.close (tie.spec check-table-requires returns)

@@ -26,5 +26,6 @@ returns c =
     let bytes : Bytes (known .before .args .table .now) = λ i. omega (arith, known .shared-slice-known .given i) in
     (e, (ap (λ (x : Expanded). numbered (x .answer)) e, demands.call-meets-demand-3 _ bytes _ _ _ e))
 
+-- `expand` meets its contract.
 pub expand-spec : {M : Type 1} → statement M
 expand-spec = tie.close (tie.spec expand-by-size-requires same-length same-length-2 returns)

@@ -36,6 +36,7 @@ same-length-4 c = search needs
 returns-2 : tie.Need-returns-2
 returns-2 c = c .before .before .before .before .before .expand-in2 .ensures
 
+-- `expand_by_size` meets its contract.
 pub expand-by-size-spec : {M : Type 1} → statement M
 expand-by-size-spec =
     tie.close

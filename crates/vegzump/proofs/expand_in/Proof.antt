@@ -91,6 +91,7 @@ same-length-4 c = search needs
 same-length-5 : tie.Need-same-length-5
 same-length-5 c = search needs
 
+-- `expand_in` meets its contract.
 pub expand-in-spec : {M : Type 1} → statement M
 expand-in-spec =
     tie.close

@@ -25,5 +25,6 @@ returns c = c .accepted .ensures ∙ sym (ap (λ (x : Answer). reply (numbered x
 returns-2 : tie.Need-returns-2
 returns-2 c = c .refused .ensures ∙ sym (ap (λ (x : Answer). reply (numbered x)) (c .before .before .answer2 .given .1))
 
+-- `of_answer` meets its contract.
 pub of-answer-spec : {M : Type 1} → statement M
 of-answer-spec = tie.close (tie.spec enum-known-answer accepted-requires enum-known-answer-2 refused-requires returns returns-2)

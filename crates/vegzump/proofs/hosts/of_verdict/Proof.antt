@@ -24,5 +24,6 @@ returns c = c .accepted .ensures ∙ sym (ap (λ (v : Verdict). reply (numberedV
 returns-2 : tie.Need-returns-2
 returns-2 c = c .refused .ensures ∙ sym (ap (λ (v : Verdict). reply (numberedVerdict v)) (c .before .before .v .given .1))
 
+-- `of_verdict` meets its contract.
 pub of-verdict-spec : {M : Type 1} → statement M
 of-verdict-spec = tie.close (tie.spec enum-told accepted-requires enum-known-v refused-requires returns returns-2)

@@ -15,5 +15,6 @@ of-verdict-requires c κs = search needs
 returns : tie.Need-returns
 returns c = c .of-verdict .ensures ∙ ap (λ (v : Verdict). reply (numberedVerdict v)) (c .before .check-table .ensures .0)
 
+-- `vegzump_check` meets its contract.
 pub vegzump-check-spec : {M : Type 1} → statement M
 vegzump-check-spec = tie.close (tie.spec check-table-requires of-verdict-requires returns)

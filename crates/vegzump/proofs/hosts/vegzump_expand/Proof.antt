@@ -30,5 +30,6 @@ same-length-2 c = search needs
 returns : tie.Need-returns
 returns c = beside (c .of-answer .ensures) (c .before .before .before .before .before .expand .ensures .0)
 
+-- `vegzump_expand` meets its contract.
 pub vegzump-expand-spec : {M : Type 1} → statement M
 vegzump-expand-spec = tie.close (tie.spec expand-requires of-answer-requires same-length same-length-2 returns)

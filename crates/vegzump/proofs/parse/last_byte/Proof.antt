@@ -18,5 +18,6 @@ shared-slice-read-result c = search needs
 returns-2 : tie.Need-returns-2
 returns-2 c = search needs
 
+-- `last_byte` meets its contract.
 pub last-byte-spec : {M : Type 1} → statement M
 last-byte-spec = tie.close (tie.spec returns sub-result shared-slice-read-result returns-2)

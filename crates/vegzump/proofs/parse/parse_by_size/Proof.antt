@@ -51,6 +51,7 @@ same-length-4 c = search needs
 returns-2 : tie.Need-returns-2
 returns-2 c = c .before .before .before .before .before .parse-in2 .ensures .parsed
 
+-- `parse_by_size` meets its contract.
 pub parse-by-size-spec : {M : Type 1} → statement M
 parse-by-size-spec =
     tie.close

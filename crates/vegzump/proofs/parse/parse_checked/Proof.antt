@@ -110,6 +110,7 @@ returns-2 c =
     joining.ran-parses (bytes p) (pre .checked .passes) (a .formula .now) (a .cells .now) (pre .rooms) (p .scan .ensures) (told .scanned2 .given .1)
     (ran .run-tokens .ensures)
 
+-- `parse_checked` meets its contract.
 pub parse-checked-spec : {M : Type 1} → statement M
 parse-checked-spec =
     tie.close

@@ -75,6 +75,7 @@ same-length-3 c = search needs
 returns-2 : tie.Need-returns-2
 returns-2 c = search needs
 
+-- `parse_in` meets its contract.
 pub parse-in-spec : {M : Type 1} → statement M
 parse-in-spec =
     tie.close

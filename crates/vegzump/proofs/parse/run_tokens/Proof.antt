@@ -38,6 +38,7 @@ returns-2 c =
     let last = p .before .before .before .before .last-byte .ensures in
     cc
 
+-- `run_tokens` meets its contract.
 pub run-tokens-spec : {M : Type 1} → statement M
 run-tokens-spec =
     tie.close
