@@ -36,6 +36,7 @@ use Rattle.resolver.proofs.SlotLaws.{slot-there, around-binder, restore
 mutual
   unfolding marks marksFields size sizeFields
 
+  -- a term has a mark for each constructor
   pub length-marks : (around : List Binder) (p : ℕ) (t : Term Name) → length (marks around p t) ≡ size t
   length-marks around p (variable v) = refl
   length-marks around p (function b t) = ap suc (length-marks (record { name = b; place = p } ∷ around) (suc p) t)
@@ -63,7 +64,7 @@ mutual
 named-at : (spell : ℕ → List ℕ) (x c : ℕ) → x / nameBase ≡ c → x ≡ c * nameBase + x % nameBase
 named-at spell x c e = omega arith
 
-pub bindable-of : (spell : ℕ → List ℕ) (x : ℕ) → BinderName spell (nameOf spell x) → Bindable spell x
+bindable-of : (spell : ℕ → List ℕ) (x : ℕ) → BinderName spell (nameOf spell x) → Bindable spell x
 unfolding nameOf
 bindable-of spell x h =
     by-test (eqb (x / nameBase) 1)
@@ -199,11 +200,13 @@ from-room-fields : {spell : ℕ → List ℕ} {around : List Binder} {p held : �
 from-room-fields e w = rw e at w
 
 module _ (cells : List ℕ) (k row p : ℕ) where
+  -- where no depth is left, a term is read as a number: its mark is 0
   pub shallow-resolves : k ≡ 0 → {room₁ : List ℕ} (current room : List ℕ) → room₁ ≡ set room p 0 → ResolvesTerm cells k row p current current room room₁ 0
   unfolding termAt
   shallow-resolves e current room er spell around apart wh kn len env =
       walked-as (cc) er (number-walked 0 current room)
 
+  -- where no depth is left, a field list is read as empty: its mark is 0
   pub shallow-resolves-fields : k ≡ 0 → {room₁ : List ℕ} (current room : List ℕ) → room₁ ≡ set room p 0
       → ResolvesFields cells k row p current current room room₁ 0
   unfolding fieldsAt
@@ -211,6 +214,7 @@ module _ (cells : List ℕ) (k row p : ℕ) where
       walked-fields-as (cc) er (nil-walked current room)
 
   module _ (some : k ≡ 0 → ⊥) {code : ℕ} (at : code ≡ column cells row 0) where
+    -- a variable's mark is stored, and the outside names that it holds are known
     pub variable-resolves : code ≡ 32 → {x m h : ℕ} {current′ room₀ room₁ : List ℕ} (current room : List ℕ) → x ≡ column cells row 1
         → current′ ≡ current → room₀ ≡ set room p 0 → MarksVariable cells current x m
         → ((spell : ℕ → List ℕ) → Distinct spell → VariableName spell (nameOf spell x) → Holds spell h (λ s. isOutside s (nameOf spell x)))
@@ -221,6 +225,7 @@ module _ (cells : List ℕ) (k row p : ℕ) where
         let kn′ = subst (WellNamed spell) t kn in
         walked-as t (cc (set-set room p 0 m)) (variable-walked current room ek (em spell around kn′ env) (eh spell apart kn′))
 
+    -- a number's mark is 0
     pub number-resolves : OtherCode code → {room₁ : List ℕ} (current room : List ℕ)
         → room₁ ≡ set room p 0 → ResolvesTerm cells k row p current current room room₁ 0
     number-resolves others {room₁} current room er spell around apart wh kn len env =
@@ -229,6 +234,7 @@ module _ (cells : List ℕ) (k row p : ℕ) where
         rows.number-row spell cells k row some at (λ t. Walked spell around p t 0 current current room room₁)
         (λ n. walked-as refl er (number-walked n current room)) (before-rcd .0 .0 .1) (before-rcd .0 .1) (before-rcd .1) c d
 
+    -- a function's body is walked with its binder in its slot; then the slot is restored and the binder marked
     pub function-resolves : code ≡ 33 → {x s outer held v : ℕ} {current current₁ current₂ current₃ room room₀ room₁ room₂ : List ℕ} → x ≡ column cells row 1
         → room₀ ≡ set room p 0 → s ≡ slotOf cells x → Exchanged s (p + 1) current current₁ outer
         → ResolvesTerm cells (k - 1) (column cells row 2) (p + 1) current₁ current₂ room₀ room₁ held
@@ -252,6 +258,7 @@ module _ (cells : List ℕ) (k row p : ℕ) where
         (function-walked (from-room e₀ w) (mark spell (termAt (k - 1) spell cells (column cells row 2)) apart (kn′ .1) (kn′ .0) (w .holding))
         (cc (w .kept, ee .stored, ee .was, restored current (slotOf cells x) (p + 1))))
 
+    -- an application's two terms are walked, one after the other
     pub apply-resolves : code ≡ 34 → {q q′ p′ h₁ h₂ h : ℕ} {current current₁ current₂ room room₀ room₁ room₂ : List ℕ} → q ≡ column cells row 1
         → q′ ≡ column cells row 2
         → room₀ ≡ set room p 0 → ResolvesTerm cells (k - 1) q (p + 1) current current₁ room₀ room₁ h₁
@@ -266,6 +273,7 @@ module _ (cells : List ℕ) (k row p : ℕ) where
         let w′ = second spell around apart wh (kn′ .1) (omega (arith, ap length (w .kept))) (subst (Around spell cells around) (sym (w .kept)) env) in
         walked-as t refl (apply-walked (from-room e₀ w) w′ (cc (size-spell (k - 1) noSpell spell cells q)) eh)
 
+    -- a record's fields are walked
     pub rcd-resolves : code ≡ 35 → {q h : ℕ} {current current₁ room room₀ room₁ : List ℕ} → q ≡ column cells row 1
         → room₀ ≡ set room p 0 → ResolvesFields cells (k - 1) q (p + 1) current current₁ room₀ room₁ h
         → ResolvesTerm cells k row p current current₁ room room₁ h
@@ -274,6 +282,7 @@ module _ (cells : List ℕ) (k row p : ℕ) where
         let t : termAt k spell cells row ≡ rcd (fieldsAt (k - 1) spell cells q) = rw eq (rows.rcd-row spell cells k row some at e) in
         walked-as t refl (rcd-walked (from-room-fields e₀ (first spell around apart wh (subst (WellNamed spell) t kn) len env)))
 
+    -- the term of a selection is walked
     pub dot-resolves : code ≡ 36 → {q h : ℕ} {current current₁ room room₀ room₁ : List ℕ} → q ≡ column cells row 1
         → room₀ ≡ set room p 0 → ResolvesTerm cells (k - 1) q (p + 1) current current₁ room₀ room₁ h → ResolvesTerm cells k row p current current₁ room room₁ h
     unfolding WellNamed
@@ -282,6 +291,7 @@ module _ (cells : List ℕ) (k row p : ℕ) where
         rw eq (rows.dot-row spell cells k row some at e) in
         walked-as t refl (dot-walked (spell (column cells row 2)) (from-room e₀ (first spell around apart wh (subst (WellNamed spell) t kn) len env)))
 
+    -- a field's term, then the fields behind it, are walked
     pub cons-resolves : code ≡ 38 → {q q′ p′ h₁ h₂ h : ℕ} {current current₁ current₂ room room₀ room₁ room₂ : List ℕ} → q ≡ column cells row 2
         → q′ ≡ column cells row 3
         → room₀ ≡ set room p 0 → ResolvesTerm cells (k - 1) q (p + 1) current current₁ room₀ room₁ h₁
@@ -297,6 +307,7 @@ module _ (cells : List ℕ) (k row p : ℕ) where
         walked-fields-as t refl
         (cons-walked (spell (column cells row 1)) (from-room e₀ w) w′ (cc (size-spell (k - 1) noSpell spell cells q)) eh)
 
+    -- an empty field list has the mark 0
     pub nil-resolves : (code ≡ 38 → ⊥) → {room₁ : List ℕ} (current room : List ℕ) → room₁ ≡ set room p 0
         → ResolvesFields cells k row p current current room room₁ 0
     nil-resolves e current room er spell around apart wh kn len env =
@@ -311,36 +322,44 @@ abbrev F : List ℕ → ℕ → ℕ → Fields Name
 F cells k row = fieldsAt k noSpell cells row
 
 module _ (cells : List ℕ) (k row p : ℕ) where
+  -- where no depth is left, a term takes one place
   pub shallow-place : k ≡ 0 → p + 1 ≡ p + size (T cells k row)
   unfolding size termAt
   shallow-place e = rw e refl
 
+  -- where no depth is left, a field list takes one place
   pub shallow-fields-place : k ≡ 0 → p + 1 ≡ p + sizeFields (F cells k row)
   unfolding sizeFields fieldsAt
   shallow-fields-place e = rw e refl
 
   module _ (some : k ≡ 0 → ⊥) {code : ℕ} (at : code ≡ column cells row 0) where
+    -- a variable takes one place
     pub variable-place : code ≡ 32 → p + 1 ≡ p + size (T cells k row)
     unfolding size
     variable-place e = rw (rows.var-row noSpell cells k row some at e) refl
 
+    -- a function takes one place and its body's
     pub function-place : code ≡ 33 → {q : ℕ} → q ≡ column cells row 2 → p + 1 + size (T cells (k - 1) q) ≡ p + size (T cells k row)
     unfolding size
     function-place e eq = rw (eq, rows.fun-row noSpell cells k row some at e) (omega arith)
 
+    -- an application takes one place and those of both terms
     pub apply-place : code ≡ 34 → {q q′ : ℕ} → q ≡ column cells row 1 → q′ ≡ column cells row 2
         → p + 1 + size (T cells (k - 1) q) + size (T cells (k - 1) q′) ≡ p + size (T cells k row)
     unfolding size
     apply-place e eq eq′ = rw (eq, eq′, rows.app-row noSpell cells k row some at e) (omega arith)
 
+    -- a record takes one place and its fields'
     pub rcd-place : code ≡ 35 → {q : ℕ} → q ≡ column cells row 1 → p + 1 + sizeFields (F cells (k - 1) q) ≡ p + size (T cells k row)
     unfolding size
     rcd-place e eq = rw (eq, rows.rcd-row noSpell cells k row some at e) (omega arith)
 
+    -- a selection takes one place and its term's
     pub dot-place : code ≡ 36 → {q : ℕ} → q ≡ column cells row 1 → p + 1 + size (T cells (k - 1) q) ≡ p + size (T cells k row)
     unfolding size
     dot-place e eq = rw (eq, rows.dot-row noSpell cells k row some at e) (omega arith)
 
+    -- a number takes one place
     pub number-place : OtherCode code → p + 1 ≡ p + size (T cells k row)
     unfolding size
     number-place others =
@@ -348,19 +367,21 @@ module _ (cells : List ℕ) (k row p : ℕ) where
         let (before-rcd, c) = before-dot in
         rows.number-row noSpell cells k row some at (λ t. p + 1 ≡ p + size t) (λ n. refl) (before-rcd .0 .0 .1) (before-rcd .0 .1) (before-rcd .1) c d
 
+    -- a field takes one place, its term's and those of the fields behind it
     pub cons-place : code ≡ 38 → {q q′ : ℕ} → q ≡ column cells row 2 → q′ ≡ column cells row 3
         → p + 1 + size (T cells (k - 1) q) + sizeFields (F cells (k - 1) q′) ≡ p + sizeFields (F cells k row)
     unfolding sizeFields
     cons-place e eq eq′ = rw (eq, eq′, rows.cons-row noSpell cells k row some at e) (omega arith)
 
+    -- an empty field list takes one place
     pub nil-place : (code ≡ 38 → ⊥) → p + 1 ≡ p + sizeFields (F cells k row)
     unfolding sizeFields
     nil-place e = rw (rows.nil-row noSpell cells k row some at e) refl
 
-pub place-inside : (cells : List ℕ) (k row p : ℕ) {n : ℕ} → p + size (termAt k noSpell cells row) ≤ n → p < n
+place-inside : (cells : List ℕ) (k row p : ℕ) {n : ℕ} → p + size (termAt k noSpell cells row) ≤ n → p < n
 place-inside cells k row p h = omega (arith, size-some (T cells k row))
 
-pub place-inside-fields : (cells : List ℕ) (k row p : ℕ) {n : ℕ} → p + sizeFields (fieldsAt k noSpell cells row) ≤ n → p < n
+place-inside-fields : (cells : List ℕ) (k row p : ℕ) {n : ℕ} → p + sizeFields (fieldsAt k noSpell cells row) ≤ n → p < n
 place-inside-fields cells k row p h = omega (arith, size-some-fields (F cells k row))
 
 -- ------------------------------------------------------------------ rooms
@@ -374,6 +395,7 @@ module _ {cells links : List ℕ} where
   pub term-fits : (k row p : ℕ) {room : List ℕ} → Walkable cells links (size (termAt k noSpell cells row)) p room → (p < length room) × (length room ≤ 16384)
   term-fits k row p w = (place-inside cells k row p (w .inside), w .few)
 
+  -- The marks of a field list go on behind its first place.
   pub fields-fit : (k row p : ℕ) {room : List ℕ} → Walkable cells links (sizeFields (fieldsAt k noSpell cells row)) p room
       → (p < length room) × (length room ≤ 16384)
   fields-fit k row p w = (place-inside-fields cells k row p (w .inside), w .few)
@@ -391,6 +413,7 @@ module _ {cells links : List ℕ} where
       → Walkable cells links (sizeAt cells k row′) p room
   walkable-row k {p = p} {room} e w = rw e w
 
+-- The same of a walk whose row was read.
 pub walks-row : {cells : List ℕ} {k row row′ p p′ : ℕ} {current current′ room room′ : List ℕ} {held : ℕ} → row′ ≡ row
     → WalksTerm cells k row′ p p′ current current′ room room′ held → WalksTerm cells k row p p′ current current′ room room′ held
 walks-row {cells} {k} {p = p} {p′} {current} {current′} {room} {room′} {held} e w =

@@ -76,7 +76,7 @@ module _ (spell : ℕ → List ℕ) where
   belongs-same _ (bindable-word {n = n} h w) = rw (named-word n h) (same-refl (spell n))
   belongs-same _ (bindable-fresh {n = n} h) = rw (named-fresh n h) (eq-eqb n n refl)
 
-  pub belongs-other : Distinct spell → (x y : ℕ) → Bindable spell x → Bindable spell y → (x ≡ y → ⊥) → belongs (nameOf spell x) (nameOf spell y) ≡ false
+  belongs-other : Distinct spell → (x y : ℕ) → Bindable spell x → Bindable spell y → (x ≡ y → ⊥) → belongs (nameOf spell x) (nameOf spell y) ≡ false
   belongs-other apart _ _ (bindable-word {n = n} h w) (bindable-word {n = m} k v) d =
       rw (named-word n h, named-word m k)
       (by-test (same (spell n) (spell m)) (λ e. absurd (d (cc (apart n m w (same-true (spell n) (spell m) e))))) (λ e. e))

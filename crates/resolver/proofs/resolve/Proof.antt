@@ -23,6 +23,7 @@ resolve-large-requires c κs = search needs
 returns-3 : tie.Need-returns-3
 returns-3 c = search needs
 
+-- the function meets its contract
 pub resolve-spec : {M : Type 1} → statement M
 resolve-spec =
     tie.close

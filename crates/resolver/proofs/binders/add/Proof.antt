@@ -41,6 +41,7 @@ same-length c = search needs
 returns : tie.Need-returns
 returns c = cc (c .before .hash .ensures .0)
 
+-- the function meets its contract
 pub add-spec : {M : Type 1} → statement M
 add-spec =
     tie.close

@@ -93,6 +93,7 @@ returns-2 c =
     let turn = c .before in
     (laws.chasing-end ((at-start (turn)) .pre) _ (turn .loop .inv .0) (c .loop-test .left), omega arith)
 
+-- the function meets its contract
 pub find-spec : {M : Type 1} → statement M
 find-spec =
     tie.close

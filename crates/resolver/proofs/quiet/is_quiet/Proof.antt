@@ -58,6 +58,7 @@ returns-2 c =
     let turn = c .before in
     λ e. laws.quiet-all _ (turn .before .before .pre) (turn .loop .inv .1) (c .loop-test .left)
 
+-- the function meets its contract
 pub is-quiet-spec : {M : Type 1} → statement M
 is-quiet-spec =
     tie.close

@@ -17,5 +17,6 @@ returns-3 c = λ e. record { no-binder = c .before .before .if1 .left; no-fresh 
 returns-4 : tie.Need-returns-4
 returns-4 c = λ e. record { no-binder = c .before .if1 .left; no-fresh = λ z. absurd (c .if2 .left z) }
 
+-- the function meets its contract
 pub is-quiet-row-spec : {M : Type 1} → statement M
 is-quiet-row-spec = tie.close (tie.spec returns returns-2 returns-3 returns-4)

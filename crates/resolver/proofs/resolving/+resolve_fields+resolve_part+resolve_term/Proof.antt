@@ -481,6 +481,7 @@ term-returns-7 t c =
       long = term-put t p .put .ensures .1;
     }
 
+-- the function meets its contract
 pub +resolve-fields+resolve-part+resolve-term-spec : {M : Type 1} → statement M
 +resolve-fields+resolve-part+resolve-term-spec =
     close μ-fields μ-part μ-term

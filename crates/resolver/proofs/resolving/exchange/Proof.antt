@@ -25,6 +25,7 @@ same-length-2 c = search needs
 returns-2 : tie.Need-returns-2
 returns-2 c = search not-exchanged
 
+-- the function meets its contract
 pub exchange-spec : {M : Type 1} → statement M
 exchange-spec =
     tie.close

@@ -72,6 +72,7 @@ returns-4 c =
       refl,
     )
 
+-- the function meets its contract
 pub variable-mark-spec : {M : Type 1} → statement M
 variable-mark-spec =
     tie.close
