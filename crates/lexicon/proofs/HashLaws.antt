@@ -21,7 +21,9 @@ crossed-fits q l = joined (q % 4294967296) (q / 4294967296) (omega arith) (omega
 
 -- `left` times eight bytes are left from index i on, and h is the hash so far
 pub record Chunking (s : List ℕ) (k start h i left : ℕ) : Type 0 where
+  -- the bytes left to it are there
   pub within : i + left * 8 ≤ length s
+  -- the eights left, behind what has the hash h, have the hash of all eights
   pub rest : chunksFrom left s i h ≡ chunksFrom k s 0 start
 
 -- before the first

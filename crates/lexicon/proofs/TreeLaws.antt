@@ -24,19 +24,22 @@ use Rattle.lexicon.proofs.PlaceLaws.{words-length, word-same}
 
 -- where a search for s stands
 pub record Walking (mask : ℕ) (words : List (List ℕ)) (links s : List ℕ) (slot turns : ℕ) : Type 0 where
+  -- the link is one of the spellings' own
   pub below : slot < mask + 1 + length words * 2
+  -- if s is a spelling, the branches taken from here lead to its first node
   pub ahead : indexOf s words < length words → Leads links mask slot turns (indexOf s words)
+  -- what the branches from here lead to, in these links or more, those from the root lead to
   pub back : (links′ : List ℕ) (i : ℕ) → Extends links links′ → Leads links′ mask slot turns i
       → Leads links′ mask (rootOf mask s) (turnsOf s) i
 
 module _ {mask : ℕ} {words : List (List ℕ)} {links : List ℕ} (k : Tree mask words links) (s : List ℕ) where
-  pub walking-start : Walking mask words links s (rootOf mask s) (turnsOf s)
+  walking-start : Walking mask words links s (rootOf mask s) (turnsOf s)
   walking-start =
       record { below = omega (arith, and-le-r (hashOf s) mask); ahead = k .leads s; back = λ links′ i x l. l }
 
   module _ {slot turns : ℕ} (w : Walking mask words links s slot turns) where
     module _ {j : ℕ} (e : getD links slot 0 ≡ suc j) where
-      pub walking-found : same (getD words j []) s ≡ true → FoundAt words s j
+      walking-found : same (getD words j []) s ≡ true → FoundAt words s j
       walking-found f =
           let n : Linked mask words slot j = k .linked slot j e in
           record { index = cc (n .first, same-true (getD words j []) s f); inside = n .small }
@@ -48,7 +51,7 @@ module _ {mask : ℕ} {words : List (List ℕ)} {links : List ℕ} (k : Tree mas
           let z : j′ ≡ j = omega (arith, sym f ∙ e) in
           rw (z) at l
 
-      pub walking-next : same (getD words j []) s ≡ false → Walking mask words links s (branchOf mask j turns) (turns / 2)
+      walking-next : same (getD words j []) s ≡ false → Walking mask words links s (branchOf mask j turns) (turns / 2)
       walking-next f =
           let n : Linked mask words slot j = k .linked slot j e in
           record {
@@ -61,10 +64,10 @@ module _ {mask : ℕ} {words : List (List ℕ)} {links : List ℕ} (k : Tree mas
             back = λ links′ i x l. w .back links′ i x (further (x slot j e) l);
           }
 
-      pub walking-behind : slot < branchOf mask j turns
+      walking-behind : slot < branchOf mask j turns
       walking-behind = omega (arith, k .linked slot j e .behind)
 
-    pub walking-end : getD links slot 0 ≡ 0 → FreeFor mask words links s slot
+    walking-end : getD links slot 0 ≡ 0 → FreeFor mask words links s slot
     walking-end e =
         record {
           none = by-test (ltb (indexOf s words) (length words)) found (λ f. omega (arith, ltb-false (indexOf s words) (length words) f, index-le s words));
@@ -82,7 +85,7 @@ module _ {mask : ℕ} {words : List (List ℕ)} {links : List ℕ} (k : Tree mas
 
 -- ------------------------------------------------------------------ one more spelling
 
-pub leads-extended : {links links′ : List ℕ} {mask slot turns i : ℕ} → Extends links links′ → Leads links mask slot turns i
+leads-extended : {links links′ : List ℕ} {mask slot turns i : ℕ} → Extends links links′ → Leads links mask slot turns i
     → Leads links′ mask slot turns i
 leads-extended x (there {slot = slot} {i = i} e) = there (x slot i e)
 leads-extended x (further {slot = slot} {j = j} e l) = further (x slot j e) (leads-extended x l)
@@ -93,6 +96,7 @@ zeros zero i = refl
 zeros (suc k) zero = refl
 zeros (suc k) (suc i) = zeros k i
 
+-- links that are all zero are the trees of no spelling
 pub tree-none : (mask : ℕ) (links : List ℕ) → ((i : ℕ) → getD links i 0 ≡ 0) → Tree mask [] links
 tree-none mask links z =
     record { leads = λ s h. absurd (omega (arith, h)); linked = λ slot j e. absurd (omega (arith, sym (z slot) ∙ e)) }
@@ -183,6 +187,7 @@ module _ {mask : ℕ} {words : List (List ℕ)} {links : List ℕ} (k : Tree mas
           linked = linked-new;
         }
 
+    -- a new spelling linked where its search ended is in the trees
     pub tree-more : {links′ : List ℕ} → links′ ≡ set links slot (length words + 1) → Tree mask (words ++ (s ∷ [])) links′
     unfolding links₁
     tree-more e = rw e tree-new
@@ -201,24 +206,31 @@ pub linkable : (mask : ℕ) (words : List (List ℕ)) (links s : List ℕ) (spot
 linkable mask words links s (Node i) f h = tt
 linkable mask words links s (Free slot) f h = omega (arith, f .below)
 
+-- a link keeps the number of links
 pub links-long : (links : List ℕ) (spot : Spot) (e : ℕ) → length (linksWith links spot e) ≡ length links
 links-long links (Node i) e = refl
 links-long links (Free slot) e = length-set links slot (e + 1)
 
 -- a free link as the code has it
 module _ (links : List ℕ) {spot : Spot} {slot : ℕ} (z : spot ≡ Free slot) where
+  -- the free link is one of the room's
   pub free-inside : Linkable links spot → slot < length links
   free-inside h = subst (Linkable links) z h
 
+  -- storing the spelling's number there links it
   pub free-set : (e : ℕ) → set links slot (e + 1) ≡ linksWith links spot e
   free-set e = sym (cc)
 
 -- ------------------------------------------------------------------ the search as the code has it
 
 pub record Chasing (text places links : List ℕ) (mask count : ℕ) (s : List ℕ) (slot turns p : ℕ) : Type 0 where
+  -- the trees and their rooms
   pub planted : Planted text places links mask count
+  -- p is the number stored at the link: 0, or a node and one
   pub here : p ≡ getD links slot 0
+  -- the link is one of the spellings' own
   pub below : slot < mask + 1 + count * 2
+  -- the search stands there
   pub walking : Walking mask (wordsIn text places count) links s slot turns
 
 module _ {text places links : List ℕ} {mask count : ℕ} (k : Planted text places links mask count) (s : List ℕ) where
@@ -226,6 +238,7 @@ module _ {text places links : List ℕ} {mask count : ℕ} (k : Planted text pla
       → Chasing text places links mask count s slot turns p
   chased e w = record { planted = k; here = e; below = omega (arith, w .below, words-length count text places 0); walking = w }
 
+  -- a search begins at the root of the spelling's tree
   pub chasing-start : {h slot turns p : ℕ} → h ≡ hashOf s → slot ≡ bitAnd h mask → turns ≡ h / 2048 → p ≡ getD links slot 0
       → Chasing text places links mask count s slot turns p
   chasing-start {h} {slot} {turns} eh es et ep =
@@ -233,11 +246,13 @@ module _ {text places links : List ℕ} {mask count : ℕ} (k : Planted text pla
       let b : turns ≡ turnsOf s = cc in
       chased ep (rw (a, b) (walking-start (k .tree) s))
 
+  -- the root's link is one of the room's
   pub root-inside : (h : ℕ) → bitAnd h mask < length links
   root-inside h = omega (arith, and-le-r h mask, k .linked)
 
 module _ {text places links : List ℕ} {mask count : ℕ} {s : List ℕ} {slot turns p : ℕ}
     (c : Chasing text places links mask count s slot turns p) where
+  -- a link of 0 is free for the spelling, which is in no tree
   pub chasing-end : p ≤ 0 → FreeFor mask (wordsIn text places count) links s slot
   chasing-end h = walking-end (c .planted .tree) s (c .walking) (omega (arith, c .here))
 
@@ -245,25 +260,29 @@ module _ {text places links : List ℕ} {mask count : ℕ} {s : List ℕ} {slot 
     leads-here : getD links slot 0 ≡ suc (p - 1)
     leads-here = omega (arith, c .here)
 
-    pub chasing-small : p - 1 < count
+    chasing-small : p - 1 < count
     chasing-small = omega (arith, c .planted .tree .linked slot (p - 1) leads-here .small, words-length count text places 0)
 
     -- the node has its place, and its branches their links
     pub place-inside : (p - 1) * 2 + 1 < length places
     place-inside = omega (arith, chasing-small, c .planted .placed)
 
+    -- the links of the node's branches are in the room
     pub branch-inside : mask + 1 + (p - 1) * 2 + 1 < length links
     branch-inside = omega (arith, chasing-small, c .planted .linked)
 
+    -- a branch's link stands behind the one that led to its node
     pub chasing-behind : slot < branchOf mask (p - 1) turns
     chasing-behind = walking-behind (c .planted .tree) s (c .walking) leads-here
 
     compared : {b : Bool} → b ≡ same (wordAt text places (p - 1)) s → same (getD (wordsIn text places count) (p - 1) []) s ≡ b
     compared e = word-same text places s count (p - 1) chasing-small refl refl (sym e)
 
+    -- a node with the same spelling is where it stands first
     pub chasing-found : {b : Bool} → b ≡ same (wordAt text places (p - 1)) s → b ≡ true → FoundAt (wordsIn text places count) s (p - 1)
     chasing-found e t = walking-found (c .planted .tree) s (c .walking) leads-here (compared e ∙ t)
 
+    -- at another spelling the search goes on by the branch that the next bit names
     pub chasing-next : {b : Bool} → b ≡ same (wordAt text places (p - 1)) s → b ≡ false → {slot′ turns′ p′ : ℕ}
         → slot′ ≡ branchOf mask (p - 1) turns
         → turns′ ≡ turns / 2
