@@ -41,34 +41,16 @@ cast-k c =
     omega (arith, laws.node-fits (start .pre .0) (start .args .s .now) counted (found .find .result) found-there (c .before .spot .given .1))
 
 returns : tie.Need-returns
-returns c =
-    let spot-place = c .before .before in
-    let found = after-find spot-place in
-    let read = found .before in
-    let start = at-start read in
-    laws.node-keyword (start .pre .0) (start .args .s .now) (read .wide-number .ensures) (found .find .result) (found .find .ensures)
-    (spot-place .spot .given .1)
-    (c .if1 .taken)
+returns c = search laws.node-keyword
 
 enum-told : tie.Need-enum-told
 enum-told c = search needs
 
 returns-2 : tie.Need-returns-2
-returns-2 c =
-    let spot-place = c .before .before in
-    let found = after-find spot-place in
-    let read = found .before in
-    let start = at-start read in
-    laws.node-outside (start .pre .0) (start .args .s .now) (read .wide-number .ensures) (found .find .result) (found .find .ensures)
-    (spot-place .spot .given .1)
-    (c .if1 .left)
+returns-2 c = search laws.node-outside
 
 returns-3 : tie.Need-returns-3
-returns-3 c =
-    let found = c .before .before in
-    let read = found .before in
-    let start = at-start read in
-    laws.node-none (start .pre .0) (start .args .s .now) (read .wide-number .ensures) (found .find .result) (found .find .ensures) (c .enum-told .given .1)
+returns-3 c = search laws.node-none
 
 -- the function meets its contract
 pub name-of-spec : {M : Type 1} → statement M

@@ -26,10 +26,7 @@ digit-run-requires : tie.Need-digit-run-requires
 digit-run-requires c κs = search needs
 
 slice-aggregate-value : tie.Need-slice-aggregate-value
-slice-aggregate-value c =
-    let digits = c .before in
-    let start = at-start digits in
-    laws.digits-counted (start .args .formula .now) (start .args .at) (digits .digit-run .ensures)
+slice-aggregate-value c = search laws.digits-counted
 
 value-requires : tie.Need-value-requires
 value-requires c κs = search needs

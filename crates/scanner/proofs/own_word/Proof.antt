@@ -67,24 +67,10 @@ emit-requires-2 : tie.Need-emit-requires-2
 emit-requires-2 c κs = search needs
 
 returns : tie.Need-returns
-returns c =
-    let spot-place = c .before .before in
-    let found = after-find spot-place in
-    let read = found .before in
-    let start = at-start read in
-    let args = start .args in
-    laws.own-node (args .mask) (args .formula .now) (args .words .now) (args .count) (args .links .now) _ _ (read .part .ensures) (found .find .result)
-    (found .find .ensures) (spot-place .spot .given .1) (c .emit .ensures)
+returns c = search laws.own-node
 
 returns-2 : tie.Need-returns-2
-returns-2 c =
-    let spot2-place = c .before .before in
-    let found = spot2-place .before .before in
-    let read = found .before in
-    let start = at-start read in
-    let args = start .args in
-    laws.own-free (args .mask) (args .formula .now) (args .words .now) (args .count) (args .links .now) _ _ (read .part .ensures) (found .find .result)
-    (found .find .ensures) (spot2-place .spot2 .given .1) (c .emit2 .ensures)
+returns-2 c = search laws.own-free
 
 -- the function meets its contract
 pub own-word-spec : {M : Type 1} → statement M

@@ -45,10 +45,7 @@ abbrev after-step : tie.Else1 Inv-loop μ-loop → tie.After-step Inv-loop μ-lo
 after-step p = p .before .before
 
 loop-holds : tie.Need-loop-holds Inv-loop μ-loop
-loop-holds c =
-    let near = c .before .before .before in
-    let asked = near .before .before .before .before .pre in
-    laws.scanning-start (asked .0) (asked .1) (asked .2)
+loop-holds c = search laws.scanning-start
 
 step-at-requires : tie.Need-step-at-requires Inv-loop μ-loop
 step-at-requires c κs =
@@ -234,7 +231,7 @@ same-length-9 : tie.Need-same-length-9 Inv-loop μ-loop
 same-length-9 c = c .before .loop .inv .links-same
 
 returns-3 : tie.Need-returns-3 Inv-loop μ-loop
-returns-3 c = loop.turn-end (c .before .loop .inv .turn) (c .loop-test .left)
+returns-3 c = search loop.turn-end
 
 -- the function meets its contract
 pub scan-loop-spec : {M : Type 1} → statement M

@@ -32,9 +32,7 @@ mark-step-requires c κs =
     ((start .pre .0 .lexical, sym (c .before .is-letter .ensures) ∙ c .if1 .left), (omega arith, omega arith))
 
 returns-2 : tie.Need-returns-2
-returns-2 c =
-    let start = at-start (c .before .before) in
-    laws.marks-made (start .args .table .now) (start .args .formula .now) (start .args .at) (start .pre .1 .0) (c .mark-step .ensures)
+returns-2 c = search laws.marks-made
 
 -- the function meets its contract
 pub step-at-spec : {M : Type 1} → statement M

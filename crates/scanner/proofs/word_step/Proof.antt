@@ -18,12 +18,7 @@ word-at-requires : tie.Need-word-at-requires
 word-at-requires c κs = search needs
 
 returns : tie.Need-returns
-returns c =
-    let read = c .before in
-    let start = at-start read in
-    let asked = start .pre .1 in
-    laws.long-made (start .args .table .now) (start .args .formula .now) (start .args .at) (asked .0) (asked .2) (read .word-at .ensures)
-    (c .if1 .taken)
+returns c = search laws.long-made
 
 part-requires : tie.Need-part-requires
 part-requires c κs = search needs
