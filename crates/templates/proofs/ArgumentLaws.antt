@@ -18,10 +18,14 @@ use Rattle.expansion.specs.declared.State.{State}
 use Rattle.templates.specs.declared.Built.{Built}
 use Rattle.templates.specs.declared.Built.the-variants.{Made, Full}
 use Rattle.templates.specs.declared.Arguments.the-variants.{Listed}
+use Rattle.templates.specs.declared.Head.{Head}
+use Rattle.templates.specs.declared.Head.the-variants.{Leaf}
 use Rattle.expansion.specs.Run.{Result, done, halt, return, after, _>>=_}
 use Rattle.expansion.specs.Expansion.{Input, build, buildAll}
-use Rattle.templates.specs.Built.{Holds, withMade, Ahead, templateAt, noRow, built, Behind, Lists}
+use Rattle.templates.specs.Built.{Holds, withMade, Ahead, templateAt, noRow, built, Evaluates, Behind, Lists}
+use Rattle.templates.specs.Heads.{Leads, Heads}
 use Rattle.templates.proofs.TemplateLaws.{regroup, first-built, template-is, others-are}
+use Rattle.templates.proofs.BuildLaws.{leaf-built}
 
 -- ------------------------------------------------------------------ bytes that are read have a first template
 
@@ -168,6 +172,20 @@ module _ {v : List ℕ} {start : ℕ} {env : List ℕ} {k rows made : ℕ} {cell
                 ∙ listing-one (done x (withMade s made′) cells′) I s M e g
                 (cc (f I s M e g));
           }
+
+    -- what `head_at` ensures of a template that makes no cell
+    module _ (h : Head) {x next : ℕ} (e : h ≡ Leaf x next) (leads : (M : List ℕ) → Holds env k M → Leads v at M h) (heads : Heads v at h) where
+      leaf : Evaluates v at env k rows count cells (Made x next count) cells × Behind v at (Made x next count)
+      leaf = leaf-built v at h e leads heads rows count cells
+
+      -- it takes a byte at least
+      pub leaf-less : length v - next < length v - at
+      leaf-less = listing-less cells (Made x next count) (leaf .0) refl (leaf .1)
+
+      -- its value is one more
+      pub leaf-next : (out′ : List ℕ) → ((M : List ℕ) → Holds out n M → Holds out′ (n + 1) (M ++ (x ∷ [])))
+          → Listing v start env k rows made cells₀ out′ cells next (n + 1) count
+      leaf-next = listing-next cells (Made x next count) (leaf .0) refl refl (leaf .1)
 
   -- all templates are built
   pub listing-end : length v ≤ at → (I : Input) (s : State) (M : List ℕ) → I .rows ≡ rows → Holds env k M

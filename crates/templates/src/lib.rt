@@ -228,6 +228,19 @@ pub fn build(
     }
 }
 
+fn length_of(values: &[u32]) -> usize
+    ensures { λ r. ⌜ r ≡ length (now (values .entry)) ⌝ }
+{
+    values.len()
+}
+
+// An array has as many values as its type says: looking at it makes that known.
+fn known_values(values: &[u32; 16]) -> usize
+    ensures { λ _. ⌜ length (now (values .entry)) ≡ 16 ⌝ }
+{
+    length_of(values)
+}
+
 // The templates of a call, from an offset of its item's value on; `out` takes their values.
 pub fn build_arguments(
     v: &[u8],
@@ -246,24 +259,33 @@ pub fn build_arguments(
         (now (cells .exit)) (buildAll (found (templatesOf (drop start (now (v .entry))))) I M (withMade s made) (now (cells .entry)))) ⌝ }
     ensures { λ r. ⌜ Few (length (now (v .entry))) r ⌝ }
 {
-    let mut list = [0u32; 16];
+    known_values(out);
     let mut at = start;
     let mut n: usize = 0;
     let mut count = made;
     while at < v.len() {
-        let part = build(v, at, env, k, rows, count, cells, stack);
-        match part {
-            Built::Full => {
-                return Arguments::Overfull;
-            }
-            Built::Made(x, after, more) => {
-                put(&mut list, n, x);
-                at = after;
-                count = more;
+        let head = head_at(v, at, env, k);
+        match head {
+            Head::Leaf(x, next) => {
+                put(out, n, x);
+                at = next;
                 n += 1;
+            }
+            Head::Node(b) => {
+                let part = build_node(v, at, b, env, k, rows, count, cells, stack);
+                match part {
+                    Built::Full => {
+                        return Arguments::Overfull;
+                    }
+                    Built::Made(x, after, more) => {
+                        put(out, n, x);
+                        at = after;
+                        count = more;
+                        n += 1;
+                    }
+                }
             }
         }
     }
-    *out = list;
     Arguments::Listed(n, count)
 }

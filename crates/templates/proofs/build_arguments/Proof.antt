@@ -2,44 +2,88 @@
 use Prim.Native.Nat.{_-_}
 use mathlib.Core.Path.{_≡_, _∙_}
 use native.Mathlib.Omega.{arith}
-use lib.ListN.{length, replicate}
+use lib.ListN.{length}
 use borrow.Author.Needs.{needs}
 use Rattle.templates.proofs.ArgumentLaws as laws
+use Rattle.templates.proofs.BuildLaws.{node-takes}
 use Rattle.templates.proofs.build_arguments.Statement.{statement}
 use Rattle.templates.proofs.build_arguments.Tie as tie
 
 abbrev Inv-loop : tie.InvT-loop
-Inv-loop v start env k rows made out cells₀ stack₀ list₀ at₀ n₀ count₀ cells stack list at n count =
-    laws.Listing v start env k rows made cells₀ list cells at n count × (length stack ≡ length stack₀)
+Inv-loop v start env k rows made out₀ cells₀ stack₀ at₀ n₀ count₀ out cells stack at n count =
+    laws.Listing v start env k rows made cells₀ out cells at n count × (length stack ≡ length stack₀)
 
 abbrev μ-loop : tie.MeasureT-loop
-μ-loop v start env k rows made out cells₀ stack₀ list₀ at₀ n₀ count₀ cells stack list at n count =
-    length v - at
+μ-loop v start env k rows made out₀ cells₀ stack₀ at₀ n₀ count₀ out cells stack at n count = length v - at
 
--- a template is built, and its value goes into the list
+-- a template that makes no cell: its value goes into the list
 module _ (p : tie.After-put Inv-loop μ-loop) where
+  abbrev leaf : tie.After-head Inv-loop μ-loop
+  leaf = p .before .before .before
+
+  abbrev leaf-seen : tie.After-head-at Inv-loop μ-loop
+  leaf-seen = leaf .before .before
+
+-- a constructor is built, and its row goes into the list
+module _ (p : tie.After-put2 Inv-loop μ-loop) where
   abbrev told : tie.After-part Inv-loop μ-loop
   told = p .before .before .before
 
-  abbrev built : tie.After-build Inv-loop μ-loop
+  abbrev built : tie.After-build-node Inv-loop μ-loop
   built = told .before .before .before .before .before .before
 
   abbrev turn : tie.In-loop Inv-loop μ-loop
-  turn = built .before .before .before
+  turn = let seen = built .before .before .before .before .before .before in seen .before
+
+known-values-requires : tie.Need-known-values-requires Inv-loop μ-loop
+known-values-requires c κs = search needs
 
 loop-holds : tie.Need-loop-holds Inv-loop μ-loop
 loop-holds c = search laws.listing-start
 
-build-requires : tie.Need-build-requires Inv-loop μ-loop
-build-requires c κs =
-    let turn = c .before .before .before in
-    let fit = turn .before .before .before .before .pre .1 in (
-      laws.listing-first (turn .loop .inv .0) (c .before .before .loop-test .taken) .0,
+head-at-requires : tie.Need-head-at-requires Inv-loop μ-loop
+head-at-requires c κs = laws.listing-first (c .before .loop .inv .0) (c .loop-test .taken) .0
+
+enum-known-head : tie.Need-enum-known-head Inv-loop μ-loop
+enum-known-head c = search needs
+
+put-requires : tie.Need-put-requires Inv-loop μ-loop
+put-requires c κs = search needs
+
+add-n : tie.Need-add-n Inv-loop μ-loop
+add-n c = search needs
+
+loop-less : tie.Need-loop-less Inv-loop μ-loop
+loop-less c =
+    let seen = leaf-seen c in
+    laws.leaf-less (seen .before .before .loop .inv .0) (seen .before .loop-test .taken) (seen .head-at .result) (leaf c .head .given .1)
+    (seen .head-at .ensures .0) (seen .head-at .ensures .1)
+
+loop-again : tie.Need-loop-again Inv-loop μ-loop
+loop-again c =
+    let seen = leaf-seen c in
+    let inv = seen .before .before .loop .inv in (
+      laws.leaf-next (inv .0) (seen .before .loop-test .taken) (seen .head-at .result) (leaf c .head .given .1) (seen .head-at .ensures .0)
+          (seen .head-at .ensures .1) (c .put .last .0) (c .put .ensures),
+      inv .1,
+    )
+
+enum-known-head-2 : tie.Need-enum-known-head-2 Inv-loop μ-loop
+enum-known-head-2 c = search needs
+
+build-node-requires : tie.Need-build-node-requires Inv-loop μ-loop
+build-node-requires c κs =
+    let head = c .before .before .before in
+    let seen = head .before .before in
+    let inv = seen .before .before .loop .inv in
+    let entered = seen .before .before .before in
+    let fit = entered .before .before .before .before .before .pre .1 in (
+      node-takes (seen .head-at .result) (head .head2 .given .1) (seen .head-at .ensures .1),
       record {
         small = fit .small;
-        stack-long = omega (arith, fit .stack-long, turn .loop .inv .1);
+        stack-long = omega (arith, fit .stack-long, inv .1);
         few = fit .few;
-        rows-long = omega (arith, fit .rows-long, turn .loop .inv .0 .as-long);
+        rows-long = omega (arith, fit .rows-long, inv .0 .as-long);
       },
     )
 
@@ -58,22 +102,22 @@ returns c = search laws.listing-full
 enum-known-part : tie.Need-enum-known-part Inv-loop μ-loop
 enum-known-part c = search needs
 
-put-requires : tie.Need-put-requires Inv-loop μ-loop
-put-requires c κs = search needs
+put-requires-2 : tie.Need-put-requires-2 Inv-loop μ-loop
+put-requires-2 c κs = search needs
 
-add-n : tie.Need-add-n Inv-loop μ-loop
-add-n c = search needs
+add-n-2 : tie.Need-add-n-2 Inv-loop μ-loop
+add-n-2 c = search needs
 
-loop-less : tie.Need-loop-less Inv-loop μ-loop
-loop-less c =
-    let b = built c .build in
+loop-less-2 : tie.Need-loop-less-2 Inv-loop μ-loop
+loop-less-2 c =
+    let b = built c .build-node in
     laws.listing-less (turn c .before .loop .inv .0) (turn c .loop-test .taken) _ _ (b .ensures .0) (told c .part .given .1) (b .ensures .1)
 
-loop-again : tie.Need-loop-again Inv-loop μ-loop
-loop-again c =
-    let b = built c .build in (
+loop-again-2 : tie.Need-loop-again-2 Inv-loop μ-loop
+loop-again-2 c =
+    let b = built c .build-node in (
       laws.listing-next (turn c .before .loop .inv .0) (turn c .loop-test .taken) _ _ (b .ensures .0) (search needs) (told c .part .given .1)
-          (b .ensures .1) (c .put .last .0) (c .put .ensures),
+          (b .ensures .1) (c .put2 .last .0) (c .put2 .ensures),
       cc,
     )
 
@@ -93,17 +137,25 @@ build-arguments-spec =
     (tie.spec
     Inv-loop
     μ-loop
+    known-values-requires
     loop-holds
-    build-requires
+    head-at-requires
+    enum-known-head
+    put-requires
+    add-n
+    loop-less
+    loop-again
+    enum-known-head-2
+    build-node-requires
     enum-told
     same-length
     same-length-2
     returns
     enum-known-part
-    put-requires
-    add-n
-    loop-less
-    loop-again
+    put-requires-2
+    add-n-2
+    loop-less-2
+    loop-again-2
     same-length-3
     same-length-4
     returns-2)
