@@ -2,19 +2,21 @@
 use answers::refuse;
 use expansion::Outcome;
 use expansion::State;
+use frames::FRAME;
 use frames::copy;
 use frames::save;
 use steps::Step;
+use steps::finish;
 use steps::item_step;
 use turns::Progress;
 use turns::Resumption;
-use turns::Turn;
 use turns::begins::Begun;
 use turns::begins::begin;
-use turns::calling;
-use turns::enter;
-use turns::leave;
+use turns::begins::begin_root;
+use turns::entered;
+use turns::paused;
 use turns::resumed;
+use turns::returned;
 use turns::valued;
 ghost use Prim.Native.Nat.{ℕ};
 ghost use mathlib.Core.Path.{_≡_};
@@ -30,8 +32,8 @@ ghost use Rattle.expander.specs.Lent.{lentInput, Lent};
 ghost use Rattle.turns.specs.Turns.{Goes};
 ghost use Rattle.expander.specs.Calls.{rootItems, MayBeginRoot, MayGo, MayGoOn};
 
-// How many calls may be open at once.
-const MOST_OPEN: usize = 1024;
+// How many calls may wait.
+const MOST_WAITING: usize = 1023;
 
 // The items of the call at a level of `frames`, its result, and so on with the calls that wait below it. The call that goes on is kept
 // apart from its frame.
@@ -56,18 +58,18 @@ fn items(
     let mut args = [0u32; 16];
     let mut c = resumed(frames, &mut vars, from);
     loop {
+        let level = c.level;
         let step = item_step(table, tokens, n, &vars, c, &mut args, cells, stack);
         match step {
             Step::Finished => {
-                let turn = leave(table, c, &mut vars, cells, stack, frames);
-                match turn {
-                    Turn::Over(p) => {
-                        return p;
-                    }
-                    Turn::On(d) => {
-                        c = d;
-                    }
+                let outcome = finish(table, &vars, c, cells, stack);
+                let Outcome::Value(x, t) = outcome else {
+                    return Progress::Ended(outcome);
+                };
+                if level == 0 {
+                    return Progress::Ended(outcome);
                 }
+                c = returned(frames, &mut vars, level - 1, x, t);
             }
             Step::Stopped(r) => {
                 return Progress::Ended(Outcome::Halted(r));
@@ -76,14 +78,16 @@ fn items(
                 c = valued(&mut vars, c, x, next, t);
             }
             Step::Opened(callee, given, next, t) => {
-                let call = calling(callee, given, next, t);
-                let turn = enter(room, memory, tokens, n, frames, &mut vars, &args, c, call);
-                match turn {
-                    Turn::Over(p) => {
-                        return p;
+                let begun = begin(room, memory, tokens, n, MOST_WAITING - level, callee, t);
+                match begun {
+                    Begun::Refused(r) => {
+                        return Progress::Ended(Outcome::Halted(r));
                     }
-                    Turn::On(d) => {
-                        c = d;
+                    Begun::Entered(first, u) => {
+                        c = entered(frames, &mut vars, &args, c, given, next, first, u);
+                        if frames.len() < (level + 3) * FRAME {
+                            return paused(frames, &vars, c);
+                        }
                     }
                 }
             }
@@ -200,20 +204,7 @@ pub fn run(
         root (now (cells .entry)) ⌝ }
 {
     let mut memory = [0u8; 4160];
-    let begun = begin(
-        room,
-        &mut memory,
-        tokens,
-        n,
-        MOST_OPEN,
-        root,
-        State {
-            at: 0,
-            fresh: 1,
-            calls: 0,
-            made: 0,
-        },
-    );
+    let begun = begin_root(room, &mut memory, tokens, n, root);
     match begun {
         Begun::Refused(r) => Outcome::Halted(r),
         Begun::Entered(start, t) => {

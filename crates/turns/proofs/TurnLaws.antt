@@ -25,19 +25,12 @@ use Rattle.turns.specs.declared.begins.Begun.{Begun}
 use Rattle.turns.specs.declared.begins.Begun.the-variants.{Refused, Entered}
 use Rattle.turns.specs.declared.Resumption.{Resumption}
 use Rattle.steps.specs.declared.Cursor.{Cursor}
-use Rattle.turns.specs.declared.Call.{Call}
 use Rattle.turns.specs.declared.Progress.{Progress}
-use Rattle.turns.specs.declared.Progress.the-variants.{Ended, Paused}
-use Rattle.turns.specs.declared.Turn.{Turn}
-use Rattle.turns.specs.declared.Turn.the-variants.{Over, On}
+use Rattle.turns.specs.declared.Progress.the-variants.{Paused}
 use Rattle.turns.specs.Begins.{Begins, Entry, Enters, Starts}
-use Rattle.turns.specs.Turns.{cursorAt, moved, callOf, Resumes, Values, left, Going, Calling, Goes, Turned, leftOf, Turns}
+use Rattle.turns.specs.Turns.{cursorAt, moved, enteredAt, resumption, Resumes, Values, Returns, Savable, Pushes, Pauses, left, Going, Calling}
+use Rattle.turns.specs.Turns.{Goes, Stands, Turns}
 use Rattle.turns.proofs.BeginLaws.{positive, entry-weight}
-
--- The last turn: less is left than any number.
-pub turns-over : {I : Input} {bs : List ℕ} {R : Result ℕ} {cells : List ℕ} {o : Outcome} → ran o cells ≡ R → (most : ℕ) (frames vars : List ℕ)
-    → Turns I bs most R frames vars cells (Over (Ended o))
-turns-over e most frames vars = record { stands = e; less = omega arith }
 
 -- The call at a level of the room is read back.
 pub resumes-at : {frames : List ℕ} {from : Resumption} {vars : List ℕ} → Loaded frames (from .level) vars → {count at : ℕ}
@@ -158,7 +151,7 @@ module _ {I : Input} {bs frames vars : List ℕ} {c : Cursor} {cells : List ℕ}
 
       -- The value is its next variable, and it goes on behind the item.
       pub step-taken : {vars′ : List ℕ} {u : Cursor} → Values vars c x next t vars′ u → (c .level + 2) * frameSize ≤ length frames
-          → Turns I bs (left bs c) R frames vars′ cells′ (On u)
+          → Turns I bs (left bs c) R frames vars′ cells′ u
       step-taken {vars′} v spare =
           let o = taken-onward in
           rw (v .cursor-is)
@@ -182,9 +175,10 @@ module _ {I : Input} {bs frames vars : List ℕ} {c : Cursor} {cells : List ℕ}
             less = omega (arith, o .less, o .inside, o .called);
           })
 
-    opened-as : {n k next : ℕ} {t : State} → step ≡ Opened n k next t → (c .level + 2) * frameSize ≤ length frames
-        → Calling I bs frames vars c args (callOf n k next t) cells′ R
-    opened-as e spare =
+    -- The item calls.
+    pub step-opened : {n k next : ℕ} {t : State} → step ≡ Opened n k next t → (c .level + 2) * frameSize ≤ length frames
+        → Calling I bs frames vars c args n k next t cells′ R
+    step-opened e spare =
         let q = steps e in
         let a : Onward _ _ _ _ _ × (_ ≤ _) = subst (Advances bs (c .at) (c .state)) e (d .advances) in
         record {
@@ -204,13 +198,6 @@ module _ {I : Input} {bs frames vars : List ℕ} {c : Cursor} {cells : List ℕ}
           rest = instead (sym (q .2 callee));
         }
 
-    -- The item calls.
-    pub step-opened : {n k next : ℕ} {t : State} → step ≡ Opened n k next t → {call : Call} → call ≡ callOf n k next t
-        → (c .level + 2) * frameSize ≤ length frames
-        → Calling I bs frames vars c args call cells′ R
-    step-opened e ec spare =
-        rw ec (opened-as e spare)
-
   -- ---------------------------------------------------------------- the result of the call
 
   module _ {o : Outcome} {cells′ : List ℕ} (d : Resulting I bs vars c cells o cells′) where
@@ -225,8 +212,8 @@ module _ {I : Input} {bs frames vars : List ℕ} {c : Cursor} {cells : List ℕ}
     given-by e = rw e at gives-all
 
     -- It refuses.
-    pub closed-halted : {x : Refusal} → o ≡ Halted x → halt x cells′ ≡ R
-    closed-halted e = halted (given-by e)
+    pub closed-halted : {x : Refusal} → o ≡ Halted x → ran o cells′ ≡ R
+    closed-halted e = rw e (halted (given-by e))
 
     module _ {x : ℕ} {t : State} (e : o ≡ Value x t) where
       -- No call waits.
@@ -274,10 +261,6 @@ module _ {I : Input} {bs frames vars : List ℕ} {c : Cursor} {cells : List ℕ}
           at-few : at-top .count < length bs + at-top .at
           at-few = omega (arith, top-frame .4 .next-is, top-frame .4 .counted, top-frame .6)
 
-          -- It has few variables.
-          pub closed-few : v .count < length bs + length bs
-          closed-few = rw (r .cursor-is) (omega (arith, at-few, top-frame .4 .next-is, top-frame .4 .inside))
-
           closed-going : {vars₂ : List ℕ} → ((M : List ℕ) → Holds vars₁ (at-top .count) M → Holds vars₂ (at-top .count + 1) (M ++ (x ∷ [])))
               → Going I bs frames vars₂ (moved at-top (at-top .at) t) cells′ R
           unfolding resume owed
@@ -302,43 +285,42 @@ module _ {I : Input} {bs frames vars : List ℕ} {c : Cursor} {cells : List ℕ}
                     rw (w .next-is, sym (top-frame .3)) (rw (top-frame .2) at (instead (given-by e)));
               }
 
-          -- The value is its next variable, and it goes on where it waited.
-          pub closed-on : {vars₂ : List ℕ} {u : Cursor} → Values vars₁ v x (v .at) t vars₂ u → length bs ≤ 16384
-              → Turns I bs (left bs c) R frames vars₂ cells′ (On u)
-          closed-on {vars₂} put small =
-              rw (put .cursor-is, r .cursor-is)
-              (record {
-                stands = (
-                  closed-going (rw (r .cursor-is) at (put .holds)),
-                  omega (arith, g .fits .inside),
-                );
-                less =
-                    let p : 0 < c .level = positive (c .level) below in
-                    omega (arith, unmoved .2);
-              })
+        -- The value is its next variable, and it goes on where it waited.
+        pub closed-on : {vars₂ : List ℕ} {u : Cursor} → Returns frames (c .level - 1) x t vars₂ u → length bs ≤ 16384
+            → Turns I bs (left bs c) R frames vars₂ cells′ u
+        closed-on r small =
+            let v = r .resumes .cursor-is in
+            rw (r .values .cursor-is, v)
+            (record {
+              stands = (
+                closed-going (r .resumes) (rw v at (r .values .holds)),
+                omega (arith, g .fits .inside),
+              );
+              less =
+                  let p : 0 < c .level = positive (c .level) below in
+                  omega (arith, unmoved .2);
+            })
 
 -- ------------------------------------------------------------------ a call that is begun
 
-module _ {I : Input} {bs frames vars : List ℕ} {c : Cursor} {args : List ℕ} {call : Call} {cells : List ℕ} {R : Result ℕ}
-    (k : Calling I bs frames vars c args call cells R) where
+module _ {I : Input} {bs frames vars : List ℕ} {c : Cursor} {args : List ℕ} {callee′ given next : ℕ} {t : State} {cells : List ℕ} {R : Result ℕ}
+    (k : Calling I bs frames vars c args callee′ given next t cells R) where
   abbrev depth : ℕ
   depth = mostWaiting - c .level
 
-  -- what the call that waits makes of what the call gives
-  abbrev waiting-for : ℕ → Result ℕ → Result ℕ
-  waiting-for l r = after r (λ x. body (runCall (mostWaiting - l) I) bs (call .next) I (k .M ++ (x ∷ [])))
+  -- The call that calls can be saved.
+  pub calling-savable : length bs ≤ 16384 → Savable frames c next
+  calling-savable small =
+      let o = k .onward in
+      record {
+        fits = record { few = k .few; inside = omega (arith, k .spare) };
+        few = omega (arith, k .counted, o .less, o .inside);
+        near = omega (arith, o .inside);
+      }
 
-  -- The frame of the call that calls has room.
-  pub calling-fits : Fits frames (c .level)
-  calling-fits = record { few = k .few; inside = omega (arith, k .spare) }
-
-  -- The numbers that are saved are small.
-  pub calling-few : (c .count ≤ length bs + length bs) × (call .next ≤ length bs)
-  calling-few = (omega (arith, k .counted, k .onward .less, k .onward .inside), k .onward .inside)
-
-  module _ {b : Begun} {memory : List ℕ} (s : Starts I bs depth (call .callee) (call .state) b memory) where
-    begun-as : {q : Begun} → b ≡ q → Begins I bs depth (call .callee) (call .state) q
-    begun-as e = subst (Begins I bs depth (call .callee) (call .state)) e (s .begins)
+  module _ {b : Begun} {memory : List ℕ} (s : Starts I bs depth callee′ t b memory) where
+    begun-as : {q : Begun} → b ≡ q → Begins I bs depth callee′ t q
+    begun-as e = subst (Begins I bs depth callee′ t) e (s .begins)
 
     -- It refuses.
     pub opened-refused : {r : Refusal} → b ≡ Refused r → halt r cells ≡ R
@@ -349,28 +331,23 @@ module _ {I : Input} {bs frames vars : List ℕ} {c : Cursor} {args : List ℕ} 
     -- It is entered, and the call that called waits.
     module _ {first : ℕ} {u : State} (e : b ≡ Entered first u) where
       -- A whole alternative stands where it is entered.
-      pub opened-entry : Entry bs depth (call .state) first u
-      opened-entry = subst (Enters bs depth (call .state)) e (s .enters)
+      opened-entry : Entry bs depth t first u
+      opened-entry = subst (Enters bs depth t) e (s .enters)
 
-      -- It is entered with its arguments, one level higher.
-      abbrev pub entered : Cursor
-      entered = record { count = call .given; at = first; level = c .level + 1; state = u }
-
-      module _ {frames′ : List ℕ} (saved : Saved frames frames′ (c .level) vars (c .count) (call .next)) (long : length frames′ ≡ length frames)
-          (small : length bs ≤ 16384) where
-        -- What is left of it, and of the calls that wait, gives what was to be given.
-        pub opened-going : Going I bs frames′ args entered cells R
+      module _ {frames′ vars′ : List ℕ} {d : Cursor} (p : Pushes frames vars args c given next first u frames′ vars′ d)
+          (long : length frames′ ≡ length frames) (small : length bs ≤ 16384) where
+        going-at : Going I bs frames′ args (enteredAt c given first u) cells R
         unfolding resume owed
-        opened-going =
+        going-at =
             let o = k .onward in
             record {
               whole = opened-entry .whole;
               inside = opened-entry .inside;
               counted = omega (arith, k .few-given);
-              waiting = record { next = call .next; values = k .M } ∷ k .waiting;
+              waiting = record { next = next; values = k .M } ∷ k .waiting;
               many = omega (arith, k .many);
               fits = record { few = omega (arith, opened-entry .may-open); inside = omega (arith, k .spare, long) };
-              stacked = stacked-more (k .many) saved (k .holds) (o .whole) (omega (arith, k .counted, o .less)) (o .inside) (k .stacked);
+              stacked = stacked-more (k .many) (p .saved) (k .holds) (o .whole) (omega (arith, k .counted, o .less)) (o .inside) (k .stacked);
               light = omega (arith, onward-light o (owed bs (k .waiting)) (k .light), entry-weight opened-entry small);
               M = k .vs;
               holds = k .given;
@@ -379,11 +356,22 @@ module _ {I : Input} {bs frames vars : List ℕ} {c : Cursor} {args : List ℕ} 
                   rw (k .many, z, begun-as e (k .vs) cells) (k .rest);
             }
 
+        -- What is left of it, and of the calls that wait, gives what was to be given.
+        pub opened-going : Going I bs frames′ vars′ d cells R
+        opened-going = rw (p .vars-are, p .cursor-is) going-at
+
+        -- It can be saved.
+        pub opened-savable : Savable frames′ d (d .at)
+        opened-savable =
+            let g = opened-going in
+            record { fits = g .fits; few = omega (arith, g .counted, g .inside); near = omega (arith, g .inside) }
+
         -- The call that is entered goes on.
-        pub opened-on : (c .level + 1 + 2) * frameSize ≤ length frames′ → Turns I bs (left bs c) R frames′ args cells (On entered)
+        pub opened-on : (c .level + 3) * frameSize ≤ length frames′ → Turns I bs (left bs c) R frames′ vars′ cells d
         opened-on spare =
-            record {
-              stands = (opened-going, spare);
+            rw (p .vars-are, p .cursor-is)
+            (record {
+              stands = (going-at, omega (arith, spare));
               less =
                   omega (
                     arith,
@@ -392,18 +380,16 @@ module _ {I : Input} {bs frames vars : List ℕ} {c : Cursor} {args : List ℕ} 
                     ap (λ (q : State). 40000 * (65536 - q .calls)) (opened-entry .begun),
                     k .onward .called,
                   );
-            }
+            })
 
         -- The room is too short: it is saved too.
-        pub opened-paused : {frames″ : List ℕ} → Saved frames′ frames″ (c .level + 1) args (call .given) first → length frames″ ≡ length frames′
-            → length frames′ < (c .level + 1 + 2) * frameSize
-            → (vars″ : List ℕ)
-            → Turns I bs (left bs c) R frames″ vars″ cells (Over (Paused (record { level = c .level + 1; state = u })))
-        opened-paused saved′ long′ full vars″ =
-            record {
-              stands = (going-paused opened-going saved′ long′, omega (arith, opened-going .fits .few));
-              less = omega arith;
-            }
+        pub opened-paused : {frames″ : List ℕ} {r : Progress} → Pauses frames′ vars′ d frames″ r → length frames″ ≡ length frames′
+            → length frames′ < (c .level + 3) * frameSize
+            → Goes I bs R frames″ cells r
+        opened-paused q long′ full =
+            let g = opened-going in
+            let l : d .level ≡ c .level + 1 = ap (λ (x : Cursor). x .level) (p .cursor-is) in
+            rw (q .paused) ((going-paused g (q .saved) long′, omega (arith, g .fits .few)))
 
 -- ------------------------------------------------------------------ the loop over the turns
 
@@ -417,7 +403,7 @@ pub record Place : Type 0 where
 
 -- what is left at a place gives R
 abbrev pub Stood : Input → List ℕ → Result ℕ → Place → Type 0
-Stood I bs R p = Turned I bs R (p .frames) (p .vars) (p .cells) (On (p .cursor))
+Stood I bs R p = Stands I bs R (p .frames) (p .vars) (p .cells) (p .cursor)
 
 -- Rooms are as long as they were, choices are remembered, and what gave R at the first place still gives it.
 pub record Turning (I : Input) (bs : List ℕ) (p q : Place) (memory : List ℕ) : Type 0 where
@@ -437,7 +423,7 @@ pub turned-start : {I : Input} {bs frames : List ℕ} {from : Resumption} {cells
     → {vars : List ℕ} {c : Cursor}
     → Resumes frames from vars c
     → (from .level + 2) * frameSize ≤ length frames
-    → Turned I bs R frames vars cells (On c)
+    → Stands I bs R frames vars cells c
 turned-start s r spare = (going-resumed s r, omega (arith, spare, ap (λ (c : Cursor). c .level) (r .cursor-is)))
 
 -- One turn more.
@@ -456,17 +442,3 @@ turning-next w next ec es ef m stands =
       remembers = m;
       stands = stands;
     }
-
--- How a turn ended.
-module _ (I : Input) (bs : List ℕ) (most : ℕ) (R : Result ℕ) (frames vars cells : List ℕ) (t : Turn) (w : Turns I bs most R frames vars cells t) where
-  -- It was the last one.
-  pub turned-over : {p : Progress} → t ≡ Over p → Goes I bs R frames cells p
-  turned-over e = subst (Turned I bs R frames vars cells) e (w .stands)
-
-  -- A call goes on.
-  pub turned-on : {c : Cursor} → t ≡ On c → Turned I bs R frames vars cells (On c)
-  turned-on e = subst (Turned I bs R frames vars cells) e (w .stands)
-
-  -- Less is left then.
-  pub turned-less : {c : Cursor} → t ≡ On c → left bs c < most
-  turned-less e = omega (arith, w .less, ap (leftOf bs) e)

@@ -10,8 +10,8 @@ use steps::tokens::misfit;
 ghost use Prim.Native.Nat.{ℕ, _≤_};
 ghost use mathlib.Core.Path.{_≡_};
 ghost use mathlib.Core.List.{List};
-ghost use Rattle.expansion.specs.Expansion.{callBegun};
-ghost use Rattle.expansion.specs.Limits.{mostCalls};
+ghost use Rattle.expansion.specs.Expansion.{callBegun, start};
+ghost use Rattle.expansion.specs.Limits.{mostOpen, mostCalls};
 ghost use Rattle.choices.specs.Held.{Held};
 ghost use Rattle.choices.specs.Chosen.{Remembers};
 ghost use Rattle.turns.specs.Lent.{MayBegin, lentInput};
@@ -67,4 +67,30 @@ pub fn begin(
         return Begun::Entered(start(room, place), with_call(s));
     }
     Begun::Refused(misfit(at, kinds_of(room, nonterminal)))
+}
+
+// The beginning of the root's call: none is open and none was begun, so that only 17 is tested.
+pub fn begin_root(
+    room: &[u64; 641],
+    memory: &mut [u8; 4160],
+    tokens: &[u32],
+    n: usize,
+    root: u8,
+) -> Begun
+    requires { ⌜ MayBegin (now room) (now tokens) n ⌝ }
+    ensures { λ r. ⌜ ((bs : List ℕ) (rows : ℕ) → Held bs (now (room .entry)) → Remembers bs (now (memory .entry)) → Starts (lentInput bs (now
+        (tokens .entry)) n rows) bs mostOpen root start r (now (memory .exit))) ⌝ }
+{
+    let s = State {
+        at: 0,
+        fresh: 1,
+        calls: 0,
+        made: 0,
+    };
+    let kind = kind_at(tokens, n, 0);
+    let place = choose(room, memory, root, kind);
+    if place < 256 {
+        return Begun::Entered(start(room, place), with_call(s));
+    }
+    Begun::Refused(misfit(0, kinds_of(room, root)))
 }

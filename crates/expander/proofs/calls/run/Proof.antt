@@ -18,30 +18,30 @@ use Rattle.expander.proofs.calls.run.Statement.{statement}
 use Rattle.expander.proofs.calls.run.Tie as tie
 
 -- after the beginning of the root's call
-module _ (p : tie.After-begin) where
+module _ (p : tie.After-begin-root) where
   abbrev entry : tie.Start
   entry = p .before .before .before .before .before .before
 
   abbrev input : Input
   input = lentInput (entry .args .table .now) (entry .args .tokens .now) (entry .args .n) (rowsIn (entry .args .cells .now))
 
-  starts : Starts input (entry .args .table .now) 1024 (entry .args .root) start (p .begin .result) (p .begin .last .1 .0)
+  starts : Starts input (entry .args .table .now) 1024 (entry .args .root) start (p .begin-root .result) (p .begin-root .last .1 .0)
   starts =
-      p .begin .ensures (entry .args .table .now) (rowsIn (entry .args .cells .now)) (entry .pre .table) (remembers-none (entry .args .table .now))
+      p .begin-root .ensures (entry .args .table .now) (rowsIn (entry .args .cells .now)) (entry .pre .table) (remembers-none (entry .args .table .now))
 
-  begins : {q : Begun} → p .begin .result ≡ q → Begins input (entry .args .table .now) 1024 (entry .args .root) start q
+  begins : {q : Begun} → p .begin-root .result ≡ q → Begins input (entry .args .table .now) 1024 (entry .args .root) start q
   begins e =
-      laws.begins-as input (entry .args .table .now) 1024 (entry .args .root) start (p .begin .result) e (starts .begins)
+      laws.begins-as input (entry .args .table .now) 1024 (entry .args .root) start (p .begin-root .result) e (starts .begins)
 
-  enters : {first : ℕ} {t : _} → p .begin .result ≡ Entered first t → Entry (entry .args .table .now) 1024 start first t
-  enters e = laws.entry-of (p .begin .result) e (starts .enters)
+  enters : {first : ℕ} {t : _} → p .begin-root .result ≡ Entered first t → Entry (entry .args .table .now) 1024 start first t
+  enters e = laws.entry-of (p .begin-root .result) e (starts .enters)
 
   runs : {R : Result ℕ} → R ≡ runCall mostOpen input (entry .args .root) [] start (entry .args .cells .now)
       → after R (ended input) ≡ run input (entry .args .root) (entry .args .cells .now)
   runs e = laws.run-is input (entry .args .root) (entry .args .cells .now) e
 
-begin-requires : tie.Need-begin-requires
-begin-requires c κs = search needs
+begin-root-requires : tie.Need-begin-root-requires
+begin-root-requires c κs = search needs
 
 enum-known-begun : tie.Need-enum-known-begun
 enum-known-begun c = search needs
@@ -87,7 +87,7 @@ pub run-spec : {M : Type 1} → statement M
 run-spec =
     tie.close
     (tie.spec
-    begin-requires
+    begin-root-requires
     enum-known-begun
     enum-known-begun-2
     root-items-requires

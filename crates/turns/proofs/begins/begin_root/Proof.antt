@@ -1,0 +1,54 @@
+-- `begin_root`: tested 17; 19 and 20 cannot be.
+use native.Mathlib.Omega.{arith}
+use borrow.Author.Needs.{needs}
+use Rattle.turns.proofs.BeginLaws as laws
+use Rattle.turns.proofs.begins.begin_root.Statement.{statement}
+use Rattle.turns.proofs.begins.begin_root.Tie as tie
+
+kind-at-requires : tie.Need-kind-at-requires
+kind-at-requires c κs = search needs
+
+choose-requires : tie.Need-choose-requires
+choose-requires c κs = search needs
+
+start-requires : tie.Need-start-requires
+start-requires c κs = search needs
+
+with-call-requires : tie.Need-with-call-requires
+with-call-requires c κs = search needs
+
+returns : tie.Need-returns
+returns c =
+    let choose-place = c .before .before .before in
+    let kind-place = choose-place .before .before in
+    λ bs rows h m.
+    laws.starts-at h _ _ rows _ _ _ (λ e. omega arith) (omega arith) (kind-place .kind-at .ensures) (choose-place .choose .ensures bs h m)
+    (c .before .before .if1 .taken) (c .before .start .ensures) (c .with-call .ensures)
+
+kinds-of-requires : tie.Need-kinds-of-requires
+kinds-of-requires c κs = search needs
+
+misfit-requires : tie.Need-misfit-requires
+misfit-requires c κs = search needs
+
+returns-2 : tie.Need-returns-2
+returns-2 c =
+    let choose-place = c .before .before .before in
+    let kind-place = choose-place .before .before in
+    λ bs rows h m.
+    laws.starts-nowhere h _ _ rows _ _ _ (λ e. omega arith) (omega arith) (kind-place .kind-at .ensures) (choose-place .choose .ensures bs h m)
+    (c .before .before .if1 .left) (c .before .kinds-of .ensures bs h) (c .misfit .ensures)
+
+-- the function meets its contract
+pub begin-root-spec : {M : Type 1} → statement M
+begin-root-spec =
+    tie.close
+    (tie.spec
+    kind-at-requires
+    choose-requires
+    start-requires
+    with-call-requires
+    returns
+    kinds-of-requires
+    misfit-requires
+    returns-2)

@@ -1,0 +1,15 @@
+-- `with_call`: one more call, and nothing else moves.
+use mathlib.Core.Path.{refl}
+use borrow.Author.Needs.{needs}
+use Rattle.turns.proofs.begins.with_call.Statement.{statement}
+use Rattle.turns.proofs.begins.with_call.Tie as tie
+
+add-t2 : tie.Need-add-t2
+add-t2 c = search needs
+
+returns : tie.Need-returns
+returns c = refl
+
+-- the function meets its contract
+pub with-call-spec : {M : Type 1} → statement M
+with-call-spec = tie.close (tie.spec add-t2 returns)
