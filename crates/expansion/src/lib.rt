@@ -4,8 +4,8 @@ use answers::Refusal;
 // Where an expansion stands: the next token not yet taken, the number of the next fresh name, the calls begun, the cells made.
 pub struct State {
     pub at: usize,
-    pub fresh: u32,
-    pub calls: u32,
+    pub fresh: usize,
+    pub calls: usize,
     pub made: usize,
 }
 

@@ -68,7 +68,7 @@ fn fresh_name(s: State) -> Outcome
 {
     let fresh = s.fresh;
     Outcome::Value(
-        FRESH + fresh,
+        FRESH + fresh as u32,
         State {
             at: s.at,
             fresh: fresh + 1,

@@ -18,7 +18,7 @@ ghost use Rattle.turns.specs.Lent.{MayBegin, lentInput};
 ghost use Rattle.turns.specs.Begins.{Starts};
 
 // How many calls may be begun in all.
-const MOST_CALLS: u32 = 65536;
+const MOST_CALLS: usize = 65536;
 
 // How a call begins: it refuses, or a production is entered at an offset.
 pub enum Begun {
