@@ -50,6 +50,7 @@ pub scanned-is-small : (lex : Lexicon) → length (lex .outsides) ≤ 64 → (fo
 scanned-is-small = scanned-small
 
 module _ (t : Table) (T : Passing t) where
+  -- A passing table has neither 12 nor 13.
   pub firsts-passed : checkFirsts (grammarOf t) ≡ ok tt
   firsts-passed = passes-exactly (grammarOf t) .1 (T .meets .not-left-recursive, T .meets .without-clash)
 
@@ -68,6 +69,7 @@ module _ (t : Table) (T : Passing t) where
   -- ------------------------------------------------------------------ readings
 
   module _ (R : Lexemes) where
+    -- Figure 3 derives the term from the table's root over all the tokens.
     abbrev pub Reads : Term Name → Type 0
     Reads u = Parses (grammarOf t) (R .spell) (t .root) (R .tokens) u
 
@@ -109,6 +111,7 @@ module _ (t : Table) (T : Passing t) where
     -- ------------------------------------------------------------------ runs and parses
 
     module _ (rows : ℕ) (cells : List ℕ) (room : rows * columns ≤ length cells) where
+      -- An expansion over these rows and cells ends so.
       abbrev pub Answers : Result ℕ → Type 0
       Answers x = Runs (grammarOf t) (t .root) (R .tokens) rows cells x
 
