@@ -223,6 +223,7 @@ module _ (links : List ℕ) {spot : Spot} {slot : ℕ} (z : spot ≡ Free slot) 
 
 -- ------------------------------------------------------------------ the search as the code has it
 
+-- the search for s stands at a link of the room
 pub record Chasing (text places links : List ℕ) (mask count : ℕ) (s : List ℕ) (slot turns p : ℕ) : Type 0 where
   -- the trees and their rooms
   pub planted : Planted text places links mask count

@@ -80,13 +80,21 @@ first-of v at ts h e =
 
 -- n values are listed, and the templates ahead give with them what all give
 pub record Listing (v : List ℕ) (start : ℕ) (env : List ℕ) (k rows made : ℕ) (cells₀ out cells : List ℕ) (at n count : ℕ) : Type 0 where
+  -- each value took a byte at least
   pub small : n + start ≤ at
+  -- there are no more values than bytes
   pub few : n ≤ length v
+  -- the cells are as many as before
   pub as-long : length cells ≡ length cells₀
+  -- the values listed
   pub given : List ℕ
+  -- they stand in the array
   pub holds : Holds out n given
+  -- the templates left
   pub ahead : Templates
+  -- they are read at the offset
   pub read : templatesOf (drop at v) ≡ parsed ahead
+  -- the values listed and those of the templates left are what all templates give
   pub rest :
       (I : Input) (s : State) (M : List ℕ) → I .rows ≡ rows → Holds env k M
       → after (buildAll ahead I M (withMade s count) cells) (λ ys. return (given ++ ys))

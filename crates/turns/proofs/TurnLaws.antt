@@ -79,13 +79,18 @@ light-below x o y o′ e f h = omega arith
 
 -- What the item at a cursor does, and how far it goes.
 pub record Stepped (I : Input) (bs vars : List ℕ) (c : Cursor) (cells : List ℕ) (step : Step) (args cells′ : List ℕ) : Type 0 where
+  -- under any values of the variables it does what the definition does
   pub does : (M : List ℕ) → Holds vars (c .count) M → Steps bs (c .at) I M (c .state) cells step args cells′
+  -- the next offset, if there is one, is behind it and inside the table
   pub advances : Advances bs (c .at) (c .state) step
 
 -- No item stands at a cursor, and what the result of the alternative gives.
 pub record Resulting (I : Input) (bs vars : List ℕ) (c : Cursor) (cells : List ℕ) (o : Outcome) (cells′ : List ℕ) : Type 0 where
+  -- the items are done
   pub no-item : itemsOf (fieldsAt bs (c .at)) ≡ []
+  -- under any values of the variables it gives what the result's template gives
   pub gives : (M : List ℕ) → Holds vars (c .count) M → ran o cells′ ≡ build (resultOf (fieldsAt bs (c .at))) I M (c .state) cells
+  -- it takes no token, draws no fresh name and begins no call
   pub stays : Stays (c .state) o
 
 module _ {I : Input} {bs frames vars : List ℕ} {c : Cursor} {cells : List ℕ} {R : Result ℕ} (g : Going I bs frames vars c cells R) where
@@ -395,10 +400,15 @@ module _ {I : Input} {bs frames vars : List ℕ} {c : Cursor} {args : List ℕ} 
 
 -- where the loop stands
 pub record Place : Type 0 where
+  -- the cells
   pub cells : List ℕ
+  -- the stack of the templates
   pub stack : List ℕ
+  -- the frames of the calls that wait
   pub frames : List ℕ
+  -- the variables of the call that goes on
   pub vars : List ℕ
+  -- where that call stands
   pub cursor : Cursor
 
 -- what is left at a place gives R
@@ -407,10 +417,15 @@ Stood I bs R p = Stands I bs R (p .frames) (p .vars) (p .cells) (p .cursor)
 
 -- Rooms are as long as they were, choices are remembered, and what gave R at the first place still gives it.
 pub record Turning (I : Input) (bs : List ℕ) (p q : Place) (memory : List ℕ) : Type 0 where
+  -- the cells are as many
   pub cells-long : length (q .cells) ≡ length (p .cells)
+  -- the stack keeps its length
   pub stack-long : length (q .stack) ≡ length (p .stack)
+  -- the room of frames keeps its length
   pub frames-long : length (q .frames) ≡ length (p .frames)
+  -- the choices remembered are the table's
   pub remembers : Remembers bs memory
+  -- what gave R at the first place gives it here
   pub stands : (R : Result ℕ) → Stood I bs R p → Stood I bs R q
 
 -- The loop begins.
