@@ -229,10 +229,11 @@ module _ {pool cells numbers : List ℕ} {k row at p : ℕ} {out : List ℕ} {r 
 
 module _ {pool cells numbers : List ℕ} {k row at p : ℕ} where
   -- a term fits, so its opening does
-  pub opening-fits : Fits pool cells numbers (term k row) at p → OpeningFits pool cells numbers k row at p
+  pub opening-fits : {code : ℕ} → code ≡ column cells row 0 → Fits pool cells numbers (term k row) at p → OpeningFits pool cells numbers k row at p code
   unfolding partText termOpening
-  opening-fits f =
+  opening-fits read f =
       record {
+        read = read;
         room = omega (arith, f .room, opening-part (labelled numbers p (termAt k (spellIn pool) cells row)));
         inside = omega (arith, f .inside, size-some (termAt k noSpell cells row));
         few = f .few;

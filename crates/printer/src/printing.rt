@@ -24,13 +24,13 @@ pub fn print_term(
         ⌝ }
 {
     let here = *place;
-    let first = open_term(out, at, pool, cells, *shown, bound, row, here);
+    let code = column(*cells, row, 0);
+    let first = open_term(out, at, pool, cells, *shown, bound, row, here, code);
     *place = here + 1;
     if bound == 0 {
         return byte_at(out, first, b')');
     }
     let deep = bound - 1;
-    let code = column(*cells, row, 0);
     match code {
         33 => {
             let part = column(*cells, row, 2);

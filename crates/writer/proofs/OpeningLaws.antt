@@ -83,7 +83,7 @@ pub open-number : (out : List ℕ) (n : ℕ) {at : ℕ} → Going out at (number
 unfolding bytes numberOpening
 open-number out n = go-start out refl
 
-module _ {pool cells numbers : List ℕ} {k row at p : ℕ} (out : List ℕ) (f : OpeningFits pool cells numbers k row at p) where
+module _ {pool cells numbers : List ℕ} {k row at p code : ℕ} (out : List ℕ) (f : OpeningFits pool cells numbers k row at p code) where
   abbrev Opening : List (List ℕ) → Type 0
   Opening ps = Going out at (termOpening pool cells numbers k row p) at out ps
 
@@ -92,37 +92,37 @@ module _ {pool cells numbers : List ℕ} {k row at p : ℕ} (out : List ℕ) (f 
   unfolding termOpening termAt labelled opening numberOpening
   open-shallow e = go-start out (rw e refl)
 
-  module _ (some : k ≡ 0 → ⊥) {code : ℕ} (c : code ≡ column cells row 0) where
+  module _ (some : k ≡ 0 → ⊥) where
     -- a variable: its constructor, then its name
     pub open-var : code ≡ 32 → {x n : ℕ} → x ≡ column cells row 1 → n ≡ getD numbers p 0 → Opening (VAR ∷ nameShown n (nameOf (spellIn pool) x) ∷ [])
     unfolding bytes termOpening labelled opening
-    open-var e ex en = go-start out (rw (ex, en, rows.var-row (spellIn pool) cells k row some c e) refl)
+    open-var e ex en = go-start out (rw (ex, en, rows.var-row (spellIn pool) cells k row some (f .read) e) refl)
 
     -- a function: its constructor, its binder's name and a space
     pub open-fun : code ≡ 33 → {x n : ℕ} → x ≡ column cells row 1 → n ≡ getD numbers p 0
         → Opening (FUN ∷ nameShown n (nameOf (spellIn pool) x) ∷ space ∷ [])
     unfolding bytes termOpening labelled opening
-    open-fun e ex en = go-start out (rw (ex, en, rows.fun-row (spellIn pool) cells k row some c e) refl)
+    open-fun e ex en = go-start out (rw (ex, en, rows.fun-row (spellIn pool) cells k row some (f .read) e) refl)
 
     -- an application: its constructor
     pub open-app : code ≡ 34 → Opening (APP ∷ [])
     unfolding bytes termOpening labelled opening
-    open-app e = go-start out (rw (rows.app-row (spellIn pool) cells k row some c e) refl)
+    open-app e = go-start out (rw (rows.app-row (spellIn pool) cells k row some (f .read) e) refl)
 
     -- a record: its constructor
     pub open-rcd : code ≡ 35 → Opening (RCD ∷ [])
     unfolding bytes termOpening labelled opening
-    open-rcd e = go-start out (rw (rows.rcd-row (spellIn pool) cells k row some c e) refl)
+    open-rcd e = go-start out (rw (rows.rcd-row (spellIn pool) cells k row some (f .read) e) refl)
 
     -- a selection: its constructor
     pub open-dot : code ≡ 36 → Opening (DOT ∷ [])
     unfolding bytes termOpening labelled opening
-    open-dot e = go-start out (rw (rows.dot-row (spellIn pool) cells k row some c e) refl)
+    open-dot e = go-start out (rw (rows.dot-row (spellIn pool) cells k row some (f .read) e) refl)
 
     -- a row of a field list, read as a term, begins as the number 0
     pub open-zero : (code ≡ 37) ⊎ (code ≡ 38) → Opening (numberOpening 0 ∷ [])
     unfolding termOpening labelled opening numberOpening
-    open-zero e = go-start out (rw (rows.zero-row (spellIn pool) cells k row some c e) refl)
+    open-zero e = go-start out (rw (rows.zero-row (spellIn pool) cells k row some (f .read) e) refl)
 
     -- any other row: a number
     pub open-num : ((((((Unit {0} × (code ≡ 32 → ⊥)) × (code ≡ 33 → ⊥)) × (code ≡ 34 → ⊥)) × (code ≡ 35 → ⊥)) × (code ≡ 36 → ⊥)) × (code ≡ 37 → ⊥))
@@ -136,7 +136,7 @@ module _ {pool cells numbers : List ℕ} {k row at p : ℕ} (out : List ℕ) (f 
         go-start out
         (rw (
           ex,
-          rows.num-row (spellIn pool) cells k row some c (until-app .0 .0 .1) (until-app .0 .1) (until-app .1) not-rcd not-dot not-nil not-cons,
+          rows.num-row (spellIn pool) cells k row some (f .read) (until-app .0 .0 .1) (until-app .0 .1) (until-app .1) not-rcd not-dot not-nil not-cons,
         ) refl)
 
 module _ {pool cells : List ℕ} {k row at : ℕ} (out : List ℕ) (f : FieldsOpeningFits pool cells k row at) where

@@ -6,6 +6,7 @@ use mathlib.Core.List.{List, [], _∷_, _++_}
 use lib.ListN.{length, getD, take, drop}
 use lib.Seq.{sets}
 use Rattle.spellings.specs.Bytes.{bytes}
+use Rattle.terms.specs.Cells.{column}
 use Rattle.terms.specs.Term.{Term, Fields, variable, function, apply, rcd, dot, number, nil, cons}
 use Rattle.terms.specs.Labelled.{nameShown, labelled}
 use Rattle.terms.specs.Rows.{nameOf, termAt, fieldsAt}
@@ -53,7 +54,9 @@ pub record Wrote (out : List ℕ) (at : ℕ) (text : List ℕ) (r : ℕ) (out′
 pub record NameFits (pool : List ℕ) (x shown at : ℕ) : Type 0 where
   pub room : at + length (nameShown shown (nameOf (spellIn pool) x)) < 2 ^ 62
 
-pub record OpeningFits (pool cells numbers : List ℕ) (k row at place : ℕ) : Type 0 where
+pub record OpeningFits (pool cells numbers : List ℕ) (k row at place code : ℕ) : Type 0 where
+  -- the row's code is known
+  pub read : code ≡ column cells row 0
   pub room : at + length (termOpening pool cells numbers k row place) < 2 ^ 62
   pub inside : place < length numbers
   pub few : length numbers ≤ 16384

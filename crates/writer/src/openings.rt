@@ -58,7 +58,7 @@ fn open_number(out: &mut [u8], at: usize, n: u32) -> usize
     number_at(out, behind, n)
 }
 
-// What the text of the term at a row begins with.
+// What the text of the term at a row begins with, by the row's code.
 pub fn open_term(
     out: &mut [u8],
     at: usize,
@@ -68,8 +68,9 @@ pub fn open_term(
     bound: usize,
     row: u32,
     place: usize,
+    code: u32,
 ) -> usize
-    requires { ⌜ OpeningFits (now (now pool)) (now (now cells)) (now shown) bound row at place ⌝ }
+    requires { ⌜ OpeningFits (now (now pool)) (now (now cells)) (now shown) bound row at place code ⌝ }
     ensures { λ r. ⌜
         Wrote (now (out .entry)) at
         (termOpening (now (now (pool .entry))) (now (now (cells .entry))) (now (shown .entry)) bound row place) r (now (out .exit))
@@ -78,7 +79,6 @@ pub fn open_term(
     if bound == 0 {
         return open_number(out, at, 0);
     }
-    let code = column(*cells, row, 0);
     let x = column(*cells, row, 1);
     match code {
         32 => {

@@ -294,12 +294,12 @@ print-fields-returns-3 t c =
 
 abbrev print-term-claims : ℕ → print-term-lts.Claims
 print-term-claims t = (
+  column-reads.Asked,
+  column-reads.Learnt,
   open-term-reads.Asked,
   open-term-reads.Learnt,
   byte-at-reads.Asked,
   byte-at-reads.Learnt,
-  column-reads.Asked,
-  column-reads.Learnt,
   print-term-below t,
   print-term.Post,
   print-fields-below t,
@@ -309,10 +309,6 @@ print-term-claims t = (
 )
 
 -- places, each from a later one
-abbrev else1′ : {t : ℕ} → print-term-lts.After-column (print-term-claims t) (print-term-at t) print-term.Post
-    → print-term-lts.Else1 (print-term-claims t) (print-term-at t) print-term.Post
-else1′ p = p .before .before
-
 abbrev at-match-keys1 : {t : ℕ} → print-term-lts.After-column2 (print-term-claims t) (print-term-at t) print-term.Post
     → print-term-lts.At-match-keys1 (print-term-claims t) (print-term-at t) print-term.Post
 at-match-keys1 p = p .before .before
@@ -365,13 +361,13 @@ abbrev after-label-at : {t : ℕ} → print-term-lts.After-byte-at-arg7 (print-t
     → print-term-lts.After-label-at (print-term-claims t) (print-term-at t) print-term.Post
 after-label-at p = p .before .before .before
 
-abbrev after-column′ : {t : ℕ} → print-term-lts.After-column3 (print-term-claims t) (print-term-at t) print-term.Post
-    → print-term-lts.After-column (print-term-claims t) (print-term-at t) print-term.Post
-after-column′ p = (at-match-keys2 p) .before
+abbrev else1′ : {t : ℕ} → print-term-lts.After-column3 (print-term-claims t) (print-term-at t) print-term.Post
+    → print-term-lts.Else1 (print-term-claims t) (print-term-at t) print-term.Post
+else1′ p = (at-match-keys2 p) .before
 
-abbrev after-column′′ : {t : ℕ} → print-term-lts.After-column6 (print-term-claims t) (print-term-at t) print-term.Post
-    → print-term-lts.After-column (print-term-claims t) (print-term-at t) print-term.Post
-after-column′′ p = (at-match-keys4 p) .before
+abbrev else1′′ : {t : ℕ} → print-term-lts.After-column6 (print-term-claims t) (print-term-at t) print-term.Post
+    → print-term-lts.Else1 (print-term-claims t) (print-term-at t) print-term.Post
+else1′′ p = (at-match-keys4 p) .before
 
 abbrev after-column3′ : {t : ℕ} → print-term-lts.After-print-term2 (print-term-claims t) (print-term-at t) print-term.Post
     → print-term-lts.After-column3 (print-term-claims t) (print-term-at t) print-term.Post
@@ -401,21 +397,28 @@ abbrev after-byte-at6 : {t : ℕ} → print-term-lts.After-column7 (print-term-c
     → print-term-lts.After-byte-at6 (print-term-claims t) (print-term-at t) print-term.Post
 after-byte-at6 p = p .before .before .before .before
 
-abbrev after-open-term : {t : ℕ} → print-term-lts.After-column (print-term-claims t) (print-term-at t) print-term.Post
+abbrev after-open-term : {t : ℕ} → print-term-lts.Else1 (print-term-claims t) (print-term-at t) print-term.Post
     → print-term-lts.After-open-term (print-term-claims t) (print-term-at t) print-term.Post
-after-open-term p = (else1′ p) .before .before .before
+after-open-term p = p .before .before .before
+
+abbrev after-column′ : {t : ℕ} → print-term-lts.After-open-term (print-term-claims t) (print-term-at t) print-term.Post
+    → print-term-lts.After-column (print-term-claims t) (print-term-at t) print-term.Post
+after-column′ p = p .before .before .before
 
 abbrev at-start′ : {t : ℕ} → print-term-lts.After-open-term (print-term-claims t) (print-term-at t) print-term.Post
     → print-term-lts.Start (print-term-claims t) (print-term-at t) print-term.Post
-at-start′ p = p .before .before .before .before .before
+at-start′ p = (after-column′ p) .before .before .before .before
 
 print-term-open-term-requires : (t : ℕ) → print-term-lts.Need-open-term-requires (print-term-claims t) (print-term-at t) print-term.Post
-print-term-open-term-requires t c κs = laws.opening-fits (c .before .before .before .before .pre .1)
+print-term-open-term-requires t c κs =
+    let at-column = c .before .before in
+    laws.opening-fits (at-column .column .ensures) (at-column .before .before .before .before .pre .1)
 
 print-term-add-place : (t : ℕ) → print-term-lts.Need-add-place (print-term-claims t) (print-term-at t) print-term.Post
 print-term-add-place t c =
+    let at-column = after-column′ (c .before .before) in
     let entry = at-start′ (c .before .before) in
-    omega (arith, laws.opening-fits (entry .pre .1) .inside, entry .pre .1 .few)
+    omega (arith, laws.opening-fits (at-column .column .ensures) (entry .pre .1) .inside, entry .pre .1 .few)
 
 print-term-byte-at-requires : (t : ℕ) → print-term-lts.Need-byte-at-requires (print-term-claims t) (print-term-at t) print-term.Post
 print-term-byte-at-requires t c κs =
@@ -454,9 +457,9 @@ print-term-print-term-requires : (t : ℕ) → print-term-lts.Need-print-term-re
 print-term-print-term-requires t c κs =
     let column2-place = after-column2′ c in
     let at-match = at-match-keys1 column2-place in
-    let at-column = at-match .before in
-    let at-if1 = else1′ at-column in
-    let at-open-term = after-open-term at-column in
+    let at-if1 = at-match .before in
+    let at-open-term = after-open-term at-if1 in
+    let at-column = after-column′ at-open-term in
     let entry = at-start′ at-open-term in (
       omega (arith, entry .pre .0),
       laws.next-fits
@@ -470,9 +473,9 @@ print-term-byte-at-requires-2 t c κs =
     let print-term-place = after-print-term′′ c in
     let at-column2 = after-column2′ (print-term-place .before) in
     let at-match = at-match-keys1 at-column2 in
-    let at-column = at-match .before in
-    let at-if1 = else1′ at-column in
-    let at-open-term = after-open-term at-column in
+    let at-if1 = at-match .before in
+    let at-open-term = after-open-term at-if1 in
+    let at-column = after-column′ at-open-term in
     let entry = at-start′ at-open-term in
     laws.next-room
     (laws.next-part
@@ -488,9 +491,9 @@ print-term-print-term-requires-2 : (t : ℕ) → print-term-lts.Need-print-term-
 print-term-print-term-requires-2 t c κs =
     let column3-place = c .before .before in
     let at-match = at-match-keys2 column3-place in
-    let at-column = after-column′ column3-place in
-    let at-if1 = else1′ at-column in
-    let at-open-term = after-open-term at-column in
+    let at-if1 = else1′ column3-place in
+    let at-open-term = after-open-term at-if1 in
+    let at-column = after-column′ at-open-term in
     let entry = at-start′ at-open-term in (
       omega (arith, entry .pre .0),
       laws.next-fits
@@ -504,9 +507,9 @@ print-term-byte-at-requires-3 t c κs =
     let print-term2-place = after-print-term2 c in
     let at-column3 = after-column3′ print-term2-place in
     let at-match = at-match-keys2 at-column3 in
-    let at-column = after-column′ at-column3 in
-    let at-if1 = else1′ at-column in
-    let at-open-term = after-open-term at-column in
+    let at-if1 = else1′ at-column3 in
+    let at-open-term = after-open-term at-if1 in
+    let at-column = after-column′ at-open-term in
     let entry = at-start′ at-open-term in
     laws.next-room
     (laws.next-part
@@ -525,9 +528,9 @@ print-term-print-term-requires-3 t c κs =
     let at-print-term2 = after-print-term2′ at-byte-at3 in
     let at-column3 = after-column3′ at-print-term2 in
     let at-match = at-match-keys2 at-column3 in
-    let at-column = after-column′ at-column3 in
-    let at-if1 = else1′ at-column in
-    let at-open-term = after-open-term at-column in
+    let at-if1 = else1′ at-column3 in
+    let at-open-term = after-open-term at-if1 in
+    let at-column = after-column′ at-open-term in
     let entry = at-start′ at-open-term in (
       omega (arith, entry .pre .0),
       laws.next-fits
@@ -548,9 +551,9 @@ print-term-byte-at-requires-4 t c κs =
     let at-print-term2 = after-print-term2′ at-byte-at3 in
     let at-column3 = after-column3′ at-print-term2 in
     let at-match = at-match-keys2 at-column3 in
-    let at-column = after-column′ at-column3 in
-    let at-if1 = else1′ at-column in
-    let at-open-term = after-open-term at-column in
+    let at-if1 = else1′ at-column3 in
+    let at-open-term = after-open-term at-if1 in
+    let at-column = after-column′ at-open-term in
     let entry = at-start′ at-open-term in
     laws.next-room
     (laws.next-part
@@ -570,9 +573,9 @@ print-term-print-fields-requires : (t : ℕ) → print-term-lts.Need-print-field
 print-term-print-fields-requires t c κs =
     let column5-place = after-column5 c in
     let at-match = at-match-keys3 column5-place in
-    let at-column = at-match .before in
-    let at-if1 = else1′ at-column in
-    let at-open-term = after-open-term at-column in
+    let at-if1 = at-match .before in
+    let at-open-term = after-open-term at-if1 in
+    let at-column = after-column′ at-open-term in
     let entry = at-start′ at-open-term in (
       omega (arith, entry .pre .0),
       laws.next-fits
@@ -586,9 +589,9 @@ print-term-byte-at-requires-5 t c κs =
     let print-fields-place = after-print-fields′ c in
     let at-column5 = after-column5 (print-fields-place .before) in
     let at-match = at-match-keys3 at-column5 in
-    let at-column = at-match .before in
-    let at-if1 = else1′ at-column in
-    let at-open-term = after-open-term at-column in
+    let at-if1 = at-match .before in
+    let at-open-term = after-open-term at-if1 in
+    let at-column = after-column′ at-open-term in
     let entry = at-start′ at-open-term in
     laws.next-room
     (laws.next-part
@@ -604,9 +607,9 @@ print-term-print-term-requires-4 : (t : ℕ) → print-term-lts.Need-print-term-
 print-term-print-term-requires-4 t c κs =
     let column6-place = c .before .before in
     let at-match = at-match-keys4 column6-place in
-    let at-column = after-column′′ column6-place in
-    let at-if1 = else1′ at-column in
-    let at-open-term = after-open-term at-column in
+    let at-if1 = else1′′ column6-place in
+    let at-open-term = after-open-term at-if1 in
+    let at-column = after-column′ at-open-term in
     let entry = at-start′ at-open-term in (
       omega (arith, entry .pre .0),
       laws.next-fits
@@ -620,9 +623,9 @@ print-term-byte-at-requires-6 t c κs =
     let print-term4-place = after-print-term4 c in
     let at-column6 = after-column6 print-term4-place in
     let at-match = at-match-keys4 at-column6 in
-    let at-column = after-column′′ at-column6 in
-    let at-if1 = else1′ at-column in
-    let at-open-term = after-open-term at-column in
+    let at-if1 = else1′′ at-column6 in
+    let at-open-term = after-open-term at-if1 in
+    let at-column = after-column′ at-open-term in
     let entry = at-start′ at-open-term in
     laws.next-room
     (laws.next-part
@@ -640,9 +643,9 @@ print-term-label-at-requires t c κs =
     let at-print-term4 = after-print-term4′ at-byte-at6 in
     let at-column6 = after-column6 at-print-term4 in
     let at-match = at-match-keys4 at-column6 in
-    let at-column = after-column′′ at-column6 in
-    let at-if1 = else1′ at-column in
-    let at-open-term = after-open-term at-column in
+    let at-if1 = else1′′ at-column6 in
+    let at-open-term = after-open-term at-if1 in
+    let at-column = after-column′ at-open-term in
     let entry = at-start′ at-open-term in
     laws.next-room
     (laws.next-text
@@ -661,9 +664,9 @@ print-term-byte-at-requires-7 t c κs =
     let at-print-term4 = after-print-term4′ at-byte-at6 in
     let at-column6 = after-column6 at-print-term4 in
     let at-match = at-match-keys4 at-column6 in
-    let at-column = after-column′′ at-column6 in
-    let at-if1 = else1′ at-column in
-    let at-open-term = after-open-term at-column in
+    let at-if1 = else1′′ at-column6 in
+    let at-open-term = after-open-term at-if1 in
+    let at-column = after-column′ at-open-term in
     let entry = at-start′ at-open-term in
     laws.next-room
     (laws.next-text
@@ -679,9 +682,9 @@ print-term-byte-at-requires-7 t c κs =
 print-term-byte-at-requires-8 : (t : ℕ) → print-term-lts.Need-byte-at-requires-8 (print-term-claims t) (print-term-at t) print-term.Post
 print-term-byte-at-requires-8 t c κs =
     let match-rest-place = c .before in
-    let column-place = match-rest-place .before in
-    let at-if1 = else1′ column-place in
-    let at-open-term = after-open-term column-place in
+    let at-if1 = match-rest-place .before in
+    let at-open-term = after-open-term at-if1 in
+    let column-place = after-column′ at-open-term in
     let entry = at-start′ at-open-term in
     laws.next-room
     (laws.opened-bare (at-open-term .open-term .ensures) (at-if1 .if1 .left) (column-place .column .ensures)
@@ -701,9 +704,9 @@ print-term-returns-2 t c =
     let at-print-term = after-print-term′′ (byte-at2-place .before) in
     let at-column2 = after-column2′ (at-print-term .before) in
     let at-match = at-match-keys1 at-column2 in
-    let at-column = at-match .before in
-    let at-if1 = else1′ at-column in
-    let at-open-term = after-open-term at-column in
+    let at-if1 = at-match .before in
+    let at-open-term = after-open-term at-if1 in
+    let at-column = after-column′ at-open-term in
     laws.all-printed
     (laws.next-text
     (laws.next-part
@@ -718,7 +721,7 @@ print-term-same-length-3 t c =
     let at-print-term3 = after-print-term3 (byte-at4-place .before) in
     let at-byte-at3 = after-byte-at3 (after-column4 (at-print-term3 .before)) in
     let at-print-term2 = after-print-term2′ at-byte-at3 in
-    let at-open-term = after-open-term (after-column′ (after-column3′ at-print-term2)) in
+    let at-open-term = after-open-term (else1′ (after-column3′ at-print-term2)) in
     byte-at4-place .byte-at4 .ensures .same ∙ at-print-term3 .print-term3 .ensures .wrote .same ∙ at-byte-at3 .byte-at3 .ensures .same ∙
     at-print-term2 .print-term2 .ensures .wrote .same ∙ at-open-term .open-term .ensures .same
 
@@ -731,9 +734,9 @@ print-term-returns-3 t c =
     let at-print-term2 = after-print-term2′ at-byte-at3 in
     let at-column3 = after-column3′ at-print-term2 in
     let at-match = at-match-keys2 at-column3 in
-    let at-column = after-column′ at-column3 in
-    let at-if1 = else1′ at-column in
-    let at-open-term = after-open-term at-column in
+    let at-if1 = else1′ at-column3 in
+    let at-open-term = after-open-term at-if1 in
+    let at-column = after-column′ at-open-term in
     laws.all-printed
     (laws.next-text
     (laws.next-part
@@ -760,9 +763,9 @@ print-term-returns-4 t c =
     let at-print-fields = after-print-fields′ (byte-at5-place .before) in
     let at-column5 = after-column5 (at-print-fields .before) in
     let at-match = at-match-keys3 at-column5 in
-    let at-column = at-match .before in
-    let at-if1 = else1′ at-column in
-    let at-open-term = after-open-term at-column in
+    let at-if1 = at-match .before in
+    let at-open-term = after-open-term at-if1 in
+    let at-column = after-column′ at-open-term in
     laws.all-printed
     (laws.next-text
     (laws.next-part
@@ -777,7 +780,7 @@ print-term-same-length-5 t c =
     let at-label-at = after-label-at (byte-at7-place .before) in
     let at-byte-at6 = after-byte-at6 (at-label-at .before .before) in
     let at-print-term4 = after-print-term4′ at-byte-at6 in
-    let at-open-term = after-open-term (after-column′′ (after-column6 at-print-term4)) in
+    let at-open-term = after-open-term (else1′′ (after-column6 at-print-term4)) in
     byte-at7-place .byte-at7 .ensures .same ∙ at-label-at .label-at .ensures .same ∙ at-byte-at6 .byte-at6 .ensures .same ∙
     at-print-term4 .print-term4 .ensures .wrote .same ∙ at-open-term .open-term .ensures .same
 
@@ -790,9 +793,9 @@ print-term-returns-5 t c =
     let at-print-term4 = after-print-term4′ at-byte-at6 in
     let at-column6 = after-column6 at-print-term4 in
     let at-match = at-match-keys4 at-column6 in
-    let at-column = after-column′′ at-column6 in
-    let at-if1 = else1′ at-column in
-    let at-open-term = after-open-term at-column in
+    let at-if1 = else1′′ at-column6 in
+    let at-open-term = after-open-term at-if1 in
+    let at-column = after-column′ at-open-term in
     laws.all-printed
     (laws.next-text
     (laws.next-text
@@ -815,9 +818,9 @@ print-term-returns-6 : (t : ℕ) → print-term-lts.Need-returns-6 (print-term-c
 print-term-returns-6 t c =
     let byte-at8-place = c .before .before in
     let at-match = byte-at8-place .before .before in
-    let at-column = at-match .before in
-    let at-if1 = else1′ at-column in
-    let at-open-term = after-open-term at-column in
+    let at-if1 = at-match .before in
+    let at-open-term = after-open-term at-if1 in
+    let at-column = after-column′ at-open-term in
     laws.all-printed
     (laws.next-text
     (laws.opened-bare (at-open-term .open-term .ensures) (at-if1 .if1 .left) (at-column .column .ensures)
@@ -850,13 +853,13 @@ pub +print-fields+print-term-spec : {M : Type 1} → statement M
     λ t. print-term-lts.spec (print-term-claims t)
     (print-term-at t)
     print-term.Post
+    (print-term-column-requires t)
     (print-term-open-term-requires t)
     (print-term-add-place t)
     (print-term-byte-at-requires t)
     (print-term-same-length t)
     (print-term-returns t)
     (print-term-sub-deep t)
-    (print-term-column-requires t)
     (print-term-column-requires-2 t)
     (print-term-print-term-requires t)
     (print-term-byte-at-requires-2 t)

@@ -11,9 +11,6 @@ use Rattle.writer.proofs.openings.open_term.Tie as tie
 abbrev else1 : tie.After-column → tie.Else1
 else1 p = p .before .before
 
-abbrev after-column : tie.After-column2 → tie.After-column
-after-column p = p .before .before
-
 abbrev at-match-keys5 : tie.After-copy-at-arg10 → tie.At-match-keys5
 at-match-keys5 p = p .before .before
 
@@ -65,7 +62,7 @@ at-match-keys2′ p = at-match-keys2 (p .before)
 abbrev at-start′ : tie.Then1 → tie.Start
 at-start′ p = p .before .before .before
 
-abbrev after-column2 : tie.After-copy-at2 → tie.After-column2
+abbrev after-column2 : tie.After-copy-at2 → tie.After-column
 after-column2 p = (at-match-keys2′ p) .before
 
 abbrev after-copy-at : tie.After-shown-at → tie.After-copy-at
@@ -91,39 +88,34 @@ returns c = search (pieces.go-last, laws.open-shallow)
 column-requires : tie.Need-column-requires
 column-requires c κs = search needs
 
-column-requires-2 : tie.Need-column-requires-2
-column-requires-2 c κs = search needs
-
 slice-aggregate-copy-at : tie.Need-slice-aggregate-copy-at
 slice-aggregate-copy-at c = search needs
 
 copy-at-requires : tie.Need-copy-at-requires
 copy-at-requires c κs =
     let match-keys1-place = at-match-keys1 c in
-    let column2-place = match-keys1-place .before in
-    let at-column = after-column column2-place in
+    let at-column = match-keys1-place .before in
     let at-if1 = else1 at-column in
     let entry = at-start at-column in
-    pieces.go-room (laws.open-var (entry .args .out .now) (entry .pre) (at-if1 .if1 .left) (at-column .column .ensures)
-    (match-keys1-place .match .keys1) (column2-place .column2 .ensures) refl) (entry .pre .room)
+    pieces.go-room (laws.open-var (entry .args .out .now) (entry .pre) (at-if1 .if1 .left)
+    (match-keys1-place .match .keys1) (at-column .column .ensures) refl) (entry .pre .room)
 
 shown-at-requires : tie.Need-shown-at-requires
 shown-at-requires c κs =
-    let entry = at-start (after-column ((at-match-keys1 (c .before .before .before .before)) .before)) in
+    let entry = at-start ((at-match-keys1 (c .before .before .before .before)) .before) in
     (entry .pre .inside, entry .pre .few)
 
 name-at-requires : tie.Need-name-at-requires
 name-at-requires c κs =
     let at-copy-at = after-copy-at c in
     let at-match = at-match-keys1 (at-copy-at .before) in
-    let at-column2 = at-match .before in
-    let at-column = after-column at-column2 in
+    let at-column = at-match .before in
     let at-if1 = else1 at-column in
     let entry = at-start at-column in
     record {
       room = pieces.go-room
-          (pieces.go-next (laws.open-var (entry .args .out .now) (entry .pre) (at-if1 .if1 .left) (at-column .column .ensures)
-          (at-match .match .keys1) (at-column2 .column2 .ensures) (c .shown-at .ensures)) (at-copy-at .copy-at .ensures)) (entry .pre .room);
+          (pieces.go-next (laws.open-var (entry .args .out .now) (entry .pre) (at-if1 .if1 .left)
+          (at-match .match .keys1) (at-column .column .ensures) (c .shown-at .ensures)) (at-copy-at .copy-at .ensures)) (entry .pre .room);
     }
 
 slice-aggregate-copy-at-2 : tie.Need-slice-aggregate-copy-at-2
@@ -132,30 +124,28 @@ slice-aggregate-copy-at-2 c = search needs
 copy-at-requires-2 : tie.Need-copy-at-requires-2
 copy-at-requires-2 c κs =
     let match-keys2-place = at-match-keys2 c in
-    let column2-place = match-keys2-place .before in
-    let at-column = after-column column2-place in
+    let at-column = match-keys2-place .before in
     let at-if1 = else1 at-column in
     let entry = at-start at-column in
-    pieces.go-room (laws.open-fun (entry .args .out .now) (entry .pre) (at-if1 .if1 .left) (at-column .column .ensures)
-    (match-keys2-place .match .keys2) (column2-place .column2 .ensures) refl) (entry .pre .room)
+    pieces.go-room (laws.open-fun (entry .args .out .now) (entry .pre) (at-if1 .if1 .left)
+    (match-keys2-place .match .keys2) (at-column .column .ensures) refl) (entry .pre .room)
 
 shown-at-requires-2 : tie.Need-shown-at-requires-2
 shown-at-requires-2 c κs =
-    let entry = at-start (after-column (after-column2 (c .before .before .before))) in
+    let entry = at-start (after-column2 (c .before .before .before)) in
     (entry .pre .inside, entry .pre .few)
 
 name-at-requires-2 : tie.Need-name-at-requires-2
 name-at-requires-2 c κs =
     let at-copy-at2 = after-copy-at2 c in
     let at-match = at-match-keys2′ at-copy-at2 in
-    let at-column2 = after-column2 at-copy-at2 in
-    let at-column = after-column at-column2 in
+    let at-column = after-column2 at-copy-at2 in
     let at-if1 = else1 at-column in
     let entry = at-start at-column in
     record {
       room = pieces.go-room
-          (pieces.go-next (laws.open-fun (entry .args .out .now) (entry .pre) (at-if1 .if1 .left) (at-column .column .ensures)
-          (at-match .match .keys2) (at-column2 .column2 .ensures) (c .shown-at2 .ensures)) (at-copy-at2 .copy-at2 .ensures)) (entry .pre .room);
+          (pieces.go-next (laws.open-fun (entry .args .out .now) (entry .pre) (at-if1 .if1 .left)
+          (at-match .match .keys2) (at-column .column .ensures) (c .shown-at2 .ensures)) (at-copy-at2 .copy-at2 .ensures)) (entry .pre .room);
     }
 
 byte-at-requires : tie.Need-byte-at-requires
@@ -164,13 +154,12 @@ byte-at-requires c κs =
     let at-shown-at2 = name-at2-place .before in
     let at-copy-at2 = after-copy-at2 at-shown-at2 in
     let at-match = at-match-keys2′ at-copy-at2 in
-    let at-column2 = after-column2 at-copy-at2 in
-    let at-column = after-column at-column2 in
+    let at-column = after-column2 at-copy-at2 in
     let at-if1 = else1 at-column in
     let entry = at-start at-column in
     pieces.go-room (pieces.go-next
-    (pieces.go-next (laws.open-fun (entry .args .out .now) (entry .pre) (at-if1 .if1 .left) (at-column .column .ensures)
-    (at-match .match .keys2) (at-column2 .column2 .ensures) (at-shown-at2 .shown-at2 .ensures)) (at-copy-at2 .copy-at2 .ensures))
+    (pieces.go-next (laws.open-fun (entry .args .out .now) (entry .pre) (at-if1 .if1 .left)
+    (at-match .match .keys2) (at-column .column .ensures) (at-shown-at2 .shown-at2 .ensures)) (at-copy-at2 .copy-at2 .ensures))
     (name-at2-place .name-at2 .ensures)) (entry .pre .room)
 
 slice-aggregate-copy-at-3 : tie.Need-slice-aggregate-copy-at-3
@@ -179,10 +168,10 @@ slice-aggregate-copy-at-3 c = search needs
 copy-at-requires-3 : tie.Need-copy-at-requires-3
 copy-at-requires-3 c κs =
     let match-keys3-place = at-match-keys3 c in
-    let at-column = after-column (match-keys3-place .before) in
+    let at-column = match-keys3-place .before in
     let at-if1 = else1 at-column in
     let entry = at-start at-column in
-    pieces.go-room (laws.open-app (entry .args .out .now) (entry .pre) (at-if1 .if1 .left) (at-column .column .ensures)
+    pieces.go-room (laws.open-app (entry .args .out .now) (entry .pre) (at-if1 .if1 .left)
     (match-keys3-place .match .keys3)) (entry .pre .room)
 
 slice-aggregate-copy-at-4 : tie.Need-slice-aggregate-copy-at-4
@@ -191,10 +180,10 @@ slice-aggregate-copy-at-4 c = search needs
 copy-at-requires-4 : tie.Need-copy-at-requires-4
 copy-at-requires-4 c κs =
     let match-keys4-place = at-match-keys4 c in
-    let at-column = after-column (match-keys4-place .before) in
+    let at-column = match-keys4-place .before in
     let at-if1 = else1 at-column in
     let entry = at-start at-column in
-    pieces.go-room (laws.open-rcd (entry .args .out .now) (entry .pre) (at-if1 .if1 .left) (at-column .column .ensures)
+    pieces.go-room (laws.open-rcd (entry .args .out .now) (entry .pre) (at-if1 .if1 .left)
     (match-keys4-place .match .keys4)) (entry .pre .room)
 
 slice-aggregate-copy-at-5 : tie.Need-slice-aggregate-copy-at-5
@@ -203,38 +192,37 @@ slice-aggregate-copy-at-5 c = search needs
 copy-at-requires-5 : tie.Need-copy-at-requires-5
 copy-at-requires-5 c κs =
     let match-keys5-place = at-match-keys5 c in
-    let at-column = after-column (match-keys5-place .before) in
+    let at-column = match-keys5-place .before in
     let at-if1 = else1 at-column in
     let entry = at-start at-column in
-    pieces.go-room (laws.open-dot (entry .args .out .now) (entry .pre) (at-if1 .if1 .left) (at-column .column .ensures)
+    pieces.go-room (laws.open-dot (entry .args .out .now) (entry .pre) (at-if1 .if1 .left)
     (match-keys5-place .match .keys5)) (entry .pre .room)
 
 open-number-requires-2 : tie.Need-open-number-requires-2
 open-number-requires-2 c κs =
-    let at-column = after-column (c .before .before) in
+    let at-column = c .before .before in
     let at-if1 = else1 at-column in
     let entry = at-start at-column in
-    pieces.go-room (laws.open-zero (entry .args .out .now) (entry .pre) (at-if1 .if1 .left) (at-column .column .ensures)
+    pieces.go-room (laws.open-zero (entry .args .out .now) (entry .pre) (at-if1 .if1 .left)
     (inl (c .before .match .keys6))) (entry .pre .room)
 
 open-number-requires-3 : tie.Need-open-number-requires-3
 open-number-requires-3 c κs =
-    let at-column = after-column (c .before .before) in
+    let at-column = c .before .before in
     let at-if1 = else1 at-column in
     let entry = at-start at-column in
-    pieces.go-room (laws.open-zero (entry .args .out .now) (entry .pre) (at-if1 .if1 .left) (at-column .column .ensures)
+    pieces.go-room (laws.open-zero (entry .args .out .now) (entry .pre) (at-if1 .if1 .left)
     (inr (c .before .match .keys7))) (entry .pre .room)
 
 open-number-requires-4 : tie.Need-open-number-requires-4
 open-number-requires-4 c κs =
     let match-rest-place = c .before in
-    let column2-place = match-rest-place .before in
-    let at-column = after-column column2-place in
+    let at-column = match-rest-place .before in
     let at-if1 = else1 at-column in
     let entry = at-start at-column in
-    pieces.go-room (laws.open-num (entry .args .out .now) (entry .pre) (at-if1 .if1 .left) (at-column .column .ensures)
+    pieces.go-room (laws.open-num (entry .args .out .now) (entry .pre) (at-if1 .if1 .left)
     (match-rest-place .match .rest)
-    (column2-place .column2 .ensures)) (entry .pre .room)
+    (at-column .column .ensures)) (entry .pre .room)
 
 same-length-2 : tie.Need-same-length-2
 same-length-2 c =
@@ -259,13 +247,12 @@ returns-3 c =
     let at-shown-at2 = at-name-at2 .before in
     let at-copy-at2 = after-copy-at2 at-shown-at2 in
     let at-match = at-match-keys2′ at-copy-at2 in
-    let at-column2 = after-column2 at-copy-at2 in
-    let at-column = after-column at-column2 in
+    let at-column = after-column2 at-copy-at2 in
     let at-if1 = else1 at-column in
     let entry = at-start at-column in
     pieces.go-last (pieces.go-next
-    (pieces.go-next (laws.open-fun (entry .args .out .now) (entry .pre) (at-if1 .if1 .left) (at-column .column .ensures)
-    (at-match .match .keys2) (at-column2 .column2 .ensures) (at-shown-at2 .shown-at2 .ensures)) (at-copy-at2 .copy-at2 .ensures))
+    (pieces.go-next (laws.open-fun (entry .args .out .now) (entry .pre) (at-if1 .if1 .left)
+    (at-match .match .keys2) (at-column .column .ensures) (at-shown-at2 .shown-at2 .ensures)) (at-copy-at2 .copy-at2 .ensures))
     (at-name-at2 .name-at2 .ensures)) (byte-at-place .byte-at .ensures)
 
 same-length-4 : tie.Need-same-length-4
@@ -293,10 +280,10 @@ returns-7 : tie.Need-returns-7
 returns-7 c =
     let open-number2-place = after-open-number2 c in
     let at-match = open-number2-place .before .before in
-    let at-column = after-column (at-match .before) in
+    let at-column = at-match .before in
     let at-if1 = else1 at-column in
     let entry = at-start at-column in
-    pieces.go-last (laws.open-zero (entry .args .out .now) (entry .pre) (at-if1 .if1 .left) (at-column .column .ensures)
+    pieces.go-last (laws.open-zero (entry .args .out .now) (entry .pre) (at-if1 .if1 .left)
     (inl (at-match .match .keys6))) (open-number2-place .open-number2 .ensures)
 
 same-length-8 : tie.Need-same-length-8
@@ -306,10 +293,10 @@ returns-8 : tie.Need-returns-8
 returns-8 c =
     let open-number3-place = after-open-number3 c in
     let at-match = open-number3-place .before .before in
-    let at-column = after-column (at-match .before) in
+    let at-column = at-match .before in
     let at-if1 = else1 at-column in
     let entry = at-start at-column in
-    pieces.go-last (laws.open-zero (entry .args .out .now) (entry .pre) (at-if1 .if1 .left) (at-column .column .ensures)
+    pieces.go-last (laws.open-zero (entry .args .out .now) (entry .pre) (at-if1 .if1 .left)
     (inr (at-match .match .keys7))) (open-number3-place .open-number3 .ensures)
 
 same-length-9 : tie.Need-same-length-9
@@ -327,7 +314,6 @@ open-term-spec =
     same-length
     returns
     column-requires
-    column-requires-2
     slice-aggregate-copy-at
     copy-at-requires
     shown-at-requires
