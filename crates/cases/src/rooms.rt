@@ -1,49 +1,11 @@
-// What is left in the rooms of an expansion, compared with what a case expects: document 01's number with its three values (0 is
-// acceptance), every number of the cells and every byte of the text, those behind what is written too.
+// What is left in the rooms of an expansion, compared with what a case expects: every number of the cells and every byte of the text, those
+// behind what is written too.
 use crate::case::number_at;
-use answers::Answer;
-use answers::Refusal;
 
-// What cells and text hold before a call.
-const UNTOUCHED_CELL: u32 = 2863311530;
+// What cells and text hold before a call, and no case expects.
+pub const UNTOUCHED_CELL: u32 = 2863311530;
 
-const UNTOUCHED_BYTE: u8 = 238;
-
-// The number and values of an answer.
-pub fn numbered(answer: Answer) -> Refusal {
-    match answer {
-        Answer::Accepted(cells, constructors, length) => Refusal {
-            number: 0,
-            a: cells as u64,
-            b: constructors as u64,
-            c: length as u64,
-        },
-        Answer::Refusing(r) => r,
-    }
-}
-
-// Whether two answers have one number and the same values.
-pub fn same(x: Refusal, y: Refusal) -> bool {
-    (x.number == y.number) & (x.a == y.a) & (x.b == y.b) & (x.c == y.c)
-}
-
-// Fills the cells with what no case expects.
-pub fn clear_cells(cells: &mut [u32; 80000]) {
-    let mut i: usize = 0;
-    while i < 80000 {
-        cells[i] = UNTOUCHED_CELL;
-        i += 1;
-    }
-}
-
-// The same of the text.
-pub fn clear_text(text: &mut [u8; 300000]) {
-    let mut i: usize = 0;
-    while i < 300000 {
-        text[i] = UNTOUCHED_BYTE;
-        i += 1;
-    }
-}
+pub const UNTOUCHED_BYTE: u8 = 238;
 
 // Number i of the rows expected, four bytes each; behind them a cell is as it was.
 fn expected_cell(rows: &[u8], i: usize) -> u32 {

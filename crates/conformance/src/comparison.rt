@@ -1,15 +1,15 @@
 // The expansion of a case, compared with what the case expects.
-use crate::report;
 use answers::Answer;
 use answers::Refusal;
 use cases::case::Sizes;
-use cases::rooms::clear_cells;
-use cases::rooms::clear_text;
-use cases::rooms::numbered;
-use cases::rooms::same;
+use cases::rooms::UNTOUCHED_BYTE;
+use cases::rooms::UNTOUCHED_CELL;
 use cases::rooms::same_cells;
 use cases::rooms::same_text;
 use reports::front;
+use reports::lines;
+use reports::numbered;
+use reports::same;
 
 // The expansion in the front of the text, as much as is lent.
 fn in_text(
@@ -40,7 +40,7 @@ fn in_rooms(
     in_text(table, formula, &mut cells[..count], text, size)
 }
 
-// The answer of the expansion of a case, in rooms that nobody has touched.
+// The answer of the expansion of a case.
 fn answered(
     sizes: Sizes,
     table: &[u8; 20000],
@@ -48,8 +48,6 @@ fn answered(
     cells: &mut [u32; 80000],
     text: &mut [u8; 300000],
 ) -> Refusal {
-    clear_cells(cells);
-    clear_text(text);
     let n = sizes.table;
     let m = sizes.formula;
     let count = sizes.cells;
@@ -79,17 +77,17 @@ pub fn differs(
     rows: &[u8; 262400],
     written: &[u8; 300000],
 ) -> bool {
-    let mut cells = [0u32; 80000];
-    let mut text = [0u8; 300000];
+    let mut cells = [UNTOUCHED_CELL; 80000];
+    let mut text = [UNTOUCHED_BYTE; 300000];
     let expected = sizes.expected;
     let found = answered(sizes, table, formula, &mut cells, &mut text);
     if same(found, expected) {
         if left_as_expected(sizes, &cells, rows, &text, written) {
             return false;
         }
-        report::other_rooms(index);
+        lines::other_rooms(index);
         return true;
     }
-    report::difference(index, expected, found);
+    lines::difference(index, expected, found);
     true
 }

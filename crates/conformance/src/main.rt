@@ -3,9 +3,9 @@
 // `CASES cases, DIFFER differ`. A file that is missing, cut or malformed gives one line that says so and nothing else, so the whole file is
 // read once before any case is compared.
 mod comparison;
-mod report;
 
 use cases::case::Case;
+use reports::lines;
 
 // What reading the file comes to: how many cases it has and how many of those compared differ; the index of the first case that cannot be
 // read; or that there is no file.
@@ -58,8 +58,8 @@ fn tally_file(compares: bool) -> Tally {
 fn conclude(tally: Tally) {
     match tally {
         Tally::Read(cases, differ) => reports::total(cases, differ),
-        Tally::Broken(index) => report::broken(index),
-        Tally::Missing => report::missing(),
+        Tally::Broken(index) => lines::broken(index),
+        Tally::Missing => lines::missing(),
     }
 }
 

@@ -1,26 +1,13 @@
 // Runs the lines of document 01's "Formulas and their terms" that are not proved: thirteen and fourteen `twice`, 511 and 512 parentheses,
 // 1,022 and 1,023 `.a`, sixteen and seventeen levels of nonterminals. A line tells of each whether it is as listed; the last one is
 // `CASES cases, DIFFER differ`. The tables are files in the folder it is started in.
-use answers::Answer;
 use answers::Refusal;
+use reports::numbered;
 use reports::print;
-
-// The number and values of an answer: 0 is acceptance, with its three counts.
-fn numbered(answer: Answer) -> Refusal {
-    match answer {
-        Answer::Accepted(cells, constructors, length) => {
-            answered(0, cells as u64, constructors as u64, length as u64)
-        }
-        Answer::Refusing(r) => r,
-    }
-}
+use reports::same;
 
 fn answered(number: u8, a: u64, b: u64, c: u64) -> Refusal {
     Refusal { number, a, b, c }
-}
-
-fn same(x: Refusal, y: Refusal) -> bool {
-    (x.number == y.number) & (x.a == y.a) & (x.b == y.b) & (x.c == y.c)
 }
 
 // Lays a part behind what a room has, as far as there is room, and tells where it ends.
@@ -46,6 +33,19 @@ fn lay_times(room: &mut [u8; 4096], from: usize, part: &[u8], times: usize) -> u
         left -= 1;
     }
     at
+}
+
+// Lays a word between some openings and as many closings, and tells where they end.
+fn lay_formula(
+    room: &mut [u8; 4096],
+    open: &[u8],
+    word: &[u8],
+    close: &[u8],
+    times: usize,
+) -> usize {
+    let n = lay_times(room, 0, open, times);
+    let m = lay(room, n, word);
+    lay_times(room, m, close, times)
 }
 
 fn read_table(file: &[u8], room: &mut [u8; 512]) -> usize {
@@ -87,11 +87,7 @@ fn compared(label: &[u8], expected: Refusal, found: Refusal) -> u64 {
         print(b": as listed\n");
         return 0;
     }
-    print(b": expected");
-    reports::print_numbers(expected);
-    print(b", found");
-    reports::print_numbers(found);
-    print(b"\n");
+    reports::print_difference(expected, found);
     1
 }
 
@@ -106,46 +102,70 @@ fn expanded_rooms(
     expanded(reports::front(table, m), reports::front(formula, n), long)
 }
 
-// Expands n bytes of a room by the table in a file; tells 1 if the answer differs.
+// Expands a word between some openings and as many closings, by the table in a file; tells 1 if the answer differs.
 fn differs(
     label: &[u8],
     file: &[u8],
-    formula: &[u8; 4096],
-    n: usize,
+    open: &[u8],
+    word: &[u8],
+    close: &[u8],
+    times: usize,
     long: bool,
     expected: Refusal,
 ) -> u64 {
     let mut table = [0u8; 512];
+    let mut formula = [0u8; 4096];
     let m = read_table(file, &mut table);
-    let found = expanded_rooms(&table, m, formula, n, long);
-    compared(label, expected, found)
+    let n = lay_formula(&mut formula, open, word, close, times);
+    compared(
+        label,
+        expected,
+        expanded_rooms(&table, m, &formula, n, long),
+    )
 }
 
 fn twice(label: &[u8], times: usize, long: bool, expected: Refusal) -> u64 {
-    let mut room = [0u8; 4096];
-    let n = lay_times(&mut room, 0, b"twice ", times);
-    let m = lay(&mut room, n, b"q");
-    differs(label, b"twice.tab", &room, m, long, expected)
+    differs(
+        label,
+        b"twice.tab",
+        b"twice ",
+        b"q",
+        b"",
+        times,
+        long,
+        expected,
+    )
 }
 
 fn parentheses(label: &[u8], times: usize, expected: Refusal) -> u64 {
-    let mut room = [0u8; 4096];
-    let n = lay_times(&mut room, 0, b"(", times);
-    let m = lay(&mut room, n, b"w");
-    let k = lay_times(&mut room, m, b")", times);
-    differs(label, b"house.tab", &room, k, false, expected)
+    differs(
+        label,
+        b"house.tab",
+        b"(",
+        b"w",
+        b")",
+        times,
+        false,
+        expected,
+    )
 }
 
 fn dots(label: &[u8], times: usize, expected: Refusal) -> u64 {
-    let mut room = [0u8; 4096];
-    let n = lay(&mut room, 0, b"w");
-    let m = lay_times(&mut room, n, b".a", times);
-    differs(label, b"house.tab", &room, m, false, expected)
+    differs(
+        label,
+        b"house.tab",
+        b"",
+        b"w",
+        b".a",
+        times,
+        false,
+        expected,
+    )
 }
 
+// The empty formula.
 fn levels(label: &[u8], file: &[u8], expected: Refusal) -> u64 {
-    let room = [0u8; 4096];
-    differs(label, file, &room, 0, false, expected)
+    differs(label, file, b"", b"", b"", 0, false, expected)
 }
 
 // One case more, of which `more` tells 1 if it differs.
@@ -153,15 +173,19 @@ fn count(differ: u64, more: u64) -> u64 {
     std::num::wrapping_add_u64(differ, more)
 }
 
-fn short_cases() -> u64 {
+fn parentheses_cases() -> u64 {
     let a = parentheses(b"511 parentheses", 511, answered(0, 1, 1, 12));
     let b = parentheses(b"512 parentheses", 512, answered(19, 512, 0, 0));
-    let c = dots(b"1,022 selections", 1022, answered(0, 1023, 1023, 13298));
-    let d = dots(b"1,023 selections", 1023, answered(19, 2047, 0, 0));
-    count(count(a, b), count(c, d))
+    count(a, b)
 }
 
-fn long_cases() -> u64 {
+fn dots_cases() -> u64 {
+    let a = dots(b"1,022 selections", 1022, answered(0, 1023, 1023, 13298));
+    let b = dots(b"1,023 selections", 1023, answered(19, 2047, 0, 0));
+    count(a, b)
+}
+
+fn twice_cases() -> u64 {
     let a = twice(b"13 twice", 13, false, answered(24, 196596, 0, 0));
     let b = twice(
         b"13 twice, in 196,596 bytes of text",
@@ -170,13 +194,19 @@ fn long_cases() -> u64 {
         answered(0, 14, 16383, 196596),
     );
     let c = twice(b"14 twice", 14, false, answered(22, 15, 0, 0));
-    let d = levels(b"sixteen levels", b"levels16.tab", answered(0, 2, 2, 27));
-    let e = levels(b"seventeen levels", b"levels17.tab", answered(20, 0, 0, 0));
-    count(count(a, b), count(c, count(d, e)))
+    count(count(a, b), c)
+}
+
+fn levels_cases() -> u64 {
+    let a = levels(b"sixteen levels", b"levels16.tab", answered(0, 2, 2, 27));
+    let b = levels(b"seventeen levels", b"levels17.tab", answered(20, 0, 0, 0));
+    count(a, b)
 }
 
 fn main() {
-    let first = short_cases();
-    let second = long_cases();
-    reports::total(9, count(first, second));
+    let a = parentheses_cases();
+    let b = dots_cases();
+    let c = twice_cases();
+    let d = levels_cases();
+    reports::total(9, count(count(a, b), count(c, d)));
 }

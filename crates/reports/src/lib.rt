@@ -1,4 +1,6 @@
-// What the programs share: a room's front, and the lines that name an answer.
+// What the programs share: a room's front, answers by number and compared, and the lines that name them.
+pub mod lines;
+
 use answers::Answer;
 use answers::Refusal;
 use libc::STDOUT_FILENO;
@@ -9,6 +11,24 @@ pub fn front(room: &[u8], n: usize) -> &[u8] {
         return room;
     }
     &room[..n]
+}
+
+// The number and values of an answer: 0 is acceptance, with its three counts.
+pub fn numbered(answer: Answer) -> Refusal {
+    match answer {
+        Answer::Accepted(cells, constructors, length) => Refusal {
+            number: 0,
+            a: cells as u64,
+            b: constructors as u64,
+            c: length as u64,
+        },
+        Answer::Refusing(r) => r,
+    }
+}
+
+// Whether two answers have one number and the same values.
+pub fn same(x: Refusal, y: Refusal) -> bool {
+    (x.number == y.number) & (x.a == y.a) & (x.b == y.b) & (x.c == y.c)
 }
 
 pub fn print(line: &[u8]) {
@@ -34,6 +54,15 @@ fn print_values(a: u64, b: u64, c: u64) {
 pub fn print_numbers(r: Refusal) {
     print_value(r.number as u64);
     print_values(r.a, r.b, r.c);
+}
+
+// What was expected, and what was found in its place, to the end of a line.
+pub fn print_difference(expected: Refusal, found: Refusal) {
+    print(b": expected");
+    print_numbers(expected);
+    print(b", found");
+    print_numbers(found);
+    print(b"\n");
 }
 
 // An answer: `ok` with the three counts, or `refused` with the number and the three values.
