@@ -10,22 +10,16 @@ use reports::front;
 use reports::lines;
 use reports::numbered;
 use reports::same;
+ghost use Prim.Native.Nat.{_≤_};
 
-// The expansion in the front of the text, as much as is lent.
-fn in_text(
-    table: &[u8],
-    formula: &[u8],
-    cells: &mut [u32],
-    text: &mut [u8],
-    size: usize,
-) -> Answer {
-    if text.len() < size {
-        return vegzump::expand(table, formula, cells, text);
-    }
-    vegzump::expand(table, formula, cells, &mut text[..size])
+// A count, but no more than there is.
+fn at_most(n: usize, most: usize) -> usize
+    ensures { λ r. ⌜ r ≤ most ⌝ }
+{
+    if n < most { n } else { most }
 }
 
-// The same in the front of the cells.
+// The expansion in the fronts of the cells and the text: as much of them as is lent, or all if they have no more.
 fn in_rooms(
     table: &[u8],
     formula: &[u8],
@@ -34,10 +28,9 @@ fn in_rooms(
     text: &mut [u8],
     size: usize,
 ) -> Answer {
-    if cells.len() < count {
-        return in_text(table, formula, cells, text, size);
-    }
-    in_text(table, formula, &mut cells[..count], text, size)
+    let rows = at_most(count, cells.len());
+    let bytes = at_most(size, text.len());
+    vegzump::expand(table, formula, &mut cells[..rows], &mut text[..bytes])
 }
 
 // The answer of the expansion of a case.
