@@ -9,6 +9,7 @@ use lib.Count.{trailingZeros}
 use Rattle.answers.specs.Refusals.{refusal}
 use Rattle.answers.specs.Checked.{Checked, ok, bad, _>>_}
 use Rattle.kinds.specs.Kinds.{hasKind}
+use Rattle.grammar.specs.Limits.{most}
 use Rattle.productions.specs.Normal.{Production}
 use Rattle.firsts.specs.FirstSets.{allPassed, nullables, firstSets, leftCalls, firstOf}
 
@@ -19,7 +20,7 @@ lowest (suc k) p n = elim (p n) [ true ↦ n | false ↦ lowest k p (n + 1) ]
 
 -- the lowest nonterminal that reaches itself by left calls, 64 if none does
 abbrev pub leftRecursive : List ℕ → ℕ
-leftRecursive calls = lowest 64 (λ n. hasKind (getD calls n 0) n) 0
+leftRecursive calls = lowest (most .nonterminals) (λ n. hasKind (getD calls n 0) n) 0
 
 -- the kinds that two productions of n share
 abbrev pub sharedBy : ℕ → List ℕ → ℕ → Production → Production → ℕ
@@ -44,7 +45,7 @@ anyPair t (p ∷ g) = anyWith (t p) g || anyPair t g
 
 -- the lowest nonterminal of which two productions clash, 64 if there is none
 abbrev pub clashing : ℕ → List ℕ → List Production → ℕ
-clashing nulls firsts g = lowest 64 (λ n. anyPair (clash nulls firsts n) g) 0
+clashing nulls firsts g = lowest (most .nonterminals) (λ n. anyPair (clash nulls firsts n) g) 0
 
 -- what any two productions of a grammar share, together
 unfoldable pub joinWith : {A : Type 0} → (A → ℕ) → List A → ℕ → ℕ
@@ -62,12 +63,12 @@ lowestShared nulls firsts g n = trailingZeros 64 (joinPairs (sharedBy nulls firs
 unfoldable pub noLeftRecursion : ℕ → List Production → Checked (Unit {0})
 noLeftRecursion nulls g =
     let n : ℕ = leftRecursive (leftCalls nulls g) in
-    elim (ltb n 64) [ true ↦ bad (refusal 12 n 0 0) | false ↦ ok tt ]
+    elim (ltb n (most .nonterminals)) [ true ↦ bad (refusal 12 n 0 0) | false ↦ ok tt ]
 
 unfoldable pub noClash : ℕ → List ℕ → List Production → Checked (Unit {0})
 noClash nulls firsts g =
     let n : ℕ = clashing nulls firsts g in
-    elim (ltb n 64) [ true ↦ bad (refusal 13 n (lowestShared nulls firsts g n) 0) | false ↦ ok tt ]
+    elim (ltb n (most .nonterminals)) [ true ↦ bad (refusal 13 n (lowestShared nulls firsts g n) 0) | false ↦ ok tt ]
 
 -- a grammar can be read by its next token
 unfoldable pub checkFirsts : List Production → Checked (Unit {0})

@@ -6,6 +6,7 @@ use mathlib.Core.List.{List, [], _∷_}
 use lib.ListN.{getD, set, replicate}
 use lib.Bits.{bitOr}
 use Rattle.kinds.specs.Kinds.{wordKind, numberKind, keywordKind, hasKind, only}
+use Rattle.grammar.specs.Limits.{most}
 use Rattle.grammar.specs.Table.{Item, keyword, ide, number, local, call}
 use Rattle.productions.specs.Normal.{Production}
 
@@ -36,7 +37,7 @@ nullStep p nulls = elim (allPassed nulls (p .items)) [ true ↦ bitOr nulls (onl
 
 -- the nullable nonterminals of a grammar, bit n for nonterminal n
 unfoldable pub nullables : List Production → ℕ
-nullables g = rounds 64 (overAll nullStep g) 0
+nullables g = rounds (most .nonterminals) (overAll nullStep g) 0
 
 -- what an item gives by itself: to a first set the kind that it reads, to the left calls the nonterminal that it calls
 abbrev pub own : Bool → Item → ℕ
@@ -75,7 +76,7 @@ firstStep calls nulls p sets =
 
 -- a set for each of the 64 nonterminals
 unfoldable pub setsOf : Bool → ℕ → List Production → List ℕ
-setsOf calls nulls g = rounds 64 (overAll (firstStep calls nulls) g) (replicate 64 0)
+setsOf calls nulls g = rounds (most .nonterminals) (overAll (firstStep calls nulls) g) (replicate (most .nonterminals) 0)
 
 -- the first sets: bit 0 a word, bit 1 a number, bit k + 2 keyword k
 abbrev pub firstSets : ℕ → List Production → List ℕ

@@ -8,6 +8,7 @@ use lib.Count.{trailingZeros}
 use lib.Dec.{ltb}
 use Rattle.answers.specs.Refusals.{refusal}
 use Rattle.answers.specs.Checked.{Checked, ok, bad}
+use Rattle.grammar.specs.Limits.{most}
 use Rattle.productions.specs.Room.{noPlace, firstPlaceIn, firstIn, nextPlaceIn, nullableIn}
 use Rattle.firsts.specs.First.{lowest, anyPair, joinPairs}
 
@@ -33,7 +34,7 @@ clashIn room i j = ltb 0 (sharedIn room i j) || (nullableIn room i && nullableIn
 
 -- the lowest nonterminal of which two productions clash, 64 if there is none
 abbrev pub clashingIn : List ℕ → ℕ
-clashingIn room = lowest 64 (λ n. anyPair (clashIn room) (linked room (firstPlaceIn room n))) 0
+clashingIn room = lowest (most .nonterminals) (λ n. anyPair (clashIn room) (linked room (firstPlaceIn room n))) 0
 
 -- what any two productions of n share, together
 abbrev pub allSharedIn : List ℕ → ℕ → ℕ
@@ -43,4 +44,4 @@ allSharedIn room n = joinPairs (sharedIn room) (linked room (firstPlaceIn room n
 unfoldable pub noClashIn : List ℕ → Checked (Unit {0})
 noClashIn room =
     let n : ℕ = clashingIn room in
-    elim (ltb n 64) [ true ↦ bad (refusal 13 n (trailingZeros 64 (allSharedIn room n)) 0) | false ↦ ok tt ]
+    elim (ltb n (most .nonterminals)) [ true ↦ bad (refusal 13 n (trailingZeros 64 (allSharedIn room n)) 0) | false ↦ ok tt ]

@@ -7,6 +7,7 @@ use mathlib.Core.List.{List, _++_, map}
 use lib.ListN.{length}
 use Rattle.answers.specs.Checked.{verdict}
 use Rattle.answers.specs.declared.Verdict.{Verdict}
+use Rattle.grammar.specs.Limits.{most}
 use Rattle.grammar.specs.Lookup.{fieldsAt}
 use Rattle.layout.specs.Within.{Each}
 use Rattle.productions.specs.Normal.{Production}
@@ -43,8 +44,8 @@ tableRoom bs = grammarRoom bs (placesOf bs)
 
 -- a room that holds the grammar of a table, each production a whole alternative
 pub record HoldsGrammar (bs room : List ℕ) : Type 0 where
-  pub small : length bs ≤ 16384
-  pub few : length (placesOf bs) ≤ 256
+  pub small : length bs ≤ most .bytes
+  pub few : length (placesOf bs) ≤ most .alternatives
   pub rest : List ℕ
   pub held : room ≡ tableRoom bs ++ rest
   pub whole : Each (λ (p : Place). wholeBody (fieldsAt bs (p .start)) ≡ true) (placesOf bs)
@@ -53,8 +54,8 @@ pub record HoldsGrammar (bs room : List ℕ) : Type 0 where
 
 -- an index of few productions, each a whole alternative of a table that is not too long
 pub record WholeIndex (bs : List ℕ) (m : ℕ) (owners starts : List ℕ) : Type 0 where
-  pub short : length bs ≤ 16384
-  pub few : m ≤ 256
+  pub short : length bs ≤ most .bytes
+  pub few : m ≤ most .alternatives
   pub whole : Each (Whole bs) (placesIn m owners starts)
 
 -- the same, with a whole room and a first set for each nonterminal

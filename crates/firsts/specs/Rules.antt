@@ -4,15 +4,16 @@ use Prim.Native.Nat.{ℕ, _<_}
 use mathlib.Core.Path.{_≡_}
 use mathlib.Core.List.{List, [], _∷_}
 use Rattle.kinds.specs.Kinds.{wordKind, numberKind, keywordKind}
+use Rattle.grammar.specs.Limits.{most}
 use Rattle.grammar.specs.Table.{Templates, Item, keyword, ide, number, local, call}
 use Rattle.productions.specs.Normal.{Production}
 
--- Document 01, "Phrase table": nonterminals are numbered 0 to 63, keywords from 0, at most 62 of them
+-- Document 01, "Phrase table": nonterminals and keywords are numbered from 0
 abbrev pub IsNonterminal : ℕ → Type 0
-IsNonterminal n = n < 64
+IsNonterminal n = n < most .nonterminals
 
 abbrev pub IsKeyword : ℕ → Type 0
-IsKeyword k = k < 62
+IsKeyword k = k < most .keywords
 
 -- p is a production of g
 pub data In : List Production → Production → Type 0 where

@@ -1,5 +1,6 @@
 // Left recursion and clashes: refusals 12 and 13. The clash search goes over the productions of each nonterminal, by the links of the room.
 use super::items::set_at;
+use grammar::limits::NONTERMINALS;
 use kinds::has;
 use kinds::join;
 use kinds::meet;
@@ -16,7 +17,7 @@ pub fn left_recursive(calls: &[u64]) -> u8
     ensures { λ r. ⌜ r ≡ leftRecursive (now (calls .entry)) ⌝ }
 {
     let mut n: u8 = 0;
-    while n < 64 {
+    while n < NONTERMINALS {
         let reached = set_at(calls, n as usize);
         let found = has(reached, n);
         if found {
@@ -57,7 +58,7 @@ pub fn clashing(room: &[u64; 641]) -> u8
     ensures { λ r. ⌜ r ≡ clashingIn (now (room .entry)) ⌝ }
 {
     let mut n: u8 = 0;
-    'search: while n < 64 {
+    'search: while n < NONTERMINALS {
         let mut i = first_place(room, n);
         while i < 256 {
             let mut j = after(room, i);

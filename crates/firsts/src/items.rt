@@ -4,6 +4,7 @@ use crate::Step;
 use crate::Symbol;
 use grammar::Front;
 use grammar::front_at;
+use grammar::limits::MOST_KEYWORDS;
 use grammar::reader::byte;
 use kinds::has;
 use kinds::join;
@@ -66,11 +67,13 @@ fn passed(s: Symbol, nulls: u64) -> bool
     }
 }
 
+const KEYWORDS: u8 = MOST_KEYWORDS as u8;
+
 // The set of the kind of keyword k.
 fn keyword_set(k: u8) -> u64
     ensures { λ r. ⌜ r ≡ only (keywordKind k) ⌝ }
 {
-    if k < 62 { only(k + 2) } else { 0 }
+    if k < KEYWORDS { only(k + 2) } else { 0 }
 }
 
 // What an item gives by itself: to a first set the kind that it reads, to the left calls the nonterminal that it calls.

@@ -7,6 +7,7 @@ use super::nullable::nullables;
 use super::sets::sets_of;
 use answers::Verdict;
 use answers::refuse;
+use grammar::limits::NONTERMINALS;
 use kinds::lowest;
 use productions::index::offset;
 use productions::room::begin;
@@ -67,7 +68,7 @@ fn check_clash(room: &[u64; 641]) -> Verdict
     ensures { λ r. ⌜ r ≡ verdict (noClashIn (now (room .entry))) ⌝ }
 {
     let n = clashing(room);
-    if n < 64 {
+    if n < NONTERMINALS {
         let kinds = shared(room, n);
         Verdict::Refused(refuse(13, n as u64, lowest(kinds) as u64, 0))
     } else {
@@ -88,7 +89,7 @@ pub fn check_firsts(
     ensures { λ r. ⌜ FirstsChecked (now (table .entry)) (placesIn m (now (owners .entry)) (now (starts .entry))) (now (room .entry)) (now (room .exit)) r ⌝ }
 {
     let n = prepare(table, owners, starts, m, room);
-    if n < 64 {
+    if n < NONTERMINALS {
         Verdict::Refused(refuse(12, n as u64, 0, 0))
     } else {
         check_clash(room)

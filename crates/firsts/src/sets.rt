@@ -3,6 +3,7 @@
 // callee, and what it gives is joined to what its callers give.
 use super::items::gather;
 use super::items::set_at;
+use grammar::limits::NONTERMINALS;
 use grammar::reader::byte;
 use kinds::has;
 use kinds::join;
@@ -95,7 +96,7 @@ fn used(sets: &[u64]) -> u8
     requires { ⌜ length (now sets) ≡ 64 ⌝ }
     ensures { λ r. ⌜ UsedBelow r (now (sets .entry)) ⌝ }
 {
-    let mut n: u8 = 64;
+    let mut n: u8 = NONTERMINALS;
     while 0 < n {
         let i = (n - 1) as usize;
         let set = sets[i];

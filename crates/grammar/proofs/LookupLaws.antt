@@ -16,6 +16,7 @@ use Rattle.grammar.specs.declared.Front.the-variants.{Nothing, Short, Fi
 use Rattle.grammar.specs.declared.Found.{Found}
 use Rattle.grammar.specs.declared.Found.the-variants.{At, Absent}
 use Rattle.grammar.specs.Fields.{Fields, end, cut, next, sizeOf, fieldsFrom, fieldsOf}
+use Rattle.grammar.specs.Limits.{most}
 use Rattle.grammar.specs.Lookup.{leading, afterLeading, lexiconOf, frontOf, fieldsAt}
 use Rattle.grammar.specs.Found.{foundIn}
 
@@ -327,27 +328,27 @@ module _ {table : List ℕ} {tag at : ℕ} (c : Passing table tag at) where
 
 -- ------------------------------------------------------------------ the lexicon of a table
 
--- the keywords are the leading fields 01, 62 at most
-pub keywords-at : (table : List ℕ) → lexiconOf table .keywords ≡ take 62 (leading 1 (fieldsAt table 0))
+-- the keywords are the leading fields 01, as many as a table may have
+pub keywords-at : (table : List ℕ) → lexiconOf table .keywords ≡ take (most .keywords) (leading 1 (fieldsAt table 0))
 unfolding lexiconOf
 keywords-at table = cc (fields-of table)
 
--- the outside names are the fields 02 behind them, 64 at most
+-- the outside names are the fields 02 behind them, as many as a table may have
 pub outsides-at : (table : List ℕ) (at : ℕ) → fieldsAt table at ≡ afterLeading 1 (fieldsAt table 0)
-    → lexiconOf table .outsides ≡ take 64 (leading 2 (fieldsAt table at))
+    → lexiconOf table .outsides ≡ take (most .outsides) (leading 2 (fieldsAt table at))
 unfolding lexiconOf
 outsides-at table at e =
     cc (fields-of table)
 
--- the keywords are 62 at most
-pub few-keywords : (table : List ℕ) → length (lexiconOf table .keywords) ≤ 62
+-- the keywords are no more than a table may have
+pub few-keywords : (table : List ℕ) → length (lexiconOf table .keywords) ≤ most .keywords
 unfolding lexiconOf
-few-keywords table = omega (arith, length-take 62 (leading 1 (fieldsOf table)))
+few-keywords table = omega (arith, length-take (most .keywords) (leading 1 (fieldsOf table)))
 
--- the outside names are 64 at most
+-- nor are the outside names
 pub few-outsides : (table : List ℕ) → length (lexiconOf table .outsides) ≤ 64
 unfolding lexiconOf
-few-outsides table = omega (arith, length-take 64 (leading 2 (afterLeading 1 (fieldsOf table))))
+few-outsides table = omega (arith, length-take (most .outsides) (leading 2 (afterLeading 1 (fieldsOf table))))
 
 -- a place that is found lies in the list
 abbrev pub Within : List (List ℕ) → Found → Type 0

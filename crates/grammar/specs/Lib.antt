@@ -1,3 +1,4 @@
+pub mod Limits
 pub mod Sorts
 pub mod Table
 pub mod Encode

@@ -6,6 +6,7 @@ use lib.Dec.{eqb, leb}
 use lib.ListN.{length, getD, drop, take}
 use Rattle.grammar.specs.declared.Front.{Front}
 use Rattle.grammar.specs.declared.Front.the-variants.{Nothing, Short, Field}
+use Rattle.grammar.specs.Limits.{most}
 use Rattle.grammar.specs.Table.{Lexicon}
 use Rattle.grammar.specs.Fields.{Fields, sizeOf, fieldsFrom, fieldsOf, end, cut, next}
 
@@ -35,5 +36,7 @@ afterLeading tag (next at t v fs) = elim (eqb t tag) [ true ↦ afterLeading tag
 -- the keywords and outside names that any bytes begin with, as many as a table may have
 unfoldable pub lexiconOf : List ℕ → Lexicon
 lexiconOf bs =
-    record
-    { keywords = take 62 (leading 1 (fieldsOf bs)); outsides = take 64 (leading 2 (afterLeading 1 (fieldsOf bs))) }
+    record {
+      keywords = take (most .keywords) (leading 1 (fieldsOf bs));
+      outsides = take (most .outsides) (leading 2 (afterLeading 1 (fieldsOf bs)));
+    }

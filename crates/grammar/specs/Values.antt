@@ -1,4 +1,4 @@
--- The values of a table's fields, as bytes, and how long a table may be. Document 01, "Phrase table".
+-- The values of a table's fields, as bytes. Document 01, "Phrase table".
 -- Each part is laid in front of what follows it.
 use Prim.Native.Nat.{ℕ}
 use mathlib.Core.List.{List, [], _∷_}
@@ -39,7 +39,3 @@ modeCode update = 2
 
 unfoldable pub headValue : Definition → List ℕ
 headValue d = d .nonterminal ∷ modeCode (d .mode) ∷ d .signature .result ∷ d .signature .params
-
--- the most bytes that a table may have
-abbrev pub longestTable : ℕ
-longestTable = 16384

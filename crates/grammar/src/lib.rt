@@ -1,4 +1,5 @@
 // Sorts, constructors and the phrase table.
+pub mod limits;
 pub mod reader;
 pub mod sorts;
 

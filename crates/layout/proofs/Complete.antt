@@ -8,6 +8,7 @@ use lib.ListN.{length}
 use borrow.Author.Tests.{lt-ltb}
 use Rattle.answers.specs.Checked.{ok}
 use Rattle.spellings.specs.Bytes.{isWord, isKeyword}
+use Rattle.grammar.specs.Limits.{most}
 use Rattle.grammar.specs.Table.{Item, Alternative, Definition, Table}
 use Rattle.grammar.specs.Encode.{spellingsThen, itemsThen, alternativesThen, definitionsThen, blocksThen, tableFields}
 use Rattle.grammar.specs.Values.{Field, field, templateThen, itemValue, headValue}
@@ -41,7 +42,7 @@ record Inside (last : ℕ) : Type 0 where
 -- What follows some fields is accepted from each state that they lead to: the fields are then accepted before it. Only what
 -- is needed of that state is said.
 items-accepted : {is : List Item} → Each ItemWithin is → (before : List Field) (s : Progress) → Inside (s .last)
-    → s .items + length is ≤ 12 → (k : List Field)
+    → s .items + length is ≤ most .items → (k : List Field)
     → ((b : List Field) (t : Progress) → Inside (t .last) → t .blocks ≡ s .blocks → t .alternatives ≡ s .alternatives → Accepted b t k)
     → Accepted before s (itemsThen is k)
 unfolding itemsThen passed follows isSpelled hasRoom
@@ -52,20 +53,20 @@ items-accepted (each-more {x} {xs} h t) before s i m k c =
       known = item-known h;
       ordered = i .item;
       spelled = refl;
-      room = lt-ltb (s .items) 12 (omega arith);
+      room = lt-ltb (s .items) (most .items) (omega arith);
       whole = item-whole h;
     })
     (items-accepted t (field 6 (itemValue x) ∷ before) (passed 6 s) (record { item = refl; result = refl }) (omega arith) k
     (λ b t i e f. c b t i (omega arith) (omega arith)))
 
 alternative-accepted : {a : Alternative} → AlternativeWithin a → (before : List Field) (s : Progress) → follows 5 (s .last) ≡ true
-    → s .alternatives < 256 → (k : List Field)
+    → s .alternatives < most .alternatives → (k : List Field)
     → ((b : List Field) (t : Progress) → t .last ≡ 7 → t .blocks ≡ s .blocks → t .alternatives ≡ s .alternatives + 1 → Accepted b t k)
     → Accepted before s (field 5 [] ∷ itemsThen (a .items) (field 7 (templateThen (a .result) []) ∷ k))
 unfolding passed follows isKnown isSpelled hasRoom isWhole
 alternative-accepted {a} w before s f m k c =
     and-then
-    (record { known = refl; ordered = f; spelled = refl; room = rw (lt-ltb (s .alternatives) 256 m) refl; whole = refl })
+    (record { known = refl; ordered = f; spelled = refl; room = rw (lt-ltb (s .alternatives) (most .alternatives) m) refl; whole = refl })
     (items-accepted (w .items) (field 5 [] ∷ before) (passed 5 s) (record { item = refl; result = refl }) (omega (arith, w .itemCount))
     (field 7 (templateThen (a .result) []) ∷ k)
     (λ b t i e g.
@@ -74,7 +75,7 @@ alternative-accepted {a} w before s f m k c =
     (c (field 7 (templateThen (a .result) []) ∷ b) (passed 7 t) refl (omega arith) (omega arith))))
 
 alternatives-accepted : {rest : List Alternative} → Each AlternativeWithin rest → (before : List Field) (s : Progress)
-    → follows 5 (s .last) ≡ true → (length rest ≡ 0 → s .last ≡ 7) → s .alternatives + length rest ≤ 256 → (k : List Field)
+    → follows 5 (s .last) ≡ true → (length rest ≡ 0 → s .last ≡ 7) → s .alternatives + length rest ≤ most .alternatives → (k : List Field)
     → ((b : List Field) (t : Progress) → t .last ≡ 7 → t .blocks ≡ s .blocks → t .alternatives ≡ s .alternatives + length rest → Accepted b t k)
     → Accepted before s (alternativesThen rest k)
 unfolding alternativesThen follows
@@ -96,7 +97,7 @@ unfolding follows
 closed-after last e = record { block = ap (follows 3) e; root = ap (follows 8) e }
 
 definitions-accepted : {ds : List Definition} → Each DefinitionWithin ds → (before : List Field) (s : Progress)
-    → follows 4 (s .last) ≡ true → Closed (s .last) → s .alternatives + alternativesOf ds ≤ 256 → (k : List Field)
+    → follows 4 (s .last) ≡ true → Closed (s .last) → s .alternatives + alternativesOf ds ≤ most .alternatives → (k : List Field)
     → ((b : List Field) (t : Progress) → Closed (t .last) → t .blocks ≡ s .blocks → t .alternatives ≡ s .alternatives + alternativesOf ds → Accepted b t k)
     → Accepted before s (definitionsThen ds k)
 unfolding definitionsThen alternativesOf passed follows isSpelled hasRoom isWhole
@@ -109,7 +110,7 @@ definitions-accepted (each-more {x = d} {xs = ds} h w) before s f n m k c =
     definitions-accepted w b t (ap (follows 4) l) (closed-after (t .last) l) (omega arith) k
     (λ b u n i j. c b u n (omega arith) (omega arith))))
 
-module _ (r : ℕ) (h : r ≤ 63) where
+module _ (r : ℕ) (h : r < most .nonterminals) where
   root-accepted : (before : List Field) (s : Progress) → Closed (s .last) → Accepted before s (field 8 (r ∷ []) ∷ [])
   unfolding spread checkFields passed isSpelled hasRoom isWhole
   root-accepted before s n =
@@ -117,13 +118,13 @@ module _ (r : ℕ) (h : r ≤ 63) where
       (record { from = λ at. refl })
 
   blocks-accepted : {bs : List (List Definition)} → Each (Each DefinitionWithin) bs → (before : List Field) (s : Progress)
-      → Closed (s .last) → s .blocks + length bs ≤ 16 → s .alternatives + alternativesIn bs ≤ 256
+      → Closed (s .last) → s .blocks + length bs ≤ most .blocks → s .alternatives + alternativesIn bs ≤ most .alternatives
       → Accepted before s (blocksThen bs (field 8 (r ∷ []) ∷ []))
   unfolding blocksThen alternativesIn passed follows isKnown isSpelled hasRoom isWhole
   blocks-accepted each-none before s n m l = root-accepted before s n
   blocks-accepted (each-more {xs = bs} w ws) before s n m l =
       and-then
-      (record { known = refl; ordered = n .block; spelled = refl; room = rw (lt-ltb (s .blocks) 16 (omega arith)) refl; whole = refl })
+      (record { known = refl; ordered = n .block; spelled = refl; room = rw (lt-ltb (s .blocks) (most .blocks) (omega arith)) refl; whole = refl })
       (definitions-accepted w (field 3 [] ∷ before) (passed 3 s) refl (record { block = refl; root = refl }) (omega arith)
       (blocksThen bs (field 8 (r ∷ []) ∷ []))
       (λ b t n e g. blocks-accepted ws b t n (omega arith) (omega arith)))
@@ -134,7 +135,7 @@ module _ (r : ℕ) (h : r ≤ 63) where
 module _ (k : List Field)
     (c : (b : List Field) (t : Progress) → Closed (t .last) → t .blocks ≡ 0 → t .alternatives ≡ 0 → Accepted b t k) where
   outsides-accepted : (os : List (List ℕ)) (before : List Field) (s : Progress) → Spelled isWord 2 before os
-      → follows 2 (s .last) ≡ true → Closed (s .last) → s .outsides + length os ≤ 64 → s .blocks ≡ 0 → s .alternatives ≡ 0
+      → follows 2 (s .last) ≡ true → Closed (s .last) → s .outsides + length os ≤ most .outsides → s .blocks ≡ 0 → s .alternatives ≡ 0
       → Accepted before s (spellingsThen 2 os k)
   unfolding spellingsThen passed follows isKnown isRepeated isSpelled hasRoom isWhole
   outsides-accepted [] before s w f n m e g = c before s n e g
@@ -145,7 +146,7 @@ module _ (k : List Field)
         known = refl;
         ordered = f;
         spelled = rw (first .0, first .1) refl;
-        room = rw (lt-ltb (s .outsides) 64 (omega arith)) refl;
+        room = rw (lt-ltb (s .outsides) (most .outsides) (omega arith)) refl;
         whole = refl;
       })
       (outsides-accepted os (field 2 o ∷ before) (passed 2 s) (spelled-rest isWord 2 before o os (λ v. refl) w) refl
@@ -153,7 +154,7 @@ module _ (k : List Field)
 
   keywords-accepted : (os ks : List (List ℕ)) (before : List Field) (s : Progress) → Spelled isKeyword 1 before ks
       → Spelled isWord 2 before os → follows 1 (s .last) ≡ true → follows 2 (s .last) ≡ true → Closed (s .last)
-      → s .keywords + length ks ≤ 62 → s .outsides + length os ≤ 64 → s .blocks ≡ 0 → s .alternatives ≡ 0
+      → s .keywords + length ks ≤ most .keywords → s .outsides + length os ≤ most .outsides → s .blocks ≡ 0 → s .alternatives ≡ 0
       → Accepted before s (spellingsThen 1 ks (spellingsThen 2 os k))
   unfolding spellingsThen passed follows isKnown isRepeated isSpelled hasRoom isWhole
   keywords-accepted os [] before s w v i f n m l e g = outsides-accepted os before s v f n l e g
@@ -164,7 +165,7 @@ module _ (k : List Field)
         known = refl;
         ordered = i;
         spelled = rw (first .0, first .1) refl;
-        room = rw (lt-ltb (s .keywords) 62 (omega arith)) refl;
+        room = rw (lt-ltb (s .keywords) (most .keywords) (omega arith)) refl;
         whole = refl;
       })
       (keywords-accepted os ks (field 1 x ∷ before) (passed 1 s) (spelled-rest isKeyword 1 before x ks (λ y. refl) w)

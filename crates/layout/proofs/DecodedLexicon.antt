@@ -10,6 +10,7 @@ use lib.Seq.{take-all}
 use borrow.Author.Tests.{leb-true}
 use Rattle.answers.specs.Checked.{ok}
 use Rattle.spellings.proofs.BytesLaws.{by-test}
+use Rattle.grammar.specs.Limits.{most}
 use Rattle.grammar.specs.Table.{Table}
 use Rattle.grammar.specs.Values.{Field, field}
 use Rattle.grammar.specs.Fields.{Fields, end, cut, next, fieldsOf}
@@ -52,8 +53,8 @@ record Spells (s : Progress) (fs : Fields) : Type 0 where
   outsides : leading 2 (afterLeading 1 fs) ≡ build fs .outsides
   keywordsOver : 2 ≤ s .last → build fs .keywords ≡ []
   outsidesOver : 3 ≤ s .last → build fs .outsides ≡ []
-  keywordRoom : length (build fs .keywords) ≤ 62 - s .keywords
-  outsideRoom : length (build fs .outsides) ≤ 64 - s .outsides
+  keywordRoom : length (build fs .keywords) ≤ most .keywords - s .keywords
+  outsideRoom : length (build fs .outsides) ≤ most .outsides - s .outsides
 
 abbrev Step : ℕ → Type 0
 Step tag = (at : ℕ) (v : List ℕ) (fs : Fields) (before : List Field) (s : Progress) → Passes before tag v s → Spells (passed tag s) fs
@@ -155,4 +156,4 @@ lexicon-decoded bs t h =
     let right = decoded-layout bs t h in
     let w = spells (fieldsOf bs) [] start (layout-parts bs (right .0) .1) in
     let b = build (fieldsOf bs) in
-    cc (w .keywords, take-all 62 (b .keywords) (w .keywordRoom), w .outsides, take-all 64 (b .outsides) (w .outsideRoom), right .1)
+    cc (w .keywords, take-all (most .keywords) (b .keywords) (w .keywordRoom), w .outsides, take-all (most .outsides) (b .outsides) (w .outsideRoom), right .1)

@@ -1,21 +1,20 @@
 -- Laws of the index of spellings: what a search in it finds, and that one spelling more keeps it. Of the hash they use only that equal
 -- spellings have equal ones, and that it fits 32 bits.
-use Prim.Native.Nat.{ℕ, zero, suc, _+_, _*_, _%_, _<_, _≤_}
+use Prim.Native.Nat.{ℕ, zero, suc, _+_, _-_, _*_, _<_, _≤_}
 use mathlib.Core.Path.{_≡_, refl, sym, ap, subst, _∙_}
 use mathlib.Core.Bool.{Bool, true, false, _||_}
 use mathlib.Core.List.{List, [], _∷_}
 use native.Mathlib.Nat.{add-zero}
 use native.Mathlib.Omega.{arith}
 use lib.Dec.{eqb}
-use lib.ListN.{length, getD, take, drop, set, replicate, length-set, length-replicate, drop-of-length-le}
-use lib.Seq.{getD-set-same, getD-set-other}
+use lib.ListN.{length, getD, take, drop, set, replicate, length-set, length-replicate, length-drop}
+use lib.Seq.{getD-set-same, getD-set-other, drop-drop, take-all}
 use borrow.Author.Tests.{eqb-true, eqb-false}
 use Rattle.spellings.specs.Bytes.{same}
 use Rattle.spellings.proofs.BytesLaws.{by-test, differ-same}
-use Rattle.spellings.proofs.Loops.{drop-at-index}
 use Rattle.grammar.specs.Values.{Field, field}
 use Rattle.layout.specs.Layout.{isRepeated, oneIf}
-use Rattle.layout.specs.Index.{spelledBy, isAmong, hashFrom, hashOf, entry, Entered, Leads, leads-none, leads-past, leads-here}
+use Rattle.layout.specs.Index.{spelledBy, isAmong, packed, Packs, mixed, hashFrom, hashOf, bucketOf, Hashed, entry, Entered, Leads, leads-none, leads-past, leads-here}
 use Rattle.layout.specs.Index.{Indexed, Falling, roomWith, entered, Has}
 
 -- ------------------------------------------------------------------ what is looked for
@@ -30,37 +29,79 @@ repeated-among tag v (f ∷ fs) =
 
 -- ------------------------------------------------------------------ the hash
 
--- hashes fit 32 bits
-pub hash-small : (v : List ℕ) (h : ℕ) → h < 4294967296 → hashFrom h v < 4294967296
+-- four bytes more
+hash-four : (h : ℕ) (w : List ℕ) → 4 ≤ length w → hashFrom h w ≡ hashFrom (mixed h (packed w)) (drop 4 w)
 unfolding hashFrom
-hash-small [] h e = e
-hash-small (b ∷ bs) h e = hash-small bs ((h * 16777619 + b) % 4294967296) (omega arith)
+hash-four h [] e = absurd (omega arith)
+hash-four h (a ∷ []) e = absurd (omega arith)
+hash-four h (a ∷ b ∷ []) e = absurd (omega arith)
+hash-four h (a ∷ b ∷ c ∷ []) e = absurd (omega arith)
+hash-four h (a ∷ b ∷ c ∷ d ∷ bs) e = refl
+
+-- the last bytes
+hash-rest : (h : ℕ) (w : List ℕ) → length w < 4 → hashFrom h w ≡ mixed h (packed w)
+unfolding hashFrom
+hash-rest h [] e = refl
+hash-rest h (a ∷ []) e = refl
+hash-rest h (a ∷ b ∷ []) e = refl
+hash-rest h (a ∷ b ∷ c ∷ []) e = refl
+hash-rest h (a ∷ b ∷ c ∷ d ∷ bs) e = absurd (omega arith)
+
+-- hashes fit 32 bits
+hash-small : (v : List ℕ) (h : ℕ) → hashFrom h v < 4294967296
+unfolding hashFrom
+hash-small [] h = omega arith
+hash-small (a ∷ []) h = omega arith
+hash-small (a ∷ b ∷ []) h = omega arith
+hash-small (a ∷ b ∷ c ∷ []) h = omega arith
+hash-small (a ∷ b ∷ c ∷ d ∷ bs) h = hash-small bs (mixed h (packed (a ∷ b ∷ c ∷ d ∷ [])))
 
 -- so does that of a spelling
 pub hash-below : (v : List ℕ) → hashOf v < 4294967296
 unfolding hashOf
-hash-below v = hash-small v 0 (omega arith)
+hash-below v = hash-small v 0
 
 -- the first i bytes have the hash h
 pub record Hashing (v : List ℕ) (i h : ℕ) : Type 0 where
+  pub within : i ≤ length v
   pub small : h < 4294967296
   pub rest : hashFrom h (drop i v) ≡ hashOf v
 
 -- no byte yet
 pub hashing-start : {v : List ℕ} → Hashing v 0 0
 unfolding hashOf
-hashing-start = record { small = omega arith; rest = refl }
+hashing-start = record { within = omega arith; small = omega arith; rest = refl }
 
--- one byte more
-pub hashing-next : {v : List ℕ} {i h : ℕ} → Hashing v i h → i < length v → Hashing v (i + 1) ((h * 16777619 + getD v i 0) % 4294967296)
-unfolding hashFrom
-hashing-next {v} {i} {h} c l =
-    record { small = omega arith; rest = sym (ap (hashFrom h) (drop-at-index v i l)) ∙ c .rest }
+-- the bytes from i on, as the code lends them
+rest-lent : (v : List ℕ) (i : ℕ) → take (length v - i) (drop i v) ≡ drop i v
+rest-lent v i = take-all (length v - i) (drop i v) (rw length-drop (omega arith))
 
--- all bytes
-pub hashing-end : {v : List ℕ} {i h : ℕ} → Hashing v i h → length v ≤ i → h ≡ hashOf v
-unfolding hashFrom
-hashing-end {v} {i} {h} c l = sym (ap (hashFrom h) (drop-of-length-le v l)) ∙ c .rest
+module _ {v : List ℕ} {i h : ℕ} (c : Hashing v i h) {g : ℕ} (p : Packs (take (length v - i) (drop i v)) g) {k : ℕ} (f : k ≡ mixed h g) where
+  packs : k ≡ mixed h (packed (drop i v))
+  packs = f ∙ ap (mixed h) (p .number ∙ ap packed (rest-lent v i))
+
+  -- four bytes more
+  pub hashing-next : 4 ≤ length v - i → Hashing v (i + 4) k
+  hashing-next l =
+      record {
+        within = omega arith;
+        small = omega (arith, packs);
+        rest =
+            ap (λ (x : ℕ). hashFrom x (drop (i + 4) v)) packs
+            ∙ rw (← (drop-drop 4 i v)) (sym (hash-four h (drop i v) (rw length-drop (omega arith))) ∙ c .rest);
+      }
+
+  -- all bytes
+  pub hashing-end : length v - i < 4 → k ≡ hashOf v
+  hashing-end l = packs ∙ sym (hash-rest h (drop i v) (rw length-drop (omega arith))) ∙ c .rest
+
+-- a spelling's own
+pub hashed-own : {tag : ℕ} {v : List ℕ} {h : ℕ} → h ≡ hashOf v → Hashed tag v h
+hashed-own e = record { spelled = λ l. e }
+
+-- of a field that is no spelling no hash is asked
+pub hashed-none : {tag : ℕ} {v : List ℕ} → 2 < tag → Hashed tag v 0
+hashed-none h = record { spelled = λ e. absurd (omega arith) }
 
 -- ------------------------------------------------------------------ one entry
 
@@ -81,24 +122,24 @@ entry-same {table} v e f s l = cc (e .placed)
 -- the spellings that are left are those that p leads to
 pub record Searching (table room v : List ℕ) (words : List (List ℕ)) (p : ℕ) : Type 0 where
   pub left : List (List ℕ)
-  pub leads : Leads table room (hashOf v % 64) left p
+  pub leads : Leads table room (bucketOf (hashOf v)) left p
   pub rest : isAmong v left ≡ isAmong v words
 
 -- the search begins with all spellings of the bucket
 pub searching-start :
-    {table room v : List ℕ} {words : List (List ℕ)} {h p : ℕ} → Indexed table room words → h ≡ hashOf v → p ≡ getD room (h % 64) 0
+    {table room v : List ℕ} {words : List (List ℕ)} {h p : ℕ} → Indexed table room words → h ≡ hashOf v → p ≡ getD room (bucketOf h) 0
     → Searching table room v words p
 searching-start {table} {room} {v} {words} {h} {p} x e f =
     record {
       left = words;
       leads =
-          subst (Leads table room (hashOf v % 64) words) (cc) (x .leads (hashOf v % 64) (omega arith));
+          subst (Leads table room (bucketOf (hashOf v)) words) (cc) (x .leads (bucketOf (hashOf v)) (omega arith));
       rest = refl;
     }
 
 module _ (table room v : List ℕ) where
   -- nothing is left in the bucket
-  none-among : (ws : List (List ℕ)) {p : ℕ} → Leads table room (hashOf v % 64) ws p → p ≡ 0 → isAmong v ws ≡ false
+  none-among : (ws : List (List ℕ)) {p : ℕ} → Leads table room (bucketOf (hashOf v)) ws p → p ≡ 0 → isAmong v ws ≡ false
   unfolding isAmong
   none-among [] leads-none e = refl
   none-among (w ∷ ws) (leads-past d l) e = rw (differ-same w v (λ q. d (cc))) (none-among ws l e)
@@ -110,10 +151,10 @@ module _ (table room v : List ℕ) where
     pub behind : List (List ℕ)
     pub onward : ℕ
     pub entered : Entered table room p first onward
-    pub leads : Leads table room (hashOf v % 64) behind onward
+    pub leads : Leads table room (bucketOf (hashOf v)) behind onward
     pub among : isAmong v ws ≡ (same first v || isAmong v behind)
 
-  next-of : (ws : List (List ℕ)) {p : ℕ} → Leads table room (hashOf v % 64) ws p → 0 < p → Next ws p
+  next-of : (ws : List (List ℕ)) {p : ℕ} → Leads table room (bucketOf (hashOf v)) ws p → 0 < p → Next ws p
   unfolding isAmong
   next-of [] leads-none h = absurd (omega arith)
   next-of (w ∷ ws) (leads-past d l) h =
@@ -153,7 +194,7 @@ module _ {table room v : List ℕ} {words : List (List ℕ)} {p : ℕ} (s : Sear
         let n = next in
         record {
           left = n .behind;
-          leads = subst (Leads table room (hashOf v % 64) (n .behind)) (sym (f ∙ n .entered .onward)) (n .leads);
+          leads = subst (Leads table room (bucketOf (hashOf v)) (n .behind)) (sym (f ∙ n .entered .onward)) (n .leads);
           rest = cc (c (n .first) (n .onward) (n .entered), n .among, s .rest);
         }
 
@@ -203,7 +244,7 @@ falling-none = record { heads = λ b h. omega (arith, zeros 320 b); links = λ n
 
 module _ (room : List ℕ) (long : length room ≡ 320) (n h from size : ℕ) (few : n ≤ 64) (one : 0 < n) where
   r₁ : List ℕ
-  r₁ = set room (entry n) (getD room (h % 64) 0)
+  r₁ = set room (entry n) (getD room (bucketOf h) 0)
 
   r₂ : List ℕ
   r₂ = set r₁ (entry n + 1) h
@@ -220,33 +261,33 @@ module _ (room : List ℕ) (long : length room ≡ 320) (n h from size : ℕ) (f
 
   -- a number that is not written
   outside :
-      (j : ℕ) → (j ≡ entry n → ⊥) → (j ≡ entry n + 1 → ⊥) → (j ≡ entry n + 2 → ⊥) → (j ≡ entry n + 3 → ⊥) → (j ≡ h % 64 → ⊥)
+      (j : ℕ) → (j ≡ entry n → ⊥) → (j ≡ entry n + 1 → ⊥) → (j ≡ entry n + 2 → ⊥) → (j ≡ entry n + 3 → ⊥) → (j ≡ bucketOf h → ⊥)
       → getD (roomWith room n h from size) j 0 ≡ getD room j 0
   unfolding r₁ r₂ r₃ r₄
   outside j p q r s t =
-      getD-set-other r₄ (h % 64) j n 0 t
+      getD-set-other r₄ (bucketOf h) j n 0 t
       ∙ getD-set-other r₃ (entry n + 3) j size 0 s
       ∙ getD-set-other r₂ (entry n + 2) j from 0 r
       ∙ getD-set-other r₁ (entry n + 1) j h 0 q
-      ∙ getD-set-other room (entry n) j (getD room (h % 64) 0) 0 p
+      ∙ getD-set-other room (entry n) j (getD room (bucketOf h) 0) 0 p
 
-  at-head : getD (roomWith room n h from size) (h % 64) 0 ≡ n
+  at-head : getD (roomWith room n h from size) (bucketOf h) 0 ≡ n
   unfolding r₁ r₂ r₃ r₄
-  at-head = getD-set-same r₄ (h % 64) n 0 (simp length-set (omega arith))
+  at-head = getD-set-same r₄ (bucketOf h) n 0 (simp length-set (omega arith))
 
-  at-onward : getD (roomWith room n h from size) (entry n) 0 ≡ getD room (h % 64) 0
+  at-onward : getD (roomWith room n h from size) (entry n) 0 ≡ getD room (bucketOf h) 0
   unfolding r₁ r₂ r₃ r₄
   at-onward =
-      getD-set-other r₄ (h % 64) (entry n) n 0 (λ e. omega arith)
+      getD-set-other r₄ (bucketOf h) (entry n) n 0 (λ e. omega arith)
       ∙ getD-set-other r₃ (entry n + 3) (entry n) size 0 (λ e. omega arith)
       ∙ getD-set-other r₂ (entry n + 2) (entry n) from 0 (λ e. omega arith)
       ∙ getD-set-other r₁ (entry n + 1) (entry n) h 0 (λ e. omega arith)
-      ∙ getD-set-same room (entry n) (getD room (h % 64) 0) 0 (omega arith)
+      ∙ getD-set-same room (entry n) (getD room (bucketOf h) 0) 0 (omega arith)
 
   at-hash : getD (roomWith room n h from size) (entry n + 1) 0 ≡ h
   unfolding r₁ r₂ r₃ r₄
   at-hash =
-      getD-set-other r₄ (h % 64) (entry n + 1) n 0 (λ e. omega arith)
+      getD-set-other r₄ (bucketOf h) (entry n + 1) n 0 (λ e. omega arith)
       ∙ getD-set-other r₃ (entry n + 3) (entry n + 1) size 0 (λ e. omega arith)
       ∙ getD-set-other r₂ (entry n + 2) (entry n + 1) from 0 (λ e. omega arith)
       ∙ getD-set-same r₁ (entry n + 1) h 0 (simp length-set (omega arith))
@@ -254,23 +295,23 @@ module _ (room : List ℕ) (long : length room ≡ 320) (n h from size : ℕ) (f
   at-place : getD (roomWith room n h from size) (entry n + 2) 0 ≡ from
   unfolding r₁ r₂ r₃ r₄
   at-place =
-      getD-set-other r₄ (h % 64) (entry n + 2) n 0 (λ e. omega arith)
+      getD-set-other r₄ (bucketOf h) (entry n + 2) n 0 (λ e. omega arith)
       ∙ getD-set-other r₃ (entry n + 3) (entry n + 2) size 0 (λ e. omega arith)
       ∙ getD-set-same r₂ (entry n + 2) from 0 (simp length-set (omega arith))
 
   at-size : getD (roomWith room n h from size) (entry n + 3) 0 ≡ size
   unfolding r₁ r₂ r₃ r₄
   at-size =
-      getD-set-other r₄ (h % 64) (entry n + 3) n 0 (λ e. omega arith) ∙ getD-set-same r₃ (entry n + 3) size 0 (simp length-set (omega arith))
+      getD-set-other r₄ (bucketOf h) (entry n + 3) n 0 (λ e. omega arith) ∙ getD-set-same r₃ (entry n + 3) size 0 (simp length-set (omega arith))
 
   -- links still lead to older spellings
-  falling-more : Falling room → getD room (h % 64) 0 < n → Falling (roomWith room n h from size)
+  falling-more : Falling room → getD room (bucketOf h) 0 < n → Falling (roomWith room n h from size)
   falling-more f small =
       record {
         heads = λ j l.
-            by-test (eqb j (h % 64)) (λ e. rw (eqb-true j (h % 64) e) (omega (arith, at-head)))
+            by-test (eqb j (bucketOf h)) (λ e. rw (eqb-true j (bucketOf h) e) (omega (arith, at-head)))
             (λ e.
-            omega (arith, outside j (λ q. omega arith) (λ q. omega arith) (λ q. omega arith) (λ q. omega arith) (eqb-false j (h % 64) e), f .heads j l));
+            omega (arith, outside j (λ q. omega arith) (λ q. omega arith) (λ q. omega arith) (λ q. omega arith) (eqb-false j (bucketOf h) e), f .heads j l));
         links = λ m l k.
             by-test (eqb m n) (λ e. rw (eqb-true m n e) (omega (arith, at-onward)))
             (λ e.
@@ -290,9 +331,9 @@ module _ (room : List ℕ) (long : length room ≡ 320) (n h from size : ℕ) (f
       outside (entry m + i) (λ q. omega arith) (λ q. omega arith) (λ q. omega arith) (λ q. omega arith) (λ q. omega arith) in
       record {
         leads = λ j l.
-            by-test (eqb j (h % 64))
+            by-test (eqb j (bucketOf h))
             (λ q.
-            let here : j ≡ h % 64 = eqb-true j (h % 64) q in
+            let here : j ≡ bucketOf h = eqb-true j (bucketOf h) q in
             subst (Leads table room′ j (v ∷ words)) (cc at-head)
             (leads-here
             (record {
@@ -303,7 +344,7 @@ module _ (room : List ℕ) (long : length room ≡ 320) (n h from size : ℕ) (f
             })
             (leads-kept table room room′ j words kept (x .leads j l))))
             (λ q.
-            let other : j ≡ h % 64 → ⊥ = eqb-false j (h % 64) q in
+            let other : j ≡ bucketOf h → ⊥ = eqb-false j (bucketOf h) q in
             subst (Leads table room′ j (v ∷ words))
             (sym (outside j (λ q. omega arith) (λ q. omega arith) (λ q. omega arith) (λ q. omega arith) other))
             (leads-past (λ z. other (cc)) (leads-kept table room room′ j words kept (x .leads j l))));
@@ -314,15 +355,15 @@ pub entered-none : (room : List ℕ) {spelled : Bool} (count from : ℕ) (v : Li
 entered-none room count from v e = cc
 
 storedAt : List ℕ → ℕ → ℕ → ℕ → ℕ → ℕ → List ℕ
-storedAt room at n h from size = set (set (set (set (set room at (getD room (h % 64) 0)) (at + 1) h) (at + 2) from) (at + 3) size) (h % 64) n
+storedAt room at n h from size = set (set (set (set (set room at (getD room (bucketOf h) 0)) (at + 1) h) (at + 2) from) (at + 3) size) (bucketOf h) n
 
 -- five stores
 pub entered-some :
     (room : List ℕ) {spelled : Bool} (count from : ℕ) (v : List ℕ) {h : ℕ} → spelled ≡ true → h ≡ hashOf v
     → set
-    (set (set (set (set room (64 + 4 * count) (getD room (h % 64) 0)) (64 + 4 * count + 1) h) (64 + 4 * count + 2) from) (64 + 4 * count + 3)
+    (set (set (set (set room (64 + 4 * count) (getD room (bucketOf h) 0)) (64 + 4 * count + 1) h) (64 + 4 * count + 2) from) (64 + 4 * count + 3)
     (length v))
-    (h % 64) (count + 1)
+    (bucketOf h) (count + 1)
     ≡ entered room spelled count from v
 unfolding storedAt
 entered-some room count from v {h} e f =
@@ -357,7 +398,7 @@ module _ {table : List ℕ} {tag : ℕ} {before : List Field} {count : ℕ} {roo
       let words : List (List ℕ) = spelledBy tag before in
       let small : count < 64 = few refl in
       let number : n ≡ suc (length words) = omega (arith, x .counted) in
-      let head : getD room (h % 64) 0 ≤ length words = leads-small table room (h % 64) words (x .indexed .leads (h % 64) (omega arith)) in
+      let head : getD room (bucketOf h) 0 ≤ length words = leads-small table room (bucketOf h) words (x .indexed .leads (bucketOf h) (omega arith)) in
       record {
         long = with-length room (x .long) n h from (length v) (omega arith) (omega arith);
         falling = falling-more room (x .long) n h from (length v) (omega arith) (omega arith) (x .falling) (omega (arith, x .counted));

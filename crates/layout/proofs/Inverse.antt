@@ -13,7 +13,7 @@ use Rattle.grammar.specs.Table.{Table}
 use Rattle.grammar.specs.Encode.{fieldBytes, tableFields, encode}
 use Rattle.grammar.specs.Fields.{fieldsOf}
 use Rattle.layout.specs.Layout.{start, checkFields, layout}
-use Rattle.grammar.specs.Values.{longestTable}
+use Rattle.grammar.specs.Limits.{most}
 use Rattle.layout.specs.Decode.{build, tableOf, decode}
 use Rattle.layout.specs.Within.{Within}
 use Rattle.layout.proofs.Split.{Bytes, fields-of-bytes, bytes-of-fields, value-bytes}
@@ -24,18 +24,18 @@ use Rattle.layout.proofs.Rebuilt.{table-built}
 
 -- ------------------------------------------------------------------ the layout
 
-layout-short : (bs : List ℕ) → leb (length bs) longestTable ≡ true → layout bs ≡ checkFields (fieldsOf bs) [] start
+layout-short : (bs : List ℕ) → leb (length bs) (most .bytes) ≡ true → layout bs ≡ checkFields (fieldsOf bs) [] start
 unfolding layout
 layout-short bs e = rw (e, layout) refl
 
-layout-long : (bs : List ℕ) → leb (length bs) longestTable ≡ false → layout bs ≡ bad (refusal 1 0 0 0)
+layout-long : (bs : List ℕ) → leb (length bs) (most .bytes) ≡ false → layout bs ≡ bad (refusal 1 0 0 0)
 unfolding layout
 layout-long bs e = rw (e, layout) refl
 
 -- A layout is right exactly if the table is not too long and its fields are accepted.
-pub layout-parts : (bs : List ℕ) → layout bs ≡ ok tt → (length bs ≤ longestTable) × (checkFields (fieldsOf bs) [] start ≡ ok tt)
+pub layout-parts : (bs : List ℕ) → layout bs ≡ ok tt → (length bs ≤ most .bytes) × (checkFields (fieldsOf bs) [] start ≡ ok tt)
 layout-parts bs h =
-    by-test (leb (length bs) longestTable) (λ e. (leb-true (length bs) longestTable e, sym (layout-short bs e) ∙ h))
+    by-test (leb (length bs) (most .bytes)) (λ e. (leb-true (length bs) (most .bytes) e, sym (layout-short bs e) ∙ h))
     (λ e. absurd (subst⁻¹ Accepts (sym (layout-long bs e) ∙ h) tt))
 
 -- ------------------------------------------------------------------ decoding
@@ -56,7 +56,7 @@ decode-encoded t w =
     let bs = fieldBytes (tableFields t) in
     let split = fields-of-bytes (tableFields t) in
     let right : layout bs ≡ ok tt =
-    cc (layout-short bs (le-leb (length bs) longestTable (w .size)), table-accepted t w .from 0) in
+    cc (layout-short bs (le-leb (length bs) (most .bytes) (w .size)), table-accepted t w .from 0) in
     cc (table-built t 0 w)
 
 -- Bytes whose layout is right are the encoding of a table within the bounds.

@@ -14,6 +14,7 @@ use Rattle.answers.specs.Checked.{Checked, ok, bad, need, verdict, _>>=_, _>>_}
 use Rattle.answers.specs.declared.Verdict.the-variants.{Passed, Refused}
 use Rattle.spellings.specs.Bytes.{every, isWord, isKeyword}
 use Rattle.spellings.proofs.Loops.{drop-at-index}
+use Rattle.grammar.specs.Limits.{most}
 use Rattle.grammar.specs.SortTests.{isSort}
 use Rattle.grammar.specs.Values.{Field}
 use Rattle.layout.specs.declared.Progress.{Progress}
@@ -39,12 +40,12 @@ itemBy v kind operand sort =
     || (eqb kind 1 && eqb (length v) 2 && sort)
     || (eqb kind 2 && eqb (length v) 2 && eqb operand 0)
     || (eqb kind 3 && eqb (length v) 2 && eqb operand 0)
-    || (eqb kind 4 && leb 2 (length v) && leb operand 63)
+    || (eqb kind 4 && leb 2 (length v) && ltb operand (most .nonterminals))
 
 -- a definition's head, by the test of its length and its first two bytes
 pub head-by :
     (v : List ℕ) {first second : ℕ} → first ≡ getD v 0 0 → second ≡ getD v 1 0 → (sized : Bool)
-    → (leb 3 (length v) && leb (length v) 7 && leb first 63 && leb second 2) ≡ sized → (sized && every isSort (drop 2 v)) ≡ isHead v
+    → (leb 3 (length v) && leb (length v) (3 + most .parameters) && ltb first (most .nonterminals) && leb second 2) ≡ sized → (sized && every isSort (drop 2 v)) ≡ isHead v
 unfolding isHead
 head-by v e f sized q =
     cc
@@ -148,11 +149,11 @@ fitting n limit false e h k f = record { fits = omega arith }
 
 -- the five tests for room
 pub record Room (tag : ℕ) (s : Progress) : Type 0 where
-  pub keywords : (not (eqb tag 1) || ltb (s .keywords) 62) ≡ true
-  pub outsides : (not (eqb tag 2) || ltb (s .outsides) 64) ≡ true
-  pub blocks : (not (eqb tag 3) || ltb (s .blocks) 16) ≡ true
-  pub alternatives : (not (eqb tag 5) || ltb (s .alternatives) 256) ≡ true
-  pub items : (not (eqb tag 6) || ltb (s .items) 12) ≡ true
+  pub keywords : (not (eqb tag 1) || ltb (s .keywords) (most .keywords)) ≡ true
+  pub outsides : (not (eqb tag 2) || ltb (s .outsides) (most .outsides)) ≡ true
+  pub blocks : (not (eqb tag 3) || ltb (s .blocks) (most .blocks)) ≡ true
+  pub alternatives : (not (eqb tag 5) || ltb (s .alternatives) (most .alternatives)) ≡ true
+  pub items : (not (eqb tag 6) || ltb (s .items) (most .items)) ≡ true
 
 -- from the one test
 pub room-of : (tag : ℕ) (s : Progress) → hasRoom tag s ≡ true → Room tag s

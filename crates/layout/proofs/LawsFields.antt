@@ -13,7 +13,8 @@ use Rattle.answers.specs.Refusals.{refusal}
 use Rattle.answers.specs.Checked.{Checked, ok, bad, need, verdict, _>>=_}
 use Rattle.grammar.specs.declared.Front.{Front}
 use Rattle.grammar.specs.declared.Front.the-variants.{Nothing, Short, Field}
-use Rattle.grammar.specs.Values.{field, longestTable}
+use Rattle.grammar.specs.Limits.{most}
+use Rattle.grammar.specs.Values.{field}
 use Rattle.grammar.specs.Values as encode
 use Rattle.grammar.specs.Fields.{Fields, end, cut, next, fieldsOf}
 use Rattle.grammar.specs.Lookup.{frontOf, fieldsAt}
@@ -70,13 +71,13 @@ lent-is table from n =
 -- ------------------------------------------------------------------ the turns of the check
 
 -- refusal 1
-pub layout-long : (table : List ℕ) → longestTable < length table → Refused (refusal 1 0 0 0) ≡ verdict (layout table)
+pub layout-long : (table : List ℕ) → most .bytes < length table → Refused (refusal 1 0 0 0) ≡ verdict (layout table)
 unfolding layout
-layout-long table h = rw (lt-leb (length table) longestTable h, layout) refl
+layout-long table h = rw (lt-leb (length table) (most .bytes) h, layout) refl
 
-layout-short : (table : List ℕ) → length table ≤ longestTable → layout table ≡ checkFields (fieldsOf table) [] start
+layout-short : (table : List ℕ) → length table ≤ most .bytes → layout table ≡ checkFields (fieldsOf table) [] start
 unfolding layout
-layout-short table h = rw (le-leb (length table) longestTable h, layout) refl
+layout-short table h = rw (le-leb (length table) (most .bytes) h, layout) refl
 
 fields-end : (at : ℕ) (before : List encode.Field) (s : Progress) → checkFields (end at) before s ≡ need (eqb (s .last) 8) 4 at
 unfolding checkFields
@@ -118,7 +119,7 @@ turn-start {table} e =
       rest = λ i. checkFields (sym (fields-of table) i) (none-before table i) (e i);
     }
 
-module _ {table : List ℕ} {at : ℕ} {s : Progress} (c : Turn table at s) (h : length table ≤ longestTable) where
+module _ {table : List ℕ} {at : ℕ} {s : Progress} (c : Turn table at s) (h : length table ≤ most .bytes) where
   answer : (x : Checked (Unit {0})) → checkFields (fieldsAt table at) (fieldsBefore table at) s ≡ x → verdict x ≡ verdict (layout table)
   answer x e = ap verdict (sym e ∙ c .rest ∙ sym (layout-short table h))
 
@@ -146,7 +147,7 @@ module _ {table : List ℕ} {at : ℕ} {s : Progress} (c : Turn table at s) {t n
       )
 
   -- a field is refused
-  pub turn-stopped : length table ≤ longestTable → {r : Refusal}
+  pub turn-stopped : length table ≤ most .bytes → {r : Refusal}
       → Stopped r
       ≡ checking (checkField (fieldsBefore table at) at t (take (at + 3 + n - (at + 3)) (drop (at + 3) table)) s)
       → Refused r ≡ verdict (layout table)

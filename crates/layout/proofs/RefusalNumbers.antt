@@ -10,7 +10,8 @@ use Rattle.answers.specs.declared.Refusal.{Refusal}
 use Rattle.answers.specs.Refusals.{refusal}
 use Rattle.answers.specs.Checked.{Checked, ok, bad, _>>=_, _>>_, need}
 use Rattle.grammar.specs.Table.{Table}
-use Rattle.grammar.specs.Values.{Field, field, longestTable}
+use Rattle.grammar.specs.Limits.{most}
+use Rattle.grammar.specs.Values.{Field, field}
 use Rattle.grammar.specs.Fields.{Fields, end, cut, next, fieldsOf}
 use Rattle.layout.specs.declared.Progress.{Progress}
 use Rattle.layout.specs.Layout.{isKnown, follows, isSpelled, hasRoom, isWhole, passed, checkField, checkFields, start, layout}
@@ -56,7 +57,7 @@ fields-numbered (next at tag v fs) before s =
 
 layout-numbered : (bs : List ℕ) → Numbered (layout bs)
 unfolding layout
-layout-numbered bs = by (leb (length bs) longestTable)
+layout-numbered bs = by (leb (length bs) (most .bytes))
   where
     by :
         (t : Bool)

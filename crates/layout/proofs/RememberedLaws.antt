@@ -8,6 +8,7 @@ use lib.Dec.{eqb, ltb}
 use lib.ListN.{length, take, drop, replicate, length-take, length-drop}
 use borrow.Author.Tests.{ltb-true}
 use Rattle.answers.specs.Checked.{ok}
+use Rattle.grammar.specs.Limits.{most}
 use Rattle.grammar.specs.declared.Front.the-variants.{Field}
 use Rattle.grammar.specs.Values.{field}
 use Rattle.grammar.specs.Values as values
@@ -79,11 +80,11 @@ module _ {table : List ℕ} {at : ℕ} {s : Progress} {K N : List ℕ} (c : Turn
 
   -- room for one more of either tag
   pub keyword-room : eqb t 1 ≡ true → s .keywords < 64
-  keyword-room h = below (s .keywords) 62 (eqb t 1) (room-of t s (passes .0) .keywords) (omega arith) h
+  keyword-room h = below (s .keywords) (most .keywords) (eqb t 1) (room-of t s (passes .0) .keywords) (omega arith) h
 
   -- an outside name has room among the 64
   pub outside-room : eqb t 2 ≡ true → s .outsides < 64
-  outside-room h = below (s .outsides) 64 (eqb t 2) (room-of t s (passes .0) .outsides) (omega arith) h
+  outside-room h = below (s .outsides) (most .outsides) (eqb t 2) (room-of t s (passes .0) .outsides) (omega arith) h
 
   -- one field more
   pub remembered-next :

@@ -11,7 +11,8 @@ use Rattle.answers.specs.Checked.{ok, need}
 use Rattle.spellings.specs.Bytes.{isWord, isKeyword}
 use Rattle.grammar.specs.Table.{Template, Item, Definition, Table}
 use Rattle.grammar.specs.Encode.{tableFields, encode}
-use Rattle.grammar.specs.Values.{Field, field, longestTable}
+use Rattle.grammar.specs.Limits.{most}
+use Rattle.grammar.specs.Values.{Field, field}
 use Rattle.grammar.specs.Fields.{Fields, end, cut, next}
 use Rattle.layout.specs.declared.Progress.{Progress}
 use Rattle.layout.specs.Layout.{isKnown, follows, isRepeated, isSpelled, hasRoom, passed, start, checkFields}
@@ -29,45 +30,45 @@ use Rattle.layout.proofs.Spelled.{Spelled, spelled-none, spelled-more}
 
 -- what is still to come has room
 pub record Room (s : Progress) (b : Built) : Type 0 where
-  pub keywords : length (b .keywords) ≤ 62 - s .keywords
-  pub outsides : length (b .outsides) ≤ 64 - s .outsides
-  pub blocks : length (b .blocks) ≤ 16 - s .blocks
-  pub alternatives : length (b .alternatives) + (alternativesOf (b .definitions) + alternativesIn (b .blocks)) ≤ 256 - s .alternatives
-  pub items : length (b .items) ≤ 12 - s .items
+  pub keywords : length (b .keywords) ≤ most .keywords - s .keywords
+  pub outsides : length (b .outsides) ≤ most .outsides - s .outsides
+  pub blocks : length (b .blocks) ≤ most .blocks - s .blocks
+  pub alternatives : length (b .alternatives) + (alternativesOf (b .definitions) + alternativesIn (b .blocks)) ≤ most .alternatives - s .alternatives
+  pub items : length (b .items) ≤ most .items - s .items
 
 module _ (s : Progress) where
   -- a keyword has room among the 62
-  pub room-1 : hasRoom 1 s ≡ true → s .keywords < 62
+  pub room-1 : hasRoom 1 s ≡ true → s .keywords < most .keywords
   unfolding hasRoom
-  room-1 h = ltb-true (s .keywords) 62 (simp and-true at h)
+  room-1 h = ltb-true (s .keywords) (most .keywords) (simp and-true at h)
 
   -- an outside name has room among the 64
-  pub room-2 : hasRoom 2 s ≡ true → s .outsides < 64
+  pub room-2 : hasRoom 2 s ≡ true → s .outsides < most .outsides
   unfolding hasRoom
-  room-2 h = ltb-true (s .outsides) 64 (simp and-true at h)
+  room-2 h = ltb-true (s .outsides) (most .outsides) (simp and-true at h)
 
-  room-3 : hasRoom 3 s ≡ true → s .blocks < 16
+  room-3 : hasRoom 3 s ≡ true → s .blocks < most .blocks
   unfolding hasRoom
-  room-3 h = ltb-true (s .blocks) 16 (simp and-true at h)
+  room-3 h = ltb-true (s .blocks) (most .blocks) (simp and-true at h)
 
-  room-5 : hasRoom 5 s ≡ true → s .alternatives < 256
+  room-5 : hasRoom 5 s ≡ true → s .alternatives < most .alternatives
   unfolding hasRoom
-  room-5 h = ltb-true (s .alternatives) 256 (simp and-true at h)
+  room-5 h = ltb-true (s .alternatives) (most .alternatives) (simp and-true at h)
 
-  room-6 : hasRoom 6 s ≡ true → s .items < 12
+  room-6 : hasRoom 6 s ≡ true → s .items < most .items
   unfolding hasRoom
-  room-6 h = ltb-true (s .items) 12 h
+  room-6 h = ltb-true (s .items) (most .items) h
 
   module _ (b : Built) where
-    room-keyword : (v : List ℕ) → s .keywords < 62 → Room (passed 1 s) b → Room s (withKeyword v b)
+    room-keyword : (v : List ℕ) → s .keywords < most .keywords → Room (passed 1 s) b → Room s (withKeyword v b)
     unfolding passed alternativesOf
     room-keyword v h r = omega arith
 
-    room-outside : (v : List ℕ) → s .outsides < 64 → Room (passed 2 s) b → Room s (withOutside v b)
+    room-outside : (v : List ℕ) → s .outsides < most .outsides → Room (passed 2 s) b → Room s (withOutside v b)
     unfolding passed alternativesOf
     room-outside v h r = omega arith
 
-    room-block : s .blocks < 16 → Room (passed 3 s) b → Room s (withBlock b)
+    room-block : s .blocks < most .blocks → Room (passed 3 s) b → Room s (withBlock b)
     unfolding passed alternativesOf alternativesIn
     room-block h r = omega arith
 
@@ -75,11 +76,11 @@ module _ (s : Progress) where
     unfolding passed alternativesOf
     room-definition d e r = omega arith
 
-    room-alternative : s .alternatives < 256 → Room (passed 5 s) b → Room s (withAlternative b)
+    room-alternative : s .alternatives < most .alternatives → Room (passed 5 s) b → Room s (withAlternative b)
     unfolding passed
     room-alternative h r = omega arith
 
-    room-item : (i : Item) → s .items < 12 → Room (passed 6 s) b → Room s (withItem i b)
+    room-item : (i : Item) → s .items < most .items → Room (passed 6 s) b → Room s (withItem i b)
     unfolding passed
     room-item i h r = omega arith
 
@@ -103,7 +104,7 @@ pub record Fits (before : List Field) (s : Progress) (b : Built) : Type 0 where
   pub begun : s .last ≡ 4 → 1 ≤ length (b .alternatives)
   pub items : Each ItemWithin (b .items)
   pub result : TemplateWithin (b .result)
-  pub root : b .root ≤ 63
+  pub root : b .root < most .nonterminals
   pub room : Room s b
 
 -- fields that are those of such parts
@@ -167,7 +168,7 @@ step-outside before s v fs l bytes p r =
 -- parts without spellings
 later : (before : List Field) {s : Progress} {b : Built} → b .keywords ≡ [] → b .outsides ≡ []
     → Each (Each DefinitionWithin) (b .blocks) → Each DefinitionWithin (b .definitions) → Each AlternativeWithin (b .alternatives)
-    → (s .last ≡ 4 → 1 ≤ length (b .alternatives)) → Each ItemWithin (b .items) → TemplateWithin (b .result) → b .root ≤ 63
+    → (s .last ≡ 4 → 1 ≤ length (b .alternatives)) → Each ItemWithin (b .items) → TemplateWithin (b .result) → b .root < most .nonterminals
     → Room s b → Fits before s b
 later before k o bs ds rest n is t r m =
     record {
@@ -296,7 +297,7 @@ sound (next at tag v fs) before s l b h =
 
 -- Accepted fields are those of a table, and the table is within the counts, spellings and ranges if it is not too long.
 pub accepted-table : (fs : Fields) → ValueBytes fs → checkFields fs [] start ≡ ok tt
-    → (t : Table) × (flat fs ≡ tableFields t) × (length (encode t) ≤ longestTable → Within t)
+    → (t : Table) × (flat fs ≡ tableFields t) × (length (encode t) ≤ most .bytes → Within t)
 unfolding left tableFields
 accepted-table fs b h =
     let r = sound fs [] start (omega arith) b h in

@@ -1,13 +1,14 @@
 -- The values of fields: a value passes 3 and 10 exactly if it is that of an item, a head, a result or a root within the ranges.
-use Prim.Native.Nat.{ℕ, zero, suc, _≤_}
+use Prim.Native.Nat.{ℕ, zero, suc, _+_, _≤_, _<_}
 use mathlib.Core.Path.{_≡_, refl, sym, ap, _∙_}
 use mathlib.Core.Bool.{Bool, true, false, not, _&&_, _||_, false≢true, and-eq-true-iff, or-false, and-true}
 use mathlib.Core.List.{List, [], _∷_}
 use native.Mathlib.Omega.{arith}
-use lib.Dec.{eqb, leb}
+use lib.Dec.{eqb, leb, ltb}
 use lib.ListN.{length, getD, drop}
-use borrow.Author.Tests.{le-leb, leb-true, eqb-true}
+use borrow.Author.Tests.{le-leb, leb-true, lt-ltb, ltb-true, eqb-true}
 use Rattle.spellings.specs.Bytes.{every}
+use Rattle.grammar.specs.Limits.{most}
 use Rattle.grammar.specs.SortTests.{isSort, isIdeSort}
 use Rattle.grammar.specs.Table.{Template, Templates, none, more, Item, keyword, ide, number, local, call, Alternative, Mode, add, extend, update, Definition}
 use Rattle.grammar.specs.Values.{templateThen, templatesThen, itemValue, modeCode, headValue}
@@ -76,19 +77,19 @@ alternative-value v e = empty-value v (sym (known-alternative v) ∙ e)
 -- ------------------------------------------------------------------ roots
 
 -- a root has one byte, a nonterminal
-pub root-value : (v : List ℕ) → isKnown 8 v ≡ true → (r : ℕ) × (v ≡ r ∷ []) × (r ≤ 63)
+pub root-value : (v : List ℕ) → isKnown 8 v ≡ true → (r : ℕ) × (v ≡ r ∷ []) × (r < most .nonterminals)
 unfolding isRoot
 root-value v e = by v (sym (known-root v) ∙ e)
   where
-    by : (w : List ℕ) → isRoot w ≡ true → (r : ℕ) × (w ≡ r ∷ []) × (r ≤ 63)
+    by : (w : List ℕ) → isRoot w ≡ true → (r : ℕ) × (w ≡ r ∷ []) × (r < most .nonterminals)
     by [] h = absurd (false≢true h)
-    by (r ∷ []) h = (r, refl, leb-true r 63 h)
+    by (r ∷ []) h = (r, refl, ltb-true r (most .nonterminals) h)
     by (r ∷ b ∷ bs) h = absurd (omega (arith, eqb-true (length (r ∷ b ∷ bs)) 1 (and-left _ _ h)))
 
 -- a nonterminal is the value of a root
-pub root-known : (r : ℕ) → r ≤ 63 → isKnown 8 (r ∷ []) ≡ true
+pub root-known : (r : ℕ) → r < most .nonterminals → isKnown 8 (r ∷ []) ≡ true
 unfolding isRoot
-root-known r h = known-root (r ∷ []) ∙ le-leb r 63 h
+root-known r h = known-root (r ∷ []) ∙ lt-ltb r (most .nonterminals) h
 
 -- ------------------------------------------------------------------ heads
 
@@ -130,17 +131,17 @@ head-value v e rest w l = by v (sym (known-head v) ∙ e)
     by (n ∷ m ∷ []) h = absurd (false≢true h)
     by (n ∷ m ∷ r ∷ ps) h =
         let long : Bool = leb 3 (length (n ∷ m ∷ r ∷ ps)) in
-        let brief : Bool = leb (length (n ∷ m ∷ r ∷ ps)) 7 in
-        let sorts = and-right (long && brief && leb n 63 && leb m 2) (every isSort (r ∷ ps)) h in
-        let modes = and-left (long && brief && leb n 63 && leb m 2) (every isSort (r ∷ ps)) h in
-        let numbers = and-left (long && brief && leb n 63) (leb m 2) modes in
-        let sizes = and-left (long && brief) (leb n 63) numbers in (
-          cc (mode-value m (leb-true m 2 (and-right (long && brief && leb n 63) (leb m 2) modes))),
+        let brief : Bool = leb (length (n ∷ m ∷ r ∷ ps)) (3 + most .parameters) in
+        let sorts = and-right (long && brief && ltb n (most .nonterminals) && leb m 2) (every isSort (r ∷ ps)) h in
+        let modes = and-left (long && brief && ltb n (most .nonterminals) && leb m 2) (every isSort (r ∷ ps)) h in
+        let numbers = and-left (long && brief && ltb n (most .nonterminals)) (leb m 2) modes in
+        let sizes = and-left (long && brief) (ltb n (most .nonterminals)) numbers in (
+          cc (mode-value m (leb-true m 2 (and-right (long && brief && ltb n (most .nonterminals)) (leb m 2) modes))),
           record {
-            nonterminal = leb-true n 63 (and-right (long && brief) (leb n 63) numbers);
+            nonterminal = ltb-true n (most .nonterminals) (and-right (long && brief) (ltb n (most .nonterminals)) numbers);
             result = leb-true r 6 (and-left (isSort r) (every isSort ps) sorts);
             params = sorts-each ps (and-right (isSort r) (every isSort ps) sorts);
-            paramCount = omega (arith, leb-true (length (n ∷ m ∷ r ∷ ps)) 7 (and-right long brief sizes));
+            paramCount = omega (arith, leb-true (length (n ∷ m ∷ r ∷ ps)) (3 + most .parameters) (and-right long brief sizes));
             alternatives = w;
             alternativeCount = l;
           },
@@ -153,8 +154,8 @@ head-known {d} w =
     known-head (headValue d)
     ∙ rw (
       le-leb 3 (length (headValue d)) (omega arith),
-      le-leb (length (headValue d)) 7 (omega (arith, w .paramCount)),
-      le-leb (d .nonterminal) 63 (w .nonterminal),
+      le-leb (length (headValue d)) (3 + most .parameters) (omega (arith, w .paramCount)),
+      lt-ltb (d .nonterminal) (most .nonterminals) (w .nonterminal),
       le-leb (modeCode (d .mode)) 2 (mode-low (d .mode)),
       le-leb (d .signature .result) 6 (w .result),
     )
@@ -228,7 +229,7 @@ module _ (v : List ℕ) where
   plainTest kind = eqb (getD v 0 0) kind && eqb (length v) 2 && eqb (getD v 1 0) 0
 
   abbrev callTest : Bool
-  callTest = eqb (getD v 0 0) 4 && leb 2 (length v) && leb (getD v 1 0) 63
+  callTest = eqb (getD v 0 0) 4 && leb 2 (length v) && ltb (getD v 1 0) (most .nonterminals)
 
   abbrev argumentsTest : Bool
   argumentsTest = not (eqb (getD v 0 0) 4) || isTemplates (templatesOf (drop 2 v))
@@ -259,12 +260,12 @@ module _ (v : List ℕ) (b : Bytes v) where
   a-call : callTest v ≡ true → argumentsTest v ≡ true → IsItem v
   unfolding itemValue
   a-call h w =
-      let tests = and-three (eqb (getD v 0 0) 4) (leb 2 (length v)) (leb (getD v 1 0) 63) h in
+      let tests = and-three (eqb (getD v 0 0) 4) (leb 2 (length v)) (ltb (getD v 1 0) (most .nonterminals)) h in
       let arguments =
       some-templates (drop 2 v) (templatesOf (drop 2 v)) (forms (drop 2 v) (dropped-bytes 2 v b)) (rw (tests .0) at w) in (
         call (getD v 1 0) (arguments .0),
         cc (two v (tests .1), eqb-true (getD v 0 0) 4 (tests .0), arguments .1),
-        call-within (leb-true (getD v 1 0) 63 (tests .2)) (arguments .2),
+        call-within (ltb-true (getD v 1 0) (most .nonterminals) (tests .2)) (arguments .2),
       )
 
   -- a known and whole item is an item's bytes
@@ -288,7 +289,7 @@ item-known number-within = known-item (2 ∷ 0 ∷ [])
 item-known local-within = known-item (3 ∷ 0 ∷ [])
 item-known (call-within {n} {ts} h w) =
     known-item (4 ∷ n ∷ templatesThen ts [])
-    ∙ rw (le-leb 2 (length (4 ∷ n ∷ templatesThen ts [])) (omega arith), le-leb n 63 h) refl
+    ∙ rw (le-leb 2 (length (4 ∷ n ∷ templatesThen ts [])) (omega arith), lt-ltb n (most .nonterminals) h) refl
 
 -- they are whole
 pub item-whole : {i : Item} → ItemWithin i → isWhole 6 (itemValue i) ≡ true

@@ -91,19 +91,7 @@ putNothing v b = built (b .keywords) (b .outsides) (b .blocks) (b .root) (b .def
 -- a field's part, by its tag
 unfoldable pub put : ℕ → List ℕ → Built → Built
 put tag =
-    getD
-    (putNothing
-    ∷ putKeyword
-    ∷ putOutside
-    ∷ putBlock
-    ∷ putDefinition
-    ∷ putAlternative
-    ∷ putItem
-    ∷ putResult
-    ∷ putRoot
-    ∷ [])
-    tag
-    putNothing
+    getD (putNothing ∷ putKeyword ∷ putOutside ∷ putBlock ∷ putDefinition ∷ putAlternative ∷ putItem ∷ putResult ∷ putRoot ∷ []) tag putNothing
 
 unfoldable pub build : Fields → Built
 build (end at) = nothing

@@ -1,6 +1,6 @@
 -- How a repeated spelling is found: the spellings of one tag are entered in a room of numbers, and those whose hash falls into one of 64
 -- buckets are linked, the newest first. Nobody needs this file to believe `expand`.
-use Prim.Native.Nat.{ℕ, suc, _+_, _*_, _%_, _<_, _≤_}
+use Prim.Native.Nat.{ℕ, suc, _+_, _*_, _/_, _%_, _<_, _≤_}
 use mathlib.Core.Path.{_≡_}
 use mathlib.Core.Bool.{Bool, true, false, _||_}
 use mathlib.Core.List.{List, [], _∷_}
@@ -24,13 +24,37 @@ isAmong v (w ∷ ws) = same w v || isAmong v ws
 
 -- ------------------------------------------------------------------ the hash
 
--- the hash of a spelling that follows what has the hash h
+-- four bytes at the front as one number, the first lowest; those that are not there are 0
+abbrev pub packed : List ℕ → ℕ
+packed v = getD v 0 0 + 256 * getD v 1 0 + 65536 * getD v 2 0 + 16777216 * getD v 3 0
+
+-- a number that is so packed
+pub record Packs (v : List ℕ) (r : ℕ) : Type 0 where
+  pub number : r ≡ packed v
+  pub small : r < 4294967296
+
+-- the hash of what has the hash h, with one such number behind it
+abbrev pub mixed : ℕ → ℕ → ℕ
+mixed h g = (h + g) * 1640531527 % 4294967296
+
+-- the hash of bytes that follow what has the hash h, by fours and then those that are left
 unfoldable pub hashFrom : ℕ → List ℕ → ℕ
-hashFrom h [] = h
-hashFrom h (b ∷ bs) = hashFrom ((h * 16777619 + b) % 4294967296) bs
+hashFrom h [] = mixed h (packed [])
+hashFrom h (a ∷ []) = mixed h (packed (a ∷ []))
+hashFrom h (a ∷ b ∷ []) = mixed h (packed (a ∷ b ∷ []))
+hashFrom h (a ∷ b ∷ c ∷ []) = mixed h (packed (a ∷ b ∷ c ∷ []))
+hashFrom h (a ∷ b ∷ c ∷ d ∷ bs) = hashFrom (mixed h (packed (a ∷ b ∷ c ∷ d ∷ []))) bs
 
 unfoldable pub hashOf : List ℕ → ℕ
 hashOf v = hashFrom 0 v
+
+-- the bucket of a hash: its highest six bits, which all bytes move
+abbrev pub bucketOf : ℕ → ℕ
+bucketOf h = h / 67108864 % 64
+
+-- h is the hash of a keyword or an outside name; of other fields none is asked
+pub record Hashed (tag : ℕ) (v : List ℕ) (h : ℕ) : Type 0 where
+  pub spelled : tag ≤ 2 → h ≡ hashOf v
 
 -- ------------------------------------------------------------------ the room
 
@@ -48,7 +72,7 @@ pub record Entered (table room : List ℕ) (n : ℕ) (w : List ℕ) (p : ℕ) : 
 -- p leads through those of some spellings, the newest first, that fall into a bucket
 pub data Leads (table room : List ℕ) (bucket : ℕ) : List (List ℕ) → ℕ → Type 0 where
   leads-none : Leads table room bucket [] 0
-  leads-past : {w : List ℕ} {ws : List (List ℕ)} {p : ℕ} → (hashOf w % 64 ≡ bucket → ⊥) → Leads table room bucket ws p → Leads table room bucket (w ∷ ws) p
+  leads-past : {w : List ℕ} {ws : List (List ℕ)} {p : ℕ} → (bucketOf (hashOf w) ≡ bucket → ⊥) → Leads table room bucket ws p → Leads table room bucket (w ∷ ws) p
   leads-here :
       {w : List ℕ} {ws : List (List ℕ)} {p : ℕ} → Entered table room (suc (length ws)) w p → Leads table room bucket ws p
       → Leads table room bucket (w ∷ ws) (suc (length ws))
@@ -62,10 +86,22 @@ pub record Falling (room : List ℕ) : Type 0 where
   pub heads : (b : ℕ) → b < 64 → getD room b 0 ≤ 64
   pub links : (n : ℕ) → 0 < n → n ≤ 64 → getD room (entry n) 0 < n
 
+-- a room in which a spelling may be looked for by its hash
+pub record Searchable (room v : List ℕ) (h : ℕ) : Type 0 where
+  pub falling : Falling room
+  pub hashed : h ≡ hashOf v
+
 -- the room with one spelling more
 abbrev pub roomWith : List ℕ → ℕ → ℕ → ℕ → ℕ → List ℕ
 roomWith room n h from size =
-    set (set (set (set (set room (entry n) (getD room (h % 64) 0)) (entry n + 1) h) (entry n + 2) from) (entry n + 3) size) (h % 64) n
+    set (set (set (set (set room (entry n) (getD room (bucketOf h) 0)) (entry n + 1) h) (entry n + 2) from) (entry n + 3) size) (bucketOf h) n
+
+-- a spelling that may be entered, with its hash
+pub record Enterable (spelled : Bool) (count from : ℕ) (v : List ℕ) (h : ℕ) : Type 0 where
+  pub few : spelled ≡ true → count < 64
+  pub hashed : spelled ≡ true → h ≡ hashOf v
+  pub near : from ≤ 65536
+  pub short : length v ≤ 65536
 
 -- the room after a spelling, if there is one to enter behind `count` others
 abbrev pub entered : List ℕ → Bool → ℕ → ℕ → List ℕ → List ℕ
@@ -83,3 +119,14 @@ pub record Has (table : List ℕ) (tag : ℕ) (before : List Field) (count : ℕ
 pub record Remembered (table : List ℕ) (at : ℕ) (s : Progress) (K N : List ℕ) : Type 0 where
   pub keywords : Has table 1 (fieldsBefore table at) (s .keywords) K
   pub outsides : Has table 2 (fieldsBefore table at) (s .outsides) N
+
+-- they have those before a field of a tag and a value, of which h is the hash
+pub record FieldLent (table : List ℕ) (at tag : ℕ) (v : List ℕ) (h : ℕ) (s : Progress) (K N : List ℕ) : Type 0 where
+  pub remembered : Remembered table at s K N
+  pub hashed : Hashed tag v h
+
+-- the same for its spelling alone
+pub record SpellingLent (tag : ℕ) (v : List ℕ) (h : ℕ) (K N : List ℕ) : Type 0 where
+  pub keywords : Falling K
+  pub outsides : Falling N
+  pub hashed : Hashed tag v h

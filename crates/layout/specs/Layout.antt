@@ -8,7 +8,8 @@ use Rattle.answers.specs.Refusals.{refusal}
 use Rattle.answers.specs.Checked.{Checked, ok, bad, _>>=_, _>>_, need}
 use Rattle.spellings.specs.Bytes.{isWord, isKeyword, same, every}
 use Rattle.grammar.specs.SortTests.{isSort, isIdeSort}
-use Rattle.grammar.specs.Values.{Field, field, longestTable}
+use Rattle.grammar.specs.Limits.{most}
+use Rattle.grammar.specs.Values.{Field, field}
 use Rattle.grammar.specs.Fields.{Fields, end, cut, next, fieldsOf}
 use Rattle.layout.specs.declared.Progress.{Progress}
 use Rattle.layout.specs.Prefix.{templatesOf, isTemplates, isTemplate}
@@ -18,9 +19,12 @@ use Rattle.layout.specs.Prefix.{templatesOf, isTemplates, isTemplate}
 abbrev pub isEmpty : List ℕ → Bool
 isEmpty v = eqb (length v) 0
 
--- a definition's head: nonterminal, mode, result sort, 0 to 4 parameter sorts
+abbrev pub isNonterminal : ℕ → Bool
+isNonterminal n = ltb n (most .nonterminals)
+
+-- a definition's head: nonterminal, mode, result sort, parameter sorts
 unfoldable pub isHead : List ℕ → Bool
-isHead v = leb 3 (length v) && leb (length v) 7 && leb (getD v 0 0) 63 && leb (getD v 1 0) 2 && every isSort (drop 2 v)
+isHead v = leb 3 (length v) && leb (length v) (3 + most .parameters) && isNonterminal (getD v 0 0) && leb (getD v 1 0) 2 && every isSort (drop 2 v)
 
 -- an item's kind and operand; only a call has more bytes
 unfoldable pub isItem : List ℕ → Bool
@@ -29,10 +33,10 @@ isItem v =
     || (eqb (getD v 0 0) 1 && eqb (length v) 2 && isIdeSort (getD v 1 0))
     || (eqb (getD v 0 0) 2 && eqb (length v) 2 && eqb (getD v 1 0) 0)
     || (eqb (getD v 0 0) 3 && eqb (length v) 2 && eqb (getD v 1 0) 0)
-    || (eqb (getD v 0 0) 4 && leb 2 (length v) && leb (getD v 1 0) 63)
+    || (eqb (getD v 0 0) 4 && leb 2 (length v) && isNonterminal (getD v 1 0))
 
 unfoldable pub isRoot : List ℕ → Bool
-isRoot v = eqb (length v) 1 && leb (getD v 0 0) 63
+isRoot v = eqb (length v) 1 && isNonterminal (getD v 0 0)
 
 unfoldable pub isKnown : ℕ → List ℕ → Bool
 isKnown tag v =
@@ -76,11 +80,11 @@ isSpelled tag v before =
 -- there is room for one more field of this tag
 unfoldable pub hasRoom : ℕ → Progress → Bool
 hasRoom tag s =
-    (not (eqb tag 1) || ltb (s .keywords) 62)
-    && (not (eqb tag 2) || ltb (s .outsides) 64)
-    && (not (eqb tag 3) || ltb (s .blocks) 16)
-    && (not (eqb tag 5) || ltb (s .alternatives) 256)
-    && (not (eqb tag 6) || ltb (s .items) 12)
+    (not (eqb tag 1) || ltb (s .keywords) (most .keywords))
+    && (not (eqb tag 2) || ltb (s .outsides) (most .outsides))
+    && (not (eqb tag 3) || ltb (s .blocks) (most .blocks))
+    && (not (eqb tag 5) || ltb (s .alternatives) (most .alternatives))
+    && (not (eqb tag 6) || ltb (s .items) (most .items))
 
 abbrev pub oneIf : Bool → ℕ
 oneIf true = 1
@@ -130,4 +134,4 @@ start = record { last = 0; keywords = 0; outsides = 0; blocks = 0; alternatives 
 
 unfoldable pub layout : List ℕ → Checked (Unit {0})
 layout bs =
-    elim (leb (length bs) longestTable) [ false ↦ bad (refusal 1 0 0 0) | true ↦ checkFields (fieldsOf bs) [] start ]
+    elim (leb (length bs) (most .bytes)) [ false ↦ bad (refusal 1 0 0 0) | true ↦ checkFields (fieldsOf bs) [] start ]

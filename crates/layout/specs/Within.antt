@@ -9,9 +9,7 @@ use Rattle.grammar.specs.Sorts.{arity}
 use Rattle.grammar.specs.Table.{Template, Templates, variable, outside, outsideLabel, make, none, more, Item, keyword, ide, number, local, call}
 use Rattle.grammar.specs.Table.{Alternative, Definition, Table}
 use Rattle.grammar.specs.Encode.{encode}
-use Rattle.grammar.specs.Values.{longestTable}
-
--- ------------------------------------------------------------------ lists
+use Rattle.grammar.specs.Limits.{most}
 
 -- every member has the property
 pub data Each {A : Type 0} (P : A → Type 0) : List A → Type 0 where
@@ -43,26 +41,26 @@ mutual
     none-within : TemplatesWithin none
     more-within : {t : Template} {ts : Templates} → TemplateWithin t → TemplatesWithin ts → TemplatesWithin (more t ts)
 
--- 06: a keyword's number is a byte, an identifier's sort 1 to 3, a nonterminal 0 to 63
+-- 06: a keyword's number is a byte, an identifier's sort 1 to 3, a nonterminal its number
 pub data ItemWithin : Item → Type 0 where
   keyword-within : {k : ℕ} → k < 256 → ItemWithin (keyword k)
   ide-within : {s : ℕ} → 1 ≤ s → s ≤ 3 → ItemWithin (ide s)
   number-within : ItemWithin number
   local-within : ItemWithin local
-  call-within : {n : ℕ} {ts : Templates} → n ≤ 63 → TemplatesWithin ts → ItemWithin (call n ts)
+  call-within : {n : ℕ} {ts : Templates} → n < most .nonterminals → TemplatesWithin ts → ItemWithin (call n ts)
 
--- 05 to 07: at most 12 items
+-- 05 to 07
 pub record AlternativeWithin (a : Alternative) : Type 0 where
   pub items : Each ItemWithin (a .items)
-  pub itemCount : length (a .items) ≤ 12
+  pub itemCount : length (a .items) ≤ most .items
   pub result : TemplateWithin (a .result)
 
--- 04: nonterminal 0 to 63, sorts 0 to 6, at most 4 parameters, one alternative or more
+-- 04: sorts 0 to 6, one alternative or more
 pub record DefinitionWithin (d : Definition) : Type 0 where
-  pub nonterminal : d .nonterminal ≤ 63
+  pub nonterminal : d .nonterminal < most .nonterminals
   pub result : d .signature .result ≤ 6
   pub params : Each (λ s. s ≤ 6) (d .signature .params)
-  pub paramCount : length (d .signature .params) ≤ 4
+  pub paramCount : length (d .signature .params) ≤ most .parameters
   pub alternatives : Each AlternativeWithin (d .alternatives)
   pub alternativeCount : 1 ≤ length (d .alternatives)
 
@@ -77,17 +75,16 @@ unfoldable pub alternativesIn : List (List Definition) → ℕ
 alternativesIn [] = 0
 alternativesIn (b ∷ bs) = alternativesOf b + alternativesIn bs
 
--- The counts of "Phrase table", the spellings under each of 01 and 02, the ranges of every part, and the length of the whole,
--- by which the length of every value fits its two bytes.
+-- The spellings under each of 01 and 02, the counts, the ranges of every part, and the length of the whole, which bounds that of every value.
 pub record Within (t : Table) : Type 0 where
   pub keywords : Each (λ k. isKeyword k ≡ true) (t .keywords)
   pub keywordsDiffer : Different (t .keywords)
-  pub keywordCount : length (t .keywords) ≤ 62
+  pub keywordCount : length (t .keywords) ≤ most .keywords
   pub outsides : Each (λ o. isWord o ≡ true) (t .outsides)
   pub outsidesDiffer : Different (t .outsides)
-  pub outsideCount : length (t .outsides) ≤ 64
+  pub outsideCount : length (t .outsides) ≤ most .outsides
   pub blocks : Each (Each DefinitionWithin) (t .blocks)
-  pub blockCount : length (t .blocks) ≤ 16
-  pub alternativeCount : alternativesIn (t .blocks) ≤ 256
-  pub root : t .root ≤ 63
-  pub size : length (encode t) ≤ longestTable
+  pub blockCount : length (t .blocks) ≤ most .blocks
+  pub alternativeCount : alternativesIn (t .blocks) ≤ most .alternatives
+  pub root : t .root < most .nonterminals
+  pub size : length (encode t) ≤ most .bytes

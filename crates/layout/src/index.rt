@@ -1,26 +1,54 @@
 // The spellings of one tag by their hash, so that a repeated one is found without comparing it with all of them.
+use grammar::reader::byte;
 use grammar::reader::part;
 use spellings::equal;
+use spellings::wide_byte;
 use spellings::wide_number;
 ghost use Prim.Native.Nat.{ℕ, _<_, _≤_};
 ghost use mathlib.Core.Path.{_≡_};
-ghost use mathlib.Core.Bool.{true, false};
 ghost use mathlib.Core.List.{List};
-ghost use lib.ListN.{length};
 ghost use Rattle.spellings.specs.Bytes.{same};
-ghost use Rattle.layout.specs.Index.{isAmong, hashOf, Entered, Indexed, Falling, entered};
+ghost use Rattle.layout.specs.Index.{isAmong, Packs, mixed, hashOf, Hashed, Entered, Indexed, Searchable, Enterable, entered};
 
-// The hash of a spelling.
+// Four bytes at the front as one number, the first lowest; those that are not there are 0.
+fn packed(v: &[u8]) -> usize
+    ensures { λ r. ⌜ Packs (now (v .entry)) r ⌝ }
+{
+    wide_byte(byte(v, 0))
+        + 256 * wide_byte(byte(v, 1))
+        + 65_536 * wide_byte(byte(v, 2))
+        + 16_777_216 * wide_byte(byte(v, 3))
+}
+
+// A hash with one such number behind it.
+fn mixed(h: usize, g: usize) -> usize
+    requires { ⌜ (h < 4294967296) × (g < 4294967296) ⌝ }
+    ensures { λ r. ⌜ r ≡ mixed h g ⌝ }
+{
+    (h + g) * 1_640_531_527 % 4_294_967_296
+}
+
+// The hash of a spelling, four bytes at a time.
 fn hash(v: &[u8]) -> usize
     ensures { λ r. ⌜ r ≡ hashOf (now (v .entry)) ⌝ }
 {
     let mut h: usize = 0;
     let mut i: usize = 0;
-    while i < v.len() {
-        h = (h * 16_777_619 + v[i] as usize) % 4_294_967_296;
-        i += 1;
+    while 4 <= v.len() - i {
+        h = mixed(h, packed(&v[i..]));
+        i += 4;
     }
-    h
+    mixed(h, packed(&v[i..]))
+}
+
+// The hash of a keyword or an outside name; other fields need none.
+pub fn spelling_hash(tag: u8, v: &[u8]) -> usize
+    ensures { λ r. ⌜ Hashed tag (now (v .entry)) r ⌝ }
+{
+    if 2 < tag {
+        return 0;
+    }
+    hash(v)
 }
 
 // Whether the entry of a number is the spelling v, which has the hash h.
@@ -40,12 +68,11 @@ fn is_entry(room: &[u32; 320], table: &[u8], n: usize, h: usize, v: &[u8]) -> bo
 }
 
 // Whether a spelling is among those that a room has. Only those of its bucket are looked at, and only those of its hash compared.
-pub fn is_among(room: &[u32; 320], table: &[u8], v: &[u8]) -> bool
-    requires { ⌜ Falling (now room) ⌝ }
+pub fn is_among(room: &[u32; 320], table: &[u8], v: &[u8], h: usize) -> bool
+    requires { ⌜ Searchable (now room) (now v) h ⌝ }
     ensures { λ r. ⌜ ((words : List (List ℕ)) → Indexed (now (table .entry)) (now (room .entry)) words → r ≡ isAmong (now (v .entry)) words) ⌝ }
 {
-    let h = hash(v);
-    let mut p = wide_number(room[h % 64]);
+    let mut p = wide_number(room[h / 67_108_864 % 64]);
     while 0 < p {
         let here = is_entry(room, table, p, h, v);
         if here {
@@ -56,16 +83,15 @@ pub fn is_among(room: &[u32; 320], table: &[u8], v: &[u8]) -> bool
     false
 }
 
-// Enters a spelling that stands at an offset of the table, behind `count` others, if there is one to enter.
-pub fn enter(room: &mut [u32; 320], spelled: bool, count: usize, from: usize, v: &[u8])
-    requires { ⌜ ((spelled ≡ true → count < 64) × (from ≤ 65536) × (length (now v) ≤ 65536)) ⌝ }
+// Enters a spelling that stands at an offset of the table, behind `count` others, with its hash, if there is one to enter.
+pub fn enter(room: &mut [u32; 320], spelled: bool, count: usize, from: usize, v: &[u8], h: usize)
+    requires { ⌜ Enterable spelled count from (now v) h ⌝ }
     ensures { λ _. ⌜ now (room .exit) ≡ entered (now (room .entry)) spelled count from (now (v .entry)) ⌝ }
 {
     if !spelled {
         return;
     }
-    let h = hash(v);
-    let bucket = h % 64;
+    let bucket = h / 67_108_864 % 64;
     let at = 64 + 4 * count;
     room[at] = room[bucket];
     room[at + 1] = h as u32;

@@ -6,11 +6,20 @@ use answers::Verdict;
 use answers::refuse;
 use grammar::Front;
 use grammar::front_at;
+use grammar::limits::LONGEST_TABLE;
+use grammar::limits::MOST_ALTERNATIVES;
+use grammar::limits::MOST_BLOCKS;
+use grammar::limits::MOST_ITEMS;
+use grammar::limits::MOST_KEYWORDS;
+use grammar::limits::MOST_OUTSIDES;
+use grammar::limits::MOST_PARAMETERS;
+use grammar::limits::NONTERMINALS;
 use grammar::reader::arity_of;
 use grammar::reader::byte;
 use grammar::sorts::Sort;
 use index::enter;
 use index::is_among;
+use index::spelling_hash;
 use spellings::is_keyword_spelling;
 use spellings::is_word;
 ghost use mathlib.Core.Path.{_≡_};
@@ -27,7 +36,7 @@ ghost use Rattle.grammar.specs.SortTests.{isSort};
 ghost use Rattle.layout.specs.Prefix.{templatesOf};
 ghost use Rattle.layout.specs.Layout.{isHead, isItem, isRoot, isKnown, follows, isSpelled, hasRoom, oneIf, passed, isWhole, checkField, start, layout};
 ghost use Rattle.layout.specs.Before.{fieldsBefore, checking};
-ghost use Rattle.layout.specs.Index.{spelledBy, Falling, Indexed, Remembered};
+ghost use Rattle.layout.specs.Index.{spelledBy, Indexed, SpellingLent, FieldLent};
 ghost use Rattle.layout.specs.Due.{headSize, arguments, isWholly};
 
 // What has been read of a table: the last field's tag (0 at the start), the keywords, outside names, blocks and alternatives so
@@ -64,11 +73,17 @@ fn are_sorts(v: &[u8], from: usize) -> bool
     true
 }
 
-// A definition's head: nonterminal, mode, result sort, 0 to 4 parameter sorts.
+// The most bytes of a definition's head.
+const LONGEST_HEAD: usize = 3 + MOST_PARAMETERS;
+
+// A definition's head: nonterminal, mode, result sort, parameter sorts.
 fn is_head(v: &[u8]) -> bool
     ensures { λ r. ⌜ r ≡ isHead (now (v .entry)) ⌝ }
 {
-    let sized = (3 <= v.len()) & (v.len() <= 7) & (byte(v, 0) <= 63) & (byte(v, 1) <= 2);
+    let sized = (3 <= v.len())
+        & (v.len() <= LONGEST_HEAD)
+        & (byte(v, 0) < NONTERMINALS)
+        & (byte(v, 1) <= 2);
     if !sized {
         return false;
     }
@@ -86,14 +101,14 @@ fn is_item(v: &[u8]) -> bool
         | ((kind == 1) & pair & Sort::is_ide_code(operand))
         | ((kind == 2) & pair & (operand == 0))
         | ((kind == 3) & pair & (operand == 0))
-        | ((kind == 4) & (2 <= v.len()) & (operand <= 63))
+        | ((kind == 4) & (2 <= v.len()) & (operand < NONTERMINALS))
 }
 
 // The root: a nonterminal.
 fn is_root(v: &[u8]) -> bool
     ensures { λ r. ⌜ r ≡ isRoot (now (v .entry)) ⌝ }
 {
-    (v.len() == 1) & (byte(v, 0) <= 63)
+    (v.len() == 1) & (byte(v, 0) < NONTERMINALS)
 }
 
 // A known tag with a length and a value that it may have.
@@ -132,16 +147,23 @@ fn may_follow(tag: u8, last: u8) -> bool
 // ---------------------------------------------------------------- 5: spellings
 
 // A keyword or an outside name is spelled as it must be and stands once under its tag; the rooms have those before it.
-fn is_spelled(keywords: &[u32; 320], outsides: &[u32; 320], table: &[u8], tag: u8, v: &[u8]) -> bool
-    requires { ⌜ Falling (now keywords) × Falling (now outsides) ⌝ }
+fn is_spelled(
+    keywords: &[u32; 320],
+    outsides: &[u32; 320],
+    table: &[u8],
+    tag: u8,
+    v: &[u8],
+    h: usize,
+) -> bool
+    requires { ⌜ SpellingLent tag (now v) h (now keywords) (now outsides) ⌝ }
     ensures { λ r. ⌜ ((before : List Field) → Indexed (now (table .entry)) (now (keywords .entry)) (spelledBy 1 before)
         → Indexed (now (table .entry)) (now (outsides .entry)) (spelledBy 2 before) → r ≡ isSpelled tag (now (v .entry)) before) ⌝ }
 {
     if tag == 1 {
-        return is_keyword_spelling(v) & !is_among(keywords, table, v);
+        return is_keyword_spelling(v) & !is_among(keywords, table, v, h);
     }
     if tag == 2 {
-        return is_word(v) & !is_among(outsides, table, v);
+        return is_word(v) & !is_among(outsides, table, v, h);
     }
     true
 }
@@ -152,11 +174,11 @@ fn is_spelled(keywords: &[u32; 320], outsides: &[u32; 320], table: &[u8], tag: u
 fn has_room(tag: u8, s: Progress) -> bool
     ensures { λ r. ⌜ r ≡ hasRoom tag s ⌝ }
 {
-    (!(tag == 1) | (s.keywords < 62))
-        & (!(tag == 2) | (s.outsides < 64))
-        & (!(tag == 3) | (s.blocks < 16))
-        & (!(tag == 5) | (s.alternatives < 256))
-        & (!(tag == 6) | (s.items < 12))
+    (!(tag == 1) | (s.keywords < MOST_KEYWORDS))
+        & (!(tag == 2) | (s.outsides < MOST_OUTSIDES))
+        & (!(tag == 3) | (s.blocks < MOST_BLOCKS))
+        & (!(tag == 5) | (s.alternatives < MOST_ALTERNATIVES))
+        & (!(tag == 6) | (s.items < MOST_ITEMS))
 }
 
 fn one_if(b: bool) -> u16
@@ -265,7 +287,8 @@ fn stopped(number: u8, at: usize) -> Checking
     Checking::Stopped(refuse(number, at as u64, 0, 0))
 }
 
-// One field of a table at an offset, after those that begin before it, whose spellings the rooms have.
+// One field of a table at an offset, after those that begin before it, whose spellings the rooms have. A keyword or an outside name has
+// the hash h.
 fn check_field(
     keywords: &[u32; 320],
     outsides: &[u32; 320],
@@ -273,9 +296,10 @@ fn check_field(
     at: usize,
     tag: u8,
     v: &[u8],
+    h: usize,
     s: Progress,
 ) -> Checking
-    requires { ⌜ Remembered (now table) at s (now keywords) (now outsides) ⌝ }
+    requires { ⌜ FieldLent (now table) at tag (now v) h s (now keywords) (now outsides) ⌝ }
     ensures { λ r. ⌜ r ≡ checking (checkField (fieldsBefore (now (table .entry)) at) at tag (now (v .entry)) s) ⌝ }
 {
     let known = is_known(tag, v);
@@ -286,7 +310,7 @@ fn check_field(
     if !ordered {
         return stopped(4, at);
     }
-    let spelled = is_spelled(keywords, outsides, table, tag, v);
+    let spelled = is_spelled(keywords, outsides, table, tag, v, h);
     if !spelled {
         return stopped(5, at);
     }
@@ -335,7 +359,7 @@ fn nothing_read() -> Progress
 pub fn check_layout(table: &[u8]) -> Verdict
     ensures { λ r. ⌜ r ≡ verdict (layout (now (table .entry))) ⌝ }
 {
-    if 16_384 < table.len() {
+    if LONGEST_TABLE < table.len() {
         return refused(1, 0);
     }
     let mut keywords = [0u32; 320];
@@ -355,14 +379,15 @@ pub fn check_layout(table: &[u8]) -> Verdict
                 let from = at + 3;
                 let to = from + size;
                 let v = &table[from..to];
-                let checked = check_field(&keywords, &outsides, table, at, tag, v, s);
+                let h = spelling_hash(tag, v);
+                let checked = check_field(&keywords, &outsides, table, at, tag, v, h, s);
                 match checked {
                     Checking::Stopped(r) => {
                         return Verdict::Refused(r);
                     }
                     Checking::Further(t) => {
-                        enter(&mut keywords, tag == 1, s.keywords as usize, from, v);
-                        enter(&mut outsides, tag == 2, s.outsides as usize, from, v);
+                        enter(&mut keywords, tag == 1, s.keywords as usize, from, v, h);
+                        enter(&mut outsides, tag == 2, s.outsides as usize, from, v, h);
                         s = t;
                         at = to;
                     }

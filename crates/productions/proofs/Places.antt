@@ -7,10 +7,11 @@ use mathlib.Core.List.{List, [], _∷_, _++_, map}
 use native.Mathlib.Omega.{arith}
 use lib.Dec.{eqb, leb}
 use lib.ListN.{length, getD, take, drop, length-append, length-take, length-drop, drop-of-length-le}
-use borrow.Author.Tests.{ne-eqb, eqb-true, leb-true}
+use borrow.Author.Tests.{ne-eqb, eqb-true, ltb-true}
 use Rattle.spellings.specs.Bytes.{every}
 use Rattle.spellings.proofs.BytesLaws.{by-test}
 use Rattle.answers.specs.Checked.{ok}
+use Rattle.grammar.specs.Limits.{most}
 use Rattle.grammar.specs.Values.{Field, field}
 use Rattle.grammar.specs.Fields.{Fields, end, cut, next, fieldsOf}
 use Rattle.grammar.specs.declared.Front.{Front}
@@ -21,7 +22,7 @@ use Rattle.grammar.specs.SortTests.{isSort, isIdeSort}
 use Rattle.grammar.specs.Table.{Mode, add, extend, update}
 use Rattle.grammar.proofs.LookupLaws.{fields-at, fields-of, front-inside, opened}
 use Rattle.layout.specs.Prefix.{templatesOf, isTemplates}
-use Rattle.layout.specs.Layout.{isHead, isItem, isKnown, isWhole, passed, start, checkFields, layout}
+use Rattle.layout.specs.Layout.{isNonterminal, isHead, isItem, isKnown, isWhole, passed, start, checkFields, layout}
 use Rattle.layout.specs.declared.Progress.{Progress}
 use Rattle.layout.specs.Decode.{modeOf}
 use Rattle.layout.specs.Within.{Each, each-none, each-more}
@@ -155,7 +156,7 @@ two-bytes : (v : List ℕ) → isItem v ≡ true → eqb (getD v 0 0) 4 ≡ fals
 unfolding isItem
 two-bytes v =
     all-but-last (eqb (getD v 0 0) 0) (eqb (getD v 0 0) 1) (eqb (getD v 0 0) 2) (eqb (getD v 0 0) 3) (eqb (getD v 0 0) 4) (eqb (length v) 2)
-    (isIdeSort (getD v 1 0)) (eqb (getD v 1 0) 0) (eqb (getD v 1 0) 0) (leb 2 (length v)) (leb (getD v 1 0) 63)
+    (isIdeSort (getD v 1 0)) (eqb (getD v 1 0) 0) (eqb (getD v 1 0) 0) (leb 2 (length v)) (isNonterminal (getD v 1 0))
 
 known-item : (v : List ℕ) → isKnown 6 v ≡ isItem v
 unfolding isKnown
@@ -192,13 +193,13 @@ whole-fields (next at tag v fs) before s h =
 third : (a b c d e : Bool) → (a && b && c && d && e) ≡ true → c ≡ true
 third a b c d e h = and-right (a && b) c (and-left (a && b && c) d (and-left (a && b && c && d) e h))
 
-head-small : (v : List ℕ) → isKnown 4 v ≡ true → getD v 0 0 < 64
+head-small : (v : List ℕ) → isKnown 4 v ≡ true → getD v 0 0 < most .nonterminals
 unfolding isHead
 head-small v known =
-    let small : leb (getD v 0 0) 63 ≡ true =
-    third (leb 3 (length v)) (leb (length v) 7) (leb (getD v 0 0) 63) (leb (getD v 1 0) 2) (every isSort (drop 2 v))
+    let small : isNonterminal (getD v 0 0) ≡ true =
+    third (leb 3 (length v)) (leb (length v) (3 + most .parameters)) (isNonterminal (getD v 0 0)) (leb (getD v 1 0) 2) (every isSort (drop 2 v))
     (sym (known-head v) ∙ known) in
-    omega (arith, leb-true (getD v 0 0) 63 small)
+    ltb-true (getD v 0 0) (most .nonterminals) small
 
 each-without : {P : Place → Type 0} (n : ℕ) (ps : List Place) → Each P ps → Each P (placesWithout n ps)
 unfolding placesWithout

@@ -6,6 +6,7 @@ use mathlib.Core.Bool.{Bool, true, false, _&&_}
 use mathlib.Core.List.{List, [], _∷_, _++_, map}
 use lib.Dec.{eqb}
 use lib.ListN.{length, getD, drop}
+use Rattle.grammar.specs.Limits.{most}
 use Rattle.grammar.specs.Table.{Template, variable, Item, Mode, add, extend, update}
 use Rattle.grammar.specs.Fields.{Fields, end, cut, next, fieldsOf}
 use Rattle.grammar.specs.Lookup.{fieldsAt}
@@ -110,7 +111,7 @@ wholeBody (next at tag v fs) =
 
 -- a place in a table: of a nonterminal, and a whole alternative stands there
 pub record Whole (bs : List ℕ) (p : Place) : Type 0 where
-  pub small : p .owner < 64
+  pub small : p .owner < most .nonterminals
   pub inside : p .start ≤ length bs
   pub whole : wholeBody (fieldsAt bs (p .start)) ≡ true
 

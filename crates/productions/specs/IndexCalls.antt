@@ -3,6 +3,7 @@ use Prim.Native.Nat.{ℕ, _≤_}
 use mathlib.Core.Path.{_≡_}
 use mathlib.Core.List.{List, [], _∷_, _++_}
 use lib.ListN.{length, getD}
+use Rattle.grammar.specs.Limits.{most}
 use Rattle.grammar.specs.Fields.{fieldsOf}
 use Rattle.layout.specs.Decode.{modeOf}
 use Rattle.productions.specs.Index.{Place, placesIn, placesKept, alternativeFields}
@@ -13,14 +14,14 @@ pub record RoomFor (k : ℕ) (owners starts : List ℕ) : Type 0 where
   pub starts-room : k ≤ length starts
 
 -- the first r entries are those places, and they are not too many
-pub record Index (places : List Place) (most r : ℕ) (owners starts : List ℕ) : Type 0 where
+pub record Index (places : List Place) (room r : ℕ) (owners starts : List ℕ) : Type 0 where
   pub entries : placesIn r owners starts ≡ places
-  pub few : r ≤ most
+  pub few : r ≤ room
 
 -- a table short enough, with few enough alternatives, for its index
 pub record FitsIndex (bs : List ℕ) : Type 0 where
-  pub short : length bs ≤ 16384
-  pub few : alternativeFields (fieldsOf bs) ≤ 256
+  pub short : length bs ≤ most .bytes
+  pub few : alternativeFields (fieldsOf bs) ≤ most .alternatives
 
 -- one place more behind others
 abbrev pub behind : List Place → ℕ → ℕ → List Place

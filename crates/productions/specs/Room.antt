@@ -13,6 +13,7 @@ use mathlib.Core.Bool.{Bool, true, false, _&&_}
 use mathlib.Core.List.{List, [], _∷_, _++_}
 use lib.Dec.{eqb}
 use lib.ListN.{length, getD, set, drop}
+use Rattle.grammar.specs.Limits.{most}
 
 -- a production in the room: its nonterminal, the offset of its first item or result, its first set, and whether it is nullable
 pub record Entry : Type 0 where
@@ -25,7 +26,7 @@ abbrev pub roomSize : ℕ
 roomSize = 641
 
 abbrev pub noPlace : ℕ
-noPlace = 256
+noPlace = most .alternatives
 
 -- the place of the first entry that passes a test, where the entries stand from place j on
 unfoldable pub placeFrom : (Entry → Bool) → List Entry → ℕ → ℕ

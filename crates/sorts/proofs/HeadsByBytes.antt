@@ -13,6 +13,7 @@ use Rattle.answers.specs.Refusals.{refusal}
 use Rattle.answers.specs.Checked.{Checked, ok, bad, need}
 use Rattle.spellings.specs.Bytes.{same}
 use Rattle.spellings.proofs.BytesLaws.{by-test}
+use Rattle.grammar.specs.Limits.{most}
 use Rattle.grammar.specs.Sorts.{Signature}
 use Rattle.grammar.specs.Table.{variable, Mode, add, extend, update, Definition}
 use Rattle.grammar.specs.Values.{modeCode, headValue}
@@ -54,7 +55,7 @@ head-known v e =
     let h = head-value v e (record { items = []; result = variable 0 } ∷ [])
     (each-more (record { items = each-none; itemCount = omega arith; result = variable-within (omega arith) }) each-none) (omega arith) in
     let d : Definition = definitionOf v (record { items = []; result = variable 0 } ∷ []) in
-    let low : d .nonterminal ≤ 63 = h .1 .nonterminal in
+    let low : d .nonterminal < most .nonterminals = h .1 .nonterminal in
     record {
       nonterminal = d .nonterminal;
       mode = d .mode;

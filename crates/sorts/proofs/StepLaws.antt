@@ -16,7 +16,7 @@ use Rattle.grammar.specs.declared.Front.the-variants.{Nothing, Short, Field}
 use Rattle.grammar.specs.Fields.{fieldsOf}
 use Rattle.grammar.specs.Lookup.{frontOf, fieldsAt}
 use Rattle.grammar.proofs.LookupLaws.{opened, fields-at, fields-of}
-use Rattle.grammar.specs.Values.{longestTable}
+use Rattle.grammar.specs.Limits.{most}
 use Rattle.sorts.specs.declared.Known.{Known}
 use Rattle.sorts.specs.declared.Sorted.{Sorted}
 use Rattle.sorts.specs.declared.Sorted.the-variants.{As, Unsorted}
@@ -225,15 +225,15 @@ module _ {bs : List ℕ} {at tag : ℕ} {v : List ℕ} {to : ℕ} {k : Known} {H
 -- ------------------------------------------------------------------ the walk
 
 -- a table that is too long is not looked at; of any other the fields give the answer
-pub sorts-long : (bs : List ℕ) → longestTable < length bs → Passed ≡ sortsOf bs
+pub sorts-long : (bs : List ℕ) → most .bytes < length bs → Passed ≡ sortsOf bs
 unfolding sortsOf
-sorts-long bs h = ap (choose (sortsFrom (fieldsOf bs) bs (unknown (replicate 64 0))) Passed) (sym (lt-leb (length bs) longestTable h))
+sorts-long bs h = ap (choose (sortsFrom (fieldsOf bs) bs (unknown (replicate 64 0))) Passed) (sym (lt-leb (length bs) (most .bytes) h))
 
 -- of any other table the fields give the answer
-pub sorts-short : (bs : List ℕ) → length bs ≤ longestTable → sortsFrom (fieldsAt bs 0) bs (unknown (replicate 64 0)) ≡ sortsOf bs
+pub sorts-short : (bs : List ℕ) → length bs ≤ most .bytes → sortsFrom (fieldsAt bs 0) bs (unknown (replicate 64 0)) ≡ sortsOf bs
 unfolding sortsOf
 sorts-short bs h =
-    cc (fields-of bs, le-leb (length bs) longestTable h)
+    cc (fields-of bs, le-leb (length bs) (most .bytes) h)
 
 -- The fields from an offset on, with what is known there, give what all fields give.
 pub record Sorting (bs H₀ L₀ stack₀ H L stack : List ℕ) (at : ℕ) (k : Known) : Type 0 where

@@ -14,7 +14,7 @@ use Rattle.spellings.specs.Bytes.{same}
 use Rattle.grammar.specs.Sorts.{unit, binder, term, num}
 use Rattle.grammar.specs.Fields.{Fields, end, cut, next, fieldsOf}
 use Rattle.grammar.specs.Lookup.{fieldsAt}
-use Rattle.grammar.specs.Values.{longestTable}
+use Rattle.grammar.specs.Limits.{most}
 use Rattle.sorts.specs.declared.Known.{Known}
 use Rattle.sorts.specs.declared.Sorted.{Sorted}
 use Rattle.sorts.specs.declared.Sorted.the-variants.{As, Unsorted}
@@ -253,7 +253,7 @@ sortsFrom (next at tag v fs) bs X = goOn (stepAt bs at tag v fs X) (λ Y. sortsF
 
 -- a longer table was refused before
 unfoldable pub sortsOf : List ℕ → Verdict
-sortsOf bs = elim (leb (length bs) longestTable) [ true ↦ sortsFrom (fieldsOf bs) bs (unknown (replicate 64 0)) | false ↦ Passed ]
+sortsOf bs = elim (leb (length bs) (most .bytes)) [ true ↦ sortsFrom (fieldsOf bs) bs (unknown (replicate 64 0)) | false ↦ Passed ]
 
 -- ------------------------------------------------------------------ what the code's functions ask and ensure
 
@@ -269,8 +269,8 @@ pub record Loaded (signature room : List ℕ) (top : ℕ) : Type 0 where
 
 -- the counts of a table's keywords and outside names stay below its length
 pub record Countable (k : Known) : Type 0 where
-  pub keywords : k .keywords ≤ 16384
-  pub outsides : k .outsides ≤ 16384
+  pub keywords : k .keywords ≤ most .bytes
+  pub outsides : k .outsides ≤ most .bytes
 
 -- one field adds one at most
 abbrev pub Counts : Known → Step → Type 0
@@ -295,6 +295,6 @@ pub record Room (v sorts stack : List ℕ) : Type 0 where
 
 -- what the check of one field asks of the table, its value, the rooms and what is known
 pub record Ready (k : Known) (table v sorts stack : List ℕ) : Type 0 where
-  pub short : length table ≤ 16384
+  pub short : length table ≤ most .bytes
   pub room : Room v sorts stack
   pub counts : Countable k

@@ -34,7 +34,7 @@ spelling :
     → let a = start (second (p .before)) .args in p .is-spelled .result ≡ isSpelled (a .tag) (a .v .now) (fieldsBefore (a .table .now) (a .at))
 spelling p =
     let s = start (second (p .before)) in
-    p .is-spelled .ensures (fieldsBefore (s .args .table .now) (s .args .at)) (s .pre .keywords .indexed) (s .pre .outsides .indexed)
+    p .is-spelled .ensures (fieldsBefore (s .args .table .now) (s .args .at)) (s .pre .remembered .keywords .indexed) (s .pre .remembered .outsides .indexed)
 
 spelled : (c : tie.Else3) → let a = start (second (third c)) .args in isSpelled (a .tag) (a .v .now) (fieldsBefore (a .table .now) (a .at)) ≡ true
 spelled c = laws.passes (spelling (c .before)) (c .if3 .left)

@@ -4,13 +4,14 @@ use Prim.Native.Nat.{ℕ, _+_, _-_, _≤_}
 use mathlib.Core.Path.{_≡_, sym, _∙_}
 use mathlib.Core.List.{List}
 use lib.ListN.{length, take, drop, length-take}
+use borrow.Author.Tests.{eqb-true}
 use Rattle.grammar.specs.declared.Front.the-variants.{Field}
 use Rattle.grammar.specs.Lookup.{frontOf}
 use Rattle.grammar.proofs.LookupLaws.{front-inside}
 use Rattle.layout.specs.declared.Checking.the-variants.{Further}
 use Rattle.layout.specs.Layout.{checkField}
 use Rattle.layout.specs.Before.{fieldsBefore, checking}
-use Rattle.layout.specs.Index.{Remembered}
+use Rattle.layout.specs.Index.{hashOf, Remembered}
 use Rattle.layout.proofs.RememberedLaws.{remembered-start, keyword-room, outside-room, remembered-next}
 use Rattle.layout.proofs.LawsFields as laws
 use native.Mathlib.Omega.{arith}
@@ -34,10 +35,13 @@ module _ (p : tie.After-known-told Inv-loop μ-loop) where
   abbrev at : ℕ
   at = turn .loop .at
 
+  abbrev tag : ℕ
+  tag = p .before .front .given .0 .0
+
   abbrev size : ℕ
   size = p .before .front .given .0 .1 .0
 
-  stands : Field (p .before .front .given .0 .0) size ≡ frontOf (drop at table)
+  stands : Field tag size ≡ frontOf (drop at table)
   stands = sym (p .before .front .given .1) ∙ p .before .before .before .front-at .ensures
 
   inside : at + (3 + size) ≤ length table
@@ -55,7 +59,13 @@ module _ (p : tie.After-known-told Inv-loop μ-loop) where
 
 -- it is checked, and accepted
 abbrev field : tie.After-check-field Inv-loop μ-loop → tie.After-known-told Inv-loop μ-loop
-field p = p .before .before .before .before
+field p = p .before .before .before .before .before
+
+-- the hash of a spelling
+spelled :
+    (p : tie.After-check-field Inv-loop μ-loop)
+    → tag (field p) ≤ 2 → p .before .before .before .spelling-hash .result ≡ hashOf (lent (field p))
+spelled p l = p .before .before .before .spelling-hash .ensures .spelled l
 
 abbrev accepted : tie.After-known-told3 Inv-loop μ-loop → tie.After-check-field Inv-loop μ-loop
 accepted p = p .before .before .before
@@ -64,7 +74,7 @@ further :
     (q : tie.After-known-told3 Inv-loop μ-loop)
     → let p = field (accepted q) in
     Further (q .before .checked2 .given .0 .0)
-    ≡ checking (checkField (fieldsBefore (table p) (at p)) (at p) (p .before .front .given .0 .0) (lent p) (turn p .loop .s))
+    ≡ checking (checkField (fieldsBefore (table p) (at p)) (at p) (tag p) (lent p) (turn p .loop .s))
 further q = sym (q .before .checked2 .given .1) ∙ accepted q .check-field .ensures
 
 refused-requires : tie.Need-refused-requires Inv-loop μ-loop
@@ -128,6 +138,9 @@ part-v-start c = search needs
 part-v-end : tie.Need-part-v-end Inv-loop μ-loop
 part-v-end c = omega (arith, inside c)
 
+spelling-hash-requires : tie.Need-spelling-hash-requires Inv-loop μ-loop
+spelling-hash-requires c κs = search needs
+
 check-field-requires : tie.Need-check-field-requires Inv-loop μ-loop
 check-field-requires c κs = search needs
 
@@ -151,7 +164,12 @@ enter-requires : tie.Need-enter-requires Inv-loop μ-loop
 enter-requires c κs =
     let q = c .before .before in
     let p = field (accepted q) in
-    (keyword-room (turn p .loop .inv .0) (turn p .loop .inv .1) (stands p) (further q), place p, small p)
+    record {
+      few = keyword-room (turn p .loop .inv .0) (turn p .loop .inv .1) (stands p) (further q);
+      hashed = λ e. spelled (accepted q) (omega (arith, eqb-true (tag p) 1 e));
+      near = place p;
+      short = small p;
+    }
 
 cast-enter-2 : tie.Need-cast-enter-2 Inv-loop μ-loop
 cast-enter-2 c = search needs
@@ -160,7 +178,12 @@ enter-requires-2 : tie.Need-enter-requires-2 Inv-loop μ-loop
 enter-requires-2 c κs =
     let q = c .before .before .before .before .before in
     let p = field (accepted q) in
-    (outside-room (turn p .loop .inv .0) (turn p .loop .inv .1) (stands p) (further q), place p, small p)
+    record {
+      few = outside-room (turn p .loop .inv .0) (turn p .loop .inv .1) (stands p) (further q);
+      hashed = λ e. spelled (accepted q) (omega (arith, eqb-true (tag p) 2 e));
+      near = place p;
+      short = small p;
+    }
 
 loop-less : tie.Need-loop-less Inv-loop μ-loop
 loop-less c = omega (arith, inside (field (accepted (c .before .before .before .before .before .before))))
@@ -198,6 +221,7 @@ check-layout-spec =
     sub-v
     part-v-start
     part-v-end
+    spelling-hash-requires
     check-field-requires
     enum-known-checked
     returns-4

@@ -2,6 +2,7 @@
 use Prim.Native.Nat.{_+_}
 use native.Mathlib.Omega.{arith}
 use lib.Dec.{eqb, lit<}
+use Rattle.grammar.specs.Limits.{most}
 use Rattle.layout.specs.Layout.{passed}
 use Rattle.layout.proofs.Laws as laws
 use borrow.Author.Needs.{needs}
@@ -28,7 +29,7 @@ add-t5 : tie.Need-add-t5
 add-t5 c =
     let p = c .before in
     let q = p .before in
-    laws.fitting _ 62 (eqb (q .args .tag) 1) (laws.room-of _ _ (q .pre) .keywords) (lit< tt) (omega arith) (p .one-if .ensures)
+    laws.fitting _ (most .keywords) (eqb (q .args .tag) 1) (laws.room-of _ _ (q .pre) .keywords) (lit< tt) (omega arith) (p .one-if .ensures)
 
 one-if-requires-2 : tie.Need-one-if-requires-2
 one-if-requires-2 c κs = search needs
@@ -36,7 +37,7 @@ one-if-requires-2 c κs = search needs
 add-t8 : tie.Need-add-t8
 add-t8 c =
     let p = c .before in
-    laws.fitting _ 64 (eqb (start (first p) .args .tag) 2) (laws.room-of _ _ (start (first p) .pre) .outsides) (lit< tt)
+    laws.fitting _ (most .outsides) (eqb (start (first p) .args .tag) 2) (laws.room-of _ _ (start (first p) .pre) .outsides) (lit< tt)
     (omega arith) (p .one-if2 .ensures)
 
 one-if-requires-3 : tie.Need-one-if-requires-3
@@ -45,7 +46,7 @@ one-if-requires-3 c κs = search needs
 add-t11 : tie.Need-add-t11
 add-t11 c =
     let p = c .before in
-    laws.fitting _ 16 (eqb (start (first (second p)) .args .tag) 3) (laws.room-of _ _ (start (first (second p)) .pre) .blocks)
+    laws.fitting _ (most .blocks) (eqb (start (first (second p)) .args .tag) 3) (laws.room-of _ _ (start (first (second p)) .pre) .blocks)
     (lit< tt) (omega arith) (p .one-if3 .ensures)
 
 one-if-requires-4 : tie.Need-one-if-requires-4
@@ -54,7 +55,7 @@ one-if-requires-4 c κs = search needs
 add-t14 : tie.Need-add-t14
 add-t14 c =
     let p = c .before in
-    laws.fitting _ 256 (eqb (start (first (second (third p))) .args .tag) 5)
+    laws.fitting _ (most .alternatives) (eqb (start (first (second (third p))) .args .tag) 5)
     (laws.room-of _ _ (start (first (second (third p))) .pre) .alternatives) (lit< tt) (omega arith) (p .one-if4 .ensures)
 
 items-after-requires : tie.Need-items-after-requires

@@ -1,5 +1,6 @@
 -- `is_spelled`: by the tag.
 use borrow.Author.Needs.{needs}
+use native.Mathlib.Omega.{arith}
 use mathlib.Core.Path.{sym, _∙_}
 use mathlib.Core.Bool.{_&&_, not}
 use Rattle.layout.proofs.IndexLaws.{repeated-among}
@@ -11,7 +12,10 @@ is-keyword-spelling-requires : tie.Need-is-keyword-spelling-requires
 is-keyword-spelling-requires c κs = search needs
 
 is-among-requires : tie.Need-is-among-requires
-is-among-requires c κs = search needs
+is-among-requires c κs =
+    let p = c .before in
+    let pre = p .before .before .before .pre in
+    record { falling = pre .keywords; hashed = pre .hashed .spelled (omega (arith, p .if1 .taken)) }
 
 returns : tie.Need-returns
 returns c =
@@ -23,7 +27,10 @@ is-word-requires : tie.Need-is-word-requires
 is-word-requires c κs = search needs
 
 is-among-requires-2 : tie.Need-is-among-requires-2
-is-among-requires-2 c κs = search needs
+is-among-requires-2 c κs =
+    let p = c .before in
+    let pre = p .before .before .before .before .pre in
+    record { falling = pre .outsides; hashed = pre .hashed .spelled (omega (arith, p .if2 .taken)) }
 
 returns-2 : tie.Need-returns-2
 returns-2 c =

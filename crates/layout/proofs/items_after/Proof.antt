@@ -2,6 +2,7 @@
 use mathlib.Core.Path.{sym}
 use native.Mathlib.Omega.{arith}
 use lib.Dec.{eqb, lit<}
+use Rattle.grammar.specs.Limits.{most}
 use Rattle.layout.proofs.Laws as laws
 use borrow.Author.Needs.{needs}
 use Rattle.layout.proofs.items_after.Statement.{statement}
@@ -17,7 +18,7 @@ add-result : tie.Need-add-result
 add-result c =
     let p = c .before in
     let q = p .before .before in
-    laws.fitting _ 12 (eqb (q .args .tag) 6) (laws.room-of _ _ (q .pre) .items) (lit< tt) (omega arith) (p .one-if .ensures)
+    laws.fitting _ (most .items) (eqb (q .args .tag) 6) (laws.room-of _ _ (q .pre) .items) (lit< tt) (omega arith) (p .one-if .ensures)
 
 returns-2 : tie.Need-returns-2
 returns-2 c = cc (laws.items-more _ _ (c .before .before .if1 .left))

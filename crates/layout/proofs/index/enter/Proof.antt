@@ -1,25 +1,27 @@
 -- `enter`: five stores.
 use borrow.Author.Needs.{needs}
 use Prim.Native.Nat.{_<_}
+use mathlib.Core.Path.{_≡_}
 use borrow.Author.Tests.{not-true, not-false}
+use Rattle.layout.specs.Index.{hashOf}
 use Rattle.layout.proofs.IndexLaws as laws
 use native.Mathlib.Omega.{arith}
 use Rattle.layout.proofs.index.enter.Statement.{statement}
 use Rattle.layout.proofs.index.enter.Tie as tie
 
 -- there is a spelling to enter
-module _ (p : tie.After-hash) where
+module _ (p : tie.Else1) where
   abbrev start : tie.Start
-  start = p .before .before .before
+  start = p .before
 
   few : start .args .count < 64
-  few = start .pre .0 (not-false _ (p .before .if1 .left))
+  few = start .pre .few (not-false _ (p .if1 .left))
+
+  hashed : start .args .h ≡ hashOf (start .args .v .now)
+  hashed = start .pre .hashed (not-false _ (p .if1 .left))
 
 returns : tie.Need-returns
 returns c = search (laws.entered-none, not-true)
-
-hash-requires : tie.Need-hash-requires
-hash-requires c κs = search needs
 
 mul-at : tie.Need-mul-at
 mul-at c = omega (arith, few c)
@@ -40,7 +42,7 @@ element-write-room : tie.Need-element-write-room
 element-write-room c = omega (arith, few (c .before))
 
 cast-room : tie.Need-cast-room
-cast-room c = omega (arith, laws.hash-below (start (c .before) .args .v .now))
+cast-room c = omega (arith, hashed (c .before), laws.hash-below (start (c .before) .args .v .now))
 
 add-room : tie.Need-add-room
 add-room c = omega (arith, few (c .before))
@@ -88,7 +90,7 @@ element-write-room-5 : tie.Need-element-write-room-5
 element-write-room-5 c = search needs
 
 returns-2 : tie.Need-returns-2
-returns-2 c = search (laws.entered-some, not-false)
+returns-2 c = search (laws.entered-some, not-false, hashed (c .before))
 
 -- the function meets its contract
 pub enter-spec : {M : Type 1} → statement M
@@ -96,7 +98,6 @@ enter-spec =
     tie.close
     (tie.spec
     returns
-    hash-requires
     mul-at
     add-at
     mul-room

@@ -16,17 +16,23 @@ abbrev μ-loop : tie.MeasureT-loop
 loop-holds : tie.Need-loop-holds Inv-loop μ-loop
 loop-holds c = laws.hashing-start
 
-mul-h : tie.Need-mul-h Inv-loop μ-loop
-mul-h c = omega arith
+sub-loop : tie.Need-sub-loop Inv-loop μ-loop
+sub-loop c = search needs
 
-shared-slice-read-h : tie.Need-shared-slice-read-h Inv-loop μ-loop
-shared-slice-read-h c = search needs
+sub-packed : tie.Need-sub-packed Inv-loop μ-loop
+sub-packed c = search needs
 
-cast-h : tie.Need-cast-h Inv-loop μ-loop
-cast-h c = omega (arith, c .shared-slice-known .given (c .before .before .loop .i))
+part-packed-start : tie.Need-part-packed-start Inv-loop μ-loop
+part-packed-start c = search needs
 
-add-h : tie.Need-add-h Inv-loop μ-loop
-add-h c = omega (arith, c .shared-slice-known .given (c .before .before .loop .i))
+part-packed-end : tie.Need-part-packed-end Inv-loop μ-loop
+part-packed-end c = search needs
+
+packed-requires : tie.Need-packed-requires Inv-loop μ-loop
+packed-requires c κs = search needs
+
+mixed-requires : tie.Need-mixed-requires Inv-loop μ-loop
+mixed-requires c κs = search needs
 
 add-i : tie.Need-add-i Inv-loop μ-loop
 add-i c = search needs
@@ -36,6 +42,21 @@ loop-less c = search needs
 
 loop-again : tie.Need-loop-again Inv-loop μ-loop
 loop-again c = search laws.hashing-next
+
+sub-packed-2 : tie.Need-sub-packed-2 Inv-loop μ-loop
+sub-packed-2 c = search needs
+
+part-packed-start-2 : tie.Need-part-packed-start-2 Inv-loop μ-loop
+part-packed-start-2 c = search needs
+
+part-packed-end-2 : tie.Need-part-packed-end-2 Inv-loop μ-loop
+part-packed-end-2 c = search needs
+
+packed-requires-2 : tie.Need-packed-requires-2 Inv-loop μ-loop
+packed-requires-2 c κs = search needs
+
+mixed-requires-2 : tie.Need-mixed-requires-2 Inv-loop μ-loop
+mixed-requires-2 c κs = search needs
 
 returns : tie.Need-returns Inv-loop μ-loop
 returns c = search laws.hashing-end
@@ -48,11 +69,18 @@ hash-spec =
     Inv-loop
     μ-loop
     loop-holds
-    mul-h
-    shared-slice-read-h
-    cast-h
-    add-h
+    sub-loop
+    sub-packed
+    part-packed-start
+    part-packed-end
+    packed-requires
+    mixed-requires
     add-i
     loop-less
     loop-again
+    sub-packed-2
+    part-packed-start-2
+    part-packed-end-2
+    packed-requires-2
+    mixed-requires-2
     returns)

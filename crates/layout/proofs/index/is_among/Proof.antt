@@ -1,11 +1,11 @@
 -- `is_among`: the spellings that are left give what all of them give.
 use borrow.Author.Needs.{needs}
-use Prim.Native.Nat.{ℕ, _+_, _*_, _%_, _<_}
+use Prim.Native.Nat.{ℕ, _+_, _*_, _<_}
 use mathlib.Core.Path.{_≡_}
 use mathlib.Core.List.{List}
 use lib.ListN.{getD}
 use Rattle.spellings.specs.Bytes.{same}
-use Rattle.layout.specs.Index.{Entered}
+use Rattle.layout.specs.Index.{bucketOf, Entered}
 use Rattle.layout.proofs.IndexLaws as laws
 use native.Mathlib.Omega.{arith}
 use Rattle.layout.proofs.index.is_among.Statement.{statement}
@@ -17,13 +17,10 @@ Inv-loop room table v h p₀ p = laws.Walking table room v p
 abbrev μ-loop : tie.MeasureT-loop
 μ-loop room table v h p₀ p = p
 
--- the hash is known
+-- where the search starts
 module _ (p : tie.After-wide-number Inv-loop μ-loop) where
-  abbrev hashed : tie.After-hash Inv-loop μ-loop
-  hashed = p .before .before
-
   abbrev start : tie.Start Inv-loop μ-loop
-  start = hashed .before .before .before
+  start = p .before .before .before .before
 
 -- a spelling of the bucket
 module _ (p : tie.After-is-entry Inv-loop μ-loop) where
@@ -33,13 +30,10 @@ module _ (p : tie.After-is-entry Inv-loop μ-loop) where
   here :
       (w : List ℕ) (q : ℕ) → Entered (start (turn .before) .args .table .now) (start (turn .before) .args .room .now) (turn .loop .p) w q
       → p .is-entry .result ≡ same w (start (turn .before) .args .v .now)
-  here w q e = p .is-entry .ensures w q e (hashed (turn .before) .hash .ensures)
+  here w q e = p .is-entry .ensures w q e (start (turn .before) .pre .hashed)
 
   falls : getD (start (turn .before) .args .room .now) (60 + 4 * turn .loop .p) 0 < turn .loop .p
-  falls = start (turn .before) .pre .links (turn .loop .p) (p .before .loop-test .taken) (turn .loop .inv .small)
-
-hash-requires : tie.Need-hash-requires Inv-loop μ-loop
-hash-requires c κs = search needs
+  falls = start (turn .before) .pre .falling .links (turn .loop .p) (p .before .loop-test .taken) (turn .loop .inv .small)
 
 mul-wide-number : tie.Need-mul-wide-number Inv-loop μ-loop
 mul-wide-number c = omega arith
@@ -53,8 +47,8 @@ wide-number-requires c κs = search needs
 loop-holds : tie.Need-loop-holds Inv-loop μ-loop
 loop-holds c =
     record {
-      small = omega (arith, c .wide-number .ensures, start c .pre .heads (hashed c .hash .result % 64) (omega arith));
-      search = λ words x. laws.searching-start x (hashed c .hash .ensures) (c .wide-number .ensures);
+      small = omega (arith, c .wide-number .ensures, start c .pre .falling .heads (bucketOf (start c .args .h)) (omega arith));
+      search = λ words x. laws.searching-start x (start c .pre .hashed) (c .wide-number .ensures);
     }
 
 is-entry-requires : tie.Need-is-entry-requires Inv-loop μ-loop
@@ -103,7 +97,6 @@ is-among-spec =
     (tie.spec
     Inv-loop
     μ-loop
-    hash-requires
     mul-wide-number
     element-copy-out-wide-number
     wide-number-requires
