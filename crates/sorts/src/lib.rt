@@ -11,6 +11,7 @@ use bodies::check_result;
 use bodies::load_params;
 use grammar::Front;
 use grammar::front_at;
+use grammar::limits::LONGEST_TABLE;
 use grammar::reader::byte;
 use grammar::sorts::Sort;
 use heads::collect;
@@ -20,6 +21,7 @@ use heads::signature_at;
 ghost use Prim.Native.Nat.{_+_, _*_, _≤_};
 ghost use mathlib.Core.Path.{_≡_};
 ghost use lib.ListN.{length};
+ghost use Rattle.grammar.specs.Limits.{most};
 ghost use Rattle.grammar.specs.Lookup.{fieldsAt};
 ghost use Rattle.sorts.specs.ByBytes.{rootAt, unknown, verdictOf, stepOf, counting, sortsFrom, sortsOf};
 ghost use Rattle.sorts.specs.ByBytes.{Countable, ItemChecked, FieldChecked, Room, Ready};
@@ -184,7 +186,7 @@ fn check_field(
 
 // A table's fields from the first on, with no head known yet and room for the variables and for the places that templates open.
 fn check_fields(heads: &mut [u16], sorts: &mut [u8], stack: &mut [u8], table: &[u8]) -> Verdict
-    requires { ⌜ (length (now table) ≤ 16384) × Room (now table) (now sorts) (now stack) ⌝ }
+    requires { ⌜ (length (now table) ≤ most .bytes) × Room (now table) (now sorts) (now stack) ⌝ }
     ensures { λ r. ⌜ r ≡ sortsFrom (fieldsAt (now (table .entry)) 0) (now (table .entry)) (unknown (now (heads .entry))) ⌝ }
 {
     let mut at: usize = 0;
@@ -233,9 +235,20 @@ fn check_small(table: &[u8]) -> Verdict
     check_fields(&mut heads, &mut sorts, &mut stack, table)
 }
 
+// With room for those of a table of a middle size.
+fn check_medium(table: &[u8]) -> Verdict
+    requires { ⌜ length (now table) ≤ 4096 ⌝ }
+    ensures { λ r. ⌜ r ≡ sortsOf (now (table .entry)) ⌝ }
+{
+    let mut heads = [0u16; 64];
+    let mut sorts = [0u8; 16];
+    let mut stack = [0u8; 8_200];
+    check_fields(&mut heads, &mut sorts, &mut stack, table)
+}
+
 // With room for those of any table.
 fn check_large(table: &[u8]) -> Verdict
-    requires { ⌜ length (now table) ≤ 16384 ⌝ }
+    requires { ⌜ length (now table) ≤ most .bytes ⌝ }
     ensures { λ r. ⌜ r ≡ sortsOf (now (table .entry)) ⌝ }
 {
     let mut heads = [0u16; 64];
@@ -244,15 +257,18 @@ fn check_large(table: &[u8]) -> Verdict
     check_fields(&mut heads, &mut sorts, &mut stack, table)
 }
 
-// The sorts of a table whose layout is right: refusals 7, 8, 9 and 11. A table over 16,384 bytes is refused before.
+// The sorts of a table whose layout is right: refusals 7, 8, 9 and 11. A longer table is refused before.
 pub fn check_sorts(table: &[u8]) -> Verdict
     ensures { λ r. ⌜ r ≡ sortsOf (now (table .entry)) ⌝ }
 {
-    if 16_384 < table.len() {
+    if LONGEST_TABLE < table.len() {
         return Verdict::Passed;
     }
     if table.len() <= 1024 {
         return check_small(table);
+    }
+    if table.len() <= 4096 {
+        return check_medium(table);
     }
     check_large(table)
 }
