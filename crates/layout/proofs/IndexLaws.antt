@@ -63,8 +63,11 @@ hash-below v = hash-small v 0
 
 -- the first i bytes have the hash h
 pub record Hashing (v : List ℕ) (i h : ℕ) : Type 0 where
+  -- i is no further than the end
   pub within : i ≤ length v
+  -- h is a 32-bit number
   pub small : h < 4294967296
+  -- the bytes left, behind what has the hash h, have the whole's hash
   pub rest : hashFrom h (drop i v) ≡ hashOf v
 
 -- no byte yet
@@ -121,8 +124,11 @@ entry-same {table} v e f s l = cc (e .placed)
 
 -- the spellings that are left are those that p leads to
 pub record Searching (table room v : List ℕ) (words : List (List ℕ)) (p : ℕ) : Type 0 where
+  -- the spellings not yet compared
   pub left : List (List ℕ)
+  -- p leads to those of the bucket
   pub leads : Leads table room (bucketOf (hashOf v)) left p
+  -- v is among those left exactly if it is among all
   pub rest : isAmong v left ≡ isAmong v words
 
 -- the search begins with all spellings of the bucket
@@ -147,11 +153,17 @@ module _ (table room v : List ℕ) where
 
   -- the spelling that p leads to, and those behind it
   pub record Next (ws : List (List ℕ)) (p : ℕ) : Type 0 where
+    -- the spelling that p leads to
     pub first : List ℕ
+    -- the spellings behind it
     pub behind : List (List ℕ)
+    -- where the search goes on
     pub onward : ℕ
+    -- the entry at p has the spelling and the way on
     pub entered : Entered table room p first onward
+    -- the way on leads to those behind
     pub leads : Leads table room (bucketOf (hashOf v)) behind onward
+    -- v is among the spellings exactly if it is the first or among those behind
     pub among : isAmong v ws ≡ (same first v || isAmong v behind)
 
   next-of : (ws : List (List ℕ)) {p : ℕ} → Leads table room (bucketOf (hashOf v)) ws p → 0 < p → Next ws p
@@ -200,7 +212,9 @@ module _ {table room v : List ℕ} {words : List (List ℕ)} {p : ℕ} (s : Sear
 
 -- the search as the code makes it, for any spellings that the room has
 pub record Walking (table room v : List ℕ) (p : ℕ) : Type 0 where
+  -- p is an entry or none
   pub small : p ≤ 64
+  -- whatever spellings the room has, the search stands at p
   pub search : (words : List (List ℕ)) → Indexed table room words → Searching table room v words p
 
 -- ------------------------------------------------------------------ one spelling more

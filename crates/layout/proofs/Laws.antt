@@ -33,15 +33,6 @@ fails {t} e f = sym e ∙ not-true t f
 
 -- ------------------------------------------------------------------ values
 
--- the test for an item, by its kind, its operand, and whether that is a sort to read an identifier at
-abbrev pub itemBy : List ℕ → ℕ → ℕ → Bool → Bool
-itemBy v kind operand sort =
-    (eqb kind 0 && eqb (length v) 2)
-    || (eqb kind 1 && eqb (length v) 2 && sort)
-    || (eqb kind 2 && eqb (length v) 2 && eqb operand 0)
-    || (eqb kind 3 && eqb (length v) 2 && eqb operand 0)
-    || (eqb kind 4 && leb 2 (length v) && ltb operand (most .nonterminals))
-
 -- a definition's head, by the test of its length and its first two bytes
 pub head-by :
     (v : List ℕ) {first second : ℕ} → first ≡ getD v 0 0 → second ≡ getD v 1 0 → (sized : Bool)
@@ -111,6 +102,7 @@ module _ {tag : ℕ} (v : List ℕ) where
 
 -- the bytes before i are sorts
 pub record Sorts (v : List ℕ) (from i : ℕ) : Type 0 where
+  -- the bytes left are sorts exactly if all are
   pub rest : every isSort (drop i v) ≡ every isSort (drop from v)
 
 -- none yet
@@ -149,10 +141,15 @@ fitting n limit false e h k f = record { fits = omega arith }
 
 -- the five tests for room
 pub record Room (tag : ℕ) (s : Progress) : Type 0 where
+  -- there may be one more keyword, if this is one
   pub keywords : (not (eqb tag 1) || ltb (s .keywords) (most .keywords)) ≡ true
+  -- there may be one more outside name
   pub outsides : (not (eqb tag 2) || ltb (s .outsides) (most .outsides)) ≡ true
+  -- there may be one more block
   pub blocks : (not (eqb tag 3) || ltb (s .blocks) (most .blocks)) ≡ true
+  -- there may be one more alternative
   pub alternatives : (not (eqb tag 5) || ltb (s .alternatives) (most .alternatives)) ≡ true
+  -- there may be one more item in the alternative
   pub items : (not (eqb tag 6) || ltb (s .items) (most .items)) ≡ true
 
 -- from the one test

@@ -104,7 +104,9 @@ checked-bad (bad q) r e = cc
 
 -- the fields before `at` pass and give s; those from there on give what all of them give
 pub record Turn (table : List ℕ) (at : ℕ) (s : Progress) : Type 0 where
+  -- the fields before a later offset are those before `at`, and those from there on up to it
   pub divides : (to : ℕ) → at ≤ to → fieldsBefore table to ≡ earlier to (fieldsAt table at) (fieldsBefore table at)
+  -- the fields left give what all fields give
   pub rest : checkFields (fieldsAt table at) (fieldsBefore table at) s ≡ checkFields (fieldsOf table) [] start
 
 -- no field stands before the first

@@ -30,10 +30,15 @@ use Rattle.layout.proofs.Spelled.{Spelled, spelled-none, spelled-more}
 
 -- what is still to come has room
 pub record Room (s : Progress) (b : Built) : Type 0 where
+  -- no more keywords than there may be
   pub keywords : length (b .keywords) ≤ most .keywords - s .keywords
+  -- no more outside names
   pub outsides : length (b .outsides) ≤ most .outsides - s .outsides
+  -- no more blocks
   pub blocks : length (b .blocks) ≤ most .blocks - s .blocks
+  -- no more alternatives in all blocks
   pub alternatives : length (b .alternatives) + (alternativesOf (b .definitions) + alternativesIn (b .blocks)) ≤ most .alternatives - s .alternatives
+  -- no more items in the alternative that is open
   pub items : length (b .items) ≤ most .items - s .items
 
 module _ (s : Progress) where
@@ -96,15 +101,25 @@ module _ (s : Progress) where
 
 -- parts that may follow the fields before, within the counts, spellings and ranges
 pub record Fits (before : List Field) (s : Progress) (b : Built) : Type 0 where
+  -- the keywords are good spellings, each new
   pub keywords : Spelled isKeyword 1 before (b .keywords)
+  -- the outside names are words, each new
   pub outsides : Spelled isWord 2 before (b .outsides)
+  -- the blocks' definitions are within the bounds
   pub blocks : Each (Each DefinitionWithin) (b .blocks)
+  -- so are those of the block that is open
   pub definitions : Each DefinitionWithin (b .definitions)
+  -- so are the alternatives of the definition that is open
   pub alternatives : Each AlternativeWithin (b .alternatives)
+  -- a definition has one alternative or more
   pub begun : s .last ≡ 4 → 1 ≤ length (b .alternatives)
+  -- the items are within the bounds
   pub items : Each ItemWithin (b .items)
+  -- so is the result
   pub result : TemplateWithin (b .result)
+  -- the root is a nonterminal
   pub root : b .root < most .nonterminals
+  -- the counts leave room for all
   pub room : Room s b
 
 -- fields that are those of such parts
