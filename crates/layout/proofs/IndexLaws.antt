@@ -14,7 +14,8 @@ use Rattle.spellings.specs.Bytes.{same}
 use Rattle.spellings.proofs.BytesLaws.{by-test, differ-same}
 use Rattle.grammar.specs.Values.{Field, field}
 use Rattle.layout.specs.Layout.{isRepeated, oneIf}
-use Rattle.layout.specs.Index.{spelledBy, isAmong, packed, Packs, mixed, hashFrom, hashOf, bucketOf, Hashed, entry, Entered, Leads, leads-none, leads-past, leads-here}
+use Rattle.layout.specs.Index.{spelledBy, isAmong, packed, Packs, mixed, hashFrom, hashOf, bucketOf, Hashed, entry, Entered}
+use Rattle.layout.specs.Index.{Leads, leads-none, leads-past, leads-here}
 use Rattle.layout.specs.Index.{Indexed, Falling, roomWith, entered, Has}
 
 -- ------------------------------------------------------------------ what is looked for

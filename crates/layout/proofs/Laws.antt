@@ -36,7 +36,8 @@ fails {t} e f = sym e ∙ not-true t f
 -- a definition's head, by the test of its length and its first two bytes
 pub head-by :
     (v : List ℕ) {first second : ℕ} → first ≡ getD v 0 0 → second ≡ getD v 1 0 → (sized : Bool)
-    → (leb 3 (length v) && leb (length v) (3 + most .parameters) && ltb first (most .nonterminals) && leb second 2) ≡ sized → (sized && every isSort (drop 2 v)) ≡ isHead v
+    → (leb 3 (length v) && leb (length v) (3 + most .parameters) && ltb first (most .nonterminals) && leb second 2) ≡ sized
+    → (sized && every isSort (drop 2 v)) ≡ isHead v
 unfolding isHead
 head-by v e f sized q =
     cc

@@ -72,7 +72,8 @@ pub record Entered (table room : List ℕ) (n : ℕ) (w : List ℕ) (p : ℕ) : 
 -- p leads through those of some spellings, the newest first, that fall into a bucket
 pub data Leads (table room : List ℕ) (bucket : ℕ) : List (List ℕ) → ℕ → Type 0 where
   leads-none : Leads table room bucket [] 0
-  leads-past : {w : List ℕ} {ws : List (List ℕ)} {p : ℕ} → (bucketOf (hashOf w) ≡ bucket → ⊥) → Leads table room bucket ws p → Leads table room bucket (w ∷ ws) p
+  leads-past : {w : List ℕ} {ws : List (List ℕ)} {p : ℕ} → (bucketOf (hashOf w) ≡ bucket → ⊥) → Leads table room bucket ws p
+      → Leads table room bucket (w ∷ ws) p
   leads-here :
       {w : List ℕ} {ws : List (List ℕ)} {p : ℕ} → Entered table room (suc (length ws)) w p → Leads table room bucket ws p
       → Leads table room bucket (w ∷ ws) (suc (length ws))
