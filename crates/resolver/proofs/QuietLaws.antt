@@ -24,7 +24,8 @@ use Rattle.resolver.specs.Numbers.{Resolvable, Resolves}
 -- ------------------------------------------------------------------ rows
 
 -- One row more.
-pub quiet-more : (cells : List ℕ) (n : ℕ) {code x : ℕ} → QuietTo n cells → code ≡ column cells n 0 → x ≡ column cells n 1 → QuietRow code x → QuietTo (n + 1) cells
+pub quiet-more : (cells : List ℕ) (n : ℕ) {code x : ℕ} → QuietTo n cells → code ≡ column cells n 0 → x ≡ column cells n 1 → QuietRow code x
+    → QuietTo (n + 1) cells
 quiet-more cells n q ec ex r row l =
     by-test (eqb row n)
     (λ e. let z : row ≡ n = eqb-true row n e in rw (z, ← ec, ← ex) r)

@@ -48,7 +48,8 @@ slot-first (suc n) cells row x r a b m e =
     clash b p q = let z : _≡_ {A = ℕ} 0 1 = cc in omega arith
 
 -- a name that a row binds has a slot
-pub slot-there : (cells : List ℕ) (r : ℕ) → r < length cells / columns → length cells ≤ mostCells * columns → column cells r 0 ≡ 33 → slotOf cells (column cells r 1) < 16384
+pub slot-there : (cells : List ℕ) (r : ℕ) → r < length cells / columns → length cells ≤ mostCells * columns → column cells r 0 ≡ 33
+    → slotOf cells (column cells r 1) < 16384
 slot-there cells r h m e =
     slot-first (length cells / columns) cells 0 (column cells r 1) r (omega arith) (omega arith) (omega arith)
     (and-eq-true-iff (eqb (column cells r 0) 33) (eqb (column cells r 1) (column cells r 1)) .1

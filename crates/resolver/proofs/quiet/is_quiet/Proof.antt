@@ -47,7 +47,8 @@ loop-again c =
     let first = second .before in
     let turn = first .before .before in (
       omega arith,
-      laws.quiet-more (turn .before .before .args .cells .now) _ (turn .loop .inv .1) (first .column .ensures) (second .column2 .ensures) (c .before .is-quiet-row .ensures (c .if1 .taken)),
+      laws.quiet-more (turn .before .before .args .cells .now) _ (turn .loop .inv .1) (first .column .ensures) (second .column2 .ensures)
+          (c .before .is-quiet-row .ensures (c .if1 .taken)),
     )
 
 returns : tie.Need-returns Inv-loop μ-loop
