@@ -28,6 +28,7 @@ use Rattle.firsts.specs.Clashes.{Never, LeftRecursive, Shares, Clashes}
 use Rattle.firsts.proofs.FirstsTheorems as firsts
 use Rattle.checker.specs.Check.{check}
 use Rattle.checker.specs.Passes.{grammarOf, Passes}
+use Rattle.checker.specs.Laid.{Laid}
 use Rattle.checker.proofs.Passing as passing
 
 -- ------------------------------------------------------------------ 1. layout
@@ -92,8 +93,21 @@ module _ (bs : List ℕ) where
       → check bs ≡ Refused r
   refused-by-firsts = passing.refused-by-firsts bs
 
+  -- 12 is given, with n, exactly if the bytes are a well sorted table and n is the lowest nonterminal that reaches itself by left calls.
+  pub refused-12 : ((i : ℕ) → getD bs i 0 < 256) → (n : ℕ)
+      → (check bs ≡ Refused (refusal 12 n 0 0)) ↔ ((L : Laid bs) × Lowest (LeftRecursive (grammarOf (L .table))) n)
+  refused-12 = passing.refused-12 bs
+
+  -- 13 is given, with n and b, exactly if they are one where none does, n is the lowest nonterminal of which two alternatives share a kind or
+  -- are both nullable, and b the lowest kind that any two of it share, 64 if none.
+  pub refused-13 : ((i : ℕ) → getD bs i 0 < 256) → (n b : ℕ)
+      → (check bs ≡ Refused (refusal 13 n b 0))
+      ↔ ((L : Laid bs) × Never (LeftRecursive (grammarOf (L .table))) × Lowest (Clashes (grammarOf (L .table))) n
+      × LowestOr64 (Shares (grammarOf (L .table)) n) b)
+  refused-13 = passing.refused-13 bs
+
   -- ------------------------------------------------------------------ 5. the call
 
-  -- A verdict as `check_table` promises it accepts exactly the bytes that pass; this is the call's second promise.
+  -- A verdict as `check_table` promises it accepts exactly the bytes that pass; this is the call's third promise.
   pub call-exactly : ((i : ℕ) → getD bs i 0 < 256) → {r : Verdict} → r ≡ check bs → (r ≡ Passed) ↔ Passes bs
   call-exactly = passing.verdict-exactly bs

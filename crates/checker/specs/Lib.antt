@@ -1,3 +1,4 @@
 pub mod Check
 pub mod Passes
 pub mod CheckedInto
+pub mod Laid

@@ -1,10 +1,10 @@
 -- When an expansion of a passed table is accepted, when it gives each refusal, and what it leaves as it was.
-use Prim.Native.Nat.{ℕ, _≤_, _<_}
+use Prim.Native.Nat.{ℕ, _*_, _≤_, _<_}
 use mathlib.Core.Path.{_≡_, refl, sym, ap, subst, subst⁻¹, _∙_}
 use mathlib.Core.Logic.{_↔_}
 use mathlib.Core.List.{List, [], _∷_, _++_}
 use native.Mathlib.Omega.{arith}
-use lib.ListN.{length, getD, drop}
+use lib.ListN.{length, getD, take, drop}
 use Rattle.answers.specs.declared.Refusal.{Refusal}
 use Rattle.answers.specs.declared.Answer.the-variants.{Accepted, Refusing}
 use Rattle.answers.specs.declared.Verdict.the-variants.{Refused}
@@ -19,6 +19,7 @@ use Rattle.checker.proofs.TableTheorems.{check-exactly}
 use Rattle.expansion.specs.Run.{Result}
 use Rattle.soundness.specs.Passing.{Passing}
 use Rattle.terms.specs.Term.{Name, Term, size, largestTerm}
+use Rattle.terms.specs.Cells.{columns}
 use Rattle.terms.specs.Rows.{termAt}
 use Rattle.terms.specs.Rename.{rename}
 use Rattle.terms.specs.Print.{print}
@@ -28,7 +29,7 @@ use Rattle.meaning.specs.Meaning.{spellOf, Means, rowsLent, MeansWithin,
 use Rattle.meaning.specs.Meaning as Meaning
 use Rattle.meaning.proofs.Owners.{occurs, Says, loose-says, none-places, first-places}
 use Rattle.meaning.proofs.Stages.{Finish, too-big, is-loose, too-long, prints, same-words, means-one, RunsTo, Stage, in-scan, in-parse, at-last, stages}
-use Rattle.meaning.proofs.Stages.{unscanned-ends, stopped-ends, meant-ends}
+use Rattle.meaning.proofs.Stages.{unscanned-ends, stopped-ends, meant-ends, meant-reached}
 use Rattle.meaning.proofs.CellsLeft.{Leaves, left-not, run-leaves}
 
 -- ------------------------------------------------------------------ answers
@@ -190,17 +191,17 @@ module _ (t : Table) (T : Passing t) (formula cells text : List ℕ) where
 
   -- the cells of an acceptance show its term
   cells-of : {x : Expanded} → Stage t T formula cells text x → (a b c : ℕ) → x .answer ≡ Accepted a b c → {u : Term Name} (M : Means t formula u)
-      → (v : ℕ) × (termAt a (spellOf t (M .words)) (x .cells) v ≡ u)
+      → (v : ℕ) × (termAt a (spellOf t (M .words)) (take (a * columns) (x .cells)) v ≡ u)
   cells-of (in-scan u) a b c q M = never (sym q)
   cells-of (in-parse S h k) a b c q M = never (sym q)
   cells-of (at-last {v = v} {s = s} E R f) a b c q M =
       let words = same-words t T formula (M .scans) (E .means .scans) in
       let made : a ≡ s .made = finish-count f a b c q ∙ sym (R .made-is) in
-      (v, rw (words, made, finish-cells f) (R .shows ∙ means-one t T formula (E .means) M))
+      (v, rw (words, made, finish-cells f) (R .shown-by-made ∙ means-one t T formula (E .means) M))
 
   -- A row of the cells of an acceptance shows the term.
   pub accepted-cells : (a b c : ℕ) → X .answer ≡ Accepted a b c → {u : Term Name} (M : Means t formula u)
-      → (v : ℕ) × (termAt a (spellOf t (M .words)) (X .cells) v ≡ u)
+      → (v : ℕ) × (termAt a (spellOf t (M .words)) (take (a * columns) (X .cells)) v ≡ u)
   accepted-cells = cells-of (stages t T formula cells text)
 
   -- ------------------------------------------------------------------ what is left as it was
@@ -221,6 +222,16 @@ module _ (t : Table) (T : Passing t) (formula cells text : List ℕ) where
   pub cells-kept : (r : Refusal) → Unscans (lexiconOfTable t) formula r → X .cells ≡ cells
   cells-kept r u = rw (unscanned-ends t T formula cells text u)
 
+  ran : (ts : List Token) {x : Result ℕ} → RunsTo t T formula cells text ts x → Leaves (rowsLent cells) 0 cells x
+  ran ts e = subst (Leaves (rowsLent cells) 0 cells) e (run-leaves (inputOf t ts cells) (t .root) cells)
+
+  -- Where a term is derived within the limits, the numbers behind the cells that it costs are as lent.
+  pub cells-behind : {u : Term Name} (E : MeansWithin t formula cells u) → Left (cellsOf E) cells (X .cells)
+  cells-behind E =
+      let q = meant-reached t T formula cells text E in
+      let behind = ran (E .means .tokens) (q .3 .runs) .2 in
+      rw (finish-cells (q .4), ← q .3 .made-is) behind
+
   -- What an expansion does to the cells.
   pub record Keeps (x : Expanded) : Type 0 where
     -- So many rows were made,
@@ -231,9 +242,6 @@ module _ (t : Table) (T : Passing t) (formula cells text : List ℕ) where
     pub left : Left rows cells (x .cells)
     -- and an acceptance counts them.
     pub counted : (a b c : ℕ) → x .answer ≡ Accepted a b c → a ≡ rows
-
-  ran : (ts : List Token) {x : Result ℕ} → RunsTo t T formula cells text ts x → Leaves (rowsLent cells) 0 cells x
-  ran ts e = subst (Leaves (rowsLent cells) 0 cells) e (run-leaves (inputOf t ts cells) (t .root) cells)
 
   keeps-of : {x : Expanded} → Stage t T formula cells text x → Keeps x
   keeps-of (in-scan u) = record { rows = 0; few = omega arith; left = left-not 0 cells; counted = λ a b c q. never (sym q) }

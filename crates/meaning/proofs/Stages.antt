@@ -5,7 +5,7 @@ use mathlib.Core.Bool.{true}
 use mathlib.Core.List.{List, [], _∷_, _++_}
 use native.Mathlib.Omega.{arith}
 use native.Mathlib.Decide.{decLe}
-use lib.ListN.{length, getD, drop}
+use lib.ListN.{length, getD, take, drop}
 use borrow.Author.Tests.{lt-ltb}
 use Rattle.answers.specs.declared.Refusal.{Refusal}
 use Rattle.answers.specs.declared.Answer.the-variants.{Accepted}
@@ -16,7 +16,7 @@ use Rattle.kinds.specs.Kinds.{wordKind}
 use Rattle.grammar.specs.Table.{Table, Lexicon, lexiconOfTable}
 use Rattle.terms.specs.Cells.{columns}
 use Rattle.layout.specs.Within.{Each, each-none, each-more}
-use Rattle.layout.proofs.LayoutTheorems.{decode-exactly}
+use Rattle.layout.proofs.Inverse.{decode-encoded}
 use Rattle.sorts.proofs.SortTheorems.{sorts-exactly}
 use Rattle.firsts.proofs.FirstsTheorems.{passes-exactly}
 use Rattle.scanner.specs.declared.Token.{Token}
@@ -53,13 +53,14 @@ use Rattle.meaning.specs.Meaning.{Scans, spellOf, Means, rowsLent, Means
 
 -- ------------------------------------------------------------------ the table
 
-module _ (bs : List ℕ) (bytes : (i : ℕ) → getD bs i 0 < 256) (P : Passes bs) where
+module _ (bs : List ℕ) (P : Passes bs) where
   -- A table that passes is the one that is expanded,
   pub passed-table : passedTable bs ≡ ok (P .table)
   unfolding passedTable
   passed-table =
       rw (
-        decode-exactly bs bytes (P .table) .1 (P .encoded, P .within),
+        P .encoded,
+        decode-encoded (P .table) (P .within),
         sorts-exactly (P .table) (P .within) .1 (P .meets .sorted),
         passes-exactly (grammarOf (P .table)) .1 (P .meets .not-left-recursive, P .meets .without-clash),
       )
@@ -228,6 +229,7 @@ module _ (t : Table) (T : Passing t) (formula : List ℕ) where
       pub made-is : s .made ≡ cellsOf E
       -- the root's row shows the term
       pub shows : termAt (s .made) (spellOf t (E .means .words)) cells′ v ≡ u
+      pub shown-by-made : termAt (s .made) (spellOf t (E .means .words)) (take (s .made * columns) cells′) v ≡ u
 
     -- A term within the limits is run to its end.
     pub run-to-end : {u : Term Name} (E : MeansWithin t formula cells u) → (v : ℕ) × (s : State) × (cells′ : List ℕ) × Reached E v s cells′
@@ -236,7 +238,8 @@ module _ (t : Table) (T : Passing t) (formula : List ℕ) where
         let R = lexemes (E .means .scans) in
         let a = expansion.accepted-exactly t T R (rowsLent cells) cells room u .1 (E .means .parsed, E .affords) in
         let c = expansion.accepted-as-derived t T R (rowsLent cells) cells room (E .means .parsed) (a .0) (a .1) (a .2) (a .3) in
-        (a .0, a .1, a .2, record { runs = a .3; made-is = c .1; shows = a .4 })
+        let l = expansion.accepted-leaves t T R (rowsLent cells) cells room (a .3) in
+        (a .0, a .1, a .2, record { runs = a .3; made-is = c .1; shows = a .4; shown-by-made = l .same ∙ a .4 })
 
     -- What is run to its end means a term within the limits.
     pub meant : {ts : List Token} {ws : List (List ℕ)} → Scans t formula ts ws → (v : ℕ) (s : State) (cells′ : List ℕ) → RunsTo ts (done v s cells′)
@@ -247,7 +250,7 @@ module _ (t : Table) (T : Passing t) (formula : List ℕ) where
         let W = expansion.accepted-exactly t T R (rowsLent cells) cells room (termAt (s .made) (spellOf t ws) cells′ v) .0 (v, s, cells′, e, refl) in
         let c = expansion.accepted-as-derived t T R (rowsLent cells) cells room (W .0) v s cells′ e in (
           record { means = record { tokens = ts; words = ws; scans = S; parsed = W .0 }; affords = W .1 },
-          record { runs = e; made-is = c .1; shows = refl },
+          record { runs = e; made-is = c .1; shows = refl; shown-by-made = expansion.accepted-leaves t T R (rowsLent cells) cells room e .same },
         )
 
     -- Where an expansion ends, with what is handed back: in the scan, in the parse, or in the last step.
@@ -292,12 +295,17 @@ module _ (t : Table) (T : Passing t) (formula : List ℕ) where
         → (cells′ : List ℕ) × (expandTable t formula cells text ≡ refused r cells′ text)
     stopped-ends {r} S h = let q = stops-exactly S r .1 h in (q .0, run-ends S (halt r (q .0)) (q .1))
 
-    -- The expansion of a term within the limits ends in the last step.
-    pub meant-ends : {u : Term Name} (E : MeansWithin t formula cells u)
-        → (cells′ : List ℕ) × Finish (cellsOf E) u cells′ text (expandTable t formula cells text)
-    meant-ends {u} E =
+    -- Where a term is derived within the limits, the run reaches it, and the last step is made.
+    pub meant-reached : {u : Term Name} (E : MeansWithin t formula cells u)
+        → (v : ℕ) × (s : State) × (cells′ : List ℕ) × Reached E v s cells′ × Finish (cellsOf E) u cells′ text (expandTable t formula cells text)
+    meant-reached {u} E =
         let q = run-to-end E in
         let e : expandTable t formula cells text ≡ withCells (q .2) (emitted textOf (cellsOf E) u text)
         = run-ends (E .means .scans) (done (q .0) (q .1) (q .2)) (q .3 .runs)
         ∙ rw (q .3 .shows, q .3 .made-is) in
-        (q .2, rw e (finishes (cellsOf E) u (q .2) text))
+        (q .0, q .1, q .2, q .3, rw e (finishes (cellsOf E) u (q .2) text))
+
+    -- The expansion of a term within the limits ends in the last step.
+    pub meant-ends : {u : Term Name} (E : MeansWithin t formula cells u)
+        → (cells′ : List ℕ) × Finish (cellsOf E) u cells′ text (expandTable t formula cells text)
+    meant-ends E = let q = meant-reached E in (q .2, q .4)

@@ -1,5 +1,5 @@
 -- What demand 3 asks of an expansion, from the bytes of a table and a formula to the text at exit. Document 01, "Whose name is whose".
-use Prim.Native.Nat.{ℕ, _≤_, _<_}
+use Prim.Native.Nat.{ℕ, _<_}
 use mathlib.Core.Path.{_≡_}
 use mathlib.Core.List.{List, [], _++_, map}
 use lib.ListN.{length, getD, drop}
@@ -13,13 +13,13 @@ use Rattle.scanner.specs.declared.Token.{Token}
 use Rattle.scanner.specs.Tiling.{bytesOf}
 use Rattle.checker.specs.Passes.{Passes}
 use Rattle.soundness.specs.Places.{givenIn, Among, Placed}
-use Rattle.terms.specs.Term.{Name, Term, size}
+use Rattle.terms.specs.Term.{Name, Term}
 use Rattle.terms.specs.Rename.{rename}
 use Rattle.terms.specs.Print.{none, more, treeOf}
 use Rattle.terms.specs.Parts.{constructors, shape}
 use Rattle.terms.specs.Binding.{Occurrence, useOf, constructorsInAll, nestingAll}
 use Rattle.terms.specs.Reading.{readText}
-use Rattle.meaning.specs.Meaning.{spellOf, Means}
+use Rattle.meaning.specs.Meaning.{spellOf, Means, Cause, Accepts}
 use Rattle.meaning.specs.Origins.{Occurs, IsOwned}
 
 -- The text `out` is the one term u of demand 2. Each part of u has the sort that its place demands; its words are the bytes of their tokens,
@@ -39,17 +39,17 @@ pub record Hygienic (t : Table) (formula : List ℕ) (u : Term Name) (out : List
   pub owned : Each IsOwned occurrences
   pub whose : nestingAll [] 0 (readText out) ≡ map useOf occurrences
 
--- Of a passed table t: an answer, with the text at exit, is one of the refusals 14 to 24 and the text as lent, or an acceptance and a
--- hygienic text in front of what was lent.
-pub data Ends (t : Table) (formula text : List ℕ) : Answer → List ℕ → Type 0 where
-  refuses : (r : Refusal)
-      → 14 ≤ r .number
-      → r .number ≤ 24
-      → Ends t formula text (Refusing r) text
-  prints : {cells : ℕ} {u : Term Name} {out : List ℕ}
+-- Of a passed table t: an answer, with the text at exit, is a refusal 14 to 24 in its case and the text as lent, or an acceptance of the term
+-- and a hygienic text of it in front of what was lent.
+pub data Ends (t : Table) (formula cells text : List ℕ) : Answer → List ℕ → Type 0 where
+  refuses : {r : Refusal}
+      → Cause t formula cells text r
+      → Ends t formula cells text (Refusing r) text
+  prints : {a b : ℕ} {u : Term Name} {out : List ℕ}
+      → Accepts t formula cells text u a b (length out)
       → Hygienic t formula u out
-      → Ends t formula text (Accepted cells (size u) (length out)) (out ++ drop (length out) text)
+      → Ends t formula cells text (Accepted a b (length out)) (out ++ drop (length out) text)
 
 -- demand 3, of the bytes of any table
-abbrev pub Demand3 : List ℕ → List ℕ → List ℕ → Answer → List ℕ → Type 0
-Demand3 table formula text answer text′ = (P : Passes table) → Ends (P .table) formula text answer text′
+abbrev pub Demand3 : List ℕ → List ℕ → List ℕ → List ℕ → Answer → List ℕ → Type 0
+Demand3 table formula cells text answer text′ = (P : Passes table) → Ends (P .table) formula cells text answer text′

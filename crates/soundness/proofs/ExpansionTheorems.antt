@@ -1,43 +1,48 @@
 -- What an expansion means: the run of expansion/specs/Expansion is the parse by the rules of expansion/specs/Figure3, at the cost of
--- expansion/specs/Costs, and stops where expansion/specs/Stopping says. This holds of every table that passes, all tokens whose words have
+-- expansion/specs/Costs, and stops where specs/Stopping says. This holds of every table that passes, all tokens whose words have
 -- numbers that a name can hold, and all rows and cells.
 use Prim.Native.Nat.{ℕ, _*_, _≤_, _<_}
-use mathlib.Core.Path.{_≡_, subst}
+use mathlib.Core.Path.{_≡_, refl, subst}
 use mathlib.Core.Logic.{_↔_}
 use mathlib.Core.Bool.{true}
-use mathlib.Core.List.{List}
+use mathlib.Core.List.{List, [], _∷_}
 use native.Mathlib.Omega.{arith}
 use lib.ListN.{length}
 use Rattle.answers.specs.declared.Refusal.{Refusal}
 use Rattle.answers.specs.Checked.{ok}
 use Rattle.spellings.specs.Bytes.{isWord}
 use Rattle.kinds.specs.Kinds.{wordKind}
-use Rattle.grammar.specs.Table.{Lexicon, Template, Item, Table}
+use Rattle.grammar.specs.Table.{Lexicon, Template, Templates, none, Item, call, Table}
 use Rattle.terms.specs.Cells.{columns}
 use Rattle.layout.specs.Within.{Each}
 use Rattle.scanner.specs.declared.Token.{Token}
 use Rattle.scanner.specs.Scan.{scan}
 use Rattle.firsts.specs.First.{checkFirsts}
 use Rattle.firsts.proofs.FirstsTheorems.{passes-exactly}
-use Rattle.sorts.specs.Judgements.{Sorted, Body}
+use Rattle.grammar.specs.Sorts as Sorts
+use Rattle.sorts.specs.Judgements.{Sorted, ItemSorted, Body}
+use Rattle.sorts.specs.Judgements as Judgements
 use Rattle.checker.specs.Passes.{grammarOf}
 use Rattle.terms.specs.Term.{Name, Term}
 use Rattle.terms.specs.Rows.{termAt}
 use Rattle.terms.specs.Occurrences.{isWorded}
 use Rattle.expansion.specs.declared.State.{State}
 use Rattle.expansion.specs.Run.{Result, done, halt}
-use Rattle.expansion.specs.Figure3.{Value, Gives, Derives, Parses}
-use Rattle.expansion.specs.ValueSorts.{Typed, Matches}
+use Rattle.productions.specs.Normal.{Production}
+use Rattle.firsts.specs.Rules.{Of}
+use Rattle.expansion.specs.Figure3.{Value, term, Gives, GiveAll, give-none, Derives, by-end, by-call, Parses}
+use Rattle.expansion.specs.ValueSorts.{Typed, typed-term, Matches, matches-none}
 use Rattle.expansion.specs.Costs.{rowsIn, Affords}
 use Rattle.soundness.specs.Stopping.{Refuses}
 use Rattle.soundness.specs.Places.{givenIn, Among, Placed}
 use Rattle.expansion.specs.Parsing.{Runs, SmallWords}
 use Rattle.expansion.proofs.Unique.{parses-one}
 use Rattle.soundness.specs.Passing.{Passing, Lexemes}
-use Rattle.soundness.proofs.Typing.{gives-exists, items-typed}
+use Rattle.soundness.proofs.Typing.{gives-exists, give-all-exist, items-typed, body-of, taken-of}
 use Rattle.soundness.proofs.RowsMade.{Leaves, run-leaves-rows}
 use Rattle.soundness.proofs.Setting.{Setting}
 use Rattle.soundness.proofs.Normalizing.{scopeOf, table-fits}
+use Rattle.soundness.proofs.Defined.{called-is-defined}
 use Rattle.soundness.proofs.Sound.{run-sound}
 use Rattle.soundness.proofs.Complete.{accepts, accepted}
 use Rattle.soundness.proofs.StopSound.{run-halts}
@@ -65,6 +70,25 @@ module _ (t : Table) (T : Passing t) where
       → Gives spell M′ result v
       → Typed v B
   parsing-respects-typing b m d k = items-typed (table-fits t (T .within) (T .meets .sorted)) d m b k
+
+  -- Whatever a call of the root derives is a term (001, Corollary 1).
+  pub root-derives-term : {spell : ℕ → List ℕ} {M : List Value} {s s′ : List Token} {i i′ : ℕ}
+      → Derives (grammarOf t) spell [] s i (call (t .root) none ∷ []) M s′ i′
+      → (u : Term Name) × (M ≡ term u ∷ [])
+  root-derives-term (by-call {v = v} give-none k d g by-end) =
+      let F = table-fits t (T .within) (T .meets .sorted) in
+      let matched : Matches [] (T .meets .sorted .signature .params) = rw (T .meets .sorted .without) matches-none in
+      go v (subst (Typed v) (T .meets .sorted .of-term) (items-typed F d matched (body-of F (taken-of k) (T .meets .sorted .defined)) g))
+    where
+      go : (v : Value) → Typed v Sorts.term → (u : Term Name) × (_≡_ {A = List Value} (v ∷ []) (term u ∷ []))
+      go (term u) typed-term = (u, refl)
+
+  -- A well sorted call, under variables of their sorts, has values for its arguments and a production of its nonterminal: it is never `wrong`.
+  pub call-never-wrong : (spell : ℕ → List ℕ) {M : List Value} {L : List ℕ} {n A : ℕ} (ts : Templates) → Matches M L
+      → ItemSorted (scopeOf t (T .meets .sorted)) L (call n ts) A
+      → ((vs : List Value) × GiveAll spell M ts vs) × ((p : Production) × Of (grammarOf t) n p)
+  call-never-wrong spell ts m (Judgements.by-call w f) =
+      let k = give-all-exist spell m ts f in ((k .0, k .1), called-is-defined t (T .within) (T .meets .sorted) (Judgements.by-call w f))
 
   -- ------------------------------------------------------------------ readings
 

@@ -4,6 +4,7 @@ pub mod Setting
 pub mod Sound
 pub mod Complete
 pub mod Normalizing
+pub mod Defined
 pub mod StopLaws
 pub mod StopSound
 pub mod StopComplete

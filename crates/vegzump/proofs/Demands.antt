@@ -3,59 +3,54 @@
 -- of a formula, refusals 14 to 24, acceptance), Origins and Hygiene (demand 3); below them the rules of the scanner (Tiling, Unscanned), of 001's
 -- Figure 3 and its costs (expansion: Figure3, Costs), of where an expansion stops and what stands at a place (soundness: Stopping, Places), and of
 -- a table that passes (checker: Passes).
-use Prim.Native.Nat.{ℕ, _≤_, _<_}
+use Prim.Native.Nat.{ℕ, _*_, _≤_, _<_}
 use mathlib.Core.Path.{_≡_}
 use mathlib.Core.Logic.{_↔_}
-use mathlib.Core.List.{List, _++_}
-use lib.ListN.{getD, drop}
+use mathlib.Core.List.{List, [], _∷_, _++_}
+use lib.ListN.{getD, take, drop}
 use Rattle.answers.specs.declared.Refusal.{Refusal}
-use Rattle.answers.specs.declared.Answer.{Answer}
 use Rattle.answers.specs.declared.Answer.the-variants.{Accepted, Refusing}
 use Rattle.answers.specs.declared.Verdict.the-variants.{Refused}
-use Rattle.grammar.specs.Table.{Template, Item, lexiconOfTable}
-use Rattle.sorts.specs.Judgements.{Sorted, Body}
+use Rattle.grammar.specs.Table.{Template, Templates, none, Item, call, lexiconOfTable}
+use Rattle.sorts.specs.Judgements.{Sorted, ItemSorted, Body}
 use Rattle.scanner.specs.declared.Token.{Token}
 use Rattle.scanner.specs.Unscanned.{Unscans}
 use Rattle.checker.specs.Check.{check}
 use Rattle.checker.specs.Passes.{grammarOf, Passes}
-use Rattle.expansion.specs.Figure3.{Value, Gives, Derives}
+use Rattle.productions.specs.Normal.{Production}
+use Rattle.firsts.specs.Rules.{Of}
+use Rattle.expansion.specs.Figure3.{Value, term, Gives, GiveAll, Derives}
 use Rattle.expansion.specs.ValueSorts.{Typed, Matches}
 use Rattle.soundness.specs.Passing.{Passing}
 use Rattle.soundness.proofs.Normalizing.{scopeOf}
 use Rattle.soundness.proofs.ExpansionTheorems as expansion
 use Rattle.terms.specs.Term.{Name, Term}
+use Rattle.terms.specs.Cells.{columns}
 use Rattle.terms.specs.Rows.{termAt}
 use Rattle.terms.specs.Rename.{rename}
 use Rattle.terms.specs.Print.{print}
-use Rattle.meaning.specs.Expand.{Expanded, expanded, refused, expand}
-use Rattle.meaning.specs.Meaning.{spellOf, Means, rowsLent, textLength, Cause, Accepts, Left}
+use Rattle.meaning.specs.Expand.{Expanded, refused, expand}
+use Rattle.meaning.specs.Meaning.{spellOf, Means, rowsLent, MeansWithin, cellsOf, textLength, Cause, Accepts, Left}
 use Rattle.meaning.specs.Hygiene.{Demand3}
 use Rattle.meaning.proofs.Stages.{expand-passed, means-one}
 use Rattle.meaning.proofs.Exactly as exactly
 use Rattle.meaning.proofs.Hygiene as hygiene
 
--- every list of bytes as table, every formula, cells and text
-module _ (table : List ℕ) (bytes : (i : ℕ) → getD table i 0 < 256) (formula cells text : List ℕ) where
+-- every table, formula, cells and text
+module _ (table formula cells text : List ℕ) where
   abbrev X : Expanded
   X = expand table formula cells text
 
-  -- ------------------------------------------------------------------ demand 3
-
-  -- If the table passes, an expansion ends in one of the refusals 14 to 24 with the text as lent, or in the one term that Figure 3 derives,
-  -- each part of the sort that its place demands, printed so that each variable belongs by nesting to exactly the binder that its origin
-  -- calls for.
-  pub demand-3 : Demand3 table formula text (X .answer) (X .text)
-  demand-3 = hygiene.demand-3 table bytes formula cells text
-
-  -- So does every call that answers as `expand` does.
-  pub call-meets-demand-3 : {answer : Answer} {cells′ text′ : List ℕ} → expanded answer cells′ text′ ≡ X → Demand3 table formula text answer text′
-  call-meets-demand-3 e = rw (← e) at demand-3
+  -- If the table passes, an expansion ends in a refusal in its case, and the text is as lent, or in the one term that Figure 3 derives, each part
+  -- of the sort that its place demands, printed so that each variable belongs by nesting to the binder that its origin calls for.
+  pub demand-3 : Demand3 table formula cells text (X .answer) (X .text)
+  demand-3 = hygiene.demand-3 table formula cells text
 
   -- ------------------------------------------------------------------ demand 2: a table that does not pass
 
-  -- A table that does not pass gets exactly the refusal of its check, and nothing that was lent changes.
-  pub not-passed : (Passes table → ⊥) → (r : Refusal) × (check table ≡ Refused r) × (X ≡ refused r cells text)
-  not-passed = exactly.not-passed table bytes formula cells text
+  -- A table of bytes that does not pass gets exactly the refusal of its check, and nothing that was lent changes.
+  pub not-passed : ((i : ℕ) → getD table i 0 < 256) → (Passes table → ⊥) → (r : Refusal) × (check table ≡ Refused r) × (X ≡ refused r cells text)
+  not-passed bytes = exactly.not-passed table bytes formula cells text
 
   -- ------------------------------------------------------------------ demand 2: a table that passes
 
@@ -65,12 +60,12 @@ module _ (table : List ℕ) (bytes : (i : ℕ) → getD table i 0 < 256) (formul
 
     -- A refusal is given exactly in its case of document 01's table of causes, with the values listed there.
     pub refused-exactly : (r : Refusal) → (X .answer ≡ Refusing r) ↔ Cause (P .table) formula cells text r
-    refused-exactly = rw (expand-passed table bytes P formula cells text) (exactly.refused-exactly (P .table) T formula cells text)
+    refused-exactly = rw (expand-passed table P formula cells text) (exactly.refused-exactly (P .table) T formula cells text)
 
     -- A formula is accepted exactly if Figure 3 derives a term within the limits and the rows lent, which is not too large, has no loose
     -- fresh variable and fits the text lent; a, b and c are its cells, constructors and bytes.
     pub accepted-exactly : (a b c : ℕ) → (X .answer ≡ Accepted a b c) ↔ ((u : Term Name) × Accepts (P .table) formula cells text u a b c)
-    accepted-exactly = rw (expand-passed table bytes P formula cells text) (exactly.accepted-exactly (P .table) T formula cells text)
+    accepted-exactly = rw (expand-passed table P formula cells text) (exactly.accepted-exactly (P .table) T formula cells text)
 
     -- Figure 3 derives one term at most.
     pub one-term : {u w : Term Name} → Means (P .table) formula u → Means (P .table) formula w → u ≡ w
@@ -79,28 +74,25 @@ module _ (table : List ℕ) (bytes : (i : ℕ) → getD table i 0 < 256) (formul
     -- The text of an acceptance is that term renamed and printed, with what was lent behind it.
     pub accepted-text : (a b c : ℕ) → X .answer ≡ Accepted a b c → {u : Term Name} → Means (P .table) formula u
         → X .text ≡ print (rename u) ++ drop (textLength u) text
-    accepted-text = rw (expand-passed table bytes P formula cells text) (exactly.accepted-text (P .table) T formula cells text)
+    accepted-text = rw (expand-passed table P formula cells text) (exactly.accepted-text (P .table) T formula cells text)
 
-    -- A row of its cells shows that term.
+    -- A row of those made shows that term, whatever the other rows held.
     pub accepted-cells : (a b c : ℕ) → X .answer ≡ Accepted a b c → {u : Term Name} (M : Means (P .table) formula u)
-        → (v : ℕ) × (termAt a (spellOf (P .table) (M .words)) (X .cells) v ≡ u)
-    accepted-cells = rw (expand-passed table bytes P formula cells text) (exactly.accepted-cells (P .table) T formula cells text)
+        → (v : ℕ) × (termAt a (spellOf (P .table) (M .words)) (take (a * columns) (X .cells)) v ≡ u)
+    accepted-cells = rw (expand-passed table P formula cells text) (exactly.accepted-cells (P .table) T formula cells text)
 
-    -- ------------------------------------------------------------------ what is left as it was
-
-    -- Every refusal leaves the text as it was.
-    pub text-kept : (r : Refusal) → X .answer ≡ Refusing r → X .text ≡ text
-    text-kept = rw (expand-passed table bytes P formula cells text) (exactly.text-kept (P .table) T formula cells text)
-
-    -- 14, 15 and 16 leave the cells too.
+    -- 14, 15 and 16 leave the cells as they were, too.
     pub cells-kept : (r : Refusal) → Unscans (lexiconOfTable (P .table)) formula r → X .cells ≡ cells
-    cells-kept = rw (expand-passed table bytes P formula cells text) (exactly.cells-kept (P .table) T formula cells text)
+    cells-kept = rw (expand-passed table P formula cells text) (exactly.cells-kept (P .table) T formula cells text)
 
-    -- Any answer leaves the cells behind the rows made, which are no more than there are, and on acceptance are a.
-    pub cells-left : (m : ℕ) × (m ≤ rowsLent cells) × Left m cells (X .cells) × ((a b c : ℕ) → X .answer ≡ Accepted a b c → a ≡ m)
+    -- Acceptance, 22, 23 and 24 leave the cells behind those that the term costs.
+    pub cells-behind : {u : Term Name} (E : MeansWithin (P .table) formula cells u) → Left (cellsOf E) cells (X .cells)
+    cells-behind E = rw (expand-passed table P formula cells text) (exactly.cells-behind (P .table) T formula cells text E)
+
+    -- Any answer leaves the cells behind the rows made, which are no more than there are.
+    pub cells-left : (m : ℕ) × (m ≤ rowsLent cells) × Left m cells (X .cells)
     cells-left =
-        let k = exactly.keeps (P .table) T formula cells text in
-        rw (expand-passed table bytes P formula cells text) (k .rows, k .few, k .left, k .counted)
+        let k = exactly.keeps (P .table) T formula cells text in rw (expand-passed table P formula cells text) (k .rows, k .few, k .left)
 
     -- ------------------------------------------------------------------ 001, Theorem 1
 
@@ -109,6 +101,17 @@ module _ (table : List ℕ) (bytes : (i : ℕ) → getD table i 0 < 256) (formul
         {L : List ℕ} {v : Value} → Body (scopeOf (P .table) (P .meets .sorted)) L items result B → Matches M L
         → Derives (grammarOf (P .table)) spell M s i items M′ s′ i′ → Gives spell M′ result v → Typed v B
     parsing-respects-typing = expansion.parsing-respects-typing (P .table) T
+
+    -- Whatever a call of the root derives is a term: Corollary 1.
+    pub root-derives-term : {spell : ℕ → List ℕ} {M : List Value} {s s′ : List Token} {i i′ : ℕ}
+        → Derives (grammarOf (P .table)) spell [] s i (call (P .table .root) none ∷ []) M s′ i′ → (u : Term Name) × (M ≡ term u ∷ [])
+    root-derives-term = expansion.root-derives-term (P .table) T
+
+    -- A well sorted call, under variables of their sorts, has values for its arguments and a production of its nonterminal: it is never `wrong`.
+    pub call-never-wrong : (spell : ℕ → List ℕ) {M : List Value} {L : List ℕ} {n A : ℕ} (ts : Templates) → Matches M L
+        → ItemSorted (scopeOf (P .table) (P .meets .sorted)) L (call n ts) A
+        → ((vs : List Value) × GiveAll spell M ts vs) × ((p : Production) × Of (grammarOf (P .table)) n p)
+    call-never-wrong = expansion.call-never-wrong (P .table) T
 
 -- And a well sorted template, under variables of their sorts, gives a value of its sort: it never gives `wrong`.
 pub never-wrong : (spell : ℕ → List ℕ) {N : ℕ} {M : List Value} {L : List ℕ} {A : ℕ} (t : Template) → Matches M L → Sorted N L t A

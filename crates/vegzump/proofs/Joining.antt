@@ -71,7 +71,7 @@ module _ {bs : List ℕ} (bytes : Bytes bs) where
     few = P .within .outsideCount
 
     passed : passedTable bs ≡ ok (P .table)
-    passed = stages.passed-table bs bytes P
+    passed = stages.passed-table bs P
 
     -- ------------------------------------------------------------------ the scan
 

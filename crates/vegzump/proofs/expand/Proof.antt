@@ -1,11 +1,9 @@
 -- `expand`: the number and values, and demand 3, follow from the equation.
 use mathlib.Core.Path.{ap}
-use native.Mathlib.Omega.{arith}
 use borrow.Author.Needs.{needs}
 use Rattle.answers.specs.Refusals.{numbered}
-use Rattle.layout.proofs.Split.{Bytes}
 use Rattle.meaning.specs.Expand.{Expanded}
-use Rattle.vegzump.proofs.Demands as demands
+use Rattle.meaning.proofs.Hygiene.{call-meets-demand-3}
 use Rattle.vegzump.proofs.expand.Statement.{statement}
 use Rattle.vegzump.proofs.expand.Tie as tie
 
@@ -21,10 +19,8 @@ same-length-2 c = search needs
 returns : tie.Need-returns
 returns c =
     let p = c .before .before .before .before in
-    let known = p .before .before .before .before .before .before in
     let e = p .expand-by-size .ensures in
-    let bytes : Bytes (known .before .args .table .now) = λ i. omega (arith, known .shared-slice-known .given i) in
-    (e, (ap (λ (x : Expanded). numbered (x .answer)) e, demands.call-meets-demand-3 _ bytes _ _ _ e))
+    (e, (ap (λ (x : Expanded). numbered (x .answer)) e, call-meets-demand-3 e))
 
 -- `expand` meets its contract.
 pub expand-spec : {M : Type 1} → statement M

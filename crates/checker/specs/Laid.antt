@@ -1,0 +1,15 @@
+-- What is left when refusals 1 to 11 are not given: of these bytes 12 and 13 are stated by rules.
+use Prim.Native.Nat.{ℕ}
+use mathlib.Core.Path.{_≡_}
+use mathlib.Core.List.{List}
+use Rattle.grammar.specs.Table.{Table}
+use Rattle.grammar.specs.Encode.{encode}
+use Rattle.layout.specs.Within.{Within}
+use Rattle.sorts.specs.Judgements.{WellSorted}
+
+-- bytes that are the encoding of a well sorted table within the counts, spellings and ranges
+pub record Laid (bs : List ℕ) : Type 0 where
+  pub table : Table
+  pub encoded : bs ≡ encode table
+  pub within : Within table
+  pub sorted : WellSorted table
