@@ -9,7 +9,7 @@ use Rattle.answers.specs.declared.Verdict.{Verdict}
 use Rattle.answers.specs.declared.Verdict.the-variants.{Passed}
 use Rattle.grammar.specs.Fields.{fieldsOf}
 use Rattle.layout.specs.Layout.{layout}
-use Rattle.layout.specs.Decode.{tableOf, build, decode}
+use Rattle.layout.specs.Decode.{tableOf, decodeFields, decode}
 use Rattle.layout.proofs.Split.{Bytes}
 use Rattle.layout.proofs.Spelled.{each-map}
 use Rattle.layout.proofs.LayoutTheorems.{decode-exactly}
@@ -36,7 +36,7 @@ module _ {bs : List ℕ} (bytes : Bytes bs) (p : Passes bs) where
 
   laid-out : layout bs ≡ ok tt
   unfolding decode
-  laid-out = laid (layout bs) (tableOf (build (fieldsOf bs))) decoded
+  laid-out = laid (layout bs) (tableOf (decodeFields (fieldsOf bs))) decoded
 
   -- The productions of its bytes are the grammar of the table.
   pub passed-grammar : productionsIn bs ≡ grammarOf (p .table)

@@ -10,13 +10,13 @@ use Rattle.productions.specs.Room.{overwritten}
 use Rattle.firsts.specs.Room.{tableRoom}
 use Rattle.checker.specs.Check.{check}
 
-abbrev pub roomBy : Checked (Unit {0}) → List ℕ → List ℕ → List ℕ
-roomBy (ok u) bs room = overwritten (tableRoom bs) room
-roomBy (bad r) bs room = room
+abbrev pub roomIfPassed : Checked (Unit {0}) → List ℕ → List ℕ → List ℕ
+roomIfPassed (ok u) bs room = overwritten (tableRoom bs) room
+roomIfPassed (bad r) bs room = room
 
 -- the room of a table over what was there, where layout and sorts are right; else what was there
 unfoldable pub roomAfter : List ℕ → List ℕ → List ℕ
-roomAfter bs room = roomBy (decode bs >>= λ t. checkSorts t) bs room
+roomAfter bs room = roomIfPassed (decode bs >>= λ t. checkSorts t) bs room
 
 pub record CheckedInto (bs room₀ room : List ℕ) (r : Verdict) : Type 0 where
   pub answer : r ≡ check bs

@@ -26,7 +26,7 @@ use Rattle.firsts.specs.Room.{entryAt, productionsIn, tableRoom}
 use Rattle.firsts.proofs.StepLaws.{length-sets}
 use Rattle.expansion.specs.Expansion.{Rule, ruleOf, Choice, unfit, chosen, firstRule, choice, ready}
 use Rattle.choices.specs.Held.{Held}
-use Rattle.choices.specs.Chosen.{setsOf, entriesOf, opensOf, chosenPlace, kindsInAll, memorySize, slot, Remembers}
+use Rattle.choices.specs.Chosen.{firstSetsOf, entriesOf, opensOf, chosenPlace, kindsInAll, memorySize, slot, Remembers}
 
 -- ------------------------------------------------------------------ places
 
@@ -268,10 +268,10 @@ module _ {bs room : List ℕ} (h : Held bs room) where
   nulls = nullables (productionsIn bs)
 
   abbrev E : Place → Entry
-  E = entryAt bs nulls (setsOf bs)
+  E = entryAt bs nulls (firstSetsOf bs)
 
   abbrev R : Place → Rule
-  R p = ruleOf nulls (setsOf bs) (productionAt bs (p .owner) (p .start))
+  R p = ruleOf nulls (firstSetsOf bs) (productionAt bs (p .owner) (p .start))
 
   few : length (placesOf bs) ≤ 256
   few = h .grammar .few
@@ -301,8 +301,8 @@ module _ {bs room : List ℕ} (h : Held bs room) where
   entries-few = omega (arith, entries-count, few)
 
   -- The room holds the entries of the table's productions.
-  pub entries-held : HoldsEntries (setsOf bs) (entriesOf bs) room
-  unfolding tableRoom entriesOf setsOf
+  pub entries-held : HoldsEntries (firstSetsOf bs) (entriesOf bs) room
+  unfolding tableRoom entriesOf firstSetsOf
   entries-held =
       record { rest = h .grammar .rest; held = h .grammar .held; few = entries-few; near = entries-near }
 
@@ -360,13 +360,13 @@ module _ {bs room : List ℕ} (h : Held bs room) where
       sym b ∙ chosen-nullable (map E (placesOf bs)) n kind (sym a) (omega arith)
 
   -- The first set of a nonterminal, empty for what is none.
-  pub set-inside : (n : ℕ) → n < 64 → firstSetIn room n ≡ getD (setsOf bs) n 0
+  pub set-inside : (n : ℕ) → n < 64 → firstSetIn room n ≡ getD (firstSetsOf bs) n 0
   set-inside n l = first-set-in entries-held n l
 
   -- What is no nonterminal has the empty first set.
-  pub set-outside : (n : ℕ) → 64 ≤ n → 0 ≡ getD (setsOf bs) n 0
-  unfolding setsOf
-  set-outside n l = sym (getD-past (setsOf bs) n 0 (omega (arith, length-sets false nulls (productionsIn bs))))
+  pub set-outside : (n : ℕ) → 64 ≤ n → 0 ≡ getD (firstSetsOf bs) n 0
+  unfolding firstSetsOf
+  set-outside n l = sym (getD-past (firstSetsOf bs) n 0 (omega (arith, length-sets false nulls (productionsIn bs))))
 
   -- the search by first sets, and the search for a nullable production
   module _ (n kind : ℕ) where
@@ -378,13 +378,13 @@ module _ {bs room : List ℕ} (h : Held bs room) where
 
     choice-is : choice (ready (productionsIn bs)) n kind
         ≡ choiceAt R (placesOf bs) opened-at (choiceAt R (placesOf bs) nullable-at unfit)
-    unfolding ready productionAt entriesOf setsOf
+    unfolding ready productionAt entriesOf firstSetsOf
     choice-is =
-        searched E (λ p. productionAt bs (p .owner) (p .start)) (ruleOf nulls (setsOf bs)) (opensOf n kind) (λ r. hasKind (r .first) kind) n
+        searched E (λ p. productionAt bs (p .owner) (p .start)) (ruleOf nulls (firstSetsOf bs)) (opensOf n kind) (λ r. hasKind (r .first) kind) n
         (λ p. refl) _ (placesOf bs) 0 (omega (arith, few))
         ∙ rw (sub-zero opened-at)
         (ap (choiceAt R (placesOf bs) opened-at)
-        (searched E (λ p. productionAt bs (p .owner) (p .start)) (ruleOf nulls (setsOf bs)) (isNullableOf n) (λ r. r .nullable) n
+        (searched E (λ p. productionAt bs (p .owner) (p .start)) (ruleOf nulls (firstSetsOf bs)) (isNullableOf n) (λ r. r .nullable) n
         (λ p. refl) unfit (placesOf bs) 0 (omega (arith, few))
         ∙ rw (sub-zero nullable-at) refl))
 

@@ -12,7 +12,7 @@ ghost use mathlib.Core.List.{List};
 ghost use lib.ListN.{getD};
 ghost use Rattle.productions.specs.Room.{placeFrom};
 ghost use Rattle.choices.specs.Held.{Held, HoldsSome};
-ghost use Rattle.choices.specs.Chosen.{setsOf, entriesOf, opensOf, chosenPlace, Remembers, Chooses};
+ghost use Rattle.choices.specs.Chosen.{firstSetsOf, entriesOf, opensOf, chosenPlace, Remembers, Chooses};
 
 // The place of the first production of nonterminal n whose first set holds a kind, 256 if there is none.
 fn opened(room: &[u64; 641], n: u8, kind: u32) -> usize
@@ -73,7 +73,7 @@ pub fn choose(room: &[u64; 641], memory: &mut [u8; 4160], n: u8, kind: u32) -> u
 
 // The first set of a nonterminal, empty for what is none.
 pub fn kinds_of(room: &[u64; 641], nonterminal: u8) -> u64
-    ensures { λ r. ⌜ ((bs : List ℕ) → Held bs (now (room .entry)) → r ≡ getD (setsOf bs) nonterminal 0) ⌝ }
+    ensures { λ r. ⌜ ((bs : List ℕ) → Held bs (now (room .entry)) → r ≡ getD (firstSetsOf bs) nonterminal 0) ⌝ }
 {
     if nonterminal < 64 {
         first_set(room, nonterminal)

@@ -11,7 +11,7 @@ use borrow.Author.Tests.{le-leb, lt-leb, ltb-true, ltb-false}
 use Rattle.answers.specs.declared.Answer.{Answer}
 use Rattle.answers.specs.declared.Answer.the-variants.{Accepted, Refusing}
 use Rattle.answers.specs.Refusals.{refusal}
-use Rattle.spellings.specs.Buffers.{written}
+use Rattle.spellings.specs.Buffers.{writtenInto}
 use Rattle.spellings.proofs.BytesLaws.{by-test}
 use Rattle.spellings.proofs.BuffersLaws.{written-fits, written-not}
 use Rattle.grammar.proofs.ReaderLaws.{getD-past}
@@ -42,11 +42,11 @@ module _ (made constructors needed room : ℕ) where
 
 -- what is written, if it fits, and the answer by its length
 fitted-by : (made constructors : ℕ) (out text : List ℕ)
-    → fitted made constructors out text ≡ leaves (answerBy made constructors (length out) (length text)) (written out text)
+    → fitted made constructors out text ≡ leaves (answerBy made constructors (length out) (length text)) (writtenInto out text)
 fitted-by made constructors out text = by (decLe (length out) (length text))
   where
     by : Dec (length out ≤ length text)
-        → fitted made constructors out text ≡ leaves (answerBy made constructors (length out) (length text)) (written out text)
+        → fitted made constructors out text ≡ leaves (answerBy made constructors (length out) (length text)) (writtenInto out text)
     by (yes h) =
         fitted-whole made constructors out text h
         ∙ ap₂ leaves (answer-whole made constructors (length out) (length text) h) (sym (written-fits out text h))
@@ -85,7 +85,7 @@ module _ (S : ℕ → List ℕ) (cells : List ℕ) (made root : ℕ) where
         ap₂ (λ c l. answerBy made c l (length text)) (sym (ec ∙ sized)) (ap length (sym same) ∙ sym (p .needed)) ∙ sym er in
         emitted-fitted textOf made T text (omega (arith, sized)) (resolved .answer ∙ ap (λ w. walkOf w (size T)) en)
         ∙ fitted-by made (size T) (textOf T) text
-        ∙ ap₂ leaves answer (ap (λ out. written out text) (sym same) ∙ sym (p .placed))
+        ∙ ap₂ leaves answer (ap (λ out. writtenInto out text) (sym same) ∙ sym (p .placed))
 
 -- the front of a room of zeros
 zeros-front : (n size i : ℕ) → getD {A = ℕ} (take size (replicate n 0)) i 0 ≡ 0

@@ -14,20 +14,20 @@ use Rattle.expansion.specs.declared.Outcome.{Outcome}
 use Rattle.expansion.specs.declared.Outcome.the-variants.{Value, Halted}
 use Rattle.expansion.specs.Run.{Result, done, halt, after}
 use Rattle.expansion.specs.Outcomes.{ran}
-use Rattle.expansion.specs.Expansion.{Input, runCall, start, ended, run}
+use Rattle.expansion.specs.Expansion.{Input, runCall, initialState, ended, run}
 use Rattle.expansion.specs.Limits.{mostOpen}
 use Rattle.templates.specs.Built.{Holds}
-use Rattle.frames.specs.Frames.{longFrames, Fits, Saved, resume, owed, stacked-none, Standing}
+use Rattle.frames.specs.Frames.{longFrames, LevelFits, Saved, resume, owed, stacked-none, Standing}
 use Rattle.frames.proofs.FrameLaws.{waits-saved}
 use Rattle.turns.specs.declared.begins.Begun.{Begun}
 use Rattle.turns.specs.declared.begins.Begun.the-variants.{Entered}
 use Rattle.turns.specs.declared.Resumption.{Resumption}
-use Rattle.turns.specs.declared.Progress.{Progress}
-use Rattle.turns.specs.declared.Progress.the-variants.{Ended, Paused}
+use Rattle.turns.specs.declared.Advance.{Advance}
+use Rattle.turns.specs.declared.Advance.the-variants.{Ended, Paused}
 use Rattle.expander.specs.Lent.{lentInput}
-use Rattle.turns.specs.Begins.{Begins, Entry, Enters}
+use Rattle.turns.specs.Begins.{Begins, CallBegunAt, CallEntered}
 use Rattle.turns.specs.Turns.{Goes}
-use Rattle.expander.specs.Calls.{rootItems, Stands}
+use Rattle.expander.specs.Calls.{rootItems, BodyAhead}
 use Rattle.turns.proofs.BeginLaws.{entry-weight}
 
 -- No variables.
@@ -35,11 +35,11 @@ pub holds-none : Holds (replicate 16 0) 0 []
 holds-none = record { long = refl; count = refl; same = λ i a b. absurd (omega arith) }
 
 -- The root's call leaves room for its items
-pub stands-start : {bs : List ℕ} {first : ℕ} {t : State} → Entry bs mostOpen start first t → length bs ≤ 16384 → Stands bs first t
+pub stands-start : {bs : List ℕ} {first : ℕ} {t : State} → CallBegunAt bs mostOpen initialState first t → length bs ≤ 16384 → BodyAhead bs first t
 stands-start e h = record { whole = e .whole; inside = e .inside; light = omega (arith, entry-weight e h) }
 
 -- The root's alternative, saved at the lowest level
-pub standing-root : {I : Input} {bs : List ℕ} {first : ℕ} {s : State} → Stands bs first s → (cells : List ℕ) {old frames : List ℕ} → Fits frames 0
+pub standing-root : {I : Input} {bs : List ℕ} {first : ℕ} {s : State} → BodyAhead bs first s → (cells : List ℕ) {old frames : List ℕ} → LevelFits frames 0
     → Saved old frames 0 (replicate 16 0) 0 first
     → Standing I bs frames 0 s cells (rootItems I bs first s cells)
 unfolding resume owed
@@ -64,7 +64,7 @@ standing-rows {bs} tokens n {frames} {level} {here} {cells} {R} e s =
     rw e at s
 
 -- what a loop gave, by how it ended
-module _ (I : Input) (bs : List ℕ) (R : Result ℕ) (frames cells : List ℕ) (p : Progress) (g : Goes I bs R frames cells p) where
+module _ (I : Input) (bs : List ℕ) (R : Result ℕ) (frames cells : List ℕ) (p : Advance) (g : Goes I bs R frames cells p) where
   -- It ended with the result.
   pub goes-ended : {o : Outcome} → p ≡ Ended o → ran o cells ≡ R
   goes-ended e = subst (Goes I bs R frames cells) e g
@@ -74,9 +74,9 @@ module _ (I : Input) (bs : List ℕ) (R : Result ℕ) (frames cells : List ℕ) 
   goes-paused e = subst (Goes I bs R frames cells) e g
 
 -- how a call went on
-pub entry-of : {bs : List ℕ} {depth : ℕ} {s : State} (b : Begun) {start : ℕ} {t : State} → b ≡ Entered start t → Enters bs depth s b
-    → Entry bs depth s start t
-entry-of {bs} {depth} {s} b e h = subst (Enters bs depth s) e h
+pub entry-of : {bs : List ℕ} {depth : ℕ} {s : State} (b : Begun) {initialState : ℕ} {t : State} → b ≡ Entered initialState t → CallEntered bs depth s b
+    → CallBegunAt bs depth s initialState t
+entry-of {bs} {depth} {s} b e h = subst (CallEntered bs depth s) e h
 
 -- How a call began, by what it answered.
 pub begins-as : (I : Input) (bs : List ℕ) (depth n : ℕ) (s : State) (b : Begun) {q : Begun} → b ≡ q → Begins I bs depth n s b
@@ -107,13 +107,13 @@ module _ (I : Input) (cells : List ℕ) (n : ℕ) (count : length (I .tokens) �
   ended-done {v} {s} e h = ended-by e false (le-ltb (s .at) n h)
 
 -- A run is a call of the root that leaves no token over.
-pub run-is : (I : Input) (root : ℕ) (cells : List ℕ) {R : Result ℕ} → R ≡ runCall mostOpen I root [] start cells → after R (ended I) ≡ run I root cells
+pub run-is : (I : Input) (root : ℕ) (cells : List ℕ) {R : Result ℕ} → R ≡ runCall mostOpen I root [] initialState cells → after R (ended I) ≡ run I root cells
 unfolding run
 run-is I root cells e = rw e
 
 -- The root's call, entered at an offset.
-pub run-root : (I : Input) (bs : List ℕ) (root first : ℕ) (t : State) → Begins I bs mostOpen root start (Entered first t) → (cells : List ℕ)
+pub run-root : (I : Input) (bs : List ℕ) (root first : ℕ) (t : State) → Begins I bs mostOpen root initialState (Entered first t) → (cells : List ℕ)
     → {R : Result ℕ}
     → R ≡ rootItems I bs first t cells
-    → R ≡ runCall mostOpen I root [] start cells
+    → R ≡ runCall mostOpen I root [] initialState cells
 run-root I bs root first t b cells e = e ∙ b [] cells

@@ -9,7 +9,7 @@ use Rattle.productions.specs.Index.{wholeBody}
 use Rattle.expansion.specs.declared.State.{State}
 use Rattle.expansion.specs.Run.{Result}
 use Rattle.expansion.specs.Expansion.{Input, runCall}
-use Rattle.templates.specs.Built.{rowsIn}
+use Rattle.templates.specs.Built.{wholeRows}
 use Rattle.choices.specs.Chosen.{Remembers}
 use Rattle.steps.specs.Steps.{body, weight, mostWeight}
 use Rattle.frames.specs.Frames.{frameSize, shortFrames, mostWaiting, Standing}
@@ -21,7 +21,7 @@ abbrev pub rootItems : Input → List ℕ → ℕ → State → List ℕ → Res
 rootItems I bs start s cells = body (runCall mostWaiting I) bs start I [] s cells
 
 -- a whole alternative stands at an offset, and the counters leave room for its items
-pub record Stands (bs : List ℕ) (start : ℕ) (s : State) : Type 0 where
+pub record BodyAhead (bs : List ℕ) (start : ℕ) (s : State) : Type 0 where
   pub whole : wholeBody (fieldsAt bs start) ≡ true
   pub inside : start ≤ length bs
   pub light : weight s + (length bs - start) ≤ mostWeight
@@ -30,14 +30,14 @@ pub record Stands (bs : List ℕ) (start : ℕ) (s : State) : Type 0 where
 pub record MayBeginRoot (bs room memory tokens : List ℕ) (n : ℕ) (stack : List ℕ) (start : ℕ) (s : State) : Type 0 where
   pub lent : Lent bs room tokens n stack
   pub remembers : Remembers bs memory
-  pub stands : Stands bs start s
+  pub stands : BodyAhead bs start s
 
 -- what is lent, and where an expansion stands in a room of frames
 pub record MayStand (bs room memory tokens : List ℕ) (n : ℕ) (cells stack frames : List ℕ) (from : Resumption) : Type 0 where
   pub lent : Lent bs room tokens n stack
   pub remembers : Remembers bs memory
   pub result : Result ℕ
-  pub standing : Standing (lentInput bs tokens n (rowsIn cells)) bs frames (from .level) (from .state) cells result
+  pub standing : Standing (lentInput bs tokens n (wholeRows cells)) bs frames (from .level) (from .state) cells result
 
 -- the same, in a room that has one level more
 pub record MayGo (bs room memory tokens : List ℕ) (n : ℕ) (cells stack frames : List ℕ) (from : Resumption) : Type 0 where

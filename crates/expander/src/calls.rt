@@ -5,10 +5,10 @@ use expansion::State;
 use frames::FRAME;
 use frames::copy;
 use frames::save;
-use steps::Step;
+use steps::ItemStep;
 use steps::finish;
 use steps::item_step;
-use turns::Progress;
+use turns::Advance;
 use turns::Resumption;
 use turns::begins::Begun;
 use turns::begins::begin;
@@ -25,7 +25,7 @@ ghost use lib.ListN.{length};
 ghost use Rattle.expansion.specs.Run.{Result, after};
 ghost use Rattle.expansion.specs.Outcomes.{ran};
 ghost use Rattle.expansion.specs.Expansion.{Input, ended, run};
-ghost use Rattle.templates.specs.Built.{rowsIn};
+ghost use Rattle.templates.specs.Built.{wholeRows};
 ghost use Rattle.choices.specs.Chosen.{Remembers};
 ghost use Rattle.frames.specs.Frames.{Standing};
 ghost use Rattle.expander.specs.Lent.{lentInput, Lent};
@@ -47,11 +47,11 @@ fn items(
     stack: &mut [u32],
     frames: &mut [u32],
     from: Resumption,
-) -> Progress
+) -> Advance
     requires { ⌜ MayGo (now table) (now room) (now memory) (now tokens) n (now cells) (now stack) (now frames) from ⌝ }
-    ensures { λ r. ⌜ ((R : Result ℕ) → Standing (lentInput (now (table .entry)) (now (tokens .entry)) n (rowsIn (now (cells .entry)))) (now
+    ensures { λ r. ⌜ ((R : Result ℕ) → Standing (lentInput (now (table .entry)) (now (tokens .entry)) n (wholeRows (now (cells .entry)))) (now
         (table .entry)) (now (frames .entry)) (from .level) (from .state) (now (cells .entry)) R → Goes (lentInput (now (table .entry)) (now
-        (tokens .entry)) n (rowsIn (now (cells .entry)))) (now (table .entry)) R (now (frames .exit)) (now (cells .exit)) r) ⌝ }
+        (tokens .entry)) n (wholeRows (now (cells .entry)))) (now (table .entry)) R (now (frames .exit)) (now (cells .exit)) r) ⌝ }
     ensures { λ r. ⌜ Remembers (now (table .entry)) (now (memory .exit)) ⌝ }
 {
     let mut vars = [0u32; 16];
@@ -61,27 +61,27 @@ fn items(
         let level = c.level;
         let step = item_step(table, tokens, n, &vars, c, &mut args, cells, stack);
         match step {
-            Step::Finished => {
+            ItemStep::Finished => {
                 let outcome = finish(table, &vars, c, cells, stack);
                 let Outcome::Value(x, t) = outcome else {
-                    return Progress::Ended(outcome);
+                    return Advance::Ended(outcome);
                 };
                 if level == 0 {
-                    return Progress::Ended(outcome);
+                    return Advance::Ended(outcome);
                 }
                 c = returned(frames, &mut vars, level - 1, x, t);
             }
-            Step::Stopped(r) => {
-                return Progress::Ended(Outcome::Halted(r));
+            ItemStep::Stopped(r) => {
+                return Advance::Ended(Outcome::Halted(r));
             }
-            Step::Taken(x, next, t) => {
+            ItemStep::Taken(x, next, t) => {
                 c = valued(&mut vars, c, x, next, t);
             }
-            Step::Opened(callee, given, next, t) => {
+            ItemStep::Opened(callee, given, next, t) => {
                 let begun = begin(room, memory, tokens, n, MOST_WAITING - level, callee, t);
                 match begun {
                     Begun::Refused(r) => {
-                        return Progress::Ended(Outcome::Halted(r));
+                        return Advance::Ended(Outcome::Halted(r));
                     }
                     Begun::Entered(first, u) => {
                         c = entered(frames, &mut vars, &args, c, given, next, first, u);
@@ -108,7 +108,7 @@ fn deep_items(
     from: Resumption,
 ) -> Outcome
     requires { ⌜ MayGoOn (now table) (now room) (now memory) (now tokens) n (now cells) (now stack) (now short) from ⌝ }
-    ensures { λ r. ⌜ ((R : Result ℕ) → Standing (lentInput (now (table .entry)) (now (tokens .entry)) n (rowsIn (now (cells .entry)))) (now
+    ensures { λ r. ⌜ ((R : Result ℕ) → Standing (lentInput (now (table .entry)) (now (tokens .entry)) n (wholeRows (now (cells .entry)))) (now
         (table .entry)) (now (short .entry)) (from .level) (from .state) (now (cells .entry)) R → ran r (now (cells .exit)) ≡ R) ⌝ }
 {
     let mut frames = [0u32; 18450];
@@ -125,8 +125,8 @@ fn deep_items(
         from,
     );
     match progress {
-        Progress::Ended(o) => o,
-        Progress::Paused(_) => Outcome::Halted(refuse(19, 0, 0, 0)),
+        Advance::Ended(o) => o,
+        Advance::Paused(_) => Outcome::Halted(refuse(19, 0, 0, 0)),
     }
 }
 
@@ -143,7 +143,7 @@ fn root_items(
     s: State,
 ) -> Outcome
     requires { ⌜ MayBeginRoot (now table) (now room) (now memory) (now tokens) n (now stack) start s ⌝ }
-    ensures { λ r. ⌜ ran r (now (cells .exit)) ≡ rootItems (lentInput (now (table .entry)) (now (tokens .entry)) n (rowsIn (now (cells
+    ensures { λ r. ⌜ ran r (now (cells .exit)) ≡ rootItems (lentInput (now (table .entry)) (now (tokens .entry)) n (wholeRows (now (cells
         .entry)))) (now (table .entry)) start s (now (cells .entry)) ⌝ }
 {
     let vars = [0u32; 16];
@@ -162,8 +162,8 @@ fn root_items(
         from,
     );
     match progress {
-        Progress::Ended(o) => o,
-        Progress::Paused(r) => {
+        Advance::Ended(o) => o,
+        Advance::Paused(r) => {
             deep_items(table, room, memory, tokens, n, cells, stack, &frames, r)
         }
     }
@@ -200,7 +200,7 @@ pub fn run(
     stack: &mut [u32],
 ) -> Outcome
     requires { ⌜ Lent (now table) (now room) (now tokens) n (now stack) ⌝ }
-    ensures { λ r. ⌜ ran r (now (cells .exit)) ≡ run (lentInput (now (table .entry)) (now (tokens .entry)) n (rowsIn (now (cells .entry))))
+    ensures { λ r. ⌜ ran r (now (cells .exit)) ≡ run (lentInput (now (table .entry)) (now (tokens .entry)) n (wholeRows (now (cells .entry))))
         root (now (cells .entry)) ⌝ }
 {
     let mut memory = [0u8; 4160];

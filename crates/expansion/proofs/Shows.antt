@@ -9,7 +9,7 @@ use lib.Seq.{sets-eq, length-sets, length-take-le, getD-take, getD-append-add}
 use Rattle.terms.specs.Cells.{columns, column, withRow, nameBase, wordName, freshName, outsideName}
 use Rattle.terms.specs.Term.{Name, word, fresh, outside, Term, Fields, variable, function, apply, rcd, dot}
 use Rattle.terms.specs.Term as Terms
-use Rattle.terms.specs.Rows.{Constructor, constructorOf, nameOf, termBy, isCons, fieldsBy, termAt, fieldsAt}
+use Rattle.terms.specs.Rows.{Constructor, constructorOf, nameOf, termBy, isCons, fieldsBy, termAt, fieldListAt}
 use Rattle.expansion.specs.Figure3.{Value, unit, var, binder, label, num, term, fields, Constructs, Bound, bound-first, bound-later}
 use Rattle.expansion.specs.Figure3 as Figure3
 
@@ -54,7 +54,7 @@ pub record ShowsFields (spell : ℕ → List ℕ) (made : ℕ) (cells : List ℕ
   -- their row is made
   pub below : x < made
   -- all cells that keep the rows show them
-  pub read : (cells′ : List ℕ) → Agree made cells cells′ → (k : ℕ) → x < k → fieldsAt k spell cells′ x ≡ f
+  pub read : (cells′ : List ℕ) → Agree made cells cells′ → (k : ℕ) → x < k → fieldListAt k spell cells′ x ≡ f
 
 -- the number of a value: a row, a name's code, a label's spelling number or the number itself
 pub data Shows (spell : ℕ → List ℕ) (made : ℕ) (cells : List ℕ) : ℕ → Value → Type 0 where
@@ -176,16 +176,16 @@ module _ (made : ℕ) (cells : List ℕ) (code : ℕ) (xs : List ℕ) (room : ma
 
     -- the term of the new row, by its constructor
     term-of : {c : Constructor} {t : Term Name} → constructorOf code ≡ c
-        → ((k : ℕ) → made ≤ k → termBy c spell cells′ made (λ q. termAt k spell cells′ q) (λ q. fieldsAt k spell cells′ q) ≡ t)
+        → ((k : ℕ) → made ≤ k → termBy c spell cells′ made (λ q. termAt k spell cells′ q) (λ q. fieldListAt k spell cells′ q) ≡ t)
         → (k : ℕ) → made < k → termAt k spell cells′ made ≡ t
     unfolding termAt
     term-of e h zero l = absurd (omega arith)
     term-of e h (suc k) l = rw (at-column 0 (omega arith), e) (h k (omega arith))
 
     fields-of : {b : Constructor} {f : Fields Name} → constructorOf code ≡ b
-        → ((k : ℕ) → made ≤ k → fieldsBy (isCons b) spell cells′ made (λ q. termAt k spell cells′ q) (λ q. fieldsAt k spell cells′ q) ≡ f)
-        → (k : ℕ) → made < k → fieldsAt k spell cells′ made ≡ f
-    unfolding fieldsAt
+        → ((k : ℕ) → made ≤ k → fieldsBy (isCons b) spell cells′ made (λ q. termAt k spell cells′ q) (λ q. fieldListAt k spell cells′ q) ≡ f)
+        → (k : ℕ) → made < k → fieldListAt k spell cells′ made ≡ f
+    unfolding fieldListAt
     fields-of e h zero l = absurd (omega arith)
     fields-of e h (suc k) l = rw (at-column 0 (omega arith), e) (h k (omega arith))
 
@@ -201,8 +201,8 @@ module _ (made : ℕ) (cells : List ℕ) (code : ℕ) (xs : List ℕ) (room : ma
     term-in k h e s n l = ap (termAt n spell cells′) (at-column k h ∙ e) ∙ s .read cells′ old n (omega arith)
 
     fields-in : {x : ℕ} {f : Fields Name} (k : ℕ) → k < 4 → getD (rowOf code xs) k 0 ≡ x → ShowsFields spell made cells x f
-        → (n : ℕ) → made ≤ n → fieldsAt n spell cells′ (column cells′ made k) ≡ f
-    fields-in k h e s n l = ap (fieldsAt n spell cells′) (at-column k h ∙ e) ∙ s .read cells′ old n (omega arith)
+        → (n : ℕ) → made ≤ n → fieldListAt n spell cells′ (column cells′ made k) ≡ f
+    fields-in k h e s n l = ap (fieldListAt n spell cells′) (at-column k h ∙ e) ∙ s .read cells′ old n (omega arith)
 
 -- the new row of a constructor over shown arguments shows what is constructed
 module _ (spell : ℕ → List ℕ) (made : ℕ) (cells : List ℕ) (room : made * 4 + 4 ≤ length cells) where
@@ -211,14 +211,14 @@ module _ (spell : ℕ → List ℕ) (made : ℕ) (cells : List ℕ) (room : made
 
   row-term : {t : Term Name} (code : ℕ) (xs : List ℕ) {c : Constructor} → constructorOf code ≡ c
       → ((cells′ : List ℕ) → Agree (made + 1) (withRow cells made code xs) cells′ → (k : ℕ) → made ≤ k
-      → termBy c spell cells′ made (λ q. termAt k spell cells′ q) (λ q. fieldsAt k spell cells′ q) ≡ t)
+      → termBy c spell cells′ made (λ q. termAt k spell cells′ q) (λ q. fieldListAt k spell cells′ q) ≡ t)
       → After code xs (term t)
   row-term {t} code xs e h =
       shows-term {x = made} {t = t} (record { below = omega arith; read = λ cells′ a k l. term-of made cells code xs room spell cells′ a e (h cells′ a) k l })
 
   row-fields : {f : Fields Name} (code : ℕ) (xs : List ℕ) {c : Constructor} → constructorOf code ≡ c
       → ((cells′ : List ℕ) → Agree (made + 1) (withRow cells made code xs) cells′ → (k : ℕ) → made ≤ k
-      → fieldsBy (isCons c) spell cells′ made (λ q. termAt k spell cells′ q) (λ q. fieldsAt k spell cells′ q) ≡ f)
+      → fieldsBy (isCons c) spell cells′ made (λ q. termAt k spell cells′ q) (λ q. fieldListAt k spell cells′ q) ≡ f)
       → After code xs (fields f)
   row-fields {f} code xs e h =
       shows-fields {x = made} {f = f} (record {
@@ -235,27 +235,27 @@ module _ (spell : ℕ → List ℕ) (made : ℕ) (cells : List ℕ) (room : made
   -- a constructor's row shows what it constructs
   pub row-shows : {c : ℕ} {xs : List ℕ} {vs : List Value} {v : Value} → Constructs c vs v → ShowAll spell made cells xs vs → After c xs v
   unfolding constructorOf termBy fieldsBy
-  row-shows Figure3.mkTermVar-var (show-more (shows-var {x = x} n) show-none) = variable-row x n
-  row-shows Figure3.mkTermVar-binder (show-more (shows-binder {x = x} n) show-none) = variable-row x n
-  row-shows Figure3.mkTermFun (show-more (shows-binder {x = x} n) (show-more (shows-term {x = y} h) show-none)) =
+  row-shows Figure3.makes-var (show-more (shows-var {x = x} n) show-none) = variable-row x n
+  row-shows Figure3.makes-var-of-binder (show-more (shows-binder {x = x} n) show-none) = variable-row x n
+  row-shows Figure3.makes-fun (show-more (shows-binder {x = x} n) (show-more (shows-term {x = y} h) show-none)) =
       let zs : List ℕ = x ∷ y ∷ [] in
       row-term 0x21 zs refl
       (λ cells′ a k l. ap₂ function (name-in made cells 0x21 zs room spell cells′ a 1 (omega arith) refl n)
       (term-in made cells 0x21 zs room spell cells′ a 2 (omega arith) refl h k l))
-  row-shows Figure3.mkTermApp (show-more (shows-term {x = x} h) (show-more (shows-term {x = y} h′) show-none)) =
+  row-shows Figure3.makes-app (show-more (shows-term {x = x} h) (show-more (shows-term {x = y} h′) show-none)) =
       let zs : List ℕ = x ∷ y ∷ [] in
       row-term 0x22 zs refl
       (λ cells′ a k l. ap₂ apply (term-in made cells 0x22 zs room spell cells′ a 1 (omega arith) refl h k l)
       (term-in made cells 0x22 zs room spell cells′ a 2 (omega arith) refl h′ k l))
-  row-shows Figure3.mkTermRcd (show-more (shows-fields {x = x} h) show-none) =
+  row-shows Figure3.makes-rcd (show-more (shows-fields {x = x} h) show-none) =
       row-term 0x23 (x ∷ []) refl (λ cells′ a k l. ap rcd (fields-in made cells 0x23 (x ∷ []) room spell cells′ a 1 (omega arith) refl h k l))
-  row-shows Figure3.mkTermDot (show-more (shows-term {x = x} h) (show-more (shows-label {x = y}) show-none)) =
+  row-shows Figure3.makes-dot (show-more (shows-term {x = x} h) (show-more (shows-label {x = y}) show-none)) =
       let zs : List ℕ = x ∷ y ∷ [] in
       row-term 0x24 zs refl
       (λ cells′ a k l. ap₂ dot (term-in made cells 0x24 zs room spell cells′ a 1 (omega arith) refl h k l)
       (label-in made cells 0x24 zs room spell cells′ a 2 (omega arith) refl))
-  row-shows Figure3.mkFieldNil show-none = row-fields 0x25 [] refl (λ cells′ a k l. refl)
-  row-shows Figure3.mkFieldCons (show-more (shows-label {x = x}) (show-more (shows-term {x = y} {t = t} h) (show-more (shows-fields {x = z} h′) show-none))) =
+  row-shows Figure3.makes-nil show-none = row-fields 0x25 [] refl (λ cells′ a k l. refl)
+  row-shows Figure3.makes-cons (show-more (shows-label {x = x}) (show-more (shows-term {x = y} {t = t} h) (show-more (shows-fields {x = z} h′) show-none))) =
       let zs : List ℕ = x ∷ y ∷ z ∷ [] in
       row-fields 0x26 zs refl
       (λ cells′ a k l.
@@ -264,5 +264,5 @@ module _ (spell : ℕ → List ℕ) (made : ℕ) (cells : List ℕ) (room : made
         term-in made cells 0x26 zs room spell cells′ a 2 (omega arith) refl h k l,
         fields-in made cells 0x26 zs room spell cells′ a 3 (omega arith) refl h′ k l,
       ))
-  row-shows Figure3.mkTermNum (show-more (shows-num {x = x}) show-none) =
+  row-shows Figure3.makes-num (show-more (shows-num {x = x}) show-none) =
       row-term 0x27 (x ∷ []) refl (λ cells′ a k l. ap Terms.number (at-column made cells 0x27 (x ∷ []) room spell cells′ a 1 (omega arith)))

@@ -23,21 +23,21 @@ bound-one bound-first bound-first = refl
 bound-one (bound-later b) (bound-later c) = bound-one b c
 
 constructs-one : {c : ℕ} {vs : List Value} {v w : Value} → Constructs c vs v → Constructs c vs w → v ≡ w
-constructs-one Figure3.mkTermVar-var Figure3.mkTermVar-var = refl
-constructs-one Figure3.mkTermVar-binder Figure3.mkTermVar-binder = refl
-constructs-one Figure3.mkTermFun Figure3.mkTermFun = refl
-constructs-one Figure3.mkTermApp Figure3.mkTermApp = refl
-constructs-one Figure3.mkTermRcd Figure3.mkTermRcd = refl
-constructs-one Figure3.mkTermDot Figure3.mkTermDot = refl
-constructs-one Figure3.mkFieldNil Figure3.mkFieldNil = refl
-constructs-one Figure3.mkFieldCons Figure3.mkFieldCons = refl
-constructs-one Figure3.mkTermNum Figure3.mkTermNum = refl
+constructs-one Figure3.makes-var Figure3.makes-var = refl
+constructs-one Figure3.makes-var-of-binder Figure3.makes-var-of-binder = refl
+constructs-one Figure3.makes-fun Figure3.makes-fun = refl
+constructs-one Figure3.makes-app Figure3.makes-app = refl
+constructs-one Figure3.makes-rcd Figure3.makes-rcd = refl
+constructs-one Figure3.makes-dot Figure3.makes-dot = refl
+constructs-one Figure3.makes-nil Figure3.makes-nil = refl
+constructs-one Figure3.makes-cons Figure3.makes-cons = refl
+constructs-one Figure3.makes-num Figure3.makes-num = refl
 
 module _ {spell : ℕ → List ℕ} {M : List Value} where
   mutual
     gives-one : (t : Template) {v w : Value} → Gives spell M t v → Gives spell M t w → v ≡ w
     gives-one (Table.variable i) (by-variable b) (by-variable c) = bound-one b c
-    gives-one (Table.outside n) by-global by-global = refl
+    gives-one (Table.outsideVar n) by-global by-global = refl
     gives-one (Table.outsideLabel n) by-label by-label = refl
     gives-one (Table.make c ts) {w = w} (by-constructor gs k) (by-constructor hs l) = constructs-one k (rw (← (all-one ts gs hs)) at l)
 

@@ -9,7 +9,7 @@ use lib.Count.{ones}
 use Rattle.answers.specs.Refusals.{refusal}
 use Rattle.kinds.specs.Kinds.{wordKind, numberKind, keywordKind, hasKind, only}
 use Rattle.grammar.specs.Sorts.{label}
-use Rattle.grammar.specs.Table.{Template, Templates, variable, outside, outsideLabel, make, none, more, Item, keyword, ide, number, local, call}
+use Rattle.grammar.specs.Table.{Template, Templates, variable, outsideVar, outsideLabel, make, none, more, Item, keyword, ide, number, local, call}
 use Rattle.terms.specs.Cells.{withRow, wordName, freshName, outsideName}
 use Rattle.scanner.specs.declared.Token.{Token}
 use Rattle.scanner.specs.Tokens.{endToken}
@@ -91,7 +91,7 @@ cell I code arguments s cells =
 unfoldable mutual
   pub build : Template → Input → List ℕ → Run ℕ
   build (variable i) I M = return (getD M i 0)
-  build (outside n) I M = return (outsideName n)
+  build (outsideVar n) I M = return (outsideName n)
   build (outsideLabel n) I M = return n
   build (make c ts) I M = buildAll ts I M >>= λ vs. cell I c vs
 
@@ -162,8 +162,8 @@ runCall (suc open′) I n vs s cells =
 
 -- ------------------------------------------------------------------ the whole formula
 
-abbrev pub start : State
-start = record { at = 0; fresh = 1; calls = 0; made = 0 }
+abbrev pub initialState : State
+initialState = record { at = 0; fresh = 1; calls = 0; made = 0 }
 
 -- nothing is left over
 abbrev pub ended : Input → ℕ → Run ℕ
@@ -172,4 +172,4 @@ ended I v s cells =
 
 -- the root is a call
 unfoldable pub run : Input → ℕ → List ℕ → Result ℕ
-run I root cells = after (runCall mostOpen I root [] start cells) (ended I)
+run I root cells = after (runCall mostOpen I root [] initialState cells) (ended I)

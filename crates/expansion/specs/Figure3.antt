@@ -35,16 +35,16 @@ pub data Value : Type 0 where
 
 -- c(b1, .., bk) is the term v; a Var place takes a Binder too
 pub data Constructs : ℕ → List Value → Value → Type 0 where
-  mkTermVar-var : {x : Name} → Constructs 0x20 (var x ∷ []) (term (variable x))
-  mkTermVar-binder : {x : Name} → Constructs 0x20 (binder x ∷ []) (term (variable x))
-  mkTermFun : {x : Name} {t : Term Name} → Constructs 0x21 (binder x ∷ term t ∷ []) (term (function x t))
-  mkTermApp : {t u : Term Name} → Constructs 0x22 (term t ∷ term u ∷ []) (term (apply t u))
-  mkTermRcd : {f : Fields Name} → Constructs 0x23 (fields f ∷ []) (term (rcd f))
-  mkTermDot : {t : Term Name} {l : List ℕ} → Constructs 0x24 (term t ∷ label l ∷ []) (term (dot t l))
-  mkFieldNil : Constructs 0x25 [] (fields nil)
-  mkFieldCons : {l : List ℕ} {t : Term Name} {f : Fields Name}
+  makes-var : {x : Name} → Constructs 0x20 (var x ∷ []) (term (variable x))
+  makes-var-of-binder : {x : Name} → Constructs 0x20 (binder x ∷ []) (term (variable x))
+  makes-fun : {x : Name} {t : Term Name} → Constructs 0x21 (binder x ∷ term t ∷ []) (term (function x t))
+  makes-app : {t u : Term Name} → Constructs 0x22 (term t ∷ term u ∷ []) (term (apply t u))
+  makes-rcd : {f : Fields Name} → Constructs 0x23 (fields f ∷ []) (term (rcd f))
+  makes-dot : {t : Term Name} {l : List ℕ} → Constructs 0x24 (term t ∷ label l ∷ []) (term (dot t l))
+  makes-nil : Constructs 0x25 [] (fields nil)
+  makes-cons : {l : List ℕ} {t : Term Name} {f : Fields Name}
       → Constructs 0x26 (label l ∷ term t ∷ fields f ∷ []) (fields (cons l t f))
-  mkTermNum : {n : ℕ} → Constructs 0x27 (num n ∷ []) (term (Terms.number n))
+  makes-num : {n : ℕ} → Constructs 0x27 (num n ∷ []) (term (Terms.number n))
 
 -- M, x = t, M' has x = t: variables are numbered, so that none is shadowed
 pub data Bound : List Value → ℕ → Value → Type 0 where
@@ -59,7 +59,7 @@ mutual
     by-variable : {i : ℕ} {v : Value}
         → Bound M i v
         → Gives spell M (Table.variable i) v
-    by-global : {n : ℕ} → Gives spell M (Table.outside n) (var (outside (spell n)))
+    by-global : {n : ℕ} → Gives spell M (Table.outsideVar n) (var (outside (spell n)))
     by-label : {n : ℕ} → Gives spell M (Table.outsideLabel n) (label (spell n))
     by-constructor : {c : ℕ} {ts : Templates} {vs : List Value} {v : Value}
         → GiveAll spell M ts vs

@@ -14,7 +14,7 @@ use Rattle.grammar.specs.Table.{Item, keyword, ide, number, local, call}
 use Rattle.productions.specs.Normal.{Production}
 use Rattle.firsts.specs.FirstSets.{overAll, isPassed, own, firstStep, setsOf}
 use Rattle.firsts.specs.Rules.{Of}
-use Rattle.firsts.specs.SetCalls.{holds, RoundTaken, ClosedBelow, ClosedBoth, BothSets}
+use Rattle.firsts.specs.SetCalls.{inSetOf, RoundTaken, ClosedBelow, ClosedBoth, BothSets}
 use Rattle.firsts.proofs.Rounds.{Numbers, same-at, nothing, Within, Each, admit, least, least-within, least-closed, round-admits, round-within}
 use Rattle.firsts.proofs.Rounds.{or-left, or-right, or-split}
 use Rattle.firsts.proofs.FirstSetsExactly.{called, given, firstIn, called-more, first-more, sets-seen, round-seen, only-has}
@@ -84,7 +84,7 @@ by-parts c nulls b s (i ∷ is) e =
 
 module _ (nulls : ℕ) (g : List Production) where
   abbrev settled : Bool → ℕ → ℕ → Bool
-  settled c = holds (setsOf c nulls g)
+  settled c = inSetOf (setsOf c nulls g)
 
   abbrev oneRound : Bool → List ℕ
   oneRound c = overAll (firstStep c nulls) g (replicate 64 0)
@@ -92,11 +92,11 @@ module _ (nulls : ℕ) (g : List Production) where
   settled-seen : (c : Bool) (n b : ℕ) → settled c n b ≡ least (firstIn c nulls b) g n
   settled-seen c n b = same-at (sets-seen c nulls b g) n
 
-  round-is : (c : Bool) (n b : ℕ) → holds (oneRound c) n b ≡ overAll (admit (firstIn c nulls b)) g nothing n
+  round-is : (c : Bool) (n b : ℕ) → inSetOf (oneRound c) n b ≡ overAll (admit (firstIn c nulls b)) g nothing n
   round-is c n b = same-at (round-seen c nulls b g) n
 
   -- one round gives nothing else
-  round-settled : (c : Bool) (n b : ℕ) → holds (oneRound c) n b ≡ true → settled c n b ≡ true
+  round-settled : (c : Bool) (n b : ℕ) → inSetOf (oneRound c) n b ≡ true → settled c n b ≡ true
   round-settled c n b e =
       settled-seen c n b ∙ round-within (firstIn c nulls b) (first-more c nulls b) g n (sym (round-is c n b) ∙ e)
 
@@ -115,7 +115,7 @@ module _ (nulls : ℕ) (g : List Production) where
   -- ---------------------------------------------------------------- the closure has the same
 
   -- a nonterminal with a set is one of the 64
-  small-owner : (sets : List ℕ) → length sets ≡ 64 → (n b : ℕ) → holds sets n b ≡ true → n < 64
+  small-owner : (sets : List ℕ) → length sets ≡ 64 → (n b : ℕ) → inSetOf sets n b ≡ true → n < 64
   small-owner sets many n b e = by (decLt n 64)
     where
       by : Dec (n < 64) → n < 64
@@ -128,17 +128,17 @@ module _ (nulls : ℕ) (g : List Production) where
     closed-many : length sets ≡ 64
     closed-many = x .as-many ∙ length-over c nulls g (replicate 64 0) ∙ length-replicate {A = ℕ} 64 0
 
-    closed-settled : (n b : ℕ) → holds sets n b ≡ true → settled c n b ≡ true
+    closed-settled : (n b : ℕ) → inSetOf sets n b ≡ true → settled c n b ≡ true
     closed-settled = x .least (settled true) (settled c) (round-settled true) (round-settled c) (settled-through true) (settled-through c)
 
-    settled-closed : (n b : ℕ) → settled c n b ≡ true → holds sets n b ≡ true
-    settled-closed n b e = least-within (firstIn c nulls b) g (λ m. holds sets m b ≡ true) keeps n (sym (settled-seen c n b) ∙ e)
+    settled-closed : (n b : ℕ) → settled c n b ≡ true → inSetOf sets n b ≡ true
+    settled-closed n b e = least-within (firstIn c nulls b) g (λ m. inSetOf sets m b ≡ true) keeps n (sym (settled-seen c n b) ∙ e)
       where
-        admitted : (d : Bool) (m w : ℕ) (p : Production) → Of g m p → firstIn d nulls w nothing (p .items) ≡ true → holds (oneRound d) m w ≡ true
+        admitted : (d : Bool) (m w : ℕ) (p : Production) → Of g m p → firstIn d nulls w nothing (p .items) ≡ true → inSetOf (oneRound d) m w ≡ true
         admitted d m w p o h = round-is d m w ∙ round-admits (firstIn d nulls w) (first-more d nulls w) o h
 
-        keeps : (s : Numbers) → Each (λ m. holds sets m b ≡ true) s → (m : ℕ) (p : Production) → Of g m p
-            → firstIn c nulls b s (p .items) ≡ true → holds sets m b ≡ true
+        keeps : (s : Numbers) → Each (λ m. inSetOf sets m b ≡ true) s → (m : ℕ) (p : Production) → Of g m p
+            → firstIn c nulls b s (p .items) ≡ true → inSetOf sets m b ≡ true
         keeps s hs m p o h =
             ⊎-elim (λ q. x .kept m b (admitted c m b p o q))
             (λ q.

@@ -12,7 +12,7 @@ use lib.Seq.{getD-set-same, getD-set-other}
 use borrow.Author.Tests.{lt-ltb, ltb-true}
 use Rattle.kinds.specs.Kinds.{hasKind}
 use Rattle.kinds.proofs.KindsLaws.{has-none, has-join}
-use Rattle.firsts.specs.SetCalls.{holds, SetsLent, UsedBelow, Above, StepLent, joinedIf, withCallee, CalleeJoined, CalleeTaken, ClosedBelow, ClosedBoth}
+use Rattle.firsts.specs.SetCalls.{inSetOf, SetsLent, UsedBelow, Above, StepLent, joinedIf, withCallee, CalleeJoined, CalleeTaken, ClosedBelow, ClosedBoth}
 use Rattle.firsts.proofs.Rounds.{or-left, or-right, or-split}
 
 -- ------------------------------------------------------------------ one callee, nonterminal by nonterminal
@@ -89,12 +89,12 @@ closed-start calls sets =
 
 -- a nonterminal that has no set at first has none in the closure
 no-set : {many limit : ℕ} {calls₀ sets₀ calls sets : List ℕ} → ClosedBelow limit calls₀ sets₀ calls sets
-    → ((n : ℕ) → many ≤ n → getD calls₀ n 0 ≡ 0) → ((n : ℕ) → many ≤ n → getD sets₀ n 0 ≡ 0) → (n b : ℕ) → holds sets n b ≡ true → n < many
+    → ((n : ℕ) → many ≤ n → getD calls₀ n 0 ≡ 0) → ((n : ℕ) → many ≤ n → getD sets₀ n 0 ≡ 0) → (n b : ℕ) → inSetOf sets n b ≡ true → n < many
 no-set {many} {calls₀ = calls₀} {sets₀ = sets₀} c no-calls no-sets n b e =
     ltb-true n many
     (c .least (λ i j. ltb i many) (λ i j. ltb i many) (below calls₀ no-calls) (below sets₀ no-sets) (λ i j l p q. p) (λ i j l p q. p) n b e)
   where
-    below : (sets : List ℕ) → ((n : ℕ) → many ≤ n → getD sets n 0 ≡ 0) → (n b : ℕ) → holds sets n b ≡ true → ltb n many ≡ true
+    below : (sets : List ℕ) → ((n : ℕ) → many ≤ n → getD sets n 0 ≡ 0) → (n b : ℕ) → inSetOf sets n b ≡ true → ltb n many ≡ true
     below sets none n b e = by (decLt n many)
       where
         by : Dec (n < many) → ltb n many ≡ true
@@ -103,21 +103,21 @@ no-set {many} {calls₀ = calls₀} {sets₀ = sets₀} c no-calls no-sets n b e
 
 -- one callee more
 module _ {k : ℕ} {calls₀ sets₀ calls sets : List ℕ} (calls′ sets′ : List ℕ)
-    (came : (n j : ℕ) → holds calls′ n j ≡ true → (holds calls n j ≡ true) ⊎ ((holds calls n k ≡ true) × (holds calls k j ≡ true)))
-    (came-sets : (n b : ℕ) → holds sets′ n b ≡ true → (holds sets n b ≡ true) ⊎ ((holds calls n k ≡ true) × (holds sets k b ≡ true)))
-    (old : (n b : ℕ) → holds sets n b ≡ true → holds sets′ n b ≡ true)
-    (new : (n b : ℕ) → holds calls n k ≡ true → holds sets k b ≡ true → holds sets′ n b ≡ true)
+    (came : (n j : ℕ) → inSetOf calls′ n j ≡ true → (inSetOf calls n j ≡ true) ⊎ ((inSetOf calls n k ≡ true) × (inSetOf calls k j ≡ true)))
+    (came-sets : (n b : ℕ) → inSetOf sets′ n b ≡ true → (inSetOf sets n b ≡ true) ⊎ ((inSetOf calls n k ≡ true) × (inSetOf sets k b ≡ true)))
+    (old : (n b : ℕ) → inSetOf sets n b ≡ true → inSetOf sets′ n b ≡ true)
+    (new : (n b : ℕ) → inSetOf calls n k ≡ true → inSetOf sets k b ≡ true → inSetOf sets′ n b ≡ true)
     (a : ClosedBelow k calls₀ calls₀ calls calls) (x : ClosedBelow k calls₀ sets₀ calls sets) where
   -- over k itself
-  over-last : (n b : ℕ) → holds calls′ n k ≡ true → holds sets′ k b ≡ true → holds sets′ n b ≡ true
+  over-last : (n b : ℕ) → inSetOf calls′ n k ≡ true → inSetOf sets′ k b ≡ true → inSetOf sets′ n b ≡ true
   over-last n b e f = new n b (⊎-elim (λ p. p) (λ p. p .0) (came n k e)) (⊎-elim (λ p. p) (λ p. p .1) (came-sets k b f))
 
   -- over an earlier callee j
-  over-earlier : (n j b : ℕ) → j < k → holds calls′ n j ≡ true → holds sets′ j b ≡ true → holds sets′ n b ≡ true
+  over-earlier : (n j b : ℕ) → j < k → inSetOf calls′ n j ≡ true → inSetOf sets′ j b ≡ true → inSetOf sets′ n b ≡ true
   over-earlier n j b l e f = by (came n j e) (came-sets j b f)
     where
-      by : (holds calls n j ≡ true) ⊎ ((holds calls n k ≡ true) × (holds calls k j ≡ true))
-          → (holds sets j b ≡ true) ⊎ ((holds calls j k ≡ true) × (holds sets k b ≡ true)) → holds sets′ n b ≡ true
+      by : (inSetOf calls n j ≡ true) ⊎ ((inSetOf calls n k ≡ true) × (inSetOf calls k j ≡ true))
+          → (inSetOf sets j b ≡ true) ⊎ ((inSetOf calls j k ≡ true) × (inSetOf sets k b ≡ true)) → inSetOf sets′ n b ≡ true
       by (inl p) (inl q) = old n b (x .through n j b l p q)
       by (inl p) (inr q) = new n b (a .through n j k l p (q .0)) (q .1)
       by (inr p) (inl q) = new n b (p .0) (x .through k j b l (p .1) q)
@@ -134,39 +134,39 @@ module _ {k : ℕ} {calls₀ sets₀ calls sets : List ℕ} (calls′ sets′ : 
             (λ p. ts n k b (a .least R R ra ra tr tr n k (p .0)) (x .least R S ra sx tr ts k b (p .1))) (came-sets n b e);
       }
     where
-      by : (n j b : ℕ) → j < k + 1 → holds calls′ n j ≡ true → holds sets′ j b ≡ true → Dec (j < k) → holds sets′ n b ≡ true
+      by : (n j b : ℕ) → j < k + 1 → inSetOf calls′ n j ≡ true → inSetOf sets′ j b ≡ true → Dec (j < k) → inSetOf sets′ n b ≡ true
       by n j b l e f (yes h) = over-earlier n j b h e f
       by n j b l e f (no h) = let z : j ≡ k = omega arith in over-last n b (rw (← z) e) (rw (← z) f)
 
 -- what the code's turn for callee k does to one of the two arrays
 module _ {many k : ℕ} {calls sets sets′ : List ℕ} (r : CalleeJoined k many calls sets sets′)
-    (none : (n : ℕ) → holds calls n k ≡ true → n < many) where
-  with-seen : (n b : ℕ) → hasKind (withCallee calls sets k n) b ≡ (holds sets n b || (holds calls n k && holds sets k b))
+    (none : (n : ℕ) → inSetOf calls n k ≡ true → n < many) where
+  with-seen : (n b : ℕ) → hasKind (withCallee calls sets k n) b ≡ (inSetOf sets n b || (inSetOf calls n k && inSetOf sets k b))
   with-seen n b = by (hasKind (getD calls n 0) k) refl
     where
-      by : (t : Bool) → hasKind (getD calls n 0) k ≡ t → hasKind (withCallee calls sets k n) b ≡ (holds sets n b || (holds calls n k && holds sets k b))
+      by : (t : Bool) → hasKind (getD calls n 0) k ≡ t → hasKind (withCallee calls sets k n) b ≡ (inSetOf sets n b || (inSetOf calls n k && inSetOf sets k b))
       by true e = rw e (has-join (getD sets n 0) (getD sets k 0) b)
       by false e = rw e (sym (or-false _))
 
-  taken-came : (n b : ℕ) → holds sets′ n b ≡ true → (holds sets n b ≡ true) ⊎ ((holds calls n k ≡ true) × (holds sets k b ≡ true))
+  taken-came : (n b : ℕ) → inSetOf sets′ n b ≡ true → (inSetOf sets n b ≡ true) ⊎ ((inSetOf calls n k ≡ true) × (inSetOf sets k b ≡ true))
   taken-came n b e = by (decLt n many)
     where
-      by : Dec (n < many) → (holds sets n b ≡ true) ⊎ ((holds calls n k ≡ true) × (holds sets k b ≡ true))
+      by : Dec (n < many) → (inSetOf sets n b ≡ true) ⊎ ((inSetOf calls n k ≡ true) × (inSetOf sets k b ≡ true))
       by (yes l) =
           ⊎-elim inl (λ p. inr (and-eq-true-iff _ _ .0 p))
-          (or-split (holds sets n b) (cc (with-seen n b, r .done n l)))
+          (or-split (inSetOf sets n b) (cc (with-seen n b, r .done n l)))
       by (no l) = inl (cc (r .left n (omega arith)))
 
-  taken-old : (n b : ℕ) → holds sets n b ≡ true → holds sets′ n b ≡ true
+  taken-old : (n b : ℕ) → inSetOf sets n b ≡ true → inSetOf sets′ n b ≡ true
   taken-old n b e = by (decLt n many)
     where
-      by : Dec (n < many) → holds sets′ n b ≡ true
+      by : Dec (n < many) → inSetOf sets′ n b ≡ true
       by (yes l) = rw (r .done n l) (with-seen n b ∙ or-left _ e)
       by (no l) = rw (r .left n (omega arith)) e
 
-  taken-new : (n b : ℕ) → holds calls n k ≡ true → holds sets k b ≡ true → holds sets′ n b ≡ true
+  taken-new : (n b : ℕ) → inSetOf calls n k ≡ true → inSetOf sets k b ≡ true → inSetOf sets′ n b ≡ true
   taken-new n b e f =
-      rw (r .done n (none n e)) (with-seen n b ∙ or-right (holds sets n b) (and-eq-true-iff _ _ .1 (e, f)))
+      rw (r .done n (none n e)) (with-seen n b ∙ or-right (inSetOf sets n b) (and-eq-true-iff _ _ .1 (e, f)))
 
 -- ------------------------------------------------------------------ the loop
 
@@ -187,7 +187,7 @@ module _ {callers : ℕ} {calls₀ kinds₀ : List ℕ} (u : UsedBelow callers c
   -- one callee more
   pub both-next : {calls′ kinds′ : List ℕ} → CalleeTaken k callers calls kinds calls′ kinds′ → ClosedBoth (k + 1) calls₀ kinds₀ calls′ kinds′
   both-next {calls′} {kinds′} t =
-      let none : (n : ℕ) → holds calls n k ≡ true → n < callers = λ n e. no-set (c .calls-closed) (u .none) (u .none) n k e in
+      let none : (n : ℕ) → inSetOf calls n k ≡ true → n < callers = λ n e. no-set (c .calls-closed) (u .none) (u .none) n k e in
       let a = t .calls-joined in
       let x = t .kinds-joined in
       record {

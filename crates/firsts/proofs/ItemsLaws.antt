@@ -16,20 +16,20 @@ use Rattle.grammar.specs.Lookup.{frontOf, fieldsAt}
 use Rattle.grammar.proofs.LookupLaws.{fields-at, front-inside, front-nothing}
 use Rattle.layout.specs.Prefix.{templatesOf, found}
 use Rattle.layout.specs.Decode.{itemOf}
-use Rattle.firsts.specs.declared.Symbol.{Symbol}
-use Rattle.firsts.specs.declared.Symbol.the-variants.{Keyword, Word, Number, Local, Call}
-use Rattle.firsts.specs.declared.Step.{Step}
-use Rattle.firsts.specs.declared.Step.the-variants.{Done, Past}
+use Rattle.firsts.specs.declared.ItemKind.{ItemKind}
+use Rattle.firsts.specs.declared.ItemKind.the-variants.{Keyword, Word, Number, Local, Call}
+use Rattle.firsts.specs.declared.SymbolStep.{SymbolStep}
+use Rattle.firsts.specs.declared.SymbolStep.the-variants.{Done, Past}
 use Rattle.firsts.specs.declared.Gathered.{Gathered}
 use Rattle.firsts.specs.SetCalls.{gathered}
-use Rattle.firsts.specs.Symbols.{symbolOf, withSymbol, fieldStep, stepOf}
+use Rattle.firsts.specs.Symbols.{symbolOf, withSymbol, fieldStep, symbolStep}
 use Rattle.firsts.specs.FirstSets.{isPassed, allPassed, own, through, joined, gather}
 use Rattle.productions.specs.Index.{itemsOf}
 
 -- ------------------------------------------------------------------ the symbol of an item
 
 -- by its kind and operand
-abbrev symbols : ℕ → List Symbol
+abbrev symbols : ℕ → List ItemKind
 symbols k = Keyword k ∷ Word ∷ Number ∷ Local ∷ Call k ∷ []
 
 symbol-by : (v : List ℕ) → symbolOf (itemOf v) ≡ getD (symbols (getD v 1 0)) (getD v 0 0) Number
@@ -93,15 +93,15 @@ joined-by : (calls : Bool) (sets : List ℕ) (i : Item) (found : ℕ) → joined
 joined-by calls sets i found = rw (own-by calls i, through-by sets i) refl
 
 -- the code's cases
-pub passed-is : (nulls : ℕ) {s t : Symbol} → s ≡ t → isPassed nulls (withSymbol t) ≡ isPassed nulls (withSymbol s)
+pub passed-is : (nulls : ℕ) {s t : ItemKind} → s ≡ t → isPassed nulls (withSymbol t) ≡ isPassed nulls (withSymbol s)
 passed-is nulls e = rw e refl
 
 -- the same for what it gives by itself
-pub own-is : {calls b : Bool} → calls ≡ b → {s t : Symbol} → s ≡ t → own b (withSymbol t) ≡ own calls (withSymbol s)
+pub own-is : {calls b : Bool} → calls ≡ b → {s t : ItemKind} → s ≡ t → own b (withSymbol t) ≡ own calls (withSymbol s)
 own-is e f = rw (e, f) refl
 
 -- and through its nonterminal
-pub through-is : (sets : List ℕ) {s t : Symbol} → s ≡ t → through sets (withSymbol t) ≡ through sets (withSymbol s)
+pub through-is : (sets : List ℕ) {s t : ItemKind} → s ≡ t → through sets (withSymbol t) ≡ through sets (withSymbol s)
 through-is sets e = rw e refl
 
 -- a keyword that is none has no kind
@@ -111,7 +111,7 @@ keyword-none k h = sym (only-none (k + 2) (omega arith))
 -- ------------------------------------------------------------------ what stands at an offset
 
 -- an item with this symbol stands at an offset, and another offset is behind it
-pub record ItemAt (bs : List ℕ) (at : ℕ) (s : Symbol) (after : ℕ) : Type 0 where
+pub record ItemAt (bs : List ℕ) (at : ℕ) (s : ItemKind) (after : ℕ) : Type 0 where
   -- the item
   pub item : Item
   -- its symbol is s
@@ -124,7 +124,7 @@ pub record ItemAt (bs : List ℕ) (at : ℕ) (s : Symbol) (after : ℕ) : Type 0
   pub inside : after ≤ length bs
 
 -- what a step says of the items at an offset
-abbrev pub Stepped : List ℕ → ℕ → Step → Type 0
+abbrev pub Stepped : List ℕ → ℕ → SymbolStep → Type 0
 Stepped bs at Done = itemsOf (fieldsAt bs at) ≡ []
 Stepped bs at (Past s after) = ItemAt bs at s after
 
@@ -141,28 +141,28 @@ module _ (bs : List ℕ) (at : ℕ) where
       }
   stepped-field t n e false f = ap itemsOf (fields-at bs at e) ∙ rw (f, itemsOf) refl
 
-  stepped-by : (f : Front) → f ≡ frontOf (drop at bs) → Stepped bs at (stepOf bs at f)
+  stepped-by : (f : Front) → f ≡ frontOf (drop at bs) → Stepped bs at (symbolStep bs at f)
   unfolding itemsOf
   stepped-by Nothing e = ap itemsOf (fields-at bs at e)
   stepped-by Short e = ap itemsOf (fields-at bs at e)
   stepped-by (Field t n) e = stepped-field t n e _ refl
 
   -- and so does the step of the code
-  pub stepped : {r : Step} → r ≡ stepOf bs at (frontOf (drop at bs)) → Stepped bs at r
+  pub stepped : {r : SymbolStep} → r ≡ symbolStep bs at (frontOf (drop at bs)) → Stepped bs at r
   stepped e = rw e (stepped-by _ refl)
 
   -- behind an item less is left
-  pub step-less : {s : Symbol} {after : ℕ} → Past s after ≡ stepOf bs at (frontOf (drop at bs)) → length bs - after < length bs - at
+  pub step-less : {s : ItemKind} {after : ℕ} → Past s after ≡ symbolStep bs at (frontOf (drop at bs)) → length bs - after < length bs - at
   step-less e = omega (arith, stepped e .less, stepped e .inside)
 
   -- the code's answers
-  pub step-done : {t n : ℕ} → Field t n ≡ frontOf (drop at bs) → (t ≡ 6 → ⊥) → Done ≡ stepOf bs at (frontOf (drop at bs))
-  step-done {t} {n} e h = ap (fieldStep bs at n) (sym (ne-eqb t 6 h)) ∙ ap (stepOf bs at) e
+  pub step-done : {t n : ℕ} → Field t n ≡ frontOf (drop at bs) → (t ≡ 6 → ⊥) → Done ≡ symbolStep bs at (frontOf (drop at bs))
+  step-done {t} {n} e h = ap (fieldStep bs at n) (sym (ne-eqb t 6 h)) ∙ ap (symbolStep bs at) e
 
   -- a field of tag 6 is an item
-  pub step-past : {t n : ℕ} → Field t n ≡ frontOf (drop at bs) → t ≡ 6 → {s : Symbol}
+  pub step-past : {t n : ℕ} → Field t n ≡ frontOf (drop at bs) → t ≡ 6 → {s : ItemKind}
       → s ≡ symbolOf (itemOf (take (at + 3 + n - (at + 3)) (drop (at + 3) bs)))
-      → Past s (at + 3 + n) ≡ stepOf bs at (frontOf (drop at bs))
+      → Past s (at + 3 + n) ≡ symbolStep bs at (frontOf (drop at bs))
   step-past {t} {n} e h es =
       let z : at + 3 + n - (at + 3) ≡ n = omega arith in
       rw (es, z, ← e, eq-eqb t 6 h) refl
@@ -172,7 +172,7 @@ module _ (bs : List ℕ) (at : ℕ) where
   items-end h = ap itemsOf (fields-at bs at (sym (front-nothing bs at h)))
 
 -- whether the code's test passes the item that stands here
-passes : (bs : List ℕ) (at nulls : ℕ) {s : Symbol} {after : ℕ} (e : Past s after ≡ stepOf bs at (frontOf (drop at bs))) {b : Bool}
+passes : (bs : List ℕ) (at nulls : ℕ) {s : ItemKind} {after : ℕ} (e : Past s after ≡ symbolStep bs at (frontOf (drop at bs))) {b : Bool}
     → b ≡ isPassed nulls (withSymbol s)
     → b ≡ isPassed nulls (stepped bs at e .item)
 passes bs at nulls e eb =
@@ -192,14 +192,14 @@ module _ {bs : List ℕ} {nulls start at : ℕ} (c : AllPassing bs nulls start a
   all-none e = sym (ap (allPassed nulls) e) ∙ c .rest
 
   -- no item is left
-  pub all-done : Done ≡ stepOf bs at (frontOf (drop at bs)) → true ≡ allPassed nulls (itemsOf (fieldsAt bs start))
+  pub all-done : Done ≡ symbolStep bs at (frontOf (drop at bs)) → true ≡ allPassed nulls (itemsOf (fieldsAt bs start))
   all-done e = all-none (stepped bs at e)
 
   -- nor at the end
   pub all-end : length bs ≤ at → true ≡ allPassed nulls (itemsOf (fieldsAt bs start))
   all-end h = all-none (items-end bs at h)
 
-  module _ {s : Symbol} {after : ℕ} (e : Past s after ≡ stepOf bs at (frontOf (drop at bs))) {b : Bool} (eb : b ≡ isPassed nulls (withSymbol s)) where
+  module _ {s : ItemKind} {after : ℕ} (e : Past s after ≡ symbolStep bs at (frontOf (drop at bs))) {b : Bool} (eb : b ≡ isPassed nulls (withSymbol s)) where
     all-one : (b && allPassed nulls (itemsOf (fieldsAt bs after))) ≡ allPassed nulls (itemsOf (fieldsAt bs start))
     unfolding allPassed
     all-one =
@@ -226,14 +226,14 @@ module _ {bs : List ℕ} {calls : Bool} {nulls : ℕ} {sets : List ℕ} {start f
   gather-none e = rw e at (c .rest)
 
   -- no item is left
-  pub gather-done : Done ≡ stepOf bs at (frontOf (drop at bs)) → found ≡ gather calls nulls sets (itemsOf (fieldsAt bs start)) 0
+  pub gather-done : Done ≡ symbolStep bs at (frontOf (drop at bs)) → found ≡ gather calls nulls sets (itemsOf (fieldsAt bs start)) 0
   gather-done e = gather-none (stepped bs at e)
 
   -- nor at the end
   pub gather-end : length bs ≤ at → found ≡ gather calls nulls sets (itemsOf (fieldsAt bs start)) 0
   gather-end h = gather-none (items-end bs at h)
 
-  module _ {s : Symbol} {after : ℕ} (e : Past s after ≡ stepOf bs at (frontOf (drop at bs))) {more : ℕ}
+  module _ {s : ItemKind} {after : ℕ} (e : Past s after ≡ symbolStep bs at (frontOf (drop at bs))) {more : ℕ}
       (em : more ≡ joined calls sets (withSymbol s) found) {b : Bool} (eb : b ≡ isPassed nulls (withSymbol s)) where
     finds : more ≡ joined calls sets (stepped bs at e .item) found
     finds =
@@ -275,18 +275,18 @@ module _ {bs : List ℕ} {nulls : ℕ} {kinds calls : List ℕ} {start read call
   together ek el eb er = er ∙ rw (ek, el, eb) refl
 
   -- no item is left
-  pub walk-done : Done ≡ stepOf bs at (frontOf (drop at bs)) → {r : Gathered} → r ≡ record { kinds = read; calls = called; nullable = true } → r ≡ whole
+  pub walk-done : Done ≡ symbolStep bs at (frontOf (drop at bs)) → {r : Gathered} → r ≡ record { kinds = read; calls = called; nullable = true } → r ≡ whole
   walk-done e = together (gather-done (c .reading) e) (gather-done (c .calling) e) (all-done (c .passing) e)
 
   -- behind an item less is left
-  pub walk-less : {s : Symbol} {after : ℕ} → Past s after ≡ stepOf bs at (frontOf (drop at bs)) → length bs - after < length bs - at
+  pub walk-less : {s : ItemKind} {after : ℕ} → Past s after ≡ symbolStep bs at (frontOf (drop at bs)) → length bs - after < length bs - at
   walk-less = step-less bs at
 
   -- nor at the end
   pub walk-end : length bs ≤ at → {r : Gathered} → r ≡ record { kinds = read; calls = called; nullable = true } → r ≡ whole
   walk-end h = together (gather-end (c .reading) h) (gather-end (c .calling) h) (all-end (c .passing) h)
 
-  module _ {s : Symbol} {after : ℕ} (e : Past s after ≡ stepOf bs at (frontOf (drop at bs))) {k l : ℕ} (ek : k ≡ joined false kinds (withSymbol s) read)
+  module _ {s : ItemKind} {after : ℕ} (e : Past s after ≡ symbolStep bs at (frontOf (drop at bs))) {k l : ℕ} (ek : k ≡ joined false kinds (withSymbol s) read)
       (el : l ≡ joined true calls (withSymbol s) called) {b : Bool} (eb : b ≡ isPassed nulls (withSymbol s)) where
     -- past an item that may read nothing
     pub walk-next : b ≡ true → Walking bs nulls kinds calls start k l after

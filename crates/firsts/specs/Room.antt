@@ -64,8 +64,8 @@ pub record FillRoom (bs : List ℕ) (m : ℕ) (owners starts sets room : List �
   pub lent : RoomAndSets room sets
 
 -- the room of an index, with given sets, over what was there
-abbrev pub filled : List ℕ → ℕ → List ℕ → List ℕ → ℕ → List ℕ → List ℕ → List ℕ
-filled bs m owners starts nulls sets room = overwritten (roomBy bs (placesIn m owners starts) nulls sets) room
+abbrev pub roomFilled : List ℕ → ℕ → List ℕ → List ℕ → ℕ → List ℕ → List ℕ → List ℕ
+roomFilled bs m owners starts nulls sets room = overwritten (roomBy bs (placesIn m owners starts) nulls sets) room
 
 -- the lowest left recursive nonterminal, and the room over what was there
 pub record Prepared (bs : List ℕ) (places : List Place) (room₀ room : List ℕ) (n : ℕ) : Type 0 where

@@ -36,8 +36,8 @@ pub record BothSets (nulls : ℕ) (g : List Production) (kinds calls : List ℕ)
 -- ------------------------------------------------------------------ the closure
 
 -- b is in the set of nonterminal n
-abbrev pub holds : List ℕ → ℕ → ℕ → Bool
-holds sets n b = hasKind (getD sets n 0) b
+abbrev pub inSetOf : List ℕ → ℕ → ℕ → Bool
+inSetOf sets n b = hasKind (getD sets n 0) b
 
 -- a set for each nonterminal, twice
 pub record SetsLent (calls kinds : List ℕ) : Type 0 where
@@ -82,11 +82,11 @@ pub record CalleeTaken (k n : ℕ) (calls₀ kinds₀ calls kinds : List ℕ) : 
 -- the sets₀ closed over the calls₀, with the callees below a limit: what was there, what the callees give, and nothing else
 pub record ClosedBelow (limit : ℕ) (calls₀ sets₀ calls sets : List ℕ) : Type 0 where
   pub as-many : length sets ≡ length sets₀
-  pub kept : (n b : ℕ) → holds sets₀ n b ≡ true → holds sets n b ≡ true
-  pub through : (n k b : ℕ) → k < limit → holds calls n k ≡ true → holds sets k b ≡ true → holds sets n b ≡ true
-  pub least : (R S : ℕ → ℕ → Bool) → ((n k : ℕ) → holds calls₀ n k ≡ true → R n k ≡ true) → ((n b : ℕ) → holds sets₀ n b ≡ true → S n b ≡ true)
+  pub kept : (n b : ℕ) → inSetOf sets₀ n b ≡ true → inSetOf sets n b ≡ true
+  pub through : (n k b : ℕ) → k < limit → inSetOf calls n k ≡ true → inSetOf sets k b ≡ true → inSetOf sets n b ≡ true
+  pub least : (R S : ℕ → ℕ → Bool) → ((n k : ℕ) → inSetOf calls₀ n k ≡ true → R n k ≡ true) → ((n b : ℕ) → inSetOf sets₀ n b ≡ true → S n b ≡ true)
       → ((n k m : ℕ) → R n k ≡ true → R k m ≡ true → R n m ≡ true) → ((n k b : ℕ) → R n k ≡ true → S k b ≡ true → S n b ≡ true)
-      → (n b : ℕ) → holds sets n b ≡ true → S n b ≡ true
+      → (n b : ℕ) → inSetOf sets n b ≡ true → S n b ≡ true
 
 -- the calls closed over themselves, and the kinds over the calls
 pub record ClosedBoth (limit : ℕ) (calls₀ kinds₀ calls kinds : List ℕ) : Type 0 where

@@ -8,13 +8,13 @@ use Rattle.grammar.specs.Table.{none, Item, keyword, ide, number, local, call}
 use Rattle.grammar.specs.declared.Front.{Front}
 use Rattle.grammar.specs.declared.Front.the-variants.{Nothing, Short, Field}
 use Rattle.layout.specs.Decode.{itemOf}
-use Rattle.firsts.specs.declared.Symbol.{Symbol}
-use Rattle.firsts.specs.declared.Symbol.the-variants.{Keyword, Word, Number, Local, Call}
-use Rattle.firsts.specs.declared.Step.{Step}
-use Rattle.firsts.specs.declared.Step.the-variants.{Done, Past}
+use Rattle.firsts.specs.declared.ItemKind.{ItemKind}
+use Rattle.firsts.specs.declared.ItemKind.the-variants.{Keyword, Word, Number, Local, Call}
+use Rattle.firsts.specs.declared.SymbolStep.{SymbolStep}
+use Rattle.firsts.specs.declared.SymbolStep.the-variants.{Done, Past}
 
 -- an item's symbol
-abbrev pub symbolOf : Item → Symbol
+abbrev pub symbolOf : Item → ItemKind
 symbolOf (keyword k) = Keyword k
 symbolOf (ide s) = Word
 symbolOf number = Number
@@ -22,7 +22,7 @@ symbolOf local = Local
 symbolOf (call n ts) = Call n
 
 -- an item with that symbol
-abbrev pub withSymbol : Symbol → Item
+abbrev pub withSymbol : ItemKind → Item
 withSymbol (Keyword k) = keyword k
 withSymbol Word = ide 0
 withSymbol Number = number
@@ -30,12 +30,12 @@ withSymbol Local = local
 withSymbol (Call n) = call n none
 
 -- a field with a value of n bytes, at an offset, is an item
-abbrev pub fieldStep : List ℕ → ℕ → ℕ → Bool → Step
+abbrev pub fieldStep : List ℕ → ℕ → ℕ → Bool → SymbolStep
 fieldStep bs at n true = Past (symbolOf (itemOf (take n (drop (at + 3) bs)))) (at + 3 + n)
 fieldStep bs at n false = Done
 
 -- what stands at an offset: an item with the offset behind it, or none
-abbrev pub stepOf : List ℕ → ℕ → Front → Step
-stepOf bs at Nothing = Done
-stepOf bs at Short = Done
-stepOf bs at (Field t n) = fieldStep bs at n (eqb t 6)
+abbrev pub symbolStep : List ℕ → ℕ → Front → SymbolStep
+symbolStep bs at Nothing = Done
+symbolStep bs at Short = Done
+symbolStep bs at (Field t n) = fieldStep bs at n (eqb t 6)

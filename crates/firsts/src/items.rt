@@ -1,7 +1,7 @@
 // The items of an alternative, read off the table's bytes, and what each gives to nullables and to first sets.
 use crate::Gathered;
-use crate::Step;
-use crate::Symbol;
+use crate::ItemKind;
+use crate::SymbolStep;
 use grammar::Front;
 use grammar::front_at;
 use grammar::limits::MOST_KEYWORDS;
@@ -14,56 +14,56 @@ ghost use lib.ListN.{getD, drop};
 ghost use Rattle.kinds.specs.Kinds.{keywordKind, only};
 ghost use Rattle.grammar.specs.Lookup.{frontOf, fieldsAt};
 ghost use Rattle.layout.specs.Decode.{itemOf};
-ghost use Rattle.firsts.specs.Symbols.{symbolOf, withSymbol, stepOf};
+ghost use Rattle.firsts.specs.Symbols.{symbolOf, withSymbol, symbolStep};
 ghost use Rattle.firsts.specs.FirstSets.{isPassed, own, through, joined};
 ghost use Rattle.firsts.specs.SetCalls.{gathered};
 ghost use Rattle.productions.specs.Index.{itemsOf};
 
 // The symbol of the item that is the value of a field.
-fn symbol(v: &[u8]) -> Symbol
+fn symbol(v: &[u8]) -> ItemKind
     ensures { λ r. ⌜ r ≡ symbolOf (itemOf (now (v .entry))) ⌝ }
 {
     let kind = byte(v, 0);
     let operand = byte(v, 1);
     match kind {
-        0 => Symbol::Keyword(operand),
-        1 => Symbol::Word,
-        3 => Symbol::Local,
-        4 => Symbol::Call(operand),
-        _ => Symbol::Number,
+        0 => ItemKind::Keyword(operand),
+        1 => ItemKind::Word,
+        3 => ItemKind::Local,
+        4 => ItemKind::Call(operand),
+        _ => ItemKind::Number,
     }
 }
 
 // What stands at an offset.
-pub fn item_at(table: &[u8], at: usize) -> Step
-    ensures { λ r. ⌜ r ≡ stepOf (now (table .entry)) at (frontOf (drop at (now (table .entry)))) ⌝ }
+pub fn item_at(table: &[u8], at: usize) -> SymbolStep
+    ensures { λ r. ⌜ r ≡ symbolStep (now (table .entry)) at (frontOf (drop at (now (table .entry)))) ⌝ }
 {
     let front = front_at(table, at);
     match front {
-        Front::Nothing => Step::Done,
-        Front::Short => Step::Done,
+        Front::Nothing => SymbolStep::Done,
+        Front::Short => SymbolStep::Done,
         Front::Field(tag, size) => {
             if tag != 6 {
-                return Step::Done;
+                return SymbolStep::Done;
             }
             let from = at + 3;
             let to = from + size;
             let s = symbol(&table[from..to]);
-            Step::Past(s, to)
+            SymbolStep::Past(s, to)
         }
     }
 }
 
 // Whether the item may read nothing.
-fn passed(s: Symbol, nulls: u64) -> bool
+fn passed(s: ItemKind, nulls: u64) -> bool
     ensures { λ r. ⌜ r ≡ isPassed nulls (withSymbol s) ⌝ }
 {
     match s {
-        Symbol::Keyword(_) => false,
-        Symbol::Word => false,
-        Symbol::Number => false,
-        Symbol::Local => true,
-        Symbol::Call(n) => has(nulls, n),
+        ItemKind::Keyword(_) => false,
+        ItemKind::Word => false,
+        ItemKind::Number => false,
+        ItemKind::Local => true,
+        ItemKind::Call(n) => has(nulls, n),
     }
 }
 
@@ -77,24 +77,24 @@ fn keyword_set(k: u8) -> u64
 }
 
 // What an item gives by itself: to a first set the kind that it reads, to the left calls the nonterminal that it calls.
-fn own(s: Symbol, calls: bool) -> u64
+fn own(s: ItemKind, calls: bool) -> u64
     ensures { λ r. ⌜ r ≡ own calls (withSymbol s) ⌝ }
 {
     if calls {
         match s {
-            Symbol::Keyword(_) => 0,
-            Symbol::Word => 0,
-            Symbol::Number => 0,
-            Symbol::Local => 0,
-            Symbol::Call(n) => only(n),
+            ItemKind::Keyword(_) => 0,
+            ItemKind::Word => 0,
+            ItemKind::Number => 0,
+            ItemKind::Local => 0,
+            ItemKind::Call(n) => only(n),
         }
     } else {
         match s {
-            Symbol::Keyword(k) => keyword_set(k),
-            Symbol::Word => only(0),
-            Symbol::Number => only(1),
-            Symbol::Local => 0,
-            Symbol::Call(_) => 0,
+            ItemKind::Keyword(k) => keyword_set(k),
+            ItemKind::Word => only(0),
+            ItemKind::Number => only(1),
+            ItemKind::Local => 0,
+            ItemKind::Call(_) => 0,
         }
     }
 }
@@ -107,20 +107,20 @@ pub fn set_at(sets: &[u64], i: usize) -> u64
 }
 
 // What a call gives through its nonterminal.
-fn through(s: Symbol, sets: &[u64]) -> u64
+fn through(s: ItemKind, sets: &[u64]) -> u64
     ensures { λ r. ⌜ r ≡ through (now (sets .entry)) (withSymbol s) ⌝ }
 {
     match s {
-        Symbol::Keyword(_) => 0,
-        Symbol::Word => 0,
-        Symbol::Number => 0,
-        Symbol::Local => 0,
-        Symbol::Call(n) => set_at(sets, n as usize),
+        ItemKind::Keyword(_) => 0,
+        ItemKind::Word => 0,
+        ItemKind::Number => 0,
+        ItemKind::Local => 0,
+        ItemKind::Call(n) => set_at(sets, n as usize),
     }
 }
 
 // What is found with an item, after what was found before it.
-fn joined(s: Symbol, calls: bool, sets: &[u64], found: u64) -> u64
+fn joined(s: ItemKind, calls: bool, sets: &[u64], found: u64) -> u64
     ensures { λ r. ⌜ r ≡ joined calls (now (sets .entry)) (withSymbol s) found ⌝ }
 {
     join(join(found, own(s, calls)), through(s, sets))
@@ -147,10 +147,10 @@ pub fn gather(table: &[u8], start: usize, nulls: u64, kinds: &[u64], calls: &[u6
     while at < table.len() {
         let step = item_at(table, at);
         match step {
-            Step::Done => {
+            SymbolStep::Done => {
                 return found(read, called, true);
             }
-            Step::Past(s, next) => {
+            SymbolStep::Past(s, next) => {
                 read = joined(s, false, kinds, read);
                 called = joined(s, true, calls, called);
                 let goes = passed(s, nulls);

@@ -6,7 +6,7 @@ pub mod prepared;
 pub mod sets;
 
 // An item as nullables and first sets see it.
-pub enum Symbol {
+pub enum ItemKind {
     Keyword(u8),
     Word,
     Number,
@@ -15,9 +15,9 @@ pub enum Symbol {
 }
 
 // What stands at an offset of a table: no item, or an item and the offset behind it.
-pub enum Step {
+pub enum SymbolStep {
     Done,
-    Past(Symbol, usize),
+    Past(ItemKind, usize),
 }
 
 // What the items of a production give to the sets of its nonterminal, the kinds to its first set and the nonterminals to its left calls;

@@ -16,7 +16,7 @@ ghost use mathlib.Core.Path.{_≡_};
 ghost use Rattle.answers.specs.Checked.{verdict};
 ghost use Rattle.productions.specs.Index.{placesIn};
 ghost use Rattle.firsts.specs.Pairs.{noClashIn};
-ghost use Rattle.firsts.specs.Room.{filled, WholeIndex, FillRoom, Prepared, FirstsChecked};
+ghost use Rattle.firsts.specs.Room.{roomFilled, WholeIndex, FillRoom, Prepared, FirstsChecked};
 
 // Writes the room of a grammar with these nullable nonterminals and first sets. The productions are laid from the last to the first, so
 // that each finds the next one of its nonterminal.
@@ -31,7 +31,7 @@ fn fill(
 )
     requires { ⌜ FillRoom (now table) m (now owners) (now starts) (now sets) (now room) ⌝ }
     ensures { λ r. ⌜ now (room .exit)
-        ≡ filled (now (table .entry)) m (now (owners .entry)) (now (starts .entry)) nulls (now (sets .entry)) (now (room .entry)) ⌝ }
+        ≡ roomFilled (now (table .entry)) m (now (owners .entry)) (now (starts .entry)) nulls (now (sets .entry)) (now (room .entry)) ⌝ }
 {
     begin(room, m, sets);
     let mut j = m;

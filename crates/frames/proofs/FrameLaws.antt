@@ -14,7 +14,7 @@ use Rattle.expansion.specs.declared.State.{State}
 use Rattle.expansion.specs.Run.{Result, halt}
 use Rattle.expansion.specs.Expansion.{Input}
 use Rattle.templates.specs.Built.{Holds}
-use Rattle.frames.specs.Frames.{frameSize, shortFrames, Fits, Saved, Loaded, Frame, resume, Waits, Stacked, stacked-none, stacked-one}
+use Rattle.frames.specs.Frames.{frameSize, shortFrames, LevelFits, Saved, Loaded, Frame, resume, Waits, Stacked, stacked-none, stacked-one}
 use Rattle.frames.specs.Frames.{Standing}
 
 -- ------------------------------------------------------------------ 16 variables, copied one by one
@@ -174,7 +174,7 @@ waits-holds w l e =
 -- ------------------------------------------------------------------ where an expansion stands
 
 -- the same in another room, as far as the calls stand
-pub standing-same : {I : Input} {bs old new : List ℕ} {level : ℕ} {here : State} {cells : List ℕ} {R : Result ℕ} → Fits new level
+pub standing-same : {I : Input} {bs old new : List ℕ} {level : ℕ} {here : State} {cells : List ℕ} {R : Result ℕ} → LevelFits new level
     → ((i : ℕ) → i < level * frameSize + frameSize → getD new i 0 ≡ getD old i 0)
     → Standing I bs old level here cells R
     → Standing I bs new level here cells R

@@ -27,7 +27,7 @@ abbrev pub mostWaiting : ℕ
 mostWaiting = 1023
 
 -- a level of the room
-pub record Fits (frames : List ℕ) (level : ℕ) : Type 0 where
+pub record LevelFits (frames : List ℕ) (level : ℕ) : Type 0 where
   pub few : level ≤ mostWaiting
   pub inside : level * frameSize + frameSize ≤ length frames
 
@@ -78,7 +78,7 @@ pub data Stacked (bs frames : List ℕ) : List Frame → Type 0 where
 
 -- `level` calls wait below the one that goes on; all stand in the room, and what is left of them gives R
 pub record Standing (I : Input) (bs frames : List ℕ) (level : ℕ) (here : State) (cells : List ℕ) (R : Result ℕ) : Type 0 where
-  pub fits : Fits frames level
+  pub fits : LevelFits frames level
   pub current : Frame
   pub waiting : List Frame
   pub many : length waiting ≡ level

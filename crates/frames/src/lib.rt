@@ -3,14 +3,14 @@ use spellings::wide_number;
 ghost use Prim.Native.Nat.{ℕ, _+_, _*_, _^_, _≤_, _<_};
 ghost use mathlib.Core.Path.{_≡_};
 ghost use lib.ListN.{length, getD};
-ghost use Rattle.frames.specs.Frames.{frameSize, shortFrames, Fits, Saved, Loaded};
+ghost use Rattle.frames.specs.Frames.{frameSize, shortFrames, LevelFits, Saved, Loaded};
 
 // The numbers of a frame.
 pub const FRAME: usize = 18;
 
 // One more call waits above `level` others.
 pub fn save(frames: &mut [u32], level: usize, vars: &[u32; 16], count: usize, next: usize)
-    requires { ⌜ Fits (now frames) level ⌝ }
+    requires { ⌜ LevelFits (now frames) level ⌝ }
     requires { ⌜ (count < 2 ^ 32) × (next < 2 ^ 32) ⌝ }
     ensures { λ r. ⌜ Saved (now (frames .entry)) (now (frames .exit)) level (now (vars .entry)) count next ⌝ }
 {
@@ -26,7 +26,7 @@ pub fn save(frames: &mut [u32], level: usize, vars: &[u32; 16], count: usize, ne
 
 // The variables of a call that waits.
 pub fn load(frames: &[u32], level: usize) -> [u32; 16]
-    requires { ⌜ Fits (now frames) level ⌝ }
+    requires { ⌜ LevelFits (now frames) level ⌝ }
     ensures { λ r. ⌜ Loaded (now (frames .entry)) level r ⌝ }
 {
     let base = level * FRAME;
@@ -41,7 +41,7 @@ pub fn load(frames: &[u32], level: usize) -> [u32; 16]
 
 // How many variables it has.
 pub fn count_of(frames: &[u32], level: usize) -> usize
-    requires { ⌜ Fits (now frames) level ⌝ }
+    requires { ⌜ LevelFits (now frames) level ⌝ }
     ensures { λ r. ⌜ r ≡ getD (now (frames .entry)) (level * frameSize + 16) 0 ⌝ }
 {
     wide_number(frames[level * FRAME + 16])
@@ -49,7 +49,7 @@ pub fn count_of(frames: &[u32], level: usize) -> usize
 
 // Where it goes on.
 pub fn next_of(frames: &[u32], level: usize) -> usize
-    requires { ⌜ Fits (now frames) level ⌝ }
+    requires { ⌜ LevelFits (now frames) level ⌝ }
     ensures { λ r. ⌜ r ≡ getD (now (frames .entry)) (level * frameSize + 17) 0 ⌝ }
 {
     wide_number(frames[level * FRAME + 17])

@@ -15,7 +15,7 @@ use Rattle.grammar.specs.declared.Front.{Front}
 use Rattle.grammar.specs.declared.Front.the-variants.{Nothing, Short, Field}
 use Rattle.grammar.specs.declared.Found.{Found}
 use Rattle.grammar.specs.declared.Found.the-variants.{At, Absent}
-use Rattle.grammar.specs.Fields.{Fields, end, cut, next, sizeOf, fieldsFrom, fieldsOf}
+use Rattle.grammar.specs.Fields.{RawFields, end, cut, next, sizeOf, fieldsFrom, fieldsOf}
 use Rattle.grammar.specs.Limits.{most}
 use Rattle.grammar.specs.Lookup.{leading, afterLeading, lexiconOf, frontOf, fieldsAt}
 use Rattle.grammar.specs.Found.{foundIn}
@@ -112,12 +112,12 @@ fuel (suc k) (suc k′) at rest h h′ =
     (omega (arith, length-drop (3 + sizeOf rest) rest)))
 
 -- the fields from an offset on, by what stands there
-abbrev pub opened : List ℕ → ℕ → Front → Fields
+abbrev pub opened : List ℕ → ℕ → Front → RawFields
 opened table at Nothing = end at
 opened table at Short = cut at
 opened table at (Field t n) = next at t (take n (drop (at + 3) table)) (fieldsAt table (at + 3 + n))
 
-abbrev openedFrom : ℕ → ℕ → List ℕ → Front → Fields
+abbrev openedFrom : ℕ → ℕ → List ℕ → Front → RawFields
 openedFrom k at rest Nothing = end at
 openedFrom k at rest Short = cut at
 openedFrom k at rest (Field t n) = next at t (take n (drop 3 rest)) (fieldsFrom k (at + (3 + n)) (drop (3 + n) rest))
@@ -224,11 +224,11 @@ module _ (table : List ℕ) (at tag : ℕ) where
   after-stop Short h = refl
   after-stop (Field t n) h = rw (ne-eqb t tag h, afterLeading) refl
 
-  leading-goes : (t : ℕ) (v : List ℕ) (fs : Fields) → t ≡ tag → leading tag (next at t v fs) ≡ v ∷ leading tag fs
+  leading-goes : (t : ℕ) (v : List ℕ) (fs : RawFields) → t ≡ tag → leading tag (next at t v fs) ≡ v ∷ leading tag fs
   unfolding leading
   leading-goes t v fs e = rw (eq-eqb t tag e, leading) refl
 
-  after-goes : (t : ℕ) (v : List ℕ) (fs : Fields) → t ≡ tag → afterLeading tag (next at t v fs) ≡ afterLeading tag fs
+  after-goes : (t : ℕ) (v : List ℕ) (fs : RawFields) → t ≡ tag → afterLeading tag (next at t v fs) ≡ afterLeading tag fs
   unfolding afterLeading
   after-goes t v fs e = rw (eq-eqb t tag e, afterLeading) refl
 

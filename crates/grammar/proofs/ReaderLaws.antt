@@ -9,7 +9,7 @@ use lib.ListN.{length, getD, take, drop, length-drop, drop-of-length-le, List·g
 use lib.Seq.{take-nil, take-all}
 use borrow.Author.Tests.{leb-true}
 use Rattle.spellings.specs.Bytes.{every}
-use Rattle.grammar.specs.Sorts.{Signature, gives, unit, constructors, constructor, arity}
+use Rattle.grammar.specs.Sorts.{Signature, gives, unit, constructorSignatures, constructor, arity}
 
 -- what stands past the end of a list is the default
 pub getD-past {ℓ} : {A : Type ℓ} (l : List A) (n : ℕ) (d : A) → length l ≤ n → getD l n d ≡ d
@@ -23,8 +23,8 @@ arities = 1 ∷ 2 ∷ 2 ∷ 1 ∷ 2 ∷ 0 ∷ 3 ∷ 1 ∷ []
 
 -- the arity of a constructor is the one listed for it
 pub arity-at : (c : ℕ) → getD arities (c - 32) 0 ≡ arity c
-unfolding constructors constructor
-arity-at c = List·getD-map (λ (s : Signature). length (s .params)) constructors (c - 32) (gives [] unit)
+unfolding constructorSignatures constructor
+arity-at c = List·getD-map (λ (s : Signature). length (s .params)) constructorSignatures (c - 32) (gives [] unit)
 
 -- a code below the constructors counts as the first of them
 pub arity-low : (c : ℕ) → c < 32 → 1 ≡ arity c

@@ -8,7 +8,7 @@ use lib.ListN.{length, getD, List·getD-map}
 use borrow.Author.Tests.{leb-true, ltb-true, ltb-false}
 use Rattle.spellings.proofs.BytesLaws.{by-test, every-at}
 use Rattle.spellings.specs.Bytes.{every}
-use Rattle.grammar.specs.Sorts.{Signature, gives, unit, constructors, constructor, arity}
+use Rattle.grammar.specs.Sorts.{Signature, gives, unit, constructorSignatures, constructor, arity}
 use Rattle.grammar.proofs.ReaderLaws.{getD-past, arities, arity-at, arity-high}
 
 -- a code below the first reads the first, one past the last nothing
@@ -21,23 +21,23 @@ code-high l c e h = sym (getD-past l (c - 32) 0 (omega arith))
 
 -- the results of the eight constructors
 pub results : (c : ℕ) → getD (4 ∷ 4 ∷ 4 ∷ 4 ∷ 4 ∷ 5 ∷ 5 ∷ 4 ∷ []) (c - 32) 0 ≡ constructor c .result
-unfolding constructors constructor
-results c = List·getD-map (λ (s : Signature). s .result) constructors (c - 32) (gives [] unit)
+unfolding constructorSignatures constructor
+results c = List·getD-map (λ (s : Signature). s .result) constructorSignatures (c - 32) (gives [] unit)
 
 -- the sorts of their first arguments
 pub firsts : (c : ℕ) → getD (1 ∷ 2 ∷ 4 ∷ 5 ∷ 4 ∷ 0 ∷ 3 ∷ 6 ∷ []) (c - 32) 0 ≡ getD (constructor c .params) 0 unit
-unfolding constructors constructor
-firsts c = List·getD-map (λ (s : Signature). getD (s .params) 0 unit) constructors (c - 32) (gives [] unit)
+unfolding constructorSignatures constructor
+firsts c = List·getD-map (λ (s : Signature). getD (s .params) 0 unit) constructorSignatures (c - 32) (gives [] unit)
 
 -- of their second arguments
 pub seconds : (c : ℕ) → getD (0 ∷ 4 ∷ 4 ∷ 0 ∷ 3 ∷ 0 ∷ 4 ∷ 0 ∷ []) (c - 32) 0 ≡ getD (constructor c .params) 1 unit
-unfolding constructors constructor
-seconds c = List·getD-map (λ (s : Signature). getD (s .params) 1 unit) constructors (c - 32) (gives [] unit)
+unfolding constructorSignatures constructor
+seconds c = List·getD-map (λ (s : Signature). getD (s .params) 1 unit) constructorSignatures (c - 32) (gives [] unit)
 
 -- and of their third arguments
 pub thirds : (c : ℕ) → getD (0 ∷ 0 ∷ 0 ∷ 0 ∷ 0 ∷ 0 ∷ 5 ∷ 0 ∷ []) (c - 32) 0 ≡ getD (constructor c .params) 2 unit
-unfolding constructors constructor
-thirds c = List·getD-map (λ (s : Signature). getD (s .params) 2 unit) constructors (c - 32) (gives [] unit)
+unfolding constructorSignatures constructor
+thirds c = List·getD-map (λ (s : Signature). getD (s .params) 2 unit) constructorSignatures (c - 32) (gives [] unit)
 
 -- a constructor has three arguments at most
 pub arity-small : (c : ℕ) → arity c ≤ 3

@@ -7,17 +7,17 @@ use lib.ListN.{length, getD, take, drop}
 
 -- What stands from an offset on: nothing (the offset is the table's length), a field that runs past the end, or a field (its
 -- offset, tag and value) and what follows it.
-pub data Fields : Type 0 where
-  end : ℕ → Fields
-  cut : ℕ → Fields
-  next : ℕ → ℕ → List ℕ → Fields → Fields
+pub data RawFields : Type 0 where
+  end : ℕ → RawFields
+  cut : ℕ → RawFields
+  next : ℕ → ℕ → List ℕ → RawFields → RawFields
 
 -- the length that the field at the front states, high byte first
 abbrev pub sizeOf : List ℕ → ℕ
 sizeOf rest = getD rest 1 0 * 256 + getD rest 2 0
 
 -- the fields of what is left of a table at the offset `at`; k bounds the bytes left
-unfoldable pub fieldsFrom : ℕ → ℕ → List ℕ → Fields
+unfoldable pub fieldsFrom : ℕ → ℕ → List ℕ → RawFields
 fieldsFrom zero at rest = end at
 fieldsFrom (suc k) at rest =
     elim (eqb (length rest) 0) [
@@ -31,5 +31,5 @@ fieldsFrom (suc k) at rest =
           ]
     ]
 
-unfoldable pub fieldsOf : List ℕ → Fields
+unfoldable pub fieldsOf : List ℕ → RawFields
 fieldsOf bs = fieldsFrom (length bs) 0 bs

@@ -8,7 +8,7 @@ use Rattle.grammar.specs.declared.Front.{Front}
 use Rattle.grammar.specs.declared.Front.the-variants.{Nothing, Short, Field}
 use Rattle.grammar.specs.Limits.{most}
 use Rattle.grammar.specs.Table.{Lexicon}
-use Rattle.grammar.specs.Fields.{Fields, sizeOf, fieldsFrom, fieldsOf, end, cut, next}
+use Rattle.grammar.specs.Fields.{RawFields, sizeOf, fieldsFrom, fieldsOf, end, cut, next}
 
 -- what stands at the front of what is left of a table
 unfoldable pub frontOf : List ℕ → Front
@@ -19,16 +19,16 @@ frontOf rest =
     ]
 
 -- a table's fields from an offset on; at 0 these are `fieldsOf` the table
-unfoldable pub fieldsAt : List ℕ → ℕ → Fields
+unfoldable pub fieldsAt : List ℕ → ℕ → RawFields
 fieldsAt table at = fieldsFrom (length table) at (drop at table)
 
 -- the values of the fields of one tag that stand at the front, and what follows them
-unfoldable pub leading : ℕ → Fields → List (List ℕ)
+unfoldable pub leading : ℕ → RawFields → List (List ℕ)
 leading tag (end at) = []
 leading tag (cut at) = []
 leading tag (next at t v fs) = elim (eqb t tag) [ true ↦ v ∷ leading tag fs | false ↦ [] ]
 
-unfoldable pub afterLeading : ℕ → Fields → Fields
+unfoldable pub afterLeading : ℕ → RawFields → RawFields
 afterLeading tag (end at) = end at
 afterLeading tag (cut at) = cut at
 afterLeading tag (next at t v fs) = elim (eqb t tag) [ true ↦ afterLeading tag fs | false ↦ next at t v fs ]

@@ -34,8 +34,8 @@ abbrev pub gives : List ℕ → ℕ → Signature
 gives ps r = record { params = ps; result = r }
 
 -- the constructors in the order of their codes, from hex 20
-unfoldable pub constructors : List Signature
-constructors =
+unfoldable pub constructorSignatures : List Signature
+constructorSignatures =
     gives (var ∷ []) term  -- 20 mkTermVar
     ∷ gives (binder ∷ term ∷ []) term  -- 21 mkTermFun
     ∷ gives (term ∷ term ∷ []) term  -- 22 mkTermApp
@@ -48,8 +48,8 @@ constructors =
 
 -- the signature of the constructor with code c
 unfoldable pub constructor : ℕ → Signature
-unfolding constructors
-constructor c = getD constructors (c - 0x20) (gives [] unit)
+unfolding constructorSignatures
+constructor c = getD constructorSignatures (c - 0x20) (gives [] unit)
 
 -- how many arguments it takes
 abbrev pub arity : ℕ → ℕ

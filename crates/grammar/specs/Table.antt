@@ -8,7 +8,7 @@ use Rattle.grammar.specs.Sorts.{Signature}
 mutual
   pub data Template : Type 0 where
     variable : ℕ → Template
-    outside : ℕ → Template
+    outsideVar : ℕ → Template
     outsideLabel : ℕ → Template
     make : ℕ → Templates → Template
 

@@ -2,7 +2,7 @@
 -- Each part is laid in front of what follows it.
 use Prim.Native.Nat.{ℕ}
 use mathlib.Core.List.{List, [], _∷_}
-use Rattle.grammar.specs.Table.{Template, Templates, variable, outside, outsideLabel, make, none, more, Item, keyword, ide, number, local, call, Mode}
+use Rattle.grammar.specs.Table.{Template, Templates, variable, outsideVar, outsideLabel, make, none, more, Item, keyword, ide, number, local, call, Mode}
 use Rattle.grammar.specs.Table.{add, extend, update, Definition}
 
 -- a field: a tag and a value
@@ -17,7 +17,7 @@ field tag v = record { tag = tag; value = v }
 unfoldable mutual
   pub templateThen : Template → List ℕ → List ℕ
   templateThen (variable i) follow = i ∷ follow
-  templateThen (outside n) follow = 0x10 ∷ n ∷ follow
+  templateThen (outsideVar n) follow = 0x10 ∷ n ∷ follow
   templateThen (outsideLabel n) follow = 0x11 ∷ n ∷ follow
   templateThen (make c ts) follow = c ∷ templatesThen ts follow
 

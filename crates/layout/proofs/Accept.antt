@@ -7,7 +7,7 @@ use lib.Dec.{eqb}
 use borrow.Author.Tests.{eqb-true}
 use Rattle.answers.specs.Checked.{Checked, ok, bad, _>>=_, _>>_, need}
 use Rattle.grammar.specs.Values.{Field, field}
-use Rattle.grammar.specs.Fields.{Fields, end, cut, next}
+use Rattle.grammar.specs.Fields.{RawFields, end, cut, next}
 use Rattle.layout.specs.declared.Progress.{Progress}
 use Rattle.layout.specs.Layout.{isEmpty, isHead, isItem, isRoot, isKnown, follows, isSpelled, hasRoom, isWhole, passed, checkField, checkFields}
 use Rattle.layout.proofs.Split.{Uncut}
@@ -51,7 +51,7 @@ all-true true true false d e at s k h = absurd (subst⁻¹ Accepts h tt)
 all-true true false c d e at s k h = absurd (subst⁻¹ Accepts h tt)
 all-true false b c d e at s k h = absurd (subst⁻¹ Accepts h tt)
 
-module _ (at tag : ℕ) (v : List ℕ) (fs : Fields) (before : List Field) (s : Progress) where
+module _ (at tag : ℕ) (v : List ℕ) (fs : RawFields) (before : List Field) (s : Progress) where
   -- A field that passes is accepted with what follows it.
   pub accept : Passes before tag v s → checkFields fs (field tag v ∷ before) (passed tag s) ≡ ok tt
       → checkFields (next at tag v fs) before s ≡ ok tt
@@ -69,7 +69,7 @@ module _ (at tag : ℕ) (v : List ℕ) (fs : Fields) (before : List Field) (s : 
       (record { known = all .0; ordered = all .1; spelled = all .2; room = all .3; whole = all .4 }, all .5)
 
 -- Nothing is cut in fields that are accepted.
-pub accepted-uncut : (fs : Fields) (before : List Field) (s : Progress) → checkFields fs before s ≡ ok tt → Uncut fs
+pub accepted-uncut : (fs : RawFields) (before : List Field) (s : Progress) → checkFields fs before s ≡ ok tt → Uncut fs
 unfolding checkFields
 accepted-uncut (end at) before s h = tt
 accepted-uncut (cut at) before s h = subst⁻¹ Accepts h tt

@@ -13,7 +13,7 @@ use Rattle.grammar.specs.Table.{Item, Alternative, Definition, Table}
 use Rattle.grammar.specs.Encode.{spellingsThen, itemsThen, alternativesThen, definitionsThen, blocksThen, tableFields}
 use Rattle.grammar.specs.Values.{Field, field, templateThen, itemValue, headValue}
 use Rattle.layout.specs.declared.Progress.{Progress}
-use Rattle.layout.specs.Layout.{isKnown, follows, isRepeated, isSpelled, hasRoom, isWhole, passed, start, checkFields}
+use Rattle.layout.specs.Layout.{isKnown, follows, isRepeated, isSpelled, hasRoom, isWhole, passed, initialProgress, checkFields}
 use Rattle.layout.specs.Within.{Each, each-none, each-more, ItemWithin, AlternativeWithin, DefinitionWithin, alternativesOf, alternativesIn, Within}
 use Rattle.layout.proofs.Split.{spread}
 use Rattle.layout.proofs.Values.{root-known, head-known, result-whole, item-known, item-whole}
@@ -173,12 +173,12 @@ module _ (k : List Field)
       (omega arith) (omega arith) (omega arith) (omega arith))
 
 -- The fields of a table within the bounds are accepted.
-pub table-accepted : (t : Table) → Within t → Accepted [] start (tableFields t)
+pub table-accepted : (t : Table) → Within t → Accepted [] initialProgress (tableFields t)
 unfolding tableFields follows isRepeated
 table-accepted t w =
     keywords-accepted (blocksThen (t .blocks) (field 8 (t .root ∷ []) ∷ []))
     (λ b s n e g. blocks-accepted (t .root) (w .root) (w .blocks) b s n (omega (arith, w .blockCount)) (omega (arith, w .alternativeCount)))
-    (t .outsides) (t .keywords) [] start
+    (t .outsides) (t .keywords) [] initialProgress
     (record { spelled = w .keywords; fresh = each-all (λ v. refl) (t .keywords); different = w .keywordsDiffer })
     (record { spelled = w .outsides; fresh = each-all (λ v. refl) (t .outsides); different = w .outsidesDiffer })
     refl refl (record { block = refl; root = refl }) (omega (arith, w .keywordCount)) (omega (arith, w .outsideCount)) refl refl

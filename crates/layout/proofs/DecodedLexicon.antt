@@ -13,31 +13,31 @@ use Rattle.spellings.proofs.BytesLaws.{by-test}
 use Rattle.grammar.specs.Limits.{most}
 use Rattle.grammar.specs.Table.{Table}
 use Rattle.grammar.specs.Values.{Field, field}
-use Rattle.grammar.specs.Fields.{Fields, end, cut, next, fieldsOf}
+use Rattle.grammar.specs.Fields.{RawFields, end, cut, next, fieldsOf}
 use Rattle.grammar.specs.Lookup.{leading, afterLeading, lexiconOf}
 use Rattle.layout.specs.declared.Progress.{Progress}
-use Rattle.layout.specs.Layout.{isKnown, follows, passed, start, checkFields}
-use Rattle.layout.specs.Decode.{Built, put, build, decode}
+use Rattle.layout.specs.Layout.{isKnown, follows, passed, initialProgress, checkFields}
+use Rattle.layout.specs.Decode.{Decoded, put, decodeFields, decode}
 use Rattle.layout.proofs.Accept.{Passes, Accepts, accepted, by-tag}
 use Rattle.layout.proofs.Sound.{room-1, room-2}
 use Rattle.layout.proofs.Inverse.{layout-parts, decoded-layout}
 
 -- ------------------------------------------------------------------ leading fields
 
-leading-not : (tag at t : ℕ) (v : List ℕ) (fs : Fields) → eqb t tag ≡ false → leading tag (next at t v fs) ≡ []
+leading-not : (tag at t : ℕ) (v : List ℕ) (fs : RawFields) → eqb t tag ≡ false → leading tag (next at t v fs) ≡ []
 unfolding leading
 leading-not tag at t v fs e = rw (e, leading) refl
 
-after-not : (tag at t : ℕ) (v : List ℕ) (fs : Fields) → eqb t tag ≡ false → afterLeading tag (next at t v fs) ≡ next at t v fs
+after-not : (tag at t : ℕ) (v : List ℕ) (fs : RawFields) → eqb t tag ≡ false → afterLeading tag (next at t v fs) ≡ next at t v fs
 unfolding afterLeading
 after-not tag at t v fs e = rw (e, afterLeading) refl
 
-leading-one : (tag at t : ℕ) (v : List ℕ) (fs : Fields) → eqb t tag ≡ true → leading tag (next at t v fs) ≡ v ∷ leading tag fs
+leading-one : (tag at t : ℕ) (v : List ℕ) (fs : RawFields) → eqb t tag ≡ true → leading tag (next at t v fs) ≡ v ∷ leading tag fs
 unfolding leading
 leading-one tag at t v fs e = rw (e, leading) refl
 
 -- nothing is left out after no leading field
-after-none : (tag : ℕ) (fs : Fields) → leading tag fs ≡ [] → afterLeading tag fs ≡ fs
+after-none : (tag : ℕ) (fs : RawFields) → leading tag fs ≡ [] → afterLeading tag fs ≡ fs
 unfolding afterLeading
 after-none tag (end at) e = refl
 after-none tag (cut at) e = refl
@@ -48,16 +48,16 @@ after-none tag (next at t v fs) e =
 -- ------------------------------------------------------------------ field by field
 
 -- the leading spellings of fields are those that are built, none after the last place for them, and there is room for them
-record Spells (s : Progress) (fs : Fields) : Type 0 where
-  keywords : leading 1 fs ≡ build fs .keywords
-  outsides : leading 2 (afterLeading 1 fs) ≡ build fs .outsides
-  keywordsOver : 2 ≤ s .last → build fs .keywords ≡ []
-  outsidesOver : 3 ≤ s .last → build fs .outsides ≡ []
-  keywordRoom : length (build fs .keywords) ≤ most .keywords - s .keywords
-  outsideRoom : length (build fs .outsides) ≤ most .outsides - s .outsides
+record Spells (s : Progress) (fs : RawFields) : Type 0 where
+  keywords : leading 1 fs ≡ decodeFields fs .keywords
+  outsides : leading 2 (afterLeading 1 fs) ≡ decodeFields fs .outsides
+  keywordsOver : 2 ≤ s .last → decodeFields fs .keywords ≡ []
+  outsidesOver : 3 ≤ s .last → decodeFields fs .outsides ≡ []
+  keywordRoom : length (decodeFields fs .keywords) ≤ most .keywords - s .keywords
+  outsideRoom : length (decodeFields fs .outsides) ≤ most .outsides - s .outsides
 
 abbrev Step : ℕ → Type 0
-Step tag = (at : ℕ) (v : List ℕ) (fs : Fields) (before : List Field) (s : Progress) → Passes before tag v s → Spells (passed tag s) fs
+Step tag = (at : ℕ) (v : List ℕ) (fs : RawFields) (before : List Field) (s : Progress) → Passes before tag v s → Spells (passed tag s) fs
     → Spells s (next at tag v fs)
 
 follows-keyword : (last : ℕ) → follows 1 last ≡ leb last 1
@@ -69,7 +69,7 @@ unfolding follows
 follows-outside last = simp or-false
 
 step-keyword : Step 1
-unfolding leading afterLeading build put passed
+unfolding leading afterLeading decodeFields put passed
 step-keyword at v fs before s p h =
     let early : s .last ≤ 1 = leb-true (s .last) 1 (sym (follows-keyword (s .last)) ∙ p .ordered) in
     let room = room-1 s (p .room) in
@@ -83,7 +83,7 @@ step-keyword at v fs before s p h =
     }
 
 step-outside : Step 2
-unfolding leading afterLeading build put passed
+unfolding leading afterLeading decodeFields put passed
 step-outside at v fs before s p h =
     let early : s .last ≤ 2 = leb-true (s .last) 2 (sym (follows-outside (s .last)) ∙ p .ordered) in
     let room = room-2 s (p .room) in
@@ -99,12 +99,12 @@ step-outside at v fs before s p h =
 
 -- a field of another tag
 step-later : (tag : ℕ) → 3 ≤ tag → eqb tag 1 ≡ false → eqb tag 2 ≡ false
-    → ((v : List ℕ) (b : Built) → put tag v b .keywords ≡ b .keywords) → ((v : List ℕ) (b : Built) → put tag v b .outsides ≡ b .outsides)
+    → ((v : List ℕ) (b : Decoded) → put tag v b .keywords ≡ b .keywords) → ((v : List ℕ) (b : Decoded) → put tag v b .outsides ≡ b .outsides)
     → Step tag
-unfolding build passed
+unfolding decodeFields passed
 step-later tag l k o pk po at v fs before s p h =
-    let ks = pk v (build fs) ∙ h .keywordsOver (omega arith) in
-    let os = po v (build fs) ∙ h .outsidesOver l in
+    let ks = pk v (decodeFields fs) ∙ h .keywordsOver (omega arith) in
+    let os = po v (decodeFields fs) ∙ h .outsidesOver l in
     record {
       keywords = leading-not 1 at tag v fs k ∙ sym ks;
       outsides = ap (leading 2) (after-not 1 at tag v fs k) ∙ leading-not 2 at tag v fs o ∙ sym os;
@@ -124,8 +124,8 @@ steps =
     (step-later 7 (omega arith) refl refl (λ v b. refl) (λ v b. refl))
     (step-later 8 (omega arith) refl refl (λ v b. refl) (λ v b. refl))
 
-spells : (fs : Fields) (before : List Field) (s : Progress) → checkFields fs before s ≡ ok tt → Spells s fs
-unfolding checkFields leading afterLeading build
+spells : (fs : RawFields) (before : List Field) (s : Progress) → checkFields fs before s ≡ ok tt → Spells s fs
+unfolding checkFields leading afterLeading decodeFields
 spells (end at) before s h =
     record {
       keywords = refl;
@@ -145,7 +145,7 @@ pub leading-decoded : (bs : List ℕ) (t : Table) → decode bs ≡ ok t
     → (leading 1 (fieldsOf bs) ≡ t .keywords) × (leading 2 (afterLeading 1 (fieldsOf bs)) ≡ t .outsides)
 leading-decoded bs t h =
     let right = decoded-layout bs t h in
-    let w = spells (fieldsOf bs) [] start (layout-parts bs (right .0) .1) in
+    let w = spells (fieldsOf bs) [] initialProgress (layout-parts bs (right .0) .1) in
     (cc (w .keywords, right .1), cc (w .outsides, right .1))
 
 -- The lexicon of bytes that are decoded as a table is the table's.
@@ -154,6 +154,6 @@ pub lexicon-decoded : (bs : List ℕ) (t : Table) → decode bs ≡ ok t
 unfolding lexiconOf
 lexicon-decoded bs t h =
     let right = decoded-layout bs t h in
-    let w = spells (fieldsOf bs) [] start (layout-parts bs (right .0) .1) in
-    let b = build (fieldsOf bs) in
+    let w = spells (fieldsOf bs) [] initialProgress (layout-parts bs (right .0) .1) in
+    let b = decodeFields (fieldsOf bs) in
     cc (w .keywords, take-all (most .keywords) (b .keywords) (w .keywordRoom), w .outsides, take-all (most .outsides) (b .outsides) (w .outsideRoom), right .1)

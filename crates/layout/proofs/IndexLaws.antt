@@ -14,25 +14,25 @@ use Rattle.spellings.specs.Bytes.{same}
 use Rattle.spellings.proofs.BytesLaws.{by-test, differ-same}
 use Rattle.grammar.specs.Values.{Field, field}
 use Rattle.layout.specs.Layout.{isRepeated, oneIf}
-use Rattle.layout.specs.Index.{spelledBy, isAmong, packed, Packs, mixed, hashFrom, hashOf, bucketOf, Hashed, entry, Entered}
-use Rattle.layout.specs.Index.{Leads, leads-none, leads-past, leads-here}
-use Rattle.layout.specs.Index.{Indexed, Falling, roomWith, entered, Has}
+use Rattle.layout.specs.Index.{spellingsUnder, isAmong, packed, Packs, mixed, bucketHashFrom, bucketHash, bucketOf, Hashed, entry, SpellingHeld}
+use Rattle.layout.specs.Index.{Bucket, leads-none, leads-past, leads-here}
+use Rattle.layout.specs.Index.{Indexed, Falling, roomWith, entered, HasSpellings}
 
 -- ------------------------------------------------------------------ what is looked for
 
 -- a field is repeated exactly if its value is among those of its tag
-pub repeated-among : (tag : ℕ) (v : List ℕ) (before : List Field) → isAmong v (spelledBy tag before) ≡ isRepeated tag v before
-unfolding isRepeated isAmong spelledBy
+pub repeated-among : (tag : ℕ) (v : List ℕ) (before : List Field) → isAmong v (spellingsUnder tag before) ≡ isRepeated tag v before
+unfolding isRepeated isAmong spellingsUnder
 repeated-among tag v [] = refl
 repeated-among tag v (f ∷ fs) =
-    by-test (eqb (f .tag) tag) (λ e. rw (e, spelledBy) (cc (repeated-among tag v fs)))
-    (λ e. rw (e, spelledBy) (repeated-among tag v fs))
+    by-test (eqb (f .tag) tag) (λ e. rw (e, spellingsUnder) (cc (repeated-among tag v fs)))
+    (λ e. rw (e, spellingsUnder) (repeated-among tag v fs))
 
 -- ------------------------------------------------------------------ the hash
 
 -- four bytes more
-hash-four : (h : ℕ) (w : List ℕ) → 4 ≤ length w → hashFrom h w ≡ hashFrom (mixed h (packed w)) (drop 4 w)
-unfolding hashFrom
+hash-four : (h : ℕ) (w : List ℕ) → 4 ≤ length w → bucketHashFrom h w ≡ bucketHashFrom (mixed h (packed w)) (drop 4 w)
+unfolding bucketHashFrom
 hash-four h [] e = absurd (omega arith)
 hash-four h (a ∷ []) e = absurd (omega arith)
 hash-four h (a ∷ b ∷ []) e = absurd (omega arith)
@@ -40,8 +40,8 @@ hash-four h (a ∷ b ∷ c ∷ []) e = absurd (omega arith)
 hash-four h (a ∷ b ∷ c ∷ d ∷ bs) e = refl
 
 -- the last bytes
-hash-rest : (h : ℕ) (w : List ℕ) → length w < 4 → hashFrom h w ≡ mixed h (packed w)
-unfolding hashFrom
+hash-rest : (h : ℕ) (w : List ℕ) → length w < 4 → bucketHashFrom h w ≡ mixed h (packed w)
+unfolding bucketHashFrom
 hash-rest h [] e = refl
 hash-rest h (a ∷ []) e = refl
 hash-rest h (a ∷ b ∷ []) e = refl
@@ -49,8 +49,8 @@ hash-rest h (a ∷ b ∷ c ∷ []) e = refl
 hash-rest h (a ∷ b ∷ c ∷ d ∷ bs) e = absurd (omega arith)
 
 -- hashes fit 32 bits
-hash-small : (v : List ℕ) (h : ℕ) → hashFrom h v < 4294967296
-unfolding hashFrom
+hash-small : (v : List ℕ) (h : ℕ) → bucketHashFrom h v < 4294967296
+unfolding bucketHashFrom
 hash-small [] h = omega arith
 hash-small (a ∷ []) h = omega arith
 hash-small (a ∷ b ∷ []) h = omega arith
@@ -58,8 +58,8 @@ hash-small (a ∷ b ∷ c ∷ []) h = omega arith
 hash-small (a ∷ b ∷ c ∷ d ∷ bs) h = hash-small bs (mixed h (packed (a ∷ b ∷ c ∷ d ∷ [])))
 
 -- so does that of a spelling
-pub hash-below : (v : List ℕ) → hashOf v < 4294967296
-unfolding hashOf
+pub hash-below : (v : List ℕ) → bucketHash v < 4294967296
+unfolding bucketHash
 hash-below v = hash-small v 0
 
 -- the first i bytes have the hash h
@@ -69,11 +69,11 @@ pub record Hashing (v : List ℕ) (i h : ℕ) : Type 0 where
   -- h is a 32-bit number
   pub small : h < 4294967296
   -- the bytes left, behind what has the hash h, have the whole's hash
-  pub rest : hashFrom h (drop i v) ≡ hashOf v
+  pub rest : bucketHashFrom h (drop i v) ≡ bucketHash v
 
 -- no byte yet
 pub hashing-start : {v : List ℕ} → Hashing v 0 0
-unfolding hashOf
+unfolding bucketHash
 hashing-start = record { within = omega arith; small = omega arith; rest = refl }
 
 -- the bytes from i on, as the code lends them
@@ -91,16 +91,16 @@ module _ {v : List ℕ} {i h : ℕ} (c : Hashing v i h) {g : ℕ} (p : Packs (ta
         within = omega arith;
         small = omega (arith, packs);
         rest =
-            ap (λ (x : ℕ). hashFrom x (drop (i + 4) v)) packs
+            ap (λ (x : ℕ). bucketHashFrom x (drop (i + 4) v)) packs
             ∙ rw (← (drop-drop 4 i v)) (sym (hash-four h (drop i v) (rw length-drop (omega arith))) ∙ c .rest);
       }
 
   -- all bytes
-  pub hashing-end : length v - i < 4 → k ≡ hashOf v
+  pub hashing-end : length v - i < 4 → k ≡ bucketHash v
   hashing-end l = packs ∙ sym (hash-rest h (drop i v) (rw length-drop (omega arith))) ∙ c .rest
 
 -- a spelling's own
-pub hashed-own : {tag : ℕ} {v : List ℕ} {h : ℕ} → h ≡ hashOf v → Hashed tag v h
+pub hashed-own : {tag : ℕ} {v : List ℕ} {h : ℕ} → h ≡ bucketHash v → Hashed tag v h
 hashed-own e = record { spelled = λ l. e }
 
 -- of a field that is no spelling no hash is asked
@@ -111,13 +111,13 @@ hashed-none h = record { spelled = λ e. absurd (omega arith) }
 
 -- an entry with another hash is another spelling; one with the same hash is compared
 pub entry-other :
-    {table room : List ℕ} {n p : ℕ} {w : List ℕ} (v : List ℕ) → Entered table room n w p → {h stored : ℕ} → h ≡ hashOf v
+    {table room : List ℕ} {n p : ℕ} {w : List ℕ} (v : List ℕ) → SpellingHeld table room n w p → {h stored : ℕ} → h ≡ bucketHash v
     → stored ≡ getD room (entry n + 1) 0 → (stored ≡ h → ⊥) → false ≡ same w v
-entry-other {w = w} v e f s d = sym (differ-same w v (λ q. d (s ∙ e .hashed ∙ ap hashOf q ∙ sym f)))
+entry-other {w = w} v e f s d = sym (differ-same w v (λ q. d (s ∙ e .hashed ∙ ap bucketHash q ∙ sym f)))
 
 -- one with the same hash is compared by its bytes
 pub entry-same :
-    {table room : List ℕ} {n p : ℕ} {w lent : List ℕ} (v : List ℕ) → Entered table room n w p → {from size : ℕ}
+    {table room : List ℕ} {n p : ℕ} {w lent : List ℕ} (v : List ℕ) → SpellingHeld table room n w p → {from size : ℕ}
     → from ≡ getD room (entry n + 2) 0 → size ≡ getD room (entry n + 3) 0 → lent ≡ take size (drop from table) → same lent v ≡ same w v
 entry-same {table} v e f s l = cc (e .placed)
 
@@ -128,25 +128,25 @@ pub record Searching (table room v : List ℕ) (words : List (List ℕ)) (p : �
   -- the spellings not yet compared
   pub left : List (List ℕ)
   -- p leads to those of the bucket
-  pub leads : Leads table room (bucketOf (hashOf v)) left p
+  pub leads : Bucket table room (bucketOf (bucketHash v)) left p
   -- v is among those left exactly if it is among all
   pub rest : isAmong v left ≡ isAmong v words
 
 -- the search begins with all spellings of the bucket
 pub searching-start :
-    {table room v : List ℕ} {words : List (List ℕ)} {h p : ℕ} → Indexed table room words → h ≡ hashOf v → p ≡ getD room (bucketOf h) 0
+    {table room v : List ℕ} {words : List (List ℕ)} {h p : ℕ} → Indexed table room words → h ≡ bucketHash v → p ≡ getD room (bucketOf h) 0
     → Searching table room v words p
 searching-start {table} {room} {v} {words} {h} {p} x e f =
     record {
       left = words;
       leads =
-          subst (Leads table room (bucketOf (hashOf v)) words) (cc) (x .leads (bucketOf (hashOf v)) (omega arith));
+          subst (Bucket table room (bucketOf (bucketHash v)) words) (cc) (x .leads (bucketOf (bucketHash v)) (omega arith));
       rest = refl;
     }
 
 module _ (table room v : List ℕ) where
   -- nothing is left in the bucket
-  none-among : (ws : List (List ℕ)) {p : ℕ} → Leads table room (bucketOf (hashOf v)) ws p → p ≡ 0 → isAmong v ws ≡ false
+  none-among : (ws : List (List ℕ)) {p : ℕ} → Bucket table room (bucketOf (bucketHash v)) ws p → p ≡ 0 → isAmong v ws ≡ false
   unfolding isAmong
   none-among [] leads-none e = refl
   none-among (w ∷ ws) (leads-past d l) e = rw (differ-same w v (λ q. d (cc))) (none-among ws l e)
@@ -161,13 +161,13 @@ module _ (table room v : List ℕ) where
     -- where the search goes on
     pub onward : ℕ
     -- the entry at p has the spelling and the way on
-    pub entered : Entered table room p first onward
+    pub entered : SpellingHeld table room p first onward
     -- the way on leads to those behind
-    pub leads : Leads table room (bucketOf (hashOf v)) behind onward
+    pub leads : Bucket table room (bucketOf (bucketHash v)) behind onward
     -- v is among the spellings exactly if it is the first or among those behind
     pub among : isAmong v ws ≡ (same first v || isAmong v behind)
 
-  next-of : (ws : List (List ℕ)) {p : ℕ} → Leads table room (bucketOf (hashOf v)) ws p → 0 < p → Next ws p
+  next-of : (ws : List (List ℕ)) {p : ℕ} → Bucket table room (bucketOf (bucketHash v)) ws p → 0 < p → Next ws p
   unfolding isAmong
   next-of [] leads-none h = absurd (omega arith)
   next-of (w ∷ ws) (leads-past d l) h =
@@ -189,7 +189,7 @@ module _ {table room v : List ℕ} {words : List (List ℕ)} {p : ℕ} (s : Sear
   searching-end h = sym (none-among table room v (s .left) (s .leads) (omega arith)) ∙ s .rest
 
   -- at a spelling, by the code's comparison
-  module _ (h : 0 < p) {here : Bool} (c : (w : List ℕ) (q : ℕ) → Entered table room p w q → here ≡ same w v) where
+  module _ (h : 0 < p) {here : Bool} (c : (w : List ℕ) (q : ℕ) → SpellingHeld table room p w q → here ≡ same w v) where
     next : Next table room v (s .left) p
     next = next-of table room v (s .left) (s .leads) h
 
@@ -207,7 +207,7 @@ module _ {table room v : List ℕ} {words : List (List ℕ)} {p : ℕ} (s : Sear
         let n = next in
         record {
           left = n .behind;
-          leads = subst (Leads table room (bucketOf (hashOf v)) (n .behind)) (sym (f ∙ n .entered .onward)) (n .leads);
+          leads = subst (Bucket table room (bucketOf (bucketHash v)) (n .behind)) (sym (f ∙ n .entered .onward)) (n .leads);
           rest = cc (c (n .first) (n .onward) (n .entered), n .among, s .rest);
         }
 
@@ -220,7 +220,7 @@ pub record Walking (table room v : List ℕ) (p : ℕ) : Type 0 where
 
 -- ------------------------------------------------------------------ one spelling more
 
-leads-small : (table room : List ℕ) (b : ℕ) (ws : List (List ℕ)) {p : ℕ} → Leads table room b ws p → p ≤ length ws
+leads-small : (table room : List ℕ) (b : ℕ) (ws : List (List ℕ)) {p : ℕ} → Bucket table room b ws p → p ≤ length ws
 leads-small table room b [] leads-none = omega arith
 leads-small table room b (w ∷ ws) (leads-past d l) = omega (arith, leads-small table room b ws l)
 leads-small table room b (w ∷ ws) (leads-here e l) = omega arith
@@ -229,7 +229,7 @@ leads-small table room b (w ∷ ws) (leads-here e l) = omega arith
 leads-kept :
     (table room room′ : List ℕ) (b : ℕ) (ws : List (List ℕ)) {p : ℕ}
     → ((n i : ℕ) → 0 < n → n ≤ length ws → i < 4 → getD room′ (entry n + i) 0 ≡ getD room (entry n + i) 0)
-    → Leads table room b ws p → Leads table room′ b ws p
+    → Bucket table room b ws p → Bucket table room′ b ws p
 leads-kept table room room′ b [] same-entries leads-none = leads-none
 leads-kept table room room′ b (w ∷ ws) same-entries (leads-past d l) =
     leads-past d (leads-kept table room room′ b ws (λ n i h k. same-entries n i h (omega arith)) l)
@@ -251,7 +251,7 @@ zeros (suc k) zero = refl
 zeros (suc k) (suc n) = zeros k n
 
 indexed-none : {table : List ℕ} → Indexed table (replicate 320 0) []
-indexed-none {table} = record { leads = λ b h. subst (Leads table (replicate 320 0) b []) (sym (zeros 320 b)) leads-none }
+indexed-none {table} = record { leads = λ b h. subst (Bucket table (replicate 320 0) b []) (sym (zeros 320 b)) leads-none }
 
 -- and nothing leads anywhere
 falling-none : Falling (replicate 320 0)
@@ -337,7 +337,7 @@ module _ (room : List ℕ) (long : length room ≡ 320) (n h from size : ℕ) (f
 
   -- the room has one spelling more
   indexed-more :
-      {table v : List ℕ} {words : List (List ℕ)} → n ≡ suc (length words) → h ≡ hashOf v → take size (drop from table) ≡ v
+      {table v : List ℕ} {words : List (List ℕ)} → n ≡ suc (length words) → h ≡ bucketHash v → take size (drop from table) ≡ v
       → Indexed table room words → Indexed table (roomWith room n h from size) (v ∷ words)
   indexed-more {table} {v} {words} count e p x =
       let room′ : List ℕ = roomWith room n h from size in
@@ -349,7 +349,7 @@ module _ (room : List ℕ) (long : length room ≡ 320) (n h from size : ℕ) (f
             by-test (eqb j (bucketOf h))
             (λ q.
             let here : j ≡ bucketOf h = eqb-true j (bucketOf h) q in
-            subst (Leads table room′ j (v ∷ words)) (cc at-head)
+            subst (Bucket table room′ j (v ∷ words)) (cc at-head)
             (leads-here
             (record {
               onward = cc at-onward;
@@ -360,7 +360,7 @@ module _ (room : List ℕ) (long : length room ≡ 320) (n h from size : ℕ) (f
             (leads-kept table room room′ j words kept (x .leads j l))))
             (λ q.
             let other : j ≡ bucketOf h → ⊥ = eqb-false j (bucketOf h) q in
-            subst (Leads table room′ j (v ∷ words))
+            subst (Bucket table room′ j (v ∷ words))
             (sym (outside j (λ q. omega arith) (λ q. omega arith) (λ q. omega arith) (λ q. omega arith) other))
             (leads-past (λ z. other (cc)) (leads-kept table room room′ j words kept (x .leads j l))));
       }
@@ -374,7 +374,7 @@ storedAt room at n h from size = set (set (set (set (set room at (getD room (buc
 
 -- five stores
 pub entered-some :
-    (room : List ℕ) {spelled : Bool} (count from : ℕ) (v : List ℕ) {h : ℕ} → spelled ≡ true → h ≡ hashOf v
+    (room : List ℕ) {spelled : Bool} (count from : ℕ) (v : List ℕ) {h : ℕ} → spelled ≡ true → h ≡ bucketHash v
     → set
     (set (set (set (set room (64 + 4 * count) (getD room (bucketOf h) 0)) (64 + 4 * count + 1) h) (64 + 4 * count + 2) from) (64 + 4 * count + 3)
     (length v))
@@ -388,29 +388,29 @@ entered-some room count from v {h} e f =
 -- ------------------------------------------------------------------ one field more
 
 -- fields of other tags are not entered
-spelled-other : (tag t : ℕ) (v : List ℕ) (before : List Field) → eqb t tag ≡ false → spelledBy tag (field t v ∷ before) ≡ spelledBy tag before
-unfolding spelledBy
-spelled-other tag t v before e = rw (e, spelledBy) refl
+spelled-other : (tag t : ℕ) (v : List ℕ) (before : List Field) → eqb t tag ≡ false → spellingsUnder tag (field t v ∷ before) ≡ spellingsUnder tag before
+unfolding spellingsUnder
+spelled-other tag t v before e = rw (e, spellingsUnder) refl
 
-spelled-here : (tag t : ℕ) (v : List ℕ) (before : List Field) → eqb t tag ≡ true → spelledBy tag (field t v ∷ before) ≡ v ∷ spelledBy tag before
-unfolding spelledBy
-spelled-here tag t v before e = rw (e, spelledBy) refl
+spelled-here : (tag t : ℕ) (v : List ℕ) (before : List Field) → eqb t tag ≡ true → spellingsUnder tag (field t v ∷ before) ≡ v ∷ spellingsUnder tag before
+unfolding spellingsUnder
+spelled-here tag t v before e = rw (e, spellingsUnder) refl
 
 -- no field yet
-pub has-none : {table : List ℕ} {tag : ℕ} → Has table tag [] 0 (replicate 320 0)
-unfolding spelledBy
+pub has-none : {table : List ℕ} {tag : ℕ} → HasSpellings table tag [] 0 (replicate 320 0)
+unfolding spellingsUnder
 has-none =
     record { long = length-replicate {A = ℕ} 320 0; falling = falling-none; indexed = indexed-none; counted = refl }
 
-module _ {table : List ℕ} {tag : ℕ} {before : List Field} {count : ℕ} {room : List ℕ} (x : Has table tag before count room) where
+module _ {table : List ℕ} {tag : ℕ} {before : List Field} {count : ℕ} {room : List ℕ} (x : HasSpellings table tag before count room) where
   -- a field of the tag is entered, any other is not
   pub has-next :
       (t : ℕ) (v : List ℕ) (from : ℕ) → take (length v) (drop from table) ≡ v → (here : Bool) → eqb t tag ≡ here → (here ≡ true → count < 64)
-      → Has table tag (field t v ∷ before) (count + oneIf here) (entered room here count from v)
+      → HasSpellings table tag (field t v ∷ before) (count + oneIf here) (entered room here count from v)
   has-next t v from p true e few =
       let n : ℕ = count + 1 in
-      let h : ℕ = hashOf v in
-      let words : List (List ℕ) = spelledBy tag before in
+      let h : ℕ = bucketHash v in
+      let words : List (List ℕ) = spellingsUnder tag before in
       let small : count < 64 = few refl in
       let number : n ≡ suc (length words) = omega (arith, x .counted) in
       let head : getD room (bucketOf h) 0 ≤ length words = leads-small table room (bucketOf h) words (x .indexed .leads (bucketOf h) (omega arith)) in

@@ -12,9 +12,9 @@ use Rattle.spellings.proofs.BytesLaws.{by-test}
 use Rattle.grammar.specs.Table.{Table}
 use Rattle.grammar.specs.Encode.{fieldBytes, tableFields, encode}
 use Rattle.grammar.specs.Fields.{fieldsOf}
-use Rattle.layout.specs.Layout.{start, checkFields, layout}
+use Rattle.layout.specs.Layout.{initialProgress, checkFields, layout}
 use Rattle.grammar.specs.Limits.{most}
-use Rattle.layout.specs.Decode.{build, tableOf, decode}
+use Rattle.layout.specs.Decode.{decodeFields, tableOf, decode}
 use Rattle.layout.specs.Within.{Within}
 use Rattle.layout.proofs.Split.{Bytes, fields-of-bytes, bytes-of-fields, value-bytes}
 use Rattle.layout.proofs.Accept.{Accepts, accepted-uncut}
@@ -24,7 +24,7 @@ use Rattle.layout.proofs.Rebuilt.{table-built}
 
 -- ------------------------------------------------------------------ the layout
 
-layout-short : (bs : List ℕ) → leb (length bs) (most .bytes) ≡ true → layout bs ≡ checkFields (fieldsOf bs) [] start
+layout-short : (bs : List ℕ) → leb (length bs) (most .bytes) ≡ true → layout bs ≡ checkFields (fieldsOf bs) [] initialProgress
 unfolding layout
 layout-short bs e = rw (e, layout) refl
 
@@ -33,7 +33,7 @@ unfolding layout
 layout-long bs e = rw (e, layout) refl
 
 -- A layout is right exactly if the table is not too long and its fields are accepted.
-pub layout-parts : (bs : List ℕ) → layout bs ≡ ok tt → (length bs ≤ most .bytes) × (checkFields (fieldsOf bs) [] start ≡ ok tt)
+pub layout-parts : (bs : List ℕ) → layout bs ≡ ok tt → (length bs ≤ most .bytes) × (checkFields (fieldsOf bs) [] initialProgress ≡ ok tt)
 layout-parts bs h =
     by-test (leb (length bs) (most .bytes)) (λ e. (leb-true (length bs) (most .bytes) e, sym (layout-short bs e) ∙ h))
     (λ e. absurd (subst⁻¹ Accepts (sym (layout-long bs e) ∙ h) tt))
@@ -45,9 +45,9 @@ passed-first (ok tt) x y h = (refl, cc)
 passed-first (bad r) x y h = absurd (subst⁻¹ Accepts h tt)
 
 -- bytes that are decoded have the layout of a table, and it is built from them
-pub decoded-layout : (bs : List ℕ) (t : Table) → decode bs ≡ ok t → (layout bs ≡ ok tt) × (tableOf (build (fieldsOf bs)) ≡ t)
+pub decoded-layout : (bs : List ℕ) (t : Table) → decode bs ≡ ok t → (layout bs ≡ ok tt) × (tableOf (decodeFields (fieldsOf bs)) ≡ t)
 unfolding decode
-decoded-layout bs t h = passed-first (layout bs) (tableOf (build (fieldsOf bs))) t h
+decoded-layout bs t h = passed-first (layout bs) (tableOf (decodeFields (fieldsOf bs))) t h
 
 -- The encoding of a table within the bounds is decoded as this table.
 pub decode-encoded : (t : Table) → Within t → decode (encode t) ≡ ok t
@@ -66,7 +66,7 @@ layout-encoded bs b h =
     let parts = layout-parts bs h in
     let found = accepted-table (fieldsOf bs) (value-bytes bs b) (parts .1) in
     let same : bs ≡ fieldBytes (tableFields (found .0)) =
-    bytes-of-fields bs b (accepted-uncut (fieldsOf bs) [] start (parts .1)) ∙ ap fieldBytes (found .1) in
+    bytes-of-fields bs b (accepted-uncut (fieldsOf bs) [] initialProgress (parts .1)) ∙ ap fieldBytes (found .1) in
     (found .0, same, found .2 (rw (← same) (parts .0)))
 
 -- bytes that are decoded as a table are its encoding

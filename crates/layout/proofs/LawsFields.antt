@@ -16,17 +16,17 @@ use Rattle.grammar.specs.declared.Front.the-variants.{Nothing, Short, Field}
 use Rattle.grammar.specs.Limits.{most}
 use Rattle.grammar.specs.Values.{field}
 use Rattle.grammar.specs.Values as encode
-use Rattle.grammar.specs.Fields.{Fields, end, cut, next, fieldsOf}
+use Rattle.grammar.specs.Fields.{RawFields, end, cut, next, fieldsOf}
 use Rattle.grammar.specs.Lookup.{frontOf, fieldsAt}
 use Rattle.grammar.proofs.LookupLaws.{opened, fields-at, fields-of}
 use Rattle.layout.specs.declared.Progress.{Progress}
 use Rattle.layout.specs.declared.Checking.the-variants.{Further, Stopped}
-use Rattle.layout.specs.Layout.{checkField, checkFields, start, layout}
+use Rattle.layout.specs.Layout.{checkField, checkFields, initialProgress, layout}
 use Rattle.layout.specs.Before.{earlier, fieldsBefore, checking}
 
 -- ------------------------------------------------------------------ the fields before an offset
 
-earlier-by : (to at tag : ℕ) (v : List ℕ) (fs : Fields) (before : List encode.Field) (t : Bool) → ltb at to ≡ t
+earlier-by : (to at tag : ℕ) (v : List ℕ) (fs : RawFields) (before : List encode.Field) (t : Bool) → ltb at to ≡ t
     → earlier to (next at tag v fs) before
     ≡ elim t as (λ x. List encode.Field) [ true ↦ earlier to fs (field tag v ∷ before) | false ↦ before ]
 unfolding earlier
@@ -75,7 +75,7 @@ pub layout-long : (table : List ℕ) → most .bytes < length table → Refused 
 unfolding layout
 layout-long table h = rw (lt-leb (length table) (most .bytes) h, layout) refl
 
-layout-short : (table : List ℕ) → length table ≤ most .bytes → layout table ≡ checkFields (fieldsOf table) [] start
+layout-short : (table : List ℕ) → length table ≤ most .bytes → layout table ≡ checkFields (fieldsOf table) [] initialProgress
 unfolding layout
 layout-short table h = rw (le-leb (length table) (most .bytes) h, layout) refl
 
@@ -87,7 +87,7 @@ fields-cut : (at : ℕ) (before : List encode.Field) (s : Progress) → checkFie
 unfolding checkFields
 fields-cut at before s = refl
 
-fields-next : (at tag : ℕ) (v : List ℕ) (fs : Fields) (before : List encode.Field) (s : Progress) (r : Checked Progress)
+fields-next : (at tag : ℕ) (v : List ℕ) (fs : RawFields) (before : List encode.Field) (s : Progress) (r : Checked Progress)
     → checkField before at tag v s ≡ r
     → checkFields (next at tag v fs) before s ≡ (r >>= λ t. checkFields fs (field tag v ∷ before) t)
 unfolding checkFields
@@ -107,14 +107,14 @@ pub record Turn (table : List ℕ) (at : ℕ) (s : Progress) : Type 0 where
   -- the fields before a later offset are those before `at`, and those from there on up to it
   pub divides : (to : ℕ) → at ≤ to → fieldsBefore table to ≡ earlier to (fieldsAt table at) (fieldsBefore table at)
   -- the fields left give what all fields give
-  pub rest : checkFields (fieldsAt table at) (fieldsBefore table at) s ≡ checkFields (fieldsOf table) [] start
+  pub rest : checkFields (fieldsAt table at) (fieldsBefore table at) s ≡ checkFields (fieldsOf table) [] initialProgress
 
 -- no field stands before the first
 pub none-before : (table : List ℕ) → fieldsBefore table 0 ≡ []
 none-before table = before-is table 0 ∙ past table 0 0 [] (omega arith)
 
 -- at the first field
-pub turn-start : {table : List ℕ} {s : Progress} → s ≡ start → Turn table 0 s
+pub turn-start : {table : List ℕ} {s : Progress} → s ≡ initialProgress → Turn table 0 s
 turn-start {table} e =
     record {
       divides = λ to h. before-is table to ∙ ap (earlier to (fieldsAt table 0)) (sym (none-before table));
@@ -140,7 +140,7 @@ module _ {table : List ℕ} {at : ℕ} {s : Progress} (c : Turn table at s) {t n
   field-is : (x : Checked Progress)
       → checkField (fieldsBefore table at) at t (take (at + 3 + n - (at + 3)) (drop (at + 3) table)) s ≡ x
       → (x >>= λ u. checkFields (fieldsAt table (at + 3 + n)) (field t (take n (drop (at + 3) table)) ∷ fieldsBefore table at) u)
-      ≡ checkFields (fieldsOf table) [] start
+      ≡ checkFields (fieldsOf table) [] initialProgress
   field-is x f =
       cc (
         fields-next at t (take n (drop (at + 3) table)) (fieldsAt table (at + 3 + n)) (fieldsBefore table at) s x (cc (lent-is table (at + 3) n)),

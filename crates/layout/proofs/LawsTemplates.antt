@@ -14,7 +14,8 @@ use Rattle.grammar.proofs.ReaderLaws.{arity-few}
 use Rattle.grammar.specs.Sorts.{arity}
 use Rattle.grammar.specs.SortTests.{isConstructor}
 use Rattle.grammar.specs.Table.{Template, Templates, variable, none, more}
-use Rattle.layout.specs.Prefix.{Parsed, fault, parsed, inFront, Taken, short, taken, alsoTaken, takeTemplates, applied, constructed, isNameTag}
+use Rattle.layout.specs.Prefix.{ReadTemplates, fault, parsed, inFront, SplitTemplates, short, taken, alsoTaken, takeTemplates, applied, constructed}
+use Rattle.layout.specs.Prefix.{isNameTag}
 use Rattle.layout.specs.Prefix.{nameBy, templatesOf}
 use Rattle.layout.proofs.PrefixLaws.{name-first, name-last, byte-first, variable-first, constructor-first, unknown-first}
 use Rattle.layout.specs.Within.{count}
@@ -86,7 +87,7 @@ makesUp true due n = eqb due n
 makesUp false due n = leb due n
 
 -- what some bytes are makes up for the templates due
-abbrev pub meets : Bool → ℕ → Parsed → Bool
+abbrev pub meets : Bool → ℕ → ReadTemplates → Bool
 meets single due fault = false
 meets single due (parsed ts) = makesUp single due (count ts)
 
@@ -117,11 +118,11 @@ makes-up-short true due k n h = sym (ne-eqb (due - 1 + k) n (λ q. omega arith))
 makes-up-short false due k n h = sym (lt-leb (due - 1 + k) n (omega arith))
 
 -- k templates taken from n, with m left; or there are fewer
-abbrev TakenFrom : ℕ → ℕ → Taken → Type 0
+abbrev TakenFrom : ℕ → ℕ → SplitTemplates → Type 0
 TakenFrom k n short = n < k
 TakenFrom k n (taken us vs) = n ≡ k + count vs
 
-taken-more : (t : Template) (k n : ℕ) (r : Taken) → TakenFrom k n r → TakenFrom (suc k) (suc n) (alsoTaken t r)
+taken-more : (t : Template) (k n : ℕ) (r : SplitTemplates) → TakenFrom k n r → TakenFrom (suc k) (suc n) (alsoTaken t r)
 taken-more t k n short h = omega arith
 taken-more t k n (taken us vs) h = omega arith
 
@@ -132,18 +133,18 @@ taken-from (suc k) none = omega arith
 taken-from (suc k) (more t ts) = taken-more t k (count ts) (takeTemplates k ts) (taken-from k ts)
 
 module _ (single : Bool) (due : ℕ) where
-  meets-front : (t : Template) (p : Parsed) → (single && eqb due 0) ≡ false → meets single due (inFront t p) ≡ meets single (due - 1 + 0) p
+  meets-front : (t : Template) (p : ReadTemplates) → (single && eqb due 0) ≡ false → meets single due (inFront t p) ≡ meets single (due - 1 + 0) p
   unfolding count
   meets-front t fault e = refl
   meets-front t (parsed ts) e = makes-up-next single due 0 (count ts) (count ts) e (omega arith)
 
-  meets-applied : (c k n : ℕ) (r : Taken) → TakenFrom k n r → (single && eqb due 0) ≡ false
+  meets-applied : (c k n : ℕ) (r : SplitTemplates) → TakenFrom k n r → (single && eqb due 0) ≡ false
       → meets single due (applied c r) ≡ makesUp single (due - 1 + k) n
   unfolding count
   meets-applied c k n short h e = makes-up-short single due k n h
   meets-applied c k n (taken us vs) h e = makes-up-next single due k n (count vs) e h
 
-  meets-constructed : (c : ℕ) (p : Parsed) → (single && eqb due 0) ≡ false → meets single due (constructed c p) ≡ meets single (due - 1 + arity c) p
+  meets-constructed : (c : ℕ) (p : ReadTemplates) → (single && eqb due 0) ≡ false → meets single due (constructed c p) ≡ meets single (due - 1 + arity c) p
   unfolding count
   meets-constructed c fault e = refl
   meets-constructed c (parsed ts) e =
@@ -155,17 +156,17 @@ module _ (single : Bool) (due : ℕ) (over : (single && eqb due 0) ≡ true) whe
   makes-up-over true n e = ne-eqb due (suc n) (λ q. omega (arith, eqb-true due 0 e))
   makes-up-over false n e = absurd (false≢true e)
 
-  over-front : (t : Template) (p : Parsed) → meets single due (inFront t p) ≡ false
+  over-front : (t : Template) (p : ReadTemplates) → meets single due (inFront t p) ≡ false
   unfolding count
   over-front t fault = refl
   over-front t (parsed ts) = makes-up-over single (count ts) over
 
-  over-applied : (c : ℕ) (r : Taken) → meets single due (applied c r) ≡ false
+  over-applied : (c : ℕ) (r : SplitTemplates) → meets single due (applied c r) ≡ false
   unfolding count
   over-applied c short = refl
   over-applied c (taken us vs) = makes-up-over single (count vs) over
 
-  over-constructed : (c : ℕ) (p : Parsed) → meets single due (constructed c p) ≡ false
+  over-constructed : (c : ℕ) (p : ReadTemplates) → meets single due (constructed c p) ≡ false
   over-constructed c fault = refl
   over-constructed c (parsed ts) = over-applied c (takeTemplates (arity c) ts)
 
@@ -234,7 +235,7 @@ meets-none true due = refl
 meets-none false zero = leb·zero 0
 meets-none false (suc d) = lt-leb (suc d) 0 (omega arith) ∙ sym (ne-eqb (suc d) 0 (λ q. omega arith))
 
-meets-first : (single : Bool) (p : Parsed) → meets single (oneIf single) p ≡ isWholly single p
+meets-first : (single : Bool) (p : ReadTemplates) → meets single (oneIf single) p ≡ isWholly single p
 unfolding count
 meets-first true fault = refl
 meets-first true (parsed none) = refl

@@ -9,11 +9,11 @@ use Rattle.grammar.specs.Table.{Template, Item, Alternative, Definition}
 use Rattle.grammar.specs.Encode.{spellingsThen, itemsThen, alternativesThen, definitionsThen, blocksThen}
 use Rattle.grammar.specs.Values.{Field, field, templateThen, itemValue, headValue}
 use Rattle.layout.specs.Layout.{follows}
-use Rattle.layout.specs.Decode.{Built, built}
+use Rattle.layout.specs.Decode.{Decoded, decoded}
 
 -- ------------------------------------------------------------------ what is left to come
 
-module _ (b : Built) where
+module _ (b : Decoded) where
   -- the root
   abbrev pub rootLeft : List Field
   rootLeft = field 8 (b .root ∷ []) ∷ []
@@ -43,7 +43,7 @@ module _ (b : Built) where
   keywordsLeft = spellingsThen 1 (b .keywords) outsidesLeft
 
 -- after the tag `last` (0 at the start), the parts that are still open
-unfoldable pub left : ℕ → Built → List Field
+unfoldable pub left : ℕ → Decoded → List Field
 left last b =
     getD
     (keywordsLeft b
@@ -77,10 +77,10 @@ never : {A : Type 0} → false ≡ true → A
 never e = absurd (false≢true e)
 
 -- wherever the tag may come, these fields are what is left
-abbrev pub Opens : ℕ → Built → List Field → Type 0
+abbrev pub Opens : ℕ → Decoded → List Field → Type 0
 Opens tag b fs = (last : ℕ) → last ≤ 8 → follows tag last ≡ true → left last b ≡ fs
 
-module _ (tag : ℕ) (b : Built) (fs : List Field) where
+module _ (tag : ℕ) (b : Decoded) (fs : List Field) where
   abbrev After : ℕ → Type 0
   After last = follows tag last ≡ true → left last b ≡ fs
 
@@ -90,43 +90,43 @@ module _ (tag : ℕ) (b : Built) (fs : List Field) where
 -- ------------------------------------------------------------------ the parts with one field more, those before it not yet begun
 
 -- what is built, with one more of each in front: a keyword
-abbrev pub withKeyword : List ℕ → Built → Built
-withKeyword v b = built (v ∷ b .keywords) (b .outsides) (b .blocks) (b .root) [] [] [] (b .result)
+abbrev pub withKeyword : List ℕ → Decoded → Decoded
+withKeyword v b = decoded (v ∷ b .keywords) (b .outsides) (b .blocks) (b .root) [] [] [] (b .result)
 
 -- an outside name
-abbrev pub withOutside : List ℕ → Built → Built
-withOutside v b = built [] (v ∷ b .outsides) (b .blocks) (b .root) [] [] [] (b .result)
+abbrev pub withOutside : List ℕ → Decoded → Decoded
+withOutside v b = decoded [] (v ∷ b .outsides) (b .blocks) (b .root) [] [] [] (b .result)
 
 -- a block
-abbrev pub withBlock : Built → Built
-withBlock b = built [] [] (b .definitions ∷ b .blocks) (b .root) [] [] [] (b .result)
+abbrev pub withBlock : Decoded → Decoded
+withBlock b = decoded [] [] (b .definitions ∷ b .blocks) (b .root) [] [] [] (b .result)
 
 -- a definition
-abbrev pub withDefinition : Definition → Built → Built
-withDefinition d b = built [] [] (b .blocks) (b .root) (d ∷ b .definitions) [] [] (b .result)
+abbrev pub withDefinition : Definition → Decoded → Decoded
+withDefinition d b = decoded [] [] (b .blocks) (b .root) (d ∷ b .definitions) [] [] (b .result)
 
 -- the alternative that is open, with its items and its result
-abbrev pub alternativeOf : Built → Alternative
+abbrev pub alternativeOf : Decoded → Alternative
 alternativeOf b = record { items = b .items; result = b .result }
 
 -- an alternative
-abbrev pub withAlternative : Built → Built
-withAlternative b = built [] [] (b .blocks) (b .root) (b .definitions) (alternativeOf b ∷ b .alternatives) [] (b .result)
+abbrev pub withAlternative : Decoded → Decoded
+withAlternative b = decoded [] [] (b .blocks) (b .root) (b .definitions) (alternativeOf b ∷ b .alternatives) [] (b .result)
 
 -- an item
-abbrev pub withItem : Item → Built → Built
-withItem i b = built [] [] (b .blocks) (b .root) (b .definitions) (b .alternatives) (i ∷ b .items) (b .result)
+abbrev pub withItem : Item → Decoded → Decoded
+withItem i b = decoded [] [] (b .blocks) (b .root) (b .definitions) (b .alternatives) (i ∷ b .items) (b .result)
 
 -- a result
-abbrev pub withResult : Template → Built → Built
-withResult t b = built [] [] (b .blocks) (b .root) (b .definitions) (b .alternatives) [] t
+abbrev pub withResult : Template → Decoded → Decoded
+withResult t b = decoded [] [] (b .blocks) (b .root) (b .definitions) (b .alternatives) [] t
 
 -- and a root
-abbrev pub withRoot : ℕ → Built → Built
-withRoot r b = built [] [] [] r [] [] [] (b .result)
+abbrev pub withRoot : ℕ → Decoded → Decoded
+withRoot r b = decoded [] [] [] r [] [] [] (b .result)
 
 -- The field stands in front of what follows it, after each tag that it may follow.
-module _ (b : Built) where
+module _ (b : Decoded) where
   -- a keyword stands in front of what may follow it
   pub opens-keyword : (v : List ℕ) → Opens 1 (withKeyword v b) (field 1 v ∷ left 1 b)
   unfolding left follows spellingsThen

@@ -6,7 +6,7 @@ use mathlib.Core.List.{List, [], _∷_}
 use lib.Dec.{eqb, ltb}
 use Rattle.grammar.specs.SortTests.{isConstructor}
 use Rattle.grammar.specs.Table.{variable, none}
-use Rattle.layout.specs.Prefix.{Parsed, fault, parsed, inFront, constructed, byteInFront, isNameTag, nameBy, templatesOf}
+use Rattle.layout.specs.Prefix.{ReadTemplates, fault, parsed, inFront, constructed, byteInFront, isNameTag, nameBy, templatesOf}
 
 -- a choice by a test that is known
 chosen : {A : Type 0} (t : Bool) (x y : A) → t ≡ true → (elim t as (λ b. A) [ true ↦ x | false ↦ y ]) ≡ x
@@ -34,8 +34,8 @@ byte-first b [] e = other (isNameTag b) fault (byteInFront b (parsed none)) e
 byte-first b (n ∷ bs) e =
     other (isNameTag b) (inFront (nameBy (eqb b 0x10) n) (templatesOf bs)) (byteInFront b (templatesOf (n ∷ bs))) e
 
-module _ (b : ℕ) (rest : Parsed) where
-  built : Parsed
+module _ (b : ℕ) (rest : ReadTemplates) where
+  built : ReadTemplates
   built = elim (isConstructor b) [ true ↦ constructed b rest | false ↦ fault ]
 
   -- a variable

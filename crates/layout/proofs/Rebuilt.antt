@@ -6,27 +6,27 @@ use lib.ListN.{length}
 use Rattle.grammar.specs.Table.{Template, variable, Item, Alternative, Definition, Table}
 use Rattle.grammar.specs.Encode.{spellingsThen, itemsThen, alternativesThen, definitionsThen, blocksThen, tableFields}
 use Rattle.grammar.specs.Values.{Field, field, templateThen}
-use Rattle.layout.specs.Decode.{Built, built, nothing, put, build, tableOf}
+use Rattle.layout.specs.Decode.{Decoded, decoded, nothing, put, decodeFields, tableOf}
 use Rattle.layout.specs.Within.{Each, each-none, each-more, ItemWithin, AlternativeWithin, DefinitionWithin, Within}
 use Rattle.layout.proofs.Split.{spread}
 use Rattle.layout.proofs.Values.{item-read, head-read, result-read}
 
 -- offsets do not matter
-unfoldable gather : List Field → Built
+unfoldable gather : List Field → Decoded
 gather [] = nothing
 gather (f ∷ fs) = put (f .tag) (f .value) (gather fs)
 
-build-spread : (fs : List Field) (at : ℕ) → build (spread at fs) ≡ gather fs
-unfolding build spread gather
+build-spread : (fs : List Field) (at : ℕ) → decodeFields (spread at fs) ≡ gather fs
+unfolding decodeFields spread gather
 build-spread [] at = refl
 build-spread (f ∷ fs) at = ap (put (f .tag) (f .value)) (build-spread fs (at + (3 + length (f .value))))
 
 -- the parts of a table from some block on
-abbrev part : List (List Definition) → ℕ → List Definition → List Alternative → List Item → Template → Built
-part bs r ds rest is t = built [] [] bs r ds rest is t
+abbrev part : List (List Definition) → ℕ → List Definition → List Alternative → List Item → Template → Decoded
+part bs r ds rest is t = decoded [] [] bs r ds rest is t
 
 -- no alternative has been begun
-abbrev between : List (List Definition) → ℕ → List Definition → List Alternative → Built
+abbrev between : List (List Definition) → ℕ → List Definition → List Alternative → Decoded
 between bs r ds rest = part bs r ds rest [] (variable 0)
 
 module _ (bs : List (List Definition)) (r : ℕ) where
@@ -63,20 +63,20 @@ blocks-built r (each-more {xs = bs} w ws) =
 
 module _ (bs : List (List Definition)) (r : ℕ) (k : List Field) where
   outsides-built : (os : List (List ℕ)) → gather k ≡ between bs r [] []
-      → gather (spellingsThen 2 os k) ≡ built [] os bs r [] [] [] (variable 0)
+      → gather (spellingsThen 2 os k) ≡ decoded [] os bs r [] [] [] (variable 0)
   unfolding gather spellingsThen put
   outsides-built [] e = e
   outsides-built (o ∷ os) e = ap (put 2 o) (outsides-built os e)
 
-  keywords-built : (ks os : List (List ℕ)) → gather k ≡ built [] os bs r [] [] [] (variable 0)
-      → gather (spellingsThen 1 ks k) ≡ built ks os bs r [] [] [] (variable 0)
+  keywords-built : (ks os : List (List ℕ)) → gather k ≡ decoded [] os bs r [] [] [] (variable 0)
+      → gather (spellingsThen 1 ks k) ≡ decoded ks os bs r [] [] [] (variable 0)
   unfolding gather spellingsThen put
   keywords-built [] os e = e
   keywords-built (v ∷ ks) os e = ap (put 1 v) (keywords-built ks os e)
 
 -- The parts of a table are built from its fields, and nothing is left pending.
 pub parts-built : (t : Table) (at : ℕ) → Within t
-    → build (spread at (tableFields t)) ≡ built (t .keywords) (t .outsides) (t .blocks) (t .root) [] [] [] (variable 0)
+    → decodeFields (spread at (tableFields t)) ≡ decoded (t .keywords) (t .outsides) (t .blocks) (t .root) [] [] [] (variable 0)
 unfolding tableFields
 parts-built t at w =
     let root = field 8 (t .root ∷ []) ∷ [] in
@@ -86,5 +86,5 @@ parts-built t at w =
     (outsides-built (t .blocks) (t .root) blocks (t .outsides) (blocks-built (t .root) (w .blocks)))
 
 -- from the fields of a table the table is built
-pub table-built : (t : Table) (at : ℕ) → Within t → tableOf (build (spread at (tableFields t))) ≡ t
+pub table-built : (t : Table) (at : ℕ) → Within t → tableOf (decodeFields (spread at (tableFields t))) ≡ t
 table-built t at w = ap tableOf (parts-built t at w)

@@ -12,10 +12,10 @@ use Rattle.answers.specs.Checked.{Checked, ok, bad, _>>=_, _>>_, need}
 use Rattle.grammar.specs.Table.{Table}
 use Rattle.grammar.specs.Limits.{most}
 use Rattle.grammar.specs.Values.{Field, field}
-use Rattle.grammar.specs.Fields.{Fields, end, cut, next, fieldsOf}
+use Rattle.grammar.specs.Fields.{RawFields, end, cut, next, fieldsOf}
 use Rattle.layout.specs.declared.Progress.{Progress}
-use Rattle.layout.specs.Layout.{isKnown, follows, isSpelled, hasRoom, isWhole, passed, checkField, checkFields, start, layout}
-use Rattle.layout.specs.Decode.{build, tableOf, decode}
+use Rattle.layout.specs.Layout.{isKnown, follows, isSpelled, hasRoom, isWhole, passed, checkField, checkFields, initialProgress, layout}
+use Rattle.layout.specs.Decode.{decodeFields, tableOf, decode}
 
 -- the numbers of a layout's refusals: 1 to 6 and 10
 abbrev pub isLayoutNumber : ℕ → Bool
@@ -47,7 +47,7 @@ field-numbered before at tag v s =
     (and-numbered (need (hasRoom tag s) 6 at) _ (need-numbered (hasRoom tag s) 6 at refl)
     (and-numbered (need (isWhole tag v) 10 at) (ok (passed tag s)) (need-numbered (isWhole tag v) 10 at refl) tt))))
 
-fields-numbered : (fs : Fields) (before : List Field) (s : Progress) → Numbered (checkFields fs before s)
+fields-numbered : (fs : RawFields) (before : List Field) (s : Progress) → Numbered (checkFields fs before s)
 unfolding checkFields
 fields-numbered (end at) before s = need-numbered (eqb (s .last) 8) 4 at refl
 fields-numbered (cut at) before s = refl
@@ -61,8 +61,8 @@ layout-numbered bs = by (leb (length bs) (most .bytes))
   where
     by :
         (t : Bool)
-        → Numbered {A = Unit {0}} (elim t as (λ t. Checked (Unit {0})) [ false ↦ bad (refusal 1 0 0 0) | true ↦ checkFields (fieldsOf bs) [] start ])
-    by true = fields-numbered (fieldsOf bs) [] start
+        → Numbered {A = Unit {0}} (elim t as (λ t. Checked (Unit {0})) [ false ↦ bad (refusal 1 0 0 0) | true ↦ checkFields (fieldsOf bs) [] initialProgress ])
+    by true = fields-numbered (fieldsOf bs) [] initialProgress
     by false = refl
 
 -- Bytes are decoded as a table, or refused with one of these numbers.
@@ -72,7 +72,7 @@ unfolding decode
 decode-answers bs = by (layout bs) (layout-numbered bs)
   where
     t : Table
-    t = tableOf (build (fieldsOf bs))
+    t = tableOf (decodeFields (fieldsOf bs))
 
     by : (c : Checked (Unit {0})) → Numbered c
         → ((u : Table) × ((c >> ok t) ≡ ok u)) ⊎ ((r : Refusal) × ((c >> ok t) ≡ bad r) × (isLayoutNumber (r .number) ≡ true))

@@ -16,9 +16,9 @@ use Rattle.grammar.specs.Lookup.{frontOf}
 use Rattle.grammar.proofs.LookupLaws.{front-inside}
 use Rattle.layout.specs.declared.Progress.{Progress}
 use Rattle.layout.specs.declared.Checking.the-variants.{Further}
-use Rattle.layout.specs.Layout.{isKnown, follows, isSpelled, hasRoom, passed, isWhole, checkField, start}
+use Rattle.layout.specs.Layout.{isKnown, follows, isSpelled, hasRoom, passed, isWhole, checkField, initialProgress}
 use Rattle.layout.specs.Before.{fieldsBefore, checking}
-use Rattle.layout.specs.Index.{entered, Has, Remembered}
+use Rattle.layout.specs.Index.{entered, HasSpellings, Remembered}
 use Rattle.layout.proofs.Laws.{firstFault, field-by, room-of}
 use Rattle.layout.proofs.LawsFields.{Turn, none-before, before-next, checked-ok, lent-is}
 use Rattle.layout.proofs.IndexLaws.{has-none, has-next}
@@ -47,13 +47,13 @@ below n limit true e h k = omega (arith, ltb-true n limit e)
 below n limit false e h k = absurd (let z : _≡_ {A = ℕ} 0 1 = cc in omega arith)
 
 has-moved :
-    {table : List ℕ} {tag : ℕ} {b b′ : List values.Field} {k k′ : ℕ} {r r′ : List ℕ} → b ≡ b′ → k ≡ k′ → r ≡ r′ → Has table tag b k r
-    → Has table tag b′ k′ r′
+    {table : List ℕ} {tag : ℕ} {b b′ : List values.Field} {k k′ : ℕ} {r r′ : List ℕ} → b ≡ b′ → k ≡ k′ → r ≡ r′ → HasSpellings table tag b k r
+    → HasSpellings table tag b′ k′ r′
 has-moved {table} {tag} {b} {b′} {k} {k′} {r} e f g h =
-    subst (Has table tag b′ k′) g (rw (← f) (rw (← e) h))
+    subst (HasSpellings table tag b′ k′) g (rw (← f) (rw (← e) h))
 
 -- no field yet
-pub remembered-start : {table : List ℕ} {s : Progress} → s ≡ start → Remembered table 0 s (replicate 320 0) (replicate 320 0)
+pub remembered-start : {table : List ℕ} {s : Progress} → s ≡ initialProgress → Remembered table 0 s (replicate 320 0) (replicate 320 0)
 remembered-start {table} e =
     record {
       keywords = has-moved (sym (none-before table)) (cc) refl has-none;

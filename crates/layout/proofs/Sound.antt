@@ -13,10 +13,10 @@ use Rattle.grammar.specs.Table.{Template, Item, Definition, Table}
 use Rattle.grammar.specs.Encode.{tableFields, encode}
 use Rattle.grammar.specs.Limits.{most}
 use Rattle.grammar.specs.Values.{Field, field}
-use Rattle.grammar.specs.Fields.{Fields, end, cut, next}
+use Rattle.grammar.specs.Fields.{RawFields, end, cut, next}
 use Rattle.layout.specs.declared.Progress.{Progress}
-use Rattle.layout.specs.Layout.{isKnown, follows, isRepeated, isSpelled, hasRoom, passed, start, checkFields}
-use Rattle.layout.specs.Decode.{Built, nothing, definitionOf, tableOf}
+use Rattle.layout.specs.Layout.{isKnown, follows, isRepeated, isSpelled, hasRoom, passed, initialProgress, checkFields}
+use Rattle.layout.specs.Decode.{Decoded, nothing, definitionOf, tableOf}
 use Rattle.layout.specs.Within.{Each, each-none, each-more, TemplateWithin, variable-within, ItemWithin, AlternativeWithin, DefinitionWithin}
 use Rattle.layout.specs.Within.{alternativesOf, alternativesIn, Within}
 use Rattle.layout.proofs.Split.{Bytes, ValueBytes, flat}
@@ -29,7 +29,7 @@ use Rattle.layout.proofs.Spelled.{Spelled, spelled-none, spelled-more}
 -- ------------------------------------------------------------------ counts
 
 -- what is still to come has room
-pub record Room (s : Progress) (b : Built) : Type 0 where
+pub record Room (s : Progress) (b : Decoded) : Type 0 where
   -- no more keywords than there may be
   pub keywords : length (b .keywords) ≤ most .keywords - s .keywords
   -- no more outside names
@@ -64,7 +64,7 @@ module _ (s : Progress) where
   unfolding hasRoom
   room-6 h = ltb-true (s .items) (most .items) h
 
-  module _ (b : Built) where
+  module _ (b : Decoded) where
     room-keyword : (v : List ℕ) → s .keywords < most .keywords → Room (passed 1 s) b → Room s (withKeyword v b)
     unfolding passed alternativesOf
     room-keyword v h r = omega arith
@@ -100,7 +100,7 @@ module _ (s : Progress) where
 -- ------------------------------------------------------------------ what is still to come
 
 -- parts that may follow the fields before, within the counts, spellings and ranges
-pub record Fits (before : List Field) (s : Progress) (b : Built) : Type 0 where
+pub record Fits (before : List Field) (s : Progress) (b : Decoded) : Type 0 where
   -- the keywords are good spellings, each new
   pub keywords : Spelled isKeyword 1 before (b .keywords)
   -- the outside names are words, each new
@@ -124,7 +124,7 @@ pub record Fits (before : List Field) (s : Progress) (b : Built) : Type 0 where
 
 -- fields that are those of such parts
 abbrev Rest : List Field → Progress → List Field → Type 0
-Rest before s fs = (b : Built) × (fs ≡ left (s .last) b) × Fits before s b
+Rest before s fs = (b : Decoded) × (fs ≡ left (s .last) b) × Fits before s b
 
 -- a field that passes, in front of fields that are those of parts
 abbrev Step : ℕ → Type 0
@@ -181,7 +181,7 @@ step-outside before s v fs l bytes p r =
     )
 
 -- parts without spellings
-later : (before : List Field) {s : Progress} {b : Built} → b .keywords ≡ [] → b .outsides ≡ []
+later : (before : List Field) {s : Progress} {b : Decoded} → b .keywords ≡ [] → b .outsides ≡ []
     → Each (Each DefinitionWithin) (b .blocks) → Each DefinitionWithin (b .definitions) → Each AlternativeWithin (b .alternatives)
     → (s .last ≡ 4 → 1 ≤ length (b .alternatives)) → Each ItemWithin (b .items) → TemplateWithin (b .result) → b .root < most .nonterminals
     → Room s b → Fits before s b
@@ -299,7 +299,7 @@ left-none before s e = (
       (omega arith),
 )
 
-sound : (fs : Fields) (before : List Field) (s : Progress) → s .last ≤ 8 → ValueBytes fs → checkFields fs before s ≡ ok tt
+sound : (fs : RawFields) (before : List Field) (s : Progress) → s .last ≤ 8 → ValueBytes fs → checkFields fs before s ≡ ok tt
     → Rest before s (flat fs)
 unfolding checkFields flat passed
 sound (end at) before s l b h = left-none before s (ended (s .last) at h)
@@ -311,11 +311,11 @@ sound (next at tag v fs) before s l b h =
     (sound fs (field tag v ∷ before) (passed tag s) (low tag v known) (b .1) (both .1))
 
 -- Accepted fields are those of a table, and the table is within the counts, spellings and ranges if it is not too long.
-pub accepted-table : (fs : Fields) → ValueBytes fs → checkFields fs [] start ≡ ok tt
+pub accepted-table : (fs : RawFields) → ValueBytes fs → checkFields fs [] initialProgress ≡ ok tt
     → (t : Table) × (flat fs ≡ tableFields t) × (length (encode t) ≤ most .bytes → Within t)
 unfolding left tableFields
 accepted-table fs b h =
-    let r = sound fs [] start (omega arith) b h in
+    let r = sound fs [] initialProgress (omega arith) b h in
     let g = r .2 in (
       tableOf (r .0),
       r .1,

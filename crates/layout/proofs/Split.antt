@@ -11,7 +11,7 @@ use borrow.Author.Tests.{le-leb, leb-true, ne-eqb}
 use Rattle.spellings.proofs.BytesLaws.{by-test}
 use Rattle.grammar.specs.Encode.{fieldThen, fieldBytes}
 use Rattle.grammar.specs.Values.{Field, field}
-use Rattle.grammar.specs.Fields.{Fields, end, cut, next, sizeOf, fieldsFrom, fieldsOf}
+use Rattle.grammar.specs.Fields.{RawFields, end, cut, next, sizeOf, fieldsFrom, fieldsOf}
 
 -- every member of the list is a byte; a place past the end has the byte 0
 abbrev pub Bytes : List ℕ → Type 0
@@ -30,24 +30,24 @@ taken-bytes (suc n) (c ∷ cs) b (suc i) = taken-bytes n cs (λ j. b (suc j)) i
 -- ------------------------------------------------------------------ fields and their offsets
 
 -- fields one after the other from an offset on
-unfoldable pub spread : ℕ → List Field → Fields
+unfoldable pub spread : ℕ → List Field → RawFields
 spread at [] = end at
 spread at (f ∷ fs) = next at (f .tag) (f .value) (spread (at + (3 + length (f .value))) fs)
 
 -- the fields without their offsets
-unfoldable pub flat : Fields → List Field
+unfoldable pub flat : RawFields → List Field
 flat (end at) = []
 flat (cut at) = []
 flat (next at tag v fs) = field tag v ∷ flat fs
 
 -- no field is cut
-abbrev pub Uncut : Fields → Type 0
+abbrev pub Uncut : RawFields → Type 0
 Uncut (end at) = Unit {0}
 Uncut (cut at) = ⊥
 Uncut (next at tag v fs) = Uncut fs
 
 -- every value consists of bytes
-abbrev pub ValueBytes : Fields → Type 0
+abbrev pub ValueBytes : RawFields → Type 0
 ValueBytes (end at) = Unit {0}
 ValueBytes (cut at) = Unit {0}
 ValueBytes (next at tag v fs) = Bytes v × ValueBytes fs

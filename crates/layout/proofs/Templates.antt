@@ -11,7 +11,7 @@ use Rattle.grammar.specs.Sorts.{arity}
 use Rattle.grammar.specs.SortTests.{isConstructor}
 use Rattle.grammar.specs.Table.{Template, Templates, make, none, more}
 use Rattle.grammar.specs.Values.{templateThen, templatesThen}
-use Rattle.layout.specs.Prefix.{Parsed, fault, parsed, inFront, Taken, short, taken, alsoTaken, takeTemplates, applied, constructed}
+use Rattle.layout.specs.Prefix.{ReadTemplates, fault, parsed, inFront, SplitTemplates, short, taken, alsoTaken, takeTemplates, applied, constructed}
 use Rattle.layout.specs.Prefix.{byteInFront, isNameTag, nameBy, templatesOf}
 use Rattle.layout.proofs.PrefixLaws.{name-first, name-last, byte-first, variable-first, constructor-first, unknown-first}
 use Rattle.layout.specs.Within.{count, TemplateWithin, variable-within, outside-within, label-within, make-within, TemplatesWithin, none-within}
@@ -30,7 +30,7 @@ join none us = us
 join (more t ts) us = more t (join ts us)
 
 -- templates in front of what was read
-unfoldable pub allInFront : Templates → Parsed → Parsed
+unfoldable pub allInFront : Templates → ReadTemplates → ReadTemplates
 allInFront none p = p
 allInFront (more t ts) p = inFront t (allInFront ts p)
 
@@ -63,7 +63,7 @@ take-join (more t ts) us (suc k) e = ap (alsoTaken t) (take-join ts us k (omega 
 
 -- ------------------------------------------------------------------ prefix forms are read back
 
-constructed-front : (c : ℕ) (ts : Templates) (p : Parsed) → count ts ≡ arity c → constructed c (allInFront ts p) ≡ inFront (make c ts) p
+constructed-front : (c : ℕ) (ts : Templates) (p : ReadTemplates) → count ts ≡ arity c → constructed c (allInFront ts p) ≡ inFront (make c ts) p
 constructed-front c ts fault e = ap (constructed c) (front-fault ts)
 constructed-front c ts (parsed us) e = ap (constructed c) (front-parsed ts us) ∙ ap (applied c) (take-join ts us (arity c) e)
 
@@ -102,11 +102,11 @@ read-template w = template-read w []
 -- ------------------------------------------------------------------ what is read is a prefix form
 
 -- the first k of some templates, and the others, are these templates
-abbrev Took : ℕ → Templates → Taken → Type 0
+abbrev Took : ℕ → Templates → SplitTemplates → Type 0
 Took k ts short = Unit {0}
 Took k ts (taken us vs) = (count us ≡ k) × (ts ≡ join us vs)
 
-also-took : (k : ℕ) (t : Template) (ts : Templates) (r : Taken) → Took k ts r → Took (suc k) (more t ts) (alsoTaken t r)
+also-took : (k : ℕ) (t : Template) (ts : Templates) (r : SplitTemplates) → Took k ts r → Took (suc k) (more t ts) (alsoTaken t r)
 unfolding count join
 also-took k t ts short h = tt
 also-took k t ts (taken us vs) h = (ap suc (h .0), ap (more t) (h .1))
@@ -130,19 +130,19 @@ join-parts (more t ts) us w =
     (more-within (parts .0) (rest .0), rest .1)
 
 -- what some bytes are read as has these bytes for its prefix form, and is within the ranges
-abbrev pub Forms : List ℕ → Parsed → Type 0
+abbrev pub Forms : List ℕ → ReadTemplates → Type 0
 Forms bs fault = Unit {0}
 Forms bs (parsed ts) = (bs ≡ templatesThen ts []) × TemplatesWithin ts
 
 -- a template in front
-forms-front : {t : Template} → TemplateWithin t → (bs : List ℕ) (p : Parsed) → Forms bs p → Forms (templateThen t bs) (inFront t p)
+forms-front : {t : Template} → TemplateWithin t → (bs : List ℕ) (p : ReadTemplates) → Forms bs p → Forms (templateThen t bs) (inFront t p)
 unfolding templatesThen templateThen
 forms-front w bs fault h = tt
 forms-front {t} w bs (parsed ts) h = (ap (templateThen t) (h .0), more-within w (h .1))
 
 -- a constructor in front
 forms-applied : (c : ℕ) → 0x20 ≤ c → c ≤ 0x27 → (bs : List ℕ) (ts : Templates) → Forms bs (parsed ts)
-    → (r : Taken) → Took (arity c) ts r → Forms (c ∷ bs) (applied c r)
+    → (r : SplitTemplates) → Took (arity c) ts r → Forms (c ∷ bs) (applied c r)
 unfolding templatesThen templateThen
 forms-applied c l h bs ts f short k = tt
 forms-applied c l h bs ts f (taken us vs) k =
@@ -151,11 +151,11 @@ forms-applied c l h bs ts f (taken us vs) k =
       more-within (make-within l h (k .0) (parts .0)) (parts .1),
     )
 
-forms-constructed : (c : ℕ) → 0x20 ≤ c → c ≤ 0x27 → (bs : List ℕ) (p : Parsed) → Forms bs p → Forms (c ∷ bs) (constructed c p)
+forms-constructed : (c : ℕ) → 0x20 ≤ c → c ≤ 0x27 → (bs : List ℕ) (p : ReadTemplates) → Forms bs p → Forms (c ∷ bs) (constructed c p)
 forms-constructed c l h bs fault f = tt
 forms-constructed c l h bs (parsed ts) f = forms-applied c l h bs ts f (takeTemplates (arity c) ts) (took (arity c) ts)
 
-forms-byte : (b : ℕ) (bs : List ℕ) (p : Parsed) → Forms bs p → Forms (b ∷ bs) (byteInFront b p)
+forms-byte : (b : ℕ) (bs : List ℕ) (p : ReadTemplates) → Forms bs p → Forms (b ∷ bs) (byteInFront b p)
 unfolding templatesThen templateThen
 forms-byte b bs p f =
     by-test (ltb b 0x10)
@@ -169,7 +169,7 @@ forms-byte b bs p f =
     (λ c. subst⁻¹ (Forms (b ∷ bs)) (unknown-first b p e c) tt))
 
 -- a name's tag and a byte in front
-forms-name : (b n : ℕ) (bs : List ℕ) (p : Parsed) → isNameTag b ≡ true → n < 256 → Forms bs p
+forms-name : (b n : ℕ) (bs : List ℕ) (p : ReadTemplates) → isNameTag b ≡ true → n < 256 → Forms bs p
     → Forms (b ∷ n ∷ bs) (inFront (nameBy (eqb b 0x10) n) p)
 unfolding templatesThen templateThen
 forms-name b n bs p e l f =

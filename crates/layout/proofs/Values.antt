@@ -12,7 +12,7 @@ use Rattle.grammar.specs.Limits.{most}
 use Rattle.grammar.specs.SortTests.{isSort, isIdeSort}
 use Rattle.grammar.specs.Table.{Template, Templates, none, more, Item, keyword, ide, number, local, call, Alternative, Mode, add, extend, update, Definition}
 use Rattle.grammar.specs.Values.{templateThen, templatesThen, itemValue, modeCode, headValue}
-use Rattle.layout.specs.Prefix.{Parsed, fault, parsed, templatesOf, isTemplates, isTemplate, found, firstOf}
+use Rattle.layout.specs.Prefix.{ReadTemplates, fault, parsed, templatesOf, isTemplates, isTemplate, found, headTemplate}
 use Rattle.layout.specs.Layout.{isEmpty, isHead, isItem, isRoot, isKnown, isWhole}
 use Rattle.layout.specs.Decode.{modeOf, itemOf, definitionOf}
 use Rattle.layout.specs.Within.{Each, each-none, each-more, TemplateWithin, TemplatesWithin, ItemWithin, keyword-within, ide-within}
@@ -170,7 +170,7 @@ head-read d =
 -- ------------------------------------------------------------------ results
 
 -- the one template that a value is
-one-template : (v : List ℕ) (p : Parsed) → Forms v p → isTemplate p ≡ true → (t : Template) × (v ≡ templateThen t []) × TemplateWithin t
+one-template : (v : List ℕ) (p : ReadTemplates) → Forms v p → isTemplate p ≡ true → (t : Template) × (v ≡ templateThen t []) × TemplateWithin t
 unfolding templatesThen templateThen
 one-template v fault f e = absurd (false≢true e)
 one-template v (parsed none) f e = absurd (false≢true e)
@@ -188,13 +188,13 @@ unfolding isWhole
 result-whole w = ap isTemplate (read-template w)
 
 -- they are read as the template
-pub result-read : {t : Template} → TemplateWithin t → firstOf (found (templatesOf (templateThen t []))) ≡ t
+pub result-read : {t : Template} → TemplateWithin t → headTemplate (found (templatesOf (templateThen t []))) ≡ t
 result-read w = cc (read-template w)
 
 -- ------------------------------------------------------------------ items
 
 -- the templates that a call's bytes are
-some-templates : (v : List ℕ) (p : Parsed) → Forms v p → isTemplates p ≡ true → (ts : Templates) × (v ≡ templatesThen ts []) × TemplatesWithin ts
+some-templates : (v : List ℕ) (p : ReadTemplates) → Forms v p → isTemplates p ≡ true → (ts : Templates) × (v ≡ templatesThen ts []) × TemplatesWithin ts
 some-templates v fault f e = absurd (false≢true e)
 some-templates v (parsed ts) f e = (ts, f .0, f .1)
 

@@ -5,13 +5,13 @@ use mathlib.Core.List.{List, [], _∷_}
 use lib.Dec.{ltb}
 use Rattle.answers.specs.Checked.{Checked, ok, bad}
 use Rattle.grammar.specs.Values.{Field, field}
-use Rattle.grammar.specs.Fields.{Fields, end, cut, next, fieldsOf}
+use Rattle.grammar.specs.Fields.{RawFields, end, cut, next, fieldsOf}
 use Rattle.layout.specs.declared.Progress.{Progress}
 use Rattle.layout.specs.declared.Checking.{Checking}
 use Rattle.layout.specs.declared.Checking.the-variants.{Further, Stopped}
 
 -- those of some fields that begin before the offset, in front of what came before them
-unfoldable pub earlier : ℕ → Fields → List Field → List Field
+unfoldable pub earlier : ℕ → RawFields → List Field → List Field
 earlier to (end at) before = before
 earlier to (cut at) before = before
 earlier to (next at tag v fs) before =

@@ -6,13 +6,13 @@ use Rattle.answers.specs.Checked.{Checked, ok, bad, _>>=_, _>>_}
 use Rattle.grammar.specs.Sorts.{gives}
 use Rattle.grammar.specs.Table.{Template, Templates, variable, none, Item, keyword, ide, number, local, call, Alternative, Mode, add, extend, update}
 use Rattle.grammar.specs.Table.{Definition, Table}
-use Rattle.grammar.specs.Fields.{Fields, end, cut, next, fieldsOf}
-use Rattle.layout.specs.Prefix.{templatesOf, found, firstOf}
+use Rattle.grammar.specs.Fields.{RawFields, end, cut, next, fieldsOf}
+use Rattle.layout.specs.Prefix.{templatesOf, found, headTemplate}
 use Rattle.layout.specs.Layout.{layout}
 
 -- a table read from its end: the parts that are whole, and the definitions, alternatives, items and result of the block,
 -- definition and alternative whose beginnings stand further left
-pub record Built : Type 0 where
+pub record Decoded : Type 0 where
   pub keywords : List (List ℕ)
   pub outsides : List (List ℕ)
   pub blocks : List (List Definition)
@@ -23,11 +23,11 @@ pub record Built : Type 0 where
   pub result : Template
 
 -- of the parts in their order
-abbrev pub built : List (List ℕ) → List (List ℕ) → List (List Definition) → ℕ → List Definition → List Alternative → List Item → Template → Built
-built ks os bs r ds rest is t = record { keywords = ks; outsides = os; blocks = bs; root = r; definitions = ds; alternatives = rest; items = is; result = t }
+abbrev pub decoded : List (List ℕ) → List (List ℕ) → List (List Definition) → ℕ → List Definition → List Alternative → List Item → Template → Decoded
+decoded ks os bs r ds rest is t = record { keywords = ks; outsides = os; blocks = bs; root = r; definitions = ds; alternatives = rest; items = is; result = t }
 
-abbrev pub nothing : Built
-nothing = built [] [] [] 0 [] [] [] (variable 0)
+abbrev pub nothing : Decoded
+nothing = decoded [] [] [] 0 [] [] [] (variable 0)
 
 -- ------------------------------------------------------------------ values
 
@@ -56,51 +56,51 @@ definitionOf v rest =
 
 -- An alternative's items and result stand together: every field but an item ends the items further right.
 
-abbrev pub putKeyword : List ℕ → Built → Built
-putKeyword v b = built (v ∷ b .keywords) (b .outsides) (b .blocks) (b .root) (b .definitions) (b .alternatives) [] (variable 0)
+abbrev pub putKeyword : List ℕ → Decoded → Decoded
+putKeyword v b = decoded (v ∷ b .keywords) (b .outsides) (b .blocks) (b .root) (b .definitions) (b .alternatives) [] (variable 0)
 
-abbrev pub putOutside : List ℕ → Built → Built
-putOutside v b = built (b .keywords) (v ∷ b .outsides) (b .blocks) (b .root) (b .definitions) (b .alternatives) [] (variable 0)
+abbrev pub putOutside : List ℕ → Decoded → Decoded
+putOutside v b = decoded (b .keywords) (v ∷ b .outsides) (b .blocks) (b .root) (b .definitions) (b .alternatives) [] (variable 0)
 
 -- the definitions read are this block's
-abbrev pub putBlock : List ℕ → Built → Built
-putBlock v b = built (b .keywords) (b .outsides) (b .definitions ∷ b .blocks) (b .root) [] (b .alternatives) [] (variable 0)
+abbrev pub putBlock : List ℕ → Decoded → Decoded
+putBlock v b = decoded (b .keywords) (b .outsides) (b .definitions ∷ b .blocks) (b .root) [] (b .alternatives) [] (variable 0)
 
 -- the alternatives read are this definition's
-abbrev pub putDefinition : List ℕ → Built → Built
-putDefinition v b = built (b .keywords) (b .outsides) (b .blocks) (b .root) (definitionOf v (b .alternatives) ∷ b .definitions) [] [] (variable 0)
+abbrev pub putDefinition : List ℕ → Decoded → Decoded
+putDefinition v b = decoded (b .keywords) (b .outsides) (b .blocks) (b .root) (definitionOf v (b .alternatives) ∷ b .definitions) [] [] (variable 0)
 
 -- the items and the result read are this alternative's
-abbrev pub putAlternative : List ℕ → Built → Built
+abbrev pub putAlternative : List ℕ → Decoded → Decoded
 putAlternative v b =
-    built (b .keywords) (b .outsides) (b .blocks) (b .root) (b .definitions) (record { items = b .items; result = b .result } ∷ b .alternatives) []
+    decoded (b .keywords) (b .outsides) (b .blocks) (b .root) (b .definitions) (record { items = b .items; result = b .result } ∷ b .alternatives) []
     (variable 0)
 
-abbrev pub putItem : List ℕ → Built → Built
-putItem v b = built (b .keywords) (b .outsides) (b .blocks) (b .root) (b .definitions) (b .alternatives) (itemOf v ∷ b .items) (b .result)
+abbrev pub putItem : List ℕ → Decoded → Decoded
+putItem v b = decoded (b .keywords) (b .outsides) (b .blocks) (b .root) (b .definitions) (b .alternatives) (itemOf v ∷ b .items) (b .result)
 
-abbrev pub putResult : List ℕ → Built → Built
-putResult v b = built (b .keywords) (b .outsides) (b .blocks) (b .root) (b .definitions) (b .alternatives) [] (firstOf (found (templatesOf v)))
+abbrev pub putResult : List ℕ → Decoded → Decoded
+putResult v b = decoded (b .keywords) (b .outsides) (b .blocks) (b .root) (b .definitions) (b .alternatives) [] (headTemplate (found (templatesOf v)))
 
-abbrev pub putRoot : List ℕ → Built → Built
-putRoot v b = built (b .keywords) (b .outsides) (b .blocks) (getD v 0 0) (b .definitions) (b .alternatives) [] (variable 0)
+abbrev pub putRoot : List ℕ → Decoded → Decoded
+putRoot v b = decoded (b .keywords) (b .outsides) (b .blocks) (getD v 0 0) (b .definitions) (b .alternatives) [] (variable 0)
 
-abbrev pub putNothing : List ℕ → Built → Built
-putNothing v b = built (b .keywords) (b .outsides) (b .blocks) (b .root) (b .definitions) (b .alternatives) [] (variable 0)
+abbrev pub putNothing : List ℕ → Decoded → Decoded
+putNothing v b = decoded (b .keywords) (b .outsides) (b .blocks) (b .root) (b .definitions) (b .alternatives) [] (variable 0)
 
 -- a field's part, by its tag
-unfoldable pub put : ℕ → List ℕ → Built → Built
+unfoldable pub put : ℕ → List ℕ → Decoded → Decoded
 put tag =
     getD (putNothing ∷ putKeyword ∷ putOutside ∷ putBlock ∷ putDefinition ∷ putAlternative ∷ putItem ∷ putResult ∷ putRoot ∷ []) tag putNothing
 
-unfoldable pub build : Fields → Built
-build (end at) = nothing
-build (cut at) = nothing
-build (next at tag v fs) = put tag v (build fs)
+unfoldable pub decodeFields : RawFields → Decoded
+decodeFields (end at) = nothing
+decodeFields (cut at) = nothing
+decodeFields (next at tag v fs) = put tag v (decodeFields fs)
 
-abbrev pub tableOf : Built → Table
+abbrev pub tableOf : Decoded → Table
 tableOf b = record { keywords = b .keywords; outsides = b .outsides; blocks = b .blocks; root = b .root }
 
 -- the table of the bytes, if their layout is right
 unfoldable pub decode : List ℕ → Checked Table
-decode bs = layout bs >> ok (tableOf (build (fieldsOf bs)))
+decode bs = layout bs >> ok (tableOf (decodeFields (fieldsOf bs)))

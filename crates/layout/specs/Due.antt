@@ -4,7 +4,7 @@ use mathlib.Core.Bool.{Bool, true, false, _||_}
 use lib.Dec.{ltb}
 use Rattle.grammar.specs.Sorts.{arity}
 use Rattle.grammar.specs.SortTests.{isConstructor}
-use Rattle.layout.specs.Prefix.{Parsed, isNameTag, isTemplates, isTemplate}
+use Rattle.layout.specs.Prefix.{ReadTemplates, isNameTag, isTemplates, isTemplate}
 
 -- the bytes of a template before its arguments: a variable or a constructor is one byte, a name two; 0 for an unknown byte
 unfoldable pub headSize : ℕ → ℕ
@@ -15,6 +15,6 @@ unfoldable pub arguments : ℕ → ℕ
 arguments b = elim (isConstructor b) [ true ↦ arity b | false ↦ 0 ]
 
 -- exactly one template, or whole templates, as many as there are
-abbrev pub isWholly : Bool → Parsed → Bool
+abbrev pub isWholly : Bool → ReadTemplates → Bool
 isWholly true p = isTemplate p
 isWholly false p = isTemplates p

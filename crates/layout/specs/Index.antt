@@ -14,9 +14,9 @@ use Rattle.layout.specs.Before.{fieldsBefore}
 -- ------------------------------------------------------------------ what is looked for
 
 -- the values of the fields of one tag, the last first
-unfoldable pub spelledBy : ℕ → List Field → List (List ℕ)
-spelledBy tag [] = []
-spelledBy tag (f ∷ fs) = elim (eqb (f .tag) tag) [ true ↦ f .value ∷ spelledBy tag fs | false ↦ spelledBy tag fs ]
+unfoldable pub spellingsUnder : ℕ → List Field → List (List ℕ)
+spellingsUnder tag [] = []
+spellingsUnder tag (f ∷ fs) = elim (eqb (f .tag) tag) [ true ↦ f .value ∷ spellingsUnder tag fs | false ↦ spellingsUnder tag fs ]
 
 unfoldable pub isAmong : List ℕ → List (List ℕ) → Bool
 isAmong v [] = false
@@ -38,15 +38,15 @@ abbrev pub mixed : ℕ → ℕ → ℕ
 mixed h g = (h + g) * 1640531527 % 4294967296
 
 -- the hash of bytes that follow what has the hash h, by fours and then those that are left
-unfoldable pub hashFrom : ℕ → List ℕ → ℕ
-hashFrom h [] = mixed h (packed [])
-hashFrom h (a ∷ []) = mixed h (packed (a ∷ []))
-hashFrom h (a ∷ b ∷ []) = mixed h (packed (a ∷ b ∷ []))
-hashFrom h (a ∷ b ∷ c ∷ []) = mixed h (packed (a ∷ b ∷ c ∷ []))
-hashFrom h (a ∷ b ∷ c ∷ d ∷ bs) = hashFrom (mixed h (packed (a ∷ b ∷ c ∷ d ∷ []))) bs
+unfoldable pub bucketHashFrom : ℕ → List ℕ → ℕ
+bucketHashFrom h [] = mixed h (packed [])
+bucketHashFrom h (a ∷ []) = mixed h (packed (a ∷ []))
+bucketHashFrom h (a ∷ b ∷ []) = mixed h (packed (a ∷ b ∷ []))
+bucketHashFrom h (a ∷ b ∷ c ∷ []) = mixed h (packed (a ∷ b ∷ c ∷ []))
+bucketHashFrom h (a ∷ b ∷ c ∷ d ∷ bs) = bucketHashFrom (mixed h (packed (a ∷ b ∷ c ∷ d ∷ []))) bs
 
-unfoldable pub hashOf : List ℕ → ℕ
-hashOf v = hashFrom 0 v
+unfoldable pub bucketHash : List ℕ → ℕ
+bucketHash v = bucketHashFrom 0 v
 
 -- the bucket of a hash: its highest six bits, which all bytes move
 abbrev pub bucketOf : ℕ → ℕ
@@ -54,7 +54,7 @@ bucketOf h = h / 67108864 % 64
 
 -- h is the hash of a keyword or an outside name; of other fields none is asked
 pub record Hashed (tag : ℕ) (v : List ℕ) (h : ℕ) : Type 0 where
-  pub spelled : tag ≤ 2 → h ≡ hashOf v
+  pub spelled : tag ≤ 2 → h ≡ bucketHash v
 
 -- ------------------------------------------------------------------ the room
 
@@ -64,23 +64,23 @@ abbrev pub entry : ℕ → ℕ
 entry n = 60 + 4 * n
 
 -- spelling n is w, and p leads on
-pub record Entered (table room : List ℕ) (n : ℕ) (w : List ℕ) (p : ℕ) : Type 0 where
+pub record SpellingHeld (table room : List ℕ) (n : ℕ) (w : List ℕ) (p : ℕ) : Type 0 where
   pub onward : getD room (entry n) 0 ≡ p
-  pub hashed : getD room (entry n + 1) 0 ≡ hashOf w
+  pub hashed : getD room (entry n + 1) 0 ≡ bucketHash w
   pub placed : take (getD room (entry n + 3) 0) (drop (getD room (entry n + 2) 0) table) ≡ w
 
 -- p leads through those of some spellings, the newest first, that fall into a bucket
-pub data Leads (table room : List ℕ) (bucket : ℕ) : List (List ℕ) → ℕ → Type 0 where
-  leads-none : Leads table room bucket [] 0
-  leads-past : {w : List ℕ} {ws : List (List ℕ)} {p : ℕ} → (bucketOf (hashOf w) ≡ bucket → ⊥) → Leads table room bucket ws p
-      → Leads table room bucket (w ∷ ws) p
+pub data Bucket (table room : List ℕ) (bucket : ℕ) : List (List ℕ) → ℕ → Type 0 where
+  leads-none : Bucket table room bucket [] 0
+  leads-past : {w : List ℕ} {ws : List (List ℕ)} {p : ℕ} → (bucketOf (bucketHash w) ≡ bucket → ⊥) → Bucket table room bucket ws p
+      → Bucket table room bucket (w ∷ ws) p
   leads-here :
-      {w : List ℕ} {ws : List (List ℕ)} {p : ℕ} → Entered table room (suc (length ws)) w p → Leads table room bucket ws p
-      → Leads table room bucket (w ∷ ws) (suc (length ws))
+      {w : List ℕ} {ws : List (List ℕ)} {p : ℕ} → SpellingHeld table room (suc (length ws)) w p → Bucket table room bucket ws p
+      → Bucket table room bucket (w ∷ ws) (suc (length ws))
 
 -- the room has the spellings, 64 at most
 pub record Indexed (table room : List ℕ) (words : List (List ℕ)) : Type 0 where
-  pub leads : (b : ℕ) → b < 64 → Leads table room b words (getD room b 0)
+  pub leads : (b : ℕ) → b < 64 → Bucket table room b words (getD room b 0)
 
 -- links lead to older spellings only
 pub record Falling (room : List ℕ) : Type 0 where
@@ -90,7 +90,7 @@ pub record Falling (room : List ℕ) : Type 0 where
 -- a room in which a spelling may be looked for by its hash
 pub record Searchable (room v : List ℕ) (h : ℕ) : Type 0 where
   pub falling : Falling room
-  pub hashed : h ≡ hashOf v
+  pub hashed : h ≡ bucketHash v
 
 -- the room with one spelling more
 abbrev pub roomWith : List ℕ → ℕ → ℕ → ℕ → ℕ → List ℕ
@@ -100,26 +100,26 @@ roomWith room n h from size =
 -- a spelling that may be entered, with its hash
 pub record Enterable (spelled : Bool) (count from : ℕ) (v : List ℕ) (h : ℕ) : Type 0 where
   pub few : spelled ≡ true → count < 64
-  pub hashed : spelled ≡ true → h ≡ hashOf v
+  pub hashed : spelled ≡ true → h ≡ bucketHash v
   pub near : from ≤ 65536
   pub short : length v ≤ 65536
 
 -- the room after a spelling, if there is one to enter behind `count` others
 abbrev pub entered : List ℕ → Bool → ℕ → ℕ → List ℕ → List ℕ
-entered room true count from v = roomWith room (count + 1) (hashOf v) from (length v)
+entered room true count from v = roomWith room (count + 1) (bucketHash v) from (length v)
 entered room false count from v = room
 
 -- one room has the spellings of a tag among some fields, of which there are `count`
-pub record Has (table : List ℕ) (tag : ℕ) (before : List Field) (count : ℕ) (room : List ℕ) : Type 0 where
+pub record HasSpellings (table : List ℕ) (tag : ℕ) (before : List Field) (count : ℕ) (room : List ℕ) : Type 0 where
   pub long : length room ≡ 320
   pub falling : Falling room
-  pub indexed : Indexed table room (spelledBy tag before)
-  pub counted : length (spelledBy tag before) ≡ count
+  pub indexed : Indexed table room (spellingsUnder tag before)
+  pub counted : length (spellingsUnder tag before) ≡ count
 
 -- the rooms have the keywords and the outside names that stand before an offset
 pub record Remembered (table : List ℕ) (at : ℕ) (s : Progress) (K N : List ℕ) : Type 0 where
-  pub keywords : Has table 1 (fieldsBefore table at) (s .keywords) K
-  pub outsides : Has table 2 (fieldsBefore table at) (s .outsides) N
+  pub keywords : HasSpellings table 1 (fieldsBefore table at) (s .keywords) K
+  pub outsides : HasSpellings table 2 (fieldsBefore table at) (s .outsides) N
 
 -- they have those before a field of a tag and a value, of which h is the hash
 pub record FieldLent (table : List ℕ) (at tag : ℕ) (v : List ℕ) (h : ℕ) (s : Progress) (K N : List ℕ) : Type 0 where

@@ -10,7 +10,7 @@ use Rattle.spellings.specs.Bytes.{isWord, isKeyword, same, every}
 use Rattle.grammar.specs.SortTests.{isSort, isIdeSort}
 use Rattle.grammar.specs.Limits.{most}
 use Rattle.grammar.specs.Values.{Field, field}
-use Rattle.grammar.specs.Fields.{Fields, end, cut, next, fieldsOf}
+use Rattle.grammar.specs.Fields.{RawFields, end, cut, next, fieldsOf}
 use Rattle.layout.specs.declared.Progress.{Progress}
 use Rattle.layout.specs.Prefix.{templatesOf, isTemplates, isTemplate}
 
@@ -123,15 +123,15 @@ checkField before at tag v s = do
   ok (passed tag s)
 
 -- the fields from the left; the root is last
-unfoldable pub checkFields : Fields → List Field → Progress → Checked (Unit {0})
+unfoldable pub checkFields : RawFields → List Field → Progress → Checked (Unit {0})
 checkFields (end at) before s = need (eqb (s .last) 8) 4 at
 checkFields (cut at) before s = bad (refusal 2 at 0 0)
 checkFields (next at tag v fs) before s =
     checkField before at tag v s >>= λ s′. checkFields fs (field tag v ∷ before) s′
 
-abbrev pub start : Progress
-start = record { last = 0; keywords = 0; outsides = 0; blocks = 0; alternatives = 0; items = 0 }
+abbrev pub initialProgress : Progress
+initialProgress = record { last = 0; keywords = 0; outsides = 0; blocks = 0; alternatives = 0; items = 0 }
 
 unfoldable pub layout : List ℕ → Checked (Unit {0})
 layout bs =
-    elim (leb (length bs) (most .bytes)) [ false ↦ bad (refusal 1 0 0 0) | true ↦ checkFields (fieldsOf bs) [] start ]
+    elim (leb (length bs) (most .bytes)) [ false ↦ bad (refusal 1 0 0 0) | true ↦ checkFields (fieldsOf bs) [] initialProgress ]

@@ -5,43 +5,43 @@ use mathlib.Core.List.{List, [], _∷_}
 use lib.Dec.{eqb, ltb}
 use Rattle.grammar.specs.Sorts.{arity}
 use Rattle.grammar.specs.SortTests.{isConstructor}
-use Rattle.grammar.specs.Table.{Template, Templates, variable, outside, outsideLabel, make, none, more}
+use Rattle.grammar.specs.Table.{Template, Templates, variable, outsideVar, outsideLabel, make, none, more}
 
 -- what some bytes are: the templates of which they are the prefix forms, one after the other, or none
-pub data Parsed : Type 0 where
-  fault : Parsed
-  parsed : Templates → Parsed
+pub data ReadTemplates : Type 0 where
+  fault : ReadTemplates
+  parsed : Templates → ReadTemplates
 
 -- a template in front of others
-abbrev pub inFront : Template → Parsed → Parsed
+abbrev pub inFront : Template → ReadTemplates → ReadTemplates
 inFront t fault = fault
 inFront t (parsed ts) = parsed (more t ts)
 
 -- the first k of some templates and the others, or a fault if there are fewer
-pub data Taken : Type 0 where
-  short : Taken
-  taken : Templates → Templates → Taken
+pub data SplitTemplates : Type 0 where
+  short : SplitTemplates
+  taken : Templates → Templates → SplitTemplates
 
-abbrev pub alsoTaken : Template → Taken → Taken
+abbrev pub alsoTaken : Template → SplitTemplates → SplitTemplates
 alsoTaken t short = short
 alsoTaken t (taken us vs) = taken (more t us) vs
 
-unfoldable pub takeTemplates : ℕ → Templates → Taken
+unfoldable pub takeTemplates : ℕ → Templates → SplitTemplates
 takeTemplates zero ts = taken none ts
 takeTemplates (suc k) none = short
 takeTemplates (suc k) (more t ts) = alsoTaken t (takeTemplates k ts)
 
-abbrev pub applied : ℕ → Taken → Parsed
+abbrev pub applied : ℕ → SplitTemplates → ReadTemplates
 applied c short = fault
 applied c (taken us vs) = parsed (more (make c us) vs)
 
 -- the constructor c takes its arguments from the templates that follow it
-abbrev pub constructed : ℕ → Parsed → Parsed
+abbrev pub constructed : ℕ → ReadTemplates → ReadTemplates
 constructed c fault = fault
 constructed c (parsed ts) = applied c (takeTemplates (arity c) ts)
 
 -- a byte that is no name's tag, in front of what the bytes after it are: a variable, a constructor, or unknown
-abbrev pub byteInFront : ℕ → Parsed → Parsed
+abbrev pub byteInFront : ℕ → ReadTemplates → ReadTemplates
 byteInFront b rest =
     elim (ltb b 0x10)
     [ true ↦ inFront (variable b) rest | false ↦ elim (isConstructor b) [ true ↦ constructed b rest | false ↦ fault ] ]
@@ -51,11 +51,11 @@ abbrev pub isNameTag : ℕ → Bool
 isNameTag b = eqb b 0x10 || eqb b 0x11
 
 abbrev pub nameBy : Bool → ℕ → Template
-nameBy true n = outside n
+nameBy true n = outsideVar n
 nameBy false n = outsideLabel n
 
 -- the templates that some bytes are
-unfoldable pub templatesOf : List ℕ → Parsed
+unfoldable pub templatesOf : List ℕ → ReadTemplates
 templatesOf [] = parsed none
 templatesOf (b ∷ []) = elim (isNameTag b) [ true ↦ fault | false ↦ byteInFront b (parsed none) ]
 templatesOf (b ∷ n ∷ bs) =
@@ -63,23 +63,23 @@ templatesOf (b ∷ n ∷ bs) =
     [ true ↦ inFront (nameBy (eqb b 0x10) n) (templatesOf bs) | false ↦ byteInFront b (templatesOf (n ∷ bs)) ]
 
 -- whole templates, as many as there are
-abbrev pub isTemplates : Parsed → Bool
+abbrev pub isTemplates : ReadTemplates → Bool
 isTemplates fault = false
 isTemplates (parsed ts) = true
 
 -- exactly one
-abbrev pub isTemplate : Parsed → Bool
+abbrev pub isTemplate : ReadTemplates → Bool
 isTemplate fault = false
 isTemplate (parsed none) = false
 isTemplate (parsed (more t none)) = true
 isTemplate (parsed (more t (more u ts))) = false
 
 -- the templates found, none for a fault
-abbrev pub found : Parsed → Templates
+abbrev pub found : ReadTemplates → Templates
 found fault = none
 found (parsed ts) = ts
 
 -- the one template, where there is one
-abbrev pub firstOf : Templates → Template
-firstOf none = variable 0
-firstOf (more t ts) = t
+abbrev pub headTemplate : Templates → Template
+headTemplate none = variable 0
+headTemplate (more t ts) = t

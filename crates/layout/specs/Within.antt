@@ -6,7 +6,7 @@ use mathlib.Core.List.{List, [], _∷_}
 use lib.ListN.{length}
 use Rattle.spellings.specs.Bytes.{isWord, isKeyword}
 use Rattle.grammar.specs.Sorts.{arity}
-use Rattle.grammar.specs.Table.{Template, Templates, variable, outside, outsideLabel, make, none, more, Item, keyword, ide, number, local, call}
+use Rattle.grammar.specs.Table.{Template, Templates, variable, outsideVar, outsideLabel, make, none, more, Item, keyword, ide, number, local, call}
 use Rattle.grammar.specs.Table.{Alternative, Definition, Table}
 use Rattle.grammar.specs.Encode.{encode}
 use Rattle.grammar.specs.Limits.{most}
@@ -32,7 +32,7 @@ count (more t ts) = suc (count ts)
 mutual
   pub data TemplateWithin : Template → Type 0 where
     variable-within : {i : ℕ} → i ≤ 0x0F → TemplateWithin (variable i)
-    outside-within : {n : ℕ} → n < 256 → TemplateWithin (outside n)
+    outside-within : {n : ℕ} → n < 256 → TemplateWithin (outsideVar n)
     label-within : {n : ℕ} → n < 256 → TemplateWithin (outsideLabel n)
     make-within : {c : ℕ} {ts : Templates} → 0x20 ≤ c → c ≤ 0x27 → count ts ≡ arity c → TemplatesWithin ts
         → TemplateWithin (make c ts)

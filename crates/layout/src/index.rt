@@ -8,7 +8,7 @@ ghost use Prim.Native.Nat.{ℕ, _<_, _≤_};
 ghost use mathlib.Core.Path.{_≡_};
 ghost use mathlib.Core.List.{List};
 ghost use Rattle.spellings.specs.Bytes.{same};
-ghost use Rattle.layout.specs.Index.{isAmong, Packs, mixed, hashOf, Hashed, Entered, Indexed, Searchable, Enterable, entered};
+ghost use Rattle.layout.specs.Index.{isAmong, Packs, mixed, bucketHash, Hashed, SpellingHeld, Indexed, Searchable, Enterable, entered};
 
 // Four bytes at the front as one number, the first lowest; those that are not there are 0.
 fn packed(v: &[u8]) -> usize
@@ -30,7 +30,7 @@ fn mixed(h: usize, g: usize) -> usize
 
 // The hash of a spelling, four bytes at a time.
 fn hash(v: &[u8]) -> usize
-    ensures { λ r. ⌜ r ≡ hashOf (now (v .entry)) ⌝ }
+    ensures { λ r. ⌜ r ≡ bucketHash (now (v .entry)) ⌝ }
 {
     let mut h: usize = 0;
     let mut i: usize = 0;
@@ -54,7 +54,7 @@ pub fn spelling_hash(tag: u8, v: &[u8]) -> usize
 // Whether the entry of a number is the spelling v, which has the hash h.
 fn is_entry(room: &[u32; 320], table: &[u8], n: usize, h: usize, v: &[u8]) -> bool
     requires { ⌜ n ≤ 64 ⌝ }
-    ensures { λ r. ⌜ ((w : List ℕ) (p : ℕ) → Entered (now (table .entry)) (now (room .entry)) n w p → h ≡ hashOf (now (v .entry))
+    ensures { λ r. ⌜ ((w : List ℕ) (p : ℕ) → SpellingHeld (now (table .entry)) (now (room .entry)) n w p → h ≡ bucketHash (now (v .entry))
         → r ≡ same w (now (v .entry))) ⌝ }
 {
     let at = 60 + 4 * n;

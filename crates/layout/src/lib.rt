@@ -34,9 +34,10 @@ ghost use Rattle.answers.specs.Checked.{need, verdict};
 ghost use Rattle.spellings.specs.Bytes.{every};
 ghost use Rattle.grammar.specs.SortTests.{isSort};
 ghost use Rattle.layout.specs.Prefix.{templatesOf};
-ghost use Rattle.layout.specs.Layout.{isHead, isItem, isRoot, isKnown, follows, isSpelled, hasRoom, oneIf, passed, isWhole, checkField, start, layout};
+ghost use Rattle.layout.specs.Layout.{isHead, isItem, isRoot, isKnown, follows, isSpelled, hasRoom, oneIf, passed, isWhole, checkField};
+ghost use Rattle.layout.specs.Layout.{initialProgress, layout};
 ghost use Rattle.layout.specs.Before.{fieldsBefore, checking};
-ghost use Rattle.layout.specs.Index.{spelledBy, Indexed, SpellingLent, FieldLent};
+ghost use Rattle.layout.specs.Index.{spellingsUnder, Indexed, SpellingLent, FieldLent};
 ghost use Rattle.layout.specs.Due.{headSize, arguments, isWholly};
 
 // What has been read of a table: the last field's tag (0 at the start), the keywords, outside names, blocks and alternatives so
@@ -156,8 +157,8 @@ fn is_spelled(
     h: usize,
 ) -> bool
     requires { ⌜ SpellingLent tag (now v) h (now keywords) (now outsides) ⌝ }
-    ensures { λ r. ⌜ ((before : List Field) → Indexed (now (table .entry)) (now (keywords .entry)) (spelledBy 1 before)
-        → Indexed (now (table .entry)) (now (outsides .entry)) (spelledBy 2 before) → r ≡ isSpelled tag (now (v .entry)) before) ⌝ }
+    ensures { λ r. ⌜ ((before : List Field) → Indexed (now (table .entry)) (now (keywords .entry)) (spellingsUnder 1 before)
+        → Indexed (now (table .entry)) (now (outsides .entry)) (spellingsUnder 2 before) → r ≡ isSpelled tag (now (v .entry)) before) ⌝ }
 {
     if tag == 1 {
         return is_keyword_spelling(v) & !is_among(keywords, table, v, h);
@@ -343,7 +344,7 @@ fn check_end(at: usize, s: Progress) -> Verdict
 
 // What has been read where a table begins.
 fn nothing_read() -> Progress
-    ensures { λ r. ⌜ r ≡ start ⌝ }
+    ensures { λ r. ⌜ r ≡ initialProgress ⌝ }
 {
     Progress {
         last: 0,

@@ -6,7 +6,7 @@ use native.Mathlib.Omega.{arith}
 use lib.Seq.{take-all}
 use lib.ListN.{length, getD, take, drop, length-drop, List·getD-eq-default}
 use borrow.Author.Tests.{lt-ltb, le-ltb}
-use Rattle.spellings.specs.Bytes.{run, isWordByte}
+use Rattle.spellings.specs.Bytes.{longestRun, isWordByte}
 use Rattle.spellings.proofs.BytesLaws.{run-prefix}
 use Rattle.lexicon.specs.Trees.{twoAt, fourAt, eightAt, fewOf, crossed, mixed, chunksFrom, seedOf, bodyOf, hashOf, Hashed}
 
@@ -90,10 +90,10 @@ module _ (s : List ℕ) where
       cc
 
 -- the run at an offset, by its length
-pub run-hashed : (s : List ℕ) (at : ℕ) {n h : ℕ} {v : List ℕ} → n ≡ length (run isWordByte (take (length s - at) (drop at s)))
+pub run-hashed : (s : List ℕ) (at : ℕ) {n h : ℕ} {v : List ℕ} → n ≡ length (longestRun isWordByte (take (length s - at) (drop at s)))
     → v ≡ take n (drop at s)
     → h ≡ hashOf v
-    → Hashed (run isWordByte (drop at s)) n h
+    → Hashed (longestRun isWordByte (drop at s)) n h
 run-hashed s at e f g =
     let whole : take (length s - at) (drop at s) ≡ drop at s = take-all (length s - at) (drop at s) (omega (arith, length-drop at s)) in
     record { sized = cc; hashed = cc (run-prefix isWordByte (drop at s)) }

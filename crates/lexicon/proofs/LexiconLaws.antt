@@ -21,7 +21,7 @@ use Rattle.grammar.proofs.LookupLaws.{Stops, front-inside, fields-at, found-nil
 use Rattle.lexicon.specs.Places.{wordsFrom, wordsIn}
 use Rattle.lexicon.specs.Trees.{Planted, Searched, Linkable, linksWith}
 use Rattle.lexicon.specs.declared.trees.Spot.{Spot}
-use Rattle.lexicon.specs.LexiconRoom.{Behind, Spelled, Enters, Entered, kindFrom, Marked, Symbols, SamePlaces, Unmarked, Blank, Lexical}
+use Rattle.lexicon.specs.LexiconRoom.{SameBehind, Spelled, Enters, SpellingsEntered, kindFrom, Marked, Symbols, SamePlaces, Unmarked, Blank, Lexical}
 use Rattle.lexicon.proofs.PlaceLaws.{words-length, word-listed, words-alike, words-added, place-stored}
 use Rattle.lexicon.proofs.TreeLaws.{zeros, tree-none, tree-with, linkable, links-long}
 
@@ -92,7 +92,7 @@ pub record Entering (table room₀ : List ℕ) (start tag most first : ℕ) (roo
   -- the trees hold the spellings entered
   pub spelled : Spelled table room links e
   -- the numbers behind the places stay
-  pub behind : Behind room₀ room
+  pub behind : SameBehind room₀ room
   -- the spellings entered and those of the fields left are those asked for
   pub rest :
       wordsIn table room e ++ take (first + most - e) (leading tag (fieldsAt table at))
@@ -116,7 +116,7 @@ entering-start {table} {room} {start = start} {tag = tag} {most = most} {first =
 module _ {table room₀ : List ℕ} {start tag most first : ℕ} {room links : List ℕ} {at e : ℕ}
     (c : Entering table room₀ start tag most first room links at e) where
   entered : take (first + most - e) (leading tag (fieldsAt table at)) ≡ []
-      → Entered table room₀ room links e (wordsIn table room₀ first ++ take most (leading tag (fieldsAt table start)))
+      → SpellingsEntered table room₀ room links e (wordsIn table room₀ first ++ take most (leading tag (fieldsAt table start)))
   entered z =
       record {
         few = omega (arith, c .upto, c .enough);
@@ -127,13 +127,13 @@ module _ {table room₀ : List ℕ} {start tag most first : ℕ} {room links : L
 
   -- at a field of another tag, a cut one or none, all are entered
   pub entering-stop : (r : Front) → r ≡ frontOf (drop at table) → Stops tag r
-      → Entered table room₀ room links e (wordsIn table room₀ first ++ take most (leading tag (fieldsAt table start)))
+      → SpellingsEntered table room₀ room links e (wordsIn table room₀ first ++ take most (leading tag (fieldsAt table start)))
   entering-stop r f h =
       entered (ap (take (first + most - e)) (leading-stop table at tag r f h) ∙ take-nil (first + most - e))
 
   -- where no more may be entered, all that count are
   pub entering-end : first + most ≤ e
-      → Entered table room₀ room links e (wordsIn table room₀ first ++ take most (leading tag (fieldsAt table start)))
+      → SpellingsEntered table room₀ room links e (wordsIn table room₀ first ++ take most (leading tag (fieldsAt table start)))
   entering-end h =
       let z : first + most - e ≡ 0 = omega arith in
       entered (cc)
@@ -329,7 +329,7 @@ module _ {table room₀ links₀ : List ℕ} (b : Blank room₀ links₀) (short
       }
 
   module _ {room₁ links₁ : List ℕ} {k : ℕ}
-      (e₁ : Entered table room₀ room₁ links₁ k (wordsIn table room₀ 0 ++ take 62 (leading 1 (fieldsAt table 0)))) where
+      (e₁ : SpellingsEntered table room₀ room₁ links₁ k (wordsIn table room₀ 0 ++ take 62 (leading 1 (fieldsAt table 0)))) where
     keywords-listed : wordsIn table room₁ k ≡ lexiconOf table .keywords
     unfolding wordsFrom
     keywords-listed = e₁ .listed ∙ sym (keywords-at table)
@@ -360,7 +360,7 @@ module _ {table room₀ links₀ : List ℕ} (b : Blank room₀ links₀) (short
           }
 
       module _ (names : ℕ) (n : fieldsAt table names ≡ afterLeading 1 (fieldsAt table 0)) {room₃ links₃ : List ℕ} {total : ℕ}
-          (e₂ : Entered table room₂ room₃ links₃ total (wordsIn table room₂ k ++ take 64 (leading 2 (fieldsAt table names)))) where
+          (e₂ : SpellingsEntered table room₂ room₃ links₃ total (wordsIn table room₂ k ++ take 64 (leading 2 (fieldsAt table names)))) where
         room₄ : List ℕ
         room₄ = set (set room₃ 380 k) 381 total
 

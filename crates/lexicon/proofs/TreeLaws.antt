@@ -13,7 +13,7 @@ use borrow.Author.Tests.{eqb-true, eqb-false, ltb-true, ltb-false}
 use Rattle.spellings.specs.Bytes.{same, indexOf}
 use Rattle.spellings.proofs.BytesLaws.{by-test, same-true, same-false, index-le, index-self, index-found, index-front, index-rest}
 use Rattle.lexicon.specs.Trees.{hashOf}
-use Rattle.lexicon.specs.Trees.{rootOf, turnsOf, branchOf, Leads, there, further, Linked, Tree, Planted, Extends, FreeFor, FoundAt}
+use Rattle.lexicon.specs.Trees.{rootOf, turnsOf, branchOf, Leads, there, further, Linked, SearchTree, Planted, Extends, FreeFor, FoundAt}
 use Rattle.lexicon.specs.Trees.{Searched, Linkable, linksWith}
 use Rattle.lexicon.specs.declared.trees.Spot.{Spot}
 use Rattle.lexicon.specs.declared.trees.Spot.the-variants.{Node, Free}
@@ -32,7 +32,7 @@ pub record Walking (mask : ℕ) (words : List (List ℕ)) (links s : List ℕ) (
   pub back : (links′ : List ℕ) (i : ℕ) → Extends links links′ → Leads links′ mask slot turns i
       → Leads links′ mask (rootOf mask s) (turnsOf s) i
 
-module _ {mask : ℕ} {words : List (List ℕ)} {links : List ℕ} (k : Tree mask words links) (s : List ℕ) where
+module _ {mask : ℕ} {words : List (List ℕ)} {links : List ℕ} (k : SearchTree mask words links) (s : List ℕ) where
   walking-start : Walking mask words links s (rootOf mask s) (turnsOf s)
   walking-start =
       record { below = omega (arith, and-le-r (hashOf s) mask); ahead = k .leads s; back = λ links′ i x l. l }
@@ -97,11 +97,11 @@ zeros (suc k) zero = refl
 zeros (suc k) (suc i) = zeros k i
 
 -- links that are all zero are the trees of no spelling
-pub tree-none : (mask : ℕ) (links : List ℕ) → ((i : ℕ) → getD links i 0 ≡ 0) → Tree mask [] links
+pub tree-none : (mask : ℕ) (links : List ℕ) → ((i : ℕ) → getD links i 0 ≡ 0) → SearchTree mask [] links
 tree-none mask links z =
     record { leads = λ s h. absurd (omega (arith, h)); linked = λ slot j e. absurd (omega (arith, sym (z slot) ∙ e)) }
 
-module _ {mask : ℕ} {words : List (List ℕ)} {links : List ℕ} (k : Tree mask words links) (s : List ℕ) where
+module _ {mask : ℕ} {words : List (List ℕ)} {links : List ℕ} (k : SearchTree mask words links) (s : List ℕ) where
   longer : length (words ++ (s ∷ [])) ≡ length words + 1
   longer = length-append words (s ∷ [])
 
@@ -139,7 +139,7 @@ module _ {mask : ℕ} {words : List (List ℕ)} {links : List ℕ} (k : Tree mas
             (new (ap (λ (u : List ℕ). indexOf u words) same-word ∙ none)))
 
   -- one that stands there already needs no node
-  pub tree-again : indexOf s words < length words → Tree mask (words ++ (s ∷ [])) links
+  pub tree-again : indexOf s words < length words → SearchTree mask (words ++ (s ∷ [])) links
   tree-again h =
       record {
         leads = leads-more links (λ slot j e. e) (λ z. absurd (omega (arith, z)));
@@ -180,7 +180,7 @@ module _ {mask : ℕ} {words : List (List ℕ)} {links : List ℕ} (k : Tree mas
         })
         (λ t. linked-more i j (k .linked i j (sym (set-other i (eqb-false i slot t)) ∙ e)))
 
-    tree-new : Tree mask (words ++ (s ∷ [])) links₁
+    tree-new : SearchTree mask (words ++ (s ∷ [])) links₁
     tree-new =
         record {
           leads = leads-more links₁ extends (λ z. f .back links₁ (length words) extends set-there);
@@ -188,14 +188,14 @@ module _ {mask : ℕ} {words : List (List ℕ)} {links : List ℕ} (k : Tree mas
         }
 
     -- a new spelling linked where its search ended is in the trees
-    pub tree-more : {links′ : List ℕ} → links′ ≡ set links slot (length words + 1) → Tree mask (words ++ (s ∷ [])) links′
+    pub tree-more : {links′ : List ℕ} → links′ ≡ set links slot (length words + 1) → SearchTree mask (words ++ (s ∷ [])) links′
     unfolding links₁
     tree-more e = rw e tree-new
 
   -- either way it is there afterwards
   pub tree-with : (spot : Spot) {links′ : List ℕ} → Searched mask words links s spot → Linkable links spot
       → links′ ≡ linksWith links spot (length words)
-      → Tree mask (words ++ (s ∷ [])) links′
+      → SearchTree mask (words ++ (s ∷ [])) links′
   tree-with (Node i) f h e = rw e (tree-again (omega (arith, f .index, f .inside)))
   tree-with (Free slot) f h e = tree-more f h e
 

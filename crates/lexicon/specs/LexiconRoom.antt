@@ -9,17 +9,17 @@ use Rattle.grammar.specs.Lookup.{lexiconOf}
 use Rattle.grammar.specs.Found.{foundIn}
 use Rattle.kinds.specs.Kinds.{keywordKind, noKind}
 use Rattle.lexicon.specs.Places.{wordsIn}
-use Rattle.lexicon.specs.Trees.{Tree}
+use Rattle.lexicon.specs.Trees.{SearchTree}
 
 -- the numbers behind the places stay
-abbrev pub Behind : List ℕ → List ℕ → Type 0
-Behind room room′ = (i : ℕ) → 252 ≤ i → getD room′ i 0 ≡ getD room i 0
+abbrev pub SameBehind : List ℕ → List ℕ → Type 0
+SameBehind room room′ = (i : ℕ) → 252 ≤ i → getD room′ i 0 ≡ getD room i 0
 
 -- `count` spellings are entered
 pub record Spelled (table room links : List ℕ) (count : ℕ) : Type 0 where
   pub long : length room ≡ 382
   pub wide : length links ≡ 380
-  pub tree : Tree 127 (wordsIn table room count) links
+  pub tree : SearchTree 127 (wordsIn table room count) links
 
 -- `first` spellings are entered, and there is room for `most` more
 pub record Enters (table room links : List ℕ) (first most : ℕ) : Type 0 where
@@ -28,11 +28,11 @@ pub record Enters (table room links : List ℕ) (first most : ℕ) : Type 0 wher
   pub spelled : Spelled table room links first
 
 -- these are entered
-pub record Entered (table room room′ links′ : List ℕ) (count : ℕ) (spellings : List (List ℕ)) : Type 0 where
+pub record SpellingsEntered (table room room′ links′ : List ℕ) (count : ℕ) (spellings : List (List ℕ)) : Type 0 where
   pub few : count ≤ 126
   pub listed : wordsIn table room′ count ≡ spellings
   pub spelled : Spelled table room′ links′ count
-  pub behind : Behind room room′
+  pub behind : SameBehind room room′
 
 -- the kind of a symbol by the keywords from keyword k on
 unfoldable pub kindFrom : ℕ → List (List ℕ) → List ℕ → ℕ
@@ -72,4 +72,4 @@ pub record Lexical (table room links : List ℕ) : Type 0 where
   pub spellings : getD room 381 0 ≡ length (lexiconOf table .keywords) + length (lexiconOf table .outsides)
   pub spelled : wordsIn table room (getD room 381 0) ≡ lexiconOf table .keywords ++ lexiconOf table .outsides
   pub symbols : (b : ℕ) → b < 128 → getD room (252 + b) 0 ≡ kindFrom 0 (lexiconOf table .keywords) (b ∷ [])
-  pub tree : Tree 127 (lexiconOf table .keywords ++ lexiconOf table .outsides) links
+  pub tree : SearchTree 127 (lexiconOf table .keywords ++ lexiconOf table .outsides) links

@@ -93,13 +93,13 @@ pub record Linked (mask : ℕ) (words : List (List ℕ)) (slot j : ℕ) : Type 0
   pub behind : slot < mask + 1 + j * 2
 
 -- each spelling's own branches lead to the first node that has it
-pub record Tree (mask : ℕ) (words : List (List ℕ)) (links : List ℕ) : Type 0 where
+pub record SearchTree (mask : ℕ) (words : List (List ℕ)) (links : List ℕ) : Type 0 where
   pub leads : (s : List ℕ) → indexOf s words < length words → Leads links mask (rootOf mask s) (turnsOf s) (indexOf s words)
   pub linked : (slot j : ℕ) → getD links slot 0 ≡ suc j → Linked mask words slot j
 
 -- the trees of the first `count` spellings of a text, with room for their numbers
 pub record Planted (text places links : List ℕ) (mask count : ℕ) : Type 0 where
-  pub tree : Tree mask (wordsIn text places count) links
+  pub tree : SearchTree mask (wordsIn text places count) links
   pub placed : count * 2 ≤ length places
   pub linked : mask + 1 + count * 2 ≤ length links
 

@@ -16,8 +16,8 @@ ghost use lib.ListN.{length, getD, take, drop};
 ghost use lib.Seq.{sets};
 ghost use Rattle.grammar.specs.Lookup.{leading, fieldsAt};
 ghost use Rattle.lexicon.specs.Places.{wordsIn};
-ghost use Rattle.lexicon.specs.Trees.{Tree};
-ghost use Rattle.lexicon.specs.LexiconRoom.{Spelled, Enters, Entered, Marked, Unmarked, Symbols, SamePlaces, Blank, Lexical};
+ghost use Rattle.lexicon.specs.Trees.{SearchTree};
+ghost use Rattle.lexicon.specs.LexiconRoom.{Spelled, Enters, SpellingsEntered, Marked, Unmarked, Symbols, SamePlaces, Blank, Lexical};
 
 // One more spelling: its place is stored, and if it is new its link.
 fn enter(table: &[u8], from: usize, size: usize, room: &mut [u32], tree: &mut [u32], e: usize)
@@ -45,7 +45,7 @@ fn enter_leading(
     first: usize,
 ) -> usize
     requires { ⌜ Enters (now table) (now room) (now tree) first most ⌝ }
-    ensures { λ r. ⌜ Entered (now (table .entry)) (now (room .entry)) (now (room .exit)) (now (tree .exit)) r
+    ensures { λ r. ⌜ SpellingsEntered (now (table .entry)) (now (room .entry)) (now (room .exit)) (now (tree .exit)) r
         (wordsIn (now (table .entry)) (now (room .entry)) first ++ take most (leading tag (fieldsAt (now (table .entry)) start))) ⌝ }
 {
     let mut at = start;

@@ -7,9 +7,10 @@ use spellings::wide_number;
 ghost use mathlib.Core.Path.{_≡_};
 ghost use Prim.Native.Nat.{_+_, _*_, _≤_, _<_};
 ghost use lib.ListN.{length, drop};
-ghost use Rattle.spellings.specs.Bytes.{run, isWordByte, same};
+ghost use Rattle.spellings.specs.Bytes.{longestRun, isWordByte, same};
 ghost use Rattle.lexicon.specs.Places.{wordAt, wordsIn};
-ghost use Rattle.lexicon.specs.Trees.{twoAt, fourAt, eightAt, fewOf, crossed, folded, mixed, chunksFrom, hashOf, Hashed, Planted, Searched, Linkable, linksWith};
+ghost use Rattle.lexicon.specs.Trees.{twoAt, fourAt, eightAt, fewOf, crossed, folded, mixed, chunksFrom, hashOf, Hashed, Planted, Searched, Linkable};
+ghost use Rattle.lexicon.specs.Trees.{linksWith};
 
 // Where a spelling is: it is the node of a number, or it is none and the link at an index is free for it.
 pub enum Spot {
@@ -18,7 +19,7 @@ pub enum Spot {
 }
 
 // The run of word bytes at an offset: its length and its hash.
-pub struct Run {
+pub struct WordRun {
     pub size: usize,
     pub hash: u64,
 }
@@ -121,12 +122,12 @@ pub fn hash(s: &[u8]) -> u64
 }
 
 // The run of word bytes at an offset.
-pub fn word_at(s: &[u8], at: usize) -> Run
+pub fn word_at(s: &[u8], at: usize) -> WordRun
     requires { ⌜ at ≤ length (now s) ⌝ }
-    ensures { λ r. ⌜ Hashed (run isWordByte (drop at (now (s .entry)))) (r .size) (r .hash) ⌝ }
+    ensures { λ r. ⌜ Hashed (longestRun isWordByte (drop at (now (s .entry)))) (r .size) (r .hash) ⌝ }
 {
     let size = spellings::word_run(&s[at..]);
-    Run {
+    WordRun {
         size,
         hash: hash(part(s, at, size)),
     }

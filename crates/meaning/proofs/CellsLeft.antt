@@ -17,7 +17,7 @@ use Rattle.terms.specs.Cells.{withRow}
 use Rattle.expansion.specs.declared.State.{State}
 use Rattle.expansion.specs.Run.{Result, done, halt, Run, after}
 use Rattle.expansion.specs.Expansion.{Input, Choice, unfit, chosen, choice, nextToken, tokenTaken, takeToken, misfit, cellMade, cell, build, buildAll, runItem}
-use Rattle.expansion.specs.Expansion.{runItems, callBegun, runCall, start, ended, run}
+use Rattle.expansion.specs.Expansion.{runItems, callBegun, runCall, initialState, ended, run}
 use Rattle.expansion.specs.Limits.{mostCalls, mostOpen}
 use Rattle.expansion.specs.Expansion as Expansion
 use Rattle.meaning.specs.Meaning.{Left}
@@ -91,7 +91,7 @@ module _ (I : Input) where
 
     build-leaves : (t : Template) (M : List ℕ) → Leaving (build t I M)
     build-leaves (Table.variable i) M s cells h = stays s s cells refl h
-    build-leaves (Table.outside n) M s cells h = stays s s cells refl h
+    build-leaves (Table.outsideVar n) M s cells h = stays s s cells refl h
     build-leaves (Table.outsideLabel n) M s cells h = stays s s cells refl h
     build-leaves (Table.make c ts) M s cells h =
         leaves-after (I .rows) (s .made) cells (buildAll ts I M s cells) (λ vs. cell I c vs) (build-all-leaves ts M s cells h)
@@ -155,7 +155,7 @@ module _ (I : Input) where
   pub run-leaves : (root : ℕ) (cells : List ℕ) → Leaves (I .rows) 0 cells (run I root cells)
   unfolding run
   run-leaves root cells =
-      leaves-after (I .rows) (start .made) cells (runCall mostOpen I root [] start cells) (ended I) (call-leaves mostOpen root [] start cells (omega arith))
+      leaves-after (I .rows) (initialState .made) cells (runCall mostOpen I root [] initialState cells) (ended I) (call-leaves mostOpen root [] initialState cells (omega arith))
       (λ v s cells′ l. go v s cells′ l (ltb (s .at) (length (I .tokens))))
     where
       go : (v : ℕ) (s : State) (cells′ : List ℕ) → s .made ≤ I .rows → (b : Bool)

@@ -112,7 +112,7 @@ module _ (t : Table) (T : Passing t) (formula cells text : List ℕ) where
       (Meaning.is-loose E s (occurs [] 0 u) (subst (Says (occurrences [] 0 u)) l (loose-says (occurrences [] 0 u))))
   cause-last {u = u} E (too-long s l b) r e =
       subst (Cause t formula cells text) (same-refusal e)
-      (Meaning.too-long E s (occurs [] 0 u) (subst (Says (occurrences [] 0 u)) l (loose-says (occurrences [] 0 u))) (omega arith))
+      (Meaning.text-too-long E s (occurs [] 0 u) (subst (Says (occurrences [] 0 u)) l (loose-says (occurrences [] 0 u))) (omega arith))
   cause-last E (prints s l b) r e = never e
 
   cause-of : {x : Expanded} → Stage t T formula cells text x → (r : Refusal) → x .answer ≡ Refusing r → Cause t formula cells text r
@@ -125,7 +125,7 @@ module _ (t : Table) (T : Passing t) (formula cells text : List ℕ) where
   answer-of (stopped S h) = rw (stopped-ends t T formula cells text S h .1)
   answer-of (Meaning.too-large E b) = large-answer (meant-ends t T formula cells text E .1) b
   answer-of (Meaning.is-loose E s o f) = loose-answer (meant-ends t T formula cells text E .1) s (first-places o f .1)
-  answer-of (Meaning.too-long E s o n b) = long-answer (meant-ends t T formula cells text E .1) s (none-places o n) b
+  answer-of (Meaning.text-too-long E s o n b) = long-answer (meant-ends t T formula cells text E .1) s (none-places o n) b
 
   -- A refusal is given exactly in its case.
   pub refused-exactly : (r : Refusal) → (X .answer ≡ Refusing r) ↔ Cause t formula cells text r

@@ -53,7 +53,7 @@ module _ (t : Table) (T : Passing t) (formula cells text : List ℕ) where
   ends-last {u = u} E (is-loose s l) =
       refuses (Meaning.is-loose E s (occurs [] 0 u) (subst (Says (occurrences [] 0 u)) l (loose-says (occurrences [] 0 u))))
   ends-last {u = u} E (Stages.too-long s l b) =
-      refuses (Meaning.too-long E s (occurs [] 0 u) (subst (Says (occurrences [] 0 u)) l (loose-says (occurrences [] 0 u))) b)
+      refuses (Meaning.text-too-long E s (occurs [] 0 u) (subst (Says (occurrences [] 0 u)) l (loose-says (occurrences [] 0 u))) b)
   ends-last {u = u} E (prints s l b) =
       Hygiene.prints
       (record {

@@ -7,7 +7,7 @@ use Rattle.spellings.proofs.BytesLaws.{by-test}
 use Rattle.layout.specs.Within.{Each, each-none, each-more}
 use Rattle.terms.specs.Term.{Name, word, fresh, outside, Term, Fields, variable, function, apply, rcd, dot, number, nil, cons, size}
 use Rattle.terms.specs.Rename.{belongs}
-use Rattle.terms.specs.Binding.{Owner, unbound, boundAt, Calls, sameSpelling, sameFresh, Binder, Occurrence}
+use Rattle.terms.specs.Binding.{Owner, unbound, boundAt, RefersTo, sameSpelling, sameFresh, Binder, Occurrence}
 use Rattle.terms.specs.Occurrences.{ownerOf, occurrences, occurrencesFields, isLoose, loosePlaces}
 use Rattle.terms.proofs.Statements.{origin-calls}
 use Rattle.meaning.specs.Origins.{Innermost, this-one, further-out, nowhere, at, Occurs, in-variable, in-function, in-apply, in-rcd, in-dot, in-number}
@@ -141,7 +141,7 @@ isOutside (word s) = false
 isOutside (fresh n) = false
 isOutside (outside s) = true
 
-calls-inside : {v w : Name} → Calls v w → isOutside v ≡ false
+calls-inside : {v w : Name} → RefersTo v w → isOutside v ≡ false
 unfolding isOutside
 calls-inside (sameSpelling s) = refl
 calls-inside (sameFresh n) = refl

@@ -84,7 +84,7 @@ pub data Cause (t : Table) (formula cells text : List ℕ) : Refusal → Type 0 
       → FirstLoose os p
       → Cause t formula cells text (refusal 23 p 0 0)
   -- 24
-  too-long : {u : Term Name} {os : List Occurrence}
+  text-too-long : {u : Term Name} {os : List Occurrence}
       → MeansWithin t formula cells u
       → size u ≤ largestTerm
       → Occurs [] 0 u os

@@ -4,16 +4,16 @@ use Prim.Native.Nat.{ℕ, suc, _+_}
 use mathlib.Core.List.{List, [], _∷_, _++_}
 use Rattle.layout.specs.Within.{Each}
 use Rattle.terms.specs.Term.{Name, word, fresh, outside, Term, Fields, variable, function, apply, rcd, dot, number, nil, cons, size}
-use Rattle.terms.specs.Binding.{Owner, unbound, boundAt, Calls, Binder, Occurrence}
+use Rattle.terms.specs.Binding.{Owner, unbound, boundAt, RefersTo, Binder, Occurrence}
 
--- the innermost binder around that a variable's origin calls for (`Calls`: a formula's name calls for a formula binder of its spelling as
+-- the innermost binder around that a variable's origin calls for (`RefersTo`: a formula's name calls for a formula binder of its spelling as
 -- written, a fresh name for a binder made with it), or none if there is none
 pub data Innermost (v : Name) : List Binder → Owner → Type 0 where
   this-one : {b : Binder} {around : List Binder}
-      → Calls v (b .name)
+      → RefersTo v (b .name)
       → Innermost v (b ∷ around) (boundAt (b .place))
   further-out : {b : Binder} {around : List Binder} {o : Owner}
-      → (Calls v (b .name) → ⊥)
+      → (RefersTo v (b .name) → ⊥)
       → Innermost v around o
       → Innermost v (b ∷ around) o
   nowhere : Innermost v [] unbound

@@ -10,13 +10,13 @@ use Rattle.spellings.proofs.BytesLaws.{by-test}
 use Rattle.spellings.proofs.DecimalLaws.{decimal-bound}
 use Rattle.terms.specs.Cells.{column, nameBase, columns}
 use Rattle.terms.specs.Term.{Name, Term, Fields, size, sizeFields}
-use Rattle.terms.specs.Rows.{nameOf, Constructor, mkTermVar, mkTermFun, mkTermApp, mkTermRcd, mkTermDot, mkFieldNil, mkFieldCons, mkTermNum}
-use Rattle.terms.specs.Rows.{constructorOf, termBy, isCons, fieldsBy, termAt, fieldsAt}
+use Rattle.terms.specs.Rows.{nameOf, Constructor, varRow, funRow, appRow, rcdRow, dotRow, nilRow, consRow, numRow}
+use Rattle.terms.specs.Rows.{constructorOf, termBy, isCons, fieldsBy, termAt, fieldListAt}
 use Rattle.terms.specs.Rename.{newName, written}
 use Rattle.terms.specs.TextSize.{textSize, textSizeFields}
 use Rattle.terms.specs.Labelled.{nameShown, labelled, labelledFields}
 use Rattle.writer.specs.Openings.{spellIn}
-use Rattle.printer.specs.Printed.{term, partText, Fits, PrintableBy}
+use Rattle.printer.specs.Printed.{termPart, partText, PartFits, PrintableBy}
 use Rattle.writer.specs.Pool.{ShortSpellings}
 use Rattle.rows.specs.Sizes.{noSpell}
 use Rattle.rows.proofs.RowLaws.{as-word, as-fresh, as-outside}
@@ -49,14 +49,14 @@ module _ (S : ℕ → List ℕ) (cells numbers : List ℕ) (short : (m : ℕ) �
   module _ (terms : ℕ → Term Name) (fields : ℕ → Fields Name) (st : Short terms) (sf : ShortFields fields) (r p : ℕ) where
     by-term : (c : Constructor) → textSize (labelled numbers p (termBy c S cells r terms fields)) ≤ 46 * size (termBy c S cells r terms fields)
     unfolding termBy textSize labelled size
-    by-term mkTermVar = omega (arith, name-short (getD numbers p 0) (column cells r 1) (few p))
-    by-term mkTermFun = omega (arith, name-short (getD numbers p 0) (column cells r 1) (few p), st (column cells r 2) (suc p))
-    by-term mkTermApp = omega (arith, st (column cells r 1) (suc p), st (column cells r 2) (suc p + size (terms (column cells r 1))))
-    by-term mkTermRcd = omega (arith, sf (column cells r 1) (suc p))
-    by-term mkTermDot = omega (arith, st (column cells r 1) (suc p), short (column cells r 2))
-    by-term mkFieldNil = omega (arith, decimal-bound 0 0 (omega arith))
-    by-term mkFieldCons = omega (arith, decimal-bound 0 0 (omega arith))
-    by-term mkTermNum = omega (arith, decimal-bound 9 (column cells r 1) (omega (arith, wide (r * columns + 1))))
+    by-term varRow = omega (arith, name-short (getD numbers p 0) (column cells r 1) (few p))
+    by-term funRow = omega (arith, name-short (getD numbers p 0) (column cells r 1) (few p), st (column cells r 2) (suc p))
+    by-term appRow = omega (arith, st (column cells r 1) (suc p), st (column cells r 2) (suc p + size (terms (column cells r 1))))
+    by-term rcdRow = omega (arith, sf (column cells r 1) (suc p))
+    by-term dotRow = omega (arith, st (column cells r 1) (suc p), short (column cells r 2))
+    by-term nilRow = omega (arith, decimal-bound 0 0 (omega arith))
+    by-term consRow = omega (arith, decimal-bound 0 0 (omega arith))
+    by-term numRow = omega (arith, decimal-bound 9 (column cells r 1) (omega (arith, wide (r * columns + 1))))
 
     by-fields : (b : Bool)
         → textSizeFields (labelledFields numbers p (fieldsBy b S cells r terms fields)) ≤ 46 * sizeFields (fieldsBy b S cells r terms fields)
@@ -66,18 +66,18 @@ module _ (S : ℕ → List ℕ) (cells numbers : List ℕ) (short : (m : ℕ) �
     by-fields false = omega arith
 
   mutual
-    unfolding termAt fieldsAt textSize textSizeFields labelled labelledFields size sizeFields
+    unfolding termAt fieldListAt textSize textSizeFields labelled labelledFields size sizeFields
 
     short-text : (k r p : ℕ) → textSize (labelled numbers p (termAt k S cells r)) ≤ 46 * size (termAt k S cells r)
     short-text zero r p = omega (arith, decimal-bound 0 0 (omega arith))
     short-text (suc k) r p =
-        by-term (λ q. termAt k S cells q) (λ q. fieldsAt k S cells q) (λ q n. short-text k q n) (λ q n. short-fields k q n) r p
+        by-term (λ q. termAt k S cells q) (λ q. fieldListAt k S cells q) (λ q n. short-text k q n) (λ q n. short-fields k q n) r p
         (constructorOf (column cells r 0))
 
-    short-fields : (k r p : ℕ) → textSizeFields (labelledFields numbers p (fieldsAt k S cells r)) ≤ 46 * sizeFields (fieldsAt k S cells r)
+    short-fields : (k r p : ℕ) → textSizeFields (labelledFields numbers p (fieldListAt k S cells r)) ≤ 46 * sizeFields (fieldListAt k S cells r)
     short-fields zero r p = omega arith
     short-fields (suc k) r p =
-        by-fields (λ q. termAt k S cells q) (λ q. fieldsAt k S cells q) (λ q n. short-text k q n) (λ q n. short-fields k q n) r p
+        by-fields (λ q. termAt k S cells q) (λ q. fieldListAt k S cells q) (λ q n. short-text k q n) (λ q n. short-fields k q n) r p
         (isCons (constructorOf (column cells r 0)))
 
 -- a spelling of the room is short
@@ -88,7 +88,7 @@ spelling-short pool h m = omega (arith, h m, length-take (getD pool (m * 32) 0) 
 module _ {pool cells numbers : List ℕ} {made root : ℕ} (h : PrintableBy pool cells made root numbers)
     (wide : (i : ℕ) → getD cells i 0 < 4294967296) (few : (i : ℕ) → getD numbers i 0 < 65536) where
   -- the text of a term has at most 46 bytes for each number
-  text-short : length (partText pool cells numbers (term made root) 0) ≤ length numbers * 46
+  text-short : length (partText pool cells numbers (termPart made root) 0) ≤ length numbers * 46
   unfolding partText
   text-short =
       omega (
@@ -100,9 +100,9 @@ module _ {pool cells numbers : List ℕ} {made root : ℕ} (h : PrintableBy pool
       )
 
   -- it fits where so many bytes are lent
-  pub text-within : {n : ℕ} → length numbers * 46 ≤ n → length (partText pool cells numbers (term made root) 0) ≤ n
+  pub text-within : {n : ℕ} → length numbers * 46 ≤ n → length (partText pool cells numbers (termPart made root) 0) ≤ n
   text-within l = omega (arith, text-short)
 
   -- the text of a term that is not too large is not too long
-  pub text-fits : Fits pool cells numbers (term made root) 0 0
+  pub text-fits : PartFits pool cells numbers (termPart made root) 0 0
   text-fits = record { room = omega (arith, text-short, h .small); inside = omega (arith, h .marked); few = h .small }

@@ -8,7 +8,7 @@ use lib.ListN.{length}
 use lib.Seq.{sets-eq}
 use Rattle.spellings.proofs.BuffersLaws.{written-fits, written-not}
 use Rattle.writer.specs.Openings.{spellIn, Wrote}
-use Rattle.printer.specs.Printed.{term, partText, textBy, Prints}
+use Rattle.printer.specs.Printed.{termPart, partText, textBy, Prints}
 use Rattle.writer.specs.Pool.{Pooled}
 
 -- a text that is too long
@@ -26,7 +26,7 @@ prints-whole {out} {text} fits w =
 
 -- the text by what the room spells
 pub prints-spelled : (cells numbers : List ℕ) (made root : ℕ) {pool text text′ : List ℕ} {S : ℕ → List ℕ} {r : ℕ}
-    → Pooled pool S → Prints (partText pool cells numbers (term made root) 0) text text′ r → Prints (textBy S cells numbers made root) text text′ r
+    → Pooled pool S → Prints (partText pool cells numbers (termPart made root) 0) text text′ r → Prints (textBy S cells numbers made root) text text′ r
 unfolding partText textBy
 prints-spelled cells numbers made root {pool} {S = S} h p =
     let spelled : spellIn pool ≡ S = λ i m. h .spelled m i in

@@ -3,9 +3,9 @@ use Prim.Native.Nat.{ℕ, _+_, _*_, _^_, _<_, _≤_}
 use mathlib.Core.Path.{_≡_}
 use mathlib.Core.List.{List, []}
 use lib.ListN.{length}
-use Rattle.spellings.specs.Buffers.{written}
+use Rattle.spellings.specs.Buffers.{writtenInto}
 use Rattle.grammar.specs.Lookup.{lexiconOf}
-use Rattle.terms.specs.Rows.{termAt, fieldsAt}
+use Rattle.terms.specs.Rows.{termAt, fieldListAt}
 use Rattle.terms.specs.Print.{print, showThen, treeOfFields}
 use Rattle.terms.specs.Labelled.{labelled, labelledFields}
 use Rattle.rows.specs.Sizes.{sizeAt, sizeFieldsAt}
@@ -14,26 +14,26 @@ use Rattle.writer.specs.Pool.{oneOf, spanned, ShortSpellings}
 
 -- what is printed of a row, by a bound of the depth: its term or its field list
 pub data Part : Type 0 where
-  term : ℕ → ℕ → Part
-  fields : ℕ → ℕ → Part
+  termPart : ℕ → ℕ → Part
+  fieldsPart : ℕ → ℕ → Part
 
 -- the text of a part, whose place is p
 unfoldable pub partText : List ℕ → List ℕ → List ℕ → Part → ℕ → List ℕ
-partText pool cells numbers (term k row) p = print (labelled numbers p (termAt k (spellIn pool) cells row))
-partText pool cells numbers (fields k row) p = showThen (treeOfFields (labelledFields numbers p (fieldsAt k (spellIn pool) cells row))) []
+partText pool cells numbers (termPart k row) p = print (labelled numbers p (termAt k (spellIn pool) cells row))
+partText pool cells numbers (fieldsPart k row) p = showThen (treeOfFields (labelledFields numbers p (fieldListAt k (spellIn pool) cells row))) []
 
 abbrev pub partSize : List ℕ → Part → ℕ
-partSize cells (term k row) = sizeAt cells k row
-partSize cells (fields k row) = sizeFieldsAt cells k row
+partSize cells (termPart k row) = sizeAt cells k row
+partSize cells (fieldsPart k row) = sizeFieldsAt cells k row
 
 -- a part is not too long, behind `at` bytes, and there is a number for each of its constructors, from a place on
-pub record Fits (pool cells numbers : List ℕ) (x : Part) (at place : ℕ) : Type 0 where
+pub record PartFits (pool cells numbers : List ℕ) (x : Part) (at place : ℕ) : Type 0 where
   pub room : at + length (partText pool cells numbers x place) < 2 ^ 62
   pub inside : place + partSize cells x ≤ length numbers
   pub few : length numbers ≤ 16384
 
 -- a part was to be written behind `at` bytes, and the places of its constructors are passed
-pub record Printed (pool cells numbers : List ℕ) (x : Part) (at place : ℕ) (out : List ℕ) (r place′ : ℕ) (out′ : List ℕ) : Type 0 where
+pub record PartPrinted (pool cells numbers : List ℕ) (x : Part) (at place : ℕ) (out : List ℕ) (r place′ : ℕ) (out′ : List ℕ) : Type 0 where
   pub wrote : Wrote out at (partText pool cells numbers x place) r out′
   pub moved : place′ ≡ place + partSize cells x
 
@@ -46,7 +46,7 @@ textBy spell cells numbers made root = print (labelled numbers 0 (termAt made sp
 -- the answer is a text's length, and the text stands at the front of the buffer if it fits
 pub record Prints (out text text′ : List ℕ) (r : ℕ) : Type 0 where
   pub needed : r ≡ length out
-  pub placed : text′ ≡ written out text
+  pub placed : text′ ≡ writtenInto out text
 
 -- what printing asks: few words, spellings that fit the room, and a number for each constructor of the term, not too many
 pub record Printable (table formula words : List ℕ) (count : ℕ) (cells : List ℕ) (made root : ℕ) (numbers : List ℕ) : Type 0 where

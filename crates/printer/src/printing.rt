@@ -4,7 +4,7 @@ use writer::openings::label_at;
 use writer::openings::open_fields;
 use writer::openings::open_term;
 use writer::writing::byte_at;
-ghost use Rattle.printer.specs.Printed.{term, fields, Fits, Printed};
+ghost use Rattle.printer.specs.Printed.{termPart, fieldsPart, PartFits, PartPrinted};
 
 // The text of the term at a row, behind `at`; the answer is the place behind it. `place` moves on by its constructors.
 pub fn print_term(
@@ -17,9 +17,9 @@ pub fn print_term(
     row: u32,
     place: &mut usize,
 ) -> usize
-    requires { ⌜ Fits (now (now pool)) (now (now cells)) (now (now shown)) (term bound row) at (now place) ⌝ }
+    requires { ⌜ PartFits (now (now pool)) (now (now cells)) (now (now shown)) (termPart bound row) at (now place) ⌝ }
     ensures { λ r. ⌜
-        Printed (now (now (pool .entry))) (now (now (cells .entry))) (now (now (shown .entry))) (term bound row) at (now (place .entry))
+        PartPrinted (now (now (pool .entry))) (now (now (cells .entry))) (now (now (shown .entry))) (termPart bound row) at (now (place .entry))
         (now (out .entry)) r (now (place .exit)) (now (out .exit))
         ⌝ }
 {
@@ -73,9 +73,9 @@ fn print_fields(
     row: u32,
     place: &mut usize,
 ) -> usize
-    requires { ⌜ Fits (now (now pool)) (now (now cells)) (now (now shown)) (fields bound row) at (now place) ⌝ }
+    requires { ⌜ PartFits (now (now pool)) (now (now cells)) (now (now shown)) (fieldsPart bound row) at (now place) ⌝ }
     ensures { λ r. ⌜
-        Printed (now (now (pool .entry))) (now (now (cells .entry))) (now (now (shown .entry))) (fields bound row) at (now (place .entry))
+        PartPrinted (now (now (pool .entry))) (now (now (cells .entry))) (now (now (shown .entry))) (fieldsPart bound row) at (now (place .entry))
         (now (out .entry)) r (now (place .exit)) (now (out .exit))
         ⌝ }
 {

@@ -8,9 +8,9 @@ use lib.Dec.{eqb, ltb}
 use borrow.Author.Tests.{ltb-true}
 use Rattle.answers.specs.Checked.{ok}
 use Rattle.grammar.specs.Values.{Field, field}
-use Rattle.grammar.specs.Fields.{Fields, end, cut, next, fieldsOf}
+use Rattle.grammar.specs.Fields.{RawFields, end, cut, next, fieldsOf}
 use Rattle.layout.specs.declared.Progress.{Progress}
-use Rattle.layout.specs.Layout.{oneIf, passed, start, checkFields, layout}
+use Rattle.layout.specs.Layout.{oneIf, passed, initialProgress, checkFields, layout}
 use Rattle.layout.proofs.Accept.{accepted}
 use Rattle.layout.proofs.Inverse.{layout-parts}
 use Rattle.layout.proofs.Laws.{room-of}
@@ -23,7 +23,7 @@ one-more n true e h = omega (arith, ltb-true n 256 e)
 one-more n false e h = omega arith
 
 -- a field, and those that follow it
-count-field : (at tag : ℕ) (v : List ℕ) (fs : Fields) → alternativeFields (next at tag v fs) ≡ oneIf (eqb tag 5) + alternativeFields fs
+count-field : (at tag : ℕ) (v : List ℕ) (fs : RawFields) → alternativeFields (next at tag v fs) ≡ oneIf (eqb tag 5) + alternativeFields fs
 unfolding alternativeFields
 count-field at tag v fs = by (eqb tag 5)
   where
@@ -31,7 +31,7 @@ count-field at tag v fs = by (eqb tag 5)
     by true = omega arith
     by false = omega arith
 
-few-fields : (fs : Fields) (before : List Field) (s : Progress) → s .alternatives ≤ 256 → checkFields fs before s ≡ ok tt
+few-fields : (fs : RawFields) (before : List Field) (s : Progress) → s .alternatives ≤ 256 → checkFields fs before s ≡ ok tt
     → s .alternatives + alternativeFields fs ≤ 256
 unfolding alternativeFields passed
 few-fields (end at) before s l h = omega arith
@@ -46,4 +46,4 @@ few-fields (next at tag v fs) before s l h =
 pub few-alternatives : (bs : List ℕ) → layout bs ≡ ok tt → FitsIndex bs
 few-alternatives bs h =
     let parts = layout-parts bs h in
-    record { short = parts .0; few = omega (arith, few-fields (fieldsOf bs) [] start (omega arith) (parts .1)) }
+    record { short = parts .0; few = omega (arith, few-fields (fieldsOf bs) [] initialProgress (omega arith) (parts .1)) }

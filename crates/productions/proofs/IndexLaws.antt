@@ -10,14 +10,14 @@ use lib.Dec.{eqb}
 use lib.ListN.{length, getD, set, take, drop, length-set, length-take, length-drop}
 use lib.Seq.{getD-set-same, getD-set-other, append-snoc}
 use borrow.Author.Tests.{eq-eqb, ne-eqb}
-use Rattle.grammar.specs.Fields.{Fields, next}
+use Rattle.grammar.specs.Fields.{RawFields, next}
 use Rattle.grammar.specs.declared.Front.{Front}
 use Rattle.grammar.specs.declared.Front.the-variants.{Nothing, Short, Field}
 use Rattle.grammar.specs.Lookup.{frontOf, fieldsAt}
 use Rattle.grammar.proofs.LookupLaws.{fields-at, fields-of, front-inside, front-nothing, opened}
 use Rattle.layout.specs.Decode.{modeOf}
 use Rattle.productions.specs.Index.{Place, placesFrom, placesIn, placesBy, placesOf, placesWithout, placesKept, alternativeFields}
-use Rattle.productions.specs.IndexCalls.{RoomFor, Index, FitsIndex}
+use Rattle.productions.specs.IndexCalls.{IndexRoomFor, Index, FitsIndex}
 
 -- ------------------------------------------------------------------ a walk over places
 
@@ -69,7 +69,7 @@ module _ (owners starts : List ℕ) (w o s : ℕ) where
       (ap (_∷_ (placeAt owners starts j)) (places-stay k (j + 1) (λ i l u. h i (omega arith) (omega arith))))
 
   -- an entry behind the first w is one place more
-  pub push-is : RoomFor (w + 1) owners starts
+  pub push-is : IndexRoomFor (w + 1) owners starts
       → placesIn (w + 1) (set owners w o) (set starts w s) ≡ placesIn w owners starts ++ (record { owner = o; start = s } ∷ [])
   push-is room =
       ap (λ (k : ℕ). placesIn k (set owners w o) (set starts w s)) (add-one w)
@@ -106,7 +106,7 @@ pub record Dropping (n k : ℕ) (owners₀ starts₀ : List ℕ) (i w : ℕ) (ow
   pub rest : placesIn w owners starts ++ placesWithout n (placesFrom (k - i) owners starts i) ≡ placesWithout n (placesIn k owners₀ starts₀)
 
 -- all places are left at first
-pub dropping-start : (n k : ℕ) (owners₀ starts₀ : List ℕ) → RoomFor k owners₀ starts₀ → Dropping n k owners₀ starts₀ 0 0 owners₀ starts₀
+pub dropping-start : (n k : ℕ) (owners₀ starts₀ : List ℕ) → IndexRoomFor k owners₀ starts₀ → Dropping n k owners₀ starts₀ 0 0 owners₀ starts₀
 unfolding placesFrom
 dropping-start n k owners₀ starts₀ room =
     record {
@@ -155,7 +155,7 @@ module _ {n k : ℕ} {owners₀ starts₀ : List ℕ} {i w : ℕ} {owners starts
       let low = c .low in
       let o : ℕ = getD owners i 0 in
       let s : ℕ = getD starts i 0 in
-      let room : RoomFor (w + 1) owners starts =
+      let room : IndexRoomFor (w + 1) owners starts =
       record { owners-room = omega (arith, c .owner-room); starts-room = omega (arith, c .start-room) } in
       record {
         low = omega arith;
@@ -215,7 +215,7 @@ module _ (head owners starts : List ℕ) {k mode : ℕ} (em : mode ≡ getD head
 
 -- ------------------------------------------------------------------ the fields of a table
 
-module _ (at tag : ℕ) (v : List ℕ) (fs : Fields) where
+module _ (at tag : ℕ) (v : List ℕ) (fs : RawFields) where
   places-head : tag ≡ 4 → (n : ℕ) (g : List Place)
       → placesBy (next at tag v fs) n g ≡ placesBy fs (getD v 0 0) (placesKept (modeOf (getD v 1 0)) (getD v 0 0) g)
   unfolding placesBy

@@ -10,9 +10,9 @@ use borrow.Author.Tests.{ne-eqb, ltb-true, ltb-false}
 use Rattle.spellings.proofs.BytesLaws.{by-test}
 use Rattle.grammar.specs.Table.{variable, Table}
 use Rattle.grammar.specs.Encode.{tableFields, encode}
-use Rattle.grammar.specs.Fields.{Fields, end, cut, next, fieldsOf}
-use Rattle.layout.specs.Decode.{Built, put, putNothing, putKeyword, putOutside, putBlock, putDefinition, putAlternative, putItem, putResult, putRoot}
-use Rattle.layout.specs.Decode.{build, itemOf, definitionOf, modeOf}
+use Rattle.grammar.specs.Fields.{RawFields, end, cut, next, fieldsOf}
+use Rattle.layout.specs.Decode.{Decoded, put, putNothing, putKeyword, putOutside, putBlock, putDefinition, putAlternative, putItem, putResult, putRoot}
+use Rattle.layout.specs.Decode.{decodeFields, itemOf, definitionOf, modeOf}
 use Rattle.layout.specs.Within.{Within}
 use Rattle.layout.proofs.Split.{fields-of-bytes}
 use Rattle.layout.proofs.Order.{up-to-eight}
@@ -21,24 +21,24 @@ use Rattle.productions.specs.Normal.{Production, productionsOf, kept, de
 use Rattle.productions.specs.Index.{itemsOf, resultOf, normalizedBy}
 
 -- the grammar that is left when the fields begin in a definition of n, behind the productions g
-abbrev behind : Built → ℕ → List Production → List Production
+abbrev behind : Decoded → ℕ → List Production → List Production
 behind b n g = normalizedFrom (definedAll (g ++ productionsOf n (b .alternatives)) (b .definitions)) (b .blocks)
 
 -- ------------------------------------------------------------------ one field
 
 -- the statement of some fields, for every definition that they begin in
-record Agrees (fs : Fields) (b : Built) : Type 0 where
+record Agrees (fs : RawFields) (b : Decoded) : Type 0 where
   items : itemsOf fs ≡ b .items
   result : resultOf fs ≡ b .result
   normal : (n : ℕ) (g : List Production) → normalizedBy fs n g ≡ behind b n g
 
 abbrev Step : ℕ → Type 0
-Step tag = (at : ℕ) (v : List ℕ) (fs : Fields) (b : Built) → Agrees fs b → Agrees (next at tag v fs) (put tag v b)
+Step tag = (at : ℕ) (v : List ℕ) (fs : RawFields) (b : Decoded) → Agrees fs b → Agrees (next at tag v fs) (put tag v b)
 
 -- a tag that is none of a definition, an alternative, an item or a result
 step-other : (tag : ℕ) → eqb tag 4 ≡ false → eqb tag 5 ≡ false → eqb tag 6 ≡ false → eqb tag 7 ≡ false
-    → ((v : List ℕ) (b : Built) → put tag v b .items ≡ []) → ((v : List ℕ) (b : Built) → put tag v b .result ≡ variable 0)
-    → ((v : List ℕ) (b : Built) (n : ℕ) (g : List Production) → behind (put tag v b) n g ≡ behind b n g)
+    → ((v : List ℕ) (b : Decoded) → put tag v b .items ≡ []) → ((v : List ℕ) (b : Decoded) → put tag v b .result ≡ variable 0)
+    → ((v : List ℕ) (b : Decoded) (n : ℕ) (g : List Production) → behind (put tag v b) n g ≡ behind b n g)
     → Step tag
 unfolding itemsOf resultOf normalizedBy
 step-other tag e4 e5 e6 e7 no-items no-result same at v fs b h =
@@ -121,17 +121,17 @@ step-unknown tag h =
 
 -- ------------------------------------------------------------------ all fields
 
-agrees : (fs : Fields) → Agrees fs (build fs)
-unfolding itemsOf resultOf normalizedBy build productionsOf definedAll normalizedFrom
+agrees : (fs : RawFields) → Agrees fs (decodeFields fs)
+unfolding itemsOf resultOf normalizedBy decodeFields productionsOf definedAll normalizedFrom
 agrees (end at) = record { items = refl; result = refl; normal = λ n g. sym (append-nil g) }
 agrees (cut at) = record { items = refl; result = refl; normal = λ n g. sym (append-nil g) }
 agrees (next at tag v fs) =
-    by-test (ltb 8 tag) (λ e. step-unknown tag (ltb-true 8 tag e) at v fs (build fs) (agrees fs))
-    (λ e. step-known tag (ltb-false 8 tag e) at v fs (build fs) (agrees fs))
+    by-test (ltb 8 tag) (λ e. step-unknown tag (ltb-true 8 tag e) at v fs (decodeFields fs) (agrees fs))
+    (λ e. step-known tag (ltb-false 8 tag e) at v fs (decodeFields fs) (agrees fs))
 
 -- The normalized grammar of a table is what the fields of its encoding give in order.
 pub normalized-by : (t : Table) → Within t → normalizedBy (fieldsOf (encode t)) 0 [] ≡ normalized (t .blocks)
 unfolding encode productionsOf definedAll
 normalized-by t w =
     agrees (fieldsOf (encode t)) .normal 0 []
-    ∙ ap (λ b. behind b 0 []) (ap build (fields-of-bytes (tableFields t)) ∙ parts-built t 0 w)
+    ∙ ap (λ b. behind b 0 []) (ap decodeFields (fields-of-bytes (tableFields t)) ∙ parts-built t 0 w)

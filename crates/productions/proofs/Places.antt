@@ -13,7 +13,7 @@ use Rattle.spellings.proofs.BytesLaws.{by-test}
 use Rattle.answers.specs.Checked.{ok}
 use Rattle.grammar.specs.Limits.{most}
 use Rattle.grammar.specs.Values.{Field, field}
-use Rattle.grammar.specs.Fields.{Fields, end, cut, next, fieldsOf}
+use Rattle.grammar.specs.Fields.{RawFields, end, cut, next, fieldsOf}
 use Rattle.grammar.specs.declared.Front.{Front}
 use Rattle.grammar.specs.declared.Front.the-variants.{Nothing, Short}
 use Rattle.grammar.specs.declared.Front.the-variants as front
@@ -22,7 +22,7 @@ use Rattle.grammar.specs.SortTests.{isSort, isIdeSort}
 use Rattle.grammar.specs.Table.{Mode, add, extend, update}
 use Rattle.grammar.proofs.LookupLaws.{fields-at, fields-of, front-inside, opened}
 use Rattle.layout.specs.Prefix.{templatesOf, isTemplates}
-use Rattle.layout.specs.Layout.{isNonterminal, isHead, isItem, isKnown, isWhole, passed, start, checkFields, layout}
+use Rattle.layout.specs.Layout.{isNonterminal, isHead, isItem, isKnown, isWhole, passed, initialProgress, checkFields, layout}
 use Rattle.layout.specs.declared.Progress.{Progress}
 use Rattle.layout.specs.Decode.{modeOf}
 use Rattle.layout.specs.Within.{Each, each-none, each-more}
@@ -37,12 +37,12 @@ use Rattle.productions.proofs.FewAlternatives.{few-alternatives}
 -- ------------------------------------------------------------------ fields stand where they say
 
 -- behind each field stand the fields that follow it
-abbrev Stands : List ℕ → Fields → Type 0
+abbrev Stands : List ℕ → RawFields → Type 0
 Stands bs (end at) = Unit {0}
 Stands bs (cut at) = Unit {0}
 Stands bs (next at tag v fs) = (at + 3 + length v ≤ length bs) × (fieldsAt bs (at + 3 + length v) ≡ fs) × Stands bs fs
 
-stands-here : (bs : List ℕ) (at at′ tag : ℕ) (v : List ℕ) (fs : Fields) (r : Front) → r ≡ frontOf (drop at bs)
+stands-here : (bs : List ℕ) (at at′ tag : ℕ) (v : List ℕ) (fs : RawFields) (r : Front) → r ≡ frontOf (drop at bs)
     → next at′ tag v fs ≡ opened bs at r
     → (at′ + 3 + length v ≤ length bs) × (fieldsAt bs (at′ + 3 + length v) ≡ fs)
 stands-here bs at at′ tag v fs Nothing e f = let z : _≡_ {A = ℕ} 0 1 = cc in absurd (omega arith)
@@ -54,7 +54,7 @@ stands-here bs at at′ tag v fs (front.Field t n) e f =
     let g : fs ≡ fieldsAt bs (at + 3 + n) = cc in
     (omega (arith, front-inside bs at e), rw (a, l) (sym g))
 
-stands-from : (bs : List ℕ) (fs : Fields) (at : ℕ) → fs ≡ fieldsAt bs at → Stands bs fs
+stands-from : (bs : List ℕ) (fs : RawFields) (at : ℕ) → fs ≡ fieldsAt bs at → Stands bs fs
 stands-from bs (end at′) at e = tt
 stands-from bs (cut at′) at e = tt
 stands-from bs (next at′ tag v fs) at e =
@@ -82,7 +82,7 @@ map-snoc : {A B : Type 0} (f : A → B) (l : List A) (a : A) → map f (l ++ (a 
 map-snoc f [] a = refl
 map-snoc f (x ∷ l) a = ap (_∷_ (f x)) (map-snoc f l a)
 
-normal-at : (bs : List ℕ) (fs : Fields) → Stands bs fs → (n : ℕ) (ps : List Place)
+normal-at : (bs : List ℕ) (fs : RawFields) → Stands bs fs → (n : ℕ) (ps : List Place)
     → productionsAt bs (placesBy fs n ps) ≡ normalizedBy fs n (productionsAt bs ps)
 unfolding placesBy normalizedBy productionAt
 normal-at bs (end at) s n ps = refl
@@ -118,7 +118,7 @@ kept-fewer add n ps = omega arith
 kept-fewer extend n ps = omega arith
 kept-fewer update n ps = without-fewer n ps
 
-places-fewer : (fs : Fields) (n : ℕ) (ps : List Place) → length (placesBy fs n ps) ≤ length ps + alternativeFields fs
+places-fewer : (fs : RawFields) (n : ℕ) (ps : List Place) → length (placesBy fs n ps) ≤ length ps + alternativeFields fs
 unfolding placesBy alternativeFields
 places-fewer (end at) n ps = omega arith
 places-fewer (cut at) n ps = omega arith
@@ -174,7 +174,7 @@ item-templates v known whole =
     (λ e. rw (drop-of-length-le v {i = 2} (omega (arith, eqb-true (length v) 2 (two-bytes v (sym (known-item v) ∙ known) e)))) refl)
 
 -- the fields of a table whose layout is right have whole templates
-whole-fields : (fs : Fields) (before : List Field) (s : Progress) → checkFields fs before s ≡ ok tt → wholeBody fs ≡ true
+whole-fields : (fs : RawFields) (before : List Field) (s : Progress) → checkFields fs before s ≡ ok tt → wholeBody fs ≡ true
 unfolding wholeBody isWhole
 whole-fields (end at) before s h = refl
 whole-fields (cut at) before s h = refl
@@ -217,7 +217,7 @@ each-snoc : {P : Place → Type 0} {ps : List Place} {p : Place} → Each P ps �
 each-snoc each-none h = each-more h each-none
 each-snoc (each-more g gs) h = each-more g (each-snoc gs h)
 
-whole-by : (bs : List ℕ) (fs : Fields) → Stands bs fs → (before : List Field) (s : Progress) → checkFields fs before s ≡ ok tt
+whole-by : (bs : List ℕ) (fs : RawFields) → Stands bs fs → (before : List Field) (s : Progress) → checkFields fs before s ≡ ok tt
     → (n : ℕ) → n < 64 → (ps : List Place) → Each (Whole bs) ps → Each (Whole bs) (placesBy fs n ps)
 unfolding placesBy
 whole-by bs (end at) stand before s h n small ps each = each
@@ -242,4 +242,4 @@ whole-by bs (next at tag v fs) stand before s h n small ps each =
 -- Each place of a table whose layout is right is of a nonterminal, and a whole alternative stands there.
 pub whole-places : (bs : List ℕ) → layout bs ≡ ok tt → Each (Whole bs) (placesOf bs)
 whole-places bs h =
-    whole-by bs (fieldsOf bs) (stands bs) [] start (layout-parts bs h .1) 0 (omega arith) [] each-none
+    whole-by bs (fieldsOf bs) (stands bs) [] initialProgress (layout-parts bs h .1) 0 (omega arith) [] each-none

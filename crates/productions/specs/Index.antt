@@ -8,26 +8,26 @@ use lib.Dec.{eqb}
 use lib.ListN.{length, getD, drop}
 use Rattle.grammar.specs.Limits.{most}
 use Rattle.grammar.specs.Table.{Template, variable, Item, Mode, add, extend, update}
-use Rattle.grammar.specs.Fields.{Fields, end, cut, next, fieldsOf}
+use Rattle.grammar.specs.Fields.{RawFields, end, cut, next, fieldsOf}
 use Rattle.grammar.specs.Lookup.{fieldsAt}
-use Rattle.layout.specs.Prefix.{templatesOf, isTemplates, isTemplate, found, firstOf}
+use Rattle.layout.specs.Prefix.{templatesOf, isTemplates, isTemplate, found, headTemplate}
 use Rattle.layout.specs.Decode.{modeOf, itemOf}
 use Rattle.productions.specs.Normal.{Production, kept}
 
 -- the items at the front, up to the first field that is none
-unfoldable pub itemsOf : Fields → List Item
+unfoldable pub itemsOf : RawFields → List Item
 itemsOf (end at) = []
 itemsOf (cut at) = []
 itemsOf (next at tag v fs) = elim (eqb tag 6) [ true ↦ itemOf v ∷ itemsOf fs | false ↦ [] ]
 
 -- the result behind the items
-unfoldable pub resultOf : Fields → Template
+unfoldable pub resultOf : RawFields → Template
 resultOf (end at) = variable 0
 resultOf (cut at) = variable 0
 resultOf (next at tag v fs) =
     elim (eqb tag 6) [
       | true ↦ resultOf fs
-      | false ↦ elim (eqb tag 7) [ true ↦ firstOf (found (templatesOf v)) | false ↦ variable 0 ]
+      | false ↦ elim (eqb tag 7) [ true ↦ headTemplate (found (templatesOf v)) | false ↦ variable 0 ]
     ]
 
 -- the production of nonterminal n whose first item, or result if it has none, stands at an offset
@@ -36,7 +36,7 @@ productionAt bs n at = record { owner = n; items = itemsOf (fieldsAt bs at); res
 
 -- The normalized grammar of a table, field by field from the left: a definition's head names the nonterminal n of the alternatives
 -- that follow, and an update drops those that it had; each alternative is one production more.
-unfoldable pub normalizedBy : Fields → ℕ → List Production → List Production
+unfoldable pub normalizedBy : RawFields → ℕ → List Production → List Production
 normalizedBy (end at) n g = g
 normalizedBy (cut at) n g = g
 normalizedBy (next at tag v fs) n g =
@@ -66,7 +66,7 @@ placesKept extend n ps = ps
 placesKept update n ps = placesWithout n ps
 
 -- the places of the productions of `normalizedBy`, field by field
-unfoldable pub placesBy : Fields → ℕ → List Place → List Place
+unfoldable pub placesBy : RawFields → ℕ → List Place → List Place
 placesBy (end at) n ps = ps
 placesBy (cut at) n ps = ps
 placesBy (next at tag v fs) n ps =
@@ -100,7 +100,7 @@ abbrev pub productionsBy : ℕ → List ℕ → List ℕ → List ℕ → List P
 productionsBy m bs owners starts = productionsAt bs (placesIn m owners starts)
 
 -- the fields of an alternative have whole templates: those of each call, and one as the result
-unfoldable pub wholeBody : Fields → Bool
+unfoldable pub wholeBody : RawFields → Bool
 wholeBody (end at) = true
 wholeBody (cut at) = true
 wholeBody (next at tag v fs) =
@@ -116,7 +116,7 @@ pub record Whole (bs : List ℕ) (p : Place) : Type 0 where
   pub whole : wholeBody (fieldsAt bs (p .start)) ≡ true
 
 -- how many fields begin an alternative
-unfoldable pub alternativeFields : Fields → ℕ
+unfoldable pub alternativeFields : RawFields → ℕ
 alternativeFields (end at) = 0
 alternativeFields (cut at) = 0
 alternativeFields (next at tag v fs) =

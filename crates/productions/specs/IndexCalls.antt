@@ -9,7 +9,7 @@ use Rattle.layout.specs.Decode.{modeOf}
 use Rattle.productions.specs.Index.{Place, placesIn, placesKept, alternativeFields}
 
 -- two arrays with room for k productions
-pub record RoomFor (k : ℕ) (owners starts : List ℕ) : Type 0 where
+pub record IndexRoomFor (k : ℕ) (owners starts : List ℕ) : Type 0 where
   pub owners-room : k ≤ length owners
   pub starts-room : k ≤ length starts
 

@@ -7,7 +7,7 @@ ghost use Prim.Native.Nat.{_+_, _≤_};
 ghost use mathlib.Core.Path.{_≡_};
 ghost use lib.ListN.{getD};
 ghost use Rattle.productions.specs.Index.{placesIn, placesOf, placesWithout};
-ghost use Rattle.productions.specs.IndexCalls.{RoomFor, Index, FitsIndex, behind, redefined};
+ghost use Rattle.productions.specs.IndexCalls.{IndexRoomFor, Index, FitsIndex, behind, redefined};
 
 // The offset at a place of the index, 0 past its end.
 pub fn offset(starts: &[u16], j: usize) -> usize
@@ -22,7 +22,7 @@ pub fn offset(starts: &[u16], j: usize) -> usize
 
 // Lays a production behind the first k.
 fn push(owners: &mut [u8], starts: &mut [u16], k: usize, owner: u8, start: u16)
-    requires { ⌜ RoomFor (k + 1) (now owners) (now starts) ⌝ }
+    requires { ⌜ IndexRoomFor (k + 1) (now owners) (now starts) ⌝ }
     ensures { λ r. ⌜ placesIn (k + 1) (now (owners .exit)) (now (starts .exit))
         ≡ behind (placesIn k (now (owners .entry)) (now (starts .entry))) owner start ⌝ }
 {
@@ -32,7 +32,7 @@ fn push(owners: &mut [u8], starts: &mut [u16], k: usize, owner: u8, start: u16)
 
 // Drops the productions of nonterminal n among the first k, and tells how many are left.
 fn without(owners: &mut [u8], starts: &mut [u16], k: usize, n: u8) -> usize
-    requires { ⌜ RoomFor k (now owners) (now starts) ⌝ }
+    requires { ⌜ IndexRoomFor k (now owners) (now starts) ⌝ }
     ensures { λ r. ⌜ Index (placesWithout n (placesIn k (now (owners .entry)) (now (starts .entry)))) k r (now (owners .exit)) (now (starts .exit)) ⌝ }
 {
     let mut i: usize = 0;
@@ -54,7 +54,7 @@ fn without(owners: &mut [u8], starts: &mut [u16], k: usize, n: u8) -> usize
 
 // The productions that the head of a definition leaves: an update drops those of its nonterminal.
 fn redefine(head: &[u8], owners: &mut [u8], starts: &mut [u16], k: usize) -> usize
-    requires { ⌜ RoomFor k (now owners) (now starts) ⌝ }
+    requires { ⌜ IndexRoomFor k (now owners) (now starts) ⌝ }
     ensures { λ r. ⌜ Index (redefined (now (head .entry)) (placesIn k (now (owners .entry)) (now (starts .entry))))
         k r (now (owners .exit)) (now (starts .exit)) ⌝ }
 {

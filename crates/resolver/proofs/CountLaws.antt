@@ -10,7 +10,7 @@ use borrow.Author.Tests.{ne-eqb}
 use Rattle.grammar.proofs.ReaderLaws.{getD-past}
 use Rattle.resolver.specs.declared.Resolution.the-variants.{Loose, Numbered}
 use Rattle.resolver.specs.Marks.{new, noOwner}
-use Rattle.resolver.specs.Numbers.{ownerNumber, numberAt, nextNumber, numbered, looseIn, firstLoose}
+use Rattle.resolver.specs.Numbers.{ownerNumber, numberAt, nextNumber, numberedMarks, looseIn, firstLoose}
 
 -- ------------------------------------------------------------------ the number at a place
 
@@ -65,7 +65,7 @@ pub record Counting (n : ℕ) (room₀ room : List ℕ) (p count : ℕ) : Type 0
   -- the room keeps its length
   pub long : length room ≡ length room₀
   -- the numbers so far and the marks ahead give the numbers of all
-  pub names : numbered (take p room) (count + 1) (Ahead room n p) ≡ numbered [] 1 (take n room₀)
+  pub names : numberedMarks (take p room) (count + 1) (Ahead room n p) ≡ numberedMarks [] 1 (take n room₀)
   -- the places without an owner that are ahead are all of them
   pub loose : looseIn p (Ahead room n p) ≡ looseIn 0 (take n room₀)
   -- what lies behind the marks is as before
@@ -102,8 +102,8 @@ module _ {n : ℕ} {room₀ room : List ℕ} {p count : ℕ} (c : Counting n roo
 
   module _ (d : getD room p 0 ≡ 65535 → ⊥) {v : ℕ} (ev : v ≡ numberAt (take p room) (count + 1) (getD room p 0)) where
     step-names : (k : ℕ) → nextNumber (count + 1) (getD room p 0) ≡ k
-        → numbered (take (suc p) (set room p v)) k (Ahead (set room p v) n (suc p)) ≡ numbered [] 1 (take n room₀)
-    unfolding numbered
+        → numberedMarks (take (suc p) (set room p v)) k (Ahead (set room p v) n (suc p)) ≡ numberedMarks [] 1 (take n room₀)
+    unfolding numberedMarks
     step-names k ek =
         cc (take-suc-set room p v within, ev, drop-set-lt (suc p) room p v (omega arith), ek, ahead, c .names)
 
@@ -149,8 +149,8 @@ module _ {n : ℕ} {room₀ room : List ℕ} {p count : ℕ} (c : Counting n roo
   counting-named = ap firstLoose (sym (sym (c .loose) ∙ ap (looseIn p) none-ahead))
 
   -- and the marks have become the numbers
-  pub counting-done : room ≡ numbered [] 1 (take n room₀) ++ drop n room₀
-  unfolding numbered
+  pub counting-done : room ≡ numberedMarks [] 1 (take n room₀) ++ drop n room₀
+  unfolding numberedMarks
   counting-done =
       let z : p ≡ n = omega (arith, c .inside) in
       cc (take-append-drop n room, z, none-ahead, c .names, c .behind)

@@ -12,7 +12,7 @@ use borrow.Author.Tests.{eq-eqb, eqb-true, eqb-false, ltb-true, ltb-false}
 use Rattle.spellings.proofs.BytesLaws.{by-test}
 use Rattle.terms.specs.Cells.{column, columns, mostCells}
 use Rattle.resolver.specs.Marks.{binds, slotFrom}
-use Rattle.resolver.specs.Links.{First, Newest, LinkedTo, Linked, linksWith}
+use Rattle.resolver.specs.Links.{FirstBinding, NewestRow, LinkedTo, RowsLinked, linksWithRow}
 
 -- ------------------------------------------------------------------ first rows
 
@@ -88,7 +88,7 @@ pub record SlotIs (cells : List ℕ) (x n r : ℕ) : Type 0 where
   -- it binds x
   pub named : column cells r 1 ≡ x
   -- and no row before it does
-  pub is-first : First cells r
+  pub is-first : FirstBinding cells r
 
 -- The slot of a name that some row binds.
 pub slot-is : (cells : List ℕ) (x n : ℕ) → n ≤ 16384 → slotFrom n cells 0 x < 16384 → SlotIs cells x n (slotFrom n cells 0 x)
@@ -123,7 +123,7 @@ slot-stays cells x r (suc n) e l =
     let s : slotFrom (suc (r + n)) cells 0 x ≡ r = slot-stays cells x r n e (omega arith) in
     cc (slot-more cells x (suc (r + n)) 0 (omega arith) (omega arith))
 
-first-slot : {cells : List ℕ} {r : ℕ} → First cells r → (n : ℕ) → r < n → n ≤ 16384 → slotFrom n cells 0 (column cells r 1) ≡ r
+first-slot : {cells : List ℕ} {r : ℕ} → FirstBinding cells r → (n : ℕ) → r < n → n ≤ 16384 → slotFrom n cells 0 (column cells r 1) ≡ r
 first-slot {cells} {r} f n l m =
     let z : n ≡ suc (r + (n - suc r)) = omega arith in
     cc (slot-stays cells (column cells r 1) r (n - suc r) (last-of-all cells (column cells r 1) r (f .earliest) (omega arith) (f .binding)) (omega arith))
@@ -135,9 +135,9 @@ pub record Chasing (n : ℕ) (cells : List ℕ) (half x p : ℕ) : Type 0 where
   -- p leads to one of the rows or to none
   pub small : p ≤ n
   -- the first row of x, if there is one, is not behind where p leads
-  pub all : (j : ℕ) → j < n → First cells j → column cells j 1 ≡ x → j < p
+  pub all : (j : ℕ) → j < n → FirstBinding cells j → column cells j 1 ≡ x → j < p
   -- p leads to a row that binds its name first
-  pub first : (q : ℕ) → p ≡ suc q → First cells q
+  pub first : (q : ℕ) → p ≡ suc q → FirstBinding cells q
   -- whose name has the hash of x
   pub hashed : (q : ℕ) → p ≡ suc q → column cells q 1 % half ≡ x % half
 
@@ -151,7 +151,7 @@ module _ {n : ℕ} {cells links : List ℕ} (k : LinkedTo n cells links) (x : �
   -- the search begins at the link of the hash of x
   pub chasing-start : {p : ℕ} → p ≡ getD links (x % Half) 0 → Chasing n cells Half x p
   chasing-start e =
-      let w : Newest cells Half (x % Half) n (getD links (x % Half) 0) = k .heads (x % Half) hash-small in
+      let w : NewestRow cells Half (x % Half) n (getD links (x % Half) 0) = k .heads (x % Half) hash-small in
       rw e (record { small = w .small; all = λ j l f h. w .all j l f cc; first = w .first; hashed = w .hashed })
 
   module _ {p : ℕ} (c : Chasing n cells Half x p) where
@@ -165,7 +165,7 @@ module _ {n : ℕ} {cells links : List ℕ} (k : LinkedTo n cells links) (x : �
         (λ e. omega (arith, slot-le cells x n 0 (omega (arith, k .few)), ltb-false (slotFrom n cells 0 x) 16384 e))
 
     module _ (h : 0 < p) where
-      at-first : First cells (p - 1)
+      at-first : FirstBinding cells (p - 1)
       at-first = c .first (p - 1) (omega arith)
 
       -- the row led to is below 16,384
@@ -178,7 +178,7 @@ module _ {n : ℕ} {cells links : List ℕ} (k : LinkedTo n cells links) (x : �
           sym (first-slot at-first n (omega (arith, c .small)) (k .few)) ∙ ap (slotFrom n cells 0) (sym e ∙ f)
 
       module _ {y : ℕ} (ey : y ≡ column cells (p - 1) 1) (d : y ≡ x → ⊥) {next : ℕ} (en : next ≡ getD links (Half + (p - 1)) 0) where
-        newest : Newest cells Half (column cells (p - 1) 1 % Half) (p - 1) (getD links (Half + (p - 1)) 0)
+        newest : NewestRow cells Half (column cells (p - 1) 1 % Half) (p - 1) (getD links (Half + (p - 1)) 0)
         newest = k .nexts (p - 1) (omega (arith, c .small)) at-first
 
         -- the next link leads to an older row
@@ -202,22 +202,22 @@ module _ {n : ℕ} {cells links : List ℕ} (k : LinkedTo n cells links) (x : �
 
 -- ------------------------------------------------------------------ one more row
 
-newest-on : {cells : List ℕ} {half h below p : ℕ} → Newest cells half h below p → (First cells below → column cells below 1 % half ≡ h → ⊥)
-    → Newest cells half h (below + 1) p
+newest-on : {cells : List ℕ} {half h below p : ℕ} → NewestRow cells half h below p → (FirstBinding cells below → column cells below 1 % half ≡ h → ⊥)
+    → NewestRow cells half h (below + 1) p
 newest-on {cells} {half} {h} {below} {p} w d =
     record {
       small = omega (arith, w .small);
       all =
           λ j l f e.
           by-test (eqb j below)
-          (λ t. let z : j ≡ below = eqb-true j below t in absurd (d (subst (First cells) z f) cc))
+          (λ t. let z : j ≡ below = eqb-true j below t in absurd (d (subst (FirstBinding cells) z f) cc))
           (λ t. w .all j (omega (arith, eqb-false j below t)) f e);
       first = w .first;
       hashed = w .hashed;
     }
 
 -- a row that is no first row changes nothing
-pub linked-skip : {n : ℕ} {cells links : List ℕ} → LinkedTo n cells links → n < length links / 2 → n < 16384 → (First cells n → ⊥)
+pub linked-skip : {n : ℕ} {cells links : List ℕ} → LinkedTo n cells links → n < length links / 2 → n < 16384 → (FirstBinding cells n → ⊥)
     → LinkedTo (n + 1) cells links
 linked-skip {n} {cells} {links} k r l d =
     record {
@@ -228,11 +228,11 @@ linked-skip {n} {cells} {links} k r l d =
       nexts =
           λ i b f.
           by-test (eqb i n)
-          (λ t. absurd (d (subst (First cells) (eqb-true i n t) f)))
+          (λ t. absurd (d (subst (FirstBinding cells) (eqb-true i n t) f)))
           (λ t. k .nexts i (omega (arith, eqb-false i n t)) f);
     }
 
-module _ {n : ℕ} {cells links : List ℕ} (k : LinkedTo n cells links) (r : n < length links / 2) (l : n < 16384) (f : First cells n) where
+module _ {n : ℕ} {cells links : List ℕ} (k : LinkedTo n cells links) (r : n < length links / 2) (l : n < 16384) (f : FirstBinding cells n) where
   x : ℕ
   x = column cells n 1
 
@@ -290,36 +290,36 @@ module _ {n : ℕ} {cells links : List ℕ} (k : LinkedTo n cells links) (r : n 
       getD-set-other links₁ (x % half) (half + i) (n + 1) 0 (λ e. omega (arith, e, hx))
       ∙ getD-set-other links (half + n) (half + i) (getD links (x % half) 0) 0 (λ e. omega (arith, e))
 
-  old-head : (h : ℕ) → h < half → Newest cells half h n (getD links h 0)
+  old-head : (h : ℕ) → h < half → NewestRow cells half h n (getD links h 0)
   unfolding half
   old-head h b = k .heads h b
 
-  old-next : (i : ℕ) → i < n → First cells i → Newest cells half (column cells i 1 % half) i (getD links (half + i) 0)
+  old-next : (i : ℕ) → i < n → FirstBinding cells i → NewestRow cells half (column cells i 1 % half) i (getD links (half + i) 0)
   unfolding half
   old-next i b g = k .nexts i b g
 
-  newest-same : Newest cells half (x % half) (n + 1) (getD links₂ (x % half) 0)
+  newest-same : NewestRow cells half (x % half) (n + 1) (getD links₂ (x % half) 0)
   unfolding x
   newest-same =
       rw head-same
       (record {
         small = omega arith;
         all = λ j b g e. omega arith;
-        first = λ q e. subst (First cells) (omega arith) f;
+        first = λ q e. subst (FirstBinding cells) (omega arith) f;
         hashed = λ q e. let z : q ≡ n = omega arith in cc;
       })
 
-  newest-other : (h : ℕ) → h < half → (h ≡ x % half → ⊥) → Newest cells half h (n + 1) (getD links₂ h 0)
+  newest-other : (h : ℕ) → h < half → (h ≡ x % half → ⊥) → NewestRow cells half h (n + 1) (getD links₂ h 0)
   unfolding x
   newest-other h b d = rw (head-other h b d) (newest-on (old-head h b) (λ g e. d (sym e)))
 
-  heads : (h : ℕ) → h < half → Newest cells half h (n + 1) (getD links₂ h 0)
+  heads : (h : ℕ) → h < half → NewestRow cells half h (n + 1) (getD links₂ h 0)
   heads h b =
       by-test (eqb h (x % half))
       (λ e. rw (eqb-true h (x % half) e) newest-same)
       (λ e. newest-other h b (eqb-false h (x % half) e))
 
-  nexts : (i : ℕ) → i < n + 1 → First cells i → Newest cells half (column cells i 1 % half) i (getD links₂ (half + i) 0)
+  nexts : (i : ℕ) → i < n + 1 → FirstBinding cells i → NewestRow cells half (column cells i 1 % half) i (getD links₂ (half + i) 0)
   unfolding x
   nexts i b g =
       by-test (eqb i n)
@@ -340,7 +340,7 @@ module _ {n : ℕ} {cells links : List ℕ} (k : LinkedTo n cells links) (r : n 
         nexts = λ i b g. rw half-same (nexts i b g);
       }
 
-  linked-more : {links′ : List ℕ} → links′ ≡ linksWith links n (column cells n 1) → LinkedTo (n + 1) cells links′
+  linked-more : {links′ : List ℕ} → links′ ≡ linksWithRow links n (column cells n 1) → LinkedTo (n + 1) cells links′
   unfolding links₁ links₂ x half
   linked-more e = rw e linked-by
 
@@ -384,7 +384,7 @@ module _ {cells links₀ links : List ℕ} {row : ℕ}
   pub row-small : row < 16384
   row-small = omega arith
 
-  skip : (First cells row → ⊥) → Linking cells links₀ links (row + 1)
+  skip : (FirstBinding cells row → ⊥) → Linking cells links₀ links (row + 1)
   skip d = record { inside = omega arith; long = w .long; linked = linked-skip (w .linked) row-fits row-small d }
 
   -- a row that is no function binds nothing
@@ -397,11 +397,11 @@ module _ {cells links₀ links : List ℕ} {row : ℕ}
 
   -- a row that binds its name first is linked
   pub add-row : {code x there : ℕ} → code ≡ column cells row 0 → x ≡ column cells row 1 → code ≡ 33 → there ≡ slotFrom row cells 0 x → there ≡ 16384
-      → {links′ : List ℕ} → links′ ≡ linksWith links row x → Linking cells links₀ links′ (row + 1)
+      → {links′ : List ℕ} → links′ ≡ linksWithRow links row x → Linking cells links₀ links′ (row + 1)
   add-row ec ex e et t {links′} el =
-      let f : First cells row =
+      let f : FirstBinding cells row =
       record { binding = binds-row cells row (column cells row 1) (sym ec ∙ e) refl; earliest = ap (slotFrom row cells 0) (sym ex) ∙ sym et ∙ t } in
-      let el′ : links′ ≡ linksWith links row (column cells row 1) = el ∙ ap (linksWith links row) ex in
+      let el′ : links′ ≡ linksWithRow links row (column cells row 1) = el ∙ ap (linksWithRow links row) ex in
       record {
         inside = omega arith;
         long =
@@ -416,7 +416,7 @@ linking-start cells links s e = record { inside = omega arith; long = refl; link
 
 -- where no row is left, all are linked
 pub linking-end : {cells links₀ links : List ℕ} {row : ℕ} → Linking cells links₀ links row → length cells ≤ mostCells * columns
-    → length cells / columns ≤ row → Linked cells links
+    → length cells / columns ≤ row → RowsLinked cells links
 linking-end {cells} {links₀} {links} {row} w few l =
     let z : row ≡ length cells / columns = omega (arith, w .inside) in
     record { few = few; linked = rw z at w .linked }

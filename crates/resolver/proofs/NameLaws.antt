@@ -17,7 +17,7 @@ use Rattle.terms.specs.Rows.{nameOf}
 use Rattle.terms.specs.Rename.{isOutside, holds, holdsFields, isRenamed}
 use Rattle.terms.specs.Binding.{Binder}
 use Rattle.terms.specs.Occurrences.{ownerOf}
-use Rattle.resolver.specs.Marks.{markOf, ownerCode, slotOf, Bindable, bindable-word, bindable-fresh, Around, Holds, binderMark}
+use Rattle.resolver.specs.Marks.{markOf, ownerCode, slotOf, Bindable, bindable-word, bindable-fresh, Around, HoldsOutsides, binderMark}
 use Rattle.terms.specs.Names.{Distinct, VariableName, BinderName, WellNamed, WellNamedFields}
 use Rattle.rows.proofs.RowLaws.{as-word, as-fresh, as-outside}
 
@@ -25,11 +25,11 @@ module _ (spell : ℕ → List ℕ) (x : ℕ) where
   -- ------------------------------------------------------------------ the outside names of a variable
 
   -- a formula's name holds no outside name
-  pub held-word : x / nameBase ≡ 1 → Holds spell 0 (λ s. isOutside s (nameOf spell x))
+  pub held-word : x / nameBase ≡ 1 → HoldsOutsides spell 0 (λ s. isOutside s (nameOf spell x))
   held-word e n l w = has-none n ∙ sym (ap (isOutside (spell n)) (as-word spell x e))
 
   -- nor does a fresh one
-  pub held-fresh : x / nameBase ≡ 2 → Holds spell 0 (λ s. isOutside s (nameOf spell x))
+  pub held-fresh : x / nameBase ≡ 2 → HoldsOutsides spell 0 (λ s. isOutside s (nameOf spell x))
   held-fresh e n l w = has-none n ∙ sym (ap (isOutside (spell n)) (as-fresh spell x e))
 
   same-number : Distinct spell → (m n : ℕ) → isWord (spell m) ≡ true → eqb m n ≡ same (spell m) (spell n)
@@ -39,7 +39,7 @@ module _ (spell : ℕ → List ℕ) (x : ℕ) where
 
   -- an outside name holds itself alone
   pub held-outside : (x / nameBase ≡ 1 → ⊥) → (x / nameBase ≡ 2 → ⊥) → {r : ℕ} → r ≡ only (x % nameBase) → Distinct spell
-      → Holds spell r (λ s. isOutside s (nameOf spell x))
+      → HoldsOutsides spell r (λ s. isOutside s (nameOf spell x))
   held-outside a b er apart n l w =
       cc (has-only (x % nameBase) n, lt-ltb n 64 l, same-number apart n (x % nameBase) w, as-outside spell x a b)
 
@@ -76,7 +76,7 @@ module _ (spell : ℕ → List ℕ) (apart : Distinct spell) (n : ℕ) (far : 64
 -- ------------------------------------------------------------------ binders
 
 module _ (spell : ℕ → List ℕ) (t : Term Name) (x held : ℕ) (apart : Distinct spell) (known : WellNamed spell t) (kb : BinderName spell
-    (nameOf spell x)) (h : Holds spell held (λ s. holds s t)) where
+    (nameOf spell x)) (h : HoldsOutsides spell held (λ s. holds s t)) where
   word-is : x / nameBase ≡ 1 → isWord (spell (x % nameBase)) ≡ true
   word-is e = subst (BinderName spell) (as-word spell x e) kb
 

@@ -14,7 +14,7 @@ use Rattle.terms.specs.Binding.{unbound, Binder}
 use Rattle.terms.specs.Occurrences.{ownerOf}
 use Rattle.terms.specs.Labelled.{nameShown, labelled, labelledFields}
 use Rattle.resolver.specs.Marks.{new, noOwner, ownerCode, markOf, binderMark, marks, marksFields}
-use Rattle.resolver.specs.Numbers.{ownerNumber, numberAt, nextNumber, numbered}
+use Rattle.resolver.specs.Numbers.{ownerNumber, numberAt, nextNumber, numberedMarks}
 
 -- the binders around, with the names that their numbers give them
 data Paired (done : List ℕ) : List Binder → List Printed → Type 0 where
@@ -133,14 +133,14 @@ none-next c = refl
 record TermNumbers (around : List Binder) (shown : List Printed) (done : List ℕ) (c p : ℕ) (t : Term Name) : Type 0 where
   numbers : List ℕ
   as-many : length numbers ≡ size t
-  runs : (ms : List ℕ) → numbered done (suc c) (marks around p t ++ ms) ≡ numbered (done ++ numbers) (renames t + suc c) ms
+  runs : (ms : List ℕ) → numberedMarks done (suc c) (marks around p t ++ ms) ≡ numberedMarks (done ++ numbers) (renames t + suc c) ms
   shows : (rest : List ℕ) → labelled ((done ++ numbers) ++ rest) p t ≡ renamed shown (suc c) t
 
 -- the same of a field list
 record FieldNumbers (around : List Binder) (shown : List Printed) (done : List ℕ) (c p : ℕ) (f : Fields Name) : Type 0 where
   numbers : List ℕ
   as-many : length numbers ≡ sizeFields f
-  runs : (ms : List ℕ) → numbered done (suc c) (marksFields around p f ++ ms) ≡ numbered (done ++ numbers) (renamesFields f + suc c) ms
+  runs : (ms : List ℕ) → numberedMarks done (suc c) (marksFields around p f ++ ms) ≡ numberedMarks (done ++ numbers) (renamesFields f + suc c) ms
   shows : (rest : List ℕ) → labelledFields ((done ++ numbers) ++ rest) p f ≡ renamedFields shown (suc c) f
 
 -- one more number, and others behind it
@@ -155,7 +155,7 @@ snoc-length done n p e = length-append done (n ∷ []) ∙ omega arith
 
 variable-numbers : (around : List Binder) (shown : List Printed) (done : List ℕ) (c p : ℕ) (v : Name) → Paired done around shown → length done ≡ p
     → p ≤ 16384 → TermNumbers around shown done c p (variable v)
-unfolding marks numbered labelled renamed renames size
+unfolding marks numberedMarks labelled renamed renames size
 variable-numbers around shown done c p v h e l =
     let m = markOf v (ownerCode (ownerOf around v)) in
     record {
@@ -171,7 +171,7 @@ variable-numbers around shown done c p v h e l =
     }
 
 number-numbers : (around : List Binder) (shown : List Printed) (done : List ℕ) (c p n : ℕ) → TermNumbers around shown done c p (number n)
-unfolding marks numbered labelled renamed renames size
+unfolding marks numberedMarks labelled renamed renames size
 number-numbers around shown done c p n =
     record {
       numbers = 0 ∷ [];
@@ -181,7 +181,7 @@ number-numbers around shown done c p n =
     }
 
 nil-numbers : (around : List Binder) (shown : List Printed) (done : List ℕ) (c p : ℕ) → FieldNumbers around shown done c p nil
-unfolding marksFields numbered labelledFields renamedFields renamesFields sizeFields
+unfolding marksFields numberedMarks labelledFields renamedFields renamesFields sizeFields
 nil-numbers around shown done c p =
     record {
       numbers = 0 ∷ [];
@@ -196,7 +196,7 @@ module _ (around : List Binder) (shown : List Printed) (done : List ℕ) (c p : 
       → TermNumbers (record { name = b; place = p } ∷ around) (record { origin = b; shown = binderShown (isRenamed b t) (suc c) b } ∷ shown)
       (done ++ numberAt done (suc c) (binderMark (isRenamed b t)) ∷ []) (one (isRenamed b t) + c) (suc p) t
       → TermNumbers around shown done c p (function b t)
-  unfolding marks numbered labelled renamed renames size
+  unfolding marks numberedMarks labelled renamed renames size
   function-numbers b t i =
       let r = isRenamed b t in
       let n = numberAt done (suc c) (binderMark r) in
@@ -215,7 +215,7 @@ module _ (around : List Binder) (shown : List Printed) (done : List ℕ) (c p : 
 
   -- under a constructor with no name
   rcd-numbers : (f : Fields Name) → FieldNumbers around shown (done ++ 0 ∷ []) c (suc p) f → TermNumbers around shown done c p (rcd f)
-  unfolding marks numbered labelled renamed renames size
+  unfolding marks numberedMarks labelled renamed renames size
   rcd-numbers f i =
       record {
         numbers = 0 ∷ i .numbers;
@@ -227,7 +227,7 @@ module _ (around : List Binder) (shown : List Printed) (done : List ℕ) (c p : 
       }
 
   dot-numbers : (t : Term Name) (s : List ℕ) → TermNumbers around shown (done ++ 0 ∷ []) c (suc p) t → TermNumbers around shown done c p (dot t s)
-  unfolding marks numbered labelled renamed renames size
+  unfolding marks numberedMarks labelled renamed renames size
   dot-numbers t s i =
       record {
         numbers = 0 ∷ i .numbers;
@@ -240,7 +240,7 @@ module _ (around : List Binder) (shown : List Printed) (done : List ℕ) (c p : 
 
   apply-numbers : (t u : Term Name) (i : TermNumbers around shown (done ++ 0 ∷ []) c (suc p) t)
       → TermNumbers around shown ((done ++ 0 ∷ []) ++ i .numbers) (renames t + c) (suc p + size t) u → TermNumbers around shown done c p (apply t u)
-  unfolding marks numbered labelled renamed renames size
+  unfolding marks numberedMarks labelled renamed renames size
   apply-numbers t u i j =
       let both : ((done ++ 0 ∷ []) ++ i .numbers) ++ j .numbers ≡ done ++ 0 ∷ (i .numbers ++ j .numbers) =
       append-assoc (done ++ 0 ∷ []) (i .numbers) (j .numbers) ∙ snoc done 0 (i .numbers ++ j .numbers) in
@@ -266,7 +266,7 @@ module _ (around : List Binder) (shown : List Printed) (done : List ℕ) (c p : 
 
   cons-numbers : (s : List ℕ) (t : Term Name) (f : Fields Name) (i : TermNumbers around shown (done ++ 0 ∷ []) c (suc p) t)
       → FieldNumbers around shown ((done ++ 0 ∷ []) ++ i .numbers) (renames t + c) (suc p + size t) f → FieldNumbers around shown done c p (cons s t f)
-  unfolding marksFields numbered labelledFields renamedFields renamesFields sizeFields
+  unfolding marksFields numberedMarks labelledFields renamedFields renamesFields sizeFields
   cons-numbers s t f i j =
       let both : ((done ++ 0 ∷ []) ++ i .numbers) ++ j .numbers ≡ done ++ 0 ∷ (i .numbers ++ j .numbers) =
       append-assoc (done ++ 0 ∷ []) (i .numbers) (j .numbers) ∙ snoc done 0 (i .numbers ++ j .numbers) in
@@ -335,8 +335,8 @@ mutual
       (cc (length-append (done ++ 0 ∷ []) (i .numbers), snoc-length done 0 p e, i .as-many)) (omega arith))
 
 -- Printed by the numbers of its marks, a term of at most 16,384 constructors is the renamed term, whatever stands behind the numbers.
-pub numbered-is-renamed : (t : Term Name) → size t ≤ 16384 → (rest : List ℕ) → labelled (numbered [] 1 (marks [] 0 t) ++ rest) 0 t ≡ rename t
-unfolding numbered
+pub numbered-is-renamed : (t : Term Name) → size t ≤ 16384 → (rest : List ℕ) → labelled (numberedMarks [] 1 (marks [] 0 t) ++ rest) 0 t ≡ rename t
+unfolding numberedMarks
 numbered-is-renamed t l rest =
     let n = term-numbers [] [] [] 0 0 t paired-none refl (omega arith) in
     cc (append-nil (marks [] 0 t), n .runs [], n .shows rest)

@@ -11,7 +11,7 @@ use Rattle.spellings.proofs.BytesLaws.{by-test}
 use Rattle.grammar.proofs.ReaderLaws.{getD-past}
 use Rattle.terms.specs.Cells.{column, nameBase, columns}
 use Rattle.terms.specs.Term.{Name, word, fresh, outside, Term, Fields, variable, function, apply, rcd, dot, number, nil, cons, size, sizeFields}
-use Rattle.terms.specs.Rows.{nameOf, termAt, fieldsAt}
+use Rattle.terms.specs.Rows.{nameOf, termAt, fieldListAt}
 use Rattle.terms.specs.Rename.{shownAs, renamed, renamedFields, renames}
 use Rattle.terms.specs.Loose.{reached, walkName, walk, walkFields}
 use Rattle.terms.specs.Labelled.{labelled, labelledFields}
@@ -111,7 +111,7 @@ module _ (spell : ℕ → List ℕ) (cells : List ℕ) (quiet : Quiet cells) whe
       (λ e. rw (rows.as-outside spell x (eqb-false (x / nameBase) 1 e) d) tt)
 
   mutual
-    unfolding Still StillFields termAt fieldsAt
+    unfolding Still StillFields termAt fieldListAt
 
     still-at : (k row : ℕ) → Still (termAt k spell cells row)
     still-at zero row = tt
@@ -133,7 +133,7 @@ module _ (spell : ℕ → List ℕ) (cells : List ℕ) (quiet : Quiet cells) whe
         rows.number-row spell cells (suc k) row some refl Still (λ n. tt) (eqb-false code 32 v) (quiet row .no-binder) (eqb-false code 34 a)
         (eqb-false code 35 r) (eqb-false code 36 d)))))
 
-    still-fields-at : (k row : ℕ) → StillFields (fieldsAt k spell cells row)
+    still-fields-at : (k row : ℕ) → StillFields (fieldListAt k spell cells row)
     still-fields-at zero row = tt
     still-fields-at (suc k) row =
         let z : suc k - 1 ≡ k = omega arith in

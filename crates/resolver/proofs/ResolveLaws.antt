@@ -16,12 +16,12 @@ use Rattle.terms.specs.Cells.{column, nameBase, columns}
 use Rattle.grammar.proofs.ReaderLaws.{getD-past}
 use Rattle.terms.specs.Term.{Name, Term, Fields, variable, function, apply, rcd, dot, number, nil, cons, size, sizeFields}
 use Rattle.terms.specs.Rows.{nameOf}
-use Rattle.terms.specs.Rows.{termAt, fieldsAt}
+use Rattle.terms.specs.Rows.{termAt, fieldListAt}
 use Rattle.terms.specs.Rename.{isRenamed, isOutside, holds, holdsFields}
 use Rattle.terms.specs.Binding.{Binder}
 use Rattle.terms.specs.Occurrences.{ownerOf}
 use Rattle.resolver.specs.Marks.{markOf, ownerCode, binderMark, marks, marksFields, slotOf, Bindable, bindable-word, bindable-fresh, Around}
-use Rattle.resolver.specs.Marks.{Holds, MarksVariable, MarksBinder, Walked, WalkedFields, ResolvesTerm, ResolvesFields}
+use Rattle.resolver.specs.Marks.{HoldsOutsides, MarksVariable, MarksBinder, Walked, WalkedFields, ResolvesTerm, ResolvesFields}
 use Rattle.resolver.specs.Walks.{Exchanged, Walkable, WalksTerm}
 use Rattle.terms.specs.Names.{Distinct, VariableName, BinderName, WellNamed, WellNamedFields}
 use Rattle.rows.specs.Sizes.{WholeRows, noSpell, sizeAt}
@@ -171,7 +171,7 @@ module _ {spell : ℕ → List ℕ} {around : List Binder} {p : ℕ} where
       }
 
   variable-walked : {v : Name} {m h : ℕ} {current′ : List ℕ} (current room : List ℕ) → current′ ≡ current
-      → m ≡ markOf v (ownerCode (ownerOf around v)) → Holds spell h (λ s. isOutside s v)
+      → m ≡ markOf v (ownerCode (ownerOf around v)) → HoldsOutsides spell h (λ s. isOutside s v)
       → Walked spell around p (variable v) h current current′ room (set room p m)
   unfolding holds marks
   variable-walked current room k e h = record { holding = h; kept = k; marked = ap (set room p) e }
@@ -209,7 +209,7 @@ module _ (cells : List ℕ) (k row p : ℕ) where
   -- where no depth is left, a field list is read as empty: its mark is 0
   pub shallow-resolves-fields : k ≡ 0 → {room₁ : List ℕ} (current room : List ℕ) → room₁ ≡ set room p 0
       → ResolvesFields cells k row p current current room room₁ 0
-  unfolding fieldsAt
+  unfolding fieldListAt
   shallow-resolves-fields e current room er spell around apart wh kn len env =
       walked-fields-as (cc) er (nil-walked current room)
 
@@ -217,7 +217,7 @@ module _ (cells : List ℕ) (k row p : ℕ) where
     -- a variable's mark is stored, and the outside names that it holds are known
     pub variable-resolves : code ≡ 32 → {x m h : ℕ} {current′ room₀ room₁ : List ℕ} (current room : List ℕ) → x ≡ column cells row 1
         → current′ ≡ current → room₀ ≡ set room p 0 → MarksVariable cells current x m
-        → ((spell : ℕ → List ℕ) → Distinct spell → VariableName spell (nameOf spell x) → Holds spell h (λ s. isOutside s (nameOf spell x)))
+        → ((spell : ℕ → List ℕ) → Distinct spell → VariableName spell (nameOf spell x) → HoldsOutsides spell h (λ s. isOutside s (nameOf spell x)))
         → room₁ ≡ set room₀ p m → ResolvesTerm cells k row p current current′ room room₁ h
     unfolding WellNamed
     variable-resolves e {x} {m} current room ex ek e₀ em eh er spell around apart wh kn len env =
@@ -279,7 +279,7 @@ module _ (cells : List ℕ) (k row p : ℕ) where
         → ResolvesTerm cells k row p current current₁ room room₁ h
     unfolding WellNamed
     rcd-resolves e {q} eq e₀ first spell around apart wh kn len env =
-        let t : termAt k spell cells row ≡ rcd (fieldsAt (k - 1) spell cells q) = rw eq (rows.rcd-row spell cells k row some at e) in
+        let t : termAt k spell cells row ≡ rcd (fieldListAt (k - 1) spell cells q) = rw eq (rows.rcd-row spell cells k row some at e) in
         walked-as t refl (rcd-walked (from-room-fields e₀ (first spell around apart wh (subst (WellNamed spell) t kn) len env)))
 
     -- the term of a selection is walked
@@ -299,7 +299,7 @@ module _ (cells : List ℕ) (k row p : ℕ) where
         → h ≡ bitOr h₁ h₂ → ResolvesFields cells k row p current current₂ room room₂ h
     unfolding WellNamedFields
     cons-resolves e {q} {q′} eq eq′ e₀ first ep second eh spell around apart wh kn len env =
-        let t : fieldsAt k spell cells row ≡ cons (spell (column cells row 1)) (termAt (k - 1) spell cells q) (fieldsAt (k - 1) spell cells q′) =
+        let t : fieldListAt k spell cells row ≡ cons (spell (column cells row 1)) (termAt (k - 1) spell cells q) (fieldListAt (k - 1) spell cells q′) =
         rw (eq, eq′) (rows.cons-row spell cells k row some at e) in
         let kn′ = subst (WellNamedFields spell) t kn in
         let w = first spell around apart wh (kn′ .0) len env in
@@ -319,7 +319,7 @@ abbrev T : List ℕ → ℕ → ℕ → Term Name
 T cells k row = termAt k noSpell cells row
 
 abbrev F : List ℕ → ℕ → ℕ → Fields Name
-F cells k row = fieldsAt k noSpell cells row
+F cells k row = fieldListAt k noSpell cells row
 
 module _ (cells : List ℕ) (k row p : ℕ) where
   -- where no depth is left, a term takes one place
@@ -329,7 +329,7 @@ module _ (cells : List ℕ) (k row p : ℕ) where
 
   -- where no depth is left, a field list takes one place
   pub shallow-fields-place : k ≡ 0 → p + 1 ≡ p + sizeFields (F cells k row)
-  unfolding sizeFields fieldsAt
+  unfolding sizeFields fieldListAt
   shallow-fields-place e = rw e refl
 
   module _ (some : k ≡ 0 → ⊥) {code : ℕ} (at : code ≡ column cells row 0) where
@@ -381,7 +381,7 @@ module _ (cells : List ℕ) (k row p : ℕ) where
 place-inside : (cells : List ℕ) (k row p : ℕ) {n : ℕ} → p + size (termAt k noSpell cells row) ≤ n → p < n
 place-inside cells k row p h = omega (arith, size-some (T cells k row))
 
-place-inside-fields : (cells : List ℕ) (k row p : ℕ) {n : ℕ} → p + sizeFields (fieldsAt k noSpell cells row) ≤ n → p < n
+place-inside-fields : (cells : List ℕ) (k row p : ℕ) {n : ℕ} → p + sizeFields (fieldListAt k noSpell cells row) ≤ n → p < n
 place-inside-fields cells k row p h = omega (arith, size-some-fields (F cells k row))
 
 -- ------------------------------------------------------------------ rooms
@@ -396,7 +396,7 @@ module _ {cells links : List ℕ} where
   term-fits k row p w = (place-inside cells k row p (w .inside), w .few)
 
   -- The marks of a field list go on behind its first place.
-  pub fields-fit : (k row p : ℕ) {room : List ℕ} → Walkable cells links (sizeFields (fieldsAt k noSpell cells row)) p room
+  pub fields-fit : (k row p : ℕ) {room : List ℕ} → Walkable cells links (sizeFields (fieldListAt k noSpell cells row)) p room
       → (p < length room) × (length room ≤ 16384)
   fields-fit k row p w = (place-inside-fields cells k row p (w .inside), w .few)
 

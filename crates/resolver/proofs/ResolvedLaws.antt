@@ -13,8 +13,8 @@ use Rattle.rows.proofs.SizeLaws.{size-spell}
 use Rattle.resolver.specs.declared.Resolution.{Resolution}
 use Rattle.resolver.specs.declared.Resolution.the-variants.{Numbered}
 use Rattle.resolver.specs.Marks.{marks, Around, slotOf, ResolvesTerm}
-use Rattle.resolver.specs.Walks.{Prepared}
-use Rattle.resolver.specs.Numbers.{numbered, looseIn, firstLoose, walkOf, Resolvable, Resolves}
+use Rattle.resolver.specs.Walks.{WalkPrepared}
+use Rattle.resolver.specs.Numbers.{numberedMarks, looseIn, firstLoose, walkOf, Resolvable, Resolves}
 use Rattle.resolver.proofs.ResolveLaws.{length-marks}
 use Rattle.resolver.proofs.LooseLaws.{walk-by-marks}
 use Rattle.resolver.proofs.NumberLaws.{numbered-is-renamed}
@@ -31,9 +31,9 @@ stops-first (p ∷ ps) end e = sym cc
 
 -- a walk's marks, numbered, are a resolution
 pub resolves-numbered : {cells links current room room₁ room₂ current′ : List ℕ} {made root held n : ℕ} {r : Resolution}
-    → Resolvable cells made root room → Prepared cells links current → n ≡ length room
+    → Resolvable cells made root room → WalkPrepared cells links current → n ≡ length room
     → ResolvesTerm cells made root 0 current current′ room room₁ held
-    → r ≡ firstLoose (looseIn 0 (take n room₁)) → (r ≡ Numbered → room₂ ≡ numbered [] 1 (take n room₁) ++ drop n room₁)
+    → r ≡ firstLoose (looseIn 0 (take n room₁)) → (r ≡ Numbered → room₂ ≡ numberedMarks [] 1 (take n room₁) ++ drop n room₁)
     → Resolves cells made root room₂ r
 resolves-numbered {cells} {current = current} {room} {room₁} {made = made} {root} {n = n} pre begun en resolves er named spell apart known =
     let t : Term Name = termAt made spell cells root in

@@ -12,7 +12,7 @@ use Rattle.spellings.specs.Bytes.{isWord}
 use Rattle.kinds.specs.Kinds.{hasKind}
 use Rattle.terms.specs.Cells.{column, nameBase, columns}
 use Rattle.terms.specs.Term.{Name, word, fresh, outside, Term, Fields, variable, function, apply, rcd, dot, number, nil, cons, size, sizeFields}
-use Rattle.terms.specs.Rows.{nameOf, termAt, fieldsAt}
+use Rattle.terms.specs.Rows.{nameOf, termAt, fieldListAt}
 use Rattle.terms.specs.Names.{Distinct, VariableName, BinderName, WellNamed, WellNamedFields}
 use Rattle.rows.specs.Sizes.{WholeRows}
 use Rattle.terms.specs.Rename.{isRenamed, holds, holdsFields}
@@ -79,8 +79,8 @@ Around spell cells around current =
     (x : ℕ) → Bindable spell x → getD current (slotOf cells x) 0 ≡ ownerCode (ownerOf around (nameOf spell x))
 
 -- the set of the outside names that a term, or a field list, holds
-abbrev pub Holds : (ℕ → List ℕ) → ℕ → (List ℕ → Bool) → Type 0
-Holds spell held held-by = (n : ℕ) → n < 64 → isWord (spell n) ≡ true → hasKind held n ≡ held-by (spell n)
+abbrev pub HoldsOutsides : (ℕ → List ℕ) → ℕ → (List ℕ → Bool) → Type 0
+HoldsOutsides spell held held-by = (n : ℕ) → n < 64 → isWord (spell n) ≡ true → hasKind held n ≡ held-by (spell n)
 
 -- m is the mark of a variable whose name is x, under any binders around that `current` has
 abbrev pub MarksVariable : List ℕ → List ℕ → ℕ → ℕ → Type 0
@@ -92,16 +92,16 @@ MarksVariable cells current x m =
 abbrev pub MarksBinder : ℕ → ℕ → ℕ → Type 0
 MarksBinder x held m =
     (spell : ℕ → List ℕ) (t : Term Name) → Distinct spell → WellNamed spell t → BinderName spell (nameOf spell x)
-    → Holds spell held (λ s. holds s t) → m ≡ binderMark (isRenamed (nameOf spell x) t)
+    → HoldsOutsides spell held (λ s. holds s t) → m ≡ binderMark (isRenamed (nameOf spell x) t)
 
 -- what a walk of a term, or of a field list, leaves
 pub record Walked (spell : ℕ → List ℕ) (around : List Binder) (p : ℕ) (t : Term Name) (held : ℕ) (current current′ room room′ : List ℕ) : Type 0 where
-  pub holding : Holds spell held (λ s. holds s t)
+  pub holding : HoldsOutsides spell held (λ s. holds s t)
   pub kept : current′ ≡ current
   pub marked : room′ ≡ sets room p (marks around p t)
 
 pub record WalkedFields (spell : ℕ → List ℕ) (around : List Binder) (p : ℕ) (f : Fields Name) (held : ℕ) (current current′ room room′ : List ℕ) : Type 0 where
-  pub holding : Holds spell held (λ s. holdsFields s f)
+  pub holding : HoldsOutsides spell held (λ s. holdsFields s f)
   pub kept : current′ ≡ current
   pub marked : room′ ≡ sets room p (marksFields around p f)
 
@@ -115,6 +115,6 @@ ResolvesTerm cells k row p current current′ room room′ held =
 
 abbrev pub ResolvesFields : List ℕ → ℕ → ℕ → ℕ → List ℕ → List ℕ → List ℕ → List ℕ → ℕ → Type 0
 ResolvesFields cells k row p current current′ room room′ held =
-    (spell : ℕ → List ℕ) (around : List Binder) → Distinct spell → WholeRows cells → WellNamedFields spell (fieldsAt k spell cells row)
+    (spell : ℕ → List ℕ) (around : List Binder) → Distinct spell → WholeRows cells → WellNamedFields spell (fieldListAt k spell cells row)
     → length cells / columns ≤ length current → Around spell cells around current
-    → WalkedFields spell around p (fieldsAt k spell cells row) held current current′ room room′
+    → WalkedFields spell around p (fieldListAt k spell cells row) held current current′ room room′

@@ -28,9 +28,9 @@ numberAt done c m = elim (eqb m new) [ true ↦ c | false ↦ elim (eqb m noOwne
 unfoldable pub nextNumber : ℕ → ℕ → ℕ
 nextNumber c m = elim (eqb m new) [ true ↦ suc c | false ↦ c ]
 
-unfoldable pub numbered : List ℕ → ℕ → List ℕ → List ℕ
-numbered done c [] = done
-numbered done c (m ∷ ms) = numbered (done ++ numberAt done c m ∷ []) (nextNumber c m) ms
+unfoldable pub numberedMarks : List ℕ → ℕ → List ℕ → List ℕ
+numberedMarks done c [] = done
+numberedMarks done c (m ∷ ms) = numberedMarks (done ++ numberAt done c m ∷ []) (nextNumber c m) ms
 
 -- the places of the fresh variables that have no owner, from the left; the first mark's place is p
 unfoldable pub looseIn : ℕ → List ℕ → List ℕ

@@ -6,7 +6,7 @@ use lib.ListN.{length, getD, set, replicate}
 use Rattle.terms.specs.Cells.{columns}
 use Rattle.rows.specs.Sizes.{sizeAt, sizeFieldsAt}
 use Rattle.resolver.specs.Marks.{ResolvesTerm, ResolvesFields}
-use Rattle.resolver.specs.Links.{Linked}
+use Rattle.resolver.specs.Links.{RowsLinked}
 
 -- v is stored in a slot, if it is there, and r was there before
 pub record Exchanged (slot v : ℕ) (current current′ : List ℕ) (r : ℕ) : Type 0 where
@@ -15,7 +15,7 @@ pub record Exchanged (slot v : ℕ) (current current′ : List ℕ) (r : ℕ) : 
 
 -- linked rows, and a mark for each of so many constructors from a place on
 pub record Walkable (cells links : List ℕ) (constructors place : ℕ) (room : List ℕ) : Type 0 where
-  pub linked : Linked cells links
+  pub linked : RowsLinked cells links
   pub inside : place + constructors ≤ length room
   pub few : length room ≤ 16384
 
@@ -31,7 +31,7 @@ pub record WalksFields (cells : List ℕ) (k row place place′ : ℕ) (current 
   pub long : length room′ ≡ length room
 
 -- what the walk of a whole term begins with: linked rows, and no binder in any slot
-pub record Prepared (cells links current : List ℕ) : Type 0 where
-  pub linked : Linked cells links
+pub record WalkPrepared (cells links current : List ℕ) : Type 0 where
+  pub linked : RowsLinked cells links
   pub none : current ≡ replicate (length current) 0
   pub room : length cells / columns ≤ length current

@@ -5,7 +5,7 @@ ghost use Prim.Native.Nat.{_+_, _/_, _%_, _≤_, _<_};
 ghost use mathlib.Core.Path.{_≡_};
 ghost use lib.ListN.{length, getD};
 ghost use Rattle.resolver.specs.Marks.{slotFrom, slotOf};
-ghost use Rattle.resolver.specs.Links.{LinkedTo, Linked, Linkable, linksWith};
+ghost use Rattle.resolver.specs.Links.{LinkedTo, RowsLinked, RowsLinkable, linksWithRow};
 
 fn wide(x: u16) -> usize
     ensures { λ r. ⌜ (r ≡ x) × (r < 65536) ⌝ }
@@ -57,7 +57,7 @@ fn find(cells: &[u32], links: &[u16], n: usize, x: u32) -> usize
 
 // The slot of a name: the first row that binds it, or 16,384.
 pub fn slot_of(cells: &[u32], links: &[u16], x: u32) -> usize
-    requires { ⌜ Linked (now cells) (now links) ⌝ }
+    requires { ⌜ RowsLinked (now cells) (now links) ⌝ }
     ensures { λ r. ⌜ r ≡ slotOf (now (cells .entry)) x ⌝ }
 {
     find(cells, links, cells.len() / COLUMNS, x)
@@ -66,7 +66,7 @@ pub fn slot_of(cells: &[u32], links: &[u16], x: u32) -> usize
 // Links a row that is the first to bind x.
 fn add(links: &mut [u16], row: usize, x: u32)
     requires { ⌜ (row < length (now links) / 2) × (row < 16384) ⌝ }
-    ensures { λ _. ⌜ now (links .exit) ≡ linksWith (now (links .entry)) row x ⌝ }
+    ensures { λ _. ⌜ now (links .exit) ≡ linksWithRow (now (links .entry)) row x ⌝ }
 {
     let half = links.len() / 2;
     let h = hash(x, half);
@@ -76,8 +76,8 @@ fn add(links: &mut [u16], row: usize, x: u32)
 
 // Links all rows; the links are 0 before.
 pub fn link(cells: &[u32], links: &mut [u16])
-    requires { ⌜ Linkable (now cells) (now links) ⌝ }
-    ensures { λ _. ⌜ Linked (now (cells .entry)) (now (links .exit)) ⌝ }
+    requires { ⌜ RowsLinkable (now cells) (now links) ⌝ }
+    ensures { λ _. ⌜ RowsLinked (now (cells .entry)) (now (links .exit)) ⌝ }
 {
     let mut row: usize = 0;
     while row < cells.len() / COLUMNS {

@@ -9,7 +9,7 @@ ghost use mathlib.Core.Path.{_≡_};
 ghost use lib.ListN.{length};
 ghost use Rattle.terms.specs.Cells.{columns};
 ghost use Rattle.resolver.specs.Numbers.{Resolvable, Resolves};
-ghost use Rattle.resolver.specs.Walks.{Prepared};
+ghost use Rattle.resolver.specs.Walks.{WalkPrepared};
 
 pub mod binders;
 pub mod numbering;
@@ -31,7 +31,7 @@ fn resolved(
     root: u32,
     marks: &mut &mut [u16],
 ) -> Resolution
-    requires { ⌜ Resolvable (now cells) made root (now (now marks)) × Prepared (now cells) (now links) (now (now current)) ⌝ }
+    requires { ⌜ Resolvable (now cells) made root (now (now marks)) × WalkPrepared (now cells) (now links) (now (now current)) ⌝ }
     ensures { λ r. ⌜
         Resolves (now (cells .entry)) made root (now (now (marks .exit))) r × (length (now (now (marks .exit))) ≡ length (now (now (marks .entry))))
         ⌝ }

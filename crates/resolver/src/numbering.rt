@@ -5,7 +5,7 @@ ghost use Prim.Native.Nat.{_+_, _≤_, _<_};
 ghost use mathlib.Core.Path.{_≡_};
 ghost use mathlib.Core.List.{[], _++_};
 ghost use lib.ListN.{length, take, drop};
-ghost use Rattle.resolver.specs.Numbers.{numberAt, numbered, looseIn, firstLoose};
+ghost use Rattle.resolver.specs.Numbers.{numberAt, numberedMarks, looseIn, firstLoose};
 
 // The number at place p with the mark m, when `count` numbers were given.
 fn number_of(marks: &[u16], p: usize, m: u16, count: u16) -> u16
@@ -32,7 +32,7 @@ fn number_of(marks: &[u16], p: usize, m: u16, count: u16) -> u16
 pub fn number(marks: &mut [u16], n: usize) -> Resolution
     requires { ⌜ (n ≤ length (now marks)) × (n ≤ 16384) ⌝ }
     ensures { λ r. ⌜ r ≡ firstLoose (looseIn 0 (take n (now (marks .entry)))) ⌝ }
-    ensures { λ r. ⌜ (r ≡ Resolution.Numbered → now (marks .exit) ≡ numbered [] 1 (take n (now (marks .entry))) ++ drop n (now (marks .entry))) ⌝ }
+    ensures { λ r. ⌜ (r ≡ Resolution.Numbered → now (marks .exit) ≡ numberedMarks [] 1 (take n (now (marks .entry))) ++ drop n (now (marks .entry))) ⌝ }
 {
     let mut p: usize = 0;
     let mut count: u16 = 0;

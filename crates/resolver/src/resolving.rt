@@ -11,8 +11,8 @@ ghost use Rattle.terms.specs.Rows.{nameOf};
 ghost use Rattle.terms.specs.Rename.{isOutside};
 ghost use Rattle.terms.specs.Names.{Distinct, VariableName};
 ghost use Rattle.rows.specs.Sizes.{sizeAt, sizeFieldsAt};
-ghost use Rattle.resolver.specs.Links.{Linked};
-ghost use Rattle.resolver.specs.Marks.{Holds, MarksVariable, MarksBinder};
+ghost use Rattle.resolver.specs.Links.{RowsLinked};
+ghost use Rattle.resolver.specs.Marks.{HoldsOutsides, MarksVariable, MarksBinder};
 ghost use Rattle.resolver.specs.Walks.{Exchanged, Walkable, WalksTerm, WalksFields};
 
 fn put(room: &mut &mut [u16], at: usize, v: u16)
@@ -36,7 +36,7 @@ fn innermost(current: &[u16], slot: usize) -> u16
 
 // The mark of a variable of name x.
 fn variable_mark(cells: &[u32], links: &[u16], current: &mut [u16], x: u32) -> u16
-    requires { ⌜ Linked (now cells) (now links) ⌝ }
+    requires { ⌜ RowsLinked (now cells) (now links) ⌝ }
     ensures { λ r. ⌜ MarksVariable (now (cells .entry)) (now (current .entry)) x r × (now (current .exit) ≡ now (current .entry)) ⌝ }
 {
     let class = x / NAME_BASE;
@@ -57,7 +57,7 @@ fn variable_mark(cells: &[u32], links: &[u16], current: &mut [u16], x: u32) -> u
 // The outside names that a variable of name x holds.
 fn held_by(x: u32) -> u64
     ensures { λ r. ⌜
-        ((spell : ℕ → List ℕ) → Distinct spell → VariableName spell (nameOf spell x) → Holds spell r (λ s. isOutside s (nameOf spell x)))
+        ((spell : ℕ → List ℕ) → Distinct spell → VariableName spell (nameOf spell x) → HoldsOutsides spell r (λ s. isOutside s (nameOf spell x)))
         ⌝ }
 {
     let class = x / NAME_BASE;

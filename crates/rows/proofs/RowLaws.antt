@@ -10,20 +10,20 @@ use lib.ListN.{getD}
 use borrow.Author.Tests.{lt-ltb, le-ltb, eq-eqb, ne-eqb}
 use Rattle.terms.specs.Cells.{column, nameBase}
 use Rattle.terms.specs.Term.{Name, word, fresh, outside, Term, Fields, variable, function, apply, rcd, dot, number, nil, cons}
-use Rattle.terms.specs.Rows.{nameOf, Constructor, mkTermVar, mkTermFun, mkTermApp, mkTermRcd, mkTermDot, mkFieldNil, mkFieldCons, mkTermNum}
-use Rattle.terms.specs.Rows.{constructorOf, termBy, isCons, fieldsBy, termAt, fieldsAt}
+use Rattle.terms.specs.Rows.{nameOf, Constructor, varRow, funRow, appRow, rcdRow, dotRow, nilRow, consRow, numRow}
+use Rattle.terms.specs.Rows.{constructorOf, termBy, isCons, fieldsBy, termAt, fieldListAt}
 
 -- ------------------------------------------------------------------ codes
 
 -- the constructors with no part
 pub data Bare : Constructor → Type 0 where
-  bare-var : Bare mkTermVar
-  bare-nil : Bare mkFieldNil
-  bare-cons : Bare mkFieldCons
-  bare-num : Bare mkTermNum
+  bare-var : Bare varRow
+  bare-nil : Bare nilRow
+  bare-cons : Bare consRow
+  bare-num : Bare numRow
 
 bare-nth : (n : ℕ) → (n ≡ 1 → ⊥) → (n ≡ 2 → ⊥) → (n ≡ 3 → ⊥) → (n ≡ 4 → ⊥)
-    → Bare (getD (mkTermVar ∷ mkTermFun ∷ mkTermApp ∷ mkTermRcd ∷ mkTermDot ∷ mkFieldNil ∷ mkFieldCons ∷ mkTermNum ∷ []) n mkTermNum)
+    → Bare (getD (varRow ∷ funRow ∷ appRow ∷ rcdRow ∷ dotRow ∷ nilRow ∷ consRow ∷ numRow ∷ []) n numRow)
 bare-nth zero a b c d = bare-var
 bare-nth (suc zero) a b c d = absurd (a refl)
 bare-nth (suc (suc zero)) a b c d = absurd (b refl)
@@ -35,13 +35,13 @@ bare-nth (suc (suc (suc (suc (suc (suc (suc zero))))))) a b c d = bare-num
 bare-nth (suc (suc (suc (suc (suc (suc (suc (suc n)))))))) a b c d = bare-num
 
 module _ (code : ℕ) where
-  low-code : code < 0x20 → constructorOf code ≡ mkTermNum
+  low-code : code < 0x20 → constructorOf code ≡ numRow
   unfolding constructorOf
   low-code h = rw (lt-ltb code 0x20 h, constructorOf) refl
 
   high-code : 0x20 ≤ code
       → constructorOf code
-      ≡ getD (mkTermVar ∷ mkTermFun ∷ mkTermApp ∷ mkTermRcd ∷ mkTermDot ∷ mkFieldNil ∷ mkFieldCons ∷ mkTermNum ∷ []) (code - 0x20) mkTermNum
+      ≡ getD (varRow ∷ funRow ∷ appRow ∷ rcdRow ∷ dotRow ∷ nilRow ∷ consRow ∷ numRow ∷ []) (code - 0x20) numRow
   unfolding constructorOf
   high-code h = rw (le-ltb code 0x20 h, constructorOf) refl
 
@@ -57,28 +57,28 @@ module _ (code : ℕ) where
 
 -- the constructors of a Term place that are read as a number
 pub data Numeral : Constructor → Type 0 where
-  numeral-nil : Numeral mkFieldNil
-  numeral-cons : Numeral mkFieldCons
-  numeral-num : Numeral mkTermNum
+  numeral-nil : Numeral nilRow
+  numeral-cons : Numeral consRow
+  numeral-num : Numeral numRow
 
-numeral-of : {c : Constructor} → Bare c → (c ≡ mkTermVar → ⊥) → Numeral c
+numeral-of : {c : Constructor} → Bare c → (c ≡ varRow → ⊥) → Numeral c
 numeral-of bare-var h = absurd (h refl)
 numeral-of bare-nil h = numeral-nil
 numeral-of bare-cons h = numeral-cons
 numeral-of bare-num h = numeral-num
 
 isVar : Constructor → Bool
-isVar mkTermVar = true
-isVar mkTermFun = false
-isVar mkTermApp = false
-isVar mkTermRcd = false
-isVar mkTermDot = false
-isVar mkFieldNil = false
-isVar mkFieldCons = false
-isVar mkTermNum = false
+isVar varRow = true
+isVar funRow = false
+isVar appRow = false
+isVar rcdRow = false
+isVar dotRow = false
+isVar nilRow = false
+isVar consRow = false
+isVar numRow = false
 
 var-nth : (n : ℕ) → (n ≡ 0 → ⊥)
-    → isVar (getD (mkTermVar ∷ mkTermFun ∷ mkTermApp ∷ mkTermRcd ∷ mkTermDot ∷ mkFieldNil ∷ mkFieldCons ∷ mkTermNum ∷ []) n mkTermNum) ≡ false
+    → isVar (getD (varRow ∷ funRow ∷ appRow ∷ rcdRow ∷ dotRow ∷ nilRow ∷ consRow ∷ numRow ∷ []) n numRow) ≡ false
 unfolding isVar
 var-nth zero h = absurd (h refl)
 var-nth (suc zero) h = refl
@@ -100,12 +100,12 @@ no-var code h = by (decLt code 0x20)
         let l : 0x20 ≤ code = omega arith in
         ap isVar (high-code code l) ∙ var-nth (code - 0x20) (λ e. h (omega arith))
 
-no-var-is : (c : Constructor) → isVar c ≡ false → c ≡ mkTermVar → ⊥
+no-var-is : (c : Constructor) → isVar c ≡ false → c ≡ varRow → ⊥
 unfolding isVar
 no-var-is c f e = true≢false (sym (ap isVar e) ∙ f)
 
 num-nth : (n : ℕ) → (n ≡ 0 → ⊥) → (n ≡ 1 → ⊥) → (n ≡ 2 → ⊥) → (n ≡ 3 → ⊥) → (n ≡ 4 → ⊥) → (n ≡ 5 → ⊥) → (n ≡ 6 → ⊥)
-    → getD (mkTermVar ∷ mkTermFun ∷ mkTermApp ∷ mkTermRcd ∷ mkTermDot ∷ mkFieldNil ∷ mkFieldCons ∷ mkTermNum ∷ []) n mkTermNum ≡ mkTermNum
+    → getD (varRow ∷ funRow ∷ appRow ∷ rcdRow ∷ dotRow ∷ nilRow ∷ consRow ∷ numRow ∷ []) n numRow ≡ numRow
 num-nth zero a b c d e f g = absurd (a refl)
 num-nth (suc zero) a b c d e f g = absurd (b refl)
 num-nth (suc (suc zero)) a b c d e f g = absurd (c refl)
@@ -123,10 +123,10 @@ above : (code n : ℕ) → 0x20 ≤ code → code - 0x20 ≡ n → code ≡ 0x20
 above code n l e = omega arith
 
 num-code : (code : ℕ) → (code ≡ 32 → ⊥) → (code ≡ 33 → ⊥) → (code ≡ 34 → ⊥) → (code ≡ 35 → ⊥) → (code ≡ 36 → ⊥) → (code ≡ 37 → ⊥) → (code ≡ 38 → ⊥)
-    → constructorOf code ≡ mkTermNum
+    → constructorOf code ≡ numRow
 num-code code a b c d e f g = by (decLt code 0x20)
   where
-    by : Dec (code < 0x20) → constructorOf code ≡ mkTermNum
+    by : Dec (code < 0x20) → constructorOf code ≡ numRow
     by (yes l) = low-code code l
     by (no h) =
         let l : 0x20 ≤ code = not-below code h in
@@ -135,7 +135,7 @@ num-code code a b c d e f g = by (decLt code 0x20)
         (λ z. e (above code 4 l z)) (λ z. f (above code 5 l z)) (λ z. g (above code 6 l z))
 
 no-cons-nth : (n : ℕ) → (n ≡ 6 → ⊥)
-    → isCons (getD (mkTermVar ∷ mkTermFun ∷ mkTermApp ∷ mkTermRcd ∷ mkTermDot ∷ mkFieldNil ∷ mkFieldCons ∷ mkTermNum ∷ []) n mkTermNum) ≡ false
+    → isCons (getD (varRow ∷ funRow ∷ appRow ∷ rcdRow ∷ dotRow ∷ nilRow ∷ consRow ∷ numRow ∷ []) n numRow) ≡ false
 no-cons-nth zero h = refl
 no-cons-nth (suc zero) h = refl
 no-cons-nth (suc (suc zero)) h = refl
@@ -162,7 +162,7 @@ module _ (spell : ℕ → List ℕ) (cells : List ℕ) (k r : ℕ) where
   Below q = termAt (k - 1) spell cells q
 
   abbrev BelowFields : ℕ → Fields Name
-  BelowFields q = fieldsAt (k - 1) spell cells q
+  BelowFields q = fieldListAt (k - 1) spell cells q
 
   module _ (some : k ≡ 0 → ⊥) {code : ℕ} (at : code ≡ column cells r 0) where
     deeper : k ≡ suc (k - 1)
@@ -176,39 +176,39 @@ module _ (spell : ℕ → List ℕ) (cells : List ℕ) (k r : ℕ) where
     -- a function's row has its name and its body
     pub fun-row : code ≡ 33 → termAt k spell cells r ≡ function (nameOf spell (column cells r 1)) (Below (column cells r 2))
     unfolding constructorOf termBy
-    fun-row e = by-code {c = mkTermFun} (rw e refl)
+    fun-row e = by-code {c = funRow} (rw e refl)
 
     -- an application's row has its two terms
     pub app-row : code ≡ 34 → termAt k spell cells r ≡ apply (Below (column cells r 1)) (Below (column cells r 2))
     unfolding constructorOf termBy
-    app-row e = by-code {c = mkTermApp} (rw e refl)
+    app-row e = by-code {c = appRow} (rw e refl)
 
     -- a record's row has its fields
     pub rcd-row : code ≡ 35 → termAt k spell cells r ≡ rcd (BelowFields (column cells r 1))
     unfolding constructorOf termBy
-    rcd-row e = by-code {c = mkTermRcd} (rw e refl)
+    rcd-row e = by-code {c = rcdRow} (rw e refl)
 
     -- a selection's row has its term and its label
     pub dot-row : code ≡ 36 → termAt k spell cells r ≡ dot (Below (column cells r 1)) (spell (column cells r 2))
     unfolding constructorOf termBy
-    dot-row e = by-code {c = mkTermDot} (rw e refl)
+    dot-row e = by-code {c = dotRow} (rw e refl)
 
     -- a variable's row has its name
     pub var-row : code ≡ 32 → termAt k spell cells r ≡ variable (nameOf spell (column cells r 1))
     unfolding constructorOf termBy
-    var-row e = by-code {c = mkTermVar} (rw e refl)
+    var-row e = by-code {c = varRow} (rw e refl)
 
     -- a row of fields, read as a term, is the number 0
     pub zero-row : (code ≡ 37) ⊎ (code ≡ 38) → termAt k spell cells r ≡ number 0
     unfolding constructorOf termBy
-    zero-row (inl e) = by-code {c = mkFieldNil} (rw e refl)
-    zero-row (inr e) = by-code {c = mkFieldCons} (rw e refl)
+    zero-row (inl e) = by-code {c = nilRow} (rw e refl)
+    zero-row (inr e) = by-code {c = consRow} (rw e refl)
 
     -- any other code is read as that of a number
     pub num-row : (code ≡ 32 → ⊥) → (code ≡ 33 → ⊥) → (code ≡ 34 → ⊥) → (code ≡ 35 → ⊥) → (code ≡ 36 → ⊥) → (code ≡ 37 → ⊥) → (code ≡ 38 → ⊥)
         → termAt k spell cells r ≡ number (column cells r 1)
     unfolding termBy
-    num-row v a b c d e f = by-code {c = mkTermNum} (num-code code v a b c d e f)
+    num-row v a b c d e f = by-code {c = numRow} (num-code code v a b c d e f)
 
     -- a fact of the numbers holds of a row of any other code
     pub number-row : (P : Term Name → Type 0) → ((n : ℕ) → P (number n))
@@ -217,9 +217,9 @@ module _ (spell : ℕ → List ℕ) (cells : List ℕ) (k r : ℕ) where
     number-row P n v a b c d = by (constructorOf code) refl (numeral-of (bare-code code a b c d) (no-var-is (constructorOf code) (no-var code v)))
       where
         by : (x : Constructor) → constructorOf code ≡ x → Numeral x → P (termAt k spell cells r)
-        by mkFieldNil e numeral-nil = rw (by-code e) (n _)
-        by mkFieldCons e numeral-cons = rw (by-code e) (n _)
-        by mkTermNum e numeral-num = rw (by-code e) (n _)
+        by nilRow e numeral-nil = rw (by-code e) (n _)
+        by consRow e numeral-cons = rw (by-code e) (n _)
+        by numRow e numeral-num = rw (by-code e) (n _)
 
     -- a fact of the variables and numbers holds of any other row
     pub bare-row : (P : Term Name → Type 0) → ((v : Name) → P (variable v)) → ((n : ℕ) → P (number n))
@@ -228,23 +228,23 @@ module _ (spell : ℕ → List ℕ) (cells : List ℕ) (k r : ℕ) where
     bare-row P v n a b c d = by (constructorOf code) refl (bare-code code a b c d)
       where
         by : (x : Constructor) → constructorOf code ≡ x → Bare x → P (termAt k spell cells r)
-        by mkTermVar e bare-var = rw (by-code e) (v _)
-        by mkFieldNil e bare-nil = rw (by-code e) (n _)
-        by mkFieldCons e bare-cons = rw (by-code e) (n _)
-        by mkTermNum e bare-num = rw (by-code e) (n _)
+        by varRow e bare-var = rw (by-code e) (v _)
+        by nilRow e bare-nil = rw (by-code e) (n _)
+        by consRow e bare-cons = rw (by-code e) (n _)
+        by numRow e bare-num = rw (by-code e) (n _)
 
-    fields-by : (b : Bool) → isCons (constructorOf code) ≡ b → fieldsAt k spell cells r ≡ fieldsBy b spell cells r Below BelowFields
-    unfolding fieldsAt
+    fields-by : (b : Bool) → isCons (constructorOf code) ≡ b → fieldListAt k spell cells r ≡ fieldsBy b spell cells r Below BelowFields
+    unfolding fieldListAt
     fields-by b e =
         cc deeper
 
     -- a row of fields has a label, its term and the other fields
-    pub cons-row : code ≡ 38 → fieldsAt k spell cells r ≡ cons (spell (column cells r 1)) (Below (column cells r 2)) (BelowFields (column cells r 3))
+    pub cons-row : code ≡ 38 → fieldListAt k spell cells r ≡ cons (spell (column cells r 1)) (Below (column cells r 2)) (BelowFields (column cells r 3))
     unfolding constructorOf fieldsBy
     cons-row e = fields-by true (rw e refl)
 
     -- any other row, read as fields, has none
-    pub nil-row : (code ≡ 38 → ⊥) → fieldsAt k spell cells r ≡ nil
+    pub nil-row : (code ≡ 38 → ⊥) → fieldListAt k spell cells r ≡ nil
     unfolding fieldsBy
     nil-row e = fields-by false (no-cons code e)
 

@@ -6,8 +6,8 @@ use mathlib.Core.List.{List}
 use native.Mathlib.Omega.{arith}
 use Rattle.terms.specs.Cells.{column}
 use Rattle.terms.specs.Term.{Name, Term, Fields, variable, function, apply, rcd, dot, number, nil, cons, size, sizeFields}
-use Rattle.terms.specs.Rows.{Constructor, mkTermVar, mkTermFun, mkTermApp, mkTermRcd, mkTermDot, mkFieldNil, mkFieldCons, mkTermNum, constructorOf}
-use Rattle.terms.specs.Rows.{termBy, isCons, fieldsBy, termAt, fieldsAt}
+use Rattle.terms.specs.Rows.{Constructor, varRow, funRow, appRow, rcdRow, dotRow, nilRow, consRow, numRow, constructorOf}
+use Rattle.terms.specs.Rows.{termBy, isCons, fieldsBy, termAt, fieldListAt}
 use Rattle.rows.specs.Sizes.{noSpell, sizeAt, sizeFieldsAt}
 use Rattle.rows.proofs.RowLaws as rows
 
@@ -26,7 +26,7 @@ shallow cells k row left e = rw e refl
 
 -- and so does a list of fields
 pub shallow-fields : (cells : List ℕ) (k row left : ℕ) → k ≡ 0 → LeftFields cells k row left (left - 1)
-unfolding sizeFields fieldsAt
+unfolding sizeFields fieldListAt
 shallow-fields cells k row left e = rw e refl
 
 module _ (cells : List ℕ) (k row left : ℕ) (some : k ≡ 0 → ⊥) {code : ℕ} (at : code ≡ column cells row 0) where
@@ -70,29 +70,29 @@ module _ (cells : List ℕ) (k row left : ℕ) (some : k ≡ 0 → ⊥) {code : 
 -- ------------------------------------------------------------------ sizes do not depend on spellings
 
 size-by : (c : Constructor) (k : ℕ) (s s′ : ℕ → List ℕ) (cells : List ℕ) (r : ℕ)
-    → ((q : ℕ) → size (termAt k s cells q) ≡ size (termAt k s′ cells q)) → ((q : ℕ) → sizeFields (fieldsAt k s cells q) ≡ sizeFields (fieldsAt k s′ cells q))
-    → size (termBy c s cells r (λ q. termAt k s cells q) (λ q. fieldsAt k s cells q))
-    ≡ size (termBy c s′ cells r (λ q. termAt k s′ cells q) (λ q. fieldsAt k s′ cells q))
+    → ((q : ℕ) → size (termAt k s cells q) ≡ size (termAt k s′ cells q)) → ((q : ℕ) → sizeFields (fieldListAt k s cells q) ≡ sizeFields (fieldListAt k s′ cells q))
+    → size (termBy c s cells r (λ q. termAt k s cells q) (λ q. fieldListAt k s cells q))
+    ≡ size (termBy c s′ cells r (λ q. termAt k s′ cells q) (λ q. fieldListAt k s′ cells q))
 unfolding size sizeFields termBy
-size-by mkTermVar k s s′ cells r t f = refl
-size-by mkTermFun k s s′ cells r t f = ap suc (t (column cells r 2))
-size-by mkTermApp k s s′ cells r t f = cc (t (column cells r 1), t (column cells r 2))
-size-by mkTermRcd k s s′ cells r t f = ap suc (f (column cells r 1))
-size-by mkTermDot k s s′ cells r t f = ap suc (t (column cells r 1))
-size-by mkFieldNil k s s′ cells r t f = refl
-size-by mkFieldCons k s s′ cells r t f = refl
-size-by mkTermNum k s s′ cells r t f = refl
+size-by varRow k s s′ cells r t f = refl
+size-by funRow k s s′ cells r t f = ap suc (t (column cells r 2))
+size-by appRow k s s′ cells r t f = cc (t (column cells r 1), t (column cells r 2))
+size-by rcdRow k s s′ cells r t f = ap suc (f (column cells r 1))
+size-by dotRow k s s′ cells r t f = ap suc (t (column cells r 1))
+size-by nilRow k s s′ cells r t f = refl
+size-by consRow k s s′ cells r t f = refl
+size-by numRow k s s′ cells r t f = refl
 
 size-by-fields : (b : Bool) (k : ℕ) (s s′ : ℕ → List ℕ) (cells : List ℕ) (r : ℕ)
-    → ((q : ℕ) → size (termAt k s cells q) ≡ size (termAt k s′ cells q)) → ((q : ℕ) → sizeFields (fieldsAt k s cells q) ≡ sizeFields (fieldsAt k s′ cells q))
-    → sizeFields (fieldsBy b s cells r (λ q. termAt k s cells q) (λ q. fieldsAt k s cells q))
-    ≡ sizeFields (fieldsBy b s′ cells r (λ q. termAt k s′ cells q) (λ q. fieldsAt k s′ cells q))
+    → ((q : ℕ) → size (termAt k s cells q) ≡ size (termAt k s′ cells q)) → ((q : ℕ) → sizeFields (fieldListAt k s cells q) ≡ sizeFields (fieldListAt k s′ cells q))
+    → sizeFields (fieldsBy b s cells r (λ q. termAt k s cells q) (λ q. fieldListAt k s cells q))
+    ≡ sizeFields (fieldsBy b s′ cells r (λ q. termAt k s′ cells q) (λ q. fieldListAt k s′ cells q))
 unfolding sizeFields fieldsBy
 size-by-fields true k s s′ cells r t f = cc (t (column cells r 2), f (column cells r 3))
 size-by-fields false k s s′ cells r t f = refl
 
 mutual
-  unfolding termAt fieldsAt
+  unfolding termAt fieldListAt
 
   -- how names are spelled does not matter to the size
   pub size-spell : (k : ℕ) (s s′ : ℕ → List ℕ) (cells : List ℕ) (r : ℕ) → size (termAt k s cells r) ≡ size (termAt k s′ cells r)
@@ -100,7 +100,7 @@ mutual
   size-spell (suc k) s s′ cells r =
       size-by (constructorOf (column cells r 0)) k s s′ cells r (λ q. size-spell k s s′ cells q) (λ q. size-spell-fields k s s′ cells q)
 
-  size-spell-fields : (k : ℕ) (s s′ : ℕ → List ℕ) (cells : List ℕ) (r : ℕ) → sizeFields (fieldsAt k s cells r) ≡ sizeFields (fieldsAt k s′ cells r)
+  size-spell-fields : (k : ℕ) (s s′ : ℕ → List ℕ) (cells : List ℕ) (r : ℕ) → sizeFields (fieldListAt k s cells r) ≡ sizeFields (fieldListAt k s′ cells r)
   size-spell-fields zero s s′ cells r = refl
   size-spell-fields (suc k) s s′ cells r =
       size-by-fields (isCons (constructorOf (column cells r 0))) k s s′ cells r (λ q. size-spell k s s′ cells q) (λ q. size-spell-fields k s s′ cells q)

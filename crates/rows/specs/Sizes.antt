@@ -5,7 +5,7 @@ use mathlib.Core.List.{List, []}
 use lib.ListN.{length}
 use Rattle.terms.specs.Cells.{columns, mostCells}
 use Rattle.terms.specs.Term.{size, sizeFields}
-use Rattle.terms.specs.Rows.{termAt, fieldsAt}
+use Rattle.terms.specs.Rows.{termAt, fieldListAt}
 
 abbrev pub noSpell : ℕ → List ℕ
 noSpell n = []
@@ -15,7 +15,7 @@ abbrev pub sizeAt : List ℕ → ℕ → ℕ → ℕ
 sizeAt cells bound row = size (termAt bound noSpell cells row)
 
 abbrev pub sizeFieldsAt : List ℕ → ℕ → ℕ → ℕ
-sizeFieldsAt cells bound row = sizeFields (fieldsAt bound noSpell cells row)
+sizeFieldsAt cells bound row = sizeFields (fieldListAt bound noSpell cells row)
 
 -- whole rows, 16,384 at most
 pub record WholeRows (cells : List ℕ) : Type 0 where

@@ -16,7 +16,7 @@ use Rattle.scanner.specs.declared.Token.{Token}
 use Rattle.scanner.specs.declared.Scanned.the-variants.{Tokens, Unscanned}
 use Rattle.scanner.specs.Scan.{Lexed, scan}
 use Rattle.scanner.specs.Tokens.{endToken}
-use Rattle.scanner.specs.Rooms.{rows, rowOf, tokensIn, places, wordsIn, RoomFor, TokensFit, filled, scanInto}
+use Rattle.scanner.specs.Rooms.{tokenRows, rowOf, tokensIn, wordPlaces, wordsIn, RoomFor, TokensFit, filled, scanInto}
 use Rattle.scanner.specs.Tiling.{Stands, a-keyword, a-keyword-symbol, an-outside-name, a-word-again, a-new-word, a-number, a-symbol}
 use Rattle.scanner.proofs.TokenLaws.{Kept, scan-kept}
 use Rattle.scanner.proofs.SpellingLaws.{Every, every-at, scan-spelled}
@@ -102,23 +102,23 @@ module _ (lex : Lexicon) (few : length (lex .outsides) ≤ 64) (formula : List �
 
   module _ {tokens words : List ℕ} (room : RoomFor formula tokens words) where
     stored : {n count : ℕ} → scan lex formula .answer ≡ Tokens n count
-        → Holds (sets tokens 0 (rows (scan lex formula .tokens))) (sets words 0 (places 0 (scan lex formula .tokens))) n count
+        → Holds (sets tokens 0 (tokenRows (scan lex formula .tokens))) (sets words 0 (wordPlaces 0 (scan lex formula .tokens))) n count
     stored {n} {count} e =
         let ts : List Token = scan lex formula .tokens in
         let c = scan-counted lex few formula e in
         let enough : length ts * 4 ≤ length tokens = room .for-tokens (length ts) (omega (arith, scan-sized .bytes)) (omega (arith, c .0, c .2)) in
-        let t : tokensIn (sets tokens 0 (rows ts)) n ≡ ts = rw (c .0) (tokens-stored ts tokens enough) in
+        let t : tokensIn (sets tokens 0 (tokenRows ts)) n ≡ ts = rw (c .0) (tokens-stored ts tokens enough) in
         record {
           answered = e;
           tokens-are = t;
           tokens-fit =
               record {
-                long = omega (arith, c .0, length-sets tokens 0 (rows ts));
+                long = omega (arith, c .0, length-sets tokens 0 (tokenRows ts));
                 few = c .2;
                 values =
                     λ i l.
-                    let r : rowOf (sets tokens 0 (rows ts)) i ≡ getD ts i endToken
-                    = cc (token-in (sets tokens 0 (rows ts)) n i l) in
+                    let r : rowOf (sets tokens 0 (tokenRows ts)) i ≡ getD ts i endToken
+                    = cc (token-in (sets tokens 0 (tokenRows ts)) n i l) in
                     let small = every-at _ ts i endToken (scan-sized .values) (omega (arith, c .0)) in
                     omega (arith, ap (λ (u : Token). u .value) r, small, largest-fits);
               };
@@ -132,8 +132,8 @@ module _ (lex : Lexicon) (few : length (lex .outsides) ≤ 64) (formula : List �
       unfolding scanInto
       scan-holds {n} {count} e =
           let a : scan lex formula .answer ≡ Tokens n count = cc in
-          let t : tokens′ ≡ sets tokens 0 (rows (scan lex formula .tokens)) = cc in
-          let w : words′ ≡ sets words 0 (places 0 (scan lex formula .tokens)) = cc in
+          let t : tokens′ ≡ sets tokens 0 (tokenRows (scan lex formula .tokens)) = cc in
+          let w : words′ ≡ sets words 0 (wordPlaces 0 (scan lex formula .tokens)) = cc in
           rw (t, w) (stored a)
 
       -- A scan that is refused answers what the definition does.

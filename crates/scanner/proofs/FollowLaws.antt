@@ -18,10 +18,10 @@ use Rattle.scanner.specs.declared.Token.{Token}
 use Rattle.scanner.specs.declared.Step.the-variants.{Skip, Stop, Emit}
 use Rattle.scanner.specs.declared.Scanned.{Scanned}
 use Rattle.scanner.specs.declared.Scanned.the-variants.{Tokens, Unscanned}
-use Rattle.scanner.specs.Scan.{Lexed, ended, withToken, stepOf, wordsWith, lexFrom, scan}
+use Rattle.scanner.specs.Scan.{Lexed, scanEnded, withToken, stepOf, wordsWith, lexFrom, scan}
 use Rattle.scanner.specs.Tokens.{mostTokens, longestFormula}
 use Rattle.scanner.specs.Tiling.{Stands, Tiled, here, past-separator, past-token}
-use Rattle.scanner.specs.Unscanned.{Faulty, Unscans, too-long, a-fault, too-many}
+use Rattle.scanner.specs.Unscanned.{Faulty, Unscans, formula-too-long, a-fault, too-many-tokens}
 use Rattle.scanner.proofs.FrontLaws.{lexeme-separator, lexeme-fault}
 use Rattle.scanner.proofs.StepLaws.{front-byte, step-by, step-lies}
 use Rattle.scanner.proofs.StandLaws.{Steps, stands-steps}
@@ -36,7 +36,7 @@ prefixed [] l = l
 prefixed (t ∷ ts) l = withToken t (prefixed ts l)
 
 prefixed-end : (ts : List Token) (r : Scanned) (words : List (List ℕ))
-    → prefixed ts (ended r words) ≡ record { answer = r; tokens = ts; words = words }
+    → prefixed ts (scanEnded r words) ≡ record { answer = r; tokens = ts; words = words }
 prefixed-end [] r words = refl
 prefixed-end (t ∷ ts) r words = ap (withToken t) (prefixed-end ts r words)
 
@@ -124,12 +124,12 @@ module _ (lex : Lexicon) (few : length (lex .outsides) ≤ 64) (formula : List �
 
   -- What the rules refuse, the scan refuses with the same refusal.
   pub unscans-answer : {r : Refusal} → Unscans lex formula r → scan lex formula .answer ≡ Unscanned r
-  unscans-answer (too-long h) = simp (scan-long lex formula h)
+  unscans-answer (formula-too-long h) = simp (scan-long lex formula h)
   unscans-answer (a-fault {at = at} {ts = ts} {met = met} short d small h f) =
       let w = follow d (length formula) 0 (omega arith) (omega arith) in
       ap (λ (l : Lexed). l .answer) (scan-short lex formula short ∙ w .same) ∙ prefixed-answer ts _
       ∙ fault-answer (w .fuel) at (0 + length ts) met (w .enough) h f
-  unscans-answer (too-many {at = at} {ts = ts} {met = met} {met′ = met′} {t = t} short d full h st) =
+  unscans-answer (too-many-tokens {at = at} {ts = ts} {met = met} {met′ = met′} {t = t} short d full h st) =
       let w = follow d (length formula) 0 (omega arith) (omega arith) in
       ap (λ (l : Lexed). l .answer) (scan-short lex formula short ∙ w .same) ∙ prefixed-answer ts _
       ∙ token-answer (w .fuel) at (0 + length ts) met met′ t (w .enough) h (omega arith) st
@@ -191,9 +191,9 @@ module _ (lex : Lexicon) (few : length (lex .outsides) ≤ 64) (formula : List �
       }
 
   stops-unscans : {r : Refusal} → length formula ≤ longestFormula → StopsFrom 0 0 [] r → Unscans lex formula r
-  stops-unscans short (long h) = too-long h
+  stops-unscans short (long h) = formula-too-long h
   stops-unscans short (fault d l h f) = a-fault short d (omega arith) h f
-  stops-unscans short (full d l h st) = too-many short d (omega arith) h st
+  stops-unscans short (full d l h st) = too-many-tokens short d (omega arith) h st
 
   scan-unscans : Refused (scan lex formula .answer) (Unscans lex formula)
   unfolding StoppedFrom
@@ -204,7 +204,7 @@ module _ (lex : Lexicon) (few : length (lex .outsides) ≤ 64) (formula : List �
       refused (scan lex formula .answer) (λ r. stops-unscans short) (scan-kept lex few formula StoppedFrom stopped-kept))
       (λ e.
       let over : longestFormula < length formula = leb-false (length formula) longestFormula e in
-      rw (scan-long lex formula over) (too-long over))
+      rw (scan-long lex formula over) (formula-too-long over))
 
   -- What the scan refuses, the rules refuse with the same refusal.
   pub answer-unscans : {r : Refusal} → scan lex formula .answer ≡ Unscanned r → Unscans lex formula r

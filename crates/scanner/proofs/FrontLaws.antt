@@ -7,7 +7,7 @@ use native.Mathlib.Omega.{arith}
 use lib.Dec.{leb}
 use lib.ListN.{length, getD}
 use borrow.Author.Tests.{ne-eqb, le-leb, lt-leb, leb-true, not-true}
-use Rattle.spellings.specs.Bytes.{isLetter, isDigit, isWordByte, isSeparator, isSymbol, run, largest, valueOf}
+use Rattle.spellings.specs.Bytes.{isLetter, isDigit, isWordByte, isSeparator, isSymbol, longestRun, largest, valueOf}
 use Rattle.spellings.proofs.BytesLaws.{by-test}
 use Rattle.scanner.specs.Scan.{Separator, Word, Number, Symbol, Fault}
 use Rattle.scanner.specs.Scan.{numberLexeme, lexemeOf}
@@ -92,22 +92,22 @@ module _ (rest : List ℕ) where
   lexeme-separator s = sym (lexeme-is rest true _ _ _ refl s refl refl refl)
 
   -- a letter begins the word of all word bytes from it on, if they are not too many
-  pub lexeme-word : isLetter (getD rest 0 0) ≡ true → length (run isWordByte rest) ≤ 31 → Word (length (run isWordByte rest)) ≡ lexemeOf rest
+  pub lexeme-word : isLetter (getD rest 0 0) ≡ true → length (longestRun isWordByte rest) ≤ 31 → Word (length (longestRun isWordByte rest)) ≡ lexemeOf rest
   lexeme-word l h =
       let s : isSeparator (getD rest 0 0) ≡ false = separator-low (getD rest 0 0) (omega (arith, letter-high (getD rest 0 0) l)) in
-      sym (lexeme-is rest false true _ _ refl s l refl refl ∙ word-fits (length (run isWordByte rest)) h)
+      sym (lexeme-is rest false true _ _ refl s l refl refl ∙ word-fits (length (longestRun isWordByte rest)) h)
 
   -- a digit begins the number of all digits from it on, if it is not too large
-  pub lexeme-number : isDigit (getD rest 0 0) ≡ true → valueOf (run isDigit rest) ≤ largest
-      → Number (length (run isDigit rest)) (valueOf (run isDigit rest)) ≡ lexemeOf rest
+  pub lexeme-number : isDigit (getD rest 0 0) ≡ true → valueOf (longestRun isDigit rest) ≤ largest
+      → Number (length (longestRun isDigit rest)) (valueOf (longestRun isDigit rest)) ≡ lexemeOf rest
   lexeme-number d h =
       let s : isSeparator (getD rest 0 0) ≡ false = separator-low (getD rest 0 0) (omega (arith, digit-range (getD rest 0 0) d .0)) in
-      let f : numberLexeme (run isDigit rest) ≡ Number (length (run isDigit rest)) (valueOf (run isDigit rest))
-      = rw (le-leb (valueOf (run isDigit rest)) largest h, numberLexeme) refl in
+      let f : numberLexeme (longestRun isDigit rest) ≡ Number (length (longestRun isDigit rest)) (valueOf (longestRun isDigit rest))
+      = rw (le-leb (valueOf (longestRun isDigit rest)) largest h, numberLexeme) refl in
       sym (lexeme-is rest false false true _ refl s (digit-no-letter (getD rest 0 0) d) d refl ∙ f)
 
   -- a digit begins a number or a fault
-  pub lexeme-digits : isDigit (getD rest 0 0) ≡ true → lexemeOf rest ≡ numberLexeme (run isDigit rest)
+  pub lexeme-digits : isDigit (getD rest 0 0) ≡ true → lexemeOf rest ≡ numberLexeme (longestRun isDigit rest)
   lexeme-digits d =
       let s : isSeparator (getD rest 0 0) ≡ false = separator-low (getD rest 0 0) (omega (arith, digit-range (getD rest 0 0) d .0)) in
       lexeme-is rest false false true _ refl s (digit-no-letter (getD rest 0 0) d) d refl
@@ -128,8 +128,8 @@ module _ (rest : List ℕ) where
       sym (lexeme-is rest false false false false refl s l d y)
   lexeme-fault (long-word l h) =
       let s : isSeparator (getD rest 0 0) ≡ false = separator-low (getD rest 0 0) (omega (arith, letter-high (getD rest 0 0) l)) in
-      sym (lexeme-is rest false true _ _ refl s l refl refl ∙ word-long (length (run isWordByte rest)) h)
+      sym (lexeme-is rest false true _ _ refl s l refl refl ∙ word-long (length (longestRun isWordByte rest)) h)
   lexeme-fault (large-number d h) =
       let s : isSeparator (getD rest 0 0) ≡ false = separator-low (getD rest 0 0) (omega (arith, digit-range (getD rest 0 0) d .0)) in
-      let f : numberLexeme (run isDigit rest) ≡ Fault = rw (lt-leb (valueOf (run isDigit rest)) largest h, numberLexeme) refl in
+      let f : numberLexeme (longestRun isDigit rest) ≡ Fault = rw (lt-leb (valueOf (longestRun isDigit rest)) largest h, numberLexeme) refl in
       sym (lexeme-is rest false false true _ refl s (digit-no-letter (getD rest 0 0) d) d refl ∙ f)

@@ -7,7 +7,7 @@ use native.Mathlib.Omega.{arith}
 use lib.Dec.{leb}
 use lib.ListN.{length, getD, take}
 use borrow.Author.Tests.{le-leb, lt-leb}
-use Rattle.spellings.specs.Bytes.{isLetter, isDigit, isWordByte, isSeparator, isSymbol, run, indexOf, largest, valueOf}
+use Rattle.spellings.specs.Bytes.{isLetter, isDigit, isWordByte, isSeparator, isSymbol, longestRun, indexOf, largest, valueOf}
 use Rattle.spellings.proofs.BytesLaws.{run-prefix, run-length}
 use Rattle.spellings.specs.Numbers.{numberOf}
 use Rattle.spellings.specs.declared.Number as number
@@ -39,15 +39,15 @@ number-tests ds true e = rw (e, numberLexeme, numberBy) refl
 number-tests ds false e = rw (e, numberLexeme, numberBy) refl
 
 -- the digits as the code has them, a part of what is left
-pub number-is : (rest : List ℕ) {n : ℕ} (v : number.Number) → n ≡ length (run isDigit rest) → v ≡ numberOf (take n rest)
-    → numberLexeme (run isDigit rest) ≡ numberBy n v
+pub number-is : (rest : List ℕ) {n : ℕ} (v : number.Number) → n ≡ length (longestRun isDigit rest) → v ≡ numberOf (take n rest)
+    → numberLexeme (longestRun isDigit rest) ≡ numberBy n v
 number-is rest {n} v e f =
-    let d : take n rest ≡ run isDigit rest = cc (e, run-prefix isDigit rest) in
-    number-tests (run isDigit rest) _ refl ∙ rw (← e) refl
+    let d : take n rest ≡ longestRun isDigit rest = cc (e, run-prefix isDigit rest) in
+    number-tests (longestRun isDigit rest) _ refl ∙ rw (← e) refl
     ∙ ap (numberBy n) (sym (f ∙ ap numberOf d))
 
 -- a run of digits ends inside what is left
-pub digits-within : (rest : List ℕ) {n : ℕ} → n ≡ length (run isDigit rest) → n ≤ length rest
+pub digits-within : (rest : List ℕ) {n : ℕ} → n ≡ length (longestRun isDigit rest) → n ≤ length rest
 digits-within rest e = omega (arith, run-length isDigit rest)
 
 -- ------------------------------------------------------------------ the lexeme by its first byte
@@ -59,10 +59,10 @@ chosen rest separator letter digit symbol =
       | true ↦ Separator
       | false ↦
           elim letter [
-            | true ↦ wordLexeme (length (run isWordByte rest))
+            | true ↦ wordLexeme (length (longestRun isWordByte rest))
             | false ↦
                 elim digit
-                [ true ↦ numberLexeme (run isDigit rest) | false ↦ elim symbol [ true ↦ Symbol | false ↦ Fault ] ]
+                [ true ↦ numberLexeme (longestRun isDigit rest) | false ↦ elim symbol [ true ↦ Symbol | false ↦ Fault ] ]
           ]
     ]
 

@@ -9,7 +9,7 @@ use lib.Dec.{ltb}
 use lib.ListN.{length, getD, set, take, drop, length-drop, length-append}
 use lib.Seq.{sets, length-take-le}
 use borrow.Author.Tests.{eq-eqb, ne-eqb, ltb-true, ltb-false}
-use Rattle.spellings.specs.Bytes.{isLetter, isDigit, isWordByte, isSeparator, isSymbol, run, indexOf}
+use Rattle.spellings.specs.Bytes.{isLetter, isDigit, isWordByte, isSeparator, isSymbol, longestRun, indexOf}
 use Rattle.spellings.proofs.BytesLaws.{by-test, index-le, index-front, index-rest, run-prefix, run-length}
 use Rattle.grammar.specs.Table.{Lexicon}
 use Rattle.grammar.specs.Lookup.{lexiconOf}
@@ -22,8 +22,8 @@ use Rattle.scanner.specs.Scan.{Number, Fault, lexemeOf, isNew, kindOf}
 use Rattle.scanner.specs.declared.Step.{Step}
 use Rattle.scanner.specs.declared.Step.the-variants.{Skip, Stop, Emit}
 use Rattle.scanner.specs.declared.Made.{Made}
-use Rattle.scanner.specs.declared.Name.{Name}
-use Rattle.scanner.specs.declared.Name.the-variants.{Keyword, Outside, Other}
+use Rattle.scanner.specs.declared.WordClass.{WordClass}
+use Rattle.scanner.specs.declared.WordClass.the-variants.{Keyword, Outside, Other}
 use Rattle.lexicon.specs.declared.trees.Spot.{Spot}
 use Rattle.lexicon.specs.declared.trees.Spot.the-variants.{Node, Free}
 use Rattle.scanner.specs.Tokens.{token}
@@ -36,7 +36,7 @@ use Rattle.lexicon.specs.LexiconRoom.{kindFrom, Lexical}
 use Rattle.grammar.specs.declared.Found.{Found}
 use Rattle.grammar.specs.declared.Found.the-variants.{At, Absent}
 use Rattle.grammar.specs.Found.{foundIn}
-use Rattle.scanner.specs.Stepping.{Named, a-keyword, an-outside, neither, made, OwnWord, met-before, first-met, Marks, Stepped, Agrees, Ready}
+use Rattle.scanner.specs.Stepping.{Named, named-keyword, an-outside, neither, made, OwnWord, met-before, first-met, Marks, Stepped, Agrees, Ready}
 use Rattle.scanner.proofs.WordLaws.{place-new, place-old, count-new, count-old}
 use Rattle.lexicon.proofs.PlaceLaws.{words-length}
 use Rattle.lexicon.proofs.TreeLaws.{free-set}
@@ -91,7 +91,7 @@ module _ {table room tree : List ℕ} (x : Lexical table room tree) where
       name-keyword h =
           let z : indexOf s (lexiconOf table .keywords) ≡ i
           = split-front s (lexiconOf table .keywords) (lexiconOf table .outsides) (omega (arith, found-index, x .keywords)) ∙ sym found-index in
-          a-keyword (subst (FirstAt s (lexiconOf table .keywords)) z (index-is-first s (lexiconOf table .keywords) (omega (arith, x .keywords))))
+          named-keyword (subst (FirstAt s (lexiconOf table .keywords)) z (index-is-first s (lexiconOf table .keywords) (omega (arith, x .keywords))))
 
       name-outside : getD room 380 0 ≤ i → Named (lexiconOf table) s (Outside (i - getD room 380 0))
       name-outside h =
@@ -184,7 +184,7 @@ module _ {lex : Lexicon} (few : length (lex .outsides) ≤ 64) {mask : ℕ} {met
   mark-stepped m =
       record { step-is = m .step-is met; agrees = λ t e. no-word-new (length met) t (m .no-word t e); free = λ t e. tt }
 
-  long-stepped : isLetter (getD rest 0 0) ≡ true → 31 < length (run isWordByte rest)
+  long-stepped : isLetter (getD rest 0 0) ≡ true → 31 < length (longestRun isWordByte rest)
       → Stepped lex mask met links at rest (made Stop (Node 0))
   long-stepped l long =
       record {
@@ -223,7 +223,7 @@ module _ {lex : Lexicon} {at : ℕ} {rest : List ℕ} where
         no-word = λ t z k. let q : numberKind ≡ t .kind = cc in omega (arith, q, k);
       }
 
-  module _ (d : isDigit (getD rest 0 0) ≡ true) {n : ℕ} (e : n ≡ length (run isDigit rest)) where
+  module _ (d : isDigit (getD rest 0 0) ≡ true) {n : ℕ} (e : n ≡ length (longestRun isDigit rest)) where
     number-marks : {v : ℕ} → Value v ≡ numberOf (take n rest) → Marks lex at rest (Emit (token numberKind at n v))
     number-marks {v} f = number-lexeme (sym (lexeme-digits rest d ∙ number-is rest (Value v) e f))
 
@@ -304,7 +304,7 @@ pub record WordHere (formula : List ℕ) (at size hash : ℕ) (s : List ℕ) : T
   -- its first byte is a letter
   pub letter : isLetter (getD formula at 0) ≡ true
   -- its size and hash are those of the run
-  pub hashed : Hashed (run isWordByte (drop at formula)) size hash
+  pub hashed : Hashed (longestRun isWordByte (drop at formula)) size hash
   -- it is not too long
   pub short : size ≤ 31
   -- s is its bytes
@@ -312,14 +312,14 @@ pub record WordHere (formula : List ℕ) (at size hash : ℕ) (s : List ℕ) : T
 
 -- these facts of the code make it
 pub word-here : {formula : List ℕ} {at size hash : ℕ} {s : List ℕ} → at < length formula → isLetter (getD formula at 0) ≡ true
-    → Hashed (run isWordByte (drop at formula)) size hash
+    → Hashed (longestRun isWordByte (drop at formula)) size hash
     → size ≤ 31
     → s ≡ take size (drop at formula)
     → WordHere formula at size hash s
 word-here h l d k r = record { inside = h; letter = l; hashed = d; short = k; read = r }
 
 module _ {formula : List ℕ} {at size hash : ℕ} {s : List ℕ} (w : WordHere formula at size hash s) where
-  here-run : s ≡ run isWordByte (drop at formula)
+  here-run : s ≡ longestRun isWordByte (drop at formula)
   here-run =
       cc (w .read, w .hashed .sized, run-prefix isWordByte (drop at formula))
 
@@ -341,7 +341,7 @@ module _ {formula : List ℕ} {at size hash : ℕ} {s : List ℕ} (w : WordHere 
   here-some : 0 < length (drop at formula)
   here-some = omega (arith, w .inside, length-drop at formula)
 
-  module _ {lex : Lexicon} (few : length (lex .outsides) ≤ 64) {mask : ℕ} {met : List (List ℕ)} {links : List ℕ} {name : Name} {r : Made}
+  module _ {lex : Lexicon} (few : length (lex .outsides) ≤ 64) {mask : ℕ} {met : List (List ℕ)} {links : List ℕ} {name : WordClass} {r : Made}
       (m : Named lex s name) where
     -- a word that is a keyword makes its token
     pub keyword-made : {k : ℕ} → name ≡ Keyword k → r ≡ made (Emit (token (k + 2) at size 0)) (Node 0)
@@ -349,7 +349,7 @@ module _ {formula : List ℕ} {at size hash : ℕ} {s : List ℕ} (w : WordHere 
     keyword-made {k} e g = by-name (subst (Named lex s) e m)
       where
         by-name : Named lex s (Keyword k) → Stepped lex mask met links at (drop at formula) r
-        by-name (a-keyword f) = rw (g, ← here-long) (keyword-step few here-some here-front f)
+        by-name (named-keyword f) = rw (g, ← here-long) (keyword-step few here-some here-front f)
 
     -- a word that is an outside name makes a word token with the name's number
     pub outside-made : {k : ℕ} → name ≡ Outside k → r ≡ made (Emit (token 0 at size k)) (Node 0)
@@ -371,16 +371,16 @@ module _ {formula : List ℕ} {at size hash : ℕ} {s : List ℕ} (w : WordHere 
         by-name (neither n q) = own-step few here-some here-front n q own
 
 -- a keyword's number is below 62
-pub keyword-small : (table s : List ℕ) {name : Name} {k : ℕ} → Named (lexiconOf table) s name → name ≡ Keyword k → k < 62
+pub keyword-small : (table s : List ℕ) {name : WordClass} {k : ℕ} → Named (lexiconOf table) s name → name ≡ Keyword k → k < 62
 keyword-small table s {k = k} m e = by-name (subst (Named (lexiconOf table) s) e m)
   where
     by-name : Named (lexiconOf table) s (Keyword k) → k < 62
-    by-name (a-keyword f) = omega (arith, f .there, few-keywords table)
+    by-name (named-keyword f) = omega (arith, f .there, few-keywords table)
 
 -- a word of more than 31 bytes stops the scan
 pub long-made : (table formula : List ℕ) (at : ℕ) {size hash mask : ℕ} {met : List (List ℕ)} {links : List ℕ} → at < length formula
     → isLetter (getD formula at 0) ≡ true
-    → Hashed (run isWordByte (drop at formula)) size hash
+    → Hashed (longestRun isWordByte (drop at formula)) size hash
     → 31 < size
     → Stepped (lexiconOf table) mask met links at (drop at formula) (made Stop (Node 0))
 long-made table formula at h l d long =
@@ -412,8 +412,8 @@ module _ (formula : List ℕ) (at : ℕ) {lex : Lexicon} where
       let z : getD (drop at formula) 0 0 ≡ getD formula at 0 = front-byte formula at in
       bad-marks (ap isSeparator z ∙ s) (ap isLetter z ∙ l) (ap isDigit z ∙ d) (ap isSymbol z ∙ y)
 
-module _ (formula : List ℕ) (at : ℕ) {n : ℕ} (e : n ≡ length (run isDigit (take (length formula - at) (drop at formula)))) where
-  digits-here : n ≡ length (run isDigit (drop at formula))
+module _ (formula : List ℕ) (at : ℕ) {n : ℕ} (e : n ≡ length (longestRun isDigit (take (length formula - at) (drop at formula)))) where
+  digits-here : n ≡ length (longestRun isDigit (drop at formula))
   digits-here = cc (rest-lent formula at)
 
   -- the digits as the code lends them

@@ -11,7 +11,7 @@ use Rattle.grammar.specs.Table.{Lexicon}
 use Rattle.scanner.specs.declared.Token.{Token}
 use Rattle.scanner.specs.Scan.{Lexed, withToken, isNew, wordsWith, scan}
 use Rattle.scanner.specs.Tokens.{token, endToken}
-use Rattle.scanner.specs.Rooms.{rowThen, rows, rowOf, tokensFrom, tokensIn, placeThen, countWith, places, wordsFrom, wordsIn}
+use Rattle.scanner.specs.Rooms.{rowThen, tokenRows, rowOf, tokensFrom, tokensIn, placeThen, countWith, wordPlaces, wordsFrom, wordsIn}
 use Rattle.scanner.proofs.WordLaws.{words-stored}
 use Rattle.lexicon.proofs.PlaceLaws.{words-length}
 use Rattle.scanner.proofs.ScanLoop.{fill-rows, fill-places, count-grows}
@@ -65,13 +65,13 @@ row-stored room n t h = four-stored room (n * 4) (t .kind) (t .at) (t .size) (t 
 
 -- Token i of those that are stored from row n on stands in row n + i.
 pub row-at : (ts : List Token) (room : List ℕ) (n i : ℕ) (d : Token) → i < length ts → (n + length ts) * 4 ≤ length room
-    → rowOf (sets room (n * 4) (rows ts)) (n + i) ≡ getD ts i d
+    → rowOf (sets room (n * 4) (tokenRows ts)) (n + i) ≡ getD ts i d
 row-at [] room n i d h k = absurd (omega arith)
 row-at (t ∷ ts) room n zero d h k =
     let z : n + 0 ≡ n = omega arith in
     cc (
       fill-rows n room t ts,
-      row-front (rows ts) (sets room (n * 4) (rowThen t [])) ((n + 1) * 4) n (omega arith),
+      row-front (tokenRows ts) (sets room (n * 4) (rowThen t [])) ((n + 1) * 4) n (omega arith),
       row-stored room n t (omega arith),
     )
 row-at (t ∷ ts) room n (suc i) d h k =
@@ -94,9 +94,9 @@ tokens-by-row (t ∷ ts) room j h =
     )
 
 -- The tokens that are stored are those that the room holds.
-pub tokens-stored : (ts : List Token) (room : List ℕ) → length ts * 4 ≤ length room → tokensIn (sets room 0 (rows ts)) (length ts) ≡ ts
+pub tokens-stored : (ts : List Token) (room : List ℕ) → length ts * 4 ≤ length room → tokensIn (sets room 0 (tokenRows ts)) (length ts) ≡ ts
 tokens-stored ts room h =
-    tokens-by-row ts (sets room 0 (rows ts)) 0 (λ i l. row-at ts room 0 i endToken l (omega arith))
+    tokens-by-row ts (sets room 0 (tokenRows ts)) 0 (λ i l. row-at ts room 0 i endToken l (omega arith))
 
 module _ (room : List ℕ) where
   token-from : (n i at : ℕ) → at < n → getD (tokensFrom n room i) at endToken ≡ rowOf room (i + at)
@@ -128,11 +128,11 @@ module _ (lex : Lexicon) (few : length (lex .outsides) ≤ 64) (formula : List �
   NamedFrom at n words l =
       (room : List ℕ) (count : ℕ) → ((m : ℕ) → m ≤ length formula → m ≤ 4096 → m * 2 ≤ length room) → n ≤ at → count ≤ n
       → wordsIn formula room count ≡ words
-      → wordsIn formula (sets room (count * 2) (places count (l .tokens))) (length (l .words)) ≡ l .words
+      → wordsIn formula (sets room (count * 2) (wordPlaces count (l .tokens))) (length (l .words)) ≡ l .words
 
   named-none : (room : List ℕ) (count : ℕ) (words : List (List ℕ)) → wordsIn formula room count ≡ words
-      → wordsIn formula (sets room (count * 2) (places count [])) (length words) ≡ words
-  unfolding places
+      → wordsIn formula (sets room (count * 2) (wordPlaces count [])) (length words) ≡ words
+  unfolding wordPlaces
   named-none room count words e =
       let z : length words ≡ count = sym (ap length e) ∙ words-length count formula room 0 in
       ap (wordsIn formula room) z ∙ e
@@ -164,6 +164,6 @@ module _ (lex : Lexicon) (few : length (lex .outsides) ≤ 64) (formula : List �
 
   -- The places that a scan stores name its words in the formula.
   pub words-named : (room : List ℕ) → ((m : ℕ) → m ≤ length formula → m ≤ 4096 → m * 2 ≤ length room)
-      → wordsIn formula (sets room 0 (places 0 (scan lex formula .tokens))) (length (scan lex formula .words)) ≡ scan lex formula .words
+      → wordsIn formula (sets room 0 (wordPlaces 0 (scan lex formula .tokens))) (length (scan lex formula .words)) ≡ scan lex formula .words
   unfolding NamedFrom wordsFrom
   words-named room long = scan-kept lex few formula NamedFrom named-kept room 0 long (omega arith) (omega arith) refl

@@ -14,9 +14,9 @@ use Rattle.scanner.specs.declared.Token.{Token}
 use Rattle.scanner.specs.declared.Step.{Step}
 use Rattle.scanner.specs.declared.Step.the-variants.{Skip, Stop, Emit}
 use Rattle.scanner.specs.declared.Scanned.the-variants.{Tokens, Unscanned}
-use Rattle.scanner.specs.Scan.{Lexed, ended, withToken, isNew, wordsWith, stepOf, lexFrom, scan}
+use Rattle.scanner.specs.Scan.{Lexed, scanEnded, withToken, isNew, wordsWith, stepOf, lexFrom, scan}
 use Rattle.scanner.specs.Tokens.{mostTokens, longestFormula}
-use Rattle.scanner.specs.Rooms.{rowThen, rows, placeThen, countWith, places, wordsFrom, wordsIn, Filled, filled, scanInto}
+use Rattle.scanner.specs.Rooms.{rowThen, tokenRows, placeThen, countWith, wordPlaces, wordsFrom, wordsIn, Filled, filled, scanInto}
 use Rattle.scanner.proofs.StepLaws.{step-lies}
 use Rattle.scanner.proofs.WordLaws.{words-stored}
 use Rattle.lexicon.proofs.PlaceLaws.{words-length}
@@ -27,7 +27,7 @@ use Rattle.lexicon.proofs.PlaceLaws.{words-length}
 abbrev pub emitted : ℕ → Lexicon → ℕ → List ℕ → ℕ → List (List ℕ) → Token → Bool → Lexed
 emitted k lex at rest n words t more =
     elim more [
-      | false ↦ ended (Unscanned (refusal 16 0 0 0)) words
+      | false ↦ scanEnded (Unscanned (refusal 16 0 0 0)) words
       | true ↦
           withToken t (lexFrom k lex (at + t .size) (drop (t .size) rest) (n + 1) (wordsWith words (take (t .size) rest) t))
     ]
@@ -35,7 +35,7 @@ emitted k lex at rest n words t more =
 -- what is left, by the step at its front
 abbrev pub after : ℕ → Lexicon → ℕ → List ℕ → ℕ → List (List ℕ) → Step → Lexed
 after k lex at rest n words Skip = lexFrom k lex (at + 1) (drop 1 rest) n words
-after k lex at rest n words Stop = ended (Unscanned (refusal 15 at 0 0)) words
+after k lex at rest n words Stop = scanEnded (Unscanned (refusal 15 at 0 0)) words
 after k lex at rest n words (Emit t) = emitted k lex at rest n words t (ltb n mostTokens)
 
 lex-by : (k : ℕ) (lex : Lexicon) (at b : ℕ) (bs : List ℕ) (n : ℕ) (words : List (List ℕ)) (r : Step)
@@ -54,7 +54,7 @@ lex-step k lex at [] n words r h e = absurd (omega arith)
 lex-step k lex at (b ∷ bs) n words r h e = lex-by k lex at b bs n words r e
 
 -- where nothing is left, the tokens counted are accepted
-pub lex-end : (k : ℕ) (lex : Lexicon) (at n : ℕ) (words : List (List ℕ)) → lexFrom k lex at [] n words ≡ ended (Tokens n (length words)) words
+pub lex-end : (k : ℕ) (lex : Lexicon) (at n : ℕ) (words : List (List ℕ)) → lexFrom k lex at [] n words ≡ scanEnded (Tokens n (length words)) words
 unfolding lexFrom
 lex-end zero lex at n words = refl
 lex-end (suc k) lex at n words = refl
@@ -64,12 +64,12 @@ lex-end (suc k) lex at n words = refl
 -- the rooms after what is left: n tokens and count words are stored already
 abbrev pub fillFrom : ℕ → ℕ → List ℕ → List ℕ → Lexed → Filled
 fillFrom n count tokens words l =
-    filled (l .answer) (sets tokens (n * 4) (rows (l .tokens))) (sets words (count * 2) (places count (l .tokens)))
+    filled (l .answer) (sets tokens (n * 4) (tokenRows (l .tokens))) (sets words (count * 2) (wordPlaces count (l .tokens)))
 
 -- storing tokens is storing the first, then the others behind it
 pub fill-rows : (n : ℕ) (tokens : List ℕ) (t : Token) (ts : List Token)
-    → sets tokens (n * 4) (rows (t ∷ ts)) ≡ sets (sets tokens (n * 4) (rowThen t [])) ((n + 1) * 4) (rows ts)
-unfolding rows
+    → sets tokens (n * 4) (tokenRows (t ∷ ts)) ≡ sets (sets tokens (n * 4) (rowThen t [])) ((n + 1) * 4) (tokenRows ts)
+unfolding tokenRows
 fill-rows n tokens t ts =
     let z : suc (suc (suc (suc (n * 4)))) ≡ (n + 1) * 4 = omega arith in
     cc
@@ -86,10 +86,10 @@ fill-places-by count words t follow false = refl
 
 -- storing words is storing the first token's, if it is new, then the others' behind it
 pub fill-places : (count : ℕ) (words : List ℕ) (t : Token) (ts : List Token)
-    → sets words (count * 2) (places count (t ∷ ts))
-    ≡ sets (sets words (count * 2) (placeThen count t [])) (countWith count t * 2) (places (countWith count t) ts)
-unfolding places
-fill-places count words t ts = fill-places-by count words t (places (countWith count t) ts) (isNew count t)
+    → sets words (count * 2) (wordPlaces count (t ∷ ts))
+    ≡ sets (sets words (count * 2) (placeThen count t [])) (countWith count t * 2) (wordPlaces (countWith count t) ts)
+unfolding wordPlaces
+fill-places count words t ts = fill-places-by count words t (wordPlaces (countWith count t) ts) (isNew count t)
 
 fill-token : (n count : ℕ) (tokens words : List ℕ) (t : Token) (l : Lexed)
     → fillFrom n count tokens words (withToken t l)
@@ -127,7 +127,7 @@ unfolding scan
 scan-short lex formula h = rw (le-leb (length formula) longestFormula h, scan) refl
 
 -- a longer one is refused with 14
-pub scan-long : (lex : Lexicon) (formula : List ℕ) → 65535 < length formula → scan lex formula ≡ ended (Unscanned (refusal 14 0 0 0)) []
+pub scan-long : (lex : Lexicon) (formula : List ℕ) → 65535 < length formula → scan lex formula ≡ scanEnded (Unscanned (refusal 14 0 0 0)) []
 unfolding scan
 scan-long lex formula h = rw (lt-leb (length formula) longestFormula h, scan) refl
 
@@ -140,7 +140,7 @@ into lex formula tokens words l e = ap (fillFrom 0 0 tokens words) (sym e)
 -- 14 leaves the rooms as they were
 pub too-long : (lex : Lexicon) (formula tokens words : List ℕ) → 65535 < length formula
     → filled (Unscanned (refusal 14 0 0 0)) tokens words ≡ scanInto lex formula tokens words
-unfolding rows places
+unfolding tokenRows wordPlaces
 too-long lex formula tokens words h = into lex formula tokens words _ (scan-long lex formula h)
 
 -- nothing is scanned yet
@@ -188,7 +188,7 @@ module _ {lex : Lexicon} {formula tokens₀ words₀ tokens words : List ℕ} {a
   -- a fault gives 15 with its offset
   pub turn-stop : at < length formula → Stop ≡ stepOf lex (wordsIn formula words count) at (drop at formula)
       → filled (Unscanned (refusal 15 at 0 0)) tokens words ≡ scanInto lex formula tokens₀ words₀
-  unfolding rows places
+  unfolding tokenRows wordPlaces
   turn-stop h e = rest-by h Stop e
 
   module _ (h : at < length formula) {t : Token} (e : Emit t ≡ stepOf lex (wordsIn formula words count) at (drop at formula)) where
@@ -209,7 +209,7 @@ module _ {lex : Lexicon} {formula tokens₀ words₀ tokens words : List ℕ} {a
 
     -- a token after 4,096 others gives 16
     pub turn-full : n ≡ 4096 → filled (Unscanned (refusal 16 0 0 0)) tokens words ≡ scanInto lex formula tokens₀ words₀
-    unfolding rows places
+    unfolding tokenRows wordPlaces
     turn-full z = rest-emit false (le-ltb n mostTokens (omega arith))
 
     module _ (z : n ≡ 4096 → ⊥) (room : count * 2 + 2 ≤ length words) where
@@ -264,6 +264,6 @@ module _ {lex : Lexicon} {formula tokens₀ words₀ tokens words : List ℕ} {a
 
   -- where nothing is left, the rooms are filled and the scan accepts
   pub turn-end : length formula ≤ at → filled (Tokens n count) tokens words ≡ scanInto lex formula tokens₀ words₀
-  unfolding rows places
+  unfolding tokenRows wordPlaces
   turn-end h =
       cc (words-length count formula words 0, lex-end (c .fuel) lex at n (wordsIn formula words count), drop-of-length-le formula h, c .rest)

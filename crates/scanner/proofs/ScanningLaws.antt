@@ -14,7 +14,7 @@ use Rattle.lexicon.specs.declared.trees.Spot.{Spot}
 use Rattle.lexicon.specs.declared.trees.Spot.the-variants.{Node, Free}
 use Rattle.scanner.specs.Scan.{isNew, wordsWith, stepOf}
 use Rattle.scanner.specs.Rooms.{rowThen, placeThen, countWith, wordsFrom, wordsIn, RoomFor}
-use Rattle.lexicon.specs.Trees.{Tree, Linkable, linksWith}
+use Rattle.lexicon.specs.Trees.{SearchTree, Linkable, linksWith}
 use Rattle.lexicon.specs.LexiconRoom.{Lexical}
 use Rattle.scanner.specs.Stepping.{Agrees, FreeIn, Stepped, Ready, Scannable}
 use Rattle.scanner.proofs.WordLaws.{words-stored, with-new, with-old}
@@ -140,7 +140,7 @@ module _ {table room tree formula tokens₀ words₀ links₀ tokens words links
 
       -- the trees after the token
       tree-after : (spot : Spot) → Agrees count t spot → FreeIn mask (wordsIn formula words count) links s spot
-          → Tree mask (wordsWith (wordsIn formula words count) s t) (linksWith links spot count)
+          → SearchTree mask (wordsWith (wordsIn formula words count) s t) (linksWith links spot count)
       tree-after (Node i) a f =
           rw (with-old (wordsIn formula words count) s t (rw (counted, a) refl)) (c .ready .met)
       tree-after (Free slot) a f =

@@ -8,7 +8,7 @@ use native.Mathlib.Omega.{arith}
 use lib.Dec.{ltb}
 use lib.ListN.{length, getD, take, drop, length-append}
 use borrow.Author.Tests.{ltb-true, ltb-false, le-leb, le-ltb, lt-ltb, ne-eqb, eq-eqb}
-use Rattle.spellings.specs.Bytes.{isLetter, isWordByte, run, isWord, indexOf}
+use Rattle.spellings.specs.Bytes.{isLetter, isWordByte, longestRun, isWord, indexOf}
 use Rattle.spellings.proofs.BytesLaws.{by-test, run-taken, every-run, letter-word-byte, index-le, index-found, index-front, index-rest, index-self}
 use Rattle.grammar.specs.declared.Found.{Found}
 use Rattle.grammar.specs.declared.Found.the-variants.{At, Absent}
@@ -28,11 +28,11 @@ use Rattle.scanner.proofs.TokenLaws.{Kept, scan-kept}
 -- ------------------------------------------------------------------ words
 
 -- the run of word bytes after a letter is a word, if it is not too long
-run-word : (rest : List ℕ) → isLetter (getD rest 0 0) ≡ true → length (run isWordByte rest) ≤ 31 → isWord (run isWordByte rest) ≡ true
+run-word : (rest : List ℕ) → isLetter (getD rest 0 0) ≡ true → length (longestRun isWordByte rest) ≤ 31 → isWord (longestRun isWordByte rest) ≡ true
 run-word [] l h = let z : _≡_ {A = ℕ} 0 1 = cc in absurd (omega arith)
 run-word (b ∷ bs) l h =
-    let r : run isWordByte (b ∷ bs) ≡ b ∷ run isWordByte bs = run-taken isWordByte b bs (letter-word-byte b l) in
-    let n : suc (length (run isWordByte bs)) ≤ 31 = omega (arith, ap length r) in
+    let r : longestRun isWordByte (b ∷ bs) ≡ b ∷ longestRun isWordByte bs = run-taken isWordByte b bs (letter-word-byte b l) in
+    let n : suc (length (longestRun isWordByte bs)) ≤ 31 = omega (arith, ap length r) in
     ap isWord r ∙ rw (l, every-run isWordByte bs, le-leb _ 31 n) refl
 
 -- the word at the front is a word

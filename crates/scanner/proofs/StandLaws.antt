@@ -6,7 +6,7 @@ use mathlib.Core.List.{List, [], _∷_, _++_}
 use native.Mathlib.Omega.{arith}
 use lib.ListN.{length, getD, take, length-take}
 use borrow.Author.Tests.{eq-eqb, ne-eqb}
-use Rattle.spellings.specs.Bytes.{isDigit, isWordByte, isSeparator, run, valueOf}
+use Rattle.spellings.specs.Bytes.{isDigit, isWordByte, isSeparator, longestRun, valueOf}
 use Rattle.spellings.proofs.BytesLaws.{run-prefix, run-length}
 use Rattle.grammar.specs.declared.Found.{Found}
 use Rattle.grammar.specs.declared.Found.the-variants.{At, Absent}
@@ -207,7 +207,7 @@ module _ (lex : Lexicon) (few : length (lex .outsides) ≤ 64) (words : List (Li
         valued = told-spelled lex words at rest n (kindOf lex (take n rest) wordKind) k;
       }
   told-by (Number n v) h f =
-      let s : NumberFront rest (run isDigit rest) = record { begins = f .0; whole = refl; small = omega (arith, f .2, f .3) } in
+      let s : NumberFront rest (longestRun isDigit rest) = record { begins = f .0; whole = refl; small = omega (arith, f .2, f .3) } in
       let none : numberKind ≡ wordKind → ⊥ = λ e. omega (arith, e) in
       record {
         placed = refl;
@@ -244,7 +244,7 @@ module _ {lex : Lexicon} (few : length (lex .outsides) ≤ 64) {at : ℕ} {rest 
       → Steps lex met at rest t met′
   unfolding made
   word-steps {s} {t} w z m =
-      let e : take (length (run isWordByte rest)) rest ≡ s = sym (run-prefix isWordByte rest) ∙ sym (w .whole) in
+      let e : take (length (longestRun isWordByte rest)) rest ≡ s = sym (run-prefix isWordByte rest) ∙ sym (w .whole) in
       let l = lexeme-word rest (w .begins) (omega (arith, w .short, ap length (w .whole))) in
       record {
         emits =

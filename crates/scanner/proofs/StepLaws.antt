@@ -9,7 +9,7 @@ use lib.Dec.{leb}
 use lib.ListN.{length, getD, take, drop, length-take, length-drop}
 use lib.Seq.{take-all, getD-drop}
 use borrow.Author.Tests.{leb-true, leb-false, le-leb, eq-eqb, ne-eqb}
-use Rattle.spellings.specs.Bytes.{isLetter, isDigit, isWordByte, isSeparator, isSymbol, run, largest, valueOf}
+use Rattle.spellings.specs.Bytes.{isLetter, isDigit, isWordByte, isSeparator, isSymbol, longestRun, largest, valueOf}
 use Rattle.spellings.proofs.BytesLaws.{run-taken, run-length, letter-word-byte}
 use Rattle.grammar.specs.Table.{Lexicon}
 use Rattle.kinds.specs.Kinds.{wordKind, noKind}
@@ -27,29 +27,29 @@ use Rattle.scanner.proofs.LexemeLaws as lexemes
 -- what a lexeme says of the bytes at the front
 abbrev pub Fits : List ℕ → Lexeme → Type 0
 Fits rest Separator = isSeparator (getD rest 0 0) ≡ true
-Fits rest (Word n) = (isLetter (getD rest 0 0) ≡ true) × (n ≡ length (run isWordByte rest)) × (n ≤ 31)
+Fits rest (Word n) = (isLetter (getD rest 0 0) ≡ true) × (n ≡ length (longestRun isWordByte rest)) × (n ≤ 31)
 Fits rest (Number n v) =
-    (isDigit (getD rest 0 0) ≡ true) × (n ≡ length (run isDigit rest)) × (v ≡ valueOf (run isDigit rest)) × (v ≤ largest)
+    (isDigit (getD rest 0 0) ≡ true) × (n ≡ length (longestRun isDigit rest)) × (v ≡ valueOf (longestRun isDigit rest)) × (v ≤ largest)
 Fits rest Symbol = isSymbol (getD rest 0 0) ≡ true
 Fits rest Fault = Faulty rest
 
-word-fits : (rest : List ℕ) (b : Bool) → isLetter (getD rest 0 0) ≡ true → leb (length (run isWordByte rest)) 31 ≡ b
-    → Fits rest (wordLexeme (length (run isWordByte rest)))
+word-fits : (rest : List ℕ) (b : Bool) → isLetter (getD rest 0 0) ≡ true → leb (length (longestRun isWordByte rest)) 31 ≡ b
+    → Fits rest (wordLexeme (length (longestRun isWordByte rest)))
 word-fits rest true l e =
-    let h : length (run isWordByte rest) ≤ 31 = leb-true (length (run isWordByte rest)) 31 e in
-    subst (Fits rest) (sym (lexemes.word-fits (length (run isWordByte rest)) h)) (l, refl, h)
+    let h : length (longestRun isWordByte rest) ≤ 31 = leb-true (length (longestRun isWordByte rest)) 31 e in
+    subst (Fits rest) (sym (lexemes.word-fits (length (longestRun isWordByte rest)) h)) (l, refl, h)
 word-fits rest false l e =
-    let z : wordLexeme (length (run isWordByte rest)) ≡ Fault = rw (e, wordLexeme) refl in
-    subst (Fits rest) (sym z) (long-word l (leb-false (length (run isWordByte rest)) 31 e))
+    let z : wordLexeme (length (longestRun isWordByte rest)) ≡ Fault = rw (e, wordLexeme) refl in
+    subst (Fits rest) (sym z) (long-word l (leb-false (length (longestRun isWordByte rest)) 31 e))
 
-number-fits : (rest : List ℕ) (b : Bool) → isDigit (getD rest 0 0) ≡ true → leb (valueOf (run isDigit rest)) largest ≡ b
-    → Fits rest (numberLexeme (run isDigit rest))
+number-fits : (rest : List ℕ) (b : Bool) → isDigit (getD rest 0 0) ≡ true → leb (valueOf (longestRun isDigit rest)) largest ≡ b
+    → Fits rest (numberLexeme (longestRun isDigit rest))
 number-fits rest true d e =
-    let z : numberLexeme (run isDigit rest) ≡ Number (length (run isDigit rest)) (valueOf (run isDigit rest)) = rw (e, numberLexeme) refl in
-    subst (Fits rest) (sym z) (d, refl, refl, leb-true (valueOf (run isDigit rest)) largest e)
+    let z : numberLexeme (longestRun isDigit rest) ≡ Number (length (longestRun isDigit rest)) (valueOf (longestRun isDigit rest)) = rw (e, numberLexeme) refl in
+    subst (Fits rest) (sym z) (d, refl, refl, leb-true (valueOf (longestRun isDigit rest)) largest e)
 number-fits rest false d e =
-    let z : numberLexeme (run isDigit rest) ≡ Fault = rw (e, numberLexeme) refl in
-    subst (Fits rest) (sym z) (large-number d (leb-false (valueOf (run isDigit rest)) largest e))
+    let z : numberLexeme (longestRun isDigit rest) ≡ Fault = rw (e, numberLexeme) refl in
+    subst (Fits rest) (sym z) (large-number d (leb-false (valueOf (longestRun isDigit rest)) largest e))
 
 -- a byte that may be in a formula and is neither a letter nor a digit is a symbol
 pub no-symbol : (b : ℕ) → isLetter b ≡ false → isDigit b ≡ false → isSymbol b ≡ false → 33 ≤ b → b ≤ 126 → ⊥
@@ -78,9 +78,9 @@ pub lexeme-fits : (rest : List ℕ) (l : Lexeme) → l ≡ lexemeOf rest → Fit
 lexeme-fits rest l e = subst (Fits rest) (sym e) (fits-by rest _ _ _ _ refl refl refl refl)
 
 -- a run that begins has a byte
-pub run-some : (p : ℕ → Bool) (s : List ℕ) → 0 < length s → p (getD s 0 0) ≡ true → 0 < length (run p s)
+pub run-some : (p : ℕ → Bool) (s : List ℕ) → 0 < length s → p (getD s 0 0) ≡ true → 0 < length (longestRun p s)
 run-some p [] h e = absurd (omega arith)
-run-some p (b ∷ bs) h e = let z : length (run p (b ∷ bs)) ≡ suc (length (run p bs)) = ap length (run-taken p b bs e) in omega arith
+run-some p (b ∷ bs) h e = let z : length (longestRun p (b ∷ bs)) ≡ suc (length (longestRun p bs)) = ap length (run-taken p b bs e) in omega arith
 
 -- ------------------------------------------------------------------ the token
 
@@ -94,10 +94,10 @@ lies-by : (lex : Lexicon) (words : List (List ℕ)) (at : ℕ) (rest : List ℕ)
     → Lies at rest (stepBy lex words at rest l)
 lies-by lex words at rest Separator h f = tt
 lies-by lex words at rest (Word n) h f =
-    let some : 0 < length (run isWordByte rest) = run-some isWordByte rest h (letter-word-byte (getD rest 0 0) (f .0)) in
+    let some : 0 < length (longestRun isWordByte rest) = run-some isWordByte rest h (letter-word-byte (getD rest 0 0) (f .0)) in
     (refl, omega (arith, length-take n rest), omega (arith, length-take n rest))
 lies-by lex words at rest (Number n v) h f =
-    let some : 0 < length (run isDigit rest) = run-some isDigit rest h (f .0) in
+    let some : 0 < length (longestRun isDigit rest) = run-some isDigit rest h (f .0) in
     (refl, omega arith, omega (arith, run-length isDigit rest))
 lies-by lex words at rest Symbol h f = (refl, omega (arith, length-take 1 rest), omega (arith, length-take 1 rest))
 lies-by lex words at rest Fault h f = tt

@@ -17,7 +17,7 @@ use Rattle.scanner.specs.declared.Token.{Token}
 use Rattle.scanner.specs.declared.Step.{Step}
 use Rattle.scanner.specs.declared.Step.the-variants.{Skip, Stop, Emit}
 use Rattle.scanner.specs.declared.Scanned.the-variants.{Tokens, Unscanned}
-use Rattle.scanner.specs.Scan.{Lexed, ended, withToken, wordsWith, stepOf, lexFrom, scan}
+use Rattle.scanner.specs.Scan.{Lexed, scanEnded, withToken, wordsWith, stepOf, lexFrom, scan}
 use Rattle.scanner.specs.Tokens.{mostTokens, longestFormula}
 use Rattle.scanner.specs.Unscanned.{Faulty}
 use Rattle.scanner.proofs.StepLaws.{front-byte, Lies, step-lies}
@@ -36,9 +36,9 @@ pub data Halts (lex : Lexicon) (formula : List ℕ) (at n : ℕ) (words : List (
 -- A fact of what is left at an offset, after n tokens and the words met, that each step hands on.
 pub record Kept (lex : Lexicon) (formula : List ℕ) (P : ℕ → ℕ → List (List ℕ) → Lexed → Type 0) : Type 0 where
   -- it holds at the end
-  pub ends : (n : ℕ) (words : List (List ℕ)) → n ≤ 4096 → P (length formula) n words (ended (Tokens n (length words)) words)
+  pub ends : (n : ℕ) (words : List (List ℕ)) → n ≤ 4096 → P (length formula) n words (scanEnded (Tokens n (length words)) words)
   -- it holds where a scan stops
-  pub stops : (at n : ℕ) (words : List (List ℕ)) (r : Refusal) → Halts lex formula at n words r → P at n words (ended (Unscanned r) words)
+  pub stops : (at n : ℕ) (words : List (List ℕ)) (r : Refusal) → Halts lex formula at n words r → P at n words (scanEnded (Unscanned r) words)
   -- it holds before a separator, if it holds behind it
   pub skips : (at n : ℕ) (words : List (List ℕ)) (l : Lexed) → at < length formula → isSeparator (getD formula at 0) ≡ true
       → P (at + 1) n words l

@@ -18,9 +18,9 @@ unfoldable pub use Rattle.lexicon.specs.Places.{wordsFrom}
 abbrev pub rowThen : Token → List ℕ → List ℕ
 rowThen t follow = t .kind ∷ t .at ∷ t .size ∷ t .value ∷ follow
 
-unfoldable pub rows : List Token → List ℕ
-rows [] = []
-rows (t ∷ ts) = rowThen t (rows ts)
+unfoldable pub tokenRows : List Token → List ℕ
+tokenRows [] = []
+tokenRows (t ∷ ts) = rowThen t (tokenRows ts)
 
 -- token i of a room, k tokens from token i on, and the first n
 abbrev pub rowOf : List ℕ → ℕ → Token
@@ -41,9 +41,9 @@ placeThen count t follow = elim (isNew count t) [ true ↦ t .at ∷ t .size ∷
 abbrev pub countWith : ℕ → Token → ℕ
 countWith count t = elim (isNew count t) [ true ↦ count + 1 | false ↦ count ]
 
-unfoldable pub places : ℕ → List Token → List ℕ
-places count [] = []
-places count (t ∷ ts) = placeThen count t (places (countWith count t) ts)
+unfoldable pub wordPlaces : ℕ → List Token → List ℕ
+wordPlaces count [] = []
+wordPlaces count (t ∷ ts) = placeThen count t (wordPlaces (countWith count t) ts)
 
 -- ------------------------------------------------------------------ how long the rooms are
 
@@ -53,7 +53,7 @@ pub record RoomFor (formula tokens words : List ℕ) : Type 0 where
   pub for-words : (n : ℕ) → n ≤ length formula → n ≤ 4096 → n * 2 ≤ length words
 
 -- What a scan asks of what it is given: the offsets of a table fit a number of a room, and there is room.
-pub record Lent (table formula tokens words : List ℕ) : Type 0 where
+pub record LentToScan (table formula tokens words : List ℕ) : Type 0 where
   pub short : length table < 2 ^ 32
   pub room : RoomFor formula tokens words
 
@@ -73,5 +73,5 @@ pub data Filled : Type 0 where
 -- stays. `sets room i ns` is the room with the numbers ns stored from index i on.
 unfoldable pub scanInto : Lexicon → List ℕ → List ℕ → List ℕ → Filled
 scanInto lex formula tokens words =
-    filled (scan lex formula .answer) (sets tokens 0 (rows (scan lex formula .tokens)))
-    (sets words 0 (places 0 (scan lex formula .tokens)))
+    filled (scan lex formula .answer) (sets tokens 0 (tokenRows (scan lex formula .tokens)))
+    (sets words 0 (wordPlaces 0 (scan lex formula .tokens)))

@@ -10,7 +10,7 @@ use Rattle.scanner.specs.declared.Step.{Step}
 use Rattle.scanner.specs.declared.Step.the-variants.{Skip, Stop, Emit}
 use Rattle.scanner.specs.declared.Scanned.{Scanned}
 use Rattle.scanner.specs.declared.Scanned.the-variants.{Tokens, Unscanned}
-use Rattle.spellings.specs.Bytes.{isLetter, isDigit, isWordByte, isSeparator, isSymbol, run, indexOf, largest, valueOf}
+use Rattle.spellings.specs.Bytes.{isLetter, isDigit, isWordByte, isSeparator, isSymbol, longestRun, indexOf, largest, valueOf}
 use Rattle.kinds.specs.Kinds.{wordKind, numberKind, keywordKind, noKind}
 use Rattle.answers.specs.Refusals.{refusal}
 use Rattle.grammar.specs.declared.Found.the-variants.{At, Absent}
@@ -43,10 +43,10 @@ lexemeBy b rest =
       | true ↦ Separator
       | false ↦
           elim (isLetter b) [
-            | true ↦ wordLexeme (length (run isWordByte rest))
+            | true ↦ wordLexeme (length (longestRun isWordByte rest))
             | false ↦
                 elim (isDigit b)
-                [ true ↦ numberLexeme (run isDigit rest) | false ↦ elim (isSymbol b) [ true ↦ Symbol | false ↦ Fault ] ]
+                [ true ↦ numberLexeme (longestRun isDigit rest) | false ↦ elim (isSymbol b) [ true ↦ Symbol | false ↦ Fault ] ]
           ]
     ]
 
@@ -100,8 +100,8 @@ pub record Lexed : Type 0 where
   pub tokens : List Token
   pub words : List (List ℕ)
 
-abbrev pub ended : Scanned → List (List ℕ) → Lexed
-ended r words = record { answer = r; tokens = []; words = words }
+abbrev pub scanEnded : Scanned → List (List ℕ) → Lexed
+scanEnded r words = record { answer = r; tokens = []; words = words }
 
 abbrev pub withToken : Token → Lexed → Lexed
 withToken t l = record { answer = l .answer; tokens = t ∷ l .tokens; words = l .words }
@@ -109,15 +109,15 @@ withToken t l = record { answer = l .answer; tokens = t ∷ l .tokens; words = l
 -- What is left of the formula at the offset `at`, after n tokens and the words met with them; k bounds the bytes left.
 -- Refusal 15 comes before 16 at each token.
 unfoldable pub lexFrom : ℕ → Lexicon → ℕ → List ℕ → ℕ → List (List ℕ) → Lexed
-lexFrom zero lex at rest n words = ended (Tokens n (length words)) words
-lexFrom (suc k) lex at [] n words = ended (Tokens n (length words)) words
+lexFrom zero lex at rest n words = scanEnded (Tokens n (length words)) words
+lexFrom (suc k) lex at [] n words = scanEnded (Tokens n (length words)) words
 lexFrom (suc k) lex at (b ∷ bs) n words =
     elim (stepOf lex words at (b ∷ bs)) [
       | Skip ↦ lexFrom k lex (at + 1) bs n words
-      | Stop ↦ ended (Unscanned (refusal 15 at 0 0)) words
+      | Stop ↦ scanEnded (Unscanned (refusal 15 at 0 0)) words
       | Emit t ↦
           elim (ltb n mostTokens) [
-            | false ↦ ended (Unscanned (refusal 16 0 0 0)) words
+            | false ↦ scanEnded (Unscanned (refusal 16 0 0 0)) words
             | true ↦
                 withToken t
                 (lexFrom k lex (at + t .size) (drop (t .size) (b ∷ bs)) (n + 1) (wordsWith words (take (t .size) (b ∷ bs)) t))
@@ -128,4 +128,4 @@ lexFrom (suc k) lex at (b ∷ bs) n words =
 unfoldable pub scan : Lexicon → List ℕ → Lexed
 scan lex formula =
     elim (leb (length formula) longestFormula)
-    [ true ↦ lexFrom (length formula) lex 0 formula 0 [] | false ↦ ended (Unscanned (refusal 14 0 0 0)) [] ]
+    [ true ↦ lexFrom (length formula) lex 0 formula 0 [] | false ↦ scanEnded (Unscanned (refusal 14 0 0 0)) [] ]

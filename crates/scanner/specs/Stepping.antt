@@ -10,8 +10,8 @@ use Rattle.kinds.specs.Kinds.{wordKind}
 use Rattle.scanner.specs.declared.Token.{Token}
 use Rattle.scanner.specs.declared.Step.{Step}
 use Rattle.scanner.specs.declared.Step.the-variants.{Emit}
-use Rattle.scanner.specs.declared.Name.{Name}
-use Rattle.scanner.specs.declared.Name.the-variants.{Keyword, Outside, Other}
+use Rattle.scanner.specs.declared.WordClass.{WordClass}
+use Rattle.scanner.specs.declared.WordClass.the-variants.{Keyword, Outside, Other}
 use Rattle.scanner.specs.declared.Made.{Made}
 use Rattle.lexicon.specs.declared.trees.Spot.{Spot}
 use Rattle.lexicon.specs.declared.trees.Spot.the-variants.{Node, Free}
@@ -19,12 +19,12 @@ use Rattle.scanner.specs.Scan.{isNew, stepOf}
 use Rattle.scanner.specs.Tokens.{token}
 use Rattle.scanner.specs.Tiling.{FirstAt, NotIn}
 use Rattle.scanner.specs.Rooms.{wordsIn}
-use Rattle.lexicon.specs.Trees.{Tree, FreeFor}
+use Rattle.lexicon.specs.Trees.{SearchTree, FreeFor}
 use Rattle.lexicon.specs.LexiconRoom.{Lexical}
 
 -- what a word is by a lexicon
-pub data Named (lex : Lexicon) (s : List ℕ) : Name → Type 0 where
-  a-keyword : {k : ℕ} → FirstAt s (lex .keywords) k → Named lex s (Keyword k)
+pub data Named (lex : Lexicon) (s : List ℕ) : WordClass → Type 0 where
+  named-keyword : {k : ℕ} → FirstAt s (lex .keywords) k → Named lex s (Keyword k)
   an-outside : {k : ℕ} → NotIn s (lex .keywords) → FirstAt s (lex .outsides) k → Named lex s (Outside k)
   neither : NotIn s (lex .keywords) → NotIn s (lex .outsides) → Named lex s Other
 
@@ -60,7 +60,7 @@ pub record Stepped (lex : Lexicon) (mask : ℕ) (met : List (List ℕ)) (links :
 -- what the scan knows between two tokens: the lexicon, the words met, and room for as many as there may be
 pub record Ready (table room tree formula words links : List ℕ) (mask count : ℕ) : Type 0 where
   pub lexical : Lexical table room tree
-  pub met : Tree mask (wordsIn formula words count) links
+  pub met : SearchTree mask (wordsIn formula words count) links
   pub few : count ≤ 4096
   pub placed : count * 2 ≤ length words
   pub linked : mask + 1 + count * 2 ≤ length links

@@ -4,7 +4,7 @@ use mathlib.Core.Path.{_≡_}
 use mathlib.Core.Bool.{true}
 use mathlib.Core.List.{List, [], _∷_, _++_}
 use lib.ListN.{length, getD, drop, take}
-use Rattle.spellings.specs.Bytes.{isLetter, isDigit, isWordByte, isSeparator, isSymbol, run, largest, valueOf}
+use Rattle.spellings.specs.Bytes.{isLetter, isDigit, isWordByte, isSeparator, isSymbol, longestRun, largest, valueOf}
 use Rattle.kinds.specs.Kinds.{wordKind, numberKind, keywordKind, noKind}
 use Rattle.grammar.specs.Table.{Lexicon}
 use Rattle.scanner.specs.declared.Token.{Token}
@@ -15,13 +15,13 @@ use Rattle.scanner.specs.Tokens.{token, spelled, endToken}
 -- a word: a letter, then letters, digits or underscores, the longest run, 31 bytes at most
 pub record WordFront (rest s : List ℕ) : Type 0 where
   pub begins : isLetter (getD rest 0 0) ≡ true
-  pub whole : s ≡ run isWordByte rest
+  pub whole : s ≡ longestRun isWordByte rest
   pub short : length s ≤ 31
 
 -- a number: the longest run of digits, not above the largest number
 pub record NumberFront (rest s : List ℕ) : Type 0 where
   pub begins : isDigit (getD rest 0 0) ≡ true
-  pub whole : s ≡ run isDigit rest
+  pub whole : s ≡ longestRun isDigit rest
   pub small : valueOf s ≤ largest
 
 -- a symbol: one byte

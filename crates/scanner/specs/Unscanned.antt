@@ -6,7 +6,7 @@ use mathlib.Core.List.{List, []}
 use lib.ListN.{length, getD, drop}
 use Rattle.answers.specs.declared.Refusal.{Refusal}
 use Rattle.answers.specs.Refusals.{refusal}
-use Rattle.spellings.specs.Bytes.{isLetter, isDigit, isWordByte, isSeparator, run, largest, valueOf}
+use Rattle.spellings.specs.Bytes.{isLetter, isDigit, isWordByte, isSeparator, longestRun, largest, valueOf}
 use Rattle.grammar.specs.Table.{Lexicon}
 use Rattle.scanner.specs.declared.Token.{Token}
 use Rattle.scanner.specs.Tokens.{mostTokens, longestFormula}
@@ -15,19 +15,19 @@ use Rattle.scanner.specs.Tiling.{Stands, Tiled}
 -- what stands at the front is a bad byte, a long word or a large number
 pub data Faulty (rest : List ℕ) : Type 0 where
   bad-byte : isSeparator (getD rest 0 0) ≡ false → (33 ≤ getD rest 0 0 → getD rest 0 0 ≤ 126 → ⊥) → Faulty rest
-  long-word : isLetter (getD rest 0 0) ≡ true → 31 < length (run isWordByte rest) → Faulty rest
-  large-number : isDigit (getD rest 0 0) ≡ true → largest < valueOf (run isDigit rest) → Faulty rest
+  long-word : isLetter (getD rest 0 0) ≡ true → 31 < length (longestRun isWordByte rest) → Faulty rest
+  large-number : isDigit (getD rest 0 0) ≡ true → largest < valueOf (longestRun isDigit rest) → Faulty rest
 
 -- 14; else, after tokens and separators only, 15 where a fault stands and at most 4,096 tokens are before it, or 16 where a token
 -- stands and 4,096 are before it.
 pub data Unscans (lex : Lexicon) (formula : List ℕ) : Refusal → Type 0 where
-  too-long : longestFormula < length formula → Unscans lex formula (refusal 14 0 0 0)
+  formula-too-long : longestFormula < length formula → Unscans lex formula (refusal 14 0 0 0)
   a-fault : {at : ℕ} {ts : List Token} {met : List (List ℕ)} → length formula ≤ longestFormula → Tiled lex formula 0 [] ts at met
       → length ts ≤ mostTokens
       → at < length formula
       → Faulty (drop at formula)
       → Unscans lex formula (refusal 15 at 0 0)
-  too-many : {at : ℕ} {ts : List Token} {met met′ : List (List ℕ)} {t : Token} → length formula ≤ longestFormula
+  too-many-tokens : {at : ℕ} {ts : List Token} {met met′ : List (List ℕ)} {t : Token} → length formula ≤ longestFormula
       → Tiled lex formula 0 [] ts at met
       → length ts ≡ mostTokens
       → at < length formula

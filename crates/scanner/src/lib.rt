@@ -22,7 +22,7 @@ ghost use Rattle.lexicon.specs.Trees.{hashOf, Planted, Linkable, linksWith};
 ghost use Rattle.lexicon.specs.LexiconRoom.{Lexical};
 ghost use Rattle.scanner.specs.Stepping.{Named, Ready, OwnWord, made, Marks, Stepped, Agrees, Scannable};
 ghost use Rattle.answers.specs.Refusals.{refusal};
-ghost use Rattle.scanner.specs.Rooms.{rowThen, placeThen, countWith, wordsIn, RoomFor, Lent, filled, scanInto};
+ghost use Rattle.scanner.specs.Rooms.{rowThen, placeThen, countWith, wordsIn, RoomFor, LentToScan, filled, scanInto};
 
 // A token: its kind (0 a word, 1 a number, k + 2 keyword k, 64 a symbol that is no keyword), its offset and length in the
 // formula, and a word's spelling number or a number's value, else 0.
@@ -47,7 +47,7 @@ pub struct Made {
 }
 
 // What a word is by the table: a keyword or an outside name, by its number, or neither.
-pub enum Name {
+pub enum WordClass {
     Keyword(u32),
     Outside(u32),
     Other,
@@ -107,7 +107,7 @@ fn mark_step(table: &[u8], room: &[u32], tree: &[u32], formula: &[u8], at: usize
 // ---------------------------------------------------------------- words
 
 // What the word s with a hash is by the table.
-fn name_of(table: &[u8], room: &[u32], tree: &[u32], s: &[u8], hash: u64) -> Name
+fn name_of(table: &[u8], room: &[u32], tree: &[u32], s: &[u8], hash: u64) -> WordClass
     requires { ⌜ Lexical (now table) (now room) (now tree) × (hash ≡ hashOf (now s)) ⌝ }
     ensures { λ r. ⌜ Named (lexiconOf (now (table .entry))) (now (s .entry)) r ⌝ }
 {
@@ -118,11 +118,11 @@ fn name_of(table: &[u8], room: &[u32], tree: &[u32], s: &[u8], hash: u64) -> Nam
         Spot::Node(i) => {
             let k = i as u32;
             if k < keywords {
-                return Name::Keyword(k);
+                return WordClass::Keyword(k);
             }
-            Name::Outside(k - keywords)
+            WordClass::Outside(k - keywords)
         }
-        Spot::Free(_) => Name::Other,
+        Spot::Free(_) => WordClass::Other,
     }
 }
 
@@ -201,9 +201,9 @@ fn word_step(
     }
     let name = name_of(table, room, tree, part(formula, at, size), hash);
     match name {
-        Name::Keyword(k) => emit(k + 2, at, size, 0, Spot::Node(0)),
-        Name::Outside(k) => emit(0, at, size, k, Spot::Node(0)),
-        Name::Other => own_word(formula, words, links, mask, count, at, size, hash),
+        WordClass::Keyword(k) => emit(k + 2, at, size, 0, Spot::Node(0)),
+        WordClass::Outside(k) => emit(0, at, size, k, Spot::Node(0)),
+        WordClass::Other => own_word(formula, words, links, mask, count, at, size, hash),
     }
 }
 
@@ -335,7 +335,7 @@ fn scan_with(
     links: &mut [u32],
     mask: usize,
 ) -> Scanned
-    requires { ⌜ Lent (now table) (now formula) (now tokens) (now words) × Scannable (now formula) (now links) mask ⌝ }
+    requires { ⌜ LentToScan (now table) (now formula) (now tokens) (now words) × Scannable (now formula) (now links) mask ⌝ }
     ensures { λ r. ⌜ filled r (now (tokens .exit)) (now (words .exit))
         ≡ scanInto (lexiconOf (now (table .entry))) (now (formula .entry)) (now (tokens .entry)) (now (words .entry)) ⌝ }
 {
@@ -351,7 +351,7 @@ fn scan_with(
 // Ruled out are, among others, a scanner that takes a keyword for a word, one that refuses one byte beside the fault, one that
 // numbers words from 65, and one that clears a room before it refuses.
 pub fn scan(table: &[u8], formula: &[u8], tokens: &mut [u32], words: &mut [u32]) -> Scanned
-    requires { ⌜ Lent (now table) (now formula) (now tokens) (now words) ⌝ }
+    requires { ⌜ LentToScan (now table) (now formula) (now tokens) (now words) ⌝ }
     ensures { λ r. ⌜ filled r (now (tokens .exit)) (now (words .exit))
         ≡ scanInto (lexiconOf (now (table .entry))) (now (formula .entry)) (now (tokens .entry)) (now (words .entry)) ⌝ }
 {

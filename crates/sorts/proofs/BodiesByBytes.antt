@@ -14,15 +14,15 @@ use Rattle.grammar.specs.Sorts.{Signature, term}
 use Rattle.grammar.specs.SortTests.{fits}
 use Rattle.grammar.specs.Table.{Template, Templates, none, more, Item, call}
 use Rattle.grammar.specs.Values.{templateThen, templatesThen, itemValue}
-use Rattle.layout.specs.Prefix.{templatesOf, found, firstOf}
+use Rattle.layout.specs.Prefix.{templatesOf, found, headTemplate}
 use Rattle.layout.specs.Decode.{itemOf}
 use Rattle.layout.specs.Layout.{isKnown, isWhole}
 use Rattle.layout.specs.Within.{TemplatesWithin, ItemWithin, keyword-within, ide-within, number-within, local-within, call-within}
 use Rattle.layout.proofs.Split.{Bytes}
 use Rattle.layout.proofs.Templates.{read-templates, read-template}
 use Rattle.layout.proofs.Values.{item-value, item-read, result-value, result-read}
-use Rattle.sorts.specs.declared.Sorted.{Sorted}
-use Rattle.sorts.specs.declared.Sorted.the-variants.{As, Unsorted}
+use Rattle.sorts.specs.declared.ItemSort.{ItemSort}
+use Rattle.sorts.specs.declared.ItemSort.the-variants.{As, Unsorted}
 use Rattle.sorts.specs.CheckSorts.{isDefined, signatureOf, isClosed, areClosed, isSorted, sortOf, fill, checkItem, checkResult, checkRoot}
 use Rattle.sorts.specs.Scopes.{Scope}
 use Rattle.sorts.specs.TemplateBytes.{fillBytes, templatesFault}
@@ -36,7 +36,7 @@ abbrev pub contextOf : Scope → ℕ → List ℕ → List ℕ → Context
 contextOf G h H L = record { keywords = G .keywords; outsides = G .outsides; head = h; heads = H; sorts = L }
 
 -- a sort or a refusal at a place
-abbrev pub sortedAt : ℕ → Sorted → Checked ℕ
+abbrev pub sortedAt : ℕ → ItemSort → Checked ℕ
 sortedAt at (As s) = ok s
 sortedAt at (Unsorted fault) = bad (refusal fault at 0 0)
 
@@ -110,7 +110,7 @@ module _ (bs : List ℕ) (G : Scope) (H : List ℕ) (knows : (n : ℕ) → n < 6
     -- a result's bytes are checked as the template
     pub result-agrees :
         (S : Signature) (v : List ℕ) → signatureAt bs h ≡ S .result ∷ S .params → Bytes v → isWhole 7 v ≡ true
-        → verdictOf at (resultAt bs (contextOf G h H L) v) ≡ verdict (checkResult G L (S .result) at (firstOf (found (templatesOf v))))
+        → verdictOf at (resultAt bs (contextOf G h H L) v) ≡ verdict (checkResult G L (S .result) at (headTemplate (found (templatesOf v))))
     unfolding resultAt templatesFault areClosed fill
     result-agrees S v e b w =
         let B : ℕ = S .result in

@@ -11,10 +11,10 @@ use lib.Seq.{drop-cons, take-all, take-suc, take-suc-set, take-append-le, getD-d
 use borrow.Author.Tests.{lt-ltb, le-ltb, eq-eqb, ne-eqb}
 use Rattle.grammar.specs.Sorts.{unit, binder, num}
 use Rattle.sorts.specs.declared.Known.{Known}
-use Rattle.sorts.specs.declared.Sorted.{Sorted}
-use Rattle.sorts.specs.declared.Sorted.the-variants.{As, Unsorted}
+use Rattle.sorts.specs.declared.ItemSort.{ItemSort}
+use Rattle.sorts.specs.declared.ItemSort.the-variants.{As, Unsorted}
 use Rattle.sorts.specs.TemplateBytes.{templatesFault, places}
-use Rattle.sorts.specs.ByBytes.{signatureAt, Context, context, unlessFault, callAt, itemAt, resultAt, Loaded}
+use Rattle.sorts.specs.ByBytes.{signatureAt, Context, context, unlessFault, callAt, itemAt, resultAt, ParametersLoaded}
 use Rattle.sorts.proofs.TemplateInduction.{choose}
 use Rattle.sorts.proofs.TemplateLoops.{places-set}
 
@@ -33,7 +33,7 @@ pub record Loading (sig room₀ room : List ℕ) (top j : ℕ) : Type 0 where
 
 module _ {sig room₀ : List ℕ} where
   -- no signature has no parameters
-  pub params-none : length sig ≡ 0 → Loaded sig room₀ 0
+  pub params-none : length sig ≡ 0 → ParametersLoaded sig room₀ 0
   unfolding places
   params-none e = record { small = omega arith; loaded = sym (drop-of-length-le sig {i = 1} (omega arith)) }
 
@@ -59,7 +59,7 @@ module _ {sig room₀ : List ℕ} where
       }
 
   -- all places
-  pub loading-end : {room : List ℕ} {top j : ℕ} → Loading sig room₀ room top j → j ≤ 1 → Loaded sig room top
+  pub loading-end : {room : List ℕ} {top j : ℕ} → Loading sig room₀ room top j → j ≤ 1 → ParametersLoaded sig room top
   loading-end {room} {top} {j} l h =
       let one : j ≡ 1 = omega (arith, l .least) in
       record { small = omega (arith, l .height); loaded = cc (l .opened) }
@@ -142,7 +142,7 @@ module _ (bs : List ℕ) (X : Context) (n : ℕ) (arguments : List ℕ) {h : ℕ
       ≡ callAt bs X n arguments
   unfolding callAt
   call-by missing d =
-      let good : ℕ → Sorted =
+      let good : ℕ → ItemSort =
       λ x. unlessFault (getD (signatureAt bs x) 0 0) (templatesFault (X .outsides) (X .sorts) arguments (drop 1 (signatureAt bs x))) in
       cc
 
@@ -167,13 +167,13 @@ module _ (bs : List ℕ) (X : Context) (n : ℕ) (arguments : List ℕ) {h : ℕ
 -- ------------------------------------------------------------------ items
 
 module _ (bs : List ℕ) (X : Context) (v : List ℕ) {kind operand : ℕ} (e : kind ≡ getD v 0 0) (f : operand ≡ getD v 1 0) where
-  itemTests : ℕ → Bool → Bool → Bool → Bool → Sorted
+  itemTests : ℕ → Bool → Bool → Bool → Bool → ItemSort
   itemTests o keyword ide local call =
       choose (choose (As unit) (Unsorted 9) (ltb o (X .keywords)))
       (choose (As o) (choose (As binder) (choose (callAt bs X o (drop 2 v)) (As num) call) local) ide)
       keyword
 
-  itemBy : ℕ → ℕ → Sorted
+  itemBy : ℕ → ℕ → ItemSort
   itemBy k o = itemTests o (eqb k 0) (eqb k 1) (eqb k 3) (eqb k 4)
 
   item-is : {k : ℕ} → kind ≡ k → itemBy k operand ≡ itemAt bs X v

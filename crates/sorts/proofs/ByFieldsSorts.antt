@@ -10,7 +10,7 @@ use Rattle.answers.specs.Checked.{Checked, ok, bad, _>>=_, _>>_}
 use Rattle.grammar.specs.Sorts.{Signature, gives, unit}
 use Rattle.grammar.specs.Table.{Template, Item, Alternative, Mode, add, extend, update, Definition, Table}
 use lib.Dec.{eqb}
-use Rattle.grammar.specs.Fields.{Fields, next, fieldsOf}
+use Rattle.grammar.specs.Fields.{RawFields, next, fieldsOf}
 use Rattle.grammar.specs.Encode.{spellingsThen, itemsThen, alternativesThen, definitionsThen, blocksThen, tableFields, encode}
 use Rattle.grammar.specs.Values.{Field, field, templateThen, itemValue, modeCode, headValue}
 use Rattle.layout.specs.Decode.{modeOf, definitionOf}
@@ -190,7 +190,7 @@ module _ (K N : ℕ) where
       ∙ blocks-at k E (omega arith)
 
   blocks-skip :
-      (tag : ℕ) → eqb tag 3 ≡ false → eqb tag 8 ≡ false → (at : ℕ) (v : List ℕ) (fs : Fields) (E : Env)
+      (tag : ℕ) → eqb tag 3 ≡ false → eqb tag 8 ≡ false → (at : ℕ) (v : List ℕ) (fs : RawFields) (E : Env)
       → blocksBy (next at tag v fs) K N E ≡ blocksBy fs K N E
   unfolding blocksBy
   blocks-skip tag block root at v fs E = rw (blocksBy, block, root) refl
@@ -248,7 +248,7 @@ fields-sorts t w =
     let os : List (List ℕ) = t .outsides in
     let behind : List Field = blocksThen (t .blocks) (field 8 (t .root ∷ []) ∷ []) in
     let first : ℕ = spellingsSize ks + spellingsSize os in
-    let fs : Fields = spread 0 (spellingsThen 1 ks (spellingsThen 2 os behind)) in
+    let fs : RawFields = spread 0 (spellingsThen 1 ks (spellingsThen 2 os behind)) in
     let e : fieldsOf (encode t) ≡ fs = fields-of-bytes (tableFields t) in
     let led = leading-decoded (encode t) t (decode-encoded t w) in
     rw (led .0, led .1, e)

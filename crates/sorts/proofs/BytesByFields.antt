@@ -14,12 +14,12 @@ use Rattle.answers.specs.declared.Verdict.the-variants.{Passed, Refused}
 use Rattle.answers.specs.Checked.{Checked, ok, bad, _>>=_, _>>_, verdict}
 use Rattle.grammar.specs.Sorts.{Signature, gives, unit}
 use Rattle.grammar.specs.Values.{Field, field}
-use Rattle.grammar.specs.Fields.{Fields, end, cut, next, fieldsOf}
+use Rattle.grammar.specs.Fields.{RawFields, end, cut, next, fieldsOf}
 use Rattle.grammar.specs.Lookup.{leading, afterLeading}
 use Rattle.grammar.proofs.LookupLaws.{fields-of}
 use Rattle.layout.specs.declared.Progress.{Progress}
-use Rattle.layout.specs.Prefix.{templatesOf, found, firstOf}
-use Rattle.layout.specs.Layout.{isKnown, follows, passed, checkFields, start, layout}
+use Rattle.layout.specs.Prefix.{templatesOf, found, headTemplate}
+use Rattle.layout.specs.Layout.{isKnown, follows, passed, checkFields, initialProgress, layout}
 use Rattle.layout.proofs.Split.{Bytes, ValueBytes, value-bytes}
 use Rattle.layout.proofs.Accept.{Passes, accepted, by-tag}
 use Rattle.layout.proofs.Laws.{room-of}
@@ -29,8 +29,8 @@ use Rattle.sorts.specs.CheckSorts.{isDefined, checkResult}
 use Rattle.sorts.specs.Scopes.{Env}
 use Rattle.sorts.specs.Judgements.{scope}
 use Rattle.sorts.specs.ByFields.{headOf, collectBy, bodiesBy, blocksBy, checkSortsBy}
-use Rattle.sorts.specs.declared.Sorted.{Sorted}
-use Rattle.sorts.specs.declared.Sorted.the-variants.{As, Unsorted}
+use Rattle.sorts.specs.declared.ItemSort.{ItemSort}
+use Rattle.sorts.specs.declared.ItemSort.the-variants.{As, Unsorted}
 use Rattle.sorts.specs.ByBytes.{signatureAt, Collected, collected, collectFrom, itemAt, afterVerdict, afterBlock, afterItem}
 use Rattle.sorts.specs.ByBytes.{stepAt, goOn, sortsFrom, sortsOf}
 use Rattle.sorts.proofs.StepLaws.{sorts-short}
@@ -41,7 +41,7 @@ use Rattle.sorts.proofs.BodiesByBytes.{contextOf, sortedAt, item-agrees
 
 module _ (bs : List ℕ) where
   -- the heads show an environment, and none lies behind the block that the fields begin in
-  pub record Shows (E : Env) (H : List ℕ) (fs : Fields) : Type 0 where
+  pub record Shows (E : Env) (H : List ℕ) (fs : RawFields) : Type 0 where
     -- there is a head for each nonterminal
     pub size : length H ≡ 64
     -- each head shows what the environment has
@@ -61,10 +61,10 @@ module _ (bs : List ℕ) where
     after-item : Inside 6
 
   -- what comes behind the bodies
-  abbrev fieldsVerdict : Fields → ℕ → ℕ → Env → Signature → List ℕ → Verdict
+  abbrev fieldsVerdict : RawFields → ℕ → ℕ → Env → Signature → List ℕ → Verdict
   fieldsVerdict fs K N E S L = verdict (bodiesBy fs (scope K N E) S L >> blocksBy fs K N E)
 
-  abbrev bytesVerdict : Fields → ℕ → ℕ → ℕ → List ℕ → List ℕ → Verdict
+  abbrev bytesVerdict : RawFields → ℕ → ℕ → ℕ → List ℕ → List ℕ → Verdict
   bytesVerdict fs K N h H L = sortsFrom fs bs (record { keywords = K; outsides = N; head = h; heads = H; sorts = L })
 
   -- ------------------------------------------------------------------ which tag follows
@@ -89,7 +89,7 @@ module _ (bs : List ℕ) where
   -- ------------------------------------------------------------------ answers put together
 
   item-case :
-      (fs : Fields) (K N h : ℕ) (E : Env) (H : List ℕ) (S : Signature) (L : List ℕ) (at : ℕ) (c : Sorted)
+      (fs : RawFields) (K N h : ℕ) (E : Env) (H : List ℕ) (S : Signature) (L : List ℕ) (at : ℕ) (c : ItemSort)
       → ((s : ℕ) → bytesVerdict fs K N h H (take 16 (L ++ (s ∷ []))) ≡ fieldsVerdict fs K N E S (L ++ (s ∷ [])))
       → goOn (afterItem (contextOf (scope K N E) h H L) at c) (λ X. sortsFrom fs bs X)
       ≡ verdict ((sortedAt at c >>= λ s. bodiesBy fs (scope K N E) S (L ++ (s ∷ []))) >> blocksBy fs K N E)
@@ -97,7 +97,7 @@ module _ (bs : List ℕ) where
   item-case fs K N h E H S L at (Unsorted fault) f = refl
 
   result-case :
-      (fs : Fields) (K N h : ℕ) (E : Env) (H : List ℕ) (S : Signature) (L L′ : List ℕ) (c : Checked (Unit {0}))
+      (fs : RawFields) (K N h : ℕ) (E : Env) (H : List ℕ) (S : Signature) (L L′ : List ℕ) (c : Checked (Unit {0}))
       → bytesVerdict fs K N h H L ≡ fieldsVerdict fs K N E S L′
       → goOn (afterVerdict (contextOf (scope K N E) h H L) (verdict c)) (λ X. sortsFrom fs bs X)
       ≡ verdict (c >> bodiesBy fs (scope K N E) S L′ >> blocksBy fs K N E)
@@ -105,7 +105,7 @@ module _ (bs : List ℕ) where
   result-case fs K N h E H S L L′ (bad r) f = refl
 
   block-case :
-      (fs : Fields) (K N h block : ℕ) (E : Env) (H₀ L : List ℕ) (c : Checked Env) (x : Collected) → Agree bs E block (endOf fs) c x
+      (fs : RawFields) (K N h block : ℕ) (E : Env) (H₀ L : List ℕ) (c : Checked Env) (x : Collected) → Agree bs E block (endOf fs) c x
       → ((own : Env) (H : List ℕ) → Collects bs E own block H → Below H (endOf fs)
       → bytesVerdict fs K N h H L ≡ fieldsVerdict fs K N (own ++ E) (gives [] unit) [])
       → goOn (afterBlock (contextOf (scope K N E) h H₀ L) x) (λ X. sortsFrom fs bs X)
@@ -118,7 +118,7 @@ module _ (bs : List ℕ) where
   -- ------------------------------------------------------------------ one field
 
   -- the fields behind a field, and what is known of it
-  module _ (at : ℕ) (v : List ℕ) (fs : Fields) (K N h : ℕ) (E : Env) (H L : List ℕ) (p : Placed bs (at + 3) fs) where
+  module _ (at : ℕ) (v : List ℕ) (fs : RawFields) (K N h : ℕ) (E : Env) (H L : List ℕ) (p : Placed bs (at + 3) fs) where
     -- a block is collected, then its bodies follow
     block-agrees :
         (before : List Field) (s : Progress) → checkFields fs before s ≡ ok tt → Shows E H (next at 3 v fs)
@@ -153,7 +153,7 @@ module _ (bs : List ℕ) where
     unfolding sortsFrom stepAt bodiesBy blocksBy endOf passed follows
 
     between-agrees :
-        (fs : Fields) (before : List Field) (s : Progress) → checkFields fs before s ≡ ok tt → ValueBytes fs → (from : ℕ) → Placed bs from fs
+        (fs : RawFields) (before : List Field) (s : Progress) → checkFields fs before s ≡ ok tt → ValueBytes fs → (from : ℕ) → Placed bs from fs
         → (K N h : ℕ) (E : Env) (H L : List ℕ) (S : Signature) (L′ : List ℕ) → Shows E H fs → Between h S (s .last)
         → bytesVerdict fs K N h H L ≡ fieldsVerdict fs K N E S L′
     between-agrees (end at) before s a y from p K N h E H L S L′ w b = refl
@@ -184,7 +184,7 @@ module _ (bs : List ℕ) where
         tag v (q .0 .known) (q .0) (q .1) w
 
     inside-agrees :
-        (fs : Fields) (before : List Field) (s : Progress) → checkFields fs before s ≡ ok tt → ValueBytes fs → (from : ℕ) → Placed bs from fs
+        (fs : RawFields) (before : List Field) (s : Progress) → checkFields fs before s ≡ ok tt → ValueBytes fs → (from : ℕ) → Placed bs from fs
         → (K N h : ℕ) (E : Env) (H : List ℕ) (S : Signature) (L : List ℕ) → Shows E H fs → signatureAt bs h ≡ bytesOf S → length (S .params) ≤ 4
         → Inside (s .last) → length L ≤ 4 + s .items
         → bytesVerdict fs K N h H L ≡ fieldsVerdict fs K N E S L
@@ -210,7 +210,7 @@ module _ (bs : List ℕ) where
         ∙ rw (item-agrees bs (scope K N E) H (w .knows) h L at v (y .0) (o .known) (o .whole)))
         (λ o r w.
         rw (result-agrees bs (scope K N E) H (w .knows) h L at S v sig (y .0) (o .whole))
-        (result-case fs K N h E H S L [] (checkResult (scope K N E) L (S .result) at (firstOf (found (templatesOf v))))
+        (result-case fs K N h E H S L [] (checkResult (scope K N E) L (S .result) at (headTemplate (found (templatesOf v))))
         (between-agrees fs (field 7 v ∷ before) (passed 7 s) r (y .1) (at + 3) (p .2) K N h E H L S []
         (record { size = w .size; knows = w .knows; below = w .below }) (after-result sig few))))
         (λ o r w. absurd (never-inside 8 b refl refl (o .ordered)))
@@ -236,7 +236,7 @@ module _ (bs : List ℕ) where
 
   -- a block or the root, where K keywords and N outside names are defined
   first-block :
-      (at : ℕ) (v : List ℕ) (fs : Fields) (before : List Field) (s : Progress) → checkFields fs (field 3 v ∷ before) (passed 3 s) ≡ ok tt
+      (at : ℕ) (v : List ℕ) (fs : RawFields) (before : List Field) (s : Progress) → checkFields fs (field 3 v ∷ before) (passed 3 s) ≡ ok tt
       → ValueBytes fs → Placed bs (at + 3) fs → (K N : ℕ) (H : List ℕ) → Shows [] H (next at 3 v fs)
       → bytesVerdict (next at 3 v fs) K N 0 H [] ≡ verdict (blocksBy (next at 3 v fs) K N [])
   unfolding passed
@@ -245,7 +245,7 @@ module _ (bs : List ℕ) where
       (λ own H′ d. between-agrees fs (field 3 v ∷ before) (passed 3 s) r y (at + 3) p K N 0 (own ++ []) H′ [] (gives [] unit) [] d after-block)
 
   names-agree :
-      (fs : Fields) (before : List Field) (s : Progress) → checkFields fs before s ≡ ok tt → ValueBytes fs → (from : ℕ) → Placed bs from fs
+      (fs : RawFields) (before : List Field) (s : Progress) → checkFields fs before s ≡ ok tt → ValueBytes fs → (from : ℕ) → Placed bs from fs
       → (K N : ℕ) (H : List ℕ) → Shows [] H fs → Naming (s .last)
       → bytesVerdict fs K N 0 H [] ≡ verdict (blocksBy fs K (N + length (leading 2 fs)) [])
   unfolding sortsFrom stepAt blocksBy endOf passed follows leading
@@ -271,7 +271,7 @@ module _ (bs : List ℕ) where
       tag v (q .0 .known) (q .0) (q .1) w
 
   spellings-agree :
-      (fs : Fields) (before : List Field) (s : Progress) → checkFields fs before s ≡ ok tt → ValueBytes fs → (from : ℕ) → Placed bs from fs
+      (fs : RawFields) (before : List Field) (s : Progress) → checkFields fs before s ≡ ok tt → ValueBytes fs → (from : ℕ) → Placed bs from fs
       → (K : ℕ) (H : List ℕ) → Shows [] H fs → Spelling (s .last)
       → bytesVerdict fs K 0 0 H [] ≡ verdict (blocksBy fs (K + length (leading 1 fs)) (length (leading 2 (afterLeading 1 fs))) [])
   unfolding sortsFrom stepAt blocksBy endOf passed follows leading afterLeading
@@ -311,7 +311,7 @@ module _ (bs : List ℕ) where
   no-heads (suc k) zero = refl
   no-heads (suc k) (suc n) = no-heads k n
 
-  nothing-shown : (fs : Fields) → Shows [] (replicate 64 0) fs
+  nothing-shown : (fs : RawFields) → Shows [] (replicate 64 0) fs
   unfolding isDefined
   nothing-shown fs =
       record {
@@ -325,10 +325,10 @@ module _ (bs : List ℕ) where
   unfolding checkSortsBy
   bytes-sorts b e =
       let parts = layout-parts bs e in
-      let fs : Fields = fieldsOf bs in
+      let fs : RawFields = fieldsOf bs in
       cc (
         sorts-short bs (parts .0),
         fields-of bs,
-        spellings-agree fs [] start (parts .1) (value-bytes bs b) 0 (placed-fields bs) 0 (replicate 64 0) (nothing-shown fs) at-start,
+        spellings-agree fs [] initialProgress (parts .1) (value-bytes bs b) 0 (placed-fields bs) 0 (replicate 64 0) (nothing-shown fs) at-start,
         zero-add (length (leading 1 fs)),
       )

@@ -13,7 +13,7 @@ use Rattle.answers.specs.Refusals.{refusal}
 use Rattle.answers.specs.Checked.{Checked, ok, bad, _>>_}
 use Rattle.spellings.proofs.BytesLaws.{by-test}
 use Rattle.grammar.specs.Values.{Field, field}
-use Rattle.grammar.specs.Fields.{Fields, end, cut, next}
+use Rattle.grammar.specs.Fields.{RawFields, end, cut, next}
 use Rattle.layout.specs.declared.Progress.{Progress}
 use Rattle.layout.specs.Layout.{passed, checkFields}
 use Rattle.layout.proofs.Accept.{accepted}
@@ -49,7 +49,7 @@ Agree bs E block limit (bad r) (collected (Refused q) H) = r ≡ q
 
 module _ (bs : List ℕ) (E : Env) (block : ℕ) where
   -- one field, by what it is and what the fields behind it give
-  module _ (at tag : ℕ) (v : List ℕ) (fs : Fields) (own : Env) (H : List ℕ)
+  module _ (at tag : ℕ) (v : List ℕ) (fs : RawFields) (own : Env) (H : List ℕ)
       (other : Below H (endOf fs) → Agree bs E block (endOf fs) (collectBy fs E own) (collectFrom fs bs block H)) where
     abbrev fieldsGive : Bool → Bool → Checked Env
     fieldsGive ends head =
@@ -94,7 +94,7 @@ module _ (bs : List ℕ) (E : Env) (block : ℕ) where
 
   -- the heads of a block are collected from the bytes as from the fields
   pub collect-agrees :
-      (fs : Fields) (before : List Field) (s : Progress) (own : Env) (H : List ℕ) → checkFields fs before s ≡ ok tt
+      (fs : RawFields) (before : List Field) (s : Progress) (own : Env) (H : List ℕ) → checkFields fs before s ≡ ok tt
       → Placed bs (block + 1) fs → Collects bs E own block H → Below H (endOf fs)
       → Agree bs E block (endOf fs) (collectBy fs E own) (collectFrom fs bs block H)
   unfolding collectBy collectFrom endOf

@@ -12,7 +12,7 @@ use Rattle.answers.specs.Refusals.{refusal}
 use Rattle.spellings.proofs.BytesLaws.{by-test}
 use Rattle.grammar.specs.declared.Front.{Front}
 use Rattle.grammar.specs.declared.Front.the-variants.{Nothing, Short, Field}
-use Rattle.grammar.specs.Fields.{Fields, next}
+use Rattle.grammar.specs.Fields.{RawFields, next}
 use Rattle.grammar.specs.Lookup.{frontOf, fieldsAt}
 pub use Rattle.grammar.proofs.LookupLaws.{front-inside}
 use Rattle.grammar.proofs.LookupLaws.{opened, fields-at}
@@ -33,7 +33,7 @@ collecting-start = record { as-many = refl; rest = refl }
 
 -- one field, by the tests of its tag and of its head
 collect-field :
-    (bs : List ℕ) (block at tag : ℕ) (v : List ℕ) (fs : Fields) (H : List ℕ) (ends head clean : Bool) → endsBlock tag ≡ ends
+    (bs : List ℕ) (block at tag : ℕ) (v : List ℕ) (fs : RawFields) (H : List ℕ) (ends head clean : Bool) → endsBlock tag ≡ ends
     → eqb tag 4 ≡ head → eqb (faultOf bs at block H) 0 ≡ clean
     → collectFrom (next at tag v fs) bs block H
     ≡ choose (collected Passed H)

@@ -8,26 +8,26 @@ use borrow.Author.Tests.{eqb-true, eqb-false, eq-eqb, ne-eqb}
 use Rattle.spellings.proofs.BytesLaws.{by-test, same-true, same-refl}
 use Rattle.grammar.specs.Sorts.{Signature, gives}
 use Rattle.sorts.specs.CheckSorts.{isDefined, signatureOf, sameSignature}
-use Rattle.sorts.specs.Scopes.{Entry, Env}
-use Rattle.sorts.specs.Judgements.{Newest, newest-first, newest-later, Absent, absent-empty, absent-entry}
+use Rattle.sorts.specs.Scopes.{Declaration, Env}
+use Rattle.sorts.specs.Judgements.{Newest, newest-first, newest-later, Undeclared, absent-empty, absent-entry}
 
 -- the first entry is the one asked for, or the others are looked at
-pub defined-here : (e : Entry) (E : Env) (n : ℕ) → eqb (e .nonterminal) n ≡ true → isDefined (e ∷ E) n ≡ true
+pub defined-here : (e : Declaration) (E : Env) (n : ℕ) → eqb (e .nonterminal) n ≡ true → isDefined (e ∷ E) n ≡ true
 unfolding isDefined
 defined-here e E n h = rw (h, isDefined) refl
 
 -- another entry does not matter to what is defined
-pub defined-later : (e : Entry) (E : Env) (n : ℕ) → eqb (e .nonterminal) n ≡ false → isDefined (e ∷ E) n ≡ isDefined E n
+pub defined-later : (e : Declaration) (E : Env) (n : ℕ) → eqb (e .nonterminal) n ≡ false → isDefined (e ∷ E) n ≡ isDefined E n
 unfolding isDefined
 defined-later e E n h = rw (h, isDefined) refl
 
 -- an entry gives its signature
-pub signature-here : (e : Entry) (E : Env) (n : ℕ) → eqb (e .nonterminal) n ≡ true → signatureOf (e ∷ E) n ≡ e .signature
+pub signature-here : (e : Declaration) (E : Env) (n : ℕ) → eqb (e .nonterminal) n ≡ true → signatureOf (e ∷ E) n ≡ e .signature
 unfolding signatureOf
 signature-here e E n h = rw (h, signatureOf) refl
 
 -- another entry does not matter to a signature
-pub signature-later : (e : Entry) (E : Env) (n : ℕ) → eqb (e .nonterminal) n ≡ false → signatureOf (e ∷ E) n ≡ signatureOf E n
+pub signature-later : (e : Declaration) (E : Env) (n : ℕ) → eqb (e .nonterminal) n ≡ false → signatureOf (e ∷ E) n ≡ signatureOf E n
 unfolding signatureOf
 signature-later e E n h = rw (h, signatureOf) refl
 
@@ -52,7 +52,7 @@ newest-signature (newest-first {e = e} {E = E}) = signature-here e E (e .nonterm
 newest-signature (newest-later {e = e} {E = E} {n = n} d h) = signature-later e E n (ne-eqb _ n d) ∙ newest-signature h
 
 -- a nonterminal that is not defined is absent
-pub undefined-absent : (E : Env) (n : ℕ) → isDefined E n ≡ false → Absent E n
+pub undefined-absent : (E : Env) (n : ℕ) → isDefined E n ≡ false → Undeclared E n
 unfolding isDefined
 undefined-absent [] n h = absent-empty
 undefined-absent (e ∷ E) n h =
@@ -60,7 +60,7 @@ undefined-absent (e ∷ E) n h =
     (λ q. absent-entry (eqb-false _ n q) (undefined-absent E n (sym (defined-later e E n q) ∙ h)))
 
 -- what is absent is not defined
-pub absent-undefined : {E : Env} {n : ℕ} → Absent E n → isDefined E n ≡ false
+pub absent-undefined : {E : Env} {n : ℕ} → Undeclared E n → isDefined E n ≡ false
 unfolding isDefined
 absent-undefined absent-empty = refl
 absent-undefined (absent-entry {e = e} {E = E} {n = n} d h) = defined-later e E n (ne-eqb _ n d) ∙ absent-undefined h

@@ -21,8 +21,8 @@ use Rattle.layout.specs.Decode.{definitionOf}
 use Rattle.layout.specs.Layout.{isKnown}
 use Rattle.layout.specs.Within.{each-none, each-more, variable-within}
 use Rattle.layout.proofs.Values.{head-value}
-use Rattle.sorts.specs.CheckSorts.{isDefined, signatureOf, sameSignature, isNew, isAsBefore, consistent}
-use Rattle.sorts.specs.Scopes.{Entry, Env, entryOf}
+use Rattle.sorts.specs.CheckSorts.{isDefined, signatureOf, sameSignature, isUnused, isAsBefore, consistent}
+use Rattle.sorts.specs.Scopes.{Declaration, Env, entryOf}
 use Rattle.sorts.specs.ByFields.{headOf}
 use Rattle.sorts.specs.ByBytes.{valueAt, signatureAt, faultOf, withHead}
 use Rattle.sorts.proofs.TemplateInduction.{choose}
@@ -219,7 +219,7 @@ module _ (bs : List ℕ) (E own : Env) (block : ℕ) (H : List ℕ) (c : Collect
   coded : {m : Mode} → h .mode ≡ m → modeCode m ≡ getD bs (at + 4) 0
   coded q = sym (head-mode bs at p h ∙ ap modeCode q)
 
-  new-outcome : (eqb (modeCode (h .mode)) 1 || eqb (modeCode (h .mode)) 2) ≡ false → need (isNew E own (headOf v)) 7 at
+  new-outcome : (eqb (modeCode (h .mode)) 1 || eqb (modeCode (h .mode)) 2) ≡ false → need (isUnused E own (headOf v)) 7 at
       ≡ outcome (faultOf bs at block H)
   unfolding head n
   new-outcome m =
@@ -256,7 +256,7 @@ module _ (bs : List ℕ) (E own : Env) (block : ℕ) (H : List ℕ) (c : Collect
 
   -- one head more
   module _ (l : block < at) where
-    e : Entry
+    e : Declaration
     e = entryOf (headOf v)
 
     heads : List ℕ

@@ -8,25 +8,25 @@ use lib.Dec.{eqb, leb}
 use lib.ListN.{length, getD, take, drop}
 use lib.Seq.{getD-drop, drop-drop}
 use Rattle.spellings.proofs.BytesLaws.{by-test}
-use Rattle.grammar.specs.Fields.{Fields, end, cut, next, sizeOf, fieldsFrom, fieldsOf}
+use Rattle.grammar.specs.Fields.{RawFields, end, cut, next, sizeOf, fieldsFrom, fieldsOf}
 use Rattle.sorts.specs.ByFields.{endsBlock}
 use Rattle.sorts.specs.ByBytes.{valueAt}
 use Rattle.sorts.proofs.TemplateInduction.{choose}
 
 -- the fields stand in the table, none before an offset
-abbrev pub Placed : List ℕ → ℕ → Fields → Type 0
+abbrev pub Placed : List ℕ → ℕ → RawFields → Type 0
 Placed bs from (end at) = from ≤ at
 Placed bs from (cut at) = from ≤ at
 Placed bs from (next at tag v fs) = (from ≤ at) × (v ≡ valueAt bs at) × Placed bs (at + 3) fs
 
 -- the offset at which the block ends that the fields begin in
-unfoldable pub endOf : Fields → ℕ
+unfoldable pub endOf : RawFields → ℕ
 endOf (end at) = at
 endOf (cut at) = at
 endOf (next at tag v fs) = elim (endsBlock tag) [ true ↦ at | false ↦ endOf fs ]
 
 -- fields stand before the end of their block
-pub placed-end : (bs : List ℕ) (from : ℕ) (fs : Fields) → Placed bs from fs → from ≤ endOf fs
+pub placed-end : (bs : List ℕ) (from : ℕ) (fs : RawFields) → Placed bs from fs → from ≤ endOf fs
 unfolding endOf
 placed-end bs from (end at) p = p
 placed-end bs from (cut at) p = p
@@ -37,7 +37,7 @@ placed-end bs from (next at tag v fs) p = by (endsBlock tag) (placed-end bs (at 
     by false h = let q : from ≤ at = p .0 in omega arith
 
 -- and from any lower offset on
-pub placed-from-lower : (bs : List ℕ) (from lower : ℕ) (fs : Fields) → lower ≤ from → Placed bs from fs → Placed bs lower fs
+pub placed-from-lower : (bs : List ℕ) (from lower : ℕ) (fs : RawFields) → lower ≤ from → Placed bs from fs → Placed bs lower fs
 placed-from-lower bs from lower (end at) h p = omega arith
 placed-from-lower bs from lower (cut at) h p = omega arith
 placed-from-lower bs from lower (next at tag v fs) h p = (let q : from ≤ at = p .0 in omega arith, p .1, p .2)
@@ -51,7 +51,7 @@ fields-by :
     empty
 unfolding fieldsFrom
 fields-by k at rest empty whole e f =
-    let first : Fields =
+    let first : RawFields =
     next at (getD rest 0 0) (take (sizeOf rest) (drop 3 rest)) (fieldsFrom k (at + (3 + sizeOf rest)) (drop (3 + sizeOf rest) rest)) in
     cc
 

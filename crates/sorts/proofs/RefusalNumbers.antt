@@ -12,7 +12,7 @@ use Rattle.grammar.specs.SortTests.{fits}
 use Rattle.grammar.specs.Table.{Item, keyword, ide, number, local, call, Alternative, Mode, add, extend, update, Definition, Table}
 use Rattle.grammar.specs.Values.{itemValue}
 use Rattle.sorts.specs.Sizes.{fieldSize, alternativeSize, definitionSize, definitionsSize}
-use Rattle.sorts.specs.CheckSorts.{isDefined, signatureOf, isNew, isAsBefore, isClosed, areClosed, isSorted, sortOf, fill}
+use Rattle.sorts.specs.CheckSorts.{isDefined, signatureOf, isUnused, isAsBefore, isClosed, areClosed, isSorted, sortOf, fill}
 use Rattle.sorts.specs.Scopes.{Env, Scope, entryOf}
 use Rattle.sorts.specs.CheckSorts.{consistent, collect, checkItem, checkItems, checkAlternative, checkAlternatives, checkBodies, checkBlocks}
 use Rattle.sorts.specs.CheckSorts.{checkRoot, checkSorts}
@@ -61,7 +61,7 @@ needs-sort b c at = after (need b 9 at) (need c 11 at) (need-9 b at) (need-11 c 
 -- ------------------------------------------------------------------ the parts of the check
 
 consistent-sort : (m : Mode) (E own : Env) (d : Definition) (at : ℕ) → Sort (consistent m E own d at)
-consistent-sort add E own d at = need-7 (isNew E own d) at
+consistent-sort add E own d at = need-7 (isUnused E own d) at
 consistent-sort extend E own d at = need-8 (isAsBefore E own d) at
 consistent-sort update E own d at = need-8 (isAsBefore E own d) at
 

@@ -12,10 +12,10 @@ use Rattle.grammar.specs.Sorts.{Signature, term}
 use Rattle.grammar.specs.Table.{Mode, add, extend, update, Definition, Table}
 use Rattle.layout.specs.Within.{Each, each-none, each-more, DefinitionWithin, Within}
 use Rattle.sorts.specs.Sizes.{definitionSize, definitionsSize}
-use Rattle.sorts.specs.CheckSorts.{isDefined, signatureOf, sameSignature, isAsBefore, isNew, consistent, collect}
+use Rattle.sorts.specs.CheckSorts.{isDefined, signatureOf, sameSignature, isAsBefore, isUnused, consistent, collect}
 use Rattle.sorts.specs.Scopes.{Env, Scope, entryOf}
 use Rattle.sorts.specs.CheckSorts.{checkBodies, checkBlocks, checkRoot, checkSorts}
-use Rattle.sorts.specs.Judgements.{Newest, Absent, Defines, no-definition, by-add, by-extend, by-update, scope, Sequence, no-grammar}
+use Rattle.sorts.specs.Judgements.{Newest, Undeclared, Defines, no-definition, by-add, by-extend, by-update, scope, Sequence, no-grammar}
 use Rattle.sorts.specs.Judgements.{by-grammar, WellSorted}
 use Rattle.sorts.proofs.Accepting.{Accepts, need-passed, need-passes, needs-passed, needs-passes, bind-passed, bind-passes, then-passed, then-passes}
 use Rattle.sorts.proofs.Environments.{defined-newest, newest-defined, newest-signature, undefined-absent, absent-undefined, same-signature}
@@ -27,13 +27,13 @@ use Rattle.sorts.proofs.BodySorts.{ok-rule, rule-ok}
 
 module _ (E : Env) where
   -- add: neither this block nor an earlier one has the number
-  new-rule : (own : Env) (d : Definition) → isNew E own d ≡ true → Absent own (d .nonterminal) × Absent E (d .nonterminal)
+  new-rule : (own : Env) (d : Definition) → isUnused E own d ≡ true → Undeclared own (d .nonterminal) × Undeclared E (d .nonterminal)
   new-rule own d h =
       let n : ℕ = d .nonterminal in
       let b = both (not (isDefined own n)) (not (isDefined E n)) h in
       (undefined-absent own n (not-true (isDefined own n) (b .0)), undefined-absent E n (not-true (isDefined E n) (b .1)))
 
-  rule-new : (own : Env) (d : Definition) → Absent own (d .nonterminal) → Absent E (d .nonterminal) → isNew E own d ≡ true
+  rule-new : (own : Env) (d : Definition) → Undeclared own (d .nonterminal) → Undeclared E (d .nonterminal) → isUnused E own d ≡ true
   rule-new own d h k =
       let n : ℕ = d .nonterminal in
       pair (not (isDefined own n)) (not (isDefined E n)) (ap not (absent-undefined h)) (ap not (absent-undefined k))
@@ -41,7 +41,7 @@ module _ (E : Env) where
   -- extend and update: this block does not have the number, an earlier one has it with the same signature
   before-rule :
       (own : Env) (d : Definition) → isAsBefore E own d ≡ true
-      → Absent own (d .nonterminal) × Newest E (d .nonterminal) (d .signature)
+      → Undeclared own (d .nonterminal) × Newest E (d .nonterminal) (d .signature)
   before-rule own d h =
       let n : ℕ = d .nonterminal in
       let b = both (not (isDefined own n) && isDefined E n) (sameSignature (signatureOf E n) (d .signature)) h in
@@ -51,7 +51,7 @@ module _ (E : Env) where
       )
 
   rule-before :
-      (own : Env) (d : Definition) → Absent own (d .nonterminal) → Newest E (d .nonterminal) (d .signature)
+      (own : Env) (d : Definition) → Undeclared own (d .nonterminal) → Newest E (d .nonterminal) (d .signature)
       → isAsBefore E own d ≡ true
   rule-before own d h k =
       let n : ℕ = d .nonterminal in
@@ -65,7 +65,7 @@ module _ (E : Env) where
       → Accepts (consistent m E own d at) P
       → ((ds : List Definition) (own′ : Env) → Defines E (entryOf d ∷ own) ds own′ → Defines E own (d ∷ ds) own′) × P tt
   definition-rule P add own d at e h =
-      let n = need-passed (isNew E own d) 7 at P h in
+      let n = need-passed (isUnused E own d) 7 at P h in
       let r = new-rule own d (n .0) in
       (λ ds own′ k. by-add e (r .0) (r .1) k, n .1)
   definition-rule P extend own d at e h =
@@ -101,7 +101,7 @@ module _ (E : Env) where
   rule-collect P at (by-add {own = own} {d = d} e a b k) p =
       then-passes P (consistent (d .mode) E own d at) _
       (in-mode _ own d at e
-      (need-passes (isNew E own d) 7 at _ (rule-new own d a b) (rule-collect P (at + definitionSize d) k p)))
+      (need-passes (isUnused E own d) 7 at _ (rule-new own d a b) (rule-collect P (at + definitionSize d) k p)))
   rule-collect P at (by-extend {own = own} {d = d} e a b k) p =
       then-passes P (consistent (d .mode) E own d at) _
       (in-mode _ own d at e

@@ -18,12 +18,13 @@ use Rattle.grammar.specs.Lookup.{frontOf, fieldsAt}
 use Rattle.grammar.proofs.LookupLaws.{opened, fields-at, fields-of}
 use Rattle.grammar.specs.Limits.{most}
 use Rattle.sorts.specs.declared.Known.{Known}
-use Rattle.sorts.specs.declared.Sorted.{Sorted}
-use Rattle.sorts.specs.declared.Sorted.the-variants.{As, Unsorted}
-use Rattle.sorts.specs.declared.Step.{Step}
-use Rattle.sorts.specs.declared.Step.the-variants.{Next, Stop}
+use Rattle.sorts.specs.declared.ItemSort.{ItemSort}
+use Rattle.sorts.specs.declared.ItemSort.the-variants.{As, Unsorted}
+use Rattle.sorts.specs.declared.FieldStep.{FieldStep}
+use Rattle.sorts.specs.declared.FieldStep.the-variants.{Next, Stop}
 use Rattle.sorts.specs.ByBytes.{signatureAt, collected, collectAt, context, unknown, itemAt, resultAt, rootAt}
-use Rattle.sorts.specs.ByBytes.{Stepped, going, stopped, stepped, verdictOf, afterVerdict, afterBlock, afterItem, itemStep, stepAt, stepOf}
+use Rattle.sorts.specs.ByBytes.{FieldStepped, going, verdict-found, stepped, verdictOf, afterVerdict, afterBlock, afterItem, itemStep, stepAt}
+use Rattle.sorts.specs.ByBytes.{verdictStep}
 use Rattle.sorts.specs.ByBytes.{withSorts, counting, counted, goOn, sortsFrom, sortsOf, Counts, ItemChecked, FieldChecked}
 use Rattle.sorts.proofs.TemplateInduction.{choose}
 
@@ -115,13 +116,13 @@ module _ (k : Known) (tag at : ℕ) where
 module _ {bs : List ℕ} {at : ℕ} {v : List ℕ} {k : Known} {H L : List ℕ} where
   -- an item's refusal
   pub item-refused :
-      {s : Sorted} {fault : ℕ} {c : Verdict} {L′ : List ℕ} → s ≡ itemAt bs (context k H L) v → s ≡ Unsorted fault
+      {s : ItemSort} {fault : ℕ} {c : Verdict} {L′ : List ℕ} → s ≡ itemAt bs (context k H L) v → s ≡ Unsorted fault
       → c ≡ Refused (refusal fault at 0 0) → ItemChecked bs at v k H L (Stop c) L′
-  item-refused e f q = record { steps = ap stopped q ∙ ap (afterItem (context k H L) at) (sym f ∙ e); counts = tt }
+  item-refused e f q = record { steps = ap verdict-found q ∙ ap (afterItem (context k H L) at) (sym f ∙ e); counts = tt }
 
   -- one variable more
   pub item-added :
-      {s : Sorted} {x n : ℕ} {L′ : List ℕ} → s ≡ itemAt bs (context k H L) v → s ≡ As x
+      {s : ItemSort} {x n : ℕ} {L′ : List ℕ} → s ≡ itemAt bs (context k H L) v → s ≡ As x
       → take n L′ ≡ take 16 (context k H L .sorts ++ (x ∷ []))
       → ItemChecked bs at v k H L (Next (record { keywords = k .keywords; outsides = k .outsides; head = k .head; variables = n })) L′
   item-added e f q =
@@ -134,11 +135,11 @@ module _ {bs : List ℕ} {at : ℕ} {v : List ℕ} {k : Known} {H L : List ℕ} 
 -- ------------------------------------------------------------------ one field
 
 -- a verdict on the way
-verdict-goes : (k : Known) (H L : List ℕ) (c : Verdict) → stepped (stepOf k c) H L ≡ afterVerdict (context k H L) c
+verdict-goes : (k : Known) (H L : List ℕ) (c : Verdict) → stepped (verdictStep k c) H L ≡ afterVerdict (context k H L) c
 verdict-goes k H L Passed = refl
 verdict-goes k H L (Refused r) = refl
 
-verdict-counts : (k : Known) (c : Verdict) → Counts k (stepOf k c)
+verdict-counts : (k : Known) (c : Verdict) → Counts k (verdictStep k c)
 verdict-counts k Passed = (omega arith, omega arith)
 verdict-counts k (Refused r) = tt
 
@@ -147,13 +148,13 @@ module _ (bs : List ℕ) (at : ℕ) (v : List ℕ) (to : ℕ) (k : Known) (H L :
   step-is t e = cc
 
   -- by the tests of the tag
-  stepTests : ℕ → Bool → Bool → Bool → Bool → Bool → Stepped
+  stepTests : ℕ → Bool → Bool → Bool → Bool → Bool → FieldStepped
   stepTests tag block alternative item result root =
       choose (afterBlock (context k H L) (collectAt bs at to H))
       (choose (going (withSorts (context k H L) (drop 1 (signatureAt bs (k .head)))))
       (choose (itemStep bs (context k H L) at v)
       (choose (afterVerdict (context k H L) (verdictOf at (resultAt bs (context k H L) v)))
-      (choose (stopped (verdictOf at (rootAt bs H (getD v 0 0)))) (going (counted (context k H L) tag at)) root)
+      (choose (verdict-found (verdictOf at (rootAt bs H (getD v 0 0)))) (going (counted (context k H L) tag at)) root)
       result)
       item)
       alternative)
@@ -162,7 +163,7 @@ module _ (bs : List ℕ) (at : ℕ) (v : List ℕ) (to : ℕ) (k : Known) (H L :
 module _ {bs : List ℕ} {at tag : ℕ} {v : List ℕ} {to : ℕ} {k : Known} {H L : List ℕ} where
   -- a block's heads are collected
   pub step-block :
-      {r : Step} {c : Verdict} {H′ : List ℕ} → tag ≡ 3 → collected c H′ ≡ collectAt bs at to H → r ≡ stepOf k c
+      {r : FieldStep} {c : Verdict} {H′ : List ℕ} → tag ≡ 3 → collected c H′ ≡ collectAt bs at to H → r ≡ verdictStep k c
       → FieldChecked bs at tag v to k H L r H′ L
   unfolding stepAt
   step-block {r} {c} {H′} e p q =
@@ -184,13 +185,13 @@ module _ {bs : List ℕ} {at tag : ℕ} {v : List ℕ} {to : ℕ} {k : Known} {H
       }
 
   -- an item
-  pub step-item : {r : Step} {L′ : List ℕ} → tag ≡ 6 → ItemChecked bs at v k H L r L′ → FieldChecked bs at tag v to k H L r H L′
+  pub step-item : {r : FieldStep} {L′ : List ℕ} → tag ≡ 6 → ItemChecked bs at v k H L r L′ → FieldChecked bs at tag v to k H L r H L′
   unfolding stepAt
   step-item e i = record { steps = i .steps ∙ step-is bs at v to k H L 6 e; counts = i .counts }
 
   -- a result
   pub step-result :
-      {fault : ℕ} {c : Verdict} {r : Step} → tag ≡ 7 → fault ≡ resultAt bs (context k [] L) v → c ≡ verdictOf at fault → r ≡ stepOf k c
+      {fault : ℕ} {c : Verdict} {r : FieldStep} → tag ≡ 7 → fault ≡ resultAt bs (context k [] L) v → c ≡ verdictOf at fault → r ≡ verdictStep k c
       → FieldChecked bs at tag v to k H L r H L
   unfolding stepAt resultAt
   step-result {fault} {c} e p q f =
@@ -206,7 +207,7 @@ module _ {bs : List ℕ} {at tag : ℕ} {v : List ℕ} {to : ℕ} {k : Known} {H
       → FieldChecked bs at tag v to k H L (Stop c) H L
   unfolding stepAt
   step-root e p q f =
-      record { steps = ap stopped (f ∙ ap (verdictOf at) (q ∙ ap (rootAt bs H) p)) ∙ step-is bs at v to k H L 8 e; counts = tt }
+      record { steps = ap verdict-found (f ∙ ap (verdictOf at) (q ∙ ap (rootAt bs H) p)) ∙ step-is bs at v to k H L 8 e; counts = tt }
 
   -- any other field
   pub step-counts :
@@ -217,7 +218,7 @@ module _ {bs : List ℕ} {at tag : ℕ} {v : List ℕ} {to : ℕ} {k : Known} {H
   step-counts (((((u, a), b), c), d), e) q =
       record {
         steps =
-            let tests : Bool → Bool → Bool → Bool → Bool → Stepped = stepTests bs at v to k H L tag in
+            let tests : Bool → Bool → Bool → Bool → Bool → FieldStepped = stepTests bs at v to k H L tag in
             cc (ne-eqb tag 3 a, ne-eqb tag 5 b, ne-eqb tag 6 c, ne-eqb tag 7 d, ne-eqb tag 8 e);
         counts = rw q (counts k tag at);
       }
@@ -271,14 +272,14 @@ module _ {bs H₀ L₀ stack₀ H L stack : List ℕ} {at : ℕ} {k : Known} (s 
   unfolding sortsFrom
   sorting-short e = left e
 
-  module _ {tag n : ℕ} {value : List ℕ} {step : Step} {H′ L′ : List ℕ} (e : Field tag n ≡ frontOf (drop at bs))
+  module _ {tag n : ℕ} {value : List ℕ} {step : FieldStep} {H′ L′ : List ℕ} (e : Field tag n ≡ frontOf (drop at bs))
       (l : value ≡ take n (drop (at + 3) bs)) (q : FieldChecked bs at tag value (at + 3 + n) k H L step H′ L′) where
     at-field : goOn (stepped step H′ L′) (λ X. sortsFrom (fieldsAt bs (at + 3 + n)) bs X) ≡ sortsFrom (fieldsAt bs 0) bs (unknown H₀)
     unfolding sortsFrom
     at-field =
         cc (q .steps, l, left e)
 
-    step-gives : {r : Step} → step ≡ r → goOn (stepped r H′ L′) (λ X. sortsFrom (fieldsAt bs (at + 3 + n)) bs X)
+    step-gives : {r : FieldStep} → step ≡ r → goOn (stepped r H′ L′) (λ X. sortsFrom (fieldsAt bs (at + 3 + n)) bs X)
         ≡ sortsFrom (fieldsAt bs 0) bs (unknown H₀)
     step-gives h = cc at-field
 

@@ -9,11 +9,11 @@ use Rattle.grammar.specs.Sorts.{arity}
 use Rattle.grammar.specs.SortTests.{isConstructor}
 use Rattle.grammar.specs.Table.{Template, Templates, variable, make, none, more}
 use Rattle.layout.proofs.PrefixLaws.{name-first, name-last, byte-first, variable-first, constructor-first, unknown-first}
-use Rattle.layout.specs.Prefix.{Parsed, fault, parsed, inFront, Taken, short, taken, takeTemplates, applied, constructed}
+use Rattle.layout.specs.Prefix.{ReadTemplates, fault, parsed, inFront, SplitTemplates, short, taken, takeTemplates, applied, constructed}
 use Rattle.layout.specs.Prefix.{byteInFront, isNameTag, nameBy, templatesOf}
 
 -- Q holds of the templates, if the bytes are whole templates
-abbrev pub Whole : (Templates → Type 0) → Parsed → Type 0
+abbrev pub Whole : (Templates → Type 0) → ReadTemplates → Type 0
 Whole Q fault = Unit {0}
 Whole Q (parsed ts) = Q ts
 
@@ -35,23 +35,23 @@ abbrev pub choose : {A : Type 0} → A → A → Bool → A
 choose a b t = elim t [ true ↦ a | false ↦ b ]
 
 module _ (Q : List ℕ → Templates → Type 0) (read : Read Q) where
-  in-front : (t : Template) (bs cs : List ℕ) (r : Parsed) → ((ts : Templates) → Q bs ts → Q cs (more t ts)) → Whole (Q bs) r → Whole (Q cs) (inFront t r)
+  in-front : (t : Template) (bs cs : List ℕ) (r : ReadTemplates) → ((ts : Templates) → Q bs ts → Q cs (more t ts)) → Whole (Q bs) r → Whole (Q cs) (inFront t r)
   in-front t bs cs fault f h = tt
   in-front t bs cs (parsed ts) f h = f ts h
 
-  made : (b : ℕ) (bs cs : List ℕ) (ts : Templates) (x : Taken) → takeTemplates (arity b) ts ≡ x
+  made : (b : ℕ) (bs cs : List ℕ) (ts : Templates) (x : SplitTemplates) → takeTemplates (arity b) ts ≡ x
       → ((us vs : Templates) → takeTemplates (arity b) ts ≡ taken us vs → Q cs (more (make b us) vs)) → Whole (Q cs) (applied b x)
   made b bs cs ts short e f = tt
   made b bs cs ts (taken us vs) e f = f us vs e
 
   constructor-read :
-      (b : ℕ) (bs : List ℕ) (r : Parsed) → isNameTag b ≡ false → ltb b 0x10 ≡ false → isConstructor b ≡ true → Whole (Q bs) r
+      (b : ℕ) (bs : List ℕ) (r : ReadTemplates) → isNameTag b ≡ false → ltb b 0x10 ≡ false → isConstructor b ≡ true → Whole (Q bs) r
       → Whole (Q (b ∷ bs)) (constructed b r)
   constructor-read b bs fault n e k h = tt
   constructor-read b bs (parsed ts) n e k h =
       made b bs (b ∷ bs) ts (takeTemplates (arity b) ts) refl (λ us vs t. read .at-constructor b bs ts us vs n e k t h)
 
-  byte-read : (b : ℕ) (bs : List ℕ) (r : Parsed) → isNameTag b ≡ false → Whole (Q bs) r → Whole (Q (b ∷ bs)) (byteInFront b r)
+  byte-read : (b : ℕ) (bs : List ℕ) (r : ReadTemplates) → isNameTag b ≡ false → Whole (Q bs) r → Whole (Q (b ∷ bs)) (byteInFront b r)
   byte-read b bs r n h =
       by-test (ltb b 0x10)
       (λ e. subst⁻¹ (Whole (Q (b ∷ bs))) (variable-first b r e) (in-front (variable b) bs (b ∷ bs) r (λ ts q. read .at-variable b bs ts n e q) h))

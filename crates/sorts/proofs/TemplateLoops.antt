@@ -15,7 +15,7 @@ use Rattle.grammar.specs.SortTests.{fits}
 use Rattle.grammar.proofs.SortLaws.{arity-small}
 use Rattle.layout.specs.Prefix.{isNameTag}
 use Rattle.sorts.specs.TemplateBytes.{isClosedByte, namesNext, closedBytes, headSort, headParams, fillBytes, templatesFault}
-use Rattle.sorts.specs.TemplateBytes.{Places, unfit, awaiting, fillByte, places, placesAt, Filled, Opened}
+use Rattle.sorts.specs.TemplateBytes.{Places, ill-sorted, awaiting, fillByte, places, placesAt, PlaceFilled, PlacesOpened}
 use Rattle.sorts.proofs.TemplateInduction.{choose}
 use Rattle.sorts.proofs.TemplatesByBytes.{head-sort, head-variable, head-constructor, params-none, params-some}
 
@@ -108,7 +108,7 @@ module _ {room₀ : List ℕ} {start b : ℕ} where
       }
 
   -- all places
-  pub opening-end : {room : List ℕ} {top k : ℕ} → Opening room₀ start b room top k → k ≤ 0 → 32 ≤ b → Opened b room₀ start room top
+  pub opening-end : {room : List ℕ} {top k : ℕ} → Opening room₀ start b room top k → k ≤ 0 → 32 ≤ b → PlacesOpened b room₀ start room top
   opening-end {room} {top} {k} o h p =
       let z : k ≡ 0 = omega arith in
       let e : headParams b ≡ constructor b .params = params-some b p in
@@ -119,7 +119,7 @@ module _ {room₀ : List ℕ} {start b : ℕ} where
       }
 
   -- a byte below hex 20 opens none
-  pub opening-none : b < 32 → Opened b room₀ start room₀ start
+  pub opening-none : b < 32 → PlacesOpened b room₀ start room₀ start
   opening-none h =
       let e : headParams b ≡ [] = params-none b h in
       record { height = omega (arith, ap length e); opened = cc }
@@ -127,7 +127,7 @@ module _ {room₀ : List ℕ} {start b : ℕ} where
 -- ------------------------------------------------------------------ one byte fills a place
 
 -- the places open, by the height
-places-none : (b : ℕ) (L room : List ℕ) (height : ℕ) → height < 2 → unfit ≡ fillByte false b L (placesAt room height)
+places-none : (b : ℕ) (L room : List ℕ) (height : ℕ) → height < 2 → ill-sorted ≡ fillByte false b L (placesAt room height)
 unfolding placesAt places
 places-none b L room zero h = refl
 places-none b L room (suc zero) h = refl
@@ -150,7 +150,7 @@ placed room top = ap (placesAt room) (add-one top)
 -- by the test of the sort
 fill-by :
     (b : ℕ) (L room : List ℕ) (height s : ℕ) → 2 ≤ height → s ≡ headSort b L → (fitting : Bool) → fits s (getD room (height - 2) 0) ≡ fitting
-    → choose (awaiting (headParams b ++ places room (height - 2))) unfit fitting ≡ fillByte false b L (placesAt room height)
+    → choose (awaiting (headParams b ++ places room (height - 2))) ill-sorted fitting ≡ fillByte false b L (placesAt room height)
 fill-by b L room height s h q fitting k =
     cc (places-some room height h)
 
@@ -159,25 +159,25 @@ other-byte b L ps e = cc
 
 module _ {name : Bool} {b : ℕ} {L room : List ℕ} {height : ℕ} where
   -- a name's number fills nothing
-  pub fill-number : name ≡ true → Filled name b L room height room height
+  pub fill-number : name ≡ true → PlaceFilled name b L room height room height
   fill-number e = record { small = omega arith; filled = cc }
 
   -- no place is open
-  pub fill-none : name ≡ false → height < 2 → Filled name b L room height room 0
+  pub fill-none : name ≡ false → height < 2 → PlaceFilled name b L room height room 0
   unfolding placesAt
   fill-none e h = record { small = omega arith; filled = places-none b L room height h ∙ other-byte b L _ e }
 
   -- the template does not fit the place on top
   pub fill-unfit :
       {s : ℕ} → name ≡ false → 2 ≤ height → s ≡ headSort b L → fits s (getD room (height - 2) 0) ≡ false
-      → Filled name b L room height room 0
+      → PlaceFilled name b L room height room 0
   unfolding placesAt
   fill-unfit {s} e h q k = record { small = omega arith; filled = fill-by b L room height s h q false k ∙ other-byte b L _ e }
 
   -- it fits, and opens places of its own
   pub fill-fits :
       {s : ℕ} {room′ : List ℕ} {top : ℕ} → name ≡ false → 2 ≤ height → s ≡ headSort b L → fits s (getD room (height - 2) 0) ≡ true
-      → Opened b room (height - 2) room′ top → Filled name b L room height room′ (top + 1)
+      → PlacesOpened b room (height - 2) room′ top → PlaceFilled name b L room height room′ (top + 1)
   fill-fits {s} {room′} {top} e h q k o =
       record {
         small = omega (arith, o .height, params-small b);
@@ -188,22 +188,22 @@ module _ {name : Bool} {b : ℕ} {L room : List ℕ} {height : ℕ} where
 
 -- what is left of some templates fills the places open
 abbrev fillLeft : Bool → List ℕ → List ℕ → Places → Bool
-fillLeft name bs L unfit = false
+fillLeft name bs L ill-sorted = false
 fillLeft name bs L (awaiting ps) = fillBytes name bs L ps
 
 fill-left : (name : Bool) (b : ℕ) (bs L : List ℕ) (ps : Places) → fillLeft (namesNext name b) bs L (fillByte name b L ps)
     ≡ fillLeft name (b ∷ bs) L ps
 unfolding fillBytes
-fill-left true b bs L unfit = refl
+fill-left true b bs L ill-sorted = refl
 fill-left true b bs L (awaiting []) = refl
 fill-left true b bs L (awaiting (p ∷ ps)) = refl
-fill-left false b bs L unfit = refl
+fill-left false b bs L ill-sorted = refl
 fill-left false b bs L (awaiting []) = refl
 fill-left false b bs L (awaiting (p ∷ ps)) = by (fits (headSort b L) p)
   where
     by :
         (fitting : Bool)
-        → fillLeft (isNameTag b) bs L (choose (awaiting (headParams b ++ ps)) unfit fitting)
+        → fillLeft (isNameTag b) bs L (choose (awaiting (headParams b ++ ps)) ill-sorted fitting)
         ≡ (fitting && fillBytes (isNameTag b) bs L (headParams b ++ ps))
     by true = refl
     by false = refl
@@ -263,7 +263,7 @@ module _ {v L room₀ room : List ℕ} {N start height i : ℕ} {name : Bool} (t
     -- one byte more
     pub testing-next :
         {room′ : List ℕ} {height′ : ℕ} → not (isClosedByte name n N (length L)) ≡ false → length room′ ≡ length room
-        → Filled name b L room height room′ height′ → Testing v L N room₀ start room′ height′ (namesNext name b) (i + 1)
+        → PlaceFilled name b L room height room′ height′ → Testing v L N room₀ start room′ height′ (namesNext name b) (i + 1)
     testing-next k l f =
         record {
           within = omega arith;

@@ -9,7 +9,7 @@ use lib.ListN.{length, getD}
 use borrow.Author.Tests.{eqb-true, eq-eqb, ltb-true, lt-ltb}
 use Rattle.grammar.specs.Sorts.{unit, var, binder, constructor}
 use Rattle.grammar.specs.SortTests.{fits}
-use Rattle.grammar.specs.Table.{Template, Templates, variable, outside, outsideLabel, make, none, more}
+use Rattle.grammar.specs.Table.{Template, Templates, variable, outsideVar, outsideLabel, make, none, more}
 use Rattle.layout.specs.Within.{TemplateWithin, make-within, TemplatesWithin, more-within}
 use Rattle.sorts.specs.CheckSorts.{isClosed, areClosed, sortOf, isSorted, fill}
 use Rattle.sorts.specs.Scopes.{Scope}
@@ -74,7 +74,7 @@ module _ (G : Scope) (L : List ℕ) where
     pub sorted-rule :
         (t : Template) → TemplateWithin t → isClosed t G (length L) ≡ true → isSorted t L ≡ true → Sorted (G .outsides) L t (sortOf t L)
     sorted-rule (variable i) w c s = by-variable (has-at L i (ltb-true i (length L) c))
-    sorted-rule (outside x) w c s = by-global (ltb-true x (G .outsides) c)
+    sorted-rule (outsideVar x) w c s = by-global (ltb-true x (G .outsides) c)
     sorted-rule (outsideLabel x) w c s = by-label (ltb-true x (G .outsides) c)
     sorted-rule (make k ts) (make-within l h e ws) c s = by-constructor l h (fill-rule ts (constructor k .params) ws c s)
 
@@ -98,7 +98,7 @@ module _ (G : Scope) (L : List ℕ) where
         (t : Template) {A : ℕ} → Sorted (G .outsides) L t A
         → (isClosed t G (length L) ≡ true) × (isSorted t L ≡ true) × (sortOf t L ≡ A)
     rule-sorted (variable i) (by-variable h) = (lt-ltb i (length L) (has-below h), refl, has-sort h)
-    rule-sorted (outside x) (by-global h) = (lt-ltb x (G .outsides) h, refl, refl)
+    rule-sorted (outsideVar x) (by-global h) = (lt-ltb x (G .outsides) h, refl, refl)
     rule-sorted (outsideLabel x) (by-label h) = (lt-ltb x (G .outsides) h, refl, refl)
     rule-sorted (make c ts) (by-constructor l u h) = let f = rule-fill ts h in (f .0, f .1, refl)
 

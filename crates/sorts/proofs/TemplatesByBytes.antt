@@ -10,7 +10,7 @@ use borrow.Author.Tests.{ltb-true, leb-true, eqb-true, le-ltb, lt-ltb, lt-leb, l
 use Rattle.grammar.specs.Sorts.{unit, var, label, constructor, arity}
 use Rattle.grammar.specs.SortTests.{fits, isConstructor}
 use Rattle.grammar.specs.Table.{Templates, variable, make, none, more}
-use Rattle.layout.specs.Prefix.{parsed, Taken, short, taken, alsoTaken, takeTemplates, isNameTag, nameBy, templatesOf}
+use Rattle.layout.specs.Prefix.{parsed, SplitTemplates, short, taken, alsoTaken, takeTemplates, isNameTag, nameBy, templatesOf}
 use Rattle.sorts.specs.CheckSorts.{isClosed, areClosed, sortOf, isSorted, fill}
 use Rattle.sorts.specs.Scopes.{Scope}
 use Rattle.sorts.proofs.TemplateSorts.{either, both}
@@ -39,7 +39,7 @@ name-big : (b : ℕ) → isNameTag b ≡ true → 0x10 ≤ b
 name-big b e = by-name b e (λ h. omega arith) (λ h. omega arith)
 
 -- What holds of templates taken apart, R of the whole and its two parts.
-abbrev Apart : (Templates → Templates → Type 0) → Taken → Type 0
+abbrev Apart : (Templates → Templates → Type 0) → SplitTemplates → Type 0
 Apart R short = Unit {0}
 Apart R (taken us vs) = R us vs
 
@@ -51,7 +51,7 @@ module _ (G : Scope) (n : ℕ) where
   closed-taken (suc k) (more t ts) = also (takeTemplates k ts) (closed-taken k ts)
     where
       also :
-          (x : Taken) → Apart (λ us vs. areClosed ts G n ≡ (areClosed us G n && areClosed vs G n)) x
+          (x : SplitTemplates) → Apart (λ us vs. areClosed ts G n ≡ (areClosed us G n && areClosed vs G n)) x
           → Apart (λ us vs. areClosed (more t ts) G n ≡ (areClosed us G n && areClosed vs G n)) (alsoTaken t x)
       also short h = tt
       also (taken us vs) h = cc (h, and-assoc (isClosed t G n) (areClosed us G n) (areClosed vs G n))
@@ -162,7 +162,7 @@ module _ (L : List ℕ) where
   fill-taken (p ∷ new) ps (more t ts) = also (takeTemplates (length new) ts) (fill-taken new ps ts)
     where
       also :
-          (x : Taken) → Apart (λ us vs. fill ts L (new ++ ps) ≡ (fill us L new && fill vs L ps)) x
+          (x : SplitTemplates) → Apart (λ us vs. fill ts L (new ++ ps) ≡ (fill us L new && fill vs L ps)) x
           → Apart (λ us vs. fill (more t ts) L (p ∷ new ++ ps) ≡ (fill us L (p ∷ new) && fill vs L ps)) (alsoTaken t x)
       also short h = tt
       also (taken us vs) h =

@@ -12,14 +12,14 @@ use Rattle.answers.specs.declared.Verdict.the-variants.{Passed, Refused}
 use Rattle.answers.specs.Refusals.{refusal}
 use Rattle.spellings.specs.Bytes.{same}
 use Rattle.grammar.specs.Sorts.{unit, binder, term, num}
-use Rattle.grammar.specs.Fields.{Fields, end, cut, next, fieldsOf}
+use Rattle.grammar.specs.Fields.{RawFields, end, cut, next, fieldsOf}
 use Rattle.grammar.specs.Lookup.{fieldsAt}
 use Rattle.grammar.specs.Limits.{most}
 use Rattle.sorts.specs.declared.Known.{Known}
-use Rattle.sorts.specs.declared.Sorted.{Sorted}
-use Rattle.sorts.specs.declared.Sorted.the-variants.{As, Unsorted}
-use Rattle.sorts.specs.declared.Step.{Step}
-use Rattle.sorts.specs.declared.Step.the-variants.{Next, Stop}
+use Rattle.sorts.specs.declared.ItemSort.{ItemSort}
+use Rattle.sorts.specs.declared.ItemSort.the-variants.{As, Unsorted}
+use Rattle.sorts.specs.declared.FieldStep.{FieldStep}
+use Rattle.sorts.specs.declared.FieldStep.the-variants.{Next, Stop}
 use Rattle.sorts.specs.ByFields.{endsBlock}
 use Rattle.sorts.specs.TemplateBytes.{templatesFault, places}
 
@@ -57,7 +57,7 @@ headsAfter tag fault bs at H = elim (eqb tag 4) [ true ↦ elim (eqb fault 0) [ 
 pub data Collected : Type 0 where
   collected : Verdict → List ℕ → Collected
 
-unfoldable pub collectFrom : Fields → List ℕ → ℕ → List ℕ → Collected
+unfoldable pub collectFrom : RawFields → List ℕ → ℕ → List ℕ → Collected
 collectFrom (end at) bs block H = collected Passed H
 collectFrom (cut at) bs block H = collected Passed H
 collectFrom (next at tag v fs) bs block H =
@@ -115,11 +115,11 @@ withSorts X L = record { keywords = X .keywords; outsides = X .outsides; head = 
 -- ------------------------------------------------------------------ bodies
 
 -- a sort, unless there is a fault
-abbrev pub unlessFault : ℕ → ℕ → Sorted
+abbrev pub unlessFault : ℕ → ℕ → ItemSort
 unlessFault s fault = elim (eqb fault 0) [ true ↦ As s | false ↦ Unsorted fault ]
 
 -- a call of n with its arguments' bytes
-unfoldable pub callAt : List ℕ → Context → ℕ → List ℕ → Sorted
+unfoldable pub callAt : List ℕ → Context → ℕ → List ℕ → ItemSort
 callAt bs X n arguments =
     let h : ℕ = getD (X .heads) n 0 in
     elim (eqb h 0) [
@@ -130,7 +130,7 @@ callAt bs X n arguments =
     ]
 
 -- an item by its value
-unfoldable pub itemAt : List ℕ → Context → List ℕ → Sorted
+unfoldable pub itemAt : List ℕ → Context → List ℕ → ItemSort
 itemAt bs X v =
     elim (eqb (getD v 0 0) 0) [
       | true ↦ elim (ltb (getD v 1 0) (X .keywords)) [ true ↦ As unit | false ↦ Unsorted 9 ]
@@ -162,33 +162,33 @@ rootAt bs H n =
 -- ------------------------------------------------------------------ field by field
 
 -- what a field gives: what is known after it, or the verdict
-pub data Stepped : Type 0 where
-  going : Context → Stepped
-  stopped : Verdict → Stepped
+pub data FieldStepped : Type 0 where
+  going : Context → FieldStepped
+  verdict-found : Verdict → FieldStepped
 
 -- as the code has it
-abbrev pub stepped : Step → List ℕ → List ℕ → Stepped
+abbrev pub stepped : FieldStep → List ℕ → List ℕ → FieldStepped
 stepped (Next k) H L = going (context k H L)
-stepped (Stop v) H L = stopped v
+stepped (Stop v) H L = verdict-found v
 
 -- the verdict of a fault at a place
 abbrev pub verdictOf : ℕ → ℕ → Verdict
 verdictOf at fault = elim (eqb fault 0) [ true ↦ Passed | false ↦ Refused (refusal fault at 0 0) ]
 
-abbrev pub afterVerdict : Context → Verdict → Stepped
+abbrev pub afterVerdict : Context → Verdict → FieldStepped
 afterVerdict X Passed = going X
-afterVerdict X (Refused r) = stopped (Refused r)
+afterVerdict X (Refused r) = verdict-found (Refused r)
 
-abbrev pub afterBlock : Context → Collected → Stepped
+abbrev pub afterBlock : Context → Collected → FieldStepped
 afterBlock X (collected v H) = afterVerdict (withHeads X H) v
 
 -- one variable more; there are 16 at most
-abbrev pub afterItem : Context → ℕ → Sorted → Stepped
+abbrev pub afterItem : Context → ℕ → ItemSort → FieldStepped
 afterItem X at (As s) = going (withSorts X (take 16 (X .sorts ++ (s ∷ []))))
-afterItem X at (Unsorted fault) = stopped (Refused (refusal fault at 0 0))
+afterItem X at (Unsorted fault) = verdict-found (Refused (refusal fault at 0 0))
 
 -- an item at an offset
-abbrev pub itemStep : List ℕ → Context → ℕ → List ℕ → Stepped
+abbrev pub itemStep : List ℕ → Context → ℕ → List ℕ → FieldStepped
 itemStep bs X at v = afterItem X at (itemAt bs X v)
 
 -- a keyword, an outside name and a head; no other field counts
@@ -213,13 +213,13 @@ counting k tag at =
     }
 
 -- as the code has it
-abbrev pub stepOf : Known → Verdict → Step
-stepOf k Passed = Next k
-stepOf k (Refused r) = Stop (Refused r)
+abbrev pub verdictStep : Known → Verdict → FieldStep
+verdictStep k Passed = Next k
+verdictStep k (Refused r) = Stop (Refused r)
 
 -- the field at an offset, and the fields behind it: a block's definitions are collected at its beginning, the variables of an
 -- alternative are its parameters at its beginning
-unfoldable pub stepAt : List ℕ → ℕ → ℕ → List ℕ → Fields → Context → Stepped
+unfoldable pub stepAt : List ℕ → ℕ → ℕ → List ℕ → RawFields → Context → FieldStepped
 stepAt bs at tag v fs X =
     elim (eqb tag 3) [
       | true ↦ afterBlock X (collectFrom fs bs at (X .heads))
@@ -234,7 +234,7 @@ stepAt bs at tag v fs X =
                         | true ↦ afterVerdict X (verdictOf at (resultAt bs X v))
                         | false ↦
                             elim (eqb tag 8) [
-                              | true ↦ stopped (verdictOf at (rootAt bs (X .heads) (getD v 0 0)))
+                              | true ↦ verdict-found (verdictOf at (rootAt bs (X .heads) (getD v 0 0)))
                               | false ↦ going (counted X tag at)
                             ]
                       ]
@@ -242,11 +242,11 @@ stepAt bs at tag v fs X =
           ]
     ]
 
-abbrev pub goOn : Stepped → (Context → Verdict) → Verdict
+abbrev pub goOn : FieldStepped → (Context → Verdict) → Verdict
 goOn (going X) f = f X
-goOn (stopped v) f = v
+goOn (verdict-found v) f = v
 
-unfoldable pub sortsFrom : Fields → List ℕ → Context → Verdict
+unfoldable pub sortsFrom : RawFields → List ℕ → Context → Verdict
 sortsFrom (end at) bs X = Passed
 sortsFrom (cut at) bs X = Passed
 sortsFrom (next at tag v fs) bs X = goOn (stepAt bs at tag v fs X) (λ Y. sortsFrom fs bs Y)
@@ -263,7 +263,7 @@ pub record Defined (bs : List ℕ) (at tag block : ℕ) (H : List ℕ) (fault : 
   pub heads : H′ ≡ headsAfter tag fault bs at H
 
 -- the places of a signature's parameters on an empty stack
-pub record Loaded (signature room : List ℕ) (top : ℕ) : Type 0 where
+pub record ParametersLoaded (signature room : List ℕ) (top : ℕ) : Type 0 where
   pub small : top ≤ length signature
   pub loaded : places room top ≡ drop 1 signature
 
@@ -273,18 +273,18 @@ pub record Countable (k : Known) : Type 0 where
   pub outsides : k .outsides ≤ most .bytes
 
 -- one field adds one at most
-abbrev pub Counts : Known → Step → Type 0
+abbrev pub Counts : Known → FieldStep → Type 0
 Counts k (Next k′) = (k′ .keywords ≤ k .keywords + 1) × (k′ .outsides ≤ k .outsides + 1)
 Counts k (Stop v) = Unit {0}
 
 -- an item at an offset: what it gives, where the code answers r and leaves the sorts L′
-pub record ItemChecked (bs : List ℕ) (at : ℕ) (v : List ℕ) (k : Known) (H L : List ℕ) (r : Step) (L′ : List ℕ) : Type 0 where
+pub record ItemChecked (bs : List ℕ) (at : ℕ) (v : List ℕ) (k : Known) (H L : List ℕ) (r : FieldStep) (L′ : List ℕ) : Type 0 where
   pub steps : stepped r H L′ ≡ itemStep bs (context k H L) at v
   pub counts : Counts k r
 
 -- the field at an offset, where the next one stands at `to`: what it gives, where the code answers r and leaves the heads H′ and the
 -- sorts L′
-pub record FieldChecked (bs : List ℕ) (at tag : ℕ) (v : List ℕ) (to : ℕ) (k : Known) (H L : List ℕ) (r : Step) (H′ L′ : List ℕ) : Type 0 where
+pub record FieldChecked (bs : List ℕ) (at tag : ℕ) (v : List ℕ) (to : ℕ) (k : Known) (H L : List ℕ) (r : FieldStep) (H′ L′ : List ℕ) : Type 0 where
   pub steps : stepped r H′ L′ ≡ stepAt bs at tag v (fieldsAt bs to) (context k H L)
   pub counts : Counts k r
 
@@ -294,7 +294,7 @@ pub record Room (v sorts stack : List ℕ) : Type 0 where
   pub places : 2 * length v + 8 ≤ length stack
 
 -- what the check of one field asks of the table, its value, the rooms and what is known
-pub record Ready (k : Known) (table v sorts stack : List ℕ) : Type 0 where
+pub record FieldReady (k : Known) (table v sorts stack : List ℕ) : Type 0 where
   pub short : length table ≤ most .bytes
   pub room : Room v sorts stack
   pub counts : Countable k

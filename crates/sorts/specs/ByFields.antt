@@ -8,9 +8,9 @@ use lib.ListN.{length, getD}
 use Rattle.answers.specs.Checked.{Checked, ok, bad, _>>=_, _>>_}
 use Rattle.grammar.specs.Sorts.{Signature, gives, unit}
 use Rattle.grammar.specs.Table.{Definition}
-use Rattle.grammar.specs.Fields.{Fields, end, cut, next, fieldsOf}
+use Rattle.grammar.specs.Fields.{RawFields, end, cut, next, fieldsOf}
 use Rattle.grammar.specs.Lookup.{leading, afterLeading}
-use Rattle.layout.specs.Prefix.{templatesOf, found, firstOf}
+use Rattle.layout.specs.Prefix.{templatesOf, found, headTemplate}
 use Rattle.layout.specs.Decode.{itemOf, definitionOf}
 use Rattle.sorts.specs.CheckSorts.{consistent, checkItem, checkResult, checkRoot}
 use Rattle.sorts.specs.Scopes.{Env, entryOf, Scope}
@@ -24,7 +24,7 @@ abbrev pub headOf : List ℕ → Definition
 headOf v = definitionOf v []
 
 -- the signatures of the block that the fields begin in
-unfoldable pub collectBy : Fields → Env → Env → Checked Env
+unfoldable pub collectBy : RawFields → Env → Env → Checked Env
 collectBy (end at) E own = ok own
 collectBy (cut at) E own = ok own
 collectBy (next at tag v fs) E own =
@@ -39,7 +39,7 @@ collectBy (next at tag v fs) E own =
 
 -- the bodies of the block that the fields begin in, where S is the signature of the definition begun last and L the sorts of the
 -- variables numbered so far, none behind a result
-unfoldable pub bodiesBy : Fields → Scope → Signature → List ℕ → Checked (Unit {0})
+unfoldable pub bodiesBy : RawFields → Scope → Signature → List ℕ → Checked (Unit {0})
 bodiesBy (end at) G S L = ok tt
 bodiesBy (cut at) G S L = ok tt
 bodiesBy (next at tag v fs) G S L =
@@ -54,14 +54,14 @@ bodiesBy (next at tag v fs) G S L =
                   | false ↦
                       elim (eqb tag 6) [
                         | true ↦ checkItem G L at (itemOf v) >>= λ s. bodiesBy fs G S (L ++ (s ∷ []))
-                        | false ↦ checkResult G L (S .result) at (firstOf (found (templatesOf v))) >> bodiesBy fs G S []
+                        | false ↦ checkResult G L (S .result) at (headTemplate (found (templatesOf v))) >> bodiesBy fs G S []
                       ]
                 ]
           ]
     ]
 
 -- block by block from the left, then the root; K keywords and N outside names are defined
-unfoldable pub blocksBy : Fields → ℕ → ℕ → Env → Checked (Unit {0})
+unfoldable pub blocksBy : RawFields → ℕ → ℕ → Env → Checked (Unit {0})
 blocksBy (end at) K N E = ok tt
 blocksBy (cut at) K N E = ok tt
 blocksBy (next at tag v fs) K N E =
@@ -76,5 +76,5 @@ blocksBy (next at tag v fs) K N E =
 
 unfoldable pub checkSortsBy : List ℕ → Checked (Unit {0})
 checkSortsBy bs =
-    let fs : Fields = fieldsOf bs in
+    let fs : RawFields = fieldsOf bs in
     blocksBy fs (length (leading 1 fs)) (length (leading 2 (afterLeading 1 fs))) []

@@ -10,7 +10,7 @@ use Rattle.answers.specs.Checked.{Checked, ok, _>>=_, _>>_, need}
 use Rattle.spellings.specs.Bytes.{same}
 use Rattle.grammar.specs.Sorts.{Signature, gives, unit, var, binder, label, term, num, constructor}
 use Rattle.grammar.specs.SortTests.{fits}
-use Rattle.grammar.specs.Table.{Template, Templates, variable, outside, outsideLabel, make, none, more, Item, keyword, ide, number, local, call, Alternative}
+use Rattle.grammar.specs.Table.{Template, Templates, variable, outsideVar, outsideLabel, make, none, more, Item, keyword, ide, number, local, call, Alternative}
 use Rattle.grammar.specs.Table.{Mode, add, extend, update, Definition, Table}
 use Rattle.grammar.specs.Values.{itemValue, headValue}
 use Rattle.sorts.specs.Sizes.{fieldSize, spellingsSize, itemsSize, alternativeSize, definitionSize, definitionsSize}
@@ -41,11 +41,11 @@ isAsBefore E own d =
     && sameSignature (signatureOf E (d .nonterminal)) (d .signature)
 
 -- neither this block nor an earlier one defined it
-abbrev pub isNew : Env → Env → Definition → Bool
-isNew E own d = not (isDefined own (d .nonterminal)) && not (isDefined E (d .nonterminal))
+abbrev pub isUnused : Env → Env → Definition → Bool
+isUnused E own d = not (isDefined own (d .nonterminal)) && not (isDefined E (d .nonterminal))
 
 abbrev pub consistent : Mode → Env → Env → Definition → ℕ → Checked (Unit {0})
-consistent add E own d at = need (isNew E own d) 7 at
+consistent add E own d at = need (isUnused E own d) 7 at
 consistent extend E own d at = need (isAsBefore E own d) 8 at
 consistent update E own d at = need (isAsBefore E own d) 8 at
 
@@ -62,7 +62,7 @@ collect E own at (d ∷ ds) = do
 unfoldable mutual
   pub isClosed : Template → Scope → ℕ → Bool
   isClosed (variable i) G n = ltb i n
-  isClosed (outside x) G n = ltb x (G .outsides)
+  isClosed (outsideVar x) G n = ltb x (G .outsides)
   isClosed (outsideLabel x) G n = ltb x (G .outsides)
   isClosed (make c ts) G n = areClosed ts G n
 
@@ -73,7 +73,7 @@ unfoldable mutual
 -- the sort of a template, where L gives the sorts of the variables
 abbrev pub sortOf : Template → List ℕ → ℕ
 sortOf (variable i) L = getD L i unit
-sortOf (outside x) L = var
+sortOf (outsideVar x) L = var
 sortOf (outsideLabel x) L = label
 sortOf (make c ts) L = constructor c .result
 
@@ -81,7 +81,7 @@ sortOf (make c ts) L = constructor c .result
 unfoldable mutual
   pub isSorted : Template → List ℕ → Bool
   isSorted (variable i) L = true
-  isSorted (outside x) L = true
+  isSorted (outsideVar x) L = true
   isSorted (outsideLabel x) L = true
   isSorted (make c ts) L = fill ts L (constructor c .params)
 

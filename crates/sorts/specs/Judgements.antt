@@ -12,9 +12,9 @@ use mathlib.Core.Path.{_≡_}
 use mathlib.Core.List.{List, [], _∷_, _++_}
 use lib.ListN.{length}
 use Rattle.grammar.specs.Sorts.{Signature, unit, var, binder, label, term, num, constructor}
-use Rattle.grammar.specs.Table.{Template, Templates, variable, outside, outsideLabel, make, none, more, Item, keyword, ide, number, local, call, Alternative}
+use Rattle.grammar.specs.Table.{Template, Templates, variable, outsideVar, outsideLabel, make, none, more, Item, keyword, ide, number, local, call, Alternative}
 use Rattle.grammar.specs.Table.{add, extend, update, Definition, Table}
-use Rattle.sorts.specs.Scopes.{Entry, Env, entryOf, Scope}
+use Rattle.sorts.specs.Scopes.{Declaration, Env, entryOf, Scope}
 
 -- ------------------------------------------------------------------ environments
 
@@ -25,13 +25,13 @@ pub data Has : List ℕ → ℕ → ℕ → Type 0 where
 
 -- E, x : S, E' has x : S where x is not in Dom(E')
 pub data Newest : Env → ℕ → Signature → Type 0 where
-  newest-first : {e : Entry} {E : Env} → Newest (e ∷ E) (e .nonterminal) (e .signature)
-  newest-later : {e : Entry} {E : Env} {n : ℕ} {S : Signature} → (e .nonterminal ≡ n → ⊥) → Newest E n S → Newest (e ∷ E) n S
+  newest-first : {e : Declaration} {E : Env} → Newest (e ∷ E) (e .nonterminal) (e .signature)
+  newest-later : {e : Declaration} {E : Env} {n : ℕ} {S : Signature} → (e .nonterminal ≡ n → ⊥) → Newest E n S → Newest (e ∷ E) n S
 
 -- x is not in Dom(E)
-pub data Absent : Env → ℕ → Type 0 where
-  absent-empty : {n : ℕ} → Absent [] n
-  absent-entry : {e : Entry} {E : Env} {n : ℕ} → (e .nonterminal ≡ n → ⊥) → Absent E n → Absent (e ∷ E) n
+pub data Undeclared : Env → ℕ → Type 0 where
+  absent-empty : {n : ℕ} → Undeclared [] n
+  absent-entry : {e : Declaration} {E : Env} {n : ℕ} → (e .nonterminal ≡ n → ⊥) → Undeclared E n → Undeclared (e ∷ E) n
 
 -- what has sort A may stand where B is asked (01: a Binder where Var is asked; otherwise the sorts are equal)
 pub data Fits : ℕ → ℕ → Type 0 where
@@ -49,7 +49,7 @@ mutual
         → Sorted N L (variable i) B
     by-global : {x : ℕ}
         → x < N
-        → Sorted N L (outside x) var
+        → Sorted N L (outsideVar x) var
     by-label : {x : ℕ}
         → x < N
         → Sorted N L (outsideLabel x) label
@@ -109,19 +109,19 @@ pub data Defines (E : Env) : Env → List Definition → Env → Type 0 where
   no-definition : {own : Env} → Defines E own [] own
   by-add : {own own′ : Env} {d : Definition} {ds : List Definition}
       → d .mode ≡ add
-      → Absent own (d .nonterminal)
-      → Absent E (d .nonterminal)
+      → Undeclared own (d .nonterminal)
+      → Undeclared E (d .nonterminal)
       → Defines E (entryOf d ∷ own) ds own′
       → Defines E own (d ∷ ds) own′
   by-extend : {own own′ : Env} {d : Definition} {ds : List Definition}
       → d .mode ≡ extend
-      → Absent own (d .nonterminal)
+      → Undeclared own (d .nonterminal)
       → Newest E (d .nonterminal) (d .signature)
       → Defines E (entryOf d ∷ own) ds own′
       → Defines E own (d ∷ ds) own′
   by-update : {own own′ : Env} {d : Definition} {ds : List Definition}
       → d .mode ≡ update
-      → Absent own (d .nonterminal)
+      → Undeclared own (d .nonterminal)
       → Newest E (d .nonterminal) (d .signature)
       → Defines E (entryOf d ∷ own) ds own′
       → Defines E own (d ∷ ds) own′

@@ -4,15 +4,15 @@ use mathlib.Core.List.{List}
 use Rattle.grammar.specs.Sorts.{Signature}
 use Rattle.grammar.specs.Table.{Definition}
 
-pub record Entry : Type 0 where
+pub record Declaration : Type 0 where
   pub nonterminal : ℕ
   pub signature : Signature
 
 -- an environment, the newest entry first
 abbrev pub Env : Type 0
-Env = List Entry
+Env = List Declaration
 
-abbrev pub entryOf : Definition → Entry
+abbrev pub entryOf : Definition → Declaration
 entryOf d = record { nonterminal = d .nonterminal; signature = d .signature }
 
 -- what a body is checked under: how many keywords and outside names there are, and E

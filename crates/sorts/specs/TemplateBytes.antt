@@ -59,15 +59,15 @@ templatesFault N L v ps =
 
 -- the places open, until a template does not fit its place
 pub data Places : Type 0 where
-  unfit : Places
+  ill-sorted : Places
   awaiting : List ℕ → Places
 
 -- the places open after one byte more; `name` says that it is a name's number
 abbrev pub fillByte : Bool → ℕ → List ℕ → Places → Places
 fillByte true b L ps = ps
-fillByte false b L unfit = unfit
-fillByte false b L (awaiting []) = unfit
-fillByte false b L (awaiting (p ∷ ps)) = elim (fits (headSort b L) p) [ true ↦ awaiting (headParams b ++ ps) | false ↦ unfit ]
+fillByte false b L ill-sorted = ill-sorted
+fillByte false b L (awaiting []) = ill-sorted
+fillByte false b L (awaiting (p ∷ ps)) = elim (fits (headSort b L) p) [ true ↦ awaiting (headParams b ++ ps) | false ↦ ill-sorted ]
 
 -- the first k bytes of a room as a stack of places, the newest first
 unfoldable pub places : List ℕ → ℕ → List ℕ
@@ -76,15 +76,15 @@ places room (suc k) = getD room k 0 ∷ places room k
 
 -- the places open as the code has them: a room, and one more than their number, 0 once a template did not fit
 unfoldable pub placesAt : List ℕ → ℕ → Places
-placesAt room zero = unfit
+placesAt room zero = ill-sorted
 placesAt room (suc k) = awaiting (places room k)
 
 -- what filling one place does to the number of places open
-pub record Filled (name : Bool) (b : ℕ) (L room : List ℕ) (height : ℕ) (room′ : List ℕ) (height′ : ℕ) : Type 0 where
+pub record PlaceFilled (name : Bool) (b : ℕ) (L room : List ℕ) (height : ℕ) (room′ : List ℕ) (height′ : ℕ) : Type 0 where
   pub small : height′ ≤ height + 2
   pub filled : placesAt room′ height′ ≡ fillByte name b L (placesAt room height)
 
 -- what opening the places of a constructor's arguments does to a stack
-pub record Opened (b : ℕ) (room : List ℕ) (start : ℕ) (room′ : List ℕ) (top : ℕ) : Type 0 where
+pub record PlacesOpened (b : ℕ) (room : List ℕ) (start : ℕ) (room′ : List ℕ) (top : ℕ) : Type 0 where
   pub height : top ≡ start + length (headParams b)
   pub opened : places room′ top ≡ headParams b ++ places room start

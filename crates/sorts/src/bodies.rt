@@ -1,6 +1,6 @@
 // The bodies of alternatives: refusals 9 and 11.
+use crate::ItemSort;
 use crate::Known;
-use crate::Sorted;
 use crate::heads::head_of;
 use crate::heads::signature_at;
 use crate::templates::fault_in;
@@ -11,12 +11,12 @@ ghost use Prim.Native.Nat.{_+_, _*_, _≤_};
 ghost use mathlib.Core.Path.{_≡_};
 ghost use mathlib.Core.List.{[], _∷_, _++_};
 ghost use lib.ListN.{length, take, drop};
-ghost use Rattle.sorts.specs.ByBytes.{callAt, itemAt, resultAt, context, Loaded};
+ghost use Rattle.sorts.specs.ByBytes.{callAt, itemAt, resultAt, context, ParametersLoaded};
 
 // Opens the places of a signature's parameters on an empty stack, the first parameter's on top; the height.
 fn open_params(stack: &mut [u8], signature: &[u8]) -> usize
     requires { ⌜ length (now signature) ≤ length (now stack) ⌝ }
-    ensures { λ r. ⌜ Loaded (now (signature .entry)) (now (stack .exit)) r ⌝ }
+    ensures { λ r. ⌜ ParametersLoaded (now (signature .entry)) (now (stack .exit)) r ⌝ }
 {
     if signature.len() == 0 {
         return 0;
@@ -40,22 +40,22 @@ fn check_call(
     known: Known,
     n: u8,
     arguments: &[u8],
-) -> Sorted
+) -> ItemSort
     requires { ⌜ 2 * length (now arguments) + 8 ≤ length (now stack) ⌝ }
     ensures { λ r. ⌜ r ≡ callAt (now (table .entry)) (context known (now (heads .entry)) (now (sorts .entry))) n (now (arguments .entry)) ⌝ }
 {
     let h = head_of(heads, n);
     if h == 0 {
-        return Sorted::Unsorted(9);
+        return ItemSort::Unsorted(9);
     }
     let signature = signature_at(table, h);
     let top = open_params(stack, signature);
     let variables = part(sorts, 0, known.variables);
     let fault = fault_in(stack, top, arguments, known.outsides, variables);
     if fault != 0 {
-        return Sorted::Unsorted(fault);
+        return ItemSort::Unsorted(fault);
     }
-    Sorted::As(byte(signature, 0))
+    ItemSort::As(byte(signature, 0))
 }
 
 // An item by its value.
@@ -66,7 +66,7 @@ pub fn check_item(
     sorts: &[u8],
     known: Known,
     v: &[u8],
-) -> Sorted
+) -> ItemSort
     requires { ⌜ 2 * length (now v) + 8 ≤ length (now stack) ⌝ }
     ensures { λ r. ⌜ r ≡ itemAt (now (table .entry)) (context known (now (heads .entry)) (now (sorts .entry))) (now (v .entry)) ⌝ }
 {
@@ -75,12 +75,12 @@ pub fn check_item(
     match kind {
         0 => {
             if wide_byte(operand) < known.keywords {
-                return Sorted::As(0);
+                return ItemSort::As(0);
             }
-            Sorted::Unsorted(9)
+            ItemSort::Unsorted(9)
         }
-        1 => Sorted::As(operand),
-        3 => Sorted::As(2),
+        1 => ItemSort::As(operand),
+        3 => ItemSort::As(2),
         4 => check_call(
             stack,
             table,
@@ -90,7 +90,7 @@ pub fn check_item(
             operand,
             part(v, 2, v.len()),
         ),
-        _ => Sorted::As(6),
+        _ => ItemSort::As(6),
     }
 }
 

@@ -23,8 +23,8 @@ ghost use mathlib.Core.Path.{_≡_};
 ghost use lib.ListN.{length};
 ghost use Rattle.grammar.specs.Limits.{most};
 ghost use Rattle.grammar.specs.Lookup.{fieldsAt};
-ghost use Rattle.sorts.specs.ByBytes.{rootAt, unknown, verdictOf, stepOf, counting, sortsFrom, sortsOf};
-ghost use Rattle.sorts.specs.ByBytes.{Countable, ItemChecked, FieldChecked, Room, Ready};
+ghost use Rattle.sorts.specs.ByBytes.{rootAt, unknown, verdictOf, verdictStep, counting, sortsFrom, sortsOf};
+ghost use Rattle.sorts.specs.ByBytes.{Countable, ItemChecked, FieldChecked, Room, FieldReady};
 
 // What is known between two fields of a table: how many keywords and outside names there are, the offset of the head of the
 // definition begun last, and how many variables of its alternative are numbered.
@@ -36,13 +36,13 @@ pub struct Known {
 }
 
 // The sort of an item's variable, or the item's refusal, 9 or 11.
-pub enum Sorted {
+pub enum ItemSort {
     As(u8),
     Unsorted(u8),
 }
 
 // What a field gives: what is known after it, or the verdict.
-pub enum Step {
+pub enum FieldStep {
     Next(Known),
     Stop(Verdict),
 }
@@ -75,12 +75,12 @@ fn verdict_of(fault: u8, at: usize) -> Verdict
 }
 
 // The check goes on with what is known, or stops.
-fn step_of(v: Verdict, known: Known) -> Step
-    ensures { λ r. ⌜ r ≡ stepOf known v ⌝ }
+fn step_of(v: Verdict, known: Known) -> FieldStep
+    ensures { λ r. ⌜ r ≡ verdictStep known v ⌝ }
 {
     match v {
-        Verdict::Passed => Step::Next(known),
-        Verdict::Refused(r) => Step::Stop(Verdict::Refused(r)),
+        Verdict::Passed => FieldStep::Next(known),
+        Verdict::Refused(r) => FieldStep::Stop(Verdict::Refused(r)),
     }
 }
 
@@ -125,17 +125,17 @@ fn check_variable(
     known: Known,
     at: usize,
     v: &[u8],
-) -> Step
+) -> FieldStep
     requires { ⌜ Room (now v) (now sorts) (now stack) ⌝ }
     ensures { λ r. ⌜ ItemChecked (now (table .entry)) at (now (v .entry)) known (now (heads .entry)) (now (sorts .entry)) r (now (sorts .exit)) ⌝ }
 {
     let item = check_item(stack, table, heads, sorts, known, v);
     match item {
-        Sorted::Unsorted(fault) => Step::Stop(refused(fault, at)),
-        Sorted::As(s) => {
+        ItemSort::Unsorted(fault) => FieldStep::Stop(refused(fault, at)),
+        ItemSort::As(s) => {
             let n = known.variables;
             let variables = add_sort(sorts, n, s);
-            Step::Next(Known {
+            FieldStep::Next(Known {
                 keywords: known.keywords,
                 outsides: known.outsides,
                 head: known.head,
@@ -157,8 +157,8 @@ fn check_field(
     v: &[u8],
     to: usize,
     known: Known,
-) -> Step
-    requires { ⌜ Ready known (now table) (now v) (now sorts) (now stack) ⌝ }
+) -> FieldStep
+    requires { ⌜ FieldReady known (now table) (now v) (now sorts) (now stack) ⌝ }
     ensures { λ r. ⌜ FieldChecked (now (table .entry)) at tag (now (v .entry)) to known (now (heads .entry)) (now (sorts .entry))
         r (now (heads .exit)) (now (sorts .exit)) ⌝ }
 {
@@ -167,7 +167,7 @@ fn check_field(
         5 => {
             let head = known.head;
             let variables = load_params(sorts, signature_at(table, head));
-            Step::Next(Known {
+            FieldStep::Next(Known {
                 keywords: known.keywords,
                 outsides: known.outsides,
                 head,
@@ -179,8 +179,8 @@ fn check_field(
             verdict_of(check_result(stack, table, sorts, known, v), at),
             known,
         ),
-        8 => Step::Stop(verdict_of(check_root(table, heads, byte(v, 0)), at)),
-        _ => Step::Next(count(known, tag, at)),
+        8 => FieldStep::Stop(verdict_of(check_root(table, heads, byte(v, 0)), at)),
+        _ => FieldStep::Next(count(known, tag, at)),
     }
 }
 
@@ -211,10 +211,10 @@ fn check_fields(heads: &mut [u16], sorts: &mut [u8], stack: &mut [u8], table: &[
                 let v = &table[from..to];
                 let step = check_field(heads, sorts, stack, table, at, tag, v, to, known);
                 match step {
-                    Step::Stop(v) => {
+                    FieldStep::Stop(v) => {
                         return v;
                     }
-                    Step::Next(k) => {
+                    FieldStep::Next(k) => {
                         known = k;
                         at = to;
                     }

@@ -9,7 +9,7 @@ ghost use Prim.Native.Nat.{_+_, _*_, _≤_};
 ghost use mathlib.Core.Path.{_≡_};
 ghost use mathlib.Core.List.{_++_};
 ghost use lib.ListN.{length};
-ghost use Rattle.sorts.specs.TemplateBytes.{headSort, headParams, places, Opened, Filled, templatesFault};
+ghost use Rattle.sorts.specs.TemplateBytes.{headSort, headParams, places, PlacesOpened, PlaceFilled, templatesFault};
 
 // The sort of the template that begins with a byte, where `sorts` has those of the variables.
 fn head_sort(b: u8, sorts: &[u8]) -> Sort
@@ -30,7 +30,7 @@ fn head_sort(b: u8, sorts: &[u8]) -> Sort
 // Opens the places of a constructor's arguments on a stack, the first argument's on top; the new height.
 fn open_places(stack: &mut [u8], start: usize, b: u8) -> usize
     requires { ⌜ start + 3 ≤ length (now stack) ⌝ }
-    ensures { λ r. ⌜ Opened b (now (stack .entry)) start (now (stack .exit)) r ⌝ }
+    ensures { λ r. ⌜ PlacesOpened b (now (stack .entry)) start (now (stack .exit)) r ⌝ }
 {
     if b < 32 {
         return start;
@@ -50,7 +50,7 @@ fn open_places(stack: &mut [u8], start: usize, b: u8) -> usize
 // than the number of places open, and 0 once a template did not fit; the new height.
 fn fill(stack: &mut [u8], height: usize, name: bool, b: u8, sorts: &[u8]) -> usize
     requires { ⌜ height + 2 ≤ length (now stack) ⌝ }
-    ensures { λ r. ⌜ Filled name b (now (sorts .entry)) (now (stack .entry)) height (now (stack .exit)) r ⌝ }
+    ensures { λ r. ⌜ PlaceFilled name b (now (sorts .entry)) (now (stack .entry)) height (now (stack .exit)) r ⌝ }
 {
     if name {
         return height;

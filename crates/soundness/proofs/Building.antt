@@ -138,7 +138,7 @@ module _ (spell : ℕ → List ℕ) (I : Input) where
         → Gives spell M t v → Sorted N L t A → N ≤ nameBase → I .rows * 4 ≤ length cells → s .made ≤ I .rows → ShowAll spell (s .made) cells xs M
         → Ends (Built (rowsOf t) s cells v) (Full (I .rows) (s .made + rowsOf t)) (build t I xs s cells)
     build-ends (Table.variable i) s cells (by-variable b) w small room fit a = (nothing-made s cells fit, shows-bound a b)
-    build-ends (Table.outside n) s cells by-global (Judgements.by-global l) small room fit a =
+    build-ends (Table.outsideVar n) s cells by-global (Judgements.by-global l) small room fit a =
         (nothing-made s cells fit, shows-var (outside-named spell n (omega arith)))
     build-ends (Table.outsideLabel n) s cells by-label w small room fit a = (nothing-made s cells fit, shows-label)
     build-ends (Table.make c ts) {v = v} {xs = xs} s cells (by-constructor {vs = vs} g k) (Judgements.by-constructor lo hi w) small room fit a =

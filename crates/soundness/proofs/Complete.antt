@@ -24,7 +24,7 @@ use Rattle.expansion.specs.declared.State.{State}
 use Rattle.expansion.specs.Run.{Result, done, halt, Run, after}
 use Rattle.expansion.specs.Expansion.{Input, ready, choice, nextToken, tokenTaken, takeToken, buildAll, build, wordValue, runItem, runItems, callBegun}
 use Rattle.scanner.specs.Tokens.{endToken}
-use Rattle.expansion.specs.Expansion.{runCall, start, ended, run}
+use Rattle.expansion.specs.Expansion.{runCall, initialState, ended, run}
 use Rattle.expansion.specs.Limits.{mostCalls, mostOpen}
 use Rattle.expansion.specs.Figure3.{Value, binder, term, Gives, GiveAll, Taken, as-var, as-binder, as-label, by-keyword, by-ide, by-number}
 use Rattle.expansion.specs.Figure3.{by-local, Derives, by-end, by-terminal, by-call, Parses}
@@ -349,10 +349,10 @@ module _ {g : List Production} (X : Setting g) where
 
   -- the items that are one call of the root run as that call
   root-ends : (P : List ℕ → State → List ℕ → Type 0) (H : Refusal → Type 0) (d : ℕ) (cells : List ℕ)
-      → Ends P H (runItems (runCall d I) I (call (X .root) none ∷ []) [] start cells)
-      → Ends (λ x s c. P (x ∷ []) s c) H (runCall d I (X .root) [] start cells)
+      → Ends P H (runItems (runCall d I) I (call (X .root) none ∷ []) [] initialState cells)
+      → Ends (λ x s c. P (x ∷ []) s c) H (runCall d I (X .root) [] initialState cells)
   unfolding runItems buildAll
-  root-ends P H d cells h = go (runCall d I (X .root) [] start cells) h
+  root-ends P H d cells h = go (runCall d I (X .root) [] initialState cells) h
     where
       go : (x : Result ℕ) → Ends P H (after x (λ v. runItems (runCall d I) I [] ([] ++ (v ∷ [])))) → Ends (λ x s c. P (x ∷ []) s c) H x
       go (done v s c) q = q
@@ -363,14 +363,14 @@ module _ {g : List Production} (X : Setting g) where
       → (cells : List ℕ) → rows * 4 ≤ length cells
       → Ends (λ x s c. Reached 0 mostOpen (openIn D) (callsIn D) (rowsIn D) t i M 0 0 cells (x ∷ []) s c)
       (Beyond rows mostOpen (openIn D) (callsIn D) (rowsIn D))
-      (runCall mostOpen I (X .root) [] start cells)
+      (runCall mostOpen I (X .root) [] initialState cells)
   root-along {M} {t} {i} D cells room =
       let W = Reached 0 mostOpen (openIn D) (callsIn D) (rowsIn D) t i M 0 0 cells in
       let K = Beyond rows mostOpen (openIn D) (callsIn D) (rowsIn D) in
       root-ends W K mostOpen cells
       (ends-map W (Beyond rows mostOpen (openIn D) (0 + callsIn D) (0 + rowsIn D)) W K
-      (runItems (runCall mostOpen I) I (call (X .root) none ∷ []) [] start cells)
-      (items-along D .along mostOpen 0 (make 0x25 none) Sorts.fields [] [] start cells (root-body X) refl refl
+      (runItems (runCall mostOpen I) I (call (X .root) none ∷ []) [] initialState cells)
+      (items-along D .along mostOpen 0 (make 0x25 none) Sorts.fields [] [] initialState cells (root-body X) refl refl
       (record { room = room; fits = omega arith; names = omega arith; begun = omega arith }) show-none)
       (λ xs s c u. u) (beyond-more (omega arith) (omega arith) (omega arith)))
 
@@ -403,7 +403,7 @@ module _ {g : List Production} (X : Setting g) where
     run-along cells room =
         let D = P .derived in
         ends-after (λ x s c. Reached 0 mostOpen (openIn D) (callsIn D) (rowsIn D) [] (P .counter) (term t ∷ []) 0 0 cells (x ∷ []) s c) Exceeds
-        Accepts Exceeds (runCall mostOpen I (X .root) [] start cells) (ended I) (root-along D cells room)
+        Accepts Exceeds (runCall mostOpen I (X .root) [] initialState cells) (ended I) (root-along D cells room)
         (λ v s c y.
         ended-along v s c (y .0 .place)
         (record {

@@ -94,15 +94,15 @@ module _ (t : Table) (T : Passing t) where
 
   module _ (R : Lexemes) where
     -- Figure 3 derives the term from the table's root over all the tokens.
-    abbrev pub Reads : Term Name → Type 0
-    Reads u = Parses (grammarOf t) (R .spell) (t .root) (R .tokens) u
+    abbrev pub ParsesAs : Term Name → Type 0
+    ParsesAs u = Parses (grammarOf t) (R .spell) (t .root) (R .tokens) u
 
     -- A formula has one reading at most: two derivations from the root give the same term.
-    pub derived-once : {u w : Term Name} → Reads u → Reads w → u ≡ w
+    pub derived-once : {u w : Term Name} → ParsesAs u → ParsesAs w → u ≡ w
     derived-once P Q = parses-one firsts-passed P Q
 
     -- Each place of a derived term holds what its sort asks for (01, "Whose name is whose").
-    pub derived-is-placed : {u : Term Name} (P : Reads u) → Placed (givenIn (P .derived)) (R .spell) u
+    pub derived-is-placed : {u : Term Name} (P : ParsesAs u) → Placed (givenIn (P .derived)) (R .spell) u
     derived-is-placed P = parses-placed P
 
     abbrev setting : ℕ → Setting (grammarOf t)
@@ -123,13 +123,13 @@ module _ (t : Table) (T : Passing t) where
         }
 
     -- What was given in its derivation is a token of the formula or one of the table's outside names.
-    pub derived-is-supplied : {u : Term Name} (P : Reads u) → Each (Supplied (R .tokens) (length (t .outsides))) (givenIn (P .derived))
+    pub derived-is-supplied : {u : Term Name} (P : ParsesAs u) → Each (Supplied (R .tokens) (length (t .outsides))) (givenIn (P .derived))
     derived-is-supplied P = parses-supplied (setting 0) P
 
     -- So a derived term has only words for names and labels, if those of the formula and of the table are words.
     pub derived-is-worded : ((w : Token) → Among (R .tokens) w → w .kind ≡ wordKind → isWord (R .spell (w .value)) ≡ true)
         → ((n : ℕ) → n < length (t .outsides) → isWord (R .spell n) ≡ true)
-        → {u : Term Name} → Reads u → isWorded u ≡ true
+        → {u : Term Name} → ParsesAs u → isWorded u ≡ true
     derived-is-worded words outsides P = placed-worded (R .spell) (derived-is-supplied P) words outsides (derived-is-placed P)
 
     -- ------------------------------------------------------------------ runs and parses
@@ -140,16 +140,16 @@ module _ (t : Table) (T : Passing t) where
       Answers x = Runs (grammarOf t) (t .root) (R .tokens) rows cells x
 
       -- What is accepted is derived: Figure 3 parses the whole formula as the term that the cells at exit show at the row given.
-      pub accepted-is-derived : (v : ℕ) (s : State) (cells′ : List ℕ) → Answers (done v s cells′) → Reads (termAt (s .made) (R .spell) cells′ v)
+      pub accepted-is-derived : (v : ℕ) (s : State) (cells′ : List ℕ) → Answers (done v s cells′) → ParsesAs (termAt (s .made) (R .spell) cells′ v)
       accepted-is-derived = run-sound (setting rows) cells room
 
       -- A term is accepted exactly if it is derived within the limits.
       pub accepted-exactly : (u : Term Name)
           → ((v : ℕ) × (s : State) × (cells′ : List ℕ) × Answers (done v s cells′) × (termAt (s .made) (R .spell) cells′ v ≡ u))
-          ↔ ((P : Reads u) × Affords rows 0 0 0 (P .derived))
+          ↔ ((P : ParsesAs u) × Affords rows 0 0 0 (P .derived))
       accepted-exactly u = (
         λ a.
-            let P : Reads u = subst Reads (a .4) (accepted-is-derived (a .0) (a .1) (a .2) (a .3)) in
+            let P : ParsesAs u = subst ParsesAs (a .4) (accepted-is-derived (a .0) (a .1) (a .2) (a .3)) in
             (P, accepts (setting rows) P cells room (a .0) (a .1) (a .2) (a .3) .affords),
         λ d.
             let b = accepted (setting rows) (d .0) cells room (d .1) in
@@ -157,7 +157,7 @@ module _ (t : Table) (T : Passing t) where
       )
 
       -- Accepted beside a derivation, the cells show the term derived, and the state has counted the derivation's cells.
-      pub accepted-as-derived : {u : Term Name} (P : Reads u) (v : ℕ) (s : State) (cells′ : List ℕ) → Answers (done v s cells′)
+      pub accepted-as-derived : {u : Term Name} (P : ParsesAs u) (v : ℕ) (s : State) (cells′ : List ℕ) → Answers (done v s cells′)
           → (termAt (s .made) (R .spell) cells′ v ≡ u) × (s .made ≡ rowsIn (P .derived))
       accepted-as-derived P v s cells′ e = let a = accepts (setting rows) P cells room v s cells′ e in (a .term-is, a .made-are)
 

@@ -11,7 +11,7 @@ use Rattle.grammar.specs.Sorts.{Signature}
 use Rattle.grammar.specs.Table.{Template, Item, Alternative, Mode, add, extend, update, Definition, Table}
 use Rattle.layout.specs.Within.{Each, each-none, each-more, AlternativeWithin, DefinitionWithin, Within}
 use Rattle.sorts.specs.Scopes.{Env, entryOf, Scope}
-use Rattle.sorts.specs.Judgements.{Newest, newest-first, newest-later, Absent, absent-empty, absent-entry, ItemSorted, by-keyword, by-ide, by-number}
+use Rattle.sorts.specs.Judgements.{Newest, newest-first, newest-later, Undeclared, absent-empty, absent-entry, ItemSorted, by-keyword, by-ide, by-number}
 use Rattle.sorts.specs.Judgements.{by-local}
 use Rattle.sorts.specs.Judgements.{by-call, Body, by-result, by-binding, Bodies, no-alternative, by-choice, Defines, no-definition, by-add, by-extend}
 use Rattle.sorts.specs.Judgements.{by-update, Ok, ok-empty, ok-definition, scope, Sequence, no-grammar, by-grammar, WellSorted}
@@ -50,11 +50,11 @@ each-kept update n h = each-without n h
 abbrev More : Env → Env → Type 0
 More E E′ = (n : ℕ) (S : Signature) → Newest E n S → Newest E′ n S
 
-absent-append : {own E : Env} {n : ℕ} → Absent own n → Absent E n → Absent (own ++ E) n
+absent-append : {own E : Env} {n : ℕ} → Undeclared own n → Undeclared E n → Undeclared (own ++ E) n
 absent-append absent-empty k = k
 absent-append (absent-entry d h) k = absent-entry d (absent-append h k)
 
-newest-append : {own E : Env} {n : ℕ} {S : Signature} → Absent own n → Newest E n S → Newest (own ++ E) n S
+newest-append : {own E : Env} {n : ℕ} {S : Signature} → Undeclared own n → Newest E n S → Newest (own ++ E) n S
 newest-append absent-empty k = k
 newest-append (absent-entry d h) k = newest-later d (newest-append h k)
 
@@ -68,10 +68,10 @@ entry-more d E same n S h =
     rw (← q) r)
     (λ e. newest-later (eqb-false (d .nonterminal) n e) h)
 
-added : {own E : Env} (d : Definition) → Absent own (d .nonterminal) → Absent E (d .nonterminal) → More (own ++ E) (entryOf d ∷ own ++ E)
+added : {own E : Env} (d : Definition) → Undeclared own (d .nonterminal) → Undeclared E (d .nonterminal) → More (own ++ E) (entryOf d ∷ own ++ E)
 added d a b = entry-more d _ (λ S h. absurd (true≢false (sym (newest-defined h) ∙ absent-undefined (absent-append a b))))
 
-changed : {own E : Env} (d : Definition) → Absent own (d .nonterminal) → Newest E (d .nonterminal) (d .signature) → More (own ++ E) (entryOf d ∷ own ++ E)
+changed : {own E : Env} (d : Definition) → Undeclared own (d .nonterminal) → Newest E (d .nonterminal) (d .signature) → More (own ++ E) (entryOf d ∷ own ++ E)
 changed d a b = entry-more d _ (λ S h. sym (newest-signature (newest-append a b)) ∙ newest-signature h)
 
 module _ {E : Env} where

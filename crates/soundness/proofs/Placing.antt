@@ -63,16 +63,16 @@ module _ (G : List Given) (spell : ℕ → List ℕ) where
   bound-from (each-more h hs) (bound-later b) = bound-from hs b
 
   constructs-from : {c : ℕ} {vs : List Value} {v : Value} → Constructs c vs v → Each From vs → From v
-  constructs-from Figure3.mkTermVar-var (each-more (from-var x) each-none) = from-term (placed-variable x)
-  constructs-from Figure3.mkTermVar-binder (each-more (from-binder x) each-none) = from-term (placed-variable (binder-var x))
-  constructs-from Figure3.mkTermFun (each-more (from-binder x) (each-more (from-term t) each-none)) = from-term (placed-function x t)
-  constructs-from Figure3.mkTermApp (each-more (from-term t) (each-more (from-term u) each-none)) = from-term (placed-apply t u)
-  constructs-from Figure3.mkTermRcd (each-more (from-fields f) each-none) = from-term (placed-rcd f)
-  constructs-from Figure3.mkTermDot (each-more (from-term t) (each-more (from-label l) each-none)) = from-term (placed-dot t l)
-  constructs-from Figure3.mkFieldNil each-none = from-fields placed-nil
-  constructs-from Figure3.mkFieldCons (each-more (from-label l) (each-more (from-term t) (each-more (from-fields f) each-none))) =
+  constructs-from Figure3.makes-var (each-more (from-var x) each-none) = from-term (placed-variable x)
+  constructs-from Figure3.makes-var-of-binder (each-more (from-binder x) each-none) = from-term (placed-variable (binder-var x))
+  constructs-from Figure3.makes-fun (each-more (from-binder x) (each-more (from-term t) each-none)) = from-term (placed-function x t)
+  constructs-from Figure3.makes-app (each-more (from-term t) (each-more (from-term u) each-none)) = from-term (placed-apply t u)
+  constructs-from Figure3.makes-rcd (each-more (from-fields f) each-none) = from-term (placed-rcd f)
+  constructs-from Figure3.makes-dot (each-more (from-term t) (each-more (from-label l) each-none)) = from-term (placed-dot t l)
+  constructs-from Figure3.makes-nil each-none = from-fields placed-nil
+  constructs-from Figure3.makes-cons (each-more (from-label l) (each-more (from-term t) (each-more (from-fields f) each-none))) =
       from-fields (placed-cons l t f)
-  constructs-from Figure3.mkTermNum (each-more (from-num n) each-none) = from-term (placed-number n)
+  constructs-from Figure3.makes-num (each-more (from-num n) each-none) = from-term (placed-number n)
 
   first-of : {x : Given} {xs : List Given} → Each (Among G) (x ∷ xs) → Among G x
   first-of (each-more h hs) = h
@@ -83,7 +83,7 @@ module _ (G : List Given) (spell : ℕ → List ℕ) where
 
       gives-from : (t : Template) {v : Value} → Each (Among G) (namedIn t) → Gives spell M t v → From v
       gives-from (Table.variable i) a (by-variable b) = bound-from m b
-      gives-from (Table.outside n) a by-global = from-var (var-outside (first-of a))
+      gives-from (Table.outsideVar n) a by-global = from-var (var-outside (first-of a))
       gives-from (Table.outsideLabel n) a by-label = from-label (label-outside (first-of a))
       gives-from (Table.make c ts) a (by-constructor g k) = constructs-from k (all-from ts a g)
 
@@ -156,7 +156,7 @@ module _ {g : List Production} (F : FitAll g) (tokens : List Token) (spell : ℕ
 
     named-known : {L : List ℕ} {A : ℕ} (t : Template) → Sorted N L t A → Each Known (namedIn t)
     named-known (Table.variable i) w = each-none
-    named-known (Table.outside n) (Judgements.by-global l) = each-more (supplied-outside l) each-none
+    named-known (Table.outsideVar n) (Judgements.by-global l) = each-more (supplied-outside l) each-none
     named-known (Table.outsideLabel n) (Judgements.by-label l) = each-more (supplied-label l) each-none
     named-known (Table.make c ts) (Judgements.by-constructor l u f) = all-known ts f
 

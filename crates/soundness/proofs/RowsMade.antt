@@ -13,7 +13,7 @@ use Rattle.productions.specs.Normal.{Production}
 use Rattle.terms.specs.Rows.{termAt}
 use Rattle.expansion.specs.declared.State.{State}
 use Rattle.expansion.specs.Run.{done, halt}
-use Rattle.expansion.specs.Expansion.{start, runCall, ended, run}
+use Rattle.expansion.specs.Expansion.{initialState, runCall, ended, run}
 use Rattle.expansion.specs.Limits.{mostOpen}
 use Rattle.expansion.specs.Figure3.{Value, term}
 use Rattle.expansion.specs.Parsing.{input}
@@ -63,5 +63,5 @@ module _ {g : List Production} (X : Setting g) where
   unfolding run
   run-leaves-rows cells room e =
       rw e at (ends-after (Root X cells) (Any X) (Leaves cells) (Any X)
-      (runCall mostOpen (input g (X .tokens) (X .rows)) (X .root) [] start cells) (ended (input g (X .tokens) (X .rows))) (root-called X cells room)
+      (runCall mostOpen (input g (X .tokens) (X .rows)) (X .root) [] initialState cells) (ended (input g (X .tokens) (X .rows))) (root-called X cells room)
       (ended-leaves cells) (λ r u. u))

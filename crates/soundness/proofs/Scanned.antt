@@ -13,7 +13,7 @@ use Rattle.scanner.specs.declared.Token.{Token}
 use Rattle.scanner.specs.declared.Step.{Step}
 use Rattle.scanner.specs.declared.Step.the-variants.{Skip, Emit, Stop}
 use Rattle.scanner.specs.declared.Scanned.the-variants.{Unscanned}
-use Rattle.scanner.specs.Scan.{Lexed, isNew, wordsWith, ended, withToken, stepOf, lexFrom, scan}
+use Rattle.scanner.specs.Scan.{Lexed, isNew, wordsWith, scanEnded, withToken, stepOf, lexFrom, scan}
 use Rattle.scanner.specs.Tokens.{mostTokens, longestFormula, endToken}
 use Rattle.scanner.proofs.SpellingLaws.{every-at, scan-spelled}
 use Rattle.expansion.specs.Parsing.{SmallWords}
@@ -42,7 +42,7 @@ few-from (suc k) lex at (b ∷ bs) n words l =
 
     limited : (t : Token) (c : Bool) → ltb n mostTokens ≡ c
         → (n + 1 ≤ mostTokens → length (emitted t .words) + (n + 1) ≤ length (wordsWith words (take (t .size) (b ∷ bs)) t) + mostTokens)
-        → length ((elim c as (λ x. Lexed) [ false ↦ ended (Unscanned (refusal 16 0 0 0)) words | true ↦ emitted t ]) .words) + n ≤ length words + mostTokens
+        → length ((elim c as (λ x. Lexed) [ false ↦ scanEnded (Unscanned (refusal 16 0 0 0)) words | true ↦ emitted t ]) .words) + n ≤ length words + mostTokens
     limited t false e h = omega arith
     limited t true e h = omega (arith, h (omega (arith, ltb-true n mostTokens e)), one-more words (take (t .size) (b ∷ bs)) t)
 
@@ -51,8 +51,8 @@ few-from (suc k) lex at (b ∷ bs) n words l =
         → length
         ((elim r as (λ x. Lexed) [
           | Skip ↦ lexFrom k lex (at + 1) bs n words
-          | Stop ↦ ended (Unscanned (refusal 15 at 0 0)) words
-          | Emit t ↦ elim (ltb n mostTokens) as (λ x. Lexed) [ false ↦ ended (Unscanned (refusal 16 0 0 0)) words | true ↦ emitted t ]
+          | Stop ↦ scanEnded (Unscanned (refusal 15 at 0 0)) words
+          | Emit t ↦ elim (ltb n mostTokens) as (λ x. Lexed) [ false ↦ scanEnded (Unscanned (refusal 16 0 0 0)) words | true ↦ emitted t ]
         ])
         .words) + n ≤ length words + mostTokens
     go Skip h f = h
@@ -65,7 +65,7 @@ few-words lex formula = go (leb (length formula) longestFormula)
   where
     go : (b : Bool)
         → length
-        ((elim b as (λ x. Lexed) [ true ↦ lexFrom (length formula) lex 0 formula 0 [] | false ↦ ended (Unscanned (refusal 14 0 0 0)) [] ]) .words) ≤ mostTokens
+        ((elim b as (λ x. Lexed) [ true ↦ lexFrom (length formula) lex 0 formula 0 [] | false ↦ scanEnded (Unscanned (refusal 14 0 0 0)) [] ]) .words) ≤ mostTokens
     go true = omega (arith, few-from (length formula) lex 0 formula 0 [] (omega arith))
     go false = omega arith
 

@@ -4,7 +4,7 @@ use mathlib.Core.Path.{_≡_, subst⁻¹}
 use mathlib.Core.List.{List, [], _∷_}
 use native.Mathlib.Omega.{arith}
 use Rattle.answers.specs.Checked.{ok}
-use Rattle.grammar.specs.Sorts.{Signature, constructors, constructor}
+use Rattle.grammar.specs.Sorts.{Signature, constructorSignatures, constructor}
 use Rattle.grammar.specs.Sorts as Sorts
 use Rattle.grammar.specs.Table.{make, none, Item, call}
 use Rattle.layout.specs.Within.{Each, each-none, each-more, ItemWithin, call-within, none-within}
@@ -51,7 +51,7 @@ module _ {g : List Production} (X : Setting g) where
 
   -- an item that is sorted, as a body of its own
   pub item-body : {L : List ℕ} {i : Item} {A : ℕ} → Judgements.ItemSorted (X .fit .scope) L i A → Body (X .fit .scope) L (i ∷ []) (make 0x25 none) Sorts.fields
-  unfolding constructor constructors
+  unfolding constructor constructorSignatures
   item-body w = by-binding w (by-result (Judgements.by-constructor {c = 0x25} (omega arith) (omega arith) fill-none) Judgements.fits-equal)
 
   -- the call of the root, as a body of its own

@@ -27,7 +27,7 @@ use Rattle.expansion.specs.declared.State.{State}
 use Rattle.expansion.specs.Run.{Result, done, halt, Run, after}
 use Rattle.expansion.specs.Expansion.{Input, ready, Rule, unfit, chosen, choice, nextToken, tokenTaken, takeToken, misfit, buildAll, build, wordValue}
 use Rattle.scanner.specs.Tokens.{endToken}
-use Rattle.expansion.specs.Expansion.{runItem, runItems, callBegun, runCall, start, ended, run}
+use Rattle.expansion.specs.Expansion.{runItem, runItems, callBegun, runCall, initialState, ended, run}
 use Rattle.expansion.specs.Limits.{mostCalls, mostOpen}
 use Rattle.expansion.specs.Figure3.{Value, unit, binder, term, Gives, give-none, Taken, as-var, as-binder, as-label, by-keyword, by-ide, by-number}
 use Rattle.expansion.specs.Figure3.{by-local, Derives, by-end, by-terminal, by-call, Parses}
@@ -386,12 +386,12 @@ module _ {g : List Production} (X : Setting g) where
 
   -- a run of the whole gives a term that its tokens derive
   abbrev pub Root : List ℕ → ℕ → State → List ℕ → Type 0
-  Root cells = Called 0 (X .root) [] start cells
+  Root cells = Called 0 (X .root) [] initialState cells
 
   -- the root, called
-  pub root-called : (cells : List ℕ) → rows * 4 ≤ length cells → Ends (Root cells) Any (runCall mostOpen I (X .root) [] start cells)
+  pub root-called : (cells : List ℕ) → rows * 4 ≤ length cells → Ends (Root cells) Any (runCall mostOpen I (X .root) [] initialState cells)
   root-called cells room =
-      call-sound mostOpen 0 (X .root) (X .signature) [] [] start cells (X .defined) (X .root-small) (no-arguments X)
+      call-sound mostOpen 0 (X .root) (X .signature) [] [] initialState cells (X .defined) (X .root-small) (no-arguments X)
       (record { room = room; fits = omega arith; names = omega arith; begun = omega arith }) show-none
 
   -- as a derivation of one call
@@ -431,5 +431,5 @@ module _ {g : List Production} (X : Setting g) where
       → Parses g spell (X .root) tokens (termAt (s .made) spell cells′ v)
   unfolding run Accepted
   run-sound cells room v s cells′ e =
-      rw e at (ends-after (Root cells) Any Accepted Any (runCall mostOpen I (X .root) [] start cells) (ended I) (root-called cells room) (ended-sound cells)
+      rw e at (ends-after (Root cells) Any Accepted Any (runCall mostOpen I (X .root) [] initialState cells) (ended I) (root-called cells room) (ended-sound cells)
       (λ r u. u))

@@ -20,7 +20,8 @@ use Rattle.productions.specs.Normal.{Production}
 use Rattle.firsts.specs.Rules.{Reads, reads-keyword, reads-word, reads-number}
 use Rattle.expansion.specs.declared.State.{State}
 use Rattle.expansion.specs.Run.{Result, done, halt, Run, after}
-use Rattle.expansion.specs.Expansion.{Input, ready, choice, nextToken, buildAll, build, wordValue, runItem, runItems, callBegun, runCall, start, ended, run}
+use Rattle.expansion.specs.Expansion.{Input, ready, choice, nextToken, buildAll, build, wordValue, runItem, runItems, callBegun, runCall, initialState, ended}
+use Rattle.expansion.specs.Expansion.{run}
 use Rattle.expansion.specs.Limits.{mostCalls, mostOpen}
 use Rattle.expansion.specs.Expansion as Expansion
 use Rattle.expansion.specs.Figure3.{Value, Gives, GiveAll, Taken, Derives}
@@ -34,8 +35,8 @@ use Rattle.expansion.proofs.Choosing.{kindOf, kind-next, Picks, picks, picks-no
 use Rattle.soundness.proofs.Sound.{Kept, kept-made, kept-less, call-full, call-unfit, call-chosen}
 use Rattle.soundness.proofs.Complete.{Beyond, items-along, Reached, root-along}
 use Rattle.soundness.proofs.Complete as Complete
-use Rattle.soundness.specs.Stopping.{indexOf, takes, makes, begins, Fails, no-token, no-row, too-deep, too-many, no-choice, Stops, at-token}
-use Rattle.soundness.specs.Stopping.{at-arguments, at-call, past-item, Enters, at-start, in-items, at-result, Refuses, stops, left-over}
+use Rattle.soundness.specs.Stopping.{nextIndex, takes, makes, begins, Fails, no-token, no-row, too-deep, too-many-calls, no-choice, Stops, at-token}
+use Rattle.soundness.specs.Stopping.{at-arguments, at-call, past-item, CallStops, at-start, in-items, at-result, Refuses, stops, left-over}
 use Rattle.soundness.proofs.StopLaws.{first-set-one, build-stays, build-all-stays, index-is, take-halts, item-bounded, items-bounded, call-bounded}
 
 -- halted with this refusal
@@ -79,7 +80,7 @@ module _ {g : List Production} (X : Setting g) where
     calls : s .calls ≡ c
     made : s .made ≡ m
 
-  index : {c m : ℕ} {t : List Token} {i : ℕ} (s : State) → At c m t i s → indexOf tokens t ≡ s .at
+  index : {c m : ℕ} {t : List Token} {i : ℕ} (s : State) → At c m t i s → nextIndex tokens t ≡ s .at
   index s p = index-is X s (p .place) (p .bounded)
 
   -- a run of these items, begun as the rules are, ends with this refusal
@@ -127,7 +128,7 @@ module _ {g : List Production} (X : Setting g) where
       go : (x : Result (List ℕ))
           → Ends (λ ys s₁ c₁. BuiltAll spell J (rowsOfAll ts) s cells vs ys s₁ c₁ × (s₁ .at ≡ s .at))
           (λ r. Full rows (s .made + rowsOfAll ts) r × (r ≡ refusal 21 (s .at) 0 0)) x
-          → HaltsWith (refusal 21 (indexOf tokens t) 0 0) x
+          → HaltsWith (refusal 21 (nextIndex tokens t) 0 0) x
       go (done ys s₁ c₁) y = absurd (omega (arith, y .0 .0 .made-is, y .0 .0 .fits, l, p .made))
       go (halt q c₁) u = (c₁, cc (u .1, index s p))
 
@@ -137,14 +138,14 @@ module _ {g : List Production} (X : Setting g) where
     where
       go : (d k : ℕ) (ys : List ℕ) (s : State) (cells : List ℕ) → d + o ≡ mostOpen → n < 64 → At c m t i s → Kept rows k s cells
           → ShowAll spell (s .made) cells ys vs
-          → HaltsWith (refusal 19 (indexOf tokens t) 0 0) (runCall d J n ys s cells)
+          → HaltsWith (refusal 19 (nextIndex tokens t) 0 0) (runCall d J n ys s cells)
       go zero k ys s cells e b p h a = (cells, cc (index s p))
       go (suc d) k ys s cells e b p h a = absurd (omega arith)
-  start-fails {o} {c} {m} {n} {i} {t} {vs} (too-many l q) = record { calls = go }
+  start-fails {o} {c} {m} {n} {i} {t} {vs} (too-many-calls l q) = record { calls = go }
     where
       go : (d k : ℕ) (ys : List ℕ) (s : State) (cells : List ℕ) → d + o ≡ mostOpen → n < 64 → At c m t i s → Kept rows k s cells
           → ShowAll spell (s .made) cells ys vs
-          → HaltsWith (refusal 20 (indexOf tokens t) 0 0) (runCall d J n ys s cells)
+          → HaltsWith (refusal 20 (nextIndex tokens t) 0 0) (runCall d J n ys s cells)
       go zero k ys s cells e b p h a = absurd (omega arith)
       go (suc d) k ys s cells e b p h a = (
         cells,
@@ -154,12 +155,12 @@ module _ {g : List Production} (X : Setting g) where
     where
       go : (d k : ℕ) (ys : List ℕ) (s : State) (cells : List ℕ) → d + o ≡ mostOpen → n < 64 → At c m t i s → Kept rows k s cells
           → ShowAll spell (s .made) cells ys vs
-          → HaltsWith (refusal 17 (indexOf tokens t) set (ones set)) (runCall d J n ys s cells)
+          → HaltsWith (refusal 17 (nextIndex tokens t) set (ones set)) (runCall d J n ys s cells)
       go zero k ys s cells e b p h a = absurd (omega arith)
       go (suc d) k ys s cells e b p h a = by (choice-picks g n b (rest s))
         where
           by : Picks g n (rest s) (choice (ready g) n (kindOf (rest s)))
-              → HaltsWith (refusal 17 (indexOf tokens t) set (ones set)) (runCall (suc d) J n ys s cells)
+              → HaltsWith (refusal 17 (nextIndex tokens t) set (ones set)) (runCall (suc d) J n ys s cells)
           by (picks x z u) = absurd (f x (rw (← (p .place)) z))
           by (picks-none z u) = (
             cells,
@@ -214,12 +215,12 @@ module _ {g : List Production} (X : Setting g) where
       where
         go : (d k : ℕ) (ys : List ℕ) (s : State) (cells : List ℕ) → d + o ≡ mostOpen → n < 64 → At c m t i s → Kept rows k s cells
             → ShowAll spell (s .made) cells ys vs
-            → HaltsWith (refusal 21 (indexOf tokens t′) 0 0) (runCall d J n ys s cells)
+            → HaltsWith (refusal 21 (nextIndex tokens t′) 0 0) (runCall d J n ys s cells)
         go zero k ys s cells e z q h a = absurd (omega (arith, A .few-open))
         go (suc d) k ys s cells e z q h a =
             let f = F .each p (taken-of taken .member) in
             let b : s .calls < mostCalls = omega (arith, A .few-calls, q .calls) in
-            enter (refusal 21 (indexOf tokens t′) 0 0) d ys s cells q (omega (arith, A .few-calls))
+            enter (refusal 21 (nextIndex tokens t′) 0 0) d ys s cells q (omega (arith, A .few-calls))
             (by (runItems (runCall d J) J (p .items) ys (callBegun s) cells)
             (ends-both (Reached X k d (openIn D) (callsIn D) (rowsIn D) t′ i′ M (callBegun s .calls) (s .made) cells) (λ zs s₁ c₁. s₁ .at ≤ length tokens)
             (Beyond rows d (openIn D) (callBegun s .calls + callsIn D) (s .made + rowsIn D)) (λ r. Unit {0})
@@ -237,7 +238,7 @@ module _ {g : List Production} (X : Setting g) where
                 → Ends
                 (λ zs s₁ c₁. Reached X k d (openIn D) (callsIn D) (rowsIn D) t′ i′ M (callBegun s .calls) (s .made) cells zs s₁ c₁ × (s₁ .at ≤ length tokens))
                 (λ r. Beyond rows d (openIn D) (callBegun s .calls + callsIn D) (s .made + rowsIn D) r × Unit {0}) x
-                → HaltsWith (refusal 21 (indexOf tokens t′) 0 0) (after x (λ M. build (p .result) J M))
+                → HaltsWith (refusal 21 (nextIndex tokens t′) 0 0) (after x (λ M. build (p .result) J M))
             by (halt w c₁) u = absurd (never (u .0))
             by (done zs s₁ c₁) u =
                 let w = result-sorted (F .each p (taken-of taken .member) .body) in
@@ -250,7 +251,7 @@ module _ {g : List Production} (X : Setting g) where
                 last : (x : Result ℕ)
                     → Ends (λ x s₂ c₂. Built spell J (rowsOf (p .result)) s₁ c₁ v x s₂ c₂ × (s₂ .at ≡ s₁ .at))
                     (λ r. Full rows (s₁ .made + rowsOf (p .result)) r × (r ≡ refusal 21 (s₁ .at) 0 0)) x
-                    → HaltsWith (refusal 21 (indexOf tokens t′) 0 0) x
+                    → HaltsWith (refusal 21 (nextIndex tokens t′) 0 0) x
                 last (done x s₂ c₂) y = absurd (omega (arith, y .0 .0 .made-is, y .0 .0 .fits, u .0 .0 .made-are, l, q .made))
                 last (halt w c₂) y =
                     (c₂, cc (y .1, index-is X s₁ (u .0 .0 .place) (u .1)))
@@ -354,7 +355,7 @@ module _ {g : List Production} (X : Setting g) where
     stops-halts (at-call {ps = is} gs l e) = call-fails is gs l (enters-calls e)
     stops-halts (past-item D A st) = past-halts D A (stops-halts st)
 
-    enters-calls : {o c m n i : ℕ} {vs : List Value} {t : List Token} {r : Refusal} → Enters g spell rows tokens o c m n vs t i r → Calls o c m n vs t i r
+    enters-calls : {o c m n i : ℕ} {vs : List Value} {t : List Token} {r : Refusal} → CallStops g spell rows tokens o c m n vs t i r → Calls o c m n vs t i r
     enters-calls (at-start f) = start-fails f
     enters-calls {o} {c} {m} {n} {i} {vs} {t} (in-items {p = p} l b taken st) = items-fail o c m n i t vs p taken l b (stops-halts st)
     enters-calls {o} {c} {m} {n} {i} {vs} {t} (at-result {p = p} taken D A v f) = result-fails o c m n i t vs p taken D A v f
@@ -362,23 +363,23 @@ module _ {g : List Production} (X : Setting g) where
   -- ------------------------------------------------------------------ the whole formula
 
   -- the items that are one call of the root halt where that call does
-  root-halts : (r : Refusal) (cells : List ℕ) → HaltsWith r (runItems (runCall mostOpen J) J (call (X .root) none ∷ []) [] start cells)
-      → HaltsWith r (runCall mostOpen J (X .root) [] start cells)
+  root-halts : (r : Refusal) (cells : List ℕ) → HaltsWith r (runItems (runCall mostOpen J) J (call (X .root) none ∷ []) [] initialState cells)
+      → HaltsWith r (runCall mostOpen J (X .root) [] initialState cells)
   unfolding runItems buildAll
-  root-halts r cells h = go (runCall mostOpen J (X .root) [] start cells) h
+  root-halts r cells h = go (runCall mostOpen J (X .root) [] initialState cells) h
     where
       go : (x : Result ℕ) → HaltsWith r (after x (λ v. runItems (runCall mostOpen J) J [] ([] ++ (v ∷ [])))) → HaltsWith r x
       go (done v s c) q = never-done (q .1)
       go (halt z c) q = (c, (cc (q .1)))
 
   left-halts : {i : ℕ} {M : List Value} {t : Token} {ts : List Token} (D : Derives g spell [] tokens 1 (call (X .root) none ∷ []) M (t ∷ ts) i)
-      → Affords rows 0 0 0 D → (cells : List ℕ) → rows * 4 ≤ length cells → HaltsWith (refusal 18 (indexOf tokens (t ∷ ts)) 0 0) (run J (X .root) cells)
+      → Affords rows 0 0 0 D → (cells : List ℕ) → rows * 4 ≤ length cells → HaltsWith (refusal 18 (nextIndex tokens (t ∷ ts)) 0 0) (run J (X .root) cells)
   unfolding run
   left-halts {i} {M} {t} {ts} D A cells room =
-      go (runCall mostOpen J (X .root) [] start cells)
+      go (runCall mostOpen J (X .root) [] initialState cells)
       (ends-both (λ x s c. Reached X 0 mostOpen (openIn D) (callsIn D) (rowsIn D) (t ∷ ts) i M 0 0 cells (x ∷ []) s c) (λ x s c. s .at ≤ length tokens)
-      (Beyond rows mostOpen (openIn D) (callsIn D) (rowsIn D)) (λ r. Unit {0}) (runCall mostOpen J (X .root) [] start cells)
-      (root-along X D cells room) (call-bounded X mostOpen (X .root) [] start cells (X .root-small) (omega arith)))
+      (Beyond rows mostOpen (openIn D) (callsIn D) (rowsIn D)) (λ r. Unit {0}) (runCall mostOpen J (X .root) [] initialState cells)
+      (root-along X D cells room) (call-bounded X mostOpen (X .root) [] initialState cells (X .root-small) (omega arith)))
     where
       never : {q : Refusal} → Beyond rows mostOpen (openIn D) (callsIn D) (rowsIn D) q → ⊥
       never (Complete.too-deep x y) = omega (arith, A .few-open, y)
@@ -388,7 +389,7 @@ module _ {g : List Production} (X : Setting g) where
       go : (x : Result ℕ)
           → Ends (λ x s c. Reached X 0 mostOpen (openIn D) (callsIn D) (rowsIn D) (t ∷ ts) i M 0 0 cells (x ∷ []) s c × (s .at ≤ length tokens))
           (λ r. Beyond rows mostOpen (openIn D) (callsIn D) (rowsIn D) r × Unit {0}) x
-          → HaltsWith (refusal 18 (indexOf tokens (t ∷ ts)) 0 0) (after x (ended J))
+          → HaltsWith (refusal 18 (nextIndex tokens (t ∷ ts)) 0 0) (after x (ended J))
       go (halt q c) u = absurd (never (u .0))
       go (done x s c) u =
           let e : length (drop (s .at) tokens) ≡ suc (length ts) = ap length (u .0 .0 .place) in
@@ -400,9 +401,9 @@ module _ {g : List Production} (X : Setting g) where
       → HaltsWith r (run J (X .root) cells)
   unfolding run
   refuses-halts {r} (stops E) cells room =
-      halts-after r (runCall mostOpen J (X .root) [] start cells) (ended J)
+      halts-after r (runCall mostOpen J (X .root) [] initialState cells) (ended J)
       (root-halts r cells
-      (stops-halts E .halts mostOpen 0 (make 0x25 none) Sorts.fields [] [] start cells refl (root-body X) (root-within X)
+      (stops-halts E .halts mostOpen 0 (make 0x25 none) Sorts.fields [] [] initialState cells refl (root-body X) (root-within X)
       (record { place = refl; bounded = omega arith; counter = refl; calls = refl; made = refl })
       (record { room = room; fits = omega arith; names = omega arith; begun = omega arith }) show-none))
   refuses-halts (left-over D A) cells room = left-halts D A cells room

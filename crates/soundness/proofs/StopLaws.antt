@@ -34,7 +34,7 @@ use Rattle.soundness.proofs.Building.{Ends}
 use Rattle.soundness.proofs.Typing.{FitAll, taken-of}
 use Rattle.expansion.proofs.Choosing.{kindOf, kind-next, Picks, picks, picks-none, choice-picks, rule}
 use Rattle.soundness.proofs.Sound.{token-before, call-full, call-unfit, call-chosen}
-use Rattle.soundness.specs.Stopping.{indexOf, FirstSet}
+use Rattle.soundness.specs.Stopping.{nextIndex, FirstSet}
 
 -- ------------------------------------------------------------------ first sets
 
@@ -86,7 +86,7 @@ module _ (I : Input) where
     -- building a template reads no token
     pub build-stays : (t : Template) (M : List ℕ) (s : State) (cells : List ℕ) → Stays s (build t I M s cells)
     build-stays (Table.variable i) M s cells = refl
-    build-stays (Table.outside n) M s cells = refl
+    build-stays (Table.outsideVar n) M s cells = refl
     build-stays (Table.outsideLabel n) M s cells = refl
     build-stays (Table.make c ts) M s cells =
         stays-after s (buildAll ts I M s cells) (λ vs. cell I c vs) (build-all-stays ts M s cells) (λ vs s′ c′. cell-stays c vs s′ c′)
@@ -127,7 +127,7 @@ module _ {g : List Production} (X : Setting g) where
   rest s = drop (s .at) tokens
 
   -- the index of what is left is the state's place
-  pub index-is : (s : State) {t : List Token} → rest s ≡ t → s .at ≤ length tokens → indexOf tokens t ≡ s .at
+  pub index-is : (s : State) {t : List Token} → rest s ≡ t → s .at ≤ length tokens → nextIndex tokens t ≡ s .at
   index-is s e l = omega (arith, ap length e, length-drop (s .at) tokens)
 
   -- a token taken is of the kind, and one that is not is none of it

@@ -23,7 +23,7 @@ use Rattle.firsts.proofs.FirstsTheorems.{opens-exactly}
 use Rattle.expansion.specs.declared.State.{State}
 use Rattle.expansion.specs.Run.{Result, done, halt, after}
 use Rattle.expansion.specs.Expansion.{Input, ready, choice, nextToken, tokenTaken, takeToken, misfit, buildAll, build, wordValue, runItem, runItems, callBegun}
-use Rattle.expansion.specs.Expansion.{runCall, start, ended, run}
+use Rattle.expansion.specs.Expansion.{runCall, initialState, ended, run}
 use Rattle.expansion.specs.Limits.{mostCalls, mostOpen}
 use Rattle.expansion.specs.Figure3.{Value, GiveAll, give-none, Taken, Derives, by-end}
 use Rattle.expansion.specs.ValueSorts.{Matches}
@@ -37,8 +37,8 @@ use Rattle.expansion.proofs.Choosing.{kindOf, kind-next, Picks, picks, picks-no
 use Rattle.soundness.proofs.Sound.{token-here, Kept, kept-made, kept-less, call-full, call-unfit, call-chosen, Stepped, Derived, item-sound}
 use Rattle.soundness.proofs.Sound.{items-sound, call-sound, Root, root-called, root-derived}
 use Rattle.soundness.proofs.Complete.{items-along, items-after, root-along}
-use Rattle.soundness.specs.Stopping.{Step, indexOf, makes, Fails, no-token, no-row, too-deep, too-many, no-choice, Stops, at-token}
-use Rattle.soundness.specs.Stopping.{at-arguments, at-call, past-item, Enters, at-start, in-items, at-result, Refuses, stops, left-over}
+use Rattle.soundness.specs.Stopping.{Action, nextIndex, makes, Fails, no-token, no-row, too-deep, too-many-calls, no-choice, Stops, at-token}
+use Rattle.soundness.specs.Stopping.{at-arguments, at-call, past-item, CallStops, at-start, in-items, at-result, Refuses, stops, left-over}
 use Rattle.soundness.proofs.StopLaws.{build-stays, build-all-stays, index-is, kind-of-next, item-bounded, items-bounded, call-bounded}
 
 module _ {g : List Production} (X : Setting g) where
@@ -68,14 +68,14 @@ module _ {g : List Production} (X : Setting g) where
   StopsAt o M is s r = Stops g spell rows tokens o (s .calls) (s .made) M (rest s) (s .fresh) is r
 
   abbrev EntersAt : ℕ → ℕ → List Value → State → Refusal → Type 0
-  EntersAt o n vs s r = Enters g spell rows tokens o (s .calls) (s .made) n vs (rest s) (s .fresh) r
+  EntersAt o n vs s r = CallStops g spell rows tokens o (s .calls) (s .made) n vs (rest s) (s .fresh) r
 
-  here : (s : State) → s .at ≤ length tokens → indexOf tokens (rest s) ≡ s .at
+  here : (s : State) → s .at ≤ length tokens → nextIndex tokens (rest s) ≡ s .at
   here s l = index-is X s refl l
 
   -- a step that fails at the index of what is left fails at the state's place
-  fails-here : {o c m k a b : ℕ} {step : Step} (s : State) → s .at ≤ length tokens
-      → Fails g spell rows tokens o c m (rest s) step (refusal k (indexOf tokens (rest s)) a b)
+  fails-here : {o c m k a b : ℕ} {step : Action} (s : State) → s .at ≤ length tokens
+      → Fails g spell rows tokens o c m (rest s) step (refusal k (nextIndex tokens (rest s)) a b)
       → Fails g spell rows tokens o c m (rest s) step (refusal k (s .at) a b)
   fails-here s l f = rw (here s l) at f
 
@@ -111,8 +111,8 @@ module _ {g : List Production} (X : Setting g) where
   enters-stops {o} {n} {vs = vs} {ts = ts} is {s = s} {s₁ = s₁} gs b r e =
       let fits : s .made + rowsOfAll ts ≤ rows = omega (arith, b .fits, b .made-is) in
       at-call gs fits
-      (subst₂ (λ at i. Enters g spell rows tokens o (s .calls) (s .made + rowsOfAll ts) n vs (drop at tokens) i r) (b .at-kept) (b .fresh-kept)
-      (subst₂ (λ c m. Enters g spell rows tokens o c m n vs (rest s₁) (s₁ .fresh) r) (b .calls-kept) (b .made-is) e))
+      (subst₂ (λ at i. CallStops g spell rows tokens o (s .calls) (s .made + rowsOfAll ts) n vs (drop at tokens) i r) (b .at-kept) (b .fresh-kept)
+      (subst₂ (λ c m. CallStops g spell rows tokens o c m n vs (rest s₁) (s₁ .fresh) r) (b .calls-kept) (b .made-is) e))
 
   module _ (d o : ℕ) (left : d + o ≡ mostOpen) (halting : Halting d) where
     item-halts : (k : ℕ) {i : Item} {A : ℕ} {M : List Value} {L xs : List ℕ} (is : List Item) (s : State) (cells : List ℕ) → ItemSorted (F .scope) L i A
@@ -233,7 +233,7 @@ module _ {g : List Production} (X : Setting g) where
         go : (c : Bool) → ltb (s .calls) mostCalls ≡ c → Picks g n (rest s) (choice (ready g) n (kindOf (rest s))) → Goal (runCall (suc d) J n xs s cells)
         go false e q =
             subst⁻¹ Goal (call-full d J n xs s cells e)
-            (at-start (fails-here s b (too-many deeper (ltb-false (s .calls) mostCalls e))))
+            (at-start (fails-here s b (too-many-calls deeper (ltb-false (s .calls) mostCalls e))))
         go true e (picks p t f) =
             subst⁻¹ Goal (call-chosen d J n xs s cells (rule g p) e (ap (choice (ready g) n) (kind-next (s .at) tokens) ∙ f))
             (production-halts p t (ltb-true (s .calls) mostCalls e))
@@ -250,12 +250,12 @@ module _ {g : List Production} (X : Setting g) where
   -- ------------------------------------------------------------------ the whole formula
 
   -- the call of the root is the one item of the whole
-  root-stops : {r : Refusal} → EntersAt 0 (X .root) [] start r → Refuses g spell rows tokens (X .root) r
+  root-stops : {r : Refusal} → EntersAt 0 (X .root) [] initialState r → Refuses g spell rows tokens (X .root) r
   unfolding rowsOfAll
   root-stops e = stops (at-call {m = 0} {ts = none} give-none (omega arith) e)
 
   leftover : (cells : List ℕ) (x : ℕ) (s : State) (cells′ : List ℕ) {t : Token} {ts : List Token} → rows * 4 ≤ length cells
-      → runCall mostOpen J (X .root) [] start cells ≡ done x s cells′ → Root X cells x s cells′ → s .at ≤ length tokens → rest s ≡ t ∷ ts
+      → runCall mostOpen J (X .root) [] initialState cells ≡ done x s cells′ → Root X cells x s cells′ → s .at ≤ length tokens → rest s ≡ t ∷ ts
       → Refuses g spell rows tokens (X .root) (refusal 18 (s .at) 0 0)
   leftover cells x s cells′ {t} {ts} room q y b e =
       let D : Derives g spell [] tokens 1 (call (X .root) none ∷ []) (y .value ∷ []) (t ∷ ts) (s .fresh) =
@@ -272,16 +272,16 @@ module _ {g : List Production} (X : Setting g) where
   pub run-halts : (cells : List ℕ) → rows * 4 ≤ length cells → Ends Fine (Refuses g spell rows tokens (X .root)) (run J (X .root) cells)
   unfolding run
   run-halts cells room =
-      after-by Fine (Refuses g spell rows tokens (X .root)) (runCall mostOpen J (X .root) [] start cells) (ended J)
+      after-by Fine (Refuses g spell rows tokens (X .root)) (runCall mostOpen J (X .root) [] initialState cells) (ended J)
       (λ v s c₁ q.
       over v s c₁ q (rw q at (root-called X cells room))
-      (rw q at (call-bounded X mostOpen (X .root) [] start cells (X .root-small) (omega arith))))
+      (rw q at (call-bounded X mostOpen (X .root) [] initialState cells (X .root-small) (omega arith))))
       (λ r c₁ q.
       root-stops
-      (rw q at (call-halts mostOpen 0 0 (X .root) (X .signature) [] [] start cells refl (X .defined) (X .root-small) (no-arguments X) (omega arith)
+      (rw q at (call-halts mostOpen 0 0 (X .root) (X .signature) [] [] initialState cells refl (X .defined) (X .root-small) (no-arguments X) (omega arith)
       (record { room = room; fits = omega arith; names = omega arith; begun = omega arith }) show-none)))
     where
-      over : (v : ℕ) (s : State) (c₁ : List ℕ) → runCall mostOpen J (X .root) [] start cells ≡ done v s c₁ → Root X cells v s c₁ → s .at ≤ length tokens
+      over : (v : ℕ) (s : State) (c₁ : List ℕ) → runCall mostOpen J (X .root) [] initialState cells ≡ done v s c₁ → Root X cells v s c₁ → s .at ≤ length tokens
           → Ends Fine (Refuses g spell rows tokens (X .root)) (ended J v s c₁)
       over v s c₁ q y b = go (ltb (s .at) (length tokens)) refl
         where

@@ -4,7 +4,7 @@ use mathlib.Core.Path.{_≡_, sym, ap, subst, _∙_}
 use mathlib.Core.List.{List, [], _∷_, _++_}
 use native.Mathlib.Omega.{arith}
 use lib.ListN.{length}
-use Rattle.grammar.specs.Sorts.{Signature, constructors, constructor}
+use Rattle.grammar.specs.Sorts.{Signature, constructorSignatures, constructor}
 use Rattle.grammar.specs.Table.{Template, Templates, none, more, Item}
 use Rattle.grammar.specs.Table as Table
 use Rattle.layout.specs.Within.{Each, TemplateWithin, ItemWithin}
@@ -47,30 +47,30 @@ bound-typed (matches-more h hs) (has-later k) (bound-later b) = bound-typed hs k
 -- ------------------------------------------------------------------ constructors
 
 constructs-typed : {c : ℕ} {vs : List Value} {v : Value} → Constructs c vs v → Typed v (constructor c .result)
-unfolding constructor constructors
-constructs-typed Figure3.mkTermVar-var = typed-term
-constructs-typed Figure3.mkTermVar-binder = typed-term
-constructs-typed Figure3.mkTermFun = typed-term
-constructs-typed Figure3.mkTermApp = typed-term
-constructs-typed Figure3.mkTermRcd = typed-term
-constructs-typed Figure3.mkTermDot = typed-term
-constructs-typed Figure3.mkFieldNil = typed-fields
-constructs-typed Figure3.mkFieldCons = typed-fields
-constructs-typed Figure3.mkTermNum = typed-term
+unfolding constructor constructorSignatures
+constructs-typed Figure3.makes-var = typed-term
+constructs-typed Figure3.makes-var-of-binder = typed-term
+constructs-typed Figure3.makes-fun = typed-term
+constructs-typed Figure3.makes-app = typed-term
+constructs-typed Figure3.makes-rcd = typed-term
+constructs-typed Figure3.makes-dot = typed-term
+constructs-typed Figure3.makes-nil = typed-fields
+constructs-typed Figure3.makes-cons = typed-fields
+constructs-typed Figure3.makes-num = typed-term
 
 -- a constructor over arguments of its sorts constructs a value
 constructs-by : (k : ℕ) → k < 8 → {vs : List Value} → Matches vs (constructor (0x20 + k) .params) → (v : Value) × Constructs (0x20 + k) vs v
-unfolding constructor constructors
-constructs-by zero l (matches-more typed-var matches-none) = (_, Figure3.mkTermVar-var)
-constructs-by zero l (matches-more typed-either matches-none) = (_, Figure3.mkTermVar-binder)
-constructs-by (suc zero) l (matches-more typed-binder (matches-more typed-term matches-none)) = (_, Figure3.mkTermFun)
-constructs-by (suc (suc zero)) l (matches-more typed-term (matches-more typed-term matches-none)) = (_, Figure3.mkTermApp)
-constructs-by (suc (suc (suc zero))) l (matches-more typed-fields matches-none) = (_, Figure3.mkTermRcd)
-constructs-by (suc (suc (suc (suc zero)))) l (matches-more typed-term (matches-more typed-label matches-none)) = (_, Figure3.mkTermDot)
-constructs-by (suc (suc (suc (suc (suc zero))))) l matches-none = (_, Figure3.mkFieldNil)
+unfolding constructor constructorSignatures
+constructs-by zero l (matches-more typed-var matches-none) = (_, Figure3.makes-var)
+constructs-by zero l (matches-more typed-either matches-none) = (_, Figure3.makes-var-of-binder)
+constructs-by (suc zero) l (matches-more typed-binder (matches-more typed-term matches-none)) = (_, Figure3.makes-fun)
+constructs-by (suc (suc zero)) l (matches-more typed-term (matches-more typed-term matches-none)) = (_, Figure3.makes-app)
+constructs-by (suc (suc (suc zero))) l (matches-more typed-fields matches-none) = (_, Figure3.makes-rcd)
+constructs-by (suc (suc (suc (suc zero)))) l (matches-more typed-term (matches-more typed-label matches-none)) = (_, Figure3.makes-dot)
+constructs-by (suc (suc (suc (suc (suc zero))))) l matches-none = (_, Figure3.makes-nil)
 constructs-by (suc (suc (suc (suc (suc (suc zero)))))) l (matches-more typed-label (matches-more typed-term (matches-more typed-fields matches-none))) =
-    (_, Figure3.mkFieldCons)
-constructs-by (suc (suc (suc (suc (suc (suc (suc zero))))))) l (matches-more typed-num matches-none) = (_, Figure3.mkTermNum)
+    (_, Figure3.makes-cons)
+constructs-by (suc (suc (suc (suc (suc (suc (suc zero))))))) l (matches-more typed-num matches-none) = (_, Figure3.makes-num)
 constructs-by (suc (suc (suc (suc (suc (suc (suc (suc k)))))))) l h = absurd (omega arith)
 
 constructs-exists : (c : ℕ) → 0x20 ≤ c → c ≤ 0x27 → {vs : List Value} → Matches vs (constructor c .params) → (v : Value) × Constructs c vs v
@@ -87,7 +87,7 @@ module _ (spell : ℕ → List ℕ) {N : ℕ} {M : List Value} {L : List ℕ} (m
     -- a sorted template gives a value of its sort
     pub gives-exists : {A : ℕ} (t : Template) → Sorted N L t A → (v : Value) × Gives spell M t v × Typed v A
     gives-exists (Table.variable i) (Judgements.by-variable h) = let b = bound-exists m h in (b .0, by-variable (b .1), b .2)
-    gives-exists (Table.outside n) (Judgements.by-global h) = (_, by-global, typed-var)
+    gives-exists (Table.outsideVar n) (Judgements.by-global h) = (_, by-global, typed-var)
     gives-exists (Table.outsideLabel n) (Judgements.by-label h) = (_, by-label, typed-label)
     gives-exists (Table.make c ts) (Judgements.by-constructor l h f) =
         let r = give-all-exist ts f in
@@ -106,7 +106,7 @@ module _ (spell : ℕ → List ℕ) {N : ℕ} {M : List Value} {L : List ℕ} (m
   mutual
     gives-typed : {A : ℕ} (t : Template) {v : Value} → Sorted N L t A → Gives spell M t v → Typed v A
     gives-typed (Table.variable i) (Judgements.by-variable h) (by-variable b) = bound-typed m h b
-    gives-typed (Table.outside n) (Judgements.by-global h) by-global = typed-var
+    gives-typed (Table.outsideVar n) (Judgements.by-global h) by-global = typed-var
     gives-typed (Table.outsideLabel n) (Judgements.by-label h) by-label = typed-label
     gives-typed (Table.make c ts) (Judgements.by-constructor l h f) (by-constructor g k) = constructs-typed k
 

@@ -31,7 +31,7 @@ pub data Given : Type 0 where
 unfoldable mutual
   pub namedIn : Template → List Given
   namedIn (Table.variable i) = []
-  namedIn (Table.outside n) = outside-name n ∷ []
+  namedIn (Table.outsideVar n) = outside-name n ∷ []
   namedIn (Table.outsideLabel n) = outside-label n ∷ []
   namedIn (Table.make c ts) = namedInAll ts
 

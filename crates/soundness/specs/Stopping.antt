@@ -19,41 +19,41 @@ use Rattle.expansion.specs.Figure3.{Value, Gives, GiveAll, Next, Taken, Derives
 use Rattle.expansion.specs.Costs.{rowsOf, rowsOfAll, callsIn, rowsIn, Affords}
 
 -- the index of the next token where s is left: the token count at the end
-abbrev pub indexOf : List Token → List Token → ℕ
-indexOf tokens s = length tokens - length s
+abbrev pub nextIndex : List Token → List Token → ℕ
+nextIndex tokens s = length tokens - length s
 
 -- the first set of n as a number: its bits are the kinds that open n
 abbrev pub FirstSet : List Production → ℕ → ℕ → Type 0
 FirstSet g n set = (k : ℕ) → (hasKind set k ≡ true) ↔ Opens g n k
 
 -- what a step does: it takes a token of a kind, makes so many cells, or begins a call of a nonterminal
-pub data Step : Type 0 where
-  takes : ℕ → Step
-  makes : ℕ → Step
-  begins : ℕ → Step
+pub data Action : Type 0 where
+  takes : ℕ → Action
+  makes : ℕ → Action
+  begins : ℕ → Action
 
 module _ (g : List Production) (spell : ℕ → List ℕ) (rows : ℕ) (tokens : List Token) where
   -- a step fails where o calls are open, c are begun, m cells are made, and the tokens s are left
-  pub data Fails (o c m : ℕ) (s : List Token) : Step → Refusal → Type 0 where
+  pub data Fails (o c m : ℕ) (s : List Token) : Action → Refusal → Type 0 where
     no-token : {k : ℕ}
         → (Next s k → ⊥)
-        → Fails o c m s (takes k) (refusal 17 (indexOf tokens s) (only k) (ones (only k)))
+        → Fails o c m s (takes k) (refusal 17 (nextIndex tokens s) (only k) (ones (only k)))
     no-row : {n : ℕ}
         → rows < m + n
-        → Fails o c m s (makes n) (refusal 21 (indexOf tokens s) 0 0)
+        → Fails o c m s (makes n) (refusal 21 (nextIndex tokens s) 0 0)
     too-deep : {n : ℕ}
         → mostOpen ≤ o
-        → Fails o c m s (begins n) (refusal 19 (indexOf tokens s) 0 0)
-    too-many : {n : ℕ}
+        → Fails o c m s (begins n) (refusal 19 (nextIndex tokens s) 0 0)
+    too-many-calls : {n : ℕ}
         → o < mostOpen
         → mostCalls ≤ c
-        → Fails o c m s (begins n) (refusal 20 (indexOf tokens s) 0 0)
+        → Fails o c m s (begins n) (refusal 20 (nextIndex tokens s) 0 0)
     no-choice : {n set : ℕ}
         → o < mostOpen
         → c < mostCalls
         → ((p : Production) → Taken g n s p → ⊥)
         → FirstSet g n set
-        → Fails o c m s (begins n) (refusal 17 (indexOf tokens s) set (ones set))
+        → Fails o c m s (begins n) (refusal 17 (nextIndex tokens s) set (ones set))
 
   -- the parse of items, and a call of a nonterminal with arguments, stop at a step that fails
   mutual
@@ -69,7 +69,7 @@ module _ (g : List Production) (spell : ℕ → List ℕ) (rows : ℕ) (tokens :
       at-call : {o c m i n : ℕ} {M vs : List Value} {s : List Token} {ts : Templates} {ps : List Item} {r : Refusal}
           → GiveAll spell M ts vs
           → m + rowsOfAll ts ≤ rows
-          → Enters o c (m + rowsOfAll ts) n vs s i r
+          → CallStops o c (m + rowsOfAll ts) n vs s i r
           → Stops o c m M s i (call n ts ∷ ps) r
       past-item : {o c m i i′ : ℕ} {M M′ : List Value} {s s′ : List Token} {p : Item} {ps : List Item} {r : Refusal}
           → (d : Derives g spell M s i (p ∷ []) M′ s′ i′)
@@ -77,23 +77,23 @@ module _ (g : List Production) (spell : ℕ → List ℕ) (rows : ℕ) (tokens :
           → Stops o (c + callsIn d) (m + rowsIn d) M′ s′ i′ ps r
           → Stops o c m M s i (p ∷ ps) r
 
-    pub data Enters : ℕ → ℕ → ℕ → ℕ → List Value → List Token → ℕ → Refusal → Type 0 where
+    pub data CallStops : ℕ → ℕ → ℕ → ℕ → List Value → List Token → ℕ → Refusal → Type 0 where
       at-start : {o c m i n : ℕ} {vs : List Value} {s : List Token} {r : Refusal}
           → Fails o c m s (begins n) r
-          → Enters o c m n vs s i r
+          → CallStops o c m n vs s i r
       in-items : {o c m i n : ℕ} {vs : List Value} {s : List Token} {r : Refusal} {p : Production}
           → o < mostOpen
           → c < mostCalls
           → Taken g n s p
           → Stops (o + 1) (c + 1) m vs s i (p .items) r
-          → Enters o c m n vs s i r
+          → CallStops o c m n vs s i r
       at-result : {o c m i i′ n : ℕ} {vs M : List Value} {v : Value} {s s′ : List Token} {r : Refusal} {p : Production}
           → Taken g n s p
           → (d : Derives g spell vs s i (p .items) M s′ i′)
           → Affords rows (o + 1) (c + 1) m d
           → Gives spell M (p .result) v
           → Fails (o + 1) (c + 1 + callsIn d) (m + rowsIn d) s′ (makes (rowsOf (p .result))) r
-          → Enters o c m n vs s i r
+          → CallStops o c m n vs s i r
 
   -- refusals 17 to 21 of a whole formula, which is one call, of the root; 18: the call is derived, and a token is left over
   pub data Refuses (root : ℕ) : Refusal → Type 0 where
@@ -103,4 +103,4 @@ module _ (g : List Production) (spell : ℕ → List ℕ) (rows : ℕ) (tokens :
     left-over : {i : ℕ} {M : List Value} {t : Token} {s : List Token}
         → (d : Derives g spell [] tokens 1 (call root none ∷ []) M (t ∷ s) i)
         → Affords rows 0 0 0 d
-        → Refuses root (refusal 18 (indexOf tokens (t ∷ s)) 0 0)
+        → Refuses root (refusal 18 (nextIndex tokens (t ∷ s)) 0 0)

@@ -7,7 +7,7 @@ use native.Mathlib.Omega.{arith}
 use lib.Dec.{eqb, leb, eqb·zero-suc, eqb·suc-suc}
 use lib.ListN.{length, getD, take}
 use borrow.Author.Tests.{eq-eqb, eqb-true}
-use Rattle.spellings.specs.Bytes.{every, run, same, indexOf, isLetter, isWordByte, isSymbol, isWord, isKeyword}
+use Rattle.spellings.specs.Bytes.{every, longestRun, same, indexOf, isLetter, isWordByte, isSymbol, isWord, isKeyword}
 
 -- a test is true or false, with the equation in hand
 pub by-test {ℓ} : {A : Type ℓ} (t : Bool) → (t ≡ true → A) → (t ≡ false → A) → A
@@ -17,51 +17,51 @@ by-test false f g = g refl
 -- ------------------------------------------------------------------ runs
 
 -- a byte that passes begins the run of those behind it
-pub run-taken : (p : ℕ → Bool) (b : ℕ) (bs : List ℕ) → p b ≡ true → run p (b ∷ bs) ≡ b ∷ run p bs
-unfolding run
-run-taken p b bs e = rw (e, run) refl
+pub run-taken : (p : ℕ → Bool) (b : ℕ) (bs : List ℕ) → p b ≡ true → longestRun p (b ∷ bs) ≡ b ∷ longestRun p bs
+unfolding longestRun
+run-taken p b bs e = rw (e, longestRun) refl
 
 -- no run begins at a byte that fails
-pub run-left : (p : ℕ → Bool) (b : ℕ) (bs : List ℕ) → p b ≡ false → run p (b ∷ bs) ≡ []
-unfolding run
-run-left p b bs e = rw (e, run) refl
+pub run-left : (p : ℕ → Bool) (b : ℕ) (bs : List ℕ) → p b ≡ false → longestRun p (b ∷ bs) ≡ []
+unfolding longestRun
+run-left p b bs e = rw (e, longestRun) refl
 
 module _ (p : ℕ → Bool) where
   -- every byte of a run passes
-  pub every-run : (s : List ℕ) → every p (run p s) ≡ true
-  unfolding every run
+  pub every-run : (s : List ℕ) → every p (longestRun p s) ≡ true
+  unfolding every longestRun
   every-run [] = refl
   every-run (b ∷ bs) =
       by-test (p b) (λ e. rw (run-taken p b bs e, e) (every-run bs)) (λ e. rw (run-left p b bs e) refl)
 
   -- a run stands at the front
-  pub run-prefix : (s : List ℕ) → run p s ≡ take (length (run p s)) s
-  unfolding run
+  pub run-prefix : (s : List ℕ) → longestRun p s ≡ take (length (longestRun p s)) s
+  unfolding longestRun
   run-prefix [] = refl
   run-prefix (b ∷ bs) =
       by-test (p b) (λ e. rw (run-taken p b bs e) (cc (run-prefix bs))) (λ e. rw (run-left p b bs e) refl)
 
   -- a run is no longer than the bytes it is taken from
-  pub run-length : (s : List ℕ) → length (run p s) ≤ length s
-  unfolding run
+  pub run-length : (s : List ℕ) → length (longestRun p s) ≤ length s
+  unfolding longestRun
   run-length [] = omega arith
   run-length (b ∷ bs) =
       by-test (p b) (λ e. rw (run-taken p b bs e) (omega (arith, run-length bs))) (λ e. rw (run-left p b bs e) (omega arith))
 
   -- the byte after a run fails
-  pub run-ends : (s : List ℕ) → length (run p s) < length s → p (getD s (length (run p s)) 0) ≡ false
-  unfolding run
+  pub run-ends : (s : List ℕ) → length (longestRun p s) < length s → p (getD s (length (longestRun p s)) 0) ≡ false
+  unfolding longestRun
   run-ends [] h = absurd (omega arith)
   run-ends (b ∷ bs) h =
       by-test (p b) (λ e. rw (run-taken p b bs e) (run-ends bs (omega (arith, rw (run-taken p b bs e) at h))))
       (λ e. rw (run-left p b bs e) e)
 
   -- every byte passes exactly if the run is the whole
-  pub every-whole : (s : List ℕ) → every p s ≡ eqb (length (run p s)) (length s)
-  unfolding every run
+  pub every-whole : (s : List ℕ) → every p s ≡ eqb (length (longestRun p s)) (length s)
+  unfolding every longestRun
   every-whole [] = refl
   every-whole (b ∷ bs) =
-      by-test (p b) (λ e. rw (run-taken p b bs e, e) (every-whole bs ∙ sym (eqb·suc-suc (length (run p bs)) (length bs))))
+      by-test (p b) (λ e. rw (run-taken p b bs e, e) (every-whole bs ∙ sym (eqb·suc-suc (length (longestRun p bs)) (length bs))))
       (λ e. rw (run-left p b bs e, e) (sym (eqb·zero-suc (length bs))))
 
   -- each byte passes, where every byte does
@@ -72,7 +72,7 @@ module _ (p : ℕ → Bool) where
   every-at (b ∷ bs) (suc i) e h = every-at bs i (and-eq-true-iff (p b) (every p bs) .0 e .1) (omega arith)
 
   -- no front whose every byte passes is longer than the run
-  pub run-longest : (s : List ℕ) (n : ℕ) → n ≤ length s → every p (take n s) ≡ true → n ≤ length (run p s)
+  pub run-longest : (s : List ℕ) (n : ℕ) → n ≤ length s → every p (take n s) ≡ true → n ≤ length (longestRun p s)
   unfolding every
   run-longest s zero h e = omega arith
   run-longest [] (suc n) h e = absurd (omega arith)
@@ -98,7 +98,7 @@ is-word-empty (b ∷ bs) h = absurd (omega arith)
 
 -- A word begins with a letter, all its bytes are word bytes, and there are 31 at most.
 pub is-word-by : (s : List ℕ) → 0 < length s
-    → isWord s ≡ (isLetter (getD s 0 0) && eqb (length (run isWordByte s)) (length s) && leb (length s) 31)
+    → isWord s ≡ (isLetter (getD s 0 0) && eqb (length (longestRun isWordByte s)) (length s) && leb (length s) 31)
 unfolding every
 is-word-by [] h = absurd (omega arith)
 is-word-by (b ∷ bs) h =

@@ -9,7 +9,7 @@ use lib.Dec.{eqb}
 use lib.ListN.{length, getD, drop, drop-of-length-le}
 use lib.Seq.{drop-cons}
 use borrow.Author.Tests.{le-leb, lt-leb, eq-eqb, ne-eqb}
-use Rattle.spellings.specs.Bytes.{run, same, largest, valueFrom, valueOf}
+use Rattle.spellings.specs.Bytes.{longestRun, same, largest, valueFrom, valueOf}
 use Rattle.spellings.proofs.BytesLaws.{run-taken, run-left}
 use Rattle.spellings.specs.Numbers.{limited, numberOf}
 use Rattle.spellings.specs.declared.Number.the-variants.{Value, TooLarge}
@@ -25,7 +25,7 @@ pub record Running (p : ℕ → Bool) (s : List ℕ) (i : ℕ) : Type 0 where
   -- i is no further than the end
   pub within : i ≤ length s
   -- the run of what is left, behind these i, is the whole run
-  pub rest : i + length (run p (drop i s)) ≡ length (run p s)
+  pub rest : i + length (longestRun p (drop i s)) ≡ length (longestRun p s)
 
 -- no byte is passed yet
 pub running-start : (p : ℕ → Bool) (s : List ℕ) → Running p s 0
@@ -35,22 +35,22 @@ module _ {p : ℕ → Bool} {s : List ℕ} {i : ℕ} (r : Running p s i) where
   -- one more byte passes
   pub running-next : i < length s → {t : Bool} → t ≡ p (getD s i 0) → t ≡ true → Running p s (i + 1)
   running-next h e u =
-      let f : length (run p (drop i s)) ≡ suc (length (run p (drop (i + 1) s))) =
+      let f : length (longestRun p (drop i s)) ≡ suc (length (longestRun p (drop (i + 1) s))) =
       cc (drop-at-index s i h, run-taken p (getD s i 0) (drop (i + 1) s) (sym e ∙ u)) in
       record { within = omega arith; rest = omega (arith, r .rest) }
 
   -- a byte that fails ends the run at i
-  pub running-stop : i < length s → {t : Bool} → t ≡ p (getD s i 0) → t ≡ false → i ≡ length (run p s)
+  pub running-stop : i < length s → {t : Bool} → t ≡ p (getD s i 0) → t ≡ false → i ≡ length (longestRun p s)
   running-stop h e u =
-      let f : length (run p (drop i s)) ≡ 0 =
+      let f : length (longestRun p (drop i s)) ≡ 0 =
       cc (drop-at-index s i h, run-left p (getD s i 0) (drop (i + 1) s) (sym e ∙ u)) in
       omega (arith, r .rest)
 
   -- where nothing is left, the run is the whole
-  pub running-end : length s ≤ i → i ≡ length (run p s)
-  unfolding run
+  pub running-end : length s ≤ i → i ≡ length (longestRun p s)
+  unfolding longestRun
   running-end h =
-      let f : length (run p (drop i s)) ≡ 0 = cc (drop-of-length-le s h) in
+      let f : length (longestRun p (drop i s)) ≡ 0 = cc (drop-of-length-le s h) in
       omega (arith, r .rest)
 
 -- ------------------------------------------------------------------ equal spellings

@@ -9,7 +9,7 @@ use lib.ListN.{length, getD, set, take, drop, length-set}
 use lib.Seq.{drop-set-lt, getD-set-same, take-suc, append-snoc, set-at, length-take-le, take-length}
 use Rattle.spellings.specs.Bytes.{digitsThen, decimal}
 use Rattle.spellings.proofs.DecimalLaws.{digits-one, digits-more}
-use Rattle.spellings.specs.Buffers.{written}
+use Rattle.spellings.specs.Buffers.{writtenInto}
 use Rattle.spellings.proofs.BuffersLaws.{written-fits}
 use Rattle.spellings.proofs.Loops.{drop-at-index}
 
@@ -143,7 +143,7 @@ module _ {out₀ : List ℕ} {n at rest : ℕ} {out : List ℕ} (r : Writing out
       }
 
   -- where no digit is left, the number is written
-  pub writing-end : at ≤ 0 → length (decimal n) ≤ length out₀ → out ≡ written (decimal n) out₀
+  pub writing-end : at ≤ 0 → length (decimal n) ≤ length out₀ → out ≡ writtenInto (decimal n) out₀
   unfolding lowDigits
   writing-end h l =
       let e : 0 ≡ at = omega arith in
@@ -185,7 +185,7 @@ module _ {out₀ s : List ℕ} {i : ℕ} {out : List ℕ} (r : Copying out₀ s 
       }
 
   -- where no byte is left, the whole is written
-  pub copying-end : length s ≤ i → length s ≤ length out₀ → out ≡ written s out₀
+  pub copying-end : length s ≤ i → length s ≤ length out₀ → out ≡ writtenInto s out₀
   copying-end h l =
       let e : i ≡ length s = omega (arith, r .within) in
       cc (r .text, take-length s, written-fits s out₀ l)

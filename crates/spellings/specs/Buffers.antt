@@ -6,5 +6,5 @@ use lib.Dec.{leb}
 use lib.ListN.{length, drop}
 
 -- what remains of a buffer after the bytes bs were to be written at its front: where they do not fit, nothing is written
-unfoldable pub written : List ℕ → List ℕ → List ℕ
-written bs out = elim (leb (length bs) (length out)) [ true ↦ bs ++ drop (length bs) out | false ↦ out ]
+unfoldable pub writtenInto : List ℕ → List ℕ → List ℕ
+writtenInto bs out = elim (leb (length bs) (length out)) [ true ↦ bs ++ drop (length bs) out | false ↦ out ]

@@ -41,9 +41,9 @@ every p [] = true
 every p (b ∷ bs) = p b && every p bs
 
 -- the longest run of bytes at the front that pass the test
-unfoldable pub run : (ℕ → Bool) → List ℕ → List ℕ
-run p [] = []
-run p (b ∷ bs) = elim (p b) [ true ↦ b ∷ run p bs | false ↦ [] ]
+unfoldable pub longestRun : (ℕ → Bool) → List ℕ → List ℕ
+longestRun p [] = []
+longestRun p (b ∷ bs) = elim (p b) [ true ↦ b ∷ longestRun p bs | false ↦ [] ]
 
 -- a word: a letter, then letters, digits or underscores, 31 bytes at most
 abbrev pub isWord : List ℕ → Bool

@@ -2,8 +2,8 @@
 ghost use mathlib.Core.Path.{_≡_};
 ghost use Prim.Native.Nat.{_-_};
 ghost use lib.ListN.{length};
-ghost use Rattle.spellings.specs.Bytes.{isLetter, isDigit, isWordByte, isSeparator, isSymbol, run, isWord, isKeyword, same, decimal};
-ghost use Rattle.spellings.specs.Buffers.{written};
+ghost use Rattle.spellings.specs.Bytes.{isLetter, isDigit, isWordByte, isSeparator, isSymbol, longestRun, isWord, isKeyword, same, decimal};
+ghost use Rattle.spellings.specs.Buffers.{writtenInto};
 ghost use Rattle.spellings.specs.Numbers.{numberOf};
 
 // ---------------------------------------------------------------- numbers as indices
@@ -62,7 +62,7 @@ pub fn is_symbol(b: u8) -> bool
 
 // The length of the longest run of word bytes at the front.
 pub fn word_run(s: &[u8]) -> usize
-    ensures { λ r. ⌜ r ≡ length (run isWordByte (now (s .entry))) ⌝ }
+    ensures { λ r. ⌜ r ≡ length (longestRun isWordByte (now (s .entry))) ⌝ }
 {
     let mut i: usize = 0;
     while i < s.len() {
@@ -78,7 +78,7 @@ pub fn word_run(s: &[u8]) -> usize
 
 // The length of the longest run of digits at the front.
 pub fn digit_run(s: &[u8]) -> usize
-    ensures { λ r. ⌜ r ≡ length (run isDigit (now (s .entry))) ⌝ }
+    ensures { λ r. ⌜ r ≡ length (longestRun isDigit (now (s .entry))) ⌝ }
 {
     let mut i: usize = 0;
     while i < s.len() {
@@ -181,7 +181,7 @@ pub fn decimal_size(n: u32) -> usize
 
 // Writes the decimal digits of n at the front of `out`, if they fit, and else nothing. The answer is their number in either case.
 pub fn write_decimal(out: &mut [u8], n: u32) -> usize
-    ensures { λ r. ⌜ (r ≡ length (decimal n)) × (now (out .exit) ≡ written (decimal n) (now (out .entry))) ⌝ }
+    ensures { λ r. ⌜ (r ≡ length (decimal n)) × (now (out .exit) ≡ writtenInto (decimal n) (now (out .entry))) ⌝ }
 {
     let size = decimal_size(n);
     if out.len() < size {
@@ -199,7 +199,7 @@ pub fn write_decimal(out: &mut [u8], n: u32) -> usize
 
 // Writes the bytes of `s` at the front of `out`, if they fit, and else nothing. The answer is their number in either case.
 pub fn copy_into(out: &mut [u8], s: &[u8]) -> usize
-    ensures { λ r. ⌜ (r ≡ length (now (s .entry))) × (now (out .exit) ≡ written (now (s .entry)) (now (out .entry))) ⌝ }
+    ensures { λ r. ⌜ (r ≡ length (now (s .entry))) × (now (out .exit) ≡ writtenInto (now (s .entry)) (now (out .entry))) ⌝ }
 {
     let size = s.len();
     if out.len() < size {

@@ -14,16 +14,16 @@ use Rattle.grammar.specs.declared.Front.the-variants.{Nothing, Short, Field}
 use Rattle.grammar.specs.Table.{Template, Templates, variable, none, more, Item, keyword, ide, number, local, call}
 use Rattle.grammar.specs.Sorts.{label}
 use Rattle.terms.specs.Cells.{wordName}
-use Rattle.grammar.specs.Fields.{Fields, next}
+use Rattle.grammar.specs.Fields.{RawFields, next}
 use Rattle.grammar.specs.Lookup.{frontOf, fieldsAt}
 use Rattle.grammar.proofs.LookupLaws.{fields-at, front-inside}
-use Rattle.layout.specs.Prefix.{Parsed, fault, parsed, templatesOf, isTemplates, isTemplate, found}
+use Rattle.layout.specs.Prefix.{ReadTemplates, fault, parsed, templatesOf, isTemplates, isTemplate, found}
 use Rattle.layout.specs.Decode.{itemOf}
 use Rattle.productions.specs.Index.{itemsOf, resultOf, wholeBody}
 use Rattle.expansion.specs.declared.State.{State}
 use Rattle.expansion.specs.declared.Outcome.{Outcome}
 use Rattle.expansion.specs.declared.Outcome.the-variants.{Value, Halted}
-use Rattle.steps.specs.declared.Step.the-variants.{Opened}
+use Rattle.steps.specs.declared.ItemStep.the-variants.{Opened}
 use Rattle.templates.specs.declared.Arguments.{Arguments}
 use Rattle.templates.specs.declared.Arguments.the-variants.{Listed, Overfull}
 use Rattle.expansion.specs.Run.{Result, done, halt, Run, after}
@@ -126,7 +126,7 @@ module _ {bs : List ℕ} {at : ℕ} {v : List ℕ} {after′ : ℕ} (h : ItemAt 
     body-item : body C bs at I M s cells ≡ after (runItem C I (itemOf v) M s cells) (λ x. body C bs after′ I (M ++ (x ∷ [])))
     unfolding body runItems itemsOf resultOf
     body-item =
-        ap (λ (fs : Fields). after (runItems C I (itemsOf fs) M s cells) (λ M′. build (resultOf fs) I M′)) (h .fields)
+        ap (λ (fs : RawFields). after (runItems C I (itemsOf fs) M s cells) (λ M′. build (resultOf fs) I M′)) (h .fields)
         ∙ after-after (runItem C I (itemOf v) M s cells) (λ x. runItems C I (itemsOf (fieldsAt bs after′)) (M ++ (x ∷ [])))
         (λ M′. build (resultOf (fieldsAt bs after′)) I M′)
 
@@ -282,7 +282,7 @@ module _ (bs : List ℕ) (at : ℕ) where
     unfolding resultOf
     result-is f = sym (ap resultOf (here e) ∙ rw (ne-eqb t 6 untagged, eq-eqb t 7 f, resultOf) refl)
 
-    one-template : (p : Parsed) → isTemplate p ≡ true → (t : Template) × (p ≡ parsed (more t none))
+    one-template : (p : ReadTemplates) → isTemplate p ≡ true → (t : Template) × (p ≡ parsed (more t none))
     one-template fault w = let z : _≡_ {A = ℕ} 0 1 = cc in absurd (omega arith)
     one-template (parsed none) w = let z : _≡_ {A = ℕ} 0 1 = cc in absurd (omega arith)
     one-template (parsed (more u none)) w = (u, refl)

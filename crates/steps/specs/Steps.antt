@@ -13,8 +13,8 @@ use Rattle.productions.specs.Index.{itemsOf, resultOf}
 use Rattle.expansion.specs.declared.State.{State}
 use Rattle.expansion.specs.declared.Outcome.{Outcome}
 use Rattle.expansion.specs.declared.Outcome.the-variants.{Value, Halted}
-use Rattle.steps.specs.declared.Step.{Step}
-use Rattle.steps.specs.declared.Step.the-variants.{Finished, Stopped, Taken, Opened}
+use Rattle.steps.specs.declared.ItemStep.{ItemStep}
+use Rattle.steps.specs.declared.ItemStep.the-variants.{Finished, Stopped, Taken, Opened}
 use Rattle.expansion.specs.Run.{Run, halt, after}
 use Rattle.expansion.specs.Expansion.{Input, build, runItems}
 use Rattle.productions.specs.Index.{wholeBody}
@@ -75,7 +75,7 @@ Stays s (Halted r) = Unit {0}
 
 -- What is done at an offset: no item stands there; the item refuses; it gives a value, and the next one stands at another offset; or
 -- it calls a nonterminal, with k arguments in an array.
-abbrev pub Steps : List ℕ → ℕ → Input → List ℕ → State → List ℕ → Step → List ℕ → List ℕ → Type 0
+abbrev pub Steps : List ℕ → ℕ → Input → List ℕ → State → List ℕ → ItemStep → List ℕ → List ℕ → Type 0
 Steps bs at I M s cells Finished out cells′ = cells′ ≡ cells
 Steps bs at I M s cells (Stopped r) out cells′ = (C : ℕ → List ℕ → Run ℕ) → body C bs at I M s cells ≡ halt r cells′
 Steps bs at I M s cells (Taken x after′ t) out cells′ =
@@ -101,7 +101,7 @@ pub record Onward (bs : List ℕ) (at after′ : ℕ) (s t : State) : Type 0 whe
   pub counted : t .at + t .fresh ≤ s .at + s .fresh + 1
   pub called : t .calls ≡ s .calls
 
-abbrev pub Advances : List ℕ → ℕ → State → Step → Type 0
+abbrev pub Advances : List ℕ → ℕ → State → ItemStep → Type 0
 Advances bs at s Finished = itemsOf (fieldsAt bs at) ≡ []
 Advances bs at s (Stopped r) = Unit {0}
 Advances bs at s (Taken x after′ t) = Onward bs at after′ s t

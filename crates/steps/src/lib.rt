@@ -31,12 +31,12 @@ ghost use Rattle.productions.specs.Index.{resultOf};
 ghost use Rattle.expansion.specs.Run.{Run};
 ghost use Rattle.expansion.specs.Outcomes.{ran};
 ghost use Rattle.expansion.specs.Expansion.{Input, wordValue, freshMade, build, runItem};
-ghost use Rattle.templates.specs.Built.{rowsIn, Holds, withMade, built};
+ghost use Rattle.templates.specs.Built.{wholeRows, Holds, withMade, built};
 ghost use Rattle.steps.specs.Steps.{MayRead, MayDo, MayStep, MayFinish, Stays, ItemAt, Steps, Advances, Spends};
 
 // What is done at an offset: there is no item, the item refuses, it gives a value (with the offset behind it and where the expansion
 // then stands), or it calls a nonterminal with a number of arguments.
-pub enum Step {
+pub enum ItemStep {
     Finished,
     Stopped(Refusal),
     Taken(u32, usize, State),
@@ -113,10 +113,10 @@ fn do_item(
     out: &mut [u32; 16],
     cells: &mut [u32],
     stack: &mut [u32],
-) -> Step
+) -> ItemStep
     requires { ⌜ MayDo (now v) (now tokens) n (c .state) (now stack) ⌝ }
     ensures { λ r. ⌜ ((bs : List ℕ) (at : ℕ) (I : Input) (M : List ℕ) → ItemAt bs at (now (v .entry)) next → I .tokens ≡ tokensIn (now
-        (tokens .entry)) n → I .rows ≡ rowsIn (now (cells .entry)) → Holds (now (vars .entry)) (c .count) M → Steps bs at I M (c .state) (now
+        (tokens .entry)) n → I .rows ≡ wholeRows (now (cells .entry)) → Holds (now (vars .entry)) (c .count) M → Steps bs at I M (c .state) (now
         (cells .entry)) r (now (out .exit)) (now (cells .exit))) ⌝ }
     ensures { λ r. ⌜ ((bs : List ℕ) (at : ℕ) → ItemAt bs at (now (v .entry)) next → Advances bs at (c .state) r) ⌝ }
 {
@@ -130,17 +130,17 @@ fn do_item(
         let listed = build_arguments(v, 2, vars, count, rows, made, out, cells, stack);
         match listed {
             Arguments::Overfull => {
-                return Step::Stopped(no_row(s));
+                return ItemStep::Stopped(no_row(s));
             }
             Arguments::Listed(given, made) => {
-                return Step::Opened(operand, given, next, with_made(s, made));
+                return ItemStep::Opened(operand, given, next, with_made(s, made));
             }
         }
     }
     let outcome = read_item(kind, operand, tokens, n, s);
     match outcome {
-        Outcome::Halted(r) => Step::Stopped(r),
-        Outcome::Value(x, t) => Step::Taken(x, next, t),
+        Outcome::Halted(r) => ItemStep::Stopped(r),
+        Outcome::Value(x, t) => ItemStep::Taken(x, next, t),
     }
 }
 
@@ -154,9 +154,9 @@ pub fn item_step(
     out: &mut [u32; 16],
     cells: &mut [u32],
     stack: &mut [u32],
-) -> Step
+) -> ItemStep
     requires { ⌜ MayStep (now table) (c .at) (now tokens) n (c .state) (now stack) ⌝ }
-    ensures { λ r. ⌜ ((I : Input) (M : List ℕ) → I .tokens ≡ tokensIn (now (tokens .entry)) n → I .rows ≡ rowsIn (now (cells .entry)) →
+    ensures { λ r. ⌜ ((I : Input) (M : List ℕ) → I .tokens ≡ tokensIn (now (tokens .entry)) n → I .rows ≡ wholeRows (now (cells .entry)) →
         Holds (now (vars .entry)) (c .count) M → Steps (now (table .entry)) (c .at) I M (c .state) (now (cells .entry)) r (now (out .exit))
         (now (cells .exit))) ⌝ }
     ensures { λ r. ⌜ Advances (now (table .entry)) (c .at) (c .state) r ⌝ }
@@ -164,11 +164,11 @@ pub fn item_step(
     let at = c.at;
     let front = front_at(table, at);
     match front {
-        Front::Nothing => Step::Finished,
-        Front::Short => Step::Finished,
+        Front::Nothing => ItemStep::Finished,
+        Front::Short => ItemStep::Finished,
         Front::Field(tag, size) => {
             if tag != 6 {
-                return Step::Finished;
+                return ItemStep::Finished;
             }
             let from = at + 3;
             let next = from + size;
@@ -228,7 +228,7 @@ pub fn finish(
     stack: &mut [u32],
 ) -> Outcome
     requires { ⌜ MayFinish (now table) (c .at) (now stack) ⌝ }
-    ensures { λ r. ⌜ ((I : Input) (M : List ℕ) → I .rows ≡ rowsIn (now (cells .entry)) → Holds (now (vars .entry)) (c .count) M → ran r (now
+    ensures { λ r. ⌜ ((I : Input) (M : List ℕ) → I .rows ≡ wholeRows (now (cells .entry)) → Holds (now (vars .entry)) (c .count) M → ran r (now
         (cells .exit)) ≡ build (resultOf (fieldsAt (now (table .entry)) (c .at))) I M (c .state) (now (cells .entry))) ⌝ }
     ensures { λ r. ⌜ Stays (c .state) r ⌝ }
 {

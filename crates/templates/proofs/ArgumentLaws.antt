@@ -11,7 +11,8 @@ use Rattle.spellings.proofs.BytesLaws.{by-test}
 use Rattle.grammar.specs.Sorts.{arity}
 use Rattle.grammar.specs.SortTests.{isConstructor}
 use Rattle.grammar.specs.Table.{Template, Templates, variable, none, more}
-use Rattle.layout.specs.Prefix.{Parsed, fault, parsed, inFront, Taken, short, taken, takeTemplates, applied, constructed, byteInFront, isNameTag, templatesOf}
+use Rattle.layout.specs.Prefix.{ReadTemplates, fault, parsed, inFront, SplitTemplates, short, taken, takeTemplates, applied, constructed, byteInFront}
+use Rattle.layout.specs.Prefix.{isNameTag, templatesOf}
 use Rattle.layout.specs.Prefix.{isTemplates, found}
 use Rattle.layout.proofs.PrefixLaws.{name-first, name-last, byte-first, variable-first, constructor-first, unknown-first}
 use Rattle.expansion.specs.declared.State.{State}
@@ -23,30 +24,30 @@ use Rattle.templates.specs.declared.Head.the-variants.{Leaf}
 use Rattle.expansion.specs.Run.{Result, done, halt, return, after, _>>=_}
 use Rattle.expansion.specs.Expansion.{Input, build, buildAll}
 use Rattle.templates.specs.Built.{Holds, withMade, Ahead, templateAt, noRow, built, Evaluates, Behind, Lists}
-use Rattle.templates.specs.Heads.{Leads, Heads}
+use Rattle.templates.specs.Heads.{HeadValue, Heads}
 use Rattle.templates.proofs.TemplateLaws.{regroup, first-built, template-is, others-are}
 use Rattle.templates.proofs.BuildLaws.{leaf-built}
 
 -- ------------------------------------------------------------------ bytes that are read have a first template
 
-abbrev Some : Parsed → Type 0
+abbrev Some : ReadTemplates → Type 0
 Some fault = Unit {0}
 Some (parsed none) = ⊥
 Some (parsed (more t ts)) = Unit {0}
 
-some-front : (t : Template) (p : Parsed) → Some (inFront t p)
+some-front : (t : Template) (p : ReadTemplates) → Some (inFront t p)
 some-front t fault = tt
 some-front t (parsed ts) = tt
 
-some-applied : (c : ℕ) (x : Taken) → Some (applied c x)
+some-applied : (c : ℕ) (x : SplitTemplates) → Some (applied c x)
 some-applied c short = tt
 some-applied c (taken us vs) = tt
 
-some-constructed : (c : ℕ) (p : Parsed) → Some (constructed c p)
+some-constructed : (c : ℕ) (p : ReadTemplates) → Some (constructed c p)
 some-constructed c fault = tt
 some-constructed c (parsed ts) = some-applied c (takeTemplates (arity c) ts)
 
-some-byte : (b : ℕ) (p : Parsed) → Some (byteInFront b p)
+some-byte : (b : ℕ) (p : ReadTemplates) → Some (byteInFront b p)
 some-byte b p =
     by-test (ltb b 0x10) (λ e. subst⁻¹ Some (variable-first b p e) (some-front (variable b) p))
     (λ e.
@@ -100,7 +101,7 @@ pub record Listing (v : List ℕ) (start : ℕ) (env : List ℕ) (k rows made : 
       → after (buildAll ahead I M (withMade s count) cells) (λ ys. return (given ++ ys))
       ≡ buildAll (found (templatesOf (drop start v))) I M (withMade s made) cells₀
 
-whole-read : (p : Parsed) → isTemplates p ≡ true → p ≡ parsed (found p)
+whole-read : (p : ReadTemplates) → isTemplates p ≡ true → p ≡ parsed (found p)
 whole-read fault e = let z : _≡_ {A = ℕ} 0 1 = cc in absurd (omega arith)
 whole-read (parsed ts) e = refl
 
@@ -182,7 +183,7 @@ module _ {v : List ℕ} {start : ℕ} {env : List ℕ} {k rows made : ℕ} {cell
           }
 
     -- what `head_at` ensures of a template that makes no cell
-    module _ (h : Head) {x next : ℕ} (e : h ≡ Leaf x next) (leads : (M : List ℕ) → Holds env k M → Leads v at M h) (heads : Heads v at h) where
+    module _ (h : Head) {x next : ℕ} (e : h ≡ Leaf x next) (leads : (M : List ℕ) → Holds env k M → HeadValue v at M h) (heads : Heads v at h) where
       leaf : Evaluates v at env k rows count cells (Made x next count) cells × Behind v at (Made x next count)
       leaf = leaf-built v at h e leads heads rows count cells
 

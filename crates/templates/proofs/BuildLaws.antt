@@ -20,7 +20,7 @@ use Rattle.templates.specs.declared.Built.the-variants.{Made}
 use Rattle.expansion.specs.Run.{Result, done}
 use Rattle.expansion.specs.Expansion.{Input, build}
 use Rattle.templates.specs.Built.{Holds, withMade, Ahead, templateAt, othersAt, noRow, Behind}
-use Rattle.templates.specs.Heads.{join, Leads, Past, Takes, Heads}
+use Rattle.templates.specs.Heads.{join, HeadValue, Past, Takes, Heads}
 use Rattle.grammar.proofs.ReaderLaws.{getD-past}
 use Rattle.templates.proofs.VariableLaws.{spare}
 use Rattle.templates.proofs.TemplateLaws.{template-is, others-are, ahead-inside, makes, variable-built, behind-variable, at-name, behind-name}
@@ -47,7 +47,7 @@ node-head {v} {at} a {b} eb h small =
 -- a variable, or an outside name
 pub variable-head : {v : List ℕ} {at : ℕ} (a : Ahead v at) {b : ℕ} → b ≡ getD v at 0 → b < 16 → {env : List ℕ} {k x : ℕ}
     → ((M : List ℕ) → Holds env k M → x ≡ getD M b 0)
-    → ((M : List ℕ) → Holds env k M → Leads v at M (Leaf x (at + 1))) × Past v at (at + 1)
+    → ((M : List ℕ) → Holds env k M → HeadValue v at M (Leaf x (at + 1))) × Past v at (at + 1)
 variable-head {v} {at} a eb h {env} {k} {x} f =
     let q = behind-variable v at a eb h x 0 in (
       λ M g I s cells. sym (variable-built v at a eb h env k x f (I .rows) (s .made) cells I s M refl g),
@@ -58,7 +58,7 @@ variable-head {v} {at} a eb h {env} {k} {x} f =
 pub name-head : {v : List ℕ} {at : ℕ} (a : Ahead v at) {b : ℕ} → b ≡ getD v at 0 → 16 ≤ b → b < 32 → {n : ℕ} → n ≡ getD v (at + 1) 0 → {x : ℕ}
     → ((I : Input) (M : List ℕ) (s : State) (cells : List ℕ) → build (nameBy (eqb b 0x10) n) I M s cells ≡ done x s cells)
     → {env : List ℕ} {k : ℕ}
-    → ((M : List ℕ) → Holds env k M → Leads v at M (Leaf x (at + 2))) × Past v at (at + 2)
+    → ((M : List ℕ) → Holds env k M → HeadValue v at M (Leaf x (at + 2))) × Past v at (at + 2)
 name-head {v} {at} a eb low high en {x} f =
     let q = behind-name v at a eb low high en x 0 in (
       λ M g I s cells. cc (at-name v at a eb low high en, f I M s cells),
@@ -272,7 +272,7 @@ module _ {W : Whole} {T : Turn} {w code n : ℕ} (d : Looked W T w code n) where
         )
 
     -- it begins with a value
-    pub building-leaf : (r : Head) {x next : ℕ} → r ≡ Leaf x next → ((M : List ℕ) → Holds (W .env) (W .k) M → Leads (W .v) (T .at) M r)
+    pub building-leaf : (r : Head) {x next : ℕ} → r ≡ Leaf x next → ((M : List ℕ) → Holds (W .env) (W .k) M → HeadValue (W .v) (T .at) M r)
         → Heads (W .v) (T .at) r
         → Building W (record { cells = T .cells; stack = set (T .stack) (T .top) x; at = next; made = T .made; pos = T .pos; top = T .top + 1 })
     building-leaf r {x} {next} er l hd =
@@ -293,7 +293,7 @@ module _ {W : Whole} {T : Turn} {w code n : ℕ} (d : Looked W T w code n) where
           rest =
               λ I s M e g.
               sym (takes-value I M (waits (c .inner) (next-left .1)) (withMade s (T .made)) (T .cells) (c .around) x)
-              ∙ ap (resume I M later) (sym (subst (Leads (W .v) (T .at) M) er (l M g) I (withMade s (T .made)) (T .cells)))
+              ∙ ap (resume I M later) (sym (subst (HeadValue (W .v) (T .at) M) er (l M g) I (withMade s (T .made)) (T .cells)))
               ∙ waiting I s M e g;
         }
 
@@ -448,7 +448,7 @@ pub node-takes : {v : List ℕ} {at b : ℕ} (r : Head) → r ≡ Node b → Hea
 node-takes {v} {at} r e h = subst (Heads v at) e h
 
 -- a template with no argument is built at once
-pub leaf-built : (v : List ℕ) (at : ℕ) {env : List ℕ} {k x next : ℕ} (r : Head) → r ≡ Leaf x next → ((M : List ℕ) → Holds env k M → Leads v at M r)
+pub leaf-built : (v : List ℕ) (at : ℕ) {env : List ℕ} {k x next : ℕ} (r : Head) → r ≡ Leaf x next → ((M : List ℕ) → Holds env k M → HeadValue v at M r)
     → Heads v at r
     → (rows made : ℕ) (cells : List ℕ)
     → ((I : Input) (s : State) (M : List ℕ) → I .rows ≡ rows → Holds env k M
@@ -456,7 +456,7 @@ pub leaf-built : (v : List ℕ) (at : ℕ) {env : List ℕ} {k x next : ℕ} (r 
     × Behind v at (Made x next made)
 leaf-built v at {x = x} {next = next} r e l h rows made cells =
     let q : Past v at next = subst (Heads v at) e h in
-    (λ I s M ei g. sym (subst (Leads v at M) e (l M g) I (withMade s made) cells), (q .less, q .inside, q .read))
+    (λ I s M ei g. sym (subst (HeadValue v at M) e (l M g) I (withMade s made) cells), (q .less, q .inside, q .read))
 
 -- it takes a byte at least
 pub leaf-past : {v : List ℕ} {at x next : ℕ} (r : Head) → r ≡ Leaf x next → Heads v at r → Past v at next

@@ -10,7 +10,7 @@ use lib.Seq.{take-suc-set, take-take, take-add, take-at, drop-at, getD-take, get
 use Rattle.answers.specs.declared.Refusal.{Refusal}
 use Rattle.grammar.specs.Sorts.{arity}
 use Rattle.grammar.specs.Table.{Template, Templates, make, none, more}
-use Rattle.layout.specs.Prefix.{Taken, short, taken, alsoTaken, takeTemplates}
+use Rattle.layout.specs.Prefix.{SplitTemplates, short, taken, alsoTaken, takeTemplates}
 use Rattle.layout.specs.Within.{count}
 use Rattle.expansion.specs.declared.State.{State}
 use Rattle.expansion.specs.Run.{Result, done, halt, Run, return, after, _>>=_}
@@ -95,11 +95,11 @@ unfoldable pub Filling : List Pending → Type 0
 Filling [] = Unit {0}
 Filling (p ∷ ps) = (count (p .left) + length (p .given) + 1 ≡ arity (p .code)) × (p .code < 256) × Filling ps
 
-abbrev Took : ℕ → Templates → Taken → Type 0
+abbrev Took : ℕ → Templates → SplitTemplates → Type 0
 Took k ts short = Unit {0}
 Took k ts (taken us vs) = (count us ≡ k) × (ts ≡ join us vs)
 
-also-took : (k : ℕ) (t : Template) (ts : Templates) (r : Taken) → Took k ts r → Took (suc k) (more t ts) (alsoTaken t r)
+also-took : (k : ℕ) (t : Template) (ts : Templates) (r : SplitTemplates) → Took k ts r → Took (suc k) (more t ts) (alsoTaken t r)
 unfolding count join
 also-took k t ts short h = tt
 also-took k t ts (taken us vs) h = (ap suc (h .0), ap (more t) (h .1))

@@ -14,7 +14,8 @@ use Rattle.spellings.proofs.BytesLaws.{by-test}
 use Rattle.grammar.specs.Sorts.{arity}
 use Rattle.grammar.specs.SortTests.{isConstructor}
 use Rattle.grammar.specs.Table.{Template, Templates, variable, make, more}
-use Rattle.layout.specs.Prefix.{Parsed, fault, parsed, inFront, Taken, short, taken, takeTemplates, applied, constructed, byteInFront, isNameTag, nameBy}
+use Rattle.layout.specs.Prefix.{ReadTemplates, fault, parsed, inFront, SplitTemplates, short, taken, takeTemplates, applied, constructed, byteInFront}
+use Rattle.layout.specs.Prefix.{isNameTag, nameBy}
 use Rattle.layout.specs.Prefix.{templatesOf}
 use Rattle.layout.proofs.PrefixLaws.{name-first, name-last, byte-first, variable-first, constructor-first, unknown-first}
 use Rattle.expansion.specs.declared.State.{State}
@@ -26,15 +27,15 @@ use Rattle.templates.specs.Built.{Holds, withMade, Ahead, templateAt, ot
 -- ------------------------------------------------------------------ what is read in front
 
 -- a template in front of what was read
-front-read : (u : Template) (p : Parsed) (t : Template) (ts : Templates) → inFront u p ≡ parsed (more t ts) → (t ≡ u) × (p ≡ parsed ts)
+front-read : (u : Template) (p : ReadTemplates) (t : Template) (ts : Templates) → inFront u p ≡ parsed (more t ts) → (t ≡ u) × (p ≡ parsed ts)
 front-read u fault t ts e = let z : _≡_ {A = ℕ} 0 1 = cc in absurd (omega arith)
 front-read u (parsed ws) t ts e = (cc, cc)
 
-fault-read : {p : Parsed} (t : Template) (ts : Templates) → p ≡ fault → p ≡ parsed (more t ts) → ⊥
+fault-read : {p : ReadTemplates} (t : Template) (ts : Templates) → p ≡ fault → p ≡ parsed (more t ts) → ⊥
 fault-read t ts e f = let z : _≡_ {A = ℕ} 0 1 = cc in omega arith
 
 -- a constructor and the templates that it takes
-pub record Makes (b : ℕ) (p : Parsed) (t : Template) (ts : Templates) : Type 0 where
+pub record Makes (b : ℕ) (p : ReadTemplates) (t : Template) (ts : Templates) : Type 0 where
   -- the templates behind the code
   pub ahead : Templates
   -- those that it takes
@@ -46,13 +47,13 @@ pub record Makes (b : ℕ) (p : Parsed) (t : Template) (ts : Templates) : Type 0
   -- the template is the constructor of them
   pub is : t ≡ make b own
 
-applied-read : (b : ℕ) (ws : Templates) (x : Taken) → takeTemplates (arity b) ws ≡ x → (t : Template) (ts : Templates)
+applied-read : (b : ℕ) (ws : Templates) (x : SplitTemplates) → takeTemplates (arity b) ws ≡ x → (t : Template) (ts : Templates)
     → applied b x ≡ parsed (more t ts)
     → Makes b (parsed ws) t ts
 applied-read b ws short h t ts e = let z : _≡_ {A = ℕ} 0 1 = cc in absurd (omega arith)
 applied-read b ws (taken us vs) h t ts e = record { ahead = ws; own = us; read = refl; takes = cc; is = cc }
 
-constructed-read : (b : ℕ) (p : Parsed) (t : Template) (ts : Templates) → constructed b p ≡ parsed (more t ts) → Makes b p t ts
+constructed-read : (b : ℕ) (p : ReadTemplates) (t : Template) (ts : Templates) → constructed b p ≡ parsed (more t ts) → Makes b p t ts
 constructed-read b fault t ts e = let z : _≡_ {A = ℕ} 0 1 = cc in absurd (omega arith)
 constructed-read b (parsed ws) t ts e = applied-read b ws (takeTemplates (arity b) ws) refl t ts e
 

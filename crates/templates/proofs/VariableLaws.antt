@@ -16,7 +16,7 @@ use Rattle.layout.specs.Prefix.{nameBy}
 use Rattle.expansion.specs.declared.State.{State}
 use Rattle.expansion.specs.Run.{done}
 use Rattle.expansion.specs.Expansion.{Input, build}
-use Rattle.templates.specs.Built.{rowsIn, RoomsFit, Holds}
+use Rattle.templates.specs.Built.{wholeRows, RoomsFit, Holds}
 
 -- ------------------------------------------------------------------ variables
 
@@ -85,7 +85,7 @@ module _ (tag n : ℕ) (I : Input) (M : List ℕ) (s : State) (cells : List ℕ)
 -- ------------------------------------------------------------------ rows
 
 -- the rows of the cells fit
-pub rooms-fit : {v cells stack : List ℕ} {rows : ℕ} → length v ≤ 16384 → length v ≤ length stack → rows ≡ rowsIn cells
+pub rooms-fit : {v cells stack : List ℕ} {rows : ℕ} → length v ≤ 16384 → length v ≤ length stack → rows ≡ wholeRows cells
     → RoomsFit v rows cells stack
 rooms-fit small long e = record { small = small; stack-long = long; few = omega arith; rows-long = omega arith }
 

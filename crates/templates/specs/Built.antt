@@ -7,7 +7,7 @@ use lib.ListN.{length, getD, drop}
 use Rattle.answers.specs.Refusals.{refusal}
 use Rattle.terms.specs.Cells.{columns, mostCells}
 use Rattle.grammar.specs.Table.{Template, Templates, none, more}
-use Rattle.layout.specs.Prefix.{parsed, templatesOf, found, firstOf}
+use Rattle.layout.specs.Prefix.{parsed, templatesOf, found, headTemplate}
 use Rattle.expansion.specs.declared.State.{State}
 use Rattle.templates.specs.declared.Built.{Built}
 use Rattle.templates.specs.declared.Built.the-variants.{Made, Full}
@@ -22,8 +22,8 @@ use Rattle.expansion.specs.Expansion.{Input, build}
 abbrev pub rowsFor : ℕ → ℕ
 rowsFor numbers = min (numbers / columns) mostCells
 
-abbrev pub rowsIn : List ℕ → ℕ
-rowsIn cells = rowsFor (length cells)
+abbrev pub wholeRows : List ℕ → ℕ
+wholeRows cells = rowsFor (length cells)
 
 -- the bytes of a field are no more than those of a table, the stack is as long as they are, and the rows lie in the cells
 pub record RoomsFit (v : List ℕ) (rows : ℕ) (cells stack : List ℕ) : Type 0 where
@@ -52,7 +52,7 @@ pub record Ahead (v : List ℕ) (at : ℕ) : Type 0 where
 
 -- the template at an offset, and those behind it
 abbrev pub templateAt : List ℕ → ℕ → Template
-templateAt v at = firstOf (found (templatesOf (drop at v)))
+templateAt v at = headTemplate (found (templatesOf (drop at v)))
 
 abbrev pub othersOf : Templates → Templates
 othersOf none = none

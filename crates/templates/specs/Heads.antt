@@ -20,9 +20,9 @@ join none us = us
 join (more t ts) us = more t (join ts us)
 
 -- a template that makes no cell has a value
-abbrev pub Leads : List ℕ → ℕ → List ℕ → Head → Type 0
-Leads v at M (Leaf x next) = (I : Input) (s : State) (cells : List ℕ) → build (templateAt v at) I M s cells ≡ done x s cells
-Leads v at M (Node b) = Unit {0}
+abbrev pub HeadValue : List ℕ → ℕ → List ℕ → Head → Type 0
+HeadValue v at M (Leaf x next) = (I : Input) (s : State) (cells : List ℕ) → build (templateAt v at) I M s cells ≡ done x s cells
+HeadValue v at M (Node b) = Unit {0}
 
 -- the offset behind it, and what stands there
 pub record Past (v : List ℕ) (at next : ℕ) : Type 0 where

@@ -19,7 +19,7 @@ ghost use Rattle.expansion.specs.declared.State.{State};
 ghost use Rattle.expansion.specs.Run.{done};
 ghost use Rattle.expansion.specs.Expansion.{Input, build, buildAll};
 ghost use Rattle.templates.specs.Built.{rowsFor, RoomsFit, Holds, withMade, Ahead, Evaluates, Behind, Lists, Few};
-ghost use Rattle.templates.specs.Heads.{Leads, Heads, Takes};
+ghost use Rattle.templates.specs.Heads.{HeadValue, Heads, Takes};
 
 // What a template gives: its value, the offset behind it and the cells then made; or no row is left for a cell.
 pub enum Built {
@@ -90,7 +90,7 @@ fn store_row(cells: &mut [u32], row: usize, code: u8, args: [u32; 3])
 // What the template at an offset begins with, under k variables.
 fn head_at(v: &[u8], at: usize, env: &[u32; 16], k: usize) -> Head
     requires { ⌜ Ahead (now v) at ⌝ }
-    ensures { λ r. ⌜ ((M : List ℕ) → Holds (now (env .entry)) k M → Leads (now (v .entry)) at M r) ⌝ }
+    ensures { λ r. ⌜ ((M : List ℕ) → Holds (now (env .entry)) k M → HeadValue (now (v .entry)) at M r) ⌝ }
     ensures { λ r. ⌜ Heads (now (v .entry)) at r ⌝ }
 {
     let b = byte(v, at);

@@ -23,13 +23,13 @@ unfoldable mutual
   variablesFields (cons l t f) = variables t ++ variablesFields f
 
 -- a binder, and the variables that stand in its body
-pub record Scope (N : Type 0) : Type 0 where
+pub record BinderScope (N : Type 0) : Type 0 where
   pub binder : N
   pub inside : List N
 
 -- the binders with what they are around
 unfoldable mutual
-  pub scopes : {N : Type 0} → Term N → List (Scope N)
+  pub scopes : {N : Type 0} → Term N → List (BinderScope N)
   scopes (variable x) = []
   scopes (function x t) = record { binder = x; inside = variables t } ∷ scopes t
   scopes (apply t u) = scopes t ++ scopes u
@@ -37,11 +37,11 @@ unfoldable mutual
   scopes (dot t l) = scopes t
   scopes (number n) = []
 
-  pub scopesFields : {N : Type 0} → Fields N → List (Scope N)
+  pub scopesFields : {N : Type 0} → Fields N → List (BinderScope N)
   scopesFields nil = []
   scopesFields (cons l t f) = scopes t ++ scopesFields f
 
-abbrev pub binderIn : {N : Type 0} → Scope N → N
+abbrev pub binderIn : {N : Type 0} → BinderScope N → N
 binderIn b = b .binder
 
 abbrev pub binders : {N : Type 0} → Term N → List N
@@ -62,7 +62,7 @@ getsNewName (fresh n) vs = true
 getsNewName (outside s) vs = true
 
 -- the names of binders from the left, when c is the number of the next new name: new ones in order, others as written
-unfoldable pub numberedFrom : ℕ → List (Scope Name) → List (List ℕ)
+unfoldable pub numberedFrom : ℕ → List (BinderScope Name) → List (List ℕ)
 numberedFrom c [] = []
 numberedFrom c (b ∷ bs) =
     elim (getsNewName (b .binder) (b .inside))
@@ -70,7 +70,7 @@ numberedFrom c (b ∷ bs) =
 
 -- Variable by variable from the left: one that has no binder by origin is printed as written.
 pub data UnboundAsWritten : List Occurrence → List (List ℕ) → Type 0 where
-  done : UnboundAsWritten [] []
-  next :
+  no-variable : UnboundAsWritten [] []
+  next-variable :
       {o : Occurrence} {x : List ℕ} {os : List Occurrence} {xs : List (List ℕ)}
       → (o .owner ≡ unbound → x ≡ written (o .name)) → UnboundAsWritten os xs → UnboundAsWritten (o ∷ os) (x ∷ xs)

@@ -21,13 +21,13 @@ use Rattle.expansion.specs.Expansion.{Input, nextToken, misfit, build, runItems
 use Rattle.scanner.specs.Tokens.{endToken}
 use Rattle.expansion.specs.Limits.{mostCalls}
 use Rattle.choices.specs.Held.{Held}
-use Rattle.choices.specs.Chosen.{setsOf, Remembers, Chooses}
+use Rattle.choices.specs.Chosen.{firstSetsOf, Remembers, Chooses}
 use Rattle.choices.proofs.ChoiceLaws.{chosen-nowhere, chosen-here, chosen-whole, chosen-inside, start-is}
 use Rattle.steps.specs.Steps.{body, weight}
 use Rattle.turns.specs.Lent.{lentInput}
 use Rattle.turns.specs.declared.begins.Begun.{Begun}
 use Rattle.turns.specs.declared.begins.Begun.the-variants.{Refused, Entered}
-use Rattle.turns.specs.Begins.{Entry, Starts}
+use Rattle.turns.specs.Begins.{CallBegunAt, Starts}
 
 -- what a call does with the rule that is chosen
 abbrev entered : ℕ → Input → ℕ → List ℕ → State → List ℕ → Choice → Result ℕ
@@ -92,8 +92,8 @@ module _ {bs room : List ℕ} (h : Held bs room) (tokens : List ℕ) (n rows dep
     -- by the place that is chosen
     module _ (may-call : s .calls < 65536) {kind : ℕ} (ekind : kind ≡ getD (tokensIn tokens n) (s .at) endToken .kind) {j : ℕ}
         {memory : List ℕ} (ch : Chooses bs nonterminal kind j memory) where
-      firsts-are : input .grammar .firsts ≡ setsOf bs
-      unfolding ready setsOf
+      firsts-are : input .grammar .firsts ≡ firstSetsOf bs
+      unfolding ready firstSetsOf
       firsts-are = refl
 
       by-choice : {c : Choice} → choice (ready (productionsIn bs)) nonterminal kind ≡ c → (vs cells : List ℕ)
@@ -103,7 +103,7 @@ module _ {bs room : List ℕ} (h : Held bs room) (tokens : List ℕ) (n rows dep
           ∙ call-by input nonterminal vs s cells depth may-open true (lt-ltb (s .calls) 65536 may-call)
 
       -- Refusal 17: no rule fits.
-      pub starts-nowhere : 256 ≤ j → {set : ℕ} → set ≡ getD (setsOf bs) nonterminal 0 → {r : Refusal} → r ≡ refusal 17 (s .at) set (ones set)
+      pub starts-nowhere : 256 ≤ j → {set : ℕ} → set ≡ getD (firstSetsOf bs) nonterminal 0 → {r : Refusal} → r ≡ refusal 17 (s .at) set (ones set)
           → Ends (Refused r) memory
       starts-nowhere l es er =
           starts-refused (er ∙ ap (λ (k : ℕ). refusal 17 (s .at) k (ones k)) (es ∙ ap (λ sets. getD sets nonterminal 0) (sym firsts-are)))
@@ -129,6 +129,6 @@ module _ {bs room : List ℕ} (h : Held bs room) (tokens : List ℕ) (n rows dep
           }
 
 -- One more call leaves room for its items.
-pub entry-weight : {bs : List ℕ} {depth : ℕ} {s : State} {start : ℕ} {t : State} → Entry bs depth s start t → length bs ≤ 16384
+pub entry-weight : {bs : List ℕ} {depth : ℕ} {s : State} {start : ℕ} {t : State} → CallBegunAt bs depth s start t → length bs ≤ 16384
     → weight t + (length bs - start) ≤ weight s
 entry-weight e h = omega (arith, ap weight (e .begun), e .may-call)

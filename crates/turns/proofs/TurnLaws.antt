@@ -16,18 +16,18 @@ use Rattle.expansion.specs.Outcomes.{ran}
 use Rattle.expansion.specs.Expansion.{Input, build, runItems, runCall}
 use Rattle.templates.specs.Built.{Holds}
 use Rattle.choices.specs.Chosen.{Remembers}
-use Rattle.steps.specs.declared.Step.{Step}
-use Rattle.steps.specs.declared.Step.the-variants.{Finished, Stopped, Taken, Opened}
+use Rattle.steps.specs.declared.ItemStep.{ItemStep}
+use Rattle.steps.specs.declared.ItemStep.the-variants.{Finished, Stopped, Taken, Opened}
 use Rattle.steps.specs.Steps.{body, weight, Steps, Onward, Advances, Stays}
-use Rattle.frames.specs.Frames.{frameSize, mostWaiting, Fits, Saved, Loaded, Frame, resume, owed, Waits, Stacked, stacked-none, stacked-one, Standing}
+use Rattle.frames.specs.Frames.{frameSize, mostWaiting, LevelFits, Saved, Loaded, Frame, resume, owed, Waits, Stacked, stacked-none, stacked-one, Standing}
 use Rattle.frames.proofs.FrameLaws.{resume-halt, stacked-same, stacked-more, waits-saved, waits-holds}
 use Rattle.turns.specs.declared.begins.Begun.{Begun}
 use Rattle.turns.specs.declared.begins.Begun.the-variants.{Refused, Entered}
 use Rattle.turns.specs.declared.Resumption.{Resumption}
 use Rattle.steps.specs.declared.Cursor.{Cursor}
-use Rattle.turns.specs.declared.Progress.{Progress}
-use Rattle.turns.specs.declared.Progress.the-variants.{Paused}
-use Rattle.turns.specs.Begins.{Begins, Entry, Enters, Starts}
+use Rattle.turns.specs.declared.Advance.{Advance}
+use Rattle.turns.specs.declared.Advance.the-variants.{Paused}
+use Rattle.turns.specs.Begins.{Begins, CallBegunAt, CallEntered, Starts}
 use Rattle.turns.specs.Turns.{cursorAt, moved, enteredAt, resumption, Resumes, Values, Returns, Savable, Pushes, Pauses, left, Going, Calling}
 use Rattle.turns.specs.Turns.{Goes, Stands, Turns}
 use Rattle.turns.proofs.BeginLaws.{positive, entry-weight}
@@ -78,7 +78,7 @@ light-below : {wt wh : ℕ} (x o y o′ : ℕ) {most : ℕ} → wt ≡ wh → o 
 light-below x o y o′ e f h = omega arith
 
 -- What the item at a cursor does, and how far it goes.
-pub record Stepped (I : Input) (bs vars : List ℕ) (c : Cursor) (cells : List ℕ) (step : Step) (args cells′ : List ℕ) : Type 0 where
+pub record Stepped (I : Input) (bs vars : List ℕ) (c : Cursor) (cells : List ℕ) (step : ItemStep) (args cells′ : List ℕ) : Type 0 where
   -- under any values of the variables it does what the definition does
   pub does : (M : List ℕ) → Holds vars (c .count) M → Steps bs (c .at) I M (c .state) cells step args cells′
   -- the next offset, if there is one, is behind it and inside the table
@@ -129,8 +129,8 @@ module _ {I : Input} {bs frames vars : List ℕ} {c : Cursor} {cells : List ℕ}
 
   -- ---------------------------------------------------------------- the item that stands at the cursor
 
-  module _ {step : Step} {args cells′ : List ℕ} (d : Stepped I bs vars c cells step args cells′) where
-    steps : {q : Step} → step ≡ q → Steps bs (c .at) I (g .M) (c .state) cells q args cells′
+  module _ {step : ItemStep} {args cells′ : List ℕ} (d : Stepped I bs vars c cells step args cells′) where
+    steps : {q : ItemStep} → step ≡ q → Steps bs (c .at) I (g .M) (c .state) cells q args cells′
     steps e = rw e at (d .does (g .M) (g .holds))
 
     -- The item refuses.
@@ -236,7 +236,7 @@ module _ {I : Input} {bs frames vars : List ℕ} {c : Cursor} {cells : List ℕ}
         from = record { level = c .level - 1; state = t }
 
         -- Its frame stands in the room.
-        pub below-fits : Fits frames (from .level)
+        pub below-fits : LevelFits frames (from .level)
         below-fits = record { few = omega (arith, g .fits .few); inside = omega (arith, g .fits .inside) }
 
         unmoved : (t .at ≡ c .state .at) × (t .fresh ≡ c .state .fresh) × (t .calls ≡ c .state .calls)
@@ -336,8 +336,8 @@ module _ {I : Input} {bs frames vars : List ℕ} {c : Cursor} {args : List ℕ} 
     -- It is entered, and the call that called waits.
     module _ {first : ℕ} {u : State} (e : b ≡ Entered first u) where
       -- A whole alternative stands where it is entered.
-      opened-entry : Entry bs depth t first u
-      opened-entry = subst (Enters bs depth t) e (s .enters)
+      opened-entry : CallBegunAt bs depth t first u
+      opened-entry = subst (CallEntered bs depth t) e (s .enters)
 
       module _ {frames′ vars′ : List ℕ} {d : Cursor} (p : Pushes frames vars args c given next first u frames′ vars′ d)
           (long : length frames′ ≡ length frames) (small : length bs ≤ 16384) where
@@ -388,7 +388,7 @@ module _ {I : Input} {bs frames vars : List ℕ} {c : Cursor} {args : List ℕ} 
             })
 
         -- The room is too short: it is saved too.
-        pub opened-paused : {frames″ : List ℕ} {r : Progress} → Pauses frames′ vars′ d frames″ r → length frames″ ≡ length frames′
+        pub opened-paused : {frames″ : List ℕ} {r : Advance} → Pauses frames′ vars′ d frames″ r → length frames″ ≡ length frames′
             → length frames′ < (c .level + 3) * frameSize
             → Goes I bs R frames″ cells r
         opened-paused q long′ full =

@@ -21,19 +21,19 @@ Begins I bs depth n s (Refused r) = (vs cells : List ℕ) → halt r cells ≡ r
 Begins I bs depth n s (Entered start t) = (vs cells : List ℕ) → body (runCall (depth - 1) I) bs start I vs t cells ≡ runCall depth I n vs s cells
 
 -- a whole alternative stands at the offset, and one more call is begun
-pub record Entry (bs : List ℕ) (depth : ℕ) (s : State) (start : ℕ) (t : State) : Type 0 where
+pub record CallBegunAt (bs : List ℕ) (depth : ℕ) (s : State) (start : ℕ) (t : State) : Type 0 where
   pub whole : wholeBody (fieldsAt bs start) ≡ true
   pub inside : start ≤ length bs
   pub may-open : 0 < depth
   pub may-call : s .calls < mostCalls
   pub begun : t ≡ callBegun s
 
-abbrev pub Enters : List ℕ → ℕ → State → Begun → Type 0
-Enters bs depth s (Refused r) = Unit {0}
-Enters bs depth s (Entered start t) = Entry bs depth s start t
+abbrev pub CallEntered : List ℕ → ℕ → State → Begun → Type 0
+CallEntered bs depth s (Refused r) = Unit {0}
+CallEntered bs depth s (Entered start t) = CallBegunAt bs depth s start t
 
 -- both, and choices are remembered
 pub record Starts (I : Input) (bs : List ℕ) (depth n : ℕ) (s : State) (b : Begun) (memory : List ℕ) : Type 0 where
   pub begins : Begins I bs depth n s b
-  pub enters : Enters bs depth s b
+  pub enters : CallEntered bs depth s b
   pub remembers : Remembers bs memory

@@ -13,11 +13,11 @@ use Rattle.expansion.specs.Outcomes.{ran}
 use Rattle.expansion.specs.Expansion.{Input, runCall}
 use Rattle.templates.specs.Built.{Holds}
 use Rattle.steps.specs.Steps.{body, weight, mostWeight, Onward}
-use Rattle.frames.specs.Frames.{frameSize, longFrames, mostWaiting, Fits, Saved, Loaded, Frame, resume, owed, Stacked, Standing}
+use Rattle.frames.specs.Frames.{frameSize, longFrames, mostWaiting, LevelFits, Saved, Loaded, Frame, resume, owed, Stacked, Standing}
 use Rattle.turns.specs.declared.Resumption.{Resumption}
 use Rattle.steps.specs.declared.Cursor.{Cursor}
-use Rattle.turns.specs.declared.Progress.{Progress}
-use Rattle.turns.specs.declared.Progress.the-variants.{Ended, Paused}
+use Rattle.turns.specs.declared.Advance.{Advance}
+use Rattle.turns.specs.declared.Advance.the-variants.{Ended, Paused}
 
 -- ------------------------------------------------------------------ cursors
 
@@ -62,7 +62,7 @@ pub record Returns (frames : List ℕ) (level x : ℕ) (t : State) (vars′ : Li
 
 -- a call that is to go on at an offset can be saved in its frame
 pub record Savable (frames : List ℕ) (c : Cursor) (next : ℕ) : Type 0 where
-  pub fits : Fits frames (c .level)
+  pub fits : LevelFits frames (c .level)
   pub few : c .count < 2 ^ 32
   pub near : next < 2 ^ 32
 
@@ -73,7 +73,7 @@ pub record Pushes (frames vars args : List ℕ) (c : Cursor) (given next first :
   pub cursor-is : d ≡ enteredAt c given first t
 
 -- the call that goes on is saved
-pub record Pauses (frames vars : List ℕ) (c : Cursor) (frames′ : List ℕ) (p : Progress) : Type 0 where
+pub record Pauses (frames vars : List ℕ) (c : Cursor) (frames′ : List ℕ) (p : Advance) : Type 0 where
   pub saved : Saved frames frames′ (c .level) vars (c .count) (c .at)
   pub paused : p ≡ Paused (resumption c)
 
@@ -90,7 +90,7 @@ pub record Going (I : Input) (bs frames vars : List ℕ) (c : Cursor) (cells : L
   pub counted : c .count ≤ length bs + c .at
   pub waiting : List Frame
   pub many : length waiting ≡ c .level
-  pub fits : Fits frames (c .level)
+  pub fits : LevelFits frames (c .level)
   pub stacked : Stacked bs frames waiting
   pub light : weight (c .state) + (length bs - c .at) + owed bs waiting ≤ mostWeight
   pub M : List ℕ
@@ -121,7 +121,7 @@ pub record Calling (I : Input) (bs frames vars : List ℕ) (c : Cursor) (args : 
 -- ------------------------------------------------------------------ how a turn ends
 
 -- it ended with R, or the room was too short and it stands where R is still to be had
-abbrev pub Goes : Input → List ℕ → Result ℕ → List ℕ → List ℕ → Progress → Type 0
+abbrev pub Goes : Input → List ℕ → Result ℕ → List ℕ → List ℕ → Advance → Type 0
 Goes I bs R frames cells (Ended o) = ran o cells ≡ R
 Goes I bs R frames cells (Paused from) = Standing I bs frames (from .level) (from .state) cells R × (length frames < longFrames)
 

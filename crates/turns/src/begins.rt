@@ -10,7 +10,7 @@ use steps::tokens::misfit;
 ghost use Prim.Native.Nat.{ℕ, _≤_};
 ghost use mathlib.Core.Path.{_≡_};
 ghost use mathlib.Core.List.{List};
-ghost use Rattle.expansion.specs.Expansion.{callBegun, start};
+ghost use Rattle.expansion.specs.Expansion.{callBegun, initialState};
 ghost use Rattle.expansion.specs.Limits.{mostOpen, mostCalls};
 ghost use Rattle.choices.specs.Held.{Held};
 ghost use Rattle.choices.specs.Chosen.{Remembers};
@@ -79,7 +79,7 @@ pub fn begin_root(
 ) -> Begun
     requires { ⌜ MayBegin (now room) (now tokens) n ⌝ }
     ensures { λ r. ⌜ ((bs : List ℕ) (rows : ℕ) → Held bs (now (room .entry)) → Remembers bs (now (memory .entry)) → Starts (lentInput bs (now
-        (tokens .entry)) n rows) bs mostOpen root start r (now (memory .exit))) ⌝ }
+        (tokens .entry)) n rows) bs mostOpen root initialState r (now (memory .exit))) ⌝ }
 {
     let s = State {
         at: 0,

@@ -10,7 +10,7 @@ use frames::save;
 use steps::Cursor;
 use templates::put;
 ghost use Prim.Native.Nat.{_^_, _<_};
-ghost use Rattle.frames.specs.Frames.{Fits};
+ghost use Rattle.frames.specs.Frames.{LevelFits};
 ghost use Rattle.turns.specs.Turns.{Resumes, Values, Returns, Savable, Pushes, Pauses};
 
 // A level of the room of frames, and the state in which the call that stands there goes on.
@@ -20,14 +20,14 @@ pub struct Resumption {
 }
 
 // How far the items of a call go: to an outcome, or to a level that the room of the frames does not hold.
-pub enum Progress {
+pub enum Advance {
     Ended(Outcome),
     Paused(Resumption),
 }
 
 // The call that stands at a level of the room goes on: its variables are read into `vars`.
 pub fn resumed(frames: &[u32], vars: &mut [u32; 16], from: Resumption) -> Cursor
-    requires { ⌜ Fits (now frames) (from .level) ⌝ }
+    requires { ⌜ LevelFits (now frames) (from .level) ⌝ }
     ensures { λ r. ⌜ Resumes (now (frames .entry)) from (now (vars .exit)) r ⌝ }
 {
     let level = from.level;
@@ -59,7 +59,7 @@ pub fn valued(vars: &mut [u32; 16], c: Cursor, x: u32, next: usize, state: State
 
 // The result of a call goes to the call that waits at a level: it is its next variable, and that call goes on.
 pub fn returned(frames: &[u32], vars: &mut [u32; 16], level: usize, x: u32, state: State) -> Cursor
-    requires { ⌜ Fits (now frames) level ⌝ }
+    requires { ⌜ LevelFits (now frames) level ⌝ }
     ensures { λ r. ⌜ Returns (now (frames .entry)) level x state (now (vars .exit)) r ⌝ }
 {
     let waiting = resumed(frames, vars, Resumption { level, state });
@@ -95,7 +95,7 @@ pub fn entered(
 }
 
 // A room that is too short: the call that goes on is saved too.
-pub fn paused(frames: &mut [u32], vars: &[u32; 16], c: Cursor) -> Progress
+pub fn paused(frames: &mut [u32], vars: &[u32; 16], c: Cursor) -> Advance
     requires { ⌜ Savable (now frames) c (c .at) ⌝ }
     ensures { λ r. ⌜ Pauses (now (frames .entry)) (now (vars .entry)) c (now (frames .exit)) r ⌝ }
 {
@@ -104,5 +104,5 @@ pub fn paused(frames: &mut [u32], vars: &[u32; 16], c: Cursor) -> Progress
     let at = c.at;
     let state = c.state;
     save(frames, level, vars, count, at);
-    Progress::Paused(Resumption { level, state })
+    Advance::Paused(Resumption { level, state })
 }

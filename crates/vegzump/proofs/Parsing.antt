@@ -20,7 +20,7 @@ use Rattle.expansion.specs.Outcomes.{ran}
 use Rattle.expansion.specs.Expansion.{run}
 use Rattle.meaning.specs.Expand.{refused, inputOf, finished, scanned, expandTable, checkedFirst, expand}
 use Rattle.vegzump.specs.declared.parse.Parsed.{Parsed}
-use Rattle.vegzump.specs.Parse.{parseScanned, parseChecked, parse, parsedInto, haltedParse, outcomeOf, cellsOf}
+use Rattle.vegzump.specs.Parse.{parseScanned, parseChecked, parse, parsedInto, haltedParse, outcomeOf, cellsAfter}
 use Rattle.vegzump.specs.Parse.{parseFilled, parseIntoChecked, parseInto}
 
 -- ------------------------------------------------------------------ what the parse gives
@@ -53,7 +53,7 @@ outcome-ran : (o : Outcome) (cells : List ℕ) → outcomeOf (ran o cells) ≡ o
 outcome-ran (Value v s) cells = refl
 outcome-ran (Halted r) cells = refl
 
-cells-ran : (o : Outcome) (cells : List ℕ) → cellsOf (ran o cells) ≡ cells
+cells-ran : (o : Outcome) (cells : List ℕ) → cellsAfter (ran o cells) ≡ cells
 cells-ran (Value v s) cells = refl
 cells-ran (Halted r) cells = refl
 

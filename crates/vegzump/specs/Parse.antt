@@ -55,16 +55,16 @@ abbrev pub outcomeOf : Result ℕ → Outcome
 outcomeOf (done v s cells) = Value v s
 outcomeOf (halt r cells) = Halted r
 
-abbrev pub cellsOf : Result ℕ → List ℕ
-cellsOf (done v s cells) = cells
-cellsOf (halt r cells) = cells
+abbrev pub cellsAfter : Result ℕ → List ℕ
+cellsAfter (done v s cells) = cells
+cellsAfter (halt r cells) = cells
 
 -- the run of a formula's tokens, which leaves the rooms of the scan as they are
 abbrev pub parseFilled : Table → Lexed → Filled → List ℕ → ParsedInto
 parseFilled t l (filled (Unscanned r) tokens words) cells = parsedInto (haltedParse r) tokens words cells
 parseFilled t l (filled (Tokens n m) tokens words) cells =
     let x : Result ℕ = run (inputOf t (l .tokens) cells) (t .root) cells in
-    parsedInto (record { outcome = outcomeOf x; words = m }) tokens words (cellsOf x)
+    parsedInto (record { outcome = outcomeOf x; words = m }) tokens words (cellsAfter x)
 
 -- a table that is refused leaves all rooms as they were
 abbrev pub parseIntoChecked : Checked Table → List ℕ → List ℕ → List ℕ → List ℕ → ParsedInto
@@ -123,6 +123,6 @@ pub record ParsesTo (bs formula cells words′ cells′ : List ℕ) (r : Parsed)
   pub rows-lie : (v : ℕ) (s : State) → r .outcome ≡ Value v s → RowsLie (s .made) cells′
 
 -- and the answer and all rooms are those of `parseInto`
-pub record Parses (bs formula tokens words cells tokens′ words′ cells′ : List ℕ) (r : Parsed) : Type 0 where
+pub record ParsesInto (bs formula tokens words cells tokens′ words′ cells′ : List ℕ) (r : Parsed) : Type 0 where
   pub parsed : ParsesTo bs formula cells words′ cells′ r
   pub whole : parsedInto r tokens′ words′ cells′ ≡ parseInto bs formula tokens words cells

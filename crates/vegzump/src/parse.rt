@@ -10,8 +10,8 @@ ghost use lib.ListN.{length, getD};
 ghost use Rattle.expansion.specs.Outcomes.{ran};
 ghost use Rattle.expansion.specs.Expansion.{run};
 ghost use Rattle.expander.specs.Lent.{lentInput};
-ghost use Rattle.templates.specs.Built.{rowsIn};
-ghost use Rattle.vegzump.specs.Parse.{Runnable, Rooms, WordRoom, Parseable, Parses, ParsesTo, parsedInto, parseInto};
+ghost use Rattle.templates.specs.Built.{wholeRows};
+ghost use Rattle.vegzump.specs.Parse.{Runnable, Rooms, WordRoom, Parseable, ParsesInto, ParsesTo, parsedInto, parseInto};
 
 // The outcome of a parse, and how many words the formula has that are neither keywords nor outside names.
 pub struct Parsed {
@@ -48,7 +48,7 @@ fn run_tokens(
     cells: &mut [u32],
 ) -> Outcome
     requires { ⌜ Runnable (now table) (now room) (now tokens) n ⌝ }
-    ensures { λ r. ⌜ ran r (now (cells .exit)) ≡ run (lentInput (now (table .entry)) (now (tokens .entry)) n (rowsIn (now (cells .entry))))
+    ensures { λ r. ⌜ ran r (now (cells .exit)) ≡ run (lentInput (now (table .entry)) (now (tokens .entry)) n (wholeRows (now (cells .entry))))
         (getD (now (table .entry)) (length (now (table .entry)) - 1) 0) (now (cells .entry)) ⌝ }
 {
     let root = last_byte(table);
@@ -71,7 +71,7 @@ fn parse_checked(
 ) -> Parsed
     requires { ⌜ Parseable (now table) (now room) (now formula) (now tokens) (now words) ⌝ }
     ensures { λ r. ⌜
-        Parses (now (table .entry)) (now (formula .entry)) (now (tokens .entry)) (now (words .entry)) (now (cells .entry))
+        ParsesInto (now (table .entry)) (now (formula .entry)) (now (tokens .entry)) (now (words .entry)) (now (cells .entry))
         (now (tokens .exit)) (now (words .exit)) (now (cells .exit)) r
         ⌝ }
 {
@@ -98,7 +98,7 @@ fn parse_in(
 ) -> Parsed
     requires { ⌜ Rooms (now formula) (now tokens) (now words) ⌝ }
     ensures { λ r. ⌜
-        Parses (now (table .entry)) (now (formula .entry)) (now (tokens .entry)) (now (words .entry)) (now (cells .entry))
+        ParsesInto (now (table .entry)) (now (formula .entry)) (now (tokens .entry)) (now (words .entry)) (now (cells .entry))
         (now (tokens .exit)) (now (words .exit)) (now (cells .exit)) r
         ⌝ }
 {

@@ -11,7 +11,7 @@ use Rattle.spellings.specs.Bytes.{bytes, decimal, digitsThen}
 use Rattle.spellings.proofs.BytesLaws.{by-test}
 use Rattle.terms.specs.Cells.{column}
 use Rattle.terms.specs.Term.{Name}
-use Rattle.terms.specs.Rows.{nameOf, termAt, fieldsAt}
+use Rattle.terms.specs.Rows.{nameOf, termAt, fieldListAt}
 use Rattle.terms.specs.Rename.{newName, written}
 use Rattle.terms.specs.Print.{numeral}
 use Rattle.terms.specs.Labelled.{nameShown, labelled}
@@ -145,7 +145,7 @@ module _ {pool cells : List ℕ} {k row at : ℕ} (out : List ℕ) (f : FieldsOp
 
   -- where no depth is left, a field list begins as the empty one
   pub open-shallow-fields : k ≡ 0 → OpeningFields (NIL ∷ [])
-  unfolding bytes fieldsOpening fieldsAt openingFields
+  unfolding bytes fieldsOpening fieldListAt openingFields
   open-shallow-fields e = go-start out (rw e refl)
 
   module _ (some : k ≡ 0 → ⊥) {code : ℕ} (c : code ≡ column cells row 0) where

@@ -11,7 +11,7 @@ use borrow.Author.Tests.{eq-eqb, ne-eqb, eqb-true, eqb-false, lt-ltb, le-ltb, lt
 use Rattle.spellings.proofs.BytesLaws.{by-test}
 use Rattle.grammar.specs.declared.Front.{Front}
 use Rattle.grammar.specs.declared.Front.the-variants.{Nothing, Short, Field}
-use Rattle.grammar.specs.Fields.{Fields, next}
+use Rattle.grammar.specs.Fields.{RawFields, next}
 use Rattle.grammar.specs.Lookup.{leading, afterLeading, lexiconOf, frontOf, fieldsAt}
 use Rattle.grammar.proofs.LookupLaws.{opened, fields-at, Stops, outsides-at, few-outsides}
 use Rattle.grammar.proofs.ReaderLaws.{getD-past}
@@ -132,7 +132,7 @@ module _ (table : List ℕ) (at tag : ℕ) where
   stop-leading Short h = refl
   stop-leading (Field t n) h = rw (ne-eqb t tag h, leading) refl
 
-  one-leading : (t : ℕ) (v : List ℕ) (fs : Fields) → t ≡ tag → leading tag (next at t v fs) ≡ v ∷ leading tag fs
+  one-leading : (t : ℕ) (v : List ℕ) (fs : RawFields) → t ≡ tag → leading tag (next at t v fs) ≡ v ∷ leading tag fs
   unfolding leading
   one-leading t v fs e = rw (eq-eqb t tag e, leading) refl
 

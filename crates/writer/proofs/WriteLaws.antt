@@ -6,7 +6,7 @@ use native.Mathlib.Omega.{arith}
 use lib.ListN.{length, getD, take, drop, length-drop, drop-of-length-le}
 use lib.Seq.{sets, sets-eq, take-all, drop-drop}
 use borrow.Rule.Slice.PartMut.{putMid, midOf, same-len-mid}
-use Rattle.spellings.specs.Buffers.{written}
+use Rattle.spellings.specs.Buffers.{writtenInto}
 use Rattle.spellings.proofs.BuffersLaws.{written-fits, length-written}
 use Rattle.writer.specs.Openings.{Wrote, spellIn}
 
@@ -34,7 +34,7 @@ module _ (out s : List ℕ) (at from : ℕ) (ef : from ≡ min at (length out)) 
       )
 
   -- a writer to whom the rest was lent, and that wrote s there if it fits
-  pub lent : {r : ℕ} {last : List ℕ} → r ≡ length s → last ≡ written s (midOf from (length out - from) out)
+  pub lent : {r : ℕ} {last : List ℕ} → r ≡ length s → last ≡ writtenInto s (midOf from (length out - from) out)
       → Wrote out at s (at + r) (putMid from (length out - from) out last)
   lent {r} {last} er el =
       record {
@@ -43,7 +43,7 @@ module _ (out s : List ℕ) (at from : ℕ) (ef : from ≡ min at (length out)) 
         put =
             λ h.
             let room : length s ≤ length (drop from out) = omega (arith, rest) in
-            ap (putMid from (length out - from) out) (el ∙ ap (written s) whole ∙ written-fits s (drop from out) room) ∙ fits-all h;
+            ap (putMid from (length out - from) out) (el ∙ ap (writtenInto s) whole ∙ written-fits s (drop from out) room) ∙ fits-all h;
       }
 
 -- the spelling of a number, read off the room

@@ -9,7 +9,7 @@ use Rattle.spellings.specs.Bytes.{bytes}
 use Rattle.terms.specs.Cells.{column}
 use Rattle.terms.specs.Term.{Term, Fields, variable, function, apply, rcd, dot, number, nil, cons}
 use Rattle.terms.specs.Labelled.{nameShown, labelled}
-use Rattle.terms.specs.Rows.{nameOf, termAt, fieldsAt}
+use Rattle.terms.specs.Rows.{nameOf, termAt, fieldListAt}
 use Rattle.terms.specs.Print.{numeral}
 
 -- what the text of a term begins with, up to its first part or, if it has none, to the last parenthesis
@@ -41,7 +41,7 @@ unfoldable pub termOpening : List ℕ → List ℕ → List ℕ → ℕ → ℕ 
 termOpening pool cells numbers k row p = opening (labelled numbers p (termAt k (spellIn pool) cells row))
 
 unfoldable pub fieldsOpening : List ℕ → List ℕ → ℕ → ℕ → List ℕ
-fieldsOpening pool cells k row = openingFields (fieldsAt k (spellIn pool) cells row)
+fieldsOpening pool cells k row = openingFields (fieldListAt k (spellIn pool) cells row)
 
 -- Bytes were to be written behind `at` bytes of a buffer: the answer is the place behind them, whether they fit or not; where they
 -- fit, they stand there and nothing else has changed.

@@ -11,7 +11,7 @@ use Rattle.grammar.proofs.LookupLaws.{front-inside}
 use Rattle.layout.specs.declared.Checking.the-variants.{Further}
 use Rattle.layout.specs.Layout.{checkField}
 use Rattle.layout.specs.Before.{fieldsBefore, checking}
-use Rattle.layout.specs.Index.{hashOf, Remembered}
+use Rattle.layout.specs.Index.{bucketHash, Remembered}
 use Rattle.layout.proofs.RememberedLaws.{remembered-start, keyword-room, outside-room, remembered-next}
 use Rattle.layout.proofs.LawsFields as laws
 use native.Mathlib.Omega.{arith}
@@ -64,7 +64,7 @@ field p = p .before .before .before .before .before
 -- the hash of a spelling
 spelled :
     (p : tie.After-check-field Inv-loop μ-loop)
-    → tag (field p) ≤ 2 → p .before .before .before .spelling-hash .result ≡ hashOf (lent (field p))
+    → tag (field p) ≤ 2 → p .before .before .before .spelling-hash .result ≡ bucketHash (lent (field p))
 spelled p l = p .before .before .before .spelling-hash .ensures .spelled l
 
 abbrev accepted : tie.After-known-told3 Inv-loop μ-loop → tie.After-check-field Inv-loop μ-loop

@@ -8,7 +8,7 @@ use Rattle.grammar.specs.declared.Front.the-variants.{Field}
 use Rattle.grammar.specs.Lookup.{frontOf}
 use Rattle.grammar.proofs.LookupLaws.{front-inside}
 use Rattle.grammar.proofs.ReaderLaws.{part-within}
-use Rattle.sorts.specs.ByBytes.{Ready}
+use Rattle.sorts.specs.ByBytes.{FieldReady}
 use Rattle.sorts.proofs.StepLaws as laws
 use native.Mathlib.Omega.{arith}
 use Rattle.sorts.proofs.check_fields.Statement.{statement}
@@ -47,7 +47,7 @@ module _ (p : tie.After-known-told Inv-loop μ-loop) where
   value : lent ≡ take size (drop (turn .loop .at + 3) table)
   value = part-within table (turn .loop .at + 3) size
 
-  ready : Ready (turn .loop .known) table lent (turn .loop .sorts) (turn .loop .stack)
+  ready : FieldReady (turn .loop .known) table lent (turn .loop .sorts) (turn .loop .stack)
   ready =
       let few = length-take (turn .loop .at + 3 + size - (turn .loop .at + 3)) (drop (turn .loop .at + 3) table) in
       record {

@@ -7,12 +7,12 @@ use lib.ListN.{length}
 use borrow.Author.Needs.{needs}
 use Rattle.expansion.specs.Run.{Result}
 use Rattle.expansion.specs.Expansion.{Input}
-use Rattle.templates.specs.Built.{rowsFor, rowsIn}
+use Rattle.templates.specs.Built.{rowsFor, wholeRows}
 use Rattle.expander.specs.Lent.{lentInput}
-use Rattle.frames.specs.Frames.{shortFrames, Fits, Standing}
+use Rattle.frames.specs.Frames.{shortFrames, LevelFits, Standing}
 use Rattle.expander.specs.Calls.{rootItems}
 use Rattle.turns.specs.declared.Resumption.{Resumption}
-use Rattle.turns.specs.declared.Progress.the-variants.{Paused}
+use Rattle.turns.specs.declared.Advance.the-variants.{Paused}
 use Rattle.turns.specs.Turns.{Goes}
 use Rattle.expander.proofs.CallLaws as laws
 use Rattle.expander.proofs.calls.root_items.Statement.{statement}
@@ -27,7 +27,7 @@ module _ (p : tie.After-save) where
   entry = saved .before .before .before .before .before .before
 
   abbrev input : Input
-  input = lentInput (entry .args .table .now) (entry .args .tokens .now) (entry .args .n) (rowsIn (entry .args .cells .now))
+  input = lentInput (entry .args .table .now) (entry .args .tokens .now) (entry .args .n) (wholeRows (entry .args .cells .now))
 
   abbrev result : Result ℕ
   result = rootItems input (entry .args .table .now) (entry .args .start) (entry .args .s) (entry .args .cells .now)
@@ -35,7 +35,7 @@ module _ (p : tie.After-save) where
   long : length (p .save .last .0) ≡ shortFrames
   long = p .save .kept .0
 
-  fits : Fits (p .save .last .0) 0
+  fits : LevelFits (p .save .last .0) 0
   fits = record { few = omega arith; inside = omega (arith, long) }
 
   standing : Standing input (entry .args .table .now) (p .save .last .0) 0 (entry .args .s) (entry .args .cells .now) result
@@ -56,7 +56,7 @@ module _ (q : tie.After-items) where
   went = q .items .ensures .0 (result q-save) (standing q-save)
 
   paused : {from : Resumption} → q .items .result ≡ Paused from
-      → Standing (lentInput (entry q-save .args .table .now) (entry q-save .args .tokens .now) (entry q-save .args .n) (rowsIn cells′))
+      → Standing (lentInput (entry q-save .args .table .now) (entry q-save .args .tokens .now) (entry q-save .args .n) (wholeRows cells′))
       (entry q-save .args .table .now) frames′ (from .level) (from .state) cells′ (result q-save)
   paused e =
       laws.standing-rows (entry q-save .args .tokens .now) (entry q-save .args .n) (ap rowsFor (sym (let from-3 = q .items .kept .1 .1 .1 in from-3 .1 .1 .0)))

@@ -4,13 +4,13 @@ use mathlib.Core.Path.{_≡_, _∙_}
 use mathlib.Core.List.{[]}
 use borrow.Author.Needs.{needs}
 use Rattle.expansion.specs.Run.{Result, after}
-use Rattle.expansion.specs.Expansion.{Input, runCall, start, ended, run}
+use Rattle.expansion.specs.Expansion.{Input, runCall, initialState, ended, run}
 use Rattle.expansion.specs.Limits.{mostOpen}
-use Rattle.templates.specs.Built.{rowsIn}
+use Rattle.templates.specs.Built.{wholeRows}
 use Rattle.expander.specs.Lent.{lentInput}
 use Rattle.turns.specs.declared.begins.Begun.{Begun}
 use Rattle.turns.specs.declared.begins.Begun.the-variants.{Entered}
-use Rattle.turns.specs.Begins.{Begins, Entry, Starts}
+use Rattle.turns.specs.Begins.{Begins, CallBegunAt, Starts}
 use Rattle.choices.proofs.ChoiceLaws.{remembers-none}
 use Rattle.steps.proofs.TokenLaws.{token-count}
 use Rattle.expander.proofs.CallLaws as laws
@@ -23,20 +23,20 @@ module _ (p : tie.After-begin-root) where
   entry = p .before .before .before .before .before .before
 
   abbrev input : Input
-  input = lentInput (entry .args .table .now) (entry .args .tokens .now) (entry .args .n) (rowsIn (entry .args .cells .now))
+  input = lentInput (entry .args .table .now) (entry .args .tokens .now) (entry .args .n) (wholeRows (entry .args .cells .now))
 
-  starts : Starts input (entry .args .table .now) 1024 (entry .args .root) start (p .begin-root .result) (p .begin-root .last .1 .0)
+  starts : Starts input (entry .args .table .now) 1024 (entry .args .root) initialState (p .begin-root .result) (p .begin-root .last .1 .0)
   starts =
-      p .begin-root .ensures (entry .args .table .now) (rowsIn (entry .args .cells .now)) (entry .pre .table) (remembers-none (entry .args .table .now))
+      p .begin-root .ensures (entry .args .table .now) (wholeRows (entry .args .cells .now)) (entry .pre .table) (remembers-none (entry .args .table .now))
 
-  begins : {q : Begun} → p .begin-root .result ≡ q → Begins input (entry .args .table .now) 1024 (entry .args .root) start q
+  begins : {q : Begun} → p .begin-root .result ≡ q → Begins input (entry .args .table .now) 1024 (entry .args .root) initialState q
   begins e =
-      laws.begins-as input (entry .args .table .now) 1024 (entry .args .root) start (p .begin-root .result) e (starts .begins)
+      laws.begins-as input (entry .args .table .now) 1024 (entry .args .root) initialState (p .begin-root .result) e (starts .begins)
 
-  enters : {first : ℕ} {t : _} → p .begin-root .result ≡ Entered first t → Entry (entry .args .table .now) 1024 start first t
+  enters : {first : ℕ} {t : _} → p .begin-root .result ≡ Entered first t → CallBegunAt (entry .args .table .now) 1024 initialState first t
   enters e = laws.entry-of (p .begin-root .result) e (starts .enters)
 
-  runs : {R : Result ℕ} → R ≡ runCall mostOpen input (entry .args .root) [] start (entry .args .cells .now)
+  runs : {R : Result ℕ} → R ≡ runCall mostOpen input (entry .args .root) [] initialState (entry .args .cells .now)
       → after R (ended input) ≡ run input (entry .args .root) (entry .args .cells .now)
   runs e = laws.run-is input (entry .args .root) (entry .args .cells .now) e
 

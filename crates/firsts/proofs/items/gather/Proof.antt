@@ -4,8 +4,8 @@ use mathlib.Core.Path.{_≡_, _∙_, sym}
 use mathlib.Core.List.{List}
 use lib.ListN.{length, drop}
 use Rattle.grammar.specs.Lookup.{frontOf}
-use Rattle.firsts.specs.declared.Step.the-variants.{Past}
-use Rattle.firsts.specs.Symbols.{stepOf}
+use Rattle.firsts.specs.declared.SymbolStep.the-variants.{Past}
+use Rattle.firsts.specs.Symbols.{symbolStep}
 use Rattle.firsts.proofs.ItemsLaws as laws
 use borrow.Author.Needs.{needs}
 use Rattle.firsts.proofs.items.gather.Statement.{statement}
@@ -25,7 +25,7 @@ module _ (p : tie.After-known-told Inv-loop μ-loop) where
   abbrev table : List ℕ
   table = looped .before .before .before .before .args .table .now
 
-  item : Past (p .before .step .given .0 .0) (p .before .step .given .0 .1 .0) ≡ stepOf table (looped .loop .at) (frontOf (drop (looped .loop .at) table))
+  item : Past (p .before .step .given .0 .0) (p .before .step .given .0 .1 .0) ≡ symbolStep table (looped .loop .at) (frontOf (drop (looped .loop .at) table))
   item = sym (p .before .step .given .1) ∙ p .before .before .before .item-at .ensures
 
 loop-holds : tie.Need-loop-holds Inv-loop μ-loop

@@ -7,7 +7,7 @@ use lib.ListN.{length, drop}
 use Rattle.grammar.specs.declared.Front.the-variants.{Field}
 use Rattle.grammar.specs.Lookup.{frontOf}
 use borrow.Author.Needs.{needs}
-use Rattle.firsts.specs.Symbols.{stepOf}
+use Rattle.firsts.specs.Symbols.{symbolStep}
 use Rattle.grammar.proofs.LookupLaws.{front-inside}
 use Rattle.firsts.proofs.ItemsLaws as laws
 use Rattle.firsts.proofs.items.item_at.Statement.{statement}
@@ -66,12 +66,12 @@ symbol-requires c κs = search needs
 returns-2 : tie.Need-returns-2
 returns-2 c =
     let entry = c .before .before .before .before in
-    ap (stepOf (entry .args .table .now) (entry .args .at)) (sym (c .enum-told .given .1) ∙ c .before .before .front-at .ensures)
+    ap (symbolStep (entry .args .table .now) (entry .args .at)) (sym (c .enum-told .given .1) ∙ c .before .before .front-at .ensures)
 
 returns-3 : tie.Need-returns-3
 returns-3 c =
     let entry = c .before .before .before .before in
-    ap (stepOf (entry .args .table .now) (entry .args .at)) (sym (c .enum-told2 .given .1) ∙ c .before .before .front-at .ensures)
+    ap (symbolStep (entry .args .table .now) (entry .args .at)) (sym (c .enum-told2 .given .1) ∙ c .before .before .front-at .ensures)
 
 returns-4 : tie.Need-returns-4
 returns-4 c =

@@ -3,7 +3,7 @@ use borrow.Author.Needs.{needs}
 use Prim.Native.Nat.{_<_}
 use mathlib.Core.Path.{_≡_}
 use borrow.Author.Tests.{not-true, not-false}
-use Rattle.layout.specs.Index.{hashOf}
+use Rattle.layout.specs.Index.{bucketHash}
 use Rattle.layout.proofs.IndexLaws as laws
 use native.Mathlib.Omega.{arith}
 use Rattle.layout.proofs.index.enter.Statement.{statement}
@@ -17,7 +17,7 @@ module _ (p : tie.Else1) where
   few : start .args .count < 64
   few = start .pre .few (not-false _ (p .if1 .left))
 
-  hashed : start .args .h ≡ hashOf (start .args .v .now)
+  hashed : start .args .h ≡ bucketHash (start .args .v .now)
   hashed = start .pre .hashed (not-false _ (p .if1 .left))
 
 returns : tie.Need-returns

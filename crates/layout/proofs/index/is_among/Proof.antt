@@ -5,7 +5,7 @@ use mathlib.Core.Path.{_≡_}
 use mathlib.Core.List.{List}
 use lib.ListN.{getD}
 use Rattle.spellings.specs.Bytes.{same}
-use Rattle.layout.specs.Index.{bucketOf, Entered}
+use Rattle.layout.specs.Index.{bucketOf, SpellingHeld}
 use Rattle.layout.proofs.IndexLaws as laws
 use native.Mathlib.Omega.{arith}
 use Rattle.layout.proofs.index.is_among.Statement.{statement}
@@ -28,7 +28,7 @@ module _ (p : tie.After-is-entry Inv-loop μ-loop) where
   turn = p .before .before
 
   here :
-      (w : List ℕ) (q : ℕ) → Entered (start (turn .before) .args .table .now) (start (turn .before) .args .room .now) (turn .loop .p) w q
+      (w : List ℕ) (q : ℕ) → SpellingHeld (start (turn .before) .args .table .now) (start (turn .before) .args .room .now) (turn .loop .p) w q
       → p .is-entry .result ≡ same w (start (turn .before) .args .v .now)
   here w q e = p .is-entry .ensures w q e (start (turn .before) .pre .hashed)
 
