@@ -155,7 +155,8 @@ module _ (I : Input) where
   pub run-leaves : (root : ℕ) (cells : List ℕ) → Leaves (I .rows) 0 cells (run I root cells)
   unfolding run
   run-leaves root cells =
-      leaves-after (I .rows) (initialState .made) cells (runCall mostOpen I root [] initialState cells) (ended I) (call-leaves mostOpen root [] initialState cells (omega arith))
+      leaves-after (I .rows) (initialState .made) cells (runCall mostOpen I root [] initialState cells) (ended I)
+      (call-leaves mostOpen root [] initialState cells (omega arith))
       (λ v s cells′ l. go v s cells′ l (ltb (s .at) (length (I .tokens))))
     where
       go : (v : ℕ) (s : State) (cells′ : List ℕ) → s .made ≤ I .rows → (b : Bool)

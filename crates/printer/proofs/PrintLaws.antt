@@ -128,7 +128,8 @@ close = 0x29 ∷ []
 
 module _ {pool cells numbers : List ℕ} {k row at p : ℕ} {out : List ℕ} {r : ℕ} {out′ : List ℕ} where
   module _ (w : Wrote out at (termOpening pool cells numbers k row p) r out′) where
-    opened : (ps : List Piece) → partText pool cells numbers (termPart k row) p ≡ termOpening pool cells numbers k row p ++ piecesText pool cells numbers ps (p + 1)
+    opened : (ps : List Piece)
+        → partText pool cells numbers (termPart k row) p ≡ termOpening pool cells numbers k row p ++ piecesText pool cells numbers ps (p + 1)
         → 1 + piecesSize cells ps ≡ sizeAt cells k row → Printing pool cells numbers (termPart k row) at p out ps r (p + 1) out′
     opened ps e m = record { done = termOpening pool cells numbers k row p; split = e; wrote = w; moved = omega (arith, m) }
 
@@ -148,7 +149,8 @@ module _ {pool cells numbers : List ℕ} {k row at p : ℕ} {out : List ℕ} {r 
 
       -- behind that of an application: its two terms, with a space between
       pub opened-app : {q q′ : ℕ} → code ≡ 34 → q ≡ column cells row 1 → q′ ≡ column cells row 2
-          → Printing pool cells numbers (termPart k row) at p out (part (termPart (k - 1) q) ∷ text space ∷ part (termPart (k - 1) q′) ∷ text close ∷ []) r (p + 1) out′
+          → Printing pool cells numbers (termPart k row) at p out (part (termPart (k - 1) q) ∷ text space ∷ part (termPart (k - 1) q′) ∷ text close ∷ []) r
+          (p + 1) out′
       unfolding partText termOpening labelled piecesText piecesSize size
       opened-app {q} e eq eq′ =
           opened _
@@ -171,7 +173,8 @@ module _ {pool cells numbers : List ℕ} {k row at p : ℕ} {out : List ℕ} {r 
 
       -- behind that of a selection: its term, a space and its label
       pub opened-dot : {q l : ℕ} → code ≡ 36 → q ≡ column cells row 1 → l ≡ column cells row 2
-          → Printing pool cells numbers (termPart k row) at p out (part (termPart (k - 1) q) ∷ text space ∷ text (spellIn pool l) ∷ text close ∷ []) r (p + 1) out′
+          → Printing pool cells numbers (termPart k row) at p out (part (termPart (k - 1) q) ∷ text space ∷ text (spellIn pool l) ∷ text close ∷ []) r
+          (p + 1) out′
       unfolding partText termOpening labelled piecesText piecesSize size
       opened-dot e eq el =
           opened _ (rw (eq, el, rows.dot-row (spellIn pool) cells k row some c e, add-one p) (print-dot _ _))
@@ -205,7 +208,8 @@ module _ {pool cells numbers : List ℕ} {k row at p : ℕ} {out : List ℕ} {r 
     module _ (some : k ≡ 0 → ⊥) {code : ℕ} (c : code ≡ column cells row 0) where
       -- behind that of a field: its term, a space and the fields behind it
       pub opened-cons : {q q′ : ℕ} → code ≡ 38 → q ≡ column cells row 2 → q′ ≡ column cells row 3
-          → Printing pool cells numbers (fieldsPart k row) at p out (part (termPart (k - 1) q) ∷ text space ∷ part (fieldsPart (k - 1) q′) ∷ text close ∷ []) r (p + 1) out′
+          → Printing pool cells numbers (fieldsPart k row) at p out
+          (part (termPart (k - 1) q) ∷ text space ∷ part (fieldsPart (k - 1) q′) ∷ text close ∷ []) r (p + 1) out′
       unfolding partText fieldsOpening labelledFields openingFields piecesText piecesSize sizeFields
       opened-cons {q} e eq eq′ =
           opened-fields _

@@ -20,7 +20,7 @@ unfoldable pub without : ℕ → List Production → List Production
 without n [] = []
 without n (p ∷ g) = elim (eqb (p .owner) n) [ true ↦ without n g | false ↦ p ∷ without n g ]
 
--- add and extend lay the alternatives behind those that are there, update in place of them
+-- add and extend lay the alternatives behind those that are there (001 lays them in front; their order decides nothing), update in place of them
 abbrev pub kept : Mode → ℕ → List Production → List Production
 kept add n g = g
 kept extend n g = g

@@ -27,7 +27,8 @@ pub record LinkedTo (n : ℕ) (cells links : List ℕ) : Type 0 where
   pub some : 0 < length links / 2
   pub room : n ≤ length links / 2
   pub heads : (h : ℕ) → h < length links / 2 → NewestRow cells (length links / 2) h n (getD links h 0)
-  pub nexts : (i : ℕ) → i < n → FirstBinding cells i → NewestRow cells (length links / 2) (column cells i 1 % (length links / 2)) i (getD links (length links / 2 + i) 0)
+  pub nexts : (i : ℕ) → i < n → FirstBinding cells i
+      → NewestRow cells (length links / 2) (column cells i 1 % (length links / 2)) i (getD links (length links / 2 + i) 0)
 
 -- the links lead through the first rows of all names that rows bind
 pub record RowsLinked (cells links : List ℕ) : Type 0 where

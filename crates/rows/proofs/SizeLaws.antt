@@ -70,7 +70,8 @@ module _ (cells : List ℕ) (k row left : ℕ) (some : k ≡ 0 → ⊥) {code : 
 -- ------------------------------------------------------------------ sizes do not depend on spellings
 
 size-by : (c : Constructor) (k : ℕ) (s s′ : ℕ → List ℕ) (cells : List ℕ) (r : ℕ)
-    → ((q : ℕ) → size (termAt k s cells q) ≡ size (termAt k s′ cells q)) → ((q : ℕ) → sizeFields (fieldListAt k s cells q) ≡ sizeFields (fieldListAt k s′ cells q))
+    → ((q : ℕ) → size (termAt k s cells q) ≡ size (termAt k s′ cells q))
+    → ((q : ℕ) → sizeFields (fieldListAt k s cells q) ≡ sizeFields (fieldListAt k s′ cells q))
     → size (termBy c s cells r (λ q. termAt k s cells q) (λ q. fieldListAt k s cells q))
     ≡ size (termBy c s′ cells r (λ q. termAt k s′ cells q) (λ q. fieldListAt k s′ cells q))
 unfolding size sizeFields termBy
@@ -84,7 +85,8 @@ size-by consRow k s s′ cells r t f = refl
 size-by numRow k s s′ cells r t f = refl
 
 size-by-fields : (b : Bool) (k : ℕ) (s s′ : ℕ → List ℕ) (cells : List ℕ) (r : ℕ)
-    → ((q : ℕ) → size (termAt k s cells q) ≡ size (termAt k s′ cells q)) → ((q : ℕ) → sizeFields (fieldListAt k s cells q) ≡ sizeFields (fieldListAt k s′ cells q))
+    → ((q : ℕ) → size (termAt k s cells q) ≡ size (termAt k s′ cells q))
+    → ((q : ℕ) → sizeFields (fieldListAt k s cells q) ≡ sizeFields (fieldListAt k s′ cells q))
     → sizeFields (fieldsBy b s cells r (λ q. termAt k s cells q) (λ q. fieldListAt k s cells q))
     ≡ sizeFields (fieldsBy b s′ cells r (λ q. termAt k s′ cells q) (λ q. fieldListAt k s′ cells q))
 unfolding sizeFields fieldsBy

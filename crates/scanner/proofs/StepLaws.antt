@@ -45,7 +45,8 @@ word-fits rest false l e =
 number-fits : (rest : List ℕ) (b : Bool) → isDigit (getD rest 0 0) ≡ true → leb (valueOf (longestRun isDigit rest)) largest ≡ b
     → Fits rest (numberLexeme (longestRun isDigit rest))
 number-fits rest true d e =
-    let z : numberLexeme (longestRun isDigit rest) ≡ Number (length (longestRun isDigit rest)) (valueOf (longestRun isDigit rest)) = rw (e, numberLexeme) refl in
+    let z : numberLexeme (longestRun isDigit rest) ≡ Number (length (longestRun isDigit rest)) (valueOf (longestRun isDigit rest))
+    = rw (e, numberLexeme) refl in
     subst (Fits rest) (sym z) (d, refl, refl, leb-true (valueOf (longestRun isDigit rest)) largest e)
 number-fits rest false d e =
     let z : numberLexeme (longestRun isDigit rest) ≡ Fault = rw (e, numberLexeme) refl in

@@ -65,7 +65,8 @@ few-words lex formula = go (leb (length formula) longestFormula)
   where
     go : (b : Bool)
         → length
-        ((elim b as (λ x. Lexed) [ true ↦ lexFrom (length formula) lex 0 formula 0 [] | false ↦ scanEnded (Unscanned (refusal 14 0 0 0)) [] ]) .words) ≤ mostTokens
+        ((elim b as (λ x. Lexed) [ true ↦ lexFrom (length formula) lex 0 formula 0 [] | false ↦ scanEnded (Unscanned (refusal 14 0 0 0)) [] ]) .words) ≤
+        mostTokens
     go true = omega (arith, few-from (length formula) lex 0 formula 0 [] (omega arith))
     go false = omega arith
 

@@ -431,5 +431,5 @@ module _ {g : List Production} (X : Setting g) where
       → Parses g spell (X .root) tokens (termAt (s .made) spell cells′ v)
   unfolding run Accepted
   run-sound cells room v s cells′ e =
-      rw e at (ends-after (Root cells) Any Accepted Any (runCall mostOpen I (X .root) [] initialState cells) (ended I) (root-called cells room) (ended-sound cells)
-      (λ r u. u))
+      let root = runCall mostOpen I (X .root) [] initialState cells in
+      rw e at (ends-after (Root cells) Any Accepted Any root (ended I) (root-called cells room) (ended-sound cells) (λ r u. u))

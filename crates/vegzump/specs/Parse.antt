@@ -5,6 +5,7 @@ use mathlib.Core.Path.{_≡_}
 use mathlib.Core.List.{List}
 use lib.ListN.{length}
 use Rattle.answers.specs.declared.Refusal.{Refusal}
+use Rattle.answers.specs.Refusals.{refusal}
 use Rattle.answers.specs.Checked.{Checked, ok, bad}
 use Rattle.grammar.specs.Table.{Table, lexiconOfTable}
 use Rattle.scanner.specs.declared.Scanned.{Scanned}
@@ -55,6 +56,11 @@ abbrev pub outcomeOf : Result ℕ → Outcome
 outcomeOf (done v s cells) = Value v s
 outcomeOf (halt r cells) = Halted r
 
+-- an outcome by document 01's number and values; 0 and the cells made where a value was reached
+abbrev pub numberedOutcome : Outcome → Refusal
+numberedOutcome (Value v s) = refusal 0 (s .made) 0 0
+numberedOutcome (Halted r) = r
+
 abbrev pub cellsAfter : Result ℕ → List ℕ
 cellsAfter (done v s cells) = cells
 cellsAfter (halt r cells) = cells
@@ -87,10 +93,11 @@ pub record Rooms (formula tokens words : List ℕ) : Type 0 where
   pub enough : RoomFor formula tokens words
   pub half : length tokens ≤ length words * 2
 
--- a room for the words of a formula of at most 128 bytes, or of any
+-- a room for the words of a formula of at most 128 bytes, of at most 1,024, or of any
 pub record WordRoom (formula words : List ℕ) : Type 0 where
   pub few : 256 ≤ length words
-  pub all : 128 < length formula → 8192 ≤ length words
+  pub more : 128 < length formula → 2048 ≤ length words
+  pub all : 1024 < length formula → 8192 ≤ length words
 
 -- what a parse after the check asks
 pub record Parseable (bs room formula tokens words : List ℕ) : Type 0 where

@@ -11,7 +11,7 @@ ghost use Rattle.expansion.specs.Outcomes.{ran};
 ghost use Rattle.expansion.specs.Expansion.{run};
 ghost use Rattle.expander.specs.Lent.{lentInput};
 ghost use Rattle.templates.specs.Built.{wholeRows};
-ghost use Rattle.vegzump.specs.Parse.{Runnable, Rooms, WordRoom, Parseable, ParsesInto, ParsesTo, parsedInto, parseInto};
+ghost use Rattle.vegzump.specs.Parse.{Runnable, Rooms, WordRoom, Parseable, ParsesInto, ParsesTo, parsedInto, parseInto, numberedOutcome};
 
 // The outcome of a parse, and how many words the formula has that are neither keywords nor outside names.
 pub struct Parsed {
@@ -54,6 +54,10 @@ fn run_tokens(
     let root = last_byte(table);
     if table.len() <= 1024 {
         let mut stack = [0u32; 1024];
+        return run(table, room, root, tokens, n, cells, &mut stack);
+    }
+    if table.len() <= 4096 {
+        let mut stack = [0u32; 4096];
         return run(table, room, root, tokens, n, cells, &mut stack);
     }
     let mut stack = [0u32; 16384];
@@ -124,8 +128,8 @@ fn known_rooms(tokens: &[u32; 16384], words: &[u32; 8192]) -> usize
     length_of(words)
 }
 
-// Check, scan and run in one, with rooms for all tokens and words that a formula may have. The promise fixes the answer and every lent
-// room. It rules out, among others, a parse that scans under a table that the check refuses, and so changes the rooms, and one that leaves
+// Check, scan and run in one, with rooms for all tokens and words that a formula may have. The first promise fixes the answer and every lent
+// room, the second gives document 01's number and values. They rule out, among others, a parse that scans under a table that the check refuses, and so changes the rooms, and one that leaves
 // the cells of a run that halts as they were.
 pub fn parse(
     table: &[u8],
@@ -136,6 +140,8 @@ pub fn parse(
 ) -> Parsed
     ensures { λ r. ⌜ parsedInto r (now (tokens .exit)) (now (words .exit)) (now (cells .exit)) ≡ parseInto (now (table .entry))
         (now (formula .entry)) (now (tokens .entry)) (now (words .entry)) (now (cells .entry)) ⌝ }
+    ensures { λ r. ⌜ numberedOutcome (r .outcome) ≡ numberedOutcome (parseInto (now (table .entry)) (now (formula .entry))
+        (now (tokens .entry)) (now (words .entry)) (now (cells .entry)) .answer .outcome) ⌝ }
 {
     known_rooms(tokens, words);
     parse_in(table, formula, tokens, words, cells)
@@ -153,6 +159,10 @@ pub(crate) fn parse_by_size(
 {
     if formula.len() <= 128 {
         let mut tokens = [0u32; 512];
+        return parse_in(table, formula, &mut tokens, words, cells);
+    }
+    if formula.len() <= 1024 {
+        let mut tokens = [0u32; 4096];
         return parse_in(table, formula, &mut tokens, words, cells);
     }
     let mut tokens = [0u32; 16384];

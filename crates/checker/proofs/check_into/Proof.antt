@@ -54,23 +54,8 @@ module _ (p : lts.After-build-index claims reads.Pre reads.Post) where
   abbrev after-layout : lts.After-enum-told claims reads.Pre reads.Post
   after-layout = after-sorts .before .before .before
 
-check-layout-requires : tie.Need-check-layout-requires
-check-layout-requires c κs = search needs
-
-enum-known-laid : tie.Need-enum-known-laid
-enum-known-laid c = search needs
-
 returns : tie.Need-returns
 returns c = search (laws.into-layout, sym (c .before .before .before .check-layout .ensures) ∙ c .before .laid .given .1)
-
-enum-told : tie.Need-enum-told
-enum-told c = search needs
-
-check-sorts-requires : tie.Need-check-sorts-requires
-check-sorts-requires c κs = search needs
-
-enum-known-sorted : tie.Need-enum-known-sorted
-enum-known-sorted c = search needs
 
 returns-2 : tie.Need-returns-2
 returns-2 c =
@@ -78,9 +63,6 @@ returns-2 c =
     let r = q .before .before in
     let p = r .before in
     laws.into-sorts (bs p) (bytes p) (laid p) _ (sym (r .check-sorts .ensures) ∙ q .sorted .given .1) _
-
-enum-told-2 : tie.Need-enum-told-2
-enum-told-2 c = search needs
 
 build-index-requires : tie.Need-build-index-requires
 build-index-requires c κs = let p = c .before .before .before .before .before in laws.few (bs p) (bytes p) (laid p)
@@ -102,14 +84,14 @@ pub check-into-spec : {M : Type 1} → statement M
 check-into-spec =
     tie.close
     (tie.spec
-    check-layout-requires
-    enum-known-laid
+    (λ c κs. search needs)
+    (λ c. search needs)
     returns
-    enum-told
-    check-sorts-requires
-    enum-known-sorted
+    (λ c. search needs)
+    (λ c κs. search needs)
+    (λ c. search needs)
     returns-2
-    enum-told-2
+    (λ c. search needs)
     build-index-requires
     check-firsts-requires
     returns-3)

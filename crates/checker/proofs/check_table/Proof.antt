@@ -6,9 +6,6 @@ use borrow.Author.Needs.{needs}
 use Rattle.checker.proofs.check_table.Statement.{statement}
 use Rattle.checker.proofs.check_table.Tie as tie
 
-check-into-requires : tie.Need-check-into-requires
-check-into-requires c κs = search needs
-
 returns : tie.Need-returns
 returns c =
     let p = c .before .before in
@@ -18,4 +15,4 @@ returns c =
 
 -- the function meets its contract
 pub check-table-spec : {M : Type 1} → statement M
-check-table-spec = tie.close (tie.spec check-into-requires returns)
+check-table-spec = tie.close (tie.spec (λ c κs. search needs) returns)

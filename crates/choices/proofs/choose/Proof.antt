@@ -10,26 +10,8 @@ returns c =
     λ bs h m.
     record { place-is = laws.chosen-outside h _ _ (c .if1 .taken); memory-is = m }
 
-search-requires : tie.Need-search-requires
-search-requires c κs = search needs
-
 returns-2 : tie.Need-returns-2
 returns-2 c = λ bs h m. record { place-is = c .search .ensures bs h; memory-is = m }
-
-mul-at : tie.Need-mul-at
-mul-at c = search needs
-
-add-at : tie.Need-add-at
-add-at c = search needs
-
-element-copy-out-wide-byte : tie.Need-element-copy-out-wide-byte
-element-copy-out-wide-byte c = search needs
-
-wide-byte-requires : tie.Need-wide-byte-requires
-wide-byte-requires c κs = search needs
-
-sub-result : tie.Need-sub-result
-sub-result c = search needs
 
 returns-3 : tie.Need-returns-3
 returns-3 c =
@@ -39,18 +21,6 @@ returns-3 c =
       place-is = laws.remembered m (at-place .before .if1 .left) (omega (arith, at-place .if2 .left)) (c .before .wide-byte .ensures) (c .if3 .taken);
       memory-is = m;
     }
-
-search-requires-2 : tie.Need-search-requires-2
-search-requires-2 c κs = search needs
-
-cast-memory : tie.Need-cast-memory
-cast-memory c = search needs
-
-add-memory : tie.Need-add-memory
-add-memory c = search needs
-
-element-write-memory : tie.Need-element-write-memory
-element-write-memory c = search needs
 
 returns-4 : tie.Need-returns-4
 returns-4 c =
@@ -71,17 +41,17 @@ choose-spec =
     tie.close
     (tie.spec
     returns
-    search-requires
+    (λ c κs. search needs)
     returns-2
-    mul-at
-    add-at
-    element-copy-out-wide-byte
-    wide-byte-requires
-    sub-result
+    (λ c. search needs)
+    (λ c. search needs)
+    (λ c. search needs)
+    (λ c κs. search needs)
+    (λ c. search needs)
     returns-3
-    search-requires-2
-    cast-memory
-    add-memory
-    element-write-memory
+    (λ c κs. search needs)
+    (λ c. search needs)
+    (λ c. search needs)
+    (λ c. search needs)
     returns-4
     returns-5)

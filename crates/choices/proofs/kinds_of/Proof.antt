@@ -5,9 +5,6 @@ use Rattle.choices.proofs.ChoiceLaws as laws
 use Rattle.choices.proofs.kinds_of.Statement.{statement}
 use Rattle.choices.proofs.kinds_of.Tie as tie
 
-first-set-requires : tie.Need-first-set-requires
-first-set-requires c κs = search needs
-
 returns : tie.Need-returns
 returns c = λ bs h. c .first-set .ensures ∙ laws.set-inside h _ (c .before .if1 .taken)
 
@@ -16,4 +13,4 @@ returns-2 c = λ bs h. laws.set-outside h _ (c .if1 .left)
 
 -- the function meets its contract
 pub kinds-of-spec : {M : Type 1} → statement M
-kinds-of-spec = tie.close (tie.spec first-set-requires returns returns-2)
+kinds-of-spec = tie.close (tie.spec (λ c κs. search needs) returns returns-2)

@@ -18,17 +18,8 @@ Inv-loop room n kind j₀ j = (bs : List ℕ) → Held bs room → laws.Walking 
 abbrev μ-loop : tie.MeasureT-loop
 μ-loop room n kind j₀ j = 256 - j
 
-first-place-requires : tie.Need-first-place-requires Inv-loop μ-loop
-first-place-requires c κs = search needs
-
 loop-holds : tie.Need-loop-holds Inv-loop μ-loop
 loop-holds c = λ bs h. laws.walk-start h (c .before .pre .1) (c .before .args .kind) (c .first-place .ensures)
-
-first-requires : tie.Need-first-requires Inv-loop μ-loop
-first-requires c κs = search needs
-
-has-kind-requires : tie.Need-has-kind-requires Inv-loop μ-loop
-has-kind-requires c κs = search needs
 
 -- after a test
 module _ (p : tie.After-has-kind Inv-loop μ-loop) where
@@ -52,9 +43,6 @@ module _ (p : tie.After-has-kind Inv-loop μ-loop) where
 
 returns : tie.Need-returns Inv-loop μ-loop
 returns c = λ bs h. found (c .before) h (c .if1 .taken)
-
-next-place-requires : tie.Need-next-place-requires Inv-loop μ-loop
-next-place-requires c κs = search needs
 
 loop-less : tie.Need-loop-less Inv-loop μ-loop
 loop-less c =
@@ -81,12 +69,12 @@ opened-spec =
     (tie.spec
     Inv-loop
     μ-loop
-    first-place-requires
+    (λ c κs. search needs)
     loop-holds
-    first-requires
-    has-kind-requires
+    (λ c κs. search needs)
+    (λ c κs. search needs)
     returns
-    next-place-requires
+    (λ c κs. search needs)
     loop-less
     loop-again
     returns-2)

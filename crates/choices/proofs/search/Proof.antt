@@ -7,17 +7,11 @@ use Rattle.choices.proofs.search.Tie as tie
 returns : tie.Need-returns
 returns c = λ bs h. laws.chosen-outside h _ _ (c .if1 .taken)
 
-opened-requires : tie.Need-opened-requires
-opened-requires c κs = search needs
-
 returns-2 : tie.Need-returns-2
 returns-2 c =
     λ bs h.
     let entry-place = c .before .before .before in
     laws.place-opened h (c .before .before .if1 .left) (entry-place .args .kind) (c .before .opened .ensures bs h) (c .if2 .taken)
-
-nullable-place-requires : tie.Need-nullable-place-requires
-nullable-place-requires c κs = search needs
 
 returns-3 : tie.Need-returns-3
 returns-3 c =
@@ -30,4 +24,4 @@ returns-3 c =
 -- the function meets its contract
 pub search-spec : {M : Type 1} → statement M
 search-spec =
-    tie.close (tie.spec returns opened-requires returns-2 nullable-place-requires returns-3)
+    tie.close (tie.spec returns (λ c κs. search needs) returns-2 (λ c κs. search needs) returns-3)

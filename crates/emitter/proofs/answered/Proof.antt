@@ -5,9 +5,6 @@ use Rattle.emitter.proofs.EmitterLaws as laws
 use Rattle.emitter.proofs.answered.Statement.{statement}
 use Rattle.emitter.proofs.answered.Tie as tie
 
-refusing-requires : tie.Need-refusing-requires
-refusing-requires c κs = search needs
-
 returns : tie.Need-returns
 returns c = c .refusing .ensures ∙ laws.answer-long _ _ _ _ (c .before .if1 .taken)
 
@@ -16,4 +13,4 @@ returns-2 c = laws.answer-whole _ _ _ _ (c .if1 .left)
 
 -- the function meets its contract
 pub answered-spec : {M : Type 1} → statement M
-answered-spec = tie.close (tie.spec refusing-requires returns returns-2)
+answered-spec = tie.close (tie.spec (λ c κs. search needs) returns returns-2)

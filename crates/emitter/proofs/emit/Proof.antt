@@ -9,20 +9,11 @@ use borrow.Author.Needs.{needs}
 use Rattle.emitter.proofs.emit.Statement.{statement}
 use Rattle.emitter.proofs.emit.Tie as tie
 
-size-term-requires : tie.Need-size-term-requires
-size-term-requires c κs = search needs
-
-refusing-requires : tie.Need-refusing-requires
-refusing-requires c κs = search needs
-
 returns : tie.Need-returns
 returns c = laws.emit-large _ _ _ _ _ (omega (arith, c .before .before .size-term .ensures, c .before .if1 .taken)) (c .refusing .ensures)
 
 sub-size : tie.Need-sub-size
 sub-size c = omega (arith, c .before .size-term .ensures)
-
-array-borrow-prefix-marks : tie.Need-array-borrow-prefix-marks
-array-borrow-prefix-marks c = search needs
 
 slice-aggregate-room : tie.Need-slice-aggregate-room
 slice-aggregate-room c =
@@ -37,15 +28,6 @@ emit-in-requires c κs =
     laws.markable 256 (entry .pre) (sized .size-term .ensures) (c .before .before .before .before .if1 .left)
     (omega (arith, sized .size-term .ensures, c .before .before .before .if2 .taken, c .before .before .before .before .if1 .left))
 
-same-length : tie.Need-same-length
-same-length c = search needs
-
-returns-2 : tie.Need-returns-2
-returns-2 c = search needs
-
-array-borrow-prefix-marks-2 : tie.Need-array-borrow-prefix-marks-2
-array-borrow-prefix-marks-2 c = search needs
-
 slice-aggregate-room-2 : tie.Need-slice-aggregate-room-2
 slice-aggregate-room-2 c =
     let counted = c .before .before .before .size-term .ensures in
@@ -59,28 +41,22 @@ emit-in-requires-2 c κs =
     laws.markable 16384 (entry .pre) (sized .size-term .ensures) (c .before .before .before .before .if1 .left)
     (omega (arith, sized .size-term .ensures, c .before .before .before .if2 .left, c .before .before .before .before .if1 .left))
 
-same-length-2 : tie.Need-same-length-2
-same-length-2 c = search needs
-
-returns-3 : tie.Need-returns-3
-returns-3 c = search needs
-
 -- the function meets its contract
 pub emit-spec : {M : Type 1} → statement M
 emit-spec =
     tie.close
     (tie.spec
-    size-term-requires
-    refusing-requires
+    (λ c κs. search needs)
+    (λ c κs. search needs)
     returns
     sub-size
-    array-borrow-prefix-marks
+    (λ c. search needs)
     slice-aggregate-room
     emit-in-requires
-    same-length
-    returns-2
-    array-borrow-prefix-marks-2
+    (λ c. search needs)
+    (λ c. search needs)
+    (λ c. search needs)
     slice-aggregate-room-2
     emit-in-requires-2
-    same-length-2
-    returns-3)
+    (λ c. search needs)
+    (λ c. search needs))

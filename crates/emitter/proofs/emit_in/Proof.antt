@@ -10,18 +10,6 @@ resolve-requires c κs =
     let pre = c .before .before .before .before .before .before .pre in
     record { whole = pre .emittable .whole; counted = pre .counted; few = pre .few; blank = pre .blank }
 
-enum-known-resolution : tie.Need-enum-known-resolution
-enum-known-resolution c = search needs
-
-refusing-requires : tie.Need-refusing-requires
-refusing-requires c κs = search needs
-
-enum-told : tie.Need-enum-told
-enum-told c = search needs
-
-slice-aggregate-print-marked : tie.Need-slice-aggregate-print-marked
-slice-aggregate-print-marked c = search needs
-
 print-marked-requires : tie.Need-print-marked-requires
 print-marked-requires c κs =
     let resolved = c .before .before .before .before in
@@ -38,9 +26,6 @@ print-marked-requires c κs =
       small = omega (arith, pre .few, long);
     }
 
-answered-requires : tie.Need-answered-requires
-answered-requires c κs = search needs
-
 returns : tie.Need-returns
 returns c =
     let resolved = c .before .before .before .before in
@@ -48,9 +33,6 @@ returns c =
     let pre = back .before .pre in
     laws.emit-loose _ _ _ _ _ (omega (arith, pre .counted, pre .few))
     (resolved .resolve .ensures .0 _ (pre .emittable .distinct) (pre .emittable .wellNamed)) (c .before .before .resolution .given .1) (c .refusing .ensures)
-
-same-length : tie.Need-same-length
-same-length c = search needs
 
 returns-2 : tie.Need-returns-2
 returns-2 c =
@@ -68,12 +50,12 @@ emit-in-spec =
     tie.close
     (tie.spec
     resolve-requires
-    enum-known-resolution
-    refusing-requires
-    enum-told
-    slice-aggregate-print-marked
+    (λ c. search needs)
+    (λ c κs. search needs)
+    (λ c. search needs)
+    (λ c. search needs)
     print-marked-requires
-    answered-requires
+    (λ c κs. search needs)
     returns
-    same-length
+    (λ c. search needs)
     returns-2)

@@ -13,32 +13,8 @@ abbrev μ-loop : tie.MeasureT-loop
 μ-loop frames level base vars₀ i₀ vars i =
     16 - i
 
-mul-base : tie.Need-mul-base Inv-loop μ-loop
-mul-base c = search needs
-
 loop-holds : tie.Need-loop-holds Inv-loop μ-loop
 loop-holds c = laws.loading-start _ _
-
-add-vars : tie.Need-add-vars Inv-loop μ-loop
-add-vars c = search needs
-
-mul-vars : tie.Need-mul-vars Inv-loop μ-loop
-mul-vars c = search needs
-
-shared-slice-read-vars : tie.Need-shared-slice-read-vars Inv-loop μ-loop
-shared-slice-read-vars c = search needs
-
-mul-vars-2 : tie.Need-mul-vars-2 Inv-loop μ-loop
-mul-vars-2 c = search needs
-
-array-write-vars : tie.Need-array-write-vars Inv-loop μ-loop
-array-write-vars c = search needs
-
-add-i : tie.Need-add-i Inv-loop μ-loop
-add-i c = search needs
-
-loop-less : tie.Need-loop-less Inv-loop μ-loop
-loop-less c = search needs
 
 loop-again : tie.Need-loop-again Inv-loop μ-loop
 loop-again c = search laws.loading-next
@@ -53,14 +29,14 @@ load-spec =
     (tie.spec
     Inv-loop
     μ-loop
-    mul-base
+    (λ c. search needs)
     loop-holds
-    add-vars
-    mul-vars
-    shared-slice-read-vars
-    mul-vars-2
-    array-write-vars
-    add-i
-    loop-less
+    (λ c. search needs)
+    (λ c. search needs)
+    (λ c. search needs)
+    (λ c. search needs)
+    (λ c. search needs)
+    (λ c. search needs)
+    (λ c. search needs)
     loop-again
     returns)

@@ -34,23 +34,11 @@ module _ (p : tie.After-known-told Inv-loop μ-loop) where
 loop-holds : tie.Need-loop-holds Inv-loop μ-loop
 loop-holds c = record { rest = refl }
 
-front-at-requires : tie.Need-front-at-requires Inv-loop μ-loop
-front-at-requires c κs = search needs
-
-enum-told : tie.Need-enum-told Inv-loop μ-loop
-enum-told c = search needs
-
 returns : tie.Need-returns Inv-loop μ-loop
 returns c = search (laws.passing-out, Nothing, sym (c .enum-told .given .1) ∙ c .before .before .front-at .ensures)
 
-enum-told-2 : tie.Need-enum-told-2 Inv-loop μ-loop
-enum-told-2 c = search needs
-
 returns-2 : tie.Need-returns-2 Inv-loop μ-loop
 returns-2 c = search (laws.passing-out, Short, sym (c .enum-told2 .given .1) ∙ c .before .before .front-at .ensures)
-
-enum-known-front : tie.Need-enum-known-front Inv-loop μ-loop
-enum-known-front c = search needs
 
 returns-3 : tie.Need-returns-3 Inv-loop μ-loop
 returns-3 c = cc (laws.passing-out (turn (c .before) .loop .inv) (Field _ _) (stands (c .before)) (c .if1 .taken))
@@ -60,9 +48,6 @@ add-at c = omega (arith, inside (c .before))
 
 add-at-2 : tie.Need-add-at-2 Inv-loop μ-loop
 add-at-2 c = omega (arith, inside (c .before))
-
-loop-less : tie.Need-loop-less Inv-loop μ-loop
-loop-less c = search needs
 
 loop-again : tie.Need-loop-again Inv-loop μ-loop
 loop-again c = search (laws.passing-next, stands (c .before))
@@ -78,15 +63,15 @@ after-leading-spec =
     Inv-loop
     μ-loop
     loop-holds
-    front-at-requires
-    enum-told
+    (λ c κs. search needs)
+    (λ c. search needs)
     returns
-    enum-told-2
+    (λ c. search needs)
     returns-2
-    enum-known-front
+    (λ c. search needs)
     returns-3
     add-at
     add-at-2
-    loop-less
+    (λ c. search needs)
     loop-again
     returns-4)

@@ -34,23 +34,11 @@ module _ (p : tie.After-known-told Inv-loop μ-loop) where
 loop-holds : tie.Need-loop-holds Inv-loop μ-loop
 loop-holds c = laws.searching-start _ _ _ _ _
 
-front-at-requires : tie.Need-front-at-requires Inv-loop μ-loop
-front-at-requires c κs = search needs
-
-enum-told : tie.Need-enum-told Inv-loop μ-loop
-enum-told c = search needs
-
 returns : tie.Need-returns Inv-loop μ-loop
 returns c = search (laws.searching-out, Nothing, sym (c .enum-told .given .1) ∙ c .before .before .front-at .ensures)
 
-enum-told-2 : tie.Need-enum-told-2 Inv-loop μ-loop
-enum-told-2 c = search needs
-
 returns-2 : tie.Need-returns-2 Inv-loop μ-loop
 returns-2 c = search (laws.searching-out, Short, sym (c .enum-told2 .given .1) ∙ c .before .before .front-at .ensures)
-
-enum-known-front : tie.Need-enum-known-front Inv-loop μ-loop
-enum-known-front c = search needs
 
 returns-3 : tie.Need-returns-3 Inv-loop μ-loop
 returns-3 c = cc (laws.searching-out (turn (c .before) .loop .inv) (Field _ _) (stands (c .before)) (c .if1 .taken))
@@ -61,28 +49,13 @@ add-from c = omega (arith, inside (c .before))
 add-to : tie.Need-add-to Inv-loop μ-loop
 add-to c = omega (arith, inside (c .before))
 
-sub-equal : tie.Need-sub-equal Inv-loop μ-loop
-sub-equal c = search needs
-
-part-equal-start : tie.Need-part-equal-start Inv-loop μ-loop
-part-equal-start c = search needs
-
 part-equal-end : tie.Need-part-equal-end Inv-loop μ-loop
 part-equal-end c = omega (arith, inside (c .before))
-
-equal-requires : tie.Need-equal-requires Inv-loop μ-loop
-equal-requires c κs = search needs
 
 returns-4 : tie.Need-returns-4 Inv-loop μ-loop
 returns-4 c =
     let p = c .before in
     search (laws.searching-found, stands (p .before .before .before), sym (p .equal .ensures) ∙ c .if2 .taken)
-
-add-i : tie.Need-add-i Inv-loop μ-loop
-add-i c = search needs
-
-loop-less : tie.Need-loop-less Inv-loop μ-loop
-loop-less c = search needs
 
 loop-again : tie.Need-loop-again Inv-loop μ-loop
 loop-again c =
@@ -100,21 +73,21 @@ find-leading-spec =
     Inv-loop
     μ-loop
     loop-holds
-    front-at-requires
-    enum-told
+    (λ c κs. search needs)
+    (λ c. search needs)
     returns
-    enum-told-2
+    (λ c. search needs)
     returns-2
-    enum-known-front
+    (λ c. search needs)
     returns-3
     add-from
     add-to
-    sub-equal
-    part-equal-start
+    (λ c. search needs)
+    (λ c. search needs)
     part-equal-end
-    equal-requires
+    (λ c κs. search needs)
     returns-4
-    add-i
-    loop-less
+    (λ c. search needs)
+    (λ c. search needs)
     loop-again
     returns-5)

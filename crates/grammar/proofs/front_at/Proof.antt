@@ -10,35 +10,14 @@ use Rattle.grammar.proofs.front_at.Tie as tie
 returns : tie.Need-returns
 returns c = sym (laws.front-nothing _ _ (c .if1 .taken))
 
-sub-left : tie.Need-sub-left
-sub-left c = search needs
-
 returns-2 : tie.Need-returns-2
 returns-2 c = search laws.front-short
-
-add-wide-byte : tie.Need-add-wide-byte
-add-wide-byte c = search needs
-
-shared-slice-read-wide-byte : tie.Need-shared-slice-read-wide-byte
-shared-slice-read-wide-byte c = search needs
-
-wide-byte-requires : tie.Need-wide-byte-requires
-wide-byte-requires c κs = search needs
 
 mul-size : tie.Need-mul-size
 mul-size c =
     let p = c .before in
     let q = p .before .before .before .before in
     omega (arith, c .wide-byte .ensures, p .shared-slice-known2 .given (q .args .at + 1))
-
-add-wide-byte-2 : tie.Need-add-wide-byte-2
-add-wide-byte-2 c = search needs
-
-shared-slice-read-wide-byte-2 : tie.Need-shared-slice-read-wide-byte-2
-shared-slice-read-wide-byte-2 c = search needs
-
-wide-byte-requires-2 : tie.Need-wide-byte-requires-2
-wide-byte-requires-2 c κs = search needs
 
 add-size : tie.Need-add-size
 add-size c =
@@ -51,9 +30,6 @@ returns-3 c =
     let p = c .before in
     let q = p .before .before in
     sym (laws.front-cut _ _ (q .before .before .before .if1 .left) (omega (arith, p .wide-byte2 .ensures, q .wide-byte .ensures, c .if3 .taken)))
-
-shared-slice-read-t14 : tie.Need-shared-slice-read-t14
-shared-slice-read-t14 c = search needs
 
 returns-4 : tie.Need-returns-4
 returns-4 c =
@@ -69,16 +45,16 @@ front-at-spec =
     tie.close
     (tie.spec
     returns
-    sub-left
+    (λ c. search needs)
     returns-2
-    add-wide-byte
-    shared-slice-read-wide-byte
-    wide-byte-requires
+    (λ c. search needs)
+    (λ c. search needs)
+    (λ c κs. search needs)
     mul-size
-    add-wide-byte-2
-    shared-slice-read-wide-byte-2
-    wide-byte-requires-2
+    (λ c. search needs)
+    (λ c. search needs)
+    (λ c κs. search needs)
     add-size
     returns-3
-    shared-slice-read-t14
+    (λ c. search needs)
     returns-4)

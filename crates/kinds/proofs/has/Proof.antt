@@ -8,9 +8,6 @@ use borrow.Author.Needs.{needs}
 use Rattle.kinds.proofs.has.Statement.{statement}
 use Rattle.kinds.proofs.has.Tie as tie
 
-shr-result : tie.Need-shr-result
-shr-result c = search needs
-
 returns : tie.Need-returns
 unfolding hasKind
 returns c =
@@ -24,4 +21,4 @@ returns-2 c =
 
 -- the function meets its contract
 pub has-spec : {M : Type 1} → statement M
-has-spec = tie.close (tie.spec shr-result returns returns-2)
+has-spec = tie.close (tie.spec (λ c. search needs) returns returns-2)

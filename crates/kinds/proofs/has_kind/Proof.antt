@@ -5,15 +5,6 @@ use borrow.Author.Needs.{needs}
 use Rattle.kinds.proofs.has_kind.Statement.{statement}
 use Rattle.kinds.proofs.has_kind.Tie as tie
 
-cast-has : tie.Need-cast-has
-cast-has c = search needs
-
-has-requires : tie.Need-has-requires
-has-requires c κs = search needs
-
-returns : tie.Need-returns
-returns c = search needs
-
 returns-2 : tie.Need-returns-2
 returns-2 c =
     let start = c .before in
@@ -21,4 +12,4 @@ returns-2 c =
 
 -- the function meets its contract
 pub has-kind-spec : {M : Type 1} → statement M
-has-kind-spec = tie.close (tie.spec cast-has has-requires returns returns-2)
+has-kind-spec = tie.close (tie.spec (λ c. search needs) (λ c κs. search needs) (λ c. search needs) returns-2)

@@ -8,9 +8,6 @@ use borrow.Author.Needs.{needs}
 use Rattle.kinds.proofs.only.Statement.{statement}
 use Rattle.kinds.proofs.only.Tie as tie
 
-shl-result : tie.Need-shl-result
-shl-result c = search needs
-
 returns : tie.Need-returns
 returns c =
     let k = c .before .args .k in
@@ -21,4 +18,4 @@ returns-2 c = sym (only-none (c .before .args .k) (c .if1 .left))
 
 -- the function meets its contract
 pub only-spec : {M : Type 1} → statement M
-only-spec = tie.close (tie.spec shl-result returns returns-2)
+only-spec = tie.close (tie.spec (λ c. search needs) returns returns-2)

@@ -33,32 +33,14 @@ next :
     laws.Due (a .v .now) (a .from) (a .single) (c .before .less-one .result + c .argument-count .result) (turn p .loop .i + size p)
 next c = search laws.due-next
 
-one-if-requires : tie.Need-one-if-requires Inv-loop μ-loop
-one-if-requires c κs = search needs
-
-cast-due : tie.Need-cast-due Inv-loop μ-loop
-cast-due c = search needs
-
 loop-holds : tie.Need-loop-holds Inv-loop μ-loop
 loop-holds c = laws.due-start _ _ _ _ (c .one-if .ensures)
-
-shared-slice-read-b : tie.Need-shared-slice-read-b Inv-loop μ-loop
-shared-slice-read-b c = search needs
-
-head-size-requires : tie.Need-head-size-requires Inv-loop μ-loop
-head-size-requires c κs = search needs
 
 sub-if1 : tie.Need-sub-if1 Inv-loop μ-loop
 sub-if1 c = omega arith
 
 returns : tie.Need-returns Inv-loop μ-loop
 returns c = search laws.due-stop
-
-less-one-requires : tie.Need-less-one-requires Inv-loop μ-loop
-less-one-requires c κs = search needs
-
-argument-count-requires : tie.Need-argument-count-requires Inv-loop μ-loop
-argument-count-requires c κs = search needs
 
 add-due : tie.Need-add-due Inv-loop μ-loop
 add-due c = omega (arith, room (c .before .before), next c .small)
@@ -82,15 +64,15 @@ are-templates-spec =
     (tie.spec
     Inv-loop
     μ-loop
-    one-if-requires
-    cast-due
+    (λ c κs. search needs)
+    (λ c. search needs)
     loop-holds
-    shared-slice-read-b
-    head-size-requires
+    (λ c. search needs)
+    (λ c κs. search needs)
     sub-if1
     returns
-    less-one-requires
-    argument-count-requires
+    (λ c κs. search needs)
+    (λ c κs. search needs)
     add-due
     add-i
     loop-less

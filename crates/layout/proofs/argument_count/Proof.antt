@@ -5,9 +5,6 @@ use borrow.Author.Needs.{needs}
 use Rattle.layout.proofs.argument_count.Statement.{statement}
 use Rattle.layout.proofs.argument_count.Tie as tie
 
-arity-of-requires : tie.Need-arity-of-requires
-arity-of-requires c κs = search needs
-
 returns : tie.Need-returns
 returns c = search laws.arguments-constructor
 
@@ -16,4 +13,4 @@ returns-2 c = sym (laws.arguments-other _ (c .if1 .left))
 
 -- the function meets its contract
 pub argument-count-spec : {M : Type 1} → statement M
-argument-count-spec = tie.close (tie.spec arity-of-requires returns returns-2)
+argument-count-spec = tie.close (tie.spec (λ c κs. search needs) returns returns-2)

@@ -42,21 +42,9 @@ spelled c = laws.passes (spelling (c .before)) (c .if3 .left)
 room : (c : tie.Else4) → let a = start (second (third (fourth c))) .args in hasRoom (a .tag) (a .s) ≡ true
 room c = laws.passes (c .before .has-room .ensures) (c .if4 .left)
 
-is-known-requires : tie.Need-is-known-requires
-is-known-requires c κs = search needs
-
-stopped-requires : tie.Need-stopped-requires
-stopped-requires c κs = search needs
-
 returns : tie.Need-returns
 returns c = cc (ap checking (laws.field-by _ _ _ _ _ false _ _ _ _
     (laws.fails (c .before .before .is-known .ensures) (c .before .if1 .taken)) refl refl refl refl))
-
-may-follow-requires : tie.Need-may-follow-requires
-may-follow-requires c κs = search needs
-
-stopped-requires-2 : tie.Need-stopped-requires-2
-stopped-requires-2 c κs = search needs
 
 returns-2 : tie.Need-returns-2
 returns-2 c =
@@ -64,12 +52,6 @@ returns-2 c =
     let q = p .before in
     c .stopped2 .ensures
     ∙ sym (ap checking (laws.field-by _ _ _ _ _ true false _ _ _ (known (q .before)) (laws.fails (q .may-follow .ensures) (p .if2 .taken)) refl refl refl))
-
-is-spelled-requires : tie.Need-is-spelled-requires
-is-spelled-requires c κs = search needs
-
-stopped-requires-3 : tie.Need-stopped-requires-3
-stopped-requires-3 c κs = search needs
 
 returns-3 : tie.Need-returns-3
 returns-3 c =
@@ -79,24 +61,12 @@ returns-3 c =
     c .stopped3 .ensures
     ∙ sym (ap checking (laws.field-by _ _ _ _ _ true true false _ _ (known (second r)) (ordered r) (laws.fails (spelling q) (p .if3 .taken)) refl refl))
 
-has-room-requires : tie.Need-has-room-requires
-has-room-requires c κs = search needs
-
-stopped-requires-4 : tie.Need-stopped-requires-4
-stopped-requires-4 c κs = search needs
-
 returns-4 : tie.Need-returns-4
 returns-4 c =
     let q = c .before .before in
     let p = q .before in
     cc (ap checking (laws.field-by _ _ _ _ _ true true true false _ (known (second (third p))) (ordered (third p)) (spelled p)
     (laws.fails (q .has-room .ensures) (c .before .if4 .taken)) refl))
-
-is-whole-requires : tie.Need-is-whole-requires
-is-whole-requires c κs = search needs
-
-stopped-requires-5 : tie.Need-stopped-requires-5
-stopped-requires-5 c κs = search needs
 
 returns-5 : tie.Need-returns-5
 returns-5 c =
@@ -122,20 +92,20 @@ pub check-field-spec : {M : Type 1} → statement M
 check-field-spec =
     tie.close
     (tie.spec
-    is-known-requires
-    stopped-requires
+    (λ c κs. search needs)
+    (λ c κs. search needs)
     returns
-    may-follow-requires
-    stopped-requires-2
+    (λ c κs. search needs)
+    (λ c κs. search needs)
     returns-2
-    is-spelled-requires
-    stopped-requires-3
+    (λ c κs. search needs)
+    (λ c κs. search needs)
     returns-3
-    has-room-requires
-    stopped-requires-4
+    (λ c κs. search needs)
+    (λ c κs. search needs)
     returns-4
-    is-whole-requires
-    stopped-requires-5
+    (λ c κs. search needs)
+    (λ c κs. search needs)
     returns-5
     further-requires
     returns-6)

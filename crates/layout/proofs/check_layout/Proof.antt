@@ -77,26 +77,11 @@ further :
     ≡ checking (checkField (fieldsBefore (table p) (at p)) (at p) (tag p) (lent p) (turn p .loop .s))
 further q = sym (q .before .checked2 .given .1) ∙ accepted q .check-field .ensures
 
-refused-requires : tie.Need-refused-requires Inv-loop μ-loop
-refused-requires c κs = search needs
-
 returns : tie.Need-returns Inv-loop μ-loop
 returns c = cc (laws.layout-long _ (c .before .if1 .taken))
 
-nothing-read-requires : tie.Need-nothing-read-requires Inv-loop μ-loop
-nothing-read-requires c κs = search needs
-
 loop-holds : tie.Need-loop-holds Inv-loop μ-loop
 loop-holds c = (laws.turn-start (c .nothing-read .ensures), remembered-start (c .nothing-read .ensures))
-
-front-at-requires : tie.Need-front-at-requires Inv-loop μ-loop
-front-at-requires c κs = search needs
-
-enum-told : tie.Need-enum-told Inv-loop μ-loop
-enum-told c = search needs
-
-check-end-requires : tie.Need-check-end-requires Inv-loop μ-loop
-check-end-requires c κs = search needs
 
 returns-2 : tie.Need-returns-2 Inv-loop μ-loop
 returns-2 c =
@@ -106,12 +91,6 @@ returns-2 c =
     c .check-end .ensures
     ∙ laws.turn-end (p .loop .inv .0) (p .before .before .if1 .left) (sym (q .enum-told .given .1) ∙ r .front-at .ensures)
 
-enum-told-2 : tie.Need-enum-told-2 Inv-loop μ-loop
-enum-told-2 c = search needs
-
-refused-requires-2 : tie.Need-refused-requires-2 Inv-loop μ-loop
-refused-requires-2 c κs = search needs
-
 returns-3 : tie.Need-returns-3 Inv-loop μ-loop
 returns-3 c =
     let q = c .before in
@@ -120,32 +99,14 @@ returns-3 c =
     c .refused2 .ensures
     ∙ laws.turn-cut (p .loop .inv .0) (p .before .before .if1 .left) (sym (q .enum-told2 .given .1) ∙ r .front-at .ensures)
 
-enum-known-front : tie.Need-enum-known-front Inv-loop μ-loop
-enum-known-front c = search needs
-
 add-from : tie.Need-add-from Inv-loop μ-loop
 add-from c = omega (arith, inside c)
 
 add-to : tie.Need-add-to Inv-loop μ-loop
 add-to c = omega (arith, inside c)
 
-sub-v : tie.Need-sub-v Inv-loop μ-loop
-sub-v c = search needs
-
-part-v-start : tie.Need-part-v-start Inv-loop μ-loop
-part-v-start c = search needs
-
 part-v-end : tie.Need-part-v-end Inv-loop μ-loop
 part-v-end c = omega (arith, inside c)
-
-spelling-hash-requires : tie.Need-spelling-hash-requires Inv-loop μ-loop
-spelling-hash-requires c κs = search needs
-
-check-field-requires : tie.Need-check-field-requires Inv-loop μ-loop
-check-field-requires c κs = search needs
-
-enum-known-checked : tie.Need-enum-known-checked Inv-loop μ-loop
-enum-known-checked c = search needs
 
 returns-4 : tie.Need-returns-4 Inv-loop μ-loop
 returns-4 c =
@@ -153,12 +114,6 @@ returns-4 c =
     let p = q .before .before in
     laws.turn-stopped (turn (field p) .loop .inv .0) (stands (field p)) (turn (field p) .before .before .if1 .left)
     (sym (q .checked .given .1) ∙ p .check-field .ensures)
-
-enum-known-checked-2 : tie.Need-enum-known-checked-2 Inv-loop μ-loop
-enum-known-checked-2 c = search needs
-
-cast-enter : tie.Need-cast-enter Inv-loop μ-loop
-cast-enter c = search needs
 
 enter-requires : tie.Need-enter-requires Inv-loop μ-loop
 enter-requires c κs =
@@ -170,9 +125,6 @@ enter-requires c κs =
       near = place p;
       short = small p;
     }
-
-cast-enter-2 : tie.Need-cast-enter-2 Inv-loop μ-loop
-cast-enter-2 c = search needs
 
 enter-requires-2 : tie.Need-enter-requires-2 Inv-loop μ-loop
 enter-requires-2 c κs =
@@ -204,31 +156,31 @@ check-layout-spec =
     (tie.spec
     Inv-loop
     μ-loop
-    refused-requires
+    (λ c κs. search needs)
     returns
-    nothing-read-requires
+    (λ c κs. search needs)
     loop-holds
-    front-at-requires
-    enum-told
-    check-end-requires
+    (λ c κs. search needs)
+    (λ c. search needs)
+    (λ c κs. search needs)
     returns-2
-    enum-told-2
-    refused-requires-2
+    (λ c. search needs)
+    (λ c κs. search needs)
     returns-3
-    enum-known-front
+    (λ c. search needs)
     add-from
     add-to
-    sub-v
-    part-v-start
+    (λ c. search needs)
+    (λ c. search needs)
     part-v-end
-    spelling-hash-requires
-    check-field-requires
-    enum-known-checked
+    (λ c κs. search needs)
+    (λ c κs. search needs)
+    (λ c. search needs)
     returns-4
-    enum-known-checked-2
-    cast-enter
+    (λ c. search needs)
+    (λ c. search needs)
     enter-requires
-    cast-enter-2
+    (λ c. search needs)
     enter-requires-2
     loop-less
     loop-again)

@@ -22,17 +22,11 @@ second p = p .before .before
 abbrev third : tie.After-one-if4 → tie.After-one-if3
 third p = p .before .before
 
-one-if-requires : tie.Need-one-if-requires
-one-if-requires c κs = search needs
-
 add-t5 : tie.Need-add-t5
 add-t5 c =
     let p = c .before in
     let q = p .before in
     laws.fitting _ (most .keywords) (eqb (q .args .tag) 1) (laws.room-of _ _ (q .pre) .keywords) (lit< tt) (omega arith) (p .one-if .ensures)
-
-one-if-requires-2 : tie.Need-one-if-requires-2
-one-if-requires-2 c κs = search needs
 
 add-t8 : tie.Need-add-t8
 add-t8 c =
@@ -40,26 +34,17 @@ add-t8 c =
     laws.fitting _ (most .outsides) (eqb (start (first p) .args .tag) 2) (laws.room-of _ _ (start (first p) .pre) .outsides) (lit< tt)
     (omega arith) (p .one-if2 .ensures)
 
-one-if-requires-3 : tie.Need-one-if-requires-3
-one-if-requires-3 c κs = search needs
-
 add-t11 : tie.Need-add-t11
 add-t11 c =
     let p = c .before in
     laws.fitting _ (most .blocks) (eqb (start (first (second p)) .args .tag) 3) (laws.room-of _ _ (start (first (second p)) .pre) .blocks)
     (lit< tt) (omega arith) (p .one-if3 .ensures)
 
-one-if-requires-4 : tie.Need-one-if-requires-4
-one-if-requires-4 c κs = search needs
-
 add-t14 : tie.Need-add-t14
 add-t14 c =
     let p = c .before in
     laws.fitting _ (most .alternatives) (eqb (start (first (second (third p))) .args .tag) 5)
     (laws.room-of _ _ (start (first (second (third p))) .pre) .alternatives) (lit< tt) (omega arith) (p .one-if4 .ensures)
-
-items-after-requires : tie.Need-items-after-requires
-items-after-requires c κs = search needs
 
 returns : tie.Need-returns
 unfolding passed
@@ -81,13 +66,13 @@ pub further-spec : {M : Type 1} → statement M
 further-spec =
     tie.close
     (tie.spec
-    one-if-requires
+    (λ c κs. search needs)
     add-t5
-    one-if-requires-2
+    (λ c κs. search needs)
     add-t8
-    one-if-requires-3
+    (λ c κs. search needs)
     add-t11
-    one-if-requires-4
+    (λ c κs. search needs)
     add-t14
-    items-after-requires
+    (λ c κs. search needs)
     returns)

@@ -4,15 +4,6 @@ use Rattle.layout.proofs.Laws as laws
 use Rattle.layout.proofs.is_known.Statement.{statement}
 use Rattle.layout.proofs.is_known.Tie as tie
 
-is-head-requires : tie.Need-is-head-requires
-is-head-requires c κs = search needs
-
-is-item-requires : tie.Need-is-item-requires
-is-item-requires c κs = search needs
-
-is-root-requires : tie.Need-is-root-requires
-is-root-requires c κs = search needs
-
 returns : tie.Need-returns
 returns c = laws.known-keyword _ (c .match .keys1)
 
@@ -45,9 +36,9 @@ pub is-known-spec : {M : Type 1} → statement M
 is-known-spec =
     tie.close
     (tie.spec
-    is-head-requires
-    is-item-requires
-    is-root-requires
+    (λ c κs. search needs)
+    (λ c κs. search needs)
+    (λ c κs. search needs)
     returns
     returns-2
     returns-3

@@ -4,13 +4,10 @@ use borrow.Author.Needs.{needs}
 use Rattle.layout.proofs.is_root.Statement.{statement}
 use Rattle.layout.proofs.is_root.Tie as tie
 
-byte-requires : tie.Need-byte-requires
-byte-requires c κs = search needs
-
 returns : tie.Need-returns
 unfolding isRoot
 returns c = cc
 
 -- the function meets its contract
 pub is-root-spec : {M : Type 1} → statement M
-is-root-spec = tie.close (tie.spec byte-requires returns)
+is-root-spec = tie.close (tie.spec (λ c κs. search needs) returns)

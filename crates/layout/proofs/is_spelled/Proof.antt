@@ -8,9 +8,6 @@ use Rattle.layout.proofs.Laws as laws
 use Rattle.layout.proofs.is_spelled.Statement.{statement}
 use Rattle.layout.proofs.is_spelled.Tie as tie
 
-is-keyword-spelling-requires : tie.Need-is-keyword-spelling-requires
-is-keyword-spelling-requires c κs = search needs
-
 is-among-requires : tie.Need-is-among-requires
 is-among-requires c κs =
     let p = c .before in
@@ -22,9 +19,6 @@ returns c =
     let p = c .before in
     λ before k o. (λ i. p .is-keyword-spelling .ensures i && not ((c .is-among .ensures _ k ∙ repeated-among 1 _ before) i))
     ∙ sym (laws.spelled-keyword _ _ before (p .before .if1 .taken))
-
-is-word-requires : tie.Need-is-word-requires
-is-word-requires c κs = search needs
 
 is-among-requires-2 : tie.Need-is-among-requires-2
 is-among-requires-2 c κs =
@@ -46,10 +40,10 @@ pub is-spelled-spec : {M : Type 1} → statement M
 is-spelled-spec =
     tie.close
     (tie.spec
-    is-keyword-spelling-requires
+    (λ c κs. search needs)
     is-among-requires
     returns
-    is-word-requires
+    (λ c κs. search needs)
     is-among-requires-2
     returns-2
     returns-3)

@@ -7,19 +7,10 @@ use borrow.Author.Needs.{needs}
 use Rattle.layout.proofs.is_whole.Statement.{statement}
 use Rattle.layout.proofs.is_whole.Tie as tie
 
-byte-requires : tie.Need-byte-requires
-byte-requires c κs = search needs
-
-are-templates-requires : tie.Need-are-templates-requires
-are-templates-requires c κs = search needs
-
 returns : tie.Need-returns
 returns c =
     let p = c .before in
     (λ i. not (eqb (p .byte .ensures i) 4) || c .are-templates .ensures i) ∙ sym (laws.whole-item _ _ (p .before .if1 .taken))
-
-are-templates-requires-2 : tie.Need-are-templates-requires-2
-are-templates-requires-2 c κs = search needs
 
 returns-2 : tie.Need-returns-2
 returns-2 c = search laws.whole-result
@@ -32,9 +23,9 @@ pub is-whole-spec : {M : Type 1} → statement M
 is-whole-spec =
     tie.close
     (tie.spec
-    byte-requires
-    are-templates-requires
+    (λ c κs. search needs)
+    (λ c κs. search needs)
     returns
-    are-templates-requires-2
+    (λ c κs. search needs)
     returns-2
     returns-3)

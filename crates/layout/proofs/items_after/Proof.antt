@@ -11,9 +11,6 @@ use Rattle.layout.proofs.items_after.Tie as tie
 returns : tie.Need-returns
 returns c = sym (laws.items-begin _ _ (c .if1 .taken))
 
-one-if-requires : tie.Need-one-if-requires
-one-if-requires c κs = search needs
-
 add-result : tie.Need-add-result
 add-result c =
     let p = c .before in
@@ -25,4 +22,4 @@ returns-2 c = cc (laws.items-more _ _ (c .before .before .if1 .left))
 
 -- the function meets its contract
 pub items-after-spec : {M : Type 1} → statement M
-items-after-spec = tie.close (tie.spec returns one-if-requires add-result returns-2)
+items-after-spec = tie.close (tie.spec returns (λ c κs. search needs) add-result returns-2)

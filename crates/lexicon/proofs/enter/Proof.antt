@@ -14,38 +14,11 @@ after-part p = p .before .before .before .before
 abbrev at-start : tie.After-part → tie.Start
 at-start p = p .before .before .before .before
 
-part-requires : tie.Need-part-requires
-part-requires c κs = search needs
-
-hash-requires : tie.Need-hash-requires
-hash-requires c κs = search needs
-
 find-requires : tie.Need-find-requires
 find-requires c κs =
     let hash-place = c .before .before in
     let start = at-start (hash-place .before) in
     (laws.entered-planted (start .pre .0), hash-place .hash .ensures)
-
-mul-i : tie.Need-mul-i
-mul-i c = search needs
-
-cast-room : tie.Need-cast-room
-cast-room c = search needs
-
-mul-room : tie.Need-mul-room
-mul-room c = search needs
-
-slice-write-room : tie.Need-slice-write-room
-slice-write-room c = search needs
-
-cast-room-2 : tie.Need-cast-room-2
-cast-room-2 c = search needs
-
-add-room : tie.Need-add-room
-add-room c = search needs
-
-mul-room-2 : tie.Need-mul-room-2
-mul-room-2 c = search needs
 
 slice-write-room-2 : tie.Need-slice-write-room-2
 slice-write-room-2 c =
@@ -60,12 +33,6 @@ link-requires c κs =
       laws.entered-linkable (start .pre .0) (read .part .result .now) (found .find .result) (found .find .ensures),
       omega (arith, start .pre .0 .enough),
     )
-
-same-length : tie.Need-same-length
-same-length c = search needs
-
-same-length-2 : tie.Need-same-length-2
-same-length-2 c = search needs
 
 returns : tie.Need-returns
 returns c =
@@ -85,18 +52,18 @@ pub enter-spec : {M : Type 1} → statement M
 enter-spec =
     tie.close
     (tie.spec
-    part-requires
-    hash-requires
+    (λ c κs. search needs)
+    (λ c κs. search needs)
     find-requires
-    mul-i
-    cast-room
-    mul-room
-    slice-write-room
-    cast-room-2
-    add-room
-    mul-room-2
+    (λ c. search needs)
+    (λ c. search needs)
+    (λ c. search needs)
+    (λ c. search needs)
+    (λ c. search needs)
+    (λ c. search needs)
+    (λ c. search needs)
     slice-write-room-2
     link-requires
-    same-length
-    same-length-2
+    (λ c. search needs)
+    (λ c. search needs)
     returns)

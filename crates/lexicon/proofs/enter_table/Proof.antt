@@ -35,24 +35,12 @@ mark-symbols-requires c κs =
       keywords .spelled .long,
     )
 
-after-leading-requires : tie.Need-after-leading-requires
-after-leading-requires c κs = search needs
-
 enter-leading-requires-2 : tie.Need-enter-leading-requires-2
 enter-leading-requires-2 c κs =
     let marked = after-mark-symbols (c .before .before) in
     let entered = after-enter-leading (marked .before) in
     let asked = (at-start (entered .before)) .pre in
     laws.second-enters (asked .0) (asked .1) (entered .enter-leading .ensures) (marked .mark-symbols .ensures)
-
-cast-room : tie.Need-cast-room
-cast-room c = search needs
-
-slice-write-room : tie.Need-slice-write-room
-slice-write-room c = search needs
-
-cast-room-2 : tie.Need-cast-room-2
-cast-room-2 c = search needs
 
 slice-write-room-2 : tie.Need-slice-write-room-2
 slice-write-room-2 c = simp length-set (omega (arith, (after-enter-leading2 c) .enter-leading2 .ensures .spelled .long))
@@ -68,9 +56,6 @@ same-length c =
     (after .after-leading .ensures) (named .enter-leading2 .ensures)
     .long
     ∙ sym (asked .0 .long)
-
-same-length-2 : tie.Need-same-length-2
-same-length-2 c = search needs
 
 returns : tie.Need-returns
 returns c =
@@ -89,12 +74,12 @@ enter-table-spec =
     (tie.spec
     enter-leading-requires
     mark-symbols-requires
-    after-leading-requires
+    (λ c κs. search needs)
     enter-leading-requires-2
-    cast-room
-    slice-write-room
-    cast-room-2
+    (λ c. search needs)
+    (λ c. search needs)
+    (λ c. search needs)
     slice-write-room-2
     same-length
-    same-length-2
+    (λ c. search needs)
     returns)

@@ -4,30 +4,6 @@ use borrow.Author.Needs.{needs}
 use Rattle.lexicon.proofs.mark.Statement.{statement}
 use Rattle.lexicon.proofs.mark.Tie as tie
 
-shared-slice-read-b : tie.Need-shared-slice-read-b
-shared-slice-read-b c = search needs
-
-add-room : tie.Need-add-room
-add-room c = search needs
-
-cast-room : tie.Need-cast-room
-cast-room c = search needs
-
-cast-room-2 : tie.Need-cast-room-2
-cast-room-2 c = search needs
-
-add-room-2 : tie.Need-add-room-2
-add-room-2 c = search needs
-
-mul-room : tie.Need-mul-room
-mul-room c = search needs
-
-slice-write-room : tie.Need-slice-write-room
-slice-write-room c = search needs
-
-same-length : tie.Need-same-length
-same-length c = search needs
-
 returns : tie.Need-returns
 returns c =
     let then1 = c .before .before in
@@ -44,14 +20,14 @@ pub mark-spec : {M : Type 1} → statement M
 mark-spec =
     tie.close
     (tie.spec
-    shared-slice-read-b
-    add-room
-    cast-room
-    cast-room-2
-    add-room-2
-    mul-room
-    slice-write-room
-    same-length
+    (λ c. search needs)
+    (λ c. search needs)
+    (λ c. search needs)
+    (λ c. search needs)
+    (λ c. search needs)
+    (λ c. search needs)
+    (λ c. search needs)
+    (λ c. search needs)
     returns
     returns-2
     returns-3)

@@ -4,15 +4,9 @@ use Rattle.printer.proofs.TextLaws.{prints-whole}
 use Rattle.printer.proofs.print_whole.Statement.{statement}
 use Rattle.printer.proofs.print_whole.Tie as tie
 
-print-term-requires : tie.Need-print-term-requires
-print-term-requires c κs = search needs
-
-same-length : tie.Need-same-length
-same-length c = search needs
-
 returns : tie.Need-returns
 returns c = search prints-whole
 
 -- the function meets its contract
 pub print-whole-spec : {M : Type 1} → statement M
-print-whole-spec = tie.close (tie.spec print-term-requires same-length returns)
+print-whole-spec = tie.close (tie.spec (λ c κs. search needs) (λ c. search needs) returns)

@@ -5,15 +5,6 @@ use Rattle.resolver.proofs.ResolvedLaws.{resolves-numbered}
 use Rattle.resolver.proofs.resolved.Statement.{statement}
 use Rattle.resolver.proofs.resolved.Tie as tie
 
-resolve-term-requires : tie.Need-resolve-term-requires
-resolve-term-requires c κs = search needs
-
-slice-aggregate-number : tie.Need-slice-aggregate-number
-slice-aggregate-number c = search needs
-
-number-requires : tie.Need-number-requires
-number-requires c κs = search needs
-
 returns : tie.Need-returns
 returns c =
     let walk = c .before .before in
@@ -26,4 +17,4 @@ returns c =
 
 -- the function meets its contract
 pub resolved-spec : {M : Type 1} → statement M
-resolved-spec = tie.close (tie.spec resolve-term-requires slice-aggregate-number number-requires returns)
+resolved-spec = tie.close (tie.spec (λ c κs. search needs) (λ c. search needs) (λ c κs. search needs) returns)

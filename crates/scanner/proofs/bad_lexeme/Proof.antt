@@ -3,12 +3,6 @@ use borrow.Author.Needs.{needs}
 use Rattle.scanner.proofs.bad_lexeme.Statement.{statement}
 use Rattle.scanner.proofs.bad_lexeme.Tie as tie
 
-unscanned-requires : tie.Need-unscanned-requires
-unscanned-requires c κs = search needs
-
-returns : tie.Need-returns
-returns c = search needs
-
 -- the function meets its contract
 pub bad-lexeme-spec : {M : Type 1} → statement M
-bad-lexeme-spec = tie.close (tie.spec unscanned-requires returns)
+bad-lexeme-spec = tie.close (tie.spec (λ c κs. search needs) (λ c. search needs))

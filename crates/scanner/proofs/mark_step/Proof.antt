@@ -14,29 +14,17 @@ at-start p = p .before .before .before .before .before .before
 abbrev after-is-separator : tie.After-is-symbol → tie.After-is-separator
 after-is-separator p = p .before .before .before .before
 
-shared-slice-read-b : tie.Need-shared-slice-read-b
-shared-slice-read-b c = search needs
-
-is-separator-requires : tie.Need-is-separator-requires
-is-separator-requires c κs = search needs
-
 returns : tie.Need-returns
 returns c =
     let separates = c .before in
     let start = at-start separates in
     laws.separator-at (start .args .formula .now) (start .args .at) (sym (separates .is-separator .ensures) ∙ c .if1 .taken)
 
-is-digit-requires : tie.Need-is-digit-requires
-is-digit-requires c κs = search needs
-
 number-step-requires : tie.Need-number-step-requires
 number-step-requires c κs = (omega arith, omega arith, sym (c .before .is-digit .ensures) ∙ c .if2 .taken)
 
 returns-2 : tie.Need-returns-2
 returns-2 c = c .number-step .ensures _
-
-is-symbol-requires : tie.Need-is-symbol-requires
-is-symbol-requires c κs = search needs
 
 cast-t12 : tie.Need-cast-t12
 cast-t12 c =
@@ -67,9 +55,6 @@ shared-slice-read-t16 c =
     let b = getD (start .args .formula .now) (start .args .at) 0 in
     laws.symbol-inside (start .pre .0 .0) b (sym (is-symbol-place .is-symbol .ensures) ∙ c .before .if3 .taken)
 
-cast-t17 : tie.Need-cast-t17
-cast-t17 c = search needs
-
 returns-3 : tie.Need-returns-3
 returns-3 c =
     let is-symbol-place = c .before .before in
@@ -95,17 +80,17 @@ pub mark-step-spec : {M : Type 1} → statement M
 mark-step-spec =
     tie.close
     (tie.spec
-    shared-slice-read-b
-    is-separator-requires
+    (λ c. search needs)
+    (λ c κs. search needs)
     returns
-    is-digit-requires
+    (λ c κs. search needs)
     number-step-requires
     returns-2
-    is-symbol-requires
+    (λ c κs. search needs)
     cast-t12
     add-t13
     mul-t14
     shared-slice-read-t16
-    cast-t17
+    (λ c. search needs)
     returns-3
     returns-4)

@@ -14,22 +14,10 @@ at-start p =
     let q = p .before .before .before in
     q .before .before .before .before
 
-shared-slice-read-keywords : tie.Need-shared-slice-read-keywords
-shared-slice-read-keywords c = search needs
-
-shared-slice-read-wide-number : tie.Need-shared-slice-read-wide-number
-shared-slice-read-wide-number c = search needs
-
-wide-number-requires : tie.Need-wide-number-requires
-wide-number-requires c κs = search needs
-
 find-requires : tie.Need-find-requires
 find-requires c κs =
     let start = at-start c in
     (rw (c .wide-number .ensures) (laws.lexical-planted (start .pre .0)), start .pre .1)
-
-enum-known-spot : tie.Need-enum-known-spot
-enum-known-spot c = search needs
 
 cast-k : tie.Need-cast-k
 cast-k c =
@@ -43,9 +31,6 @@ cast-k c =
 returns : tie.Need-returns
 returns c = search laws.node-keyword
 
-enum-told : tie.Need-enum-told
-enum-told c = search needs
-
 returns-2 : tie.Need-returns-2
 returns-2 c = search laws.node-outside
 
@@ -57,13 +42,13 @@ pub name-of-spec : {M : Type 1} → statement M
 name-of-spec =
     tie.close
     (tie.spec
-    shared-slice-read-keywords
-    shared-slice-read-wide-number
-    wide-number-requires
+    (λ c. search needs)
+    (λ c. search needs)
+    (λ c κs. search needs)
     find-requires
-    enum-known-spot
+    (λ c. search needs)
     cast-k
     returns
-    enum-told
+    (λ c. search needs)
     returns-2
     returns-3)

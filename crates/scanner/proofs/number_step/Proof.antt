@@ -13,29 +13,8 @@ at-start p = p .before .before .before
 abbrev after-digit-run : tie.After-value → tie.After-digit-run
 after-digit-run p = p .before .before
 
-sub-rest : tie.Need-sub-rest
-sub-rest c = search needs
-
-part-rest-start : tie.Need-part-rest-start
-part-rest-start c = search needs
-
-part-rest-end : tie.Need-part-rest-end
-part-rest-end c = search needs
-
-digit-run-requires : tie.Need-digit-run-requires
-digit-run-requires c κs = search needs
-
 slice-aggregate-value : tie.Need-slice-aggregate-value
 slice-aggregate-value c = search laws.digits-counted
-
-value-requires : tie.Need-value-requires
-value-requires c κs = search needs
-
-enum-known-number : tie.Need-enum-known-number
-enum-known-number c = search needs
-
-cast-t13 : tie.Need-cast-t13
-cast-t13 c = search needs
 
 cast-t14 : tie.Need-cast-t14
 cast-t14 c =
@@ -43,9 +22,6 @@ cast-t14 c =
     let digits = after-digit-run valued in
     let start = at-start digits in
     omega (arith, laws.number-small (start .args .formula .now) (start .args .at) (digits .digit-run .ensures))
-
-enum-told : tie.Need-enum-told
-enum-told c = search needs
 
 returns : tie.Need-returns
 returns c =
@@ -70,15 +46,15 @@ pub number-step-spec : {M : Type 1} → statement M
 number-step-spec =
     tie.close
     (tie.spec
-    sub-rest
-    part-rest-start
-    part-rest-end
-    digit-run-requires
+    (λ c. search needs)
+    (λ c. search needs)
+    (λ c. search needs)
+    (λ c κs. search needs)
     slice-aggregate-value
-    value-requires
-    enum-known-number
-    cast-t13
+    (λ c κs. search needs)
+    (λ c. search needs)
+    (λ c. search needs)
     cast-t14
-    enum-told
+    (λ c. search needs)
     returns
     returns-2)

@@ -14,16 +14,10 @@ at-start p = p .before .before .before .before
 abbrev after-find : tie.After-spot → tie.After-find
 after-find p = p .before .before
 
-part-requires : tie.Need-part-requires
-part-requires c κs = search needs
-
 find-requires : tie.Need-find-requires
 find-requires c κs =
     let asked = (at-start c) .pre .0 in
     (asked .0, asked .1 ∙ ap hashOf (sym (c .part .ensures)))
-
-enum-known-spot : tie.Need-enum-known-spot
-enum-known-spot c = search needs
 
 cast-emit : tie.Need-cast-emit
 cast-emit c =
@@ -51,21 +45,6 @@ add-emit c =
           (found .find .ensures) (c .before .spot .given .1),
     )
 
-emit-requires : tie.Need-emit-requires
-emit-requires c κs = search needs
-
-enum-known-spot-2 : tie.Need-enum-known-spot-2
-enum-known-spot-2 c = search needs
-
-cast-emit-2 : tie.Need-cast-emit-2
-cast-emit-2 c = search needs
-
-add-emit-2 : tie.Need-add-emit-2
-add-emit-2 c = search needs
-
-emit-requires-2 : tie.Need-emit-requires-2
-emit-requires-2 c κs = search needs
-
 returns : tie.Need-returns
 returns c = search laws.own-node
 
@@ -77,15 +56,15 @@ pub own-word-spec : {M : Type 1} → statement M
 own-word-spec =
     tie.close
     (tie.spec
-    part-requires
+    (λ c κs. search needs)
     find-requires
-    enum-known-spot
+    (λ c. search needs)
     cast-emit
     add-emit
-    emit-requires
-    enum-known-spot-2
-    cast-emit-2
-    add-emit-2
-    emit-requires-2
+    (λ c κs. search needs)
+    (λ c. search needs)
+    (λ c. search needs)
+    (λ c. search needs)
+    (λ c κs. search needs)
     returns
     returns-2)

@@ -53,27 +53,12 @@ step-at-requires c κs =
     let inv = test .before .loop .inv in
     (inv .ready, (test .loop-test .taken, inv .short))
 
-enum-told : tie.Need-enum-told Inv-loop μ-loop
-enum-told c = search needs
-
-add-at : tie.Need-add-at Inv-loop μ-loop
-add-at c = search needs
-
-loop-less : tie.Need-loop-less Inv-loop μ-loop
-loop-less c = search needs
-
 loop-again : tie.Need-loop-again Inv-loop μ-loop
 loop-again c =
     let stepped = c .before .before in
     let test = in-loop stepped in
     let inv = (at-loop stepped) .loop .inv in
     laws.scanning-skip inv (test .loop-test .taken) (stepped .step-at .ensures) (c .enum-told .given .1)
-
-enum-told-2 : tie.Need-enum-told-2 Inv-loop μ-loop
-enum-told-2 c = search needs
-
-bad-lexeme-requires : tie.Need-bad-lexeme-requires Inv-loop μ-loop
-bad-lexeme-requires c κs = search needs
 
 same-length : tie.Need-same-length Inv-loop μ-loop
 same-length c =
@@ -101,12 +86,6 @@ returns c =
       c .bad-lexeme .ensures,
       loop.turn-stop (inv .turn) more (laws.stop-eq inv more (stepped .step-at .ensures) (c .before .enum-told2 .given .1)),
     )
-
-enum-known-step : tie.Need-enum-known-step Inv-loop μ-loop
-enum-known-step c = search needs
-
-unscanned-requires : tie.Need-unscanned-requires Inv-loop μ-loop
-unscanned-requires c κs = search needs
 
 same-length-4 : tie.Need-same-length-4 Inv-loop μ-loop
 same-length-4 c =
@@ -175,9 +154,6 @@ add-n c =
     let inv = (at-loop stepped) .loop .inv in
     omega (arith, inv .turn .small)
 
-cast-at : tie.Need-cast-at Inv-loop μ-loop
-cast-at c = search needs
-
 add-at-2 : tie.Need-add-at-2 Inv-loop μ-loop
 add-at-2 c =
     let stored = after-store-word (c .before) in
@@ -242,18 +218,18 @@ scan-loop-spec =
     μ-loop
     loop-holds
     step-at-requires
-    enum-told
-    add-at
-    loop-less
+    (λ c. search needs)
+    (λ c. search needs)
+    (λ c. search needs)
     loop-again
-    enum-told-2
-    bad-lexeme-requires
+    (λ c. search needs)
+    (λ c κs. search needs)
     same-length
     same-length-2
     same-length-3
     returns
-    enum-known-step
-    unscanned-requires
+    (λ c. search needs)
+    (λ c κs. search needs)
     same-length-4
     same-length-5
     same-length-6
@@ -261,7 +237,7 @@ scan-loop-spec =
     store-token-requires
     store-word-requires
     add-n
-    cast-at
+    (λ c. search needs)
     add-at-2
     loop-less-2
     loop-again-2

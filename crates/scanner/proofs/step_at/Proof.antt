@@ -12,19 +12,10 @@ at-start p =
     let q = p .before .before .before .before in
     q .before .before .before .before
 
-shared-slice-read-is-letter : tie.Need-shared-slice-read-is-letter
-shared-slice-read-is-letter c = search needs
-
-is-letter-requires : tie.Need-is-letter-requires
-is-letter-requires c κs = search needs
-
 word-step-requires : tie.Need-word-step-requires
 word-step-requires c κs =
     let start = at-start (c .before) in
     (start .pre .0, (omega arith, omega arith, sym (c .before .is-letter .ensures) ∙ c .if1 .taken))
-
-returns : tie.Need-returns
-returns c = search needs
 
 mark-step-requires : tie.Need-mark-step-requires
 mark-step-requires c κs =
@@ -39,9 +30,9 @@ pub step-at-spec : {M : Type 1} → statement M
 step-at-spec =
     tie.close
     (tie.spec
-    shared-slice-read-is-letter
-    is-letter-requires
+    (λ c. search needs)
+    (λ c κs. search needs)
     word-step-requires
-    returns
+    (λ c. search needs)
     mark-step-requires
     returns-2)

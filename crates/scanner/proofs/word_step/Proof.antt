@@ -14,14 +14,8 @@ at-start p =
     let q = p .before .before .before in
     q .before .before .before .before
 
-word-at-requires : tie.Need-word-at-requires
-word-at-requires c κs = search needs
-
 returns : tie.Need-returns
 returns c = search laws.long-made
-
-part-requires : tie.Need-part-requires
-part-requires c κs = search needs
 
 name-of-requires : tie.Need-name-of-requires
 name-of-requires c κs =
@@ -34,9 +28,6 @@ name-of-requires c κs =
     let here = laws.word-here (asked .0) (asked .2) (read .word-at .ensures) (short .if1 .left) (part .part .ensures) in
     (start .pre .0 .lexical, laws.here-hash here)
 
-enum-known-name : tie.Need-enum-known-name
-enum-known-name c = search needs
-
 add-emit : tie.Need-add-emit
 add-emit c =
     let named = c .before .before .before in
@@ -45,18 +36,6 @@ add-emit c =
     let read = short .before in
     let start = at-start read in
     omega (arith, laws.keyword-small (start .args .table .now) (part .part .result .now) (named .name-of .ensures) (c .before .name .given .1))
-
-emit-requires : tie.Need-emit-requires
-emit-requires c κs = search needs
-
-enum-known-name-2 : tie.Need-enum-known-name-2
-enum-known-name-2 c = search needs
-
-emit-requires-2 : tie.Need-emit-requires-2
-emit-requires-2 c κs = search needs
-
-enum-told : tie.Need-enum-told
-enum-told c = search needs
 
 own-word-requires : tie.Need-own-word-requires
 own-word-requires c κs =
@@ -109,16 +88,16 @@ pub word-step-spec : {M : Type 1} → statement M
 word-step-spec =
     tie.close
     (tie.spec
-    word-at-requires
+    (λ c κs. search needs)
     returns
-    part-requires
+    (λ c κs. search needs)
     name-of-requires
-    enum-known-name
+    (λ c. search needs)
     add-emit
-    emit-requires
-    enum-known-name-2
-    emit-requires-2
-    enum-told
+    (λ c κs. search needs)
+    (λ c. search needs)
+    (λ c κs. search needs)
+    (λ c. search needs)
     own-word-requires
     returns-2
     returns-3

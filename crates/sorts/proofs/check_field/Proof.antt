@@ -17,61 +17,19 @@ tested c = c .before .before .before .before
 collect-requires : tie.Need-collect-requires
 collect-requires c κs = omega arith
 
-step-of-requires : tie.Need-step-of-requires
-step-of-requires c κs = search needs
-
-signature-at-requires : tie.Need-signature-at-requires
-signature-at-requires c κs = search needs
-
 load-params-requires : tie.Need-load-params-requires
 load-params-requires c κs =
     let p = c .before .before .before in
     omega (arith, ap length (c .signature-at .ensures), signature-short (start p .args .table .now) (start p .args .known .head))
 
-check-variable-requires : tie.Need-check-variable-requires
-check-variable-requires c κs = search needs
-
-check-result-requires : tie.Need-check-result-requires
-check-result-requires c κs = search needs
-
-verdict-of-requires : tie.Need-verdict-of-requires
-verdict-of-requires c κs = search needs
-
-step-of-requires-2 : tie.Need-step-of-requires-2
-step-of-requires-2 c κs = search needs
-
-byte-requires : tie.Need-byte-requires
-byte-requires c κs = search needs
-
-check-root-requires : tie.Need-check-root-requires
-check-root-requires c κs = search needs
-
-verdict-of-requires-2 : tie.Need-verdict-of-requires-2
-verdict-of-requires-2 c κs = search needs
-
-count-requires : tie.Need-count-requires
-count-requires c κs = search needs
-
-same-length : tie.Need-same-length
-same-length c = search needs
-
 returns : tie.Need-returns
 returns c = search laws.step-block
-
-same-length-2 : tie.Need-same-length-2
-same-length-2 c = search needs
 
 returns-2 : tie.Need-returns-2
 returns-2 c = search laws.step-parameters
 
 same-length-3 : tie.Need-same-length-3
 same-length-3 c = refl
-
-same-length-4 : tie.Need-same-length-4
-same-length-4 c = search needs
-
-same-length-5 : tie.Need-same-length-5
-same-length-5 c = search needs
 
 returns-3 : tie.Need-returns-3
 returns-3 c = search laws.step-item
@@ -100,24 +58,24 @@ check-field-spec =
     tie.close
     (tie.spec
     collect-requires
-    step-of-requires
-    signature-at-requires
+    (λ c κs. search needs)
+    (λ c κs. search needs)
     load-params-requires
-    check-variable-requires
-    check-result-requires
-    verdict-of-requires
-    step-of-requires-2
-    byte-requires
-    check-root-requires
-    verdict-of-requires-2
-    count-requires
-    same-length
+    (λ c κs. search needs)
+    (λ c κs. search needs)
+    (λ c κs. search needs)
+    (λ c κs. search needs)
+    (λ c κs. search needs)
+    (λ c κs. search needs)
+    (λ c κs. search needs)
+    (λ c κs. search needs)
+    (λ c. search needs)
     returns
-    same-length-2
+    (λ c. search needs)
     returns-2
     same-length-3
-    same-length-4
-    same-length-5
+    (λ c. search needs)
+    (λ c. search needs)
     returns-3
     same-length-6
     same-length-7

@@ -5,17 +5,8 @@ use Rattle.sorts.proofs.StepLaws as laws
 use Rattle.sorts.proofs.check_root.Statement.{statement}
 use Rattle.sorts.proofs.check_root.Tie as tie
 
-head-of-requires : tie.Need-head-of-requires
-head-of-requires c κs = search needs
-
 returns : tie.Need-returns
 returns c = search laws.root-undefined
-
-signature-at-requires : tie.Need-signature-at-requires
-signature-at-requires c κs = search needs
-
-byte-requires : tie.Need-byte-requires
-byte-requires c κs = search needs
 
 returns-2 : tie.Need-returns-2
 returns-2 c =
@@ -35,4 +26,4 @@ returns-3 c =
 pub check-root-spec : {M : Type 1} → statement M
 check-root-spec =
     tie.close
-    (tie.spec head-of-requires returns signature-at-requires byte-requires returns-2 returns-3)
+    (tie.spec (λ c κs. search needs) returns (λ c κs. search needs) (λ c κs. search needs) returns-2 returns-3)

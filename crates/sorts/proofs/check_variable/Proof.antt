@@ -11,32 +11,11 @@ start p = let q = p .before .before .before in q .before .before .before .before
 check-item-requires : tie.Need-check-item-requires
 check-item-requires c κs = start c .pre .places
 
-enum-known-item : tie.Need-enum-known-item
-enum-known-item c = search needs
-
-refused-requires : tie.Need-refused-requires
-refused-requires c κs = search needs
-
-enum-known-item-2 : tie.Need-enum-known-item-2
-enum-known-item-2 c = search needs
-
-add-sort-requires : tie.Need-add-sort-requires
-add-sort-requires c κs = search needs
-
 same-length : tie.Need-same-length
 same-length c = refl
 
-same-length-2 : tie.Need-same-length-2
-same-length-2 c = search needs
-
 returns : tie.Need-returns
 returns c = search laws.item-refused
-
-same-length-3 : tie.Need-same-length-3
-same-length-3 c = search needs
-
-same-length-4 : tie.Need-same-length-4
-same-length-4 c = search needs
 
 returns-2 : tie.Need-returns-2
 returns-2 c = search laws.item-added
@@ -47,13 +26,13 @@ check-variable-spec =
     tie.close
     (tie.spec
     check-item-requires
-    enum-known-item
-    refused-requires
-    enum-known-item-2
-    add-sort-requires
+    (λ c. search needs)
+    (λ c κs. search needs)
+    (λ c. search needs)
+    (λ c κs. search needs)
     same-length
-    same-length-2
+    (λ c. search needs)
     returns
-    same-length-3
-    same-length-4
+    (λ c. search needs)
+    (λ c. search needs)
     returns-2)

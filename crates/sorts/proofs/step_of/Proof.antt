@@ -3,12 +3,6 @@ use borrow.Author.Needs.{needs}
 use Rattle.sorts.proofs.step_of.Statement.{statement}
 use Rattle.sorts.proofs.step_of.Tie as tie
 
-enum-told : tie.Need-enum-told
-enum-told c = search needs
-
-enum-known-v : tie.Need-enum-known-v
-enum-known-v c = search needs
-
 returns : tie.Need-returns
 returns c = cc
 
@@ -17,4 +11,4 @@ returns-2 c = cc
 
 -- the function meets its contract
 pub step-of-spec : {M : Type 1} → statement M
-step-of-spec = tie.close (tie.spec enum-told enum-known-v returns returns-2)
+step-of-spec = tie.close (tie.spec (λ c. search needs) (λ c. search needs) returns returns-2)

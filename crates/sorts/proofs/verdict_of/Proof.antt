@@ -7,12 +7,9 @@ use Rattle.sorts.proofs.verdict_of.Tie as tie
 returns : tie.Need-returns
 returns c = laws.verdict-none _ _ (c .if1 .taken)
 
-refused-requires : tie.Need-refused-requires
-refused-requires c κs = search needs
-
 returns-2 : tie.Need-returns-2
 returns-2 c = cc (laws.verdict-some _ _ (c .before .if1 .left))
 
 -- the function meets its contract
 pub verdict-of-spec : {M : Type 1} → statement M
-verdict-of-spec = tie.close (tie.spec returns refused-requires returns-2)
+verdict-of-spec = tie.close (tie.spec returns (λ c κs. search needs) returns-2)

@@ -17,15 +17,6 @@ use Rattle.steps.proofs.ItemLaws as laws
 use Rattle.steps.proofs.do_item.Statement.{statement}
 use Rattle.steps.proofs.do_item.Tie as tie
 
-byte-requires : tie.Need-byte-requires
-byte-requires c κs = search needs
-
-byte-requires-2 : tie.Need-byte-requires-2
-byte-requires-2 c κs = search needs
-
-rows-of-requires : tie.Need-rows-of-requires
-rows-of-requires c κs = search needs
-
 build-arguments-requires : tie.Need-build-arguments-requires
 build-arguments-requires c κs =
     let rows-place = c .before .before .before in
@@ -64,12 +55,6 @@ module _ (p : tie.After-build-arguments) where
   stack-same : length (let from-3 = p .build-arguments .last .1 .1 .1 in let from-6 = from-3 .1 .1 .1 in from-6 .1 .1 .0) ≡ length (entry .args .stack .now)
   stack-same = let from-3 = p .build-arguments .kept .1 .1 .1 in let from-6 = from-3 .1 .1 .1 in from-6 .1 .1 .0
 
-enum-told : tie.Need-enum-told
-enum-told c = search needs
-
-no-row-requires : tie.Need-no-row-requires
-no-row-requires c κs = search needs
-
 abbrev overfull : tie.After-enum-told → tie.After-build-arguments
 overfull told = told .before .before .before .before .before .before
 
@@ -86,12 +71,6 @@ returns c =
           (call-place p .if1 .taken) _ (out′ p) (cells′ p) (lists p I M er g) (c .before .enum-told .given .1) (c .no-row .ensures),
       λ bs at h. tt,
     )
-
-enum-known-listed : tie.Need-enum-known-listed
-enum-known-listed c = search needs
-
-with-made-requires : tie.Need-with-made-requires
-with-made-requires c κs = search needs
 
 same-length-3 : tie.Need-same-length-3
 same-length-3 c =
@@ -139,12 +118,6 @@ module _ (q : tie.After-read-item) where
       q .read-item .ensures .0 (q-entry .args .v .now) C I M (q-entry .args .cells .now) et (q-byte .byte .ensures)
       (q .before .before .byte2 .ensures) (q .before .if1 .left)
 
-enum-known-outcome : tie.Need-enum-known-outcome
-enum-known-outcome c = search needs
-
-enum-known-outcome-2 : tie.Need-enum-known-outcome-2
-enum-known-outcome-2 c = search needs
-
 returns-3 : tie.Need-returns-3
 returns-3 c =
     let q = c .before .before .before in (
@@ -164,22 +137,22 @@ pub do-item-spec : {M : Type 1} → statement M
 do-item-spec =
     tie.close
     (tie.spec
-    byte-requires
-    byte-requires-2
-    rows-of-requires
+    (λ c κs. search needs)
+    (λ c κs. search needs)
+    (λ c κs. search needs)
     build-arguments-requires
-    enum-told
-    no-row-requires
+    (λ c. search needs)
+    (λ c κs. search needs)
     same-length
     same-length-2
     returns
-    enum-known-listed
-    with-made-requires
+    (λ c. search needs)
+    (λ c κs. search needs)
     same-length-3
     same-length-4
     returns-2
     read-item-requires
-    enum-known-outcome
-    enum-known-outcome-2
+    (λ c. search needs)
+    (λ c. search needs)
     returns-3
     returns-4)

@@ -39,27 +39,6 @@ module _ (p : tie.After-front-at) where
     inside : entry .args .c .at + (3 + n) ≤ length (entry .args .table .now)
     inside = front-inside (entry .args .table .now) (entry .args .c .at) stands
 
-front-at-requires : tie.Need-front-at-requires
-front-at-requires c κs = search needs
-
-enum-told : tie.Need-enum-told
-enum-told c = search needs
-
-first-variable-requires : tie.Need-first-variable-requires
-first-variable-requires c κs = search needs
-
-enum-told-2 : tie.Need-enum-told-2
-enum-told-2 c = search needs
-
-first-variable-requires-2 : tie.Need-first-variable-requires-2
-first-variable-requires-2 c κs = search needs
-
-enum-known-front : tie.Need-enum-known-front
-enum-known-front c = search needs
-
-first-variable-requires-3 : tie.Need-first-variable-requires-3
-first-variable-requires-3 c κs = search needs
-
 returns : tie.Need-returns
 returns c =
     let front-place = c .before .before .before in
@@ -79,15 +58,6 @@ add-to c =
     let p = c .before .before .before .before in
     omega (arith, inside p (c .before .before .front .given .1), entry p .good .0)
 
-rows-of-requires : tie.Need-rows-of-requires
-rows-of-requires c κs = search needs
-
-sub-build : tie.Need-sub-build
-sub-build c = search needs
-
-part-build-start : tie.Need-part-build-start
-part-build-start c = search needs
-
 part-build-end : tie.Need-part-build-end
 part-build-end c =
     let p = c .before .before .before .before .before in
@@ -105,9 +75,6 @@ build-requires c κs =
       laws.result-ahead _ _ here (may .no-item) (if1-place .if1 .left) (may .whole),
       rooms-fit (le-trans shorter (may .small .few)) (le-trans shorter (may .small .stack-long)) (rows-place .rows-of .ensures),
     )
-
-outcome-of-requires : tie.Need-outcome-of-requires
-outcome-of-requires c κs = search needs
 
 returns-2 : tie.Need-returns-2
 returns-2 c =
@@ -153,22 +120,22 @@ pub finish-spec : {M : Type 1} → statement M
 finish-spec =
     tie.close
     (tie.spec
-    front-at-requires
-    enum-told
-    first-variable-requires
-    enum-told-2
-    first-variable-requires-2
-    enum-known-front
-    first-variable-requires-3
+    (λ c κs. search needs)
+    (λ c. search needs)
+    (λ c κs. search needs)
+    (λ c. search needs)
+    (λ c κs. search needs)
+    (λ c. search needs)
+    (λ c κs. search needs)
     returns
     add-from
     add-to
-    rows-of-requires
-    sub-build
-    part-build-start
+    (λ c κs. search needs)
+    (λ c. search needs)
+    (λ c. search needs)
     part-build-end
     build-requires
-    outcome-of-requires
+    (λ c κs. search needs)
     returns-2
     returns-3
     same-length

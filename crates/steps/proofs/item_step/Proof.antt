@@ -30,18 +30,6 @@ module _ (p : tie.After-front-at) where
         (entry .args .c .at + 3 + n)
     item i = laws.item-at _ _ stands i (entry .pre .whole)
 
-front-at-requires : tie.Need-front-at-requires
-front-at-requires c κs = search needs
-
-enum-told : tie.Need-enum-told
-enum-told c = search needs
-
-enum-told-2 : tie.Need-enum-told-2
-enum-told-2 c = search needs
-
-enum-known-front : tie.Need-enum-known-front
-enum-known-front c = search needs
-
 returns : tie.Need-returns
 returns c =
     let front-place = c .before .before in
@@ -56,12 +44,6 @@ add-next : tie.Need-add-next
 add-next c =
     let p = c .before .before .before .before in
     omega (arith, inside p (c .before .before .front .given .1), entry p .good .0)
-
-sub-do-item : tie.Need-sub-do-item
-sub-do-item c = search needs
-
-part-do-item-start : tie.Need-part-do-item-start
-part-do-item-start c = search needs
 
 part-do-item-end : tie.Need-part-do-item-end
 part-do-item-end c =
@@ -111,15 +93,15 @@ pub item-step-spec : {M : Type 1} → statement M
 item-step-spec =
     tie.close
     (tie.spec
-    front-at-requires
-    enum-told
-    enum-told-2
-    enum-known-front
+    (λ c κs. search needs)
+    (λ c. search needs)
+    (λ c. search needs)
+    (λ c. search needs)
     returns
     add-from
     add-next
-    sub-do-item
-    part-do-item-start
+    (λ c. search needs)
+    (λ c. search needs)
     part-do-item-end
     do-item-requires
     returns-2

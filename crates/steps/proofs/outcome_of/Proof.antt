@@ -4,18 +4,6 @@ use Rattle.steps.proofs.ItemLaws as laws
 use Rattle.steps.proofs.outcome_of.Statement.{statement}
 use Rattle.steps.proofs.outcome_of.Tie as tie
 
-enum-known-b : tie.Need-enum-known-b
-enum-known-b c = search needs
-
-with-made-requires : tie.Need-with-made-requires
-with-made-requires c κs = search needs
-
-enum-told : tie.Need-enum-told
-enum-told c = search needs
-
-no-row-requires : tie.Need-no-row-requires
-no-row-requires c κs = search needs
-
 returns : tie.Need-returns
 returns c =
     let made = c .before .before in
@@ -34,4 +22,4 @@ returns-2 c =
 pub outcome-of-spec : {M : Type 1} → statement M
 outcome-of-spec =
     tie.close
-    (tie.spec enum-known-b with-made-requires enum-told no-row-requires returns returns-2)
+    (tie.spec (λ c. search needs) (λ c κs. search needs) (λ c. search needs) (λ c κs. search needs) returns returns-2)

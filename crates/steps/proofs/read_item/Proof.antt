@@ -7,9 +7,6 @@ use Rattle.steps.proofs.read_item.Tie as tie
 value-at-requires : tie.Need-value-at-requires
 value-at-requires c κs = c .before .pre .tokens-fit
 
-add-take : tie.Need-add-take
-add-take c = search needs
-
 take-requires : tie.Need-take-requires
 take-requires c κs = let may = c .before .before .before .pre in (may .tokens-fit, may .token-small)
 
@@ -66,7 +63,7 @@ read-item-spec =
     tie.close
     (tie.spec
     value-at-requires
-    add-take
+    (λ c. search needs)
     take-requires
     word-value-requires
     take-requires-2

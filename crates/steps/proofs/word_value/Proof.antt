@@ -4,9 +4,6 @@ use Rattle.steps.proofs.ItemLaws as laws
 use Rattle.steps.proofs.word_value.Statement.{statement}
 use Rattle.steps.proofs.word_value.Tie as tie
 
-add-result : tie.Need-add-result
-add-result c = search needs
-
 returns : tie.Need-returns
 returns c = search laws.label-value
 
@@ -15,4 +12,4 @@ returns-2 c = search laws.name-value
 
 -- the function meets its contract
 pub word-value-spec : {M : Type 1} → statement M
-word-value-spec = tie.close (tie.spec add-result returns returns-2)
+word-value-spec = tie.close (tie.spec (λ c. search needs) returns returns-2)

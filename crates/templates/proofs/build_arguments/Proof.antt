@@ -35,23 +35,11 @@ module _ (p : tie.After-put2 Inv-loop μ-loop) where
   abbrev turn : tie.In-loop Inv-loop μ-loop
   turn = let seen = built .before .before .before .before .before .before in seen .before
 
-known-values-requires : tie.Need-known-values-requires Inv-loop μ-loop
-known-values-requires c κs = search needs
-
 loop-holds : tie.Need-loop-holds Inv-loop μ-loop
 loop-holds c = search laws.listing-start
 
 head-at-requires : tie.Need-head-at-requires Inv-loop μ-loop
 head-at-requires c κs = laws.listing-first (c .before .loop .inv .0) (c .loop-test .taken) .0
-
-enum-known-head : tie.Need-enum-known-head Inv-loop μ-loop
-enum-known-head c = search needs
-
-put-requires : tie.Need-put-requires Inv-loop μ-loop
-put-requires c κs = search needs
-
-add-n : tie.Need-add-n Inv-loop μ-loop
-add-n c = search needs
 
 loop-less : tie.Need-loop-less Inv-loop μ-loop
 loop-less c =
@@ -67,9 +55,6 @@ loop-again c =
           (seen .head-at .ensures .1) (c .put .last .0) (c .put .ensures),
       inv .1,
     )
-
-enum-known-head-2 : tie.Need-enum-known-head-2 Inv-loop μ-loop
-enum-known-head-2 c = search needs
 
 build-node-requires : tie.Need-build-node-requires Inv-loop μ-loop
 build-node-requires c κs =
@@ -87,26 +72,8 @@ build-node-requires c κs =
       },
     )
 
-enum-told : tie.Need-enum-told Inv-loop μ-loop
-enum-told c = search needs
-
-same-length : tie.Need-same-length Inv-loop μ-loop
-same-length c = search needs
-
-same-length-2 : tie.Need-same-length-2 Inv-loop μ-loop
-same-length-2 c = search needs
-
 returns : tie.Need-returns Inv-loop μ-loop
 returns c = search laws.listing-full
-
-enum-known-part : tie.Need-enum-known-part Inv-loop μ-loop
-enum-known-part c = search needs
-
-put-requires-2 : tie.Need-put-requires-2 Inv-loop μ-loop
-put-requires-2 c κs = search needs
-
-add-n-2 : tie.Need-add-n-2 Inv-loop μ-loop
-add-n-2 c = search needs
 
 loop-less-2 : tie.Need-loop-less-2 Inv-loop μ-loop
 loop-less-2 c =
@@ -121,12 +88,6 @@ loop-again-2 c =
       cc,
     )
 
-same-length-3 : tie.Need-same-length-3 Inv-loop μ-loop
-same-length-3 c = search needs
-
-same-length-4 : tie.Need-same-length-4 Inv-loop μ-loop
-same-length-4 c = search needs
-
 returns-2 : tie.Need-returns-2 Inv-loop μ-loop
 returns-2 c = search laws.listing-end
 
@@ -137,25 +98,25 @@ build-arguments-spec =
     (tie.spec
     Inv-loop
     μ-loop
-    known-values-requires
+    (λ c κs. search needs)
     loop-holds
     head-at-requires
-    enum-known-head
-    put-requires
-    add-n
+    (λ c. search needs)
+    (λ c κs. search needs)
+    (λ c. search needs)
     loop-less
     loop-again
-    enum-known-head-2
+    (λ c. search needs)
     build-node-requires
-    enum-told
-    same-length
-    same-length-2
+    (λ c. search needs)
+    (λ c. search needs)
+    (λ c. search needs)
     returns
-    enum-known-part
-    put-requires-2
-    add-n-2
+    (λ c. search needs)
+    (λ c κs. search needs)
+    (λ c. search needs)
     loop-less-2
     loop-again-2
-    same-length-3
-    same-length-4
+    (λ c. search needs)
+    (λ c. search needs)
     returns-2)

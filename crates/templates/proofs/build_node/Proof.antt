@@ -97,15 +97,6 @@ module _ (q : tie.After-around-of Inv-loop μ-loop) where
         out-is = q .around-of .ensures;
       }
 
-opening-requires : tie.Need-opening-requires Inv-loop μ-loop
-opening-requires c κs = search needs
-
-slice-write-stack : tie.Need-slice-write-stack Inv-loop μ-loop
-slice-write-stack c = search needs
-
-add-at : tie.Need-add-at Inv-loop μ-loop
-add-at c = search needs
-
 loop-holds : tie.Need-loop-holds Inv-loop μ-loop
 loop-holds c = search laws.building-start
 
@@ -118,29 +109,14 @@ mul-w c = omega (arith, laws.building-pos (c .loop .inv), c .before .before .bef
 slice-read-w : tie.Need-slice-read-w Inv-loop μ-loop
 slice-read-w c = omega (arith, laws.building-pos (c .before .loop .inv))
 
-code-of-requires : tie.Need-code-of-requires Inv-loop μ-loop
-code-of-requires c κs = search needs
-
-arity-of-requires : tie.Need-arity-of-requires Inv-loop μ-loop
-arity-of-requires c κs = search needs
-
 sub-if1 : tie.Need-sub-if1 Inv-loop μ-loop
 sub-if1 c = omega (arith, laws.building-pos (at-loop c .loop .inv))
 
 head-at-requires : tie.Need-head-at-requires Inv-loop μ-loop
 head-at-requires c κs = search (laws.building-ahead, looked (c .before))
 
-enum-known-head : tie.Need-enum-known-head Inv-loop μ-loop
-enum-known-head c = search needs
-
-mul-stack : tie.Need-mul-stack Inv-loop μ-loop
-mul-stack c = search needs
-
 slice-write-stack-2 : tie.Need-slice-write-stack-2 Inv-loop μ-loop
 slice-write-stack-2 c = search (laws.building-inside, looked (read (leaf c)))
-
-add-top : tie.Need-add-top Inv-loop μ-loop
-add-top c = search needs
 
 loop-less : tie.Need-loop-less Inv-loop μ-loop
 loop-less c =
@@ -150,25 +126,13 @@ loop-less c =
 loop-again : tie.Need-loop-again Inv-loop μ-loop
 loop-again c = search (laws.building-leaf, looked (read (leaf c)))
 
-enum-known-head-2 : tie.Need-enum-known-head-2 Inv-loop μ-loop
-enum-known-head-2 c = search needs
-
 opening-requires-2 : tie.Need-opening-requires-2 Inv-loop μ-loop
 opening-requires-2 c κs =
     let p = c .before .before .before .before .before in
     omega (arith, laws.building-pos (at-loop p .loop .inv), small p)
 
-mul-stack-2 : tie.Need-mul-stack-2 Inv-loop μ-loop
-mul-stack-2 c = search needs
-
 slice-write-stack-3 : tie.Need-slice-write-stack-3 Inv-loop μ-loop
 slice-write-stack-3 c = search (laws.building-inside, looked (read (node c)))
-
-add-top-2 : tie.Need-add-top-2 Inv-loop μ-loop
-add-top-2 c = search needs
-
-add-at-2 : tie.Need-add-at-2 Inv-loop μ-loop
-add-at-2 c = search needs
 
 loop-less-2 : tie.Need-loop-less-2 Inv-loop μ-loop
 loop-less-2 c =
@@ -177,9 +141,6 @@ loop-less-2 c =
 
 loop-again-2 : tie.Need-loop-again-2 Inv-loop μ-loop
 loop-again-2 c = search (laws.building-node, looked (read (node c)))
-
-same-length : tie.Need-same-length Inv-loop μ-loop
-same-length c = search needs
 
 same-length-2 : tie.Need-same-length-2 Inv-loop μ-loop
 same-length-2 c = as-long (c .before .before)
@@ -194,17 +155,11 @@ store-cell-requires c κs =
       search (laws.building-fits, looked p),
     )
 
-around-of-requires : tie.Need-around-of-requires Inv-loop μ-loop
-around-of-requires c κs = search needs
-
 cast-t40 : tie.Need-cast-t40 Inv-loop μ-loop
 cast-t40 c = omega arith
 
 add-t41 : tie.Need-add-t41 Inv-loop μ-loop
 add-t41 c = omega arith
-
-same-length-3 : tie.Need-same-length-3 Inv-loop μ-loop
-same-length-3 c = search needs
 
 same-length-4 : tie.Need-same-length-4 Inv-loop μ-loop
 same-length-4 c = as-long (q-looked (c .before))
@@ -246,39 +201,39 @@ build-node-spec =
     (tie.spec
     Inv-loop
     μ-loop
-    opening-requires
-    slice-write-stack
-    add-at
+    (λ c κs. search needs)
+    (λ c. search needs)
+    (λ c. search needs)
     loop-holds
     sub-w
     mul-w
     slice-read-w
-    code-of-requires
-    arity-of-requires
+    (λ c κs. search needs)
+    (λ c κs. search needs)
     sub-if1
     head-at-requires
-    enum-known-head
-    mul-stack
+    (λ c. search needs)
+    (λ c. search needs)
     slice-write-stack-2
-    add-top
+    (λ c. search needs)
     loop-less
     loop-again
-    enum-known-head-2
+    (λ c. search needs)
     opening-requires-2
-    mul-stack-2
+    (λ c. search needs)
     slice-write-stack-3
-    add-top-2
-    add-at-2
+    (λ c. search needs)
+    (λ c. search needs)
     loop-less-2
     loop-again-2
-    same-length
+    (λ c. search needs)
     same-length-2
     returns
     store-cell-requires
-    around-of-requires
+    (λ c κs. search needs)
     cast-t40
     add-t41
-    same-length-3
+    (λ c. search needs)
     same-length-4
     returns-2
     cast-stack

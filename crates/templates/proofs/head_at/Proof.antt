@@ -6,15 +6,6 @@ use Rattle.templates.proofs.BuildLaws as laws
 use Rattle.templates.proofs.head_at.Statement.{statement}
 use Rattle.templates.proofs.head_at.Tie as tie
 
-byte-requires : tie.Need-byte-requires
-byte-requires c κs = search needs
-
-cast-pick : tie.Need-cast-pick
-cast-pick c = search needs
-
-pick-requires : tie.Need-pick-requires
-pick-requires c κs = search needs
-
 add-t10 : tie.Need-add-t10
 add-t10 c =
     let p = c .before in
@@ -33,12 +24,6 @@ add-byte : tie.Need-add-byte
 add-byte c =
     let entry-place = c .before .before .before .before in
     omega (arith, ahead-inside _ _ (entry-place .pre), entry-place .good)
-
-byte-requires-2 : tie.Need-byte-requires-2
-byte-requires-2 c κs = search needs
-
-name-value-requires : tie.Need-name-value-requires
-name-value-requires c κs = search needs
 
 add-t11 : tie.Need-add-t11
 add-t11 c =
@@ -72,14 +57,14 @@ pub head-at-spec : {M : Type 1} → statement M
 head-at-spec =
     tie.close
     (tie.spec
-    byte-requires
-    cast-pick
-    pick-requires
+    (λ c κs. search needs)
+    (λ c. search needs)
+    (λ c κs. search needs)
     add-t10
     returns
     add-byte
-    byte-requires-2
-    name-value-requires
+    (λ c κs. search needs)
+    (λ c κs. search needs)
     add-t11
     returns-2
     returns-3)

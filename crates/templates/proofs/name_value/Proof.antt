@@ -4,9 +4,6 @@ use Rattle.templates.proofs.VariableLaws as laws
 use Rattle.templates.proofs.name_value.Statement.{statement}
 use Rattle.templates.proofs.name_value.Tie as tie
 
-add-result : tie.Need-add-result
-add-result c = search needs
-
 returns : tie.Need-returns
 returns c = search laws.name-var
 
@@ -15,4 +12,4 @@ returns-2 c = search laws.name-label
 
 -- the function meets its contract
 pub name-value-spec : {M : Type 1} → statement M
-name-value-spec = tie.close (tie.spec add-result returns returns-2)
+name-value-spec = tie.close (tie.spec (λ c. search needs) returns returns-2)

@@ -4,12 +4,6 @@ use Rattle.templates.proofs.VariableLaws as laws
 use Rattle.templates.proofs.pick.Statement.{statement}
 use Rattle.templates.proofs.pick.Tie as tie
 
-mul-result : tie.Need-mul-result
-mul-result c = search needs
-
-element-copy-out-result : tie.Need-element-copy-out-result
-element-copy-out-result c = search needs
-
 returns : tie.Need-returns
 returns c = search laws.picked
 
@@ -18,4 +12,4 @@ returns-2 c = search laws.not-picked
 
 -- the function meets its contract
 pub pick-spec : {M : Type 1} → statement M
-pick-spec = tie.close (tie.spec mul-result element-copy-out-result returns returns-2)
+pick-spec = tie.close (tie.spec (λ c. search needs) (λ c. search needs) returns returns-2)

@@ -4,12 +4,6 @@ use Rattle.templates.proofs.VariableLaws as laws
 use Rattle.templates.proofs.put.Statement.{statement}
 use Rattle.templates.proofs.put.Tie as tie
 
-mul-env : tie.Need-mul-env
-mul-env c = search needs
-
-element-write-env : tie.Need-element-write-env
-element-write-env c = search needs
-
 returns : tie.Need-returns
 returns c = search laws.put-inside
 
@@ -18,4 +12,4 @@ returns-2 c = search laws.put-outside
 
 -- the function meets its contract
 pub put-spec : {M : Type 1} → statement M
-put-spec = tie.close (tie.spec mul-env element-write-env returns returns-2)
+put-spec = tie.close (tie.spec (λ c. search needs) (λ c. search needs) returns returns-2)

@@ -8,53 +8,14 @@ use Rattle.templates.proofs.VariableLaws as laws
 use Rattle.templates.proofs.store_row.Statement.{statement}
 use Rattle.templates.proofs.store_row.Tie as tie
 
-mul-i : tie.Need-mul-i
-mul-i c = search needs
-
-mul-cells : tie.Need-mul-cells
-mul-cells c = search needs
-
-slice-write-cells : tie.Need-slice-write-cells
-slice-write-cells c = search needs
-
-array-read-cells : tie.Need-array-read-cells
-array-read-cells c = search needs
-
-add-cells : tie.Need-add-cells
-add-cells c = search needs
-
-mul-cells-2 : tie.Need-mul-cells-2
-mul-cells-2 c = search needs
-
 slice-write-cells-2 : tie.Need-slice-write-cells-2
 slice-write-cells-2 c = simp length-set (omega arith)
-
-array-read-cells-2 : tie.Need-array-read-cells-2
-array-read-cells-2 c = search needs
-
-add-cells-2 : tie.Need-add-cells-2
-add-cells-2 c = search needs
-
-mul-cells-3 : tie.Need-mul-cells-3
-mul-cells-3 c = search needs
 
 slice-write-cells-3 : tie.Need-slice-write-cells-3
 slice-write-cells-3 c = simp length-set (omega arith)
 
-array-read-cells-3 : tie.Need-array-read-cells-3
-array-read-cells-3 c = search needs
-
-add-cells-3 : tie.Need-add-cells-3
-add-cells-3 c = search needs
-
-mul-cells-4 : tie.Need-mul-cells-4
-mul-cells-4 c = search needs
-
 slice-write-cells-4 : tie.Need-slice-write-cells-4
 slice-write-cells-4 c = simp length-set (omega arith)
-
-same-length : tie.Need-same-length
-same-length c = search needs
 
 returns : tie.Need-returns
 returns c = search laws.row-stored
@@ -64,20 +25,20 @@ pub store-row-spec : {M : Type 1} → statement M
 store-row-spec =
     tie.close
     (tie.spec
-    mul-i
-    mul-cells
-    slice-write-cells
-    array-read-cells
-    add-cells
-    mul-cells-2
+    (λ c. search needs)
+    (λ c. search needs)
+    (λ c. search needs)
+    (λ c. search needs)
+    (λ c. search needs)
+    (λ c. search needs)
     slice-write-cells-2
-    array-read-cells-2
-    add-cells-2
-    mul-cells-3
+    (λ c. search needs)
+    (λ c. search needs)
+    (λ c. search needs)
     slice-write-cells-3
-    array-read-cells-3
-    add-cells-3
-    mul-cells-4
+    (λ c. search needs)
+    (λ c. search needs)
+    (λ c. search needs)
     slice-write-cells-4
-    same-length
+    (λ c. search needs)
     returns)

@@ -8,9 +8,6 @@ use Rattle.steps.specs.declared.Cursor.{Cursor}
 use Rattle.turns.proofs.returned.Statement.{statement}
 use Rattle.turns.proofs.returned.Tie as tie
 
-resumed-requires : tie.Need-resumed-requires
-resumed-requires c κs = search needs
-
 valued-requires : tie.Need-valued-requires
 valued-requires c κs =
     let r = c .before in
@@ -18,9 +15,6 @@ valued-requires c κs =
     let level = known .before .args .level in
     omega (arith, known .shared-slice-known .given (level * frameSize + 16), ap (λ (d : Cursor). d .count) (r .resumed .ensures .cursor-is))
 
-returns : tie.Need-returns
-returns c = search needs
-
 -- the function meets its contract
 pub returned-spec : {M : Type 1} → statement M
-returned-spec = tie.close (tie.spec resumed-requires valued-requires returns)
+returned-spec = tie.close (tie.spec (λ c κs. search needs) valued-requires (λ c. search needs))

@@ -5,12 +5,9 @@ use Rattle.vegzump.specs.Replies.{numberedVerdict}
 use Rattle.vegzump.proofs.check_table.Statement.{statement}
 use Rattle.vegzump.proofs.check_table.Tie as tie
 
-check-table-requires : tie.Need-check-table-requires
-check-table-requires c κs = search needs
-
 returns : tie.Need-returns
 returns c = let e = c .check-table .ensures in (e .0, (ap numberedVerdict (e .0), e .1))
 
 -- `check_table` meets its contract.
 pub check-table-spec : {M : Type 1} → statement M
-check-table-spec = tie.close (tie.spec check-table-requires returns)
+check-table-spec = tie.close (tie.spec (λ c κs. search needs) returns)

@@ -7,15 +7,6 @@ use Rattle.meaning.proofs.Hygiene.{call-meets-demand-3}
 use Rattle.vegzump.proofs.expand.Statement.{statement}
 use Rattle.vegzump.proofs.expand.Tie as tie
 
-expand-by-size-requires : tie.Need-expand-by-size-requires
-expand-by-size-requires c κs = search needs
-
-same-length : tie.Need-same-length
-same-length c = search needs
-
-same-length-2 : tie.Need-same-length-2
-same-length-2 c = search needs
-
 returns : tie.Need-returns
 returns c =
     let p = c .before .before .before .before in
@@ -24,4 +15,4 @@ returns c =
 
 -- `expand` meets its contract.
 pub expand-spec : {M : Type 1} → statement M
-expand-spec = tie.close (tie.spec expand-by-size-requires same-length same-length-2 returns)
+expand-spec = tie.close (tie.spec (λ c κs. search needs) (λ c. search needs) (λ c. search needs) returns)

@@ -26,15 +26,6 @@ module _ (p : lts.After-parse-by-size claims reads.Pre reads.Post) where
   bytes : Bytes (known .before .args .table .now)
   bytes i = omega (arith, known .shared-slice-known .given i)
 
-parse-by-size-requires : tie.Need-parse-by-size-requires
-parse-by-size-requires c κs = search needs
-
-enum-known-outcome : tie.Need-enum-known-outcome
-enum-known-outcome c = search needs
-
-enum-known-outcome-2 : tie.Need-enum-known-outcome-2
-enum-known-outcome-2 c = search needs
-
 mul-end : tie.Need-mul-end
 mul-end c =
     let told = c .before in
@@ -76,37 +67,22 @@ returns-2 c =
     let v = told .outcome2 .given .1 in
     joining.emits (bytes p) _ (q .words-known _ _ v) (joining.value-reached q v) _ (emitted .emit .ensures)
 
-same-length : tie.Need-same-length
-same-length c = search needs
-
-same-length-2 : tie.Need-same-length-2
-same-length-2 c = search needs
-
-same-length-3 : tie.Need-same-length-3
-same-length-3 c = search needs
-
-same-length-4 : tie.Need-same-length-4
-same-length-4 c = search needs
-
-same-length-5 : tie.Need-same-length-5
-same-length-5 c = search needs
-
 -- `expand_in` meets its contract.
 pub expand-in-spec : {M : Type 1} → statement M
 expand-in-spec =
     tie.close
     (tie.spec
-    parse-by-size-requires
-    enum-known-outcome
-    enum-known-outcome-2
+    (λ c κs. search needs)
+    (λ c. search needs)
+    (λ c. search needs)
     mul-end
     slice-reshare-prefix-emit
     slice-aggregate-emit
     emit-requires
-    same-length
-    same-length-2
+    (λ c. search needs)
+    (λ c. search needs)
     returns
-    same-length-3
-    same-length-4
-    same-length-5
+    (λ c. search needs)
+    (λ c. search needs)
+    (λ c. search needs)
     returns-2)

@@ -20,12 +20,6 @@ mul-if1 c = omega arith
 element-copy-out-if1 : tie.Need-element-copy-out-if1 Inv-loop μ-loop
 element-copy-out-if1 c = omega arith
 
-expected-cell-requires : tie.Need-expected-cell-requires Inv-loop μ-loop
-expected-cell-requires c κs = search needs
-
-returns : tie.Need-returns Inv-loop μ-loop
-returns c = search needs
-
 add-i : tie.Need-add-i Inv-loop μ-loop
 add-i c = omega arith
 
@@ -34,9 +28,6 @@ loop-less c = omega arith
 
 loop-again : tie.Need-loop-again Inv-loop μ-loop
 loop-again c = omega arith
-
-returns-2 : tie.Need-returns-2 Inv-loop μ-loop
-returns-2 c = search needs
 
 -- the function meets its contract
 pub same-cells-spec : {M : Type 1} → statement M
@@ -48,9 +39,9 @@ same-cells-spec =
     loop-holds
     mul-if1
     element-copy-out-if1
-    expected-cell-requires
-    returns
+    (λ c κs. search needs)
+    (λ c. search needs)
     add-i
     loop-less
     loop-again
-    returns-2)
+    (λ c. search needs))

@@ -17,12 +17,6 @@ loop-holds c = omega arith
 element-copy-out-if1 : tie.Need-element-copy-out-if1 Inv-loop μ-loop
 element-copy-out-if1 c = omega arith
 
-expected-byte-requires : tie.Need-expected-byte-requires Inv-loop μ-loop
-expected-byte-requires c κs = search needs
-
-returns : tie.Need-returns Inv-loop μ-loop
-returns c = search needs
-
 add-i : tie.Need-add-i Inv-loop μ-loop
 add-i c = omega arith
 
@@ -31,9 +25,6 @@ loop-less c = omega arith
 
 loop-again : tie.Need-loop-again Inv-loop μ-loop
 loop-again c = omega arith
-
-returns-2 : tie.Need-returns-2 Inv-loop μ-loop
-returns-2 c = search needs
 
 -- the function meets its contract
 pub same-text-spec : {M : Type 1} → statement M
@@ -44,9 +35,9 @@ same-text-spec =
     μ-loop
     loop-holds
     element-copy-out-if1
-    expected-byte-requires
-    returns
+    (λ c κs. search needs)
+    (λ c. search needs)
     add-i
     loop-less
     loop-again
-    returns-2)
+    (λ c. search needs))

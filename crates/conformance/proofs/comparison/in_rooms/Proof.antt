@@ -6,48 +6,24 @@ use borrow.Author.Needs.{needs}
 use Rattle.conformance.proofs.comparison.in_rooms.Statement.{statement}
 use Rattle.conformance.proofs.comparison.in_rooms.Tie as tie
 
-at-most-requires : tie.Need-at-most-requires
-at-most-requires c κs = search needs
-
-at-most-requires-2 : tie.Need-at-most-requires-2
-at-most-requires-2 c κs = search needs
-
-slice-relend-prefix-expand : tie.Need-slice-relend-prefix-expand
-slice-relend-prefix-expand c = search needs
-
 slice-aggregate-expand : tie.Need-slice-aggregate-expand
 slice-aggregate-expand c = sym (length-take-le _ _ (omega arith))
 
-slice-relend-prefix-expand-2 : tie.Need-slice-relend-prefix-expand-2
-slice-relend-prefix-expand-2 c = search needs
-
 slice-aggregate-expand-2 : tie.Need-slice-aggregate-expand-2
 slice-aggregate-expand-2 c = sym (length-take-le _ _ (omega arith))
-
-expand-requires : tie.Need-expand-requires
-expand-requires c κs = search needs
-
-same-length : tie.Need-same-length
-same-length c = search needs
-
-same-length-2 : tie.Need-same-length-2
-same-length-2 c = search needs
-
-returns : tie.Need-returns
-returns c = search needs
 
 -- the function meets its contract
 pub in-rooms-spec : {M : Type 1} → statement M
 in-rooms-spec =
     tie.close
     (tie.spec
-    at-most-requires
-    at-most-requires-2
-    slice-relend-prefix-expand
+    (λ c κs. search needs)
+    (λ c κs. search needs)
+    (λ c. search needs)
     slice-aggregate-expand
-    slice-relend-prefix-expand-2
+    (λ c. search needs)
     slice-aggregate-expand-2
-    expand-requires
-    same-length
-    same-length-2
-    returns)
+    (λ c κs. search needs)
+    (λ c. search needs)
+    (λ c. search needs)
+    (λ c. search needs))

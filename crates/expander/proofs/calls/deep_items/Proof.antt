@@ -53,15 +53,6 @@ module _ (q : tie.After-items) where
   same : length frames′ ≡ longFrames
   same = (let from-3 = q .items .kept .1 .1 .1 in let from-6 = from-3 .1 .1 .1 in from-6 .1 .0) ∙ long q-copy
 
-copy-requires : tie.Need-copy-requires
-copy-requires c κs = search needs
-
-slice-aggregate-copy : tie.Need-slice-aggregate-copy
-slice-aggregate-copy c = search needs
-
-slice-aggregate-items : tie.Need-slice-aggregate-items
-slice-aggregate-items c = search needs
-
 items-requires : tie.Need-items-requires
 items-requires c κs =
     let p = c .before .before .before .before .before in
@@ -72,32 +63,11 @@ items-requires c κs =
       next-fits = omega (arith, long p, may .standing .fits .few);
     }
 
-enum-known-progress : tie.Need-enum-known-progress
-enum-known-progress c = search needs
-
-enum-told : tie.Need-enum-told
-enum-told c = search needs
-
-refuse-requires : tie.Need-refuse-requires
-refuse-requires c κs = search needs
-
-same-length : tie.Need-same-length
-same-length c = search needs
-
-same-length-2 : tie.Need-same-length-2
-same-length-2 c = search needs
-
 returns : tie.Need-returns
 returns c =
     let match-place = c .before .before in
     let q = match-place .before .before .before .before .before .before in
     λ R s. laws.goes-ended _ _ R (frames′ q) (cells′ q) (q .items .result) (went q s) (c .before .progress .given .1)
-
-same-length-3 : tie.Need-same-length-3
-same-length-3 c = search needs
-
-same-length-4 : tie.Need-same-length-4
-same-length-4 c = search needs
 
 -- it does not pause
 returns-2 : tie.Need-returns-2
@@ -114,16 +84,16 @@ pub deep-items-spec : {M : Type 1} → statement M
 deep-items-spec =
     tie.close
     (tie.spec
-    slice-aggregate-copy
-    copy-requires
-    slice-aggregate-items
+    (λ c. search needs)
+    (λ c κs. search needs)
+    (λ c. search needs)
     items-requires
-    enum-known-progress
-    enum-told
-    refuse-requires
-    same-length
-    same-length-2
+    (λ c. search needs)
+    (λ c. search needs)
+    (λ c κs. search needs)
+    (λ c. search needs)
+    (λ c. search needs)
     returns
-    same-length-3
-    same-length-4
+    (λ c. search needs)
+    (λ c. search needs)
     returns-2)

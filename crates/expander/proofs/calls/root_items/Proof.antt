@@ -62,15 +62,6 @@ module _ (q : tie.After-items) where
       laws.standing-rows (entry q-save .args .tokens .now) (entry q-save .args .n) (ap rowsFor (sym (let from-3 = q .items .kept .1 .1 .1 in from-3 .1 .1 .0)))
       (laws.goes-paused _ _ (result q-save) frames′ cells′ (q .items .result) went e .0)
 
-slice-aggregate-save : tie.Need-slice-aggregate-save
-slice-aggregate-save c = search needs
-
-save-requires : tie.Need-save-requires
-save-requires c κs = search needs
-
-slice-aggregate-items : tie.Need-slice-aggregate-items
-slice-aggregate-items c = search needs
-
 items-requires : tie.Need-items-requires
 items-requires c κs =
     let p = c .before .before .before .before .before in
@@ -79,12 +70,6 @@ items-requires c κs =
           record { lent = entry p .pre .lent; remembers = entry p .pre .remembers; result = result p; standing = standing p };
       next-fits = omega (arith, long p);
     }
-
-enum-known-progress : tie.Need-enum-known-progress
-enum-known-progress c = search needs
-
-enum-known-progress-2 : tie.Need-enum-known-progress-2
-enum-known-progress-2 c = search needs
 
 deep-items-requires : tie.Need-deep-items-requires
 deep-items-requires c κs =
@@ -108,23 +93,11 @@ deep-items-requires c κs =
       frames-short = (let from-3 = q .items .kept .1 .1 .1 in let from-6 = from-3 .1 .1 .1 in from-6 .1 .0) ∙ long (q-save q);
     }
 
-same-length : tie.Need-same-length
-same-length c = search needs
-
-same-length-2 : tie.Need-same-length-2
-same-length-2 c = search needs
-
 returns : tie.Need-returns
 returns c =
     let match-place = c .before .before in
     let q = match-place .before .before .before .before .before .before in
     laws.goes-ended _ _ (result (q-save q)) (frames′ q) (cells′ q) (q .items .result) (went q) (c .before .progress .given .1)
-
-same-length-3 : tie.Need-same-length-3
-same-length-3 c = search needs
-
-same-length-4 : tie.Need-same-length-4
-same-length-4 c = search needs
 
 returns-2 : tie.Need-returns-2
 returns-2 c =
@@ -139,16 +112,16 @@ pub root-items-spec : {M : Type 1} → statement M
 root-items-spec =
     tie.close
     (tie.spec
-    slice-aggregate-save
-    save-requires
-    slice-aggregate-items
+    (λ c. search needs)
+    (λ c κs. search needs)
+    (λ c. search needs)
     items-requires
-    enum-known-progress
-    enum-known-progress-2
+    (λ c. search needs)
+    (λ c. search needs)
     deep-items-requires
-    same-length
-    same-length-2
+    (λ c. search needs)
+    (λ c. search needs)
     returns
-    same-length-3
-    same-length-4
+    (λ c. search needs)
+    (λ c. search needs)
     returns-2)

@@ -40,15 +40,6 @@ module _ (p : tie.After-begin-root) where
       → after R (ended input) ≡ run input (entry .args .root) (entry .args .cells .now)
   runs e = laws.run-is input (entry .args .root) (entry .args .cells .now) e
 
-begin-root-requires : tie.Need-begin-root-requires
-begin-root-requires c κs = search needs
-
-enum-known-begun : tie.Need-enum-known-begun
-enum-known-begun c = search needs
-
-enum-known-begun-2 : tie.Need-enum-known-begun-2
-enum-known-begun-2 c = search needs
-
 root-items-requires : tie.Need-root-items-requires
 root-items-requires c κs =
     let begun-place = c .before .before .before .before in
@@ -59,19 +50,10 @@ root-items-requires c κs =
       stands = laws.stands-start (enters p (begun-place .begun2 .given .1)) (entry p .pre .table .grammar .small);
     }
 
-ended-requires : tie.Need-ended-requires
-ended-requires c κs = search needs
-
 returns : tie.Need-returns
 returns c =
     let p = c .before .before .before in
     runs p (begins p (c .before .begun .given .1) [] (entry p .args .cells .now))
-
-same-length : tie.Need-same-length
-same-length c = search needs
-
-same-length-2 : tie.Need-same-length-2
-same-length-2 c = search needs
 
 returns-2 : tie.Need-returns-2
 returns-2 c =
@@ -87,12 +69,12 @@ pub run-spec : {M : Type 1} → statement M
 run-spec =
     tie.close
     (tie.spec
-    begin-root-requires
-    enum-known-begun
-    enum-known-begun-2
+    (λ c κs. search needs)
+    (λ c. search needs)
+    (λ c. search needs)
     root-items-requires
-    ended-requires
+    (λ c κs. search needs)
     returns
-    same-length
-    same-length-2
+    (λ c. search needs)
+    (λ c. search needs)
     returns-2)

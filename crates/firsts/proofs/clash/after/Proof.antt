@@ -4,9 +4,6 @@ use borrow.Author.Needs.{needs}
 use Rattle.firsts.proofs.clash.after.Statement.{statement}
 use Rattle.firsts.proofs.clash.after.Tie as tie
 
-next-place-requires : tie.Need-next-place-requires
-next-place-requires c κs = search needs
-
 returns : tie.Need-returns
 returns c = search laws.after-on
 
@@ -15,4 +12,4 @@ returns-2 c = search laws.after-end
 
 -- the function meets its contract
 pub after-spec : {M : Type 1} → statement M
-after-spec = tie.close (tie.spec next-place-requires returns returns-2)
+after-spec = tie.close (tie.spec (λ c κs. search needs) returns returns-2)

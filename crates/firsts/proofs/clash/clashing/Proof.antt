@@ -37,17 +37,8 @@ first-place-requires c κs = search needs
 loop-holds : tie.Need-loop-holds Inv-loop2 μ-loop2 Inv-loop μ-loop Inv-search μ-search
 loop-holds c = laws.row-start _ _ (c .first-place .ensures)
 
-after-requires : tie.Need-after-requires Inv-loop2 μ-loop2 Inv-loop μ-loop Inv-search μ-search
-after-requires c κs = search needs
-
 loop2-holds : tie.Need-loop2-holds Inv-loop2 μ-loop2 Inv-loop μ-loop Inv-search μ-search
 loop2-holds c = search laws.column-start
-
-clash-requires : tie.Need-clash-requires Inv-loop2 μ-loop2 Inv-loop μ-loop Inv-search μ-search
-clash-requires c κs = search needs
-
-after-requires-2 : tie.Need-after-requires-2 Inv-loop2 μ-loop2 Inv-loop μ-loop Inv-search μ-search
-after-requires-2 c κs = search needs
 
 loop2-less : tie.Need-loop2-less Inv-loop2 μ-loop2 Inv-loop μ-loop Inv-search μ-search
 loop2-less c = search laws.column-less
@@ -55,20 +46,11 @@ loop2-less c = search laws.column-less
 loop2-again : tie.Need-loop2-again Inv-loop2 μ-loop2 Inv-loop μ-loop Inv-search μ-search
 loop2-again c = search laws.column-next
 
-after-requires-3 : tie.Need-after-requires-3 Inv-loop2 μ-loop2 Inv-loop μ-loop Inv-search μ-search
-after-requires-3 c κs = search needs
-
 loop-less : tie.Need-loop-less Inv-loop2 μ-loop2 Inv-loop μ-loop Inv-search μ-search
 loop-less c = search laws.row-less
 
 loop-again : tie.Need-loop-again Inv-loop2 μ-loop2 Inv-loop μ-loop Inv-search μ-search
 loop-again c = search laws.column-end
-
-add-n : tie.Need-add-n Inv-loop2 μ-loop2 Inv-loop μ-loop Inv-search μ-search
-add-n c = search needs
-
-search-less : tie.Need-search-less Inv-loop2 μ-loop2 Inv-loop μ-loop Inv-search μ-search
-search-less c = search needs
 
 search-again : tie.Need-search-again Inv-loop2 μ-loop2 Inv-loop μ-loop Inv-search μ-search
 search-again c =
@@ -99,17 +81,17 @@ clashing-spec =
     search-holds
     first-place-requires
     loop-holds
-    after-requires
+    (λ c κs. search needs)
     loop2-holds
-    clash-requires
-    after-requires-2
+    (λ c κs. search needs)
+    (λ c κs. search needs)
     loop2-less
     loop2-again
-    after-requires-3
+    (λ c κs. search needs)
     loop-less
     loop-again
-    add-n
-    search-less
+    (λ c. search needs)
+    (λ c. search needs)
     search-again
     returns
     returns-2)

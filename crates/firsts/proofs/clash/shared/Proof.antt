@@ -19,35 +19,17 @@ Inv-loop room n found₀ i₀ found i = laws.JoinRow (sharedIn room) room (first
 abbrev μ-loop : tie.MeasureT-loop
 μ-loop room n found₀ i₀ found i = 256 - i
 
-first-place-requires : tie.Need-first-place-requires Inv-loop2 μ-loop2 Inv-loop μ-loop
-first-place-requires c κs = search needs
-
 loop-holds : tie.Need-loop-holds Inv-loop2 μ-loop2 Inv-loop μ-loop
 loop-holds c = laws.join-row-start _ _ (c .first-place .ensures)
 
-after-requires : tie.Need-after-requires Inv-loop2 μ-loop2 Inv-loop μ-loop
-after-requires c κs = search needs
-
 loop2-holds : tie.Need-loop2-holds Inv-loop2 μ-loop2 Inv-loop μ-loop
 loop2-holds c = search laws.join-column-start
-
-shared-by-requires : tie.Need-shared-by-requires Inv-loop2 μ-loop2 Inv-loop μ-loop
-shared-by-requires c κs = search needs
-
-join-requires : tie.Need-join-requires Inv-loop2 μ-loop2 Inv-loop μ-loop
-join-requires c κs = search needs
-
-after-requires-2 : tie.Need-after-requires-2 Inv-loop2 μ-loop2 Inv-loop μ-loop
-after-requires-2 c κs = search needs
 
 loop2-less : tie.Need-loop2-less Inv-loop2 μ-loop2 Inv-loop μ-loop
 loop2-less c = search laws.join-column-less
 
 loop2-again : tie.Need-loop2-again Inv-loop2 μ-loop2 Inv-loop μ-loop
 loop2-again c = search laws.join-column-next
-
-after-requires-3 : tie.Need-after-requires-3 Inv-loop2 μ-loop2 Inv-loop μ-loop
-after-requires-3 c κs = search needs
 
 loop-less : tie.Need-loop-less Inv-loop2 μ-loop2 Inv-loop μ-loop
 loop-less c = search laws.join-row-less
@@ -67,16 +49,16 @@ shared-spec =
     μ-loop2
     Inv-loop
     μ-loop
-    first-place-requires
+    (λ c κs. search needs)
     loop-holds
-    after-requires
+    (λ c κs. search needs)
     loop2-holds
-    shared-by-requires
-    join-requires
-    after-requires-2
+    (λ c κs. search needs)
+    (λ c κs. search needs)
+    (λ c κs. search needs)
     loop2-less
     loop2-again
-    after-requires-3
+    (λ c κs. search needs)
     loop-less
     loop-again
     returns)

@@ -31,32 +31,11 @@ module _ (p : tie.After-known-told Inv-loop μ-loop) where
 loop-holds : tie.Need-loop-holds Inv-loop μ-loop
 loop-holds c = laws.walk-start _ _ _ _ _
 
-item-at-requires : tie.Need-item-at-requires Inv-loop μ-loop
-item-at-requires c κs = search needs
-
-enum-told : tie.Need-enum-told Inv-loop μ-loop
-enum-told c = search needs
-
-found-requires : tie.Need-found-requires Inv-loop μ-loop
-found-requires c κs = search needs
-
 returns : tie.Need-returns Inv-loop μ-loop
 returns c =
     let at-item-at = c .before .before .before in
     let at-loop = at-item-at .before .before in
     laws.walk-done (at-loop .loop .inv) (sym (c .before .enum-told .given .1) ∙ at-item-at .item-at .ensures) (c .found .ensures)
-
-enum-known-step : tie.Need-enum-known-step Inv-loop μ-loop
-enum-known-step c = search needs
-
-joined-requires : tie.Need-joined-requires Inv-loop μ-loop
-joined-requires c κs = search needs
-
-joined-requires-2 : tie.Need-joined-requires-2 Inv-loop μ-loop
-joined-requires-2 c κs = search needs
-
-passed-requires : tie.Need-passed-requires Inv-loop μ-loop
-passed-requires c κs = search needs
 
 loop-less : tie.Need-loop-less Inv-loop μ-loop
 loop-less c =
@@ -69,18 +48,12 @@ loop-again c =
     laws.walk-next (looped p .loop .inv) (item p) (c .before .before .before .joined .ensures) (c .before .before .joined2 .ensures)
     (c .before .passed .ensures) (c .if1 .taken)
 
-found-requires-2 : tie.Need-found-requires-2 Inv-loop μ-loop
-found-requires-2 c κs = search needs
-
 returns-2 : tie.Need-returns-2 Inv-loop μ-loop
 returns-2 c =
     let tested = c .before in
     let p = tested .before .before .before .before in
     laws.walk-stop (looped p .loop .inv) (item p) (tested .before .before .before .joined .ensures) (tested .before .before .joined2 .ensures)
     (tested .before .passed .ensures) (tested .if1 .left) (c .found2 .ensures)
-
-found-requires-3 : tie.Need-found-requires-3 Inv-loop μ-loop
-found-requires-3 c κs = search needs
 
 returns-3 : tie.Need-returns-3 Inv-loop μ-loop
 returns-3 c = search laws.walk-end
@@ -93,17 +66,17 @@ gather-spec =
     Inv-loop
     μ-loop
     loop-holds
-    item-at-requires
-    enum-told
-    found-requires
+    (λ c κs. search needs)
+    (λ c. search needs)
+    (λ c κs. search needs)
     returns
-    enum-known-step
-    joined-requires
-    joined-requires-2
-    passed-requires
+    (λ c. search needs)
+    (λ c κs. search needs)
+    (λ c κs. search needs)
+    (λ c κs. search needs)
     loop-less
     loop-again
-    found-requires-2
+    (λ c κs. search needs)
     returns-2
-    found-requires-3
+    (λ c κs. search needs)
     returns-3)

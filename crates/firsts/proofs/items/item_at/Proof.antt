@@ -30,18 +30,6 @@ module _ (p : tie.After-known-told) where
   inside : entry .args .at + (3 + size) ≤ length table
   inside = front-inside table (entry .args .at) field
 
-front-at-requires : tie.Need-front-at-requires
-front-at-requires c κs = search needs
-
-enum-told : tie.Need-enum-told
-enum-told c = search needs
-
-enum-told-2 : tie.Need-enum-told-2
-enum-told-2 c = search needs
-
-enum-known-front : tie.Need-enum-known-front
-enum-known-front c = search needs
-
 returns : tie.Need-returns
 returns c = laws.step-done (table (c .before)) (entry (c .before) .args .at) (field (c .before)) (c .if1 .taken)
 
@@ -51,17 +39,8 @@ add-from c = omega (arith, inside (c .before))
 add-to : tie.Need-add-to
 add-to c = omega (arith, inside (c .before))
 
-sub-symbol : tie.Need-sub-symbol
-sub-symbol c = search needs
-
-part-symbol-start : tie.Need-part-symbol-start
-part-symbol-start c = search needs
-
 part-symbol-end : tie.Need-part-symbol-end
 part-symbol-end c = omega (arith, inside (c .before))
-
-symbol-requires : tie.Need-symbol-requires
-symbol-requires c κs = search needs
 
 returns-2 : tie.Need-returns-2
 returns-2 c =
@@ -83,17 +62,17 @@ pub item-at-spec : {M : Type 1} → statement M
 item-at-spec =
     tie.close
     (tie.spec
-    front-at-requires
-    enum-told
-    enum-told-2
-    enum-known-front
+    (λ c κs. search needs)
+    (λ c. search needs)
+    (λ c. search needs)
+    (λ c. search needs)
     returns
     add-from
     add-to
-    sub-symbol
-    part-symbol-start
+    (λ c. search needs)
+    (λ c. search needs)
     part-symbol-end
-    symbol-requires
+    (λ c κs. search needs)
     returns-2
     returns-3
     returns-4)

@@ -4,18 +4,9 @@ use Rattle.firsts.proofs.ItemsLaws as laws
 use Rattle.firsts.proofs.items.keyword_set.Statement.{statement}
 use Rattle.firsts.proofs.items.keyword_set.Tie as tie
 
-add-only : tie.Need-add-only
-add-only c = search needs
-
-only-requires : tie.Need-only-requires
-only-requires c κs = search needs
-
-returns : tie.Need-returns
-returns c = search needs
-
 returns-2 : tie.Need-returns-2
 returns-2 c = laws.keyword-none _ (c .if1 .left)
 
 -- the function meets its contract
 pub keyword-set-spec : {M : Type 1} → statement M
-keyword-set-spec = tie.close (tie.spec add-only only-requires returns returns-2)
+keyword-set-spec = tie.close (tie.spec (λ c. search needs) (λ c κs. search needs) (λ c. search needs) returns-2)

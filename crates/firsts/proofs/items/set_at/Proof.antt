@@ -5,18 +5,9 @@ use Rattle.grammar.proofs.ReaderLaws.{getD-past}
 use Rattle.firsts.proofs.items.set_at.Statement.{statement}
 use Rattle.firsts.proofs.items.set_at.Tie as tie
 
-mul-result : tie.Need-mul-result
-mul-result c = search needs
-
-shared-slice-read-result : tie.Need-shared-slice-read-result
-shared-slice-read-result c = search needs
-
-returns : tie.Need-returns
-returns c = search needs
-
 returns-2 : tie.Need-returns-2
 returns-2 c = sym (getD-past (c .before .args .sets .now) _ 0 (c .if1 .left))
 
 -- the function meets its contract
 pub set-at-spec : {M : Type 1} → statement M
-set-at-spec = tie.close (tie.spec mul-result shared-slice-read-result returns returns-2)
+set-at-spec = tie.close (tie.spec (λ c. search needs) (λ c. search needs) (λ c. search needs) returns-2)

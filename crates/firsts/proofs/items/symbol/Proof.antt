@@ -4,12 +4,6 @@ use Rattle.firsts.proofs.ItemsLaws as laws
 use Rattle.firsts.proofs.items.symbol.Statement.{statement}
 use Rattle.firsts.proofs.items.symbol.Tie as tie
 
-byte-requires : tie.Need-byte-requires
-byte-requires c κs = search needs
-
-byte-requires-2 : tie.Need-byte-requires-2
-byte-requires-2 c κs = search needs
-
 returns : tie.Need-returns
 returns c = laws.symbol-is _ _ _ 0 (c .before .before .byte .ensures) (c .before .byte2 .ensures) (c .match .keys1)
 
@@ -29,4 +23,4 @@ returns-5 c = search laws.symbol-other
 pub symbol-spec : {M : Type 1} → statement M
 symbol-spec =
     tie.close
-    (tie.spec byte-requires byte-requires-2 returns returns-2 returns-3 returns-4 returns-5)
+    (tie.spec (λ c κs. search needs) (λ c κs. search needs) returns returns-2 returns-3 returns-4 returns-5)

@@ -14,26 +14,11 @@ Inv-loop table owners starts m whose needs k set₀ down₀ set down = laws.Foun
 abbrev μ-loop : tie.MeasureT-loop
 μ-loop table owners starts m whose needs k set₀ down₀ set down = 64 - count 64 (hasKind set)
 
-slice-aggregate-needs-of : tie.Need-slice-aggregate-needs-of Inv-loop μ-loop
-slice-aggregate-needs-of c = search needs
-
-slice-aggregate-needs-of-2 : tie.Need-slice-aggregate-needs-of-2 Inv-loop μ-loop
-slice-aggregate-needs-of-2 c = search needs
-
 needs-of-requires : tie.Need-needs-of-requires Inv-loop μ-loop
 needs-of-requires c κs = laws.needs-lent (c .before .before .before .before .before .pre .few)
 
 loop-holds : tie.Need-loop-holds Inv-loop μ-loop
 loop-holds c = laws.found-start _
-
-slice-aggregate-null-pass : tie.Need-slice-aggregate-null-pass Inv-loop μ-loop
-slice-aggregate-null-pass c = search needs
-
-slice-aggregate-null-pass-2 : tie.Need-slice-aggregate-null-pass-2 Inv-loop μ-loop
-slice-aggregate-null-pass-2 c = search needs
-
-null-pass-requires : tie.Need-null-pass-requires Inv-loop μ-loop
-null-pass-requires c κs = search needs
 
 returns : tie.Need-returns Inv-loop μ-loop
 returns c = search laws.found-stop
@@ -53,13 +38,13 @@ nullables-spec =
     (tie.spec
     Inv-loop
     μ-loop
-    slice-aggregate-needs-of
-    slice-aggregate-needs-of-2
+    (λ c. search needs)
+    (λ c. search needs)
     needs-of-requires
     loop-holds
-    slice-aggregate-null-pass
-    slice-aggregate-null-pass-2
-    null-pass-requires
+    (λ c. search needs)
+    (λ c. search needs)
+    (λ c κs. search needs)
     returns
     loop-less
     loop-again)

@@ -4,12 +4,6 @@ use Rattle.firsts.proofs.NeedsLaws as laws
 use Rattle.firsts.proofs.nullable.step_place.Statement.{statement}
 use Rattle.firsts.proofs.nullable.step_place.Tie as tie
 
-sub-result : tie.Need-sub-result
-sub-result c = search needs
-
-sub-result-2 : tie.Need-sub-result-2
-sub-result-2 c = search needs
-
 returns : tie.Need-returns
 returns c = laws.place-by _ _ (c .if1 .taken)
 
@@ -18,4 +12,4 @@ returns-2 c = laws.place-by _ _ (c .if1 .left)
 
 -- the function meets its contract
 pub step-place-spec : {M : Type 1} → statement M
-step-place-spec = tie.close (tie.spec sub-result sub-result-2 returns returns-2)
+step-place-spec = tie.close (tie.spec (λ c. search needs) (λ c. search needs) returns returns-2)

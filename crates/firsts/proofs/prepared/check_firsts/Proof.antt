@@ -5,18 +5,6 @@ use borrow.Author.Needs.{needs}
 use Rattle.firsts.proofs.prepared.check_firsts.Statement.{statement}
 use Rattle.firsts.proofs.prepared.check_firsts.Tie as tie
 
-prepare-requires : tie.Need-prepare-requires
-prepare-requires c κs = search needs
-
-cast-refuse : tie.Need-cast-refuse
-cast-refuse c = search needs
-
-refuse-requires : tie.Need-refuse-requires
-refuse-requires c κs = search needs
-
-check-clash-requires : tie.Need-check-clash-requires
-check-clash-requires c κs = search needs
-
 returns : tie.Need-returns
 returns c =
     let tested = c .before in
@@ -41,9 +29,9 @@ pub check-firsts-spec : {M : Type 1} → statement M
 check-firsts-spec =
     tie.close
     (tie.spec
-    prepare-requires
-    cast-refuse
-    refuse-requires
-    check-clash-requires
+    (λ c κs. search needs)
+    (λ c. search needs)
+    (λ c κs. search needs)
+    (λ c κs. search needs)
     returns
     returns-2)

@@ -25,38 +25,14 @@ module _ (l : tie.At-loop Inv-loop μ-loop) where
   abbrev began : tie.After-begin Inv-loop μ-loop
   began = l .before .before .before
 
-begin-requires : tie.Need-begin-requires Inv-loop μ-loop
-begin-requires c κs = search needs
-
 loop-holds : tie.Need-loop-holds Inv-loop μ-loop
 loop-holds c = search laws.fill-start
-
-sub-j : tie.Need-sub-j Inv-loop μ-loop
-sub-j c = search needs
-
-element-copy-out-owner : tie.Need-element-copy-out-owner Inv-loop μ-loop
-element-copy-out-owner c = search needs
-
-offset-requires : tie.Need-offset-requires Inv-loop μ-loop
-offset-requires c κs = search needs
-
-gather-requires : tie.Need-gather-requires Inv-loop μ-loop
-gather-requires c κs = search needs
-
-mul-lay : tie.Need-mul-lay Inv-loop μ-loop
-mul-lay c = search needs
-
-element-copy-out-lay : tie.Need-element-copy-out-lay Inv-loop μ-loop
-element-copy-out-lay c = search needs
 
 lay-requires : tie.Need-lay-requires Inv-loop μ-loop
 lay-requires c κs =
     let got = c .before .before .before in
     let tested = got .before .before .before in
     laws.fill-at (entry (began (tested .before)) .pre) _ (tested .before .loop .inv) (tested .loop-test .taken)
-
-loop-less : tie.Need-loop-less Inv-loop μ-loop
-loop-less c = search needs
 
 loop-again : tie.Need-loop-again Inv-loop μ-loop
 loop-again c =
@@ -80,16 +56,16 @@ fill-spec =
     (tie.spec
     Inv-loop
     μ-loop
-    begin-requires
+    (λ c κs. search needs)
     loop-holds
-    sub-j
-    element-copy-out-owner
-    offset-requires
-    gather-requires
-    mul-lay
-    element-copy-out-lay
+    (λ c. search needs)
+    (λ c. search needs)
+    (λ c κs. search needs)
+    (λ c κs. search needs)
+    (λ c. search needs)
+    (λ c. search needs)
     lay-requires
-    loop-less
+    (λ c. search needs)
     loop-again
     same-length
     returns)

@@ -4,12 +4,6 @@ use borrow.Author.Needs.{needs}
 use Rattle.firsts.proofs.prepared.prepare.Statement.{statement}
 use Rattle.firsts.proofs.prepared.prepare.Tie as tie
 
-nullables-requires : tie.Need-nullables-requires
-nullables-requires c κs = search needs
-
-sets-of-requires : tie.Need-sets-of-requires
-sets-of-requires c κs = search needs
-
 slice-aggregate-fill : tie.Need-slice-aggregate-fill
 slice-aggregate-fill c = search laws.kinds-size
 
@@ -23,9 +17,6 @@ fill-requires c κs =
 slice-aggregate-left-recursive : tie.Need-slice-aggregate-left-recursive
 slice-aggregate-left-recursive c = search laws.calls-size
 
-left-recursive-requires : tie.Need-left-recursive-requires
-left-recursive-requires c κs = search needs
-
 returns : tie.Need-returns
 returns c = search laws.prepared
 
@@ -34,10 +25,10 @@ pub prepare-spec : {M : Type 1} → statement M
 prepare-spec =
     tie.close
     (tie.spec
-    nullables-requires
-    sets-of-requires
+    (λ c κs. search needs)
+    (λ c κs. search needs)
     slice-aggregate-fill
     fill-requires
     slice-aggregate-left-recursive
-    left-recursive-requires
+    (λ c κs. search needs)
     returns)

@@ -17,15 +17,6 @@ module _ (l : tie.After-larger Inv-loop μ-loop) where
   abbrev counted : tie.After-used Inv-loop μ-loop
   counted = l .before .before .before
 
-used-requires : tie.Need-used-requires Inv-loop μ-loop
-used-requires c κs = search needs
-
-used-requires-2 : tie.Need-used-requires-2 Inv-loop μ-loop
-used-requires-2 c κs = search needs
-
-larger-requires : tie.Need-larger-requires Inv-loop μ-loop
-larger-requires c κs = search needs
-
 loop-holds : tie.Need-loop-holds Inv-loop μ-loop
 loop-holds c = laws.both-start _ _
 
@@ -34,12 +25,6 @@ take-callee-requires c κs =
     let tested = c .before .before in
     let from = counted (tested .before .before) in
     laws.both-lent (from .used .ensures) (tested .before .loop .inv) (from .before .before .before .before .pre)
-
-add-k : tie.Need-add-k Inv-loop μ-loop
-add-k c = search needs
-
-loop-less : tie.Need-loop-less Inv-loop μ-loop
-loop-less c = search needs
 
 loop-again : tie.Need-loop-again Inv-loop μ-loop
 loop-again c = search laws.both-next
@@ -60,13 +45,13 @@ close-spec =
     (tie.spec
     Inv-loop
     μ-loop
-    used-requires
-    used-requires-2
-    larger-requires
+    (λ c κs. search needs)
+    (λ c κs. search needs)
+    (λ c κs. search needs)
     loop-holds
     take-callee-requires
-    add-k
-    loop-less
+    (λ c. search needs)
+    (λ c. search needs)
     loop-again
     same-length
     same-length-2

@@ -14,21 +14,6 @@ abbrev μ-loop : tie.MeasureT-loop
 loop-holds : tie.Need-loop-holds Inv-loop μ-loop
 loop-holds c = laws.joining-start _ _ _ _ _ _ _
 
-byte-requires : tie.Need-byte-requires Inv-loop μ-loop
-byte-requires c κs = search needs
-
-offset-requires : tie.Need-offset-requires Inv-loop μ-loop
-offset-requires c κs = search needs
-
-first-step-requires : tie.Need-first-step-requires Inv-loop μ-loop
-first-step-requires c κs = search needs
-
-add-j : tie.Need-add-j Inv-loop μ-loop
-add-j c = search needs
-
-loop-less : tie.Need-loop-less Inv-loop μ-loop
-loop-less c = search needs
-
 loop-again : tie.Need-loop-again Inv-loop μ-loop
 loop-again c = search laws.joining-next
 
@@ -49,11 +34,11 @@ first-round-spec =
     Inv-loop
     μ-loop
     loop-holds
-    byte-requires
-    offset-requires
-    first-step-requires
-    add-j
-    loop-less
+    (λ c κs. search needs)
+    (λ c κs. search needs)
+    (λ c κs. search needs)
+    (λ c. search needs)
+    (λ c. search needs)
     loop-again
     same-length
     same-length-2

@@ -5,9 +5,6 @@ use Rattle.firsts.proofs.ClosedSets as closed
 use Rattle.firsts.proofs.sets.sets_of.Statement.{statement}
 use Rattle.firsts.proofs.sets.sets_of.Tie as tie
 
-first-round-requires : tie.Need-first-round-requires
-first-round-requires c κs = search needs
-
 close-requires : tie.Need-close-requires
 close-requires c κs = laws.round-lent (c .before .before .first-round .ensures)
 
@@ -19,6 +16,6 @@ pub sets-of-spec : {M : Type 1} → statement M
 sets-of-spec =
     tie.close
     (tie.spec
-    first-round-requires
+    (λ c κs. search needs)
     close-requires
     returns)

@@ -11,53 +11,8 @@ Inv-loop calls₀ kinds₀ many k more-calls more-kinds n₀ calls kinds n = law
 abbrev μ-loop : tie.MeasureT-loop
 μ-loop calls₀ kinds₀ many k more-calls more-kinds n₀ calls kinds n = many - n
 
-set-at-requires : tie.Need-set-at-requires Inv-loop μ-loop
-set-at-requires c κs = search needs
-
-set-at-requires-2 : tie.Need-set-at-requires-2 Inv-loop μ-loop
-set-at-requires-2 c κs = search needs
-
 loop-holds : tie.Need-loop-holds Inv-loop μ-loop
 loop-holds c = search laws.taking-start
-
-cast-i : tie.Need-cast-i Inv-loop μ-loop
-cast-i c = search needs
-
-mul-old : tie.Need-mul-old Inv-loop μ-loop
-mul-old c = search needs
-
-slice-read-old : tie.Need-slice-read-old Inv-loop μ-loop
-slice-read-old c = search needs
-
-mul-given : tie.Need-mul-given Inv-loop μ-loop
-mul-given c = search needs
-
-slice-read-given : tie.Need-slice-read-given Inv-loop μ-loop
-slice-read-given c = search needs
-
-with-callee-requires : tie.Need-with-callee-requires Inv-loop μ-loop
-with-callee-requires c κs = search needs
-
-mul-calls : tie.Need-mul-calls Inv-loop μ-loop
-mul-calls c = search needs
-
-slice-write-calls : tie.Need-slice-write-calls Inv-loop μ-loop
-slice-write-calls c = search needs
-
-with-callee-requires-2 : tie.Need-with-callee-requires-2 Inv-loop μ-loop
-with-callee-requires-2 c κs = search needs
-
-mul-kinds : tie.Need-mul-kinds Inv-loop μ-loop
-mul-kinds c = search needs
-
-slice-write-kinds : tie.Need-slice-write-kinds Inv-loop μ-loop
-slice-write-kinds c = search needs
-
-add-n : tie.Need-add-n Inv-loop μ-loop
-add-n c = search needs
-
-loop-less : tie.Need-loop-less Inv-loop μ-loop
-loop-less c = search needs
 
 loop-again : tie.Need-loop-again Inv-loop μ-loop
 loop-again c =
@@ -83,22 +38,22 @@ take-callee-spec =
     (tie.spec
     Inv-loop
     μ-loop
-    set-at-requires
-    set-at-requires-2
+    (λ c κs. search needs)
+    (λ c κs. search needs)
     loop-holds
-    cast-i
-    mul-old
-    slice-read-old
-    mul-given
-    slice-read-given
-    with-callee-requires
-    mul-calls
-    slice-write-calls
-    with-callee-requires-2
-    mul-kinds
-    slice-write-kinds
-    add-n
-    loop-less
+    (λ c. search needs)
+    (λ c. search needs)
+    (λ c. search needs)
+    (λ c. search needs)
+    (λ c. search needs)
+    (λ c κs. search needs)
+    (λ c. search needs)
+    (λ c. search needs)
+    (λ c κs. search needs)
+    (λ c. search needs)
+    (λ c. search needs)
+    (λ c. search needs)
+    (λ c. search needs)
     loop-again
     same-length
     same-length-2

@@ -5,12 +5,6 @@ use borrow.Author.Needs.{needs}
 use Rattle.firsts.proofs.sets.with_callee.Statement.{statement}
 use Rattle.firsts.proofs.sets.with_callee.Tie as tie
 
-has-requires : tie.Need-has-requires
-has-requires c κs = search needs
-
-join-requires : tie.Need-join-requires
-join-requires c κs = search needs
-
 returns : tie.Need-returns
 returns c = c .join .ensures ∙ laws.joined-by _ _ (c .before .before .has .ensures) (c .before .if1 .taken)
 
@@ -19,4 +13,4 @@ returns-2 c = laws.joined-by _ _ (c .before .has .ensures) (c .if1 .left)
 
 -- the function meets its contract
 pub with-callee-spec : {M : Type 1} → statement M
-with-callee-spec = tie.close (tie.spec has-requires join-requires returns returns-2)
+with-callee-spec = tie.close (tie.spec (λ c κs. search needs) (λ c κs. search needs) returns returns-2)

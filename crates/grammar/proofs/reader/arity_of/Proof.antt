@@ -7,15 +7,6 @@ use Rattle.grammar.proofs.ReaderLaws as laws
 returns : tie.Need-returns
 returns c = laws.arity-low _ (c .if1 .taken)
 
-cast-k : tie.Need-cast-k
-cast-k c = search needs
-
-mul-result : tie.Need-mul-result
-mul-result c = search needs
-
-array-read-result : tie.Need-array-read-result
-array-read-result c = search needs
-
 returns-2 : tie.Need-returns-2
 returns-2 c = laws.arity-at _
 
@@ -25,4 +16,4 @@ returns-3 c = laws.arity-high _ (c .if2 .left)
 -- the function meets its contract
 pub arity-of-spec : {M : Type 1} → statement M
 arity-of-spec =
-    tie.close (tie.spec returns cast-k mul-result array-read-result returns-2 returns-3)
+    tie.close (tie.spec returns (λ c. search needs) (λ c. search needs) (λ c. search needs) returns-2 returns-3)

@@ -4,15 +4,9 @@ use Rattle.grammar.proofs.reader.byte.Statement.{statement}
 use Rattle.grammar.proofs.reader.byte.Tie as tie
 use Rattle.grammar.proofs.ReaderLaws.{getD-past}
 
-shared-slice-read-result : tie.Need-shared-slice-read-result
-shared-slice-read-result c = search needs
-
-returns : tie.Need-returns
-returns c = search needs
-
 returns-2 : tie.Need-returns-2
 returns-2 c = search getD-past
 
 -- the function meets its contract
 pub byte-spec : {M : Type 1} → statement M
-byte-spec = tie.close (tie.spec shared-slice-read-result returns returns-2)
+byte-spec = tie.close (tie.spec (λ c. search needs) (λ c. search needs) returns-2)

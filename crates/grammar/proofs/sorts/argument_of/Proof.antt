@@ -6,15 +6,6 @@ use borrow.Author.Needs.{needs}
 use Rattle.grammar.proofs.sorts.argument_of.Statement.{statement}
 use Rattle.grammar.proofs.sorts.argument_of.Tie as tie
 
-by-code-requires : tie.Need-by-code-requires
-by-code-requires c κs = search needs
-
-by-code-requires-2 : tie.Need-by-code-requires-2
-by-code-requires-2 c κs = search needs
-
-by-code-requires-3 : tie.Need-by-code-requires-3
-by-code-requires-3 c κs = search needs
-
 returns : tie.Need-returns
 returns c = cc (laws.argument-is _ (c .before .match .keys1) (c .by-code .ensures ∙ laws.firsts _))
 
@@ -32,9 +23,9 @@ pub argument-of-spec : {M : Type 1} → statement M
 argument-of-spec =
     tie.close
     (tie.spec
-    by-code-requires
-    by-code-requires-2
-    by-code-requires-3
+    (λ c κs. search needs)
+    (λ c κs. search needs)
+    (λ c κs. search needs)
     returns
     returns-2
     returns-3

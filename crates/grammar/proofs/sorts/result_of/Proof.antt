@@ -5,12 +5,9 @@ use borrow.Author.Needs.{needs}
 use Rattle.grammar.proofs.sorts.result_of.Statement.{statement}
 use Rattle.grammar.proofs.sorts.result_of.Tie as tie
 
-by-code-requires : tie.Need-by-code-requires
-by-code-requires c κs = search needs
-
 returns : tie.Need-returns
 returns c = c .by-code .ensures ∙ laws.results _
 
 -- the function meets its contract
 pub result-of-spec : {M : Type 1} → statement M
-result-of-spec = tie.close (tie.spec by-code-requires returns)
+result-of-spec = tie.close (tie.spec (λ c κs. search needs) returns)

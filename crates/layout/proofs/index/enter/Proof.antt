@@ -29,12 +29,6 @@ mul-at c = omega (arith, few c)
 add-at : tie.Need-add-at
 add-at c = omega (arith, few c)
 
-mul-room : tie.Need-mul-room
-mul-room c = search needs
-
-element-copy-out-room : tie.Need-element-copy-out-room
-element-copy-out-room c = search needs
-
 mul-room-2 : tie.Need-mul-room-2
 mul-room-2 c = omega (arith, few (c .before))
 
@@ -53,9 +47,6 @@ mul-room-3 c = omega (arith, few (c .before))
 element-write-room-2 : tie.Need-element-write-room-2
 element-write-room-2 c = omega (arith, few (c .before))
 
-cast-room-2 : tie.Need-cast-room-2
-cast-room-2 c = search needs
-
 add-room-2 : tie.Need-add-room-2
 add-room-2 c = omega (arith, few (c .before))
 
@@ -64,9 +55,6 @@ mul-room-4 c = omega (arith, few (c .before))
 
 element-write-room-3 : tie.Need-element-write-room-3
 element-write-room-3 c = omega (arith, few (c .before))
-
-cast-room-3 : tie.Need-cast-room-3
-cast-room-3 c = search needs
 
 add-room-3 : tie.Need-add-room-3
 add-room-3 c = omega (arith, few (c .before))
@@ -83,12 +71,6 @@ add-room-4 c = omega (arith, few (c .before))
 cast-room-4 : tie.Need-cast-room-4
 cast-room-4 c = omega (arith, few (c .before))
 
-mul-room-6 : tie.Need-mul-room-6
-mul-room-6 c = search needs
-
-element-write-room-5 : tie.Need-element-write-room-5
-element-write-room-5 c = search needs
-
 returns-2 : tie.Need-returns-2
 returns-2 c = search (laws.entered-some, not-false, hashed (c .before))
 
@@ -100,24 +82,24 @@ enter-spec =
     returns
     mul-at
     add-at
-    mul-room
-    element-copy-out-room
+    (λ c. search needs)
+    (λ c. search needs)
     mul-room-2
     element-write-room
     cast-room
     add-room
     mul-room-3
     element-write-room-2
-    cast-room-2
+    (λ c. search needs)
     add-room-2
     mul-room-4
     element-write-room-3
-    cast-room-3
+    (λ c. search needs)
     add-room-3
     mul-room-5
     element-write-room-4
     add-room-4
     cast-room-4
-    mul-room-6
-    element-write-room-5
+    (λ c. search needs)
+    (λ c. search needs)
     returns-2)

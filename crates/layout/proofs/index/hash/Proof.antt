@@ -16,47 +16,8 @@ abbrev μ-loop : tie.MeasureT-loop
 loop-holds : tie.Need-loop-holds Inv-loop μ-loop
 loop-holds c = laws.hashing-start
 
-sub-loop : tie.Need-sub-loop Inv-loop μ-loop
-sub-loop c = search needs
-
-sub-packed : tie.Need-sub-packed Inv-loop μ-loop
-sub-packed c = search needs
-
-part-packed-start : tie.Need-part-packed-start Inv-loop μ-loop
-part-packed-start c = search needs
-
-part-packed-end : tie.Need-part-packed-end Inv-loop μ-loop
-part-packed-end c = search needs
-
-packed-requires : tie.Need-packed-requires Inv-loop μ-loop
-packed-requires c κs = search needs
-
-mixed-requires : tie.Need-mixed-requires Inv-loop μ-loop
-mixed-requires c κs = search needs
-
-add-i : tie.Need-add-i Inv-loop μ-loop
-add-i c = search needs
-
-loop-less : tie.Need-loop-less Inv-loop μ-loop
-loop-less c = search needs
-
 loop-again : tie.Need-loop-again Inv-loop μ-loop
 loop-again c = search laws.hashing-next
-
-sub-packed-2 : tie.Need-sub-packed-2 Inv-loop μ-loop
-sub-packed-2 c = search needs
-
-part-packed-start-2 : tie.Need-part-packed-start-2 Inv-loop μ-loop
-part-packed-start-2 c = search needs
-
-part-packed-end-2 : tie.Need-part-packed-end-2 Inv-loop μ-loop
-part-packed-end-2 c = search needs
-
-packed-requires-2 : tie.Need-packed-requires-2 Inv-loop μ-loop
-packed-requires-2 c κs = search needs
-
-mixed-requires-2 : tie.Need-mixed-requires-2 Inv-loop μ-loop
-mixed-requires-2 c κs = search needs
 
 returns : tie.Need-returns Inv-loop μ-loop
 returns c = search laws.hashing-end
@@ -69,18 +30,18 @@ hash-spec =
     Inv-loop
     μ-loop
     loop-holds
-    sub-loop
-    sub-packed
-    part-packed-start
-    part-packed-end
-    packed-requires
-    mixed-requires
-    add-i
-    loop-less
+    (λ c. search needs)
+    (λ c. search needs)
+    (λ c. search needs)
+    (λ c. search needs)
+    (λ c κs. search needs)
+    (λ c κs. search needs)
+    (λ c. search needs)
+    (λ c. search needs)
     loop-again
-    sub-packed-2
-    part-packed-start-2
-    part-packed-end-2
-    packed-requires-2
-    mixed-requires-2
+    (λ c. search needs)
+    (λ c. search needs)
+    (λ c. search needs)
+    (λ c κs. search needs)
+    (λ c κs. search needs)
     returns)

@@ -41,18 +41,12 @@ mul-wide-number c = omega arith
 element-copy-out-wide-number : tie.Need-element-copy-out-wide-number Inv-loop μ-loop
 element-copy-out-wide-number c = omega arith
 
-wide-number-requires : tie.Need-wide-number-requires Inv-loop μ-loop
-wide-number-requires c κs = search needs
-
 loop-holds : tie.Need-loop-holds Inv-loop μ-loop
 loop-holds c =
     record {
       small = omega (arith, c .wide-number .ensures, start c .pre .falling .heads (bucketOf (start c .args .h)) (omega arith));
       search = λ words x. laws.searching-start x (start c .pre .hashed) (c .wide-number .ensures);
     }
-
-is-entry-requires : tie.Need-is-entry-requires Inv-loop μ-loop
-is-entry-requires c κs = search needs
 
 returns : tie.Need-returns Inv-loop μ-loop
 returns c =
@@ -70,9 +64,6 @@ mul-wide-number-3 c = omega arith
 
 element-copy-out-wide-number-2 : tie.Need-element-copy-out-wide-number-2 Inv-loop μ-loop
 element-copy-out-wide-number-2 c = omega arith
-
-wide-number-requires-2 : tie.Need-wide-number-requires-2 Inv-loop μ-loop
-wide-number-requires-2 c κs = search needs
 
 loop-less : tie.Need-loop-less Inv-loop μ-loop
 loop-less c = omega (arith, falls (c .before .before .before))
@@ -99,15 +90,15 @@ is-among-spec =
     μ-loop
     mul-wide-number
     element-copy-out-wide-number
-    wide-number-requires
+    (λ c κs. search needs)
     loop-holds
-    is-entry-requires
+    (λ c κs. search needs)
     returns
     mul-wide-number-2
     add-wide-number
     mul-wide-number-3
     element-copy-out-wide-number-2
-    wide-number-requires-2
+    (λ c κs. search needs)
     loop-less
     loop-again
     returns-2)

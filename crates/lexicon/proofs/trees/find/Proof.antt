@@ -34,16 +34,10 @@ shared-slice-read-wide-number c =
     let start = at-start (c .before) in
     laws.root-inside (start .pre .0) (start .args .s .now) (start .args .hash)
 
-wide-number-requires : tie.Need-wide-number-requires Inv-loop μ-loop
-wide-number-requires c κs = search needs
-
 loop-holds : tie.Need-loop-holds Inv-loop μ-loop
 loop-holds c =
     let start = at-start (c .before .before) in
     laws.chasing-start (start .pre .0) _ (start .pre .1) refl refl (c .wide-number .ensures)
-
-sub-i : tie.Need-sub-i Inv-loop μ-loop
-sub-i c = search needs
 
 is-spelled-requires : tie.Need-is-spelled-requires Inv-loop μ-loop
 is-spelled-requires c κs = laws.place-inside (c .before .loop .inv) (c .loop-test .taken)
@@ -84,9 +78,6 @@ shared-slice-read-wide-number-2 c =
     let turn-test = in-loop (c .before) in
     omega (arith, laws.branch-inside (turn-test .before .loop .inv) (turn-test .loop-test .taken))
 
-wide-number-requires-2 : tie.Need-wide-number-requires-2 Inv-loop μ-loop
-wide-number-requires-2 c κs = search needs
-
 loop-less : tie.Need-loop-less Inv-loop μ-loop
 loop-less c =
     let turn-test = in-loop (c .before .before) in
@@ -115,9 +106,9 @@ find-spec =
     μ-loop
     mul-wide-number
     shared-slice-read-wide-number
-    wide-number-requires
+    (λ c κs. search needs)
     loop-holds
-    sub-i
+    (λ c. search needs)
     is-spelled-requires
     returns
     add-slot
@@ -126,7 +117,7 @@ find-spec =
     add-slot-3
     mul-wide-number-2
     shared-slice-read-wide-number-2
-    wide-number-requires-2
+    (λ c κs. search needs)
     loop-less
     loop-again
     returns-2)

@@ -17,18 +17,6 @@ loop-holds c = search laws.chunking-start
 eight-requires : tie.Need-eight-requires Inv-loop μ-loop
 eight-requires c κs = omega (arith, c .before .loop .inv .within)
 
-mix-requires : tie.Need-mix-requires Inv-loop μ-loop
-mix-requires c κs = search needs
-
-add-i : tie.Need-add-i Inv-loop μ-loop
-add-i c = search needs
-
-sub-left : tie.Need-sub-left Inv-loop μ-loop
-sub-left c = search needs
-
-loop-less : tie.Need-loop-less Inv-loop μ-loop
-loop-less c = search needs
-
 loop-again : tie.Need-loop-again Inv-loop μ-loop
 loop-again c = search laws.chunking-next
 
@@ -44,9 +32,9 @@ mix-front-spec =
     μ-loop
     loop-holds
     eight-requires
-    mix-requires
-    add-i
-    sub-left
-    loop-less
+    (λ c κs. search needs)
+    (λ c. search needs)
+    (λ c. search needs)
+    (λ c. search needs)
     loop-again
     returns)

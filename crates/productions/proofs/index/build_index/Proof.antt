@@ -40,23 +40,11 @@ module _ (p : tie.After-known-told Inv-loop μ-loop) where
 loop-holds : tie.Need-loop-holds Inv-loop μ-loop
 loop-holds c = search laws.building-start
 
-front-at-requires : tie.Need-front-at-requires Inv-loop μ-loop
-front-at-requires c κs = search needs
-
-enum-told : tie.Need-enum-told Inv-loop μ-loop
-enum-told c = search needs
-
 returns : tie.Need-returns Inv-loop μ-loop
 returns c = laws.building-nothing (c .before .before .before .before .loop .inv) (sym (c .enum-told .given .1) ∙ c .before .before .front-at .ensures)
 
-enum-told-2 : tie.Need-enum-told-2 Inv-loop μ-loop
-enum-told-2 c = search needs
-
 returns-2 : tie.Need-returns-2 Inv-loop μ-loop
 returns-2 c = laws.building-short (c .before .before .before .before .loop .inv) (sym (c .enum-told2 .given .1) ∙ c .before .before .front-at .ensures)
-
-enum-known-front : tie.Need-enum-known-front Inv-loop μ-loop
-enum-known-front c = search needs
 
 add-from : tie.Need-add-from Inv-loop μ-loop
 add-from c = omega (arith, inside c)
@@ -64,23 +52,8 @@ add-from c = omega (arith, inside c)
 add-to : tie.Need-add-to Inv-loop μ-loop
 add-to c = omega (arith, inside c)
 
-sub-byte : tie.Need-sub-byte Inv-loop μ-loop
-sub-byte c = search needs
-
-part-byte-start : tie.Need-part-byte-start Inv-loop μ-loop
-part-byte-start c = search needs
-
 part-byte-end : tie.Need-part-byte-end Inv-loop μ-loop
 part-byte-end c = omega (arith, inside (c .before))
-
-byte-requires : tie.Need-byte-requires Inv-loop μ-loop
-byte-requires c κs = search needs
-
-sub-redefine : tie.Need-sub-redefine Inv-loop μ-loop
-sub-redefine c = search needs
-
-part-redefine-start : tie.Need-part-redefine-start Inv-loop μ-loop
-part-redefine-start c = search needs
 
 part-redefine-end : tie.Need-part-redefine-end Inv-loop μ-loop
 part-redefine-end c = omega (arith, inside (c .before .before .before))
@@ -147,20 +120,20 @@ build-index-spec =
     Inv-loop
     μ-loop
     loop-holds
-    front-at-requires
-    enum-told
+    (λ c κs. search needs)
+    (λ c. search needs)
     returns
-    enum-told-2
+    (λ c. search needs)
     returns-2
-    enum-known-front
+    (λ c. search needs)
     add-from
     add-to
-    sub-byte
-    part-byte-start
+    (λ c. search needs)
+    (λ c. search needs)
     part-byte-end
-    byte-requires
-    sub-redefine
-    part-redefine-start
+    (λ c κs. search needs)
+    (λ c. search needs)
+    (λ c. search needs)
     part-redefine-end
     redefine-requires
     cast-push

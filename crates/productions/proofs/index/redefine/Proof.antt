@@ -4,21 +4,6 @@ use Rattle.productions.proofs.IndexLaws as laws
 use Rattle.productions.proofs.index.redefine.Statement.{statement}
 use Rattle.productions.proofs.index.redefine.Tie as tie
 
-byte-requires : tie.Need-byte-requires
-byte-requires c κs = search needs
-
-byte-requires-2 : tie.Need-byte-requires-2
-byte-requires-2 c κs = search needs
-
-without-requires : tie.Need-without-requires
-without-requires c κs = search needs
-
-same-length : tie.Need-same-length
-same-length c = search needs
-
-same-length-2 : tie.Need-same-length-2
-same-length-2 c = search needs
-
 returns : tie.Need-returns
 returns c = search laws.redefine-update
 
@@ -30,10 +15,10 @@ pub redefine-spec : {M : Type 1} → statement M
 redefine-spec =
     tie.close
     (tie.spec
-    byte-requires
-    byte-requires-2
-    without-requires
-    same-length
-    same-length-2
+    (λ c κs. search needs)
+    (λ c κs. search needs)
+    (λ c κs. search needs)
+    (λ c. search needs)
+    (λ c. search needs)
     returns
     returns-2)

@@ -30,23 +30,14 @@ at-start p = at-start′ (p .before .before .before)
 hash-requires : tie.Need-hash-requires Inv-loop μ-loop
 hash-requires c κs = (at-start′ c) .pre .some
 
-link-at-requires : tie.Need-link-at-requires Inv-loop μ-loop
-link-at-requires c κs = search needs
-
 loop-holds : tie.Need-loop-holds Inv-loop μ-loop
 loop-holds c =
     (laws.chasing-start ((at-start′ (c .before .before)) .pre) _ (cc (c .link-at .ensures, c .before .hash .ensures .0)), refl)
-
-sub-row : tie.Need-sub-row Inv-loop μ-loop
-sub-row c = search needs
 
 cast-column : tie.Need-cast-column Inv-loop μ-loop
 cast-column c =
     let turn = c .before in
     omega (arith, laws.chasing-inside ((at-start (turn)) .pre) _ (turn .loop .inv .0) (c .loop-test .taken))
-
-column-requires : tie.Need-column-requires Inv-loop μ-loop
-column-requires c κs = search needs
 
 returns : tie.Need-returns Inv-loop μ-loop
 returns c =
@@ -64,9 +55,6 @@ add-link-at c =
     let turn = at-loop c in
     let entry = at-start turn in
     omega (arith, laws.chasing-inside (entry .pre) _ (turn .loop .inv .0) (turn-test .loop-test .taken))
-
-link-at-requires-2 : tie.Need-link-at-requires-2 Inv-loop μ-loop
-link-at-requires-2 c κs = search needs
 
 loop-less : tie.Need-loop-less Inv-loop μ-loop
 loop-less c =
@@ -101,14 +89,14 @@ find-spec =
     Inv-loop
     μ-loop
     hash-requires
-    link-at-requires
+    (λ c κs. search needs)
     loop-holds
-    sub-row
+    (λ c. search needs)
     cast-column
-    column-requires
+    (λ c κs. search needs)
     returns
     add-link-at
-    link-at-requires-2
+    (λ c κs. search needs)
     loop-less
     loop-again
     returns-2)

@@ -12,12 +12,9 @@ returns c = (cc, omega arith)
 returns-2 : tie.Need-returns-2
 returns-2 c = (cc, omega arith)
 
-rem-result : tie.Need-rem-result
-rem-result c = search needs
-
 returns-3 : tie.Need-returns-3
 returns-3 c = (refl, mod-lt _ (c .before .before .pre))
 
 -- the function meets its contract
 pub hash-spec : {M : Type 1} → statement M
-hash-spec = tie.close (tie.spec returns returns-2 rem-result returns-3)
+hash-spec = tie.close (tie.spec returns returns-2 (λ c. search needs) returns-3)

@@ -43,17 +43,11 @@ cast-column c =
     let entry = at-start (turn) in
     omega (arith, laws.row-small (turn .loop .inv) (entry .pre .few) (entry .pre .room) (c .loop-test .taken))
 
-column-requires : tie.Need-column-requires Inv-loop μ-loop
-column-requires c κs = search needs
-
 cast-column-2 : tie.Need-cast-column-2 Inv-loop μ-loop
 cast-column-2 c =
     let turn = at-loop c in
     let entry = at-start turn in
     omega (arith, laws.row-small (turn .loop .inv) (entry .pre .few) (entry .pre .room) (c .before .loop-test .taken))
-
-column-requires-2 : tie.Need-column-requires-2 Inv-loop μ-loop
-column-requires-2 c κs = search needs
 
 find-requires : tie.Need-find-requires Inv-loop μ-loop
 find-requires c κs = ((at-loop (c .before .before .before)) .loop .inv) .linked
@@ -157,9 +151,9 @@ link-spec =
     μ-loop
     loop-holds
     cast-column
-    column-requires
+    (λ c κs. search needs)
     cast-column-2
-    column-requires-2
+    (λ c κs. search needs)
     find-requires
     add-requires
     add-row

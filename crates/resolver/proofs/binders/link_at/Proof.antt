@@ -9,18 +9,6 @@ use Rattle.resolver.proofs.binders.link_at.Reads as reads
 use Rattle.resolver.proofs.binders.link_at.Lts as lts
 use Rattle.resolver.proofs.binders.wide.Reads as wide-reads
 
-mul-wide : tie.Need-mul-wide
-mul-wide c = search needs
-
-shared-slice-read-wide : tie.Need-shared-slice-read-wide
-shared-slice-read-wide c = search needs
-
-wide-requires : tie.Need-wide-requires
-wide-requires c κs = search needs
-
-returns : tie.Need-returns
-returns c = search needs
-
 returns-2 : tie.Need-returns-2
 returns-2 c =
     let start = c .before .before in
@@ -28,4 +16,4 @@ returns-2 c =
 
 -- the function meets its contract
 pub link-at-spec : {M : Type 1} → statement M
-link-at-spec = tie.close (tie.spec mul-wide shared-slice-read-wide wide-requires returns returns-2)
+link-at-spec = tie.close (tie.spec (λ c. search needs) (λ c. search needs) (λ c κs. search needs) (λ c. search needs) returns-2)

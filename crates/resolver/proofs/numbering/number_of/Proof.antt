@@ -15,9 +15,6 @@ use Rattle.spellings.proofs.wide_short.Reads as wide-short-reads
 abbrev at-start : tie.Else1 → tie.Start
 at-start p = p .before .before
 
-add-result : tie.Need-add-result
-add-result c = search needs
-
 returns : tie.Need-returns
 returns c =
     let start = c .before .before in
@@ -36,14 +33,8 @@ returns-3 c =
     laws.zero-at (entry .args .marks .now) (entry .args .p) (entry .args .count + 1) (entry .args .m) (else1 .if1 .left)
     (c .before .if2 .left) (c .if3 .taken)
 
-wide-short-requires : tie.Need-wide-short-requires
-wide-short-requires c κs = search needs
-
 sub-owner : tie.Need-sub-owner
 sub-owner c = omega (arith, c .before .if3 .left, c .wide-short .ensures)
-
-mul-result : tie.Need-mul-result
-mul-result c = search needs
 
 shared-slice-read-result : tie.Need-shared-slice-read-result
 shared-slice-read-result c =
@@ -75,13 +66,13 @@ pub number-of-spec : {M : Type 1} → statement M
 number-of-spec =
     tie.close
     (tie.spec
-    add-result
+    (λ c. search needs)
     returns
     returns-2
     returns-3
-    wide-short-requires
+    (λ c κs. search needs)
     sub-owner
-    mul-result
+    (λ c. search needs)
     shared-slice-read-result
     returns-4
     returns-5)

@@ -23,17 +23,8 @@ loop-holds c = (omega arith, λ row l. absurd (omega arith))
 cast-column : tie.Need-cast-column Inv-loop μ-loop
 cast-column c = omega arith
 
-column-requires : tie.Need-column-requires Inv-loop μ-loop
-column-requires c κs = search needs
-
 cast-column-2 : tie.Need-cast-column-2 Inv-loop μ-loop
 cast-column-2 c = omega arith
-
-column-requires-2 : tie.Need-column-requires-2 Inv-loop μ-loop
-column-requires-2 c κs = search needs
-
-is-quiet-row-requires : tie.Need-is-quiet-row-requires Inv-loop μ-loop
-is-quiet-row-requires c κs = search needs
 
 add-row : tie.Need-add-row Inv-loop μ-loop
 add-row c = omega arith
@@ -68,10 +59,10 @@ is-quiet-spec =
     μ-loop
     loop-holds
     cast-column
-    column-requires
+    (λ c κs. search needs)
     cast-column-2
-    column-requires-2
-    is-quiet-row-requires
+    (λ c κs. search needs)
+    (λ c κs. search needs)
     add-row
     loop-less
     loop-again

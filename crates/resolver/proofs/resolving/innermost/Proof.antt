@@ -5,15 +5,6 @@ use borrow.Author.Needs.{needs}
 use Rattle.resolver.proofs.resolving.innermost.Statement.{statement}
 use Rattle.resolver.proofs.resolving.innermost.Tie as tie
 
-mul-result : tie.Need-mul-result
-mul-result c = search needs
-
-shared-slice-read-result : tie.Need-shared-slice-read-result
-shared-slice-read-result c = search needs
-
-returns : tie.Need-returns
-returns c = search needs
-
 returns-2 : tie.Need-returns-2
 returns-2 c =
     let start = c .before in
@@ -21,4 +12,4 @@ returns-2 c =
 
 -- the function meets its contract
 pub innermost-spec : {M : Type 1} → statement M
-innermost-spec = tie.close (tie.spec mul-result shared-slice-read-result returns returns-2)
+innermost-spec = tie.close (tie.spec (λ c. search needs) (λ c. search needs) (λ c. search needs) returns-2)

@@ -16,12 +16,6 @@ at-start p = p .before .before .before
 slot-of-requires : tie.Need-slot-of-requires
 slot-of-requires c κs = (at-start c) .pre
 
-innermost-requires : tie.Need-innermost-requires
-innermost-requires c κs = search needs
-
-same-length : tie.Need-same-length
-same-length c = search needs
-
 returns : tie.Need-returns
 returns c =
     let innermost-place = c .before .before in
@@ -33,9 +27,6 @@ returns c =
       refl,
     )
 
-same-length-2 : tie.Need-same-length-2
-same-length-2 c = search needs
-
 returns-2 : tie.Need-returns-2
 returns-2 c =
     let found = after-slot-of (c .before) in
@@ -45,9 +36,6 @@ returns-2 c =
           (c .before .innermost .ensures ∙ ap (λ n. getD (e .args .current .now) n 0) (found .slot-of .ensures)),
       refl,
     )
-
-same-length-3 : tie.Need-same-length-3
-same-length-3 c = search needs
 
 returns-3 : tie.Need-returns-3
 returns-3 c =
@@ -59,9 +47,6 @@ returns-3 c =
           (innermost-place .innermost .ensures ∙ ap (λ n. getD (e .args .current .now) n 0) (found .slot-of .ensures)) (c .if1 .left),
       refl,
     )
-
-same-length-4 : tie.Need-same-length-4
-same-length-4 c = search needs
 
 returns-4 : tie.Need-returns-4
 returns-4 c =
@@ -78,12 +63,12 @@ variable-mark-spec =
     tie.close
     (tie.spec
     slot-of-requires
-    innermost-requires
-    same-length
+    (λ c κs. search needs)
+    (λ c. search needs)
     returns
-    same-length-2
+    (λ c. search needs)
     returns-2
-    same-length-3
+    (λ c. search needs)
     returns-3
-    same-length-4
+    (λ c. search needs)
     returns-4)

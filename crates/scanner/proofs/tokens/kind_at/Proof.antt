@@ -6,15 +6,6 @@ use borrow.Author.Needs.{needs}
 use Rattle.scanner.proofs.tokens.kind_at.Statement.{statement}
 use Rattle.scanner.proofs.tokens.kind_at.Tie as tie
 
-mul-result : tie.Need-mul-result
-mul-result c = search needs
-
-mul-result-2 : tie.Need-mul-result-2
-mul-result-2 c = search needs
-
-shared-slice-read-result : tie.Need-shared-slice-read-result
-shared-slice-read-result c = search needs
-
 returns : tie.Need-returns
 returns c = ap (λ (t : Token). t .kind) (rooms.token-in _ _ _ (c .before .if1 .taken))
 
@@ -24,4 +15,4 @@ returns-2 c = ap (λ (t : Token). t .kind) (rooms.token-past _ _ _ (c .if1 .left
 -- the function meets its contract
 pub kind-at-spec : {M : Type 1} → statement M
 kind-at-spec =
-    tie.close (tie.spec mul-result mul-result-2 shared-slice-read-result returns returns-2)
+    tie.close (tie.spec (λ c. search needs) (λ c. search needs) (λ c. search needs) returns returns-2)

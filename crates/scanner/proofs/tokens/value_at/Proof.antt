@@ -7,18 +7,6 @@ use borrow.Author.Needs.{needs}
 use Rattle.scanner.proofs.tokens.value_at.Statement.{statement}
 use Rattle.scanner.proofs.tokens.value_at.Tie as tie
 
-mul-result : tie.Need-mul-result
-mul-result c = search needs
-
-add-result : tie.Need-add-result
-add-result c = search needs
-
-mul-result-2 : tie.Need-mul-result-2
-mul-result-2 c = search needs
-
-shared-slice-read-result : tie.Need-shared-slice-read-result
-shared-slice-read-result c = search needs
-
 returns : tie.Need-returns
 returns c =
     let inside = c .before .if1 .taken in
@@ -31,4 +19,4 @@ returns-2 c = (ap (λ (t : Token). t .value) (rooms.token-past _ _ _ (c .if1 .le
 pub value-at-spec : {M : Type 1} → statement M
 value-at-spec =
     tie.close
-    (tie.spec mul-result add-result mul-result-2 shared-slice-read-result returns returns-2)
+    (tie.spec (λ c. search needs) (λ c. search needs) (λ c. search needs) (λ c. search needs) returns returns-2)

@@ -4,15 +4,6 @@ use borrow.Author.Needs.{needs}
 use Rattle.sorts.proofs.bodies.add_sort.Statement.{statement}
 use Rattle.sorts.proofs.bodies.add_sort.Tie as tie
 
-slice-write-sorts : tie.Need-slice-write-sorts
-slice-write-sorts c = search needs
-
-add-result : tie.Need-add-result
-add-result c = search needs
-
-same-length : tie.Need-same-length
-same-length c = search needs
-
 returns : tie.Need-returns
 returns c = search laws.sort-added
 
@@ -21,4 +12,4 @@ returns-2 c = search laws.sort-left
 
 -- the function meets its contract
 pub add-sort-spec : {M : Type 1} → statement M
-add-sort-spec = tie.close (tie.spec slice-write-sorts add-result same-length returns returns-2)
+add-sort-spec = tie.close (tie.spec (λ c. search needs) (λ c. search needs) (λ c. search needs) returns returns-2)

@@ -46,37 +46,19 @@ fault p =
     let a = start (signed p) .args in
     cc (p .fault-in .ensures, opened (lent p) .open-params .ensures .loaded)
 
-head-of-requires : tie.Need-head-of-requires
-head-of-requires c κs = search needs
-
 returns : tie.Need-returns
 returns c = search laws.call-undefined
 
-signature-at-requires : tie.Need-signature-at-requires
-signature-at-requires c κs = search needs
-
 open-params-requires : tie.Need-open-params-requires
 open-params-requires c κs = omega (arith, short (c .before))
-
-part-requires : tie.Need-part-requires
-part-requires c κs = search needs
 
 fault-in-requires : tie.Need-fault-in-requires
 fault-in-requires c κs =
     let q = opened (c .before) in
     omega (arith, start (q .before .before) .pre, q .open-params .ensures .small, q .open-params .kept .0, short (q .before .before))
 
-same-length : tie.Need-same-length
-same-length c = search needs
-
 returns-2 : tie.Need-returns-2
 returns-2 c = search (laws.call-unfit, fault (tested (c .before)))
-
-byte-requires : tie.Need-byte-requires
-byte-requires c κs = search needs
-
-same-length-2 : tie.Need-same-length-2
-same-length-2 c = search needs
 
 returns-3 : tie.Need-returns-3
 returns-3 c = search (laws.call-fit, fault (tested (c .before .before)))
@@ -86,14 +68,14 @@ pub check-call-spec : {M : Type 1} → statement M
 check-call-spec =
     tie.close
     (tie.spec
-    head-of-requires
+    (λ c κs. search needs)
     returns
-    signature-at-requires
+    (λ c κs. search needs)
     open-params-requires
-    part-requires
+    (λ c κs. search needs)
     fault-in-requires
-    same-length
+    (λ c. search needs)
     returns-2
-    byte-requires
-    same-length-2
+    (λ c κs. search needs)
+    (λ c. search needs)
     returns-3)

@@ -15,20 +15,8 @@ start p = let q = p .before .before .before in q .before .before .before .before
 abbrev called : tie.After-slice-known2 → tie.At-match-keys4
 called c = c .before .before .before .before .before
 
-byte-requires : tie.Need-byte-requires
-byte-requires c κs = search needs
-
-byte-requires-2 : tie.Need-byte-requires-2
-byte-requires-2 c κs = search needs
-
-wide-byte-requires : tie.Need-wide-byte-requires
-wide-byte-requires c κs = search needs
-
 returns : tie.Need-returns
 returns c = search laws.item-keyword
-
-part-requires : tie.Need-part-requires
-part-requires c κs = search needs
 
 check-call-requires : tie.Need-check-call-requires
 check-call-requires c κs =
@@ -44,9 +32,6 @@ returns-3 c = search laws.item-ide
 returns-4 : tie.Need-returns-4
 returns-4 c = search laws.item-local
 
-same-length : tie.Need-same-length
-same-length c = search needs
-
 returns-5 : tie.Need-returns-5
 returns-5 c = cc (laws.item-call _ _ _ (called c .before .before .byte .ensures) (called c .before .byte2 .ensures) (called c .match .keys4)
     (c .before .before .before .part .ensures))
@@ -59,15 +44,15 @@ pub check-item-spec : {M : Type 1} → statement M
 check-item-spec =
     tie.close
     (tie.spec
-    byte-requires
-    byte-requires-2
-    wide-byte-requires
+    (λ c κs. search needs)
+    (λ c κs. search needs)
+    (λ c κs. search needs)
     returns
-    part-requires
+    (λ c κs. search needs)
     check-call-requires
     returns-2
     returns-3
     returns-4
-    same-length
+    (λ c. search needs)
     returns-5
     returns-6)

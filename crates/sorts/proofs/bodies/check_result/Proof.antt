@@ -11,17 +11,8 @@ use Rattle.sorts.proofs.bodies.check_result.Tie as tie
 abbrev start : tie.After-byte → tie.Start
 start p = p .before .before .before .before .before .before
 
-signature-at-requires : tie.Need-signature-at-requires
-signature-at-requires c κs = search needs
-
-byte-requires : tie.Need-byte-requires
-byte-requires c κs = search needs
-
 slice-write-stack : tie.Need-slice-write-stack
 slice-write-stack c = omega arith
-
-part-requires : tie.Need-part-requires
-part-requires c κs = search needs
 
 fault-in-requires : tie.Need-fault-in-requires
 fault-in-requires c κs = simp length-set (omega (arith, start (c .before .before) .pre))
@@ -43,10 +34,10 @@ pub check-result-spec : {M : Type 1} → statement M
 check-result-spec =
     tie.close
     (tie.spec
-    signature-at-requires
-    byte-requires
+    (λ c κs. search needs)
+    (λ c κs. search needs)
     slice-write-stack
-    part-requires
+    (λ c κs. search needs)
     fault-in-requires
     same-length
     returns)

@@ -16,23 +16,11 @@ abbrev μ-loop : tie.MeasureT-loop
 loop-holds : tie.Need-loop-holds Inv-loop μ-loop
 loop-holds c = laws.copying-start
 
-shared-slice-read-sorts : tie.Need-shared-slice-read-sorts Inv-loop μ-loop
-shared-slice-read-sorts c = search needs
-
 slice-write-sorts : tie.Need-slice-write-sorts Inv-loop μ-loop
 slice-write-sorts c = omega arith
 
-add-i : tie.Need-add-i Inv-loop μ-loop
-add-i c = search needs
-
-loop-less : tie.Need-loop-less Inv-loop μ-loop
-loop-less c = search needs
-
 loop-again : tie.Need-loop-again Inv-loop μ-loop
 loop-again c = search laws.copying-next
-
-same-length : tie.Need-same-length Inv-loop μ-loop
-same-length c = search needs
 
 returns : tie.Need-returns Inv-loop μ-loop
 returns c = search laws.copying-end
@@ -45,10 +33,10 @@ load-params-spec =
     Inv-loop
     μ-loop
     loop-holds
-    shared-slice-read-sorts
+    (λ c. search needs)
     slice-write-sorts
-    add-i
-    loop-less
+    (λ c. search needs)
+    (λ c. search needs)
     loop-again
-    same-length
+    (λ c. search needs)
     returns)

@@ -17,9 +17,6 @@ returns c = laws.params-none (c .if1 .taken)
 loop-holds : tie.Need-loop-holds Inv-loop μ-loop
 loop-holds c = laws.loading-start (c .if1 .left)
 
-sub-j : tie.Need-sub-j Inv-loop μ-loop
-sub-j c = search needs
-
 shared-slice-read-stack : tie.Need-shared-slice-read-stack Inv-loop μ-loop
 shared-slice-read-stack c = omega arith
 
@@ -29,14 +26,8 @@ slice-write-stack c = omega arith
 add-top : tie.Need-add-top Inv-loop μ-loop
 add-top c = omega arith
 
-loop-less : tie.Need-loop-less Inv-loop μ-loop
-loop-less c = search needs
-
 loop-again : tie.Need-loop-again Inv-loop μ-loop
 loop-again c = search laws.loading-next
-
-same-length : tie.Need-same-length Inv-loop μ-loop
-same-length c = search needs
 
 returns-2 : tie.Need-returns-2 Inv-loop μ-loop
 returns-2 c = search laws.loading-end
@@ -50,11 +41,11 @@ open-params-spec =
     μ-loop
     returns
     loop-holds
-    sub-j
+    (λ c. search needs)
     shared-slice-read-stack
     slice-write-stack
     add-top
-    loop-less
+    (λ c. search needs)
     loop-again
-    same-length
+    (λ c. search needs)
     returns-2)

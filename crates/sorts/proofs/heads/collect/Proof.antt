@@ -40,29 +40,11 @@ defined p = p .before .before
 loop-holds : tie.Need-loop-holds Inv-loop μ-loop
 loop-holds c = laws.collecting-start
 
-front-at-requires : tie.Need-front-at-requires Inv-loop μ-loop
-front-at-requires c κs = search needs
-
-enum-told : tie.Need-enum-told Inv-loop μ-loop
-enum-told c = search needs
-
-same-length : tie.Need-same-length Inv-loop μ-loop
-same-length c = search needs
-
 returns : tie.Need-returns Inv-loop μ-loop
 returns c = search (laws.collecting-nothing, sym (c .enum-told .given .1) ∙ c .before .before .front-at .ensures)
 
-enum-told-2 : tie.Need-enum-told-2 Inv-loop μ-loop
-enum-told-2 c = search needs
-
-same-length-2 : tie.Need-same-length-2 Inv-loop μ-loop
-same-length-2 c = search needs
-
 returns-2 : tie.Need-returns-2 Inv-loop μ-loop
 returns-2 c = search (laws.collecting-short, sym (c .enum-told2 .given .1) ∙ c .before .before .front-at .ensures)
-
-enum-known-front : tie.Need-enum-known-front Inv-loop μ-loop
-enum-known-front c = search needs
 
 add-to : tie.Need-add-to Inv-loop μ-loop
 add-to c = omega (arith, inside c)
@@ -70,20 +52,11 @@ add-to c = omega (arith, inside c)
 add-to-2 : tie.Need-add-to-2 Inv-loop μ-loop
 add-to-2 c = omega (arith, inside c)
 
-same-length-3 : tie.Need-same-length-3 Inv-loop μ-loop
-same-length-3 c = search needs
-
 returns-3 : tie.Need-returns-3 Inv-loop μ-loop
 returns-3 c = search (laws.collecting-ends, stands (c .before))
 
 define-requires : tie.Need-define-requires Inv-loop μ-loop
 define-requires c κs = omega (arith, inside (c .before .before))
-
-refused-requires : tie.Need-refused-requires Inv-loop μ-loop
-refused-requires c κs = search needs
-
-same-length-4 : tie.Need-same-length-4 Inv-loop μ-loop
-same-length-4 c = search needs
 
 returns-4 : tie.Need-returns-4 Inv-loop μ-loop
 returns-4 c = search (laws.collecting-fault, stands (field (defined (c .before .before))))
@@ -102,21 +75,21 @@ collect-spec =
     Inv-loop
     μ-loop
     loop-holds
-    front-at-requires
-    enum-told
-    same-length
+    (λ c κs. search needs)
+    (λ c. search needs)
+    (λ c. search needs)
     returns
-    enum-told-2
-    same-length-2
+    (λ c. search needs)
+    (λ c. search needs)
     returns-2
-    enum-known-front
+    (λ c. search needs)
     add-to
     add-to-2
-    same-length-3
+    (λ c. search needs)
     returns-3
     define-requires
-    refused-requires
-    same-length-4
+    (λ c κs. search needs)
+    (λ c. search needs)
     returns-4
     loop-less
     loop-again)

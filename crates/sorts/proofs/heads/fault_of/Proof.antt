@@ -10,30 +10,6 @@ use Rattle.sorts.proofs.heads.fault_of.Tie as tie
 abbrev earlier : tie.After-equal → tie.After-head-of
 earlier p = p .before .before .before .before
 
-add-byte : tie.Need-add-byte
-add-byte c = search needs
-
-byte-requires : tie.Need-byte-requires
-byte-requires c κs = search needs
-
-add-byte-2 : tie.Need-add-byte-2
-add-byte-2 c = search needs
-
-byte-requires-2 : tie.Need-byte-requires-2
-byte-requires-2 c κs = search needs
-
-head-of-requires : tie.Need-head-of-requires
-head-of-requires c κs = search needs
-
-signature-at-requires : tie.Need-signature-at-requires
-signature-at-requires c κs = search needs
-
-signature-at-requires-2 : tie.Need-signature-at-requires-2
-signature-at-requires-2 c κs = search needs
-
-equal-requires : tie.Need-equal-requires
-equal-requires c κs = search needs
-
 returns : tie.Need-returns
 returns c =
     let p = c .before in
@@ -69,14 +45,14 @@ pub fault-of-spec : {M : Type 1} → statement M
 fault-of-spec =
     tie.close
     (tie.spec
-    add-byte
-    byte-requires
-    add-byte-2
-    byte-requires-2
-    head-of-requires
-    signature-at-requires
-    signature-at-requires-2
-    equal-requires
+    (λ c. search needs)
+    (λ c κs. search needs)
+    (λ c. search needs)
+    (λ c κs. search needs)
+    (λ c κs. search needs)
+    (λ c κs. search needs)
+    (λ c κs. search needs)
+    (λ c κs. search needs)
     returns
     returns-2
     returns-3

@@ -6,15 +6,6 @@ use borrow.Author.Needs.{needs}
 use Rattle.sorts.proofs.heads.head_of.Statement.{statement}
 use Rattle.sorts.proofs.heads.head_of.Tie as tie
 
-wide-byte-requires : tie.Need-wide-byte-requires
-wide-byte-requires c κs = search needs
-
-mul-result : tie.Need-mul-result
-mul-result c = search needs
-
-shared-slice-read-result : tie.Need-shared-slice-read-result
-shared-slice-read-result c = search needs
-
 cast-result : tie.Need-cast-result
 cast-result c = omega (arith, c .shared-slice-known2 .given (c .before .before .wide-byte .result))
 
@@ -30,4 +21,4 @@ returns-2 c =
 pub head-of-spec : {M : Type 1} → statement M
 head-of-spec =
     tie.close
-    (tie.spec wide-byte-requires mul-result shared-slice-read-result cast-result returns returns-2)
+    (tie.spec (λ c κs. search needs) (λ c. search needs) (λ c. search needs) cast-result returns returns-2)

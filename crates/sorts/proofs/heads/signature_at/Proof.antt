@@ -18,59 +18,14 @@ module _ (p : tie.After-wide-byte2) where
   low : p .wide-byte2 .result ≡ getD (start .before .args .table .now) (start .before .args .at + 2) 0
   low = p .wide-byte2 .ensures ∙ p .before .byte2 .ensures
 
-part-requires : tie.Need-part-requires
-part-requires c κs = search needs
-
 returns : tie.Need-returns
 returns c = cc (laws.signature-past _ _ (c .before .if1 .taken))
-
-add-byte : tie.Need-add-byte
-add-byte c = search needs
-
-byte-requires : tie.Need-byte-requires
-byte-requires c κs = search needs
-
-wide-byte-requires : tie.Need-wide-byte-requires
-wide-byte-requires c κs = search needs
-
-mul-size : tie.Need-mul-size
-mul-size c = search needs
-
-add-byte-2 : tie.Need-add-byte-2
-add-byte-2 c = search needs
-
-byte-requires-2 : tie.Need-byte-requires-2
-byte-requires-2 c κs = search needs
-
-wide-byte-requires-2 : tie.Need-wide-byte-requires-2
-wide-byte-requires-2 c κs = search needs
-
-add-size : tie.Need-add-size
-add-size c = search needs
-
-add-part : tie.Need-add-part
-add-part c = search needs
-
-part-requires-2 : tie.Need-part-requires-2
-part-requires-2 c κs = search needs
 
 returns-2 : tie.Need-returns-2
 returns-2 c = cc (laws.signature-none _ _ (high (c .before .before)) (low (c .before .before)) (c .before .if2 .taken))
 
-add-part-2 : tie.Need-add-part-2
-add-part-2 c = search needs
-
-part-requires-3 : tie.Need-part-requires-3
-part-requires-3 c κs = search needs
-
 returns-3 : tie.Need-returns-3
 returns-3 c = cc (laws.signature-some _ _ (high (c .before .before .before)) (low (c .before .before .before)) (c .before .if3 .taken))
-
-add-part-3 : tie.Need-add-part-3
-add-part-3 c = search needs
-
-part-requires-4 : tie.Need-part-requires-4
-part-requires-4 c κs = search needs
 
 returns-4 : tie.Need-returns-4
 returns-4 c = cc (laws.signature-most _ _ (high (c .before .before .before)) (low (c .before .before .before)) (c .before .if3 .left))
@@ -80,22 +35,22 @@ pub signature-at-spec : {M : Type 1} → statement M
 signature-at-spec =
     tie.close
     (tie.spec
-    part-requires
+    (λ c κs. search needs)
     returns
-    add-byte
-    byte-requires
-    wide-byte-requires
-    mul-size
-    add-byte-2
-    byte-requires-2
-    wide-byte-requires-2
-    add-size
-    add-part
-    part-requires-2
+    (λ c. search needs)
+    (λ c κs. search needs)
+    (λ c κs. search needs)
+    (λ c. search needs)
+    (λ c. search needs)
+    (λ c κs. search needs)
+    (λ c κs. search needs)
+    (λ c. search needs)
+    (λ c. search needs)
+    (λ c κs. search needs)
     returns-2
-    add-part-2
-    part-requires-3
+    (λ c. search needs)
+    (λ c κs. search needs)
     returns-3
-    add-part-3
-    part-requires-4
+    (λ c. search needs)
+    (λ c κs. search needs)
     returns-4)

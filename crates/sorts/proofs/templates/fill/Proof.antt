@@ -23,15 +23,6 @@ returns c = laws.fill-number (c .if1 .taken)
 returns-2 : tie.Need-returns-2
 returns-2 c = search laws.fill-none
 
-slice-read-t11 : tie.Need-slice-read-t11
-slice-read-t11 c = search needs
-
-head-sort-requires : tie.Need-head-sort-requires
-head-sort-requires c κs = search needs
-
-fits-requires : tie.Need-fits-requires
-fits-requires c κs = search needs
-
 returns-3 : tie.Need-returns-3
 returns-3 c = search (laws.fill-unfit, sym (c .before .fits2 .ensures) ∙ not-true _ (c .if3 .taken))
 
@@ -40,9 +31,6 @@ open-places-requires c κs = omega arith
 
 add-result : tie.Need-add-result
 add-result c = omega (arith, laws.params-small (start (free (fitted c)) .args .b))
-
-same-length : tie.Need-same-length
-same-length c = search needs
 
 returns-4 : tie.Need-returns-4
 returns-4 c = search (laws.fill-fits, sym (fitted c .before .fits2 .ensures) ∙ not-false _ (fitted c .if3 .left))
@@ -54,11 +42,11 @@ fill-spec =
     (tie.spec
     returns
     returns-2
-    slice-read-t11
-    head-sort-requires
-    fits-requires
+    (λ c. search needs)
+    (λ c κs. search needs)
+    (λ c κs. search needs)
     returns-3
     open-places-requires
     add-result
-    same-length
+    (λ c. search needs)
     returns-4)

@@ -14,17 +14,8 @@ abbrev μ-loop : tie.MeasureT-loop
 returns : tie.Need-returns Inv-loop μ-loop
 returns c = laws.opening-none (c .if1 .taken)
 
-arity-of-requires : tie.Need-arity-of-requires Inv-loop μ-loop
-arity-of-requires c κs = search needs
-
 loop-holds : tie.Need-loop-holds Inv-loop μ-loop
 loop-holds c = laws.opening-start (c .arity-of .ensures)
-
-sub-k : tie.Need-sub-k Inv-loop μ-loop
-sub-k c = search needs
-
-argument-of-requires : tie.Need-argument-of-requires Inv-loop μ-loop
-argument-of-requires c κs = search needs
 
 slice-write-stack : tie.Need-slice-write-stack Inv-loop μ-loop
 slice-write-stack c = search laws.opening-room
@@ -36,14 +27,8 @@ add-top c =
     let r = q .before .before .before .before in
     omega (arith, laws.opening-room (r .pre) (q .loop .inv) (p .loop-test .taken))
 
-loop-less : tie.Need-loop-less Inv-loop μ-loop
-loop-less c = search needs
-
 loop-again : tie.Need-loop-again Inv-loop μ-loop
 loop-again c = search laws.opening-next
-
-same-length : tie.Need-same-length Inv-loop μ-loop
-same-length c = search needs
 
 returns-2 : tie.Need-returns-2 Inv-loop μ-loop
 returns-2 c = search laws.opening-end
@@ -56,13 +41,13 @@ open-places-spec =
     Inv-loop
     μ-loop
     returns
-    arity-of-requires
+    (λ c κs. search needs)
     loop-holds
-    sub-k
-    argument-of-requires
+    (λ c. search needs)
+    (λ c κs. search needs)
     slice-write-stack
     add-top
-    loop-less
+    (λ c. search needs)
     loop-again
-    same-length
+    (λ c. search needs)
     returns-2)

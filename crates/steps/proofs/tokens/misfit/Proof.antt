@@ -6,15 +6,6 @@ use borrow.Author.Needs.{needs}
 use Rattle.steps.proofs.tokens.misfit.Statement.{statement}
 use Rattle.steps.proofs.tokens.misfit.Tie as tie
 
-count-requires : tie.Need-count-requires
-count-requires c κs = search needs
-
-cast-refuse : tie.Need-cast-refuse
-cast-refuse c = search needs
-
-refuse-requires : tie.Need-refuse-requires
-refuse-requires c κs = search needs
-
 returns : tie.Need-returns
 returns c =
     let entry-place = c .before .before in
@@ -22,4 +13,4 @@ returns c =
 
 -- the function meets its contract
 pub misfit-spec : {M : Type 1} → statement M
-misfit-spec = tie.close (tie.spec count-requires cast-refuse refuse-requires returns)
+misfit-spec = tie.close (tie.spec (λ c κs. search needs) (λ c. search needs) (λ c κs. search needs) returns)

@@ -9,15 +9,6 @@ use Rattle.steps.proofs.tokens.take.Tie as tie
 kind-at-requires : tie.Need-kind-at-requires
 kind-at-requires c κs = c .before .pre .0
 
-add-t10 : tie.Need-add-t10
-add-t10 c = search needs
-
-set-of-kind-requires : tie.Need-set-of-kind-requires
-set-of-kind-requires c κs = search needs
-
-misfit-requires : tie.Need-misfit-requires
-misfit-requires c κs = search needs
-
 returns : tie.Need-returns
 returns c =
     let entry-place = c .before .before .before in (
@@ -38,4 +29,4 @@ returns-2 c =
 pub take-spec : {M : Type 1} → statement M
 take-spec =
     tie.close
-    (tie.spec kind-at-requires add-t10 set-of-kind-requires misfit-requires returns returns-2)
+    (tie.spec kind-at-requires (λ c. search needs) (λ c κs. search needs) (λ c κs. search needs) returns returns-2)

@@ -5,18 +5,6 @@ use Rattle.turns.proofs.BeginLaws as laws
 use Rattle.turns.proofs.begins.begin_root.Statement.{statement}
 use Rattle.turns.proofs.begins.begin_root.Tie as tie
 
-kind-at-requires : tie.Need-kind-at-requires
-kind-at-requires c κs = search needs
-
-choose-requires : tie.Need-choose-requires
-choose-requires c κs = search needs
-
-start-requires : tie.Need-start-requires
-start-requires c κs = search needs
-
-with-call-requires : tie.Need-with-call-requires
-with-call-requires c κs = search needs
-
 returns : tie.Need-returns
 returns c =
     let choose-place = c .before .before .before in
@@ -24,12 +12,6 @@ returns c =
     λ bs rows h m.
     laws.starts-at h _ _ rows _ _ _ (λ e. omega arith) (omega arith) (kind-place .kind-at .ensures) (choose-place .choose .ensures bs h m)
     (c .before .before .if1 .taken) (c .before .start .ensures) (c .with-call .ensures)
-
-kinds-of-requires : tie.Need-kinds-of-requires
-kinds-of-requires c κs = search needs
-
-misfit-requires : tie.Need-misfit-requires
-misfit-requires c κs = search needs
 
 returns-2 : tie.Need-returns-2
 returns-2 c =
@@ -44,11 +26,11 @@ pub begin-root-spec : {M : Type 1} → statement M
 begin-root-spec =
     tie.close
     (tie.spec
-    kind-at-requires
-    choose-requires
-    start-requires
-    with-call-requires
+    (λ c κs. search needs)
+    (λ c κs. search needs)
+    (λ c κs. search needs)
+    (λ c κs. search needs)
     returns
-    kinds-of-requires
-    misfit-requires
+    (λ c κs. search needs)
+    (λ c κs. search needs)
     returns-2)

@@ -4,12 +4,9 @@ use borrow.Author.Needs.{needs}
 use Rattle.turns.proofs.begins.with_call.Statement.{statement}
 use Rattle.turns.proofs.begins.with_call.Tie as tie
 
-add-t2 : tie.Need-add-t2
-add-t2 c = search needs
-
 returns : tie.Need-returns
 returns c = refl
 
 -- the function meets its contract
 pub with-call-spec : {M : Type 1} → statement M
-with-call-spec = tie.close (tie.spec add-t2 returns)
+with-call-spec = tie.close (tie.spec (λ c. search needs) returns)

@@ -7,18 +7,6 @@ use Rattle.vegzump.specs.Replies.{reply}
 use Rattle.vegzump.proofs.hosts.of_answer.Statement.{statement}
 use Rattle.vegzump.proofs.hosts.of_answer.Tie as tie
 
-enum-known-answer : tie.Need-enum-known-answer
-enum-known-answer c = search needs
-
-accepted-requires : tie.Need-accepted-requires
-accepted-requires c κs = search needs
-
-enum-known-answer-2 : tie.Need-enum-known-answer-2
-enum-known-answer-2 c = search needs
-
-refused-requires : tie.Need-refused-requires
-refused-requires c κs = search needs
-
 returns : tie.Need-returns
 returns c = c .accepted .ensures ∙ sym (ap (λ (x : Answer). reply (numbered x)) (c .before .before .answer .given .1))
 
@@ -27,4 +15,4 @@ returns-2 c = c .refused .ensures ∙ sym (ap (λ (x : Answer). reply (numbered 
 
 -- `of_answer` meets its contract.
 pub of-answer-spec : {M : Type 1} → statement M
-of-answer-spec = tie.close (tie.spec enum-known-answer accepted-requires enum-known-answer-2 refused-requires returns returns-2)
+of-answer-spec = tie.close (tie.spec (λ c. search needs) (λ c κs. search needs) (λ c. search needs) (λ c κs. search needs) returns returns-2)

@@ -6,18 +6,6 @@ use Rattle.vegzump.specs.Replies.{numberedVerdict, reply}
 use Rattle.vegzump.proofs.hosts.of_verdict.Statement.{statement}
 use Rattle.vegzump.proofs.hosts.of_verdict.Tie as tie
 
-enum-told : tie.Need-enum-told
-enum-told c = search needs
-
-accepted-requires : tie.Need-accepted-requires
-accepted-requires c κs = search needs
-
-enum-known-v : tie.Need-enum-known-v
-enum-known-v c = search needs
-
-refused-requires : tie.Need-refused-requires
-refused-requires c κs = search needs
-
 returns : tie.Need-returns
 returns c = c .accepted .ensures ∙ sym (ap (λ (v : Verdict). reply (numberedVerdict v)) (c .before .enum-told .given .1))
 
@@ -26,4 +14,4 @@ returns-2 c = c .refused .ensures ∙ sym (ap (λ (v : Verdict). reply (numbered
 
 -- `of_verdict` meets its contract.
 pub of-verdict-spec : {M : Type 1} → statement M
-of-verdict-spec = tie.close (tie.spec enum-told accepted-requires enum-known-v refused-requires returns returns-2)
+of-verdict-spec = tie.close (tie.spec (λ c. search needs) (λ c κs. search needs) (λ c. search needs) (λ c κs. search needs) returns returns-2)

@@ -6,15 +6,9 @@ use Rattle.vegzump.specs.Replies.{numberedVerdict, reply}
 use Rattle.vegzump.proofs.hosts.vegzump_check.Statement.{statement}
 use Rattle.vegzump.proofs.hosts.vegzump_check.Tie as tie
 
-check-table-requires : tie.Need-check-table-requires
-check-table-requires c κs = search needs
-
-of-verdict-requires : tie.Need-of-verdict-requires
-of-verdict-requires c κs = search needs
-
 returns : tie.Need-returns
 returns c = c .of-verdict .ensures ∙ ap (λ (v : Verdict). reply (numberedVerdict v)) (c .before .check-table .ensures .0)
 
 -- `vegzump_check` meets its contract.
 pub vegzump-check-spec : {M : Type 1} → statement M
-vegzump-check-spec = tie.close (tie.spec check-table-requires of-verdict-requires returns)
+vegzump-check-spec = tie.close (tie.spec (λ c κs. search needs) (λ c κs. search needs) returns)

@@ -15,21 +15,9 @@ use Rattle.vegzump.proofs.hosts.vegzump_expand.Tie as tie
 beside : {o : Reply} {a : Answer} {cells text : List ℕ} {x : Expanded} → o ≡ reply (numbered a) → expanded a cells text ≡ x → replied o cells text ≡ replyOf x
 beside {cells = cells} {text} e h = ap (λ (o : Reply). replied o cells text) e ∙ ap replyOf h
 
-expand-requires : tie.Need-expand-requires
-expand-requires c κs = search needs
-
-of-answer-requires : tie.Need-of-answer-requires
-of-answer-requires c κs = search needs
-
-same-length : tie.Need-same-length
-same-length c = search needs
-
-same-length-2 : tie.Need-same-length-2
-same-length-2 c = search needs
-
 returns : tie.Need-returns
 returns c = beside (c .of-answer .ensures) (c .before .before .before .before .before .expand .ensures .0)
 
 -- `vegzump_expand` meets its contract.
 pub vegzump-expand-spec : {M : Type 1} → statement M
-vegzump-expand-spec = tie.close (tie.spec expand-requires of-answer-requires same-length same-length-2 returns)
+vegzump-expand-spec = tie.close (tie.spec (λ c κs. search needs) (λ c κs. search needs) (λ c. search needs) (λ c. search needs) returns)

@@ -48,15 +48,6 @@ scan-requires c κs =
     let pre = back .before .pre in
     record { short = omega (arith, pre .checked .held .grammar .small); room = pre .rooms .enough }
 
-enum-known-scanned : tie.Need-enum-known-scanned
-enum-known-scanned c = search needs
-
-halted-requires : tie.Need-halted-requires
-halted-requires c κs = search needs
-
-enum-known-scanned-2 : tie.Need-enum-known-scanned-2
-enum-known-scanned-2 c = search needs
-
 run-tokens-requires : tie.Need-run-tokens-requires
 run-tokens-requires c κs =
     let told = c .before .before .before in
@@ -69,12 +60,6 @@ run-tokens-requires c κs =
           joining.scan-fills (bytes p) (pre .checked .passes) (a .formula .now) (a .cells .now) (pre .rooms .enough) (p .scan .ensures)
           (told .scanned2 .given .1) .tokens-fit;
     }
-
-same-length : tie.Need-same-length
-same-length c = search needs
-
-same-length-2 : tie.Need-same-length-2
-same-length-2 c = search needs
 
 returns : tie.Need-returns
 returns c =
@@ -90,15 +75,6 @@ returns c =
       whole =
           joining.stops-whole (bytes p) P (a .formula .now) (a .cells .now) rooms (p .scan .ensures) (told .scanned .given .1) (c .halted .ensures);
     }
-
-same-length-3 : tie.Need-same-length-3
-same-length-3 c = search needs
-
-same-length-4 : tie.Need-same-length-4
-same-length-4 c = search needs
-
-same-length-5 : tie.Need-same-length-5
-same-length-5 c = search needs
 
 returns-2 : tie.Need-returns-2
 returns-2 c =
@@ -116,14 +92,14 @@ parse-checked-spec =
     tie.close
     (tie.spec
     scan-requires
-    enum-known-scanned
-    halted-requires
-    enum-known-scanned-2
+    (λ c. search needs)
+    (λ c κs. search needs)
+    (λ c. search needs)
     run-tokens-requires
-    same-length
-    same-length-2
+    (λ c. search needs)
+    (λ c. search needs)
     returns
-    same-length-3
-    same-length-4
-    same-length-5
+    (λ c. search needs)
+    (λ c. search needs)
+    (λ c. search needs)
     returns-2)

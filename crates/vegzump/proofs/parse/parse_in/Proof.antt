@@ -34,18 +34,6 @@ module _ (p : lts.After-check-into claims reads.Pre reads.Post) where
   bytes : Bytes (start .args .table .now)
   bytes i = omega (arith, first .shared-slice-known .given i)
 
-check-into-requires : tie.Need-check-into-requires
-check-into-requires c κs = search needs
-
-enum-known-verdict : tie.Need-enum-known-verdict
-enum-known-verdict c = search needs
-
-halted-requires : tie.Need-halted-requires
-halted-requires c κs = search needs
-
-enum-told : tie.Need-enum-told
-enum-told c = search needs
-
 parse-checked-requires : tie.Need-parse-checked-requires
 parse-checked-requires c κs =
     let p = c .before .before .before .before .before .before in
@@ -63,30 +51,18 @@ returns c =
       whole = parsing.into-refused _ _ _ _ _ refused (c .halted .ensures);
     }
 
-same-length : tie.Need-same-length
-same-length c = search needs
-
-same-length-2 : tie.Need-same-length-2
-same-length-2 c = search needs
-
-same-length-3 : tie.Need-same-length-3
-same-length-3 c = search needs
-
-returns-2 : tie.Need-returns-2
-returns-2 c = search needs
-
 -- `parse_in` meets its contract.
 pub parse-in-spec : {M : Type 1} → statement M
 parse-in-spec =
     tie.close
     (tie.spec
-    check-into-requires
-    enum-known-verdict
-    halted-requires
-    enum-told
+    (λ c κs. search needs)
+    (λ c. search needs)
+    (λ c κs. search needs)
+    (λ c. search needs)
     parse-checked-requires
     returns
-    same-length
-    same-length-2
-    same-length-3
-    returns-2)
+    (λ c. search needs)
+    (λ c. search needs)
+    (λ c. search needs)
+    (λ c. search needs))

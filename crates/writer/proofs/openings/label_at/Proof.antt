@@ -7,16 +7,10 @@ use Rattle.writer.proofs.Pieces.{as-text}
 use Rattle.writer.proofs.openings.label_at.Statement.{statement}
 use Rattle.writer.proofs.openings.label_at.Tie as tie
 
-spelling-requires : tie.Need-spelling-requires
-spelling-requires c κs = search needs
-
 copy-at-requires : tie.Need-copy-at-requires
 copy-at-requires c κs =
     let entry = c .before .before .before .before in
     omega (arith, ap length (c .spelling .ensures), entry .pre)
-
-same-length : tie.Need-same-length
-same-length c = search needs
 
 returns : tie.Need-returns
 returns c =
@@ -25,4 +19,4 @@ returns c =
 
 -- the function meets its contract
 pub label-at-spec : {M : Type 1} → statement M
-label-at-spec = tie.close (tie.spec spelling-requires copy-at-requires same-length returns)
+label-at-spec = tie.close (tie.spec (λ c κs. search needs) copy-at-requires (λ c. search needs) returns)

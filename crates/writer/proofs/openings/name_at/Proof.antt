@@ -41,9 +41,6 @@ byte-at-requires c κs =
     let entry = at-start′ (c .before) in
     pieces.go-room (laws.new-name (entry .args .out .now) (entry .pre) (c .before .if1 .taken) refl) (entry .pre .room)
 
-wide-requires : tie.Need-wide-requires
-wide-requires c κs = search needs
-
 decimal-at-requires : tie.Need-decimal-at-requires
 decimal-at-requires c κs =
     let at-byte-at = after-byte-at c in
@@ -60,9 +57,6 @@ same-length c =
 
 returns : tie.Need-returns
 returns c = search (pieces.go-last, pieces.go-next, laws.new-name)
-
-slice-aggregate-copy-at : tie.Need-slice-aggregate-copy-at
-slice-aggregate-copy-at c = search needs
 
 copy-at-requires : tie.Need-copy-at-requires
 copy-at-requires c κs =
@@ -81,9 +75,6 @@ same-length-2 c = (after-copy-at c) .copy-at .ensures .same
 
 returns-2 : tie.Need-returns-2
 returns-2 c = search (pieces.as-text, laws.fresh-name)
-
-spelling-requires : tie.Need-spelling-requires
-spelling-requires c κs = search needs
 
 copy-at-requires-2 : tie.Need-copy-at-requires-2
 copy-at-requires-2 c κs =
@@ -116,15 +107,15 @@ name-at-spec =
     tie.close
     (tie.spec
     byte-at-requires
-    wide-requires
+    (λ c κs. search needs)
     decimal-at-requires
     same-length
     returns
-    slice-aggregate-copy-at
+    (λ c. search needs)
     copy-at-requires
     same-length-2
     returns-2
-    spelling-requires
+    (λ c κs. search needs)
     copy-at-requires-2
     same-length-3
     returns-3)

@@ -46,9 +46,6 @@ after-column p = (then2′ p) .before
 abbrev after-copy-at2 : tie.After-column2 → tie.After-copy-at2
 after-copy-at2 p = p .before .before .before .before .before
 
-slice-aggregate-copy-at : tie.Need-slice-aggregate-copy-at
-slice-aggregate-copy-at c = search needs
-
 copy-at-requires : tie.Need-copy-at-requires
 copy-at-requires c κs =
     let then1 = then1 c in
@@ -61,12 +58,6 @@ same-length c = (after-copy-at c) .copy-at .ensures .same
 returns : tie.Need-returns
 returns c = search (pieces.go-last, laws.open-shallow-fields)
 
-column-requires : tie.Need-column-requires
-column-requires c κs = search needs
-
-slice-aggregate-copy-at-2 : tie.Need-slice-aggregate-copy-at-2
-slice-aggregate-copy-at-2 c = search needs
-
 copy-at-requires-2 : tie.Need-copy-at-requires-2
 copy-at-requires-2 c κs =
     let then2 = then2 c in
@@ -75,9 +66,6 @@ copy-at-requires-2 c κs =
     let entry = at-start at-if1 in
     pieces.go-room (laws.open-cons (entry .args .out .now) (entry .pre) (at-if1 .if1 .left) (column-place .column .ensures)
     (then2 .if2 .taken) refl) (entry .pre .room)
-
-column-requires-2 : tie.Need-column-requires-2
-column-requires-2 c κs = search needs
 
 label-at-requires : tie.Need-label-at-requires
 label-at-requires c κs =
@@ -126,9 +114,6 @@ returns-2 c =
     (at-if2 .if2 .taken) (at-column2 .column2 .ensures)) (at-copy-at2 .copy-at2 .ensures)) (at-label-at .label-at .ensures))
     (byte-at-place .byte-at .ensures)
 
-slice-aggregate-copy-at-3 : tie.Need-slice-aggregate-copy-at-3
-slice-aggregate-copy-at-3 c = search needs
-
 copy-at-requires-3 : tie.Need-copy-at-requires-3
 copy-at-requires-3 c κs =
     let else2 = else2 c in
@@ -149,19 +134,19 @@ pub open-fields-spec : {M : Type 1} → statement M
 open-fields-spec =
     tie.close
     (tie.spec
-    slice-aggregate-copy-at
+    (λ c. search needs)
     copy-at-requires
     same-length
     returns
-    column-requires
-    slice-aggregate-copy-at-2
+    (λ c κs. search needs)
+    (λ c. search needs)
     copy-at-requires-2
-    column-requires-2
+    (λ c κs. search needs)
     label-at-requires
     byte-at-requires
     same-length-2
     returns-2
-    slice-aggregate-copy-at-3
+    (λ c. search needs)
     copy-at-requires-3
     same-length-3
     returns-3)

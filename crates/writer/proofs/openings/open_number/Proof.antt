@@ -16,9 +16,6 @@ at-start p = p .before .before .before
 abbrev after-copy-at : tie.After-number-at-arg → tie.After-copy-at
 after-copy-at p = p .before .before .before
 
-slice-aggregate-copy-at : tie.Need-slice-aggregate-copy-at
-slice-aggregate-copy-at c = search needs
-
 copy-at-requires : tie.Need-copy-at-requires
 copy-at-requires c κs =
     let entry = at-start c in
@@ -45,7 +42,7 @@ pub open-number-spec : {M : Type 1} → statement M
 open-number-spec =
     tie.close
     (tie.spec
-    slice-aggregate-copy-at
+    (λ c. search needs)
     copy-at-requires
     number-at-requires
     same-length

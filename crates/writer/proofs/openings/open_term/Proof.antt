@@ -85,12 +85,6 @@ same-length c = (after-open-number c) .open-number .ensures .same
 returns : tie.Need-returns
 returns c = search (pieces.go-last, laws.open-shallow)
 
-column-requires : tie.Need-column-requires
-column-requires c κs = search needs
-
-slice-aggregate-copy-at : tie.Need-slice-aggregate-copy-at
-slice-aggregate-copy-at c = search needs
-
 copy-at-requires : tie.Need-copy-at-requires
 copy-at-requires c κs =
     let match-keys1-place = at-match-keys1 c in
@@ -117,9 +111,6 @@ name-at-requires c κs =
           (pieces.go-next (laws.open-var (entry .args .out .now) (entry .pre) (at-if1 .if1 .left)
           (at-match .match .keys1) (at-column .column .ensures) (c .shown-at .ensures)) (at-copy-at .copy-at .ensures)) (entry .pre .room);
     }
-
-slice-aggregate-copy-at-2 : tie.Need-slice-aggregate-copy-at-2
-slice-aggregate-copy-at-2 c = search needs
 
 copy-at-requires-2 : tie.Need-copy-at-requires-2
 copy-at-requires-2 c κs =
@@ -162,9 +153,6 @@ byte-at-requires c κs =
     (at-match .match .keys2) (at-column .column .ensures) (at-shown-at2 .shown-at2 .ensures)) (at-copy-at2 .copy-at2 .ensures))
     (name-at2-place .name-at2 .ensures)) (entry .pre .room)
 
-slice-aggregate-copy-at-3 : tie.Need-slice-aggregate-copy-at-3
-slice-aggregate-copy-at-3 c = search needs
-
 copy-at-requires-3 : tie.Need-copy-at-requires-3
 copy-at-requires-3 c κs =
     let match-keys3-place = at-match-keys3 c in
@@ -174,9 +162,6 @@ copy-at-requires-3 c κs =
     pieces.go-room (laws.open-app (entry .args .out .now) (entry .pre) (at-if1 .if1 .left)
     (match-keys3-place .match .keys3)) (entry .pre .room)
 
-slice-aggregate-copy-at-4 : tie.Need-slice-aggregate-copy-at-4
-slice-aggregate-copy-at-4 c = search needs
-
 copy-at-requires-4 : tie.Need-copy-at-requires-4
 copy-at-requires-4 c κs =
     let match-keys4-place = at-match-keys4 c in
@@ -185,9 +170,6 @@ copy-at-requires-4 c κs =
     let entry = at-start at-column in
     pieces.go-room (laws.open-rcd (entry .args .out .now) (entry .pre) (at-if1 .if1 .left)
     (match-keys4-place .match .keys4)) (entry .pre .room)
-
-slice-aggregate-copy-at-5 : tie.Need-slice-aggregate-copy-at-5
-slice-aggregate-copy-at-5 c = search needs
 
 copy-at-requires-5 : tie.Need-copy-at-requires-5
 copy-at-requires-5 c κs =
@@ -313,21 +295,21 @@ open-term-spec =
     open-number-requires
     same-length
     returns
-    column-requires
-    slice-aggregate-copy-at
+    (λ c κs. search needs)
+    (λ c. search needs)
     copy-at-requires
     shown-at-requires
     name-at-requires
-    slice-aggregate-copy-at-2
+    (λ c. search needs)
     copy-at-requires-2
     shown-at-requires-2
     name-at-requires-2
     byte-at-requires
-    slice-aggregate-copy-at-3
+    (λ c. search needs)
     copy-at-requires-3
-    slice-aggregate-copy-at-4
+    (λ c. search needs)
     copy-at-requires-4
-    slice-aggregate-copy-at-5
+    (λ c. search needs)
     copy-at-requires-5
     open-number-requires-2
     open-number-requires-3

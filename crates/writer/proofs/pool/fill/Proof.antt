@@ -65,9 +65,6 @@ shared-slice-read-offset c =
     let entry = at-start (c .before) in
     omega (arith, entry .pre .lie, c .before .loop-test .taken)
 
-offset-requires : tie.Need-offset-requires Inv-loop μ-loop
-offset-requires c κs = search needs
-
 mul-offset-3 : tie.Need-mul-offset-3 Inv-loop μ-loop
 mul-offset-3 c =
     let turn-test = in-loop c in
@@ -92,17 +89,11 @@ shared-slice-read-offset-2 c =
     let entry = at-start turn-test in
     omega (arith, entry .pre .lie, turn-test .loop-test .taken)
 
-offset-requires-2 : tie.Need-offset-requires-2 Inv-loop μ-loop
-offset-requires-2 c κs = search needs
-
 add-store : tie.Need-add-store Inv-loop μ-loop
 add-store c =
     let turn-test = in-loop (after-offset (c .before)) in
     let entry = at-start turn-test in
     omega (arith, entry .pre .few, turn-test .loop-test .taken)
-
-part-requires : tie.Need-part-requires Inv-loop μ-loop
-part-requires c κs = search needs
 
 store-requires : tie.Need-store-requires Inv-loop μ-loop
 store-requires c κs =
@@ -183,14 +174,14 @@ fill-spec =
     mul-offset
     mul-offset-2
     shared-slice-read-offset
-    offset-requires
+    (λ c κs. search needs)
     mul-offset-3
     add-offset
     mul-offset-4
     shared-slice-read-offset-2
-    offset-requires-2
+    (λ c κs. search needs)
     add-store
-    part-requires
+    (λ c κs. search needs)
     store-requires
     add-i
     loop-less

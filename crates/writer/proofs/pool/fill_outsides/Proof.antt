@@ -40,17 +40,8 @@ at-start p = p .before .before .before
 abbrev after-after-leading : tie.After-front-at Inv-loop μ-loop → tie.After-after-leading Inv-loop μ-loop
 after-after-leading p = (at-loop p) .before
 
-after-leading-requires : tie.Need-after-leading-requires Inv-loop μ-loop
-after-leading-requires c κs = search needs
-
 loop-holds : tie.Need-loop-holds Inv-loop μ-loop
 loop-holds c = laws.filling-start _ _ (c .after-leading .result) ((at-start c) .pre .1 .0)
-
-front-at-requires : tie.Need-front-at-requires Inv-loop μ-loop
-front-at-requires c κs = search needs
-
-enum-told : tie.Need-enum-told Inv-loop μ-loop
-enum-told c = search needs
 
 same-length : tie.Need-same-length Inv-loop μ-loop
 same-length c = ((at-loop (c .before .before)) .loop .inv) .long
@@ -62,9 +53,6 @@ returns c =
     laws.filling-out (turn .loop .inv) ((after-after-leading front-at-place) .after-leading .ensures)
     Nothing (sym (c .enum-told .given .1) ∙ front-at-place .front-at .ensures) tt
 
-enum-told-2 : tie.Need-enum-told-2 Inv-loop μ-loop
-enum-told-2 c = search needs
-
 same-length-2 : tie.Need-same-length-2 Inv-loop μ-loop
 same-length-2 c = ((at-loop (c .before .before)) .loop .inv) .long
 
@@ -74,9 +62,6 @@ returns-2 c =
     let turn = at-loop front-at-place in
     laws.filling-out (turn .loop .inv) ((after-after-leading front-at-place) .after-leading .ensures)
     Short (sym (c .enum-told2 .given .1) ∙ front-at-place .front-at .ensures) tt
-
-enum-known-front : tie.Need-enum-known-front Inv-loop μ-loop
-enum-known-front c = search needs
 
 same-length-3 : tie.Need-same-length-3 Inv-loop μ-loop
 same-length-3 c = ((at-loop (after-front-at (c .before .before))) .loop .inv) .long
@@ -99,9 +84,6 @@ add-from c =
       front-inside _ ((at-loop front-at-place) .loop .at)
           (sym (front-place .front .given .1) ∙ front-at-place .front-at .ensures),
     )
-
-part-requires : tie.Need-part-requires Inv-loop μ-loop
-part-requires c κs = search needs
 
 store-requires : tie.Need-store-requires Inv-loop μ-loop
 store-requires c κs =
@@ -128,12 +110,6 @@ add-at c =
     let at-front-at = after-front-at at-front in
     let at-loop = at-loop at-front-at in
     omega (arith, front-inside _ (at-loop .loop .at) (sym (at-front .front .given .1) ∙ at-front-at .front-at .ensures))
-
-add-i : tie.Need-add-i Inv-loop μ-loop
-add-i c = search needs
-
-loop-less : tie.Need-loop-less Inv-loop μ-loop
-loop-less c = search needs
 
 loop-again : tie.Need-loop-again Inv-loop μ-loop
 loop-again c =
@@ -163,24 +139,24 @@ fill-outsides-spec =
     (tie.spec
     Inv-loop
     μ-loop
-    after-leading-requires
+    (λ c κs. search needs)
     loop-holds
-    front-at-requires
-    enum-told
+    (λ c κs. search needs)
+    (λ c. search needs)
     same-length
     returns
-    enum-told-2
+    (λ c. search needs)
     same-length-2
     returns-2
-    enum-known-front
+    (λ c. search needs)
     same-length-3
     returns-3
     add-from
-    part-requires
+    (λ c κs. search needs)
     store-requires
     add-at
-    add-i
-    loop-less
+    (λ c. search needs)
+    (λ c. search needs)
     loop-again
     same-length-4
     returns-4)

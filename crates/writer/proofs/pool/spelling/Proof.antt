@@ -11,25 +11,10 @@ use Rattle.grammar.proofs.reader.byte.Reads as byte-reads
 use Rattle.grammar.proofs.reader.part.Reads as part-reads
 use Rattle.spellings.proofs.wide_byte.Reads as wide-byte-reads
 
-mul-i : tie.Need-mul-i
-mul-i c = search needs
-
-add-part : tie.Need-add-part
-add-part c = search needs
-
-byte-requires : tie.Need-byte-requires
-byte-requires c κs = search needs
-
-wide-byte-requires : tie.Need-wide-byte-requires
-wide-byte-requires c κs = search needs
-
-part-requires : tie.Need-part-requires
-part-requires c κs = search needs
-
 returns : tie.Need-returns
 returns c = spelled _ _ (c .before .wide-byte .ensures ∙ c .before .before .byte .ensures) (c .part .ensures)
 
 -- the function meets its contract
 pub spelling-spec : {M : Type 1} → statement M
 spelling-spec =
-    tie.close (tie.spec mul-i add-part byte-requires wide-byte-requires part-requires returns)
+    tie.close (tie.spec (λ c. search needs) (λ c. search needs) (λ c κs. search needs) (λ c κs. search needs) (λ c κs. search needs) returns)

@@ -11,21 +11,6 @@ use Rattle.writer.proofs.writing.byte_at.Reads as byte-at-reads
 use Rattle.writer.proofs.writing.copy_at.Reads as copy-at-reads
 use Rattle.writer.proofs.pool.narrow.Reads as narrow-reads
 
-mul-at : tie.Need-mul-at
-mul-at c = search needs
-
-narrow-requires : tie.Need-narrow-requires
-narrow-requires c κs = search needs
-
-byte-at-requires : tie.Need-byte-at-requires
-byte-at-requires c κs = search needs
-
-copy-at-requires : tie.Need-copy-at-requires
-copy-at-requires c κs = search needs
-
-same-length : tie.Need-same-length
-same-length c = search needs
-
 returns : tie.Need-returns
 returns c =
     let copy-at-place = c .before .before in
@@ -39,4 +24,4 @@ returns c =
 pub store-spec : {M : Type 1} → statement M
 store-spec =
     tie.close
-    (tie.spec mul-at narrow-requires byte-at-requires copy-at-requires same-length returns)
+    (tie.spec (λ c. search needs) (λ c κs. search needs) (λ c κs. search needs) (λ c κs. search needs) (λ c. search needs) returns)

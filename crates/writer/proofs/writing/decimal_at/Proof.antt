@@ -5,27 +5,6 @@ use Rattle.writer.proofs.WriteLaws.{lent}
 use Rattle.writer.proofs.writing.decimal_at.Statement.{statement}
 use Rattle.writer.proofs.writing.decimal_at.Tie as tie
 
-within-requires : tie.Need-within-requires
-within-requires c κs = search needs
-
-sub-write-decimal : tie.Need-sub-write-decimal
-sub-write-decimal c = search needs
-
-part-write-decimal-start : tie.Need-part-write-decimal-start
-part-write-decimal-start c = search needs
-
-part-write-decimal-end : tie.Need-part-write-decimal-end
-part-write-decimal-end c = search needs
-
-write-decimal-requires : tie.Need-write-decimal-requires
-write-decimal-requires c κs = search needs
-
-add-result : tie.Need-add-result
-add-result c = search needs
-
-same-length : tie.Need-same-length
-same-length c = search needs
-
 returns : tie.Need-returns
 returns c =
     let write-decimal-place = c .before .before in
@@ -38,11 +17,11 @@ pub decimal-at-spec : {M : Type 1} → statement M
 decimal-at-spec =
     tie.close
     (tie.spec
-    within-requires
-    sub-write-decimal
-    part-write-decimal-start
-    part-write-decimal-end
-    write-decimal-requires
-    add-result
-    same-length
+    (λ c κs. search needs)
+    (λ c. search needs)
+    (λ c. search needs)
+    (λ c. search needs)
+    (λ c κs. search needs)
+    (λ c. search needs)
+    (λ c. search needs)
     returns)

@@ -1,0 +1,11 @@
+-- `parse`: the number and values follow from the equation.
+use borrow.Author.Needs.{needs}
+use Rattle.vegzump.proofs.parse.parse.Statement.{statement}
+use Rattle.vegzump.proofs.parse.parse.Tie as tie
+
+returns : tie.Need-returns
+returns c = let e = c .before .before .parse-in .ensures .whole in (e, rw (← e))
+
+-- `parse` meets its contract.
+pub parse-spec : {M : Type 1} → statement M
+parse-spec = tie.close (tie.spec (λ c κs. search needs) (λ c κs. search needs) (λ c. search needs) returns)
