@@ -13,6 +13,7 @@ use Rattle.terms.specs.Rows.{termAt}
 use Rattle.terms.specs.Names.{Distinct, WellNamed}
 use Rattle.rows.specs.Sizes.{WholeRows, sizeAt}
 use Rattle.writer.specs.Pool.{oneOf, spanned, spelledBy}
+use Rattle.terms.specs.Term.{largestTerm}
 
 -- Words and outside names as a scan of a passed table gives them, and the term of the rows that an expansion made.
 pub record Emittable (table formula words : List ℕ) (count : ℕ) (cells : List ℕ) (made root : ℕ) : Type 0 where
@@ -28,7 +29,7 @@ pub record Emittable (table formula words : List ℕ) (count : ℕ) (cells : Lis
 pub record Markable (table formula words : List ℕ) (count : ℕ) (cells : List ℕ) (made root : ℕ) (marks : List ℕ) : Type 0 where
   pub emittable : Emittable table formula words count cells made root
   pub counted : length marks ≡ sizeAt cells made root
-  pub few : length marks ≤ 16384
+  pub few : length marks ≤ largestTerm
   pub blank : (i : ℕ) → getD marks i 0 ≡ 0
 
 -- the answer where so many bytes are to go into a room

@@ -14,7 +14,8 @@ use Rattle.spellings.specs.Bytes.{same}
 use Rattle.spellings.proofs.BytesLaws.{by-test, differ-same}
 use Rattle.grammar.specs.Values.{Field, field}
 use Rattle.layout.specs.Layout.{isRepeated, oneIf}
-use Rattle.layout.specs.Index.{spellingsUnder, isAmong, packed, Packs, mixed, bucketHashFrom, bucketHash, bucketOf, Hashed, entry, SpellingHeld}
+use Rattle.layout.specs.Index.{spellingsUnder, isAmong, packed, Packs, bucketMixed, bucketHashFrom, bucketHash, bucketOf, HashedUnder, entry}
+use Rattle.layout.specs.Index.{SpellingHeld}
 use Rattle.layout.specs.Index.{Bucket, leads-none, leads-past, leads-here}
 use Rattle.layout.specs.Index.{Indexed, Falling, roomWith, entered, HasSpellings}
 
@@ -31,7 +32,7 @@ repeated-among tag v (f ∷ fs) =
 -- ------------------------------------------------------------------ the hash
 
 -- four bytes more
-hash-four : (h : ℕ) (w : List ℕ) → 4 ≤ length w → bucketHashFrom h w ≡ bucketHashFrom (mixed h (packed w)) (drop 4 w)
+hash-four : (h : ℕ) (w : List ℕ) → 4 ≤ length w → bucketHashFrom h w ≡ bucketHashFrom (bucketMixed h (packed w)) (drop 4 w)
 unfolding bucketHashFrom
 hash-four h [] e = absurd (omega arith)
 hash-four h (a ∷ []) e = absurd (omega arith)
@@ -40,7 +41,7 @@ hash-four h (a ∷ b ∷ c ∷ []) e = absurd (omega arith)
 hash-four h (a ∷ b ∷ c ∷ d ∷ bs) e = refl
 
 -- the last bytes
-hash-rest : (h : ℕ) (w : List ℕ) → length w < 4 → bucketHashFrom h w ≡ mixed h (packed w)
+hash-rest : (h : ℕ) (w : List ℕ) → length w < 4 → bucketHashFrom h w ≡ bucketMixed h (packed w)
 unfolding bucketHashFrom
 hash-rest h [] e = refl
 hash-rest h (a ∷ []) e = refl
@@ -55,7 +56,7 @@ hash-small [] h = omega arith
 hash-small (a ∷ []) h = omega arith
 hash-small (a ∷ b ∷ []) h = omega arith
 hash-small (a ∷ b ∷ c ∷ []) h = omega arith
-hash-small (a ∷ b ∷ c ∷ d ∷ bs) h = hash-small bs (mixed h (packed (a ∷ b ∷ c ∷ d ∷ [])))
+hash-small (a ∷ b ∷ c ∷ d ∷ bs) h = hash-small bs (bucketMixed h (packed (a ∷ b ∷ c ∷ d ∷ [])))
 
 -- so does that of a spelling
 pub hash-below : (v : List ℕ) → bucketHash v < 4294967296
@@ -80,9 +81,9 @@ hashing-start = record { within = omega arith; small = omega arith; rest = refl 
 rest-lent : (v : List ℕ) (i : ℕ) → take (length v - i) (drop i v) ≡ drop i v
 rest-lent v i = take-all (length v - i) (drop i v) (rw length-drop (omega arith))
 
-module _ {v : List ℕ} {i h : ℕ} (c : Hashing v i h) {g : ℕ} (p : Packs (take (length v - i) (drop i v)) g) {k : ℕ} (f : k ≡ mixed h g) where
-  packs : k ≡ mixed h (packed (drop i v))
-  packs = f ∙ ap (mixed h) (p .number ∙ ap packed (rest-lent v i))
+module _ {v : List ℕ} {i h : ℕ} (c : Hashing v i h) {g : ℕ} (p : Packs (take (length v - i) (drop i v)) g) {k : ℕ} (f : k ≡ bucketMixed h g) where
+  packs : k ≡ bucketMixed h (packed (drop i v))
+  packs = f ∙ ap (bucketMixed h) (p .number ∙ ap packed (rest-lent v i))
 
   -- four bytes more
   pub hashing-next : 4 ≤ length v - i → Hashing v (i + 4) k
@@ -100,11 +101,11 @@ module _ {v : List ℕ} {i h : ℕ} (c : Hashing v i h) {g : ℕ} (p : Packs (ta
   hashing-end l = packs ∙ sym (hash-rest h (drop i v) (rw length-drop (omega arith))) ∙ c .rest
 
 -- a spelling's own
-pub hashed-own : {tag : ℕ} {v : List ℕ} {h : ℕ} → h ≡ bucketHash v → Hashed tag v h
+pub hashed-own : {tag : ℕ} {v : List ℕ} {h : ℕ} → h ≡ bucketHash v → HashedUnder tag v h
 hashed-own e = record { spelled = λ l. e }
 
 -- of a field that is no spelling no hash is asked
-pub hashed-none : {tag : ℕ} {v : List ℕ} → 2 < tag → Hashed tag v 0
+pub hashed-none : {tag : ℕ} {v : List ℕ} → 2 < tag → HashedUnder tag v 0
 hashed-none h = record { spelled = λ e. absurd (omega arith) }
 
 -- ------------------------------------------------------------------ one entry

@@ -34,16 +34,16 @@ pub record Packs (v : List ℕ) (r : ℕ) : Type 0 where
   pub small : r < 4294967296
 
 -- the hash of what has the hash h, with one such number behind it
-abbrev pub mixed : ℕ → ℕ → ℕ
-mixed h g = (h + g) * 1640531527 % 4294967296
+abbrev pub bucketMixed : ℕ → ℕ → ℕ
+bucketMixed h g = (h + g) * 1640531527 % 4294967296
 
 -- the hash of bytes that follow what has the hash h, by fours and then those that are left
 unfoldable pub bucketHashFrom : ℕ → List ℕ → ℕ
-bucketHashFrom h [] = mixed h (packed [])
-bucketHashFrom h (a ∷ []) = mixed h (packed (a ∷ []))
-bucketHashFrom h (a ∷ b ∷ []) = mixed h (packed (a ∷ b ∷ []))
-bucketHashFrom h (a ∷ b ∷ c ∷ []) = mixed h (packed (a ∷ b ∷ c ∷ []))
-bucketHashFrom h (a ∷ b ∷ c ∷ d ∷ bs) = bucketHashFrom (mixed h (packed (a ∷ b ∷ c ∷ d ∷ []))) bs
+bucketHashFrom h [] = bucketMixed h (packed [])
+bucketHashFrom h (a ∷ []) = bucketMixed h (packed (a ∷ []))
+bucketHashFrom h (a ∷ b ∷ []) = bucketMixed h (packed (a ∷ b ∷ []))
+bucketHashFrom h (a ∷ b ∷ c ∷ []) = bucketMixed h (packed (a ∷ b ∷ c ∷ []))
+bucketHashFrom h (a ∷ b ∷ c ∷ d ∷ bs) = bucketHashFrom (bucketMixed h (packed (a ∷ b ∷ c ∷ d ∷ []))) bs
 
 unfoldable pub bucketHash : List ℕ → ℕ
 bucketHash v = bucketHashFrom 0 v
@@ -53,7 +53,7 @@ abbrev pub bucketOf : ℕ → ℕ
 bucketOf h = h / 67108864 % 64
 
 -- h is the hash of a keyword or an outside name; of other fields none is asked
-pub record Hashed (tag : ℕ) (v : List ℕ) (h : ℕ) : Type 0 where
+pub record HashedUnder (tag : ℕ) (v : List ℕ) (h : ℕ) : Type 0 where
   pub spelled : tag ≤ 2 → h ≡ bucketHash v
 
 -- ------------------------------------------------------------------ the room
@@ -124,10 +124,10 @@ pub record Remembered (table : List ℕ) (at : ℕ) (s : Progress) (K N : List �
 -- they have those before a field of a tag and a value, of which h is the hash
 pub record FieldLent (table : List ℕ) (at tag : ℕ) (v : List ℕ) (h : ℕ) (s : Progress) (K N : List ℕ) : Type 0 where
   pub remembered : Remembered table at s K N
-  pub hashed : Hashed tag v h
+  pub hashed : HashedUnder tag v h
 
 -- the same for its spelling alone
 pub record SpellingLent (tag : ℕ) (v : List ℕ) (h : ℕ) (K N : List ℕ) : Type 0 where
   pub keywords : Falling K
   pub outsides : Falling N
-  pub hashed : Hashed tag v h
+  pub hashed : HashedUnder tag v h

@@ -8,7 +8,7 @@ ghost use Prim.Native.Nat.{ℕ, _<_, _≤_};
 ghost use mathlib.Core.Path.{_≡_};
 ghost use mathlib.Core.List.{List};
 ghost use Rattle.spellings.specs.Bytes.{same};
-ghost use Rattle.layout.specs.Index.{isAmong, Packs, mixed, bucketHash, Hashed, SpellingHeld, Indexed, Searchable, Enterable, entered};
+ghost use Rattle.layout.specs.Index.{isAmong, Packs, bucketMixed, bucketHash, HashedUnder, SpellingHeld, Indexed, Searchable, Enterable, entered};
 
 // Four bytes at the front as one number, the first lowest; those that are not there are 0.
 fn packed(v: &[u8]) -> usize
@@ -23,7 +23,7 @@ fn packed(v: &[u8]) -> usize
 // A hash with one such number behind it.
 fn mixed(h: usize, g: usize) -> usize
     requires { ⌜ (h < 4294967296) × (g < 4294967296) ⌝ }
-    ensures { λ r. ⌜ r ≡ mixed h g ⌝ }
+    ensures { λ r. ⌜ r ≡ bucketMixed h g ⌝ }
 {
     (h + g) * 1_640_531_527 % 4_294_967_296
 }
@@ -43,7 +43,7 @@ fn hash(v: &[u8]) -> usize
 
 // The hash of a keyword or an outside name; other fields need none.
 pub fn spelling_hash(tag: u8, v: &[u8]) -> usize
-    ensures { λ r. ⌜ Hashed tag (now (v .entry)) r ⌝ }
+    ensures { λ r. ⌜ HashedUnder tag (now (v .entry)) r ⌝ }
 {
     if 2 < tag {
         return 0;

@@ -229,6 +229,7 @@ module _ (t : Table) (T : Passing t) (formula : List ℕ) where
       pub made-is : s .made ≡ cellsOf E
       -- the root's row shows the term
       pub shows : termAt (s .made) (spellOf t (E .means .words)) cells′ v ≡ u
+      -- and needs no rows but those made
       pub shown-by-made : termAt (s .made) (spellOf t (E .means .words)) (take (s .made * columns) cells′) v ≡ u
 
     -- A term within the limits is run to its end.

@@ -11,6 +11,7 @@ use Rattle.terms.specs.Labelled.{labelled, labelledFields}
 use Rattle.rows.specs.Sizes.{sizeAt, sizeFieldsAt}
 use Rattle.writer.specs.Openings.{spellIn, Wrote}
 use Rattle.writer.specs.Pool.{oneOf, spanned, ShortSpellings}
+use Rattle.terms.specs.Term.{largestTerm}
 
 -- what is printed of a row, by a bound of the depth: its term or its field list
 pub data Part : Type 0 where
@@ -30,7 +31,7 @@ partSize cells (fieldsPart k row) = sizeFieldsAt cells k row
 pub record PartFits (pool cells numbers : List ℕ) (x : Part) (at place : ℕ) : Type 0 where
   pub room : at + length (partText pool cells numbers x place) < 2 ^ 62
   pub inside : place + partSize cells x ≤ length numbers
-  pub few : length numbers ≤ 16384
+  pub few : length numbers ≤ largestTerm
 
 -- a part was to be written behind `at` bytes, and the places of its constructors are passed
 pub record PartPrinted (pool cells numbers : List ℕ) (x : Part) (at place : ℕ) (out : List ℕ) (r place′ : ℕ) (out′ : List ℕ) : Type 0 where
@@ -55,10 +56,10 @@ pub record Printable (table formula words : List ℕ) (count : ℕ) (cells : Lis
   pub outsidesFit : (m : ℕ) → length (oneOf (lexiconOf table .outsides) m) < 32
   pub wordsFit : (j : ℕ) → j < count → length (spanned formula words j) < 32
   pub marked : sizeAt cells made root ≤ length numbers
-  pub small : length numbers ≤ 16384
+  pub small : length numbers ≤ largestTerm
 
 -- and with all spellings in a room
 pub record PrintableBy (pool cells : List ℕ) (made root : ℕ) (numbers : List ℕ) : Type 0 where
   pub short : ShortSpellings pool
   pub marked : sizeAt cells made root ≤ length numbers
-  pub small : length numbers ≤ 16384
+  pub small : length numbers ≤ largestTerm

@@ -23,7 +23,7 @@ pub record NewestRow (cells : List ℕ) (half h below p : ℕ) : Type 0 where
 
 -- the links lead through the first rows of all names that n rows bind
 pub record LinkedTo (n : ℕ) (cells links : List ℕ) : Type 0 where
-  pub few : n ≤ 16384
+  pub few : n ≤ mostCells
   pub some : 0 < length links / 2
   pub room : n ≤ length links / 2
   pub heads : (h : ℕ) → h < length links / 2 → NewestRow cells (length links / 2) h n (getD links h 0)

@@ -6,7 +6,7 @@ use mathlib.Core.Bool.{true, false}
 use mathlib.Core.List.{List, [], _∷_, _++_}
 use lib.Dec.{eqb}
 use lib.ListN.{length, getD}
-use Rattle.terms.specs.Term.{Name, Term, size}
+use Rattle.terms.specs.Term.{Name, Term, size, largestTerm}
 use Rattle.terms.specs.Rows.{termAt}
 use Rattle.terms.specs.Names.{Distinct, WellNamed}
 use Rattle.terms.specs.Rename.{rename}
@@ -48,7 +48,7 @@ firstLoose (p ∷ ps) = Loose p
 pub record Resolvable (cells : List ℕ) (made root : ℕ) (room : List ℕ) : Type 0 where
   pub whole : WholeRows cells
   pub counted : length room ≡ sizeAt cells made root
-  pub few : length room ≤ 16384
+  pub few : length room ≤ largestTerm
   pub blank : (i : ℕ) → getD room i 0 ≡ 0
 
 -- the walk of a term that an answer stands for

@@ -7,6 +7,7 @@ use Rattle.terms.specs.Cells.{columns}
 use Rattle.rows.specs.Sizes.{sizeAt, sizeFieldsAt}
 use Rattle.resolver.specs.Marks.{ResolvesTerm, ResolvesFields}
 use Rattle.resolver.specs.Links.{RowsLinked}
+use Rattle.terms.specs.Term.{largestTerm}
 
 -- v is stored in a slot, if it is there, and r was there before
 pub record Exchanged (slot v : ℕ) (current current′ : List ℕ) (r : ℕ) : Type 0 where
@@ -17,7 +18,7 @@ pub record Exchanged (slot v : ℕ) (current current′ : List ℕ) (r : ℕ) : 
 pub record Walkable (cells links : List ℕ) (constructors place : ℕ) (room : List ℕ) : Type 0 where
   pub linked : RowsLinked cells links
   pub inside : place + constructors ≤ length room
-  pub few : length room ≤ 16384
+  pub few : length room ≤ largestTerm
 
 -- the marks of the term, or of the field list, at a row, and the place behind it
 pub record WalksTerm (cells : List ℕ) (k row place place′ : ℕ) (current current′ room room′ : List ℕ) (held : ℕ) : Type 0 where

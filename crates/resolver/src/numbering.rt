@@ -6,10 +6,11 @@ ghost use mathlib.Core.Path.{_≡_};
 ghost use mathlib.Core.List.{[], _++_};
 ghost use lib.ListN.{length, take, drop};
 ghost use Rattle.resolver.specs.Numbers.{numberAt, numberedMarks, looseIn, firstLoose};
+ghost use Rattle.terms.specs.Term.{largestTerm};
 
 // The number at place p with the mark m, when `count` numbers were given.
 fn number_of(marks: &[u16], p: usize, m: u16, count: u16) -> u16
-    requires { ⌜ (p ≤ length (now marks)) × (count < 16384) ⌝ }
+    requires { ⌜ (p ≤ length (now marks)) × (count < largestTerm) ⌝ }
     ensures { λ r. ⌜ r ≡ numberAt (take p (now (marks .entry))) (count + 1) m ⌝ }
 {
     if m == 65534 {
@@ -30,7 +31,7 @@ fn number_of(marks: &[u16], p: usize, m: u16, count: u16) -> u16
 
 // Numbers the first n marks. A fresh variable without an owner ends it: refusal 23.
 pub fn number(marks: &mut [u16], n: usize) -> Resolution
-    requires { ⌜ (n ≤ length (now marks)) × (n ≤ 16384) ⌝ }
+    requires { ⌜ (n ≤ length (now marks)) × (n ≤ largestTerm) ⌝ }
     ensures { λ r. ⌜ r ≡ firstLoose (looseIn 0 (take n (now (marks .entry)))) ⌝ }
     ensures { λ r. ⌜ (r ≡ Resolution.Numbered → now (marks .exit) ≡ numberedMarks [] 1 (take n (now (marks .entry))) ++ drop n (now (marks .entry))) ⌝ }
 {

@@ -14,9 +14,10 @@ ghost use Rattle.rows.specs.Sizes.{sizeAt, sizeFieldsAt};
 ghost use Rattle.resolver.specs.Links.{RowsLinked};
 ghost use Rattle.resolver.specs.Marks.{HoldsOutsides, MarksVariable, MarksBinder};
 ghost use Rattle.resolver.specs.Walks.{Exchanged, Walkable, WalksTerm, WalksFields};
+ghost use Rattle.terms.specs.Term.{largestTerm};
 
 fn put(room: &mut &mut [u16], at: usize, v: u16)
-    requires { ⌜ (at < length (now (now room))) × (length (now (now room)) ≤ 16384) ⌝ }
+    requires { ⌜ (at < length (now (now room))) × (length (now (now room)) ≤ largestTerm) ⌝ }
     ensures { λ _. ⌜
         (now (now (room .exit)) ≡ set (now (now (room .entry))) at v) × (length (now (now (room .exit))) ≡ length (now (now (room .entry))))
         ⌝ }
@@ -101,7 +102,7 @@ fn binder_mark(x: u32, held: u64) -> u16
 
 // The binder at a place, as slots have it.
 fn binder_at(place: usize) -> u16
-    requires { ⌜ place < 16384 ⌝ }
+    requires { ⌜ place < largestTerm ⌝ }
     ensures { λ r. ⌜ r ≡ place + 1 ⌝ }
 {
     (place + 1) as u16

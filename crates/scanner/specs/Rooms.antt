@@ -8,7 +8,7 @@ use Rattle.scanner.specs.declared.Token.{Token}
 use Rattle.scanner.specs.declared.Scanned.{Scanned}
 use Rattle.grammar.specs.Table.{Lexicon}
 use Rattle.scanner.specs.Scan.{isNew, scan}
-use Rattle.scanner.specs.Tokens.{token}
+use Rattle.scanner.specs.Tokens.{token, mostTokens}
 pub use Rattle.lexicon.specs.Places.{wordAt, wordsIn}
 unfoldable pub use Rattle.lexicon.specs.Places.{wordsFrom}
 
@@ -49,8 +49,8 @@ wordPlaces count (t ∷ ts) = placeThen count t (wordPlaces (countWith count t) 
 
 -- There is room for as many tokens and words as the formula has bytes, up to 4,096.
 pub record RoomFor (formula tokens words : List ℕ) : Type 0 where
-  pub for-tokens : (n : ℕ) → n ≤ length formula → n ≤ 4096 → n * 4 ≤ length tokens
-  pub for-words : (n : ℕ) → n ≤ length formula → n ≤ 4096 → n * 2 ≤ length words
+  pub for-tokens : (n : ℕ) → n ≤ length formula → n ≤ mostTokens → n * 4 ≤ length tokens
+  pub for-words : (n : ℕ) → n ≤ length formula → n ≤ mostTokens → n * 2 ≤ length words
 
 -- What a scan asks of what it is given: the offsets of a table fit a number of a room, and there is room.
 pub record LentToScan (table formula tokens words : List ℕ) : Type 0 where
@@ -60,7 +60,7 @@ pub record LentToScan (table formula tokens words : List ℕ) : Type 0 where
 -- What those who read n tokens off a room ask: they lie in it, they are at most 4,096, and each value leaves room for a name's class.
 pub record TokensFit (room : List ℕ) (n : ℕ) : Type 0 where
   pub long : n * 4 ≤ length room
-  pub few : n ≤ 4096
+  pub few : n ≤ mostTokens
   pub values : (i : ℕ) → i < n → getD room (i * 4 + 3) 0 < 2 ^ 30
 
 -- ------------------------------------------------------------------ the rooms after a scan

@@ -16,7 +16,7 @@ use Rattle.scanner.specs.declared.Made.{Made}
 use Rattle.lexicon.specs.declared.trees.Spot.{Spot}
 use Rattle.lexicon.specs.declared.trees.Spot.the-variants.{Node, Free}
 use Rattle.scanner.specs.Scan.{isNew, stepOf}
-use Rattle.scanner.specs.Tokens.{token}
+use Rattle.scanner.specs.Tokens.{token, mostTokens}
 use Rattle.scanner.specs.Tiling.{FirstAt, NotIn}
 use Rattle.scanner.specs.Rooms.{wordsIn}
 use Rattle.lexicon.specs.Trees.{SearchTree, FreeFor}
@@ -61,7 +61,7 @@ pub record Stepped (lex : Lexicon) (mask : ℕ) (met : List (List ℕ)) (links :
 pub record Ready (table room tree formula words links : List ℕ) (mask count : ℕ) : Type 0 where
   pub lexical : Lexical table room tree
   pub met : SearchTree mask (wordsIn formula words count) links
-  pub few : count ≤ 4096
+  pub few : count ≤ mostTokens
   pub placed : count * 2 ≤ length words
   pub linked : mask + 1 + count * 2 ≤ length links
 
@@ -69,4 +69,4 @@ pub record Ready (table room tree formula words links : List ℕ) (mask count : 
 pub record Scannable (formula links : List ℕ) (mask : ℕ) : Type 0 where
   pub short : length formula < 65536
   pub unlinked : (i : ℕ) → getD links i 0 ≡ 0
-  pub enough : (n : ℕ) → n ≤ length formula → n ≤ 4096 → mask + 1 + n * 2 ≤ length links
+  pub enough : (n : ℕ) → n ≤ length formula → n ≤ mostTokens → mask + 1 + n * 2 ≤ length links

@@ -17,12 +17,17 @@ ghost use lib.Seq.{sets};
 ghost use Rattle.spellings.specs.Bytes.{isLetter, isDigit};
 ghost use Rattle.grammar.specs.Table.{Lexicon};
 ghost use Rattle.grammar.specs.Lookup.{lexiconOf};
-ghost use Rattle.scanner.specs.Tokens.{token};
+ghost use Rattle.scanner.specs.Tokens.{token, mostTokens};
 ghost use Rattle.lexicon.specs.Trees.{hashOf, Planted, Linkable, linksWith};
 ghost use Rattle.lexicon.specs.LexiconRoom.{Lexical};
 ghost use Rattle.scanner.specs.Stepping.{Named, Ready, OwnWord, made, Marks, Stepped, Agrees, Scannable};
 ghost use Rattle.answers.specs.Refusals.{refusal};
 ghost use Rattle.scanner.specs.Rooms.{rowThen, placeThen, countWith, wordsIn, RoomFor, LentToScan, filled, scanInto};
+
+// The tokens and the bytes that a formula may have; the rooms of its tokens and words are as long as these ask.
+const MOST_TOKENS: usize = 4096;
+
+const LONGEST_FORMULA: usize = 65535;
 
 // A token: its kind (0 a word, 1 a number, k + 2 keyword k, 64 a symbol that is no keyword), its offset and length in the
 // formula, and a word's spelling number or a number's value, else 0.
@@ -251,7 +256,7 @@ fn store_token(tokens: &mut [u32], n: usize, t: Token)
 
 // The place of a word that is new is stored, and the word is linked; the answer is how many words there are then.
 fn store_word(words: &mut [u32], links: &mut [u32], count: usize, t: Token, spot: Spot) -> usize
-    requires { ⌜ Agrees count t spot × Linkable (now links) spot × (count * 2 + 2 ≤ length (now words)) × (count < 4096) ⌝ }
+    requires { ⌜ Agrees count t spot × Linkable (now links) spot × (count * 2 + 2 ≤ length (now words)) × (count < mostTokens) ⌝ }
     ensures { λ r. ⌜ r ≡ countWith count t ⌝ }
     ensures { λ _. ⌜ now (words .exit) ≡ sets (now (words .entry)) (count * 2) (placeThen count t []) ⌝ }
     ensures { λ _. ⌜ now (links .exit) ≡ linksWith (now (links .entry)) spot count ⌝ }
@@ -313,7 +318,7 @@ fn scan_loop(
                 return bad_lexeme(at);
             }
             Step::Emit(t) => {
-                if n == 4096 {
+                if n == MOST_TOKENS {
                     return unscanned(16, 0);
                 }
                 store_token(tokens, n, t);
@@ -356,7 +361,7 @@ pub fn scan(table: &[u8], formula: &[u8], tokens: &mut [u32], words: &mut [u32])
         ≡ scanInto (lexiconOf (now (table .entry))) (now (formula .entry)) (now (tokens .entry)) (now (words .entry)) ⌝ }
 {
     let size = formula.len();
-    if 65535 < size {
+    if LONGEST_FORMULA < size {
         return unscanned(14, 0);
     }
     if size <= 64 {

@@ -11,7 +11,7 @@ use Rattle.answers.specs.declared.Refusal.{Refusal}
 use Rattle.answers.specs.Refusals.{refusal}
 use Rattle.grammar.specs.Table.{Template, Templates, none, more}
 use Rattle.grammar.specs.Table as Table
-use Rattle.terms.specs.Cells.{withRow, nameBase}
+use Rattle.terms.specs.Cells.{withRow, nameBase, columns}
 use Rattle.sorts.specs.Judgements.{Sorted, Fill, fill-none, fill-more}
 use Rattle.sorts.specs.Judgements as Judgements
 use Rattle.expansion.specs.declared.State.{State}
@@ -104,7 +104,7 @@ module _ (spell : ℕ → List ℕ) (I : Input) where
         fits = k .fits;
       }
 
-  cell-ends : {c : ℕ} {xs : List ℕ} {vs : List Value} {v : Value} (s : State) (cells : List ℕ) → I .rows * 4 ≤ length cells → Constructs c vs v
+  cell-ends : {c : ℕ} {xs : List ℕ} {vs : List Value} {v : Value} (s : State) (cells : List ℕ) → I .rows * columns ≤ length cells → Constructs c vs v
       → ShowAll spell (s .made) cells xs vs
       → Ends (Built 1 s cells v) (Full (I .rows) (s .made + 1)) (cell I c xs s cells)
   cell-ends {c} {xs} {vs} {v} s cells room k a = go (ltb (s .made) (I .rows)) refl
@@ -135,7 +135,7 @@ module _ (spell : ℕ → List ℕ) (I : Input) where
 
     -- a template that gives a value is built as it, or no row is left
     pub build-ends : {N : ℕ} {L : List ℕ} {A : ℕ} {M : List Value} (t : Template) {v : Value} {xs : List ℕ} (s : State) (cells : List ℕ)
-        → Gives spell M t v → Sorted N L t A → N ≤ nameBase → I .rows * 4 ≤ length cells → s .made ≤ I .rows → ShowAll spell (s .made) cells xs M
+        → Gives spell M t v → Sorted N L t A → N ≤ nameBase → I .rows * columns ≤ length cells → s .made ≤ I .rows → ShowAll spell (s .made) cells xs M
         → Ends (Built (rowsOf t) s cells v) (Full (I .rows) (s .made + rowsOf t)) (build t I xs s cells)
     build-ends (Table.variable i) s cells (by-variable b) w small room fit a = (nothing-made s cells fit, shows-bound a b)
     build-ends (Table.outsideVar n) s cells by-global (Judgements.by-global l) small room fit a =
@@ -155,7 +155,7 @@ module _ (spell : ℕ → List ℕ) (I : Input) where
 
     -- so are templates
     pub build-all-ends : {N : ℕ} {L : List ℕ} {Bs : List ℕ} {M : List Value} (ts : Templates) {vs : List Value} {xs : List ℕ} (s : State) (cells : List ℕ)
-        → GiveAll spell M ts vs → Fill N L ts Bs → N ≤ nameBase → I .rows * 4 ≤ length cells → s .made ≤ I .rows → ShowAll spell (s .made) cells xs M
+        → GiveAll spell M ts vs → Fill N L ts Bs → N ≤ nameBase → I .rows * columns ≤ length cells → s .made ≤ I .rows → ShowAll spell (s .made) cells xs M
         → Ends (BuiltAll (rowsOfAll ts) s cells vs) (Full (I .rows) (s .made + rowsOfAll ts)) (buildAll ts I xs s cells)
     build-all-ends none s cells give-none fill-none small room fit a = (nothing-made s cells fit, show-none)
     build-all-ends (more t ts) {xs = xs} s cells (give-more {v = v} {vs = vs} g gs) (fill-more w f ws) small room fit a =

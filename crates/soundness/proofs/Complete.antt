@@ -37,6 +37,7 @@ use Rattle.soundness.proofs.Typing.{FitAll, taken-of, result-sorted}
 use Rattle.expansion.proofs.Choosing.{kindOf, kind-next, Picks, picks, picks-none, choice-picks, rule, taken-one}
 use Rattle.expansion.specs.Parsing.{input}
 use Rattle.soundness.proofs.Sound.{token-here, Kept, kept-made, kept-less, call-full, call-chosen, shown}
+use Rattle.terms.specs.Cells.{columns}
 
 -- ------------------------------------------------------------------ the next token
 
@@ -360,7 +361,7 @@ module _ {g : List Production} (X : Setting g) where
 
   -- the call of the root beside its derivation
   pub root-along : {M : List Value} {t : List Token} {i : ℕ} (D : Derives g spell [] tokens 1 (call (X .root) none ∷ []) M t i)
-      → (cells : List ℕ) → rows * 4 ≤ length cells
+      → (cells : List ℕ) → rows * columns ≤ length cells
       → Ends (λ x s c. Reached 0 mostOpen (openIn D) (callsIn D) (rowsIn D) t i M 0 0 cells (x ∷ []) s c)
       (Beyond rows mostOpen (openIn D) (callsIn D) (rowsIn D))
       (runCall mostOpen I (X .root) [] initialState cells)
@@ -398,7 +399,7 @@ module _ {g : List Production} (X : Setting g) where
     shown-first : {made : ℕ} {cells : List ℕ} {x : ℕ} → ShowAll spell made cells (x ∷ []) (term t ∷ []) → termAt made spell cells x ≡ t
     shown-first (show-more h show-none) = shown X h
 
-    run-along : (cells : List ℕ) → rows * 4 ≤ length cells → Ends Accepts Exceeds (run I (X .root) cells)
+    run-along : (cells : List ℕ) → rows * columns ≤ length cells → Ends Accepts Exceeds (run I (X .root) cells)
     unfolding run
     run-along cells room =
         let D = P .derived in
@@ -425,12 +426,12 @@ module _ {g : List Production} (X : Setting g) where
     within-not h (too-large e l) = omega (arith, h .few-rows, l)
 
     -- accepted beside the derivation
-    pub accepts : (cells : List ℕ) → rows * 4 ≤ length cells → (v : ℕ) (s : State) (cells′ : List ℕ) → run I (X .root) cells ≡ done v s cells′
+    pub accepts : (cells : List ℕ) → rows * columns ≤ length cells → (v : ℕ) (s : State) (cells′ : List ℕ) → run I (X .root) cells ≡ done v s cells′
         → Accepts v s cells′
     accepts cells room v s cells′ e = rw e at (run-along cells room)
 
     -- a derivation within the limits is accepted
-    pub accepted : (cells : List ℕ) → rows * 4 ≤ length cells → Affords rows 0 0 0 (P .derived)
+    pub accepted : (cells : List ℕ) → rows * columns ≤ length cells → Affords rows 0 0 0 (P .derived)
         → (v : ℕ) × (s : State) × (cells′ : List ℕ) × (run I (X .root) cells ≡ done v s cells′)
     accepted cells room h = go (run I (X .root) cells) refl (run-along cells room)
       where

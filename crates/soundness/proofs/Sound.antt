@@ -40,6 +40,7 @@ use Rattle.soundness.proofs.Building.{Ends, ends-after, ends-map, Made,
 use Rattle.expansion.specs.ValueSorts.{Typed, typed-unit, typed-var, typed-binder, typed-label, typed-num, typed-term, Matches}
 use Rattle.soundness.proofs.Typing.{matches-and, gives-exists, give-all-exist, items-typed, FitAll, body-of, taken-of}
 use Rattle.expansion.proofs.Choosing.{kindOf, kind-next, Picks, picks, picks-none, choice-picks, rule}
+use Rattle.terms.specs.Cells.{columns}
 
 -- ------------------------------------------------------------------ the tokens from a place on
 
@@ -60,7 +61,7 @@ token-before tokens at {k} e l =
 -- The rows have room in the cells, and the fresh names in a name: each call begun has at most 12 of them, k of which are to come.
 pub record Kept (rows k : ℕ) (s : State) (cells : List ℕ) : Type 0 where
   -- the cells have room for all rows
-  pub room : rows * 4 ≤ length cells
+  pub room : rows * columns ≤ length cells
   -- the rows made are not more
   pub fits : s .made ≤ rows
   -- twelve new names a call at most
@@ -389,7 +390,7 @@ module _ {g : List Production} (X : Setting g) where
   Root cells = Called 0 (X .root) [] initialState cells
 
   -- the root, called
-  pub root-called : (cells : List ℕ) → rows * 4 ≤ length cells → Ends (Root cells) Any (runCall mostOpen I (X .root) [] initialState cells)
+  pub root-called : (cells : List ℕ) → rows * columns ≤ length cells → Ends (Root cells) Any (runCall mostOpen I (X .root) [] initialState cells)
   root-called cells room =
       call-sound mostOpen 0 (X .root) (X .signature) [] [] initialState cells (X .defined) (X .root-small) (no-arguments X)
       (record { room = room; fits = omega arith; names = omega arith; begun = omega arith }) show-none
@@ -427,7 +428,7 @@ module _ {g : List Production} (X : Setting g) where
       go false e = parses (ltb-false (s′ .at) (length tokens) e) c
 
   -- what is accepted is parsed
-  pub run-sound : (cells : List ℕ) → rows * 4 ≤ length cells → (v : ℕ) (s : State) (cells′ : List ℕ) → run I (X .root) cells ≡ done v s cells′
+  pub run-sound : (cells : List ℕ) → rows * columns ≤ length cells → (v : ℕ) (s : State) (cells′ : List ℕ) → run I (X .root) cells ≡ done v s cells′
       → Parses g spell (X .root) tokens (termAt (s .made) spell cells′ v)
   unfolding run Accepted
   run-sound cells room v s cells′ e =

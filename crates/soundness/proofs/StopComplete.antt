@@ -38,6 +38,7 @@ use Rattle.soundness.proofs.Complete as Complete
 use Rattle.soundness.specs.Stopping.{nextIndex, takes, makes, begins, Fails, no-token, no-row, too-deep, too-many-calls, no-choice, Stops, at-token}
 use Rattle.soundness.specs.Stopping.{at-arguments, at-call, past-item, CallStops, at-start, in-items, at-result, Refuses, stops, left-over}
 use Rattle.soundness.proofs.StopLaws.{first-set-one, build-stays, build-all-stays, index-is, take-halts, item-bounded, items-bounded, call-bounded}
+use Rattle.terms.specs.Cells.{columns}
 
 -- halted with this refusal
 abbrev pub HaltsWith : {A : Type 0} → Refusal → Result A → Type 0
@@ -117,7 +118,7 @@ module _ {g : List Production} (X : Setting g) where
 
   arguments-fail : {o c m i : ℕ} {t : List Token} {r : Refusal} {ts : Templates} {M vs : List Value} {L Bs xs : List ℕ} (s : State) (cells : List ℕ)
       → GiveAll spell M ts vs → Fill (F .scope .outsides) L ts Bs
-      → Fails g spell rows tokens o c m t (makes (rowsOfAll ts)) r → At c m t i s → rows * 4 ≤ length cells → s .made ≤ rows
+      → Fails g spell rows tokens o c m t (makes (rowsOfAll ts)) r → At c m t i s → rows * columns ≤ length cells → s .made ≤ rows
       → ShowAll spell (s .made) cells xs M → HaltsWith r (buildAll ts J xs s cells)
   arguments-fail {t = t} {ts = ts} {vs = vs} {xs = xs} s cells gs f (no-row l) p room fits a =
       go (buildAll ts J xs s cells)
@@ -373,7 +374,7 @@ module _ {g : List Production} (X : Setting g) where
       go (halt z c) q = (c, (cc (q .1)))
 
   left-halts : {i : ℕ} {M : List Value} {t : Token} {ts : List Token} (D : Derives g spell [] tokens 1 (call (X .root) none ∷ []) M (t ∷ ts) i)
-      → Affords rows 0 0 0 D → (cells : List ℕ) → rows * 4 ≤ length cells → HaltsWith (refusal 18 (nextIndex tokens (t ∷ ts)) 0 0) (run J (X .root) cells)
+      → Affords rows 0 0 0 D → (cells : List ℕ) → rows * columns ≤ length cells → HaltsWith (refusal 18 (nextIndex tokens (t ∷ ts)) 0 0) (run J (X .root) cells)
   unfolding run
   left-halts {i} {M} {t} {ts} D A cells room =
       go (runCall mostOpen J (X .root) [] initialState cells)
@@ -397,7 +398,7 @@ module _ {g : List Production} (X : Setting g) where
           (c, rw (b, ended) (cc (index-is X s (u .0 .0 .place) (u .1))))
 
   -- a run stops with the refusal that the rules give
-  pub refuses-halts : {r : Refusal} → Refuses g spell rows tokens (X .root) r → (cells : List ℕ) → rows * 4 ≤ length cells
+  pub refuses-halts : {r : Refusal} → Refuses g spell rows tokens (X .root) r → (cells : List ℕ) → rows * columns ≤ length cells
       → HaltsWith r (run J (X .root) cells)
   unfolding run
   refuses-halts {r} (stops E) cells room =

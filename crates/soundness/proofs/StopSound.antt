@@ -40,6 +40,7 @@ use Rattle.soundness.proofs.Complete.{items-along, items-after, root-al
 use Rattle.soundness.specs.Stopping.{Action, nextIndex, makes, Fails, no-token, no-row, too-deep, too-many-calls, no-choice, Stops, at-token}
 use Rattle.soundness.specs.Stopping.{at-arguments, at-call, past-item, CallStops, at-start, in-items, at-result, Refuses, stops, left-over}
 use Rattle.soundness.proofs.StopLaws.{build-stays, build-all-stays, index-is, kind-of-next, item-bounded, items-bounded, call-bounded}
+use Rattle.terms.specs.Cells.{columns}
 
 module _ {g : List Production} (X : Setting g) where
   abbrev F : FitAll g
@@ -254,7 +255,7 @@ module _ {g : List Production} (X : Setting g) where
   unfolding rowsOfAll
   root-stops e = stops (at-call {m = 0} {ts = none} give-none (omega arith) e)
 
-  leftover : (cells : List ℕ) (x : ℕ) (s : State) (cells′ : List ℕ) {t : Token} {ts : List Token} → rows * 4 ≤ length cells
+  leftover : (cells : List ℕ) (x : ℕ) (s : State) (cells′ : List ℕ) {t : Token} {ts : List Token} → rows * columns ≤ length cells
       → runCall mostOpen J (X .root) [] initialState cells ≡ done x s cells′ → Root X cells x s cells′ → s .at ≤ length tokens → rest s ≡ t ∷ ts
       → Refuses g spell rows tokens (X .root) (refusal 18 (s .at) 0 0)
   leftover cells x s cells′ {t} {ts} room q y b e =
@@ -269,7 +270,7 @@ module _ {g : List Production} (X : Setting g) where
       }))
 
   -- a run that stops is refused by the rules
-  pub run-halts : (cells : List ℕ) → rows * 4 ≤ length cells → Ends Fine (Refuses g spell rows tokens (X .root)) (run J (X .root) cells)
+  pub run-halts : (cells : List ℕ) → rows * columns ≤ length cells → Ends Fine (Refuses g spell rows tokens (X .root)) (run J (X .root) cells)
   unfolding run
   run-halts cells room =
       after-by Fine (Refuses g spell rows tokens (X .root)) (runCall mostOpen J (X .root) [] initialState cells) (ended J)

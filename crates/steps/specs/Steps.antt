@@ -19,6 +19,7 @@ use Rattle.expansion.specs.Run.{Run, halt, after}
 use Rattle.expansion.specs.Expansion.{Input, build, runItems}
 use Rattle.productions.specs.Index.{wholeBody}
 use Rattle.templates.specs.Built.{Holds}
+use Rattle.expansion.specs.Limits.{mostCalls}
 
 -- the items from an offset on and the result behind them, under the values of the variables; `callee` is what a call does
 unfoldable pub body : (ℕ → List ℕ → Run ℕ) → List ℕ → ℕ → Input → List ℕ → Run ℕ
@@ -61,10 +62,10 @@ pub record MayFinish (bs : List ℕ) (at : ℕ) (stack : List ℕ) : Type 0 wher
 -- Each item moves the token index or the counter of fresh names by one at most, and each of the calls left has fewer items than a
 -- table has bytes: what is used and what may still be used together never grow.
 abbrev pub weight : State → ℕ
-weight s = s .at + s .fresh + 16384 * (65536 - s .calls)
+weight s = s .at + s .fresh + 16384 * (mostCalls - s .calls)
 
 abbrev pub mostWeight : ℕ
-mostWeight = 16384 * 65536 + 1
+mostWeight = 16384 * mostCalls + 1
 
 -- a result moves no counter but that of the cells
 abbrev pub Stays : State → Outcome → Type 0

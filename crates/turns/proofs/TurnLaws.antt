@@ -29,7 +29,7 @@ use Rattle.turns.specs.declared.Advance.{Advance}
 use Rattle.turns.specs.declared.Advance.the-variants.{Paused}
 use Rattle.turns.specs.Begins.{Begins, CallBegunAt, CallEntered, Starts}
 use Rattle.turns.specs.Turns.{cursorAt, moved, enteredAt, resumption, Resumes, Values, Returns, Savable, Pushes, Pauses, left, Going, Calling}
-use Rattle.turns.specs.Turns.{Goes, Stands, Turns}
+use Rattle.turns.specs.Turns.{Goes, TurnStands, Turns}
 use Rattle.turns.proofs.BeginLaws.{positive, entry-weight}
 
 -- The call at a level of the room is read back.
@@ -413,7 +413,7 @@ pub record Place : Type 0 where
 
 -- what is left at a place gives R
 abbrev pub Stood : Input → List ℕ → Result ℕ → Place → Type 0
-Stood I bs R p = Stands I bs R (p .frames) (p .vars) (p .cells) (p .cursor)
+Stood I bs R p = TurnStands I bs R (p .frames) (p .vars) (p .cells) (p .cursor)
 
 -- Rooms are as long as they were, choices are remembered, and what gave R at the first place still gives it.
 pub record Turning (I : Input) (bs : List ℕ) (p q : Place) (memory : List ℕ) : Type 0 where
@@ -438,7 +438,7 @@ pub turned-start : {I : Input} {bs frames : List ℕ} {from : Resumption} {cells
     → {vars : List ℕ} {c : Cursor}
     → Resumes frames from vars c
     → (from .level + 2) * frameSize ≤ length frames
-    → Stands I bs R frames vars cells c
+    → TurnStands I bs R frames vars cells c
 turned-start s r spare = (going-resumed s r, omega (arith, spare, ap (λ (c : Cursor). c .level) (r .cursor-is)))
 
 -- One turn more.

@@ -18,6 +18,7 @@ use Rattle.turns.specs.declared.Resumption.{Resumption}
 use Rattle.steps.specs.declared.Cursor.{Cursor}
 use Rattle.turns.specs.declared.Advance.{Advance}
 use Rattle.turns.specs.declared.Advance.the-variants.{Ended, Paused}
+use Rattle.expansion.specs.Limits.{mostCalls}
 
 -- ------------------------------------------------------------------ cursors
 
@@ -79,7 +80,7 @@ pub record Pauses (frames vars : List ℕ) (c : Cursor) (frames′ : List ℕ) (
 
 -- Calls left, then calls that wait, then bytes left: what falls with each turn.
 abbrev pub left : List ℕ → Cursor → ℕ
-left bs c = 40000 * (65536 - c .state .calls) + 16386 * c .level + (length bs - c .at)
+left bs c = 40000 * (mostCalls - c .state .calls) + 16386 * c .level + (length bs - c .at)
 
 -- ------------------------------------------------------------------ where an expansion stands
 
@@ -126,10 +127,10 @@ Goes I bs R frames cells (Ended o) = ran o cells ≡ R
 Goes I bs R frames cells (Paused from) = Standing I bs frames (from .level) (from .state) cells R × (length frames < longFrames)
 
 -- a call goes on in a room that has one level more
-abbrev pub Stands : Input → List ℕ → Result ℕ → List ℕ → List ℕ → List ℕ → Cursor → Type 0
-Stands I bs R frames vars cells c = Going I bs frames vars c cells R × ((c .level + 2) * frameSize ≤ length frames)
+abbrev pub TurnStands : Input → List ℕ → Result ℕ → List ℕ → List ℕ → List ℕ → Cursor → Type 0
+TurnStands I bs R frames vars cells c = Going I bs frames vars c cells R × ((c .level + 2) * frameSize ≤ length frames)
 
 -- and less is left
 pub record Turns (I : Input) (bs : List ℕ) (most : ℕ) (R : Result ℕ) (frames vars cells : List ℕ) (c : Cursor) : Type 0 where
-  pub stands : Stands I bs R frames vars cells c
+  pub stands : TurnStands I bs R frames vars cells c
   pub less : left bs c < most

@@ -23,6 +23,8 @@ use Rattle.expansion.specs.Expansion.{run}
 use Rattle.expander.specs.Lent.{Held}
 use Rattle.vegzump.specs.declared.parse.Parsed.{Parsed}
 use Rattle.meaning.specs.Expand.{inputOf}
+use Rattle.scanner.specs.Tokens.{mostTokens}
+use Rattle.terms.specs.Cells.{columns, mostCells}
 
 abbrev pub parseScanned : Table → Lexed → Scanned → List ℕ → Result ℕ
 parseScanned t l (Unscanned r) cells = halt r cells
@@ -113,15 +115,15 @@ pub record Runnable (bs room tokens : List ℕ) (n : ℕ) : Type 0 where
 pub record WordsKnown (bs formula words : List ℕ) (count : ℕ) : Type 0 where
   pub passes : Passes bs
   pub tokens : ℕ
-  pub few : count ≤ 4096
+  pub few : count ≤ mostTokens
   pub lie : count * 2 ≤ length words
   pub answered : scan (lexiconOfTable (passes .table)) formula .answer ≡ Tokens tokens count
   pub words-are : wordsIn formula words count ≡ scan (lexiconOfTable (passes .table)) formula .words
 
 -- the rows made lie in the cells
 pub record RowsLie (made : ℕ) (cells : List ℕ) : Type 0 where
-  pub few : made ≤ 16384
-  pub inside : made * 4 ≤ length cells
+  pub few : made ≤ mostCells
+  pub inside : made * columns ≤ length cells
 
 -- The outcome and the cells are those of `parse`; where a value was reached, the words are known and the rows lie in the cells.
 pub record ParsesTo (bs formula cells words′ cells′ : List ℕ) (r : Parsed) : Type 0 where

@@ -128,9 +128,9 @@ fn known_rooms(tokens: &[u32; 16384], words: &[u32; 8192]) -> usize
     length_of(words)
 }
 
-// Check, scan and run in one, with rooms for all tokens and words that a formula may have. The first promise fixes the answer and every lent
-// room, the second gives document 01's number and values. They rule out, among others, a parse that scans under a table that the check refuses, and so changes the rooms, and one that leaves
-// the cells of a run that halts as they were.
+// Check, scan and run in one, with rooms for all tokens and words that a formula may have. The first promise fixes the answer and every
+// lent room, the second gives document 01's number and values. They rule out, among others, a parse that scans under a table that the check
+// refuses, and so changes the rooms, and one that leaves the cells of a run that halts as they were.
 pub fn parse(
     table: &[u8],
     formula: &[u8],

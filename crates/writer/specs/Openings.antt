@@ -7,7 +7,7 @@ use lib.ListN.{length, getD, take, drop}
 use lib.Seq.{sets}
 use Rattle.spellings.specs.Bytes.{bytes}
 use Rattle.terms.specs.Cells.{column}
-use Rattle.terms.specs.Term.{Term, Fields, variable, function, apply, rcd, dot, number, nil, cons}
+use Rattle.terms.specs.Term.{Term, Fields, variable, function, apply, rcd, dot, number, nil, cons, largestTerm}
 use Rattle.terms.specs.Labelled.{nameShown, labelled}
 use Rattle.terms.specs.Rows.{nameOf, termAt, fieldListAt}
 use Rattle.terms.specs.Print.{numeral}
@@ -59,7 +59,7 @@ pub record OpeningFits (pool cells numbers : List ℕ) (k row at place code : �
   pub read : code ≡ column cells row 0
   pub room : at + length (termOpening pool cells numbers k row place) < 2 ^ 62
   pub inside : place < length numbers
-  pub few : length numbers ≤ 16384
+  pub few : length numbers ≤ largestTerm
 
 pub record FieldsOpeningFits (pool cells : List ℕ) (k row at : ℕ) : Type 0 where
   pub room : at + length (fieldsOpening pool cells k row) < 2 ^ 62

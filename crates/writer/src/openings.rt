@@ -12,6 +12,7 @@ ghost use Rattle.terms.specs.Rows.{nameOf};
 ghost use Rattle.terms.specs.Print.{numeral};
 ghost use Rattle.terms.specs.Labelled.{nameShown};
 ghost use Rattle.writer.specs.Openings.{spellIn, numberOpening, termOpening, fieldsOpening, Wrote, NameFits, OpeningFits, FieldsOpeningFits};
+ghost use Rattle.terms.specs.Term.{largestTerm};
 
 fn wide(x: u16) -> u32
     ensures { λ r. ⌜ r ≡ x ⌝ }
@@ -35,7 +36,7 @@ fn name_at(out: &mut [u8], at: usize, pool: &&[u8], x: u32, shown: u16) -> usize
 }
 
 fn shown_at(shown: &[u16], place: usize) -> u16
-    requires { ⌜ (place < length (now shown)) × (length (now shown) ≤ 16384) ⌝ }
+    requires { ⌜ (place < length (now shown)) × (length (now shown) ≤ largestTerm) ⌝ }
     ensures { λ r. ⌜ r ≡ getD (now (shown .entry)) place 0 ⌝ }
 {
     shown[place]
