@@ -16,13 +16,14 @@ use Rattle.layout.proofs.Inverse.{layout-encoded, decode-encoded}
 use Rattle.sorts.specs.CheckSorts.{checkSorts}
 use Rattle.sorts.specs.ByBytes.{sortsOf}
 use Rattle.sorts.proofs.SortTheorems.{bytes-checked}
-use Rattle.firsts.specs.First.{checkFirsts}
+use Rattle.clashes.specs.CheckFirsts.{checkFirsts}
 use Rattle.productions.specs.Index.{placesIn, placesOf}
 use Rattle.productions.specs.IndexCalls.{Index, FitsIndex}
 use Rattle.productions.specs.Room.{overwritten}
 use Rattle.productions.proofs.FewAlternatives.{few-alternatives}
 use Rattle.productions.proofs.Places.{productions-at, whole-places}
-use Rattle.firsts.specs.Room.{productionsIn, tableRoom, WholeIndex, FirstsChecked}
+use Rattle.firsts.specs.Room.{productionsIn, tableRoom, WholeIndex}
+use Rattle.clashes.specs.CheckCalls.{FirstsChecked}
 use Rattle.productions.proofs.NormalizedByFields.{normalized-by}
 use Rattle.checker.specs.Check.{passedTable, check}
 use Rattle.checker.specs.CheckedInto.{roomAfter, CheckedInto}

@@ -11,8 +11,8 @@ use borrow.Author.Tests.{eqb-true, leb-true}
 use Rattle.spellings.proofs.BytesLaws.{by-test}
 use Rattle.answers.specs.Refusals.{refusal}
 use Rattle.layout.proofs.RefusalNumbers.{isLayoutNumber, decode-answers}
-use Rattle.firsts.specs.FirstRefusals.{Lowest, LowestOr64}
-use Rattle.firsts.specs.Clashes.{Never, LeftRecursive, Shares, Clashes}
+use Rattle.clashes.specs.FirstRefusals.{Lowest, LowestOr64}
+use Rattle.clashes.specs.Clashes.{Never, LeftRecursive, Shares, Clashes}
 use Rattle.answers.specs.declared.Refusal.{Refusal}
 use Rattle.answers.specs.declared.Verdict.{Verdict}
 use Rattle.answers.specs.declared.Verdict.the-variants.{Passed, Refused}
@@ -22,8 +22,8 @@ use Rattle.layout.specs.Decode.{decode}
 use Rattle.layout.proofs.LayoutTheorems.{decode-exactly}
 use Rattle.sorts.specs.CheckSorts.{checkSorts}
 use Rattle.sorts.proofs.SortTheorems.{sorts-exactly, sort-refusals}
-use Rattle.firsts.specs.First.{checkFirsts}
-use Rattle.firsts.proofs.FirstsTheorems.{passes-exactly, left-recursion-lowest, clash-lowest}
+use Rattle.clashes.specs.CheckFirsts.{checkFirsts}
+use Rattle.clashes.proofs.ClashTheorems.{passes-exactly, left-recursion-lowest, clash-lowest}
 use Rattle.checker.specs.Check.{passedTable, check}
 use Rattle.checker.specs.Passes.{grammarOf, Passes}
 use Rattle.checker.specs.Laid.{Laid}

@@ -20,12 +20,13 @@ use Rattle.sorts.specs.Judgements.{WellSorted}
 use Rattle.sorts.specs.CheckSorts.{checkSorts}
 use Rattle.sorts.proofs.SortTheorems as sorting
 use Rattle.productions.specs.Normal.{Production}
-use Rattle.firsts.specs.First.{checkFirsts}
+use Rattle.clashes.specs.CheckFirsts.{checkFirsts}
 use Rattle.firsts.specs.FirstSets.{nullables, firstSets, leftCalls}
 use Rattle.firsts.specs.Rules.{Nullable, Opens, LeftReaches}
-use Rattle.firsts.specs.FirstRefusals.{Lowest, LowestOr64}
-use Rattle.firsts.specs.Clashes.{Never, LeftRecursive, Shares, Clashes}
+use Rattle.clashes.specs.FirstRefusals.{Lowest, LowestOr64}
+use Rattle.clashes.specs.Clashes.{Never, LeftRecursive, Shares, Clashes}
 use Rattle.firsts.proofs.FirstsTheorems as firsts
+use Rattle.clashes.proofs.ClashTheorems as clashes
 use Rattle.checker.specs.Check.{check}
 use Rattle.checker.specs.Passes.{grammarOf, Passes}
 use Rattle.checker.specs.Laid.{Laid}
@@ -65,13 +66,13 @@ module _ (g : List Production) where
 
   -- 12 is given, with n, exactly if n is the lowest nonterminal that reaches itself by left calls.
   pub left-recursion-lowest : (n : ℕ) → (checkFirsts g ≡ bad (refusal 12 n 0 0)) ↔ Lowest (LeftRecursive g) n
-  left-recursion-lowest = firsts.left-recursion-lowest g
+  left-recursion-lowest = clashes.left-recursion-lowest g
 
   -- 13 is given exactly if none does, n is the lowest nonterminal of which two alternatives share a kind or are both nullable, and b the
   -- lowest kind that any two of it share, 64 if none.
   pub clash-lowest : (n b : ℕ)
       → (checkFirsts g ≡ bad (refusal 13 n b 0)) ↔ (Never (LeftRecursive g) × Lowest (Clashes g) n × LowestOr64 (Shares g n) b)
-  clash-lowest = firsts.clash-lowest g
+  clash-lowest = clashes.clash-lowest g
 
 -- ------------------------------------------------------------------ 4. passing
 

@@ -7,7 +7,7 @@ use Rattle.grammar.specs.Table.{Table}
 use Rattle.layout.specs.Decode.{decode}
 use Rattle.sorts.specs.CheckSorts.{checkSorts}
 use Rattle.productions.specs.Normal.{normalized}
-use Rattle.firsts.specs.First.{checkFirsts}
+use Rattle.clashes.specs.CheckFirsts.{checkFirsts}
 
 -- the table that some bytes are, if it passes
 unfoldable pub passedTable : List ℕ → Checked Table

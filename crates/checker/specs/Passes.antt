@@ -7,7 +7,7 @@ use Rattle.grammar.specs.Encode.{encode}
 use Rattle.layout.specs.Within.{Within}
 use Rattle.sorts.specs.Judgements.{WellSorted}
 use Rattle.productions.specs.Normal.{Production, normalized}
-use Rattle.firsts.specs.Clashes.{Never, LeftRecursive, Clashes}
+use Rattle.clashes.specs.Clashes.{Never, LeftRecursive, Clashes}
 
 -- the productions of a table
 abbrev pub grammarOf : Table → List Production

@@ -1,6 +1,6 @@
 // The check of a phrase table: refusals 1 to 13 in document 01's order.
 use answers::Verdict;
-use firsts::prepared::check_firsts;
+use clashes::prepared::check_firsts;
 use layout::check_layout;
 use productions::index::build_index;
 use sorts::check_sorts;

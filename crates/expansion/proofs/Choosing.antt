@@ -13,10 +13,11 @@ use Rattle.kinds.specs.Kinds.{noKind, hasKind}
 use Rattle.grammar.specs.Table.{Item}
 use Rattle.scanner.specs.declared.Token.{Token}
 use Rattle.productions.specs.Normal.{Production}
-use Rattle.firsts.specs.First.{checkFirsts}
+use Rattle.clashes.specs.CheckFirsts.{checkFirsts}
 use Rattle.firsts.specs.FirstSets.{nullables, firstSets}
 use Rattle.firsts.specs.Rules.{In, in-first, in-later, First, first-own, first-call, first-past, Reads, reads-keyword, reads-word, reads-number}
-use Rattle.firsts.proofs.FirstsTheorems.{production-opens-exactly, production-nullable-exactly, one-production}
+use Rattle.firsts.proofs.FirstsTheorems.{production-opens-exactly, production-nullable-exactly}
+use Rattle.clashes.proofs.ClashTheorems.{one-production}
 use Rattle.expansion.specs.Expansion.{Rule, ruleOf, ready, Choice, unfit, chosen, firstRule, choice}
 use Rattle.scanner.specs.Tokens.{endToken}
 use Rattle.expansion.specs.Figure3.{Next, next, Opened, Taken, taken-opened, taken-nullable}

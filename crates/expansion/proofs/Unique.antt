@@ -8,7 +8,7 @@ use Rattle.grammar.specs.Table.{Template, Templates, none, more, Item}
 use Rattle.grammar.specs.Table as Table
 use Rattle.scanner.specs.declared.Token.{Token}
 use Rattle.productions.specs.Normal.{Production}
-use Rattle.firsts.specs.First.{checkFirsts}
+use Rattle.clashes.specs.CheckFirsts.{checkFirsts}
 use Rattle.terms.specs.Term.{Name, Term}
 use Rattle.expansion.specs.Figure3.{Value, term, Constructs, Bound, bound-first, bound-later, Gives, by-variable, by-global, by-label, by-constructor}
 use Rattle.expansion.specs.Figure3.{GiveAll, give-none, give-more, WordAs, as-var, as-binder, as-label, ReadsAs, by-keyword, by-ide, by-number}

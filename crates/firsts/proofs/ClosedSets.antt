@@ -18,7 +18,7 @@ use Rattle.firsts.specs.SetCalls.{inSetOf, RoundTaken, ClosedBelow, Clos
 use Rattle.firsts.proofs.Rounds.{Numbers, same-at, nothing, Within, Each, admit, least, least-within, least-closed, round-admits, round-within}
 use Rattle.firsts.proofs.Rounds.{or-left, or-right, or-split}
 use Rattle.firsts.proofs.FirstSetsExactly.{called, given, firstIn, called-more, first-more, sets-seen, round-seen, only-has}
-use Rattle.firsts.proofs.Searches.{both-in}
+use Rattle.firsts.proofs.EqualSets.{both-in}
 use Rattle.firsts.proofs.StepLaws.{length-sets, length-over}
 
 -- ------------------------------------------------------------------ the items of a production

@@ -24,7 +24,7 @@ use Rattle.firsts.specs.Needs.{everyOne, Nonterminals, needStep, needPas
 use Rattle.firsts.proofs.Rounds.{nothing, count, count-le, grows, or-left, or-right, or-split}
 use Rattle.firsts.proofs.NullablesExactly.{nullable-exactly, nullables-settled}
 use Rattle.firsts.proofs.FirstSetsExactly.{firstIn, given, items-seen, only-has}
-use Rattle.firsts.proofs.Searches.{same-set, both-in}
+use Rattle.firsts.proofs.EqualSets.{same-set, both-in}
 use Rattle.firsts.proofs.StepLaws.{Over, over-start, over-next, over-end}
 
 -- ------------------------------------------------------------------ sets of nonterminals

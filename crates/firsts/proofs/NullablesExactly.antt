@@ -11,7 +11,7 @@ use Rattle.productions.specs.Normal.{Production}
 use Rattle.firsts.specs.FirstSets.{overAll, isPassed, allPassed, nullStep, nullables}
 use Rattle.firsts.specs.Rules.{Of, NullItems, null-none, null-local, null-call, Nullable}
 use Rattle.firsts.proofs.Rounds.{Numbers, same-at, Within, Each, admit, least, least-within, least-closed, least-settled, least-seen, over-seen}
-use Rattle.firsts.proofs.Searches.{same-set}
+use Rattle.firsts.proofs.EqualSets.{same-set}
 
 -- ------------------------------------------------------------------ the test of items, with the nullables as a set
 

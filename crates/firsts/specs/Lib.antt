@@ -1,10 +1,6 @@
-pub mod First
 pub mod FirstSets
 pub mod Rules
-pub mod Clashes
-pub mod FirstRefusals
 pub mod Symbols
-pub mod Pairs
 pub mod Room
 pub mod SetCalls
 pub mod Needs

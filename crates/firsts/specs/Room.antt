@@ -5,16 +5,13 @@ use mathlib.Core.Path.{_≡_}
 use mathlib.Core.Bool.{true, false}
 use mathlib.Core.List.{List, _++_, map}
 use lib.ListN.{length}
-use Rattle.answers.specs.Checked.{verdict}
-use Rattle.answers.specs.declared.Verdict.{Verdict}
 use Rattle.grammar.specs.Limits.{most}
 use Rattle.grammar.specs.Lookup.{fieldsAt}
 use Rattle.layout.specs.Within.{Each}
 use Rattle.productions.specs.Normal.{Production}
 use Rattle.productions.specs.Index.{itemsOf, Place, placesOf, productionsAt, wholeBody, placesIn, Whole}
-use Rattle.productions.specs.Room.{Entry, roomOf, overwritten, RoomAndSets}
-use Rattle.firsts.specs.First.{leftRecursive, checkFirsts}
-use Rattle.firsts.specs.FirstSets.{nullables, firstSets, leftCalls, allPassed, gather}
+use Rattle.productions.specs.Room.{Entry, roomOf}
+use Rattle.firsts.specs.FirstSets.{nullables, firstSets, allPassed, gather}
 
 -- a production at a place, with the sets of its grammar
 abbrev pub entryAt : List ℕ → ℕ → List ℕ → Place → Entry
@@ -50,29 +47,10 @@ pub record HoldsGrammar (bs room : List ℕ) : Type 0 where
   pub held : room ≡ tableRoom bs ++ rest
   pub whole : Each (λ (p : Place). wholeBody (fieldsAt bs (p .start)) ≡ true) (placesOf bs)
 
--- ------------------------------------------------------------------ what the functions that write the room ask and promise
+-- ------------------------------------------------------------------ what the functions that read an index ask
 
 -- an index of few productions, each a whole alternative of a table that is not too long
 pub record WholeIndex (bs : List ℕ) (m : ℕ) (owners starts : List ℕ) : Type 0 where
   pub short : length bs ≤ most .bytes
   pub few : m ≤ most .alternatives
   pub whole : Each (Whole bs) (placesIn m owners starts)
-
--- the same, with a whole room and a first set for each nonterminal
-pub record FillRoom (bs : List ℕ) (m : ℕ) (owners starts sets room : List ℕ) : Type 0 where
-  pub index : WholeIndex bs m owners starts
-  pub lent : RoomAndSets room sets
-
--- the room of an index, with given sets, over what was there
-abbrev pub roomFilled : List ℕ → ℕ → List ℕ → List ℕ → ℕ → List ℕ → List ℕ → List ℕ
-roomFilled bs m owners starts nulls sets room = overwritten (roomBy bs (placesIn m owners starts) nulls sets) room
-
--- the lowest left recursive nonterminal, and the room over what was there
-pub record Prepared (bs : List ℕ) (places : List Place) (room₀ room : List ℕ) (n : ℕ) : Type 0 where
-  pub recursive : n ≡ leftRecursive (leftCalls (nullables (productionsAt bs places)) (productionsAt bs places))
-  pub held : room ≡ overwritten (grammarRoom bs places) room₀
-
--- the verdict of 12 and 13, and the room over what was there
-pub record FirstsChecked (bs : List ℕ) (places : List Place) (room₀ room : List ℕ) (r : Verdict) : Type 0 where
-  pub answer : r ≡ verdict (checkFirsts (productionsAt bs places))
-  pub held : room ≡ overwritten (grammarRoom bs places) room₀

@@ -18,7 +18,7 @@ use Rattle.terms.specs.Cells.{columns}
 use Rattle.layout.specs.Within.{Each, each-none, each-more}
 use Rattle.layout.proofs.Inverse.{decode-encoded}
 use Rattle.sorts.proofs.SortTheorems.{sorts-exactly}
-use Rattle.firsts.proofs.FirstsTheorems.{passes-exactly}
+use Rattle.clashes.proofs.ClashTheorems.{passes-exactly}
 use Rattle.scanner.specs.declared.Token.{Token}
 use Rattle.scanner.specs.declared.Scanned.{Scanned}
 use Rattle.scanner.specs.declared.Scanned.the-variants.{Tokens, Unscanned}

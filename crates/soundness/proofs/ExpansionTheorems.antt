@@ -17,8 +17,8 @@ use Rattle.terms.specs.Cells.{columns}
 use Rattle.layout.specs.Within.{Each}
 use Rattle.scanner.specs.declared.Token.{Token}
 use Rattle.scanner.specs.Scan.{scan}
-use Rattle.firsts.specs.First.{checkFirsts}
-use Rattle.firsts.proofs.FirstsTheorems.{passes-exactly}
+use Rattle.clashes.specs.CheckFirsts.{checkFirsts}
+use Rattle.clashes.proofs.ClashTheorems.{passes-exactly}
 use Rattle.grammar.specs.Sorts as Sorts
 use Rattle.sorts.specs.Judgements.{Sorted, ItemSorted, Body}
 use Rattle.sorts.specs.Judgements as Judgements

@@ -12,7 +12,7 @@ use Rattle.sorts.specs.Judgements.{Newest, Fill, fill-none, Body, by-result, by
 use Rattle.sorts.specs.Judgements as Judgements
 use Rattle.scanner.specs.declared.Token.{Token}
 use Rattle.productions.specs.Normal.{Production}
-use Rattle.firsts.specs.First.{checkFirsts}
+use Rattle.clashes.specs.CheckFirsts.{checkFirsts}
 use Rattle.expansion.specs.Parsing.{SmallWords}
 use Rattle.expansion.specs.ValueSorts.{Matches, matches-none}
 use Rattle.soundness.proofs.Typing.{FitAll}

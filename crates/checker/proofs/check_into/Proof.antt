@@ -14,7 +14,7 @@ use Rattle.checker.proofs.check_into.Statement.{statement}
 use Rattle.checker.proofs.check_into.Tie as tie
 use Rattle.checker.proofs.check_into.Reads as reads
 use Rattle.checker.proofs.check_into.Lts as lts
-use Rattle.firsts.proofs.prepared.check_firsts.Reads as check-firsts-reads
+use Rattle.clashes.proofs.prepared.check_firsts.Reads as check-firsts-reads
 use Rattle.layout.proofs.check_layout.Reads as check-layout-reads
 use Rattle.productions.proofs.index.build_index.Reads as build-index-reads
 use Rattle.sorts.proofs.check_sorts.Reads as check-sorts-reads

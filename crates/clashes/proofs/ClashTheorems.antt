@@ -1,0 +1,48 @@
+-- What is proved of refusals 12 and 13, for every list of productions g. Document 01, "Phrase table" and "Causes, by number". The check is that
+-- of specs/CheckFirsts; what it says is given by the rules of specs/Clashes and specs/FirstRefusals.
+use Prim.Native.Nat.{ℕ}
+use mathlib.Core.Path.{_≡_}
+use mathlib.Core.Logic.{_↔_}
+use mathlib.Core.List.{List}
+use Rattle.answers.specs.Refusals.{refusal}
+use Rattle.answers.specs.Checked.{Checked, ok, bad}
+use Rattle.productions.specs.Normal.{Production}
+use Rattle.firsts.specs.Rules.{Of, NullItems, First, Reads}
+use Rattle.clashes.specs.CheckFirsts.{checkFirsts}
+use Rattle.clashes.specs.FirstRefusals.{Lowest, LowestOr64, Says}
+use Rattle.clashes.specs.Clashes.{Shares, Clashes, Never, LeftRecursive}
+use Rattle.clashes.proofs.Refusals.{check-exactly, given-12, given-13, some-12, some-13}
+use Rattle.clashes.proofs.OneChoice.{one-opened, one-nullable}
+
+module _ (g : List Production) where
+  -- 1. The check passes exactly if no nonterminal reaches itself by left calls and no two productions of one nonterminal, at different
+  -- places of g, share a kind or are both nullable.
+  pub passes-exactly : (checkFirsts g ≡ ok tt) ↔ (Never (LeftRecursive g) × Never (Clashes g))
+  passes-exactly = check-exactly g (ok tt)
+
+  -- 2. Refusal 12 is given exactly if some nonterminal reaches itself.
+  pub left-recursion-exactly : ((n : ℕ) × (checkFirsts g ≡ bad (refusal 12 n 0 0))) ↔ ((n : ℕ) × LeftRecursive g n)
+  left-recursion-exactly = some-12 g
+
+  -- 3. Its nonterminal is the lowest that does.
+  pub left-recursion-lowest : (n : ℕ) → (checkFirsts g ≡ bad (refusal 12 n 0 0)) ↔ Lowest (LeftRecursive g) n
+  left-recursion-lowest = given-12 g
+
+  -- 4. Refusal 13 is given exactly if none reaches itself and two productions of some nonterminal share a kind or are both nullable.
+  pub clash-exactly : ((n : ℕ) × (b : ℕ) × (checkFirsts g ≡ bad (refusal 13 n b 0))) ↔ (Never (LeftRecursive g) × ((n : ℕ) × Clashes g n))
+  clash-exactly = some-13 g
+
+  -- 5. Its nonterminal is the lowest such one, and its kind the lowest that any two productions of that one share, 64 if none share any.
+  pub clash-lowest : (n b : ℕ)
+      → (checkFirsts g ≡ bad (refusal 13 n b 0)) ↔ (Never (LeftRecursive g) × Lowest (Clashes g) n × LowestOr64 (Shares g n) b)
+  clash-lowest = given-13 g
+
+  -- 6. Nothing else is given: the result is the one that says what holds of g, a pass, a 12 or a 13.
+  pub result-exactly : (x : Checked (Unit {0})) → (checkFirsts g ≡ x) ↔ Says g x
+  result-exactly = check-exactly g
+
+  -- 7. In a grammar that passes, one kind opens at most one production of a nonterminal, and at most one is nullable.
+  pub one-production : checkFirsts g ≡ ok tt → (n : ℕ) (p q : Production) → Of g n p → Of g n q
+      → ((b : ℕ) → First g Reads (p .items) b → First g Reads (q .items) b → p ≡ q) × (NullItems g (p .items) → NullItems g (q .items) → p ≡ q)
+  one-production e n p q o k =
+      let none : Never (Clashes g) = passes-exactly .0 e .1 in (λ b. one-opened g none o k, one-nullable g none o k)

@@ -1,0 +1,53 @@
+-- Worked grammars: what the check gives for them, by computation.
+use Prim.Native.Nat.{ℕ}
+use mathlib.Core.Path.{_≡_, refl}
+use mathlib.Core.List.{List, [], _∷_, map}
+use lib.Count.{trailingZeros}
+use lib.ListN.{take}
+use Rattle.answers.specs.Refusals.{refusal}
+use Rattle.answers.specs.Checked.{Checked, ok, bad}
+use Rattle.kinds.specs.Kinds.{hasKind, only}
+use Rattle.grammar.specs.Table.{Item, variable, none, keyword, ide, number, local, call}
+use Rattle.productions.specs.Normal.{Production}
+use Rattle.clashes.specs.CheckFirsts.{lowest, anyWith, anyPair, joinWith, joinPairs, noLeftRecursion, noClash, checkFirsts}
+use Rattle.firsts.specs.FirstSets.{rounds, overAll, allPassed, nullStep, nullables, gather, firstStep, setsOf, firstSets}
+
+infix 80 _⟶_
+abbrev _⟶_ : ℕ → List Item → Production
+n ⟶ is = record { owner = n; items = is; result = variable 0 }
+
+abbrev nonterminal : ℕ → Item
+nonterminal n = call n none
+
+-- 0 reads past a local and past 1, which may read nothing
+abbrev passing : List Production
+passing = 0 ⟶ (local ∷ nonterminal 1 ∷ keyword 3 ∷ []) ∷ 1 ⟶ (ide 1 ∷ []) ∷ 1 ⟶ [] ∷ []
+
+abbrev grammars : List (List Production)
+grammars =
+    passing
+    -- 0 reaches itself past 1; that 1 clashes comes after
+    ∷ (0 ⟶ (nonterminal 1 ∷ nonterminal 0 ∷ []) ∷ 1 ⟶ [] ∷ 1 ⟶ [] ∷ [])
+    -- 3 and 4 reach each other
+    ∷ (4 ⟶ (nonterminal 3 ∷ []) ∷ 3 ⟶ (local ∷ nonterminal 4 ∷ []) ∷ [])
+    -- three pairs share a keyword, and neither the first nor the last of them the lowest
+    ∷ (5 ⟶ (keyword 6 ∷ []) ∷ 5 ⟶ (keyword 6 ∷ []) ∷ 5 ⟶ (keyword 1 ∷ number ∷ []) ∷ 5 ⟶ (keyword 1 ∷ [])
+    ∷ 5 ⟶ (keyword 4 ∷ []) ∷ 5 ⟶ (keyword 4 ∷ local ∷ []) ∷ [])
+    -- both nullable, no kind shared
+    ∷ (7 ⟶ (local ∷ []) ∷ 7 ⟶ (nonterminal 8 ∷ []) ∷ 8 ⟶ (number ∷ []) ∷ 8 ⟶ [] ∷ [])
+    -- one production alone shares nothing with itself, nor two of different nonterminals
+    ∷ (9 ⟶ (number ∷ []) ∷ 10 ⟶ (number ∷ []) ∷ []) ∷ []
+
+abbrev results : List (Checked (Unit {0}))
+results =
+    ok tt ∷ bad (refusal 12 0 0 0) ∷ bad (refusal 12 3 0 0) ∷ bad (refusal 13 5 3 0) ∷ bad (refusal 13 7 64 0) ∷ ok tt ∷ []
+
+checked : map checkFirsts grammars ≡ results
+unfolding rounds overAll allPassed nullStep nullables gather firstStep setsOf lowest anyWith anyPair joinWith joinPairs
+    noLeftRecursion noClash checkFirsts hasKind only trailingZeros
+checked = refl
+
+-- a word and keyword 3 open 0, a word opens 1
+opened : take 3 (firstSets (nullables passing) passing) ≡ 33 ∷ 1 ∷ 0 ∷ []
+unfolding rounds overAll allPassed nullStep nullables gather firstStep setsOf hasKind only
+opened = refl

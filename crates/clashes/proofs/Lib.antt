@@ -1,0 +1,10 @@
+pub mod CheckLaws
+pub mod ClashTheorems
+pub mod Clashing
+pub mod Examples
+pub mod FillLaws
+pub mod HeldPairs
+pub mod OneChoice
+pub mod PairsLaws
+pub mod Refusals
+pub mod Searches

@@ -1,0 +1,71 @@
+-- `fill`: the entries behind the next one are laid.
+use mathlib.Core.Path.{_∙_, sym}
+use mathlib.Core.List.{map}
+use Rattle.productions.specs.Index.{placesIn}
+use Rattle.productions.proofs.RoomWriting.{Filling}
+use Rattle.firsts.specs.Room.{entryAt}
+use Rattle.clashes.proofs.FillLaws as laws
+use borrow.Author.Needs.{needs}
+use Rattle.clashes.proofs.prepared.fill.Statement.{statement}
+use Rattle.clashes.proofs.prepared.fill.Tie as tie
+
+abbrev Inv-loop : tie.InvT-loop
+Inv-loop table owners starts m nulls sets room₀ j₀ room j = Filling sets (map (entryAt table nulls sets) (placesIn m owners starts)) room₀ j room
+
+abbrev μ-loop : tie.MeasureT-loop
+μ-loop table owners starts m nulls sets room₀ j₀ room j = j
+
+-- where the room is begun
+module _ (b : tie.After-begin Inv-loop μ-loop) where
+  abbrev entry : tie.Start Inv-loop μ-loop
+  entry = b .before .before .before .before .before
+
+-- at the loop's test
+module _ (l : tie.At-loop Inv-loop μ-loop) where
+  abbrev began : tie.After-begin Inv-loop μ-loop
+  began = l .before .before .before
+
+loop-holds : tie.Need-loop-holds Inv-loop μ-loop
+loop-holds c = search laws.fill-start
+
+lay-requires : tie.Need-lay-requires Inv-loop μ-loop
+lay-requires c κs =
+    let got = c .before .before .before in
+    let tested = got .before .before .before in
+    laws.fill-at (entry (began (tested .before)) .pre) _ (tested .before .loop .inv) (tested .loop-test .taken)
+
+loop-again : tie.Need-loop-again Inv-loop μ-loop
+loop-again c =
+    let laid = c .before .before in
+    let got = laid .before .before .before in
+    let offset = got .before in
+    let tested = offset .before .before .before in
+    laws.fill-next (entry (began (tested .before)) .pre) _ (tested .before .loop .inv) (tested .loop-test .taken) (offset .offset .ensures)
+    (got .gather .ensures) (laid .lay .ensures)
+
+same-length : tie.Need-same-length Inv-loop μ-loop
+same-length c = c .before .loop .inv .size ∙ sym (entry (began (c .before)) .pre .lent .size)
+
+returns : tie.Need-returns Inv-loop μ-loop
+returns c = search laws.fill-end
+
+-- the function meets its contract
+pub fill-spec : {M : Type 1} → statement M
+fill-spec =
+    tie.close
+    (tie.spec
+    Inv-loop
+    μ-loop
+    (λ c κs. search needs)
+    loop-holds
+    (λ c. search needs)
+    (λ c. search needs)
+    (λ c κs. search needs)
+    (λ c κs. search needs)
+    (λ c. search needs)
+    (λ c. search needs)
+    lay-requires
+    (λ c. search needs)
+    loop-again
+    same-length
+    returns)

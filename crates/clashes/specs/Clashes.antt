@@ -1,0 +1,44 @@
+-- Left recursion, and two productions of one nonterminal that clash. Document 01, "Left recursion" and "Openings".
+use Prim.Native.Nat.{ℕ}
+use mathlib.Core.Path.{_≡_}
+use mathlib.Core.Logic.{_⊎_}
+use mathlib.Core.List.{List, _∷_}
+use Rattle.productions.specs.Normal.{Production}
+use Rattle.firsts.specs.Rules.{IsNonterminal, In, NullItems, First, Reads, LeftReaches}
+
+-- p stands before q in g: they are two productions, even if they read alike
+pub data Before : List Production → Production → Production → Type 0 where
+  before-first : {p q : Production} {g : List Production} → In g q → Before (p ∷ g) p q
+  before-later : {p q r : Production} {g : List Production} → Before g p q → Before (r ∷ g) p q
+
+-- two productions of the nonterminal n
+pub record Two (g : List Production) (n : ℕ) (p q : Production) : Type 0 where
+  pub apart : Before g p q
+  pub first-owned : p .owner ≡ n
+  pub second-owned : q .owner ≡ n
+  pub small : IsNonterminal n
+
+-- two productions of n share kind b
+pub record Shares (g : List Production) (n b : ℕ) : Type 0 where
+  pub one : Production
+  pub other : Production
+  pub two : Two g n one other
+  pub one-first : First g Reads (one .items) b
+  pub other-first : First g Reads (other .items) b
+
+-- two productions of n are both nullable
+pub record BothNullable (g : List Production) (n : ℕ) : Type 0 where
+  pub one : Production
+  pub other : Production
+  pub two : Two g n one other
+  pub one-null : NullItems g (one .items)
+  pub other-null : NullItems g (other .items)
+
+abbrev pub Clashes : List Production → ℕ → Type 0
+Clashes g n = ((b : ℕ) × Shares g n b) ⊎ BothNullable g n
+
+abbrev pub Never : (ℕ → Type 0) → Type 0
+Never P = (n : ℕ) → ¬ P n
+
+abbrev pub LeftRecursive : List Production → ℕ → Type 0
+LeftRecursive g n = LeftReaches g n n

@@ -1,0 +1,39 @@
+-- What refusals 12 and 13 say of a normalized grammar, by the rules. Document 01, "Causes, by number" and the order of the checks under it.
+use Prim.Native.Nat.{ℕ, _<_}
+use mathlib.Core.Path.{_≡_}
+use mathlib.Core.Logic.{_⊎_}
+use mathlib.Core.List.{List}
+use Rattle.answers.specs.declared.Refusal.{Refusal}
+use Rattle.answers.specs.Refusals.{refusal}
+use Rattle.answers.specs.Checked.{Checked, ok, bad}
+use Rattle.productions.specs.Normal.{Production}
+use Rattle.clashes.specs.Clashes.{Shares, Clashes, Never, LeftRecursive}
+
+-- n is the lowest number that P holds of
+pub record Lowest (P : ℕ → Type 0) (n : ℕ) : Type 0 where
+  pub holds : P n
+  pub none-below : (m : ℕ) → m < n → ¬ P m
+
+-- the lowest number that P holds of, 64 if it holds of none
+abbrev pub LowestOr64 : (ℕ → Type 0) → ℕ → Type 0
+LowestOr64 P n = Lowest P n ⊎ ((n ≡ 64) × ((m : ℕ) → ¬ P m))
+
+-- 12: the lowest nonterminal that reaches itself
+pub record Says12 (g : List Production) (r : Refusal) : Type 0 where
+  pub nonterminal : ℕ
+  pub answer : r ≡ refusal 12 nonterminal 0 0
+  pub lowest : Lowest (LeftRecursive g) nonterminal
+
+-- 13: nothing for 12, the lowest nonterminal of which two productions clash, and the lowest kind that any two of it share, 64 if none
+pub record Says13 (g : List Production) (r : Refusal) : Type 0 where
+  pub nonterminal : ℕ
+  pub kind : ℕ
+  pub answer : r ≡ refusal 13 nonterminal kind 0
+  pub earlier : Never (LeftRecursive g)
+  pub lowest : Lowest (Clashes g) nonterminal
+  pub shared : LowestOr64 (Shares g nonterminal) kind
+
+-- what a result of the check says of the grammar
+abbrev pub Says : List Production → Checked (Unit {0}) → Type 0
+Says g (ok u) = Never (LeftRecursive g) × Never (Clashes g)
+Says g (bad r) = Says12 g r ⊎ Says13 g r

@@ -1,0 +1,47 @@
+-- The search for a clash by the links of a room: over the productions of each nonterminal, place by place. Where the room holds a grammar it is
+-- the search over the productions themselves. These mirror code: nobody needs them to believe `expand`.
+use Prim.Native.Nat.{ℕ, zero, suc, _-_}
+use mathlib.Core.Bool.{Bool, true, false, _&&_, _||_}
+use mathlib.Core.List.{List, [], _∷_}
+use lib.Bits.{bitAnd}
+use lib.Count.{trailingZeros}
+use lib.Dec.{ltb}
+use Rattle.answers.specs.Refusals.{refusal}
+use Rattle.answers.specs.Checked.{Checked, ok, bad}
+use Rattle.grammar.specs.Limits.{most}
+use Rattle.productions.specs.Room.{noPlace, firstPlaceIn, firstIn, nextPlaceIn, nullableIn}
+use Rattle.clashes.specs.CheckFirsts.{lowest, anyPair, joinPairs}
+
+-- the place that the link at place i leads to; a link that does not lead on ends the search
+abbrev pub afterIn : List ℕ → ℕ → ℕ
+afterIn room i = elim (ltb i (nextPlaceIn room i)) [ true ↦ nextPlaceIn room i | false ↦ noPlace ]
+
+-- the places that are linked from place i on, k at most
+unfoldable pub linkedFrom : ℕ → List ℕ → ℕ → List ℕ
+linkedFrom zero room i = []
+linkedFrom (suc k) room i = elim (ltb i noPlace) [ true ↦ i ∷ linkedFrom k room (afterIn room i) | false ↦ [] ]
+
+abbrev pub linked : List ℕ → ℕ → List ℕ
+linked room i = linkedFrom (noPlace - i) room i
+
+-- the kinds that two productions share
+abbrev pub sharedIn : List ℕ → ℕ → ℕ → ℕ
+sharedIn room i j = bitAnd (firstIn room i) (firstIn room j)
+
+-- two productions share a kind, or are both nullable
+abbrev pub clashIn : List ℕ → ℕ → ℕ → Bool
+clashIn room i j = ltb 0 (sharedIn room i j) || (nullableIn room i && nullableIn room j)
+
+-- the lowest nonterminal of which two productions clash, 64 if there is none
+abbrev pub clashingIn : List ℕ → ℕ
+clashingIn room = lowest (most .nonterminals) (λ n. anyPair (clashIn room) (linked room (firstPlaceIn room n))) 0
+
+-- what any two productions of n share, together
+abbrev pub allSharedIn : List ℕ → ℕ → ℕ
+allSharedIn room n = joinPairs (sharedIn room) (linked room (firstPlaceIn room n)) 0
+
+-- refusal 13, by the room
+unfoldable pub noClashIn : List ℕ → Checked (Unit {0})
+noClashIn room =
+    let n : ℕ = clashingIn room in
+    elim (ltb n (most .nonterminals)) [ true ↦ bad (refusal 13 n (trailingZeros 64 (allSharedIn room n)) 0) | false ↦ ok tt ]

@@ -1,0 +1,98 @@
+// The check of a grammar's first sets, with the room that an expansion reads: refusals 12 and 13.
+use super::clash::clashing;
+use super::clash::left_recursive;
+use super::clash::shared;
+use answers::Verdict;
+use answers::refuse;
+use firsts::items::gather;
+use firsts::nullable::nullables;
+use firsts::sets::sets_of;
+use grammar::limits::NONTERMINALS;
+use kinds::lowest;
+use productions::index::offset;
+use productions::room::begin;
+use productions::room::lay;
+ghost use mathlib.Core.Path.{_≡_};
+ghost use Rattle.answers.specs.Checked.{verdict};
+ghost use Rattle.productions.specs.Index.{placesIn};
+ghost use Rattle.clashes.specs.Pairs.{noClashIn};
+ghost use Rattle.firsts.specs.Room.{WholeIndex};
+ghost use Rattle.clashes.specs.CheckCalls.{roomFilled, FillRoom, Prepared, FirstsChecked};
+
+// Writes the room of a grammar with these nullable nonterminals and first sets. The productions are laid from the last to the first, so
+// that each finds the next one of its nonterminal.
+fn fill(
+    table: &[u8],
+    owners: &[u8; 256],
+    starts: &[u16; 256],
+    m: usize,
+    nulls: u64,
+    sets: &[u64],
+    room: &mut [u64],
+)
+    requires { ⌜ FillRoom (now table) m (now owners) (now starts) (now sets) (now room) ⌝ }
+    ensures { λ r. ⌜ now (room .exit)
+        ≡ roomFilled (now (table .entry)) m (now (owners .entry)) (now (starts .entry)) nulls (now (sets .entry)) (now (room .entry)) ⌝ }
+{
+    begin(room, m, sets);
+    let mut j = m;
+    while 0 < j {
+        j -= 1;
+        let owner = owners[j];
+        let start = offset(starts, j);
+        let found = gather(table, start, nulls, sets, sets);
+        lay(room, j, owner, starts[j], found.kinds, found.nullable);
+    }
+}
+
+// The lowest nonterminal that is left recursive, 64 if there is none, with what an expansion needs of a grammar in the room.
+fn prepare(
+    table: &[u8],
+    owners: &[u8; 256],
+    starts: &[u16; 256],
+    m: usize,
+    room: &mut [u64; 641],
+) -> u8
+    requires { ⌜ WholeIndex (now table) m (now owners) (now starts) ⌝ }
+    ensures { λ r. ⌜ Prepared (now (table .entry)) (placesIn m (now (owners .entry)) (now (starts .entry))) (now (room .entry)) (now (room .exit)) r ⌝ }
+{
+    let nulls = nullables(table, owners, starts, m);
+    let mut sets = [0u64; 64];
+    let mut calls = [0u64; 64];
+    sets_of(table, owners, starts, m, nulls, &mut sets, &mut calls);
+    fill(table, owners, starts, m, nulls, &sets, room);
+    left_recursive(&calls)
+}
+
+// Whether two productions of one nonterminal clash: refusal 13.
+fn check_clash(room: &[u64; 641]) -> Verdict
+    ensures { λ r. ⌜ r ≡ verdict (noClashIn (now (room .entry))) ⌝ }
+{
+    let n = clashing(room);
+    if n < NONTERMINALS {
+        let kinds = shared(room, n);
+        Verdict::Refused(refuse(13, n as u64, lowest(kinds) as u64, 0))
+    } else {
+        Verdict::Passed
+    }
+}
+
+// Whether a grammar can be read by its next token: refusal 12 or 13, with what an expansion needs of it in the room. This rules out
+// that two nullable productions pass, and that a clash is told before left recursion, or with the kinds of one pair alone.
+pub fn check_firsts(
+    table: &[u8],
+    owners: &[u8; 256],
+    starts: &[u16; 256],
+    m: usize,
+    room: &mut [u64; 641],
+) -> Verdict
+    requires { ⌜ WholeIndex (now table) m (now owners) (now starts) ⌝ }
+    ensures { λ r. ⌜ FirstsChecked (now (table .entry)) (placesIn m (now (owners .entry)) (now (starts .entry))) (now (room .entry)) (now (room .exit)) r ⌝ }
+{
+    let n = prepare(table, owners, starts, m, room);
+    if n < NONTERMINALS {
+        Verdict::Refused(refuse(12, n as u64, 0, 0))
+    } else {
+        check_clash(room)
+    }
+}
