@@ -9,15 +9,15 @@ use lib.Dec.{eqb}
 use lib.ListN.{length}
 use borrow.Author.Tests.{ne-eqb}
 use Rattle.spellings.proofs.BytesLaws.{by-test}
-use Rattle.terms.specs.Term.{Name, word, fresh, outside, Term, Fields, variable, function, apply, rcd, dot, number, nil, cons, size, sizeFields}
+use Rattle.terms.specs.Term.{Name, word, fresh, outside, Term, Fields, variable, function, apply, rcd, dot, number, nil, cons, size, sizeFields, largestTerm}
 use Rattle.terms.specs.Rename.{belongs, isRenamed}
 use Rattle.terms.specs.Loose.{walk}
 use Rattle.terms.specs.Binding.{Owner, unbound, boundAt, Binder}
 use Rattle.terms.specs.Occurrences.{ownerOf, occurrence, occurrences, occurrencesFields, isLoose, loosePlaces, stopsAtFirst}
-use Rattle.resolver.specs.Marks.{noOwner, ownerCode, markOf, binderMark, marks, marksFields}
+use Rattle.marking.specs.Marks.{noOwner, ownerCode, markOf, binderMark, marks, marksFields}
 use Rattle.resolver.specs.Numbers.{looseIn}
 use Rattle.terms.proofs.Loose.{walk-stops, loose-append, loose-here, loose-further}
-use Rattle.resolver.proofs.ResolveLaws.{length-marks}
+use Rattle.marking.proofs.MarkLaws.{length-marks}
 
 loose-there : (p m : ℕ) (ms : List ℕ) → eqb m noOwner ≡ true → looseIn p (m ∷ ms) ≡ p ∷ looseIn (suc p) ms
 unfolding looseIn
@@ -37,7 +37,7 @@ loose-both p (m ∷ ms) ns =
     (λ e. cc (loose-not p m (ms ++ ns) e, loose-both (suc p) ms ns, loose-not p m ms e))
 
 -- a mark says whether a variable is loose
-mark-loose : (v : Name) (o : Owner) → ownerCode o ≤ 16384 → eqb (markOf v (ownerCode o)) noOwner ≡ isLoose v o
+mark-loose : (v : Name) (o : Owner) → ownerCode o ≤ largestTerm → eqb (markOf v (ownerCode o)) noOwner ≡ isLoose v o
 mark-loose (word s) o l = ne-eqb (ownerCode o) noOwner (λ e. omega arith)
 mark-loose (fresh n) unbound l = refl
 mark-loose (fresh n) (boundAt q) l = ne-eqb (suc q) noOwner (λ e. omega arith)
@@ -49,9 +49,9 @@ binder-not true = refl
 binder-not false = refl
 
 abbrev Near : List Binder → Type 0
-Near around = (v : Name) → ownerCode (ownerOf around v) ≤ 16384
+Near around = (v : Name) → ownerCode (ownerOf around v) ≤ largestTerm
 
-near-more : (around : List Binder) (b : Name) (p : ℕ) → Near around → p < 16384 → Near (record { name = b; place = p } ∷ around)
+near-more : (around : List Binder) (b : Name) (p : ℕ) → Near around → p < largestTerm → Near (record { name = b; place = p } ∷ around)
 unfolding ownerOf
 near-more around b p h l v = by-test (belongs v b) (λ e. rw (e, ownerOf) (omega arith)) (λ e. rw (e, ownerOf) (h v))
 
@@ -67,7 +67,7 @@ loose-variable around p v h =
 mutual
   unfolding marks marksFields occurrences occurrencesFields size sizeFields loosePlaces looseIn
 
-  loose-marks : (around : List Binder) (p : ℕ) (t : Term Name) → Near around → p + size t ≤ 16384
+  loose-marks : (around : List Binder) (p : ℕ) (t : Term Name) → Near around → p + size t ≤ largestTerm
       → looseIn p (marks around p t) ≡ loosePlaces (occurrences around p t)
   loose-marks around p (variable v) h l = loose-variable around p v h
   loose-marks around p (function b t) h l =
@@ -85,7 +85,7 @@ mutual
   loose-marks around p (dot t s) h l = loose-marks around (suc p) t h (omega arith)
   loose-marks around p (number n) h l = refl
 
-  loose-marks-fields : (around : List Binder) (p : ℕ) (f : Fields Name) → Near around → p + sizeFields f ≤ 16384
+  loose-marks-fields : (around : List Binder) (p : ℕ) (f : Fields Name) → Near around → p + sizeFields f ≤ largestTerm
       → looseIn p (marksFields around p f) ≡ loosePlaces (occurrencesFields around p f)
   loose-marks-fields around p nil h l = refl
   loose-marks-fields around p (cons s t f) h l =
@@ -98,7 +98,7 @@ mutual
       )
 
 -- The walk of refusal 23 stops at the first place without an owner.
-pub walk-by-marks : (t : Term Name) → size t ≤ 16384 → walk [] 0 t ≡ stopsAtFirst (looseIn 0 (marks [] 0 t)) (size t)
+pub walk-by-marks : (t : Term Name) → size t ≤ largestTerm → walk [] 0 t ≡ stopsAtFirst (looseIn 0 (marks [] 0 t)) (size t)
 unfolding ownerOf
 walk-by-marks t l =
     cc (walk-stops [] 0 (size t) t (omega arith), loose-marks [] 0 t (λ v. omega arith) (omega arith))

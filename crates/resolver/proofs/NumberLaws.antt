@@ -8,12 +8,12 @@ use lib.ListN.{length, getD, length-append, List·getD-append}
 use lib.Seq.{getD-at}
 use borrow.Author.Tests.{ne-eqb}
 use Rattle.spellings.proofs.BytesLaws.{by-test, same-true}
-use Rattle.terms.specs.Term.{Name, word, fresh, outside, Term, Fields, variable, function, apply, rcd, dot, number, nil, cons, size, sizeFields}
+use Rattle.terms.specs.Term.{Name, word, fresh, outside, Term, Fields, variable, function, apply, rcd, dot, number, nil, cons, size, sizeFields, largestTerm}
 use Rattle.terms.specs.Rename.{belongs, isRenamed, one, renames, renamesFields, written, Printed, shownAs, binderShown, renamed, renamedFields, rename}
 use Rattle.terms.specs.Binding.{unbound, Binder}
 use Rattle.terms.specs.Occurrences.{ownerOf}
 use Rattle.terms.specs.Labelled.{nameShown, labelled, labelledFields}
-use Rattle.resolver.specs.Marks.{new, noOwner, ownerCode, markOf, binderMark, marks, marksFields}
+use Rattle.marking.specs.Marks.{new, noOwner, ownerCode, markOf, binderMark, marks, marksFields}
 use Rattle.resolver.specs.Numbers.{ownerNumber, numberAt, nextNumber, numberedMarks}
 
 -- the binders around, with the names that their numbers give them
@@ -67,7 +67,7 @@ owner-below {done} (paired-more {b = b} {q = q} {around = around} l h) v =
 
 -- ------------------------------------------------------------------ numbers by marks
 
-at-small : (done : List ℕ) (c m : ℕ) → m ≤ 16384 → numberAt done c m ≡ ownerNumber done m
+at-small : (done : List ℕ) (c m : ℕ) → m ≤ largestTerm → numberAt done c m ≡ ownerNumber done m
 unfolding numberAt
 at-small done c m l = rw (ne-eqb m new (λ e. omega arith), numberAt) (rw (ne-eqb m noOwner (λ e. omega arith)) refl)
 
@@ -75,7 +75,7 @@ next-small : (c m : ℕ) → (m ≡ new → ⊥) → nextNumber c m ≡ c
 unfolding nextNumber
 next-small c m d = rw (ne-eqb m new d, nextNumber) refl
 
-fresh-number : (done : List ℕ) (c n o : ℕ) → o ≤ 16384 → nameShown (numberAt done c (markOf (fresh n) o)) (fresh n) ≡ nameShown (ownerNumber done o) (fresh n)
+fresh-number : (done : List ℕ) (c n o : ℕ) → o ≤ largestTerm → nameShown (numberAt done c (markOf (fresh n) o)) (fresh n) ≡ nameShown (ownerNumber done o) (fresh n)
 unfolding numberAt
 fresh-number done c n zero l = refl
 fresh-number done c n (suc q) l = cc (at-small done c (suc q) l)
@@ -90,7 +90,7 @@ unfolding ownerOf
 outside-unbound s [] = refl
 outside-unbound s (b ∷ around) = rw (outside-free s (b .name), ownerOf) (outside-unbound s around)
 
-variable-shown : (done : List ℕ) (around : List Binder) (shown : List Printed) → Paired done around shown → length done ≤ 16384 → (c : ℕ) (v : Name)
+variable-shown : (done : List ℕ) (around : List Binder) (shown : List Printed) → Paired done around shown → length done ≤ largestTerm → (c : ℕ) (v : Name)
     → nameShown (numberAt done c (markOf v (ownerCode (ownerOf around v)))) v ≡ shownAs shown v
 unfolding numberAt
 variable-shown done around shown h l c (word s) =
@@ -100,7 +100,7 @@ variable-shown done around shown h l c (fresh n) =
 variable-shown done around shown h l c (outside s) =
     sym (cc (shown-by done around shown h (outside s), outside-unbound s around))
 
-mark-next : (c : ℕ) (v : Name) (o : ℕ) → o ≤ 16384 → nextNumber c (markOf v o) ≡ c
+mark-next : (c : ℕ) (v : Name) (o : ℕ) → o ≤ largestTerm → nextNumber c (markOf v o) ≡ c
 unfolding nextNumber
 mark-next c (word s) o l = next-small c o (λ e. omega arith)
 mark-next c (fresh n) zero l = refl
@@ -154,7 +154,7 @@ snoc-length : (done : List ℕ) (n p : ℕ) → length done ≡ p → length (do
 snoc-length done n p e = length-append done (n ∷ []) ∙ omega arith
 
 variable-numbers : (around : List Binder) (shown : List Printed) (done : List ℕ) (c p : ℕ) (v : Name) → Paired done around shown → length done ≡ p
-    → p ≤ 16384 → TermNumbers around shown done c p (variable v)
+    → p ≤ largestTerm → TermNumbers around shown done c p (variable v)
 unfolding marks numberedMarks labelled renamed renames size
 variable-numbers around shown done c p v h e l =
     let m = markOf v (ownerCode (ownerOf around v)) in
@@ -303,7 +303,7 @@ mutual
   unfolding size sizeFields
 
   term-numbers : (around : List Binder) (shown : List Printed) (done : List ℕ) (c p : ℕ) (t : Term Name) → Paired done around shown → length done ≡ p
-      → p + size t ≤ 16384
+      → p + size t ≤ largestTerm
       → TermNumbers around shown done c p t
   term-numbers around shown done c p (variable v) h e l = variable-numbers around shown done c p v h e (omega arith)
   term-numbers around shown done c p (function b t) h e l =
@@ -325,7 +325,7 @@ mutual
   term-numbers around shown done c p (number n) h e l = number-numbers around shown done c p n
 
   field-numbers : (around : List Binder) (shown : List Printed) (done : List ℕ) (c p : ℕ) (f : Fields Name) → Paired done around shown → length done ≡ p
-      → p + sizeFields f ≤ 16384
+      → p + sizeFields f ≤ largestTerm
       → FieldNumbers around shown done c p f
   field-numbers around shown done c p nil h e l = nil-numbers around shown done c p
   field-numbers around shown done c p (cons s t f) h e l =
@@ -335,7 +335,7 @@ mutual
       (cc (length-append (done ++ 0 ∷ []) (i .numbers), snoc-length done 0 p e, i .as-many)) (omega arith))
 
 -- Printed by the numbers of its marks, a term of at most 16,384 constructors is the renamed term, whatever stands behind the numbers.
-pub numbered-is-renamed : (t : Term Name) → size t ≤ 16384 → (rest : List ℕ) → labelled (numberedMarks [] 1 (marks [] 0 t) ++ rest) 0 t ≡ rename t
+pub numbered-is-renamed : (t : Term Name) → size t ≤ largestTerm → (rest : List ℕ) → labelled (numberedMarks [] 1 (marks [] 0 t) ++ rest) 0 t ≡ rename t
 unfolding numberedMarks
 numbered-is-renamed t l rest =
     let n = term-numbers [] [] [] 0 0 t paired-none refl (omega arith) in

@@ -4,7 +4,7 @@ use mathlib.Core.Path.{_≡_, sym, ap, _∙_}
 use mathlib.Core.List.{List, [], _∷_, _++_}
 use native.Mathlib.Omega.{arith}
 use lib.ListN.{length, take, drop, replicate}
-use Rattle.terms.specs.Term.{Name, Term, size}
+use Rattle.terms.specs.Term.{Name, Term, size, largestTerm}
 use Rattle.terms.specs.Rows.{termAt}
 use Rattle.terms.specs.Occurrences.{ownerOf, stopsAtFirst}
 use Rattle.rows.specs.Sizes.{noSpell}
@@ -12,10 +12,12 @@ use Rattle.rows.proofs.ListLaws.{zeros, sets-front}
 use Rattle.rows.proofs.SizeLaws.{size-spell}
 use Rattle.resolver.specs.declared.Resolution.{Resolution}
 use Rattle.resolver.specs.declared.Resolution.the-variants.{Numbered}
-use Rattle.resolver.specs.Marks.{marks, Around, slotOf, ResolvesTerm}
-use Rattle.resolver.specs.Walks.{WalkPrepared}
+use Rattle.binders.specs.Slots.{slotOf}
+use Rattle.marking.specs.Marks.{marks}
+use Rattle.marking.specs.Resolving.{Around, ResolvesTerm}
+use Rattle.marking.specs.Walks.{WalkPrepared}
 use Rattle.resolver.specs.Numbers.{numberedMarks, looseIn, firstLoose, walkOf, Resolvable, Resolves}
-use Rattle.resolver.proofs.ResolveLaws.{length-marks}
+use Rattle.marking.proofs.MarkLaws.{length-marks}
 use Rattle.resolver.proofs.LooseLaws.{walk-by-marks}
 use Rattle.resolver.proofs.NumberLaws.{numbered-is-renamed}
 
@@ -39,7 +41,7 @@ resolves-numbered {cells} {current = current} {room} {room₁} {made = made} {ro
     let t : Term Name = termAt made spell cells root in
     let w = resolves spell [] apart (pre .whole) known (begun .room) (around-none spell cells current (begun .none)) in
     let same : size t ≡ n = size-spell made spell noSpell cells root ∙ sym (pre .counted) ∙ sym en in
-    let small : size t ≤ 16384 = omega (arith, pre .few) in
+    let small : size t ≤ largestTerm = omega (arith, pre .few) in
     let long : n ≤ length room = omega (arith, en) in
     let front : take n room₁ ≡ marks [] 0 t = ap (take n) (w .marked) ∙ sets-front room (marks [] 0 t) n (length-marks [] 0 t ∙ same) long in
     record {

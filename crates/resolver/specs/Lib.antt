@@ -1,5 +1,2 @@
-pub mod Marks
-pub mod Links
-pub mod Walks
 pub mod Numbers
 pub mod Quiet

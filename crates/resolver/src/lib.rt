@@ -1,20 +1,18 @@
 // Resolution: the binder of each variable of a term, the binders that are renamed, and the numbers of their new names. Refusal 23.
-use crate::binders::link;
 use crate::numbering::number;
 use crate::quiet::is_quiet;
-use crate::resolving::resolve_term;
+use binders::link;
+use marking::resolve_term;
 use terms::COLUMNS;
 ghost use Prim.Native.Nat.{_/_, _≤_};
 ghost use mathlib.Core.Path.{_≡_};
 ghost use lib.ListN.{length};
 ghost use Rattle.terms.specs.Cells.{columns};
 ghost use Rattle.resolver.specs.Numbers.{Resolvable, Resolves};
-ghost use Rattle.resolver.specs.Walks.{WalkPrepared};
+ghost use Rattle.marking.specs.Walks.{WalkPrepared};
 
-pub mod binders;
 pub mod numbering;
 pub mod quiet;
-pub mod resolving;
 
 // What a resolution gives: the first place of a fresh variable under no binder made with it, or a number for each name that is new.
 pub enum Resolution {

@@ -1,0 +1,4 @@
+pub mod MarkLaws
+pub mod AroundLaws
+pub mod NameLaws
+pub mod ResolveLaws

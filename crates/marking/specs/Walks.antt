@@ -1,0 +1,38 @@
+-- What a walk of a term asks of its rooms and what it leaves in them. Nobody needs this to believe `expand`.
+use Prim.Native.Nat.{ℕ, _+_, _/_, _≤_}
+use mathlib.Core.Path.{_≡_}
+use mathlib.Core.List.{List}
+use lib.ListN.{length, getD, set, replicate}
+use Rattle.terms.specs.Cells.{columns}
+use Rattle.rows.specs.Sizes.{sizeAt, sizeFieldsAt}
+use Rattle.marking.specs.Resolving.{ResolvesTerm, ResolvesFields}
+use Rattle.binders.specs.Links.{RowsLinked}
+use Rattle.terms.specs.Term.{largestTerm}
+
+-- v is stored in a slot, if it is there, and r was there before
+pub record Exchanged (slot v : ℕ) (current current′ : List ℕ) (r : ℕ) : Type 0 where
+  pub stored : current′ ≡ set current slot v
+  pub was : r ≡ getD current slot 0
+
+-- linked rows, and a mark for each of so many constructors from a place on
+pub record Walkable (cells links : List ℕ) (constructors place : ℕ) (room : List ℕ) : Type 0 where
+  pub linked : RowsLinked cells links
+  pub inside : place + constructors ≤ length room
+  pub few : length room ≤ largestTerm
+
+-- the marks of the term, or of the field list, at a row, and the place behind it
+pub record WalksTerm (cells : List ℕ) (k row place place′ : ℕ) (current current′ room room′ : List ℕ) (held : ℕ) : Type 0 where
+  pub resolves : ResolvesTerm cells k row place current current′ room room′ held
+  pub moved : place′ ≡ place + sizeAt cells k row
+  pub long : length room′ ≡ length room
+
+pub record WalksFields (cells : List ℕ) (k row place place′ : ℕ) (current current′ room room′ : List ℕ) (held : ℕ) : Type 0 where
+  pub resolves : ResolvesFields cells k row place current current′ room room′ held
+  pub moved : place′ ≡ place + sizeFieldsAt cells k row
+  pub long : length room′ ≡ length room
+
+-- what the walk of a whole term begins with: linked rows, and no binder in any slot
+pub record WalkPrepared (cells links current : List ℕ) : Type 0 where
+  pub linked : RowsLinked cells links
+  pub none : current ≡ replicate (length current) 0
+  pub room : length cells / columns ≤ length current
