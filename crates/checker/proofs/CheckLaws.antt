@@ -8,14 +8,14 @@ use Rattle.answers.specs.declared.Verdict.the-variants.{Passed, Refused}
 use Rattle.answers.specs.Checked.{Checked, ok, bad, _>>_, verdict}
 use Rattle.grammar.specs.Table.{Table}
 use Rattle.grammar.specs.Encode.{encode}
-use Rattle.layout.specs.Layout.{layout}
-use Rattle.layout.specs.Decode.{decode}
-use Rattle.layout.specs.Within.{Within}
-use Rattle.layout.proofs.Split.{Bytes}
-use Rattle.layout.proofs.Inverse.{layout-encoded, decode-encoded}
-use Rattle.sorts.specs.CheckSorts.{checkSorts}
+use Rattle.decoding.specs.Layout.{layout}
+use Rattle.decoding.specs.Decode.{decode}
+use Rattle.decoding.specs.Within.{Within}
+use Rattle.decoding.proofs.Split.{Bytes}
+use Rattle.decoding.proofs.Inverse.{layout-encoded, decode-encoded}
+use Rattle.judgements.specs.CheckSorts.{checkSorts}
 use Rattle.sorts.specs.ByBytes.{sortsOf}
-use Rattle.sorts.proofs.SortTheorems.{bytes-checked}
+use Rattle.sorts.proofs.SortedBytes.{bytes-checked}
 use Rattle.clashes.specs.CheckFirsts.{checkFirsts}
 use Rattle.productions.specs.Index.{placesIn, placesOf}
 use Rattle.productions.specs.IndexCalls.{Index, FitsIndex}

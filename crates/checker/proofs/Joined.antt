@@ -8,13 +8,13 @@ use Rattle.answers.specs.Checked.{Checked, ok, bad, _>>_}
 use Rattle.answers.specs.declared.Verdict.{Verdict}
 use Rattle.answers.specs.declared.Verdict.the-variants.{Passed}
 use Rattle.grammar.specs.Fields.{fieldsOf}
-use Rattle.layout.specs.Layout.{layout}
-use Rattle.layout.specs.Decode.{tableOf, decodeFields, decode}
-use Rattle.layout.proofs.Split.{Bytes}
-use Rattle.layout.proofs.Spelled.{each-map}
-use Rattle.layout.proofs.LayoutTheorems.{decode-exactly}
-use Rattle.sorts.proofs.SortTheorems.{sorts-exactly}
-use Rattle.layout.specs.Within.{Each}
+use Rattle.decoding.specs.Layout.{layout}
+use Rattle.decoding.specs.Decode.{tableOf, decodeFields, decode}
+use Rattle.decoding.proofs.Split.{Bytes}
+use Rattle.decoding.proofs.Spelled.{each-map}
+use Rattle.decoding.proofs.LayoutTheorems.{decode-exactly}
+use Rattle.judgements.proofs.SortTheorems.{sorts-exactly}
+use Rattle.decoding.specs.Within.{Each}
 use Rattle.productions.specs.Index.{Whole, placesOf}
 use Rattle.productions.proofs.FewAlternatives.{few-alternatives}
 use Rattle.productions.proofs.NormalizedByFields.{normalized-by}

@@ -10,7 +10,7 @@ use lib.Dec.{eqb, leb}
 use borrow.Author.Tests.{eqb-true, leb-true}
 use Rattle.spellings.proofs.BytesLaws.{by-test}
 use Rattle.answers.specs.Refusals.{refusal}
-use Rattle.layout.proofs.RefusalNumbers.{isLayoutNumber, decode-answers}
+use Rattle.decoding.proofs.RefusalNumbers.{isLayoutNumber, decode-answers}
 use Rattle.clashes.specs.FirstRefusals.{Lowest, LowestOr64}
 use Rattle.clashes.specs.Clashes.{Never, LeftRecursive, Shares, Clashes}
 use Rattle.answers.specs.declared.Refusal.{Refusal}
@@ -18,10 +18,10 @@ use Rattle.answers.specs.declared.Verdict.{Verdict}
 use Rattle.answers.specs.declared.Verdict.the-variants.{Passed, Refused}
 use Rattle.answers.specs.Checked.{Checked, ok, bad, _>>=_, _>>_, verdict}
 use Rattle.grammar.specs.Table.{Table}
-use Rattle.layout.specs.Decode.{decode}
-use Rattle.layout.proofs.LayoutTheorems.{decode-exactly}
-use Rattle.sorts.specs.CheckSorts.{checkSorts}
-use Rattle.sorts.proofs.SortTheorems.{sorts-exactly, sort-refusals}
+use Rattle.decoding.specs.Decode.{decode}
+use Rattle.decoding.proofs.LayoutTheorems.{decode-exactly}
+use Rattle.judgements.specs.CheckSorts.{checkSorts}
+use Rattle.judgements.proofs.SortTheorems.{sorts-exactly, sort-refusals}
 use Rattle.clashes.specs.CheckFirsts.{checkFirsts}
 use Rattle.clashes.proofs.ClashTheorems.{passes-exactly, left-recursion-lowest, clash-lowest}
 use Rattle.checker.specs.Check.{passedTable, check}

@@ -13,12 +13,12 @@ use Rattle.answers.specs.Checked.{ok, bad}
 use Rattle.kinds.specs.Kinds.{hasKind}
 use Rattle.grammar.specs.Table.{Table}
 use Rattle.grammar.specs.Encode.{encode}
-use Rattle.layout.specs.Within.{Within}
-use Rattle.layout.specs.Decode.{decode}
-use Rattle.layout.proofs.LayoutTheorems as layout
-use Rattle.sorts.specs.Judgements.{WellSorted}
-use Rattle.sorts.specs.CheckSorts.{checkSorts}
-use Rattle.sorts.proofs.SortTheorems as sorting
+use Rattle.decoding.specs.Within.{Within}
+use Rattle.decoding.specs.Decode.{decode}
+use Rattle.decoding.proofs.LayoutTheorems as layout
+use Rattle.judgements.specs.Judgements.{WellSorted}
+use Rattle.judgements.specs.CheckSorts.{checkSorts}
+use Rattle.judgements.proofs.SortTheorems as sorting
 use Rattle.productions.specs.Normal.{Production}
 use Rattle.clashes.specs.CheckFirsts.{checkFirsts}
 use Rattle.firsts.specs.FirstSets.{nullables, firstSets, leftCalls}

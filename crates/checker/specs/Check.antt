@@ -4,8 +4,8 @@ use mathlib.Core.List.{List}
 use Rattle.answers.specs.Checked.{Checked, ok, bad, _>>=_, _>>_, verdict}
 use Rattle.answers.specs.declared.Verdict.{Verdict}
 use Rattle.grammar.specs.Table.{Table}
-use Rattle.layout.specs.Decode.{decode}
-use Rattle.sorts.specs.CheckSorts.{checkSorts}
+use Rattle.decoding.specs.Decode.{decode}
+use Rattle.judgements.specs.CheckSorts.{checkSorts}
 use Rattle.productions.specs.Normal.{normalized}
 use Rattle.clashes.specs.CheckFirsts.{checkFirsts}
 

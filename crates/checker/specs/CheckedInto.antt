@@ -4,8 +4,8 @@ use mathlib.Core.Path.{_≡_}
 use mathlib.Core.List.{List}
 use Rattle.answers.specs.declared.Verdict.{Verdict}
 use Rattle.answers.specs.Checked.{Checked, ok, bad, _>>=_}
-use Rattle.layout.specs.Decode.{decode}
-use Rattle.sorts.specs.CheckSorts.{checkSorts}
+use Rattle.decoding.specs.Decode.{decode}
+use Rattle.judgements.specs.CheckSorts.{checkSorts}
 use Rattle.productions.specs.Room.{overwritten}
 use Rattle.firsts.specs.Room.{tableRoom}
 use Rattle.checker.specs.Check.{check}

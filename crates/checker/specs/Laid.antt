@@ -4,8 +4,8 @@ use mathlib.Core.Path.{_≡_}
 use mathlib.Core.List.{List}
 use Rattle.grammar.specs.Table.{Table}
 use Rattle.grammar.specs.Encode.{encode}
-use Rattle.layout.specs.Within.{Within}
-use Rattle.sorts.specs.Judgements.{WellSorted}
+use Rattle.decoding.specs.Within.{Within}
+use Rattle.judgements.specs.Judgements.{WellSorted}
 
 -- bytes that are the encoding of a well sorted table within the counts, spellings and ranges
 pub record Laid (bs : List ℕ) : Type 0 where

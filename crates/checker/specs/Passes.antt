@@ -4,8 +4,8 @@ use mathlib.Core.Path.{_≡_}
 use mathlib.Core.List.{List}
 use Rattle.grammar.specs.Table.{Table}
 use Rattle.grammar.specs.Encode.{encode}
-use Rattle.layout.specs.Within.{Within}
-use Rattle.sorts.specs.Judgements.{WellSorted}
+use Rattle.decoding.specs.Within.{Within}
+use Rattle.judgements.specs.Judgements.{WellSorted}
 use Rattle.productions.specs.Normal.{Production, normalized}
 use Rattle.clashes.specs.Clashes.{Never, LeftRecursive, Clashes}
 

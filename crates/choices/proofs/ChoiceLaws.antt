@@ -15,7 +15,7 @@ use Rattle.spellings.proofs.BytesLaws.{by-test}
 use Rattle.kinds.specs.Kinds.{hasKind}
 use Rattle.grammar.proofs.ReaderLaws.{getD-past}
 use Rattle.grammar.specs.Lookup.{fieldsAt}
-use Rattle.layout.specs.Within.{Each, each-none, each-more}
+use Rattle.decoding.specs.Within.{Each, each-none, each-more}
 use Rattle.productions.specs.Normal.{Production}
 use Rattle.productions.specs.Index.{Place, placesOf, productionAt, wholeBody, Whole}
 use Rattle.productions.specs.Room.{Entry, noEntry, noPlace, HoldsEntries, placeFrom, isOf, isNullableOf, firstIn, startIn, firstSetIn}

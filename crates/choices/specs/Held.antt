@@ -1,7 +1,7 @@
 -- A room that holds the grammar of a table.
 use mathlib.Core.List.{List}
 use Prim.Native.Nat.{ℕ}
-use Rattle.layout.specs.Within.{Each}
+use Rattle.decoding.specs.Within.{Each}
 use Rattle.productions.specs.Index.{placesOf, Whole}
 use Rattle.firsts.specs.Room.{HoldsGrammar}
 

@@ -12,7 +12,7 @@ use Rattle.answers.specs.Refusals.{refusal}
 use Rattle.answers.specs.Checked.{Checked, ok, bad, _>>_, verdict}
 use Rattle.answers.specs.declared.Refusal.{Refusal}
 use Rattle.answers.specs.declared.Verdict.the-variants.{Passed, Refused}
-use Rattle.layout.specs.Within.{Each, each-none, each-more}
+use Rattle.decoding.specs.Within.{Each, each-none, each-more}
 use Rattle.productions.specs.Normal.{Production}
 use Rattle.productions.specs.Index.{Place, placesIn, productionsAt, Whole}
 use Rattle.productions.specs.Room.{Entry, noEntry, overwritten, HoldsEntries}

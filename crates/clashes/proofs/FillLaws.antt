@@ -6,7 +6,7 @@ use native.Mathlib.Nat.{add-zero, zero-add}
 use native.Mathlib.Omega.{arith}
 use lib.ListN.{length, getD, length-map}
 use Rattle.grammar.specs.Lookup.{fieldsAt}
-use Rattle.layout.specs.Within.{Each, each-more}
+use Rattle.decoding.specs.Within.{Each, each-more}
 use Rattle.productions.specs.Index.{itemsOf, Place, placesFrom, placesIn, Whole}
 use Rattle.productions.specs.Room.{Entry, noEntry, begun, laid, overwritten, RoomAt}
 use Rattle.productions.proofs.IndexLaws.{placeAt, length-places}

@@ -9,7 +9,7 @@ use Rattle.productions.specs.Index.{wholeBody}
 use Rattle.expansion.specs.declared.State.{State}
 use Rattle.expansion.specs.Run.{Result}
 use Rattle.expansion.specs.Expansion.{Input, runCall}
-use Rattle.templates.specs.Built.{wholeRows}
+use Rattle.terms.specs.Cells.{rowsLent}
 use Rattle.choices.specs.Chosen.{Remembers}
 use Rattle.steps.specs.Steps.{body, weight, mostWeight}
 use Rattle.frames.specs.Frames.{frameSize, shortFrames, mostWaiting, Standing}
@@ -37,7 +37,7 @@ pub record MayStand (bs room memory tokens : List ℕ) (n : ℕ) (cells stack fr
   pub lent : Lent bs room tokens n stack
   pub remembers : Remembers bs memory
   pub result : Result ℕ
-  pub standing : Standing (lentInput bs tokens n (wholeRows cells)) bs frames (from .level) (from .state) cells result
+  pub standing : Standing (lentInput bs tokens n (rowsLent (length cells))) bs frames (from .level) (from .state) cells result
 
 -- the same, in a room that has one level more
 pub record MayGo (bs room memory tokens : List ℕ) (n : ℕ) (cells stack frames : List ℕ) (from : Resumption) : Type 0 where

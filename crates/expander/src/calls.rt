@@ -25,7 +25,7 @@ ghost use lib.ListN.{length};
 ghost use Rattle.expansion.specs.Run.{Result, after};
 ghost use Rattle.expansion.specs.Outcomes.{ran};
 ghost use Rattle.expansion.specs.Expansion.{Input, ended, run};
-ghost use Rattle.templates.specs.Built.{wholeRows};
+ghost use Rattle.terms.specs.Cells.{rowsLent};
 ghost use Rattle.choices.specs.Chosen.{Remembers};
 ghost use Rattle.frames.specs.Frames.{Standing};
 ghost use Rattle.expander.specs.Lent.{lentInput, Lent};
@@ -49,9 +49,9 @@ fn items(
     from: Resumption,
 ) -> Advance
     requires { ⌜ MayGo (now table) (now room) (now memory) (now tokens) n (now cells) (now stack) (now frames) from ⌝ }
-    ensures { λ r. ⌜ ((R : Result ℕ) → Standing (lentInput (now (table .entry)) (now (tokens .entry)) n (wholeRows (now (cells .entry)))) (now
+    ensures { λ r. ⌜ ((R : Result ℕ) → Standing (lentInput (now (table .entry)) (now (tokens .entry)) n (rowsLent (length (now (cells .entry))))) (now
         (table .entry)) (now (frames .entry)) (from .level) (from .state) (now (cells .entry)) R → Goes (lentInput (now (table .entry)) (now
-        (tokens .entry)) n (wholeRows (now (cells .entry)))) (now (table .entry)) R (now (frames .exit)) (now (cells .exit)) r) ⌝ }
+        (tokens .entry)) n (rowsLent (length (now (cells .entry))))) (now (table .entry)) R (now (frames .exit)) (now (cells .exit)) r) ⌝ }
     ensures { λ r. ⌜ Remembers (now (table .entry)) (now (memory .exit)) ⌝ }
 {
     let mut vars = [0u32; 16];
@@ -108,7 +108,7 @@ fn deep_items(
     from: Resumption,
 ) -> Outcome
     requires { ⌜ MayGoOn (now table) (now room) (now memory) (now tokens) n (now cells) (now stack) (now short) from ⌝ }
-    ensures { λ r. ⌜ ((R : Result ℕ) → Standing (lentInput (now (table .entry)) (now (tokens .entry)) n (wholeRows (now (cells .entry)))) (now
+    ensures { λ r. ⌜ ((R : Result ℕ) → Standing (lentInput (now (table .entry)) (now (tokens .entry)) n (rowsLent (length (now (cells .entry))))) (now
         (table .entry)) (now (short .entry)) (from .level) (from .state) (now (cells .entry)) R → ran r (now (cells .exit)) ≡ R) ⌝ }
 {
     let mut frames = [0u32; 18450];
@@ -143,8 +143,8 @@ fn root_items(
     s: State,
 ) -> Outcome
     requires { ⌜ MayBeginRoot (now table) (now room) (now memory) (now tokens) n (now stack) start s ⌝ }
-    ensures { λ r. ⌜ ran r (now (cells .exit)) ≡ rootItems (lentInput (now (table .entry)) (now (tokens .entry)) n (wholeRows (now (cells
-        .entry)))) (now (table .entry)) start s (now (cells .entry)) ⌝ }
+    ensures { λ r. ⌜ ran r (now (cells .exit)) ≡ rootItems (lentInput (now (table .entry)) (now (tokens .entry)) n (rowsLent (length (now (cells
+        .entry))))) (now (table .entry)) start s (now (cells .entry)) ⌝ }
 {
     let vars = [0u32; 16];
     let mut frames = [0u32; 576];
@@ -200,7 +200,7 @@ pub fn run(
     stack: &mut [u32],
 ) -> Outcome
     requires { ⌜ Lent (now table) (now room) (now tokens) n (now stack) ⌝ }
-    ensures { λ r. ⌜ ran r (now (cells .exit)) ≡ run (lentInput (now (table .entry)) (now (tokens .entry)) n (wholeRows (now (cells .entry))))
+    ensures { λ r. ⌜ ran r (now (cells .exit)) ≡ run (lentInput (now (table .entry)) (now (tokens .entry)) n (rowsLent (length (now (cells .entry)))))
         root (now (cells .entry)) ⌝ }
 {
     let mut memory = [0u8; 4160];

@@ -11,7 +11,7 @@ use borrow.Author.Tests.{eqb-true, eq-eqb}
 use Rattle.answers.specs.Checked.{ok}
 use Rattle.kinds.specs.Kinds.{noKind, hasKind}
 use Rattle.grammar.specs.Table.{Item}
-use Rattle.scanner.specs.declared.Token.{Token}
+use Rattle.tokens.specs.declared.Token.{Token}
 use Rattle.productions.specs.Normal.{Production}
 use Rattle.clashes.specs.CheckFirsts.{checkFirsts}
 use Rattle.firsts.specs.FirstSets.{nullables, firstSets}
@@ -19,7 +19,7 @@ use Rattle.firsts.specs.Rules.{In, in-first, in-later, First, first-own, first-
 use Rattle.firsts.proofs.FirstsTheorems.{production-opens-exactly, production-nullable-exactly}
 use Rattle.clashes.proofs.ClashTheorems.{one-production}
 use Rattle.expansion.specs.Expansion.{Rule, ruleOf, ready, Choice, unfit, chosen, firstRule, choice}
-use Rattle.scanner.specs.Tokens.{endToken}
+use Rattle.tokens.specs.Tokens.{endToken}
 use Rattle.expansion.specs.Figure3.{Next, next, Opened, Taken, taken-opened, taken-nullable}
 
 -- ------------------------------------------------------------------ the kind of the next token

@@ -11,8 +11,8 @@ use Rattle.kinds.specs.Kinds.{wordKind, numberKind, keywordKind, hasKind, only}
 use Rattle.grammar.specs.Sorts.{label}
 use Rattle.grammar.specs.Table.{Template, Templates, variable, outsideVar, outsideLabel, make, none, more, Item, keyword, ide, number, local, call}
 use Rattle.terms.specs.Cells.{withRow, wordName, freshName, outsideName}
-use Rattle.scanner.specs.declared.Token.{Token}
-use Rattle.scanner.specs.Tokens.{endToken}
+use Rattle.tokens.specs.declared.Token.{Token}
+use Rattle.tokens.specs.Tokens.{endToken}
 use Rattle.productions.specs.Normal.{Production}
 use Rattle.firsts.specs.FirstSets.{nullables, firstSets, firstOf, allPassed}
 use Rattle.expansion.specs.declared.State.{State}

@@ -15,7 +15,7 @@ use Rattle.kinds.specs.Kinds.{wordKind, numberKind, keywordKind}
 use Rattle.grammar.specs.Sorts as Sorts
 use Rattle.grammar.specs.Table.{Template, Templates, none, more, Item, keyword, ide, local, call}
 use Rattle.grammar.specs.Table as Table
-use Rattle.scanner.specs.declared.Token.{Token}
+use Rattle.tokens.specs.declared.Token.{Token}
 use Rattle.productions.specs.Normal.{Production}
 use Rattle.firsts.specs.Rules.{Of, NullItems, First, Reads}
 use Rattle.terms.specs.Term.{Name, word, fresh, outside, Term, Fields, variable, function, apply, rcd, dot, nil, cons}

@@ -5,11 +5,11 @@ use mathlib.Core.List.{List}
 use lib.ListN.{getD}
 use Rattle.kinds.specs.Kinds.{wordKind}
 use Rattle.terms.specs.Cells.{nameBase}
-use Rattle.scanner.specs.declared.Token.{Token}
+use Rattle.tokens.specs.declared.Token.{Token}
 use Rattle.productions.specs.Normal.{Production}
 use Rattle.expansion.specs.Run.{Result}
 use Rattle.expansion.specs.Expansion.{Input, ready, run}
-use Rattle.scanner.specs.Tokens.{endToken}
+use Rattle.tokens.specs.Tokens.{endToken}
 
 abbrev pub input : List Production → List Token → ℕ → Input
 input g tokens rows = record { grammar = ready g; tokens = tokens; rows = rows }

@@ -14,8 +14,8 @@ use Rattle.grammar.specs.declared.Front.{Front}
 use Rattle.grammar.specs.declared.Front.the-variants.{Nothing, Short, Field}
 use Rattle.grammar.specs.Lookup.{frontOf, fieldsAt}
 use Rattle.grammar.proofs.LookupLaws.{fields-at, front-inside, front-nothing}
-use Rattle.layout.specs.Prefix.{templatesOf, found}
-use Rattle.layout.specs.Decode.{itemOf}
+use Rattle.decoding.specs.Prefix.{templatesOf, found}
+use Rattle.decoding.specs.Decode.{itemOf}
 use Rattle.firsts.specs.declared.ItemKind.{ItemKind}
 use Rattle.firsts.specs.declared.ItemKind.the-variants.{Keyword, Word, Number, Local, Call}
 use Rattle.firsts.specs.declared.SymbolStep.{SymbolStep}

@@ -7,7 +7,7 @@ use mathlib.Core.List.{List, _++_, map}
 use lib.ListN.{length}
 use Rattle.grammar.specs.Limits.{most}
 use Rattle.grammar.specs.Lookup.{fieldsAt}
-use Rattle.layout.specs.Within.{Each}
+use Rattle.decoding.specs.Within.{Each}
 use Rattle.productions.specs.Normal.{Production}
 use Rattle.productions.specs.Index.{itemsOf, Place, placesOf, productionsAt, wholeBody, placesIn, Whole}
 use Rattle.productions.specs.Room.{Entry, roomOf}

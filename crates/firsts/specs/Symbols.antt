@@ -7,7 +7,7 @@ use lib.ListN.{take, drop}
 use Rattle.grammar.specs.Table.{none, Item, keyword, ide, number, local, call}
 use Rattle.grammar.specs.declared.Front.{Front}
 use Rattle.grammar.specs.declared.Front.the-variants.{Nothing, Short, Field}
-use Rattle.layout.specs.Decode.{itemOf}
+use Rattle.decoding.specs.Decode.{itemOf}
 use Rattle.firsts.specs.declared.ItemKind.{ItemKind}
 use Rattle.firsts.specs.declared.ItemKind.the-variants.{Keyword, Word, Number, Local, Call}
 use Rattle.firsts.specs.declared.SymbolStep.{SymbolStep}

@@ -13,7 +13,7 @@ ghost use mathlib.Core.Path.{_≡_};
 ghost use lib.ListN.{getD, drop};
 ghost use Rattle.kinds.specs.Kinds.{keywordKind, only};
 ghost use Rattle.grammar.specs.Lookup.{frontOf, fieldsAt};
-ghost use Rattle.layout.specs.Decode.{itemOf};
+ghost use Rattle.decoding.specs.Decode.{itemOf};
 ghost use Rattle.firsts.specs.Symbols.{symbolOf, withSymbol, symbolStep};
 ghost use Rattle.firsts.specs.FirstSets.{isPassed, own, through, joined};
 ghost use Rattle.firsts.specs.SetCalls.{gathered};

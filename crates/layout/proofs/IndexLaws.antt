@@ -10,10 +10,10 @@ use lib.Dec.{eqb}
 use lib.ListN.{length, getD, take, drop, set, replicate, length-set, length-replicate, length-drop}
 use lib.Seq.{getD-set-same, getD-set-other, drop-drop, take-all}
 use borrow.Author.Tests.{eqb-true, eqb-false}
-use Rattle.spellings.specs.Bytes.{same}
+use Rattle.spellings.specs.Bytes.{same, oneIf}
 use Rattle.spellings.proofs.BytesLaws.{by-test, differ-same}
 use Rattle.grammar.specs.Values.{Field, field}
-use Rattle.layout.specs.Layout.{isRepeated, oneIf}
+use Rattle.decoding.specs.Layout.{isRepeated}
 use Rattle.layout.specs.Index.{spellingsUnder, isAmong, packed, Packs, bucketMixed, bucketHashFrom, bucketHash, bucketOf, HashedUnder, entry}
 use Rattle.layout.specs.Index.{SpellingHeld}
 use Rattle.layout.specs.Index.{Bucket, leads-none, leads-past, leads-here}

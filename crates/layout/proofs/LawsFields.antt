@@ -19,9 +19,9 @@ use Rattle.grammar.specs.Values as encode
 use Rattle.grammar.specs.Fields.{RawFields, end, cut, next, fieldsOf}
 use Rattle.grammar.specs.Lookup.{frontOf, fieldsAt}
 use Rattle.grammar.proofs.LookupLaws.{opened, fields-at, fields-of}
-use Rattle.layout.specs.declared.Progress.{Progress}
+use Rattle.decoding.specs.declared.Progress.{Progress}
 use Rattle.layout.specs.declared.Checking.the-variants.{Further, Stopped}
-use Rattle.layout.specs.Layout.{checkField, checkFields, initialProgress, layout}
+use Rattle.decoding.specs.Layout.{checkField, checkFields, initialProgress, layout}
 use Rattle.layout.specs.Before.{earlier, fieldsBefore, checking}
 
 -- ------------------------------------------------------------------ the fields before an offset

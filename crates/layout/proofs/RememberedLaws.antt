@@ -14,12 +14,13 @@ use Rattle.grammar.specs.Values.{field}
 use Rattle.grammar.specs.Values as values
 use Rattle.grammar.specs.Lookup.{frontOf}
 use Rattle.grammar.proofs.LookupLaws.{front-inside}
-use Rattle.layout.specs.declared.Progress.{Progress}
+use Rattle.decoding.specs.declared.Progress.{Progress}
 use Rattle.layout.specs.declared.Checking.the-variants.{Further}
-use Rattle.layout.specs.Layout.{isKnown, follows, isSpelled, hasRoom, passed, isWhole, checkField, initialProgress}
+use Rattle.decoding.specs.Layout.{isKnown, follows, isSpelled, hasRoom, passed, isWhole, checkField, initialProgress}
 use Rattle.layout.specs.Before.{fieldsBefore, checking}
 use Rattle.layout.specs.Index.{entered, HasSpellings, Remembered}
-use Rattle.layout.proofs.Laws.{firstFault, field-by, room-of}
+use Rattle.fields.proofs.Laws.{firstFault, field-by}
+use Rattle.decoding.proofs.Rooms.{room-of}
 use Rattle.layout.proofs.LawsFields.{Turn, none-before, before-next, checked-ok, lent-is}
 use Rattle.layout.proofs.IndexLaws.{has-none, has-next}
 

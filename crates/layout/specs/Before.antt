@@ -6,7 +6,7 @@ use lib.Dec.{ltb}
 use Rattle.answers.specs.Checked.{Checked, ok, bad}
 use Rattle.grammar.specs.Values.{Field, field}
 use Rattle.grammar.specs.Fields.{RawFields, end, cut, next, fieldsOf}
-use Rattle.layout.specs.declared.Progress.{Progress}
+use Rattle.decoding.specs.declared.Progress.{Progress}
 use Rattle.layout.specs.declared.Checking.{Checking}
 use Rattle.layout.specs.declared.Checking.the-variants.{Further, Stopped}
 

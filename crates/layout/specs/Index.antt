@@ -8,7 +8,7 @@ use lib.Dec.{eqb}
 use lib.ListN.{length, getD, take, drop, set}
 use Rattle.spellings.specs.Bytes.{same}
 use Rattle.grammar.specs.Values.{Field}
-use Rattle.layout.specs.declared.Progress.{Progress}
+use Rattle.decoding.specs.declared.Progress.{Progress}
 use Rattle.layout.specs.Before.{fieldsBefore}
 
 -- ------------------------------------------------------------------ what is looked for

@@ -7,6 +7,8 @@ use crate::trees::find;
 use crate::trees::hash;
 use crate::trees::link;
 use grammar::Front;
+use grammar::limits::MOST_KEYWORDS;
+use grammar::limits::MOST_OUTSIDES;
 use grammar::reader::part;
 use spellings::wide_number;
 ghost use mathlib.Core.Path.{_≡_};
@@ -14,10 +16,16 @@ ghost use mathlib.Core.List.{[], _∷_, _++_};
 ghost use Prim.Native.Nat.{ℕ, _+_, _*_, _^_, _≤_, _<_};
 ghost use lib.ListN.{length, getD, take, drop};
 ghost use lib.Seq.{sets};
+ghost use Rattle.grammar.specs.Limits.{most};
 ghost use Rattle.grammar.specs.Lookup.{leading, fieldsAt};
 ghost use Rattle.lexicon.specs.Places.{wordsIn};
 ghost use Rattle.lexicon.specs.Trees.{SearchTree};
 ghost use Rattle.lexicon.specs.LexiconRoom.{Spelled, Enters, SpellingsEntered, Marked, Unmarked, Symbols, SamePlaces, Blank, Lexical};
+
+// The most spellings of each kind, as sizes.
+const KEYWORDS: usize = MOST_KEYWORDS as usize;
+
+const OUTSIDES: usize = MOST_OUTSIDES as usize;
 
 // One more spelling: its place is stored, and if it is new its link.
 fn enter(table: &[u8], from: usize, size: usize, room: &mut [u32], tree: &mut [u32], e: usize)
@@ -75,7 +83,7 @@ fn enter_leading(
 
 // The kind of a symbol is stored, if it is one.
 fn mark(room: &mut [u32], s: &[u8], k: usize)
-    requires { ⌜ (k < 62) × (length (now room) ≡ 382) ⌝ }
+    requires { ⌜ (k < most .keywords) × (length (now room) ≡ 382) ⌝ }
     ensures { λ _. ⌜ Marked (now (room .entry)) (now (room .exit)) (now (s .entry)) k ⌝ }
 {
     if s.len() == 1 {
@@ -89,7 +97,7 @@ fn mark(room: &mut [u32], s: &[u8], k: usize)
 // The kinds of the symbols that are keywords, by the places of the keywords. The last keyword comes first, so that of two with one
 // spelling the first has it.
 fn mark_symbols(table: &[u8], room: &mut [u32], count: usize)
-    requires { ⌜ (count ≤ 62) × Unmarked (now room) × (length (now room) ≡ 382) ⌝ }
+    requires { ⌜ (count ≤ most .keywords) × Unmarked (now room) × (length (now room) ≡ 382) ⌝ }
     ensures { λ _. ⌜ Symbols (wordsIn (now (table .entry)) (now (room .entry)) count) 0 (now (room .exit)) ⌝ }
     ensures { λ _. ⌜ SamePlaces (now (room .entry)) (now (room .exit)) ⌝ }
 {
@@ -107,10 +115,10 @@ pub fn enter_table(table: &[u8], room: &mut [u32], tree: &mut [u32])
     requires { ⌜ Blank (now room) (now tree) × (length (now table) < 2 ^ 32) ⌝ }
     ensures { λ _. ⌜ Lexical (now (table .entry)) (now (room .exit)) (now (tree .exit)) ⌝ }
 {
-    let keywords = enter_leading(table, 0, 1, 62, room, tree, 0);
+    let keywords = enter_leading(table, 0, 1, KEYWORDS, room, tree, 0);
     mark_symbols(table, room, keywords);
     let names = grammar::after_leading(table, 1);
-    let spellings = enter_leading(table, names, 2, 64, room, tree, keywords);
+    let spellings = enter_leading(table, names, 2, OUTSIDES, room, tree, keywords);
     room[380] = keywords as u32;
     room[381] = spellings as u32;
 }

@@ -11,21 +11,21 @@ use Rattle.answers.specs.declared.Verdict.the-variants.{Refused}
 use Rattle.answers.specs.Refusals.{refusal}
 use Rattle.answers.specs.Checked.{Checked, ok, bad, verdict}
 use Rattle.grammar.specs.Table.{Table, lexiconOfTable}
-use Rattle.scanner.specs.Unscanned.{Unscans}
-use Rattle.scanner.specs.declared.Token.{Token}
+use Rattle.tokens.specs.Unscanned.{Unscans}
+use Rattle.tokens.specs.declared.Token.{Token}
 use Rattle.checker.specs.Check.{passedTable, check}
 use Rattle.checker.specs.Passes.{Passes}
 use Rattle.checker.proofs.TableTheorems.{check-exactly}
 use Rattle.expansion.specs.Run.{Result}
 use Rattle.soundness.specs.Passing.{Passing}
 use Rattle.terms.specs.Term.{Name, Term, size, largestTerm}
-use Rattle.terms.specs.Cells.{columns}
+use Rattle.terms.specs.Cells.{columns, rowsLent}
 use Rattle.terms.specs.Rows.{termAt}
 use Rattle.terms.specs.Rename.{rename}
 use Rattle.terms.specs.Print.{print}
 use Rattle.terms.specs.Occurrences.{occurrences, loosePlaces}
 use Rattle.meaning.specs.Expand.{Expanded, refused, inputOf, expandTable, checkedFirst, expand}
-use Rattle.meaning.specs.Meaning.{spellOf, Means, rowsLent, MeansWithin, cellsOf, Cause, unscanned, stopped, Accepts, Left}
+use Rattle.meaning.specs.Meaning.{spellOf, Means, MeansWithin, cellsOf, Cause, unscanned, stopped, Accepts, Left}
 use Rattle.meaning.specs.Meaning as Meaning
 use Rattle.meaning.proofs.Owners.{occurs, Says, loose-says, none-places, first-places}
 use Rattle.meaning.proofs.Stages.{Finish, too-big, is-loose, too-long, prints, same-words, means-one, RunsTo, Stage, in-scan, in-parse, at-last, stages}
@@ -222,8 +222,8 @@ module _ (t : Table) (T : Passing t) (formula cells text : List ℕ) where
   pub cells-kept : (r : Refusal) → Unscans (lexiconOfTable t) formula r → X .cells ≡ cells
   cells-kept r u = rw (unscanned-ends t T formula cells text u)
 
-  ran : (ts : List Token) {x : Result ℕ} → RunsTo t T formula cells text ts x → Leaves (rowsLent cells) 0 cells x
-  ran ts e = subst (Leaves (rowsLent cells) 0 cells) e (run-leaves (inputOf t ts cells) (t .root) cells)
+  ran : (ts : List Token) {x : Result ℕ} → RunsTo t T formula cells text ts x → Leaves (rowsLent (length cells)) 0 cells x
+  ran ts e = subst (Leaves (rowsLent (length cells)) 0 cells) e (run-leaves (inputOf t ts cells) (t .root) cells)
 
   -- Where a term is derived within the limits, the numbers behind the cells that it costs are as lent.
   pub cells-behind : {u : Term Name} (E : MeansWithin t formula cells u) → Left (cellsOf E) cells (X .cells)
@@ -237,7 +237,7 @@ module _ (t : Table) (T : Passing t) (formula cells text : List ℕ) where
     -- So many rows were made,
     pub rows : ℕ
     -- no more than there are;
-    pub few : rows ≤ rowsLent cells
+    pub few : rows ≤ rowsLent (length cells)
     -- the numbers behind them are as lent,
     pub left : Left rows cells (x .cells)
     -- and an acceptance counts them.

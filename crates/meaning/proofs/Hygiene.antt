@@ -5,7 +5,7 @@ use mathlib.Core.List.{List, []}
 use lib.ListN.{length, getD}
 use Rattle.answers.specs.declared.Answer.{Answer}
 use Rattle.grammar.specs.Table.{Item, Table, Lexicon}
-use Rattle.scanner.specs.declared.Token.{Token}
+use Rattle.tokens.specs.declared.Token.{Token}
 use Rattle.checker.specs.Passes.{Passes}
 use Rattle.soundness.specs.Passing.{Passing}
 use Rattle.soundness.proofs.Placing.{parses-placed}

@@ -4,7 +4,7 @@ use mathlib.Core.Path.{_≡_, refl, sym, ap, subst, _∙_}
 use mathlib.Core.Bool.{Bool, true, false, true≢false}
 use mathlib.Core.List.{List, [], _∷_, _++_}
 use Rattle.spellings.proofs.BytesLaws.{by-test}
-use Rattle.layout.specs.Within.{Each, each-none, each-more}
+use Rattle.decoding.specs.Within.{Each, each-none, each-more}
 use Rattle.terms.specs.Term.{Name, word, fresh, outside, Term, Fields, variable, function, apply, rcd, dot, number, nil, cons, size}
 use Rattle.terms.specs.Rename.{belongs}
 use Rattle.terms.specs.Binding.{Owner, unbound, boundAt, RefersTo, sameSpelling, sameFresh, Binder, Occurrence}

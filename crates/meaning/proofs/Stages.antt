@@ -14,20 +14,20 @@ use Rattle.answers.specs.Checked.{ok}
 use Rattle.spellings.specs.Bytes.{isWord}
 use Rattle.kinds.specs.Kinds.{wordKind}
 use Rattle.grammar.specs.Table.{Table, Lexicon, lexiconOfTable}
-use Rattle.terms.specs.Cells.{columns}
-use Rattle.layout.specs.Within.{Each, each-none, each-more}
-use Rattle.layout.proofs.Inverse.{decode-encoded}
-use Rattle.sorts.proofs.SortTheorems.{sorts-exactly}
+use Rattle.terms.specs.Cells.{columns, rowsLent}
+use Rattle.decoding.specs.Within.{Each, each-none, each-more}
+use Rattle.decoding.proofs.Inverse.{decode-encoded}
+use Rattle.judgements.proofs.SortTheorems.{sorts-exactly}
 use Rattle.clashes.proofs.ClashTheorems.{passes-exactly}
-use Rattle.scanner.specs.declared.Token.{Token}
-use Rattle.scanner.specs.declared.Scanned.{Scanned}
-use Rattle.scanner.specs.declared.Scanned.the-variants.{Tokens, Unscanned}
-use Rattle.scanner.specs.Scan.{Lexed, scan}
-use Rattle.scanner.specs.Tokens.{spelled}
-use Rattle.scanner.specs.Tiling.{bytesOf}
-use Rattle.scanner.specs.Unscanned.{Unscans}
-use Rattle.scanner.proofs.SpellingLaws.{Spelled, Every, scan-spelled, spelled-number}
-use Rattle.scanner.proofs.ScannerTheorems as scanner
+use Rattle.tokens.specs.declared.Token.{Token}
+use Rattle.tokens.specs.declared.Scanned.{Scanned}
+use Rattle.tokens.specs.declared.Scanned.the-variants.{Tokens, Unscanned}
+use Rattle.tokens.specs.Scan.{Lexed, scan}
+use Rattle.tokens.specs.Tokens.{spelled}
+use Rattle.tokens.specs.Tiling.{bytesOf}
+use Rattle.tokens.specs.Unscanned.{Unscans}
+use Rattle.tokens.proofs.SpellingLaws.{Spelled, Every, scan-spelled, spelled-number}
+use Rattle.tokens.proofs.ScannerTheorems as scanner
 use Rattle.checker.specs.Check.{passedTable}
 use Rattle.checker.specs.Passes.{grammarOf, Passes}
 use Rattle.expansion.specs.declared.State.{State}
@@ -49,7 +49,7 @@ use Rattle.terms.proofs.EmitLaws.{fitted-long, fitted-whole, emitted-large, emi
 use Rattle.terms.specs.Occurrences.{occurrences, loosePlaces, stopsAtFirst, isWorded}
 use Rattle.terms.proofs.Statements as terms
 use Rattle.meaning.specs.Expand.{Expanded, refused, withCells, inputOf, finished, scanned, expandTable, expand}
-use Rattle.meaning.specs.Meaning.{Scans, spellOf, Means, rowsLent, MeansWithin, cellsOf}
+use Rattle.meaning.specs.Meaning.{Scans, spellOf, Means, MeansWithin, cellsOf}
 
 -- ------------------------------------------------------------------ the table
 
@@ -204,22 +204,22 @@ module _ (t : Table) (T : Passing t) (formula : List ℕ) where
 
   module _ (cells text : List ℕ) where
     -- The rows that may be made lie in the cells lent.
-    pub room : rowsLent cells * columns ≤ length cells
+    pub room : rowsLent (length cells) * columns ≤ length cells
     room = omega arith
 
     -- The run of some tokens in the cells lent gives this.
     abbrev pub RunsTo : List Token → Result ℕ → Type 0
-    RunsTo ts x = Runs (grammarOf t) (t .root) ts (rowsLent cells) cells x
+    RunsTo ts x = Runs (grammarOf t) (t .root) ts (rowsLent (length cells)) cells x
 
     -- By the rules it stops with this refusal.
     abbrev pub Stopped : List Token → List (List ℕ) → Refusal → Type 0
-    Stopped ts ws r = Refuses (grammarOf t) (spellOf t ws) (rowsLent cells) ts (t .root) r
+    Stopped ts ws r = Refuses (grammarOf t) (spellOf t ws) (rowsLent (length cells)) ts (t .root) r
 
     -- A run stops exactly by those rules.
     pub stops-exactly : {ts : List Token} {ws : List (List ℕ)} → Scans t formula ts ws → (r : Refusal)
         → ((cells′ : List ℕ) × RunsTo ts (halt r cells′) → Stopped ts ws r) × (Stopped ts ws r → (cells′ : List ℕ) × RunsTo ts (halt r cells′))
     unfolding lexemes
-    stops-exactly S r = expansion.refused-exactly t T (lexemes S) (rowsLent cells) cells room r
+    stops-exactly S r = expansion.refused-exactly t T (lexemes S) (rowsLent (length cells)) cells room r
 
     -- The run of a term's tokens ends: in a value, with so many rows, of which one shows the term.
     pub record Reached {u : Term Name} (E : MeansWithin t formula cells u) (v : ℕ) (s : State) (cells′ : List ℕ) : Type 0 where
@@ -237,9 +237,9 @@ module _ (t : Table) (T : Passing t) (formula : List ℕ) where
     unfolding lexemes
     run-to-end {u} E =
         let R = lexemes (E .means .scans) in
-        let a = expansion.accepted-exactly t T R (rowsLent cells) cells room u .1 (E .means .parsed, E .affords) in
-        let c = expansion.accepted-as-derived t T R (rowsLent cells) cells room (E .means .parsed) (a .0) (a .1) (a .2) (a .3) in
-        let l = expansion.accepted-leaves t T R (rowsLent cells) cells room (a .3) in
+        let a = expansion.accepted-exactly t T R (rowsLent (length cells)) cells room u .1 (E .means .parsed, E .affords) in
+        let c = expansion.accepted-as-derived t T R (rowsLent (length cells)) cells room (E .means .parsed) (a .0) (a .1) (a .2) (a .3) in
+        let l = expansion.accepted-leaves t T R (rowsLent (length cells)) cells room (a .3) in
         (a .0, a .1, a .2, record { runs = a .3; made-is = c .1; shows = a .4; shown-by-made = l .same ∙ a .4 })
 
     -- What is run to its end means a term within the limits.
@@ -248,10 +248,10 @@ module _ (t : Table) (T : Passing t) (formula : List ℕ) where
     unfolding lexemes
     meant {ts} {ws} S v s cells′ e =
         let R = lexemes S in
-        let W = expansion.accepted-exactly t T R (rowsLent cells) cells room (termAt (s .made) (spellOf t ws) cells′ v) .0 (v, s, cells′, e, refl) in
-        let c = expansion.accepted-as-derived t T R (rowsLent cells) cells room (W .0) v s cells′ e in (
+        let W = expansion.accepted-exactly t T R (rowsLent (length cells)) cells room (termAt (s .made) (spellOf t ws) cells′ v) .0 (v, s, cells′, e, refl) in
+        let c = expansion.accepted-as-derived t T R (rowsLent (length cells)) cells room (W .0) v s cells′ e in (
           record { means = record { tokens = ts; words = ws; scans = S; parsed = W .0 }; affords = W .1 },
-          record { runs = e; made-is = c .1; shows = refl; shown-by-made = expansion.accepted-leaves t T R (rowsLent cells) cells room e .same },
+          record { runs = e; made-is = c .1; shows = refl; shown-by-made = expansion.accepted-leaves t T R (rowsLent (length cells)) cells room e .same },
         )
 
     -- Where an expansion ends, with what is handed back: in the scan, in the parse, or in the last step.

@@ -1,6 +1,6 @@
 -- The whole expansion: from the bytes of a table and a formula, the cells and the text as lent, to the answer, the cells and the
 -- text at exit. Document 01, "Causes, by number": "Every expansion checks the table again".
-use Prim.Native.Nat.{ℕ, _/_, min}
+use Prim.Native.Nat.{ℕ}
 use mathlib.Core.List.{List}
 use lib.ListN.{length}
 use Rattle.answers.specs.declared.Refusal.{Refusal}
@@ -8,12 +8,12 @@ use Rattle.answers.specs.declared.Answer.{Answer}
 use Rattle.answers.specs.declared.Answer.the-variants.{Refusing}
 use Rattle.answers.specs.Checked.{Checked, ok, bad}
 use Rattle.grammar.specs.Table.{Table, lexiconOfTable}
-use Rattle.terms.specs.Cells.{columns, mostCells}
-use Rattle.scanner.specs.declared.Token.{Token}
-use Rattle.scanner.specs.declared.Scanned.{Scanned}
-use Rattle.scanner.specs.declared.Scanned.the-variants.{Tokens, Unscanned}
-use Rattle.scanner.specs.Scan.{Lexed, scan}
-use Rattle.scanner.specs.Tokens.{spelled}
+use Rattle.terms.specs.Cells.{rowsLent}
+use Rattle.tokens.specs.declared.Token.{Token}
+use Rattle.tokens.specs.declared.Scanned.{Scanned}
+use Rattle.tokens.specs.declared.Scanned.the-variants.{Tokens, Unscanned}
+use Rattle.tokens.specs.Scan.{Lexed, scan}
+use Rattle.tokens.specs.Tokens.{spelled}
 use Rattle.productions.specs.Normal.{normalized}
 use Rattle.checker.specs.Check.{passedTable}
 use Rattle.expansion.specs.Run.{Result, done, halt}
@@ -43,8 +43,7 @@ withCells cells e = record { answer = e .answer; cells = cells; text = e .text }
 
 abbrev pub inputOf : Table → List Token → List ℕ → Input
 inputOf t tokens cells =
-    record
-    { grammar = ready (normalized (t .blocks)); tokens = tokens; rows = min (length cells / columns) mostCells }
+    record { grammar = ready (normalized (t .blocks)); tokens = tokens; rows = rowsLent (length cells) }
 
 -- the last step with the term at the root's row, of which the text is written
 abbrev pub finished : (ℕ → List ℕ) → List ℕ → Result ℕ → Expanded

@@ -8,9 +8,9 @@ use Rattle.answers.specs.declared.Answer.{Answer}
 use Rattle.answers.specs.declared.Answer.the-variants.{Accepted, Refusing}
 use Rattle.kinds.specs.Kinds.{wordKind}
 use Rattle.grammar.specs.Table.{Table}
-use Rattle.layout.specs.Within.{Each}
-use Rattle.scanner.specs.declared.Token.{Token}
-use Rattle.scanner.specs.Tiling.{bytesOf}
+use Rattle.decoding.specs.Within.{Each}
+use Rattle.tokens.specs.declared.Token.{Token}
+use Rattle.tokens.specs.Tiling.{bytesOf}
 use Rattle.checker.specs.Passes.{Passes}
 use Rattle.soundness.specs.Places.{givenIn, Among, Placed}
 use Rattle.terms.specs.Term.{Name, Term}

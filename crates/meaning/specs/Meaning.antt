@@ -1,17 +1,17 @@
 -- What a formula means under a passed table, and when each answer is given, by rules.
 -- Document 01, "Choice", "Formula" and "Causes, by number".
-use Prim.Native.Nat.{ℕ, _*_, _/_, _≤_, _<_, min}
+use Prim.Native.Nat.{ℕ, _*_, _≤_, _<_}
 use mathlib.Core.Path.{_≡_}
 use mathlib.Core.List.{List, []}
 use lib.ListN.{length, getD}
 use Rattle.answers.specs.declared.Refusal.{Refusal}
 use Rattle.answers.specs.Refusals.{refusal}
 use Rattle.grammar.specs.Table.{Table, lexiconOfTable}
-use Rattle.terms.specs.Cells.{columns, mostCells}
-use Rattle.scanner.specs.declared.Token.{Token}
-use Rattle.scanner.specs.Tokens.{mostTokens, longestFormula, spelled}
-use Rattle.scanner.specs.Tiling.{Tiled}
-use Rattle.scanner.specs.Unscanned.{Unscans}
+use Rattle.terms.specs.Cells.{columns, rowsLent}
+use Rattle.tokens.specs.declared.Token.{Token}
+use Rattle.tokens.specs.Tokens.{mostTokens, longestFormula, spelled}
+use Rattle.tokens.specs.Tiling.{Tiled}
+use Rattle.tokens.specs.Unscanned.{Unscans}
 use Rattle.checker.specs.Passes.{grammarOf}
 use Rattle.expansion.specs.Figure3.{Parses}
 use Rattle.expansion.specs.Costs.{rowsIn, Affords}
@@ -41,14 +41,10 @@ pub record Means (t : Table) (formula : List ℕ) (u : Term Name) : Type 0 where
   pub scans : Scans t formula tokens words
   pub parsed : Parses (grammarOf t) (spellOf t words) (t .root) tokens u
 
--- the rows that may be made in the cells lent
-abbrev pub rowsLent : List ℕ → ℕ
-rowsLent cells = min (length cells / columns) mostCells
-
 -- and at a cost within the limits and the rows
 pub record MeansWithin (t : Table) (formula cells : List ℕ) (u : Term Name) : Type 0 where
   pub means : Means t formula u
-  pub affords : Affords (rowsLent cells) 0 0 0 (means .parsed .derived)
+  pub affords : Affords (rowsLent (length cells)) 0 0 0 (means .parsed .derived)
 
 -- the cells that it costs
 abbrev pub cellsOf : {t : Table} {formula cells : List ℕ} {u : Term Name} → MeansWithin t formula cells u → ℕ
@@ -69,7 +65,7 @@ pub data Cause (t : Table) (formula cells text : List ℕ) : Refusal → Type 0 
   -- 17 to 21
   stopped : {r : Refusal} {tokens : List Token} {words : List (List ℕ)}
       → Scans t formula tokens words
-      → Refuses (grammarOf t) (spellOf t words) (rowsLent cells) tokens (t .root) r
+      → Refuses (grammarOf t) (spellOf t words) (rowsLent (length cells)) tokens (t .root) r
       → Cause t formula cells text r
   -- 22
   too-large : {u : Term Name}

@@ -2,7 +2,7 @@
 -- Document 01, "Whose name is whose", and cause 23.
 use Prim.Native.Nat.{ℕ, suc, _+_}
 use mathlib.Core.List.{List, [], _∷_, _++_}
-use Rattle.layout.specs.Within.{Each}
+use Rattle.decoding.specs.Within.{Each}
 use Rattle.terms.specs.Term.{Name, word, fresh, outside, Term, Fields, variable, function, apply, rcd, dot, number, nil, cons, size}
 use Rattle.terms.specs.Binding.{Owner, unbound, boundAt, RefersTo, Binder, Occurrence}
 

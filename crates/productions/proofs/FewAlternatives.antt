@@ -9,11 +9,12 @@ use borrow.Author.Tests.{ltb-true}
 use Rattle.answers.specs.Checked.{ok}
 use Rattle.grammar.specs.Values.{Field, field}
 use Rattle.grammar.specs.Fields.{RawFields, end, cut, next, fieldsOf}
-use Rattle.layout.specs.declared.Progress.{Progress}
-use Rattle.layout.specs.Layout.{oneIf, passed, initialProgress, checkFields, layout}
-use Rattle.layout.proofs.Accept.{accepted}
-use Rattle.layout.proofs.Inverse.{layout-parts}
-use Rattle.layout.proofs.Laws.{room-of}
+use Rattle.decoding.specs.declared.Progress.{Progress}
+use Rattle.spellings.specs.Bytes.{oneIf}
+use Rattle.decoding.specs.Layout.{passed, initialProgress, checkFields, layout}
+use Rattle.decoding.proofs.Accept.{accepted}
+use Rattle.decoding.proofs.Inverse.{layout-parts}
+use Rattle.decoding.proofs.Rooms.{room-of}
 use Rattle.productions.specs.Index.{alternativeFields}
 use Rattle.productions.specs.IndexCalls.{FitsIndex}
 

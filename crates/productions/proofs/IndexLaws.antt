@@ -15,7 +15,7 @@ use Rattle.grammar.specs.declared.Front.{Front}
 use Rattle.grammar.specs.declared.Front.the-variants.{Nothing, Short, Field}
 use Rattle.grammar.specs.Lookup.{frontOf, fieldsAt}
 use Rattle.grammar.proofs.LookupLaws.{fields-at, fields-of, front-inside, front-nothing, opened}
-use Rattle.layout.specs.Decode.{modeOf}
+use Rattle.decoding.specs.Decode.{modeOf}
 use Rattle.productions.specs.Index.{Place, placesFrom, placesIn, placesBy, placesOf, placesWithout, placesKept, alternativeFields}
 use Rattle.productions.specs.IndexCalls.{IndexRoomFor, Index, FitsIndex}
 

@@ -11,12 +11,12 @@ use Rattle.spellings.proofs.BytesLaws.{by-test}
 use Rattle.grammar.specs.Table.{variable, Table}
 use Rattle.grammar.specs.Encode.{tableFields, encode}
 use Rattle.grammar.specs.Fields.{RawFields, end, cut, next, fieldsOf}
-use Rattle.layout.specs.Decode.{Decoded, put, putNothing, putKeyword, putOutside, putBlock, putDefinition, putAlternative, putItem, putResult, putRoot}
-use Rattle.layout.specs.Decode.{decodeFields, itemOf, definitionOf, modeOf}
-use Rattle.layout.specs.Within.{Within}
-use Rattle.layout.proofs.Split.{fields-of-bytes}
-use Rattle.layout.proofs.Order.{up-to-eight}
-use Rattle.layout.proofs.Rebuilt.{parts-built}
+use Rattle.decoding.specs.Decode.{Decoded, put, putNothing, putKeyword, putOutside, putBlock, putDefinition, putAlternative, putItem, putResult, putRoot}
+use Rattle.decoding.specs.Decode.{decodeFields, itemOf, definitionOf, modeOf}
+use Rattle.decoding.specs.Within.{Within}
+use Rattle.decoding.proofs.Split.{fields-of-bytes}
+use Rattle.decoding.proofs.Order.{up-to-eight}
+use Rattle.decoding.proofs.Rebuilt.{parts-built}
 use Rattle.productions.specs.Normal.{Production, productionsOf, kept, definedAll, normalizedFrom, normalized}
 use Rattle.productions.specs.Index.{itemsOf, resultOf, normalizedBy}
 

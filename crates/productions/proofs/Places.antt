@@ -21,14 +21,14 @@ use Rattle.grammar.specs.Lookup.{frontOf, fieldsAt}
 use Rattle.grammar.specs.SortTests.{isSort, isIdeSort}
 use Rattle.grammar.specs.Table.{Mode, add, extend, update}
 use Rattle.grammar.proofs.LookupLaws.{fields-at, fields-of, front-inside, opened}
-use Rattle.layout.specs.Prefix.{templatesOf, isTemplates}
-use Rattle.layout.specs.Layout.{isNonterminal, isHead, isItem, isKnown, isWhole, passed, initialProgress, checkFields, layout}
-use Rattle.layout.specs.declared.Progress.{Progress}
-use Rattle.layout.specs.Decode.{modeOf}
-use Rattle.layout.specs.Within.{Each, each-none, each-more}
-use Rattle.layout.proofs.Values.{and-left, and-right}
-use Rattle.layout.proofs.Accept.{accepted}
-use Rattle.layout.proofs.Inverse.{layout-parts}
+use Rattle.decoding.specs.Prefix.{templatesOf, isTemplates}
+use Rattle.decoding.specs.Layout.{isNonterminal, isHead, isItem, isKnown, isWhole, passed, initialProgress, checkFields, layout}
+use Rattle.decoding.specs.declared.Progress.{Progress}
+use Rattle.decoding.specs.Decode.{modeOf}
+use Rattle.decoding.specs.Within.{Each, each-none, each-more}
+use Rattle.decoding.proofs.Values.{and-left, and-right}
+use Rattle.decoding.proofs.Accept.{accepted}
+use Rattle.decoding.proofs.Inverse.{layout-parts}
 use Rattle.productions.specs.Normal.{without, kept}
 use Rattle.productions.specs.Index.{itemsOf, resultOf, productionAt, normalizedBy, Place, placesWithout, placesKept, placesBy, placesOf, productionsAt}
 use Rattle.productions.specs.Index.{wholeBody, Whole, alternativeFields}

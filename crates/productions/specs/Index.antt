@@ -10,8 +10,8 @@ use Rattle.grammar.specs.Limits.{most}
 use Rattle.grammar.specs.Table.{Template, variable, Item, Mode, add, extend, update}
 use Rattle.grammar.specs.Fields.{RawFields, end, cut, next, fieldsOf}
 use Rattle.grammar.specs.Lookup.{fieldsAt}
-use Rattle.layout.specs.Prefix.{templatesOf, isTemplates, isTemplate, found, headTemplate}
-use Rattle.layout.specs.Decode.{modeOf, itemOf}
+use Rattle.decoding.specs.Prefix.{templatesOf, isTemplates, isTemplate, found, headTemplate}
+use Rattle.decoding.specs.Decode.{modeOf, itemOf}
 use Rattle.productions.specs.Normal.{Production, kept}
 
 -- the items at the front, up to the first field that is none

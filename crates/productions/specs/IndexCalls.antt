@@ -5,7 +5,7 @@ use mathlib.Core.List.{List, [], _∷_, _++_}
 use lib.ListN.{length, getD}
 use Rattle.grammar.specs.Limits.{most}
 use Rattle.grammar.specs.Fields.{fieldsOf}
-use Rattle.layout.specs.Decode.{modeOf}
+use Rattle.decoding.specs.Decode.{modeOf}
 use Rattle.productions.specs.Index.{Place, placesIn, placesKept, alternativeFields}
 
 -- two arrays with room for k productions

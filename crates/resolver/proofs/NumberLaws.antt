@@ -7,9 +7,10 @@ use native.Mathlib.Omega.{arith}
 use lib.ListN.{length, getD, length-append, List·getD-append}
 use lib.Seq.{getD-at}
 use borrow.Author.Tests.{ne-eqb}
+use Rattle.spellings.specs.Bytes.{oneIf}
 use Rattle.spellings.proofs.BytesLaws.{by-test, same-true}
 use Rattle.terms.specs.Term.{Name, word, fresh, outside, Term, Fields, variable, function, apply, rcd, dot, number, nil, cons, size, sizeFields, largestTerm}
-use Rattle.terms.specs.Rename.{belongs, isRenamed, one, renames, renamesFields, written, Printed, shownAs, binderShown, renamed, renamedFields, rename}
+use Rattle.terms.specs.Rename.{belongs, isRenamed, renames, renamesFields, written, Printed, shownAs, binderShown, renamed, renamedFields, rename}
 use Rattle.terms.specs.Binding.{unbound, Binder}
 use Rattle.terms.specs.Occurrences.{ownerOf}
 use Rattle.terms.specs.Labelled.{nameShown, labelled, labelledFields}
@@ -114,7 +115,7 @@ unfolding numberAt binderMark binderShown
 binder-number done c b true = refl
 binder-number done c b false = refl
 
-binder-next : (c : ℕ) (r : Bool) → nextNumber (suc c) (binderMark r) ≡ suc (one r + c)
+binder-next : (c : ℕ) (r : Bool) → nextNumber (suc c) (binderMark r) ≡ suc (oneIf r + c)
 unfolding nextNumber binderMark
 binder-next c true = ap suc (omega arith)
 binder-next c false = ap suc (omega arith)
@@ -194,7 +195,7 @@ module _ (around : List Binder) (shown : List Printed) (done : List ℕ) (c p : 
   -- under a binder
   function-numbers : (b : Name) (t : Term Name)
       → TermNumbers (record { name = b; place = p } ∷ around) (record { origin = b; shown = binderShown (isRenamed b t) (suc c) b } ∷ shown)
-      (done ++ numberAt done (suc c) (binderMark (isRenamed b t)) ∷ []) (one (isRenamed b t) + c) (suc p) t
+      (done ++ numberAt done (suc c) (binderMark (isRenamed b t)) ∷ []) (oneIf (isRenamed b t) + c) (suc p) t
       → TermNumbers around shown done c p (function b t)
   unfolding marks numberedMarks labelled renamed renames size
   function-numbers b t i =
@@ -205,11 +206,11 @@ module _ (around : List Binder) (shown : List Printed) (done : List ℕ) (c p : 
         as-many = ap suc (i .as-many);
         runs =
             λ ms.
-            let last : renames t + suc (one r + c) ≡ one r + renames t + suc c = omega arith in
+            let last : renames t + suc (oneIf r + c) ≡ oneIf r + renames t + suc c = omega arith in
             cc (binder-next c r, i .runs ms, snoc done n (i .numbers));
         shows =
             λ rest.
-            let inner : one r + suc c ≡ suc (one r + c) = omega arith in
+            let inner : oneIf r + suc c ≡ suc (oneIf r + c) = omega arith in
             cc (at-end done n p (i .numbers) rest e, binder-number done c b r, snoc done n (i .numbers), i .shows rest);
       }
 
@@ -309,7 +310,7 @@ mutual
   term-numbers around shown done c p (function b t) h e l =
       function-numbers around shown done c p e b t
       (term-numbers (record { name = b; place = p } ∷ around) (record { origin = b; shown = binderShown (isRenamed b t) (suc c) b } ∷ shown)
-      (done ++ numberAt done (suc c) (binderMark (isRenamed b t)) ∷ []) (one (isRenamed b t) + c) (suc p) t
+      (done ++ numberAt done (suc c) (binderMark (isRenamed b t)) ∷ []) (oneIf (isRenamed b t) + c) (suc p) t
       (paired-binder around shown done c p b (isRenamed b t) h e) (snoc-length done _ p e) (omega arith))
   term-numbers around shown done c p (apply t u) h e l =
       let i = term-numbers around shown (done ++ 0 ∷ []) c (suc p) t (paired-later (0 ∷ []) h) (snoc-length done 0 p e) (omega arith) in

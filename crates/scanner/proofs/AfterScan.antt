@@ -12,15 +12,15 @@ use Rattle.spellings.proofs.BytesLaws.{by-test}
 use Rattle.kinds.specs.Kinds.{wordKind}
 use Rattle.answers.specs.declared.Refusal.{Refusal}
 use Rattle.grammar.specs.Table.{Lexicon}
-use Rattle.scanner.specs.declared.Token.{Token}
-use Rattle.scanner.specs.declared.Scanned.the-variants.{Tokens, Unscanned}
-use Rattle.scanner.specs.Scan.{Lexed, scan}
-use Rattle.scanner.specs.Tokens.{endToken}
+use Rattle.tokens.specs.declared.Token.{Token}
+use Rattle.tokens.specs.declared.Scanned.the-variants.{Tokens, Unscanned}
+use Rattle.tokens.specs.Scan.{Lexed, scan}
+use Rattle.tokens.specs.Tokens.{endToken}
 use Rattle.scanner.specs.Rooms.{tokenRows, rowOf, tokensIn, wordPlaces, wordsIn, RoomFor, TokensFit, filled, scanInto}
-use Rattle.scanner.specs.Tiling.{Stands, a-keyword, a-keyword-symbol, an-outside-name, a-word-again, a-new-word, a-number, a-symbol}
-use Rattle.scanner.proofs.TokenLaws.{Kept, scan-kept}
-use Rattle.scanner.proofs.SpellingLaws.{Every, every-at, scan-spelled}
-use Rattle.scanner.proofs.TilingLaws.{scan-counted}
+use Rattle.tokens.specs.Tiling.{Stands, a-keyword, a-keyword-symbol, an-outside-name, a-word-again, a-new-word, a-number, a-symbol}
+use Rattle.tokens.proofs.TokenLaws.{Kept, scan-kept}
+use Rattle.tokens.proofs.SpellingLaws.{Every, every-at, scan-spelled}
+use Rattle.tokens.proofs.TilingLaws.{scan-counted}
 use Rattle.scanner.proofs.RoomLaws.{token-in, tokens-stored, words-named}
 
 -- ------------------------------------------------------------------ how many, and how large

@@ -17,19 +17,19 @@ use Rattle.grammar.proofs.LookupLaws.{few-keywords, few-outsides}
 use Rattle.kinds.specs.Kinds.{wordKind, numberKind, keywordKind, noKind}
 use Rattle.spellings.specs.Numbers.{numberOf}
 use Rattle.spellings.specs.declared.Number.the-variants.{Value, TooLarge}
-use Rattle.scanner.specs.declared.Token.{Token}
-use Rattle.scanner.specs.Scan.{Number, Fault, lexemeOf, isNew, kindOf}
-use Rattle.scanner.specs.declared.Step.{Step}
-use Rattle.scanner.specs.declared.Step.the-variants.{Skip, Stop, Emit}
+use Rattle.tokens.specs.declared.Token.{Token}
+use Rattle.tokens.specs.Scan.{Number, Fault, lexemeOf, isNew, kindOf}
+use Rattle.tokens.specs.declared.Step.{Step}
+use Rattle.tokens.specs.declared.Step.the-variants.{Skip, Stop, Emit}
 use Rattle.scanner.specs.declared.Made.{Made}
 use Rattle.scanner.specs.declared.WordClass.{WordClass}
 use Rattle.scanner.specs.declared.WordClass.the-variants.{Keyword, Outside, Other}
 use Rattle.lexicon.specs.declared.trees.Spot.{Spot}
 use Rattle.lexicon.specs.declared.trees.Spot.the-variants.{Node, Free}
-use Rattle.scanner.specs.Tokens.{token}
-use Rattle.scanner.specs.Tiling.{WordFront, FirstAt, NotIn, Stands}
-use Rattle.scanner.specs.Tiling as rule
-use Rattle.scanner.specs.Unscanned.{bad-byte, long-word}
+use Rattle.tokens.specs.Tokens.{token}
+use Rattle.tokens.specs.Tiling.{WordFront, FirstAt, NotIn, Stands}
+use Rattle.tokens.specs.Tiling as rule
+use Rattle.tokens.specs.Unscanned.{bad-byte, long-word}
 use Rattle.scanner.specs.Rooms.{placeThen, countWith, wordsIn}
 use Rattle.lexicon.specs.Trees.{hashOf, Hashed, Planted, FoundAt, FreeFor, Searched, linksWith}
 use Rattle.lexicon.specs.LexiconRoom.{kindFrom, Lexical}
@@ -37,14 +37,14 @@ use Rattle.grammar.specs.declared.Found.{Found}
 use Rattle.grammar.specs.declared.Found.the-variants.{At, Absent}
 use Rattle.grammar.specs.Found.{foundIn}
 use Rattle.scanner.specs.Stepping.{Named, named-keyword, an-outside, neither, made, OwnWord, met-before, first-met, Marks, Stepped, Agrees, Ready}
-use Rattle.scanner.proofs.WordLaws.{place-new, place-old, count-new, count-old}
+use Rattle.scanner.proofs.StoreLaws.{place-new, place-old, count-new, count-old}
 use Rattle.lexicon.proofs.PlaceLaws.{words-length}
 use Rattle.lexicon.proofs.TreeLaws.{free-set}
-use Rattle.scanner.proofs.FoundLaws.{index-is-first, index-is-none}
-use Rattle.scanner.proofs.LexemeLaws.{number-is, digits-within, word-only}
-use Rattle.scanner.proofs.FrontLaws.{symbol-only, lexeme-separator, lexeme-digits, lexeme-fault, lexeme-symbol}
-use Rattle.scanner.proofs.StepLaws.{no-symbol, step-by, emit-symbol, front-byte, rest-lent}
-use Rattle.scanner.proofs.StandLaws.{word-taken, one-byte, stands-steps}
+use Rattle.tokens.proofs.FoundLaws.{index-is-first, index-is-none}
+use Rattle.tokens.proofs.LexemeLaws.{number-is, digits-within, word-only}
+use Rattle.tokens.proofs.FrontLaws.{symbol-only, lexeme-separator, lexeme-digits, lexeme-fault, lexeme-symbol}
+use Rattle.tokens.proofs.StepLaws.{no-symbol, step-by, emit-symbol, front-byte, rest-lent}
+use Rattle.tokens.proofs.StandLaws.{word-taken, one-byte, stands-steps}
 
 -- ------------------------------------------------------------------ what a word is by the table
 

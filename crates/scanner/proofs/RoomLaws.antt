@@ -8,14 +8,14 @@ use native.Mathlib.Omega.{arith}
 use lib.ListN.{length, getD, set, take, drop, length-set}
 use lib.Seq.{sets, length-sets, getD-set-same, getD-set-other}
 use Rattle.grammar.specs.Table.{Lexicon}
-use Rattle.scanner.specs.declared.Token.{Token}
-use Rattle.scanner.specs.Scan.{Lexed, withToken, isNew, wordsWith, scan}
-use Rattle.scanner.specs.Tokens.{token, endToken}
+use Rattle.tokens.specs.declared.Token.{Token}
+use Rattle.tokens.specs.Scan.{Lexed, withToken, isNew, wordsWith, scan}
+use Rattle.tokens.specs.Tokens.{token, endToken}
 use Rattle.scanner.specs.Rooms.{rowThen, tokenRows, rowOf, tokensFrom, tokensIn, placeThen, countWith, wordPlaces, wordsFrom, wordsIn}
-use Rattle.scanner.proofs.WordLaws.{words-stored}
+use Rattle.scanner.proofs.StoreLaws.{words-stored}
 use Rattle.lexicon.proofs.PlaceLaws.{words-length}
 use Rattle.scanner.proofs.ScanLoop.{fill-rows, fill-places, count-grows}
-use Rattle.scanner.proofs.TokenLaws.{Kept, scan-kept}
+use Rattle.tokens.proofs.TokenLaws.{Kept, scan-kept}
 
 -- ------------------------------------------------------------------ tokens
 

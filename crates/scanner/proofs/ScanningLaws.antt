@@ -6,21 +6,22 @@ use native.Mathlib.Omega.{arith}
 use lib.ListN.{length, take, drop, replicate, length-drop, length-replicate}
 use lib.Seq.{sets, length-sets}
 use Rattle.grammar.specs.Lookup.{lexiconOf}
-use Rattle.scanner.specs.declared.Token.{Token}
-use Rattle.scanner.specs.declared.Step.{Step}
-use Rattle.scanner.specs.declared.Step.the-variants.{Skip, Stop, Emit}
+use Rattle.tokens.specs.declared.Token.{Token}
+use Rattle.tokens.specs.declared.Step.{Step}
+use Rattle.tokens.specs.declared.Step.the-variants.{Skip, Stop, Emit}
 use Rattle.scanner.specs.declared.Made.{Made}
 use Rattle.lexicon.specs.declared.trees.Spot.{Spot}
 use Rattle.lexicon.specs.declared.trees.Spot.the-variants.{Node, Free}
-use Rattle.scanner.specs.Scan.{isNew, wordsWith, stepOf}
+use Rattle.tokens.specs.Scan.{isNew, wordsWith, stepOf}
 use Rattle.scanner.specs.Rooms.{rowThen, placeThen, countWith, wordsFrom, wordsIn, RoomFor}
 use Rattle.lexicon.specs.Trees.{SearchTree, Linkable, linksWith}
 use Rattle.lexicon.specs.LexiconRoom.{Lexical}
 use Rattle.scanner.specs.Stepping.{Agrees, FreeIn, Stepped, Ready, Scannable}
-use Rattle.scanner.proofs.WordLaws.{words-stored, with-new, with-old}
+use Rattle.tokens.proofs.WordLaws.{with-new, with-old}
+use Rattle.scanner.proofs.StoreLaws.{words-stored}
 use Rattle.lexicon.proofs.PlaceLaws.{words-length}
 use Rattle.lexicon.proofs.TreeLaws.{zeros, tree-none, tree-more, links-long}
-use Rattle.scanner.proofs.StepLaws.{step-lies}
+use Rattle.tokens.proofs.StepLaws.{step-lies}
 use Rattle.scanner.proofs.ScanLoop.{Turn, turn-start, turn-skip, turn-emit, count-grows}
 
 -- where the scan stands, with the words met in their trees and the rooms as long as they were

@@ -4,11 +4,11 @@ use mathlib.Core.Bool.{true, false}
 use mathlib.Core.List.{List, [], _∷_}
 use lib.ListN.{length, getD}
 use lib.Seq.{sets}
-use Rattle.scanner.specs.declared.Token.{Token}
-use Rattle.scanner.specs.declared.Scanned.{Scanned}
+use Rattle.tokens.specs.declared.Token.{Token}
+use Rattle.tokens.specs.declared.Scanned.{Scanned}
 use Rattle.grammar.specs.Table.{Lexicon}
-use Rattle.scanner.specs.Scan.{isNew, scan}
-use Rattle.scanner.specs.Tokens.{token, mostTokens}
+use Rattle.tokens.specs.Scan.{isNew, scan}
+use Rattle.tokens.specs.Tokens.{token, mostTokens}
 pub use Rattle.lexicon.specs.Places.{wordAt, wordsIn}
 unfoldable pub use Rattle.lexicon.specs.Places.{wordsFrom}
 

@@ -5,19 +5,20 @@ use mathlib.Core.Path.{_≡_}
 use mathlib.Core.Bool.{true, false}
 use mathlib.Core.List.{List}
 use lib.ListN.{length, getD, take}
+use Rattle.grammar.specs.Limits.{most}
 use Rattle.grammar.specs.Table.{Lexicon}
 use Rattle.kinds.specs.Kinds.{wordKind}
-use Rattle.scanner.specs.declared.Token.{Token}
-use Rattle.scanner.specs.declared.Step.{Step}
-use Rattle.scanner.specs.declared.Step.the-variants.{Emit}
+use Rattle.tokens.specs.declared.Token.{Token}
+use Rattle.tokens.specs.declared.Step.{Step}
+use Rattle.tokens.specs.declared.Step.the-variants.{Emit}
 use Rattle.scanner.specs.declared.WordClass.{WordClass}
 use Rattle.scanner.specs.declared.WordClass.the-variants.{Keyword, Outside, Other}
 use Rattle.scanner.specs.declared.Made.{Made}
 use Rattle.lexicon.specs.declared.trees.Spot.{Spot}
 use Rattle.lexicon.specs.declared.trees.Spot.the-variants.{Node, Free}
-use Rattle.scanner.specs.Scan.{isNew, stepOf}
-use Rattle.scanner.specs.Tokens.{token, mostTokens}
-use Rattle.scanner.specs.Tiling.{FirstAt, NotIn}
+use Rattle.tokens.specs.Scan.{isNew, stepOf}
+use Rattle.tokens.specs.Tokens.{token, mostTokens}
+use Rattle.tokens.specs.Tiling.{FirstAt, NotIn}
 use Rattle.scanner.specs.Rooms.{wordsIn}
 use Rattle.lexicon.specs.Trees.{SearchTree, FreeFor}
 use Rattle.lexicon.specs.LexiconRoom.{Lexical}
@@ -33,9 +34,9 @@ made step spot = record { step = step; spot = spot }
 
 -- a word of the formula's own: met before, or new and free to be linked
 pub data OwnWord (mask : ℕ) (met : List (List ℕ)) (links : List ℕ) (at size : ℕ) (s : List ℕ) : Made → Type 0 where
-  met-before : {k : ℕ} → FirstAt s met k → OwnWord mask met links at size s (made (Emit (token wordKind at size (64 + k))) (Node 0))
+  met-before : {k : ℕ} → FirstAt s met k → OwnWord mask met links at size s (made (Emit (token wordKind at size (most .outsides + k))) (Node 0))
   first-met : {slot : ℕ} → FreeFor mask met links s slot
-      → OwnWord mask met links at size s (made (Emit (token wordKind at size (64 + length met))) (Free slot))
+      → OwnWord mask met links at size s (made (Emit (token wordKind at size (most .outsides + length met))) (Free slot))
 
 -- a step at what is no word, whatever words were met
 pub record Marks (lex : Lexicon) (at : ℕ) (rest : List ℕ) (r : Step) : Type 0 where

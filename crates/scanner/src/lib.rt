@@ -1,13 +1,18 @@
 // The scanner: from the bytes of a formula to its tokens.
-pub mod tokens;
+pub mod room;
 
 use answers::Refusal;
+use grammar::limits::MOST_OUTSIDES;
 use grammar::reader::part;
 use lexicon::trees::Spot;
 use lexicon::trees::find;
 use lexicon::trees::word_at;
+use spellings::LONGEST_WORD;
 use spellings::Number;
 use spellings::wide_number;
+use tokens::Scanned;
+use tokens::Step;
+use tokens::Token;
 ghost use mathlib.Core.Path.{_≡_};
 ghost use mathlib.Core.List.{List, []};
 ghost use mathlib.Core.Bool.{true, false};
@@ -17,7 +22,7 @@ ghost use lib.Seq.{sets};
 ghost use Rattle.spellings.specs.Bytes.{isLetter, isDigit};
 ghost use Rattle.grammar.specs.Table.{Lexicon};
 ghost use Rattle.grammar.specs.Lookup.{lexiconOf};
-ghost use Rattle.scanner.specs.Tokens.{token, mostTokens};
+ghost use Rattle.tokens.specs.Tokens.{token, mostTokens};
 ghost use Rattle.lexicon.specs.Trees.{hashOf, Planted, Linkable, linksWith};
 ghost use Rattle.lexicon.specs.LexiconRoom.{Lexical};
 ghost use Rattle.scanner.specs.Stepping.{Named, Ready, OwnWord, made, Marks, Stepped, Agrees, Scannable};
@@ -29,21 +34,8 @@ const MOST_TOKENS: usize = 4096;
 
 const LONGEST_FORMULA: usize = 65535;
 
-// A token: its kind (0 a word, 1 a number, k + 2 keyword k, 64 a symbol that is no keyword), its offset and length in the
-// formula, and a word's spelling number or a number's value, else 0.
-pub struct Token {
-    pub kind: u32,
-    pub at: u32,
-    pub size: u32,
-    pub value: u32,
-}
-
-// What the scanner does at a lexeme: it passes over a separator, stops at a fault, or emits a token.
-pub enum Step {
-    Skip,
-    Stop,
-    Emit(Token),
-}
+// The spelling number of a formula's first word that is no outside name.
+const FIRST_WORD: u32 = MOST_OUTSIDES as u32;
 
 // A step, and where a word that is new is linked.
 pub struct Made {
@@ -56,12 +48,6 @@ pub enum WordClass {
     Keyword(u32),
     Outside(u32),
     Other,
-}
-
-// What the scanner answers: how many tokens there are and how many words that are neither keywords nor outside names.
-pub enum Scanned {
-    Tokens(usize, usize),
-    Unscanned(Refusal),
 }
 
 // ---------------------------------------------------------------- numbers and symbols
@@ -173,8 +159,8 @@ fn own_word(
         hash,
     );
     match spot {
-        Spot::Node(i) => emit(0, at, size, 64 + i as u32, Spot::Node(0)),
-        Spot::Free(slot) => emit(0, at, size, 64 + count as u32, Spot::Free(slot)),
+        Spot::Node(i) => emit(0, at, size, FIRST_WORD + i as u32, Spot::Node(0)),
+        Spot::Free(slot) => emit(0, at, size, FIRST_WORD + count as u32, Spot::Free(slot)),
     }
 }
 
@@ -198,7 +184,7 @@ fn word_step(
     let run = word_at(formula, at);
     let size = run.size;
     let hash = run.hash;
-    if 31 < size {
+    if LONGEST_WORD < size {
         return Made {
             step: Step::Stop,
             spot: Spot::Node(0),

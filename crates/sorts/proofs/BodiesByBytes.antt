@@ -14,21 +14,23 @@ use Rattle.grammar.specs.Sorts.{Signature, term}
 use Rattle.grammar.specs.SortTests.{fits}
 use Rattle.grammar.specs.Table.{Template, Templates, none, more, Item, call}
 use Rattle.grammar.specs.Values.{templateThen, templatesThen, itemValue}
-use Rattle.layout.specs.Prefix.{templatesOf, found, headTemplate}
-use Rattle.layout.specs.Decode.{itemOf}
-use Rattle.layout.specs.Layout.{isKnown, isWhole}
-use Rattle.layout.specs.Within.{TemplatesWithin, ItemWithin, keyword-within, ide-within, number-within, local-within, call-within}
-use Rattle.layout.proofs.Split.{Bytes}
-use Rattle.layout.proofs.Templates.{read-templates, read-template}
-use Rattle.layout.proofs.Values.{item-value, item-read, result-value, result-read}
-use Rattle.sorts.specs.declared.ItemSort.{ItemSort}
-use Rattle.sorts.specs.declared.ItemSort.the-variants.{As, Unsorted}
-use Rattle.sorts.specs.CheckSorts.{isDefined, signatureOf, isClosed, areClosed, isSorted, sortOf, fill, checkItem, checkResult, checkRoot}
-use Rattle.sorts.specs.Scopes.{Scope}
-use Rattle.sorts.specs.TemplateBytes.{fillBytes, templatesFault}
-use Rattle.sorts.specs.ByBytes.{signatureAt, Context, unlessFault, callAt, itemAt, resultAt, rootAt, verdictOf}
-use Rattle.sorts.proofs.TemplateInduction.{choose}
-use Rattle.sorts.proofs.TemplatesByBytes.{closed-bytes, fill-bytes}
+use Rattle.decoding.specs.Prefix.{templatesOf, found, headTemplate}
+use Rattle.decoding.specs.Decode.{itemOf}
+use Rattle.decoding.specs.Layout.{isKnown, isWhole}
+use Rattle.decoding.specs.Within.{TemplatesWithin, ItemWithin, keyword-within, ide-within, number-within, local-within, call-within}
+use Rattle.decoding.proofs.Split.{Bytes}
+use Rattle.decoding.proofs.Templates.{read-templates, read-template}
+use Rattle.decoding.proofs.Values.{item-value, item-read, result-value, result-read}
+use Rattle.bodies.specs.declared.ItemSort.{ItemSort}
+use Rattle.bodies.specs.declared.ItemSort.the-variants.{As, Unsorted}
+use Rattle.judgements.specs.CheckSorts.{isDefined, signatureOf, isClosed, areClosed, isSorted, sortOf, fill, checkItem, checkResult, checkRoot}
+use Rattle.judgements.specs.Scopes.{Scope}
+use Rattle.bodies.specs.TemplateBytes.{fillBytes, templatesFault}
+use Rattle.bodies.specs.HeadBytes.{signatureAt}
+use Rattle.bodies.specs.BodyBytes.{Context, unlessFault, callAt, itemAt, resultAt}
+use Rattle.sorts.specs.ByBytes.{rootAt, verdictOf}
+use Rattle.bodies.proofs.TemplateInduction.{choose}
+use Rattle.bodies.proofs.TemplatesByBytes.{closed-bytes, fill-bytes}
 use Rattle.sorts.proofs.HeadsByBytes.{Knows, zero-test}
 
 -- what is known, by a scope

@@ -13,18 +13,18 @@ use lib.Dec.{eqb}
 use Rattle.grammar.specs.Fields.{RawFields, next, fieldsOf}
 use Rattle.grammar.specs.Encode.{spellingsThen, itemsThen, alternativesThen, definitionsThen, blocksThen, tableFields, encode}
 use Rattle.grammar.specs.Values.{Field, field, templateThen, itemValue, modeCode, headValue}
-use Rattle.layout.specs.Decode.{modeOf, definitionOf}
-use Rattle.layout.specs.Within.{Each, each-none, each-more, TemplateWithin, ItemWithin, AlternativeWithin, DefinitionWithin, Within}
+use Rattle.decoding.specs.Decode.{modeOf, definitionOf}
+use Rattle.decoding.specs.Within.{Each, each-none, each-more, TemplateWithin, ItemWithin, AlternativeWithin, DefinitionWithin, Within}
 use native.Mathlib.Nat.{add-zero}
-use Rattle.layout.proofs.Split.{spread, fields-of-bytes}
-use Rattle.layout.proofs.Values.{item-read, result-read}
-use Rattle.layout.proofs.Inverse.{decode-encoded}
-use Rattle.layout.proofs.DecodedLexicon.{leading-decoded}
-use Rattle.sorts.specs.Sizes.{fieldSize, spellingsSize, itemsSize, alternativeSize, alternativesSize, definitionSize, definitionsSize}
-use Rattle.sorts.specs.CheckSorts.{consistent, collect, checkItem, checkItems, checkResult, checkAlternative}
-use Rattle.sorts.specs.Scopes.{Env, entryOf, Scope}
-use Rattle.sorts.specs.CheckSorts.{checkAlternatives, checkBodies, checkBlocks, blocksSize, checkRoot, checkSorts}
-use Rattle.sorts.specs.ByFields.{headOf, collectBy, bodiesBy, blocksBy, checkSortsBy}
+use Rattle.decoding.proofs.Split.{spread, fields-of-bytes}
+use Rattle.decoding.proofs.Values.{item-read, result-read}
+use Rattle.decoding.proofs.Inverse.{decode-encoded}
+use Rattle.decoding.proofs.DecodedLexicon.{leading-decoded}
+use Rattle.judgements.specs.Sizes.{fieldSize, spellingsSize, itemsSize, alternativeSize, alternativesSize, definitionSize, definitionsSize}
+use Rattle.judgements.specs.CheckSorts.{consistent, collect, checkItem, checkItems, checkResult, checkAlternative}
+use Rattle.judgements.specs.Scopes.{Env, entryOf, Scope}
+use Rattle.judgements.specs.CheckSorts.{checkAlternatives, checkBodies, checkBlocks, blocksSize, checkRoot, checkSorts}
+use Rattle.bodies.specs.ByFields.{headOf, collectBy, bodiesBy, blocksBy, checkSortsBy}
 
 -- ------------------------------------------------------------------ checks in order
 

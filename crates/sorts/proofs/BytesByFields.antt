@@ -17,21 +17,23 @@ use Rattle.grammar.specs.Values.{Field, field}
 use Rattle.grammar.specs.Fields.{RawFields, end, cut, next, fieldsOf}
 use Rattle.grammar.specs.Lookup.{leading, afterLeading}
 use Rattle.grammar.proofs.LookupLaws.{fields-of}
-use Rattle.layout.specs.declared.Progress.{Progress}
-use Rattle.layout.specs.Prefix.{templatesOf, found, headTemplate}
-use Rattle.layout.specs.Layout.{isKnown, follows, passed, checkFields, initialProgress, layout}
-use Rattle.layout.proofs.Split.{Bytes, ValueBytes, value-bytes}
-use Rattle.layout.proofs.Accept.{Passes, accepted, by-tag}
-use Rattle.layout.proofs.Laws.{room-of}
-use Rattle.layout.proofs.Values.{root-value}
-use Rattle.layout.proofs.Inverse.{layout-parts}
-use Rattle.sorts.specs.CheckSorts.{isDefined, checkResult}
-use Rattle.sorts.specs.Scopes.{Env}
-use Rattle.sorts.specs.Judgements.{scope}
-use Rattle.sorts.specs.ByFields.{headOf, collectBy, bodiesBy, blocksBy, checkSortsBy}
-use Rattle.sorts.specs.declared.ItemSort.{ItemSort}
-use Rattle.sorts.specs.declared.ItemSort.the-variants.{As, Unsorted}
-use Rattle.sorts.specs.ByBytes.{signatureAt, Collected, collected, collectFrom, itemAt, afterVerdict, afterBlock, afterItem}
+use Rattle.decoding.specs.declared.Progress.{Progress}
+use Rattle.decoding.specs.Prefix.{templatesOf, found, headTemplate}
+use Rattle.decoding.specs.Layout.{isKnown, follows, passed, checkFields, initialProgress, layout}
+use Rattle.decoding.proofs.Split.{Bytes, ValueBytes, value-bytes}
+use Rattle.decoding.proofs.Accept.{Passes, accepted, by-tag}
+use Rattle.decoding.proofs.Rooms.{room-of}
+use Rattle.decoding.proofs.Values.{root-value}
+use Rattle.decoding.proofs.Inverse.{layout-parts}
+use Rattle.judgements.specs.CheckSorts.{isDefined, checkResult}
+use Rattle.judgements.specs.Scopes.{Env}
+use Rattle.judgements.specs.Judgements.{scope}
+use Rattle.bodies.specs.ByFields.{headOf, collectBy, bodiesBy, blocksBy, checkSortsBy}
+use Rattle.bodies.specs.declared.ItemSort.{ItemSort}
+use Rattle.bodies.specs.declared.ItemSort.the-variants.{As, Unsorted}
+use Rattle.bodies.specs.HeadBytes.{signatureAt, Collected, collected, collectFrom}
+use Rattle.bodies.specs.BodyBytes.{itemAt}
+use Rattle.sorts.specs.ByBytes.{afterVerdict, afterBlock, afterItem}
 use Rattle.sorts.specs.ByBytes.{stepAt, goOn, sortsFrom, sortsOf}
 use Rattle.sorts.proofs.StepLaws.{sorts-short}
 use Rattle.sorts.proofs.PlacedFields.{Placed, endOf, placed-end, placed-fields, placed-from-lower}

@@ -14,14 +14,14 @@ use Rattle.answers.specs.Checked.{Checked, ok, bad, _>>_}
 use Rattle.spellings.proofs.BytesLaws.{by-test}
 use Rattle.grammar.specs.Values.{Field, field}
 use Rattle.grammar.specs.Fields.{RawFields, end, cut, next}
-use Rattle.layout.specs.declared.Progress.{Progress}
-use Rattle.layout.specs.Layout.{passed, checkFields}
-use Rattle.layout.proofs.Accept.{accepted}
-use Rattle.sorts.specs.CheckSorts.{consistent}
-use Rattle.sorts.specs.Scopes.{Env, entryOf}
-use Rattle.sorts.specs.ByFields.{endsBlock, headOf, collectBy}
-use Rattle.sorts.specs.ByBytes.{faultOf, withHead, Collected, collected, collectFrom}
-use Rattle.sorts.proofs.TemplateInduction.{choose}
+use Rattle.decoding.specs.declared.Progress.{Progress}
+use Rattle.decoding.specs.Layout.{passed, checkFields}
+use Rattle.decoding.proofs.Accept.{accepted}
+use Rattle.judgements.specs.CheckSorts.{consistent}
+use Rattle.judgements.specs.Scopes.{Env, entryOf}
+use Rattle.bodies.specs.ByFields.{endsBlock, headOf, collectBy}
+use Rattle.bodies.specs.HeadBytes.{faultOf, withHead, Collected, collected, collectFrom}
+use Rattle.bodies.proofs.TemplateInduction.{choose}
 use Rattle.sorts.proofs.PlacedFields.{Placed, endOf, placed-end, placed-from-lower}
 use Rattle.sorts.proofs.HeadsByBytes.{Head, head-known, Collects, head-same, head-more}
 

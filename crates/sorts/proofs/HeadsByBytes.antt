@@ -17,17 +17,17 @@ use Rattle.grammar.specs.Limits.{most}
 use Rattle.grammar.specs.Sorts.{Signature}
 use Rattle.grammar.specs.Table.{variable, Mode, add, extend, update, Definition}
 use Rattle.grammar.specs.Values.{modeCode, headValue}
-use Rattle.layout.specs.Decode.{definitionOf}
-use Rattle.layout.specs.Layout.{isKnown}
-use Rattle.layout.specs.Within.{each-none, each-more, variable-within}
-use Rattle.layout.proofs.Values.{head-value}
-use Rattle.sorts.specs.CheckSorts.{isDefined, signatureOf, sameSignature, isUnused, isAsBefore, consistent}
-use Rattle.sorts.specs.Scopes.{Declaration, Env, entryOf}
-use Rattle.sorts.specs.ByFields.{headOf}
-use Rattle.sorts.specs.ByBytes.{valueAt, signatureAt, faultOf, withHead}
-use Rattle.sorts.proofs.TemplateInduction.{choose}
-use Rattle.sorts.proofs.HeadLaws.{fault-earlier, fault-new}
-use Rattle.sorts.proofs.Environments.{defined-here, defined-later, signature-here, signature-later}
+use Rattle.decoding.specs.Decode.{definitionOf}
+use Rattle.decoding.specs.Layout.{isKnown}
+use Rattle.decoding.specs.Within.{each-none, each-more, variable-within}
+use Rattle.decoding.proofs.Values.{head-value}
+use Rattle.judgements.specs.CheckSorts.{isDefined, signatureOf, sameSignature, isUnused, isAsBefore, consistent}
+use Rattle.judgements.specs.Scopes.{Declaration, Env, entryOf}
+use Rattle.bodies.specs.ByFields.{headOf}
+use Rattle.bodies.specs.HeadBytes.{valueAt, signatureAt, faultOf, withHead}
+use Rattle.bodies.proofs.TemplateInduction.{choose}
+use Rattle.bodies.proofs.HeadLaws.{fault-earlier, fault-new}
+use Rattle.judgements.proofs.Environments.{defined-here, defined-later, signature-here, signature-later}
 
 -- ------------------------------------------------------------------ a head
 

@@ -9,9 +9,9 @@ use lib.ListN.{length, getD, take, drop}
 use lib.Seq.{getD-drop, drop-drop}
 use Rattle.spellings.proofs.BytesLaws.{by-test}
 use Rattle.grammar.specs.Fields.{RawFields, end, cut, next, sizeOf, fieldsFrom, fieldsOf}
-use Rattle.sorts.specs.ByFields.{endsBlock}
-use Rattle.sorts.specs.ByBytes.{valueAt}
-use Rattle.sorts.proofs.TemplateInduction.{choose}
+use Rattle.bodies.specs.ByFields.{endsBlock}
+use Rattle.bodies.specs.HeadBytes.{valueAt}
+use Rattle.bodies.proofs.TemplateInduction.{choose}
 
 -- the fields stand in the table, none before an offset
 abbrev pub Placed : List ℕ → ℕ → RawFields → Type 0

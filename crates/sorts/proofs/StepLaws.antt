@@ -17,16 +17,18 @@ use Rattle.grammar.specs.Fields.{fieldsOf}
 use Rattle.grammar.specs.Lookup.{frontOf, fieldsAt}
 use Rattle.grammar.proofs.LookupLaws.{opened, fields-at, fields-of}
 use Rattle.grammar.specs.Limits.{most}
-use Rattle.sorts.specs.declared.Known.{Known}
-use Rattle.sorts.specs.declared.ItemSort.{ItemSort}
-use Rattle.sorts.specs.declared.ItemSort.the-variants.{As, Unsorted}
+use Rattle.bodies.specs.declared.Known.{Known}
+use Rattle.bodies.specs.declared.ItemSort.{ItemSort}
+use Rattle.bodies.specs.declared.ItemSort.the-variants.{As, Unsorted}
 use Rattle.sorts.specs.declared.FieldStep.{FieldStep}
 use Rattle.sorts.specs.declared.FieldStep.the-variants.{Next, Stop}
-use Rattle.sorts.specs.ByBytes.{signatureAt, collected, collectAt, context, unknown, itemAt, resultAt, rootAt}
+use Rattle.bodies.specs.HeadBytes.{signatureAt, collected, collectAt}
+use Rattle.bodies.specs.BodyBytes.{context, itemAt, resultAt}
+use Rattle.sorts.specs.ByBytes.{unknown, rootAt}
 use Rattle.sorts.specs.ByBytes.{FieldStepped, going, verdict-found, stepped, verdictOf, afterVerdict, afterBlock, afterItem, itemStep, stepAt}
 use Rattle.sorts.specs.ByBytes.{verdictStep}
 use Rattle.sorts.specs.ByBytes.{withSorts, counting, counted, goOn, sortsFrom, sortsOf, Counts, ItemChecked, FieldChecked}
-use Rattle.sorts.proofs.TemplateInduction.{choose}
+use Rattle.bodies.proofs.TemplateInduction.{choose}
 
 -- ------------------------------------------------------------------ the root
 

@@ -1,104 +1,25 @@
--- The check of sorts on the bytes of a table, as the code makes it, for any bytes. The environment is a list of offsets: at the place
--- of a nonterminal the offset of its newest definition's head, or 0. On a table whose layout is right the check is `checkSortsBy`
+-- The check of sorts on the bytes of a table, as the code makes it, for any bytes. On a table whose layout is right it is `checkSortsBy`
 -- (proofs/BytesByFields.antt). Nobody needs this file to believe `expand`.
 use Prim.Native.Nat.{ℕ, _+_, _*_, _≤_}
 use mathlib.Core.Path.{_≡_}
-use mathlib.Core.Bool.{true, false, _&&_, _||_}
+use mathlib.Core.Bool.{true, false, _&&_}
 use mathlib.Core.List.{List, [], _∷_, _++_}
-use lib.Dec.{eqb, leb, ltb}
-use lib.ListN.{length, getD, take, drop, set, replicate}
+use lib.Dec.{eqb, leb}
+use lib.ListN.{length, getD, take, drop, replicate}
 use Rattle.answers.specs.declared.Verdict.{Verdict}
 use Rattle.answers.specs.declared.Verdict.the-variants.{Passed, Refused}
 use Rattle.answers.specs.Refusals.{refusal}
-use Rattle.spellings.specs.Bytes.{same}
-use Rattle.grammar.specs.Sorts.{unit, binder, term, num}
+use Rattle.grammar.specs.Sorts.{term}
 use Rattle.grammar.specs.Fields.{RawFields, end, cut, next, fieldsOf}
 use Rattle.grammar.specs.Lookup.{fieldsAt}
 use Rattle.grammar.specs.Limits.{most}
-use Rattle.sorts.specs.declared.Known.{Known}
-use Rattle.sorts.specs.declared.ItemSort.{ItemSort}
-use Rattle.sorts.specs.declared.ItemSort.the-variants.{As, Unsorted}
+use Rattle.bodies.specs.declared.Known.{Known}
+use Rattle.bodies.specs.declared.ItemSort.{ItemSort}
+use Rattle.bodies.specs.declared.ItemSort.the-variants.{As, Unsorted}
 use Rattle.sorts.specs.declared.FieldStep.{FieldStep}
 use Rattle.sorts.specs.declared.FieldStep.the-variants.{Next, Stop}
-use Rattle.sorts.specs.ByFields.{endsBlock}
-use Rattle.sorts.specs.TemplateBytes.{templatesFault, places}
-
--- ------------------------------------------------------------------ heads
-
--- the value of the field at an offset
-abbrev pub valueAt : List ℕ → ℕ → List ℕ
-valueAt bs at = take (getD bs (at + 1) 0 * 256 + getD bs (at + 2) 0) (drop (at + 3) bs)
-
--- the signature in the head at an offset: the sort of the result, then those of the parameters, four at most
-unfoldable pub signatureAt : List ℕ → ℕ → List ℕ
-signatureAt bs at = take 5 (drop 2 (valueAt bs at))
-
--- the refusal of the head at an offset, 7 or 8, or 0; the block begins at `block`, so what it has defined lies further right
-unfoldable pub faultOf : List ℕ → ℕ → ℕ → List ℕ → ℕ
-faultOf bs at block H =
-    let h : ℕ = getD H (getD bs (at + 3) 0) 0 in
-    elim (eqb (getD bs (at + 4) 0) 1 || eqb (getD bs (at + 4) 0) 2) [
-      | true ↦ elim (leb h block && ltb 0 h && same (signatureAt bs h) (signatureAt bs at)) [ true ↦ 0 | false ↦ 8 ]
-      | false ↦ elim (eqb h 0) [ true ↦ 0 | false ↦ 7 ]
-    ]
-
--- the heads with that of the definition at an offset
-abbrev pub withHead : List ℕ → ℕ → List ℕ → List ℕ
-withHead bs at H = set H (getD bs (at + 3) 0) at
-
--- the refusal of any field of a block, and the heads after it; only a head has them
-abbrev pub faultAt : ℕ → List ℕ → ℕ → ℕ → List ℕ → ℕ
-faultAt tag bs at block H = elim (eqb tag 4) [ true ↦ faultOf bs at block H | false ↦ 0 ]
-
-abbrev pub headsAfter : ℕ → ℕ → List ℕ → ℕ → List ℕ → List ℕ
-headsAfter tag fault bs at H = elim (eqb tag 4) [ true ↦ elim (eqb fault 0) [ true ↦ withHead bs at H | false ↦ H ] | false ↦ H ]
-
--- what collecting a block's heads gives: a verdict, and the heads
-pub data Collected : Type 0 where
-  collected : Verdict → List ℕ → Collected
-
-unfoldable pub collectFrom : RawFields → List ℕ → ℕ → List ℕ → Collected
-collectFrom (end at) bs block H = collected Passed H
-collectFrom (cut at) bs block H = collected Passed H
-collectFrom (next at tag v fs) bs block H =
-    elim (endsBlock tag) [
-      | true ↦ collected Passed H
-      | false ↦
-          elim (eqb tag 4) [
-            | true ↦
-                elim (eqb (faultOf bs at block H) 0) [
-                  | true ↦ collectFrom fs bs block (withHead bs at H)
-                  | false ↦ collected (Refused (refusal (faultOf bs at block H) at 0 0)) H
-                ]
-            | false ↦ collectFrom fs bs block H
-          ]
-    ]
-
--- those of the block whose fields begin at an offset
-abbrev pub collectAt : List ℕ → ℕ → ℕ → List ℕ → Collected
-collectAt bs block from H = collectFrom (fieldsAt bs from) bs block H
-
--- ------------------------------------------------------------------ what is known
-
--- What is known between two fields: how many keywords and outside names there are, the offset of the head of the definition begun
--- last, the newest head of each nonterminal, and the sorts of the variables numbered so far.
-pub record Context : Type 0 where
-  pub keywords : ℕ
-  pub outsides : ℕ
-  pub head : ℕ
-  pub heads : List ℕ
-  pub sorts : List ℕ
-
--- as the code has it: three numbers, how many variables there are, and two rooms
-abbrev pub context : Known → List ℕ → List ℕ → Context
-context k H L =
-    record {
-      keywords = k .keywords;
-      outsides = k .outsides;
-      head = k .head;
-      heads = H;
-      sorts = take (k .variables) L;
-    }
+use Rattle.bodies.specs.HeadBytes.{signatureAt, Collected, collected, collectFrom}
+use Rattle.bodies.specs.BodyBytes.{Context, context, itemAt, resultAt}
 
 -- nothing is known
 abbrev pub unknown : List ℕ → Context
@@ -111,43 +32,6 @@ withHeads X H = record { keywords = X .keywords; outsides = X .outsides; head = 
 -- other variables
 abbrev pub withSorts : Context → List ℕ → Context
 withSorts X L = record { keywords = X .keywords; outsides = X .outsides; head = X .head; heads = X .heads; sorts = L }
-
--- ------------------------------------------------------------------ bodies
-
--- a sort, unless there is a fault
-abbrev pub unlessFault : ℕ → ℕ → ItemSort
-unlessFault s fault = elim (eqb fault 0) [ true ↦ As s | false ↦ Unsorted fault ]
-
--- a call of n with its arguments' bytes
-unfoldable pub callAt : List ℕ → Context → ℕ → List ℕ → ItemSort
-callAt bs X n arguments =
-    let h : ℕ = getD (X .heads) n 0 in
-    elim (eqb h 0) [
-      | true ↦ Unsorted 9
-      | false ↦
-          unlessFault (getD (signatureAt bs h) 0 0)
-          (templatesFault (X .outsides) (X .sorts) arguments (drop 1 (signatureAt bs h)))
-    ]
-
--- an item by its value
-unfoldable pub itemAt : List ℕ → Context → List ℕ → ItemSort
-itemAt bs X v =
-    elim (eqb (getD v 0 0) 0) [
-      | true ↦ elim (ltb (getD v 1 0) (X .keywords)) [ true ↦ As unit | false ↦ Unsorted 9 ]
-      | false ↦
-          elim (eqb (getD v 0 0) 1) [
-            | true ↦ As (getD v 1 0)
-            | false ↦
-                elim (eqb (getD v 0 0) 3) [
-                  | true ↦ As binder
-                  | false ↦ elim (eqb (getD v 0 0) 4) [ true ↦ callAt bs X (getD v 1 0) (drop 2 v) | false ↦ As num ]
-                ]
-          ]
-    ]
-
--- the refusal of a result by its value, 9 or 11, or 0
-unfoldable pub resultAt : List ℕ → Context → List ℕ → ℕ
-resultAt bs X v = templatesFault (X .outsides) (X .sorts) v (getD (signatureAt bs (X .head)) 0 0 ∷ [])
 
 -- the refusal of the root n, or 0: it is defined, has no parameters and gives a Term
 unfoldable pub rootAt : List ℕ → List ℕ → ℕ → ℕ
@@ -256,16 +140,6 @@ unfoldable pub sortsOf : List ℕ → Verdict
 sortsOf bs = elim (leb (length bs) (most .bytes)) [ true ↦ sortsFrom (fieldsOf bs) bs (unknown (replicate 64 0)) | false ↦ Passed ]
 
 -- ------------------------------------------------------------------ what the code's functions ask and ensure
-
--- one field of a block that is being collected: its refusal, or 0, and the heads after it
-pub record Defined (bs : List ℕ) (at tag block : ℕ) (H : List ℕ) (fault : ℕ) (H′ : List ℕ) : Type 0 where
-  pub faulty : fault ≡ faultAt tag bs at block H
-  pub heads : H′ ≡ headsAfter tag fault bs at H
-
--- the places of a signature's parameters on an empty stack
-pub record ParametersLoaded (signature room : List ℕ) (top : ℕ) : Type 0 where
-  pub small : top ≤ length signature
-  pub loaded : places room top ≡ drop 1 signature
 
 -- the counts of a table's keywords and outside names stay below its length
 pub record Countable (k : Known) : Type 0 where

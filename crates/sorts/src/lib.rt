@@ -1,23 +1,21 @@
-// The sorts of a grammar sequence: refusals 7, 8, 9 and 11.
-mod bodies;
-mod heads;
-mod templates;
-
+// The sorts of a grammar sequence, field by field: refusals 7, 8, 9 and 11.
 use answers::Refusal;
 use answers::Verdict;
-use bodies::add_sort;
-use bodies::check_item;
-use bodies::check_result;
-use bodies::load_params;
+use bodies::ItemSort;
+use bodies::Known;
+use bodies::heads::collect;
+use bodies::heads::head_of;
+use bodies::heads::refused;
+use bodies::heads::signature_at;
+use bodies::items::add_sort;
+use bodies::items::check_item;
+use bodies::items::check_result;
+use bodies::items::load_params;
 use grammar::Front;
 use grammar::front_at;
 use grammar::limits::LONGEST_TABLE;
 use grammar::reader::byte;
 use grammar::sorts::Sort;
-use heads::collect;
-use heads::head_of;
-use heads::refused;
-use heads::signature_at;
 ghost use Prim.Native.Nat.{_+_, _*_, _≤_};
 ghost use mathlib.Core.Path.{_≡_};
 ghost use lib.ListN.{length};
@@ -25,21 +23,6 @@ ghost use Rattle.grammar.specs.Limits.{most};
 ghost use Rattle.grammar.specs.Lookup.{fieldsAt};
 ghost use Rattle.sorts.specs.ByBytes.{rootAt, unknown, verdictOf, verdictStep, counting, sortsFrom, sortsOf};
 ghost use Rattle.sorts.specs.ByBytes.{Countable, ItemChecked, FieldChecked, Room, FieldReady};
-
-// What is known between two fields of a table: how many keywords and outside names there are, the offset of the head of the
-// definition begun last, and how many variables of its alternative are numbered.
-pub struct Known {
-    pub keywords: usize,
-    pub outsides: usize,
-    pub head: usize,
-    pub variables: usize,
-}
-
-// The sort of an item's variable, or the item's refusal, 9 or 11.
-pub enum ItemSort {
-    As(u8),
-    Unsorted(u8),
-}
 
 // What a field gives: what is known after it, or the verdict.
 pub enum FieldStep {

@@ -12,8 +12,8 @@ use Rattle.answers.specs.Refusals.{refusal}
 use Rattle.grammar.specs.Table.{Template, Templates, none, more}
 use Rattle.grammar.specs.Table as Table
 use Rattle.terms.specs.Cells.{withRow, nameBase, columns}
-use Rattle.sorts.specs.Judgements.{Sorted, Fill, fill-none, fill-more}
-use Rattle.sorts.specs.Judgements as Judgements
+use Rattle.judgements.specs.Judgements.{Sorted, Fill, fill-none, fill-more}
+use Rattle.judgements.specs.Judgements as Judgements
 use Rattle.expansion.specs.declared.State.{State}
 use Rattle.expansion.specs.Run.{Result, done, halt, Run, after}
 use Rattle.expansion.specs.Expansion.{Input, cellMade, cell, build, buildAll}

@@ -14,16 +14,16 @@ use Rattle.answers.specs.Refusals.{refusal}
 use Rattle.kinds.specs.Kinds.{wordKind, numberKind, keywordKind}
 use Rattle.grammar.specs.Sorts as Sorts
 use Rattle.grammar.specs.Table.{Template, Templates, make, none, Item, keyword, ide, number, local, call}
-use Rattle.sorts.specs.Judgements.{Body, by-binding}
-use Rattle.sorts.specs.Judgements as Judgements
-use Rattle.scanner.specs.declared.Token.{Token}
+use Rattle.judgements.specs.Judgements.{Body, by-binding}
+use Rattle.judgements.specs.Judgements as Judgements
+use Rattle.tokens.specs.declared.Token.{Token}
 use Rattle.productions.specs.Normal.{Production}
 use Rattle.terms.specs.Term.{Name, Term, word, fresh}
 use Rattle.terms.specs.Rows.{termAt, nameOf}
 use Rattle.expansion.specs.declared.State.{State}
 use Rattle.expansion.specs.Run.{Result, done, halt, Run, after}
 use Rattle.expansion.specs.Expansion.{Input, ready, choice, nextToken, tokenTaken, takeToken, buildAll, build, wordValue, runItem, runItems, callBegun}
-use Rattle.scanner.specs.Tokens.{endToken}
+use Rattle.tokens.specs.Tokens.{endToken}
 use Rattle.expansion.specs.Expansion.{runCall, initialState, ended, run}
 use Rattle.expansion.specs.Limits.{mostCalls, mostOpen}
 use Rattle.expansion.specs.Figure3.{Value, binder, term, Gives, GiveAll, Taken, as-var, as-binder, as-label, by-keyword, by-ide, by-number}

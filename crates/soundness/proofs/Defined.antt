@@ -9,12 +9,12 @@ use lib.ListN.{length}
 use borrow.Author.Tests.{eqb-true}
 use Rattle.grammar.specs.Sorts.{Signature}
 use Rattle.grammar.specs.Table.{Templates, Alternative, Mode, add, extend, update, Definition, Table, call}
-use Rattle.layout.specs.Within.{Each, each-none, each-more, DefinitionWithin, Within}
-use Rattle.sorts.specs.Scopes.{Env, entryOf}
-use Rattle.sorts.specs.Judgements.{Newest, newest-first, newest-later, ItemSorted, by-call, Defines, no-definition, by-add, by-extend, by-update}
-use Rattle.sorts.specs.Judgements.{Sequence, no-grammar, by-grammar, WellSorted}
-use Rattle.sorts.specs.CheckSorts.{isDefined}
-use Rattle.sorts.proofs.Environments.{newest-defined}
+use Rattle.decoding.specs.Within.{Each, each-none, each-more, DefinitionWithin, Within}
+use Rattle.judgements.specs.Scopes.{Env, entryOf}
+use Rattle.judgements.specs.Judgements.{Newest, newest-first, newest-later, ItemSorted, by-call, Defines, no-definition, by-add, by-extend, by-update}
+use Rattle.judgements.specs.Judgements.{Sequence, no-grammar, by-grammar, WellSorted}
+use Rattle.judgements.specs.CheckSorts.{isDefined}
+use Rattle.judgements.proofs.Environments.{newest-defined}
 use Rattle.productions.specs.Normal.{Production, productionsOf, without, kept, defined, definedAll, normalizedFrom, normalized}
 use Rattle.firsts.specs.Rules.{In, in-first, in-later, Of}
 use Rattle.soundness.proofs.Normalizing.{scopeOf}

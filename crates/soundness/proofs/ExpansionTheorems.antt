@@ -14,14 +14,14 @@ use Rattle.spellings.specs.Bytes.{isWord}
 use Rattle.kinds.specs.Kinds.{wordKind}
 use Rattle.grammar.specs.Table.{Lexicon, Template, Templates, none, Item, call, Table}
 use Rattle.terms.specs.Cells.{columns}
-use Rattle.layout.specs.Within.{Each}
-use Rattle.scanner.specs.declared.Token.{Token}
-use Rattle.scanner.specs.Scan.{scan}
+use Rattle.decoding.specs.Within.{Each}
+use Rattle.tokens.specs.declared.Token.{Token}
+use Rattle.tokens.specs.Scan.{scan}
 use Rattle.clashes.specs.CheckFirsts.{checkFirsts}
 use Rattle.clashes.proofs.ClashTheorems.{passes-exactly}
 use Rattle.grammar.specs.Sorts as Sorts
-use Rattle.sorts.specs.Judgements.{Sorted, ItemSorted, Body}
-use Rattle.sorts.specs.Judgements as Judgements
+use Rattle.judgements.specs.Judgements.{Sorted, ItemSorted, Body}
+use Rattle.judgements.specs.Judgements as Judgements
 use Rattle.checker.specs.Passes.{grammarOf}
 use Rattle.terms.specs.Term.{Name, Term}
 use Rattle.terms.specs.Rows.{termAt}

@@ -9,13 +9,13 @@ use borrow.Author.Tests.{eqb-true, eqb-false}
 use Rattle.spellings.proofs.BytesLaws.{by-test}
 use Rattle.grammar.specs.Sorts.{Signature}
 use Rattle.grammar.specs.Table.{Template, Item, Alternative, Mode, add, extend, update, Definition, Table}
-use Rattle.layout.specs.Within.{Each, each-none, each-more, AlternativeWithin, DefinitionWithin, Within}
-use Rattle.sorts.specs.Scopes.{Env, entryOf, Scope}
-use Rattle.sorts.specs.Judgements.{Newest, newest-first, newest-later, Undeclared, absent-empty, absent-entry, ItemSorted, by-keyword, by-ide, by-number}
-use Rattle.sorts.specs.Judgements.{by-local}
-use Rattle.sorts.specs.Judgements.{by-call, Body, by-result, by-binding, Bodies, no-alternative, by-choice, Defines, no-definition, by-add, by-extend}
-use Rattle.sorts.specs.Judgements.{by-update, Ok, ok-empty, ok-definition, scope, Sequence, no-grammar, by-grammar, WellSorted}
-use Rattle.sorts.proofs.Environments.{newest-defined, newest-signature, absent-undefined}
+use Rattle.decoding.specs.Within.{Each, each-none, each-more, AlternativeWithin, DefinitionWithin, Within}
+use Rattle.judgements.specs.Scopes.{Env, entryOf, Scope}
+use Rattle.judgements.specs.Judgements.{Newest, newest-first, newest-later, Undeclared, absent-empty, absent-entry, ItemSorted, by-keyword, by-ide, by-number}
+use Rattle.judgements.specs.Judgements.{by-local}
+use Rattle.judgements.specs.Judgements.{by-call, Body, by-result, by-binding, Bodies, no-alternative, by-choice, Defines, no-definition, by-add, by-extend}
+use Rattle.judgements.specs.Judgements.{by-update, Ok, ok-empty, ok-definition, scope, Sequence, no-grammar, by-grammar, WellSorted}
+use Rattle.judgements.proofs.Environments.{newest-defined, newest-signature, absent-undefined}
 use Rattle.productions.specs.Normal.{Production, productionsOf, without, kept, definedAll, normalizedFrom, normalized}
 use Rattle.firsts.specs.Rules.{In, in-first, in-later}
 use Rattle.soundness.proofs.Typing.{Fit, FitAll}

@@ -8,10 +8,10 @@ use Rattle.kinds.specs.Kinds.{wordKind, numberKind}
 use Rattle.grammar.specs.Sorts as Sorts
 use Rattle.grammar.specs.Table.{Template, Templates, none, more, Item}
 use Rattle.grammar.specs.Table as Table
-use Rattle.layout.specs.Within.{Each, each-none, each-more}
-use Rattle.sorts.specs.Judgements.{Sorted, Fill, fill-none, fill-more, Body, by-binding}
-use Rattle.sorts.specs.Judgements as Judgements
-use Rattle.scanner.specs.declared.Token.{Token}
+use Rattle.decoding.specs.Within.{Each, each-none, each-more}
+use Rattle.judgements.specs.Judgements.{Sorted, Fill, fill-none, fill-more, Body, by-binding}
+use Rattle.judgements.specs.Judgements as Judgements
+use Rattle.tokens.specs.declared.Token.{Token}
 use Rattle.productions.specs.Normal.{Production}
 use Rattle.terms.specs.Term.{Name, Term, Fields}
 use Rattle.terms.specs.Occurrences.{isWordName, isWorded, isWordedFields}

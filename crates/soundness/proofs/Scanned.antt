@@ -9,13 +9,13 @@ use lib.ListN.{length, take, drop, length-append}
 use borrow.Author.Tests.{ltb-true}
 use Rattle.answers.specs.Refusals.{refusal}
 use Rattle.grammar.specs.Table.{Lexicon}
-use Rattle.scanner.specs.declared.Token.{Token}
-use Rattle.scanner.specs.declared.Step.{Step}
-use Rattle.scanner.specs.declared.Step.the-variants.{Skip, Emit, Stop}
-use Rattle.scanner.specs.declared.Scanned.the-variants.{Unscanned}
-use Rattle.scanner.specs.Scan.{Lexed, isNew, wordsWith, scanEnded, withToken, stepOf, lexFrom, scan}
-use Rattle.scanner.specs.Tokens.{mostTokens, longestFormula, endToken}
-use Rattle.scanner.proofs.SpellingLaws.{every-at, scan-spelled}
+use Rattle.tokens.specs.declared.Token.{Token}
+use Rattle.tokens.specs.declared.Step.{Step}
+use Rattle.tokens.specs.declared.Step.the-variants.{Skip, Emit, Stop}
+use Rattle.tokens.specs.declared.Scanned.the-variants.{Unscanned}
+use Rattle.tokens.specs.Scan.{Lexed, isNew, wordsWith, scanEnded, withToken, stepOf, lexFrom, scan}
+use Rattle.tokens.specs.Tokens.{mostTokens, longestFormula, endToken}
+use Rattle.tokens.proofs.SpellingLaws.{every-at, scan-spelled}
 use Rattle.expansion.specs.Parsing.{SmallWords}
 use Rattle.soundness.proofs.Sound.{token-before}
 

@@ -7,10 +7,10 @@ use Rattle.answers.specs.Checked.{ok}
 use Rattle.grammar.specs.Sorts.{Signature, constructorSignatures, constructor}
 use Rattle.grammar.specs.Sorts as Sorts
 use Rattle.grammar.specs.Table.{make, none, Item, call}
-use Rattle.layout.specs.Within.{Each, each-none, each-more, ItemWithin, call-within, none-within}
-use Rattle.sorts.specs.Judgements.{Newest, Fill, fill-none, Body, by-result, by-binding}
-use Rattle.sorts.specs.Judgements as Judgements
-use Rattle.scanner.specs.declared.Token.{Token}
+use Rattle.decoding.specs.Within.{Each, each-none, each-more, ItemWithin, call-within, none-within}
+use Rattle.judgements.specs.Judgements.{Newest, Fill, fill-none, Body, by-result, by-binding}
+use Rattle.judgements.specs.Judgements as Judgements
+use Rattle.tokens.specs.declared.Token.{Token}
 use Rattle.productions.specs.Normal.{Production}
 use Rattle.clashes.specs.CheckFirsts.{checkFirsts}
 use Rattle.expansion.specs.Parsing.{SmallWords}

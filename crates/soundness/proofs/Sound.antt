@@ -16,17 +16,17 @@ use Rattle.kinds.specs.Kinds.{wordKind, numberKind, keywordKind}
 use Rattle.grammar.specs.Sorts.{Signature}
 use Rattle.grammar.specs.Sorts as Sorts
 use Rattle.grammar.specs.Table.{Template, none, Item, keyword, ide, number, call}
-use Rattle.layout.specs.Within.{Each, each-none, each-more, ItemWithin, call-within}
-use Rattle.sorts.specs.Judgements.{Newest, Fits, Sorted, ItemSorted, Body, by-result, by-binding}
-use Rattle.sorts.specs.Judgements as Judgements
-use Rattle.scanner.specs.declared.Token.{Token}
+use Rattle.decoding.specs.Within.{Each, each-none, each-more, ItemWithin, call-within}
+use Rattle.judgements.specs.Judgements.{Newest, Fits, Sorted, ItemSorted, Body, by-result, by-binding}
+use Rattle.judgements.specs.Judgements as Judgements
+use Rattle.tokens.specs.declared.Token.{Token}
 use Rattle.productions.specs.Normal.{Production}
 use Rattle.terms.specs.Term.{Name, Term}
 use Rattle.terms.specs.Rows.{termAt}
 use Rattle.expansion.specs.declared.State.{State}
 use Rattle.expansion.specs.Run.{Result, done, halt, Run, after}
 use Rattle.expansion.specs.Expansion.{Input, ready, Rule, unfit, chosen, choice, nextToken, tokenTaken, takeToken, misfit, buildAll, build, wordValue}
-use Rattle.scanner.specs.Tokens.{endToken}
+use Rattle.tokens.specs.Tokens.{endToken}
 use Rattle.expansion.specs.Expansion.{runItem, runItems, callBegun, runCall, initialState, ended, run}
 use Rattle.expansion.specs.Limits.{mostCalls, mostOpen}
 use Rattle.expansion.specs.Figure3.{Value, unit, binder, term, Gives, give-none, Taken, as-var, as-binder, as-label, by-keyword, by-ide, by-number}

@@ -12,10 +12,10 @@ use Rattle.answers.specs.declared.Refusal.{Refusal}
 use Rattle.answers.specs.Refusals.{refusal}
 use Rattle.grammar.specs.Sorts as Sorts
 use Rattle.grammar.specs.Table.{Template, Templates, make, none, Item, call}
-use Rattle.layout.specs.Within.{Each, each-more, ItemWithin, call-within}
-use Rattle.sorts.specs.Judgements.{Fill, Body, by-binding}
-use Rattle.sorts.specs.Judgements as Judgements
-use Rattle.scanner.specs.declared.Token.{Token}
+use Rattle.decoding.specs.Within.{Each, each-more, ItemWithin, call-within}
+use Rattle.judgements.specs.Judgements.{Fill, Body, by-binding}
+use Rattle.judgements.specs.Judgements as Judgements
+use Rattle.tokens.specs.declared.Token.{Token}
 use Rattle.productions.specs.Normal.{Production}
 use Rattle.firsts.specs.Rules.{Reads, reads-keyword, reads-word, reads-number}
 use Rattle.expansion.specs.declared.State.{State}

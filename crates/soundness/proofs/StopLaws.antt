@@ -15,10 +15,10 @@ use Rattle.kinds.proofs.KindsLaws.{same-kinds}
 use Rattle.grammar.specs.Table.{Template, Templates, none, more, Item}
 use Rattle.grammar.specs.Table as Table
 use Rattle.terms.specs.Cells.{withRow}
-use Rattle.layout.specs.Within.{Each, each-more, ItemWithin, call-within}
-use Rattle.sorts.specs.Judgements.{ItemSorted, Body, by-binding}
-use Rattle.sorts.specs.Judgements as Judgements
-use Rattle.scanner.specs.declared.Token.{Token}
+use Rattle.decoding.specs.Within.{Each, each-more, ItemWithin, call-within}
+use Rattle.judgements.specs.Judgements.{ItemSorted, Body, by-binding}
+use Rattle.judgements.specs.Judgements as Judgements
+use Rattle.tokens.specs.declared.Token.{Token}
 use Rattle.productions.specs.Normal.{Production}
 use Rattle.firsts.specs.FirstSets.{nullables, firstSets}
 use Rattle.firsts.proofs.FirstsTheorems.{opens-exactly}

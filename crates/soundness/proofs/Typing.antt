@@ -7,14 +7,14 @@ use lib.ListN.{length}
 use Rattle.grammar.specs.Sorts.{Signature, constructorSignatures, constructor}
 use Rattle.grammar.specs.Table.{Template, Templates, none, more, Item}
 use Rattle.grammar.specs.Table as Table
-use Rattle.layout.specs.Within.{Each, TemplateWithin, ItemWithin}
-use Rattle.sorts.specs.CheckSorts.{signatureOf}
-use Rattle.sorts.specs.Scopes.{Scope}
-use Rattle.sorts.specs.Judgements.{Has, has-first, has-later, Newest, Fits, fits-equal, fits-binder, Sorted, Fill, fill-none, fill-more, ItemSorted, Body}
-use Rattle.sorts.specs.Judgements.{by-result, by-binding}
-use Rattle.sorts.specs.Judgements as Judgements
-use Rattle.sorts.proofs.Environments.{newest-signature}
-use Rattle.scanner.specs.declared.Token.{Token}
+use Rattle.decoding.specs.Within.{Each, TemplateWithin, ItemWithin}
+use Rattle.judgements.specs.CheckSorts.{signatureOf}
+use Rattle.judgements.specs.Scopes.{Scope}
+use Rattle.judgements.specs.Judgements.{Has, has-first, has-later, Newest, Fits, fits-equal, fits-binder, Sorted, Fill, fill-none, fill-more, ItemSorted, Body}
+use Rattle.judgements.specs.Judgements.{by-result, by-binding}
+use Rattle.judgements.specs.Judgements as Judgements
+use Rattle.judgements.proofs.Environments.{newest-signature}
+use Rattle.tokens.specs.declared.Token.{Token}
 use Rattle.productions.specs.Normal.{Production}
 use Rattle.firsts.specs.Rules.{In, Of}
 use Rattle.expansion.specs.Figure3.{Value, Constructs, Bound, bound-first, bound-later, Gives, by-variable, by-global, by-label, by-constructor, GiveAll}

@@ -2,8 +2,8 @@
 use Prim.Native.Nat.{ℕ}
 use mathlib.Core.List.{List}
 use Rattle.grammar.specs.Table.{Table}
-use Rattle.layout.specs.Within.{Within}
-use Rattle.scanner.specs.declared.Token.{Token}
+use Rattle.decoding.specs.Within.{Within}
+use Rattle.tokens.specs.declared.Token.{Token}
 use Rattle.checker.specs.Passes.{Meets}
 use Rattle.expansion.specs.Parsing.{SmallWords}
 

@@ -11,7 +11,7 @@ use Rattle.answers.specs.declared.Refusal.{Refusal}
 use Rattle.answers.specs.Refusals.{refusal}
 use Rattle.kinds.specs.Kinds.{hasKind, only}
 use Rattle.grammar.specs.Table.{Templates, none, Item, call}
-use Rattle.scanner.specs.declared.Token.{Token}
+use Rattle.tokens.specs.declared.Token.{Token}
 use Rattle.productions.specs.Normal.{Production}
 use Rattle.firsts.specs.Rules.{Reads, Opens}
 use Rattle.expansion.specs.Limits.{mostCalls, mostOpen}

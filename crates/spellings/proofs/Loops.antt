@@ -11,7 +11,7 @@ use lib.Seq.{drop-cons}
 use borrow.Author.Tests.{le-leb, lt-leb, eq-eqb, ne-eqb}
 use Rattle.spellings.specs.Bytes.{longestRun, same, largest, valueFrom, valueOf}
 use Rattle.spellings.proofs.BytesLaws.{run-taken, run-left}
-use Rattle.spellings.specs.Numbers.{limited, numberOf}
+use Rattle.spellings.specs.Numbers.{numberOf}
 use Rattle.spellings.specs.declared.Number.the-variants.{Value, TooLarge}
 
 -- what is left of a list at an index within it
@@ -113,11 +113,11 @@ value-front : (n d : ℕ) (ds : List ℕ) → valueFrom n (d ∷ ds) ≡ valueFr
 unfolding valueFrom
 value-front n d ds = refl
 
-limited-value : (n : ℕ) → n ≤ largest → limited n ≡ Value n
-limited-value n h = rw (le-leb n largest h, limited) refl
+number-fits : (ds : List ℕ) → valueOf ds ≤ largest → numberOf ds ≡ Value (valueOf ds)
+number-fits ds h = rw (le-leb (valueOf ds) largest h, numberOf) refl
 
-limited-large : (n : ℕ) → largest < n → limited n ≡ TooLarge
-limited-large n h = rw (lt-leb n largest h, limited) refl
+number-large : (ds : List ℕ) → largest < valueOf ds → numberOf ds ≡ TooLarge
+number-large ds h = rw (lt-leb (valueOf ds) largest h, numberOf) refl
 
 -- no digit is worth 0
 pub valued-start : (ds : List ℕ) → Valued ds 0 0
@@ -136,10 +136,11 @@ module _ {ds : List ℕ} {i n : ℕ} (r : Valued ds i n) where
   -- a digit that passes the limit makes the whole too large
   pub valued-stop : i < length ds → {d : ℕ} → d ≡ getD ds i 0 - 48 → largest < n * 10 + d → TooLarge ≡ numberOf ds
   valued-stop h {d} e k =
-      sym (limited-large (valueOf ds) (omega (arith, value-grows (n * 10 + d) (drop (i + 1) ds), valued-front h e)))
+      sym (number-large ds (omega (arith, value-grows (n * 10 + d) (drop (i + 1) ds), valued-front h e)))
 
   -- where no digit is left, n is the number
   pub valued-end : length ds ≤ i → Value n ≡ numberOf ds
   unfolding valueFrom
   valued-end h =
-      sym (limited-value n (r .small)) ∙ ap limited (sym (ap (λ l. valueFrom n l) (drop-of-length-le ds h)) ∙ r .rest)
+      let worth : n ≡ valueOf ds = sym (ap (λ l. valueFrom n l) (drop-of-length-le ds h)) ∙ r .rest in
+      ap Value worth ∙ sym (number-fits ds (omega (arith, worth, r .small)))

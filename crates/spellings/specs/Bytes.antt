@@ -9,12 +9,15 @@ use mathlib.Core.List.{List, [], _∷_}
 use lib.Dec.{eqb, leb, ltb}
 use lib.ListN.{length}
 
+-- 1 where a test holds, else 0
+abbrev pub oneIf : Bool → ℕ
+oneIf true = 1
+oneIf false = 0
+
 -- the bytes of an ASCII text, to write a spelling in a definition
 unfoldable pub bytes : String → List ℕ
 bytes Text.[] = []
 bytes (Text._∷_ c s) = code c ∷ bytes s
-
--- ------------------------------------------------------------------ classes
 
 abbrev pub isLetter : ℕ → Bool
 isLetter b = (leb 65 b && leb b 90) || (leb 97 b && leb b 122)
@@ -33,8 +36,6 @@ isSeparator b = eqb b 9 || eqb b 10 || eqb b 13 || eqb b 32
 abbrev pub isSymbol : ℕ → Bool
 isSymbol b = leb 33 b && leb b 126 && not (isLetter b) && not (isDigit b)
 
--- ------------------------------------------------------------------ words
-
 -- every byte passes the test
 unfoldable pub every : (ℕ → Bool) → List ℕ → Bool
 every p [] = true
@@ -45,10 +46,14 @@ unfoldable pub longestRun : (ℕ → Bool) → List ℕ → List ℕ
 longestRun p [] = []
 longestRun p (b ∷ bs) = elim (p b) [ true ↦ b ∷ longestRun p bs | false ↦ [] ]
 
+-- the most bytes that a word may have
+abbrev pub longestWord : ℕ
+longestWord = 31
+
 -- a word: a letter, then letters, digits or underscores, 31 bytes at most
 abbrev pub isWord : List ℕ → Bool
 isWord [] = false
-isWord (b ∷ bs) = isLetter b && every isWordByte bs && leb (suc (length bs)) 31
+isWord (b ∷ bs) = isLetter b && every isWordByte bs && leb (suc (length bs)) longestWord
 
 -- what may be spelled by a keyword: a word, or one symbol byte
 abbrev pub isKeyword : List ℕ → Bool
@@ -68,8 +73,6 @@ unfoldable pub indexOf : List ℕ → List (List ℕ) → ℕ
 indexOf w [] = 0
 indexOf w (v ∷ vs) = elim (same v w) [ true ↦ 0 | false ↦ suc (indexOf w vs) ]
 
--- ------------------------------------------------------------------ decimal numbers
-
 -- the largest number that a formula may hold
 abbrev pub largest : ℕ
 largest = 999_999_999
@@ -81,6 +84,10 @@ valueFrom n (d ∷ ds) = valueFrom (n * 10 + (d - 48)) ds
 
 abbrev pub valueOf : List ℕ → ℕ
 valueOf ds = valueFrom 0 ds
+
+-- whether a run of digits is a number that a formula may hold
+abbrev pub isNumber : List ℕ → Bool
+isNumber ds = leb (valueOf ds) largest
 
 -- the decimal digits of n without leading zeros, in front of what follows; k bounds their number
 unfoldable pub digitsThen : ℕ → ℕ → List ℕ → List ℕ

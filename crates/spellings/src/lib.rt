@@ -6,6 +6,12 @@ ghost use Rattle.spellings.specs.Bytes.{isLetter, isDigit, isWordByte, i
 ghost use Rattle.spellings.specs.Buffers.{writtenInto};
 ghost use Rattle.spellings.specs.Numbers.{numberOf};
 
+// The most bytes that a word may have.
+pub const LONGEST_WORD: usize = 31;
+
+// The largest number that a formula may hold.
+const LARGEST: u64 = 999_999_999;
+
 // ---------------------------------------------------------------- numbers as indices
 
 pub fn wide_byte(b: u8) -> usize
@@ -101,7 +107,7 @@ pub fn is_word(s: &[u8]) -> bool
     if s.len() == 0 {
         return false;
     }
-    is_letter(s[0]) & (word_run(s) == s.len()) & (s.len() <= 31)
+    is_letter(s[0]) & (word_run(s) == s.len()) & (s.len() <= LONGEST_WORD)
 }
 
 // What may spell a keyword: a word, or one symbol byte.
@@ -156,7 +162,7 @@ pub fn value(digits: &[u8]) -> Number
     let mut i: usize = 0;
     while i < digits.len() {
         n = n * 10 + digit_value(digits[i]);
-        if 999_999_999 < n {
+        if LARGEST < n {
             return Number::TooLarge;
         }
         i += 1;

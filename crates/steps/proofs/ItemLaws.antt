@@ -17,8 +17,8 @@ use Rattle.terms.specs.Cells.{wordName}
 use Rattle.grammar.specs.Fields.{RawFields, next}
 use Rattle.grammar.specs.Lookup.{frontOf, fieldsAt}
 use Rattle.grammar.proofs.LookupLaws.{fields-at, front-inside}
-use Rattle.layout.specs.Prefix.{ReadTemplates, fault, parsed, templatesOf, isTemplates, isTemplate, found}
-use Rattle.layout.specs.Decode.{itemOf}
+use Rattle.decoding.specs.Prefix.{ReadTemplates, fault, parsed, templatesOf, isTemplates, isTemplate, found}
+use Rattle.decoding.specs.Decode.{itemOf}
 use Rattle.productions.specs.Index.{itemsOf, resultOf, wholeBody}
 use Rattle.expansion.specs.declared.State.{State}
 use Rattle.expansion.specs.declared.Outcome.{Outcome}
@@ -29,7 +29,7 @@ use Rattle.templates.specs.declared.Arguments.the-variants.{Listed, Overfull}
 use Rattle.expansion.specs.Run.{Result, done, halt, Run, after}
 use Rattle.expansion.specs.Outcomes.{ran}
 use Rattle.expansion.specs.Expansion.{Input, nextToken, tokenTaken, misfit, build, buildAll, wordValue, freshMade, runItem, runItems}
-use Rattle.scanner.specs.Tokens.{endToken}
+use Rattle.tokens.specs.Tokens.{endToken}
 use Rattle.expansion.specs.Expansion as Expansion
 use Rattle.scanner.specs.Rooms.{tokensIn}
 use Rattle.templates.specs.Built.{withMade, Ahead, templateAt, built, Lists, Few}

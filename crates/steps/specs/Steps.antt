@@ -7,7 +7,7 @@ use mathlib.Core.List.{List, [], _∷_, _++_}
 use lib.ListN.{length, drop}
 use Rattle.grammar.specs.Fields.{next}
 use Rattle.grammar.specs.Lookup.{fieldsAt}
-use Rattle.layout.specs.Prefix.{templatesOf, isTemplates}
+use Rattle.decoding.specs.Prefix.{templatesOf, isTemplates}
 use Rattle.scanner.specs.Rooms.{TokensFit}
 use Rattle.productions.specs.Index.{itemsOf, resultOf}
 use Rattle.expansion.specs.declared.State.{State}

@@ -1,7 +1,7 @@
 // The items of an alternative, read off the table's bytes, and its result.
-pub mod tokens;
+pub mod taking;
 
-use crate::tokens::take;
+use crate::taking::take;
 use answers::Refusal;
 use answers::refuse;
 use expansion::Outcome;
@@ -9,7 +9,7 @@ use expansion::State;
 use grammar::Front;
 use grammar::front_at;
 use grammar::reader::byte;
-use scanner::tokens::value_at;
+use scanner::room::value_at;
 use templates::Arguments;
 use templates::Built;
 use templates::build;
@@ -21,17 +21,18 @@ use terms::WORD;
 ghost use Prim.Native.Nat.{ℕ, _^_, _<_};
 ghost use mathlib.Core.Path.{_≡_};
 ghost use mathlib.Core.List.{List};
-ghost use lib.ListN.{getD};
+ghost use lib.ListN.{length, getD};
 ghost use Rattle.answers.specs.Refusals.{refusal};
 ghost use Rattle.grammar.specs.Lookup.{fieldsAt};
 ghost use Rattle.grammar.specs.Table.{Template};
-ghost use Rattle.layout.specs.Decode.{itemOf};
+ghost use Rattle.decoding.specs.Decode.{itemOf};
 ghost use Rattle.scanner.specs.Rooms.{tokensIn};
 ghost use Rattle.productions.specs.Index.{resultOf};
 ghost use Rattle.expansion.specs.Run.{Run};
 ghost use Rattle.expansion.specs.Outcomes.{ran};
 ghost use Rattle.expansion.specs.Expansion.{Input, wordValue, freshMade, build, runItem};
-ghost use Rattle.templates.specs.Built.{wholeRows, Holds, withMade, built};
+ghost use Rattle.terms.specs.Cells.{rowsLent};
+ghost use Rattle.templates.specs.Built.{Holds, withMade, built};
 ghost use Rattle.steps.specs.Steps.{MayRead, MayDo, MayStep, MayFinish, Stays, ItemAt, Steps, Advances, Spends};
 
 // What is done at an offset: there is no item, the item refuses, it gives a value (with the offset behind it and where the expansion
@@ -116,7 +117,7 @@ fn do_item(
 ) -> ItemStep
     requires { ⌜ MayDo (now v) (now tokens) n (c .state) (now stack) ⌝ }
     ensures { λ r. ⌜ ((bs : List ℕ) (at : ℕ) (I : Input) (M : List ℕ) → ItemAt bs at (now (v .entry)) next → I .tokens ≡ tokensIn (now
-        (tokens .entry)) n → I .rows ≡ wholeRows (now (cells .entry)) → Holds (now (vars .entry)) (c .count) M → Steps bs at I M (c .state) (now
+        (tokens .entry)) n → I .rows ≡ rowsLent (length (now (cells .entry))) → Holds (now (vars .entry)) (c .count) M → Steps bs at I M (c .state) (now
         (cells .entry)) r (now (out .exit)) (now (cells .exit))) ⌝ }
     ensures { λ r. ⌜ ((bs : List ℕ) (at : ℕ) → ItemAt bs at (now (v .entry)) next → Advances bs at (c .state) r) ⌝ }
 {
@@ -156,7 +157,7 @@ pub fn item_step(
     stack: &mut [u32],
 ) -> ItemStep
     requires { ⌜ MayStep (now table) (c .at) (now tokens) n (c .state) (now stack) ⌝ }
-    ensures { λ r. ⌜ ((I : Input) (M : List ℕ) → I .tokens ≡ tokensIn (now (tokens .entry)) n → I .rows ≡ wholeRows (now (cells .entry)) →
+    ensures { λ r. ⌜ ((I : Input) (M : List ℕ) → I .tokens ≡ tokensIn (now (tokens .entry)) n → I .rows ≡ rowsLent (length (now (cells .entry))) →
         Holds (now (vars .entry)) (c .count) M → Steps (now (table .entry)) (c .at) I M (c .state) (now (cells .entry)) r (now (out .exit))
         (now (cells .exit))) ⌝ }
     ensures { λ r. ⌜ Advances (now (table .entry)) (c .at) (c .state) r ⌝ }
@@ -228,7 +229,7 @@ pub fn finish(
     stack: &mut [u32],
 ) -> Outcome
     requires { ⌜ MayFinish (now table) (c .at) (now stack) ⌝ }
-    ensures { λ r. ⌜ ((I : Input) (M : List ℕ) → I .rows ≡ wholeRows (now (cells .entry)) → Holds (now (vars .entry)) (c .count) M → ran r (now
+    ensures { λ r. ⌜ ((I : Input) (M : List ℕ) → I .rows ≡ rowsLent (length (now (cells .entry))) → Holds (now (vars .entry)) (c .count) M → ran r (now
         (cells .exit)) ≡ build (resultOf (fieldsAt (now (table .entry)) (c .at))) I M (c .state) (now (cells .entry))) ⌝ }
     ensures { λ r. ⌜ Stays (c .state) r ⌝ }
 {

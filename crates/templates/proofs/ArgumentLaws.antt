@@ -11,10 +11,10 @@ use Rattle.spellings.proofs.BytesLaws.{by-test}
 use Rattle.grammar.specs.Sorts.{arity}
 use Rattle.grammar.specs.SortTests.{isConstructor}
 use Rattle.grammar.specs.Table.{Template, Templates, variable, none, more}
-use Rattle.layout.specs.Prefix.{ReadTemplates, fault, parsed, inFront, SplitTemplates, short, taken, takeTemplates, applied, constructed, byteInFront}
-use Rattle.layout.specs.Prefix.{isNameTag, templatesOf}
-use Rattle.layout.specs.Prefix.{isTemplates, found}
-use Rattle.layout.proofs.PrefixLaws.{name-first, name-last, byte-first, variable-first, constructor-first, unknown-first}
+use Rattle.decoding.specs.Prefix.{ReadTemplates, fault, parsed, inFront, SplitTemplates, short, taken, takeTemplates, applied, constructed, byteInFront}
+use Rattle.decoding.specs.Prefix.{isNameTag, templatesOf}
+use Rattle.decoding.specs.Prefix.{isTemplates, found}
+use Rattle.decoding.proofs.PrefixLaws.{name-first, name-last, byte-first, variable-first, constructor-first, unknown-first}
 use Rattle.expansion.specs.declared.State.{State}
 use Rattle.templates.specs.declared.Built.{Built}
 use Rattle.templates.specs.declared.Built.the-variants.{Made, Full}

@@ -11,8 +11,8 @@ use borrow.Author.Tests.{lt-ltb, le-ltb}
 use Rattle.grammar.specs.Sorts.{arity}
 use Rattle.grammar.specs.Table.{Template, Templates, none, more}
 use Rattle.terms.specs.Cells.{columns, withRow}
-use Rattle.layout.specs.Prefix.{parsed, templatesOf, nameBy}
-use Rattle.layout.specs.Within.{count}
+use Rattle.decoding.specs.Prefix.{parsed, templatesOf, nameBy}
+use Rattle.decoding.specs.Within.{count}
 use Rattle.expansion.specs.declared.State.{State}
 use Rattle.templates.specs.declared.Head.{Head}
 use Rattle.templates.specs.declared.Head.the-variants.{Leaf, Node}

@@ -10,8 +10,8 @@ use lib.Seq.{take-suc-set, take-take, take-add, take-at, drop-at, getD-take, get
 use Rattle.answers.specs.declared.Refusal.{Refusal}
 use Rattle.grammar.specs.Sorts.{arity}
 use Rattle.grammar.specs.Table.{Template, Templates, make, none, more}
-use Rattle.layout.specs.Prefix.{SplitTemplates, short, taken, alsoTaken, takeTemplates}
-use Rattle.layout.specs.Within.{count}
+use Rattle.decoding.specs.Prefix.{SplitTemplates, short, taken, alsoTaken, takeTemplates}
+use Rattle.decoding.specs.Within.{count}
 use Rattle.expansion.specs.declared.State.{State}
 use Rattle.expansion.specs.Run.{Result, done, halt, Run, return, after, _>>=_}
 use Rattle.expansion.specs.Expansion.{Input, build, buildAll, cell}

@@ -14,10 +14,10 @@ use Rattle.spellings.proofs.BytesLaws.{by-test}
 use Rattle.grammar.specs.Sorts.{arity}
 use Rattle.grammar.specs.SortTests.{isConstructor}
 use Rattle.grammar.specs.Table.{Template, Templates, variable, make, more}
-use Rattle.layout.specs.Prefix.{ReadTemplates, fault, parsed, inFront, SplitTemplates, short, taken, takeTemplates, applied, constructed, byteInFront}
-use Rattle.layout.specs.Prefix.{isNameTag, nameBy}
-use Rattle.layout.specs.Prefix.{templatesOf}
-use Rattle.layout.proofs.PrefixLaws.{name-first, name-last, byte-first, variable-first, constructor-first, unknown-first}
+use Rattle.decoding.specs.Prefix.{ReadTemplates, fault, parsed, inFront, SplitTemplates, short, taken, takeTemplates, applied, constructed, byteInFront}
+use Rattle.decoding.specs.Prefix.{isNameTag, nameBy}
+use Rattle.decoding.specs.Prefix.{templatesOf}
+use Rattle.decoding.proofs.PrefixLaws.{name-first, name-last, byte-first, variable-first, constructor-first, unknown-first}
 use Rattle.expansion.specs.declared.State.{State}
 use Rattle.templates.specs.declared.Built.the-variants.{Made}
 use Rattle.expansion.specs.Run.{Result, done, halt, Run, return, after, _>>=_}

@@ -11,12 +11,12 @@ use lib.ListN.{length, getD, take, set, length-append, length-set, List·getD-ap
 use lib.Seq.{sets, getD-at, getD-set-same, getD-set-other}
 use borrow.Author.Tests.{eq-eqb, ne-eqb}
 use Rattle.grammar.proofs.ReaderLaws.{getD-past}
-use Rattle.terms.specs.Cells.{outsideName}
-use Rattle.layout.specs.Prefix.{nameBy}
+use Rattle.terms.specs.Cells.{outsideName, rowsLent}
+use Rattle.decoding.specs.Prefix.{nameBy}
 use Rattle.expansion.specs.declared.State.{State}
 use Rattle.expansion.specs.Run.{done}
 use Rattle.expansion.specs.Expansion.{Input, build}
-use Rattle.templates.specs.Built.{wholeRows, RoomsFit, Holds}
+use Rattle.templates.specs.Built.{RoomsFit, Holds}
 
 -- ------------------------------------------------------------------ variables
 
@@ -85,7 +85,7 @@ module _ (tag n : ℕ) (I : Input) (M : List ℕ) (s : State) (cells : List ℕ)
 -- ------------------------------------------------------------------ rows
 
 -- the rows of the cells fit
-pub rooms-fit : {v cells stack : List ℕ} {rows : ℕ} → length v ≤ 16384 → length v ≤ length stack → rows ≡ wholeRows cells
+pub rooms-fit : {v cells stack : List ℕ} {rows : ℕ} → length v ≤ 16384 → length v ≤ length stack → rows ≡ rowsLent (length cells)
     → RoomsFit v rows cells stack
 rooms-fit small long e = record { small = small; stack-long = long; few = omega arith; rows-long = omega arith }
 

@@ -6,8 +6,9 @@ use mathlib.Core.List.{List}
 use lib.ListN.{length, getD, drop}
 use Rattle.answers.specs.Refusals.{refusal}
 use Rattle.terms.specs.Cells.{columns, mostCells}
+use Rattle.grammar.specs.Limits.{most}
 use Rattle.grammar.specs.Table.{Template, Templates, none, more}
-use Rattle.layout.specs.Prefix.{parsed, templatesOf, found, headTemplate}
+use Rattle.decoding.specs.Prefix.{parsed, templatesOf, found, headTemplate}
 use Rattle.expansion.specs.declared.State.{State}
 use Rattle.templates.specs.declared.Built.{Built}
 use Rattle.templates.specs.declared.Built.the-variants.{Made, Full}
@@ -18,16 +19,9 @@ use Rattle.expansion.specs.Expansion.{Input, build}
 
 -- ------------------------------------------------------------------ rows and variables
 
--- how many rows some numbers make
-abbrev pub rowsFor : ℕ → ℕ
-rowsFor numbers = min (numbers / columns) mostCells
-
-abbrev pub wholeRows : List ℕ → ℕ
-wholeRows cells = rowsFor (length cells)
-
 -- the bytes of a field are no more than those of a table, the stack is as long as they are, and the rows lie in the cells
 pub record RoomsFit (v : List ℕ) (rows : ℕ) (cells stack : List ℕ) : Type 0 where
-  pub small : length v ≤ 16384
+  pub small : length v ≤ most .bytes
   pub stack-long : length v ≤ length stack
   pub few : rows ≤ mostCells
   pub rows-long : rows * columns ≤ length cells

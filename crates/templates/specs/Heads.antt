@@ -5,8 +5,8 @@ use mathlib.Core.List.{List}
 use lib.ListN.{length, drop}
 use Rattle.grammar.specs.Sorts.{arity}
 use Rattle.grammar.specs.Table.{Templates, make, none, more}
-use Rattle.layout.specs.Prefix.{parsed, templatesOf}
-use Rattle.layout.specs.Within.{count}
+use Rattle.decoding.specs.Prefix.{parsed, templatesOf}
+use Rattle.decoding.specs.Within.{count}
 use Rattle.expansion.specs.declared.State.{State}
 use Rattle.templates.specs.declared.Head.{Head}
 use Rattle.templates.specs.declared.Head.the-variants.{Leaf, Node}

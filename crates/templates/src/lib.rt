@@ -11,14 +11,14 @@ ghost use mathlib.Core.List.{List, [], _∷_, _++_};
 ghost use lib.ListN.{length, getD, take, drop};
 ghost use lib.Seq.{sets};
 ghost use Rattle.grammar.specs.Table.{Template};
-ghost use Rattle.terms.specs.Cells.{columns, withRow, mostCells};
-ghost use Rattle.layout.specs.Prefix.{nameBy, templatesOf, isTemplates, found};
+ghost use Rattle.terms.specs.Cells.{columns, withRow, mostCells, rowsLent};
+ghost use Rattle.decoding.specs.Prefix.{nameBy, templatesOf, isTemplates, found};
 ghost use lib.Dec.{eqb};
 ghost use mathlib.Core.Bool.{true};
 ghost use Rattle.expansion.specs.declared.State.{State};
 ghost use Rattle.expansion.specs.Run.{done};
 ghost use Rattle.expansion.specs.Expansion.{Input, build, buildAll};
-ghost use Rattle.templates.specs.Built.{rowsFor, RoomsFit, Holds, withMade, Ahead, Evaluates, Behind, Lists, Few};
+ghost use Rattle.templates.specs.Built.{RoomsFit, Holds, withMade, Ahead, Evaluates, Behind, Lists, Few};
 ghost use Rattle.templates.specs.Heads.{HeadValue, Heads, Takes};
 
 // What a template gives: its value, the offset behind it and the cells then made; or no row is left for a cell.
@@ -41,7 +41,7 @@ pub enum Arguments {
 
 // How many rows some numbers make, 16,384 at most.
 pub fn rows_of(numbers: usize) -> usize
-    ensures { λ r. ⌜ r ≡ rowsFor numbers ⌝ }
+    ensures { λ r. ⌜ r ≡ rowsLent numbers ⌝ }
 {
     let rows = numbers / COLUMNS;
     if rows < MOST_CELLS { rows } else { MOST_CELLS }

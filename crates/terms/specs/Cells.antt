@@ -1,5 +1,5 @@
 -- How cells lie in lent numbers, and the numbers that stand for names. Document 01, "Formula".
-use Prim.Native.Nat.{ℕ, _+_, _*_}
+use Prim.Native.Nat.{ℕ, _+_, _*_, _/_, min}
 use mathlib.Core.List.{List, [], _∷_, _++_}
 use lib.ListN.{getD, take}
 use lib.Seq.{sets}
@@ -32,3 +32,7 @@ outsideName n = 3 * nameBase + n
 -- the most cells that an expansion makes
 abbrev pub mostCells : ℕ
 mostCells = 16384
+
+-- the rows that so many lent numbers hold for an expansion
+abbrev pub rowsLent : ℕ → ℕ
+rowsLent numbers = min (numbers / columns) mostCells

@@ -18,7 +18,7 @@ use Rattle.scanner.specs.Rooms.{tokensIn}
 use Rattle.expansion.specs.declared.State.{State}
 use Rattle.expansion.specs.Run.{Result, halt, after}
 use Rattle.expansion.specs.Expansion.{Input, nextToken, misfit, build, runItems, Choice, unfit, ready, chosen, choice, callBegun, runCall}
-use Rattle.scanner.specs.Tokens.{endToken}
+use Rattle.tokens.specs.Tokens.{endToken}
 use Rattle.expansion.specs.Limits.{mostCalls}
 use Rattle.choices.specs.Held.{Held}
 use Rattle.choices.specs.Chosen.{firstSetsOf, Remembers, Chooses}

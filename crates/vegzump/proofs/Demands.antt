@@ -7,14 +7,14 @@ use Prim.Native.Nat.{ℕ, _*_, _≤_, _<_}
 use mathlib.Core.Path.{_≡_}
 use mathlib.Core.Logic.{_↔_}
 use mathlib.Core.List.{List, [], _∷_, _++_}
-use lib.ListN.{getD, take, drop}
+use lib.ListN.{length, getD, take, drop}
 use Rattle.answers.specs.declared.Refusal.{Refusal}
 use Rattle.answers.specs.declared.Answer.the-variants.{Accepted, Refusing}
 use Rattle.answers.specs.declared.Verdict.the-variants.{Refused}
 use Rattle.grammar.specs.Table.{Template, Templates, none, Item, call, lexiconOfTable}
-use Rattle.sorts.specs.Judgements.{Sorted, ItemSorted, Body}
-use Rattle.scanner.specs.declared.Token.{Token}
-use Rattle.scanner.specs.Unscanned.{Unscans}
+use Rattle.judgements.specs.Judgements.{Sorted, ItemSorted, Body}
+use Rattle.tokens.specs.declared.Token.{Token}
+use Rattle.tokens.specs.Unscanned.{Unscans}
 use Rattle.checker.specs.Check.{check}
 use Rattle.checker.specs.Passes.{grammarOf, Passes}
 use Rattle.productions.specs.Normal.{Production}
@@ -25,12 +25,12 @@ use Rattle.soundness.specs.Passing.{Passing}
 use Rattle.soundness.proofs.Normalizing.{scopeOf}
 use Rattle.soundness.proofs.ExpansionTheorems as expansion
 use Rattle.terms.specs.Term.{Name, Term}
-use Rattle.terms.specs.Cells.{columns}
+use Rattle.terms.specs.Cells.{columns, rowsLent}
 use Rattle.terms.specs.Rows.{termAt}
 use Rattle.terms.specs.Rename.{rename}
 use Rattle.terms.specs.Print.{print}
 use Rattle.meaning.specs.Expand.{Expanded, refused, expand}
-use Rattle.meaning.specs.Meaning.{spellOf, Means, rowsLent, MeansWithin, cellsOf, textLength, Cause, Accepts, Left}
+use Rattle.meaning.specs.Meaning.{spellOf, Means, MeansWithin, cellsOf, textLength, Cause, Accepts, Left}
 use Rattle.meaning.specs.Hygiene.{Demand3}
 use Rattle.meaning.proofs.Stages.{expand-passed, means-one}
 use Rattle.meaning.proofs.Exactly as exactly
@@ -90,7 +90,7 @@ module _ (table formula cells text : List ℕ) where
     cells-behind E = rw (expand-passed table P formula cells text) (exactly.cells-behind (P .table) T formula cells text E)
 
     -- Any answer leaves the cells behind the rows made, which are no more than there are.
-    pub cells-left : (m : ℕ) × (m ≤ rowsLent cells) × Left m cells (X .cells)
+    pub cells-left : (m : ℕ) × (m ≤ rowsLent (length cells)) × Left m cells (X .cells)
     cells-left =
         let k = exactly.keeps (P .table) T formula cells text in rw (expand-passed table P formula cells text) (k .rows, k .few, k .left)
 

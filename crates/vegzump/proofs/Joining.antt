@@ -14,13 +14,13 @@ use Rattle.spellings.specs.Bytes.{isWord}
 use Rattle.answers.specs.Checked.{ok}
 use Rattle.grammar.specs.Table.{Lexicon, lexiconOfTable}
 use Rattle.grammar.specs.Lookup.{lexiconOf}
-use Rattle.terms.specs.Cells.{columns}
-use Rattle.layout.proofs.Split.{Bytes}
-use Rattle.scanner.specs.declared.Scanned.{Scanned}
-use Rattle.scanner.specs.declared.Scanned.the-variants.{Tokens, Unscanned}
-use Rattle.scanner.specs.Scan.{Lexed, scan}
+use Rattle.terms.specs.Cells.{columns, rowsLent}
+use Rattle.decoding.proofs.Split.{Bytes}
+use Rattle.tokens.specs.declared.Scanned.{Scanned}
+use Rattle.tokens.specs.declared.Scanned.the-variants.{Tokens, Unscanned}
+use Rattle.tokens.specs.Scan.{Lexed, scan}
 use Rattle.scanner.specs.Rooms.{Filled, filled, scanInto, tokenRows, wordPlaces, RoomFor}
-use Rattle.scanner.specs.Tokens.{spelled}
+use Rattle.tokens.specs.Tokens.{spelled}
 use Rattle.scanner.proofs.AfterScan.{Holds, scan-holds, scan-refused}
 use Rattle.checker.specs.Check.{passedTable}
 use Rattle.checker.specs.CheckedInto.{CheckedInto}
@@ -42,7 +42,6 @@ use Rattle.expansion.specs.Expansion.{run}
 use Rattle.expansion.specs.Parsing.{input}
 use Rattle.expansion.specs.Figure3 as Figure3
 use Rattle.expander.specs.Lent.{lentInput}
-use Rattle.templates.specs.Built.{wholeRows}
 use Rattle.soundness.specs.Passing.{Passing, Lexemes}
 use Rattle.soundness.proofs.ExpansionTheorems as expansion
 use Rattle.meaning.specs.Expand.{expanded, withCells, finished, expand}
@@ -110,7 +109,7 @@ module _ {bs : List ℕ} (bytes : Bytes bs) where
 
     module _ {tokens words : List ℕ} {n count : ℕ} (H : Holds lex few formula tokens words n count) where
       -- The run of the tokens in the room is the parse.
-      pub parse-runs : run (lentInput bs tokens n (wholeRows cells)) (getD bs (length bs - 1) 0) cells ≡ parse bs formula cells
+      pub parse-runs : run (lentInput bs tokens n (rowsLent (length cells))) (getD bs (length bs - 1) 0) cells ≡ parse bs formula cells
       parse-runs =
           rw (passed-grammar bytes P, H .tokens-are, root-last (P .table) (P .encoded))
           (sym (parsing.parse-run bs formula cells passed (H .answered)))
@@ -154,16 +153,16 @@ module _ {bs : List ℕ} (bytes : Bytes bs) (cells : List ℕ) {formula words ce
         small = expansion.scanned-is-small (lexiconOfTable (P .table)) (P .within .outsideCount) formula;
       }
 
-  answers : run (input (grammarOf (P .table)) (lexed .tokens) (wholeRows cells)) (P .table .root) cells ≡ done v s cells′
+  answers : run (input (grammarOf (P .table)) (lexed .tokens) (rowsLent (length cells))) (P .table .root) cells ≡ done v s cells′
   answers = sym (parsing.parse-run bs formula cells (passed bytes P formula cells) (K .answered)) ∙ sym reached
 
   derived : Figure3.Parses (grammarOf (P .table)) spell (P .table .root) (lexed .tokens) (termAt (s .made) spell cells′ v)
-  derived = expansion.accepted-is-derived (P .table) T L (wholeRows cells) cells (omega arith) v s cells′ answers
+  derived = expansion.accepted-is-derived (P .table) T L (rowsLent (length cells)) cells (omega arith) v s cells′ answers
 
-  leaves : (s .made ≤ wholeRows cells) × (length cells′ ≡ length cells)
+  leaves : (s .made ≤ rowsLent (length cells)) × (length cells′ ≡ length cells)
       × (termAt (s .made) spell (take (s .made * columns) cells′) v ≡ termAt (s .made) spell cells′ v)
   leaves =
-      let l = expansion.accepted-leaves (P .table) T L (wholeRows cells) cells (omega arith) answers in
+      let l = expansion.accepted-leaves (P .table) T L (rowsLent (length cells)) cells (omega arith) answers in
       (l .few, l .as-many, l .same)
 
   -- The rows made lie in the cells.
@@ -230,7 +229,7 @@ refused-parses {cells = cells} words′ {r} {q} e h =
 pub ran-parses : {bs : List ℕ} (bytes : Bytes bs) (P : Passes bs) (formula cells : List ℕ) {tokens words : List ℕ} (rooms : Rooms formula tokens words)
     {tokens′ words′ cells′ : List ℕ} {a : Scanned} {n count : ℕ} {o : Outcome}
     → filled a tokens′ words′ ≡ scanInto (lexiconOf bs) formula tokens words → a ≡ Tokens n count
-    → ran o cells′ ≡ run (lentInput bs tokens′ n (wholeRows cells)) (getD bs (length bs - 1) 0) cells
+    → ran o cells′ ≡ run (lentInput bs tokens′ n (rowsLent (length cells))) (getD bs (length bs - 1) 0) cells
     → ParsesInto bs formula tokens words cells tokens′ words′ cells′ (record { outcome = o; words = count })
 ran-parses {bs} bytes P formula cells {tokens} {words} rooms {tokens′} {words′} {cells′} {n = n} {count} {o} f h e =
     let H = scan-fills bytes P formula cells (rooms .enough) f h in

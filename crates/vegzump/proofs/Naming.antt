@@ -8,22 +8,21 @@ use lib.ListN.{length, getD}
 use Rattle.spellings.specs.Bytes.{isWord}
 use Rattle.grammar.specs.Table.{Lexicon, lexiconOfTable}
 use Rattle.grammar.specs.Lookup.{lexiconOf}
-use Rattle.layout.specs.Within.{Each, each-none, each-more, Different, different-none, different-more}
-use Rattle.layout.proofs.LayoutTheorems.{decode-exactly}
-use Rattle.layout.proofs.DecodedLexicon.{lexicon-decoded}
-use Rattle.scanner.specs.Scan.{scan}
+use Rattle.decoding.specs.Within.{Each, each-none, each-more, Different, different-none, different-more}
+use Rattle.decoding.proofs.LayoutTheorems.{decode-exactly}
+use Rattle.decoding.proofs.DecodedLexicon.{lexicon-decoded}
+use Rattle.tokens.specs.Scan.{scan}
 use Rattle.scanner.specs.Rooms.{wordsFrom, wordsIn}
-use Rattle.scanner.specs.Tokens.{spelled}
-use Rattle.scanner.specs.declared.Scanned.the-variants.{Tokens}
-use Rattle.scanner.proofs.WordsOfScan.{scan-plain}
-use Rattle.scanner.proofs.ScannerTheorems.{tokens-counted}
+use Rattle.tokens.specs.Tokens.{spelled}
+use Rattle.tokens.specs.declared.Scanned.the-variants.{Tokens}
+use Rattle.tokens.proofs.WordsOfScan.{scan-plain}
+use Rattle.tokens.proofs.ScannerTheorems.{tokens-counted}
 use Rattle.writer.specs.Pool.{oneOf, spanned, spelledBy, Words}
 use Rattle.writer.proofs.SpellLaws.{Once, word-length, short-words, apart-lists, spelled-lists}
-use Rattle.terms.specs.Rows.{spell}
 use Rattle.terms.specs.Term.{Name, outside, Term, Fields}
 use Rattle.terms.specs.Names.{Distinct, VariableName, BinderName, WellNamed, WellNamedFields}
 use Rattle.kinds.specs.Kinds.{wordKind}
-use Rattle.scanner.specs.declared.Token.{Token}
+use Rattle.tokens.specs.declared.Token.{Token}
 use Rattle.soundness.specs.Places.{Among, Given, word-at, outside-name, VarPlace, var-var, var-binder, var-local, var-outside, BinderPlace, binder-binder}
 use Rattle.soundness.specs.Places.{binder-local, Placed, placed-variable, placed-function, placed-apply, placed-rcd, placed-dot, placed-number, PlacedFields}
 use Rattle.soundness.specs.Places.{placed-nil, placed-cons}
@@ -118,10 +117,9 @@ module _ (bs : List ℕ) (bytes : (i : ℕ) → getD bs i 0 < 256) (P : Passes b
 
     -- The spellings that the last step reads are those of the formula's words and the table's outside names.
     pub spelled-by : spelledBy bs formula words count ≡ spelled (lexiconOfTable (P .table)) (scan (lexiconOfTable (P .table)) formula .words)
-    unfolding spell
     spelled-by =
         spelled-lists bs formula words (scan (lexiconOfTable (P .table)) formula .words) words-list
-        ∙ ap (λ (l : Lexicon). spell (l .outsides) (scan (lexiconOfTable (P .table)) formula .words)) lexicon-passed
+        ∙ ap (λ (l : Lexicon). spelled l (scan (lexiconOfTable (P .table)) formula .words)) lexicon-passed
 
     -- So has a word of the formula.
     pub words-fit : (j : ℕ) → j < count → length (spanned formula words j) < 32
@@ -136,9 +134,8 @@ module _ (bs : List ℕ) (bytes : (i : ℕ) → getD bs i 0 < 256) (P : Passes b
 
     -- Different numbers stand for different spellings.
     pub distinct : Distinct (spelledBy bs formula words count)
-    unfolding spell
     distinct =
         let plain = scan-plain (lexiconOfTable (P .table)) (P .within .outsideCount) formula in
         rw spelled-by
-        (apart-lists (P .table .outsides) (scan (lexiconOfTable (P .table)) formula .words)
+        (apart-lists (lexiconOfTable (P .table)) (scan (lexiconOfTable (P .table)) formula .words)
         (different-once (P .within .outsidesDiffer)) (plain .once) (plain .no-outside))

@@ -7,11 +7,11 @@ use Rattle.answers.specs.declared.Refusal.{Refusal}
 use Rattle.answers.specs.declared.Verdict.the-variants.{Refused}
 use Rattle.answers.specs.Checked.{Checked, ok, bad, verdict}
 use Rattle.grammar.specs.Table.{Table, lexiconOfTable}
-use Rattle.scanner.specs.declared.Scanned.{Scanned}
-use Rattle.scanner.specs.declared.Scanned.the-variants.{Tokens, Unscanned}
-use Rattle.scanner.specs.Scan.{scan}
+use Rattle.tokens.specs.declared.Scanned.{Scanned}
+use Rattle.tokens.specs.declared.Scanned.the-variants.{Tokens, Unscanned}
+use Rattle.tokens.specs.Scan.{scan}
 use Rattle.scanner.specs.Rooms.{Filled, filled, scanInto}
-use Rattle.scanner.specs.Tokens.{spelled}
+use Rattle.tokens.specs.Tokens.{spelled}
 use Rattle.checker.specs.Check.{passedTable, check}
 use Rattle.expansion.specs.declared.Outcome.{Outcome}
 use Rattle.expansion.specs.declared.Outcome.the-variants.{Value, Halted}

@@ -8,9 +8,9 @@ use Rattle.answers.specs.declared.Refusal.{Refusal}
 use Rattle.answers.specs.Refusals.{refusal}
 use Rattle.answers.specs.Checked.{Checked, ok, bad}
 use Rattle.grammar.specs.Table.{Table, lexiconOfTable}
-use Rattle.scanner.specs.declared.Scanned.{Scanned}
-use Rattle.scanner.specs.declared.Scanned.the-variants.{Tokens, Unscanned}
-use Rattle.scanner.specs.Scan.{Lexed, scan}
+use Rattle.tokens.specs.declared.Scanned.{Scanned}
+use Rattle.tokens.specs.declared.Scanned.the-variants.{Tokens, Unscanned}
+use Rattle.tokens.specs.Scan.{Lexed, scan}
 use Rattle.scanner.specs.Rooms.{TokensFit, wordsIn, RoomFor, Filled, filled, scanInto}
 use Rattle.checker.specs.Check.{passedTable}
 use Rattle.checker.specs.Passes.{Passes}
@@ -23,7 +23,7 @@ use Rattle.expansion.specs.Expansion.{run}
 use Rattle.expander.specs.Lent.{Held}
 use Rattle.vegzump.specs.declared.parse.Parsed.{Parsed}
 use Rattle.meaning.specs.Expand.{inputOf}
-use Rattle.scanner.specs.Tokens.{mostTokens}
+use Rattle.tokens.specs.Tokens.{mostTokens}
 use Rattle.terms.specs.Cells.{columns, mostCells}
 
 abbrev pub parseScanned : Table → Lexed → Scanned → List ℕ → Result ℕ

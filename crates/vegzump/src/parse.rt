@@ -3,14 +3,14 @@ use answers::Refusal;
 use answers::Verdict;
 use expander::calls::run;
 use expansion::Outcome;
-use scanner::Scanned;
+use tokens::Scanned;
 ghost use Prim.Native.Nat.{_-_};
 ghost use mathlib.Core.Path.{_≡_};
 ghost use lib.ListN.{length, getD};
 ghost use Rattle.expansion.specs.Outcomes.{ran};
 ghost use Rattle.expansion.specs.Expansion.{run};
 ghost use Rattle.expander.specs.Lent.{lentInput};
-ghost use Rattle.templates.specs.Built.{wholeRows};
+ghost use Rattle.terms.specs.Cells.{rowsLent};
 ghost use Rattle.vegzump.specs.Parse.{Runnable, Rooms, WordRoom, Parseable, ParsesInto, ParsesTo, parsedInto, parseInto, numberedOutcome};
 
 // The outcome of a parse, and how many words the formula has that are neither keywords nor outside names.
@@ -48,7 +48,7 @@ fn run_tokens(
     cells: &mut [u32],
 ) -> Outcome
     requires { ⌜ Runnable (now table) (now room) (now tokens) n ⌝ }
-    ensures { λ r. ⌜ ran r (now (cells .exit)) ≡ run (lentInput (now (table .entry)) (now (tokens .entry)) n (wholeRows (now (cells .entry))))
+    ensures { λ r. ⌜ ran r (now (cells .exit)) ≡ run (lentInput (now (table .entry)) (now (tokens .entry)) n (rowsLent (length (now (cells .entry)))))
         (getD (now (table .entry)) (length (now (table .entry)) - 1) 0) (now (cells .entry)) ⌝ }
 {
     let root = last_byte(table);

@@ -11,12 +11,13 @@ use borrow.Author.Tests.{eq-eqb, ne-eqb, eqb-true, eqb-false, lt-ltb, le-ltb, lt
 use Rattle.spellings.proofs.BytesLaws.{by-test}
 use Rattle.grammar.specs.declared.Front.{Front}
 use Rattle.grammar.specs.declared.Front.the-variants.{Nothing, Short, Field}
+use Rattle.grammar.specs.Table.{Lexicon}
 use Rattle.grammar.specs.Fields.{RawFields, next}
 use Rattle.grammar.specs.Lookup.{leading, afterLeading, lexiconOf, frontOf, fieldsAt}
 use Rattle.grammar.proofs.LookupLaws.{opened, fields-at, Stops, outsides-at, few-outsides}
 use Rattle.grammar.proofs.ReaderLaws.{getD-past}
 use Rattle.writer.specs.Openings.{spellIn, Wrote}
-use Rattle.terms.specs.Rows.{spell}
+use Rattle.tokens.specs.Tokens.{spelled}
 use Rattle.writer.specs.Pool.{spanned, Pooled, noneOf, oneOf, Words, filledTo}
 use Rattle.rows.proofs.ListLaws.{zeros}
 use Rattle.writer.proofs.Pieces.{then}
@@ -280,21 +281,6 @@ module _ (outs : List (List ℕ)) (formula room : List ℕ) where
       (stored-word (i + 1) (i + 64) (omega arith) (omega arith) ∙ ap (spanned formula room) z ∙ sym es)
       (same-but i) ep
 
-  -- with all words stored, it is the spelling of a number by the lists of names and words
-  pub filled-end : {count : ℕ} (list : List (List ℕ)) → Words formula room count list → (m : ℕ) → filledTo outs formula room count m ≡ spell outs list m
-  unfolding spell
-  filled-end {count} list w m =
-      by-test (ltb m 64)
-      (λ e. near count m (ltb-true m 64 e) ∙ sym (rw (e, spell) refl))
-      (λ e.
-      let far : 64 ≤ m = omega (arith, ltb-false m 64 e) in
-      let there : spell outs list m ≡ getD list (m - 64) [] = rw (e, spell) refl in
-      by-test (ltb (m - 64) count)
-      (λ t. stored-word count m far (ltb-true (m - 64) count t) ∙ sym (w .each (m - 64) (ltb-true (m - 64) count t)) ∙ sym there)
-      (λ t.
-      let past : count ≤ m - 64 = omega (arith, ltb-false (m - 64) count t) in
-      further count m far past ∙ sym (getD-past list (m - 64) [] (omega (arith, w .many))) ∙ sym there))
-
   -- a word as the code reads it
   pub word-is : (i : ℕ) {at size : ℕ} {v : List ℕ} → at ≡ getD room (i * 2) 0 → size ≡ getD room (i * 2 + 1) 0 → v ≡ take size (drop at formula)
       → v ≡ spanned formula room i
@@ -304,6 +290,25 @@ module _ (outs : List (List ℕ)) (formula room : List ℕ) where
   pub word-short : (i count : ℕ) {v : List ℕ} → ((j : ℕ) → j < count → length (spanned formula room j) < 32) → i < count → v ≡ spanned formula room i
       → length v < 32
   word-short i count hs l e = omega (arith, hs i l, ap length e)
+
+-- with all words stored, it is the spelling of a number by the lexicon and the words
+pub filled-end : (lex : Lexicon) (formula room : List ℕ) {count : ℕ} (list : List (List ℕ)) → Words formula room count list → (m : ℕ)
+    → filledTo (lex .outsides) formula room count m ≡ spelled lex list m
+filled-end lex formula room {count} list w m =
+    let outs = lex .outsides in
+    by-test (ltb m 64)
+    (λ e. near outs formula room count m (ltb-true m 64 e) ∙ sym (rw (e, spelled) refl))
+    (λ e.
+    let far : 64 ≤ m = omega (arith, ltb-false m 64 e) in
+    let there : spelled lex list m ≡ getD list (m - 64) [] = rw (e, spelled) refl in
+    by-test (ltb (m - 64) count)
+    (λ t.
+    stored-word outs formula room count m far (ltb-true (m - 64) count t)
+    ∙ sym (w .each (m - 64) (ltb-true (m - 64) count t))
+    ∙ sym there)
+    (λ t.
+    let past : count ≤ m - 64 = omega (arith, ltb-false (m - 64) count t) in
+    further outs formula room count m far past ∙ sym (getD-past list (m - 64) [] (omega (arith, w .many))) ∙ sym there))
 
 -- i words are stored
 pub record Storing (outs : List (List ℕ)) (formula room pool₀ pool : List ℕ) (count i : ℕ) : Type 0 where

@@ -9,9 +9,10 @@ use lib.ListN.{length, getD}
 use borrow.Author.Tests.{lt-ltb, le-ltb, ltb-true, ltb-false, leb-true}
 use Rattle.spellings.specs.Bytes.{isWord, isLetter, isWordByte, every}
 use Rattle.spellings.proofs.BytesLaws.{by-test}
+use Rattle.grammar.specs.Table.{Lexicon}
 use Rattle.grammar.specs.Lookup.{lexiconOf}
 use Rattle.grammar.proofs.ReaderLaws.{getD-past}
-use Rattle.terms.specs.Rows.{spell}
+use Rattle.tokens.specs.Tokens.{spelled}
 use Rattle.terms.specs.Names.{Distinct}
 use Rattle.writer.specs.Pool.{oneOf, Words, spelledBy}
 use Rattle.writer.proofs.PoolLaws.{filled-end}
@@ -41,30 +42,28 @@ inside l i w =
     by-test (ltb i (length l)) (λ e. ltb-true i (length l) e)
     (λ e. absurd (no-word (ap isWord (sym (getD-past l i [] (omega (arith, ltb-false i (length l) e)))) ∙ w)))
 
-module _ (outs words : List (List ℕ)) (once-outs : Once outs) (once-words : Once words)
-    (other : (i j : ℕ) → i < length outs → j < length words → getD outs i [] ≡ getD words j [] → ⊥) where
-  near : (n : ℕ) → n < 64 → spell outs words n ≡ getD outs n []
-  unfolding spell
-  near n h = rw (lt-ltb n 64 h, spell) refl
+module _ (lex : Lexicon) (words : List (List ℕ)) (once-outs : Once (lex .outsides)) (once-words : Once words)
+    (other : (i j : ℕ) → i < length (lex .outsides) → j < length words → getD (lex .outsides) i [] ≡ getD words j [] → ⊥) where
+  near : (n : ℕ) → n < 64 → spelled lex words n ≡ getD (lex .outsides) n []
+  near n h = rw (lt-ltb n 64 h, spelled) refl
 
-  far : (n : ℕ) → 64 ≤ n → spell outs words n ≡ getD words (n - 64) []
-  unfolding spell
-  far n h = rw (le-ltb n 64 h, spell) refl
+  far : (n : ℕ) → 64 ≤ n → spelled lex words n ≡ getD words (n - 64) []
+  far n h = rw (le-ltb n 64 h, spelled) refl
 
   abbrev S : ℕ → List ℕ
-  S = spell outs words
+  S = spelled lex words
 
   one : (m n : ℕ) → m < 64 → n < 64 → isWord (S m) ≡ true → S m ≡ S n → m ≡ n
   one m n a b w e =
-      let e′ : getD outs m [] ≡ getD outs n [] = sym (near m a) ∙ e ∙ near n b in
-      let wm : isWord (getD outs m []) ≡ true = ap isWord (sym (near m a)) ∙ w in
-      once-outs m n (inside outs m wm) (inside outs n (ap isWord (sym e′) ∙ wm)) e′
+      let e′ : getD (lex .outsides) m [] ≡ getD (lex .outsides) n [] = sym (near m a) ∙ e ∙ near n b in
+      let wm : isWord (getD (lex .outsides) m []) ≡ true = ap isWord (sym (near m a)) ∙ w in
+      once-outs m n (inside (lex .outsides) m wm) (inside (lex .outsides) n (ap isWord (sym e′) ∙ wm)) e′
 
   two : (m n : ℕ) → m < 64 → 64 ≤ n → isWord (S m) ≡ true → S m ≡ S n → ⊥
   two m n a b w e =
-      let e′ : getD outs m [] ≡ getD words (n - 64) [] = sym (near m a) ∙ e ∙ far n b in
-      let wm : isWord (getD outs m []) ≡ true = ap isWord (sym (near m a)) ∙ w in
-      other m (n - 64) (inside outs m wm) (inside words (n - 64) (ap isWord (sym e′) ∙ wm)) e′
+      let e′ : getD (lex .outsides) m [] ≡ getD words (n - 64) [] = sym (near m a) ∙ e ∙ far n b in
+      let wm : isWord (getD (lex .outsides) m []) ≡ true = ap isWord (sym (near m a)) ∙ w in
+      other m (n - 64) (inside (lex .outsides) m wm) (inside words (n - 64) (ap isWord (sym e′) ∙ wm)) e′
 
   both : (m n : ℕ) → 64 ≤ m → 64 ≤ n → isWord (S m) ≡ true → S m ≡ S n → m ≡ n
   both m n a b w e =
@@ -74,7 +73,7 @@ module _ (outs words : List (List ℕ)) (once-outs : Once outs) (once-words : On
       omega arith
 
   -- Words have one number each, if no list has a spelling twice and the two share none.
-  pub apart-lists : Distinct (spell outs words)
+  pub apart-lists : Distinct (spelled lex words)
   apart-lists m n w e =
       by-test (ltb m 64)
       (λ p.
@@ -87,5 +86,5 @@ module _ (outs words : List (List ℕ)) (once-outs : Once outs) (once-words : On
 
 -- The spellings that `finish` reads are those of the lists.
 pub spelled-lists : (table formula room : List ℕ) {count : ℕ} (list : List (List ℕ)) → Words formula room count list
-    → spelledBy table formula room count ≡ spell (lexiconOf table .outsides) list
-spelled-lists table formula room list w = λ i m. filled-end (lexiconOf table .outsides) formula room list w m i
+    → spelledBy table formula room count ≡ spelled (lexiconOf table) list
+spelled-lists table formula room list w = λ i m. filled-end (lexiconOf table) formula room list w m i

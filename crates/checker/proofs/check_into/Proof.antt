@@ -5,8 +5,8 @@ use Prim.Native.Nat.{ℕ}
 use native.Mathlib.Omega.{arith}
 use Rattle.answers.specs.Checked.{verdict}
 use Rattle.answers.specs.declared.Verdict.the-variants.{Passed}
-use Rattle.layout.specs.Layout.{layout}
-use Rattle.layout.proofs.Split.{Bytes}
+use Rattle.decoding.specs.Layout.{layout}
+use Rattle.decoding.proofs.Split.{Bytes}
 use Rattle.sorts.specs.ByBytes.{sortsOf}
 use Rattle.checker.proofs.CheckLaws as laws
 use borrow.Author.Needs.{needs}

@@ -1,6 +1,6 @@
 -- `check_table`: the verdict, with a room of its own.
 use native.Mathlib.Omega.{arith}
-use Rattle.layout.proofs.Split.{Bytes}
+use Rattle.decoding.proofs.Split.{Bytes}
 use Rattle.checker.proofs.Passing.{verdict-exactly}
 use borrow.Author.Needs.{needs}
 use Rattle.checker.proofs.check_table.Statement.{statement}

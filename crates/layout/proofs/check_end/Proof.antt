@@ -1,6 +1,6 @@
 -- `check_end`: by the last tag.
 use mathlib.Core.Path.{sym}
-use Rattle.layout.proofs.Laws as laws
+use Rattle.fields.proofs.Laws as laws
 use borrow.Author.Needs.{needs}
 use Rattle.layout.proofs.check_end.Statement.{statement}
 use Rattle.layout.proofs.check_end.Tie as tie

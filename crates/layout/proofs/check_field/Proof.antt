@@ -3,9 +3,9 @@ use borrow.Author.Needs.{needs}
 use mathlib.Core.Path.{_≡_, refl, sym, ap, _∙_}
 use mathlib.Core.Bool.{true, false}
 use Rattle.layout.specs.declared.Checking.the-variants.{Further}
-use Rattle.layout.specs.Layout.{isKnown, follows, isSpelled, hasRoom}
+use Rattle.decoding.specs.Layout.{isKnown, follows, isSpelled, hasRoom}
 use Rattle.layout.specs.Before.{fieldsBefore, checking}
-use Rattle.layout.proofs.Laws as laws
+use Rattle.fields.proofs.Laws as laws
 use Rattle.layout.proofs.check_field.Statement.{statement}
 use Rattle.layout.proofs.check_field.Tie as tie
 

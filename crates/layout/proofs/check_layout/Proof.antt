@@ -9,7 +9,7 @@ use Rattle.grammar.specs.declared.Front.the-variants.{Field}
 use Rattle.grammar.specs.Lookup.{frontOf}
 use Rattle.grammar.proofs.LookupLaws.{front-inside}
 use Rattle.layout.specs.declared.Checking.the-variants.{Further}
-use Rattle.layout.specs.Layout.{checkField}
+use Rattle.decoding.specs.Layout.{checkField}
 use Rattle.layout.specs.Before.{fieldsBefore, checking}
 use Rattle.layout.specs.Index.{bucketHash, Remembered}
 use Rattle.layout.proofs.RememberedLaws.{remembered-start, keyword-room, outside-room, remembered-next}

@@ -4,7 +4,7 @@ use native.Mathlib.Omega.{arith}
 use mathlib.Core.Path.{sym, _∙_}
 use mathlib.Core.Bool.{_&&_, not}
 use Rattle.layout.proofs.IndexLaws.{repeated-among}
-use Rattle.layout.proofs.Laws as laws
+use Rattle.fields.proofs.Laws as laws
 use Rattle.layout.proofs.is_spelled.Statement.{statement}
 use Rattle.layout.proofs.is_spelled.Tie as tie
 

@@ -2,7 +2,7 @@
 use Prim.Native.Nat.{_*_}
 use native.Mathlib.Omega.{arith}
 use lib.ListN.{length-set}
-use Rattle.scanner.proofs.WordLaws as laws
+use Rattle.scanner.proofs.StoreLaws as laws
 use borrow.Author.Needs.{needs}
 use Rattle.scanner.proofs.store_token.Statement.{statement}
 use Rattle.scanner.proofs.store_token.Tie as tie

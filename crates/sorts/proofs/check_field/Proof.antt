@@ -2,7 +2,7 @@
 use borrow.Author.Needs.{needs}
 use mathlib.Core.Path.{refl, ap}
 use lib.ListN.{length}
-use Rattle.sorts.proofs.HeadLaws.{signature-short}
+use Rattle.bodies.proofs.HeadLaws.{signature-short}
 use Rattle.sorts.proofs.StepLaws as laws
 use native.Mathlib.Omega.{arith}
 use Rattle.sorts.proofs.check_field.Statement.{statement}

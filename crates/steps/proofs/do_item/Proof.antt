@@ -5,13 +5,14 @@ use mathlib.Core.List.{List}
 use native.Mathlib.Omega.{arith}
 use lib.ListN.{length, drop}
 use borrow.Author.Needs.{needs}
-use Rattle.layout.specs.Prefix.{templatesOf, found}
-use Rattle.layout.specs.Decode.{itemOf}
+use Rattle.decoding.specs.Prefix.{templatesOf, found}
+use Rattle.decoding.specs.Decode.{itemOf}
 use Rattle.scanner.specs.Rooms.{tokensIn}
 use Rattle.expansion.specs.Run.{Run}
 use Rattle.expansion.specs.Outcomes.{ran}
 use Rattle.expansion.specs.Expansion.{Input, buildAll, runItem}
-use Rattle.templates.specs.Built.{wholeRows, Holds, Lists}
+use Rattle.terms.specs.Cells.{rowsLent}
+use Rattle.templates.specs.Built.{Holds, Lists}
 use Rattle.templates.proofs.VariableLaws.{rooms-fit}
 use Rattle.steps.proofs.ItemLaws as laws
 use Rattle.steps.proofs.do_item.Statement.{statement}
@@ -44,7 +45,7 @@ module _ (p : tie.After-build-arguments) where
   abbrev cells′ : List ℕ
   cells′ = let from-3 = p .build-arguments .last .1 .1 .1 in let from-6 = from-3 .1 .1 .1 in from-6 .1 .0
 
-  lists : (I : Input) (M : List ℕ) → I .rows ≡ wholeRows (entry .args .cells .now) → Holds (entry .args .vars .now) (entry .args .c .count) M
+  lists : (I : Input) (M : List ℕ) → I .rows ≡ rowsLent (length (entry .args .cells .now)) → Holds (entry .args .vars .now) (entry .args .c .count) M
       → Lists (entry .args .c .state) (p .build-arguments .result) out′ cells′
       (buildAll (found (templatesOf (drop 2 (entry .args .v .now)))) I M (entry .args .c .state) (entry .args .cells .now))
   lists I M er g = p .build-arguments .ensures .0 I (entry .args .c .state) M (er ∙ sym (rows-place .rows-of .ensures)) g

@@ -2,7 +2,7 @@
 use mathlib.Core.Path.{sym}
 use native.Mathlib.Omega.{arith}
 use lib.Seq.{length-take-le}
-use Rattle.layout.proofs.Split.{Bytes}
+use Rattle.decoding.proofs.Split.{Bytes}
 use Rattle.vegzump.proofs.Joining as joining
 use borrow.Author.Needs.{needs}
 use Rattle.vegzump.proofs.expand_in.Statement.{statement}

@@ -7,7 +7,7 @@ use lib.ListN.{length}
 use borrow.Author.Needs.{needs}
 use Rattle.expansion.specs.Run.{Result}
 use Rattle.expansion.specs.Expansion.{Input}
-use Rattle.templates.specs.Built.{wholeRows}
+use Rattle.terms.specs.Cells.{rowsLent}
 use Rattle.expander.specs.Lent.{lentInput}
 use Rattle.frames.specs.Frames.{longFrames, Standing}
 use Rattle.turns.specs.Turns.{Goes}
@@ -22,7 +22,7 @@ module _ (p : tie.After-copy) where
   entry = p .before .before .before .before .before .before
 
   abbrev input : Input
-  input = lentInput (entry .args .table .now) (entry .args .tokens .now) (entry .args .n) (wholeRows (entry .args .cells .now))
+  input = lentInput (entry .args .table .now) (entry .args .tokens .now) (entry .args .n) (rowsLent (length (entry .args .cells .now)))
 
   abbrev Stands : List ℕ → Result ℕ → Type 0
   Stands frames R = Standing input (entry .args .table .now) frames (entry .args .from .level) (entry .args .from .state) (entry .args .cells .now) R

@@ -7,7 +7,7 @@ use lib.ListN.{length}
 use borrow.Author.Needs.{needs}
 use Rattle.expansion.specs.Run.{Result}
 use Rattle.expansion.specs.Expansion.{Input}
-use Rattle.templates.specs.Built.{rowsFor, wholeRows}
+use Rattle.terms.specs.Cells.{rowsLent}
 use Rattle.expander.specs.Lent.{lentInput}
 use Rattle.frames.specs.Frames.{shortFrames, LevelFits, Standing}
 use Rattle.expander.specs.Calls.{rootItems}
@@ -27,7 +27,7 @@ module _ (p : tie.After-save) where
   entry = saved .before .before .before .before .before .before
 
   abbrev input : Input
-  input = lentInput (entry .args .table .now) (entry .args .tokens .now) (entry .args .n) (wholeRows (entry .args .cells .now))
+  input = lentInput (entry .args .table .now) (entry .args .tokens .now) (entry .args .n) (rowsLent (length (entry .args .cells .now)))
 
   abbrev result : Result ℕ
   result = rootItems input (entry .args .table .now) (entry .args .start) (entry .args .s) (entry .args .cells .now)
@@ -56,10 +56,10 @@ module _ (q : tie.After-items) where
   went = q .items .ensures .0 (result q-save) (standing q-save)
 
   paused : {from : Resumption} → q .items .result ≡ Paused from
-      → Standing (lentInput (entry q-save .args .table .now) (entry q-save .args .tokens .now) (entry q-save .args .n) (wholeRows cells′))
+      → Standing (lentInput (entry q-save .args .table .now) (entry q-save .args .tokens .now) (entry q-save .args .n) (rowsLent (length cells′)))
       (entry q-save .args .table .now) frames′ (from .level) (from .state) cells′ (result q-save)
   paused e =
-      laws.standing-rows (entry q-save .args .tokens .now) (entry q-save .args .n) (ap rowsFor (sym (let from-3 = q .items .kept .1 .1 .1 in from-3 .1 .1 .0)))
+      laws.standing-rows (entry q-save .args .tokens .now) (entry q-save .args .n) (ap rowsLent (sym (let from-3 = q .items .kept .1 .1 .1 in from-3 .1 .1 .0)))
       (laws.goes-paused _ _ (result q-save) frames′ cells′ (q .items .result) went e .0)
 
 items-requires : tie.Need-items-requires

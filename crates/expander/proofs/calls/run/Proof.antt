@@ -3,10 +3,11 @@ use Prim.Native.Nat.{ℕ}
 use mathlib.Core.Path.{_≡_, _∙_}
 use mathlib.Core.List.{[]}
 use borrow.Author.Needs.{needs}
+use lib.ListN.{length}
 use Rattle.expansion.specs.Run.{Result, after}
 use Rattle.expansion.specs.Expansion.{Input, runCall, initialState, ended, run}
 use Rattle.expansion.specs.Limits.{mostOpen}
-use Rattle.templates.specs.Built.{wholeRows}
+use Rattle.terms.specs.Cells.{rowsLent}
 use Rattle.expander.specs.Lent.{lentInput}
 use Rattle.turns.specs.declared.begins.Begun.{Begun}
 use Rattle.turns.specs.declared.begins.Begun.the-variants.{Entered}
@@ -23,11 +24,12 @@ module _ (p : tie.After-begin-root) where
   entry = p .before .before .before .before .before .before
 
   abbrev input : Input
-  input = lentInput (entry .args .table .now) (entry .args .tokens .now) (entry .args .n) (wholeRows (entry .args .cells .now))
+  input = lentInput (entry .args .table .now) (entry .args .tokens .now) (entry .args .n) (rowsLent (length (entry .args .cells .now)))
 
   starts : Starts input (entry .args .table .now) 1024 (entry .args .root) initialState (p .begin-root .result) (p .begin-root .last .1 .0)
   starts =
-      p .begin-root .ensures (entry .args .table .now) (wholeRows (entry .args .cells .now)) (entry .pre .table) (remembers-none (entry .args .table .now))
+      p .begin-root .ensures (entry .args .table .now) (rowsLent (length (entry .args .cells .now)))
+      (entry .pre .table) (remembers-none (entry .args .table .now))
 
   begins : {q : Begun} → p .begin-root .result ≡ q → Begins input (entry .args .table .now) 1024 (entry .args .root) initialState q
   begins e =

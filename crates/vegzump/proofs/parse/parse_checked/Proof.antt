@@ -3,8 +3,8 @@ use Prim.Native.Nat.{ℕ}
 use mathlib.Core.Path.{_≡_}
 use mathlib.Core.List.{List}
 use native.Mathlib.Omega.{arith}
-use Rattle.layout.proofs.Split.{Bytes}
-use Rattle.scanner.specs.declared.Scanned.the-variants.{Tokens}
+use Rattle.decoding.proofs.Split.{Bytes}
+use Rattle.tokens.specs.declared.Scanned.the-variants.{Tokens}
 use Rattle.scanner.specs.Rooms.{RoomFor}
 use Rattle.scanner.proofs.AfterScan.{Holds}
 use Rattle.grammar.specs.Table.{lexiconOfTable}

@@ -1,7 +1,7 @@
 -- `parse_in`: the check refuses, or the formula is scanned and run.
 use mathlib.Core.Path.{sym, _∙_}
 use native.Mathlib.Omega.{arith}
-use Rattle.layout.proofs.Split.{Bytes}
+use Rattle.decoding.proofs.Split.{Bytes}
 use Rattle.vegzump.proofs.Joining as joining
 use Rattle.vegzump.proofs.Parsing as parsing
 use borrow.Author.Needs.{needs}

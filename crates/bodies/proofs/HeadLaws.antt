@@ -1,0 +1,124 @@
+-- Laws of the heads of definitions: their signatures, their refusals, and the walk over a block that collects them.
+use Prim.Native.Nat.{ℕ, zero, suc, _+_, _-_, _*_, _≤_, _<_}
+use mathlib.Core.Path.{_≡_, refl, sym, ap, _∙_}
+use mathlib.Core.Bool.{Bool, true, false, _&&_, _||_}
+use mathlib.Core.List.{List, [], _∷_}
+use native.Mathlib.Omega.{arith}
+use native.Mathlib.Nat.{add-assoc}
+use lib.Dec.{eqb, leb, ltb}
+use lib.ListN.{length, getD, take, drop, set, length-take, drop-of-length-le}
+use lib.Seq.{take-all, take-nil, take-take, drop-drop, set-out}
+use borrow.Author.Tests.{eq-eqb, ne-eqb}
+use Rattle.spellings.specs.Bytes.{same}
+use Rattle.bodies.specs.HeadBytes.{valueAt, signatureAt, faultOf, withHead, Defined}
+use Rattle.bodies.proofs.TemplateInduction.{choose}
+
+-- ------------------------------------------------------------------ signatures
+
+drop-two : (n : ℕ) (l : List ℕ) → drop 2 (take n l) ≡ take (n - 2) (drop 2 l)
+drop-two zero l = refl
+drop-two (suc zero) [] = refl
+drop-two (suc zero) (x ∷ l) = refl
+drop-two (suc (suc n)) [] = sym (take-nil (suc (suc n) - 2))
+drop-two (suc (suc n)) (x ∷ []) = sym (take-nil (suc (suc n) - 2))
+drop-two (suc (suc n)) (x ∷ y ∷ l) = let e : n ≡ suc (suc n) - 2 = omega arith in cc
+
+-- no head stands past the end
+pub signature-past : (bs : List ℕ) (at : ℕ) → length bs ≤ at → take 0 (drop at bs) ≡ signatureAt bs at
+unfolding signatureAt
+signature-past bs at h =
+    let size : ℕ = getD bs (at + 1) 0 * 256 + getD bs (at + 2) 0 in
+    cc (take-nil size, drop-of-length-le bs {i = at + 3} (omega arith))
+
+module _ (bs : List ℕ) (at : ℕ) {hi lo : ℕ} (e : hi ≡ getD bs (at + 1) 0) (f : lo ≡ getD bs (at + 2) 0) where
+  signature-is : signatureAt bs at ≡ take 5 (take (hi * 256 + lo - 2) (drop (at + 5) bs))
+  unfolding signatureAt
+  signature-is =
+      cc (drop-two (hi * 256 + lo) (drop (at + 3) bs), drop-drop 2 (at + 3) bs, add-assoc at 3 2)
+
+  -- too short a head has none
+  pub signature-none : hi * 256 + lo < 2 → take 0 (drop (at + 5) bs) ≡ signatureAt bs at
+  signature-none h =
+      let z : 0 ≡ hi * 256 + lo - 2 = omega arith in
+      cc signature-is
+
+  -- up to the length that it states
+  pub signature-some : hi * 256 + lo < 7 → take (hi * 256 + lo - 2) (drop (at + 5) bs) ≡ signatureAt bs at
+  signature-some h =
+      let n : ℕ = hi * 256 + lo - 2 in
+      let l : List ℕ = drop (at + 5) bs in
+      sym (take-all 5 (take n l) (omega (arith, length-take n l))) ∙ sym signature-is
+
+  -- five bytes at most
+  pub signature-most : 7 ≤ hi * 256 + lo → take 5 (drop (at + 5) bs) ≡ signatureAt bs at
+  signature-most h = sym (take-take 5 (hi * 256 + lo - 2) (drop (at + 5) bs) (omega arith)) ∙ sym signature-is
+
+-- a signature is a result and four parameters at most
+pub signature-short : (bs : List ℕ) (at : ℕ) → length (signatureAt bs at) ≤ 5
+unfolding signatureAt
+signature-short bs at = omega (arith, length-take 5 (drop 2 (valueAt bs at)))
+
+-- ------------------------------------------------------------------ refusals 7 and 8
+
+module _ (bs H : List ℕ) (at block : ℕ) {n mode h : ℕ} (e : n ≡ getD bs (at + 3) 0) (f : mode ≡ getD bs (at + 4) 0) (g : h ≡ getD H n 0) where
+  -- by the mode, and one test for each
+  faultBy : Bool → Bool → Bool → ℕ
+  faultBy earlier good new = choose (choose 0 8 good) (choose 0 7 new) earlier
+
+  fault-is : faultOf bs at block H ≡ faultBy (eqb mode 1 || eqb mode 2) (leb h block && ltb 0 h && same (signatureAt bs h) (signatureAt bs at))
+      (eqb h 0)
+  unfolding faultOf faultBy
+  fault-is =
+      let k : getD H (getD bs (at + 3) 0) 0 ≡ h = cc in
+      cc
+
+  -- extend and update
+  pub fault-earlier :
+      {s s′ : List ℕ} {alike : Bool} → (eqb mode 1 || eqb mode 2) ≡ true → s ≡ signatureAt bs h → s′ ≡ signatureAt bs at → alike ≡ same s s′
+      → (good : Bool) → (leb h block && ltb 0 h && alike) ≡ good → choose 0 8 good ≡ faultOf bs at block H
+  unfolding faultBy
+  fault-earlier {s} {s′} {alike} m p q a good k =
+      let test : Bool = leb h block && ltb 0 h && same (signatureAt bs h) (signatureAt bs at) in
+      let b : test ≡ good = cc in
+      cc fault-is
+
+  -- add
+  pub fault-new : (eqb mode 1 || eqb mode 2) ≡ false → (new : Bool) → eqb h 0 ≡ new → choose 0 7 new ≡ faultOf bs at block H
+  unfolding faultBy
+  fault-new m new k =
+      let test : Bool = leb h block && ltb 0 h && same (signatureAt bs h) (signatureAt bs at) in
+      cc fault-is
+
+-- ------------------------------------------------------------------ one head more
+
+module _ (bs : List ℕ) (at tag block : ℕ) (H : List ℕ) where
+  -- no head
+  pub head-none : (tag ≡ 4 → ⊥) → Defined bs at tag block H 0 H
+  head-none d =
+      let e : false ≡ eqb tag 4 = sym (ne-eqb tag 4 d) in
+      record { faulty = ap (choose (faultOf bs at block H) 0) e; heads = ap (choose (withHead bs at H) H) e }
+
+  module _ (e : tag ≡ 4) {fault : ℕ} (f : fault ≡ faultOf bs at block H) where
+    -- by the head's own refusal
+    head-by : (clean : Bool) → eqb fault 0 ≡ clean → {H′ : List ℕ} → H′ ≡ choose (withHead bs at H) H clean → Defined bs at tag block H fault H′
+    head-by clean c q =
+        record {
+          faulty = f ∙ ap (choose (faultOf bs at block H) 0) (sym (eq-eqb tag 4 e));
+          heads = cc (eq-eqb tag 4 e);
+        }
+
+    -- a head that is refused is not kept
+    pub head-refused : (fault ≡ 0 → ⊥) → Defined bs at tag block H fault H
+    head-refused h = head-by false (ne-eqb fault 0 h) refl
+
+    module _ (z : fault ≡ 0) {n : ℕ} (q : n ≡ getD bs (at + 3) 0) where
+      put : {H′ : List ℕ} → H′ ≡ set H n at → Defined bs at tag block H 0 H′
+      put {H′} p = rw (← z) (head-by true (eq-eqb fault 0 z) (cc))
+
+      -- one that is not refused is
+      pub head-put : Defined bs at tag block H 0 (set H n at)
+      head-put = put refl
+
+      -- a nonterminal past the heads is not kept
+      pub head-left : length H ≤ n → Defined bs at tag block H 0 H
+      head-left h = put (sym (set-out H n at h))

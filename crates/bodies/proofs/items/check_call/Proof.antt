@@ -1,0 +1,81 @@
+-- `check_call`: 9 before 11, then the signature's result.
+use borrow.Author.Needs.{needs}
+use Prim.Native.Nat.{_≤_}
+use mathlib.Core.Path.{_≡_, ap}
+use lib.ListN.{length, drop}
+use Rattle.bodies.specs.TemplateBytes.{templatesFault}
+use Rattle.bodies.specs.BodyBytes.{context}
+use Rattle.bodies.proofs.HeadLaws.{signature-short}
+use Rattle.bodies.proofs.BodyLaws as laws
+use native.Mathlib.Omega.{arith}
+use Rattle.bodies.proofs.items.check_call.Statement.{statement}
+use Rattle.bodies.proofs.items.check_call.Tie as tie
+
+-- the nonterminal's signature
+module _ (p : tie.After-signature-at) where
+  abbrev head : tie.After-head-of
+  head = p .before .before
+
+  abbrev start : tie.Start
+  start = head .before .before .before .before .before .before
+
+  short : length (p .signature-at .result .now) ≤ 5
+  short = omega (arith, ap length (p .signature-at .ensures), signature-short (start .args .table .now) (head .head-of .result))
+
+-- the places of its parameters are open, then the arguments are tested
+abbrev opened : tie.After-part → tie.After-open-params
+opened p = p .before .before .before
+
+abbrev lent : tie.After-fault-in → tie.After-part
+lent p = p .before .before
+
+abbrev signed : tie.After-fault-in → tie.After-signature-at
+signed p = opened (lent p) .before .before
+
+abbrev tested : tie.After-slice-known3 → tie.After-fault-in
+tested p = p .before .before
+
+fault :
+    (p : tie.After-fault-in)
+    → p .fault-in .result
+    ≡ templatesFault (start (signed p) .args .known .outsides)
+    (context (start (signed p) .args .known) (start (signed p) .args .heads .now) (start (signed p) .args .sorts .now) .sorts)
+    (start (signed p) .args .arguments .now)
+    (drop 1 (signed p .signature-at .result .now))
+fault p =
+    let a = start (signed p) .args in
+    cc (p .fault-in .ensures, opened (lent p) .open-params .ensures .loaded)
+
+returns : tie.Need-returns
+returns c = search laws.call-undefined
+
+open-params-requires : tie.Need-open-params-requires
+open-params-requires c κs = omega (arith, short (c .before))
+
+fault-in-requires : tie.Need-fault-in-requires
+fault-in-requires c κs =
+    let q = opened (c .before) in
+    omega (arith, start (q .before .before) .pre, q .open-params .ensures .small, q .open-params .kept .0, short (q .before .before))
+
+returns-2 : tie.Need-returns-2
+returns-2 c = search (laws.call-unfit, fault (tested (c .before)))
+
+returns-3 : tie.Need-returns-3
+returns-3 c = search (laws.call-fit, fault (tested (c .before .before)))
+
+-- the function meets its contract
+pub check-call-spec : {M : Type 1} → statement M
+check-call-spec =
+    tie.close
+    (tie.spec
+    (λ c κs. search needs)
+    returns
+    (λ c κs. search needs)
+    open-params-requires
+    (λ c κs. search needs)
+    fault-in-requires
+    (λ c. search needs)
+    returns-2
+    (λ c κs. search needs)
+    (λ c. search needs)
+    returns-3)

@@ -1,0 +1,4 @@
+pub mod ByFields
+pub mod TemplateBytes
+pub mod HeadBytes
+pub mod BodyBytes

@@ -1,0 +1,15 @@
+pub mod PrefixLaws
+pub mod Rooms
+pub mod Split
+pub mod Templates
+pub mod Values
+pub mod Accept
+pub mod Order
+pub mod Spelled
+pub mod Sound
+pub mod Complete
+pub mod Rebuilt
+pub mod Inverse
+pub mod RefusalNumbers
+pub mod DecodedLexicon
+pub mod LayoutTheorems

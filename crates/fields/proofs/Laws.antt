@@ -1,0 +1,249 @@
+-- Laws of the tests on one field: values, counts, and the first test that fails.
+use Prim.Native.Nat.{ℕ, _+_, _<_, _≤_}
+use mathlib.Core.Path.{_≡_, refl, sym, ap, _∙_}
+use mathlib.Core.Bool.{Bool, true, false, not, _&&_, _||_, and-eq-true-iff, and-true, or-false}
+use mathlib.Core.List.{List, _∷_}
+use native.Mathlib.Omega.{arith}
+use mir.Syntax.{w16}
+use mir.Val.{Fits}
+use lib.Dec.{eqb, leb, ltb}
+use lib.ListN.{length, getD, drop, drop-of-length-le}
+use borrow.Author.Tests.{eq-eqb, ne-eqb, ltb-true, not-true, not-false}
+use Rattle.answers.specs.Refusals.{refusal}
+use Rattle.answers.specs.Checked.{Checked, ok, bad, need, verdict, _>>=_, _>>_}
+use Rattle.answers.specs.declared.Verdict.the-variants.{Passed, Refused}
+use Rattle.spellings.specs.Bytes.{every, isWord, isKeyword, oneIf}
+use Rattle.spellings.proofs.Loops.{drop-at-index}
+use Rattle.grammar.specs.Limits.{most}
+use Rattle.grammar.specs.SortTests.{isSort}
+use Rattle.grammar.specs.Values.{Field}
+use Rattle.decoding.specs.declared.Progress.{Progress}
+use Rattle.decoding.specs.Prefix.{templatesOf, isTemplates, isTemplate}
+use Rattle.decoding.specs.Layout.{isEmpty, isHead, isItem, isRoot, isKnown, follows, isRepeated, isSpelled, hasRoom, passed, isWhole, checkField}
+
+-- ------------------------------------------------------------------ tests
+
+-- a test that the code made
+pub passes : {t test : Bool} → t ≡ test → not t ≡ false → test ≡ true
+passes {t} e f = sym e ∙ not-false t f
+
+-- and one that failed
+pub fails : {t test : Bool} → t ≡ test → not t ≡ true → test ≡ false
+fails {t} e f = sym e ∙ not-true t f
+
+-- ------------------------------------------------------------------ values
+
+-- a definition's head, by the test of its length and its first two bytes
+pub head-by :
+    (v : List ℕ) {first second : ℕ} → first ≡ getD v 0 0 → second ≡ getD v 1 0 → (sized : Bool)
+    → (leb 3 (length v) && leb (length v) (3 + most .parameters) && ltb first (most .nonterminals) && leb second 2) ≡ sized
+    → (sized && every isSort (drop 2 v)) ≡ isHead v
+unfolding isHead
+head-by v e f sized q =
+    cc
+
+-- the test for a known tag, by the tests of the tag
+knownTests : List ℕ → Bool → Bool → Bool → Bool → Bool → Bool → Bool → Bool → Bool
+knownTests v a b c d e f g h = a || b || (c && isEmpty v) || (d && isHead v) || (e && isEmpty v) || (f && isItem v) || g || (h && isRoot v)
+
+-- a known tag, one by one
+module _ {tag : ℕ} (v : List ℕ) where
+  known-at : {t : ℕ} → tag ≡ t → isKnown t v ≡ isKnown tag v
+  known-at e = cc
+
+  -- a keyword
+  pub known-keyword : tag ≡ 1 → true ≡ isKnown tag v
+  unfolding isKnown
+  known-keyword e = known-at e
+
+  -- an outside name
+  pub known-outside : tag ≡ 2 → true ≡ isKnown tag v
+  unfolding isKnown
+  known-outside e = known-at e
+
+  -- a block is empty
+  pub known-block : tag ≡ 3 → isEmpty v ≡ isKnown tag v
+  unfolding isKnown
+  known-block e = simp or-false at (known-at e)
+
+  -- a head
+  pub known-head : tag ≡ 4 → isHead v ≡ isKnown tag v
+  unfolding isKnown
+  known-head e = simp or-false at (known-at e)
+
+  -- an alternative is empty
+  pub known-alternative : tag ≡ 5 → isEmpty v ≡ isKnown tag v
+  unfolding isKnown
+  known-alternative e = simp or-false at (known-at e)
+
+  -- an item
+  pub known-item : tag ≡ 6 → isItem v ≡ isKnown tag v
+  unfolding isKnown
+  known-item e = simp or-false at (known-at e)
+
+  -- a result
+  pub known-result : tag ≡ 7 → true ≡ isKnown tag v
+  unfolding isKnown
+  known-result e = known-at e
+
+  -- the root
+  pub known-root : tag ≡ 8 → isRoot v ≡ isKnown tag v
+  unfolding isKnown
+  known-root e = known-at e
+
+  -- any other tag
+  pub known-none :
+      (((((((Unit {0} × (tag ≡ 1 → ⊥)) × (tag ≡ 2 → ⊥)) × (tag ≡ 3 → ⊥)) × (tag ≡ 4 → ⊥)) × (tag ≡ 5 → ⊥)) × (tag ≡ 6 → ⊥)) × (tag ≡ 7 → ⊥))
+      × (tag ≡ 8 → ⊥) → false ≡ isKnown tag v
+  unfolding isKnown knownTests
+  known-none ((((((((u, a), b), c), d), e), f), g), h) =
+      sym
+      (λ i. knownTests v (ne-eqb tag 1 a i) (ne-eqb tag 2 b i) (ne-eqb tag 3 c i) (ne-eqb tag 4 d i) (ne-eqb tag 5 e i) (ne-eqb tag 6 f i)
+      (ne-eqb tag 7 g i) (ne-eqb tag 8 h i))
+
+-- the bytes before i are sorts
+pub record Sorts (v : List ℕ) (from i : ℕ) : Type 0 where
+  -- the bytes left are sorts exactly if all are
+  pub rest : every isSort (drop i v) ≡ every isSort (drop from v)
+
+-- none yet
+pub sorts-start : (v : List ℕ) (from : ℕ) → Sorts v from from
+sorts-start v from = record { rest = refl }
+
+every-front : (p : ℕ → Bool) (b : ℕ) (bs : List ℕ) → every p (b ∷ bs) ≡ (p b && every p bs)
+unfolding every
+every-front p b bs = refl
+
+module _ {v : List ℕ} {from i : ℕ} (r : Sorts v from i) where
+  sorts-front : i < length v → every isSort (drop i v) ≡ (isSort (getD v i 0) && every isSort (drop (i + 1) v))
+  sorts-front h = ap (every isSort) (drop-at-index v i h) ∙ every-front isSort (getD v i 0) (drop (i + 1) v)
+
+  -- one byte more is a sort
+  pub sorts-next : i < length v → {known : Bool} → known ≡ isSort (getD v i 0) → not known ≡ false → Sorts v from (i + 1)
+  sorts-next h e f =
+      record { rest = cc (passes e f, sorts-front h, r .rest) }
+
+  -- one byte is none
+  pub sorts-stop : i < length v → {known : Bool} → known ≡ isSort (getD v i 0) → not known ≡ true → false ≡ every isSort (drop from v)
+  sorts-stop h e f = cc (fails e f, sorts-front h, r .rest)
+
+  -- all bytes are
+  pub sorts-end : length v ≤ i → true ≡ every isSort (drop from v)
+  unfolding every
+  sorts-end h = sym (ap (every isSort) (drop-of-length-le v h)) ∙ r .rest
+
+-- ------------------------------------------------------------------ counts
+
+-- one more where there is room fits, whatever the count
+pub fitting : (n limit : ℕ) (here : Bool) → (not here || ltb n limit) ≡ true → limit < 65536 → n < 65536 → {r : ℕ} → r ≡ oneIf here
+    → Fits w16 (n + r)
+fitting n limit true e h k f = record { fits = omega (arith, ltb-true n limit e) }
+fitting n limit false e h k f = record { fits = omega arith }
+
+-- the items after a field, by whether it begins an alternative
+items-by : (tag : ℕ) (s : Progress) (begins : Bool) → eqb tag 5 ≡ begins
+    → passed tag s .items ≡ elim begins [ true ↦ 0 | false ↦ s .items + oneIf (eqb tag 6) ]
+unfolding passed
+items-by tag s begins e =
+    cc
+
+-- an alternative begins with none
+pub items-begin : (tag : ℕ) (s : Progress) → tag ≡ 5 → passed tag s .items ≡ 0
+items-begin tag s e = items-by tag s true (eq-eqb tag 5 e)
+
+-- an item counts
+pub items-more : (tag : ℕ) (s : Progress) → (tag ≡ 5 → ⊥) → passed tag s .items ≡ s .items + oneIf (eqb tag 6)
+items-more tag s h = items-by tag s false (ne-eqb tag 5 h)
+
+-- ------------------------------------------------------------------ spellings and templates, by the tag
+
+module _ (tag : ℕ) (v : List ℕ) (before : List Field) where
+  -- a keyword
+  pub spelled-keyword : tag ≡ 1 → isSpelled tag v before ≡ (isKeyword v && not (isRepeated 1 v before))
+  unfolding isSpelled
+  spelled-keyword e =
+      cc (and-true (isKeyword v && not (isRepeated 1 v before)))
+
+  -- an outside name
+  pub spelled-outside : tag ≡ 2 → isSpelled tag v before ≡ (isWord v && not (isRepeated 2 v before))
+  unfolding isSpelled
+  spelled-outside e = cc
+
+  -- any other field
+  pub spelled-other : (tag ≡ 1 → ⊥) → (tag ≡ 2 → ⊥) → isSpelled tag v before ≡ true
+  unfolding isSpelled
+  spelled-other f g =
+      λ i.
+      (not (ne-eqb tag 1 f i) || (isKeyword v && not (isRepeated 1 v before)))
+      && (not (ne-eqb tag 2 g i) || (isWord v && not (isRepeated 2 v before)))
+
+module _ (tag : ℕ) (v : List ℕ) where
+  -- an item
+  pub whole-item : tag ≡ 6 → isWhole tag v ≡ (not (eqb (getD v 0 0) 4) || isTemplates (templatesOf (drop 2 v)))
+  unfolding isWhole
+  whole-item e =
+      cc (and-true (not (eqb (getD v 0 0) 4) || isTemplates (templatesOf (drop 2 v))))
+
+  -- a result
+  pub whole-result : tag ≡ 7 → isWhole tag v ≡ isTemplate (templatesOf v)
+  unfolding isWhole
+  whole-result e = cc
+
+  -- any other field
+  pub whole-other : (tag ≡ 6 → ⊥) → (tag ≡ 7 → ⊥) → isWhole tag v ≡ true
+  unfolding isWhole
+  whole-other f g =
+      λ i.
+      (not (ne-eqb tag 6 f i) || not (eqb (getD v 0 0) 4) || isTemplates (templatesOf (drop 2 v)))
+      && (not (ne-eqb tag 7 g i) || isTemplate (templatesOf v))
+
+-- ------------------------------------------------------------------ one field
+
+-- the first test that fails, in the order 3, 4, 5, 6, 10
+abbrev pub firstFault : Bool → Bool → Bool → Bool → Bool → ℕ → Progress → Checked Progress
+firstFault false ordered spelled room whole at s = bad (refusal 3 at 0 0)
+firstFault true false spelled room whole at s = bad (refusal 4 at 0 0)
+firstFault true true false room whole at s = bad (refusal 5 at 0 0)
+firstFault true true true false whole at s = bad (refusal 6 at 0 0)
+firstFault true true true true false at s = bad (refusal 10 at 0 0)
+firstFault true true true true true at s = ok s
+
+module _ (before : List Field) (at tag : ℕ) (v : List ℕ) (s : Progress) where
+  by-flags : (known ordered spelled room whole : Bool)
+      → (do
+        need known 3 at
+        need ordered 4 at
+        need spelled 5 at
+        need room 6 at
+        need whole 10 at
+        ok (passed tag s))
+      ≡ firstFault known ordered spelled room whole at (passed tag s)
+  by-flags false ordered spelled room whole = refl
+  by-flags true false spelled room whole = refl
+  by-flags true true false room whole = refl
+  by-flags true true true false whole = refl
+  by-flags true true true true false = refl
+  by-flags true true true true true = refl
+
+  -- one field by the outcomes of its tests
+  pub field-by : (known ordered spelled room whole : Bool)
+      → isKnown tag v ≡ known
+      → follows tag (s .last) ≡ ordered
+      → isSpelled tag v before ≡ spelled
+      → hasRoom tag s ≡ room
+      → isWhole tag v ≡ whole
+      → checkField before at tag v s ≡ firstFault known ordered spelled room whole at (passed tag s)
+  unfolding checkField
+  field-by known ordered spelled room whole e3 e4 e5 e6 e10 =
+      by-flags (isKnown tag v) (follows tag (s .last)) (isSpelled tag v before) (hasRoom tag s) (isWhole tag v)
+      ∙ (λ i. firstFault (e3 i) (e4 i) (e5 i) (e6 i) (e10 i) at (passed tag s))
+
+-- ------------------------------------------------------------------ the end
+
+-- the root is last
+pub end-root : (last at : ℕ) → last ≡ 8 → verdict (need (eqb last 8) 4 at) ≡ Passed
+end-root last at e = cc (eq-eqb last 8 e)
+
+-- it is missing
+pub end-other : (last at : ℕ) → (last ≡ 8 → ⊥) → verdict (need (eqb last 8) 4 at) ≡ Refused (refusal 4 at 0 0)
+end-other last at h = cc (ne-eqb last 8 h)

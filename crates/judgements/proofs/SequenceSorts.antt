@@ -1,0 +1,207 @@
+-- Checking the blocks and the root is the judgement ⊢ gseq ⇒ E.
+use Prim.Native.Nat.{ℕ, _+_}
+use mathlib.Core.Path.{_≡_, refl, ap, subst}
+use mathlib.Core.Bool.{true, not, _&&_}
+use mathlib.Core.List.{List, [], _∷_, _++_}
+use native.Mathlib.Omega.{arith}
+use lib.Dec.{eqb}
+use lib.ListN.{length}
+use borrow.Author.Tests.{eqb-true, eq-eqb, not-true}
+use Rattle.answers.specs.Checked.{Checked}
+use Rattle.grammar.specs.Sorts.{Signature, term}
+use Rattle.grammar.specs.Table.{Mode, add, extend, update, Definition, Table}
+use Rattle.decoding.specs.Within.{Each, each-none, each-more, DefinitionWithin, Within}
+use Rattle.judgements.specs.Sizes.{definitionSize, definitionsSize}
+use Rattle.judgements.specs.CheckSorts.{isDefined, signatureOf, sameSignature, isAsBefore, isUnused, consistent, collect}
+use Rattle.judgements.specs.Scopes.{Env, Scope, entryOf}
+use Rattle.judgements.specs.CheckSorts.{checkBodies, checkBlocks, checkRoot, checkSorts}
+use Rattle.judgements.specs.Judgements.{Newest, Undeclared, Defines, no-definition, by-add, by-extend, by-update, scope, Sequence, no-grammar}
+use Rattle.judgements.specs.Judgements.{by-grammar, WellSorted}
+use Rattle.judgements.proofs.Accepting.{Accepts, need-passed, need-passes, needs-passed, needs-passes, bind-passed, bind-passes}
+use Rattle.judgements.proofs.Accepting.{then-passed, then-passes}
+use Rattle.judgements.proofs.Environments.{defined-newest, newest-defined, newest-signature, undefined-absent, absent-undefined, same-signature}
+use Rattle.judgements.proofs.Environments.{signature-same}
+use Rattle.judgements.proofs.TemplateSorts.{both, pair}
+use Rattle.judgements.proofs.BodySorts.{ok-rule, rule-ok}
+
+-- ------------------------------------------------------------------ E ⊢ g :: E'
+
+module _ (E : Env) where
+  -- add: neither this block nor an earlier one has the number
+  new-rule : (own : Env) (d : Definition) → isUnused E own d ≡ true → Undeclared own (d .nonterminal) × Undeclared E (d .nonterminal)
+  new-rule own d h =
+      let n : ℕ = d .nonterminal in
+      let b = both (not (isDefined own n)) (not (isDefined E n)) h in
+      (undefined-absent own n (not-true (isDefined own n) (b .0)), undefined-absent E n (not-true (isDefined E n) (b .1)))
+
+  rule-new : (own : Env) (d : Definition) → Undeclared own (d .nonterminal) → Undeclared E (d .nonterminal) → isUnused E own d ≡ true
+  rule-new own d h k =
+      let n : ℕ = d .nonterminal in
+      pair (not (isDefined own n)) (not (isDefined E n)) (ap not (absent-undefined h)) (ap not (absent-undefined k))
+
+  -- extend and update: this block does not have the number, an earlier one has it with the same signature
+  before-rule :
+      (own : Env) (d : Definition) → isAsBefore E own d ≡ true
+      → Undeclared own (d .nonterminal) × Newest E (d .nonterminal) (d .signature)
+  before-rule own d h =
+      let n : ℕ = d .nonterminal in
+      let b = both (not (isDefined own n) && isDefined E n) (sameSignature (signatureOf E n) (d .signature)) h in
+      let c = both (not (isDefined own n)) (isDefined E n) (b .0) in (
+        undefined-absent own n (not-true (isDefined own n) (c .0)),
+        subst (Newest E n) (same-signature (signatureOf E n) (d .signature) (b .1)) (defined-newest E n (c .1)),
+      )
+
+  rule-before :
+      (own : Env) (d : Definition) → Undeclared own (d .nonterminal) → Newest E (d .nonterminal) (d .signature)
+      → isAsBefore E own d ≡ true
+  rule-before own d h k =
+      let n : ℕ = d .nonterminal in
+      pair (not (isDefined own n) && isDefined E n) (sameSignature (signatureOf E n) (d .signature))
+      (pair (not (isDefined own n)) (isDefined E n) (ap not (absent-undefined h)) (newest-defined k))
+      (signature-same (signatureOf E n) (d .signature) (newest-signature k))
+
+  -- a definition passes, and its rule is left to apply
+  definition-rule :
+      (P : Unit {0} → Type 0) (m : Mode) (own : Env) (d : Definition) (at : ℕ) → d .mode ≡ m
+      → Accepts (consistent m E own d at) P
+      → ((ds : List Definition) (own′ : Env) → Defines E (entryOf d ∷ own) ds own′ → Defines E own (d ∷ ds) own′) × P tt
+  definition-rule P add own d at e h =
+      let n = need-passed (isUnused E own d) 7 at P h in
+      let r = new-rule own d (n .0) in
+      (λ ds own′ k. by-add e (r .0) (r .1) k, n .1)
+  definition-rule P extend own d at e h =
+      let n = need-passed (isAsBefore E own d) 8 at P h in
+      let r = before-rule own d (n .0) in
+      (λ ds own′ k. by-extend e (r .0) (r .1) k, n .1)
+  definition-rule P update own d at e h =
+      let n = need-passed (isAsBefore E own d) 8 at P h in
+      let r = before-rule own d (n .0) in
+      (λ ds own′ k. by-update e (r .0) (r .1) k, n .1)
+
+  collect-rule :
+      (P : Env → Type 0) (own : Env) (at : ℕ) (ds : List Definition) → Accepts (collect E own at ds) P
+      → (own′ : Env) × Defines E own ds own′ × P own′
+  unfolding collect
+  collect-rule P own at [] h = (own, no-definition, h)
+  collect-rule P own at (d ∷ ds) h =
+      let r = definition-rule _ (d .mode) own d at refl (then-passed P (consistent (d .mode) E own d at) _ h) in
+      let q = collect-rule P (entryOf d ∷ own) (at + definitionSize d) ds (r .1) in
+      (q .0, r .0 ds (q .0) (q .1), q .2)
+
+  -- back to the definition's own mode
+  in-mode :
+      (P : Unit {0} → Type 0) {m : Mode} (own : Env) (d : Definition) (at : ℕ) → d .mode ≡ m
+      → Accepts (consistent m E own d at) P → Accepts (consistent (d .mode) E own d at) P
+  in-mode P own d at e h = rw (← e) at h
+
+  rule-collect :
+      (P : Env → Type 0) {own own′ : Env} (at : ℕ) {ds : List Definition} → Defines E own ds own′ → P own′
+      → Accepts (collect E own at ds) P
+  unfolding collect
+  rule-collect P at no-definition p = p
+  rule-collect P at (by-add {own = own} {d = d} e a b k) p =
+      then-passes P (consistent (d .mode) E own d at) _
+      (in-mode _ own d at e
+      (need-passes (isUnused E own d) 7 at _ (rule-new own d a b) (rule-collect P (at + definitionSize d) k p)))
+  rule-collect P at (by-extend {own = own} {d = d} e a b k) p =
+      then-passes P (consistent (d .mode) E own d at) _
+      (in-mode _ own d at e
+      (need-passes (isAsBefore E own d) 8 at _ (rule-before own d a b) (rule-collect P (at + definitionSize d) k p)))
+  rule-collect P at (by-update {own = own} {d = d} e a b k) p =
+      then-passes P (consistent (d .mode) E own d at) _
+      (in-mode _ own d at e
+      (need-passes (isAsBefore E own d) 8 at _ (rule-before own d a b) (rule-collect P (at + definitionSize d) k p)))
+
+-- ------------------------------------------------------------------ ⊢ gseq ⇒ E
+
+module _ (K N : ℕ) (P : Env → Type 0) where
+  sequence-rule :
+      (E : Env) (at : ℕ) (gs : List (List Definition)) → Each (Each DefinitionWithin) gs → Accepts (checkBlocks K N E at gs) P
+      → (E′ : Env) × Sequence K N E gs E′ × P E′
+  unfolding checkBlocks
+  sequence-rule E at [] each-none h = (E, no-grammar, h)
+  sequence-rule E at (g ∷ gs) (each-more w ws) h =
+      let c = collect-rule E _ [] (at + 3) g (bind-passed P (collect E [] (at + 3) g) _ h) in
+      let G : Scope = scope K N (c .0 ++ E) in
+      let rest : Checked Env = checkBlocks K N (c .0 ++ E) (at + 3 + definitionsSize g) gs in
+      let o = ok-rule G (λ u. Accepts rest P) (at + 3) g w (then-passed P (checkBodies G (at + 3) g) rest (c .2)) in
+      let s = sequence-rule (c .0 ++ E) (at + 3 + definitionsSize g) gs ws (o .1) in
+      (s .0, by-grammar (c .1) (o .0) (s .1), s .2)
+
+  rule-sequence :
+      {E E′ : Env} (at : ℕ) {gs : List (List Definition)} → Sequence K N E gs E′ → P E′ → Accepts (checkBlocks K N E at gs) P
+  unfolding checkBlocks
+  rule-sequence at no-grammar p = p
+  rule-sequence at (by-grammar {E = E} {own = own} {g = g} d o s) p =
+      bind-passes P (collect E [] (at + 3) g) _
+      (rule-collect E _ (at + 3) d
+      (then-passes P (checkBodies (scope K N (own ++ E)) (at + 3) g) _
+      (rule-ok (scope K N (own ++ E)) _ (at + 3) o (rule-sequence (at + 3 + definitionsSize g) s p))))
+
+-- ------------------------------------------------------------------ the root
+
+-- defined, without parameters, of sort Term
+pub record IsRoot (E : Env) (n : ℕ) : Type 0 where
+  -- the root's signature
+  pub signature : Signature
+  -- it is defined
+  pub defined : Newest E n signature
+  -- without parameters
+  pub without : signature .params ≡ []
+  -- of sort Term
+  pub of-term : signature .result ≡ term
+
+empty : (L : List ℕ) → length L ≡ 0 → L ≡ []
+empty [] h = refl
+empty (x ∷ L) h = absurd (omega arith)
+
+root-rule : (E : Env) (at n : ℕ) → Accepts (checkRoot E at n) (λ u. Unit {0}) → IsRoot E n
+unfolding checkRoot
+root-rule E at n h =
+    let S : Signature = signatureOf E n in
+    let q = needs-passed (isDefined E n) (eqb (length (S .params)) 0 && eqb (S .result) term) 9 11 at _ h in
+    let b = both (eqb (length (S .params)) 0) (eqb (S .result) term) (q .1) in
+    record {
+      signature = S;
+      defined = defined-newest E n (q .0);
+      without = empty (S .params) (eqb-true _ 0 (b .0));
+      of-term = eqb-true _ term (b .1);
+    }
+
+rule-root : (E : Env) (at n : ℕ) → IsRoot E n → Accepts (checkRoot E at n) (λ u. Unit {0})
+unfolding checkRoot
+rule-root E at n r =
+    let S : Signature = signatureOf E n in
+    let e : S ≡ r .signature = newest-signature (r .defined) in
+    needs-passes (isDefined E n) (eqb (length (S .params)) 0 && eqb (S .result) term) 9 11 at _ (newest-defined (r .defined))
+    (pair (eqb (length (S .params)) 0) (eqb (S .result) term)
+    (eq-eqb (length (S .params)) 0 (cc (r .without)))
+    (eq-eqb (S .result) term (cc (r .of-term))))
+    tt
+
+-- ------------------------------------------------------------------ the whole table
+
+-- a table that the check accepts is well sorted
+pub table-rule : (t : Table) → Within t → Accepts (checkSorts t) (λ u. Unit {0}) → WellSorted t
+unfolding checkSorts
+table-rule t w h =
+    let s = sequence-rule (length (t .keywords)) (length (t .outsides)) _ [] _ (t .blocks) (w .blocks)
+    (bind-passed (λ u. Unit {0}) (checkBlocks _ _ [] _ (t .blocks)) _ h) in
+    let r = root-rule (s .0) _ (t .root) (s .2) in
+    record {
+      env = s .0;
+      sequence = s .1;
+      signature = r .signature;
+      defined = r .defined;
+      without = r .without;
+      of-term = r .of-term;
+    }
+
+-- a table that is well sorted is accepted
+pub rule-table : (t : Table) → WellSorted t → Accepts (checkSorts t) (λ u. Unit {0})
+unfolding checkSorts
+rule-table t w =
+    bind-passes (λ u. Unit {0}) (checkBlocks (length (t .keywords)) (length (t .outsides)) [] _ (t .blocks)) _
+    (rule-sequence _ _ _ _ (w .sequence)
+    (rule-root (w .env) _ (t .root)
+    (record { signature = w .signature; defined = w .defined; without = w .without; of-term = w .of-term })))

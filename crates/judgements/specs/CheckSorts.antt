@@ -1,0 +1,157 @@
+-- The static check of a grammar sequence: refusals 7, 8, 9 and 11, with their order and places.
+-- 001, section 4.1: environments E and L, the two passes E ⊢ g :: E' and E ⊢ g ok over each grammar of the sequence.
+-- `at` is always the place of the part's first field.
+use Prim.Native.Nat.{ℕ, _+_}
+use mathlib.Core.Bool.{Bool, true, false, not, _&&_}
+use mathlib.Core.List.{List, [], _∷_, _++_}
+use lib.Dec.{eqb, ltb}
+use lib.ListN.{length, getD}
+use Rattle.answers.specs.Checked.{Checked, ok, _>>=_, _>>_, need}
+use Rattle.spellings.specs.Bytes.{same}
+use Rattle.grammar.specs.Sorts.{Signature, gives, unit, var, binder, label, term, num, constructor}
+use Rattle.grammar.specs.SortTests.{fits}
+use Rattle.grammar.specs.Table.{Template, Templates, variable, outsideVar, outsideLabel, make, none, more, Item, keyword, ide, number, local, call, Alternative}
+use Rattle.grammar.specs.Table.{Mode, add, extend, update, Definition, Table}
+use Rattle.grammar.specs.Values.{itemValue, headValue}
+use Rattle.judgements.specs.Sizes.{fieldSize, spellingsSize, itemsSize, alternativeSize, definitionSize, definitionsSize}
+use Rattle.judgements.specs.Scopes.{Env, Scope, entryOf}
+
+-- ------------------------------------------------------------------ global environments E
+
+unfoldable pub isDefined : Env → ℕ → Bool
+isDefined [] n = false
+isDefined (e ∷ E) n = elim (eqb (e .nonterminal) n) [ true ↦ true | false ↦ isDefined E n ]
+
+-- the newest signature of a nonterminal
+unfoldable pub signatureOf : Env → ℕ → Signature
+signatureOf [] n = gives [] unit
+signatureOf (e ∷ E) n = elim (eqb (e .nonterminal) n) [ true ↦ e .signature | false ↦ signatureOf E n ]
+
+-- equal code by code
+abbrev pub sameSignature : Signature → Signature → Bool
+sameSignature S S′ = same (S .result ∷ S .params) (S′ .result ∷ S′ .params)
+
+-- ------------------------------------------------------------------ E ⊢ g :: E', refusals 7 and 8
+
+-- an earlier block defined the nonterminal with the same signature, and this block, of which `own` has what stands before, did not
+abbrev pub isAsBefore : Env → Env → Definition → Bool
+isAsBefore E own d =
+    not (isDefined own (d .nonterminal))
+    && isDefined E (d .nonterminal)
+    && sameSignature (signatureOf E (d .nonterminal)) (d .signature)
+
+-- neither this block nor an earlier one defined it
+abbrev pub isUnused : Env → Env → Definition → Bool
+isUnused E own d = not (isDefined own (d .nonterminal)) && not (isDefined E (d .nonterminal))
+
+abbrev pub consistent : Mode → Env → Env → Definition → ℕ → Checked (Unit {0})
+consistent add E own d at = need (isUnused E own d) 7 at
+consistent extend E own d at = need (isAsBefore E own d) 8 at
+consistent update E own d at = need (isAsBefore E own d) 8 at
+
+-- the signatures of a block
+unfoldable pub collect : Env → Env → ℕ → List Definition → Checked Env
+collect E own at [] = ok own
+collect E own at (d ∷ ds) = do
+  consistent (d .mode) E own d at
+  collect E (entryOf d ∷ own) (at + definitionSize d) ds
+
+-- ------------------------------------------------------------------ E; L ⊢ p : B, refusals 9 and 11
+
+-- every variable and name of a template is defined; n variables are numbered already
+unfoldable mutual
+  pub isClosed : Template → Scope → ℕ → Bool
+  isClosed (variable i) G n = ltb i n
+  isClosed (outsideVar x) G n = ltb x (G .outsides)
+  isClosed (outsideLabel x) G n = ltb x (G .outsides)
+  isClosed (make c ts) G n = areClosed ts G n
+
+  pub areClosed : Templates → Scope → ℕ → Bool
+  areClosed none G n = true
+  areClosed (more t ts) G n = isClosed t G n && areClosed ts G n
+
+-- the sort of a template, where L gives the sorts of the variables
+abbrev pub sortOf : Template → List ℕ → ℕ
+sortOf (variable i) L = getD L i unit
+sortOf (outsideVar x) L = var
+sortOf (outsideLabel x) L = label
+sortOf (make c ts) L = constructor c .result
+
+-- the arguments of every constructor in a template fit their places
+unfoldable mutual
+  pub isSorted : Template → List ℕ → Bool
+  isSorted (variable i) L = true
+  isSorted (outsideVar x) L = true
+  isSorted (outsideLabel x) L = true
+  isSorted (make c ts) L = fill ts L (constructor c .params)
+
+  -- templates fill places one by one: as many, and each sorted and fitting
+  pub fill : Templates → List ℕ → List ℕ → Bool
+  fill none L [] = true
+  fill none L (p ∷ ps) = false
+  fill (more t ts) L [] = false
+  fill (more t ts) L (p ∷ ps) = isSorted t L && fits (sortOf t L) p && fill ts L ps
+
+-- an item, and the sort of the variable that it numbers
+abbrev pub checkItem : Scope → List ℕ → ℕ → Item → Checked ℕ
+checkItem G L at (keyword k) = need (ltb k (G .keywords)) 9 at >> ok unit
+checkItem G L at (ide s) = ok s
+checkItem G L at number = ok num
+checkItem G L at local = ok binder
+checkItem G L at (call n ts) =
+    need (isDefined (G .env) n && areClosed ts G (length L)) 9 at
+    >> need (fill ts L (signatureOf (G .env) n .params)) 11 at
+    >> ok (signatureOf (G .env) n .result)
+
+-- the items of an alternative from the left, and the sorts of all its variables
+unfoldable pub checkItems : Scope → List ℕ → ℕ → List Item → Checked (List ℕ)
+checkItems G L at [] = ok L
+checkItems G L at (i ∷ is) =
+    checkItem G L at i >>= λ s. checkItems G (L ++ (s ∷ [])) (at + fieldSize (itemValue i)) is
+
+-- a template where the sort B is asked
+abbrev pub checkResult : Scope → List ℕ → ℕ → ℕ → Template → Checked (Unit {0})
+checkResult G L B at t = need (isClosed t G (length L)) 9 at >> need (isSorted t L && fits (sortOf t L) B) 11 at
+
+unfoldable pub checkAlternative : Scope → Signature → ℕ → Alternative → Checked (Unit {0})
+checkAlternative G S at a =
+    checkItems G (S .params) (at + 3) (a .items)
+    >>= λ L. checkResult G L (S .result) (at + 3 + itemsSize (a .items)) (a .result)
+
+unfoldable pub checkAlternatives : Scope → Signature → ℕ → List Alternative → Checked (Unit {0})
+checkAlternatives G S at [] = ok tt
+checkAlternatives G S at (a ∷ rest) = checkAlternative G S at a >> checkAlternatives G S (at + alternativeSize a) rest
+
+-- ------------------------------------------------------------------ E ⊢ g ok, and ⊢ gseq ⇒ E
+
+unfoldable pub checkBodies : Scope → ℕ → List Definition → Checked (Unit {0})
+checkBodies G at [] = ok tt
+checkBodies G at (d ∷ ds) =
+    checkAlternatives G (d .signature) (at + fieldSize (headValue d)) (d .alternatives)
+    >> checkBodies G (at + definitionSize d) ds
+
+-- the environment after the blocks; K and N are the counts of keywords and outside names
+unfoldable pub checkBlocks : ℕ → ℕ → Env → ℕ → List (List Definition) → Checked Env
+checkBlocks K N E at [] = ok E
+checkBlocks K N E at (b ∷ bs) =
+    collect E [] (at + 3) b
+    >>= λ own.
+    checkBodies (record { keywords = K; outsides = N; env = own ++ E }) (at + 3) b
+    >> checkBlocks K N (own ++ E) (at + 3 + definitionsSize b) bs
+
+unfoldable pub blocksSize : List (List Definition) → ℕ
+blocksSize [] = 0
+blocksSize (b ∷ bs) = 3 + definitionsSize b + blocksSize bs
+
+-- the root is defined, has no parameters and gives a Term
+unfoldable pub checkRoot : Env → ℕ → ℕ → Checked (Unit {0})
+checkRoot E at n =
+    need (isDefined E n) 9 at
+    >> need (eqb (length (signatureOf E n .params)) 0 && eqb (signatureOf E n .result) term) 11 at
+
+-- the whole table
+unfoldable pub checkSorts : Table → Checked (Unit {0})
+checkSorts t =
+    let first : ℕ = spellingsSize (t .keywords) + spellingsSize (t .outsides) in
+    checkBlocks (length (t .keywords)) (length (t .outsides)) [] first (t .blocks)
+    >>= λ E. checkRoot E (first + blocksSize (t .blocks)) (t .root)

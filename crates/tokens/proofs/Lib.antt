@@ -1,0 +1,14 @@
+pub mod Examples
+pub mod LexemeLaws
+pub mod WordLaws
+pub mod FoundLaws
+pub mod StepLaws
+pub mod LexLaws
+pub mod FrontLaws
+pub mod StandLaws
+pub mod TokenLaws
+pub mod TilingLaws
+pub mod SpellingLaws
+pub mod WordsOfScan
+pub mod FollowLaws
+pub mod ScannerTheorems

@@ -1,0 +1,94 @@
+-- What a scan gives, for every lexicon with at most 64 outside names, as every table's is, and every formula. Each statement has one
+-- sentence above it; the proofs cite the laws.
+use Prim.Native.Nat.{ℕ, _≤_}
+use mathlib.Core.Path.{_≡_, sym, ap, _∙_}
+use mathlib.Core.Logic.{_↔_}
+use mathlib.Core.Bool.{true}
+use mathlib.Core.List.{List, []}
+use native.Mathlib.Omega.{arith}
+use lib.Dec.{leb, ltb}
+use lib.ListN.{length, List·getD-eq-default}
+use borrow.Author.Tests.{leb-true, leb-false, ltb-true, ltb-false}
+use Rattle.spellings.specs.Bytes.{isWord}
+use Rattle.spellings.proofs.BytesLaws.{by-test}
+use Rattle.kinds.specs.Kinds.{wordKind}
+use Rattle.answers.specs.declared.Refusal.{Refusal}
+use Rattle.answers.specs.Refusals.{refusal}
+use Rattle.grammar.specs.Table.{Lexicon}
+use Rattle.tokens.specs.declared.Token.{Token}
+use Rattle.tokens.specs.declared.Scanned.the-variants.{Tokens, Unscanned}
+use Rattle.tokens.specs.Scan.{spellingOf, scan}
+use Rattle.tokens.specs.Tokens.{endToken, mostTokens, longestFormula, spelled}
+use Rattle.tokens.specs.Tiling.{bytesOf, tokenAt, Tiled}
+use Rattle.tokens.specs.Unscanned.{Unscans}
+use Rattle.tokens.proofs.LexLaws.{scan-long}
+use Rattle.tokens.proofs.TilingLaws.{scan-tiled, scan-counted}
+use Rattle.tokens.proofs.FollowLaws.{tiled-scanned, answer-unscans, unscans-answer}
+use Rattle.tokens.proofs.SpellingLaws.{Spelled, every-at, scan-spelled, spelled-number}
+
+module _ (lex : Lexicon) (few : length (lex .outsides) ≤ 64) (formula : List ℕ) where
+  -- a scan that is not refused is of a formula that is not too long
+  not-long : {n count : ℕ} → scan lex formula .answer ≡ Tokens n count → length formula ≤ longestFormula
+  not-long {n} {count} e =
+      by-test (leb (length formula) longestFormula) (λ h. leb-true (length formula) longestFormula h)
+      (λ h.
+      let l : scan lex formula .answer ≡ Unscanned (refusal 14 0 0 0)
+      = cc (scan-long lex formula (leb-false (length formula) longestFormula h)) in
+      let z : _≡_ {A = ℕ} 0 1 = cc in
+      absurd (omega arith))
+
+  -- A scan gives these tokens and words exactly if the formula has at most 65,535 bytes and is, by the rules, these tokens, at most
+  -- 4,096 of them, with separators between them, and these words.
+  pub accepted-exactly : (ts : List Token) (words : List (List ℕ))
+      → (scan lex formula ≡ record { answer = Tokens (length ts) (length words); tokens = ts; words = words })
+      ↔ ((length formula ≤ longestFormula) × Tiled lex formula 0 [] ts (length formula) words × (length ts ≤ mostTokens))
+  accepted-exactly ts words = (
+    λ e.
+        let a : scan lex formula .answer ≡ Tokens (length ts) (length words) = cc in
+        let d : Tiled lex formula 0 [] ts (length formula) words
+        = rw (e) at (scan-tiled lex few formula a) in
+        (not-long a, d, omega (arith, scan-counted lex few formula a .2)),
+    λ t. tiled-scanned lex few formula (t .0) (t .1) (t .2),
+  )
+
+  -- A scan gives a refusal exactly if the rules for 14, 15 and 16 do.
+  pub refused-exactly : (r : Refusal) → (scan lex formula .answer ≡ Unscanned r) ↔ Unscans lex formula r
+  refused-exactly r = (answer-unscans lex few formula, unscans-answer lex few formula)
+
+  -- The answer counts the tokens, of which there are at most 4,096, and the words that are neither keywords nor outside names.
+  pub tokens-counted : {n count : ℕ} → scan lex formula .answer ≡ Tokens n count
+      → (n ≡ length (scan lex formula .tokens)) × (count ≡ length (scan lex formula .words)) × (n ≤ mostTokens)
+  tokens-counted e = scan-counted lex few formula e
+
+  -- token i, if it is a word
+  word-at : (i : ℕ) → tokenAt (scan lex formula .tokens) i .kind ≡ wordKind
+      → Spelled lex formula (scan lex formula .words) (tokenAt (scan lex formula .tokens) i)
+  word-at i k =
+      by-test (ltb i (length (scan lex formula .tokens)))
+      (λ e. every-at _ (scan lex formula .tokens) i _ (scan-spelled lex few formula) (ltb-true i _ e) k)
+      (λ e.
+      let z : tokenAt (scan lex formula .tokens) i ≡ endToken
+      = List·getD-eq-default (scan lex formula .tokens) endToken (ltb-false i _ e) in
+      absurd (omega (arith, sym (ap (λ (t : Token). t .kind) z) ∙ k)))
+
+  -- The bytes of a word token are a word.
+  pub words-are-words : (i : ℕ) → tokenAt (scan lex formula .tokens) i .kind ≡ wordKind
+      → isWord (bytesOf formula (tokenAt (scan lex formula .tokens) i)) ≡ true
+  words-are-words i k = word-at i k .is-word
+
+  -- A word token's spelling number, below 64 an outside name's and from 64 on a word's by first appearance, stands for its bytes.
+  pub numbers-spell : (i : ℕ) → tokenAt (scan lex formula .tokens) i .kind ≡ wordKind
+      → spelled lex (scan lex formula .words) (tokenAt (scan lex formula .tokens) i .value)
+      ≡ bytesOf formula (tokenAt (scan lex formula .tokens) i)
+  numbers-spell i k = spelled-number lex few formula _ _ (word-at i k)
+
+  -- Two word tokens have the same spelling number exactly if their bytes are equal.
+  pub same-number : (i j : ℕ) → tokenAt (scan lex formula .tokens) i .kind ≡ wordKind
+      → tokenAt (scan lex formula .tokens) j .kind ≡ wordKind
+      → (tokenAt (scan lex formula .tokens) i .value ≡ tokenAt (scan lex formula .tokens) j .value)
+      ↔ (bytesOf formula (tokenAt (scan lex formula .tokens) i) ≡ bytesOf formula (tokenAt (scan lex formula .tokens) j))
+  same-number i j ki kj = (
+    λ e. sym (numbers-spell i ki) ∙ ap (spelled lex (scan lex formula .words)) e ∙ numbers-spell j kj,
+    λ e.
+        word-at i ki .numbered ∙ ap (spellingOf lex (scan lex formula .words)) e ∙ sym (word-at j kj .numbered),
+  )

@@ -1,0 +1,182 @@
+-- A word token's value is the spelling number of its bytes by all words of the scan, and every word token is a word.
+use Prim.Native.Nat.{ℕ, zero, suc, _+_, _-_, _<_, _≤_}
+use mathlib.Core.Path.{_≡_, refl, sym, ap, _∙_}
+use mathlib.Core.Bool.{true, false}
+use mathlib.Core.List.{List, [], _∷_, _++_, append-assoc, append-nil}
+use native.Mathlib.Nat.{add-zero}
+use native.Mathlib.Omega.{arith}
+use lib.Dec.{ltb}
+use lib.ListN.{length, getD, take, drop, length-append}
+use borrow.Author.Tests.{ltb-true, ltb-false, le-leb, le-ltb, lt-ltb, ne-eqb, eq-eqb}
+use Rattle.spellings.specs.Bytes.{isLetter, isWordByte, longestRun, isWord, indexOf}
+use Rattle.spellings.proofs.BytesLaws.{by-test, run-taken, every-run, letter-word-byte, index-le, index-found, index-front, index-rest, index-self}
+use Rattle.grammar.specs.declared.Found.{Found}
+use Rattle.grammar.specs.declared.Found.the-variants.{At, Absent}
+use Rattle.grammar.specs.Table.{Lexicon}
+use Rattle.grammar.specs.Found.{foundIn}
+use Rattle.grammar.proofs.LookupLaws.{found-within, found-spells}
+use Rattle.kinds.specs.Kinds.{wordKind}
+use Rattle.tokens.specs.declared.Token.{Token}
+use Rattle.tokens.specs.Scan.{Lexed, isNew, wordsWith, spellingOf, scan}
+use Rattle.tokens.specs.Tiling.{WordFront, Stands, a-keyword, a-keyword-symbol, an-outside-name, a-word-again, a-new-word, a-number, a-symbol, bytesOf}
+use Rattle.tokens.specs.Tokens.{spelled}
+use Rattle.tokens.proofs.LexemeLaws.{spelling-found}
+use Rattle.tokens.proofs.WordLaws.{with-new, with-old}
+use Rattle.tokens.proofs.StandLaws.{word-taken, Emits}
+use Rattle.tokens.proofs.TokenLaws.{Kept, scan-kept}
+
+-- ------------------------------------------------------------------ words
+
+-- the run of word bytes after a letter is a word, if it is not too long
+run-word : (rest : List ℕ) → isLetter (getD rest 0 0) ≡ true → length (longestRun isWordByte rest) ≤ 31 → isWord (longestRun isWordByte rest) ≡ true
+run-word [] l h = let z : _≡_ {A = ℕ} 0 1 = cc in absurd (omega arith)
+run-word (b ∷ bs) l h =
+    let r : longestRun isWordByte (b ∷ bs) ≡ b ∷ longestRun isWordByte bs = run-taken isWordByte b bs (letter-word-byte b l) in
+    let n : suc (length (longestRun isWordByte bs)) ≤ 31 = omega (arith, ap length r) in
+    ap isWord r ∙ rw (l, every-run isWordByte bs, le-leb _ 31 n) refl
+
+-- the word at the front is a word
+pub front-word : {rest s : List ℕ} → WordFront rest s → isWord s ≡ true
+front-word {rest} w = rw (w .whole) (run-word rest (w .begins) (omega (arith, w .short, ap length (w .whole))))
+
+stands-word : {lex : Lexicon} {at : ℕ} {rest : List ℕ} {met met′ : List (List ℕ)} {t : Token} → Stands lex at rest met t met′
+    → t .kind ≡ wordKind
+    → isWord (take (t .size) rest) ≡ true
+stands-word (a-keyword w f) e = absurd (omega (arith, e))
+stands-word (a-keyword-symbol y f) e = absurd (omega (arith, e))
+stands-word (an-outside-name w n f) e = rw (word-taken w) (front-word w)
+stands-word (a-word-again w n o f) e = rw (word-taken w) (front-word w)
+stands-word (a-new-word w n o f) e = rw (word-taken w) (front-word w)
+stands-word (a-number d) e = absurd (omega (arith, e))
+stands-word (a-symbol y n) e = absurd (omega (arith, e))
+
+-- ------------------------------------------------------------------ spelling numbers
+
+-- a word token, by the words W of the whole scan
+pub record Spelled (lex : Lexicon) (formula : List ℕ) (W : List (List ℕ)) (t : Token) : Type 0 where
+  -- its bytes are a word
+  pub is-word : isWord (bytesOf formula t) ≡ true
+  -- its value is the spelling number of its bytes
+  pub numbered : t .value ≡ spellingOf lex W (bytesOf formula t)
+  -- its value is that of an outside name or of a word met
+  pub known : t .value < 64 + length W
+
+-- a fact of every token
+abbrev pub Every : (Token → Type 0) → List Token → Type 0
+Every P [] = Unit {0}
+Every P (t ∷ ts) = P t × Every P ts
+
+-- a fact of every token is one of each
+pub every-at : (P : Token → Type 0) (ts : List Token) (i : ℕ) (d : Token) → Every P ts → i < length ts → P (getD ts i d)
+every-at P [] i d p h = absurd (omega arith)
+every-at P (t ∷ ts) zero d p h = p .0
+every-at P (t ∷ ts) (suc i) d p h = every-at P ts i d (p .1) (omega arith)
+
+-- a word that is met has a place among the words then met, which stays
+record Placed (words words′ : List (List ℕ)) (s : List ℕ) : Type 0 where
+  same-place : indexOf s words′ ≡ indexOf s words
+  there : indexOf s words′ < length words′
+
+new-is : (count : ℕ) (t : Token) → t .kind ≡ wordKind → t .value ≡ 64 + count → isNew count t ≡ true
+new-is count t k v = rw (eq-eqb (t .kind) wordKind k, eq-eqb (t .value) (64 + count) v) refl
+
+old-is : (count : ℕ) (t : Token) → t .kind ≡ wordKind → (t .value ≡ 64 + count → ⊥) → isNew count t ≡ false
+old-is count t k v = rw (eq-eqb (t .kind) wordKind k, ne-eqb (t .value) (64 + count) v) refl
+
+placed : (words : List (List ℕ)) (s : List ℕ) (t : Token) → t .kind ≡ wordKind → t .value ≡ 64 + indexOf s words
+    → Placed words (wordsWith words s t) s
+placed words s t k v = by-test (ltb (indexOf s words) (length words)) old new
+  where
+    old : ltb (indexOf s words) (length words) ≡ true → Placed words (wordsWith words s t) s
+    old e =
+        let h : indexOf s words < length words = ltb-true (indexOf s words) (length words) e in
+        let w : wordsWith words s t ≡ words = with-old words s t (old-is (length words) t k (λ z. omega (arith, z, v))) in
+        record { same-place = ap (indexOf s) w; there = rw w h }
+
+    new : ltb (indexOf s words) (length words) ≡ false → Placed words (wordsWith words s t) s
+    new e =
+        let z : indexOf s words ≡ length words = omega (arith, ltb-false (indexOf s words) (length words) e, index-le s words) in
+        let w : wordsWith words s t ≡ words ++ (s ∷ []) = with-new words s t (new-is (length words) t k (cc)) in
+        let i : indexOf s (words ++ (s ∷ [])) ≡ length words
+        = cc (index-rest s words (s ∷ []) z, index-self s, add-zero (length words)) in
+        record { same-place = ap (indexOf s) w ∙ i ∙ sym z; there = rw w (omega (arith, i, length-append words (s ∷ []))) }
+
+-- a word's spelling number by the words then met is its spelling number by all words
+module _ (lex : Lexicon) (few : length (lex .outsides) ≤ 64) where
+  stays : (words more : List (List ℕ)) (s : List ℕ) (t : Token) (f : Found) → f ≡ foundIn s (lex .outsides) → t .kind ≡ wordKind
+      → t .value ≡ spellingOf lex words s
+      → (t .value ≡ spellingOf lex (wordsWith words s t ++ more) s) × (t .value < 64 + length (wordsWith words s t ++ more))
+  stays words more s t (At i) e k v =
+      let a : t .value ≡ i = v ∙ spelling-found lex words s (At i) e in (
+        a ∙ sym (spelling-found lex (wordsWith words s t ++ more) s (At i) e),
+        omega (arith, a, found-within s (lex .outsides) e),
+      )
+  stays words more s t Absent e k v =
+      let a : t .value ≡ 64 + indexOf s words = v ∙ spelling-found lex words s Absent e in
+      let p : Placed words (wordsWith words s t) s = placed words s t k a in
+      let i : indexOf s (wordsWith words s t ++ more) ≡ indexOf s words = index-front s (wordsWith words s t) more (p .there) ∙ p .same-place in (
+        a ∙ sym (cc (spelling-found lex (wordsWith words s t ++ more) s Absent e)),
+        omega (arith, a, p .there, p .same-place, length-append (wordsWith words s t) more),
+      )
+
+  grown : (words : List (List ℕ)) (s : List ℕ) (t : Token) → (extra : List (List ℕ)) × (wordsWith words s t ≡ words ++ extra)
+  grown words s t =
+      by-test (isNew (length words) t) (λ e. (s ∷ [], with-new words s t e))
+      (λ e. ([], with-old words s t e ∙ sym (append-nil words)))
+
+  module _ (formula : List ℕ) where
+    SpelledFrom : ℕ → ℕ → List (List ℕ) → Lexed → Type 0
+    SpelledFrom at n words l =
+        (more : List (List ℕ))
+        × (l .words ≡ words ++ more)
+        × Every (λ t. t .kind ≡ wordKind → Spelled lex formula (l .words) t) (l .tokens)
+
+    spelled-token : (at : ℕ) (words more : List (List ℕ)) (t : Token) (W : List (List ℕ)) → Emits lex words at (drop at formula) t
+        → W ≡ wordsWith words (take (t .size) (drop at formula)) t ++ more
+        → t .kind ≡ wordKind
+        → Spelled lex formula W t
+    spelled-token at words more t W told w k =
+        let b : bytesOf formula t ≡ take (t .size) (drop at formula) = cc (told .placed) in
+        let p = stays words more (take (t .size) (drop at formula)) t _ refl k (told .valued k) in
+        record {
+          is-word = ap isWord b ∙ stands-word (told .stands) k;
+          numbered = rw (b, w) (p .0);
+          known = rw w (p .1);
+        }
+
+    spelled-kept : Kept lex formula SpelledFrom
+    unfolding SpelledFrom
+    spelled-kept =
+        record {
+          ends = λ n words h. ([], sym (append-nil words), tt);
+          stops = λ at n words r h. ([], sym (append-nil words), tt);
+          skips = λ at n words l h s p. p;
+          emits =
+              λ at n words t l h m told inside p.
+              let g = grown words (take (t .size) (drop at formula)) t in (
+                g .0 ++ p .0,
+                cc (p .1, g .1, append-assoc words (g .0) (p .0)),
+                (spelled-token at words (p .0) t (l .words) told (p .1), p .2),
+              );
+        }
+
+    -- each word token of a scan is spelled as its number says
+    pub scan-spelled : Every (λ t. t .kind ≡ wordKind → Spelled lex formula (scan lex formula .words) t) (scan lex formula .tokens)
+    unfolding SpelledFrom
+    scan-spelled = scan-kept lex few formula SpelledFrom spelled-kept .2
+
+    -- what a word token's number stands for
+    pub spelled-number : (W : List (List ℕ)) (t : Token) → Spelled lex formula W t → spelled lex W (t .value) ≡ bytesOf formula t
+    spelled-number W t w = by-found (foundIn (bytesOf formula t) (lex .outsides)) refl
+      where
+        by-found : (f : Found) → f ≡ foundIn (bytesOf formula t) (lex .outsides) → spelled lex W (t .value) ≡ bytesOf formula t
+        by-found (At k) e =
+            let a : t .value ≡ k = w .numbered ∙ spelling-found lex W (bytesOf formula t) (At k) e in
+            let h : k < length (lex .outsides) = found-within (bytesOf formula t) (lex .outsides) e in
+            ap (spelled lex W) a ∙ rw (lt-ltb k 64 (omega arith), spelled) (found-spells (bytesOf formula t) (lex .outsides) e)
+        by-found Absent e =
+            let a : t .value ≡ 64 + indexOf (bytesOf formula t) W = w .numbered ∙ spelling-found lex W (bytesOf formula t) Absent e in
+            let z : 64 + indexOf (bytesOf formula t) W - 64 ≡ indexOf (bytesOf formula t) W = omega arith in
+            ap (spelled lex W) a
+            ∙ rw (le-ltb (64 + indexOf (bytesOf formula t) W) 64 (omega arith), spelled)
+            (cc (index-found (bytesOf formula t) W (omega (arith, a, w .known))))

@@ -1,0 +1,4 @@
+pub mod Tokens
+pub mod Scan
+pub mod Tiling
+pub mod Unscanned
