@@ -3,8 +3,8 @@ use lib.Seq.{length-take-le}
 use mathlib.Core.Path.{sym}
 use native.Mathlib.Omega.{arith}
 use borrow.Author.Needs.{needs}
-use Rattle.conformance.proofs.comparison.in_rooms.Statement.{statement}
-use Rattle.conformance.proofs.comparison.in_rooms.Tie as tie
+use Rattle.comparison.proofs.comparing.in_rooms.Statement.{statement}
+use Rattle.comparison.proofs.comparing.in_rooms.Tie as tie
 
 slice-aggregate-expand : tie.Need-slice-aggregate-expand
 slice-aggregate-expand c = sym (length-take-le _ _ (omega arith))

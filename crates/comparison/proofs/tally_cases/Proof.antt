@@ -3,8 +3,8 @@ use Prim.Native.Nat.{_≤_, _-_, _^_}
 use native.Mathlib.Omega.{arith}
 use borrow.Author.Needs.{needs}
 use mathlib.Core.Logic.{⊎-elim}
-use Rattle.conformance.proofs.tally_cases.Statement.{statement}
-use Rattle.conformance.proofs.tally_cases.Tie as tie
+use Rattle.comparison.proofs.tally_cases.Statement.{statement}
+use Rattle.comparison.proofs.tally_cases.Tie as tie
 
 abbrev Inv-loop : tie.InvT-loop
 Inv-loop file compares table₀ formula₀ rows₀ text₀ cases₀ differ₀ table formula rows text cases differ =
