@@ -22,15 +22,15 @@ use Rattle.bodies.proofs.TemplateLoops.{places-set}
 -- ------------------------------------------------------------------ the places of parameters
 
 -- the last parameters of a signature stand on the stack of places
-pub record Loading (sig room₀ room : List ℕ) (top j : ℕ) : Type 0 where
+pub record Loading (sig room₀ room : List ℕ) (top left : ℕ) : Type 0 where
   -- the room is as long as it was
   pub as-many : length room ≡ length room₀
   -- the places taken and those to come are the signature
-  pub height : top + j ≡ length sig
+  pub height : top + left ≡ length sig
   -- the result is not taken
-  pub least : 1 ≤ j
+  pub least : 1 ≤ left
   -- the places taken hold the last parameters
-  pub opened : places room top ≡ drop j sig
+  pub opened : places room top ≡ drop left sig
 
 module _ {sig room₀ : List ℕ} where
   -- no signature has no parameters
@@ -47,36 +47,36 @@ module _ {sig room₀ : List ℕ} where
 
   -- one place more, from the last parameter on
   pub loading-next :
-      {room : List ℕ} {top j x : ℕ} → length sig ≤ length room₀ → Loading sig room₀ room top j → 1 < j → x ≡ getD sig (j - 1) 0
-      → Loading sig room₀ (set room top x) (top + 1) (j - 1)
-  loading-next {room} {top} {j} {x} h l p e =
-      let back : suc (j - 1) ≡ j = omega arith in
+      {room : List ℕ} {top left sort : ℕ} → length sig ≤ length room₀ → Loading sig room₀ room top left → 1 < left → sort ≡ getD sig (left - 1) 0
+      → Loading sig room₀ (set room top sort) (top + 1) (left - 1)
+  loading-next {room} {top} {left} {sort} h l p e =
+      let back : suc (left - 1) ≡ left = omega arith in
       record {
-        as-many = length-set room top x ∙ l .as-many;
+        as-many = length-set room top sort ∙ l .as-many;
         height = omega (arith, l .height);
         least = omega arith;
         opened =
-            cc (places-set room top x (omega (arith, l .as-many, l .height)), l .opened, drop-cons sig (j - 1) 0 (omega (arith, l .height)));
+            cc (places-set room top sort (omega (arith, l .as-many, l .height)), l .opened, drop-cons sig (left - 1) 0 (omega (arith, l .height)));
       }
 
   -- all places
-  pub loading-end : {room : List ℕ} {top j : ℕ} → Loading sig room₀ room top j → j ≤ 1 → ParametersLoaded sig room top
-  loading-end {room} {top} {j} l h =
-      let one : j ≡ 1 = omega (arith, l .least) in
+  pub loading-end : {room : List ℕ} {top left : ℕ} → Loading sig room₀ room top left → left ≤ 1 → ParametersLoaded sig room top
+  loading-end {room} {top} {left} l h =
+      let one : left ≡ 1 = omega (arith, l .least) in
       record { small = omega (arith, l .height); loaded = cc (l .opened) }
 
 -- ------------------------------------------------------------------ the sorts of variables
 
--- the first n parameters of a signature are variables
-pub record Copying (sig L₀ L : List ℕ) (n i : ℕ) : Type 0 where
+-- the first `count` parameters of a signature are variables
+pub record Copying (sig L₀ L : List ℕ) (count place : ℕ) : Type 0 where
   -- the sorts are as many as they were
   pub as-many : length L ≡ length L₀
   -- the next parameter
-  pub next : i ≡ n + 1
+  pub next : place ≡ count + 1
   -- no more are copied than there are
-  pub most : n ≤ length sig - 1
+  pub most : count ≤ length sig - 1
   -- the first ones are copied
-  pub copied : take n L ≡ take n (drop 1 sig)
+  pub copied : take count L ≡ take count (drop 1 sig)
 
 module _ {sig L₀ : List ℕ} where
   -- no sort yet
@@ -85,47 +85,47 @@ module _ {sig L₀ : List ℕ} where
 
   -- one sort more
   pub copying-next :
-      {L : List ℕ} {n i x : ℕ} → length sig ≤ length L₀ → Copying sig L₀ L n i → i < length sig → x ≡ getD sig i 0
-      → Copying sig L₀ (set L n x) i (i + 1)
-  copying-next {L} {n} {i} {x} h c p e =
-      let far : i ≡ suc n = omega (arith, c .next) in
-      let one : 1 + n ≡ i = omega (arith, c .next) in
+      {L : List ℕ} {count place sort : ℕ} → length sig ≤ length L₀ → Copying sig L₀ L count place → place < length sig → sort ≡ getD sig place 0
+      → Copying sig L₀ (set L count sort) place (place + 1)
+  copying-next {L} {count} {place} {sort} h c p e =
+      let far : place ≡ suc count = omega (arith, c .next) in
+      let one : 1 + count ≡ place = omega (arith, c .next) in
       let rest : length (drop 1 sig) ≡ length sig - 1 = length-drop 1 sig in
       record {
-        as-many = length-set L n x ∙ c .as-many;
+        as-many = length-set L count sort ∙ c .as-many;
         next = refl;
         most = omega arith;
         copied =
             cc (
-              take-suc-set L n x (omega (arith, c .as-many, c .next)),
+              take-suc-set L count sort (omega (arith, c .as-many, c .next)),
               c .copied,
-              getD-drop 1 sig n 0,
-              take-suc (drop 1 sig) n 0 (omega (arith, c .next)),
+              getD-drop 1 sig count 0,
+              take-suc (drop 1 sig) count 0 (omega (arith, c .next)),
             );
       }
 
   -- all sorts
-  pub copying-end : {L : List ℕ} {n i : ℕ} → Copying sig L₀ L n i → length sig ≤ i → take n L ≡ drop 1 sig
-  copying-end {L} {n} {i} c h =
+  pub copying-end : {L : List ℕ} {count place : ℕ} → Copying sig L₀ L count place → length sig ≤ place → take count L ≡ drop 1 sig
+  copying-end {L} {count} {place} c h =
       let rest : length (drop 1 sig) ≡ length sig - 1 = length-drop 1 sig in
-      c .copied ∙ take-all n (drop 1 sig) (omega (arith, c .next))
+      c .copied ∙ take-all count (drop 1 sig) (omega (arith, c .next))
 
--- one sort more behind those of n variables, and none where there are 16
-module _ (L : List ℕ) (n s : ℕ) (e : length L ≡ 16) where
+-- one sort more behind those of `count` variables, and none where there are 16
+module _ (L : List ℕ) (count sort : ℕ) (equal : length L ≡ 16) where
   -- there is room
-  pub sort-added : n < 16 → take (n + 1) (set L n s) ≡ take 16 (take n L ++ (s ∷ []))
+  pub sort-added : count < 16 → take (count + 1) (set L count sort) ≡ take 16 (take count L ++ (sort ∷ []))
   sort-added h =
-      let few : length (take n L ++ (s ∷ [])) ≤ 16 = omega (arith, length-append (take n L) (s ∷ []), length-take n L) in
-      cc (add-one n, take-suc-set L n s (omega arith), take-all 16 (take n L ++ (s ∷ [])) few)
+      let few : length (take count L ++ (sort ∷ [])) ≤ 16 = omega (arith, length-append (take count L) (sort ∷ []), length-take count L) in
+      cc (add-one count, take-suc-set L count sort (omega arith), take-all 16 (take count L ++ (sort ∷ [])) few)
 
   -- there is none
-  pub sort-left : 16 ≤ n → take n L ≡ take 16 (take n L ++ (s ∷ []))
+  pub sort-left : 16 ≤ count → take count L ≡ take 16 (take count L ++ (sort ∷ []))
   sort-left h =
-      let all : take n L ≡ L = take-all n L (omega arith) in
+      let all : take count L ≡ L = take-all count L (omega arith) in
       all
       ∙ sym (take-all 16 L (omega arith))
       ∙ ap (take 16) (sym all)
-      ∙ sym (take-append-le 16 (take n L) (s ∷ []) (omega (arith, ap length all)))
+      ∙ sym (take-append-le 16 (take count L) (sort ∷ []) (omega (arith, ap length all)))
 
 -- one place alone on the stack
 one-place : (room : List ℕ) (B : ℕ) → 0 < length room → places (set room 0 B) 1 ≡ B ∷ []
@@ -134,81 +134,85 @@ one-place room B h = places-set room 0 B h
 
 -- ------------------------------------------------------------------ calls
 
-module _ (bs : List ℕ) (X : Context) (n : ℕ) (arguments : List ℕ) {h : ℕ} (e : h ≡ getD (X .heads) n 0) where
+module _ (bs : List ℕ) (given-context : Context) (count : ℕ) (arguments : List ℕ) {head : ℕ} (equal : head ≡ getD (given-context .heads) count 0) where
   -- by the test of the head
   call-by :
-      (missing : Bool) → eqb h 0 ≡ missing
+      (missing : Bool) → eqb head 0 ≡ missing
       → choose (Unsorted 9)
-      (unlessFault (getD (signatureAt bs h) 0 0) (templatesFault (X .outsides) (X .sorts) arguments (drop 1 (signatureAt bs h)))) missing
-      ≡ callAt bs X n arguments
+      (unlessFault (getD (signatureAt bs head) 0 0) (templatesFault (given-context .outsides) (given-context .sorts) arguments (drop 1 (signatureAt bs head))))
+      missing
+      ≡ callAt bs given-context count arguments
   unfolding callAt
   call-by missing d =
       let good : ℕ → ItemSort =
-      λ x. unlessFault (getD (signatureAt bs x) 0 0) (templatesFault (X .outsides) (X .sorts) arguments (drop 1 (signatureAt bs x))) in
+      λ x. unlessFault (getD (signatureAt bs x) 0 0) (templatesFault (given-context .outsides) (given-context .sorts) arguments (drop 1 (signatureAt bs x))) in
       cc
 
   -- the nonterminal has no head
-  pub call-undefined : h ≡ 0 → Unsorted 9 ≡ callAt bs X n arguments
-  call-undefined z = call-by true (eq-eqb h 0 z)
+  pub call-undefined : head ≡ 0 → Unsorted 9 ≡ callAt bs given-context count arguments
+  call-undefined z = call-by true (eq-eqb head 0 z)
 
-  module _ (z : h ≡ 0 → ⊥) {signature : List ℕ} (q : signature ≡ signatureAt bs h) {fault : ℕ}
-      (f : fault ≡ templatesFault (X .outsides) (X .sorts) arguments (drop 1 signature)) where
-    call-fault : (clean : Bool) → eqb fault 0 ≡ clean → choose (As (getD signature 0 0)) (Unsorted fault) clean ≡ callAt bs X n arguments
+  module _ (declared : head ≡ 0 → ⊥) {signature : List ℕ} (agrees : signature ≡ signatureAt bs head) {fault : ℕ}
+      (also-equal : fault ≡ templatesFault (given-context .outsides) (given-context .sorts) arguments (drop 1 signature)) where
+    call-fault : (clean : Bool) → eqb fault 0 ≡ clean → choose (As (getD signature 0 0)) (Unsorted fault) clean ≡ callAt bs given-context count arguments
     call-fault clean k =
-        cc (call-by false (ne-eqb h 0 z))
+        cc (call-by false (ne-eqb head 0 declared))
 
     -- the arguments have a fault
-    pub call-unfit : (fault ≡ 0 → ⊥) → Unsorted fault ≡ callAt bs X n arguments
+    pub call-unfit : (fault ≡ 0 → ⊥) → Unsorted fault ≡ callAt bs given-context count arguments
     call-unfit k = call-fault false (ne-eqb fault 0 k)
 
     -- they have none
-    pub call-fit : {s : ℕ} → fault ≡ 0 → s ≡ getD signature 0 0 → As s ≡ callAt bs X n arguments
+    pub call-fit : {sort : ℕ} → fault ≡ 0 → sort ≡ getD signature 0 0 → As sort ≡ callAt bs given-context count arguments
     call-fit k g = ap As g ∙ call-fault true (eq-eqb fault 0 k)
 
 -- ------------------------------------------------------------------ items
 
-module _ (bs : List ℕ) (X : Context) (v : List ℕ) {kind operand : ℕ} (e : kind ≡ getD v 0 0) (f : operand ≡ getD v 1 0) where
+module _ (bs : List ℕ) (given-context : Context) (value : List ℕ) {kind operand : ℕ} (equal : kind ≡ getD value 0 0) (agrees : operand ≡ getD value 1 0) where
   itemTests : ℕ → Bool → Bool → Bool → Bool → ItemSort
   itemTests o keyword ide local call =
-      choose (choose (As unit) (Unsorted 9) (ltb o (X .keywords)))
-      (choose (As o) (choose (As binder) (choose (callAt bs X o (drop 2 v)) (As num) call) local) ide)
+      choose (choose (As unit) (Unsorted 9) (ltb o (given-context .keywords)))
+      (choose (As o) (choose (As binder) (choose (callAt bs given-context o (drop 2 value)) (As num) call) local) ide)
       keyword
 
   itemBy : ℕ → ℕ → ItemSort
   itemBy k o = itemTests o (eqb k 0) (eqb k 1) (eqb k 3) (eqb k 4)
 
-  item-is : {k : ℕ} → kind ≡ k → itemBy k operand ≡ itemAt bs X v
+  item-is : {code : ℕ} → kind ≡ code → itemBy code operand ≡ itemAt bs given-context value
   unfolding itemAt itemBy itemTests
-  item-is g = sym (ap₂ itemBy (sym e ∙ g) (sym f))
+  item-is g = sym (ap₂ itemBy (sym equal ∙ g) (sym agrees))
 
   -- a keyword that is defined
-  pub item-keyword : {w : ℕ} → w ≡ operand → kind ≡ 0 → w < X .keywords → As 0 ≡ itemAt bs X v
+  pub item-keyword : {keyword-number : ℕ} → keyword-number ≡ operand → kind ≡ 0 → keyword-number < given-context .keywords
+      → As 0 ≡ itemAt bs given-context value
   unfolding itemBy itemTests
-  item-keyword w g h = ap (choose (As unit) (Unsorted 9)) (sym (lt-ltb operand (X .keywords) (omega arith))) ∙ item-is g
+  item-keyword w g h = ap (choose (As unit) (Unsorted 9)) (sym (lt-ltb operand (given-context .keywords) (omega arith))) ∙ item-is g
 
   -- one that is not
-  pub item-unknown : {w : ℕ} → w ≡ operand → kind ≡ 0 → X .keywords ≤ w → Unsorted 9 ≡ itemAt bs X v
+  pub item-unknown : {keyword-number : ℕ} → keyword-number ≡ operand → kind ≡ 0 → given-context .keywords ≤ keyword-number
+      → Unsorted 9 ≡ itemAt bs given-context value
   unfolding itemBy itemTests
-  item-unknown w g h = ap (choose (As unit) (Unsorted 9)) (sym (le-ltb operand (X .keywords) (omega arith))) ∙ item-is g
+  item-unknown w g h = ap (choose (As unit) (Unsorted 9)) (sym (le-ltb operand (given-context .keywords) (omega arith))) ∙ item-is g
 
   -- an identifier at a sort
-  pub item-ide : kind ≡ 1 → As operand ≡ itemAt bs X v
+  pub item-ide : kind ≡ 1 → As operand ≡ itemAt bs given-context value
   unfolding itemBy itemTests
   item-ide g = item-is g
 
   -- a local is a Binder
-  pub item-local : kind ≡ 3 → As 2 ≡ itemAt bs X v
+  pub item-local : kind ≡ 3 → As 2 ≡ itemAt bs given-context value
   unfolding itemBy itemTests
   item-local g = item-is g
 
   -- a call
-  pub item-call : {arguments : List ℕ} → kind ≡ 4 → arguments ≡ take (length v) (drop 2 v) → callAt bs X operand arguments ≡ itemAt bs X v
+  pub item-call : {arguments : List ℕ} → kind ≡ 4 → arguments ≡ take (length value) (drop 2 value)
+      → callAt bs given-context operand arguments ≡ itemAt bs given-context value
   unfolding itemBy itemTests
   item-call g a =
-      ap (callAt bs X operand) (a ∙ take-all (length v) (drop 2 v) (omega (arith, length-drop 2 v))) ∙ item-is g
+      ap (callAt bs given-context operand) (a ∙ take-all (length value) (drop 2 value) (omega (arith, length-drop 2 value))) ∙ item-is g
 
   -- no kind that is tested
-  pub item-other : (((Unit {0} × (kind ≡ 0 → ⊥)) × (kind ≡ 1 → ⊥)) × (kind ≡ 3 → ⊥)) × (kind ≡ 4 → ⊥) → As 6 ≡ itemAt bs X v
+  pub item-other : (((Unit {0} × (kind ≡ 0 → ⊥)) × (kind ≡ 1 → ⊥)) × (kind ≡ 3 → ⊥)) × (kind ≡ 4 → ⊥) → As 6 ≡ itemAt bs given-context value
   unfolding itemBy itemTests
   item-other ((((u, a), b), c), d) =
       cc (ne-eqb kind 0 a, ne-eqb kind 1 b, ne-eqb kind 3 c, ne-eqb kind 4 d, item-is refl)
@@ -217,9 +221,9 @@ module _ (bs : List ℕ) (X : Context) (v : List ℕ) {kind operand : ℕ} (e : 
 
 -- the refusal of a result, where the sort asked is that of the signature's result
 pub result-is :
-    (bs : List ℕ) (k : Known) (H L v room : List ℕ) {B : ℕ} {signature : List ℕ} {fault : ℕ} → signature ≡ signatureAt bs (k .head)
+    (bs : List ℕ) (known : Known) (heads L value room : List ℕ) {B : ℕ} {signature : List ℕ} {fault : ℕ} → signature ≡ signatureAt bs (known .head)
     → B ≡ getD signature 0 0 → 0 < length room
-    → fault ≡ templatesFault (k .outsides) (take (k .variables) L) v (places (set room 0 B) 1) → fault ≡ resultAt bs (context k H L) v
+    → fault ≡ templatesFault (known .outsides) (take (known .variables) L) value (places (set room 0 B) 1) → fault ≡ resultAt bs (context known heads L) value
 unfolding resultAt
-result-is bs k H L v room {B} e b h f =
+result-is bs known heads L value room {B} e b h f =
     cc (one-place room B h)

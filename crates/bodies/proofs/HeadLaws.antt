@@ -15,13 +15,13 @@ use Rattle.bodies.proofs.TemplateInduction.{choose}
 
 -- ------------------------------------------------------------------ signatures
 
-drop-two : (n : ℕ) (l : List ℕ) → drop 2 (take n l) ≡ take (n - 2) (drop 2 l)
-drop-two zero l = refl
+drop-two : (count : ℕ) (bytes : List ℕ) → drop 2 (take count bytes) ≡ take (count - 2) (drop 2 bytes)
+drop-two zero bytes = refl
 drop-two (suc zero) [] = refl
-drop-two (suc zero) (x ∷ l) = refl
-drop-two (suc (suc n)) [] = sym (take-nil (suc (suc n) - 2))
-drop-two (suc (suc n)) (x ∷ []) = sym (take-nil (suc (suc n) - 2))
-drop-two (suc (suc n)) (x ∷ y ∷ l) = let e : n ≡ suc (suc n) - 2 = omega arith in cc
+drop-two (suc zero) (x ∷ bytes) = refl
+drop-two (suc (suc count)) [] = sym (take-nil (suc (suc count) - 2))
+drop-two (suc (suc count)) (x ∷ []) = sym (take-nil (suc (suc count) - 2))
+drop-two (suc (suc count)) (x ∷ y ∷ bytes) = let e : count ≡ suc (suc count) - 2 = omega arith in cc
 
 -- no head stands past the end
 pub signature-past : (bs : List ℕ) (at : ℕ) → length bs ≤ at → take 0 (drop at bs) ≡ signatureAt bs at
@@ -30,7 +30,7 @@ signature-past bs at h =
     let size : ℕ = getD bs (at + 1) 0 * 256 + getD bs (at + 2) 0 in
     cc (take-nil size, drop-of-length-le bs {i = at + 3} (omega arith))
 
-module _ (bs : List ℕ) (at : ℕ) {hi lo : ℕ} (e : hi ≡ getD bs (at + 1) 0) (f : lo ≡ getD bs (at + 2) 0) where
+module _ (bs : List ℕ) (at : ℕ) {hi lo : ℕ} (equal : hi ≡ getD bs (at + 1) 0) (agrees : lo ≡ getD bs (at + 2) 0) where
   signature-is : signatureAt bs at ≡ take 5 (take (hi * 256 + lo - 2) (drop (at + 5) bs))
   unfolding signatureAt
   signature-is =
@@ -60,65 +60,67 @@ signature-short bs at = omega (arith, length-take 5 (drop 2 (valueAt bs at)))
 
 -- ------------------------------------------------------------------ refusals 7 and 8
 
-module _ (bs H : List ℕ) (at block : ℕ) {n mode h : ℕ} (e : n ≡ getD bs (at + 3) 0) (f : mode ≡ getD bs (at + 4) 0) (g : h ≡ getD H n 0) where
+module _ (bs heads : List ℕ) (at block : ℕ) {nonterminal mode head : ℕ} (equal : nonterminal ≡ getD bs (at + 3) 0) (agrees : mode ≡ getD bs (at + 4) 0)
+    (also-equal : head ≡ getD heads nonterminal 0) where
   -- by the mode, and one test for each
   faultBy : Bool → Bool → Bool → ℕ
   faultBy earlier good new = choose (choose 0 8 good) (choose 0 7 new) earlier
 
-  fault-is : faultOf bs at block H ≡ faultBy (eqb mode 1 || eqb mode 2) (leb h block && ltb 0 h && same (signatureAt bs h) (signatureAt bs at))
-      (eqb h 0)
+  fault-is : faultOf bs at block heads ≡ faultBy (eqb mode 1 || eqb mode 2) (leb head block && ltb 0 head && same (signatureAt bs head) (signatureAt bs at))
+      (eqb head 0)
   unfolding faultOf faultBy
   fault-is =
-      let k : getD H (getD bs (at + 3) 0) 0 ≡ h = cc in
+      let k : getD heads (getD bs (at + 3) 0) 0 ≡ head = cc in
       cc
 
   -- extend and update
   pub fault-earlier :
-      {s s′ : List ℕ} {alike : Bool} → (eqb mode 1 || eqb mode 2) ≡ true → s ≡ signatureAt bs h → s′ ≡ signatureAt bs at → alike ≡ same s s′
-      → (good : Bool) → (leb h block && ltb 0 h && alike) ≡ good → choose 0 8 good ≡ faultOf bs at block H
+      {signature signature′ : List ℕ} {alike : Bool} → (eqb mode 1 || eqb mode 2) ≡ true → signature ≡ signatureAt bs head → signature′ ≡ signatureAt bs at
+      → alike ≡ same signature signature′ → (good : Bool) → (leb head block && ltb 0 head && alike) ≡ good → choose 0 8 good ≡ faultOf bs at block heads
   unfolding faultBy
-  fault-earlier {s} {s′} {alike} m p q a good k =
-      let test : Bool = leb h block && ltb 0 h && same (signatureAt bs h) (signatureAt bs at) in
+  fault-earlier {signature} {signature′} {alike} m p q a good k =
+      let test : Bool = leb head block && ltb 0 head && same (signatureAt bs head) (signatureAt bs at) in
       let b : test ≡ good = cc in
       cc fault-is
 
   -- add
-  pub fault-new : (eqb mode 1 || eqb mode 2) ≡ false → (new : Bool) → eqb h 0 ≡ new → choose 0 7 new ≡ faultOf bs at block H
+  pub fault-new : (eqb mode 1 || eqb mode 2) ≡ false → (new : Bool) → eqb head 0 ≡ new → choose 0 7 new ≡ faultOf bs at block heads
   unfolding faultBy
   fault-new m new k =
-      let test : Bool = leb h block && ltb 0 h && same (signatureAt bs h) (signatureAt bs at) in
+      let test : Bool = leb head block && ltb 0 head && same (signatureAt bs head) (signatureAt bs at) in
       cc fault-is
 
 -- ------------------------------------------------------------------ one head more
 
-module _ (bs : List ℕ) (at tag block : ℕ) (H : List ℕ) where
+module _ (bs : List ℕ) (at tag block : ℕ) (heads : List ℕ) where
   -- no head
-  pub head-none : (tag ≡ 4 → ⊥) → Defined bs at tag block H 0 H
+  pub head-none : (tag ≡ 4 → ⊥) → Defined bs at tag block heads 0 heads
   head-none d =
       let e : false ≡ eqb tag 4 = sym (ne-eqb tag 4 d) in
-      record { faulty = ap (choose (faultOf bs at block H) 0) e; heads = ap (choose (withHead bs at H) H) e }
+      record { faulty = ap (choose (faultOf bs at block heads) 0) e; heads = ap (choose (withHead bs at heads) heads) e }
 
-  module _ (e : tag ≡ 4) {fault : ℕ} (f : fault ≡ faultOf bs at block H) where
+  module _ (equal : tag ≡ 4) {fault : ℕ} (agrees : fault ≡ faultOf bs at block heads) where
     -- by the head's own refusal
-    head-by : (clean : Bool) → eqb fault 0 ≡ clean → {H′ : List ℕ} → H′ ≡ choose (withHead bs at H) H clean → Defined bs at tag block H fault H′
+    head-by : (clean : Bool) → eqb fault 0 ≡ clean → {heads′ : List ℕ} → heads′ ≡ choose (withHead bs at heads) heads clean
+        → Defined bs at tag block heads fault heads′
     head-by clean c q =
         record {
-          faulty = f ∙ ap (choose (faultOf bs at block H) 0) (sym (eq-eqb tag 4 e));
-          heads = cc (eq-eqb tag 4 e);
+          faulty = agrees ∙ ap (choose (faultOf bs at block heads) 0) (sym (eq-eqb tag 4 equal));
+          heads = cc (eq-eqb tag 4 equal);
         }
 
     -- a head that is refused is not kept
-    pub head-refused : (fault ≡ 0 → ⊥) → Defined bs at tag block H fault H
+    pub head-refused : (fault ≡ 0 → ⊥) → Defined bs at tag block heads fault heads
     head-refused h = head-by false (ne-eqb fault 0 h) refl
 
-    module _ (z : fault ≡ 0) {n : ℕ} (q : n ≡ getD bs (at + 3) 0) where
-      put : {H′ : List ℕ} → H′ ≡ set H n at → Defined bs at tag block H 0 H′
-      put {H′} p = rw (← z) (head-by true (eq-eqb fault 0 z) (cc))
+    module _ (also-equal : fault ≡ 0) {nonterminal : ℕ} (numbered : nonterminal ≡ getD bs (at + 3) 0) where
+      put : {heads′ : List ℕ} → heads′ ≡ set heads nonterminal at → Defined bs at tag block heads 0 heads′
+      put {heads′} p = rw (← also-equal) (head-by true (eq-eqb fault 0 also-equal) (cc))
 
       -- one that is not refused is
-      pub head-put : Defined bs at tag block H 0 (set H n at)
+      pub head-put : Defined bs at tag block heads 0 (set heads nonterminal at)
       head-put = put refl
 
       -- a nonterminal past the heads is not kept
-      pub head-left : length H ≤ n → Defined bs at tag block H 0 H
-      head-left h = put (sym (set-out H n at h))
+      pub head-left : length heads ≤ nonterminal → Defined bs at tag block heads 0 heads
+      head-left h = put (sym (set-out heads nonterminal at h))

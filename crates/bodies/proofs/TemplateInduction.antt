@@ -22,47 +22,52 @@ pub record Read (Q : List ℕ → Templates → Type 0) : Type 0 where
   -- no bytes, no templates
   pub at-end : Q [] none
   -- a name in front
-  pub at-name : (b x : ℕ) (bs : List ℕ) (ts : Templates) → isNameTag b ≡ true → Q bs ts → Q (b ∷ x ∷ bs) (more (nameBy (eqb b 0x10) x) ts)
+  pub at-name : (byte number : ℕ) (bs : List ℕ) (ts : Templates) → isNameTag byte ≡ true → Q bs ts
+      → Q (byte ∷ number ∷ bs) (more (nameBy (eqb byte 0x10) number) ts)
   -- a variable in front
-  pub at-variable : (b : ℕ) (bs : List ℕ) (ts : Templates) → isNameTag b ≡ false → ltb b 0x10 ≡ true → Q bs ts → Q (b ∷ bs) (more (variable b) ts)
+  pub at-variable : (byte : ℕ) (bs : List ℕ) (ts : Templates) → isNameTag byte ≡ false → ltb byte 0x10 ≡ true → Q bs ts
+      → Q (byte ∷ bs) (more (variable byte) ts)
   -- a constructor in front, with its arguments
   pub at-constructor :
-      (b : ℕ) (bs : List ℕ) (ts us vs : Templates) → isNameTag b ≡ false → ltb b 0x10 ≡ false → isConstructor b ≡ true
-      → takeTemplates (arity b) ts ≡ taken us vs → Q bs ts → Q (b ∷ bs) (more (make b us) vs)
+      (byte : ℕ) (bs : List ℕ) (ts us vs : Templates) → isNameTag byte ≡ false → ltb byte 0x10 ≡ false → isConstructor byte ≡ true
+      → takeTemplates (arity byte) ts ≡ taken us vs → Q bs ts → Q (byte ∷ bs) (more (make byte us) vs)
 
 -- a choice by a test whose outcome is known
 abbrev pub choose : {A : Type 0} → A → A → Bool → A
 choose a b t = elim t [ true ↦ a | false ↦ b ]
 
 module _ (Q : List ℕ → Templates → Type 0) (read : Read Q) where
-  in-front : (t : Template) (bs cs : List ℕ) (r : ReadTemplates) → ((ts : Templates) → Q bs ts → Q cs (more t ts)) → Whole (Q bs) r → Whole (Q cs) (inFront t r)
-  in-front t bs cs fault f h = tt
-  in-front t bs cs (parsed ts) f h = f ts h
+  in-front : (template : Template) (bs cs : List ℕ) (read-templates : ReadTemplates) → ((ts : Templates) → Q bs ts → Q cs (more template ts))
+      → Whole (Q bs) read-templates → Whole (Q cs) (inFront template read-templates)
+  in-front template bs cs fault f h = tt
+  in-front template bs cs (parsed ts) f h = f ts h
 
-  made : (b : ℕ) (bs cs : List ℕ) (ts : Templates) (x : SplitTemplates) → takeTemplates (arity b) ts ≡ x
-      → ((us vs : Templates) → takeTemplates (arity b) ts ≡ taken us vs → Q cs (more (make b us) vs)) → Whole (Q cs) (applied b x)
-  made b bs cs ts short e f = tt
-  made b bs cs ts (taken us vs) e f = f us vs e
+  made : (byte : ℕ) (bs cs : List ℕ) (ts : Templates) (split : SplitTemplates) → takeTemplates (arity byte) ts ≡ split
+      → ((us vs : Templates) → takeTemplates (arity byte) ts ≡ taken us vs → Q cs (more (make byte us) vs)) → Whole (Q cs) (applied byte split)
+  made byte bs cs ts short e f = tt
+  made byte bs cs ts (taken us vs) e f = f us vs e
 
   constructor-read :
-      (b : ℕ) (bs : List ℕ) (r : ReadTemplates) → isNameTag b ≡ false → ltb b 0x10 ≡ false → isConstructor b ≡ true → Whole (Q bs) r
-      → Whole (Q (b ∷ bs)) (constructed b r)
-  constructor-read b bs fault n e k h = tt
-  constructor-read b bs (parsed ts) n e k h =
-      made b bs (b ∷ bs) ts (takeTemplates (arity b) ts) refl (λ us vs t. read .at-constructor b bs ts us vs n e k t h)
+      (byte : ℕ) (bs : List ℕ) (read-templates : ReadTemplates) → isNameTag byte ≡ false → ltb byte 0x10 ≡ false → isConstructor byte ≡ true
+      → Whole (Q bs) read-templates → Whole (Q (byte ∷ bs)) (constructed byte read-templates)
+  constructor-read byte bs fault n e k h = tt
+  constructor-read byte bs (parsed ts) n e k h =
+      made byte bs (byte ∷ bs) ts (takeTemplates (arity byte) ts) refl (λ us vs t. read .at-constructor byte bs ts us vs n e k t h)
 
-  byte-read : (b : ℕ) (bs : List ℕ) (r : ReadTemplates) → isNameTag b ≡ false → Whole (Q bs) r → Whole (Q (b ∷ bs)) (byteInFront b r)
-  byte-read b bs r n h =
-      by-test (ltb b 0x10)
-      (λ e. subst⁻¹ (Whole (Q (b ∷ bs))) (variable-first b r e) (in-front (variable b) bs (b ∷ bs) r (λ ts q. read .at-variable b bs ts n e q) h))
+  byte-read : (byte : ℕ) (bs : List ℕ) (read-templates : ReadTemplates) → isNameTag byte ≡ false → Whole (Q bs) read-templates
+      → Whole (Q (byte ∷ bs)) (byteInFront byte read-templates)
+  byte-read byte bs read-templates n h =
+      by-test (ltb byte 0x10)
+      (λ e. subst⁻¹ (Whole (Q (byte ∷ bs))) (variable-first byte read-templates e)
+      (in-front (variable byte) bs (byte ∷ bs) read-templates (λ ts q. read .at-variable byte bs ts n e q) h))
       (λ e.
-      by-test (isConstructor b)
-      (λ k. subst⁻¹ (Whole (Q (b ∷ bs))) (constructor-first b r e k) (constructor-read b bs r n e k h))
-      (λ k. subst⁻¹ (Whole (Q (b ∷ bs))) (unknown-first b r e k) tt))
+      by-test (isConstructor byte)
+      (λ k. subst⁻¹ (Whole (Q (byte ∷ bs))) (constructor-first byte read-templates e k) (constructor-read byte bs read-templates n e k h))
+      (λ k. subst⁻¹ (Whole (Q (byte ∷ bs))) (unknown-first byte read-templates e k) tt))
 
   -- one byte and the bytes after it
-  front-read : (b : ℕ) (bs : List ℕ) → isNameTag b ≡ false → Whole (Q bs) (templatesOf bs) → Whole (Q (b ∷ bs)) (templatesOf (b ∷ bs))
-  front-read b bs n h = subst⁻¹ (Whole (Q (b ∷ bs))) (byte-first b bs n) (byte-read b bs (templatesOf bs) n h)
+  front-read : (byte : ℕ) (bs : List ℕ) → isNameTag byte ≡ false → Whole (Q bs) (templatesOf bs) → Whole (Q (byte ∷ bs)) (templatesOf (byte ∷ bs))
+  front-read byte bs n h = subst⁻¹ (Whole (Q (byte ∷ bs))) (byte-first byte bs n) (byte-read byte bs (templatesOf bs) n h)
 
   -- so it holds of all bytes that are read as templates
   pub whole : (bs : List ℕ) → Whole (Q bs) (templatesOf bs)

@@ -31,36 +31,36 @@ use Rattle.checker.specs.Passes.{grammarOf}
 use Rattle.checker.proofs.Passing.{never, refused-by-layout, refused-by-sorts}
 
 -- a verdict says what the check gave
-refused-bad : {A : Type 0} (c : Checked A) (r : Refusal) → verdict c ≡ Refused r → c ≡ bad r
-refused-bad (ok a) r e = never r (sym e)
-refused-bad (bad q) r e = ap bad (let z : q ≡ r = cc in z)
+refused-bad : {A : Type 0} (checked : Checked A) (refusal : Refusal) → verdict checked ≡ Refused refusal → checked ≡ bad refusal
+refused-bad (ok a) refusal e = never refusal (sym e)
+refused-bad (bad q) refusal e = ap bad (let z : q ≡ refusal = cc in z)
 
-passed-ok : (c : Checked (Unit {0})) → verdict c ≡ Passed → c ≡ ok tt
+passed-ok : (checked : Checked (Unit {0})) → verdict checked ≡ Passed → checked ≡ ok tt
 passed-ok (ok a) e = refl
 passed-ok (bad q) e = never q e
 
-verdict-then : {A : Type 0} (c : Checked (Unit {0})) (a : A) → verdict (c >> ok a) ≡ verdict c
-verdict-then (ok u) a = refl
-verdict-then (bad r) a = refl
+verdict-then : {A : Type 0} (checked : Checked (Unit {0})) (item : A) → verdict (checked >> ok item) ≡ verdict checked
+verdict-then (ok u) item = refl
+verdict-then (bad r) item = refl
 
 module _ (bs : List ℕ) where
-  refused-layout : (r : Refusal) → verdict (layout bs) ≡ Refused r → check bs ≡ Refused r
+  refused-layout : (refusal : Refusal) → verdict (layout bs) ≡ Refused refusal → check bs ≡ Refused refusal
   unfolding decode
-  refused-layout r e =
-      refused-by-layout bs r (cc (refused-bad (layout bs) r e))
+  refused-layout refusal e =
+      refused-by-layout bs refusal (cc (refused-bad (layout bs) refusal e))
 
   -- a table refused for its layout leaves the room as it was
-  pub into-layout : (r : Refusal) → verdict (layout bs) ≡ Refused r → (room : List ℕ) → CheckedInto bs room room (Refused r)
+  pub into-layout : (refusal : Refusal) → verdict (layout bs) ≡ Refused refusal → (room : List ℕ) → CheckedInto bs room room (Refused refusal)
   unfolding decode roomAfter
-  into-layout r e room =
+  into-layout refusal e room =
       record {
-        answer = sym (refused-layout r e);
-        held = cc (refused-bad (layout bs) r e);
+        answer = sym (refused-layout refusal e);
+        held = cc (refused-bad (layout bs) refusal e);
       }
 
   module _ (bytes : Bytes bs) (laid : verdict (layout bs) ≡ Passed) where
     -- the table that the bytes are
-    pub encoded : (t : Table) × (bs ≡ encode t) × Within t
+    pub encoded : (table : Table) × (bs ≡ encode table) × Within table
     encoded = layout-encoded bs bytes (passed-ok (layout bs) laid)
 
     decoded : decode bs ≡ ok (encoded .0)
@@ -69,24 +69,24 @@ module _ (bs : List ℕ) where
     sorts-here : sortsOf bs ≡ verdict (checkSorts (encoded .0))
     sorts-here = bytes-checked bs bytes (encoded .0) decoded
 
-    refused-sorts : (r : Refusal) → sortsOf bs ≡ Refused r → check bs ≡ Refused r
-    refused-sorts r e = refused-by-sorts bs (encoded .0) r decoded (refused-bad (checkSorts (encoded .0)) r (sym sorts-here ∙ e))
+    refused-sorts : (refusal : Refusal) → sortsOf bs ≡ Refused refusal → check bs ≡ Refused refusal
+    refused-sorts refusal e = refused-by-sorts bs (encoded .0) refusal decoded (refused-bad (checkSorts (encoded .0)) refusal (sym sorts-here ∙ e))
 
-    room-left : (r : Refusal) → sortsOf bs ≡ Refused r → (room : List ℕ) → room ≡ roomAfter bs room
+    room-left : (refusal : Refusal) → sortsOf bs ≡ Refused refusal → (room : List ℕ) → room ≡ roomAfter bs room
     unfolding roomAfter
-    room-left r e room =
-        cc (refused-bad (checkSorts (encoded .0)) r (sym sorts-here ∙ e), decoded)
+    room-left refusal e room =
+        cc (refused-bad (checkSorts (encoded .0)) refusal (sym sorts-here ∙ e), decoded)
 
     -- and so does one refused for its sorts
-    pub into-sorts : (r : Refusal) → sortsOf bs ≡ Refused r → (room : List ℕ) → CheckedInto bs room room (Refused r)
-    into-sorts r e room = record { answer = sym (refused-sorts r e); held = room-left r e room }
+    pub into-sorts : (refusal : Refusal) → sortsOf bs ≡ Refused refusal → (room : List ℕ) → CheckedInto bs room room (Refused refusal)
+    into-sorts refusal e room = record { answer = sym (refused-sorts refusal e); held = room-left refusal e room }
 
     -- the table fits its index
     pub few : FitsIndex bs
     few = few-alternatives bs (passed-ok (layout bs) laid)
 
     -- an index that was built is whole
-    pub whole-index : {m : ℕ} {owners starts : List ℕ} → Index (placesOf bs) 256 m owners starts → WholeIndex bs m owners starts
+    pub whole-index : {many : ℕ} {owners starts : List ℕ} → Index (placesOf bs) 256 many owners starts → WholeIndex bs many owners starts
     whole-index i =
         record {
           short = few .short;
@@ -114,8 +114,8 @@ module _ (bs : List ℕ) where
           cc (decoded, sorts-ok)
 
       -- a table with neither refusal is answered by the check of its first sets
-      pub into-firsts : {m : ℕ} {owners starts : List ℕ} → Index (placesOf bs) 256 m owners starts → {room₀ room : List ℕ} {r : Verdict}
-          → FirstsChecked bs (placesIn m owners starts) room₀ room r → CheckedInto bs room₀ room r
+      pub into-firsts : {many : ℕ} {owners starts : List ℕ} → Index (placesOf bs) 256 many owners starts → {room₀ room : List ℕ} {given-verdict : Verdict}
+          → FirstsChecked bs (placesIn many owners starts) room₀ room given-verdict → CheckedInto bs room₀ room given-verdict
       unfolding tableRoom
       into-firsts i {room₀} f =
           record {

@@ -26,24 +26,24 @@ use Rattle.checker.specs.Passes.{grammarOf, Passes}
 use Rattle.checker.proofs.Passing.{check-exactly}
 
 -- the layout of what was decoded is right
-laid : {A : Type 0} (c : Checked (Unit {0})) (u : A) {t : A} → (c >> ok u) ≡ ok t → c ≡ ok tt
-laid (ok a) u e = refl
-laid (bad r) u e = let z : _≡_ {A = ℕ} 0 1 = cc in absurd (omega arith)
+laid : {A : Type 0} (checked : Checked (Unit {0})) (given : A) {found : A} → (checked >> ok given) ≡ ok found → checked ≡ ok tt
+laid (ok a) given e = refl
+laid (bad r) given e = let z : _≡_ {A = ℕ} 0 1 = cc in absurd (omega arith)
 
-module _ {bs : List ℕ} (bytes : Bytes bs) (p : Passes bs) where
-  decoded : decode bs ≡ ok (p .table)
-  decoded = decode-exactly bs bytes (p .table) .1 (p .encoded, p .within)
+module _ {bs : List ℕ} (bytes : Bytes bs) (passes : Passes bs) where
+  decoded : decode bs ≡ ok (passes .table)
+  decoded = decode-exactly bs bytes (passes .table) .1 (passes .encoded, passes .within)
 
   laid-out : layout bs ≡ ok tt
   unfolding decode
   laid-out = laid (layout bs) (tableOf (decodeFields (fieldsOf bs))) decoded
 
   -- The productions of its bytes are the grammar of the table.
-  pub passed-grammar : productionsIn bs ≡ grammarOf (p .table)
-  passed-grammar = cc (productions-at bs, p .encoded, normalized-by (p .table) (p .within))
+  pub passed-grammar : productionsIn bs ≡ grammarOf (passes .table)
+  passed-grammar = cc (productions-at bs, passes .encoded, normalized-by (passes .table) (passes .within))
 
   -- The room after its check holds its grammar, each production a whole alternative.
-  pub passed-holds : {room₀ room : List ℕ} {r : Verdict} → CheckedInto bs room₀ room r → HoldsGrammar bs room
+  pub passed-holds : {room₀ room : List ℕ} {verdict : Verdict} → CheckedInto bs room₀ room verdict → HoldsGrammar bs room
   unfolding roomAfter
   passed-holds {room₀} c =
       record {
@@ -51,7 +51,7 @@ module _ {bs : List ℕ} (bytes : Bytes bs) (p : Passes bs) where
         few = few-places bs laid-out;
         rest = drop (length (tableRoom bs)) room₀;
         held =
-            cc (c .held, decoded, sorts-exactly (p .table) (p .within) .1 (p .meets .sorted));
+            cc (c .held, decoded, sorts-exactly (passes .table) (passes .within) .1 (passes .meets .sorted));
         whole = each-map (λ q w. w .whole) (whole-places bs laid-out);
       }
 
@@ -69,7 +69,7 @@ pub record Joined (bs room : List ℕ) : Type 0 where
   pub holds : HoldsGrammar bs room
 
 -- bytes that pass, and the room that their check filled
-pub joined : {bs : List ℕ} → Bytes bs → check bs ≡ Passed → {room₀ room : List ℕ} {r : Verdict} → CheckedInto bs room₀ room r → Joined bs room
+pub joined : {bs : List ℕ} → Bytes bs → check bs ≡ Passed → {room₀ room : List ℕ} {verdict : Verdict} → CheckedInto bs room₀ room verdict → Joined bs room
 joined {bs} bytes h c =
     let p : Passes bs = check-exactly bs bytes .0 h in
     record { passes = p; grammar = passed-grammar bytes p; holds = passed-holds bytes p c }

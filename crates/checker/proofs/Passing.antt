@@ -33,28 +33,28 @@ abbrev rules : Table → Checked Table
 rules t = checkSorts t >> checkFirsts (grammarOf t) >> ok t
 
 -- a refusal is no pass
-pub never : {A : Type 0} (r : Refusal) → Refused r ≡ Passed → A
-never r e = let z : _≡_ {A = ℕ} 0 1 = cc in absurd (omega arith)
+pub never : {A : Type 0} (cause : Refusal) → Refused cause ≡ Passed → A
+never cause e = let z : _≡_ {A = ℕ} 0 1 = cc in absurd (omega arith)
 
 -- both checks of a table passed
-both : (t : Table) (s f : Checked (Unit {0})) → verdict (s >> f >> ok t) ≡ Passed → (s ≡ ok tt) × (f ≡ ok tt)
-both t (ok a) (ok b) e = (refl, refl)
-both t (ok a) (bad r) e = never r e
-both t (bad r) f e = never r e
+both : (table : Table) (checked other : Checked (Unit {0})) → verdict (checked >> other >> ok table) ≡ Passed → (checked ≡ ok tt) × (other ≡ ok tt)
+both table (ok a) (ok b) e = (refl, refl)
+both table (ok a) (bad r) e = never r e
+both table (bad r) other e = never r e
 
 module _ (bs : List ℕ) where
   -- the table that was decoded, with both checks passed
-  accepted : (d : Checked Table) → decode bs ≡ d → verdict (d >>= rules) ≡ Passed
-      → (t : Table) × (decode bs ≡ ok t) × (checkSorts t ≡ ok tt) × (checkFirsts (grammarOf t) ≡ ok tt)
+  accepted : (checked : Checked Table) → decode bs ≡ checked → verdict (checked >>= rules) ≡ Passed
+      → (table : Table) × (decode bs ≡ ok table) × (checkSorts table ≡ ok tt) × (checkFirsts (grammarOf table) ≡ ok tt)
   accepted (ok t) e h = let b = both t (checkSorts t) (checkFirsts (grammarOf t)) h in (t, e, b .0, b .1)
   accepted (bad r) e h = never r h
 
-  accepts : (t : Table) → decode bs ≡ ok t → checkSorts t ≡ ok tt → checkFirsts (grammarOf t) ≡ ok tt → check bs ≡ Passed
+  accepts : (table : Table) → decode bs ≡ ok table → checkSorts table ≡ ok tt → checkFirsts (grammarOf table) ≡ ok tt → check bs ≡ Passed
   unfolding check passedTable
-  accepts t e s f =
+  accepts table e s f =
       cc
 
-  module _ (bytes : (i : ℕ) → getD bs i 0 < 256) where
+  module _ (bytes : (place : ℕ) → getD bs place 0 < 256) where
     passing : check bs ≡ Passed → Passes bs
     unfolding check passedTable
     passing h =
@@ -79,103 +79,109 @@ module _ (bs : List ℕ) where
     check-exactly = (passing, passed)
 
     -- the same of any verdict that is the check's
-    pub verdict-exactly : {r : Verdict} → r ≡ check bs → (r ≡ Passed) ↔ Passes bs
+    pub verdict-exactly : {given-verdict : Verdict} → given-verdict ≡ check bs → (given-verdict ≡ Passed) ↔ Passes bs
     verdict-exactly e = (λ h. passing (sym e ∙ h), λ p. e ∙ passed p)
 
   -- ------------------------------------------------------------------ the first refusal
 
   -- bytes that are not decoded are refused as decoding refuses them
-  pub refused-by-layout : (r : Refusal) → decode bs ≡ bad r → check bs ≡ Refused r
+  pub refused-by-layout : (cause : Refusal) → decode bs ≡ bad cause → check bs ≡ Refused cause
   unfolding check passedTable
-  refused-by-layout r e = cc
+  refused-by-layout cause e = cc
 
   -- then a table is refused as the check of sorts refuses it
-  pub refused-by-sorts : (t : Table) (r : Refusal) → decode bs ≡ ok t → checkSorts t ≡ bad r → check bs ≡ Refused r
+  pub refused-by-sorts : (table : Table) (cause : Refusal) → decode bs ≡ ok table → checkSorts table ≡ bad cause → check bs ≡ Refused cause
   unfolding check passedTable
-  refused-by-sorts t r e s = cc
+  refused-by-sorts table cause e s = cc
 
   -- and then as the check of first sets refuses it
-  pub refused-by-firsts : (t : Table) (r : Refusal) → decode bs ≡ ok t → checkSorts t ≡ ok tt → checkFirsts (grammarOf t) ≡ bad r → check bs ≡ Refused r
+  pub refused-by-firsts : (table : Table) (cause : Refusal) → decode bs ≡ ok table → checkSorts table ≡ ok tt → checkFirsts (grammarOf table) ≡ bad cause
+      → check bs ≡ Refused cause
   unfolding check passedTable
-  refused-by-firsts t r e s f =
+  refused-by-firsts table cause e s f =
       cc
 
 -- ------------------------------------------------------------------ 12 and 13
 
 -- neither the layout nor the sorts refuse with 12 or 13
-not-layout : {A : Type 0} {n : ℕ} → 11 < n → isLayoutNumber n ≡ true → A
-not-layout {n = n} h e =
-    by-test (eqb n 10) (λ q. absurd (omega (arith, eqb-true n 10 q)))
-    (λ q. by-test (leb n 6) (λ l. absurd (omega (arith, leb-true n 6 l))) (λ l. absurd (true≢false (sym e ∙ rw (l, q) (no-front (leb 1 n))))))
+not-layout : {A : Type 0} {number : ℕ} → 11 < number → isLayoutNumber number ≡ true → A
+not-layout {number = number} h e =
+    by-test (eqb number 10) (λ q. absurd (omega (arith, eqb-true number 10 q)))
+    (λ q. by-test (leb number 6) (λ l. absurd (omega (arith, leb-true number 6 l))) (λ l. absurd (true≢false (sym e ∙ rw (l, q) (no-front (leb 1 number))))))
   where
-    no-front : (b : Bool) → ((b && false) || false) ≡ false
+    no-front : (test : Bool) → ((test && false) || false) ≡ false
     no-front true = refl
     no-front false = refl
 
-not-sort : {A : Type 0} {n : ℕ} → 11 < n → List·Memᴰ n (7 ∷ 8 ∷ 9 ∷ 11 ∷ []) → A
+not-sort : {A : Type 0} {number : ℕ} → 11 < number → List·Memᴰ number (7 ∷ 8 ∷ 9 ∷ 11 ∷ []) → A
 not-sort h (List·Memᴰ·head e) = absurd (omega (arith, e))
 not-sort h (List·Memᴰ·tail (List·Memᴰ·head e)) = absurd (omega (arith, e))
 not-sort h (List·Memᴰ·tail (List·Memᴰ·tail (List·Memᴰ·head e))) = absurd (omega (arith, e))
 not-sort h (List·Memᴰ·tail (List·Memᴰ·tail (List·Memᴰ·tail (List·Memᴰ·head e)))) = absurd (omega (arith, e))
 
-module _ (bs : List ℕ) (bytes : (i : ℕ) → getD bs i 0 < 256) where
+module _ (bs : List ℕ) (bytes : (place : ℕ) → getD bs place 0 < 256) where
   -- A refusal over 11 is exactly that of the first sets, of a table that is laid out and sorted.
-  pub refused-over-11 : (r : Refusal) → 11 < r .number → (check bs ≡ Refused r) ↔ ((L : Laid bs) × (checkFirsts (grammarOf (L .table)) ≡ bad r))
+  pub refused-over-11 : (cause : Refusal) → 11 < cause .number
+      → (check bs ≡ Refused cause) ↔ ((laid : Laid bs) × (checkFirsts (grammarOf (laid .table)) ≡ bad cause))
   unfolding check passedTable
-  refused-over-11 r over = (from, back)
+  refused-over-11 cause over = (from, back)
     where
-      same : {q : Refusal} → Refused q ≡ Refused r → q ≡ r
+      same : {other : Refusal} → Refused other ≡ Refused cause → other ≡ cause
       same e = cc
 
-      passed-never : {A : Type 0} → Passed ≡ Refused r → A
-      passed-never e = never r (sym e)
+      passed-never : {A : Type 0} → Passed ≡ Refused cause → A
+      passed-never e = never cause (sym e)
 
-      by-firsts : (t : Table) → decode bs ≡ ok t → checkSorts t ≡ ok tt → (f : Checked (Unit {0})) → checkFirsts (grammarOf t) ≡ f
-          → verdict (f >> ok t) ≡ Refused r → (L : Laid bs) × (checkFirsts (grammarOf (L .table)) ≡ bad r)
-      by-firsts t d s (ok u) e h = passed-never h
-      by-firsts t d s (bad q) e h =
-          let w = decode-exactly bs bytes t .0 d in
-          (record { table = t; encoded = w .0; within = w .1; sorted = sorts-exactly t (w .1) .0 s }, e ∙ ap bad (same h))
+      by-firsts : (table : Table) → decode bs ≡ ok table → checkSorts table ≡ ok tt → (checked : Checked (Unit {0})) → checkFirsts (grammarOf table) ≡ checked
+          → verdict (checked >> ok table) ≡ Refused cause → (laid : Laid bs) × (checkFirsts (grammarOf (laid .table)) ≡ bad cause)
+      by-firsts table d s (ok u) e h = passed-never h
+      by-firsts table d s (bad q) e h =
+          let w = decode-exactly bs bytes table .0 d in
+          (record { table = table; encoded = w .0; within = w .1; sorted = sorts-exactly table (w .1) .0 s }, e ∙ ap bad (same h))
 
-      by-sorts : (t : Table) → decode bs ≡ ok t → (s : Checked (Unit {0})) → checkSorts t ≡ s
-          → verdict (s >> checkFirsts (grammarOf t) >> ok t) ≡ Refused r → (L : Laid bs) × (checkFirsts (grammarOf (L .table)) ≡ bad r)
-      by-sorts t d (ok u) e h = by-firsts t d e (checkFirsts (grammarOf t)) refl h
-      by-sorts t d (bad q) e h = not-sort {n = q .number} (omega (arith, over, ap (λ (x : Refusal). x .number) (same h))) (sort-refusals t q e .0)
+      by-sorts : (table : Table) → decode bs ≡ ok table → (checked : Checked (Unit {0})) → checkSorts table ≡ checked
+          → verdict (checked >> checkFirsts (grammarOf table) >> ok table) ≡ Refused cause
+          → (laid : Laid bs) × (checkFirsts (grammarOf (laid .table)) ≡ bad cause)
+      by-sorts table d (ok u) e h = by-firsts table d e (checkFirsts (grammarOf table)) refl h
+      by-sorts table d (bad q) e h = not-sort {number = q .number} (omega (arith, over, ap (λ (x : Refusal). x .number) (same h))) (sort-refusals table q e .0)
 
-      by-layout : (d : Checked Table) → decode bs ≡ d → verdict (d >>= rules) ≡ Refused r
-          → (L : Laid bs) × (checkFirsts (grammarOf (L .table)) ≡ bad r)
+      by-layout : (checked : Checked Table) → decode bs ≡ checked → verdict (checked >>= rules) ≡ Refused cause
+          → (laid : Laid bs) × (checkFirsts (grammarOf (laid .table)) ≡ bad cause)
       by-layout (ok t) e h = by-sorts t e (checkSorts t) refl h
       by-layout (bad q) e h = go (decode-answers bs)
         where
-          go : ((t : Table) × (decode bs ≡ ok t)) ⊎ ((p : Refusal) × (decode bs ≡ bad p) × (isLayoutNumber (p .number) ≡ true))
-              → (L : Laid bs) × (checkFirsts (grammarOf (L .table)) ≡ bad r)
+          go : ((table : Table) × (decode bs ≡ ok table))
+              ⊎ ((given-refusal : Refusal) × (decode bs ≡ bad given-refusal) × (isLayoutNumber (given-refusal .number) ≡ true))
+              → (laid : Laid bs) × (checkFirsts (grammarOf (laid .table)) ≡ bad cause)
           go (inl a) = let z : ok (a .0) ≡ bad q = sym (a .1) ∙ e in let z′ : _≡_ {A = ℕ} 0 1 = cc in absurd (omega arith)
           go (inr a) =
-              let z : a .0 ≡ r = cc (a .1, e, same h) in
-              not-layout {n = a .0 .number} (omega (arith, over, ap (λ (x : Refusal). x .number) z)) (a .2)
+              let z : a .0 ≡ cause = cc (a .1, e, same h) in
+              not-layout {number = a .0 .number} (omega (arith, over, ap (λ (x : Refusal). x .number) z)) (a .2)
 
-      from : check bs ≡ Refused r → (L : Laid bs) × (checkFirsts (grammarOf (L .table)) ≡ bad r)
+      from : check bs ≡ Refused cause → (laid : Laid bs) × (checkFirsts (grammarOf (laid .table)) ≡ bad cause)
       from h = by-layout (decode bs) refl h
 
-      back : ((L : Laid bs) × (checkFirsts (grammarOf (L .table)) ≡ bad r)) → check bs ≡ Refused r
+      back : ((laid : Laid bs) × (checkFirsts (grammarOf (laid .table)) ≡ bad cause)) → check bs ≡ Refused cause
       back p =
-          refused-by-firsts bs (p .0 .table) r (decode-exactly bs bytes (p .0 .table) .1 (p .0 .encoded, p .0 .within))
+          refused-by-firsts bs (p .0 .table) cause (decode-exactly bs bytes (p .0 .table) .1 (p .0 .encoded, p .0 .within))
           (sorts-exactly (p .0 .table) (p .0 .within) .1 (p .0 .sorted)) (p .1)
 
-  -- 12 is given, with n, exactly to a table that is laid out and sorted and whose lowest nonterminal that reaches itself is n.
-  pub refused-12 : (n : ℕ) → (check bs ≡ Refused (refusal 12 n 0 0)) ↔ ((L : Laid bs) × Lowest (LeftRecursive (grammarOf (L .table))) n)
-  refused-12 n =
-      let k = refused-over-11 (refusal 12 n 0 0) (omega arith) in (
-        λ h. let p = k .0 h in (p .0, left-recursion-lowest (grammarOf (p .0 .table)) n .0 (p .1)),
-        λ p. k .1 (p .0, left-recursion-lowest (grammarOf (p .0 .table)) n .1 (p .1)),
+  -- 12 is given, with `nonterminal`, exactly to a table that is laid out and sorted and whose lowest nonterminal that reaches itself is `nonterminal`.
+  pub refused-12 : (nonterminal : ℕ) → (check bs ≡ Refused (refusal 12 nonterminal 0 0))
+      ↔ ((laid : Laid bs) × Lowest (LeftRecursive (grammarOf (laid .table))) nonterminal)
+  refused-12 nonterminal =
+      let k = refused-over-11 (refusal 12 nonterminal 0 0) (omega arith) in (
+        λ h. let p = k .0 h in (p .0, left-recursion-lowest (grammarOf (p .0 .table)) nonterminal .0 (p .1)),
+        λ p. k .1 (p .0, left-recursion-lowest (grammarOf (p .0 .table)) nonterminal .1 (p .1)),
       )
 
-  -- 13 with n and b, exactly if none does, n is the lowest of which two alternatives clash, and b the lowest kind that any two of it share.
-  pub refused-13 : (n b : ℕ) → (check bs ≡ Refused (refusal 13 n b 0))
-      ↔ ((L : Laid bs) × Never (LeftRecursive (grammarOf (L .table))) × Lowest (Clashes (grammarOf (L .table))) n
-      × LowestOr64 (Shares (grammarOf (L .table)) n) b)
-  refused-13 n b =
-      let k = refused-over-11 (refusal 13 n b 0) (omega arith) in (
-        λ h. let p = k .0 h in let q = clash-lowest (grammarOf (p .0 .table)) n b .0 (p .1) in (p .0, q .0, q .1, q .2),
-        λ p. k .1 (p .0, clash-lowest (grammarOf (p .0 .table)) n b .1 (p .1, p .2, p .3)),
+  -- 13 with `nonterminal` and `kind`, exactly if none does, `nonterminal` is the lowest of which two alternatives clash, and `kind` the lowest kind
+  -- that any two of it share.
+  pub refused-13 : (nonterminal kind : ℕ) → (check bs ≡ Refused (refusal 13 nonterminal kind 0))
+      ↔ ((laid : Laid bs) × Never (LeftRecursive (grammarOf (laid .table))) × Lowest (Clashes (grammarOf (laid .table))) nonterminal
+      × LowestOr64 (Shares (grammarOf (laid .table)) nonterminal) kind)
+  refused-13 nonterminal kind =
+      let k = refused-over-11 (refusal 13 nonterminal kind 0) (omega arith) in (
+        λ h. let p = k .0 h in let q = clash-lowest (grammarOf (p .0 .table)) nonterminal kind .0 (p .1) in (p .0, q .0, q .1, q .2),
+        λ p. k .1 (p .0, clash-lowest (grammarOf (p .0 .table)) nonterminal kind .1 (p .1, p .2, p .3)),
       )

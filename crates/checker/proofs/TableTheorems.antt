@@ -35,80 +35,82 @@ use Rattle.checker.proofs.Passing as passing
 -- ------------------------------------------------------------------ 1. layout
 
 -- The decoder gives a table exactly if the bytes are its encoding and it is within document 01's counts, spellings and ranges.
-pub decode-exactly : (bs : List ℕ) → ((i : ℕ) → getD bs i 0 < 256) → (t : Table) → (decode bs ≡ ok t) ↔ ((bs ≡ encode t) × Within t)
+pub decode-exactly : (bs : List ℕ) → ((place : ℕ) → getD bs place 0 < 256) → (table : Table) → (decode bs ≡ ok table) ↔ ((bs ≡ encode table) × Within table)
 decode-exactly = layout.decode-exactly
 
 -- Two tables never share an encoding.
-pub encode-injective : (t u : Table) → Within t → Within u → encode t ≡ encode u → t ≡ u
+pub encode-injective : (table other : Table) → Within table → Within other → encode table ≡ encode other → table ≡ other
 encode-injective = layout.encode-injective
 
 -- ------------------------------------------------------------------ 2. sorts
 
 -- None of 7, 8, 9 and 11 is given to a table within the counts and ranges exactly if the judgements of 001 derive the sequence, and the root is
 -- defined, without parameters, of sort Term.
-pub sorts-exactly : (t : Table) → Within t → (checkSorts t ≡ ok tt) ↔ WellSorted t
+pub sorts-exactly : (table : Table) → Within table → (checkSorts table ≡ ok tt) ↔ WellSorted table
 sorts-exactly = sorting.sorts-exactly
 
 -- ------------------------------------------------------------------ 3. nullables and first sets
 
 module _ (g : List Production) where
   -- A bit of the computed sets is set exactly if the least relation holds.
-  pub nullable-exactly : (n : ℕ) → (hasKind (nullables g) n ≡ true) ↔ Nullable g n
+  pub nullable-exactly : (nonterminal : ℕ) → (hasKind (nullables g) nonterminal ≡ true) ↔ Nullable g nonterminal
   nullable-exactly = firsts.nullable-exactly g
 
-  -- Kind b is in the computed first set of n exactly if it opens n by the rules.
-  pub opens-exactly : (n b : ℕ) → (hasKind (getD (firstSets (nullables g) g) n 0) b ≡ true) ↔ Opens g n b
+  -- `kind` is in the computed first set of `nonterminal` exactly if it opens `nonterminal` by the rules.
+  pub opens-exactly : (nonterminal kind : ℕ) → (hasKind (getD (firstSets (nullables g) g) nonterminal 0) kind ≡ true) ↔ Opens g nonterminal kind
   opens-exactly = firsts.opens-exactly g
 
-  -- m is in the computed set of n's left calls exactly if n reaches m by left calls, by the rules.
-  pub reaches-exactly : (n m : ℕ) → (hasKind (getD (leftCalls (nullables g) g) n 0) m ≡ true) ↔ LeftReaches g n m
+  -- `callee` is in the computed set of `nonterminal`'s left calls exactly if `nonterminal` reaches `callee` by left calls, by the rules.
+  pub reaches-exactly : (nonterminal callee : ℕ) → (hasKind (getD (leftCalls (nullables g) g) nonterminal 0) callee ≡ true) ↔ LeftReaches g nonterminal callee
   reaches-exactly = firsts.reaches-exactly g
 
-  -- 12 is given, with n, exactly if n is the lowest nonterminal that reaches itself by left calls.
-  pub left-recursion-lowest : (n : ℕ) → (checkFirsts g ≡ bad (refusal 12 n 0 0)) ↔ Lowest (LeftRecursive g) n
+  -- 12 is given, with `nonterminal`, exactly if `nonterminal` is the lowest nonterminal that reaches itself by left calls.
+  pub left-recursion-lowest : (nonterminal : ℕ) → (checkFirsts g ≡ bad (refusal 12 nonterminal 0 0)) ↔ Lowest (LeftRecursive g) nonterminal
   left-recursion-lowest = clashes.left-recursion-lowest g
 
-  -- 13 is given exactly if none does, n is the lowest nonterminal of which two alternatives share a kind or are both nullable, and b the
+  -- 13 is given exactly if none does, `nonterminal` is the lowest nonterminal of which two alternatives share a kind or are both nullable, and `kind` the
   -- lowest kind that any two of it share, 64 if none.
-  pub clash-lowest : (n b : ℕ)
-      → (checkFirsts g ≡ bad (refusal 13 n b 0)) ↔ (Never (LeftRecursive g) × Lowest (Clashes g) n × LowestOr64 (Shares g n) b)
+  pub clash-lowest : (nonterminal kind : ℕ)
+      → (checkFirsts g ≡ bad (refusal 13 nonterminal kind 0))
+      ↔ (Never (LeftRecursive g) × Lowest (Clashes g) nonterminal × LowestOr64 (Shares g nonterminal) kind)
   clash-lowest = clashes.clash-lowest g
 
 -- ------------------------------------------------------------------ 4. passing
 
 module _ (bs : List ℕ) where
   -- The check accepts exactly the bytes that pass: encodings of tables within the bounds that meet the rules.
-  pub check-exactly : ((i : ℕ) → getD bs i 0 < 256) → (check bs ≡ Passed) ↔ Passes bs
+  pub check-exactly : ((place : ℕ) → getD bs place 0 < 256) → (check bs ≡ Passed) ↔ Passes bs
   check-exactly = passing.check-exactly bs
 
   -- Otherwise it gives one refusal, the first in document 01's order: the layout's, else the sorts', else that of 12 and 13.
-  pub refused-by-layout : (r : Refusal) → decode bs ≡ bad r → check bs ≡ Refused r
+  pub refused-by-layout : (cause : Refusal) → decode bs ≡ bad cause → check bs ≡ Refused cause
   refused-by-layout = passing.refused-by-layout bs
 
   -- A table that decodes has the refusal of its sorts, if they give one.
-  pub refused-by-sorts : (t : Table) (r : Refusal) → decode bs ≡ ok t → checkSorts t ≡ bad r → check bs ≡ Refused r
+  pub refused-by-sorts : (table : Table) (cause : Refusal) → decode bs ≡ ok table → checkSorts table ≡ bad cause → check bs ≡ Refused cause
   refused-by-sorts = passing.refused-by-sorts bs
 
   -- A well sorted table has the refusal of its first sets, 12 or 13, if they give one.
-  pub refused-by-firsts : (t : Table) (r : Refusal) → decode bs ≡ ok t → checkSorts t ≡ ok tt → checkFirsts (grammarOf t) ≡ bad r
-      → check bs ≡ Refused r
+  pub refused-by-firsts : (table : Table) (cause : Refusal) → decode bs ≡ ok table → checkSorts table ≡ ok tt → checkFirsts (grammarOf table) ≡ bad cause
+      → check bs ≡ Refused cause
   refused-by-firsts = passing.refused-by-firsts bs
 
-  -- 12 is given, with n, exactly if the bytes are a well sorted table and n is the lowest nonterminal that reaches itself by left calls.
-  pub refused-12 : ((i : ℕ) → getD bs i 0 < 256) → (n : ℕ)
-      → (check bs ≡ Refused (refusal 12 n 0 0)) ↔ ((L : Laid bs) × Lowest (LeftRecursive (grammarOf (L .table))) n)
+  -- 12 is given, with `nonterminal`, exactly if the bytes are a well sorted table and `nonterminal` is the lowest nonterminal that reaches itself by
+  -- left calls.
+  pub refused-12 : ((place : ℕ) → getD bs place 0 < 256) → (nonterminal : ℕ)
+      → (check bs ≡ Refused (refusal 12 nonterminal 0 0)) ↔ ((laid : Laid bs) × Lowest (LeftRecursive (grammarOf (laid .table))) nonterminal)
   refused-12 = passing.refused-12 bs
 
-  -- 13 is given, with n and b, exactly if they are one where none does, n is the lowest nonterminal of which two alternatives share a kind or
-  -- are both nullable, and b the lowest kind that any two of it share, 64 if none.
-  pub refused-13 : ((i : ℕ) → getD bs i 0 < 256) → (n b : ℕ)
-      → (check bs ≡ Refused (refusal 13 n b 0))
-      ↔ ((L : Laid bs) × Never (LeftRecursive (grammarOf (L .table))) × Lowest (Clashes (grammarOf (L .table))) n
-      × LowestOr64 (Shares (grammarOf (L .table)) n) b)
+  -- 13 is given, with `nonterminal` and `kind`, exactly if they are one where none does, `nonterminal` is the lowest nonterminal of which two
+  -- alternatives share a kind or are both nullable, and `kind` the lowest kind that any two of it share, 64 if none.
+  pub refused-13 : ((place : ℕ) → getD bs place 0 < 256) → (nonterminal kind : ℕ)
+      → (check bs ≡ Refused (refusal 13 nonterminal kind 0))
+      ↔ ((laid : Laid bs) × Never (LeftRecursive (grammarOf (laid .table))) × Lowest (Clashes (grammarOf (laid .table))) nonterminal
+      × LowestOr64 (Shares (grammarOf (laid .table)) nonterminal) kind)
   refused-13 = passing.refused-13 bs
 
   -- ------------------------------------------------------------------ 5. the call
 
   -- A verdict as `check_table` promises it accepts exactly the bytes that pass; this is the call's third promise.
-  pub call-exactly : ((i : ℕ) → getD bs i 0 < 256) → {r : Verdict} → r ≡ check bs → (r ≡ Passed) ↔ Passes bs
+  pub call-exactly : ((place : ℕ) → getD bs place 0 < 256) → {verdict : Verdict} → verdict ≡ check bs → (verdict ≡ Passed) ↔ Passes bs
   call-exactly = passing.verdict-exactly bs

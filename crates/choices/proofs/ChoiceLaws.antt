@@ -33,69 +33,70 @@ use Rattle.choices.specs.Chosen.{firstSetsOf, entriesOf, opensOf, chosen
 abbrev both : (Entry → Bool) → (Entry → Bool) → Entry → Bool
 both p q e = p e && q e
 
-module _ (test : Entry → Bool) (e : Entry) (es : List Entry) (j : ℕ) where
-  place-hit : test e ≡ true → placeFrom test (e ∷ es) j ≡ j
+module _ (test : Entry → Bool) (entry : Entry) (es : List Entry) (spot : ℕ) where
+  place-hit : test entry ≡ true → placeFrom test (entry ∷ es) spot ≡ spot
   unfolding placeFrom
   place-hit t = rw (t, placeFrom) refl
 
-  place-miss : test e ≡ false → placeFrom test (e ∷ es) j ≡ placeFrom test es (j + 1)
+  place-miss : test entry ≡ false → placeFrom test (entry ∷ es) spot ≡ placeFrom test es (spot + 1)
   unfolding placeFrom
   place-miss t = rw (t, placeFrom) refl
 
--- where a search for p ends among entries that stand from place i on, and a search for p and q from there on
-pub record Landed (p q : Entry → Bool) (ds : List Entry) (i k : ℕ) : Type 0 where
-  -- it ends at i or later
-  pub later : i ≤ k
+-- where a search for `test` ends among entries that stand from place `from` on, and a search for `test` and `other` from there on
+pub record Landed (test other : Entry → Bool) (ds : List Entry) (from reached : ℕ) : Type 0 where
+  -- it ends at `from` or later
+  pub later : from ≤ reached
   -- it ends at 256 at the latest
-  pub small : k ≤ 256
+  pub small : reached ≤ 256
   -- before 256 it ends at an entry
-  pub inside : k < 256 → k - i < length ds
-  -- that entry passes p
-  pub holds : k < 256 → p (getD ds (k - i) noEntry) ≡ true
-  -- from there on both are found where they are found from i on
-  pub same : placeFrom (both p q) (drop (k - i) ds) k ≡ placeFrom (both p q) ds i
+  pub inside : reached < 256 → reached - from < length ds
+  -- that entry passes `test`
+  pub holds : reached < 256 → test (getD ds (reached - from) noEntry) ≡ true
+  -- from there on both are found where they are found `from` on
+  pub same : placeFrom (both test other) (drop (reached - from) ds) reached ≡ placeFrom (both test other) ds from
 
-module _ (p q : Entry → Bool) where
-  landed-none : (i : ℕ) → i ≤ 256 → Landed p q [] i 256
+module _ (test other : Entry → Bool) where
+  landed-none : (from : ℕ) → from ≤ 256 → Landed test other [] from 256
   unfolding placeFrom
-  landed-none i h =
+  landed-none from h =
       record {
         later = h;
         small = omega arith;
         inside = λ l. absurd (omega arith);
         holds = λ l. absurd (omega arith);
-        same = rw (drop-nil {A = Entry} (256 - i)) refl;
+        same = rw (drop-nil {A = Entry} (256 - from)) refl;
       }
 
-  landed-here : (e : Entry) (ds : List Entry) (i : ℕ) → i ≤ 256 → p e ≡ true → Landed p q (e ∷ ds) i i
-  landed-here e ds i h t =
+  landed-here : (entry : Entry) (ds : List Entry) (from : ℕ) → from ≤ 256 → test entry ≡ true → Landed test other (entry ∷ ds) from from
+  landed-here entry ds from h t =
       record {
         later = omega arith;
         small = h;
         inside = λ l. omega arith;
-        holds = λ l. rw (sub-self i) t;
-        same = rw (sub-self i) refl;
+        holds = λ l. rw (sub-self from) t;
+        same = rw (sub-self from) refl;
       }
 
-  landed-further : (e : Entry) (ds : List Entry) (i k : ℕ) → p e ≡ false → Landed p q ds (i + 1) k → Landed p q (e ∷ ds) i k
-  landed-further e ds i k t l =
-      let z : k - i ≡ suc (k - (i + 1)) = omega (arith, l .later) in
-      let f : both p q e ≡ false = rw t refl in
+  landed-further : (entry : Entry) (ds : List Entry) (from reached : ℕ) → test entry ≡ false → Landed test other ds (from + 1) reached
+      → Landed test other (entry ∷ ds) from reached
+  landed-further entry ds from reached t l =
+      let z : reached - from ≡ suc (reached - (from + 1)) = omega (arith, l .later) in
+      let f : both test other entry ≡ false = rw t refl in
       record {
         later = omega (arith, l .later);
         small = l .small;
         inside = λ s. omega (arith, z, l .inside s);
         holds = λ s. rw z (l .holds s);
-        same = rw z (l .same ∙ sym (place-miss (both p q) e ds i f));
+        same = rw z (l .same ∙ sym (place-miss (both test other) entry ds from f));
       }
 
-  landed : (ds : List Entry) (i : ℕ) → i + length ds ≤ 256 → Landed p q ds i (placeFrom p ds i)
+  landed : (ds : List Entry) (from : ℕ) → from + length ds ≤ 256 → Landed test other ds from (placeFrom test ds from)
   unfolding placeFrom
-  landed [] i h = landed-none i (omega arith)
-  landed (e ∷ ds) i h =
-      by-test (p e)
-      (λ t. subst⁻¹ (Landed p q (e ∷ ds) i) (place-hit p e ds i t) (landed-here e ds i (omega arith) t))
-      (λ t. subst⁻¹ (Landed p q (e ∷ ds) i) (place-miss p e ds i t) (landed-further e ds i _ t (landed ds (i + 1) (omega arith))))
+  landed [] from h = landed-none from (omega arith)
+  landed (e ∷ ds) from h =
+      by-test (test e)
+      (λ t. subst⁻¹ (Landed test other (e ∷ ds) from) (place-hit test e ds from t) (landed-here e ds from (omega arith) t))
+      (λ t. subst⁻¹ (Landed test other (e ∷ ds) from) (place-miss test e ds from t) (landed-further e ds from _ t (landed ds (from + 1) (omega arith))))
 
 -- a search ends among the entries, or at 256
 pub place-inside : (test : Entry → Bool) (es : List Entry) → length es ≤ 256 → placeFrom test es 0 < 256 → placeFrom test es 0 < length es
@@ -103,75 +104,77 @@ place-inside test es few h = omega (arith, landed test test es 0 (omega arith) .
 
 -- ------------------------------------------------------------------ the walk over a nonterminal's own places
 
--- no place before j is taken
-pub record Walking (es : List Entry) (n kind j : ℕ) : Type 0 where
+-- no place before `spot` is taken
+pub record Walking (es : List Entry) (nonterminal kind spot : ℕ) : Type 0 where
   -- before 256 the place is an entry's
-  pub inside : j < 256 → j < length es
-  -- the entry is one of n's
-  pub own : j < 256 → getD es j noEntry .owner ≡ n
+  pub inside : spot < 256 → spot < length es
+  -- the entry is one of `nonterminal`'s
+  pub own : spot < 256 → getD es spot noEntry .owner ≡ nonterminal
   -- from there on the search ends where the whole search ends
-  pub rest : placeFrom (opensOf n kind) (drop j es) j ≡ placeFrom (opensOf n kind) es 0
+  pub rest : placeFrom (opensOf nonterminal kind) (drop spot es) spot ≡ placeFrom (opensOf nonterminal kind) es 0
 
 abbrev opens : ℕ → Entry → Bool
 opens kind e = hasKind (e .first) kind
 
-module _ (es : List Entry) (few : length es ≤ 256) (n kind : ℕ) where
-  -- on to the next place of n, from i on
-  onto : (i : ℕ) → i ≤ length es → {k : ℕ} → k ≡ placeFrom (isOf n) (drop i es) i
-      → placeFrom (opensOf n kind) (drop i es) i ≡ placeFrom (opensOf n kind) es 0
-      → (i ≤ k) × Walking es n kind k
-  onto i h {k} e r =
-      let l : Landed (isOf n) (opens kind) (drop i es) i k
-      = subst⁻¹ (Landed (isOf n) (opens kind) (drop i es) i) e (landed (isOf n) (opens kind) (drop i es) i (omega (arith, length-drop i es))) in
-      let z : i + (k - i) ≡ k = omega (arith, l .later) in (
+module _ (es : List Entry) (few : length es ≤ 256) (nonterminal kind : ℕ) where
+  -- on to the next place of `nonterminal`, `from` on
+  onto : (from : ℕ) → from ≤ length es → {next-place : ℕ} → next-place ≡ placeFrom (isOf nonterminal) (drop from es) from
+      → placeFrom (opensOf nonterminal kind) (drop from es) from ≡ placeFrom (opensOf nonterminal kind) es 0
+      → (from ≤ next-place) × Walking es nonterminal kind next-place
+  onto from h {next-place} e r =
+      let l : Landed (isOf nonterminal) (opens kind) (drop from es) from next-place
+      = subst⁻¹ (Landed (isOf nonterminal) (opens kind) (drop from es) from) e
+      (landed (isOf nonterminal) (opens kind) (drop from es) from (omega (arith, length-drop from es))) in
+      let z : from + (next-place - from) ≡ next-place = omega (arith, l .later) in (
         l .later,
         record {
-          inside = λ s. omega (arith, z, l .inside s, length-drop i es);
-          own = λ s. eqb-true _ n (rw (getD-drop i es (k - i) noEntry, z) at (l .holds s));
-          rest = rw (drop-drop (k - i) i es, z) at (l .same) ∙ r;
+          inside = λ s. omega (arith, z, l .inside s, length-drop from es);
+          own = λ s. eqb-true _ nonterminal (rw (getD-drop from es (next-place - from) noEntry, z) at (l .holds s));
+          rest = rw (drop-drop (next-place - from) from es, z) at (l .same) ∙ r;
         },
       )
 
   -- The walk begins at the nonterminal's first place.
-  pub walking-start : {j : ℕ} → j ≡ placeFrom (isOf n) es 0 → Walking es n kind j
+  pub walking-start : {spot : ℕ} → spot ≡ placeFrom (isOf nonterminal) es 0 → Walking es nonterminal kind spot
   walking-start e = onto 0 (omega arith) e refl .1
 
-  module _ {j : ℕ} (w : Walking es n kind j) (less : j < 256) where
-    here : drop j es ≡ getD es j noEntry ∷ drop (j + 1) es
-    here = drop-cons es j noEntry (w .inside less) ∙ rw add-one refl
+  module _ {spot : ℕ} (walking : Walking es nonterminal kind spot) (less : spot < 256) where
+    here : drop spot es ≡ getD es spot noEntry ∷ drop (spot + 1) es
+    here = drop-cons es spot noEntry (walking .inside less) ∙ rw add-one refl
 
-    owned : eqb (getD es j noEntry .owner) n ≡ true
-    owned = eq-eqb _ n (w .own less)
+    owned : eqb (getD es spot noEntry .owner) nonterminal ≡ true
+    owned = eq-eqb _ nonterminal (walking .own less)
 
     -- It ends at a place whose first set holds the kind.
-    pub walking-found : hasKind (getD es j noEntry .first) kind ≡ true → j ≡ placeFrom (opensOf n kind) es 0
-    walking-found t = sym (rw here (place-hit (opensOf n kind) (getD es j noEntry) (drop (j + 1) es) j (rw (owned, t) refl))) ∙ w .rest
+    pub walking-found : hasKind (getD es spot noEntry .first) kind ≡ true → spot ≡ placeFrom (opensOf nonterminal kind) es 0
+    walking-found t = sym (rw here (place-hit (opensOf nonterminal kind) (getD es spot noEntry) (drop (spot + 1) es) spot (rw (owned, t) refl))) ∙ walking .rest
 
     -- the next place is a later one
-    pub walking-next : hasKind (getD es j noEntry .first) kind ≡ false → {k : ℕ}
-        → k ≡ placeFrom (isOf (getD es j noEntry .owner)) (drop (j + 1) es) (j + 1)
-        → (j < k) × Walking es n kind k
+    pub walking-next : hasKind (getD es spot noEntry .first) kind ≡ false → {next-place : ℕ}
+        → next-place ≡ placeFrom (isOf (getD es spot noEntry .owner)) (drop (spot + 1) es) (spot + 1)
+        → (spot < next-place) × Walking es nonterminal kind next-place
     walking-next t e =
-        let q = onto (j + 1) (omega (arith, w .inside less)) (rw (w .own less) at e)
-        (sym (rw here (place-miss (opensOf n kind) (getD es j noEntry) (drop (j + 1) es) j (rw (owned, t) refl))) ∙ w .rest) in
+        let q = onto (spot + 1) (omega (arith, walking .inside less)) (rw (walking .own less) at e)
+        (sym (rw here (place-miss (opensOf nonterminal kind) (getD es spot noEntry) (drop (spot + 1) es) spot (rw (owned, t) refl))) ∙ walking .rest) in
         (omega (arith, q .0), q .1)
 
   -- Past the last place nothing was found.
-  pub walking-end : {j : ℕ} → Walking es n kind j → 256 ≤ j → 256 ≡ placeFrom (opensOf n kind) es 0
+  pub walking-end : {spot : ℕ} → Walking es nonterminal kind spot → 256 ≤ spot → 256 ≡ placeFrom (opensOf nonterminal kind) es 0
   unfolding placeFrom
-  walking-end {j} w h = sym (rw (drop-of-length-le es {i = j} (omega arith)) refl) ∙ w .rest
+  walking-end {spot} w h = sym (rw (drop-of-length-le es {i = spot} (omega arith)) refl) ∙ w .rest
 
 -- the search by first sets ends at a place, else the nullable place is taken
-module _ (es : List Entry) (n kind : ℕ) where
+module _ (es : List Entry) (nonterminal kind : ℕ) where
   -- A place that was found is chosen.
-  pub chosen-opened : {j : ℕ} → j ≡ placeFrom (opensOf n kind) es 0 → j < 256 → j ≡ chosenPlace es n kind
+  pub chosen-opened : {spot : ℕ} → spot ≡ placeFrom (opensOf nonterminal kind) es 0 → spot < 256 → spot ≡ chosenPlace es nonterminal kind
   unfolding chosenPlace
-  chosen-opened e l = e ∙ sym (rw (lt-ltb (placeFrom (opensOf n kind) es 0) 256 (omega (arith, e)), chosenPlace) refl)
+  chosen-opened e l = e ∙ sym (rw (lt-ltb (placeFrom (opensOf nonterminal kind) es 0) 256 (omega (arith, e)), chosenPlace) refl)
 
   -- Where none was found, the nullable place is.
-  pub chosen-nullable : {j : ℕ} → j ≡ placeFrom (opensOf n kind) es 0 → 256 ≤ j → placeFrom (isNullableOf n) es 0 ≡ chosenPlace es n kind
+  pub chosen-nullable : {spot : ℕ} → spot ≡ placeFrom (opensOf nonterminal kind) es 0 → 256 ≤ spot
+      → placeFrom (isNullableOf nonterminal) es 0 ≡ chosenPlace es nonterminal kind
   unfolding chosenPlace
-  chosen-nullable e l = sym (rw (le-ltb (placeFrom (opensOf n kind) es 0) 256 (omega (arith, e)), chosenPlace) refl)
+  chosen-nullable e l = sym (rw (le-ltb (placeFrom (opensOf nonterminal kind) es 0) 256 (omega (arith, e)), chosenPlace) refl)
 
 -- ------------------------------------------------------------------ choices that are remembered
 
@@ -183,29 +186,30 @@ remembers-none bs =
       known = λ n kind few fits l. absurd (omega (arith, l, getD-replicate {A = ℕ} memorySize (slot n kind) 0 0 (omega arith)));
     }
 
-module _ {bs memory : List ℕ} (m : Remembers bs memory) {n kind : ℕ} (few : n < 64) (fits : kind < kindsInAll) where
+module _ {bs memory : List ℕ} (remembers : Remembers bs memory) {nonterminal kind : ℕ} (few : nonterminal < 64) (fits : kind < kindsInAll) where
   -- What is remembered is what is chosen.
-  pub remembered : {k : ℕ} → k ≡ getD memory (slot n kind) 0 → 0 < k → k - 1 ≡ chosenPlace (entriesOf bs) n kind
-  remembered e l = omega (arith, e, m .known n kind few fits (omega (arith, e)))
+  pub remembered : {found-place : ℕ} → found-place ≡ getD memory (slot nonterminal kind) 0 → 0 < found-place
+      → found-place - 1 ≡ chosenPlace (entriesOf bs) nonterminal kind
+  remembered e l = omega (arith, e, remembers .known nonterminal kind few fits (omega (arith, e)))
 
   -- One more choice is remembered.
-  pub remembers-more : {place : ℕ} → place ≡ chosenPlace (entriesOf bs) n kind → Remembers bs (set memory (slot n kind) (place + 1))
+  pub remembers-more : {place : ℕ} → place ≡ chosenPlace (entriesOf bs) nonterminal kind → Remembers bs (set memory (slot nonterminal kind) (place + 1))
   remembers-more {place} e =
       record {
-        long = length-set memory (slot n kind) (place + 1) ∙ m .long;
-        known = λ n′ kind′ few′ fits′. by n′ kind′ few′ fits′ (ℕ-discrete (slot n′ kind′) (slot n kind));
+        long = length-set memory (slot nonterminal kind) (place + 1) ∙ remembers .long;
+        known = λ n′ kind′ few′ fits′. by n′ kind′ few′ fits′ (ℕ-discrete (slot n′ kind′) (slot nonterminal kind));
       }
     where
-      by : (n′ kind′ : ℕ) → n′ < 64 → kind′ < kindsInAll → Dec (slot n′ kind′ ≡ slot n kind)
-          → 0 < getD (set memory (slot n kind) (place + 1)) (slot n′ kind′) 0
-          → getD (set memory (slot n kind) (place + 1)) (slot n′ kind′) 0 ≡ chosenPlace (entriesOf bs) n′ kind′ + 1
-      by n′ kind′ few′ fits′ (yes s) l =
-          let en : n′ ≡ n = omega arith in
+      by : (nonterminal′ kind′ : ℕ) → nonterminal′ < 64 → kind′ < kindsInAll → Dec (slot nonterminal′ kind′ ≡ slot nonterminal kind)
+          → 0 < getD (set memory (slot nonterminal kind) (place + 1)) (slot nonterminal′ kind′) 0
+          → getD (set memory (slot nonterminal kind) (place + 1)) (slot nonterminal′ kind′) 0 ≡ chosenPlace (entriesOf bs) nonterminal′ kind′ + 1
+      by nonterminal′ kind′ few′ fits′ (yes s) l =
+          let en : nonterminal′ ≡ nonterminal = omega arith in
           let ek : kind′ ≡ kind = omega arith in
-          rw (s, getD-set-same memory (slot n kind) (place + 1) 0 (omega (arith, m .long)), en, ek) (omega (arith, e))
-      by n′ kind′ few′ fits′ (no f) l =
-          let other = getD-set-other memory (slot n kind) (slot n′ kind′) (place + 1) 0 f in
-          other ∙ m .known n′ kind′ few′ fits′ (omega (arith, other))
+          rw (s, getD-set-same memory (slot nonterminal kind) (place + 1) 0 (omega (arith, remembers .long)), en, ek) (omega (arith, e))
+      by nonterminal′ kind′ few′ fits′ (no f) l =
+          let other = getD-set-other memory (slot nonterminal kind) (slot nonterminal′ kind′) (place + 1) 0 f in
+          other ∙ remembers .known nonterminal′ kind′ few′ fits′ (omega (arith, other))
 
 -- ------------------------------------------------------------------ what a place stands for
 
@@ -218,52 +222,55 @@ choiceAt R [] j other = other
 choiceAt R (p ∷ ps) zero other = chosen (R p)
 choiceAt R (p ∷ ps) (suc j) other = choiceAt R ps j other
 
-module _ (R : Place → Rule) (other : Choice) where
-  choice-inside : (ps : List Place) (j : ℕ) → j < length ps → choiceAt R ps j other ≡ chosen (R (getD ps j somewhere))
+module _ (rule-at : Place → Rule) (other : Choice) where
+  choice-inside : (ps : List Place) (spot : ℕ) → spot < length ps → choiceAt rule-at ps spot other ≡ chosen (rule-at (getD ps spot somewhere))
   unfolding choiceAt
-  choice-inside [] j h = absurd (omega arith)
+  choice-inside [] spot h = absurd (omega arith)
   choice-inside (p ∷ ps) zero h = refl
-  choice-inside (p ∷ ps) (suc j) h = choice-inside ps j (omega arith)
+  choice-inside (p ∷ ps) (suc spot) h = choice-inside ps spot (omega arith)
 
-  choice-outside : (ps : List Place) (j : ℕ) → length ps ≤ j → choiceAt R ps j other ≡ other
+  choice-outside : (ps : List Place) (spot : ℕ) → length ps ≤ spot → choiceAt rule-at ps spot other ≡ other
   unfolding choiceAt
-  choice-outside [] j h = refl
+  choice-outside [] spot h = refl
   choice-outside (p ∷ ps) zero h = absurd (omega arith)
-  choice-outside (p ∷ ps) (suc j) h = choice-outside ps j (omega arith)
+  choice-outside (p ∷ ps) (suc spot) h = choice-outside ps spot (omega arith)
 
 -- a search among rules, and one among the entries of the same productions
-module _ (E : Place → Entry) (g : Place → Production) (f : Production → Rule) (te : Entry → Bool) (tr : Rule → Bool) (n : ℕ)
-    (agree : (p : Place) → te (E p) ≡ (eqb (f (g p) .owner) n && tr (f (g p)))) (other : Choice) where
-  searched : (ps : List Place) (j : ℕ) → j + length ps ≤ 256
-      → firstRule tr n (map f (map g ps)) other ≡ choiceAt (λ p. f (g p)) ps (placeFrom te (map E ps) j - j) other
+module _ (entry-at : Place → Entry) (production-at : Place → Production) (rule-of : Production → Rule) (te : Entry → Bool) (tr : Rule → Bool) (nonterminal : ℕ)
+    (agree : (stands-at : Place) → te (entry-at stands-at)
+    ≡ (eqb (rule-of (production-at stands-at) .owner) nonterminal && tr (rule-of (production-at stands-at)))) (other : Choice) where
+  searched : (ps : List Place) (spot : ℕ) → spot + length ps ≤ 256
+      → firstRule tr nonterminal (map rule-of (map production-at ps)) other ≡ choiceAt (λ p. rule-of (production-at p)) ps
+      (placeFrom te (map entry-at ps) spot - spot) other
   unfolding firstRule choiceAt placeFrom
-  searched [] j h = refl
-  searched (p ∷ ps) j h =
-      by-test (te (E p))
+  searched [] spot h = refl
+  searched (p ∷ ps) spot h =
+      by-test (te (entry-at p))
       (λ t.
-      let u : (eqb (f (g p) .owner) n && tr (f (g p))) ≡ true = sym (agree p) ∙ t in
-      let z : placeFrom te (map E (p ∷ ps)) j - j ≡ 0 = ap (λ k. k - j) (place-hit te (E p) (map E ps) j t) ∙ sub-self j in
+      let u : (eqb (rule-of (production-at p) .owner) nonterminal && tr (rule-of (production-at p))) ≡ true = sym (agree p) ∙ t in
+      let z : placeFrom te (map entry-at (p ∷ ps)) spot - spot ≡ 0 = ap (λ k. k - spot) (place-hit te (entry-at p) (map entry-at ps) spot t) ∙ sub-self spot in
       rw (u, z, firstRule) refl)
       (λ t.
-      let u : (eqb (f (g p) .owner) n && tr (f (g p))) ≡ false = sym (agree p) ∙ t in
-      let l : j + 1 ≤ placeFrom te (map E ps) (j + 1) = landed te te (map E ps) (j + 1) (omega (arith, length-map ps E)) .later in
-      let z : placeFrom te (map E (p ∷ ps)) j - j ≡ suc (placeFrom te (map E ps) (j + 1) - (j + 1)) =
-      ap (λ k. k - j) (place-miss te (E p) (map E ps) j t) ∙ omega arith in
-      rw (u, z, firstRule) (searched ps (j + 1) (omega arith)))
+      let u : (eqb (rule-of (production-at p) .owner) nonterminal && tr (rule-of (production-at p))) ≡ false = sym (agree p) ∙ t in
+      let l : spot + 1 ≤ placeFrom te (map entry-at ps) (spot + 1) = landed te te (map entry-at ps) (spot + 1) (omega (arith, length-map ps entry-at)) .later in
+      let z : placeFrom te (map entry-at (p ∷ ps)) spot - spot ≡ suc (placeFrom te (map entry-at ps) (spot + 1) - (spot + 1)) =
+      ap (λ k. k - spot) (place-miss te (entry-at p) (map entry-at ps) spot t) ∙ omega arith in
+      rw (u, z, firstRule) (searched ps (spot + 1) (omega arith)))
 
-each-at : {P : Place → Type 0} {ps : List Place} → Each P ps → (j : ℕ) → j < length ps → P (getD ps j somewhere)
-each-at each-none j h = absurd (omega arith)
+each-at : {P : Place → Type 0} {ps : List Place} → Each P ps → (spot : ℕ) → spot < length ps → P (getD ps spot somewhere)
+each-at each-none spot h = absurd (omega arith)
 each-at (each-more x xs) zero h = x
-each-at (each-more x xs) (suc j) h = each-at xs j (omega arith)
+each-at (each-more x xs) (suc spot) h = each-at xs spot (omega arith)
 
-map-at : {A B : Type 0} (f : A → B) (xs : List A) (j : ℕ) (a : A) (b : B) → j < length xs → getD (map f xs) j b ≡ f (getD xs j a)
-map-at f [] j a b h = absurd (omega arith)
-map-at f (x ∷ xs) zero a b h = refl
-map-at f (x ∷ xs) (suc j) a b h = map-at f xs j a b (omega arith)
+map-at : {A B : Type 0} (image : A → B) (xs : List A) (spot : ℕ) (default : A) (image-default : B) → spot < length xs
+    → getD (map image xs) spot image-default ≡ image (getD xs spot default)
+map-at image [] spot default image-default h = absurd (omega arith)
+map-at image (x ∷ xs) zero default image-default h = refl
+map-at image (x ∷ xs) (suc spot) default image-default h = map-at image xs spot default image-default (omega arith)
 
 -- ------------------------------------------------------------------ a room that holds a grammar
 
-module _ {bs room : List ℕ} (h : Held bs room) where
+module _ {bs room : List ℕ} (held : Held bs room) where
   abbrev nulls : ℕ
   nulls = nullables (productionsIn bs)
 
@@ -274,27 +281,27 @@ module _ {bs room : List ℕ} (h : Held bs room) where
   R p = ruleOf nulls (firstSetsOf bs) (productionAt bs (p .owner) (p .start))
 
   few : length (placesOf bs) ≤ 256
-  few = h .grammar .few
+  few = held .grammar .few
 
   -- As many entries as productions.
   pub entries-count : length (entriesOf bs) ≡ length (placesOf bs)
   unfolding entriesOf
   entries-count = length-map (placesOf bs) E
 
-  entry-is : (j : ℕ) → j < length (placesOf bs) → getD (entriesOf bs) j noEntry ≡ E (getD (placesOf bs) j somewhere)
+  entry-is : (spot : ℕ) → spot < length (placesOf bs) → getD (entriesOf bs) spot noEntry ≡ E (getD (placesOf bs) spot somewhere)
   unfolding entriesOf
-  entry-is j l = map-at E (placesOf bs) j somewhere noEntry l
+  entry-is spot l = map-at E (placesOf bs) spot somewhere noEntry l
 
-  entries-near : (j : ℕ) → getD (entriesOf bs) j noEntry .start < 65536
-  entries-near j =
-      by-test (ltb j (length (placesOf bs)))
+  entries-near : (spot : ℕ) → getD (entriesOf bs) spot noEntry .start < 65536
+  entries-near spot =
+      by-test (ltb spot (length (placesOf bs)))
       (λ t.
-      let l : j < length (placesOf bs) = ltb-true _ _ t in
-      let w : Whole bs (getD (placesOf bs) j somewhere) = each-at (h .places) j l in
-      rw (entry-is j l) (omega (arith, w .inside, h .grammar .small)))
+      let l : spot < length (placesOf bs) = ltb-true _ _ t in
+      let w : Whole bs (getD (placesOf bs) spot somewhere) = each-at (held .places) spot l in
+      rw (entry-is spot l) (omega (arith, w .inside, held .grammar .small)))
       (λ t.
-      let l : length (entriesOf bs) ≤ j = omega (arith, ltb-false j (length (placesOf bs)) t, entries-count) in
-      rw (getD-past (entriesOf bs) j noEntry l) (omega arith))
+      let l : length (entriesOf bs) ≤ spot = omega (arith, ltb-false spot (length (placesOf bs)) t, entries-count) in
+      rw (getD-past (entriesOf bs) spot noEntry l) (omega arith))
 
   -- They are 256 at most.
   pub entries-few : length (entriesOf bs) ≤ 256
@@ -304,135 +311,139 @@ module _ {bs room : List ℕ} (h : Held bs room) where
   pub entries-held : HoldsEntries (firstSetsOf bs) (entriesOf bs) room
   unfolding tableRoom entriesOf firstSetsOf
   entries-held =
-      record { rest = h .grammar .rest; held = h .grammar .held; few = entries-few; near = entries-near }
+      record { rest = held .grammar .rest; held = held .grammar .held; few = entries-few; near = entries-near }
 
   -- the walk over the places of one of the 64 nonterminals
-  module _ {n : ℕ} (small : n < 64) (kind : ℕ) where
+  module _ {nonterminal : ℕ} (small : nonterminal < 64) (kind : ℕ) where
     -- The walk begins at the first place that the room has.
-    pub walk-start : {j : ℕ} → j ≡ firstPlaceIn room n → Walking (entriesOf bs) n kind j
-    walk-start e = walking-start (entriesOf bs) entries-few n kind (e ∙ first-place-in entries-held n small)
+    pub walk-start : {spot : ℕ} → spot ≡ firstPlaceIn room nonterminal → Walking (entriesOf bs) nonterminal kind spot
+    walk-start e = walking-start (entriesOf bs) entries-few nonterminal kind (e ∙ first-place-in entries-held nonterminal small)
 
-    module _ {j : ℕ} (w : Walking (entriesOf bs) n kind j) (less : j < 256) {set : ℕ} (es : set ≡ firstIn room j) where
-      tested : {b : Bool} → hasKind set kind ≡ b → hasKind (getD (entriesOf bs) j noEntry .first) kind ≡ b
-      tested t = rw (sym (es ∙ first-in entries-held j (w .inside less))) t
+    module _ {spot : ℕ} (walking : Walking (entriesOf bs) nonterminal kind spot) (less : spot < 256) {set : ℕ} (es : set ≡ firstIn room spot) where
+      tested : {test : Bool} → hasKind set kind ≡ test → hasKind (getD (entriesOf bs) spot noEntry .first) kind ≡ test
+      tested t = rw (sym (es ∙ first-in entries-held spot (walking .inside less))) t
 
       -- It ends where the first set in the room holds the kind.
-      pub walk-found : hasKind set kind ≡ true → j ≡ placeFrom (opensOf n kind) (entriesOf bs) 0
-      walk-found t = walking-found (entriesOf bs) entries-few n kind w less (tested t)
+      pub walk-found : hasKind set kind ≡ true → spot ≡ placeFrom (opensOf nonterminal kind) (entriesOf bs) 0
+      walk-found t = walking-found (entriesOf bs) entries-few nonterminal kind walking less (tested t)
 
       -- Else it goes on at the next place that the room has, a later one.
-      pub walk-next : hasKind set kind ≡ false → {k : ℕ} → k ≡ nextPlaceIn room j → (j < k) × Walking (entriesOf bs) n kind k
+      pub walk-next : hasKind set kind ≡ false → {next-place : ℕ} → next-place ≡ nextPlaceIn room spot
+          → (spot < next-place) × Walking (entriesOf bs) nonterminal kind next-place
       walk-next t e =
-          walking-next (entriesOf bs) entries-few n kind w less (tested t) (e ∙ next-place-in entries-held j (w .inside less))
+          walking-next (entriesOf bs) entries-few nonterminal kind walking less (tested t) (e ∙ next-place-in entries-held spot (walking .inside less))
 
     -- At 256 nothing was found.
-    pub walk-end : {j : ℕ} → Walking (entriesOf bs) n kind j → 256 ≤ j → 256 ≡ placeFrom (opensOf n kind) (entriesOf bs) 0
-    walk-end w l = walking-end (entriesOf bs) entries-few n kind w l
+    pub walk-end : {spot : ℕ} → Walking (entriesOf bs) nonterminal kind spot → 256 ≤ spot → 256 ≡ placeFrom (opensOf nonterminal kind) (entriesOf bs) 0
+    walk-end w l = walking-end (entriesOf bs) entries-few nonterminal kind w l
 
     -- the place that is chosen
-    module _ {j : ℕ} (e : j ≡ placeFrom (opensOf n kind) (entriesOf bs) 0) where
+    module _ {spot : ℕ} (equal : spot ≡ placeFrom (opensOf nonterminal kind) (entriesOf bs) 0) where
       -- A place that the walk found is chosen.
-      pub place-opened : j < 256 → j ≡ chosenPlace (entriesOf bs) n kind
-      place-opened l = chosen-opened (entriesOf bs) n kind e l
+      pub place-opened : spot < 256 → spot ≡ chosenPlace (entriesOf bs) nonterminal kind
+      place-opened l = chosen-opened (entriesOf bs) nonterminal kind equal l
 
       -- Where it found none, the nullable place of the room is.
-      pub place-nullable : 256 ≤ j → {k : ℕ} → k ≡ nullablePlaceIn room n → k ≡ chosenPlace (entriesOf bs) n kind
-      place-nullable l ek = ek ∙ nullable-place-in entries-held n small ∙ chosen-nullable (entriesOf bs) n kind e l
+      pub place-nullable : 256 ≤ spot → {next-place : ℕ} → next-place ≡ nullablePlaceIn room nonterminal
+          → next-place ≡ chosenPlace (entriesOf bs) nonterminal kind
+      place-nullable l ek = ek ∙ nullable-place-in entries-held nonterminal small ∙ chosen-nullable (entriesOf bs) nonterminal kind equal l
 
   -- the nonterminals are 64
-  each-other : (test : Entry → Bool) (n : ℕ) → 64 ≤ n → ((e : Entry) → test e ≡ true → e .owner ≡ n) → {ps : List Place}
-      → Each (Whole bs) ps
-      → (j : ℕ)
-      → placeFrom test (map E ps) j ≡ 256
+  each-other : (test : Entry → Bool) (nonterminal : ℕ) → 64 ≤ nonterminal → ((entry : Entry) → test entry ≡ true → entry .owner ≡ nonterminal)
+      → {ps : List Place} → Each (Whole bs) ps
+      → (spot : ℕ)
+      → placeFrom test (map E ps) spot ≡ 256
   unfolding placeFrom
-  each-other test n l own each-none j = refl
-  each-other test n l own (each-more {x = p} {xs = ps} o xs) j =
-      by-test (test (E p)) (λ t. absurd (omega (arith, own (E p) t, o .small))) (λ t. place-miss test (E p) (map E ps) j t ∙ each-other test n l own xs (j + 1))
+  each-other test nonterminal l own each-none spot = refl
+  each-other test nonterminal l own (each-more {x = p} {xs = ps} o xs) spot =
+      by-test (test (E p)) (λ t. absurd (omega (arith, own (E p) t, o .small)))
+      (λ t. place-miss test (E p) (map E ps) spot t ∙ each-other test nonterminal l own xs (spot + 1))
 
   -- What is no nonterminal has no production.
-  pub chosen-outside : (n kind : ℕ) → 64 ≤ n → 256 ≡ chosenPlace (entriesOf bs) n kind
+  pub chosen-outside : (nonterminal kind : ℕ) → 64 ≤ nonterminal → 256 ≡ chosenPlace (entriesOf bs) nonterminal kind
   unfolding entriesOf
-  chosen-outside n kind l =
-      let a : placeFrom (opensOf n kind) (map E (placesOf bs)) 0 ≡ 256
-      = each-other (opensOf n kind) n l (λ e t. eqb-true _ n (and-eq-true-iff _ _ .0 t .0)) (h .places) 0 in
-      let b : placeFrom (isNullableOf n) (map E (placesOf bs)) 0 ≡ 256
-      = each-other (isNullableOf n) n l (λ e t. eqb-true _ n (and-eq-true-iff _ _ .0 t .0)) (h .places) 0 in
-      sym b ∙ chosen-nullable (map E (placesOf bs)) n kind (sym a) (omega arith)
+  chosen-outside nonterminal kind l =
+      let a : placeFrom (opensOf nonterminal kind) (map E (placesOf bs)) 0 ≡ 256
+      = each-other (opensOf nonterminal kind) nonterminal l (λ e t. eqb-true _ nonterminal (and-eq-true-iff _ _ .0 t .0)) (held .places) 0 in
+      let b : placeFrom (isNullableOf nonterminal) (map E (placesOf bs)) 0 ≡ 256
+      = each-other (isNullableOf nonterminal) nonterminal l (λ e t. eqb-true _ nonterminal (and-eq-true-iff _ _ .0 t .0)) (held .places) 0 in
+      sym b ∙ chosen-nullable (map E (placesOf bs)) nonterminal kind (sym a) (omega arith)
 
   -- The first set of a nonterminal, empty for what is none.
-  pub set-inside : (n : ℕ) → n < 64 → firstSetIn room n ≡ getD (firstSetsOf bs) n 0
-  set-inside n l = first-set-in entries-held n l
+  pub set-inside : (nonterminal : ℕ) → nonterminal < 64 → firstSetIn room nonterminal ≡ getD (firstSetsOf bs) nonterminal 0
+  set-inside nonterminal l = first-set-in entries-held nonterminal l
 
   -- What is no nonterminal has the empty first set.
-  pub set-outside : (n : ℕ) → 64 ≤ n → 0 ≡ getD (firstSetsOf bs) n 0
+  pub set-outside : (nonterminal : ℕ) → 64 ≤ nonterminal → 0 ≡ getD (firstSetsOf bs) nonterminal 0
   unfolding firstSetsOf
-  set-outside n l = sym (getD-past (firstSetsOf bs) n 0 (omega (arith, length-sets false nulls (productionsIn bs))))
+  set-outside nonterminal l = sym (getD-past (firstSetsOf bs) nonterminal 0 (omega (arith, length-sets false nulls (productionsIn bs))))
 
   -- the search by first sets, and the search for a nullable production
-  module _ (n kind : ℕ) where
+  module _ (nonterminal kind : ℕ) where
     abbrev opened-at : ℕ
-    opened-at = placeFrom (opensOf n kind) (entriesOf bs) 0
+    opened-at = placeFrom (opensOf nonterminal kind) (entriesOf bs) 0
 
     abbrev nullable-at : ℕ
-    nullable-at = placeFrom (isNullableOf n) (entriesOf bs) 0
+    nullable-at = placeFrom (isNullableOf nonterminal) (entriesOf bs) 0
 
-    choice-is : choice (ready (productionsIn bs)) n kind
+    choice-is : choice (ready (productionsIn bs)) nonterminal kind
         ≡ choiceAt R (placesOf bs) opened-at (choiceAt R (placesOf bs) nullable-at unfit)
     unfolding ready productionAt entriesOf firstSetsOf
     choice-is =
-        searched E (λ p. productionAt bs (p .owner) (p .start)) (ruleOf nulls (firstSetsOf bs)) (opensOf n kind) (λ r. hasKind (r .first) kind) n
+        searched E (λ p. productionAt bs (p .owner) (p .start)) (ruleOf nulls (firstSetsOf bs)) (opensOf nonterminal kind) (λ r. hasKind (r .first) kind)
+        nonterminal
         (λ p. refl) _ (placesOf bs) 0 (omega (arith, few))
         ∙ rw (sub-zero opened-at)
         (ap (choiceAt R (placesOf bs) opened-at)
-        (searched E (λ p. productionAt bs (p .owner) (p .start)) (ruleOf nulls (firstSetsOf bs)) (isNullableOf n) (λ r. r .nullable) n
+        (searched E (λ p. productionAt bs (p .owner) (p .start)) (ruleOf nulls (firstSetsOf bs)) (isNullableOf nonterminal) (λ r. r .nullable) nonterminal
         (λ p. refl) unfit (placesOf bs) 0 (omega (arith, few))
         ∙ rw (sub-zero nullable-at) refl))
 
     -- The place that is chosen stands for the rule that is chosen.
-    chosen-is : choice (ready (productionsIn bs)) n kind ≡ choiceAt R (placesOf bs) (chosenPlace (entriesOf bs) n kind) unfit
+    chosen-is : choice (ready (productionsIn bs)) nonterminal kind ≡ choiceAt R (placesOf bs) (chosenPlace (entriesOf bs) nonterminal kind) unfit
     unfolding chosenPlace
     chosen-is =
         by-test (ltb opened-at noPlace)
         (λ t.
         let l : opened-at < length (placesOf bs)
-        = omega (arith, place-inside (opensOf n kind) (entriesOf bs) entries-few (ltb-true _ _ t), entries-count) in
+        = omega (arith, place-inside (opensOf nonterminal kind) (entriesOf bs) entries-few (ltb-true _ _ t), entries-count) in
         choice-is ∙ choice-inside R _ (placesOf bs) opened-at l ∙ rw (t, chosenPlace) (sym (choice-inside R unfit (placesOf bs) opened-at l)))
         (λ t.
         let l : length (placesOf bs) ≤ opened-at = omega (arith, ltb-false opened-at noPlace t, few) in
         choice-is ∙ choice-outside R (choiceAt R (placesOf bs) nullable-at unfit) (placesOf bs) opened-at l ∙ rw (t, chosenPlace) refl)
 
-    chosen-small : chosenPlace (entriesOf bs) n kind < 256 → chosenPlace (entriesOf bs) n kind < length (placesOf bs)
+    chosen-small : chosenPlace (entriesOf bs) nonterminal kind < 256 → chosenPlace (entriesOf bs) nonterminal kind < length (placesOf bs)
     unfolding chosenPlace
     chosen-small =
         by-test (ltb opened-at noPlace)
-        (λ t. rw (t, chosenPlace) (λ s. omega (arith, place-inside (opensOf n kind) (entriesOf bs) entries-few s, entries-count)))
-        (λ t. rw (t, chosenPlace) (λ s. omega (arith, place-inside (isNullableOf n) (entriesOf bs) entries-few s, entries-count)))
+        (λ t. rw (t, chosenPlace) (λ s. omega (arith, place-inside (opensOf nonterminal kind) (entriesOf bs) entries-few s, entries-count)))
+        (λ t. rw (t, chosenPlace) (λ s. omega (arith, place-inside (isNullableOf nonterminal) (entriesOf bs) entries-few s, entries-count)))
 
-    module _ {j : ℕ} (e : j ≡ chosenPlace (entriesOf bs) n kind) where
+    module _ {spot : ℕ} (equal : spot ≡ chosenPlace (entriesOf bs) nonterminal kind) where
       -- No place: no rule fits.
-      pub chosen-nowhere : 256 ≤ j → choice (ready (productionsIn bs)) n kind ≡ unfit
-      chosen-nowhere l = chosen-is ∙ choice-outside R unfit (placesOf bs) _ (omega (arith, e, few))
+      pub chosen-nowhere : 256 ≤ spot → choice (ready (productionsIn bs)) nonterminal kind ≡ unfit
+      chosen-nowhere l = chosen-is ∙ choice-outside R unfit (placesOf bs) _ (omega (arith, equal, few))
 
-      module _ (l : j < 256) where
-        at-place : j < length (placesOf bs)
-        at-place = omega (arith, e, chosen-small (rw e at l))
+      module _ (below : spot < 256) where
+        at-place : spot < length (placesOf bs)
+        at-place = omega (arith, equal, chosen-small (rw equal at below))
 
         abbrev place : Place
-        place = getD (placesOf bs) j somewhere
+        place = getD (placesOf bs) spot somewhere
 
         -- The room has the offset of the place.
-        pub start-is : startIn room j ≡ place .start
-        start-is = start-in entries-held j (omega (arith, entries-count, at-place)) ∙ ap (λ x. x .start) (entry-is j at-place)
+        pub start-is : startIn room spot ≡ place .start
+        start-is = start-in entries-held spot (omega (arith, entries-count, at-place)) ∙ ap (λ x. x .start) (entry-is spot at-place)
 
         -- A place: the rule whose items and result stand at its offset, in a whole alternative.
-        pub chosen-here : choice (ready (productionsIn bs)) n kind ≡ chosen (R (getD (placesOf bs) j somewhere))
+        pub chosen-here : choice (ready (productionsIn bs)) nonterminal kind ≡ chosen (R (getD (placesOf bs) spot somewhere))
         chosen-here =
-            chosen-is ∙ rw (sym e) (choice-inside R unfit (placesOf bs) j at-place)
+            chosen-is ∙ rw (sym equal) (choice-inside R unfit (placesOf bs) spot at-place)
 
         -- A whole alternative stands there.
-        pub chosen-whole : wholeBody (fieldsAt bs (startIn room j)) ≡ true
-        chosen-whole = rw start-is (each-at (h .grammar .whole) j at-place)
+        pub chosen-whole : wholeBody (fieldsAt bs (startIn room spot)) ≡ true
+        chosen-whole = rw start-is (each-at (held .grammar .whole) spot at-place)
 
         -- It stands inside the table.
-        pub chosen-inside : startIn room j ≤ length bs
-        chosen-inside = let w : Whole bs place = each-at (h .places) j at-place in omega (arith, start-is, w .inside)
+        pub chosen-inside : startIn room spot ≤ length bs
+        chosen-inside = let w : Whole bs place = each-at (held .places) spot at-place in omega (arith, start-is, w .inside)

@@ -21,28 +21,31 @@ module _ (g : List Production) where
   passes-exactly = check-exactly g (ok tt)
 
   -- 2. Refusal 12 is given exactly if some nonterminal reaches itself.
-  pub left-recursion-exactly : ((n : ℕ) × (checkFirsts g ≡ bad (refusal 12 n 0 0))) ↔ ((n : ℕ) × LeftRecursive g n)
+  pub left-recursion-exactly : ((nonterminal : ℕ) × (checkFirsts g ≡ bad (refusal 12 nonterminal 0 0))) ↔ ((nonterminal : ℕ) × LeftRecursive g nonterminal)
   left-recursion-exactly = some-12 g
 
   -- 3. Its nonterminal is the lowest that does.
-  pub left-recursion-lowest : (n : ℕ) → (checkFirsts g ≡ bad (refusal 12 n 0 0)) ↔ Lowest (LeftRecursive g) n
+  pub left-recursion-lowest : (nonterminal : ℕ) → (checkFirsts g ≡ bad (refusal 12 nonterminal 0 0)) ↔ Lowest (LeftRecursive g) nonterminal
   left-recursion-lowest = given-12 g
 
   -- 4. Refusal 13 is given exactly if none reaches itself and two productions of some nonterminal share a kind or are both nullable.
-  pub clash-exactly : ((n : ℕ) × (b : ℕ) × (checkFirsts g ≡ bad (refusal 13 n b 0))) ↔ (Never (LeftRecursive g) × ((n : ℕ) × Clashes g n))
+  pub clash-exactly : ((nonterminal : ℕ) × (kind : ℕ) × (checkFirsts g ≡ bad (refusal 13 nonterminal kind 0)))
+      ↔ (Never (LeftRecursive g) × ((nonterminal : ℕ) × Clashes g nonterminal))
   clash-exactly = some-13 g
 
   -- 5. Its nonterminal is the lowest such one, and its kind the lowest that any two productions of that one share, 64 if none share any.
-  pub clash-lowest : (n b : ℕ)
-      → (checkFirsts g ≡ bad (refusal 13 n b 0)) ↔ (Never (LeftRecursive g) × Lowest (Clashes g) n × LowestOr64 (Shares g n) b)
+  pub clash-lowest : (nonterminal kind : ℕ)
+      → (checkFirsts g ≡ bad (refusal 13 nonterminal kind 0))
+      ↔ (Never (LeftRecursive g) × Lowest (Clashes g) nonterminal × LowestOr64 (Shares g nonterminal) kind)
   clash-lowest = given-13 g
 
   -- 6. Nothing else is given: the result is the one that says what holds of g, a pass, a 12 or a 13.
-  pub result-exactly : (x : Checked (Unit {0})) → (checkFirsts g ≡ x) ↔ Says g x
+  pub result-exactly : (checked : Checked (Unit {0})) → (checkFirsts g ≡ checked) ↔ Says g checked
   result-exactly = check-exactly g
 
   -- 7. In a grammar that passes, one kind opens at most one production of a nonterminal, and at most one is nullable.
-  pub one-production : checkFirsts g ≡ ok tt → (n : ℕ) (p q : Production) → Of g n p → Of g n q
-      → ((b : ℕ) → First g Reads (p .items) b → First g Reads (q .items) b → p ≡ q) × (NullItems g (p .items) → NullItems g (q .items) → p ≡ q)
-  one-production e n p q o k =
+  pub one-production : checkFirsts g ≡ ok tt → (nonterminal : ℕ) (p other : Production) → Of g nonterminal p → Of g nonterminal other
+      → ((kind : ℕ) → First g Reads (p .items) kind → First g Reads (other .items) kind → p ≡ other)
+      × (NullItems g (p .items) → NullItems g (other .items) → p ≡ other)
+  one-production e nonterminal p other o k =
       let none : Never (Clashes g) = passes-exactly .0 e .1 in (λ b. one-opened g none o k, one-nullable g none o k)

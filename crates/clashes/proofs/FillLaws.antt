@@ -19,77 +19,77 @@ use Rattle.clashes.specs.CheckCalls.{FillRoom}
 -- ------------------------------------------------------------------ the entries of an index
 
 -- the entry of a place
-pub map-at : (f : Place → Entry) (k : ℕ) (owners starts : List ℕ) (i j : ℕ) → j < k
-    → getD (map f (placesFrom k owners starts i)) j noEntry ≡ f (placeAt owners starts (i + j))
+pub map-at : (entry-at : Place → Entry) (count : ℕ) (owners starts : List ℕ) (from place : ℕ) → place < count
+    → getD (map entry-at (placesFrom count owners starts from)) place noEntry ≡ entry-at (placeAt owners starts (from + place))
 unfolding placesFrom
-map-at f zero owners starts i j h = absurd (omega arith)
-map-at f (suc k) owners starts i zero h = rw add-zero refl
-map-at f (suc k) owners starts i (suc j) h =
-    let z : i + 1 + j ≡ i + suc j = omega arith in
-    rw z at (map-at f k owners starts (i + 1) j (omega arith))
+map-at entry-at zero owners starts from place h = absurd (omega arith)
+map-at entry-at (suc count) owners starts from zero h = rw add-zero refl
+map-at entry-at (suc count) owners starts from (suc place) h =
+    let z : from + 1 + place ≡ from + suc place = omega arith in
+    rw z at (map-at entry-at count owners starts (from + 1) place (omega arith))
 
-each-at : {P : Place → Type 0} (k : ℕ) (owners starts : List ℕ) (i j : ℕ) → Each P (placesFrom k owners starts i) → j < k
-    → P (placeAt owners starts (i + j))
+each-at : {P : Place → Type 0} (count : ℕ) (owners starts : List ℕ) (from place : ℕ) → Each P (placesFrom count owners starts from) → place < count
+    → P (placeAt owners starts (from + place))
 unfolding placesFrom
-each-at zero owners starts i j e h = absurd (omega arith)
-each-at (suc k) owners starts i zero (each-more p ps) h = rw add-zero p
-each-at {P} (suc k) owners starts i (suc j) (each-more p ps) h =
-    let z : i + 1 + j ≡ i + suc j = omega arith in
-    rw z at (each-at k owners starts (i + 1) j ps (omega arith))
+each-at zero owners starts from place e h = absurd (omega arith)
+each-at (suc count) owners starts from zero (each-more p ps) h = rw add-zero p
+each-at {P} (suc count) owners starts from (suc place) (each-more p ps) h =
+    let z : from + 1 + place ≡ from + suc place = omega arith in
+    rw z at (each-at count owners starts (from + 1) place ps (omega arith))
 
 -- as many entries as places
-pub length-entries : (f : Place → Entry) (m : ℕ) (owners starts : List ℕ) → length (map f (placesIn m owners starts)) ≡ m
-length-entries f m owners starts = length-map (placesIn m owners starts) f ∙ length-places m owners starts 0
+pub length-entries : (entry-at : Place → Entry) (all : ℕ) (owners starts : List ℕ) → length (map entry-at (placesIn all owners starts)) ≡ all
+length-entries entry-at all owners starts = length-map (placesIn all owners starts) entry-at ∙ length-places all owners starts 0
 
 -- an owner is a nonterminal
-pub owner-small : {bs : List ℕ} {m : ℕ} {owners starts : List ℕ} → WholeIndex bs m owners starts → (j : ℕ) → j < m → getD owners j 0 < 64
-owner-small {bs} {m} {owners} {starts} w j h =
-    let p : Whole bs (placeAt owners starts (0 + j)) = each-at m owners starts 0 j (w .whole) h in
+pub owner-small : {bs : List ℕ} {all : ℕ} {owners starts : List ℕ} → WholeIndex bs all owners starts → (place : ℕ) → place < all → getD owners place 0 < 64
+owner-small {bs} {all} {owners} {starts} w place h =
+    let p : Whole bs (placeAt owners starts (0 + place)) = each-at all owners starts 0 place (w .whole) h in
     rw zero-add at (p .small)
 
 -- ------------------------------------------------------------------ the loop
 
-module _ {bs : List ℕ} {m : ℕ} {owners starts sets room₀ : List ℕ} (pre : FillRoom bs m owners starts sets room₀) (nulls : ℕ) where
+module _ {bs : List ℕ} {all : ℕ} {owners starts sets room₀ : List ℕ} (pre : FillRoom bs all owners starts sets room₀) (nulls : ℕ) where
   abbrev entries : List Entry
-  entries = map (entryAt bs nulls sets) (placesIn m owners starts)
+  entries = map (entryAt bs nulls sets) (placesIn all owners starts)
 
-  many : length entries ≡ m
-  many = length-entries (entryAt bs nulls sets) m owners starts
+  many : length entries ≡ all
+  many = length-entries (entryAt bs nulls sets) all owners starts
 
   -- a room that is begun has no entry yet
-  pub fill-start : {room : List ℕ} → room ≡ begun m sets room₀ → Filling sets entries room m room
+  pub fill-start : {room : List ℕ} → room ≡ begun all sets room₀ → Filling sets entries room all room
   fill-start {room} e =
-      let f : Filling sets entries (begun m sets room₀) (length entries) (begun m sets room₀) =
+      let f : Filling sets entries (begun all sets room₀) (length entries) (begun all sets room₀) =
       filling-start sets entries room₀ (omega (arith, many, pre .index .few)) (pre .lent .size) (sym many) in
       rw e (rw many at f)
 
-  module _ {room₁ : List ℕ} {j : ℕ} {room : List ℕ} (c : Filling sets entries room₁ j room) (positive : 0 < j) where
+  module _ {room₁ : List ℕ} {place : ℕ} {room : List ℕ} (filling : Filling sets entries room₁ place room) (positive : 0 < place) where
     -- the next entry has room
-    pub fill-at : RoomAt (j - 1) (getD owners (j - 1) 0) room
+    pub fill-at : RoomAt (place - 1) (getD owners (place - 1) 0) room
     fill-at =
         record {
-          size = c .size;
-          near = omega (arith, c .low, c .few);
-          small = owner-small (pre .index) (j - 1) (omega (arith, c .low, many));
+          size = filling .size;
+          near = omega (arith, filling .low, filling .few);
+          small = owner-small (pre .index) (place - 1) (omega (arith, filling .low, many));
         }
 
     -- the entry that the code has
-    pub fill-next : {start : ℕ} → start ≡ getD starts (j - 1) 0 → {found : Gathered} → found ≡ gathered nulls sets sets (itemsOf (fieldsAt bs start))
+    pub fill-next : {start : ℕ} → start ≡ getD starts (place - 1) 0 → {found : Gathered} → found ≡ gathered nulls sets sets (itemsOf (fieldsAt bs start))
         → {room′ : List ℕ}
         → room′
-        ≡ laid (record { owner = getD owners (j - 1) 0; start = getD starts (j - 1) 0; first = found .kinds; nullable = found .nullable }) (j - 1) room
-        → Filling sets entries room₁ (j - 1) room′
+        ≡ laid (record { owner = getD owners (place - 1) 0; start = getD starts (place - 1) 0; first = found .kinds; nullable = found .nullable })
+        (place - 1) room → Filling sets entries room₁ (place - 1) room′
     fill-next {start} es ef {room′} er =
-        let z : 0 + (j - 1) ≡ j - 1 = omega arith in
-        let here : entryAt bs nulls sets (placeAt owners starts (j - 1)) ≡ getD entries (j - 1) noEntry =
-        sym (map-at (entryAt bs nulls sets) m owners starts 0 (j - 1) (omega (arith, c .low, many)) ∙ rw z refl) in
-        let f : Filling sets entries room₁ (j - 1) (laid (entryAt bs nulls sets (placeAt owners starts (j - 1))) (j - 1) room) =
-        filling-next c positive here (owner-small (pre .index) (j - 1) (omega (arith, c .low, many))) in
-        subst (Filling sets entries room₁ (j - 1)) (sym (er ∙ rw (ef, es) refl)) f
+        let z : 0 + (place - 1) ≡ place - 1 = omega arith in
+        let here : entryAt bs nulls sets (placeAt owners starts (place - 1)) ≡ getD entries (place - 1) noEntry =
+        sym (map-at (entryAt bs nulls sets) all owners starts 0 (place - 1) (omega (arith, filling .low, many)) ∙ rw z refl) in
+        let f : Filling sets entries room₁ (place - 1) (laid (entryAt bs nulls sets (placeAt owners starts (place - 1))) (place - 1) room) =
+        filling-next filling positive here (owner-small (pre .index) (place - 1) (omega (arith, filling .low, many))) in
+        subst (Filling sets entries room₁ (place - 1)) (sym (er ∙ rw (ef, es) refl)) f
 
   -- with all entries the room is that of the index
-  pub fill-end : {room₁ : List ℕ} → room₁ ≡ begun m sets room₀ → {j : ℕ} {room : List ℕ} → Filling sets entries room₁ j room → j ≤ 0
-      → room ≡ overwritten (roomBy bs (placesIn m owners starts) nulls sets) room₀
-  fill-end e {j} {room} c h =
-      let f : Filling sets entries (begun m sets room₀) j room = rw e at c in
-      filling-end room₀ m f (omega arith)
+  pub fill-end : {room₁ : List ℕ} → room₁ ≡ begun all sets room₀ → {place : ℕ} {room : List ℕ} → Filling sets entries room₁ place room → place ≤ 0
+      → room ≡ overwritten (roomBy bs (placesIn all owners starts) nulls sets) room₀
+  fill-end e {place} {room} c h =
+      let f : Filling sets entries (begun all sets room₀) place room = rw e at c in
+      filling-end room₀ all f (omega arith)

@@ -30,45 +30,48 @@ ownPlaces n [] j = []
 ownPlaces n (e ∷ es) j = elim (isOf n e) [ true ↦ j ∷ ownPlaces n es (j + 1) | false ↦ ownPlaces n es (j + 1) ]
 
 -- a place is not before where the entries stand
-place-from : (test : Entry → Bool) (es : List Entry) (j : ℕ) → j + length es ≤ 256 → j ≤ placeFrom test es j
+place-from : (test : Entry → Bool) (es : List Entry) (place : ℕ) → place + length es ≤ 256 → place ≤ placeFrom test es place
 unfolding placeFrom
-place-from test [] j h = omega arith
-place-from test (e ∷ es) j h = by (test e) (place-from test es (j + 1) (omega arith))
+place-from test [] place h = omega arith
+place-from test (e ∷ es) place h = by (test e) (place-from test es (place + 1) (omega arith))
   where
-    by : (b : Bool) → j + 1 ≤ placeFrom test es (j + 1) → j ≤ (elim b as (λ x. ℕ) [ true ↦ j | false ↦ placeFrom test es (j + 1) ])
+    by : (answer : Bool) → place + 1 ≤ placeFrom test es (place + 1)
+        → place ≤ (elim answer as (λ x. ℕ) [ true ↦ place | false ↦ placeFrom test es (place + 1) ])
     by true l = omega arith
     by false l = omega arith
 
 module _ {sets : List ℕ} {es : List Entry} {room : List ℕ} (held : HoldsEntries sets es room) where
-  -- what stands first of the entries from place j on
-  front : (l : List Entry) (e : Entry) (j : ℕ) → drop j es ≡ e ∷ l → (j < length es) × (getD es j noEntry ≡ e) × (drop (j + 1) es ≡ l)
-  front l e j h =
-      let long : suc (length l) ≡ length es - j = sym (ap length h) ∙ length-drop j es in
-      let inside : j < length es = omega arith in
-      let z : j + 1 ≡ suc j = omega arith in
-      let opened : getD es j noEntry ∷ drop (suc j) es ≡ e ∷ l = sym (drop-cons es j noEntry inside) ∙ h in
+  -- what stands first of the entries from `place` on
+  front : (entries : List Entry) (found : Entry) (place : ℕ) → drop place es ≡ found ∷ entries
+      → (place < length es) × (getD es place noEntry ≡ found) × (drop (place + 1) es ≡ entries)
+  front entries found place h =
+      let long : suc (length entries) ≡ length es - place = sym (ap length h) ∙ length-drop place es in
+      let inside : place < length es = omega arith in
+      let z : place + 1 ≡ suc place = omega arith in
+      let opened : getD es place noEntry ∷ drop (suc place) es ≡ found ∷ entries = sym (drop-cons es place noEntry inside) ∙ h in
       (inside, cc, cc)
 
-  -- the links of n lead over its own entries
-  linked-own : (n : ℕ) (l : List Entry) (j : ℕ) → drop j es ≡ l → linked room (placeFrom (isOf n) l j) ≡ ownPlaces n l j
+  -- the links of `nonterminal` lead over its own entries
+  linked-own : (nonterminal : ℕ) (entries : List Entry) (place : ℕ) → drop place es ≡ entries
+      → linked room (placeFrom (isOf nonterminal) entries place) ≡ ownPlaces nonterminal entries place
   unfolding placeFrom ownPlaces
-  linked-own n [] j h = linked-none room 256 (omega arith)
-  linked-own n (e ∷ l) j h =
-      let at = front l e j h in
-      by-test (isOf n e)
+  linked-own nonterminal [] place h = linked-none room 256 (omega arith)
+  linked-own nonterminal (e ∷ entries) place h =
+      let at = front entries e place h in
+      by-test (isOf nonterminal e)
       (λ t. rw (t, placeFrom, ownPlaces)
-      (cc (linked-next room j (omega (arith, at .0, held .few)), after n at t, linked-own n l (j + 1) (at .2))))
-      (λ t. rw (t, placeFrom, ownPlaces) (linked-own n l (j + 1) (at .2)))
+      (cc (linked-next room place (omega (arith, at .0, held .few)), after nonterminal at t, linked-own nonterminal entries (place + 1) (at .2))))
+      (λ t. rw (t, placeFrom, ownPlaces) (linked-own nonterminal entries (place + 1) (at .2)))
     where
-      after : (n : ℕ) → (j < length es) × (getD es j noEntry ≡ e) × (drop (j + 1) es ≡ l) → isOf n e ≡ true
-          → afterIn room j ≡ placeFrom (isOf n) l (j + 1)
-      after n at t =
-          let o : getD es j noEntry .owner ≡ n = rw (at .1) (eqb-true (e .owner) n t) in
-          let p : nextPlaceIn room j ≡ placeFrom (isOf n) l (j + 1) = next-place-in held j (at .0) ∙ rw (o, at .2) refl in
-          let long : length (drop (j + 1) es) ≡ length l = ap length (at .2) in
-          let m : j < placeFrom (isOf n) l (j + 1) =
-          omega (arith, place-from (isOf n) l (j + 1) (omega (arith, held .few, at .0, length-drop (j + 1) es))) in
-          rw (p, lt-ltb j (placeFrom (isOf n) l (j + 1)) m, afterIn) p
+      after : (nonterminal : ℕ) → (place < length es) × (getD es place noEntry ≡ e) × (drop (place + 1) es ≡ entries) → isOf nonterminal e ≡ true
+          → afterIn room place ≡ placeFrom (isOf nonterminal) entries (place + 1)
+      after nonterminal at t =
+          let o : getD es place noEntry .owner ≡ nonterminal = rw (at .1) (eqb-true (e .owner) nonterminal t) in
+          let p : nextPlaceIn room place ≡ placeFrom (isOf nonterminal) entries (place + 1) = next-place-in held place (at .0) ∙ rw (o, at .2) refl in
+          let long : length (drop (place + 1) es) ≡ length entries = ap length (at .2) in
+          let m : place < placeFrom (isOf nonterminal) entries (place + 1) =
+          omega (arith, place-from (isOf nonterminal) entries (place + 1) (omega (arith, held .few, at .0, length-drop (place + 1) es))) in
+          rw (p, lt-ltb place (placeFrom (isOf nonterminal) entries (place + 1)) m, afterIn) p
 
 -- ------------------------------------------------------------------ two productions
 
@@ -80,123 +83,126 @@ module _ (bs : List ℕ) (nulls : ℕ) {sets : List ℕ} {es : List Entry} {room
   production p = productionAt bs (p .owner) (p .start)
 
   -- the production at a place of the room
-  record At (i : ℕ) (p : Place) : Type 0 where
-    inside : i < length es
-    here : getD es i noEntry ≡ entryAt bs nulls sets p
+  record At (row : ℕ) (place : Place) : Type 0 where
+    inside : row < length es
+    here : getD es row noEntry ≡ entryAt bs nulls sets place
 
-  read-first : {i : ℕ} {p : Place} → At i p → firstIn room i ≡ entry p .first
-  read-first {i} a = first-in held i (a .inside) ∙ rw (a .here) refl
+  read-first : {row : ℕ} {place : Place} → At row place → firstIn room row ≡ entry place .first
+  read-first {row} a = first-in held row (a .inside) ∙ rw (a .here) refl
 
-  read-nullable : {i : ℕ} {p : Place} → At i p → nullableIn room i ≡ entry p .nullable
-  read-nullable {i} a = nullable-in held i (a .inside) ∙ rw (a .here) refl
+  read-nullable : {row : ℕ} {place : Place} → At row place → nullableIn room row ≡ entry place .nullable
+  read-nullable {row} a = nullable-in held row (a .inside) ∙ rw (a .here) refl
 
-  module _ (n : ℕ) where
-    module _ {i j : ℕ} {p q : Place} (a : At i p) (b : At j q) (own : eqb (p .owner) n ≡ true) (own′ : eqb (q .owner) n ≡ true) where
-      shared-own : sharedIn room i j ≡ sharedBy nulls sets n (production p) (production q)
+  module _ (nonterminal : ℕ) where
+    module _ {row place : ℕ} {at-place other : Place} (at-first : At row at-place) (at-other : At place other) (own : eqb (at-place .owner) nonterminal ≡ true)
+        (own′ : eqb (other .owner) nonterminal ≡ true) where
+      shared-own : sharedIn room row place ≡ sharedBy nulls sets nonterminal (production at-place) (production other)
       unfolding productionAt
-      shared-own = rw (own, own′, sharedBy) (rw (read-first a, read-first b) refl)
+      shared-own = rw (own, own′, sharedBy) (rw (read-first at-first, read-first at-other) refl)
 
-      clash-own : clashIn room i j ≡ clash nulls sets n (production p) (production q)
+      clash-own : clashIn room row place ≡ clash nulls sets nonterminal (production at-place) (production other)
       unfolding productionAt
-      clash-own = rw (own, own′, sharedBy) (rw (read-first a, read-first b, read-nullable a, read-nullable b) refl)
+      clash-own = rw (own, own′, sharedBy) (rw (read-first at-first, read-first at-other, read-nullable at-first, read-nullable at-other) refl)
 
-    shared-off : (p q : Place) → eqb (q .owner) n ≡ false → sharedBy nulls sets n (production p) (production q) ≡ 0
+    shared-off : (place other : Place) → eqb (other .owner) nonterminal ≡ false → sharedBy nulls sets nonterminal (production place) (production other) ≡ 0
     unfolding productionAt
-    shared-off p q e = rw (e, and-false (eqb (p .owner) n), sharedBy) refl
+    shared-off place other e = rw (e, and-false (eqb (place .owner) nonterminal), sharedBy) refl
 
-    clash-off : (p q : Place) → eqb (q .owner) n ≡ false → clash nulls sets n (production p) (production q) ≡ false
+    clash-off : (place other : Place) → eqb (other .owner) nonterminal ≡ false → clash nulls sets nonterminal (production place) (production other) ≡ false
     unfolding productionAt
-    clash-off p q e = rw (e, and-false (eqb (p .owner) n)) refl
+    clash-off place other e = rw (e, and-false (eqb (place .owner) nonterminal)) refl
 
-    shared-none : (p : Place) (q : Production) → eqb (p .owner) n ≡ false → sharedBy nulls sets n (production p) q ≡ 0
+    shared-none : (place : Place) (other : Production) → eqb (place .owner) nonterminal ≡ false → sharedBy nulls sets nonterminal (production place) other ≡ 0
     unfolding productionAt
-    shared-none p q e = rw (e, sharedBy) refl
+    shared-none place other e = rw (e, sharedBy) refl
 
-    clash-none : (p : Place) (q : Production) → eqb (p .owner) n ≡ false → clash nulls sets n (production p) q ≡ false
+    clash-none : (place : Place) (other : Production) → eqb (place .owner) nonterminal ≡ false → clash nulls sets nonterminal (production place) other ≡ false
     unfolding productionAt
-    clash-none p q e = rw e refl
+    clash-none place other e = rw e refl
 
-    none-with : (t : Production → Bool) → ((q : Production) → t q ≡ false) → (g : List Production) → anyWith t g ≡ false
+    none-with : (test : Production → Bool) → ((other : Production) → test other ≡ false) → (g : List Production) → anyWith test g ≡ false
     unfolding anyWith
-    none-with t e [] = refl
-    none-with t e (q ∷ g) = rw (e q) (none-with t e g)
+    none-with test e [] = refl
+    none-with test e (q ∷ g) = rw (e q) (none-with test e g)
 
-    nothing-with : (f : Production → ℕ) → ((q : Production) → f q ≡ 0) → (g : List Production) (found : ℕ) → joinWith f g found ≡ found
+    nothing-with : (set-of : Production → ℕ) → ((other : Production) → set-of other ≡ 0) → (g : List Production) (found : ℕ) → joinWith set-of g found ≡ found
     unfolding joinWith
-    nothing-with f e [] found = refl
-    nothing-with f e (q ∷ g) found = ap (joinWith f g) (ap (bitOr found) (e q) ∙ or-zero-r found) ∙ nothing-with f e g found
+    nothing-with set-of e [] found = refl
+    nothing-with set-of e (q ∷ g) found = ap (joinWith set-of g) (ap (bitOr found) (e q) ∙ or-zero-r found) ∙ nothing-with set-of e g found
 
     -- the place of the first of some places, and the places behind it
-    here-at : (q : Place) (ps : List Place) (j : ℕ) → drop j es ≡ map entry (q ∷ ps) → At j q × (drop (j + 1) es ≡ map entry ps)
-    here-at q ps j h = let f = front held (map entry ps) (entry q) j h in (record { inside = f .0; here = f .1 }, f .2)
+    here-at : (other : Place) (ps : List Place) (place : ℕ) → drop place es ≡ map entry (other ∷ ps) → At place other × (drop (place + 1) es ≡ map entry ps)
+    here-at other ps place h = let f = front held (map entry ps) (entry other) place h in (record { inside = f .0; here = f .1 }, f .2)
 
-    module _ {i : ℕ} {p : Place} (a : At i p) (own : eqb (p .owner) n ≡ true) where
-      any-with : (ps : List Place) (j : ℕ) → drop j es ≡ map entry ps
-          → anyWith (clashIn room i) (ownPlaces n (map entry ps) j) ≡ anyWith (clash nulls sets n (production p)) (productionsAt bs ps)
+    module _ {row : ℕ} {place : Place} (at-place : At row place) (own : eqb (place .owner) nonterminal ≡ true) where
+      any-with : (ps : List Place) (index : ℕ) → drop index es ≡ map entry ps
+          → anyWith (clashIn room row) (ownPlaces nonterminal (map entry ps) index) ≡ anyWith (clash nulls sets nonterminal (production place))
+          (productionsAt bs ps)
       unfolding anyWith ownPlaces
-      any-with [] j h = refl
-      any-with (q ∷ ps) j h =
-          let f = here-at q ps j h in
-          let rest = any-with ps (j + 1) (f .1) in
-          by-test (eqb (q .owner) n)
+      any-with [] index h = refl
+      any-with (q ∷ ps) index h =
+          let f = here-at q ps index h in
+          let rest = any-with ps (index + 1) (f .1) in
+          by-test (eqb (q .owner) nonterminal)
           (λ t. rw (t, ownPlaces)
-          (rw (clash-own a (f .0) own t, rest) refl))
-          (λ t. rw (t, ownPlaces, clash-off p q t) rest)
+          (rw (clash-own at-place (f .0) own t, rest) refl))
+          (λ t. rw (t, ownPlaces, clash-off place q t) rest)
 
-      join-with : (ps : List Place) (j found : ℕ) → drop j es ≡ map entry ps
-          → joinWith (sharedIn room i) (ownPlaces n (map entry ps) j) found
-          ≡ joinWith (sharedBy nulls sets n (production p)) (productionsAt bs ps) found
+      join-with : (ps : List Place) (index found : ℕ) → drop index es ≡ map entry ps
+          → joinWith (sharedIn room row) (ownPlaces nonterminal (map entry ps) index) found
+          ≡ joinWith (sharedBy nulls sets nonterminal (production place)) (productionsAt bs ps) found
       unfolding joinWith ownPlaces
-      join-with [] j found h = refl
-      join-with (q ∷ ps) j found h =
-          let f = here-at q ps j h in
-          by-test (eqb (q .owner) n)
+      join-with [] index found h = refl
+      join-with (q ∷ ps) index found h =
+          let f = here-at q ps index h in
+          by-test (eqb (q .owner) nonterminal)
           (λ t. rw (t, ownPlaces)
-          (rw (shared-own a (f .0) own t) (join-with ps (j + 1) _ (f .1))))
+          (rw (shared-own at-place (f .0) own t) (join-with ps (index + 1) _ (f .1))))
           (λ t. rw (t, ownPlaces)
-          (join-with ps (j + 1) found (f .1)
-          ∙ ap (joinWith (sharedBy nulls sets n (production p)) (productionsAt bs ps))
-          (sym (ap (bitOr found) (shared-off p q t) ∙ or-zero-r found))))
+          (join-with ps (index + 1) found (f .1)
+          ∙ ap (joinWith (sharedBy nulls sets nonterminal (production place)) (productionsAt bs ps))
+          (sym (ap (bitOr found) (shared-off place q t) ∙ or-zero-r found))))
 
     -- ------------------------------------------------------------------ all pairs
 
-    any-pairs : (ps : List Place) (j : ℕ) → drop j es ≡ map entry ps
-        → anyPair (clashIn room) (ownPlaces n (map entry ps) j) ≡ anyPair (clash nulls sets n) (productionsAt bs ps)
+    any-pairs : (ps : List Place) (place : ℕ) → drop place es ≡ map entry ps
+        → anyPair (clashIn room) (ownPlaces nonterminal (map entry ps) place) ≡ anyPair (clash nulls sets nonterminal) (productionsAt bs ps)
     unfolding anyPair ownPlaces
-    any-pairs [] j h = refl
-    any-pairs (q ∷ ps) j h =
-        let f = here-at q ps j h in
-        let rest = any-pairs ps (j + 1) (f .1) in
-        by-test (eqb (q .owner) n)
+    any-pairs [] place h = refl
+    any-pairs (q ∷ ps) place h =
+        let f = here-at q ps place h in
+        let rest = any-pairs ps (place + 1) (f .1) in
+        by-test (eqb (q .owner) nonterminal)
         (λ t. rw (t, ownPlaces)
-        (rw (any-with (f .0) t ps (j + 1) (f .1), rest) refl))
-        (λ t. rw (t, ownPlaces, none-with (clash nulls sets n (production q)) (λ r. clash-none q r t) (productionsAt bs ps)) rest)
+        (rw (any-with (f .0) t ps (place + 1) (f .1), rest) refl))
+        (λ t. rw (t, ownPlaces, none-with (clash nulls sets nonterminal (production q)) (λ r. clash-none q r t) (productionsAt bs ps)) rest)
 
-    join-pairs : (ps : List Place) (j found : ℕ) → drop j es ≡ map entry ps
-        → joinPairs (sharedIn room) (ownPlaces n (map entry ps) j) found ≡ joinPairs (sharedBy nulls sets n) (productionsAt bs ps) found
+    join-pairs : (ps : List Place) (place found : ℕ) → drop place es ≡ map entry ps
+        → joinPairs (sharedIn room) (ownPlaces nonterminal (map entry ps) place) found ≡ joinPairs (sharedBy nulls sets nonterminal) (productionsAt bs ps) found
     unfolding joinPairs ownPlaces
-    join-pairs [] j found h = refl
-    join-pairs (q ∷ ps) j found h =
-        let f = here-at q ps j h in
-        by-test (eqb (q .owner) n)
+    join-pairs [] place found h = refl
+    join-pairs (q ∷ ps) place found h =
+        let f = here-at q ps place h in
+        by-test (eqb (q .owner) nonterminal)
         (λ t. rw (t, ownPlaces)
-        (join-pairs ps (j + 1) (joinWith (sharedIn room j) (ownPlaces n (map entry ps) (j + 1)) found) (f .1)
-        ∙ ap (joinPairs (sharedBy nulls sets n) (productionsAt bs ps)) (join-with (f .0) t ps (j + 1) found (f .1))))
+        (join-pairs ps (place + 1) (joinWith (sharedIn room place) (ownPlaces nonterminal (map entry ps) (place + 1)) found) (f .1)
+        ∙ ap (joinPairs (sharedBy nulls sets nonterminal) (productionsAt bs ps)) (join-with (f .0) t ps (place + 1) found (f .1))))
         (λ t. rw (t, ownPlaces)
-        (join-pairs ps (j + 1) found (f .1)
-        ∙ ap (joinPairs (sharedBy nulls sets n) (productionsAt bs ps))
-        (sym (nothing-with (sharedBy nulls sets n (production q)) (λ r. shared-none q r t) (productionsAt bs ps) found))))
+        (join-pairs ps (place + 1) found (f .1)
+        ∙ ap (joinPairs (sharedBy nulls sets nonterminal) (productionsAt bs ps))
+        (sym (nothing-with (sharedBy nulls sets nonterminal (production q)) (λ r. shared-none q r t) (productionsAt bs ps) found))))
 
-    -- the productions of n, by its links
-    own-linked : n < 64 → linked room (firstPlaceIn room n) ≡ ownPlaces n es 0
-    own-linked small = ap (linked room) (first-place-in held n small) ∙ linked-own held n es 0 refl
+    -- the productions of `nonterminal`, by its links
+    own-linked : nonterminal < 64 → linked room (firstPlaceIn room nonterminal) ≡ ownPlaces nonterminal es 0
+    own-linked small = ap (linked room) (first-place-in held nonterminal small) ∙ linked-own held nonterminal es 0 refl
 
-lowest-same : (k n : ℕ) (p q : ℕ → Bool) → ((i : ℕ) → i < n + k → p i ≡ q i) → lowest k p n ≡ lowest k q n
+lowest-same : (count start : ℕ) (test other : ℕ → Bool) → ((number : ℕ) → number < start + count → test number ≡ other number)
+    → lowest count test start ≡ lowest count other start
 unfolding lowest
-lowest-same zero n p q h = refl
-lowest-same (suc k) n p q h =
-    let rest = lowest-same k (n + 1) p q (λ i l. h i (omega arith)) in
-    by-test (q n) (λ t. rw (h n (omega arith), t, lowest) refl) (λ t. rw (h n (omega arith), t, lowest) rest)
+lowest-same zero start test other h = refl
+lowest-same (suc count) start test other h =
+    let rest = lowest-same count (start + 1) test other (λ i l. h i (omega arith)) in
+    by-test (other start) (λ t. rw (h start (omega arith), t, lowest) refl) (λ t. rw (h start (omega arith), t, lowest) rest)
 
 -- ------------------------------------------------------------------ refusal 13
 
@@ -207,9 +213,9 @@ module _ (bs : List ℕ) (nulls : ℕ) {sets : List ℕ} (places : List Place) {
       lowest-same 64 0 _ _
       (λ n small. ap (anyPair (clashIn room)) (own-linked bs nulls held n small) ∙ any-pairs bs nulls held n places 0 refl)
 
-  shared-is : (n : ℕ) → n < 64 → allSharedIn room n ≡ joinPairs (sharedBy nulls sets n) (productionsAt bs places) 0
-  shared-is n small =
-      rw (own-linked bs nulls held n small) (join-pairs bs nulls held n places 0 0 refl)
+  shared-is : (nonterminal : ℕ) → nonterminal < 64 → allSharedIn room nonterminal ≡ joinPairs (sharedBy nulls sets nonterminal) (productionsAt bs places) 0
+  shared-is nonterminal small =
+      rw (own-linked bs nulls held nonterminal small) (join-pairs bs nulls held nonterminal places 0 0 refl)
 
   -- The answer by the links is the answer by the productions.
   pub no-clash-is : noClashIn room ≡ noClash nulls sets (productionsAt bs places)
@@ -221,9 +227,9 @@ module _ (bs : List ℕ) (nulls : ℕ) {sets : List ℕ} (places : List Place) {
       answer : Bool → ℕ → ℕ → Checked (Unit {0})
       answer b n s = elim b [ true ↦ bad (refusal 13 n (trailingZeros 64 s) 0) | false ↦ ok tt ]
 
-      by : (b : Bool) → ltb (clashing nulls sets (productionsAt bs places)) 64 ≡ b
-          → answer b (clashing nulls sets (productionsAt bs places)) (allSharedIn room (clashing nulls sets (productionsAt bs places)))
-          ≡ answer b (clashing nulls sets (productionsAt bs places))
+      by : (test : Bool) → ltb (clashing nulls sets (productionsAt bs places)) 64 ≡ test
+          → answer test (clashing nulls sets (productionsAt bs places)) (allSharedIn room (clashing nulls sets (productionsAt bs places)))
+          ≡ answer test (clashing nulls sets (productionsAt bs places))
           (joinPairs (sharedBy nulls sets (clashing nulls sets (productionsAt bs places))) (productionsAt bs places) 0)
       by true t = ap (answer true _) (shared-is _ (ltb-true _ 64 t))
       by false t = refl

@@ -15,203 +15,207 @@ use Rattle.clashes.specs.Pairs.{afterIn, linkedFrom, linked}
 
 -- ------------------------------------------------------------------ the lowest of 64
 
--- none below n passes
-pub record Lowest (p : ℕ → Bool) (n : ℕ) : Type 0 where
-  -- n is at most 64
-  pub small : n ≤ 64
-  -- the search from n on finds what the whole search finds
-  pub rest : lowest (64 - n) p n ≡ lowest 64 p 0
+-- none below `lowest-number` passes
+pub record Lowest (test : ℕ → Bool) (lowest-number : ℕ) : Type 0 where
+  -- `lowest-number` is at most 64
+  pub small : lowest-number ≤ 64
+  -- the search from `lowest-number` on finds what the whole search finds
+  pub rest : lowest (64 - lowest-number) test lowest-number ≡ lowest 64 test 0
 
-module _ {p : ℕ → Bool} {n : ℕ} (c : Lowest p n) where
+module _ {test : ℕ → Bool} {lowest-number : ℕ} (given-lowest : Lowest test lowest-number) where
   -- a number that does not pass is left behind
-  pub lowest-next : n < 64 → p n ≡ false → Lowest p (n + 1)
+  pub lowest-next : lowest-number < 64 → test lowest-number ≡ false → Lowest test (lowest-number + 1)
   unfolding lowest
   lowest-next h e =
-      let z : 64 - n ≡ suc (64 - (n + 1)) = omega arith in
-      record { small = omega arith; rest = rw (z, e, lowest) at (c .rest) }
+      let z : 64 - lowest-number ≡ suc (64 - (lowest-number + 1)) = omega arith in
+      record { small = omega arith; rest = rw (z, e, lowest) at (given-lowest .rest) }
 
   -- one that passes is the lowest
-  pub lowest-stop : n < 64 → p n ≡ true → n ≡ lowest 64 p 0
+  pub lowest-stop : lowest-number < 64 → test lowest-number ≡ true → lowest-number ≡ lowest 64 test 0
   unfolding lowest
-  lowest-stop h e = let z : 64 - n ≡ suc (64 - (n + 1)) = omega arith in rw (z, e, lowest) at (c .rest)
+  lowest-stop h e = let z : 64 - lowest-number ≡ suc (64 - (lowest-number + 1)) = omega arith in rw (z, e, lowest) at (given-lowest .rest)
 
   -- no number is left
-  pub lowest-end : 64 ≤ n → n ≡ lowest 64 p 0
+  pub lowest-end : 64 ≤ lowest-number → lowest-number ≡ lowest 64 test 0
   unfolding lowest
   lowest-end h =
-      let z : 64 - n ≡ 0 = omega arith in
-      rw z at (c .rest)
+      let z : 64 - lowest-number ≡ 0 = omega arith in
+      rw z at (given-lowest .rest)
 
 -- whether a nonterminal reaches itself
-pub reach-is : (n : ℕ) {reached s : ℕ} → reached ≡ s → {b : Bool} → b ≡ hasKind reached n → hasKind s n ≡ b
-reach-is n e f = cc
+pub reach-is : (nonterminal : ℕ) {reached reached-set : ℕ} → reached ≡ reached-set → {test : Bool} → test ≡ hasKind reached nonterminal
+    → hasKind reached-set nonterminal ≡ test
+reach-is nonterminal e f = cc
 
 -- ------------------------------------------------------------------ links
 
 module _ (room : List ℕ) where
   -- a link leads on
-  pub after-more : (i : ℕ) → i < 256 → i < afterIn room i
-  after-more i h =
-      by-test (ltb i (nextPlaceIn room i)) (λ e. rw (e, afterIn) (ltb-true i (nextPlaceIn room i) e)) (λ e. rw (e, afterIn) h)
+  pub after-more : (place : ℕ) → place < 256 → place < afterIn room place
+  after-more place h =
+      by-test (ltb place (nextPlaceIn room place)) (λ e. rw (e, afterIn) (ltb-true place (nextPlaceIn room place) e)) (λ e. rw (e, afterIn) h)
 
   -- a link that leads on
-  pub after-on : (i : ℕ) {next : ℕ} → next ≡ nextPlaceIn room i → i < next → next ≡ afterIn room i
-  after-on i {next} e h = sym (rw (lt-ltb i (nextPlaceIn room i) (omega arith), afterIn) (sym e))
+  pub after-on : (place : ℕ) {next : ℕ} → next ≡ nextPlaceIn room place → place < next → next ≡ afterIn room place
+  after-on place {next} e h = sym (rw (lt-ltb place (nextPlaceIn room place) (omega arith), afterIn) (sym e))
 
   -- one that does not
-  pub after-end : (i : ℕ) {next : ℕ} → next ≡ nextPlaceIn room i → next ≤ i → 256 ≡ afterIn room i
-  after-end i e h = sym (rw (le-ltb i (nextPlaceIn room i) (omega arith), afterIn) refl)
+  pub after-end : (place : ℕ) {next : ℕ} → next ≡ nextPlaceIn room place → next ≤ place → 256 ≡ afterIn room place
+  after-end place e h = sym (rw (le-ltb place (nextPlaceIn room place) (omega arith), afterIn) refl)
 
-  after-less : (i j : ℕ) → i < 256 → j ≡ afterIn room i → 256 - j < 256 - i
-  after-less i j h e = omega (arith, after-more i h)
+  after-less : (place next-place : ℕ) → place < 256 → next-place ≡ afterIn room place → 256 - next-place < 256 - place
+  after-less place next-place h e = omega (arith, after-more place h)
 
-  fuel : (k k′ i : ℕ) → 256 ≤ k + i → 256 ≤ k′ + i → linkedFrom k room i ≡ linkedFrom k′ room i
+  fuel : (steps steps′ place : ℕ) → 256 ≤ steps + place → 256 ≤ steps′ + place → linkedFrom steps room place ≡ linkedFrom steps′ room place
   unfolding linkedFrom
-  fuel zero zero i h h′ = refl
-  fuel zero (suc k′) i h h′ = rw (le-ltb i 256 (omega arith), linkedFrom) refl
-  fuel (suc k) zero i h h′ = rw (le-ltb i 256 (omega arith), linkedFrom) refl
-  fuel (suc k) (suc k′) i h h′ =
-      by-test (ltb i 256)
+  fuel zero zero place h h′ = refl
+  fuel zero (suc steps′) place h h′ = rw (le-ltb place 256 (omega arith), linkedFrom) refl
+  fuel (suc steps) zero place h h′ = rw (le-ltb place 256 (omega arith), linkedFrom) refl
+  fuel (suc steps) (suc steps′) place h h′ =
+      by-test (ltb place 256)
       (λ e.
-      let on = after-more i (ltb-true i 256 e) in
-      rw (e, linkedFrom) (ap (_∷_ i) (fuel k k′ (afterIn room i) (omega (arith, on)) (omega (arith, on)))))
+      let on = after-more place (ltb-true place 256 e) in
+      rw (e, linkedFrom) (ap (_∷_ place) (fuel steps steps′ (afterIn room place) (omega (arith, on)) (omega (arith, on)))))
       (λ e. rw (e, linkedFrom) refl)
 
-  -- the places from i on are i and those behind it
-  pub linked-next : (i : ℕ) → i < 256 → linked room i ≡ i ∷ linked room (afterIn room i)
+  -- the places from `place` on are `place` and those behind it
+  pub linked-next : (place : ℕ) → place < 256 → linked room place ≡ place ∷ linked room (afterIn room place)
   unfolding linkedFrom
-  linked-next i h =
-      let z : 256 - i ≡ suc (255 - i) = omega arith in
-      let on = after-more i h in
-      rw (z, lt-ltb i 256 h, linkedFrom) (ap (_∷_ i) (fuel (255 - i) (256 - afterIn room i) (afterIn room i) (omega (arith, on)) (omega (arith, on))))
+  linked-next place h =
+      let z : 256 - place ≡ suc (255 - place) = omega arith in
+      let on = after-more place h in
+      rw (z, lt-ltb place 256 h, linkedFrom)
+      (ap (_∷_ place) (fuel (255 - place) (256 - afterIn room place) (afterIn room place) (omega (arith, on)) (omega (arith, on))))
 
   -- no place is 256 or more
-  pub linked-none : (i : ℕ) → 256 ≤ i → linked room i ≡ []
+  pub linked-none : (place : ℕ) → 256 ≤ place → linked room place ≡ []
   unfolding linkedFrom
-  linked-none i h =
-      let z : 256 - i ≡ 0 = omega arith in
+  linked-none place h =
+      let z : 256 - place ≡ 0 = omega arith in
       rw z refl
 
 -- ------------------------------------------------------------------ any pair
 
--- the pairs of the places linked from i on decide, as those from `start` on do
-pub record Row (q : ℕ → ℕ → Bool) (room : List ℕ) (start i : ℕ) : Type 0 where
-  -- there is a pair from i on exactly if there is one from the start on
-  pub rest : anyPair q (linked room i) ≡ anyPair q (linked room start)
+-- the pairs of the places linked from `one` on decide, as those from `start` on do
+pub record Row (test : ℕ → ℕ → Bool) (room : List ℕ) (start one : ℕ) : Type 0 where
+  -- there is a pair from `one` on exactly if there is one from the start on
+  pub rest : anyPair test (linked room one) ≡ anyPair test (linked room start)
 
--- the pairs of place i with those from j on, and the pairs of the places behind i, decide
-pub record Column (q : ℕ → ℕ → Bool) (room : List ℕ) (start i j : ℕ) : Type 0 where
+-- the pairs of place `one` with those from `other` on, and the pairs of the places behind `one`, decide
+pub record Column (test : ℕ → ℕ → Bool) (room : List ℕ) (start one other : ℕ) : Type 0 where
   -- there is a pair among these exactly if there is one from the start on
-  pub rest : (anyWith (q i) (linked room j) || anyPair q (linked room (afterIn room i))) ≡ anyPair q (linked room start)
+  pub rest : (anyWith (test one) (linked room other) || anyPair test (linked room (afterIn room one))) ≡ anyPair test (linked room start)
 
 -- at the first place
-pub row-start : (q : ℕ → ℕ → Bool) (room : List ℕ) {start i : ℕ} → i ≡ start → Row q room start i
-row-start q room e = record { rest = cc }
+pub row-start : (test : ℕ → ℕ → Bool) (room : List ℕ) {start one : ℕ} → one ≡ start → Row test room start one
+row-start test room e = record { rest = cc }
 
-module _ {q : ℕ → ℕ → Bool} {room : List ℕ} {start i : ℕ} (c : Row q room start i) where
+module _ {test : ℕ → ℕ → Bool} {room : List ℕ} {start row : ℕ} (in-row : Row test room start row) where
   -- the pairs of the next place
-  pub column-start : i < 256 → {j : ℕ} → j ≡ afterIn room i → Column q room start i j
+  pub column-start : row < 256 → {other : ℕ} → other ≡ afterIn room row → Column test room start row other
   unfolding anyPair
   column-start h e =
       record {
         rest =
-            cc (ap (anyPair q) (linked-next room i h), c .rest);
+            cc (ap (anyPair test) (linked-next room row h), in-row .rest);
       }
 
   -- fewer places are left
-  pub row-less : i < 256 → {k : ℕ} → k ≡ afterIn room i → 256 - k < 256 - i
-  row-less h {k} = after-less room i k h
+  pub row-less : row < 256 → {after : ℕ} → after ≡ afterIn room row → 256 - after < 256 - row
+  row-less h {after} = after-less room row after h
 
   -- no place is left
-  pub row-end : 256 ≤ i → anyPair q (linked room start) ≡ false
+  pub row-end : 256 ≤ row → anyPair test (linked room start) ≡ false
   unfolding anyPair
-  row-end h = sym (c .rest) ∙ ap (anyPair q) (linked-none room i h)
+  row-end h = sym (in-row .rest) ∙ ap (anyPair test) (linked-none room row h)
 
-module _ {q : ℕ → ℕ → Bool} {room : List ℕ} {start i j : ℕ} (c : Column q room start i j) where
-  column-one : j < 256
-      → ((q i j || anyWith (q i) (linked room (afterIn room j))) || anyPair q (linked room (afterIn room i))) ≡ anyPair q (linked room start)
+module _ {test : ℕ → ℕ → Bool} {room : List ℕ} {start row column : ℕ} (in-column : Column test room start row column) where
+  column-one : column < 256
+      → ((test row column || anyWith (test row) (linked room (afterIn room column))) || anyPair test (linked room (afterIn room row)))
+      ≡ anyPair test (linked room start)
   unfolding anyWith
   column-one h =
-      cc (ap (anyWith (q i)) (linked-next room j h), c .rest)
+      cc (ap (anyWith (test row)) (linked-next room column h), in-column .rest)
 
   -- a pair that does not pass
-  pub column-next : j < 256 → {b : Bool} → b ≡ q i j → b ≡ false → {k : ℕ} → k ≡ afterIn room j → Column q room start i k
+  pub column-next : column < 256 → {answer : Bool} → answer ≡ test row column → answer ≡ false → {after : ℕ} → after ≡ afterIn room column
+      → Column test room start row after
   column-next h e f g =
-      let first : q i j ≡ false = cc in
+      let first : test row column ≡ false = cc in
       record { rest = rw (← g, first) at (column-one h) }
 
   -- fewer places are left
-  pub column-less : j < 256 → {k : ℕ} → k ≡ afterIn room j → 256 - k < 256 - j
-  column-less h {k} = after-less room j k h
+  pub column-less : column < 256 → {after : ℕ} → after ≡ afterIn room column → 256 - after < 256 - column
+  column-less h {after} = after-less room column after h
 
   -- a pair that passes
-  pub column-found : j < 256 → {b : Bool} → b ≡ q i j → b ≡ true → anyPair q (linked room start) ≡ true
+  pub column-found : column < 256 → {answer : Bool} → answer ≡ test row column → answer ≡ true → anyPair test (linked room start) ≡ true
   column-found h e f = sym (rw (sym e ∙ f) at (column-one h))
 
-  -- no pair of place i is left
-  pub column-end : 256 ≤ j → {k : ℕ} → k ≡ afterIn room i → Row q room start k
+  -- no pair of place `row` is left
+  pub column-end : 256 ≤ column → {after : ℕ} → after ≡ afterIn room row → Row test room start after
   unfolding anyWith
   column-end h e =
       record {
         rest =
-            rw (linked-none room j h, ← e) at (c .rest);
+            rw (linked-none room column h, ← e) at (in-column .rest);
       }
 
 -- ------------------------------------------------------------------ what all pairs give
 
--- what is found, and the pairs of the places linked from i on
-pub record JoinRow (f : ℕ → ℕ → ℕ) (room : List ℕ) (start i found : ℕ) : Type 0 where
-  -- what is found, with the pairs from i on, is what all pairs give
-  pub rest : joinPairs f (linked room i) found ≡ joinPairs f (linked room start) 0
+-- what is found, and the pairs of the places linked from `one` on
+pub record JoinRow (shared : ℕ → ℕ → ℕ) (room : List ℕ) (start one found : ℕ) : Type 0 where
+  -- what is found, with the pairs from `one` on, is what all pairs give
+  pub rest : joinPairs shared (linked room one) found ≡ joinPairs shared (linked room start) 0
 
--- what is found, the pairs of place i with those from j on, and the pairs of the places behind i
-pub record JoinColumn (f : ℕ → ℕ → ℕ) (room : List ℕ) (start i j found : ℕ) : Type 0 where
+-- what is found, the pairs of place `one` with those from `other` on, and the pairs of the places behind `one`
+pub record JoinColumn (shared : ℕ → ℕ → ℕ) (room : List ℕ) (start one other found : ℕ) : Type 0 where
   -- what is found, with these pairs, is what all pairs give
-  pub rest : joinPairs f (linked room (afterIn room i)) (joinWith (f i) (linked room j) found) ≡ joinPairs f (linked room start) 0
+  pub rest : joinPairs shared (linked room (afterIn room one)) (joinWith (shared one) (linked room other) found) ≡ joinPairs shared (linked room start) 0
 
 -- at the first place
-pub join-row-start : (f : ℕ → ℕ → ℕ) (room : List ℕ) {start i : ℕ} → i ≡ start → JoinRow f room start i 0
-join-row-start f room e = record { rest = cc }
+pub join-row-start : (shared : ℕ → ℕ → ℕ) (room : List ℕ) {start one : ℕ} → one ≡ start → JoinRow shared room start one 0
+join-row-start shared room e = record { rest = cc }
 
-module _ {f : ℕ → ℕ → ℕ} {room : List ℕ} {start i found : ℕ} (c : JoinRow f room start i found) where
+module _ {shared : ℕ → ℕ → ℕ} {room : List ℕ} {start row found : ℕ} (join-row : JoinRow shared room start row found) where
   -- the pairs of the next place
-  pub join-column-start : i < 256 → {j : ℕ} → j ≡ afterIn room i → JoinColumn f room start i j found
+  pub join-column-start : row < 256 → {other : ℕ} → other ≡ afterIn room row → JoinColumn shared room start row other found
   unfolding joinPairs
   join-column-start h e =
       record {
         rest =
-            rw e (rw (linked-next room i h) at (c .rest));
+            rw e (rw (linked-next room row h) at (join-row .rest));
       }
 
   -- fewer places are left
-  pub join-row-less : i < 256 → {k : ℕ} → k ≡ afterIn room i → 256 - k < 256 - i
-  join-row-less h {k} = after-less room i k h
+  pub join-row-less : row < 256 → {after : ℕ} → after ≡ afterIn room row → 256 - after < 256 - row
+  join-row-less h {after} = after-less room row after h
 
   -- no place is left
-  pub join-row-end : 256 ≤ i → found ≡ joinPairs f (linked room start) 0
+  pub join-row-end : 256 ≤ row → found ≡ joinPairs shared (linked room start) 0
   unfolding joinPairs
-  join-row-end h = rw (linked-none room i h) at (c .rest)
+  join-row-end h = rw (linked-none room row h) at (join-row .rest)
 
-module _ {f : ℕ → ℕ → ℕ} {room : List ℕ} {start i j found : ℕ} (c : JoinColumn f room start i j found) where
+module _ {shared : ℕ → ℕ → ℕ} {room : List ℕ} {start row column found : ℕ} (join-column : JoinColumn shared room start row column found) where
   -- what a pair gives is joined
-  pub join-column-next : j < 256 → {v more : ℕ} → v ≡ f i j → more ≡ bitOr found v → {k : ℕ} → k ≡ afterIn room j
-      → JoinColumn f room start i k more
+  pub join-column-next : column < 256 → {value more : ℕ} → value ≡ shared row column → more ≡ bitOr found value → {after : ℕ} → after ≡ afterIn room column
+      → JoinColumn shared room start row after more
   unfolding joinWith
   join-column-next h e s g =
       record {
         rest =
-            rw (g, s, e) (rw (linked-next room j h) at (c .rest));
+            rw (g, s, e) (rw (linked-next room column h) at (join-column .rest));
       }
 
   -- fewer places are left
-  pub join-column-less : j < 256 → {k : ℕ} → k ≡ afterIn room j → 256 - k < 256 - j
-  join-column-less h {k} = after-less room j k h
+  pub join-column-less : column < 256 → {after : ℕ} → after ≡ afterIn room column → 256 - after < 256 - column
+  join-column-less h {after} = after-less room column after h
 
-  -- no pair of place i is left
-  pub join-column-end : 256 ≤ j → {k : ℕ} → k ≡ afterIn room i → JoinRow f room start k found
+  -- no pair of place `row` is left
+  pub join-column-end : 256 ≤ column → {after : ℕ} → after ≡ afterIn room row → JoinRow shared room start after found
   unfolding joinWith
   join-column-end h e =
       record {
         rest =
-            rw e (rw (linked-none room j h) at (c .rest));
+            rw e (rw (linked-none room column h) at (join-column .rest));
       }

@@ -28,47 +28,49 @@ use Rattle.clashes.proofs.Clashing.{kind-small, shared-exactly, clash-e
 
 -- ------------------------------------------------------------------ the lowest number that a relation holds of
 
-fails : {b : Bool} {A : Type 0} → (b ≡ true) ↔ A → b ≡ false → ¬ A
+fails : {test : Bool} {A : Type 0} → (test ≡ true) ↔ A → test ≡ false → ¬ A
 fails i e a = true≢false (sym (i .1 a) ∙ e)
 
-module _ (t : ℕ → Bool) (P : ℕ → Type 0) (exactly : (n : ℕ) → n < 64 → (t n ≡ true) ↔ P n) (small : (n : ℕ) → P n → n < 64) where
-  found-lowest : lowest 64 t 0 < 64 → Lowest P (lowest 64 t 0)
+module _ (test : ℕ → Bool) (P : ℕ → Type 0) (exactly : (number : ℕ) → number < 64 → (test number ≡ true) ↔ P number)
+    (small : (number : ℕ) → P number → number < 64) where
+  found-lowest : lowest 64 test 0 < 64 → Lowest P (lowest 64 test 0)
   found-lowest l =
       record {
-        holds = exactly (lowest 64 t 0) l .0 (lowest-passes 64 t 0 (omega arith));
-        none-below = λ m h. fails (exactly m (omega arith)) (lowest-skips 64 t 0 m (omega arith) h);
+        holds = exactly (lowest 64 test 0) l .0 (lowest-passes 64 test 0 (omega arith));
+        none-below = λ m h. fails (exactly m (omega arith)) (lowest-skips 64 test 0 m (omega arith) h);
       }
 
-  found-none : 64 ≤ lowest 64 t 0 → Never P
-  found-none l m h = let s : m < 64 = small m h in fails (exactly m s) (lowest-skips 64 t 0 m (omega arith) (omega arith)) h
+  found-none : 64 ≤ lowest 64 test 0 → Never P
+  found-none l m h = let s : m < 64 = small m h in fails (exactly m s) (lowest-skips 64 test 0 m (omega arith) (omega arith)) h
 
-lowest-one : {P : ℕ → Type 0} {m n : ℕ} → Lowest P m → Lowest P n → m ≡ n
-lowest-one {P} {m} {n} x y = by (decLt m n) (decLt n m)
+lowest-one : {P : ℕ → Type 0} {other number : ℕ} → Lowest P other → Lowest P number → other ≡ number
+lowest-one {P} {other} {number} x y = by (decLt other number) (decLt number other)
   where
-    by : Dec (m < n) → Dec (n < m) → m ≡ n
-    by (yes l) d = absurd (y .none-below m l (x .holds))
-    by (no k) (yes l) = absurd (x .none-below n l (y .holds))
+    by : Dec (other < number) → Dec (number < other) → other ≡ number
+    by (yes l) d = absurd (y .none-below other l (x .holds))
+    by (no k) (yes l) = absurd (x .none-below number l (y .holds))
     by (no k) (no l) = omega arith
 
-lowest64-one : {P : ℕ → Type 0} {m n : ℕ} → LowestOr64 P m → LowestOr64 P n → m ≡ n
+lowest64-one : {P : ℕ → Type 0} {other number : ℕ} → LowestOr64 P other → LowestOr64 P number → other ≡ number
 lowest64-one (inl x) (inl y) = lowest-one x y
-lowest64-one {n = n} (inl x) (inr y) = absurd (y .1 _ (x .holds))
+lowest64-one {number = number} (inl x) (inr y) = absurd (y .1 _ (x .holds))
 lowest64-one (inr x) (inl y) = absurd (x .1 _ (y .holds))
 lowest64-one (inr x) (inr y) = x .0 ∙ sym (y .0)
 
 -- the lowest kind of a set of kinds
-kinds-lowest : (m : ℕ) (P : ℕ → Type 0) → ((b : ℕ) → (hasKind m b ≡ true) ↔ P b) → ((b : ℕ) → P b → b < 64) → LowestOr64 P (trailingZeros 64 m)
-kinds-lowest m P exactly small = by (decLt (trailingZeros 64 m) 64)
+kinds-lowest : (set : ℕ) (P : ℕ → Type 0) → ((kind : ℕ) → (hasKind set kind ≡ true) ↔ P kind) → ((kind : ℕ) → P kind → kind < 64)
+    → LowestOr64 P (trailingZeros 64 set)
+kinds-lowest set P exactly small = by (decLt (trailingZeros 64 set) 64)
   where
-    by : Dec (trailingZeros 64 m < 64) → LowestOr64 P (trailingZeros 64 m)
+    by : Dec (trailingZeros 64 set < 64) → LowestOr64 P (trailingZeros 64 set)
     by (yes h) =
         inl
         (record {
-          holds = exactly (trailingZeros 64 m) .0 (lowest-has 64 m h);
-          none-below = λ b l. fails (exactly b) (lowest-first 64 m b l);
+          holds = exactly (trailingZeros 64 set) .0 (lowest-has 64 set h);
+          none-below = λ b l. fails (exactly b) (lowest-first 64 set b l);
         })
     by (no h) =
-        inr (omega (arith, trailing-le 64 m), λ b p. let l : b < 64 = small b p in fails (exactly b) (lowest-first 64 m b (omega arith)) p)
+        inr (omega (arith, trailing-le 64 set), λ b p. let l : b < 64 = small b p in fails (exactly b) (lowest-first 64 set b (omega arith)) p)
 
 -- ------------------------------------------------------------------ what the check gives
 
@@ -79,8 +81,9 @@ module _ (g : List Production) where
   abbrev clashes : ℕ
   clashes = clashing (nullables g) (firstSets (nullables g) g) g
 
-  reaches-itself : (n : ℕ) → n < 64 → (hasKind (getD (leftCalls (nullables g) g) n 0) n ≡ true) ↔ LeftRecursive g n
-  reaches-itself n l = sets-exactly true Calls calls-exactly g n n
+  reaches-itself : (nonterminal : ℕ) → nonterminal < 64 → (hasKind (getD (leftCalls (nullables g) g) nonterminal 0) nonterminal ≡ true)
+      ↔ LeftRecursive g nonterminal
+  reaches-itself nonterminal l = sets-exactly true Calls calls-exactly g nonterminal nonterminal
 
   lowest-recursive : recursive < 64 → Lowest (LeftRecursive g) recursive
   lowest-recursive = found-lowest (λ n. hasKind (getD (leftCalls (nullables g) g) n 0) n) (LeftRecursive g) reaches-itself (λ n h. h .of .small)
@@ -94,11 +97,13 @@ module _ (g : List Production) where
   none-clashing : 64 ≤ clashes → Never (Clashes g)
   none-clashing = found-none (λ n. anyPair (clash (nullables g) (firstSets (nullables g) g) n) g) (Clashes g) (clash-exactly g) (λ n h. clash-small g h)
 
-  lowest-shared : (n : ℕ) → n < 64 → LowestOr64 (Shares g n) (lowestShared (nullables g) (firstSets (nullables g) g) g n)
-  lowest-shared n l =
-      kinds-lowest (joinPairs (sharedBy (nullables g) (firstSets (nullables g) g) n) g 0) (Shares g n) (shared-exactly g n l) (λ b s. kind-small (s .one-first))
+  lowest-shared : (nonterminal : ℕ) → nonterminal < 64
+      → LowestOr64 (Shares g nonterminal) (lowestShared (nullables g) (firstSets (nullables g) g) g nonterminal)
+  lowest-shared nonterminal l =
+      kinds-lowest (joinPairs (sharedBy (nullables g) (firstSets (nullables g) g) nonterminal) g 0) (Shares g nonterminal) (shared-exactly g nonterminal l)
+      (λ b s. kind-small (s .one-first))
 
-  clash-says : Never (LeftRecursive g) → (t : Bool) → ltb clashes 64 ≡ t → Says g (noClash (nullables g) (firstSets (nullables g) g) g)
+  clash-says : Never (LeftRecursive g) → (test : Bool) → ltb clashes 64 ≡ test → Says g (noClash (nullables g) (firstSets (nullables g) g) g)
   unfolding noClash
   clash-says none true e =
       let l : clashes < 64 = ltb-true clashes 64 e in
@@ -111,7 +116,7 @@ module _ (g : List Production) where
   unfolding checkFirsts noLeftRecursion
   check-says = by (ltb recursive 64) refl
     where
-      by : (t : Bool) → ltb recursive 64 ≡ t → Says g (checkFirsts g)
+      by : (test : Bool) → ltb recursive 64 ≡ test → Says g (checkFirsts g)
       by true e =
           rw (e, checkFirsts, noLeftRecursion)
           (inl (record { nonterminal = recursive; answer = refl; lowest = lowest-recursive (ltb-true recursive 64 e) }))
@@ -120,16 +125,16 @@ module _ (g : List Production) where
 
   -- ---------------------------------------------------------------- no other result says what it means
 
-  same-12 : {r s : Refusal} → Says12 g r → Says12 g s → r ≡ s
+  same-12 : {cause given-refusal : Refusal} → Says12 g cause → Says12 g given-refusal → cause ≡ given-refusal
   same-12 x y = cc (x .answer, y .answer, lowest-one (x .lowest) (y .lowest))
 
-  same-13 : {r s : Refusal} → Says13 g r → Says13 g s → r ≡ s
+  same-13 : {cause given-refusal : Refusal} → Says13 g cause → Says13 g given-refusal → cause ≡ given-refusal
   same-13 x y =
       let n : x .nonterminal ≡ y .nonterminal = lowest-one (x .lowest) (y .lowest) in
       let b : x .kind ≡ y .kind = lowest64-one (rw n at (x .shared)) (y .shared) in
       cc (x .answer, y .answer)
 
-  says-one : (x y : Checked (Unit {0})) → Says g x → Says g y → x ≡ y
+  says-one : (checked other : Checked (Unit {0})) → Says g checked → Says g other → checked ≡ other
   says-one (ok u) (ok v) h k = refl
   says-one (ok u) (bad s) h (inl k) = absurd (h .0 _ (k .lowest .holds))
   says-one (ok u) (bad s) h (inr k) = absurd (h .1 _ (k .lowest .holds))
@@ -141,31 +146,32 @@ module _ (g : List Production) where
   says-one (bad r) (bad s) (inr h) (inr k) = ap bad (same-13 h k)
 
   -- a result is given exactly if it says what holds
-  pub check-exactly : (x : Checked (Unit {0})) → (checkFirsts g ≡ x) ↔ Says g x
-  check-exactly x = (λ e. rw e at check-says, λ h. says-one (checkFirsts g) x check-says h)
+  pub check-exactly : (checked : Checked (Unit {0})) → (checkFirsts g ≡ checked) ↔ Says g checked
+  check-exactly checked = (λ e. rw e at check-says, λ h. says-one (checkFirsts g) checked check-says h)
 
   -- ---------------------------------------------------------------- refusal by refusal
 
   -- 12 names the lowest nonterminal that reaches itself
-  pub given-12 : (n : ℕ) → (checkFirsts g ≡ bad (refusal 12 n 0 0)) ↔ Lowest (LeftRecursive g) n
-  given-12 n = (
-    λ e. by (check-exactly (bad (refusal 12 n 0 0)) .0 e),
-    λ h. check-exactly (bad (refusal 12 n 0 0)) .1 (inl (record { nonterminal = n; answer = refl; lowest = h })),
+  pub given-12 : (nonterminal : ℕ) → (checkFirsts g ≡ bad (refusal 12 nonterminal 0 0)) ↔ Lowest (LeftRecursive g) nonterminal
+  given-12 nonterminal = (
+    λ e. by (check-exactly (bad (refusal 12 nonterminal 0 0)) .0 e),
+    λ h. check-exactly (bad (refusal 12 nonterminal 0 0)) .1 (inl (record { nonterminal = nonterminal; answer = refl; lowest = h })),
   )
     where
-      by : Says g (bad (refusal 12 n 0 0)) → Lowest (LeftRecursive g) n
+      by : Says g (bad (refusal 12 nonterminal 0 0)) → Lowest (LeftRecursive g) nonterminal
       by (inl h) = rw (ap (λ (r : Refusal). r .a) (h .answer)) (h .lowest)
       by (inr h) = absurd (omega (arith, ap (λ (r : Refusal). r .number) (h .answer)))
 
   -- 13 names the lowest clash, if none reaches itself
-  pub given-13 : (n b : ℕ) → (checkFirsts g ≡ bad (refusal 13 n b 0)) ↔ (Never (LeftRecursive g) × Lowest (Clashes g) n × LowestOr64 (Shares g n) b)
-  given-13 n b = (
-    λ e. by (check-exactly (bad (refusal 13 n b 0)) .0 e),
-    λ h. check-exactly (bad (refusal 13 n b 0)) .1
-        (inr (record { nonterminal = n; kind = b; answer = refl; earlier = h .0; lowest = h .1; shared = h .2 })),
+  pub given-13 : (nonterminal kind : ℕ) → (checkFirsts g ≡ bad (refusal 13 nonterminal kind 0))
+      ↔ (Never (LeftRecursive g) × Lowest (Clashes g) nonterminal × LowestOr64 (Shares g nonterminal) kind)
+  given-13 nonterminal kind = (
+    λ e. by (check-exactly (bad (refusal 13 nonterminal kind 0)) .0 e),
+    λ h. check-exactly (bad (refusal 13 nonterminal kind 0)) .1
+        (inr (record { nonterminal = nonterminal; kind = kind; answer = refl; earlier = h .0; lowest = h .1; shared = h .2 })),
   )
     where
-      by : Says g (bad (refusal 13 n b 0)) → Never (LeftRecursive g) × Lowest (Clashes g) n × LowestOr64 (Shares g n) b
+      by : Says g (bad (refusal 13 nonterminal kind 0)) → Never (LeftRecursive g) × Lowest (Clashes g) nonterminal × LowestOr64 (Shares g nonterminal) kind
       by (inl h) = absurd (omega (arith, ap (λ (r : Refusal). r .number) (h .answer)))
       by (inr h) = (
         h .earlier,
@@ -174,21 +180,23 @@ module _ (g : List Production) where
       )
 
   -- 12 is given exactly if one reaches itself
-  pub some-12 : ((n : ℕ) × (checkFirsts g ≡ bad (refusal 12 n 0 0))) ↔ ((n : ℕ) × LeftRecursive g n)
+  pub some-12 : ((nonterminal : ℕ) × (checkFirsts g ≡ bad (refusal 12 nonterminal 0 0))) ↔ ((nonterminal : ℕ) × LeftRecursive g nonterminal)
   some-12 = (λ e. (e .0, given-12 (e .0) .0 (e .1) .holds), λ h. by h (checkFirsts g) refl check-says)
     where
-      by : (n : ℕ) × LeftRecursive g n → (x : Checked (Unit {0})) → checkFirsts g ≡ x → Says g x → (n : ℕ) × (checkFirsts g ≡ bad (refusal 12 n 0 0))
+      by : (number : ℕ) × LeftRecursive g number → (checked : Checked (Unit {0})) → checkFirsts g ≡ checked → Says g checked
+          → (number : ℕ) × (checkFirsts g ≡ bad (refusal 12 number 0 0))
       by h (ok u) e k = absurd (k .0 _ (h .1))
       by h (bad r) e (inl k) = (k .nonterminal, e ∙ ap bad (k .answer))
       by h (bad r) e (inr k) = absurd (k .earlier _ (h .1))
 
   -- 13 is given exactly if two clash, and none reaches itself
-  pub some-13 : ((n : ℕ) × (b : ℕ) × (checkFirsts g ≡ bad (refusal 13 n b 0))) ↔ (Never (LeftRecursive g) × ((n : ℕ) × Clashes g n))
+  pub some-13 : ((nonterminal : ℕ) × (kind : ℕ) × (checkFirsts g ≡ bad (refusal 13 nonterminal kind 0)))
+      ↔ (Never (LeftRecursive g) × ((nonterminal : ℕ) × Clashes g nonterminal))
   some-13 =
       (λ e. let h = given-13 (e .0) (e .1) .0 (e .2) in (h .0, (e .0, h .1 .holds)), λ h. by h (checkFirsts g) refl check-says)
     where
-      by : Never (LeftRecursive g) × ((n : ℕ) × Clashes g n) → (x : Checked (Unit {0})) → checkFirsts g ≡ x → Says g x
-          → (n : ℕ) × (b : ℕ) × (checkFirsts g ≡ bad (refusal 13 n b 0))
+      by : Never (LeftRecursive g) × ((number : ℕ) × Clashes g number) → (checked : Checked (Unit {0})) → checkFirsts g ≡ checked → Says g checked
+          → (number : ℕ) × (kind : ℕ) × (checkFirsts g ≡ bad (refusal 13 number kind 0))
       by h (ok u) e k = absurd (k .1 _ (h .1 .1))
       by h (bad r) e (inl k) = absurd (h .0 _ (k .lowest .holds))
       by h (bad r) e (inr k) = (k .nonterminal, k .kind, e ∙ ap bad (k .answer))

@@ -21,16 +21,16 @@ use Rattle.decoding.proofs.Accept.{Passes, accept}
 use Rattle.decoding.proofs.Spelled.{Spelled, each-all, spelled-first, spelled-rest}
 
 -- fields are accepted wherever they stand
-pub record Accepted (before : List Field) (s : Progress) (fs : List Field) : Type 0 where
+pub record Accepted (before : List Field) (progress : Progress) (fs : List Field) : Type 0 where
   -- wherever they begin
-  pub from : (at : ℕ) → checkFields (spread at fs) before s ≡ ok tt
+  pub from : (at : ℕ) → checkFields (spread at fs) before progress ≡ ok tt
 
 -- one field more
-and-then : {before : List Field} {s : Progress} {tag : ℕ} {v : List ℕ} {fs : List Field} → Passes before tag v s
-    → Accepted (field tag v ∷ before) (passed tag s) fs → Accepted before s (field tag v ∷ fs)
+and-then : {before : List Field} {progress : Progress} {tag : ℕ} {value : List ℕ} {fs : List Field} → Passes before tag value progress
+    → Accepted (field tag value ∷ before) (passed tag progress) fs → Accepted before progress (field tag value ∷ fs)
 unfolding spread
-and-then {before} {s} {tag} {v} {fs} p k =
-    record { from = λ at. accept at tag v (spread (at + (3 + length v)) fs) before s p (k .from (at + (3 + length v))) }
+and-then {before} {progress} {tag} {value} {fs} p k =
+    record { from = λ at. accept at tag value (spread (at + (3 + length value)) fs) before progress p (k .from (at + (3 + length value))) }
 
 -- ------------------------------------------------------------------ an alternative
 
@@ -41,49 +41,52 @@ record Inside (last : ℕ) : Type 0 where
 
 -- What follows some fields is accepted from each state that they lead to: the fields are then accepted before it. Only what
 -- is needed of that state is said.
-items-accepted : {is : List Item} → Each ItemWithin is → (before : List Field) (s : Progress) → Inside (s .last)
-    → s .items + length is ≤ most .items → (k : List Field)
-    → ((b : List Field) (t : Progress) → Inside (t .last) → t .blocks ≡ s .blocks → t .alternatives ≡ s .alternatives → Accepted b t k)
-    → Accepted before s (itemsThen is k)
+items-accepted : {is : List Item} → Each ItemWithin is → (before : List Field) (progress : Progress) → Inside (progress .last)
+    → progress .items + length is ≤ most .items → (follow : List Field)
+    → ((passed-fields : List Field) (next : Progress) → Inside (next .last) → next .blocks ≡ progress .blocks → next .alternatives ≡ progress .alternatives
+    → Accepted passed-fields next follow) → Accepted before progress (itemsThen is follow)
 unfolding itemsThen passed follows isSpelled hasRoom
-items-accepted each-none before s i m k c = c before s i refl refl
-items-accepted (each-more {x} {xs} h t) before s i m k c =
+items-accepted each-none before progress i m follow c = c before progress i refl refl
+items-accepted (each-more {x} {xs} h t) before progress i m follow c =
     and-then
     (record {
       known = item-known h;
       ordered = i .item;
       spelled = refl;
-      room = lt-ltb (s .items) (most .items) (omega arith);
+      room = lt-ltb (progress .items) (most .items) (omega arith);
       whole = item-whole h;
     })
-    (items-accepted t (field 6 (itemValue x) ∷ before) (passed 6 s) (record { item = refl; result = refl }) (omega arith) k
+    (items-accepted t (field 6 (itemValue x) ∷ before) (passed 6 progress) (record { item = refl; result = refl }) (omega arith) follow
     (λ b t i e f. c b t i (omega arith) (omega arith)))
 
-alternative-accepted : {a : Alternative} → AlternativeWithin a → (before : List Field) (s : Progress) → follows 5 (s .last) ≡ true
-    → s .alternatives < most .alternatives → (k : List Field)
-    → ((b : List Field) (t : Progress) → t .last ≡ 7 → t .blocks ≡ s .blocks → t .alternatives ≡ s .alternatives + 1 → Accepted b t k)
-    → Accepted before s (field 5 [] ∷ itemsThen (a .items) (field 7 (templateThen (a .result) []) ∷ k))
+alternative-accepted : {alternative : Alternative} → AlternativeWithin alternative → (before : List Field) (progress : Progress)
+    → follows 5 (progress .last) ≡ true → progress .alternatives < most .alternatives → (follow : List Field)
+    → ((passed-fields : List Field) (next : Progress) → next .last ≡ 7 → next .blocks ≡ progress .blocks → next .alternatives ≡ progress .alternatives + 1
+    → Accepted passed-fields next follow)
+    → Accepted before progress (field 5 [] ∷ itemsThen (alternative .items) (field 7 (templateThen (alternative .result) []) ∷ follow))
 unfolding passed follows isKnown isSpelled hasRoom isWhole
-alternative-accepted {a} w before s f m k c =
+alternative-accepted {alternative} w before progress f m follow c =
     and-then
-    (record { known = refl; ordered = f; spelled = refl; room = rw (lt-ltb (s .alternatives) (most .alternatives) m) refl; whole = refl })
-    (items-accepted (w .items) (field 5 [] ∷ before) (passed 5 s) (record { item = refl; result = refl }) (omega (arith, w .itemCount))
-    (field 7 (templateThen (a .result) []) ∷ k)
+    (record { known = refl; ordered = f; spelled = refl; room = rw (lt-ltb (progress .alternatives) (most .alternatives) m) refl; whole = refl })
+    (items-accepted (w .items) (field 5 [] ∷ before) (passed 5 progress) (record { item = refl; result = refl }) (omega (arith, w .itemCount))
+    (field 7 (templateThen (alternative .result) []) ∷ follow)
     (λ b t i e g.
     and-then
     (record { known = refl; ordered = i .result; spelled = refl; room = refl; whole = result-whole (w .result) })
-    (c (field 7 (templateThen (a .result) []) ∷ b) (passed 7 t) refl (omega arith) (omega arith))))
+    (c (field 7 (templateThen (alternative .result) []) ∷ b) (passed 7 t) refl (omega arith) (omega arith))))
 
-alternatives-accepted : {rest : List Alternative} → Each AlternativeWithin rest → (before : List Field) (s : Progress)
-    → follows 5 (s .last) ≡ true → (length rest ≡ 0 → s .last ≡ 7) → s .alternatives + length rest ≤ most .alternatives → (k : List Field)
-    → ((b : List Field) (t : Progress) → t .last ≡ 7 → t .blocks ≡ s .blocks → t .alternatives ≡ s .alternatives + length rest → Accepted b t k)
-    → Accepted before s (alternativesThen rest k)
+alternatives-accepted : {rest : List Alternative} → Each AlternativeWithin rest → (before : List Field) (progress : Progress)
+    → follows 5 (progress .last) ≡ true → (length rest ≡ 0 → progress .last ≡ 7) → progress .alternatives + length rest ≤ most .alternatives
+    → (follow : List Field)
+    → ((passed-fields : List Field) (next : Progress) → next .last ≡ 7 → next .blocks ≡ progress .blocks → next .alternatives
+    ≡ progress .alternatives + length rest → Accepted passed-fields next follow)
+    → Accepted before progress (alternativesThen rest follow)
 unfolding alternativesThen follows
-alternatives-accepted each-none before s f z m k c = c before s (z refl) refl (omega arith)
-alternatives-accepted (each-more {x = a} {xs = rest} h w) before s f z m k c =
-    alternative-accepted h before s f (omega arith) (alternativesThen rest k)
+alternatives-accepted each-none before progress f z m follow c = c before progress (z refl) refl (omega arith)
+alternatives-accepted (each-more {x = a} {xs = rest} h w) before progress f z m follow c =
+    alternative-accepted h before progress f (omega arith) (alternativesThen rest follow)
     (λ b t l e g.
-    alternatives-accepted w b t (ap (follows 5) l) (λ n. l) (omega arith) k (λ b u l i j. c b u l (omega arith) (omega arith)))
+    alternatives-accepted w b t (ap (follows 5) l) (λ n. l) (omega arith) follow (λ b u l i j. c b u l (omega arith) (omega arith)))
 
 -- ------------------------------------------------------------------ blocks and root
 
@@ -96,89 +99,91 @@ closed-after : (last : ℕ) → last ≡ 7 → Closed last
 unfolding follows
 closed-after last e = record { block = ap (follows 3) e; root = ap (follows 8) e }
 
-definitions-accepted : {ds : List Definition} → Each DefinitionWithin ds → (before : List Field) (s : Progress)
-    → follows 4 (s .last) ≡ true → Closed (s .last) → s .alternatives + alternativesOf ds ≤ most .alternatives → (k : List Field)
-    → ((b : List Field) (t : Progress) → Closed (t .last) → t .blocks ≡ s .blocks → t .alternatives ≡ s .alternatives + alternativesOf ds → Accepted b t k)
-    → Accepted before s (definitionsThen ds k)
+definitions-accepted : {ds : List Definition} → Each DefinitionWithin ds → (before : List Field) (progress : Progress)
+    → follows 4 (progress .last) ≡ true → Closed (progress .last) → progress .alternatives + alternativesOf ds ≤ most .alternatives → (follow : List Field)
+    → ((passed-fields : List Field) (next : Progress) → Closed (next .last) → next .blocks ≡ progress .blocks → next .alternatives
+    ≡ progress .alternatives + alternativesOf ds → Accepted passed-fields next follow)
+    → Accepted before progress (definitionsThen ds follow)
 unfolding definitionsThen alternativesOf passed follows isSpelled hasRoom isWhole
-definitions-accepted each-none before s f n m k c = c before s n refl (omega arith)
-definitions-accepted (each-more {x = d} {xs = ds} h w) before s f n m k c =
+definitions-accepted each-none before progress f n m follow c = c before progress n refl (omega arith)
+definitions-accepted (each-more {x = d} {xs = ds} h w) before progress f n m follow c =
     and-then (record { known = head-known h; ordered = f; spelled = refl; room = refl; whole = refl })
-    (alternatives-accepted (h .alternatives) (field 4 (headValue d) ∷ before) (passed 4 s) refl (λ z. omega (arith, h .alternativeCount))
-    (omega arith) (definitionsThen ds k)
+    (alternatives-accepted (h .alternatives) (field 4 (headValue d) ∷ before) (passed 4 progress) refl (λ z. omega (arith, h .alternativeCount))
+    (omega arith) (definitionsThen ds follow)
     (λ b t l e g.
-    definitions-accepted w b t (ap (follows 4) l) (closed-after (t .last) l) (omega arith) k
+    definitions-accepted w b t (ap (follows 4) l) (closed-after (t .last) l) (omega arith) follow
     (λ b u n i j. c b u n (omega arith) (omega arith))))
 
-module _ (r : ℕ) (h : r < most .nonterminals) where
-  root-accepted : (before : List Field) (s : Progress) → Closed (s .last) → Accepted before s (field 8 (r ∷ []) ∷ [])
+module _ (root : ℕ) (below : root < most .nonterminals) where
+  root-accepted : (before : List Field) (progress : Progress) → Closed (progress .last) → Accepted before progress (field 8 (root ∷ []) ∷ [])
   unfolding spread checkFields passed isSpelled hasRoom isWhole
-  root-accepted before s n =
-      and-then (record { known = root-known r h; ordered = n .root; spelled = refl; room = refl; whole = refl })
+  root-accepted before progress n =
+      and-then (record { known = root-known root below; ordered = n .root; spelled = refl; room = refl; whole = refl })
       (record { from = λ at. refl })
 
-  blocks-accepted : {bs : List (List Definition)} → Each (Each DefinitionWithin) bs → (before : List Field) (s : Progress)
-      → Closed (s .last) → s .blocks + length bs ≤ most .blocks → s .alternatives + alternativesIn bs ≤ most .alternatives
-      → Accepted before s (blocksThen bs (field 8 (r ∷ []) ∷ []))
+  blocks-accepted : {bs : List (List Definition)} → Each (Each DefinitionWithin) bs → (before : List Field) (progress : Progress)
+      → Closed (progress .last) → progress .blocks + length bs ≤ most .blocks → progress .alternatives + alternativesIn bs ≤ most .alternatives
+      → Accepted before progress (blocksThen bs (field 8 (root ∷ []) ∷ []))
   unfolding blocksThen alternativesIn passed follows isKnown isSpelled hasRoom isWhole
-  blocks-accepted each-none before s n m l = root-accepted before s n
-  blocks-accepted (each-more {xs = bs} w ws) before s n m l =
+  blocks-accepted each-none before progress n m l = root-accepted before progress n
+  blocks-accepted (each-more {xs = bs} w ws) before progress n m l =
       and-then
-      (record { known = refl; ordered = n .block; spelled = refl; room = rw (lt-ltb (s .blocks) (most .blocks) (omega arith)) refl; whole = refl })
-      (definitions-accepted w (field 3 [] ∷ before) (passed 3 s) refl (record { block = refl; root = refl }) (omega arith)
-      (blocksThen bs (field 8 (r ∷ []) ∷ []))
+      (record { known = refl; ordered = n .block; spelled = refl; room = rw (lt-ltb (progress .blocks) (most .blocks) (omega arith)) refl; whole = refl })
+      (definitions-accepted w (field 3 [] ∷ before) (passed 3 progress) refl (record { block = refl; root = refl }) (omega arith)
+      (blocksThen bs (field 8 (root ∷ []) ∷ []))
       (λ b t n e g. blocks-accepted ws b t n (omega arith) (omega arith)))
 
 -- ------------------------------------------------------------------ spellings
 
 -- What follows the outside names is accepted where nothing of a block was counted.
-module _ (k : List Field)
-    (c : (b : List Field) (t : Progress) → Closed (t .last) → t .blocks ≡ 0 → t .alternatives ≡ 0 → Accepted b t k) where
-  outsides-accepted : (os : List (List ℕ)) (before : List Field) (s : Progress) → Spelled isWord 2 before os
-      → follows 2 (s .last) ≡ true → Closed (s .last) → s .outsides + length os ≤ most .outsides → s .blocks ≡ 0 → s .alternatives ≡ 0
-      → Accepted before s (spellingsThen 2 os k)
+module _ (follow : List Field)
+    (accepts : (passed-fields : List Field) (progress : Progress) → Closed (progress .last) → progress .blocks ≡ 0 → progress .alternatives ≡ 0
+    → Accepted passed-fields progress follow) where
+  outsides-accepted : (os : List (List ℕ)) (before : List Field) (progress : Progress) → Spelled isWord 2 before os
+      → follows 2 (progress .last) ≡ true → Closed (progress .last) → progress .outsides + length os ≤ most .outsides → progress .blocks ≡ 0
+      → progress .alternatives ≡ 0 → Accepted before progress (spellingsThen 2 os follow)
   unfolding spellingsThen passed follows isKnown isRepeated isSpelled hasRoom isWhole
-  outsides-accepted [] before s w f n m e g = c before s n e g
-  outsides-accepted (o ∷ os) before s w f n m e g =
+  outsides-accepted [] before progress w f n m e g = accepts before progress n e g
+  outsides-accepted (o ∷ os) before progress w f n m e g =
       let first = spelled-first isWord 2 before o os (λ v. refl) w in
       and-then
       (record {
         known = refl;
         ordered = f;
         spelled = rw (first .0, first .1) refl;
-        room = rw (lt-ltb (s .outsides) (most .outsides) (omega arith)) refl;
+        room = rw (lt-ltb (progress .outsides) (most .outsides) (omega arith)) refl;
         whole = refl;
       })
-      (outsides-accepted os (field 2 o ∷ before) (passed 2 s) (spelled-rest isWord 2 before o os (λ v. refl) w) refl
+      (outsides-accepted os (field 2 o ∷ before) (passed 2 progress) (spelled-rest isWord 2 before o os (λ v. refl) w) refl
       (record { block = refl; root = refl }) (omega arith) (omega arith) (omega arith))
 
-  keywords-accepted : (os ks : List (List ℕ)) (before : List Field) (s : Progress) → Spelled isKeyword 1 before ks
-      → Spelled isWord 2 before os → follows 1 (s .last) ≡ true → follows 2 (s .last) ≡ true → Closed (s .last)
-      → s .keywords + length ks ≤ most .keywords → s .outsides + length os ≤ most .outsides → s .blocks ≡ 0 → s .alternatives ≡ 0
-      → Accepted before s (spellingsThen 1 ks (spellingsThen 2 os k))
+  keywords-accepted : (os ks : List (List ℕ)) (before : List Field) (progress : Progress) → Spelled isKeyword 1 before ks
+      → Spelled isWord 2 before os → follows 1 (progress .last) ≡ true → follows 2 (progress .last) ≡ true → Closed (progress .last)
+      → progress .keywords + length ks ≤ most .keywords → progress .outsides + length os ≤ most .outsides → progress .blocks ≡ 0 → progress .alternatives ≡ 0
+      → Accepted before progress (spellingsThen 1 ks (spellingsThen 2 os follow))
   unfolding spellingsThen passed follows isKnown isRepeated isSpelled hasRoom isWhole
-  keywords-accepted os [] before s w v i f n m l e g = outsides-accepted os before s v f n l e g
-  keywords-accepted os (x ∷ ks) before s w v i f n m l e g =
+  keywords-accepted os [] before progress w v i f n m l e g = outsides-accepted os before progress v f n l e g
+  keywords-accepted os (x ∷ ks) before progress w v i f n m l e g =
       let first = spelled-first isKeyword 1 before x ks (λ y. refl) w in
       and-then
       (record {
         known = refl;
         ordered = i;
         spelled = rw (first .0, first .1) refl;
-        room = rw (lt-ltb (s .keywords) (most .keywords) (omega arith)) refl;
+        room = rw (lt-ltb (progress .keywords) (most .keywords) (omega arith)) refl;
         whole = refl;
       })
-      (keywords-accepted os ks (field 1 x ∷ before) (passed 1 s) (spelled-rest isKeyword 1 before x ks (λ y. refl) w)
+      (keywords-accepted os ks (field 1 x ∷ before) (passed 1 progress) (spelled-rest isKeyword 1 before x ks (λ y. refl) w)
       (record { spelled = v .spelled; fresh = v .fresh; different = v .different }) refl refl (record { block = refl; root = refl })
       (omega arith) (omega arith) (omega arith) (omega arith))
 
 -- The fields of a table within the bounds are accepted.
-pub table-accepted : (t : Table) → Within t → Accepted [] initialProgress (tableFields t)
+pub table-accepted : (table : Table) → Within table → Accepted [] initialProgress (tableFields table)
 unfolding tableFields follows isRepeated
-table-accepted t w =
-    keywords-accepted (blocksThen (t .blocks) (field 8 (t .root ∷ []) ∷ []))
-    (λ b s n e g. blocks-accepted (t .root) (w .root) (w .blocks) b s n (omega (arith, w .blockCount)) (omega (arith, w .alternativeCount)))
-    (t .outsides) (t .keywords) [] initialProgress
-    (record { spelled = w .keywords; fresh = each-all (λ v. refl) (t .keywords); different = w .keywordsDiffer })
-    (record { spelled = w .outsides; fresh = each-all (λ v. refl) (t .outsides); different = w .outsidesDiffer })
+table-accepted table w =
+    keywords-accepted (blocksThen (table .blocks) (field 8 (table .root ∷ []) ∷ []))
+    (λ b s n e g. blocks-accepted (table .root) (w .root) (w .blocks) b s n (omega (arith, w .blockCount)) (omega (arith, w .alternativeCount)))
+    (table .outsides) (table .keywords) [] initialProgress
+    (record { spelled = w .keywords; fresh = each-all (λ v. refl) (table .keywords); different = w .keywordsDiffer })
+    (record { spelled = w .outsides; fresh = each-all (λ v. refl) (table .outsides); different = w .outsidesDiffer })
     refl refl (record { block = refl; root = refl }) (omega (arith, w .keywordCount)) (omega (arith, w .outsideCount)) refl refl

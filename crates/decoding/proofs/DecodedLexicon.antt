@@ -19,22 +19,22 @@ use Rattle.decoding.specs.declared.Progress.{Progress}
 use Rattle.decoding.specs.Layout.{isKnown, follows, passed, initialProgress, checkFields}
 use Rattle.decoding.specs.Decode.{Decoded, put, decodeFields, decode}
 use Rattle.decoding.proofs.Accept.{Passes, Accepts, accepted, by-tag}
-use Rattle.decoding.proofs.Sound.{room-1, room-2}
+use Rattle.decoding.proofs.Sound.{keyword-has-room, outside-has-room}
 use Rattle.decoding.proofs.Inverse.{layout-parts, decoded-layout}
 
 -- ------------------------------------------------------------------ leading fields
 
-leading-not : (tag at t : ℕ) (v : List ℕ) (fs : RawFields) → eqb t tag ≡ false → leading tag (next at t v fs) ≡ []
+leading-not : (tag at found : ℕ) (value : List ℕ) (fs : RawFields) → eqb found tag ≡ false → leading tag (next at found value fs) ≡ []
 unfolding leading
-leading-not tag at t v fs e = rw (e, leading) refl
+leading-not tag at found value fs e = rw (e, leading) refl
 
-after-not : (tag at t : ℕ) (v : List ℕ) (fs : RawFields) → eqb t tag ≡ false → afterLeading tag (next at t v fs) ≡ next at t v fs
+after-not : (tag at found : ℕ) (value : List ℕ) (fs : RawFields) → eqb found tag ≡ false → afterLeading tag (next at found value fs) ≡ next at found value fs
 unfolding afterLeading
-after-not tag at t v fs e = rw (e, afterLeading) refl
+after-not tag at found value fs e = rw (e, afterLeading) refl
 
-leading-one : (tag at t : ℕ) (v : List ℕ) (fs : RawFields) → eqb t tag ≡ true → leading tag (next at t v fs) ≡ v ∷ leading tag fs
+leading-one : (tag at found : ℕ) (value : List ℕ) (fs : RawFields) → eqb found tag ≡ true → leading tag (next at found value fs) ≡ value ∷ leading tag fs
 unfolding leading
-leading-one tag at t v fs e = rw (e, leading) refl
+leading-one tag at found value fs e = rw (e, leading) refl
 
 -- nothing is left out after no leading field
 after-none : (tag : ℕ) (fs : RawFields) → leading tag fs ≡ [] → afterLeading tag fs ≡ fs
@@ -48,13 +48,13 @@ after-none tag (next at t v fs) e =
 -- ------------------------------------------------------------------ field by field
 
 -- the leading spellings of fields are those that are built, none after the last place for them, and there is room for them
-record Spells (s : Progress) (fs : RawFields) : Type 0 where
+record Spells (progress : Progress) (fs : RawFields) : Type 0 where
   keywords : leading 1 fs ≡ decodeFields fs .keywords
   outsides : leading 2 (afterLeading 1 fs) ≡ decodeFields fs .outsides
-  keywordsOver : 2 ≤ s .last → decodeFields fs .keywords ≡ []
-  outsidesOver : 3 ≤ s .last → decodeFields fs .outsides ≡ []
-  keywordRoom : length (decodeFields fs .keywords) ≤ most .keywords - s .keywords
-  outsideRoom : length (decodeFields fs .outsides) ≤ most .outsides - s .outsides
+  keywordsOver : 2 ≤ progress .last → decodeFields fs .keywords ≡ []
+  outsidesOver : 3 ≤ progress .last → decodeFields fs .outsides ≡ []
+  keywordRoom : length (decodeFields fs .keywords) ≤ most .keywords - progress .keywords
+  outsideRoom : length (decodeFields fs .outsides) ≤ most .outsides - progress .outsides
 
 abbrev Step : ℕ → Type 0
 Step tag = (at : ℕ) (v : List ℕ) (fs : RawFields) (before : List Field) (s : Progress) → Passes before tag v s → Spells (passed tag s) fs
@@ -72,7 +72,7 @@ step-keyword : Step 1
 unfolding leading afterLeading decodeFields put passed
 step-keyword at v fs before s p h =
     let early : s .last ≤ 1 = leb-true (s .last) 1 (sym (follows-keyword (s .last)) ∙ p .ordered) in
-    let room = room-1 s (p .room) in
+    let room = keyword-has-room s (p .room) in
     record {
       keywords = cc (h .keywords);
       outsides = h .outsides;
@@ -86,7 +86,7 @@ step-outside : Step 2
 unfolding leading afterLeading decodeFields put passed
 step-outside at v fs before s p h =
     let early : s .last ≤ 2 = leb-true (s .last) 2 (sym (follows-outside (s .last)) ∙ p .ordered) in
-    let room = room-2 s (p .room) in
+    let room = outside-has-room s (p .room) in
     let over = h .keywordsOver (omega arith) in
     record {
       keywords = sym over;
@@ -99,7 +99,8 @@ step-outside at v fs before s p h =
 
 -- a field of another tag
 step-later : (tag : ℕ) → 3 ≤ tag → eqb tag 1 ≡ false → eqb tag 2 ≡ false
-    → ((v : List ℕ) (b : Decoded) → put tag v b .keywords ≡ b .keywords) → ((v : List ℕ) (b : Decoded) → put tag v b .outsides ≡ b .outsides)
+    → ((value : List ℕ) (decoded : Decoded) → put tag value decoded .keywords ≡ decoded .keywords)
+    → ((value : List ℕ) (decoded : Decoded) → put tag value decoded .outsides ≡ decoded .outsides)
     → Step tag
 unfolding decodeFields passed
 step-later tag l k o pk po at v fs before s p h =
@@ -114,7 +115,7 @@ step-later tag l k o pk po at v fs before s p h =
       outsideRoom = rw os (omega arith);
     }
 
-steps : (tag : ℕ) (v : List ℕ) → isKnown tag v ≡ true → Step tag
+steps : (tag : ℕ) (value : List ℕ) → isKnown tag value ≡ true → Step tag
 unfolding put
 steps =
     by-tag Step step-keyword step-outside (step-later 3 (omega arith) refl refl (λ v b. refl) (λ v b. refl))
@@ -124,9 +125,9 @@ steps =
     (step-later 7 (omega arith) refl refl (λ v b. refl) (λ v b. refl))
     (step-later 8 (omega arith) refl refl (λ v b. refl) (λ v b. refl))
 
-spells : (fs : RawFields) (before : List Field) (s : Progress) → checkFields fs before s ≡ ok tt → Spells s fs
+spells : (fs : RawFields) (before : List Field) (progress : Progress) → checkFields fs before progress ≡ ok tt → Spells progress fs
 unfolding checkFields leading afterLeading decodeFields
-spells (end at) before s h =
+spells (end at) before progress h =
     record {
       keywords = refl;
       outsides = refl;
@@ -135,25 +136,25 @@ spells (end at) before s h =
       keywordRoom = omega arith;
       outsideRoom = omega arith;
     }
-spells (cut at) before s h = absurd (subst⁻¹ Accepts h tt)
-spells (next at tag v fs) before s h =
-    let both = accepted at tag v fs before s h in
-    steps tag v (both .0 .known) at v fs before s (both .0) (spells fs (field tag v ∷ before) (passed tag s) (both .1))
+spells (cut at) before progress h = absurd (subst⁻¹ Accepts h tt)
+spells (next at tag v fs) before progress h =
+    let both = accepted at tag v fs before progress h in
+    steps tag v (both .0 .known) at v fs before progress (both .0) (spells fs (field tag v ∷ before) (passed tag progress) (both .1))
 
 -- The spellings that lead the fields of bytes that are decoded as a table are the table's.
-pub leading-decoded : (bs : List ℕ) (t : Table) → decode bs ≡ ok t
-    → (leading 1 (fieldsOf bs) ≡ t .keywords) × (leading 2 (afterLeading 1 (fieldsOf bs)) ≡ t .outsides)
-leading-decoded bs t h =
-    let right = decoded-layout bs t h in
+pub leading-decoded : (bs : List ℕ) (table : Table) → decode bs ≡ ok table
+    → (leading 1 (fieldsOf bs) ≡ table .keywords) × (leading 2 (afterLeading 1 (fieldsOf bs)) ≡ table .outsides)
+leading-decoded bs table h =
+    let right = decoded-layout bs table h in
     let w = spells (fieldsOf bs) [] initialProgress (layout-parts bs (right .0) .1) in
     (cc (w .keywords, right .1), cc (w .outsides, right .1))
 
 -- The lexicon of bytes that are decoded as a table is the table's.
-pub lexicon-decoded : (bs : List ℕ) (t : Table) → decode bs ≡ ok t
-    → lexiconOf bs ≡ record { keywords = t .keywords; outsides = t .outsides }
+pub lexicon-decoded : (bs : List ℕ) (table : Table) → decode bs ≡ ok table
+    → lexiconOf bs ≡ record { keywords = table .keywords; outsides = table .outsides }
 unfolding lexiconOf
-lexicon-decoded bs t h =
-    let right = decoded-layout bs t h in
+lexicon-decoded bs table h =
+    let right = decoded-layout bs table h in
     let w = spells (fieldsOf bs) [] initialProgress (layout-parts bs (right .0) .1) in
     let b = decodeFields (fieldsOf bs) in
     cc (w .keywords, take-all (most .keywords) (b .keywords) (w .keywordRoom), w .outsides, take-all (most .outsides) (b .outsides) (w .outsideRoom), right .1)

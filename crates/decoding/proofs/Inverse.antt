@@ -40,27 +40,27 @@ layout-parts bs h =
 
 -- ------------------------------------------------------------------ decoding
 
-passed-first : {A : Type 0} (c : Checked (Unit {0})) (x : A) (y : A) → (c >> ok x) ≡ ok y → (c ≡ ok tt) × (x ≡ y)
-passed-first (ok tt) x y h = (refl, cc)
-passed-first (bad r) x y h = absurd (subst⁻¹ Accepts h tt)
+passed-first : {A : Type 0} (checked : Checked (Unit {0})) (item : A) (other : A) → (checked >> ok item) ≡ ok other → (checked ≡ ok tt) × (item ≡ other)
+passed-first (ok tt) item other h = (refl, cc)
+passed-first (bad r) item other h = absurd (subst⁻¹ Accepts h tt)
 
 -- bytes that are decoded have the layout of a table, and it is built from them
-pub decoded-layout : (bs : List ℕ) (t : Table) → decode bs ≡ ok t → (layout bs ≡ ok tt) × (tableOf (decodeFields (fieldsOf bs)) ≡ t)
+pub decoded-layout : (bs : List ℕ) (table : Table) → decode bs ≡ ok table → (layout bs ≡ ok tt) × (tableOf (decodeFields (fieldsOf bs)) ≡ table)
 unfolding decode
-decoded-layout bs t h = passed-first (layout bs) (tableOf (decodeFields (fieldsOf bs))) t h
+decoded-layout bs table h = passed-first (layout bs) (tableOf (decodeFields (fieldsOf bs))) table h
 
 -- The encoding of a table within the bounds is decoded as this table.
-pub decode-encoded : (t : Table) → Within t → decode (encode t) ≡ ok t
+pub decode-encoded : (table : Table) → Within table → decode (encode table) ≡ ok table
 unfolding decode encode
-decode-encoded t w =
-    let bs = fieldBytes (tableFields t) in
-    let split = fields-of-bytes (tableFields t) in
+decode-encoded table w =
+    let bs = fieldBytes (tableFields table) in
+    let split = fields-of-bytes (tableFields table) in
     let right : layout bs ≡ ok tt =
-    cc (layout-short bs (le-leb (length bs) (most .bytes) (w .size)), table-accepted t w .from 0) in
-    cc (table-built t 0 w)
+    cc (layout-short bs (le-leb (length bs) (most .bytes) (w .size)), table-accepted table w .from 0) in
+    cc (table-built table 0 w)
 
 -- Bytes whose layout is right are the encoding of a table within the bounds.
-pub layout-encoded : (bs : List ℕ) → Bytes bs → layout bs ≡ ok tt → (t : Table) × (bs ≡ encode t) × Within t
+pub layout-encoded : (bs : List ℕ) → Bytes bs → layout bs ≡ ok tt → (table : Table) × (bs ≡ encode table) × Within table
 unfolding encode
 layout-encoded bs b h =
     let parts = layout-parts bs h in
@@ -70,11 +70,11 @@ layout-encoded bs b h =
     (found .0, same, found .2 (rw (← same) (parts .0)))
 
 -- bytes that are decoded as a table are its encoding
-pub decoded-encoding : (bs : List ℕ) → Bytes bs → (t : Table) → decode bs ≡ ok t → (bs ≡ encode t) × Within t
-decoded-encoding bs b t h =
-    let found = layout-encoded bs b (decoded-layout bs t h .0) in
-    let one : found .0 ≡ t = same-value (sym (ap decode (found .1) ∙ decode-encoded (found .0) (found .2)) ∙ h) in
+pub decoded-encoding : (bs : List ℕ) → Bytes bs → (table : Table) → decode bs ≡ ok table → (bs ≡ encode table) × Within table
+decoded-encoding bs b table h =
+    let found = layout-encoded bs b (decoded-layout bs table h .0) in
+    let one : found .0 ≡ table = same-value (sym (ap decode (found .1) ∙ decode-encoded (found .0) (found .2)) ∙ h) in
     (found .1 ∙ ap encode one, subst Within one (found .2))
   where
-    same-value : {x y : Table} → ok x ≡ ok y → x ≡ y
+    same-value : {other other-table : Table} → ok other ≡ ok other-table → other ≡ other-table
     same-value e = cc

@@ -13,34 +13,34 @@ use Rattle.decoding.specs.Decode.{Decoded, decoded}
 
 -- ------------------------------------------------------------------ what is left to come
 
-module _ (b : Decoded) where
+module _ (rest : Decoded) where
   -- the root
   abbrev pub rootLeft : List Field
-  rootLeft = field 8 (b .root ∷ []) ∷ []
+  rootLeft = field 8 (rest .root ∷ []) ∷ []
 
   -- the blocks still to come, then the root
   abbrev pub blocksLeft : List Field
-  blocksLeft = blocksThen (b .blocks) rootLeft
+  blocksLeft = blocksThen (rest .blocks) rootLeft
 
   -- the definitions of the block that is open, then the blocks behind it
   abbrev pub definitionsLeft : List Field
-  definitionsLeft = definitionsThen (b .definitions) blocksLeft
+  definitionsLeft = definitionsThen (rest .definitions) blocksLeft
 
   -- the alternatives of the definition that is open, then what is behind it
   abbrev pub alternativesLeft : List Field
-  alternativesLeft = alternativesThen (b .alternatives) definitionsLeft
+  alternativesLeft = alternativesThen (rest .alternatives) definitionsLeft
 
   -- the items and the result of the alternative that is open, then what is behind it
   abbrev pub itemsLeft : List Field
-  itemsLeft = itemsThen (b .items) (field 7 (templateThen (b .result) []) ∷ alternativesLeft)
+  itemsLeft = itemsThen (rest .items) (field 7 (templateThen (rest .result) []) ∷ alternativesLeft)
 
   -- the outside names, then the blocks
   abbrev pub outsidesLeft : List Field
-  outsidesLeft = spellingsThen 2 (b .outsides) blocksLeft
+  outsidesLeft = spellingsThen 2 (rest .outsides) blocksLeft
 
   -- the keywords, then the outside names
   abbrev pub keywordsLeft : List Field
-  keywordsLeft = spellingsThen 1 (b .keywords) outsidesLeft
+  keywordsLeft = spellingsThen 1 (rest .keywords) outsidesLeft
 
 -- after the tag `last` (0 at the start), the parts that are still open
 unfoldable pub left : ℕ → Decoded → List Field
@@ -61,7 +61,7 @@ left last b =
 -- ------------------------------------------------------------------ one field
 
 -- a statement of each tag from 0 to 8
-pub up-to-eight : (P : ℕ → Type 0) → P 0 → P 1 → P 2 → P 3 → P 4 → P 5 → P 6 → P 7 → P 8 → (n : ℕ) → n ≤ 8 → P n
+pub up-to-eight : (P : ℕ → Type 0) → P 0 → P 1 → P 2 → P 3 → P 4 → P 5 → P 6 → P 7 → P 8 → (number : ℕ) → number ≤ 8 → P number
 up-to-eight P p0 p1 p2 p3 p4 p5 p6 p7 p8 zero h = p0
 up-to-eight P p0 p1 p2 p3 p4 p5 p6 p7 p8 (suc zero) h = p1
 up-to-eight P p0 p1 p2 p3 p4 p5 p6 p7 p8 (suc (suc zero)) h = p2
@@ -71,7 +71,7 @@ up-to-eight P p0 p1 p2 p3 p4 p5 p6 p7 p8 (suc (suc (suc (suc (suc zero))))) h = 
 up-to-eight P p0 p1 p2 p3 p4 p5 p6 p7 p8 (suc (suc (suc (suc (suc (suc zero)))))) h = p6
 up-to-eight P p0 p1 p2 p3 p4 p5 p6 p7 p8 (suc (suc (suc (suc (suc (suc (suc zero))))))) h = p7
 up-to-eight P p0 p1 p2 p3 p4 p5 p6 p7 p8 (suc (suc (suc (suc (suc (suc (suc (suc zero)))))))) h = p8
-up-to-eight P p0 p1 p2 p3 p4 p5 p6 p7 p8 (suc (suc (suc (suc (suc (suc (suc (suc (suc n))))))))) h = absurd (omega arith)
+up-to-eight P p0 p1 p2 p3 p4 p5 p6 p7 p8 (suc (suc (suc (suc (suc (suc (suc (suc (suc number))))))))) h = absurd (omega arith)
 
 never : {A : Type 0} → false ≡ true → A
 never e = absurd (false≢true e)
@@ -80,11 +80,11 @@ never e = absurd (false≢true e)
 abbrev pub Opens : ℕ → Decoded → List Field → Type 0
 Opens tag b fs = (last : ℕ) → last ≤ 8 → follows tag last ≡ true → left last b ≡ fs
 
-module _ (tag : ℕ) (b : Decoded) (fs : List Field) where
+module _ (tag : ℕ) (rest : Decoded) (fs : List Field) where
   abbrev After : ℕ → Type 0
-  After last = follows tag last ≡ true → left last b ≡ fs
+  After last = follows tag last ≡ true → left last rest ≡ fs
 
-  by-last : After 0 → After 1 → After 2 → After 3 → After 4 → After 5 → After 6 → After 7 → After 8 → Opens tag b fs
+  by-last : After 0 → After 1 → After 2 → After 3 → After 4 → After 5 → After 6 → After 7 → After 8 → Opens tag rest fs
   by-last = up-to-eight After
 
 -- ------------------------------------------------------------------ the parts with one field more, those before it not yet begun
@@ -126,52 +126,52 @@ abbrev pub withRoot : ℕ → Decoded → Decoded
 withRoot r b = decoded [] [] [] r [] [] [] (b .result)
 
 -- The field stands in front of what follows it, after each tag that it may follow.
-module _ (b : Decoded) where
+module _ (rest : Decoded) where
   -- a keyword stands in front of what may follow it
-  pub opens-keyword : (v : List ℕ) → Opens 1 (withKeyword v b) (field 1 v ∷ left 1 b)
+  pub opens-keyword : (spelling : List ℕ) → Opens 1 (withKeyword spelling rest) (field 1 spelling ∷ left 1 rest)
   unfolding left follows spellingsThen
-  opens-keyword v =
-      by-last 1 (withKeyword v b) (field 1 v ∷ left 1 b) (λ e. refl) (λ e. refl) never never never never never never never
+  opens-keyword spelling =
+      by-last 1 (withKeyword spelling rest) (field 1 spelling ∷ left 1 rest) (λ e. refl) (λ e. refl) never never never never never never never
 
   -- and so does an outside name
-  pub opens-outside : (v : List ℕ) → Opens 2 (withOutside v b) (field 2 v ∷ left 2 b)
+  pub opens-outside : (spelling : List ℕ) → Opens 2 (withOutside spelling rest) (field 2 spelling ∷ left 2 rest)
   unfolding left follows spellingsThen
-  opens-outside v =
-      by-last 2 (withOutside v b) (field 2 v ∷ left 2 b) (λ e. refl) (λ e. refl) (λ e. refl) never never never never never never
+  opens-outside spelling =
+      by-last 2 (withOutside spelling rest) (field 2 spelling ∷ left 2 rest) (λ e. refl) (λ e. refl) (λ e. refl) never never never never never never
 
   -- a block
-  pub opens-block : Opens 3 (withBlock b) (field 3 [] ∷ left 3 b)
+  pub opens-block : Opens 3 (withBlock rest) (field 3 [] ∷ left 3 rest)
   unfolding left follows spellingsThen blocksThen definitionsThen alternativesThen
   opens-block =
-      by-last 3 (withBlock b) (field 3 [] ∷ left 3 b) (λ e. refl) (λ e. refl) (λ e. refl) (λ e. refl) never never never (λ e. refl) never
+      by-last 3 (withBlock rest) (field 3 [] ∷ left 3 rest) (λ e. refl) (λ e. refl) (λ e. refl) (λ e. refl) never never never (λ e. refl) never
 
   -- a definition
-  pub opens-definition : (d : Definition) → d .alternatives ≡ b .alternatives
-      → Opens 4 (withDefinition d b) (field 4 (headValue d) ∷ left 4 b)
+  pub opens-definition : (definition : Definition) → definition .alternatives ≡ rest .alternatives
+      → Opens 4 (withDefinition definition rest) (field 4 (headValue definition) ∷ left 4 rest)
   unfolding left follows definitionsThen alternativesThen
-  opens-definition d a =
-      by-last 4 (withDefinition d b) (field 4 (headValue d) ∷ left 4 b) never never never (λ e. cc) never never never (λ e. cc) never
+  opens-definition definition a =
+      by-last 4 (withDefinition definition rest) (field 4 (headValue definition) ∷ left 4 rest) never never never (λ e. cc) never never never (λ e. cc) never
 
   -- an alternative
-  pub opens-alternative : Opens 5 (withAlternative b) (field 5 [] ∷ left 5 b)
+  pub opens-alternative : Opens 5 (withAlternative rest) (field 5 [] ∷ left 5 rest)
   unfolding left follows alternativesThen
   opens-alternative =
-      by-last 5 (withAlternative b) (field 5 [] ∷ left 5 b) never never never never (λ e. refl) never never (λ e. refl) never
+      by-last 5 (withAlternative rest) (field 5 [] ∷ left 5 rest) never never never never (λ e. refl) never never (λ e. refl) never
 
   -- an item
-  pub opens-item : (i : Item) → Opens 6 (withItem i b) (field 6 (itemValue i) ∷ left 6 b)
+  pub opens-item : (item : Item) → Opens 6 (withItem item rest) (field 6 (itemValue item) ∷ left 6 rest)
   unfolding left follows itemsThen
-  opens-item i =
-      by-last 6 (withItem i b) (field 6 (itemValue i) ∷ left 6 b) never never never never never (λ e. refl) (λ e. refl) never never
+  opens-item item =
+      by-last 6 (withItem item rest) (field 6 (itemValue item) ∷ left 6 rest) never never never never never (λ e. refl) (λ e. refl) never never
 
   -- a result
-  pub opens-result : (t : Template) → Opens 7 (withResult t b) (field 7 (templateThen t []) ∷ left 7 b)
+  pub opens-result : (template : Template) → Opens 7 (withResult template rest) (field 7 (templateThen template []) ∷ left 7 rest)
   unfolding left follows itemsThen
-  opens-result t =
-      by-last 7 (withResult t b) (field 7 (templateThen t []) ∷ left 7 b) never never never never never (λ e. refl) (λ e. refl) never never
+  opens-result template =
+      by-last 7 (withResult template rest) (field 7 (templateThen template []) ∷ left 7 rest) never never never never never (λ e. refl) (λ e. refl) never never
 
   -- and the root
-  pub opens-root : (r : ℕ) → Opens 8 (withRoot r b) (field 8 (r ∷ []) ∷ left 8 b)
+  pub opens-root : (root : ℕ) → Opens 8 (withRoot root rest) (field 8 (root ∷ []) ∷ left 8 rest)
   unfolding left follows spellingsThen blocksThen definitionsThen alternativesThen
-  opens-root r =
-      by-last 8 (withRoot r b) (field 8 (r ∷ []) ∷ left 8 b) (λ e. refl) (λ e. refl) (λ e. refl) (λ e. refl) never never never (λ e. refl) never
+  opens-root root =
+      by-last 8 (withRoot root rest) (field 8 (root ∷ []) ∷ left 8 rest) (λ e. refl) (λ e. refl) (λ e. refl) (λ e. refl) never never never (λ e. refl) never

@@ -29,62 +29,62 @@ part bs r ds rest is t = decoded [] [] bs r ds rest is t
 abbrev between : List (List Definition) → ℕ → List Definition → List Alternative → Decoded
 between bs r ds rest = part bs r ds rest [] (variable 0)
 
-module _ (bs : List (List Definition)) (r : ℕ) where
-  items-built : (ds : List Definition) (rest : List Alternative) (t : Template) {is : List Item} → Each ItemWithin is → (k : List Field)
-      → gather k ≡ part bs r ds rest [] t → gather (itemsThen is k) ≡ part bs r ds rest is t
+module _ (bs : List (List Definition)) (root : ℕ) where
+  items-built : (ds : List Definition) (rest : List Alternative) (template : Template) {is : List Item} → Each ItemWithin is → (follow : List Field)
+      → gather follow ≡ part bs root ds rest [] template → gather (itemsThen is follow) ≡ part bs root ds rest is template
   unfolding gather itemsThen put
-  items-built ds rest t each-none k e = e
-  items-built ds rest t (each-more {x = i} {xs = is} h w) k e =
-      cc (items-built ds rest t w k e, item-read h)
+  items-built ds rest template each-none follow e = e
+  items-built ds rest template (each-more {x = i} {xs = is} h w) follow e =
+      cc (items-built ds rest template w follow e, item-read h)
 
-  alternatives-built : (ds : List Definition) {rest : List Alternative} → Each AlternativeWithin rest → (k : List Field)
-      → gather k ≡ between bs r ds [] → gather (alternativesThen rest k) ≡ between bs r ds rest
+  alternatives-built : (ds : List Definition) {rest : List Alternative} → Each AlternativeWithin rest → (follow : List Field)
+      → gather follow ≡ between bs root ds [] → gather (alternativesThen rest follow) ≡ between bs root ds rest
   unfolding gather alternativesThen put
-  alternatives-built ds each-none k e = e
-  alternatives-built ds (each-more {x = a} {xs = rest} h w) k e =
+  alternatives-built ds each-none follow e = e
+  alternatives-built ds (each-more {x = a} {xs = rest} h w) follow e =
       let value = templateThen (a .result) [] in
       ap (put 5 [])
-      (items-built ds rest (a .result) (h .items) (field 7 value ∷ alternativesThen rest k)
-      (ap (put 7 value) (alternatives-built ds w k e) ∙ ap (part bs r ds rest []) (result-read (h .result))))
+      (items-built ds rest (a .result) (h .items) (field 7 value ∷ alternativesThen rest follow)
+      (ap (put 7 value) (alternatives-built ds w follow e) ∙ ap (part bs root ds rest []) (result-read (h .result))))
 
-  definitions-built : {ds : List Definition} → Each DefinitionWithin ds → (k : List Field) → gather k ≡ between bs r [] []
-      → gather (definitionsThen ds k) ≡ between bs r ds []
+  definitions-built : {ds : List Definition} → Each DefinitionWithin ds → (follow : List Field) → gather follow ≡ between bs root [] []
+      → gather (definitionsThen ds follow) ≡ between bs root ds []
   unfolding gather definitionsThen put
-  definitions-built each-none k e = e
-  definitions-built (each-more {x = d} {xs = ds} h w) k e =
-      cc (alternatives-built ds (h .alternatives) (definitionsThen ds k) (definitions-built w k e), head-read d)
+  definitions-built each-none follow e = e
+  definitions-built (each-more {x = d} {xs = ds} h w) follow e =
+      cc (alternatives-built ds (h .alternatives) (definitionsThen ds follow) (definitions-built w follow e), head-read d)
 
-blocks-built : (r : ℕ) {bs : List (List Definition)} → Each (Each DefinitionWithin) bs
-    → gather (blocksThen bs (field 8 (r ∷ []) ∷ [])) ≡ between bs r [] []
+blocks-built : (root : ℕ) {bs : List (List Definition)} → Each (Each DefinitionWithin) bs
+    → gather (blocksThen bs (field 8 (root ∷ []) ∷ [])) ≡ between bs root [] []
 unfolding gather blocksThen put
-blocks-built r each-none = refl
-blocks-built r (each-more {xs = bs} w ws) =
-    ap (put 3 []) (definitions-built bs r w (blocksThen bs (field 8 (r ∷ []) ∷ [])) (blocks-built r ws))
+blocks-built root each-none = refl
+blocks-built root (each-more {xs = bs} w ws) =
+    ap (put 3 []) (definitions-built bs root w (blocksThen bs (field 8 (root ∷ []) ∷ [])) (blocks-built root ws))
 
-module _ (bs : List (List Definition)) (r : ℕ) (k : List Field) where
-  outsides-built : (os : List (List ℕ)) → gather k ≡ between bs r [] []
-      → gather (spellingsThen 2 os k) ≡ decoded [] os bs r [] [] [] (variable 0)
+module _ (bs : List (List Definition)) (root : ℕ) (follow : List Field) where
+  outsides-built : (os : List (List ℕ)) → gather follow ≡ between bs root [] []
+      → gather (spellingsThen 2 os follow) ≡ decoded [] os bs root [] [] [] (variable 0)
   unfolding gather spellingsThen put
   outsides-built [] e = e
   outsides-built (o ∷ os) e = ap (put 2 o) (outsides-built os e)
 
-  keywords-built : (ks os : List (List ℕ)) → gather k ≡ decoded [] os bs r [] [] [] (variable 0)
-      → gather (spellingsThen 1 ks k) ≡ decoded ks os bs r [] [] [] (variable 0)
+  keywords-built : (ks os : List (List ℕ)) → gather follow ≡ decoded [] os bs root [] [] [] (variable 0)
+      → gather (spellingsThen 1 ks follow) ≡ decoded ks os bs root [] [] [] (variable 0)
   unfolding gather spellingsThen put
   keywords-built [] os e = e
   keywords-built (v ∷ ks) os e = ap (put 1 v) (keywords-built ks os e)
 
 -- The parts of a table are built from its fields, and nothing is left pending.
-pub parts-built : (t : Table) (at : ℕ) → Within t
-    → decodeFields (spread at (tableFields t)) ≡ decoded (t .keywords) (t .outsides) (t .blocks) (t .root) [] [] [] (variable 0)
+pub parts-built : (table : Table) (at : ℕ) → Within table
+    → decodeFields (spread at (tableFields table)) ≡ decoded (table .keywords) (table .outsides) (table .blocks) (table .root) [] [] [] (variable 0)
 unfolding tableFields
-parts-built t at w =
-    let root = field 8 (t .root ∷ []) ∷ [] in
-    let blocks = blocksThen (t .blocks) root in
-    build-spread (tableFields t) at
-    ∙ keywords-built (t .blocks) (t .root) (spellingsThen 2 (t .outsides) blocks) (t .keywords) (t .outsides)
-    (outsides-built (t .blocks) (t .root) blocks (t .outsides) (blocks-built (t .root) (w .blocks)))
+parts-built table at w =
+    let root = field 8 (table .root ∷ []) ∷ [] in
+    let blocks = blocksThen (table .blocks) root in
+    build-spread (tableFields table) at
+    ∙ keywords-built (table .blocks) (table .root) (spellingsThen 2 (table .outsides) blocks) (table .keywords) (table .outsides)
+    (outsides-built (table .blocks) (table .root) blocks (table .outsides) (blocks-built (table .root) (w .blocks)))
 
 -- from the fields of a table the table is built
-pub table-built : (t : Table) (at : ℕ) → Within t → tableOf (decodeFields (spread at (tableFields t))) ≡ t
-table-built t at w = ap tableOf (parts-built t at w)
+pub table-built : (table : Table) (at : ℕ) → Within table → tableOf (decodeFields (spread at (tableFields table))) ≡ table
+table-built table at w = ap tableOf (parts-built table at w)

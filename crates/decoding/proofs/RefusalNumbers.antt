@@ -26,33 +26,34 @@ abbrev Numbered : {A : Type 0} → Checked A → Type 0
 Numbered (ok a) = Unit {0}
 Numbered (bad r) = isLayoutNumber (r .number) ≡ true
 
-need-numbered : (t : Bool) (n at : ℕ) → isLayoutNumber n ≡ true → Numbered (need t n at)
-need-numbered true n at m = tt
-need-numbered false n at m = m
+need-numbered : (test : Bool) (number at : ℕ) → isLayoutNumber number ≡ true → Numbered (need test number at)
+need-numbered true number at m = tt
+need-numbered false number at m = m
 
-and-numbered : {A B : Type 0} (c : Checked A) (d : Checked B) → Numbered c → Numbered d → Numbered (c >> d)
-and-numbered (ok a) d h k = k
-and-numbered (bad r) d h k = h
+and-numbered : {A B : Type 0} (first : Checked A) (checked : Checked B) → Numbered first → Numbered checked → Numbered (first >> checked)
+and-numbered (ok a) checked h k = k
+and-numbered (bad r) checked h k = h
 
-then-numbered : {A B : Type 0} (c : Checked A) (k : A → Checked B) → Numbered c → ((a : A) → Numbered (k a)) → Numbered (c >>= k)
-then-numbered (ok a) k h n = n a
-then-numbered (bad r) k h n = h
+then-numbered : {A B : Type 0} (first : Checked A) (then-check : A → Checked B) → Numbered first → ((item : A) → Numbered (then-check item))
+    → Numbered (first >>= then-check)
+then-numbered (ok a) then-check h n = n a
+then-numbered (bad r) then-check h n = h
 
-field-numbered : (before : List Field) (at tag : ℕ) (v : List ℕ) (s : Progress) → Numbered (checkField before at tag v s)
+field-numbered : (before : List Field) (at tag : ℕ) (value : List ℕ) (progress : Progress) → Numbered (checkField before at tag value progress)
 unfolding checkField
-field-numbered before at tag v s =
-    and-numbered (need (isKnown tag v) 3 at) _ (need-numbered (isKnown tag v) 3 at refl)
-    (and-numbered (need (follows tag (s .last)) 4 at) _ (need-numbered (follows tag (s .last)) 4 at refl)
-    (and-numbered (need (isSpelled tag v before) 5 at) _ (need-numbered (isSpelled tag v before) 5 at refl)
-    (and-numbered (need (hasRoom tag s) 6 at) _ (need-numbered (hasRoom tag s) 6 at refl)
-    (and-numbered (need (isWhole tag v) 10 at) (ok (passed tag s)) (need-numbered (isWhole tag v) 10 at refl) tt))))
+field-numbered before at tag value progress =
+    and-numbered (need (isKnown tag value) 3 at) _ (need-numbered (isKnown tag value) 3 at refl)
+    (and-numbered (need (follows tag (progress .last)) 4 at) _ (need-numbered (follows tag (progress .last)) 4 at refl)
+    (and-numbered (need (isSpelled tag value before) 5 at) _ (need-numbered (isSpelled tag value before) 5 at refl)
+    (and-numbered (need (hasRoom tag progress) 6 at) _ (need-numbered (hasRoom tag progress) 6 at refl)
+    (and-numbered (need (isWhole tag value) 10 at) (ok (passed tag progress)) (need-numbered (isWhole tag value) 10 at refl) tt))))
 
-fields-numbered : (fs : RawFields) (before : List Field) (s : Progress) → Numbered (checkFields fs before s)
+fields-numbered : (fs : RawFields) (before : List Field) (progress : Progress) → Numbered (checkFields fs before progress)
 unfolding checkFields
-fields-numbered (end at) before s = need-numbered (eqb (s .last) 8) 4 at refl
-fields-numbered (cut at) before s = refl
-fields-numbered (next at tag v fs) before s =
-    then-numbered (checkField before at tag v s) (λ s′. checkFields fs (field tag v ∷ before) s′) (field-numbered before at tag v s)
+fields-numbered (end at) before progress = need-numbered (eqb (progress .last) 8) 4 at refl
+fields-numbered (cut at) before progress = refl
+fields-numbered (next at tag v fs) before progress =
+    then-numbered (checkField before at tag v progress) (λ s′. checkFields fs (field tag v ∷ before) s′) (field-numbered before at tag v progress)
     (λ s′. fields-numbered fs (field tag v ∷ before) s′)
 
 layout-numbered : (bs : List ℕ) → Numbered (layout bs)
@@ -60,21 +61,22 @@ unfolding layout
 layout-numbered bs = by (leb (length bs) (most .bytes))
   where
     by :
-        (t : Bool)
-        → Numbered {A = Unit {0}} (elim t as (λ t. Checked (Unit {0})) [ false ↦ bad (refusal 1 0 0 0) | true ↦ checkFields (fieldsOf bs) [] initialProgress ])
+        (test : Bool)
+        → Numbered {A = Unit {0}}
+        (elim test as (λ test. Checked (Unit {0})) [ false ↦ bad (refusal 1 0 0 0) | true ↦ checkFields (fieldsOf bs) [] initialProgress ])
     by true = fields-numbered (fieldsOf bs) [] initialProgress
     by false = refl
 
 -- Bytes are decoded as a table, or refused with one of these numbers.
 pub decode-answers : (bs : List ℕ)
-    → ((t : Table) × (decode bs ≡ ok t)) ⊎ ((r : Refusal) × (decode bs ≡ bad r) × (isLayoutNumber (r .number) ≡ true))
+    → ((table : Table) × (decode bs ≡ ok table)) ⊎ ((cause : Refusal) × (decode bs ≡ bad cause) × (isLayoutNumber (cause .number) ≡ true))
 unfolding decode
 decode-answers bs = by (layout bs) (layout-numbered bs)
   where
     t : Table
     t = tableOf (decodeFields (fieldsOf bs))
 
-    by : (c : Checked (Unit {0})) → Numbered c
-        → ((u : Table) × ((c >> ok t) ≡ ok u)) ⊎ ((r : Refusal) × ((c >> ok t) ≡ bad r) × (isLayoutNumber (r .number) ≡ true))
+    by : (checked : Checked (Unit {0})) → Numbered checked
+        → ((other : Table) × ((checked >> ok t) ≡ ok other)) ⊎ ((cause : Refusal) × ((checked >> ok t) ≡ bad cause) × (isLayoutNumber (cause .number) ≡ true))
     by (ok tt) h = inl (t, refl)
     by (bad r) h = inr (r, refl, h)

@@ -8,22 +8,22 @@ use Rattle.decoding.specs.declared.Progress.{Progress}
 use Rattle.decoding.specs.Layout.{hasRoom}
 
 -- the five tests for room
-pub record Room (tag : ℕ) (s : Progress) : Type 0 where
+pub record Room (tag : ℕ) (progress : Progress) : Type 0 where
   -- there may be one more keyword, if this is one
-  pub keywords : (not (eqb tag 1) || ltb (s .keywords) (most .keywords)) ≡ true
+  pub keywords : (not (eqb tag 1) || ltb (progress .keywords) (most .keywords)) ≡ true
   -- there may be one more outside name
-  pub outsides : (not (eqb tag 2) || ltb (s .outsides) (most .outsides)) ≡ true
+  pub outsides : (not (eqb tag 2) || ltb (progress .outsides) (most .outsides)) ≡ true
   -- there may be one more block
-  pub blocks : (not (eqb tag 3) || ltb (s .blocks) (most .blocks)) ≡ true
+  pub blocks : (not (eqb tag 3) || ltb (progress .blocks) (most .blocks)) ≡ true
   -- there may be one more alternative
-  pub alternatives : (not (eqb tag 5) || ltb (s .alternatives) (most .alternatives)) ≡ true
+  pub alternatives : (not (eqb tag 5) || ltb (progress .alternatives) (most .alternatives)) ≡ true
   -- there may be one more item in the alternative
-  pub items : (not (eqb tag 6) || ltb (s .items) (most .items)) ≡ true
+  pub items : (not (eqb tag 6) || ltb (progress .items) (most .items)) ≡ true
 
 -- from the one test
-pub room-of : (tag : ℕ) (s : Progress) → hasRoom tag s ≡ true → Room tag s
+pub room-of : (tag : ℕ) (progress : Progress) → hasRoom tag progress ≡ true → Room tag progress
 unfolding hasRoom
-room-of tag s e =
+room-of tag progress e =
     let four = and-eq-true-iff _ _ .0 e in
     let three = and-eq-true-iff _ _ .0 (four .0) in
     let two = and-eq-true-iff _ _ .0 (three .0) in

@@ -29,98 +29,100 @@ use Rattle.decoding.proofs.Spelled.{Spelled, spelled-none, spelled-more
 -- ------------------------------------------------------------------ counts
 
 -- what is still to come has room
-pub record Room (s : Progress) (b : Decoded) : Type 0 where
+pub record Room (progress : Progress) (decoded : Decoded) : Type 0 where
   -- no more keywords than there may be
-  pub keywords : length (b .keywords) ≤ most .keywords - s .keywords
+  pub keywords : length (decoded .keywords) ≤ most .keywords - progress .keywords
   -- no more outside names
-  pub outsides : length (b .outsides) ≤ most .outsides - s .outsides
+  pub outsides : length (decoded .outsides) ≤ most .outsides - progress .outsides
   -- no more blocks
-  pub blocks : length (b .blocks) ≤ most .blocks - s .blocks
+  pub blocks : length (decoded .blocks) ≤ most .blocks - progress .blocks
   -- no more alternatives in all blocks
-  pub alternatives : length (b .alternatives) + (alternativesOf (b .definitions) + alternativesIn (b .blocks)) ≤ most .alternatives - s .alternatives
+  pub alternatives : length (decoded .alternatives) + (alternativesOf (decoded .definitions) + alternativesIn (decoded .blocks)) ≤ most .alternatives -
+      progress .alternatives
   -- no more items in the alternative that is open
-  pub items : length (b .items) ≤ most .items - s .items
+  pub items : length (decoded .items) ≤ most .items - progress .items
 
-module _ (s : Progress) where
+module _ (progress : Progress) where
   -- a keyword has room among the 62
-  pub room-1 : hasRoom 1 s ≡ true → s .keywords < most .keywords
+  pub keyword-has-room : hasRoom 1 progress ≡ true → progress .keywords < most .keywords
   unfolding hasRoom
-  room-1 h = ltb-true (s .keywords) (most .keywords) (simp and-true at h)
+  keyword-has-room h = ltb-true (progress .keywords) (most .keywords) (simp and-true at h)
 
   -- an outside name has room among the 64
-  pub room-2 : hasRoom 2 s ≡ true → s .outsides < most .outsides
+  pub outside-has-room : hasRoom 2 progress ≡ true → progress .outsides < most .outsides
   unfolding hasRoom
-  room-2 h = ltb-true (s .outsides) (most .outsides) (simp and-true at h)
+  outside-has-room h = ltb-true (progress .outsides) (most .outsides) (simp and-true at h)
 
-  room-3 : hasRoom 3 s ≡ true → s .blocks < most .blocks
+  block-has-room : hasRoom 3 progress ≡ true → progress .blocks < most .blocks
   unfolding hasRoom
-  room-3 h = ltb-true (s .blocks) (most .blocks) (simp and-true at h)
+  block-has-room h = ltb-true (progress .blocks) (most .blocks) (simp and-true at h)
 
-  room-5 : hasRoom 5 s ≡ true → s .alternatives < most .alternatives
+  alternative-has-room : hasRoom 5 progress ≡ true → progress .alternatives < most .alternatives
   unfolding hasRoom
-  room-5 h = ltb-true (s .alternatives) (most .alternatives) (simp and-true at h)
+  alternative-has-room h = ltb-true (progress .alternatives) (most .alternatives) (simp and-true at h)
 
-  room-6 : hasRoom 6 s ≡ true → s .items < most .items
+  item-has-room : hasRoom 6 progress ≡ true → progress .items < most .items
   unfolding hasRoom
-  room-6 h = ltb-true (s .items) (most .items) h
+  item-has-room h = ltb-true (progress .items) (most .items) h
 
-  module _ (b : Decoded) where
-    room-keyword : (v : List ℕ) → s .keywords < most .keywords → Room (passed 1 s) b → Room s (withKeyword v b)
+  module _ (decoded : Decoded) where
+    room-keyword : (value : List ℕ) → progress .keywords < most .keywords → Room (passed 1 progress) decoded → Room progress (withKeyword value decoded)
     unfolding passed alternativesOf
-    room-keyword v h r = omega arith
+    room-keyword value h r = omega arith
 
-    room-outside : (v : List ℕ) → s .outsides < most .outsides → Room (passed 2 s) b → Room s (withOutside v b)
+    room-outside : (value : List ℕ) → progress .outsides < most .outsides → Room (passed 2 progress) decoded → Room progress (withOutside value decoded)
     unfolding passed alternativesOf
-    room-outside v h r = omega arith
+    room-outside value h r = omega arith
 
-    room-block : s .blocks < most .blocks → Room (passed 3 s) b → Room s (withBlock b)
+    room-block : progress .blocks < most .blocks → Room (passed 3 progress) decoded → Room progress (withBlock decoded)
     unfolding passed alternativesOf alternativesIn
     room-block h r = omega arith
 
-    room-definition : (d : Definition) → length (d .alternatives) ≡ length (b .alternatives) → Room (passed 4 s) b → Room s (withDefinition d b)
+    room-definition : (definition : Definition) → length (definition .alternatives) ≡ length (decoded .alternatives) → Room (passed 4 progress) decoded
+        → Room progress (withDefinition definition decoded)
     unfolding passed alternativesOf
-    room-definition d e r = omega arith
+    room-definition definition e r = omega arith
 
-    room-alternative : s .alternatives < most .alternatives → Room (passed 5 s) b → Room s (withAlternative b)
+    room-alternative : progress .alternatives < most .alternatives → Room (passed 5 progress) decoded → Room progress (withAlternative decoded)
     unfolding passed
     room-alternative h r = omega arith
 
-    room-item : (i : Item) → s .items < most .items → Room (passed 6 s) b → Room s (withItem i b)
+    room-item : (item : Item) → progress .items < most .items → Room (passed 6 progress) decoded → Room progress (withItem item decoded)
     unfolding passed
-    room-item i h r = omega arith
+    room-item item h r = omega arith
 
-    room-result : (t : Template) → Room (passed 7 s) b → Room s (withResult t b)
+    room-result : (template : Template) → Room (passed 7 progress) decoded → Room progress (withResult template decoded)
     unfolding passed
-    room-result t r = omega arith
+    room-result template r = omega arith
 
-    room-root : (n : ℕ) → Room s (withRoot n b)
+    room-root : (root : ℕ) → Room progress (withRoot root decoded)
     unfolding alternativesOf alternativesIn
-    room-root n = omega arith
+    room-root root = omega arith
 
 -- ------------------------------------------------------------------ what is still to come
 
 -- parts that may follow the fields before, within the counts, spellings and ranges
-pub record Fits (before : List Field) (s : Progress) (b : Decoded) : Type 0 where
+pub record Fits (before : List Field) (progress : Progress) (decoded : Decoded) : Type 0 where
   -- the keywords are good spellings, each new
-  pub keywords : Spelled isKeyword 1 before (b .keywords)
+  pub keywords : Spelled isKeyword 1 before (decoded .keywords)
   -- the outside names are words, each new
-  pub outsides : Spelled isWord 2 before (b .outsides)
+  pub outsides : Spelled isWord 2 before (decoded .outsides)
   -- the blocks' definitions are within the bounds
-  pub blocks : Each (Each DefinitionWithin) (b .blocks)
+  pub blocks : Each (Each DefinitionWithin) (decoded .blocks)
   -- so are those of the block that is open
-  pub definitions : Each DefinitionWithin (b .definitions)
+  pub definitions : Each DefinitionWithin (decoded .definitions)
   -- so are the alternatives of the definition that is open
-  pub alternatives : Each AlternativeWithin (b .alternatives)
+  pub alternatives : Each AlternativeWithin (decoded .alternatives)
   -- a definition has one alternative or more
-  pub begun : s .last ≡ 4 → 1 ≤ length (b .alternatives)
+  pub begun : progress .last ≡ 4 → 1 ≤ length (decoded .alternatives)
   -- the items are within the bounds
-  pub items : Each ItemWithin (b .items)
+  pub items : Each ItemWithin (decoded .items)
   -- so is the result
-  pub result : TemplateWithin (b .result)
+  pub result : TemplateWithin (decoded .result)
   -- the root is a nonterminal
-  pub root : b .root < most .nonterminals
+  pub root : decoded .root < most .nonterminals
   -- the counts leave room for all
-  pub room : Room s b
+  pub room : Room progress decoded
 
 -- fields that are those of such parts
 abbrev Rest : List Field → Progress → List Field → Type 0
@@ -154,7 +156,7 @@ step-keyword before s v fs l bytes p r =
         items = each-none;
         result = g .result;
         root = g .root;
-        room = room-keyword s b v (room-1 s (p .room)) (g .room);
+        room = room-keyword s b v (keyword-has-room s (p .room)) (g .room);
       },
     )
 
@@ -176,15 +178,15 @@ step-outside before s v fs l bytes p r =
         items = each-none;
         result = g .result;
         root = g .root;
-        room = room-outside s b v (room-2 s (p .room)) (g .room);
+        room = room-outside s b v (outside-has-room s (p .room)) (g .room);
       },
     )
 
 -- parts without spellings
-later : (before : List Field) {s : Progress} {b : Decoded} → b .keywords ≡ [] → b .outsides ≡ []
-    → Each (Each DefinitionWithin) (b .blocks) → Each DefinitionWithin (b .definitions) → Each AlternativeWithin (b .alternatives)
-    → (s .last ≡ 4 → 1 ≤ length (b .alternatives)) → Each ItemWithin (b .items) → TemplateWithin (b .result) → b .root < most .nonterminals
-    → Room s b → Fits before s b
+later : (before : List Field) {progress : Progress} {decoded : Decoded} → decoded .keywords ≡ [] → decoded .outsides ≡ []
+    → Each (Each DefinitionWithin) (decoded .blocks) → Each DefinitionWithin (decoded .definitions) → Each AlternativeWithin (decoded .alternatives)
+    → (progress .last ≡ 4 → 1 ≤ length (decoded .alternatives)) → Each ItemWithin (decoded .items) → TemplateWithin (decoded .result)
+    → decoded .root < most .nonterminals → Room progress decoded → Fits before progress decoded
 later before k o bs ds rest n is t r m =
     record {
       keywords = subst⁻¹ (Spelled isKeyword 1 before) k (spelled-none isKeyword 1 before);
@@ -207,7 +209,7 @@ step-block before s v fs l bytes p r =
       withBlock b,
       cc (block-value v (p .known), r .1, opens-block b (s .last) l (p .ordered)),
       later before refl refl (each-more (g .definitions) (g .blocks)) each-none each-none (not-begun 3 (s .last) refl (p .ordered))
-          each-none (g .result) (g .root) (room-block s b (room-3 s (p .room)) (g .room)),
+          each-none (g .result) (g .root) (room-block s b (block-has-room s (p .room)) (g .room)),
     )
 
 step-definition : Step 4
@@ -232,7 +234,7 @@ step-alternative before s v fs l bytes p r =
       cc (alternative-value v (p .known), r .1, opens-alternative b (s .last) l (p .ordered)),
       later before refl refl (g .blocks) (g .definitions)
           (each-more (record { items = g .items; itemCount = g .room .items; result = g .result }) (g .alternatives))
-          (λ e. omega arith) each-none (g .result) (g .root) (room-alternative s b (room-5 s (p .room)) (g .room)),
+          (λ e. omega arith) each-none (g .result) (g .root) (room-alternative s b (alternative-has-room s (p .room)) (g .room)),
     )
 
 step-item : Step 6
@@ -244,7 +246,7 @@ step-item before s v fs l bytes p r =
       withItem (item .0) b,
       cc (item .1, r .1, opens-item b (item .0) (s .last) l (p .ordered)),
       later before refl refl (g .blocks) (g .definitions) (g .alternatives) (not-begun 6 (s .last) refl (p .ordered))
-          (each-more (item .2) (g .items)) (g .result) (g .root) (room-item s b (item .0) (room-6 s (p .room)) (g .room)),
+          (each-more (item .2) (g .items)) (g .result) (g .root) (room-item s b (item .0) (item-has-room s (p .room)) (g .room)),
     )
 
 step-result : Step 7
@@ -273,10 +275,10 @@ step-root before s v fs l bytes p r =
 
 -- ------------------------------------------------------------------ all fields
 
-steps : (tag : ℕ) (v : List ℕ) → isKnown tag v ≡ true → Step tag
+steps : (tag : ℕ) (value : List ℕ) → isKnown tag value ≡ true → Step tag
 steps = by-tag Step step-keyword step-outside step-block step-definition step-alternative step-item step-result step-root
 
-low : (tag : ℕ) (v : List ℕ) → isKnown tag v ≡ true → tag ≤ 8
+low : (tag : ℕ) (value : List ℕ) → isKnown tag value ≡ true → tag ≤ 8
 low =
     by-tag (λ tag. tag ≤ 8) (omega arith) (omega arith) (omega arith) (omega arith) (omega arith) (omega arith) (omega arith)
     (omega arith)
@@ -285,34 +287,34 @@ low =
 ended : (last at : ℕ) → need (eqb last 8) 4 at ≡ ok tt → last ≡ 8
 ended last at h = by (eqb last 8) refl h
   where
-    by : (t : Bool) → eqb last 8 ≡ t → need t 4 at ≡ ok tt → last ≡ 8
+    by : (ends : Bool) → eqb last 8 ≡ ends → need ends 4 at ≡ ok tt → last ≡ 8
     by true e h = eqb-true last 8 e
     by false e h = absurd (subst⁻¹ Accepts h tt)
 
 -- nothing is left after the root
-left-none : (before : List Field) (s : Progress) → s .last ≡ 8 → Rest before s []
+left-none : (before : List Field) (progress : Progress) → progress .last ≡ 8 → Rest before progress []
 unfolding left alternativesOf alternativesIn
-left-none before s e = (
+left-none before progress e = (
   nothing,
   cc,
   later before refl refl each-none each-none each-none (λ z. omega arith) each-none (variable-within (omega arith)) (omega arith)
       (omega arith),
 )
 
-sound : (fs : RawFields) (before : List Field) (s : Progress) → s .last ≤ 8 → ValueBytes fs → checkFields fs before s ≡ ok tt
-    → Rest before s (flat fs)
+sound : (fs : RawFields) (before : List Field) (progress : Progress) → progress .last ≤ 8 → ValueBytes fs → checkFields fs before progress ≡ ok tt
+    → Rest before progress (flat fs)
 unfolding checkFields flat passed
-sound (end at) before s l b h = left-none before s (ended (s .last) at h)
-sound (cut at) before s l b h = absurd (subst⁻¹ Accepts h tt)
-sound (next at tag v fs) before s l b h =
-    let both = accepted at tag v fs before s h in
+sound (end at) before progress l b h = left-none before progress (ended (progress .last) at h)
+sound (cut at) before progress l b h = absurd (subst⁻¹ Accepts h tt)
+sound (next at tag v fs) before progress l b h =
+    let both = accepted at tag v fs before progress h in
     let known = both .0 .known in
-    steps tag v known before s v (flat fs) l (b .0) (both .0)
-    (sound fs (field tag v ∷ before) (passed tag s) (low tag v known) (b .1) (both .1))
+    steps tag v known before progress v (flat fs) l (b .0) (both .0)
+    (sound fs (field tag v ∷ before) (passed tag progress) (low tag v known) (b .1) (both .1))
 
 -- Accepted fields are those of a table, and the table is within the counts, spellings and ranges if it is not too long.
 pub accepted-table : (fs : RawFields) → ValueBytes fs → checkFields fs [] initialProgress ≡ ok tt
-    → (t : Table) × (flat fs ≡ tableFields t) × (length (encode t) ≤ most .bytes → Within t)
+    → (table : Table) × (flat fs ≡ tableFields table) × (length (encode table) ≤ most .bytes → Within table)
 unfolding left tableFields
 accepted-table fs b h =
     let r = sound fs [] initialProgress (omega arith) b h in

@@ -18,14 +18,14 @@ abbrev pub Bytes : List ℕ → Type 0
 Bytes bs = (i : ℕ) → getD bs i 0 < 256
 
 -- a part of bytes is bytes
-pub dropped-bytes : (n : ℕ) (bs : List ℕ) → Bytes bs → Bytes (drop n bs)
-dropped-bytes n bs b i = rw (getD-drop n bs i 0) (b (n + i))
+pub dropped-bytes : (count : ℕ) (bs : List ℕ) → Bytes bs → Bytes (drop count bs)
+dropped-bytes count bs b i = rw (getD-drop count bs i 0) (b (count + i))
 
-taken-bytes : (n : ℕ) (bs : List ℕ) → Bytes bs → Bytes (take n bs)
+taken-bytes : (count : ℕ) (bs : List ℕ) → Bytes bs → Bytes (take count bs)
 taken-bytes zero bs b i = omega arith
-taken-bytes (suc n) [] b i = omega arith
-taken-bytes (suc n) (c ∷ cs) b zero = b zero
-taken-bytes (suc n) (c ∷ cs) b (suc i) = taken-bytes n cs (λ j. b (suc j)) i
+taken-bytes (suc count) [] b i = omega arith
+taken-bytes (suc count) (c ∷ cs) b zero = b zero
+taken-bytes (suc count) (c ∷ cs) b (suc i) = taken-bytes count cs (λ j. b (suc j)) i
 
 -- ------------------------------------------------------------------ fields and their offsets
 
@@ -54,45 +54,45 @@ ValueBytes (next at tag v fs) = Bytes v × ValueBytes fs
 
 -- ------------------------------------------------------------------ one turn of the split
 
-from-end : (k at : ℕ) → fieldsFrom k at [] ≡ end at
+from-end : (fuel at : ℕ) → fieldsFrom fuel at [] ≡ end at
 unfolding fieldsFrom
 from-end zero at = refl
-from-end (suc k) at = refl
+from-end (suc fuel) at = refl
 
 from-none : (at : ℕ) (rest : List ℕ) → fieldsFrom zero at rest ≡ end at
 unfolding fieldsFrom
 from-none at rest = refl
 
-module _ (k at : ℕ) (rest : List ℕ) (some : (length rest ≡ 0) → ⊥) where
-  from-cut : leb (3 + sizeOf rest) (length rest) ≡ false → fieldsFrom (suc k) at rest ≡ cut at
+module _ (fuel at : ℕ) (rest : List ℕ) (some : (length rest ≡ 0) → ⊥) where
+  from-cut : leb (3 + sizeOf rest) (length rest) ≡ false → fieldsFrom (suc fuel) at rest ≡ cut at
   unfolding fieldsFrom
   from-cut e = rw (ne-eqb (length rest) 0 some, e, fieldsFrom) refl
 
   from-next : leb (3 + sizeOf rest) (length rest) ≡ true
-      → fieldsFrom (suc k) at rest
-      ≡ next at (getD rest 0 0) (take (sizeOf rest) (drop 3 rest)) (fieldsFrom k (at + (3 + sizeOf rest)) (drop (3 + sizeOf rest) rest))
+      → fieldsFrom (suc fuel) at rest
+      ≡ next at (getD rest 0 0) (take (sizeOf rest) (drop 3 rest)) (fieldsFrom fuel (at + (3 + sizeOf rest)) (drop (3 + sizeOf rest) rest))
   unfolding fieldsFrom
   from-next e = rw (ne-eqb (length rest) 0 some, e, fieldsFrom) refl
 
 -- ------------------------------------------------------------------ from fields to bytes and back
 
 -- a field whose two bytes of length state the length of its value
-from-field : (k at tag hi lo : ℕ) (v follow : List ℕ) → hi * 256 + lo ≡ length v
-    → fieldsFrom (suc k) at (tag ∷ hi ∷ lo ∷ v ++ follow) ≡ next at tag v (fieldsFrom k (at + (3 + length v)) follow)
-from-field k at tag hi lo v follow e =
-    from-next k at (tag ∷ hi ∷ lo ∷ v ++ follow) (λ z. omega arith)
-    (le-leb (3 + (hi * 256 + lo)) (length (tag ∷ hi ∷ lo ∷ v ++ follow)) (omega (arith, length-append v follow)))
-    ∙ rw (e, take-append-seam v follow, ← drop-drop (length v) 3 (tag ∷ hi ∷ lo ∷ v ++ follow), drop-append-seam v follow) refl
+from-field : (fuel at tag hi lo : ℕ) (value follow : List ℕ) → hi * 256 + lo ≡ length value
+    → fieldsFrom (suc fuel) at (tag ∷ hi ∷ lo ∷ value ++ follow) ≡ next at tag value (fieldsFrom fuel (at + (3 + length value)) follow)
+from-field fuel at tag hi lo value follow e =
+    from-next fuel at (tag ∷ hi ∷ lo ∷ value ++ follow) (λ z. omega arith)
+    (le-leb (3 + (hi * 256 + lo)) (length (tag ∷ hi ∷ lo ∷ value ++ follow)) (omega (arith, length-append value follow)))
+    ∙ rw (e, take-append-seam value follow, ← drop-drop (length value) 3 (tag ∷ hi ∷ lo ∷ value ++ follow), drop-append-seam value follow) refl
 
 -- The bytes of fields split into these fields, if each length fits its two bytes.
-split-bytes : (fs : List Field) (k at : ℕ) → length (fieldBytes fs) ≤ k → fieldsFrom k at (fieldBytes fs) ≡ spread at fs
+split-bytes : (fs : List Field) (fuel at : ℕ) → length (fieldBytes fs) ≤ fuel → fieldsFrom fuel at (fieldBytes fs) ≡ spread at fs
 unfolding fieldBytes spread
-split-bytes [] k at h = from-end k at
+split-bytes [] fuel at h = from-end fuel at
 split-bytes (f ∷ fs) zero at h = absurd (omega arith)
-split-bytes (f ∷ fs) (suc k) at h =
-    from-field k at (f .tag) (length (f .value) / 256) (length (f .value) % 256) (f .value) (fieldBytes fs) (omega arith)
+split-bytes (f ∷ fs) (suc fuel) at h =
+    from-field fuel at (f .tag) (length (f .value) / 256) (length (f .value) % 256) (f .value) (fieldBytes fs) (omega arith)
     ∙ ap (next at (f .tag) (f .value))
-    (split-bytes fs k (at + (3 + length (f .value))) (omega (arith, length-append (f .value) (fieldBytes fs))))
+    (split-bytes fs fuel (at + (3 + length (f .value))) (omega (arith, length-append (f .value) (fieldBytes fs))))
 
 -- the bytes of fields are read as the fields
 pub fields-of-bytes : (fs : List Field) → fieldsOf (fieldBytes fs) ≡ spread 0 fs
@@ -120,23 +120,23 @@ field-whole rest b h fs e =
     cc (three rest (omega arith))
 
 -- Bytes that split without a cut are the bytes of their fields.
-split-uncut : (k at : ℕ) (rest : List ℕ) → Bytes rest → length rest ≤ k → Uncut (fieldsFrom k at rest)
-    → rest ≡ fieldBytes (flat (fieldsFrom k at rest))
+split-uncut : (fuel at : ℕ) (rest : List ℕ) → Bytes rest → length rest ≤ fuel → Uncut (fieldsFrom fuel at rest)
+    → rest ≡ fieldBytes (flat (fieldsFrom fuel at rest))
 unfolding fieldBytes flat
 split-uncut zero at [] b h u = rw (from-end zero at) refl
-split-uncut (suc k) at [] b h u = rw (from-end (suc k) at) refl
+split-uncut (suc fuel) at [] b h u = rw (from-end (suc fuel) at) refl
 split-uncut zero at (c ∷ cs) b h u = absurd (omega arith)
-split-uncut (suc k) at (c ∷ cs) b h u =
+split-uncut (suc fuel) at (c ∷ cs) b h u =
     let rest : List ℕ = c ∷ cs in
     by-test (leb (3 + sizeOf rest) (length rest))
     (λ e.
     let l = leb-true (3 + sizeOf rest) (length rest) e in
-    let next-is = from-next k at rest (λ z. omega arith) e in
+    let next-is = from-next fuel at rest (λ z. omega arith) e in
     rw next-is
-    (field-whole rest b l (flat (fieldsFrom k (at + (3 + sizeOf rest)) (drop (3 + sizeOf rest) rest)))
-    (split-uncut k (at + (3 + sizeOf rest)) (drop (3 + sizeOf rest) rest) (dropped-bytes (3 + sizeOf rest) rest b)
+    (field-whole rest b l (flat (fieldsFrom fuel (at + (3 + sizeOf rest)) (drop (3 + sizeOf rest) rest)))
+    (split-uncut fuel (at + (3 + sizeOf rest)) (drop (3 + sizeOf rest) rest) (dropped-bytes (3 + sizeOf rest) rest b)
     (omega (arith, length-drop (3 + sizeOf rest) rest)) (rw next-is at u))))
-    (λ e. absurd (rw (from-cut k at rest (λ z. omega arith) e) at u))
+    (λ e. absurd (rw (from-cut fuel at rest (λ z. omega arith) e) at u))
 
 -- bytes that are read to their end are those of their fields
 pub bytes-of-fields : (bs : List ℕ) → Bytes bs → Uncut (fieldsOf bs) → bs ≡ fieldBytes (flat (fieldsOf bs))
@@ -144,18 +144,18 @@ unfolding fieldsOf
 bytes-of-fields bs b u = split-uncut (length bs) 0 bs b (omega arith) u
 
 -- The values of bytes are bytes.
-split-values : (k at : ℕ) (rest : List ℕ) → Bytes rest → ValueBytes (fieldsFrom k at rest)
+split-values : (fuel at : ℕ) (rest : List ℕ) → Bytes rest → ValueBytes (fieldsFrom fuel at rest)
 split-values zero at rest b = rw (from-none at rest) tt
-split-values (suc k) at [] b = rw (from-end (suc k) at) tt
-split-values (suc k) at (c ∷ cs) b =
+split-values (suc fuel) at [] b = rw (from-end (suc fuel) at) tt
+split-values (suc fuel) at (c ∷ cs) b =
     let rest : List ℕ = c ∷ cs in
     by-test (leb (3 + sizeOf rest) (length rest))
     (λ e.
-    rw (from-next k at rest (λ z. omega arith) e) (
+    rw (from-next fuel at rest (λ z. omega arith) e) (
       taken-bytes (sizeOf rest) (drop 3 rest) (dropped-bytes 3 rest b),
-      split-values k (at + (3 + sizeOf rest)) (drop (3 + sizeOf rest) rest) (dropped-bytes (3 + sizeOf rest) rest b),
+      split-values fuel (at + (3 + sizeOf rest)) (drop (3 + sizeOf rest) rest) (dropped-bytes (3 + sizeOf rest) rest b),
     ))
-    (λ e. rw (from-cut k at rest (λ z. omega arith) e) tt)
+    (λ e. rw (from-cut fuel at rest (λ z. omega arith) e) tt)
 
 -- the values of fields of bytes are bytes
 pub value-bytes : (bs : List ℕ) → Bytes bs → ValueBytes (fieldsOf bs)

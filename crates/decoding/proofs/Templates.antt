@@ -19,8 +19,8 @@ use Rattle.decoding.specs.Within.{more-within}
 use Rattle.decoding.proofs.Split.{Bytes}
 
 -- a byte that is neither 10 nor 11 is no name's tag
-no-name : (b : ℕ) → (b ≡ 0x10 → ⊥) → (b ≡ 0x11 → ⊥) → isNameTag b ≡ false
-no-name b e f = rw (ne-eqb b 0x10 e, ne-eqb b 0x11 f) refl
+no-name : (byte : ℕ) → (byte ≡ 0x10 → ⊥) → (byte ≡ 0x11 → ⊥) → isNameTag byte ≡ false
+no-name byte e f = rw (ne-eqb byte 0x10 e, ne-eqb byte 0x11 f) refl
 
 -- ------------------------------------------------------------------ lists of templates
 
@@ -54,24 +54,25 @@ unfolding join templatesThen templateThen
 join-then none us follow = refl
 join-then (more t ts) us follow = ap (templateThen t) (join-then ts us follow)
 
-take-join : (ts us : Templates) (k : ℕ) → count ts ≡ k → takeTemplates k (join ts us) ≡ taken ts us
+take-join : (ts us : Templates) (many : ℕ) → count ts ≡ many → takeTemplates many (join ts us) ≡ taken ts us
 unfolding takeTemplates join count
 take-join none us zero e = refl
-take-join none us (suc k) e = absurd (omega arith)
+take-join none us (suc many) e = absurd (omega arith)
 take-join (more t ts) us zero e = absurd (omega arith)
-take-join (more t ts) us (suc k) e = ap (alsoTaken t) (take-join ts us k (omega arith))
+take-join (more t ts) us (suc many) e = ap (alsoTaken t) (take-join ts us many (omega arith))
 
 -- ------------------------------------------------------------------ prefix forms are read back
 
-constructed-front : (c : ℕ) (ts : Templates) (p : ReadTemplates) → count ts ≡ arity c → constructed c (allInFront ts p) ≡ inFront (make c ts) p
-constructed-front c ts fault e = ap (constructed c) (front-fault ts)
-constructed-front c ts (parsed us) e = ap (constructed c) (front-parsed ts us) ∙ ap (applied c) (take-join ts us (arity c) e)
+constructed-front : (code : ℕ) (ts : Templates) (read : ReadTemplates) → count ts ≡ arity code
+    → constructed code (allInFront ts read) ≡ inFront (make code ts) read
+constructed-front code ts fault e = ap (constructed code) (front-fault ts)
+constructed-front code ts (parsed us) e = ap (constructed code) (front-parsed ts us) ∙ ap (applied code) (take-join ts us (arity code) e)
 
 mutual
   unfolding templateThen templatesThen allInFront
 
-  template-read : {t : Template} → TemplateWithin t → (follow : List ℕ)
-      → templatesOf (templateThen t follow) ≡ inFront t (templatesOf follow)
+  template-read : {template : Template} → TemplateWithin template → (follow : List ℕ)
+      → templatesOf (templateThen template follow) ≡ inFront template (templatesOf follow)
   template-read (variable-within {i} h) follow =
       byte-first i follow (no-name i (λ e. omega arith) (λ e. omega arith)) ∙ variable-first i (templatesOf follow) (lt-ltb i 0x10 (omega arith))
   template-read (outside-within {n} h) follow = name-first 0x10 n follow refl
@@ -95,7 +96,7 @@ unfolding templatesOf
 read-templates {ts} w = templates-read w [] ∙ front-parsed ts none ∙ ap parsed (join-none ts)
 
 -- the bytes of a template are read as the template
-pub read-template : {t : Template} → TemplateWithin t → templatesOf (templateThen t []) ≡ parsed (more t none)
+pub read-template : {template : Template} → TemplateWithin template → templatesOf (templateThen template []) ≡ parsed (more template none)
 unfolding templatesOf
 read-template w = template-read w []
 
@@ -106,19 +107,20 @@ abbrev Took : ℕ → Templates → SplitTemplates → Type 0
 Took k ts short = Unit {0}
 Took k ts (taken us vs) = (count us ≡ k) × (ts ≡ join us vs)
 
-also-took : (k : ℕ) (t : Template) (ts : Templates) (r : SplitTemplates) → Took k ts r → Took (suc k) (more t ts) (alsoTaken t r)
+also-took : (many : ℕ) (template : Template) (ts : Templates) (split : SplitTemplates) → Took many ts split
+    → Took (suc many) (more template ts) (alsoTaken template split)
 unfolding count join
-also-took k t ts short h = tt
-also-took k t ts (taken us vs) h = (ap suc (h .0), ap (more t) (h .1))
+also-took many template ts short h = tt
+also-took many template ts (taken us vs) h = (ap suc (h .0), ap (more template) (h .1))
 
-took : (k : ℕ) (ts : Templates) → Took k ts (takeTemplates k ts)
+took : (many : ℕ) (ts : Templates) → Took many ts (takeTemplates many ts)
 unfolding takeTemplates count join
 took zero ts = (refl, refl)
-took (suc k) none = tt
-took (suc k) (more t ts) = also-took k t ts (takeTemplates k ts) (took k ts)
+took (suc many) none = tt
+took (suc many) (more t ts) = also-took many t ts (takeTemplates many ts) (took many ts)
 
 -- a first template and the others
-pub more-parts : {t : Template} {ts : Templates} → TemplatesWithin (more t ts) → TemplateWithin t × TemplatesWithin ts
+pub more-parts : {template : Template} {ts : Templates} → TemplatesWithin (more template ts) → TemplateWithin template × TemplatesWithin ts
 more-parts (more-within w ws) = (w, ws)
 
 join-parts : (ts us : Templates) → TemplatesWithin (join ts us) → TemplatesWithin ts × TemplatesWithin us
@@ -135,50 +137,52 @@ Forms bs fault = Unit {0}
 Forms bs (parsed ts) = (bs ≡ templatesThen ts []) × TemplatesWithin ts
 
 -- a template in front
-forms-front : {t : Template} → TemplateWithin t → (bs : List ℕ) (p : ReadTemplates) → Forms bs p → Forms (templateThen t bs) (inFront t p)
+forms-front : {template : Template} → TemplateWithin template → (bs : List ℕ) (read : ReadTemplates) → Forms bs read
+    → Forms (templateThen template bs) (inFront template read)
 unfolding templatesThen templateThen
 forms-front w bs fault h = tt
-forms-front {t} w bs (parsed ts) h = (ap (templateThen t) (h .0), more-within w (h .1))
+forms-front {template} w bs (parsed ts) h = (ap (templateThen template) (h .0), more-within w (h .1))
 
 -- a constructor in front
-forms-applied : (c : ℕ) → 0x20 ≤ c → c ≤ 0x27 → (bs : List ℕ) (ts : Templates) → Forms bs (parsed ts)
-    → (r : SplitTemplates) → Took (arity c) ts r → Forms (c ∷ bs) (applied c r)
+forms-applied : (code : ℕ) → 0x20 ≤ code → code ≤ 0x27 → (bs : List ℕ) (ts : Templates) → Forms bs (parsed ts)
+    → (split : SplitTemplates) → Took (arity code) ts split → Forms (code ∷ bs) (applied code split)
 unfolding templatesThen templateThen
-forms-applied c l h bs ts f short k = tt
-forms-applied c l h bs ts f (taken us vs) k =
+forms-applied code l h bs ts f short k = tt
+forms-applied code l h bs ts f (taken us vs) k =
     let parts = join-parts us vs (subst TemplatesWithin (k .1) (f .1)) in (
       cc (f .0, k .1, join-then us vs []),
       more-within (make-within l h (k .0) (parts .0)) (parts .1),
     )
 
-forms-constructed : (c : ℕ) → 0x20 ≤ c → c ≤ 0x27 → (bs : List ℕ) (p : ReadTemplates) → Forms bs p → Forms (c ∷ bs) (constructed c p)
-forms-constructed c l h bs fault f = tt
-forms-constructed c l h bs (parsed ts) f = forms-applied c l h bs ts f (takeTemplates (arity c) ts) (took (arity c) ts)
+forms-constructed : (code : ℕ) → 0x20 ≤ code → code ≤ 0x27 → (bs : List ℕ) (read : ReadTemplates) → Forms bs read → Forms (code ∷ bs) (constructed code read)
+forms-constructed code l h bs fault f = tt
+forms-constructed code l h bs (parsed ts) f = forms-applied code l h bs ts f (takeTemplates (arity code) ts) (took (arity code) ts)
 
-forms-byte : (b : ℕ) (bs : List ℕ) (p : ReadTemplates) → Forms bs p → Forms (b ∷ bs) (byteInFront b p)
+forms-byte : (byte : ℕ) (bs : List ℕ) (read : ReadTemplates) → Forms bs read → Forms (byte ∷ bs) (byteInFront byte read)
 unfolding templatesThen templateThen
-forms-byte b bs p f =
-    by-test (ltb b 0x10)
+forms-byte byte bs read f =
+    by-test (ltb byte 0x10)
     (λ e.
-    subst⁻¹ (Forms (b ∷ bs)) (variable-first b p e) (forms-front (variable-within (omega (arith, ltb-true b 0x10 e))) bs p f))
-    (λ e. by-test (isConstructor b)
+    subst⁻¹ (Forms (byte ∷ bs)) (variable-first byte read e) (forms-front (variable-within (omega (arith, ltb-true byte 0x10 e))) bs read f))
+    (λ e. by-test (isConstructor byte)
     (λ c.
-    let both = and-eq-true-iff (leb 0x20 b) (leb b 0x27) .0 c in
-    subst⁻¹ (Forms (b ∷ bs)) (constructor-first b p e c)
-    (forms-constructed b (leb-true 0x20 b (both .0)) (leb-true b 0x27 (both .1)) bs p f))
-    (λ c. subst⁻¹ (Forms (b ∷ bs)) (unknown-first b p e c) tt))
+    let both = and-eq-true-iff (leb 0x20 byte) (leb byte 0x27) .0 c in
+    subst⁻¹ (Forms (byte ∷ bs)) (constructor-first byte read e c)
+    (forms-constructed byte (leb-true 0x20 byte (both .0)) (leb-true byte 0x27 (both .1)) bs read f))
+    (λ c. subst⁻¹ (Forms (byte ∷ bs)) (unknown-first byte read e c) tt))
 
 -- a name's tag and a byte in front
-forms-name : (b n : ℕ) (bs : List ℕ) (p : ReadTemplates) → isNameTag b ≡ true → n < 256 → Forms bs p
-    → Forms (b ∷ n ∷ bs) (inFront (nameBy (eqb b 0x10) n) p)
+forms-name : (byte number : ℕ) (bs : List ℕ) (read : ReadTemplates) → isNameTag byte ≡ true → number < 256 → Forms bs read
+    → Forms (byte ∷ number ∷ bs) (inFront (nameBy (eqb byte 0x10) number) read)
 unfolding templatesThen templateThen
-forms-name b n bs p e l f =
-    by-test (eqb b 0x10)
-    (λ q. subst₂ (λ c t. Forms (c ∷ n ∷ bs) (inFront (nameBy t n) p)) (sym (eqb-true b 0x10 q)) (sym q) (forms-front (outside-within l) bs p f))
+forms-name byte number bs read e l f =
+    by-test (eqb byte 0x10)
+    (λ q. subst₂ (λ c t. Forms (c ∷ number ∷ bs) (inFront (nameBy t number) read)) (sym (eqb-true byte 0x10 q)) (sym q)
+    (forms-front (outside-within l) bs read f))
     (λ q.
-    let label : eqb b 0x11 ≡ true = rw q at e in
-    subst₂ (λ c t. Forms (c ∷ n ∷ bs) (inFront (nameBy t n) p)) (sym (eqb-true b 0x11 label)) (sym q)
-    (forms-front (label-within l) bs p f))
+    let label : eqb byte 0x11 ≡ true = rw q at e in
+    subst₂ (λ c t. Forms (c ∷ number ∷ bs) (inFront (nameBy t number) read)) (sym (eqb-true byte 0x11 label)) (sym q)
+    (forms-front (label-within l) bs read f))
 
 -- Bytes that are read as templates are the prefix forms of these, and the templates are within the ranges.
 pub forms : (bs : List ℕ) → Bytes bs → Forms bs (templatesOf bs)

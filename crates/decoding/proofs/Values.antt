@@ -23,73 +23,74 @@ use Rattle.decoding.proofs.Templates.{Forms, forms, more-parts, read-te
 -- ------------------------------------------------------------------ tests
 
 -- one of two tests is true
-pub by-either : {A : Type 0} (a b : Bool) → (a || b) ≡ true → (a ≡ true → A) → (b ≡ true → A) → A
-by-either true b e f g = f refl
-by-either false b e f g = g e
+pub by-either : {A : Type 0} (first second : Bool) → (first || second) ≡ true → (first ≡ true → A) → (second ≡ true → A) → A
+by-either true second e f g = f refl
+by-either false second e f g = g e
 
 -- both tests hold: the left one
-pub and-left : (a b : Bool) → (a && b) ≡ true → a ≡ true
-and-left a b e = and-eq-true-iff a b .0 e .0
+pub and-left : (first second : Bool) → (first && second) ≡ true → first ≡ true
+and-left first second e = and-eq-true-iff first second .0 e .0
 
 -- and the right one
-pub and-right : (a b : Bool) → (a && b) ≡ true → b ≡ true
-and-right a b e = and-eq-true-iff a b .0 e .1
+pub and-right : (first second : Bool) → (first && second) ≡ true → second ≡ true
+and-right first second e = and-eq-true-iff first second .0 e .1
 
-and-three : (a b c : Bool) → (a && b && c) ≡ true → (a ≡ true) × (b ≡ true) × (c ≡ true)
-and-three a b c e = let first = and-left (a && b) c e in (and-left a b first, and-right a b first, and-right (a && b) c e)
+and-three : (one second third : Bool) → (one && second && third) ≡ true → (one ≡ true) × (second ≡ true) × (third ≡ true)
+and-three one second third e =
+    let first = and-left (one && second) third e in (and-left one second first, and-right one second first, and-right (one && second) third e)
 
 -- ------------------------------------------------------------------ which values a tag knows
 
-known-block : (v : List ℕ) → isKnown 3 v ≡ isEmpty v
+known-block : (value : List ℕ) → isKnown 3 value ≡ isEmpty value
 unfolding isKnown
-known-block v = simp or-false
+known-block value = simp or-false
 
-known-head : (v : List ℕ) → isKnown 4 v ≡ isHead v
+known-head : (value : List ℕ) → isKnown 4 value ≡ isHead value
 unfolding isKnown
-known-head v = simp or-false
+known-head value = simp or-false
 
-known-alternative : (v : List ℕ) → isKnown 5 v ≡ isEmpty v
+known-alternative : (value : List ℕ) → isKnown 5 value ≡ isEmpty value
 unfolding isKnown
-known-alternative v = simp or-false
+known-alternative value = simp or-false
 
-known-item : (v : List ℕ) → isKnown 6 v ≡ isItem v
+known-item : (value : List ℕ) → isKnown 6 value ≡ isItem value
 unfolding isKnown
-known-item v = simp or-false
+known-item value = simp or-false
 
-known-root : (v : List ℕ) → isKnown 8 v ≡ isRoot v
+known-root : (value : List ℕ) → isKnown 8 value ≡ isRoot value
 unfolding isKnown
-known-root v = refl
+known-root value = refl
 
 -- ------------------------------------------------------------------ blocks and alternatives: empty
 
-empty-value : (v : List ℕ) → isEmpty v ≡ true → v ≡ []
+empty-value : (value : List ℕ) → isEmpty value ≡ true → value ≡ []
 empty-value [] e = refl
 empty-value (b ∷ bs) e = absurd (omega (arith, eqb-true (length (b ∷ bs)) 0 e))
 
 -- a block has no value
-pub block-value : (v : List ℕ) → isKnown 3 v ≡ true → v ≡ []
-block-value v e = empty-value v (sym (known-block v) ∙ e)
+pub block-value : (value : List ℕ) → isKnown 3 value ≡ true → value ≡ []
+block-value value e = empty-value value (sym (known-block value) ∙ e)
 
 -- an alternative has none
-pub alternative-value : (v : List ℕ) → isKnown 5 v ≡ true → v ≡ []
-alternative-value v e = empty-value v (sym (known-alternative v) ∙ e)
+pub alternative-value : (value : List ℕ) → isKnown 5 value ≡ true → value ≡ []
+alternative-value value e = empty-value value (sym (known-alternative value) ∙ e)
 
 -- ------------------------------------------------------------------ roots
 
 -- a root has one byte, a nonterminal
-pub root-value : (v : List ℕ) → isKnown 8 v ≡ true → (r : ℕ) × (v ≡ r ∷ []) × (r < most .nonterminals)
+pub root-value : (value : List ℕ) → isKnown 8 value ≡ true → (root : ℕ) × (value ≡ root ∷ []) × (root < most .nonterminals)
 unfolding isRoot
-root-value v e = by v (sym (known-root v) ∙ e)
+root-value value e = by value (sym (known-root value) ∙ e)
   where
-    by : (w : List ℕ) → isRoot w ≡ true → (r : ℕ) × (w ≡ r ∷ []) × (r < most .nonterminals)
+    by : (bytes : List ℕ) → isRoot bytes ≡ true → (root : ℕ) × (bytes ≡ root ∷ []) × (root < most .nonterminals)
     by [] h = absurd (false≢true h)
     by (r ∷ []) h = (r, refl, ltb-true r (most .nonterminals) h)
     by (r ∷ b ∷ bs) h = absurd (omega (arith, eqb-true (length (r ∷ b ∷ bs)) 1 (and-left _ _ h)))
 
 -- a nonterminal is the value of a root
-pub root-known : (r : ℕ) → r < most .nonterminals → isKnown 8 (r ∷ []) ≡ true
+pub root-known : (root : ℕ) → root < most .nonterminals → isKnown 8 (root ∷ []) ≡ true
 unfolding isRoot
-root-known r h = known-root (r ∷ []) ∙ lt-ltb r (most .nonterminals) h
+root-known root h = known-root (root ∷ []) ∙ lt-ltb root (most .nonterminals) h
 
 -- ------------------------------------------------------------------ heads
 
@@ -103,29 +104,29 @@ unfolding every
 each-sorts each-none = refl
 each-sorts (each-more {x} {xs} h t) = rw (le-leb x 6 h) (each-sorts t)
 
-mode-value : (m : ℕ) → m ≤ 2 → modeCode (modeOf m) ≡ m
+mode-value : (code : ℕ) → code ≤ 2 → modeCode (modeOf code) ≡ code
 mode-value zero h = refl
 mode-value (suc zero) h = refl
 mode-value (suc (suc zero)) h = refl
-mode-value (suc (suc (suc m))) h = absurd (omega arith)
+mode-value (suc (suc (suc code))) h = absurd (omega arith)
 
-mode-read : (m : Mode) → modeOf (modeCode m) ≡ m
+mode-read : (mode : Mode) → modeOf (modeCode mode) ≡ mode
 mode-read add = refl
 mode-read extend = refl
 mode-read update = refl
 
-mode-low : (m : Mode) → modeCode m ≤ 2
+mode-low : (mode : Mode) → modeCode mode ≤ 2
 mode-low add = omega arith
 mode-low extend = omega arith
 mode-low update = omega arith
 
 -- a head that is known is that of a definition
-pub head-value : (v : List ℕ) → isKnown 4 v ≡ true → (rest : List Alternative) → Each AlternativeWithin rest → 1 ≤ length rest
-    → (v ≡ headValue (definitionOf v rest)) × DefinitionWithin (definitionOf v rest)
+pub head-value : (value : List ℕ) → isKnown 4 value ≡ true → (rest : List Alternative) → Each AlternativeWithin rest → 1 ≤ length rest
+    → (value ≡ headValue (definitionOf value rest)) × DefinitionWithin (definitionOf value rest)
 unfolding isHead headValue definitionOf every
-head-value v e rest w l = by v (sym (known-head v) ∙ e)
+head-value value e rest w l = by value (sym (known-head value) ∙ e)
   where
-    by : (u : List ℕ) → isHead u ≡ true → (u ≡ headValue (definitionOf u rest)) × DefinitionWithin (definitionOf u rest)
+    by : (bytes : List ℕ) → isHead bytes ≡ true → (bytes ≡ headValue (definitionOf bytes rest)) × DefinitionWithin (definitionOf bytes rest)
     by [] h = absurd (false≢true h)
     by (n ∷ []) h = absurd (false≢true h)
     by (n ∷ m ∷ []) h = absurd (false≢true h)
@@ -148,140 +149,144 @@ head-value v e rest w l = by v (sym (known-head v) ∙ e)
         )
 
 -- the head of a definition is known
-pub head-known : {d : Definition} → DefinitionWithin d → isKnown 4 (headValue d) ≡ true
+pub head-known : {definition : Definition} → DefinitionWithin definition → isKnown 4 (headValue definition) ≡ true
 unfolding headValue isHead every
-head-known {d} w =
-    known-head (headValue d)
+head-known {definition} w =
+    known-head (headValue definition)
     ∙ rw (
-      le-leb 3 (length (headValue d)) (omega arith),
-      le-leb (length (headValue d)) (3 + most .parameters) (omega (arith, w .paramCount)),
-      lt-ltb (d .nonterminal) (most .nonterminals) (w .nonterminal),
-      le-leb (modeCode (d .mode)) 2 (mode-low (d .mode)),
-      le-leb (d .signature .result) 6 (w .result),
+      le-leb 3 (length (headValue definition)) (omega arith),
+      le-leb (length (headValue definition)) (3 + most .parameters) (omega (arith, w .paramCount)),
+      lt-ltb (definition .nonterminal) (most .nonterminals) (w .nonterminal),
+      le-leb (modeCode (definition .mode)) 2 (mode-low (definition .mode)),
+      le-leb (definition .signature .result) 6 (w .result),
     )
     (each-sorts (w .params))
 
 -- it is read as the definition
-pub head-read : (d : Definition) → definitionOf (headValue d) (d .alternatives) ≡ d
+pub head-read : (definition : Definition) → definitionOf (headValue definition) (definition .alternatives) ≡ definition
 unfolding headValue definitionOf
-head-read d =
-    rw (mode-read (d .mode))
+head-read definition =
+    rw (mode-read (definition .mode))
 
 -- ------------------------------------------------------------------ results
 
 -- the one template that a value is
-one-template : (v : List ℕ) (p : ReadTemplates) → Forms v p → isTemplate p ≡ true → (t : Template) × (v ≡ templateThen t []) × TemplateWithin t
+one-template : (value : List ℕ) (read : ReadTemplates) → Forms value read → isTemplate read ≡ true → (template : Template) × (value ≡ templateThen template [])
+    × TemplateWithin template
 unfolding templatesThen templateThen
-one-template v fault f e = absurd (false≢true e)
-one-template v (parsed none) f e = absurd (false≢true e)
-one-template v (parsed (more t none)) f e = (t, f .0, more-parts (f .1) .0)
-one-template v (parsed (more t (more u ts))) f e = absurd (false≢true e)
+one-template value fault f e = absurd (false≢true e)
+one-template value (parsed none) f e = absurd (false≢true e)
+one-template value (parsed (more t none)) f e = (t, f .0, more-parts (f .1) .0)
+one-template value (parsed (more t (more u ts))) f e = absurd (false≢true e)
 
 -- a whole result is a template's bytes
-pub result-value : (v : List ℕ) → Bytes v → isWhole 7 v ≡ true → (t : Template) × (v ≡ templateThen t []) × TemplateWithin t
+pub result-value : (value : List ℕ) → Bytes value → isWhole 7 value ≡ true → (template : Template) × (value ≡ templateThen template [])
+    × TemplateWithin template
 unfolding isWhole
-result-value v b e = one-template v (templatesOf v) (forms v b) e
+result-value value b e = one-template value (templatesOf value) (forms value b) e
 
 -- a template's bytes are a whole result
-pub result-whole : {t : Template} → TemplateWithin t → isWhole 7 (templateThen t []) ≡ true
+pub result-whole : {template : Template} → TemplateWithin template → isWhole 7 (templateThen template []) ≡ true
 unfolding isWhole
 result-whole w = ap isTemplate (read-template w)
 
 -- they are read as the template
-pub result-read : {t : Template} → TemplateWithin t → headTemplate (found (templatesOf (templateThen t []))) ≡ t
+pub result-read : {template : Template} → TemplateWithin template → headTemplate (found (templatesOf (templateThen template []))) ≡ template
 result-read w = cc (read-template w)
 
 -- ------------------------------------------------------------------ items
 
 -- the templates that a call's bytes are
-some-templates : (v : List ℕ) (p : ReadTemplates) → Forms v p → isTemplates p ≡ true → (ts : Templates) × (v ≡ templatesThen ts []) × TemplatesWithin ts
-some-templates v fault f e = absurd (false≢true e)
-some-templates v (parsed ts) f e = (ts, f .0, f .1)
+some-templates : (value : List ℕ) (read : ReadTemplates) → Forms value read → isTemplates read ≡ true
+    → (ts : Templates) × (value ≡ templatesThen ts []) × TemplatesWithin ts
+some-templates value fault f e = absurd (false≢true e)
+some-templates value (parsed ts) f e = (ts, f .0, f .1)
 
 -- an item, its value and its ranges
 abbrev IsItem : List ℕ → Type 0
 IsItem v = (i : Item) × (v ≡ itemValue i) × ItemWithin i
 
-pair : (v : List ℕ) → eqb (length v) 2 ≡ true → v ≡ getD v 0 0 ∷ getD v 1 0 ∷ []
+pair : (value : List ℕ) → eqb (length value) 2 ≡ true → value ≡ getD value 0 0 ∷ getD value 1 0 ∷ []
 pair [] e = absurd (false≢true e)
 pair (a ∷ []) e = absurd (false≢true e)
 pair (a ∷ b ∷ []) e = refl
-pair (a ∷ b ∷ c ∷ v) e = absurd (omega (arith, eqb-true (length (a ∷ b ∷ c ∷ v)) 2 e))
+pair (a ∷ b ∷ c ∷ value) e = absurd (omega (arith, eqb-true (length (a ∷ b ∷ c ∷ value)) 2 e))
 
-two : (v : List ℕ) → leb 2 (length v) ≡ true → v ≡ getD v 0 0 ∷ getD v 1 0 ∷ drop 2 v
+two : (value : List ℕ) → leb 2 (length value) ≡ true → value ≡ getD value 0 0 ∷ getD value 1 0 ∷ drop 2 value
 two [] e = absurd (false≢true e)
 two (a ∷ []) e = absurd (false≢true e)
-two (a ∷ b ∷ v) e = refl
+two (a ∷ b ∷ value) e = refl
 
 -- kind and operand, and no more
-operand : (v : List ℕ) (kind x : ℕ) → eqb (getD v 0 0) kind ≡ true → eqb (length v) 2 ≡ true → getD v 1 0 ≡ x → v ≡ kind ∷ x ∷ []
-operand v kind x k l e = cc (pair v l, eqb-true (getD v 0 0) kind k)
+operand : (value : List ℕ) (kind operand-byte : ℕ) → eqb (getD value 0 0) kind ≡ true → eqb (length value) 2 ≡ true → getD value 1 0 ≡ operand-byte
+    → value ≡ kind ∷ operand-byte ∷ []
+operand value kind operand-byte k l e = cc (pair value l, eqb-true (getD value 0 0) kind k)
 
 -- the tests of an item's value, kind by kind
-module _ (v : List ℕ) where
+module _ (value : List ℕ) where
   abbrev keywordTest : Bool
-  keywordTest = eqb (getD v 0 0) 0 && eqb (length v) 2
+  keywordTest = eqb (getD value 0 0) 0 && eqb (length value) 2
 
   abbrev ideTest : Bool
-  ideTest = eqb (getD v 0 0) 1 && eqb (length v) 2 && isIdeSort (getD v 1 0)
+  ideTest = eqb (getD value 0 0) 1 && eqb (length value) 2 && isIdeSort (getD value 1 0)
 
   abbrev plainTest : ℕ → Bool
-  plainTest kind = eqb (getD v 0 0) kind && eqb (length v) 2 && eqb (getD v 1 0) 0
+  plainTest kind = eqb (getD value 0 0) kind && eqb (length value) 2 && eqb (getD value 1 0) 0
 
   abbrev callTest : Bool
-  callTest = eqb (getD v 0 0) 4 && leb 2 (length v) && ltb (getD v 1 0) (most .nonterminals)
+  callTest = eqb (getD value 0 0) 4 && leb 2 (length value) && ltb (getD value 1 0) (most .nonterminals)
 
   abbrev argumentsTest : Bool
-  argumentsTest = not (eqb (getD v 0 0) 4) || isTemplates (templatesOf (drop 2 v))
+  argumentsTest = not (eqb (getD value 0 0) 4) || isTemplates (templatesOf (drop 2 value))
 
-module _ (v : List ℕ) (b : Bytes v) where
-  a-keyword : keywordTest v ≡ true → IsItem v
+module _ (value : List ℕ) (bytes : Bytes value) where
+  a-keyword : keywordTest value ≡ true → IsItem value
   unfolding itemValue
   a-keyword h =
-      let tests = and-eq-true-iff (eqb (getD v 0 0) 0) (eqb (length v) 2) .0 h in
-      (keyword (getD v 1 0), operand v 0 (getD v 1 0) (tests .0) (tests .1) refl, keyword-within (b 1))
+      let tests = and-eq-true-iff (eqb (getD value 0 0) 0) (eqb (length value) 2) .0 h in
+      (keyword (getD value 1 0), operand value 0 (getD value 1 0) (tests .0) (tests .1) refl, keyword-within (bytes 1))
 
-  an-ide : ideTest v ≡ true → IsItem v
+  an-ide : ideTest value ≡ true → IsItem value
   unfolding itemValue
   an-ide h =
-      let tests = and-three (eqb (getD v 0 0) 1) (eqb (length v) 2) (isIdeSort (getD v 1 0)) h in
-      let sort = and-eq-true-iff (leb 1 (getD v 1 0)) (leb (getD v 1 0) 3) .0 (tests .2) in (
-        ide (getD v 1 0),
-        operand v 1 (getD v 1 0) (tests .0) (tests .1) refl,
-        ide-within (leb-true 1 (getD v 1 0) (sort .0)) (leb-true (getD v 1 0) 3 (sort .1)),
+      let tests = and-three (eqb (getD value 0 0) 1) (eqb (length value) 2) (isIdeSort (getD value 1 0)) h in
+      let sort = and-eq-true-iff (leb 1 (getD value 1 0)) (leb (getD value 1 0) 3) .0 (tests .2) in (
+        ide (getD value 1 0),
+        operand value 1 (getD value 1 0) (tests .0) (tests .1) refl,
+        ide-within (leb-true 1 (getD value 1 0) (sort .0)) (leb-true (getD value 1 0) 3 (sort .1)),
       )
 
   -- a number or a local
-  plain : (kind : ℕ) → plainTest v kind ≡ true → v ≡ kind ∷ 0 ∷ []
+  plain : (kind : ℕ) → plainTest value kind ≡ true → value ≡ kind ∷ 0 ∷ []
   plain kind h =
-      let tests = and-three (eqb (getD v 0 0) kind) (eqb (length v) 2) (eqb (getD v 1 0) 0) h in
-      operand v kind 0 (tests .0) (tests .1) (eqb-true (getD v 1 0) 0 (tests .2))
+      let tests = and-three (eqb (getD value 0 0) kind) (eqb (length value) 2) (eqb (getD value 1 0) 0) h in
+      operand value kind 0 (tests .0) (tests .1) (eqb-true (getD value 1 0) 0 (tests .2))
 
-  a-call : callTest v ≡ true → argumentsTest v ≡ true → IsItem v
+  a-call : callTest value ≡ true → argumentsTest value ≡ true → IsItem value
   unfolding itemValue
   a-call h w =
-      let tests = and-three (eqb (getD v 0 0) 4) (leb 2 (length v)) (ltb (getD v 1 0) (most .nonterminals)) h in
+      let tests = and-three (eqb (getD value 0 0) 4) (leb 2 (length value)) (ltb (getD value 1 0) (most .nonterminals)) h in
       let arguments =
-      some-templates (drop 2 v) (templatesOf (drop 2 v)) (forms (drop 2 v) (dropped-bytes 2 v b)) (rw (tests .0) at w) in (
-        call (getD v 1 0) (arguments .0),
-        cc (two v (tests .1), eqb-true (getD v 0 0) 4 (tests .0), arguments .1),
-        call-within (ltb-true (getD v 1 0) (most .nonterminals) (tests .2)) (arguments .2),
+      some-templates (drop 2 value) (templatesOf (drop 2 value)) (forms (drop 2 value) (dropped-bytes 2 value bytes)) (rw (tests .0) at w) in (
+        call (getD value 1 0) (arguments .0),
+        cc (two value (tests .1), eqb-true (getD value 0 0) 4 (tests .0), arguments .1),
+        call-within (ltb-true (getD value 1 0) (most .nonterminals) (tests .2)) (arguments .2),
       )
 
   -- a known and whole item is an item's bytes
-  pub item-value : isKnown 6 v ≡ true → isWhole 6 v ≡ true → (i : Item) × (v ≡ itemValue i) × ItemWithin i
+  pub item-value : isKnown 6 value ≡ true → isWhole 6 value ≡ true → (item : Item) × (value ≡ itemValue item) × ItemWithin item
   unfolding isItem isWhole itemValue
   item-value e w =
-      by-either (keywordTest v || ideTest v || plainTest v 2 || plainTest v 3) (callTest v) (sym (known-item v) ∙ e)
-      (λ e. by-either (keywordTest v || ideTest v || plainTest v 2) (plainTest v 3) e
-      (λ e. by-either (keywordTest v || ideTest v) (plainTest v 2) e
-      (λ e. by-either (keywordTest v) (ideTest v) e a-keyword an-ide)
+      by-either (keywordTest value || ideTest value || plainTest value 2 || plainTest value 3) (callTest value) (sym (known-item value) ∙ e)
+      (λ e. by-either (keywordTest value || ideTest value || plainTest value 2) (plainTest value 3) e
+      (λ e. by-either (keywordTest value || ideTest value) (plainTest value 2) e
+      (λ e. by-either (keywordTest value) (ideTest value) e a-keyword an-ide)
       (λ e. (number, plain 2 e, number-within)))
       (λ e. (local, plain 3 e, local-within)))
-      (λ e. a-call e (and-left (argumentsTest v) true w))
+      (λ e. a-call e (and-left (argumentsTest value) true w))
 
 -- an item's bytes are known
-pub item-known : {i : Item} → ItemWithin i → isKnown 6 (itemValue i) ≡ true
+pub item-known : {item : Item} → ItemWithin item → isKnown 6 (itemValue item) ≡ true
 unfolding itemValue isItem
 item-known (keyword-within {k} h) = known-item (0 ∷ k ∷ [])
 item-known (ide-within {s} h l) = known-item (1 ∷ s ∷ []) ∙ rw (le-leb 1 s h, le-leb s 3 l) refl
@@ -292,7 +297,7 @@ item-known (call-within {n} {ts} h w) =
     ∙ rw (le-leb 2 (length (4 ∷ n ∷ templatesThen ts [])) (omega arith), lt-ltb n (most .nonterminals) h) refl
 
 -- they are whole
-pub item-whole : {i : Item} → ItemWithin i → isWhole 6 (itemValue i) ≡ true
+pub item-whole : {item : Item} → ItemWithin item → isWhole 6 (itemValue item) ≡ true
 unfolding itemValue isWhole
 item-whole (keyword-within h) = refl
 item-whole (ide-within h l) = refl
@@ -301,7 +306,7 @@ item-whole local-within = refl
 item-whole (call-within {n} {ts} h w) = and-true (isTemplates (templatesOf (templatesThen ts []))) ∙ ap isTemplates (read-templates w)
 
 -- they are read as the item
-pub item-read : {i : Item} → ItemWithin i → itemOf (itemValue i) ≡ i
+pub item-read : {item : Item} → ItemWithin item → itemOf (itemValue item) ≡ item
 unfolding itemValue itemOf
 item-read (keyword-within h) = refl
 item-read (ide-within h l) = refl

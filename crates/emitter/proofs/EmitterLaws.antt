@@ -55,51 +55,53 @@ fitted-by made constructors out text = by (decLe (length out) (length text))
         fitted-long made constructors out text h
         ∙ ap₂ leaves (answer-long made constructors (length out) (length text) h) (sym (written-not out text h))
 
-module _ (S : ℕ → List ℕ) (cells : List ℕ) (made root : ℕ) where
+module _ (spell : ℕ → List ℕ) (cells : List ℕ) (made root : ℕ) where
   abbrev T : Term Name
-  T = termAt made S cells root
+  T = termAt made spell cells root
 
   sized : sizeAt cells made root ≡ size T
-  sized = size-spell made noSpell S cells root
+  sized = size-spell made noSpell spell cells root
 
   -- 22
-  pub emit-large : (text : List ℕ) {r : Answer} → 16384 < sizeAt cells made root → r ≡ Refusing (refusal 22 made 0 0)
-      → emitted textOf made T text ≡ leaves r text
+  pub emit-large : (text : List ℕ) {answer : Answer} → 16384 < sizeAt cells made root → answer ≡ Refusing (refusal 22 made 0 0)
+      → emitted textOf made T text ≡ leaves answer text
   emit-large text h e = emitted-large textOf made T text (omega (arith, sized)) ∙ ap (λ a. leaves a text) (sym e)
 
-  module _ (text : List ℕ) (small : sizeAt cells made root ≤ 16384) {numbers : List ℕ} {n : Resolution} (resolved : ResolvedAs T numbers n) where
-    -- 23
-    pub emit-loose : {p : ℕ} {r : Answer} → n ≡ Loose p → r ≡ Refusing (refusal 23 p 0 0) → emitted textOf made T text ≡ leaves r text
-    emit-loose en e =
-        emitted-loose textOf made T text (omega (arith, sized)) (resolved .answer ∙ ap (λ w. walkOf w (size T)) en)
-        ∙ ap (λ a. leaves a text) (sym e)
+  module _ (text : List ℕ) (small : sizeAt cells made root ≤ 16384) {numbers : List ℕ} {resolution : Resolution} (resolved : ResolvedAs T numbers resolution)
+    where
+      -- 23
+      pub emit-loose : {place : ℕ} {answer : Answer} → resolution ≡ Loose place → answer ≡ Refusing (refusal 23 place 0 0)
+          → emitted textOf made T text ≡ leaves answer text
+      emit-loose en e =
+          emitted-loose textOf made T text (omega (arith, sized)) (resolved .answer ∙ ap (λ w. walkOf w (size T)) en)
+          ∙ ap (λ a. leaves a text) (sym e)
 
-    -- 24 or the text: what the walk prints is the text
-    pub emit-text : {text′ : List ℕ} {constructors needed : ℕ} {r : Answer} → n ≡ Numbered → constructors ≡ sizeAt cells made root
-        → Prints (textBy S cells numbers made root) text text′ needed → r ≡ answerBy made constructors needed (length text)
-        → emitted textOf made T text ≡ leaves r text′
-    unfolding textBy
-    emit-text {r = r} en ec p er =
-        let same : textBy S cells numbers made root ≡ textOf T = ap print (resolved .named en) in
-        let answer : answerBy made (size T) (length (textOf T)) (length text) ≡ r =
-        ap₂ (λ c l. answerBy made c l (length text)) (sym (ec ∙ sized)) (ap length (sym same) ∙ sym (p .needed)) ∙ sym er in
-        emitted-fitted textOf made T text (omega (arith, sized)) (resolved .answer ∙ ap (λ w. walkOf w (size T)) en)
-        ∙ fitted-by made (size T) (textOf T) text
-        ∙ ap₂ leaves answer (ap (λ out. writtenInto out text) (sym same) ∙ sym (p .placed))
+      -- 24 or the text: what the walk prints is the text
+      pub emit-text : {text′ : List ℕ} {constructors needed : ℕ} {given-answer : Answer} → resolution ≡ Numbered → constructors ≡ sizeAt cells made root
+          → Prints (textBy spell cells numbers made root) text text′ needed → given-answer ≡ answerBy made constructors needed (length text)
+          → emitted textOf made T text ≡ leaves given-answer text′
+      unfolding textBy
+      emit-text {given-answer = given-answer} en ec p er =
+          let same : textBy spell cells numbers made root ≡ textOf T = ap print (resolved .named en) in
+          let answer : answerBy made (size T) (length (textOf T)) (length text) ≡ given-answer =
+          ap₂ (λ c l. answerBy made c l (length text)) (sym (ec ∙ sized)) (ap length (sym same) ∙ sym (p .needed)) ∙ sym er in
+          emitted-fitted textOf made T text (omega (arith, sized)) (resolved .answer ∙ ap (λ w. walkOf w (size T)) en)
+          ∙ fitted-by made (size T) (textOf T) text
+          ∙ ap₂ leaves answer (ap (λ out. writtenInto out text) (sym same) ∙ sym (p .placed))
 
 -- the front of a room of zeros
-zeros-front : (n size i : ℕ) → getD {A = ℕ} (take size (replicate n 0)) i 0 ≡ 0
-zeros-front n size i =
-    by-test (ltb i size)
-    (λ e. getD-take {A = ℕ} size (replicate n 0) i 0 (ltb-true i size e) ∙ zeros n i)
+zeros-front : (count size place : ℕ) → getD {A = ℕ} (take size (replicate count 0)) place 0 ≡ 0
+zeros-front count size place =
+    by-test (ltb place size)
+    (λ e. getD-take {A = ℕ} size (replicate count 0) place 0 (ltb-true place size e) ∙ zeros count place)
     (λ e.
-    getD-past {A = ℕ} (take size (replicate n 0)) i 0
-    (omega (arith, ltb-false i size e, length-take {A = ℕ} size (replicate n 0))))
+    getD-past {A = ℕ} (take size (replicate count 0)) place 0
+    (omega (arith, ltb-false place size e, length-take {A = ℕ} size (replicate count 0))))
 
--- A room of as many marks as the term has constructors, at the front of n zeros.
-pub markable : {table formula words cells : List ℕ} {count made root left : ℕ} (n : ℕ) → Emittable table formula words count cells made root
-    → left ≡ 16385 - sizeAt cells made root → (left ≡ 0 → ⊥) → 16385 - left ≤ n
-    → Markable table formula words count cells made root (take (16385 - left) (replicate n 0))
-markable {left = left} n e counted some l =
-    let long = length-take-le {A = ℕ} (16385 - left) (replicate n 0) (omega (arith, length-replicate {A = ℕ} n 0)) in
-    record { emittable = e; counted = omega (arith, long); few = omega (arith, long); blank = zeros-front n (16385 - left) }
+-- A room of as many marks as the term has constructors, at the front of `count-marked` zeros.
+pub markable : {table formula words cells : List ℕ} {count made root left : ℕ} (count-marked : ℕ) → Emittable table formula words count cells made root
+    → left ≡ 16385 - sizeAt cells made root → (left ≡ 0 → ⊥) → 16385 - left ≤ count-marked
+    → Markable table formula words count cells made root (take (16385 - left) (replicate count-marked 0))
+markable {left = left} count-marked e counted some l =
+    let long = length-take-le {A = ℕ} (16385 - left) (replicate count-marked 0) (omega (arith, length-replicate {A = ℕ} count-marked 0)) in
+    record { emittable = e; counted = omega (arith, long); few = omega (arith, long); blank = zeros-front count-marked (16385 - left) }

@@ -35,13 +35,13 @@ pub holds-none : Holds (replicate 16 0) 0 []
 holds-none = record { long = refl; count = refl; same = λ i a b. absurd (omega arith) }
 
 -- The root's call leaves room for its items
-pub stands-start : {bs : List ℕ} {first : ℕ} {t : State} → CallBegunAt bs mostOpen initialState first t → length bs ≤ 16384 → BodyAhead bs first t
+pub stands-start : {bs : List ℕ} {first : ℕ} {next : State} → CallBegunAt bs mostOpen initialState first next → length bs ≤ 16384 → BodyAhead bs first next
 stands-start e h = record { whole = e .whole; inside = e .inside; light = omega (arith, entry-weight e h) }
 
 -- The root's alternative, saved at the lowest level
-pub standing-root : {I : Input} {bs : List ℕ} {first : ℕ} {s : State} → BodyAhead bs first s → (cells : List ℕ) {old frames : List ℕ} → LevelFits frames 0
-    → Saved old frames 0 (replicate 16 0) 0 first
-    → Standing I bs frames 0 s cells (rootItems I bs first s cells)
+pub standing-root : {input : Input} {bs : List ℕ} {first : ℕ} {state : State} → BodyAhead bs first state → (cells : List ℕ) {old frames : List ℕ}
+    → LevelFits frames 0 → Saved old frames 0 (replicate 16 0) 0 first
+    → Standing input bs frames 0 state cells (rootItems input bs first state cells)
 unfolding resume owed
 standing-root {first = first} t cells fits saved =
     record {
@@ -57,63 +57,66 @@ standing-root {first = first} t cells fits saved =
     }
 
 -- As many rows, and it stands as before
-pub standing-rows : {bs : List ℕ} (tokens : List ℕ) (n : ℕ) {frames : List ℕ} {level : ℕ} {here : State} {cells : List ℕ} {R : Result ℕ} {j k : ℕ} → j ≡ k
-    → Standing (lentInput bs tokens n j) bs frames level here cells R
-    → Standing (lentInput bs tokens n k) bs frames level here cells R
-standing-rows {bs} tokens n {frames} {level} {here} {cells} {R} e s =
+pub standing-rows : {bs : List ℕ} (tokens : List ℕ) (count : ℕ) {frames : List ℕ} {level : ℕ} {here : State} {cells : List ℕ} {result : Result ℕ}
+    {rows other-rows : ℕ} → rows ≡ other-rows → Standing (lentInput bs tokens count rows) bs frames level here cells result
+    → Standing (lentInput bs tokens count other-rows) bs frames level here cells result
+standing-rows {bs} tokens count {frames} {level} {here} {cells} {result} e s =
     rw e at s
 
 -- what a loop gave, by how it ended
-module _ (I : Input) (bs : List ℕ) (R : Result ℕ) (frames cells : List ℕ) (p : Advance) (g : Goes I bs R frames cells p) where
+module _ (input : Input) (bs : List ℕ) (result : Result ℕ) (frames cells : List ℕ) (advance : Advance) (goes : Goes input bs result frames cells advance) where
   -- It ended with the result.
-  pub goes-ended : {o : Outcome} → p ≡ Ended o → ran o cells ≡ R
-  goes-ended e = subst (Goes I bs R frames cells) e g
+  pub goes-ended : {outcome : Outcome} → advance ≡ Ended outcome → ran outcome cells ≡ result
+  goes-ended e = subst (Goes input bs result frames cells) e goes
 
   -- It paused where the result is still to be had.
-  pub goes-paused : {from : Resumption} → p ≡ Paused from → Standing I bs frames (from .level) (from .state) cells R × (length frames < longFrames)
-  goes-paused e = subst (Goes I bs R frames cells) e g
+  pub goes-paused : {from : Resumption} → advance ≡ Paused from → Standing input bs frames (from .level) (from .state) cells result
+      × (length frames < longFrames)
+  goes-paused e = subst (Goes input bs result frames cells) e goes
 
 -- how a call went on
-pub entry-of : {bs : List ℕ} {depth : ℕ} {s : State} (b : Begun) {initialState : ℕ} {t : State} → b ≡ Entered initialState t → CallEntered bs depth s b
-    → CallBegunAt bs depth s initialState t
-entry-of {bs} {depth} {s} b e h = subst (CallEntered bs depth s) e h
+pub entry-of : {bs : List ℕ} {depth : ℕ} {state : State} (begun : Begun) {first : ℕ} {next : State} → begun ≡ Entered first next
+    → CallEntered bs depth state begun → CallBegunAt bs depth state first next
+entry-of {bs} {depth} {state} begun e h = subst (CallEntered bs depth state) e h
 
 -- How a call began, by what it answered.
-pub begins-as : (I : Input) (bs : List ℕ) (depth n : ℕ) (s : State) (b : Begun) {q : Begun} → b ≡ q → Begins I bs depth n s b
-    → Begins I bs depth n s q
-begins-as I bs depth n s b e h = subst (Begins I bs depth n s) e h
+pub begins-as : (input : Input) (bs : List ℕ) (depth nonterminal : ℕ) (state : State) (begun : Begun) {begun′ : Begun} → begun ≡ begun′
+    → Begins input bs depth nonterminal state begun
+    → Begins input bs depth nonterminal state begun′
+begins-as input bs depth nonterminal state begun e h = subst (Begins input bs depth nonterminal state) e h
 
 -- ------------------------------------------------------------------ the whole formula
 
-module _ (I : Input) (cells : List ℕ) (n : ℕ) (count : length (I .tokens) ≡ n) (o : Outcome) where
+module _ (input : Input) (cells : List ℕ) (many : ℕ) (count : length (input .tokens) ≡ many) (outcome : Outcome) where
   -- A refusal stays one.
-  pub ended-halted : {r : Refusal} → o ≡ Halted r → halt r cells ≡ after (ran o cells) (ended I)
+  pub ended-halted : {cause : Refusal} → outcome ≡ Halted cause → halt cause cells ≡ after (ran outcome cells) (ended input)
   ended-halted e = rw e
 
-  ended-by : {v : ℕ} {s : State} → o ≡ Value v s → (b : Bool) → ltb (s .at) n ≡ b
-      → (elim b [ true ↦ halt (refusal 18 (s .at) 0 0) cells | false ↦ done v s cells ]) ≡ after (ran o cells) (ended I)
-  ended-by {v} {s} e b f =
-      ap (λ (x : Bool). elim x [ true ↦ halt (refusal 18 (s .at) 0 0) cells | false ↦ done v s cells ])
-      (sym f ∙ ap (λ (k : ℕ). ltb (s .at) k) (sym count))
-      ∙ ap (λ (x : Outcome). after (ran x cells) (ended I)) (sym e)
+  ended-by : {row : ℕ} {state : State} → outcome ≡ Value row state → (test : Bool) → ltb (state .at) many ≡ test
+      → (elim test [ true ↦ halt (refusal 18 (state .at) 0 0) cells | false ↦ done row state cells ]) ≡ after (ran outcome cells) (ended input)
+  ended-by {row} {state} e test f =
+      ap (λ (x : Bool). elim x [ true ↦ halt (refusal 18 (state .at) 0 0) cells | false ↦ done row state cells ])
+      (sym f ∙ ap (λ (k : ℕ). ltb (state .at) k) (sym count))
+      ∙ ap (λ (x : Outcome). after (ran x cells) (ended input)) (sym e)
 
   -- A token is left over: refusal 18.
-  pub ended-left : {v : ℕ} {s : State} → o ≡ Value v s → s .at < n → {r : Refusal} → r ≡ refusal 18 (s .at) 0 0
-      → halt r cells ≡ after (ran o cells) (ended I)
-  ended-left {v} {s} e h er = rw er (ended-by e true (lt-ltb (s .at) n h))
+  pub ended-left : {row : ℕ} {state : State} → outcome ≡ Value row state → state .at < many → {cause : Refusal} → cause ≡ refusal 18 (state .at) 0 0
+      → halt cause cells ≡ after (ran outcome cells) (ended input)
+  ended-left {row} {state} e h er = rw er (ended-by e true (lt-ltb (state .at) many h))
 
   -- None is left over.
-  pub ended-done : {v : ℕ} {s : State} → o ≡ Value v s → n ≤ s .at → done v s cells ≡ after (ran o cells) (ended I)
-  ended-done {v} {s} e h = ended-by e false (le-ltb (s .at) n h)
+  pub ended-done : {row : ℕ} {state : State} → outcome ≡ Value row state → many ≤ state .at → done row state cells ≡ after (ran outcome cells) (ended input)
+  ended-done {row} {state} e h = ended-by e false (le-ltb (state .at) many h)
 
 -- A run is a call of the root that leaves no token over.
-pub run-is : (I : Input) (root : ℕ) (cells : List ℕ) {R : Result ℕ} → R ≡ runCall mostOpen I root [] initialState cells → after R (ended I) ≡ run I root cells
+pub run-is : (input : Input) (root : ℕ) (cells : List ℕ) {result : Result ℕ} → result ≡ runCall mostOpen input root [] initialState cells
+    → after result (ended input) ≡ run input root cells
 unfolding run
-run-is I root cells e = rw e
+run-is input root cells e = rw e
 
 -- The root's call, entered at an offset.
-pub run-root : (I : Input) (bs : List ℕ) (root first : ℕ) (t : State) → Begins I bs mostOpen root initialState (Entered first t) → (cells : List ℕ)
-    → {R : Result ℕ}
-    → R ≡ rootItems I bs first t cells
-    → R ≡ runCall mostOpen I root [] initialState cells
-run-root I bs root first t b cells e = e ∙ b [] cells
+pub run-root : (input : Input) (bs : List ℕ) (root first : ℕ) (next : State) → Begins input bs mostOpen root initialState (Entered first next)
+    → (cells : List ℕ) → {result : Result ℕ}
+    → result ≡ rootItems input bs first next cells
+    → result ≡ runCall mostOpen input root [] initialState cells
+run-root input bs root first next b cells e = e ∙ b [] cells

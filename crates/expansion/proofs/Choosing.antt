@@ -36,15 +36,15 @@ kind-next (suc at) [] = refl
 kind-next zero (t ∷ tokens) = refl
 kind-next (suc at) (t ∷ tokens) = kind-next at tokens
 
-next-is : {s : List Token} {k : ℕ} → Next s k → kindOf s ≡ k
+next-is : {s : List Token} {kind : ℕ} → Next s kind → kindOf s ≡ kind
 next-is next = refl
 
-is-next : (s : List Token) {k : ℕ} → kindOf s ≡ k → k < 64 → Next s k
+is-next : (s : List Token) {kind : ℕ} → kindOf s ≡ kind → kind < 64 → Next s kind
 is-next [] e l = absurd (omega (arith, e))
 is-next (t ∷ s) e l = subst (Next (t ∷ s)) e next
 
 -- what stands first is a kind
-first-small : {g : List Production} {is : List Item} {b : ℕ} → First g Reads is b → b < 64
+first-small : {g : List Production} {is : List Item} {kind : ℕ} → First g Reads is kind → kind < 64
 first-small (first-own (reads-keyword l)) = omega arith
 first-small (first-own reads-word) = omega arith
 first-small (first-own reads-number) = omega arith
@@ -57,7 +57,7 @@ members (in-later m) = omega arith
 
 -- ------------------------------------------------------------------ the first rule that passes a test
 
-module _ (rule : Production → Rule) (owned : (p : Production) → rule p .owner ≡ p .owner) (test : Rule → Bool) (n : ℕ) (other : Choice) where
+module _ (rule : Production → Rule) (owned : (p : Production) → rule p .owner ≡ p .owner) (test : Rule → Bool) (nonterminal : ℕ) (other : Choice) where
   -- a production is found, and the search answers it
   pub record Found (g : List Production) : Type 0 where
     -- the production that is found
@@ -65,38 +65,45 @@ module _ (rule : Production → Rule) (owned : (p : Production) → rule p .owne
     -- it is one of the grammar
     pub member : In g production
     -- it is of the nonterminal
-    pub of : production .owner ≡ n
+    pub of : production .owner ≡ nonterminal
     -- its rule passes the test
     pub passed : test (rule production) ≡ true
     -- it is the one that is answered
-    pub answer : firstRule test n (map rule g) other ≡ chosen (rule production)
+    pub answer : firstRule test nonterminal (map rule g) other ≡ chosen (rule production)
 
   -- none is found, and the search gives the other answer
   pub record Missing (g : List Production) : Type 0 where
     -- no production of the nonterminal passes the test
-    pub none-passed : (p : Production) → In g p → p .owner ≡ n → test (rule p) ≡ true → ⊥
+    pub none-passed : (p : Production) → In g p → p .owner ≡ nonterminal → test (rule p) ≡ true → ⊥
     -- the other answer is given
-    pub answer : firstRule test n (map rule g) other ≡ other
+    pub answer : firstRule test nonterminal (map rule g) other ≡ other
 
-  here : (p : Production) (g : List Production) (b : Bool) → (eqb (rule p .owner) n && test (rule p)) ≡ b
-      → firstRule test n (map rule (p ∷ g)) other ≡ elim b [ true ↦ chosen (rule p) | false ↦ firstRule test n (map rule g) other ]
+  here : (p : Production) (g : List Production) (answer : Bool) → (eqb (rule p .owner) nonterminal && test (rule p)) ≡ answer
+      → firstRule test nonterminal (map rule (p ∷ g)) other ≡ elim answer [ true ↦ chosen (rule p) | false ↦ firstRule test nonterminal (map rule g) other ]
   unfolding firstRule
-  here p g b e = rw (e, firstRule) refl
+  here p g answer e = rw (e, firstRule) refl
 
-  missing-later : {p : Production} {g : List Production} → (eqb (rule p .owner) n && test (rule p)) ≡ false → Missing g
-      → (q : Production) → In (p ∷ g) q → q .owner ≡ n → test (rule q) ≡ true → ⊥
-  missing-later {p} e m q in-first o t = true≢false (sym (and-eq-true-iff _ _ .1 (eq-eqb (rule p .owner) n (owned p ∙ o), t)) ∙ e)
-  missing-later e m q (in-later k) o t = m .none-passed q k o t
+  missing-later : {p : Production} {g : List Production} → (eqb (rule p .owner) nonterminal && test (rule p)) ≡ false → Missing g
+      → (other : Production) → In (p ∷ g) other → other .owner ≡ nonterminal → test (rule other) ≡ true → ⊥
+  missing-later {p} e m other in-first o t = true≢false (sym (and-eq-true-iff _ _ .1 (eq-eqb (rule p .owner) nonterminal (owned p ∙ o), t)) ∙ e)
+  missing-later e m other (in-later k) o t = m .none-passed other k o t
 
   first-rule : (g : List Production) → Found g ⊎ Missing g
   unfolding firstRule
   first-rule [] = inr (record { none-passed = λ p m o t. omega (arith, members m); answer = refl })
-  first-rule (p ∷ g) = go (eqb (rule p .owner) n && test (rule p)) refl (first-rule g)
+  first-rule (p ∷ g) = go (eqb (rule p .owner) nonterminal && test (rule p)) refl (first-rule g)
     where
-      go : (b : Bool) → (eqb (rule p .owner) n && test (rule p)) ≡ b → Found g ⊎ Missing g → Found (p ∷ g) ⊎ Missing (p ∷ g)
+      go : (answer : Bool) → (eqb (rule p .owner) nonterminal && test (rule p)) ≡ answer → Found g ⊎ Missing g → Found (p ∷ g) ⊎ Missing (p ∷ g)
       go true e h =
-          let k = and-eq-true-iff (eqb (rule p .owner) n) (test (rule p)) .0 e in
-          inl (record { production = p; member = in-first; of = sym (owned p) ∙ eqb-true (rule p .owner) n (k .0); passed = k .1; answer = here p g true e })
+          let k = and-eq-true-iff (eqb (rule p .owner) nonterminal) (test (rule p)) .0 e in
+          inl
+          (record {
+            production = p;
+            member = in-first;
+            of = sym (owned p) ∙ eqb-true (rule p .owner) nonterminal (k .0);
+            passed = k .1;
+            answer = here p g true e;
+          })
       go false e (inl f) =
           inl (record { production = f .production; member = in-later (f .member); of = f .of; passed = f .passed; answer = here p g false e ∙ f .answer })
       go false e (inr m) = inr (record { none-passed = missing-later e m; answer = here p g false e ∙ m .answer })
@@ -117,27 +124,27 @@ module _ (g : List Production) where
       record { kind = kindOf s; token = is-next s refl (first-small f); first = f }
 
   -- what a choice answers: the rule of the production taken, or that none is
-  pub data Picks (n : ℕ) (s : List Token) (c : Choice) : Type 0 where
-    picks : (p : Production) → Taken g n s p → c ≡ chosen (rule p) → Picks n s c
-    picks-none : ((p : Production) → Taken g n s p → ⊥) → c ≡ unfit → Picks n s c
+  pub data Picks (nonterminal : ℕ) (s : List Token) (given-choice : Choice) : Type 0 where
+    picks : (p : Production) → Taken g nonterminal s p → given-choice ≡ chosen (rule p) → Picks nonterminal s given-choice
+    picks-none : ((p : Production) → Taken g nonterminal s p → ⊥) → given-choice ≡ unfit → Picks nonterminal s given-choice
 
-  none-taken : {n : ℕ} {s : List Token} → Missing rule (λ p. refl) (λ r. hasKind (r .first) (kindOf s)) n
-      (firstRule (λ r. r .nullable) n (map rule g) unfit) g
-      → Missing rule (λ p. refl) (λ r. r .nullable) n unfit g → (p : Production) → Taken g n s p → ⊥
+  none-taken : {nonterminal : ℕ} {s : List Token} → Missing rule (λ p. refl) (λ r. hasKind (r .first) (kindOf s)) nonterminal
+      (firstRule (λ r. r .nullable) nonterminal (map rule g) unfit) g
+      → Missing rule (λ p. refl) (λ r. r .nullable) nonterminal unfit g → (p : Production) → Taken g nonterminal s p → ⊥
   none-taken m k p (taken-opened o h) = m .none-passed p (o .member) (o .owned) (opened-first h)
   none-taken m k p (taken-nullable o h z) = k .none-passed p (o .member) (o .owned) (production-nullable-exactly g p .1 z)
 
   -- the choice by the next kind picks the production that the tokens take
-  pub choice-picks : (n : ℕ) → n < 64 → (s : List Token) → Picks n s (choice (ready g) n (kindOf s))
+  pub choice-picks : (nonterminal : ℕ) → nonterminal < 64 → (s : List Token) → Picks nonterminal s (choice (ready g) nonterminal (kindOf s))
   unfolding ready
-  choice-picks n l s =
-      go (first-rule rule (λ p. refl) (λ r. hasKind (r .first) (kindOf s)) n (firstRule (λ r. r .nullable) n (map rule g) unfit) g)
-      (first-rule rule (λ p. refl) (λ r. r .nullable) n unfit g)
+  choice-picks nonterminal l s =
+      go (first-rule rule (λ p. refl) (λ r. hasKind (r .first) (kindOf s)) nonterminal (firstRule (λ r. r .nullable) nonterminal (map rule g) unfit) g)
+      (first-rule rule (λ p. refl) (λ r. r .nullable) nonterminal unfit g)
     where
-      go : Found rule (λ p. refl) (λ r. hasKind (r .first) (kindOf s)) n (firstRule (λ r. r .nullable) n (map rule g) unfit) g
-          ⊎ Missing rule (λ p. refl) (λ r. hasKind (r .first) (kindOf s)) n (firstRule (λ r. r .nullable) n (map rule g) unfit) g
-          → Found rule (λ p. refl) (λ r. r .nullable) n unfit g ⊎ Missing rule (λ p. refl) (λ r. r .nullable) n unfit g
-          → Picks n s (choice (ready g) n (kindOf s))
+      go : Found rule (λ p. refl) (λ r. hasKind (r .first) (kindOf s)) nonterminal (firstRule (λ r. r .nullable) nonterminal (map rule g) unfit) g
+          ⊎ Missing rule (λ p. refl) (λ r. hasKind (r .first) (kindOf s)) nonterminal (firstRule (λ r. r .nullable) nonterminal (map rule g) unfit) g
+          → Found rule (λ p. refl) (λ r. r .nullable) nonterminal unfit g ⊎ Missing rule (λ p. refl) (λ r. r .nullable) nonterminal unfit g
+          → Picks nonterminal s (choice (ready g) nonterminal (kindOf s))
       go (inl f) k =
           picks (f .production) (taken-opened (record { member = f .member; owned = f .of; small = l }) (first-opened s (f .production) (f .passed)))
           (f .answer)
@@ -151,10 +158,10 @@ module _ (g : List Production) where
   -- one production is taken at most
   module _ (passed : checkFirsts g ≡ ok tt) where
     -- the tokens take one production at most
-    pub taken-one : {n : ℕ} {s : List Token} {p q : Production} → Taken g n s p → Taken g n s q → p ≡ q
-    taken-one {n} {s} {p} {q} (taken-opened o h) (taken-opened k i) =
-        one-production g passed n p q o k .0 (h .kind) (h .first)
-        (subst (First g Reads (q .items)) (sym (next-is (i .token)) ∙ next-is (h .token)) (i .first))
+    pub taken-one : {nonterminal : ℕ} {s : List Token} {p other : Production} → Taken g nonterminal s p → Taken g nonterminal s other → p ≡ other
+    taken-one {nonterminal} {s} {p} {other} (taken-opened o h) (taken-opened k i) =
+        one-production g passed nonterminal p other o k .0 (h .kind) (h .first)
+        (subst (First g Reads (other .items)) (sym (next-is (i .token)) ∙ next-is (h .token)) (i .first))
     taken-one {p = p} (taken-opened o h) (taken-nullable k i z) = absurd (i p o h)
-    taken-one {q = q} (taken-nullable o h z) (taken-opened k i) = absurd (h q k i)
-    taken-one {n} {s} {p} {q} (taken-nullable o h z) (taken-nullable k i y) = one-production g passed n p q o k .1 z y
+    taken-one {other = other} (taken-nullable o h z) (taken-opened k i) = absurd (h other k i)
+    taken-one {nonterminal} {s} {p} {other} (taken-nullable o h z) (taken-nullable k i y) = one-production g passed nonterminal p other o k .1 z y

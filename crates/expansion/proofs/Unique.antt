@@ -18,11 +18,11 @@ use Rattle.expansion.proofs.Choosing.{taken-one}
 
 -- ------------------------------------------------------------------ templates
 
-bound-one : {M : List Value} {i : ℕ} {v w : Value} → Bound M i v → Bound M i w → v ≡ w
+bound-one : {M : List Value} {index : ℕ} {value other : Value} → Bound M index value → Bound M index other → value ≡ other
 bound-one bound-first bound-first = refl
 bound-one (bound-later b) (bound-later c) = bound-one b c
 
-constructs-one : {c : ℕ} {vs : List Value} {v w : Value} → Constructs c vs v → Constructs c vs w → v ≡ w
+constructs-one : {code : ℕ} {vs : List Value} {value other : Value} → Constructs code vs value → Constructs code vs other → value ≡ other
 constructs-one Figure3.makes-var Figure3.makes-var = refl
 constructs-one Figure3.makes-var-of-binder Figure3.makes-var-of-binder = refl
 constructs-one Figure3.makes-fun Figure3.makes-fun = refl
@@ -35,11 +35,11 @@ constructs-one Figure3.makes-num Figure3.makes-num = refl
 
 module _ {spell : ℕ → List ℕ} {M : List Value} where
   mutual
-    gives-one : (t : Template) {v w : Value} → Gives spell M t v → Gives spell M t w → v ≡ w
+    gives-one : (template : Template) {value other : Value} → Gives spell M template value → Gives spell M template other → value ≡ other
     gives-one (Table.variable i) (by-variable b) (by-variable c) = bound-one b c
     gives-one (Table.outsideVar n) by-global by-global = refl
     gives-one (Table.outsideLabel n) by-label by-label = refl
-    gives-one (Table.make c ts) {w = w} (by-constructor gs k) (by-constructor hs l) = constructs-one k (rw (← (all-one ts gs hs)) at l)
+    gives-one (Table.make c ts) {other = other} (by-constructor gs k) (by-constructor hs l) = constructs-one k (rw (← (all-one ts gs hs)) at l)
 
     all-one : (ts : Templates) {vs ws : List Value} → GiveAll spell M ts vs → GiveAll spell M ts ws → vs ≡ ws
     all-one none give-none give-none = refl
@@ -55,21 +55,21 @@ isTerminal Table.number = true
 isTerminal Table.local = true
 isTerminal (Table.call n ts) = false
 
-terminal-item : {g : List Production} {spell : ℕ → List ℕ} {s s′ : List Token} {i i′ : ℕ} {p : Item} {v : Value} → ReadsAs g spell s i p s′ i′ v → true
+terminal-item : {g : List Production} {spell : ℕ → List ℕ} {s s′ : List Token} {i i′ : ℕ} {p : Item} {value : Value} → ReadsAs g spell s i p s′ i′ value → true
     ≡ isTerminal p
 terminal-item (by-keyword e) = refl
 terminal-item (by-ide e w) = refl
 terminal-item (by-number e) = refl
 terminal-item by-local = refl
 
-word-one : {B : ℕ} {x : List ℕ} {v w : Value} → WordAs B x v → WordAs B x w → v ≡ w
+word-one : {B : ℕ} {x : List ℕ} {value other : Value} → WordAs B x value → WordAs B x other → value ≡ other
 word-one as-var as-var = refl
 word-one as-binder as-binder = refl
 word-one as-label as-label = refl
 
-terminal-one : {g : List Production} {spell : ℕ → List ℕ} {s s₁ s₂ : List Token} {i i₁ i₂ : ℕ} {p : Item} {v w : Value} → ReadsAs g spell s i p s₁ i₁ v
-    → ReadsAs g spell s i p s₂ i₂ w
-    → (v ≡ w) × (s₁ ≡ s₂) × (i₁ ≡ i₂)
+terminal-one : {g : List Production} {spell : ℕ → List ℕ} {s s₁ s₂ : List Token} {i i₁ i₂ : ℕ} {p : Item} {value other : Value}
+    → ReadsAs g spell s i p s₁ i₁ value → ReadsAs g spell s i p s₂ i₂ other
+    → (value ≡ other) × (s₁ ≡ s₂) × (i₁ ≡ i₂)
 terminal-one (by-keyword e) (by-keyword f) = (refl, refl, refl)
 terminal-one (by-ide e a) (by-ide f b) = (word-one a b, refl, refl)
 terminal-one (by-number e) (by-number f) = (refl, refl, refl)
@@ -95,7 +95,7 @@ module _ {g : List Production} (passed : checkFirsts g ≡ ok tt) {spell : ℕ �
       derives-one r (subst₃ (λ v t j. Derives g spell (M ++ (v ∷ [])) t j is M₂ s₂ i₂) (sym b) (sym (a .1)) (sym (a .2)) r′)
 
   -- tokens have one parse at most
-  pub parses-one : {root : ℕ} {tokens : List Token} {t u : Term Name} → Parses g spell root tokens t → Parses g spell root tokens u → t ≡ u
-  parses-one {t = t} {u} P Q =
-      let e : _≡_ {A = List Value} (term t ∷ []) (term u ∷ []) = derives-one (P .derived) (Q .derived) .0 in
+  pub parses-one : {root : ℕ} {tokens : List Token} {t other : Term Name} → Parses g spell root tokens t → Parses g spell root tokens other → t ≡ other
+  parses-one {t = t} {other} P Q =
+      let e : _≡_ {A = List Value} (term t ∷ []) (term other ∷ []) = derives-one (P .derived) (Q .derived) .0 in
       cc

@@ -24,22 +24,22 @@ use Rattle.decoding.specs.Layout.{isEmpty, isHead, isItem, isRoot, isKnown, fol
 -- ------------------------------------------------------------------ tests
 
 -- a test that the code made
-pub passes : {t test : Bool} → t ≡ test → not t ≡ false → test ≡ true
-passes {t} e f = sym e ∙ not-false t f
+pub passes : {answer test : Bool} → answer ≡ test → not answer ≡ false → test ≡ true
+passes {answer} e f = sym e ∙ not-false answer f
 
 -- and one that failed
-pub fails : {t test : Bool} → t ≡ test → not t ≡ true → test ≡ false
-fails {t} e f = sym e ∙ not-true t f
+pub fails : {answer test : Bool} → answer ≡ test → not answer ≡ true → test ≡ false
+fails {answer} e f = sym e ∙ not-true answer f
 
 -- ------------------------------------------------------------------ values
 
 -- a definition's head, by the test of its length and its first two bytes
 pub head-by :
-    (v : List ℕ) {first second : ℕ} → first ≡ getD v 0 0 → second ≡ getD v 1 0 → (sized : Bool)
-    → (leb 3 (length v) && leb (length v) (3 + most .parameters) && ltb first (most .nonterminals) && leb second 2) ≡ sized
-    → (sized && every isSort (drop 2 v)) ≡ isHead v
+    (value : List ℕ) {first second : ℕ} → first ≡ getD value 0 0 → second ≡ getD value 1 0 → (sized : Bool)
+    → (leb 3 (length value) && leb (length value) (3 + most .parameters) && ltb first (most .nonterminals) && leb second 2) ≡ sized
+    → (sized && every isSort (drop 2 value)) ≡ isHead value
 unfolding isHead
-head-by v e f sized q =
+head-by value e f sized q =
     cc
 
 -- the test for a known tag, by the tests of the tag
@@ -47,155 +47,155 @@ knownTests : List ℕ → Bool → Bool → Bool → Bool → Bool → Bool → 
 knownTests v a b c d e f g h = a || b || (c && isEmpty v) || (d && isHead v) || (e && isEmpty v) || (f && isItem v) || g || (h && isRoot v)
 
 -- a known tag, one by one
-module _ {tag : ℕ} (v : List ℕ) where
-  known-at : {t : ℕ} → tag ≡ t → isKnown t v ≡ isKnown tag v
+module _ {tag : ℕ} (value : List ℕ) where
+  known-at : {known : ℕ} → tag ≡ known → isKnown known value ≡ isKnown tag value
   known-at e = cc
 
   -- a keyword
-  pub known-keyword : tag ≡ 1 → true ≡ isKnown tag v
+  pub known-keyword : tag ≡ 1 → true ≡ isKnown tag value
   unfolding isKnown
   known-keyword e = known-at e
 
   -- an outside name
-  pub known-outside : tag ≡ 2 → true ≡ isKnown tag v
+  pub known-outside : tag ≡ 2 → true ≡ isKnown tag value
   unfolding isKnown
   known-outside e = known-at e
 
   -- a block is empty
-  pub known-block : tag ≡ 3 → isEmpty v ≡ isKnown tag v
+  pub known-block : tag ≡ 3 → isEmpty value ≡ isKnown tag value
   unfolding isKnown
   known-block e = simp or-false at (known-at e)
 
   -- a head
-  pub known-head : tag ≡ 4 → isHead v ≡ isKnown tag v
+  pub known-head : tag ≡ 4 → isHead value ≡ isKnown tag value
   unfolding isKnown
   known-head e = simp or-false at (known-at e)
 
   -- an alternative is empty
-  pub known-alternative : tag ≡ 5 → isEmpty v ≡ isKnown tag v
+  pub known-alternative : tag ≡ 5 → isEmpty value ≡ isKnown tag value
   unfolding isKnown
   known-alternative e = simp or-false at (known-at e)
 
   -- an item
-  pub known-item : tag ≡ 6 → isItem v ≡ isKnown tag v
+  pub known-item : tag ≡ 6 → isItem value ≡ isKnown tag value
   unfolding isKnown
   known-item e = simp or-false at (known-at e)
 
   -- a result
-  pub known-result : tag ≡ 7 → true ≡ isKnown tag v
+  pub known-result : tag ≡ 7 → true ≡ isKnown tag value
   unfolding isKnown
   known-result e = known-at e
 
   -- the root
-  pub known-root : tag ≡ 8 → isRoot v ≡ isKnown tag v
+  pub known-root : tag ≡ 8 → isRoot value ≡ isKnown tag value
   unfolding isKnown
   known-root e = known-at e
 
   -- any other tag
   pub known-none :
       (((((((Unit {0} × (tag ≡ 1 → ⊥)) × (tag ≡ 2 → ⊥)) × (tag ≡ 3 → ⊥)) × (tag ≡ 4 → ⊥)) × (tag ≡ 5 → ⊥)) × (tag ≡ 6 → ⊥)) × (tag ≡ 7 → ⊥))
-      × (tag ≡ 8 → ⊥) → false ≡ isKnown tag v
+      × (tag ≡ 8 → ⊥) → false ≡ isKnown tag value
   unfolding isKnown knownTests
   known-none ((((((((u, a), b), c), d), e), f), g), h) =
       sym
-      (λ i. knownTests v (ne-eqb tag 1 a i) (ne-eqb tag 2 b i) (ne-eqb tag 3 c i) (ne-eqb tag 4 d i) (ne-eqb tag 5 e i) (ne-eqb tag 6 f i)
+      (λ i. knownTests value (ne-eqb tag 1 a i) (ne-eqb tag 2 b i) (ne-eqb tag 3 c i) (ne-eqb tag 4 d i) (ne-eqb tag 5 e i) (ne-eqb tag 6 f i)
       (ne-eqb tag 7 g i) (ne-eqb tag 8 h i))
 
--- the bytes before i are sorts
-pub record Sorts (v : List ℕ) (from i : ℕ) : Type 0 where
+-- the bytes before `place` are sorts
+pub record Sorts (value : List ℕ) (from place : ℕ) : Type 0 where
   -- the bytes left are sorts exactly if all are
-  pub rest : every isSort (drop i v) ≡ every isSort (drop from v)
+  pub rest : every isSort (drop place value) ≡ every isSort (drop from value)
 
 -- none yet
-pub sorts-start : (v : List ℕ) (from : ℕ) → Sorts v from from
-sorts-start v from = record { rest = refl }
+pub sorts-start : (value : List ℕ) (from : ℕ) → Sorts value from from
+sorts-start value from = record { rest = refl }
 
-every-front : (p : ℕ → Bool) (b : ℕ) (bs : List ℕ) → every p (b ∷ bs) ≡ (p b && every p bs)
+every-front : (test : ℕ → Bool) (byte : ℕ) (bs : List ℕ) → every test (byte ∷ bs) ≡ (test byte && every test bs)
 unfolding every
-every-front p b bs = refl
+every-front test byte bs = refl
 
-module _ {v : List ℕ} {from i : ℕ} (r : Sorts v from i) where
-  sorts-front : i < length v → every isSort (drop i v) ≡ (isSort (getD v i 0) && every isSort (drop (i + 1) v))
-  sorts-front h = ap (every isSort) (drop-at-index v i h) ∙ every-front isSort (getD v i 0) (drop (i + 1) v)
+module _ {value : List ℕ} {from place : ℕ} (sorts : Sorts value from place) where
+  sorts-front : place < length value → every isSort (drop place value) ≡ (isSort (getD value place 0) && every isSort (drop (place + 1) value))
+  sorts-front h = ap (every isSort) (drop-at-index value place h) ∙ every-front isSort (getD value place 0) (drop (place + 1) value)
 
   -- one byte more is a sort
-  pub sorts-next : i < length v → {known : Bool} → known ≡ isSort (getD v i 0) → not known ≡ false → Sorts v from (i + 1)
+  pub sorts-next : place < length value → {known : Bool} → known ≡ isSort (getD value place 0) → not known ≡ false → Sorts value from (place + 1)
   sorts-next h e f =
-      record { rest = cc (passes e f, sorts-front h, r .rest) }
+      record { rest = cc (passes e f, sorts-front h, sorts .rest) }
 
   -- one byte is none
-  pub sorts-stop : i < length v → {known : Bool} → known ≡ isSort (getD v i 0) → not known ≡ true → false ≡ every isSort (drop from v)
-  sorts-stop h e f = cc (fails e f, sorts-front h, r .rest)
+  pub sorts-stop : place < length value → {known : Bool} → known ≡ isSort (getD value place 0) → not known ≡ true → false ≡ every isSort (drop from value)
+  sorts-stop h e f = cc (fails e f, sorts-front h, sorts .rest)
 
   -- all bytes are
-  pub sorts-end : length v ≤ i → true ≡ every isSort (drop from v)
+  pub sorts-end : length value ≤ place → true ≡ every isSort (drop from value)
   unfolding every
-  sorts-end h = sym (ap (every isSort) (drop-of-length-le v h)) ∙ r .rest
+  sorts-end h = sym (ap (every isSort) (drop-of-length-le value h)) ∙ sorts .rest
 
 -- ------------------------------------------------------------------ counts
 
 -- one more where there is room fits, whatever the count
-pub fitting : (n limit : ℕ) (here : Bool) → (not here || ltb n limit) ≡ true → limit < 65536 → n < 65536 → {r : ℕ} → r ≡ oneIf here
-    → Fits w16 (n + r)
-fitting n limit true e h k f = record { fits = omega (arith, ltb-true n limit e) }
-fitting n limit false e h k f = record { fits = omega arith }
+pub fitting : (count limit : ℕ) (here : Bool) → (not here || ltb count limit) ≡ true → limit < 65536 → count < 65536 → {more : ℕ} → more ≡ oneIf here
+    → Fits w16 (count + more)
+fitting count limit true e h k f = record { fits = omega (arith, ltb-true count limit e) }
+fitting count limit false e h k f = record { fits = omega arith }
 
 -- the items after a field, by whether it begins an alternative
-items-by : (tag : ℕ) (s : Progress) (begins : Bool) → eqb tag 5 ≡ begins
-    → passed tag s .items ≡ elim begins [ true ↦ 0 | false ↦ s .items + oneIf (eqb tag 6) ]
+items-by : (tag : ℕ) (progress : Progress) (begins : Bool) → eqb tag 5 ≡ begins
+    → passed tag progress .items ≡ elim begins [ true ↦ 0 | false ↦ progress .items + oneIf (eqb tag 6) ]
 unfolding passed
-items-by tag s begins e =
+items-by tag progress begins e =
     cc
 
 -- an alternative begins with none
-pub items-begin : (tag : ℕ) (s : Progress) → tag ≡ 5 → passed tag s .items ≡ 0
-items-begin tag s e = items-by tag s true (eq-eqb tag 5 e)
+pub items-begin : (tag : ℕ) (progress : Progress) → tag ≡ 5 → passed tag progress .items ≡ 0
+items-begin tag progress e = items-by tag progress true (eq-eqb tag 5 e)
 
 -- an item counts
-pub items-more : (tag : ℕ) (s : Progress) → (tag ≡ 5 → ⊥) → passed tag s .items ≡ s .items + oneIf (eqb tag 6)
-items-more tag s h = items-by tag s false (ne-eqb tag 5 h)
+pub items-more : (tag : ℕ) (progress : Progress) → (tag ≡ 5 → ⊥) → passed tag progress .items ≡ progress .items + oneIf (eqb tag 6)
+items-more tag progress h = items-by tag progress false (ne-eqb tag 5 h)
 
 -- ------------------------------------------------------------------ spellings and templates, by the tag
 
-module _ (tag : ℕ) (v : List ℕ) (before : List Field) where
+module _ (tag : ℕ) (value : List ℕ) (before : List Field) where
   -- a keyword
-  pub spelled-keyword : tag ≡ 1 → isSpelled tag v before ≡ (isKeyword v && not (isRepeated 1 v before))
+  pub spelled-keyword : tag ≡ 1 → isSpelled tag value before ≡ (isKeyword value && not (isRepeated 1 value before))
   unfolding isSpelled
   spelled-keyword e =
-      cc (and-true (isKeyword v && not (isRepeated 1 v before)))
+      cc (and-true (isKeyword value && not (isRepeated 1 value before)))
 
   -- an outside name
-  pub spelled-outside : tag ≡ 2 → isSpelled tag v before ≡ (isWord v && not (isRepeated 2 v before))
+  pub spelled-outside : tag ≡ 2 → isSpelled tag value before ≡ (isWord value && not (isRepeated 2 value before))
   unfolding isSpelled
   spelled-outside e = cc
 
   -- any other field
-  pub spelled-other : (tag ≡ 1 → ⊥) → (tag ≡ 2 → ⊥) → isSpelled tag v before ≡ true
+  pub spelled-other : (tag ≡ 1 → ⊥) → (tag ≡ 2 → ⊥) → isSpelled tag value before ≡ true
   unfolding isSpelled
   spelled-other f g =
       λ i.
-      (not (ne-eqb tag 1 f i) || (isKeyword v && not (isRepeated 1 v before)))
-      && (not (ne-eqb tag 2 g i) || (isWord v && not (isRepeated 2 v before)))
+      (not (ne-eqb tag 1 f i) || (isKeyword value && not (isRepeated 1 value before)))
+      && (not (ne-eqb tag 2 g i) || (isWord value && not (isRepeated 2 value before)))
 
-module _ (tag : ℕ) (v : List ℕ) where
+module _ (tag : ℕ) (value : List ℕ) where
   -- an item
-  pub whole-item : tag ≡ 6 → isWhole tag v ≡ (not (eqb (getD v 0 0) 4) || isTemplates (templatesOf (drop 2 v)))
+  pub whole-item : tag ≡ 6 → isWhole tag value ≡ (not (eqb (getD value 0 0) 4) || isTemplates (templatesOf (drop 2 value)))
   unfolding isWhole
   whole-item e =
-      cc (and-true (not (eqb (getD v 0 0) 4) || isTemplates (templatesOf (drop 2 v))))
+      cc (and-true (not (eqb (getD value 0 0) 4) || isTemplates (templatesOf (drop 2 value))))
 
   -- a result
-  pub whole-result : tag ≡ 7 → isWhole tag v ≡ isTemplate (templatesOf v)
+  pub whole-result : tag ≡ 7 → isWhole tag value ≡ isTemplate (templatesOf value)
   unfolding isWhole
   whole-result e = cc
 
   -- any other field
-  pub whole-other : (tag ≡ 6 → ⊥) → (tag ≡ 7 → ⊥) → isWhole tag v ≡ true
+  pub whole-other : (tag ≡ 6 → ⊥) → (tag ≡ 7 → ⊥) → isWhole tag value ≡ true
   unfolding isWhole
   whole-other f g =
       λ i.
-      (not (ne-eqb tag 6 f i) || not (eqb (getD v 0 0) 4) || isTemplates (templatesOf (drop 2 v)))
-      && (not (ne-eqb tag 7 g i) || isTemplate (templatesOf v))
+      (not (ne-eqb tag 6 f i) || not (eqb (getD value 0 0) 4) || isTemplates (templatesOf (drop 2 value)))
+      && (not (ne-eqb tag 7 g i) || isTemplate (templatesOf value))
 
 -- ------------------------------------------------------------------ one field
 
@@ -208,7 +208,7 @@ firstFault true true true false whole at s = bad (refusal 6 at 0 0)
 firstFault true true true true false at s = bad (refusal 10 at 0 0)
 firstFault true true true true true at s = ok s
 
-module _ (before : List Field) (at tag : ℕ) (v : List ℕ) (s : Progress) where
+module _ (before : List Field) (at tag : ℕ) (value : List ℕ) (progress : Progress) where
   by-flags : (known ordered spelled room whole : Bool)
       → (do
         need known 3 at
@@ -216,8 +216,8 @@ module _ (before : List Field) (at tag : ℕ) (v : List ℕ) (s : Progress) wher
         need spelled 5 at
         need room 6 at
         need whole 10 at
-        ok (passed tag s))
-      ≡ firstFault known ordered spelled room whole at (passed tag s)
+        ok (passed tag progress))
+      ≡ firstFault known ordered spelled room whole at (passed tag progress)
   by-flags false ordered spelled room whole = refl
   by-flags true false spelled room whole = refl
   by-flags true true false room whole = refl
@@ -227,16 +227,16 @@ module _ (before : List Field) (at tag : ℕ) (v : List ℕ) (s : Progress) wher
 
   -- one field by the outcomes of its tests
   pub field-by : (known ordered spelled room whole : Bool)
-      → isKnown tag v ≡ known
-      → follows tag (s .last) ≡ ordered
-      → isSpelled tag v before ≡ spelled
-      → hasRoom tag s ≡ room
-      → isWhole tag v ≡ whole
-      → checkField before at tag v s ≡ firstFault known ordered spelled room whole at (passed tag s)
+      → isKnown tag value ≡ known
+      → follows tag (progress .last) ≡ ordered
+      → isSpelled tag value before ≡ spelled
+      → hasRoom tag progress ≡ room
+      → isWhole tag value ≡ whole
+      → checkField before at tag value progress ≡ firstFault known ordered spelled room whole at (passed tag progress)
   unfolding checkField
   field-by known ordered spelled room whole e3 e4 e5 e6 e10 =
-      by-flags (isKnown tag v) (follows tag (s .last)) (isSpelled tag v before) (hasRoom tag s) (isWhole tag v)
-      ∙ (λ i. firstFault (e3 i) (e4 i) (e5 i) (e6 i) (e10 i) at (passed tag s))
+      by-flags (isKnown tag value) (follows tag (progress .last)) (isSpelled tag value before) (hasRoom tag progress) (isWhole tag value)
+      ∙ (λ i. firstFault (e3 i) (e4 i) (e5 i) (e6 i) (e10 i) at (passed tag progress))
 
 -- ------------------------------------------------------------------ the end
 

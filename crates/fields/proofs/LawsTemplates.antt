@@ -24,60 +24,60 @@ use Rattle.fields.specs.Due.{headSize, arguments, isWholly}
 
 -- ------------------------------------------------------------------ what a byte begins
 
-module _ (b : ℕ) where
+module _ (byte : ℕ) where
   -- a name has two bytes
-  pub head-name : isNameTag b ≡ true → headSize b ≡ 2
+  pub head-name : isNameTag byte ≡ true → headSize byte ≡ 2
   unfolding headSize
   head-name e = rw (e, headSize) refl
 
   -- a variable and a constructor have one
-  pub head-byte : isNameTag b ≡ false → (ltb b 0x10 || isConstructor b) ≡ true → headSize b ≡ 1
+  pub head-byte : isNameTag byte ≡ false → (ltb byte 0x10 || isConstructor byte) ≡ true → headSize byte ≡ 1
   unfolding headSize
   head-byte e f = rw (e, f, headSize) refl
 
   -- any other byte begins no template
-  pub head-unknown : isNameTag b ≡ false → (ltb b 0x10 || isConstructor b) ≡ false → headSize b ≡ 0
+  pub head-unknown : isNameTag byte ≡ false → (ltb byte 0x10 || isConstructor byte) ≡ false → headSize byte ≡ 0
   unfolding headSize
   head-unknown e f = rw (e, f, headSize) refl
 
   -- a constructor waits for its arguments
-  pub arguments-constructor : isConstructor b ≡ true → arguments b ≡ arity b
+  pub arguments-constructor : isConstructor byte ≡ true → arguments byte ≡ arity byte
   unfolding arguments
   arguments-constructor e = rw (e, arguments) refl
 
   -- nothing else waits for any
-  pub arguments-other : isConstructor b ≡ false → arguments b ≡ 0
+  pub arguments-other : isConstructor byte ≡ false → arguments byte ≡ 0
   unfolding arguments
   arguments-other e = rw (e, arguments) refl
 
 -- a byte begins a name, is a variable or a constructor, or is unknown
-data Head (b : ℕ) : Type 0 where
-  name : isNameTag b ≡ true → headSize b ≡ 2 → arguments b ≡ 0 → Head b
-  leaf : isNameTag b ≡ false → ltb b 0x10 ≡ true → headSize b ≡ 1 → arguments b ≡ 0 → Head b
-  node : isNameTag b ≡ false → ltb b 0x10 ≡ false → isConstructor b ≡ true → headSize b ≡ 1 → arguments b ≡ arity b → Head b
-  unknown : isNameTag b ≡ false → ltb b 0x10 ≡ false → isConstructor b ≡ false → headSize b ≡ 0 → Head b
+data Head (byte : ℕ) : Type 0 where
+  name : isNameTag byte ≡ true → headSize byte ≡ 2 → arguments byte ≡ 0 → Head byte
+  leaf : isNameTag byte ≡ false → ltb byte 0x10 ≡ true → headSize byte ≡ 1 → arguments byte ≡ 0 → Head byte
+  node : isNameTag byte ≡ false → ltb byte 0x10 ≡ false → isConstructor byte ≡ true → headSize byte ≡ 1 → arguments byte ≡ arity byte → Head byte
+  unknown : isNameTag byte ≡ false → ltb byte 0x10 ≡ false → isConstructor byte ≡ false → headSize byte ≡ 0 → Head byte
 
 -- what is below hex 20 is no constructor
-low-byte : (b : ℕ) → b < 0x20 → isConstructor b ≡ false
-low-byte b h = cc (lt-leb 0x20 b h)
+low-byte : (byte : ℕ) → byte < 0x20 → isConstructor byte ≡ false
+low-byte byte h = cc (lt-leb 0x20 byte h)
 
-name-low : (b : ℕ) → isNameTag b ≡ true → b < 0x20
-name-low b e =
-    by-test (eqb b 0x10) (λ f. omega (arith, eqb-true b 0x10 f))
-    (λ f. omega (arith, eqb-true b 0x11 (cc)))
+name-low : (byte : ℕ) → isNameTag byte ≡ true → byte < 0x20
+name-low byte e =
+    by-test (eqb byte 0x10) (λ f. omega (arith, eqb-true byte 0x10 f))
+    (λ f. omega (arith, eqb-true byte 0x11 (cc)))
 
-either : (x y z : Bool) → x ≡ y → (x || z) ≡ (y || z)
-either x y z e = cc
+either : (left right third : Bool) → left ≡ right → (left || third) ≡ (right || third)
+either left right third e = cc
 
-head-of : (b : ℕ) → Head b
-head-of b =
-    by-test (isNameTag b) (λ e. name e (head-name b e) (arguments-other b (low-byte b (name-low b e))))
-    (λ e. by-test (ltb b 0x10)
-    (λ f. leaf e f (head-byte b e (either (ltb b 0x10) true (isConstructor b) f))
-    (arguments-other b (low-byte b (omega (arith, ltb-true b 0x10 f)))))
-    (λ f. by-test (isConstructor b)
-    (λ g. node e f g (head-byte b e (either (ltb b 0x10) false (isConstructor b) f ∙ g)) (arguments-constructor b g))
-    (λ g. unknown e f g (head-unknown b e (either (ltb b 0x10) false (isConstructor b) f ∙ g)))))
+head-of : (byte : ℕ) → Head byte
+head-of byte =
+    by-test (isNameTag byte) (λ e. name e (head-name byte e) (arguments-other byte (low-byte byte (name-low byte e))))
+    (λ e. by-test (ltb byte 0x10)
+    (λ f. leaf e f (head-byte byte e (either (ltb byte 0x10) true (isConstructor byte) f))
+    (arguments-other byte (low-byte byte (omega (arith, ltb-true byte 0x10 f)))))
+    (λ f. by-test (isConstructor byte)
+    (λ g. node e f g (head-byte byte e (either (ltb byte 0x10) false (isConstructor byte) f ∙ g)) (arguments-constructor byte g))
+    (λ g. unknown e f g (head-unknown byte e (either (ltb byte 0x10) false (isConstructor byte) f ∙ g)))))
 
 -- ------------------------------------------------------------------ the templates due
 
@@ -91,84 +91,88 @@ abbrev pub meets : Bool → ℕ → ReadTemplates → Bool
 meets single due fault = false
 meets single due (parsed ts) = makesUp single due (count ts)
 
-positive : (x : ℕ) → (x ≡ 0 → ⊥) → 0 < x
+positive : (number : ℕ) → (number ≡ 0 → ⊥) → 0 < number
 positive zero f = absurd (f refl)
-positive (suc x) f = omega arith
+positive (suc number) f = omega arith
 
-eqb-iff : (a b c d : ℕ) → (a ≡ b → c ≡ d) → (c ≡ d → a ≡ b) → eqb a b ≡ eqb c d
-eqb-iff a b c d f g =
-    by-test (eqb a b) (λ e. e ∙ sym (eq-eqb c d (f (eqb-true a b e)))) (λ e. e ∙ sym (ne-eqb c d (λ q. eqb-false a b e (g q))))
+eqb-iff : (left right below above : ℕ) → (left ≡ right → below ≡ above) → (below ≡ above → left ≡ right) → eqb left right ≡ eqb below above
+eqb-iff left right below above f g =
+    by-test (eqb left right) (λ e. e ∙ sym (eq-eqb below above (f (eqb-true left right e))))
+    (λ e. e ∙ sym (ne-eqb below above (λ q. eqb-false left right e (g q))))
 
-leb-iff : (a b c d : ℕ) → (a ≤ b → c ≤ d) → (c ≤ d → a ≤ b) → leb a b ≡ leb c d
-leb-iff a b c d f g =
-    by-test (leb a b) (λ e. e ∙ sym (le-leb c d (f (leb-true a b e))))
-    (λ e. e ∙ sym (by-test (leb c d) (λ q. absurd (omega (arith, g (leb-true c d q), leb-false a b e))) (λ q. q)))
+leb-iff : (left right below above : ℕ) → (left ≤ right → below ≤ above) → (below ≤ above → left ≤ right) → leb left right ≡ leb below above
+leb-iff left right below above f g =
+    by-test (leb left right) (λ e. e ∙ sym (le-leb below above (f (leb-true left right e))))
+    (λ e. e ∙ sym (by-test (leb below above) (λ q. absurd (omega (arith, g (leb-true below above q), leb-false left right e))) (λ q. q)))
 
--- one template, made of k of the n that follow, leaves one less due, and k more
-makes-up-next : (single : Bool) (due k n m : ℕ) → (single && eqb due 0) ≡ false → n ≡ k + m
-    → makesUp single due (suc m) ≡ makesUp single (due - 1 + k) n
-makes-up-next true due k n m e h =
+-- one template, made of `needed` of the `many` that follow, leaves one less due, and `needed` more
+makes-up-next : (single : Bool) (due needed many left : ℕ) → (single && eqb due 0) ≡ false → many ≡ needed + left
+    → makesUp single due (suc left) ≡ makesUp single (due - 1 + needed) many
+makes-up-next true due needed many left e h =
     let d : due ≡ 0 → ⊥ = eqb-false due 0 e in
     let p : 0 < due = positive due d in
-    eqb-iff due (suc m) (due - 1 + k) n (λ q. omega arith) (λ q. omega arith)
-makes-up-next false due k n m e h = leb-iff due (suc m) (due - 1 + k) n (λ q. omega arith) (λ q. omega arith)
+    eqb-iff due (suc left) (due - 1 + needed) many (λ q. omega arith) (λ q. omega arith)
+makes-up-next false due needed many left e h = leb-iff due (suc left) (due - 1 + needed) many (λ q. omega arith) (λ q. omega arith)
 
-makes-up-short : (single : Bool) (due k n : ℕ) → n < k → false ≡ makesUp single (due - 1 + k) n
-makes-up-short true due k n h = sym (ne-eqb (due - 1 + k) n (λ q. omega arith))
-makes-up-short false due k n h = sym (lt-leb (due - 1 + k) n (omega arith))
+makes-up-short : (single : Bool) (due needed many : ℕ) → many < needed → false ≡ makesUp single (due - 1 + needed) many
+makes-up-short true due needed many h = sym (ne-eqb (due - 1 + needed) many (λ q. omega arith))
+makes-up-short false due needed many h = sym (lt-leb (due - 1 + needed) many (omega arith))
 
 -- k templates taken from n, with m left; or there are fewer
 abbrev TakenFrom : ℕ → ℕ → SplitTemplates → Type 0
 TakenFrom k n short = n < k
 TakenFrom k n (taken us vs) = n ≡ k + count vs
 
-taken-more : (t : Template) (k n : ℕ) (r : SplitTemplates) → TakenFrom k n r → TakenFrom (suc k) (suc n) (alsoTaken t r)
-taken-more t k n short h = omega arith
-taken-more t k n (taken us vs) h = omega arith
+taken-more : (template : Template) (needed many : ℕ) (split : SplitTemplates) → TakenFrom needed many split
+    → TakenFrom (suc needed) (suc many) (alsoTaken template split)
+taken-more template needed many short h = omega arith
+taken-more template needed many (taken us vs) h = omega arith
 
-taken-from : (k : ℕ) (ts : Templates) → TakenFrom k (count ts) (takeTemplates k ts)
+taken-from : (needed : ℕ) (ts : Templates) → TakenFrom needed (count ts) (takeTemplates needed ts)
 unfolding takeTemplates count
 taken-from zero ts = omega arith
-taken-from (suc k) none = omega arith
-taken-from (suc k) (more t ts) = taken-more t k (count ts) (takeTemplates k ts) (taken-from k ts)
+taken-from (suc needed) none = omega arith
+taken-from (suc needed) (more t ts) = taken-more t needed (count ts) (takeTemplates needed ts) (taken-from needed ts)
 
 module _ (single : Bool) (due : ℕ) where
-  meets-front : (t : Template) (p : ReadTemplates) → (single && eqb due 0) ≡ false → meets single due (inFront t p) ≡ meets single (due - 1 + 0) p
+  meets-front : (template : Template) (read : ReadTemplates) → (single && eqb due 0) ≡ false
+      → meets single due (inFront template read) ≡ meets single (due - 1 + 0) read
   unfolding count
-  meets-front t fault e = refl
-  meets-front t (parsed ts) e = makes-up-next single due 0 (count ts) (count ts) e (omega arith)
+  meets-front template fault e = refl
+  meets-front template (parsed ts) e = makes-up-next single due 0 (count ts) (count ts) e (omega arith)
 
-  meets-applied : (c k n : ℕ) (r : SplitTemplates) → TakenFrom k n r → (single && eqb due 0) ≡ false
-      → meets single due (applied c r) ≡ makesUp single (due - 1 + k) n
+  meets-applied : (code needed many : ℕ) (split : SplitTemplates) → TakenFrom needed many split → (single && eqb due 0) ≡ false
+      → meets single due (applied code split) ≡ makesUp single (due - 1 + needed) many
   unfolding count
-  meets-applied c k n short h e = makes-up-short single due k n h
-  meets-applied c k n (taken us vs) h e = makes-up-next single due k n (count vs) e h
+  meets-applied code needed many short h e = makes-up-short single due needed many h
+  meets-applied code needed many (taken us vs) h e = makes-up-next single due needed many (count vs) e h
 
-  meets-constructed : (c : ℕ) (p : ReadTemplates) → (single && eqb due 0) ≡ false → meets single due (constructed c p) ≡ meets single (due - 1 + arity c) p
+  meets-constructed : (code : ℕ) (read : ReadTemplates) → (single && eqb due 0) ≡ false
+      → meets single due (constructed code read) ≡ meets single (due - 1 + arity code) read
   unfolding count
-  meets-constructed c fault e = refl
-  meets-constructed c (parsed ts) e =
-      meets-applied c (arity c) (count ts) (takeTemplates (arity c) ts) (taken-from (arity c) ts) e
+  meets-constructed code fault e = refl
+  meets-constructed code (parsed ts) e =
+      meets-applied code (arity code) (count ts) (takeTemplates (arity code) ts) (taken-from (arity code) ts) e
 
 -- where none is due and none may follow, one more is one too many
 module _ (single : Bool) (due : ℕ) (over : (single && eqb due 0) ≡ true) where
-  makes-up-over : (s : Bool) (n : ℕ) → (s && eqb due 0) ≡ true → makesUp s due (suc n) ≡ false
-  makes-up-over true n e = ne-eqb due (suc n) (λ q. omega (arith, eqb-true due 0 e))
-  makes-up-over false n e = absurd (false≢true e)
+  makes-up-over : (alone : Bool) (many : ℕ) → (alone && eqb due 0) ≡ true → makesUp alone due (suc many) ≡ false
+  makes-up-over true many e = ne-eqb due (suc many) (λ q. omega (arith, eqb-true due 0 e))
+  makes-up-over false many e = absurd (false≢true e)
 
-  over-front : (t : Template) (p : ReadTemplates) → meets single due (inFront t p) ≡ false
+  over-front : (template : Template) (read : ReadTemplates) → meets single due (inFront template read) ≡ false
   unfolding count
-  over-front t fault = refl
-  over-front t (parsed ts) = makes-up-over single (count ts) over
+  over-front template fault = refl
+  over-front template (parsed ts) = makes-up-over single (count ts) over
 
-  over-applied : (c : ℕ) (r : SplitTemplates) → meets single due (applied c r) ≡ false
+  over-applied : (code : ℕ) (split : SplitTemplates) → meets single due (applied code split) ≡ false
   unfolding count
-  over-applied c short = refl
-  over-applied c (taken us vs) = makes-up-over single (count vs) over
+  over-applied code short = refl
+  over-applied code (taken us vs) = makes-up-over single (count vs) over
 
-  over-constructed : (c : ℕ) (p : ReadTemplates) → meets single due (constructed c p) ≡ false
-  over-constructed c fault = refl
-  over-constructed c (parsed ts) = over-applied c (takeTemplates (arity c) ts)
+  over-constructed : (code : ℕ) (read : ReadTemplates) → meets single due (constructed code read) ≡ false
+  over-constructed code fault = refl
+  over-constructed code (parsed ts) = over-applied code (takeTemplates (arity code) ts)
 
 -- ------------------------------------------------------------------ one turn
 
@@ -183,46 +187,46 @@ stops-false size left over f =
     (λ g. (positive size (eqb-false size 0 e), ltb-false left size g)))
 
 -- a template of one byte before its arguments is not cut, nor one of two if another byte follows
-module _ (b k : ℕ) (over : Bool) {t : Bool} where
-  one-left : headSize b ≡ 1 → stops (headSize b) (suc k) over ≡ t → over ≡ t
+module _ (byte needed : ℕ) (over : Bool) {answer : Bool} where
+  one-left : headSize byte ≡ 1 → stops (headSize byte) (suc needed) over ≡ answer → over ≡ answer
   one-left e f =
-      cc (le-ltb (suc k) 1 (omega arith))
+      cc (le-ltb (suc needed) 1 (omega arith))
 
-  two-left : headSize b ≡ 2 → stops (headSize b) (suc (suc k)) over ≡ t → over ≡ t
+  two-left : headSize byte ≡ 2 → stops (headSize byte) (suc (suc needed)) over ≡ answer → over ≡ answer
   two-left e f =
-      cc (le-ltb (suc (suc k)) 2 (omega arith))
+      cc (le-ltb (suc (suc needed)) 2 (omega arith))
 
-module _ (single : Bool) (due b : ℕ) where
-  stop-by : (rest : List ℕ) → Head b → stops (headSize b) (suc (length rest)) (single && eqb due 0) ≡ true
-      → meets single due (templatesOf (b ∷ rest)) ≡ false
-  stop-by [] (name e hs ha) f = ap (meets single due) (name-last b e)
+module _ (single : Bool) (due byte : ℕ) where
+  stop-by : (rest : List ℕ) → Head byte → stops (headSize byte) (suc (length rest)) (single && eqb due 0) ≡ true
+      → meets single due (templatesOf (byte ∷ rest)) ≡ false
+  stop-by [] (name e hs ha) f = ap (meets single due) (name-last byte e)
   stop-by (n ∷ bs) (name e hs ha) f =
-      ap (meets single due) (name-first b n bs e)
-      ∙ over-front single due (two-left b (length bs) (single && eqb due 0) hs f) (nameBy (eqb b 0x10) n) (templatesOf bs)
+      ap (meets single due) (name-first byte n bs e)
+      ∙ over-front single due (two-left byte (length bs) (single && eqb due 0) hs f) (nameBy (eqb byte 0x10) n) (templatesOf bs)
   stop-by rest (leaf e low hs ha) f =
-      ap (meets single due) (byte-first b rest e ∙ variable-first b (templatesOf rest) low)
-      ∙ over-front single due (one-left b (length rest) (single && eqb due 0) hs f) (variable b) (templatesOf rest)
+      ap (meets single due) (byte-first byte rest e ∙ variable-first byte (templatesOf rest) low)
+      ∙ over-front single due (one-left byte (length rest) (single && eqb due 0) hs f) (variable byte) (templatesOf rest)
   stop-by rest (node e low known hs ha) f =
-      ap (meets single due) (byte-first b rest e ∙ constructor-first b (templatesOf rest) low known)
-      ∙ over-constructed single due (one-left b (length rest) (single && eqb due 0) hs f) b (templatesOf rest)
-  stop-by rest (unknown e low known hs) f = ap (meets single due) (byte-first b rest e ∙ unknown-first b (templatesOf rest) low known)
+      ap (meets single due) (byte-first byte rest e ∙ constructor-first byte (templatesOf rest) low known)
+      ∙ over-constructed single due (one-left byte (length rest) (single && eqb due 0) hs f) byte (templatesOf rest)
+  stop-by rest (unknown e low known hs) f = ap (meets single due) (byte-first byte rest e ∙ unknown-first byte (templatesOf rest) low known)
 
-  next-by : (rest : List ℕ) → Head b → stops (headSize b) (suc (length rest)) (single && eqb due 0) ≡ false
-      → meets single due (templatesOf (b ∷ rest))
-      ≡ meets single (due - 1 + arguments b) (templatesOf (drop (headSize b) (b ∷ rest)))
+  next-by : (rest : List ℕ) → Head byte → stops (headSize byte) (suc (length rest)) (single && eqb due 0) ≡ false
+      → meets single due (templatesOf (byte ∷ rest))
+      ≡ meets single (due - 1 + arguments byte) (templatesOf (drop (headSize byte) (byte ∷ rest)))
   next-by [] (name e hs ha) f = absurd (true≢false (cc))
   next-by (n ∷ bs) (name e hs ha) f =
-      ap (meets single due) (name-first b n bs e)
-      ∙ meets-front single due (nameBy (eqb b 0x10) n) (templatesOf bs) (two-left b (length bs) (single && eqb due 0) hs f)
-      ∙ (λ i. meets single (due - 1 + sym ha i) (templatesOf (drop (sym hs i) (b ∷ n ∷ bs))))
+      ap (meets single due) (name-first byte n bs e)
+      ∙ meets-front single due (nameBy (eqb byte 0x10) n) (templatesOf bs) (two-left byte (length bs) (single && eqb due 0) hs f)
+      ∙ (λ i. meets single (due - 1 + sym ha i) (templatesOf (drop (sym hs i) (byte ∷ n ∷ bs))))
   next-by rest (leaf e low hs ha) f =
-      ap (meets single due) (byte-first b rest e ∙ variable-first b (templatesOf rest) low)
-      ∙ meets-front single due (variable b) (templatesOf rest) (one-left b (length rest) (single && eqb due 0) hs f)
-      ∙ (λ i. meets single (due - 1 + sym ha i) (templatesOf (drop (sym hs i) (b ∷ rest))))
+      ap (meets single due) (byte-first byte rest e ∙ variable-first byte (templatesOf rest) low)
+      ∙ meets-front single due (variable byte) (templatesOf rest) (one-left byte (length rest) (single && eqb due 0) hs f)
+      ∙ (λ i. meets single (due - 1 + sym ha i) (templatesOf (drop (sym hs i) (byte ∷ rest))))
   next-by rest (node e low known hs ha) f =
-      ap (meets single due) (byte-first b rest e ∙ constructor-first b (templatesOf rest) low known)
-      ∙ meets-constructed single due b (templatesOf rest) (one-left b (length rest) (single && eqb due 0) hs f)
-      ∙ (λ i. meets single (due - 1 + sym ha i) (templatesOf (drop (sym hs i) (b ∷ rest))))
+      ap (meets single due) (byte-first byte rest e ∙ constructor-first byte (templatesOf rest) low known)
+      ∙ meets-constructed single due byte (templatesOf rest) (one-left byte (length rest) (single && eqb due 0) hs f)
+      ∙ (λ i. meets single (due - 1 + sym ha i) (templatesOf (drop (sym hs i) (byte ∷ rest))))
   next-by rest (unknown e low known hs) f =
       absurd (true≢false (cc))
 
@@ -235,7 +239,7 @@ meets-none true due = refl
 meets-none false zero = leb·zero 0
 meets-none false (suc d) = lt-leb (suc d) 0 (omega arith) ∙ sym (ne-eqb (suc d) 0 (λ q. omega arith))
 
-meets-first : (single : Bool) (p : ReadTemplates) → meets single (oneIf single) p ≡ isWholly single p
+meets-first : (single : Bool) (read : ReadTemplates) → meets single (oneIf single) read ≡ isWholly single read
 unfolding count
 meets-first true fault = refl
 meets-first true (parsed none) = refl
@@ -244,67 +248,67 @@ meets-first true (parsed (more t (more u ts))) = ne-eqb 1 (suc (suc (count ts)))
 meets-first false fault = refl
 meets-first false (parsed ts) = leb·zero (count ts)
 
-arguments-few : (b : ℕ) → arguments b ≤ 3
-arguments-few b =
-    by-test (isConstructor b) (λ e. omega (arith, arguments-constructor b e, arity-few b)) (λ e. omega (arith, arguments-other b e))
+arguments-few : (byte : ℕ) → arguments byte ≤ 3
+arguments-few byte =
+    by-test (isConstructor byte) (λ e. omega (arith, arguments-constructor byte e, arity-few byte)) (λ e. omega (arith, arguments-other byte e))
 
--- after the bytes before i, what is left makes up for the templates due
-pub record Due (v : List ℕ) (from : ℕ) (single : Bool) (due i : ℕ) : Type 0 where
+-- after the bytes before `place`, what is left makes up for the templates due
+pub record Due (value : List ℕ) (from : ℕ) (single : Bool) (due place : ℕ) : Type 0 where
   -- no more are due than bytes were read
-  pub small : due ≤ 2 * i + 1
+  pub small : due ≤ 2 * place + 1
   -- what is left, with those due, reads as the whole
-  pub rest : meets single due (templatesOf (drop i v)) ≡ isWholly single (templatesOf (drop from v))
+  pub rest : meets single due (templatesOf (drop place value)) ≡ isWholly single (templatesOf (drop from value))
 
 first-small : (single : Bool) → oneIf single ≤ 1
 first-small true = omega arith
 first-small false = omega arith
 
 -- at the start one template is due, or any number
-pub due-start : (v : List ℕ) (from : ℕ) (single : Bool) (due : ℕ) → due ≡ oneIf single → Due v from single due from
-due-start v from single due e =
+pub due-start : (value : List ℕ) (from : ℕ) (single : Bool) (due : ℕ) → due ≡ oneIf single → Due value from single due from
+due-start value from single due e =
     record {
       small = omega (arith, first-small single);
-      rest = cc (meets-first single (templatesOf (drop from v)));
+      rest = cc (meets-first single (templatesOf (drop from value)));
     }
 
-module _ {v : List ℕ} {from : ℕ} {single : Bool} {due i : ℕ} (c : Due v from single due i) where
+module _ {value : List ℕ} {from : ℕ} {single : Bool} {due place : ℕ} (given-due : Due value from single due place) where
   -- at the end none may be due
-  pub due-end : length v ≤ i → eqb due 0 ≡ isWholly single (templatesOf (drop from v))
+  pub due-end : length value ≤ place → eqb due 0 ≡ isWholly single (templatesOf (drop from value))
   due-end h =
-      cc (meets-none single due, drop-of-length-le v h, c .rest)
+      cc (meets-none single due, drop-of-length-le value h, given-due .rest)
 
-  module _ (h : i < length v) {size : ℕ} (hs : size ≡ headSize (getD v i 0)) where
-    front-is : meets single due (templatesOf (getD v i 0 ∷ drop (i + 1) v)) ≡ isWholly single (templatesOf (drop from v))
-    front-is = cc (drop-at-index v i h, c .rest)
+  module _ (below : place < length value) {size : ℕ} (hs : size ≡ headSize (getD value place 0)) where
+    front-is : meets single due (templatesOf (getD value place 0 ∷ drop (place + 1) value)) ≡ isWholly single (templatesOf (drop from value))
+    front-is = cc (drop-at-index value place below, given-due .rest)
 
-    left-is : (t : Bool) → stops size (length v - i) (single && eqb due 0) ≡ t
-        → stops (headSize (getD v i 0)) (suc (length (drop (i + 1) v))) (single && eqb due 0) ≡ t
-    left-is t f =
-        let z : suc (length (drop (i + 1) v)) ≡ length v - i = omega (arith, length-drop (i + 1) v) in
+    left-is : (answer : Bool) → stops size (length value - place) (single && eqb due 0) ≡ answer
+        → stops (headSize (getD value place 0)) (suc (length (drop (place + 1) value))) (single && eqb due 0) ≡ answer
+    left-is answer f =
+        let z : suc (length (drop (place + 1) value)) ≡ length value - place = omega (arith, length-drop (place + 1) value) in
         (λ j. stops (sym hs j) (z j) (single && eqb due 0)) ∙ f
 
     -- where the code stops, the bytes are no templates
-    pub due-stop : stops size (length v - i) (single && eqb due 0) ≡ true → false ≡ isWholly single (templatesOf (drop from v))
+    pub due-stop : stops size (length value - place) (single && eqb due 0) ≡ true → false ≡ isWholly single (templatesOf (drop from value))
     due-stop f =
-        sym (stop-by single due (getD v i 0) (drop (i + 1) v) (head-of (getD v i 0)) (left-is true f)) ∙ front-is
+        sym (stop-by single due (getD value place 0) (drop (place + 1) value) (head-of (getD value place 0)) (left-is true f)) ∙ front-is
 
     -- where it goes on, the head stands within the bytes
-    pub due-room : stops size (length v - i) (single && eqb due 0) ≡ false → (0 < size) × (size ≤ length v - i)
-    due-room f = stops-false size (length v - i) (single && eqb due 0) f
+    pub due-room : stops size (length value - place) (single && eqb due 0) ≡ false → (0 < size) × (size ≤ length value - place)
+    due-room f = stops-false size (length value - place) (single && eqb due 0) f
 
     -- one head more is read
-    pub due-next : stops size (length v - i) (single && eqb due 0) ≡ false → {less more : ℕ} → less ≡ due - 1
-        → more ≡ arguments (getD v i 0)
-        → Due v from single (less + more) (i + size)
+    pub due-next : stops size (length value - place) (single && eqb due 0) ≡ false → {less more : ℕ} → less ≡ due - 1
+        → more ≡ arguments (getD value place 0)
+        → Due value from single (less + more) (place + size)
     due-next f hl hm =
         record {
-          small = omega (arith, due-room f .0, c .small, arguments-few (getD v i 0));
+          small = omega (arith, due-room f .0, given-due .small, arguments-few (getD value place 0));
           rest =
               (λ j. meets single (hl j + hm j) (templatesOf (rest-is j)))
-              ∙ sym (next-by single due (getD v i 0) (drop (i + 1) v) (head-of (getD v i 0)) (left-is false f))
+              ∙ sym (next-by single due (getD value place 0) (drop (place + 1) value) (head-of (getD value place 0)) (left-is false f))
               ∙ front-is;
         }
       where
-        rest-is : drop (i + size) v ≡ drop (headSize (getD v i 0)) (getD v i 0 ∷ drop (i + 1) v)
+        rest-is : drop (place + size) value ≡ drop (headSize (getD value place 0)) (getD value place 0 ∷ drop (place + 1) value)
         rest-is =
-            sym (drop-drop size i v) ∙ (λ j. drop (hs j) (drop-at-index v i h j))
+            sym (drop-drop size place value) ∙ (λ j. drop (hs j) (drop-at-index value place below j))

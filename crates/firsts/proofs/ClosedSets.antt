@@ -23,55 +23,57 @@ use Rattle.firsts.proofs.StepLaws.{length-sets, length-over}
 
 -- ------------------------------------------------------------------ the items of a production
 
--- an item that gives k to the left calls calls k
-own-called : (s : Numbers) (k : ℕ) → s k ≡ true → (i : Item) → hasKind (own true i) k ≡ true → called s i ≡ true
-own-called s k h (keyword w) e = absurd (false≢true (sym (has-none k) ∙ e))
-own-called s k h (ide w) e = absurd (false≢true (sym (has-none k) ∙ e))
-own-called s k h number e = absurd (false≢true (sym (has-none k) ∙ e))
-own-called s k h local e = absurd (false≢true (sym (has-none k) ∙ e))
-own-called s k h (call n ts) e = rw (← (only-has n k e .0)) h
+-- an item that gives `callee` to the left calls calls `callee`
+own-called : (numbers : Numbers) (callee : ℕ) → numbers callee ≡ true → (item : Item) → hasKind (own true item) callee ≡ true → called numbers item ≡ true
+own-called numbers callee h (keyword w) e = absurd (false≢true (sym (has-none callee) ∙ e))
+own-called numbers callee h (ide w) e = absurd (false≢true (sym (has-none callee) ∙ e))
+own-called numbers callee h number e = absurd (false≢true (sym (has-none callee) ∙ e))
+own-called numbers callee h local e = absurd (false≢true (sym (has-none callee) ∙ e))
+own-called numbers callee h (call n ts) e = rw (← (only-has n callee e .0)) h
 
--- what calls k, at its left or through others, gives what k gives
-through-call : (c : Bool) (nulls k b : ℕ) (s t : Numbers) → Within s t → t k ≡ true → (is : List Item)
-    → firstIn true nulls k s is ≡ true → firstIn c nulls b t is ≡ true
+-- what calls `callee`, at its left or through others, gives what `callee` gives
+through-call : (calls : Bool) (nulls callee kind : ℕ) (numbers others : Numbers) → Within numbers others → others callee ≡ true → (is : List Item)
+    → firstIn true nulls callee numbers is ≡ true → firstIn calls nulls kind others is ≡ true
 unfolding firstIn
-through-call c nulls k b s t h e [] f = absurd (false≢true f)
-through-call c nulls k b s t h e (i ∷ is) f =
+through-call calls nulls callee kind numbers others h e [] f = absurd (false≢true f)
+through-call calls nulls callee kind numbers others h e (i ∷ is) f =
     ⊎-elim
-    (λ p. or-left _ (or-right (hasKind (own c i) b) (⊎-elim (own-called t k e i) (called-more s t h i) (or-split (hasKind (own true i) k) p))))
+    (λ p. or-left _
+    (or-right (hasKind (own calls i) kind) (⊎-elim (own-called others callee e i) (called-more numbers others h i) (or-split (hasKind (own true i) callee) p))))
     (λ p.
-    let q = and-eq-true-iff (isPassed nulls i) (firstIn true nulls k s is) .0 p in
-    or-right (given c b t i) (and-eq-true-iff _ _ .1 (q .0, through-call c nulls k b s t h e is (q .1)))) (or-split (given true k s i) f)
+    let q = and-eq-true-iff (isPassed nulls i) (firstIn true nulls callee numbers is) .0 p in
+    or-right (given calls kind others i) (and-eq-true-iff _ _ .1 (q .0, through-call calls nulls callee kind numbers others h e is (q .1))))
+    (or-split (given true callee numbers i) f)
 
--- a callee in s that stands at the left
-pub record LeftCallee (nulls : ℕ) (s : Numbers) (is : List Item) : Type 0 where
+-- a callee in `numbers` that stands at the left
+pub record LeftCallee (nulls : ℕ) (numbers : Numbers) (is : List Item) : Type 0 where
   -- its number
   pub callee : ℕ
-  -- it is in s
-  pub in-it : s callee ≡ true
+  -- it is in `numbers`
+  pub in-it : numbers callee ≡ true
   -- a nonterminal stands at the left of the items
   pub stands : callee < 64 → firstIn true nulls callee nothing is ≡ true
 
--- items give b by themselves, or through a callee at their left
-by-parts : (c : Bool) (nulls b : ℕ) (s : Numbers) (is : List Item) → firstIn c nulls b s is ≡ true
-    → (firstIn c nulls b nothing is ≡ true) ⊎ LeftCallee nulls s is
+-- items give `kind` by themselves, or through a callee at their left
+by-parts : (calls : Bool) (nulls kind : ℕ) (numbers : Numbers) (is : List Item) → firstIn calls nulls kind numbers is ≡ true
+    → (firstIn calls nulls kind nothing is ≡ true) ⊎ LeftCallee nulls numbers is
 unfolding firstIn
-by-parts c nulls b s [] e = absurd (false≢true e)
-by-parts c nulls b s (i ∷ is) e =
-    ⊎-elim (λ p. ⊎-elim (λ q. inl (or-left _ (or-left _ q))) (λ q. inr (callee-of i q)) (or-split (hasKind (own c i) b) p))
-    (λ p. let q = and-eq-true-iff (isPassed nulls i) (firstIn c nulls b s is) .0 p in later (q .0) (by-parts c nulls b s is (q .1)))
-    (or-split (given c b s i) e)
+by-parts calls nulls kind numbers [] e = absurd (false≢true e)
+by-parts calls nulls kind numbers (i ∷ is) e =
+    ⊎-elim (λ p. ⊎-elim (λ q. inl (or-left _ (or-left _ q))) (λ q. inr (callee-of i q)) (or-split (hasKind (own calls i) kind) p))
+    (λ p. let q = and-eq-true-iff (isPassed nulls i) (firstIn calls nulls kind numbers is) .0 p in later (q .0) (by-parts calls nulls kind numbers is (q .1)))
+    (or-split (given calls kind numbers i) e)
   where
-    callee-of : (i : Item) → called s i ≡ true → LeftCallee nulls s (i ∷ is)
+    callee-of : (item : Item) → called numbers item ≡ true → LeftCallee nulls numbers (item ∷ is)
     callee-of (keyword w) f = absurd (false≢true f)
     callee-of (ide w) f = absurd (false≢true f)
     callee-of number f = absurd (false≢true f)
     callee-of local f = absurd (false≢true f)
     callee-of (call n ts) f = record { callee = n; in-it = f; stands = λ l. or-left _ (or-left _ (has-own n l)) }
 
-    later : isPassed nulls i ≡ true → (firstIn c nulls b nothing is ≡ true) ⊎ LeftCallee nulls s is
-        → (firstIn c nulls b nothing (i ∷ is) ≡ true) ⊎ LeftCallee nulls s (i ∷ is)
-    later z (inl q) = inl (or-right (given c b nothing i) (and-eq-true-iff _ _ .1 (z, q)))
+    later : isPassed nulls i ≡ true → (firstIn calls nulls kind nothing is ≡ true) ⊎ LeftCallee nulls numbers is
+        → (firstIn calls nulls kind nothing (i ∷ is) ≡ true) ⊎ LeftCallee nulls numbers (i ∷ is)
+    later z (inl q) = inl (or-right (given calls kind nothing i) (and-eq-true-iff _ _ .1 (z, q)))
     later z (inr q) =
         inr
         (record {
@@ -89,66 +91,74 @@ module _ (nulls : ℕ) (g : List Production) where
   abbrev oneRound : Bool → List ℕ
   oneRound c = overAll (firstStep c nulls) g (replicate 64 0)
 
-  settled-seen : (c : Bool) (n b : ℕ) → settled c n b ≡ least (firstIn c nulls b) g n
-  settled-seen c n b = same-at (sets-seen c nulls b g) n
+  settled-seen : (calls : Bool) (nonterminal kind : ℕ) → settled calls nonterminal kind ≡ least (firstIn calls nulls kind) g nonterminal
+  settled-seen calls nonterminal kind = same-at (sets-seen calls nulls kind g) nonterminal
 
-  round-is : (c : Bool) (n b : ℕ) → inSetOf (oneRound c) n b ≡ overAll (admit (firstIn c nulls b)) g nothing n
-  round-is c n b = same-at (round-seen c nulls b g) n
+  round-is : (calls : Bool) (nonterminal kind : ℕ)
+      → inSetOf (oneRound calls) nonterminal kind ≡ overAll (admit (firstIn calls nulls kind)) g nothing nonterminal
+  round-is calls nonterminal kind = same-at (round-seen calls nulls kind g) nonterminal
 
   -- one round gives nothing else
-  round-settled : (c : Bool) (n b : ℕ) → inSetOf (oneRound c) n b ≡ true → settled c n b ≡ true
-  round-settled c n b e =
-      settled-seen c n b ∙ round-within (firstIn c nulls b) (first-more c nulls b) g n (sym (round-is c n b) ∙ e)
+  round-settled : (calls : Bool) (nonterminal kind : ℕ) → inSetOf (oneRound calls) nonterminal kind ≡ true → settled calls nonterminal kind ≡ true
+  round-settled calls nonterminal kind e =
+      settled-seen calls nonterminal kind ∙ round-within (firstIn calls nulls kind) (first-more calls nulls kind) g nonterminal
+      (sym (round-is calls nonterminal kind) ∙ e)
 
   -- what a nonterminal reaches gives to it
-  settled-through : (c : Bool) (n k b : ℕ) → settled true n k ≡ true → settled c k b ≡ true → settled c n b ≡ true
-  settled-through c n k b e f =
-      settled-seen c n b
-      ∙ least-within (firstIn true nulls k) g (λ m. least (firstIn c nulls b) g m ≡ true) keeps n (sym (settled-seen true n k) ∙ e)
+  settled-through : (calls : Bool) (nonterminal callee kind : ℕ) → settled true nonterminal callee ≡ true → settled calls callee kind ≡ true
+      → settled calls nonterminal kind ≡ true
+  settled-through calls nonterminal callee kind e f =
+      settled-seen calls nonterminal kind
+      ∙ least-within (firstIn true nulls callee) g (λ m. least (firstIn calls nulls kind) g m ≡ true) keeps nonterminal
+      (sym (settled-seen true nonterminal callee) ∙ e)
     where
-      keeps : (s : Numbers) → Each (λ m. least (firstIn c nulls b) g m ≡ true) s → (m : ℕ) (p : Production) → Of g m p
-          → firstIn true nulls k s (p .items) ≡ true → least (firstIn c nulls b) g m ≡ true
-      keeps s hs m p o h =
-          least-closed (firstIn c nulls b) (first-more c nulls b) g o
-          (through-call c nulls k b s (least (firstIn c nulls b) g) hs (sym (settled-seen c k b) ∙ f) (p .items) h)
+      keeps : (numbers : Numbers) → Each (λ m. least (firstIn calls nulls kind) g m ≡ true) numbers → (caller : ℕ) (p : Production) → Of g caller p
+          → firstIn true nulls callee numbers (p .items) ≡ true → least (firstIn calls nulls kind) g caller ≡ true
+      keeps numbers hs caller p o h =
+          least-closed (firstIn calls nulls kind) (first-more calls nulls kind) g o
+          (through-call calls nulls callee kind numbers (least (firstIn calls nulls kind) g) hs (sym (settled-seen calls callee kind) ∙ f) (p .items) h)
 
   -- ---------------------------------------------------------------- the closure has the same
 
   -- a nonterminal with a set is one of the 64
-  small-owner : (sets : List ℕ) → length sets ≡ 64 → (n b : ℕ) → inSetOf sets n b ≡ true → n < 64
-  small-owner sets many n b e = by (decLt n 64)
+  small-owner : (sets : List ℕ) → length sets ≡ 64 → (nonterminal kind : ℕ) → inSetOf sets nonterminal kind ≡ true → nonterminal < 64
+  small-owner sets many nonterminal kind e = by (decLt nonterminal 64)
     where
-      by : Dec (n < 64) → n < 64
+      by : Dec (nonterminal < 64) → nonterminal < 64
       by (yes l) = l
       by (no l) =
-          absurd (false≢true (cc (List·getD-eq-default {A = ℕ} sets 0 {n = n} (omega (arith, many)), has-none b)))
+          absurd (false≢true (cc (List·getD-eq-default {A = ℕ} sets 0 {n = nonterminal} (omega (arith, many)), has-none kind)))
 
-  module _ (c : Bool) {calls sets : List ℕ} (a : ClosedBelow 64 (oneRound true) (oneRound true) calls calls)
-      (x : ClosedBelow 64 (oneRound true) (oneRound c) calls sets) where
+  module _ (calling : Bool) {calls sets : List ℕ} (closed-below : ClosedBelow 64 (oneRound true) (oneRound true) calls calls)
+      (other : ClosedBelow 64 (oneRound true) (oneRound calling) calls sets) where
     closed-many : length sets ≡ 64
-    closed-many = x .as-many ∙ length-over c nulls g (replicate 64 0) ∙ length-replicate {A = ℕ} 64 0
+    closed-many = other .as-many ∙ length-over calling nulls g (replicate 64 0) ∙ length-replicate {A = ℕ} 64 0
 
-    closed-settled : (n b : ℕ) → inSetOf sets n b ≡ true → settled c n b ≡ true
-    closed-settled = x .least (settled true) (settled c) (round-settled true) (round-settled c) (settled-through true) (settled-through c)
+    closed-settled : (nonterminal kind : ℕ) → inSetOf sets nonterminal kind ≡ true → settled calling nonterminal kind ≡ true
+    closed-settled = other .least (settled true) (settled calling) (round-settled true) (round-settled calling) (settled-through true) (settled-through calling)
 
-    settled-closed : (n b : ℕ) → settled c n b ≡ true → inSetOf sets n b ≡ true
-    settled-closed n b e = least-within (firstIn c nulls b) g (λ m. inSetOf sets m b ≡ true) keeps n (sym (settled-seen c n b) ∙ e)
+    settled-closed : (nonterminal kind : ℕ) → settled calling nonterminal kind ≡ true → inSetOf sets nonterminal kind ≡ true
+    settled-closed nonterminal kind e =
+        least-within (firstIn calling nulls kind) g (λ m. inSetOf sets m kind ≡ true) keeps nonterminal (sym (settled-seen calling nonterminal kind) ∙ e)
       where
-        admitted : (d : Bool) (m w : ℕ) (p : Production) → Of g m p → firstIn d nulls w nothing (p .items) ≡ true → inSetOf (oneRound d) m w ≡ true
-        admitted d m w p o h = round-is d m w ∙ round-admits (firstIn d nulls w) (first-more d nulls w) o h
+        admitted : (either : Bool) (owner member : ℕ) (p : Production) → Of g owner p → firstIn either nulls member nothing (p .items) ≡ true
+            → inSetOf (oneRound either) owner member ≡ true
+        admitted either owner member p o h = round-is either owner member ∙ round-admits (firstIn either nulls member) (first-more either nulls member) o h
 
-        keeps : (s : Numbers) → Each (λ m. inSetOf sets m b ≡ true) s → (m : ℕ) (p : Production) → Of g m p
-            → firstIn c nulls b s (p .items) ≡ true → inSetOf sets m b ≡ true
-        keeps s hs m p o h =
-            ⊎-elim (λ q. x .kept m b (admitted c m b p o q))
+        keeps : (numbers : Numbers) → Each (λ m. inSetOf sets m kind ≡ true) numbers → (caller : ℕ) (p : Production) → Of g caller p
+            → firstIn calling nulls kind numbers (p .items) ≡ true → inSetOf sets caller kind ≡ true
+        keeps numbers hs caller p o h =
+            ⊎-elim (λ q. other .kept caller kind (admitted calling caller kind p o q))
             (λ q.
             let k = q .callee in
             let given = hs k (q .in-it) in
-            let small = small-owner sets closed-many k b given in
-            x .through m k b small (a .kept m k (admitted true m k p o (q .stands small))) given) (by-parts c nulls b s (p .items) h)
+            let small = small-owner sets closed-many k kind given in
+            other .through caller k kind small (closed-below .kept caller k (admitted true caller k p o (q .stands small))) given)
+            (by-parts calling nulls kind numbers (p .items) h)
 
-    same-sets : sets ≡ setsOf c nulls g
-    same-sets = ext-getD 0 sets (setsOf c nulls g) (closed-many ∙ sym (length-sets c nulls g)) (λ n l. both-in _ _ (closed-settled n) (settled-closed n))
+    same-sets : sets ≡ setsOf calling nulls g
+    same-sets =
+        ext-getD 0 sets (setsOf calling nulls g) (closed-many ∙ sym (length-sets calling nulls g)) (λ n l. both-in _ _ (closed-settled n) (settled-closed n))
 
   -- One round and the closure give the sets that the rounds settle.
   pub closed-sets : {kinds₀ calls₀ : List ℕ} → RoundTaken nulls g (replicate 64 0) (replicate 64 0) kinds₀ calls₀ → {kinds calls : List ℕ}

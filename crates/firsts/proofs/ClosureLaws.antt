@@ -18,67 +18,73 @@ use Rattle.firsts.proofs.Rounds.{or-left, or-right, or-split}
 -- ------------------------------------------------------------------ one callee, nonterminal by nonterminal
 
 -- the code's test
-pub joined-by : (set more : ℕ) {b t : Bool} → b ≡ t → {u : Bool} → b ≡ u → joinedIf u set more ≡ joinedIf t set more
+pub joined-by : (set more : ℕ) {test same-test : Bool} → test ≡ same-test → {answer : Bool} → test ≡ answer
+    → joinedIf answer set more ≡ joinedIf same-test set more
 joined-by set more e f = cc
 
-module _ {k n : ℕ} {calls sets new : List ℕ} (r : CalleeJoined k n calls sets new) where
-  joined-next : n < length sets → {v : ℕ} → v ≡ withCallee calls sets k n → CalleeJoined k (n + 1) calls sets (set new n v)
-  joined-next h {v} e =
+module _ {callee caller : ℕ} {calls sets new : List ℕ} (callee-joined : CalleeJoined callee caller calls sets new) where
+  joined-next : caller < length sets → {value : ℕ} → value ≡ withCallee calls sets callee caller
+      → CalleeJoined callee (caller + 1) calls sets (set new caller value)
+  joined-next h {value} e =
       record {
-        as-many = length-set new n v ∙ r .as-many;
-        done = λ i l. by i l (ℕ-discrete i n);
-        left = λ i l. getD-set-other new n i v 0 (λ z. omega arith) ∙ r .left i (omega arith);
+        as-many = length-set new caller value ∙ callee-joined .as-many;
+        done = λ i l. by i l (ℕ-discrete i caller);
+        left = λ i l. getD-set-other new caller i value 0 (λ z. omega arith) ∙ callee-joined .left i (omega arith);
       }
     where
-      by : (i : ℕ) → i < n + 1 → Dec (i ≡ n) → getD (set new n v) i 0 ≡ withCallee calls sets k i
-      by i l (yes z) = rw z (getD-set-same new n v 0 (omega (arith, r .as-many)) ∙ e)
-      by i l (no z) = getD-set-other new n i v 0 z ∙ r .done i (omega arith)
+      by : (place : ℕ) → place < caller + 1 → Dec (place ≡ caller) → getD (set new caller value) place 0 ≡ withCallee calls sets callee place
+      by place l (yes z) = rw z (getD-set-same new caller value 0 (omega (arith, callee-joined .as-many)) ∙ e)
+      by place l (no z) = getD-set-other new caller place value 0 z ∙ callee-joined .done place (omega arith)
 
--- the nonterminals below n of `many` are done
-pub record Taking (many k n : ℕ) (calls₀ kinds₀ calls kinds : List ℕ) : Type 0 where
-  -- n is at most their number
-  pub within : n ≤ many
+-- the nonterminals below `caller` of `many` are done
+pub record Taking (many callee caller : ℕ) (calls₀ kinds₀ calls kinds : List ℕ) : Type 0 where
+  -- `caller` is at most their number
+  pub within : caller ≤ many
   -- there is a set for each of them
   pub lent : StepLent many calls kinds
-  -- what the callee k gives is joined to the sets of those below n, and the others are as before
-  pub taken : CalleeTaken k n calls₀ kinds₀ calls kinds
+  -- what the `callee` gives is joined to the sets of those below `caller`, and the others are as before
+  pub taken : CalleeTaken callee caller calls₀ kinds₀ calls kinds
 
 -- none is done at first
-pub taking-start : {many : ℕ} (k : ℕ) {calls kinds : List ℕ} → StepLent many calls kinds → Taking many k 0 calls kinds calls kinds
-taking-start k {calls} {kinds} l =
+pub taking-start : {many : ℕ} (callee : ℕ) {calls kinds : List ℕ} → StepLent many calls kinds → Taking many callee 0 calls kinds calls kinds
+taking-start callee {calls} {kinds} l =
     record { within = omega arith; lent = l; taken = record { calls-joined = none calls; kinds-joined = none kinds } }
   where
-    none : (sets : List ℕ) → CalleeJoined k 0 calls sets sets
+    none : (sets : List ℕ) → CalleeJoined callee 0 calls sets sets
     none sets = record { as-many = refl; done = λ i l. absurd (omega arith); left = λ i l. refl }
 
-module _ {many k n : ℕ} {calls₀ kinds₀ calls kinds : List ℕ} (c : Taking many k n calls₀ kinds₀ calls kinds) where
+module _ {many callee caller : ℕ} {calls₀ kinds₀ calls kinds : List ℕ} (taking : Taking many callee caller calls₀ kinds₀ calls kinds) where
   -- the two sets of the next nonterminal, as the code computes them
-  pub taking-next : n < many → {more-calls more-kinds : ℕ} → more-calls ≡ getD calls₀ k 0 → more-kinds ≡ getD kinds₀ k 0 → {v w : ℕ}
-      → v ≡ joinedIf (hasKind (getD calls n 0) k) (getD calls n 0) more-calls
-      → w ≡ joinedIf (hasKind (getD calls n 0) k) (getD kinds n 0) more-kinds
-      → Taking many k (n + 1) calls₀ kinds₀ (set calls n v) (set kinds n w)
-  taking-next h ec ek {v} {w} ev ew =
-      let l = c .lent in
-      let a = c .taken .calls-joined in
-      let x = c .taken .kinds-joined in
-      let ea = a .left n (omega arith) in
+  pub taking-next : caller < many → {more-calls more-kinds : ℕ} → more-calls ≡ getD calls₀ callee 0 → more-kinds ≡ getD kinds₀ callee 0
+      → {joined-calls joined-kinds : ℕ} → joined-calls ≡ joinedIf (hasKind (getD calls caller 0) callee) (getD calls caller 0) more-calls
+      → joined-kinds ≡ joinedIf (hasKind (getD calls caller 0) callee) (getD kinds caller 0) more-kinds
+      → Taking many callee (caller + 1) calls₀ kinds₀ (set calls caller joined-calls) (set kinds caller joined-kinds)
+  taking-next h ec ek {joined-calls} {joined-kinds} ev ew =
+      let l = taking .lent in
+      let a = taking .taken .calls-joined in
+      let x = taking .taken .kinds-joined in
+      let ea = a .left caller (omega arith) in
       record {
         within = omega arith;
         lent =
             record {
-              lent = record { calls-many = length-set calls n v ∙ l .lent .calls-many; kinds-many = length-set kinds n w ∙ l .lent .kinds-many };
+              lent = record {
+                calls-many = length-set calls caller joined-calls ∙ l .lent .calls-many;
+                kinds-many = length-set kinds caller joined-kinds
+                    ∙ l .lent .kinds-many;
+              };
               small = l .small;
             };
         taken =
             record {
               calls-joined = joined-next a (omega (arith, a .as-many, l .lent .calls-many, l .small)) (ev ∙ rw (ec, ea) refl);
-              kinds-joined = joined-next x (omega (arith, x .as-many, l .lent .kinds-many, l .small)) (ew ∙ rw (ek, ea, x .left n (omega arith)) refl);
+              kinds-joined = joined-next x (omega (arith, x .as-many, l .lent .kinds-many, l .small)) (ew ∙ rw (ek, ea, x .left caller (omega arith)) refl);
             };
       }
 
   -- all are done
-  pub taking-end : many ≤ n → CalleeTaken k many calls₀ kinds₀ calls kinds
-  taking-end h = let z : n ≡ many = omega (arith, c .within) in rw z at (c .taken)
+  pub taking-end : many ≤ caller → CalleeTaken callee many calls₀ kinds₀ calls kinds
+  taking-end h = let z : caller ≡ many = omega (arith, taking .within) in rw z at (taking .taken)
 
 -- ------------------------------------------------------------------ the closure, callee by callee
 
@@ -89,84 +95,93 @@ closed-start calls sets =
 
 -- a nonterminal that has no set at first has none in the closure
 no-set : {many limit : ℕ} {calls₀ sets₀ calls sets : List ℕ} → ClosedBelow limit calls₀ sets₀ calls sets
-    → ((n : ℕ) → many ≤ n → getD calls₀ n 0 ≡ 0) → ((n : ℕ) → many ≤ n → getD sets₀ n 0 ≡ 0) → (n b : ℕ) → inSetOf sets n b ≡ true → n < many
-no-set {many} {calls₀ = calls₀} {sets₀ = sets₀} c no-calls no-sets n b e =
-    ltb-true n many
-    (c .least (λ i j. ltb i many) (λ i j. ltb i many) (below calls₀ no-calls) (below sets₀ no-sets) (λ i j l p q. p) (λ i j l p q. p) n b e)
+    → ((caller : ℕ) → many ≤ caller → getD calls₀ caller 0 ≡ 0) → ((caller : ℕ) → many ≤ caller → getD sets₀ caller 0 ≡ 0) → (caller kind : ℕ)
+    → inSetOf sets caller kind ≡ true → caller < many
+no-set {many} {calls₀ = calls₀} {sets₀ = sets₀} c no-calls no-sets caller kind e =
+    ltb-true caller many
+    (c .least (λ i j. ltb i many) (λ i j. ltb i many) (below calls₀ no-calls) (below sets₀ no-sets) (λ i j l p q. p) (λ i j l p q. p) caller kind e)
   where
-    below : (sets : List ℕ) → ((n : ℕ) → many ≤ n → getD sets n 0 ≡ 0) → (n b : ℕ) → inSetOf sets n b ≡ true → ltb n many ≡ true
-    below sets none n b e = by (decLt n many)
+    below : (sets : List ℕ) → ((caller : ℕ) → many ≤ caller → getD sets caller 0 ≡ 0) → (caller kind : ℕ) → inSetOf sets caller kind ≡ true
+        → ltb caller many ≡ true
+    below sets none caller kind e = by (decLt caller many)
       where
-        by : Dec (n < many) → ltb n many ≡ true
-        by (yes l) = lt-ltb n many l
-        by (no l) = absurd (false≢true (cc (none n (omega arith), has-none b)))
+        by : Dec (caller < many) → ltb caller many ≡ true
+        by (yes l) = lt-ltb caller many l
+        by (no l) = absurd (false≢true (cc (none caller (omega arith), has-none kind)))
 
 -- one callee more
-module _ {k : ℕ} {calls₀ sets₀ calls sets : List ℕ} (calls′ sets′ : List ℕ)
-    (came : (n j : ℕ) → inSetOf calls′ n j ≡ true → (inSetOf calls n j ≡ true) ⊎ ((inSetOf calls n k ≡ true) × (inSetOf calls k j ≡ true)))
-    (came-sets : (n b : ℕ) → inSetOf sets′ n b ≡ true → (inSetOf sets n b ≡ true) ⊎ ((inSetOf calls n k ≡ true) × (inSetOf sets k b ≡ true)))
-    (old : (n b : ℕ) → inSetOf sets n b ≡ true → inSetOf sets′ n b ≡ true)
-    (new : (n b : ℕ) → inSetOf calls n k ≡ true → inSetOf sets k b ≡ true → inSetOf sets′ n b ≡ true)
-    (a : ClosedBelow k calls₀ calls₀ calls calls) (x : ClosedBelow k calls₀ sets₀ calls sets) where
-  -- over k itself
-  over-last : (n b : ℕ) → inSetOf calls′ n k ≡ true → inSetOf sets′ k b ≡ true → inSetOf sets′ n b ≡ true
-  over-last n b e f = new n b (⊎-elim (λ p. p) (λ p. p .0) (came n k e)) (⊎-elim (λ p. p) (λ p. p .1) (came-sets k b f))
+module _ {callee : ℕ} {calls₀ sets₀ calls sets : List ℕ} (calls′ sets′ : List ℕ)
+    (came : (caller between : ℕ) → inSetOf calls′ caller between ≡ true → (inSetOf calls caller between ≡ true)
+    ⊎ ((inSetOf calls caller callee ≡ true) × (inSetOf calls callee between ≡ true)))
+    (came-sets : (caller kind : ℕ) → inSetOf sets′ caller kind ≡ true → (inSetOf sets caller kind ≡ true)
+    ⊎ ((inSetOf calls caller callee ≡ true) × (inSetOf sets callee kind ≡ true)))
+    (old : (caller kind : ℕ) → inSetOf sets caller kind ≡ true → inSetOf sets′ caller kind ≡ true)
+    (new : (caller kind : ℕ) → inSetOf calls caller callee ≡ true → inSetOf sets callee kind ≡ true → inSetOf sets′ caller kind ≡ true)
+    (closed-below : ClosedBelow callee calls₀ calls₀ calls calls) (other : ClosedBelow callee calls₀ sets₀ calls sets) where
+  -- over `callee` itself
+  over-last : (caller kind : ℕ) → inSetOf calls′ caller callee ≡ true → inSetOf sets′ callee kind ≡ true → inSetOf sets′ caller kind ≡ true
+  over-last caller kind e f = new caller kind (⊎-elim (λ p. p) (λ p. p .0) (came caller callee e)) (⊎-elim (λ p. p) (λ p. p .1) (came-sets callee kind f))
 
-  -- over an earlier callee j
-  over-earlier : (n j b : ℕ) → j < k → inSetOf calls′ n j ≡ true → inSetOf sets′ j b ≡ true → inSetOf sets′ n b ≡ true
-  over-earlier n j b l e f = by (came n j e) (came-sets j b f)
+  -- over an earlier callee `between`
+  over-earlier : (caller between kind : ℕ) → between < callee → inSetOf calls′ caller between ≡ true → inSetOf sets′ between kind ≡ true
+      → inSetOf sets′ caller kind ≡ true
+  over-earlier caller between kind l e f = by (came caller between e) (came-sets between kind f)
     where
-      by : (inSetOf calls n j ≡ true) ⊎ ((inSetOf calls n k ≡ true) × (inSetOf calls k j ≡ true))
-          → (inSetOf sets j b ≡ true) ⊎ ((inSetOf calls j k ≡ true) × (inSetOf sets k b ≡ true)) → inSetOf sets′ n b ≡ true
-      by (inl p) (inl q) = old n b (x .through n j b l p q)
-      by (inl p) (inr q) = new n b (a .through n j k l p (q .0)) (q .1)
-      by (inr p) (inl q) = new n b (p .0) (x .through k j b l (p .1) q)
-      by (inr p) (inr q) = new n b (p .0) (q .1)
+      by : (inSetOf calls caller between ≡ true) ⊎ ((inSetOf calls caller callee ≡ true) × (inSetOf calls callee between ≡ true))
+          → (inSetOf sets between kind ≡ true) ⊎ ((inSetOf calls between callee ≡ true) × (inSetOf sets callee kind ≡ true)) → inSetOf sets′ caller kind ≡ true
+      by (inl p) (inl q) = old caller kind (other .through caller between kind l p q)
+      by (inl p) (inr q) = new caller kind (closed-below .through caller between callee l p (q .0)) (q .1)
+      by (inr p) (inl q) = new caller kind (p .0) (other .through callee between kind l (p .1) q)
+      by (inr p) (inr q) = new caller kind (p .0) (q .1)
 
-  closed-step : length sets′ ≡ length sets → ClosedBelow (k + 1) calls₀ sets₀ calls′ sets′
+  closed-step : length sets′ ≡ length sets → ClosedBelow (callee + 1) calls₀ sets₀ calls′ sets′
   closed-step many =
       record {
-        as-many = many ∙ x .as-many;
-        kept = λ n b e. old n b (x .kept n b e);
-        through = λ n j b l e f. by n j b l e f (decLt j k);
+        as-many = many ∙ other .as-many;
+        kept = λ n b e. old n b (other .kept n b e);
+        through = λ n j b l e f. by n j b l e f (decLt j callee);
         least = λ R S ra sx tr ts n b e.
-            ⊎-elim (λ p. x .least R S ra sx tr ts n b p)
-            (λ p. ts n k b (a .least R R ra ra tr tr n k (p .0)) (x .least R S ra sx tr ts k b (p .1))) (came-sets n b e);
+            ⊎-elim (λ p. other .least R S ra sx tr ts n b p)
+            (λ p. ts n callee b (closed-below .least R R ra ra tr tr n callee (p .0)) (other .least R S ra sx tr ts callee b (p .1))) (came-sets n b e);
       }
     where
-      by : (n j b : ℕ) → j < k + 1 → inSetOf calls′ n j ≡ true → inSetOf sets′ j b ≡ true → Dec (j < k) → inSetOf sets′ n b ≡ true
-      by n j b l e f (yes h) = over-earlier n j b h e f
-      by n j b l e f (no h) = let z : j ≡ k = omega arith in over-last n b (rw (← z) e) (rw (← z) f)
+      by : (caller between kind : ℕ) → between < callee + 1 → inSetOf calls′ caller between ≡ true → inSetOf sets′ between kind ≡ true → Dec (between < callee)
+          → inSetOf sets′ caller kind ≡ true
+      by caller between kind l e f (yes h) = over-earlier caller between kind h e f
+      by caller between kind l e f (no h) = let z : between ≡ callee = omega arith in over-last caller kind (rw (← z) e) (rw (← z) f)
 
--- what the code's turn for callee k does to one of the two arrays
-module _ {many k : ℕ} {calls sets sets′ : List ℕ} (r : CalleeJoined k many calls sets sets′)
-    (none : (n : ℕ) → inSetOf calls n k ≡ true → n < many) where
-  with-seen : (n b : ℕ) → hasKind (withCallee calls sets k n) b ≡ (inSetOf sets n b || (inSetOf calls n k && inSetOf sets k b))
-  with-seen n b = by (hasKind (getD calls n 0) k) refl
+-- what the code's turn for `callee` does to one of the two arrays
+module _ {many callee : ℕ} {calls sets sets′ : List ℕ} (callee-joined : CalleeJoined callee many calls sets sets′)
+    (none : (caller : ℕ) → inSetOf calls caller callee ≡ true → caller < many) where
+  with-seen : (caller kind : ℕ)
+      → hasKind (withCallee calls sets callee caller) kind ≡ (inSetOf sets caller kind || (inSetOf calls caller callee && inSetOf sets callee kind))
+  with-seen caller kind = by (hasKind (getD calls caller 0) callee) refl
     where
-      by : (t : Bool) → hasKind (getD calls n 0) k ≡ t → hasKind (withCallee calls sets k n) b ≡ (inSetOf sets n b || (inSetOf calls n k && inSetOf sets k b))
-      by true e = rw e (has-join (getD sets n 0) (getD sets k 0) b)
+      by : (test : Bool) → hasKind (getD calls caller 0) callee ≡ test
+          → hasKind (withCallee calls sets callee caller) kind ≡ (inSetOf sets caller kind || (inSetOf calls caller callee && inSetOf sets callee kind))
+      by true e = rw e (has-join (getD sets caller 0) (getD sets callee 0) kind)
       by false e = rw e (sym (or-false _))
 
-  taken-came : (n b : ℕ) → inSetOf sets′ n b ≡ true → (inSetOf sets n b ≡ true) ⊎ ((inSetOf calls n k ≡ true) × (inSetOf sets k b ≡ true))
-  taken-came n b e = by (decLt n many)
+  taken-came : (caller kind : ℕ) → inSetOf sets′ caller kind ≡ true
+      → (inSetOf sets caller kind ≡ true) ⊎ ((inSetOf calls caller callee ≡ true) × (inSetOf sets callee kind ≡ true))
+  taken-came caller kind e = by (decLt caller many)
     where
-      by : Dec (n < many) → (inSetOf sets n b ≡ true) ⊎ ((inSetOf calls n k ≡ true) × (inSetOf sets k b ≡ true))
+      by : Dec (caller < many) → (inSetOf sets caller kind ≡ true) ⊎ ((inSetOf calls caller callee ≡ true) × (inSetOf sets callee kind ≡ true))
       by (yes l) =
           ⊎-elim inl (λ p. inr (and-eq-true-iff _ _ .0 p))
-          (or-split (inSetOf sets n b) (cc (with-seen n b, r .done n l)))
-      by (no l) = inl (cc (r .left n (omega arith)))
+          (or-split (inSetOf sets caller kind) (cc (with-seen caller kind, callee-joined .done caller l)))
+      by (no l) = inl (cc (callee-joined .left caller (omega arith)))
 
-  taken-old : (n b : ℕ) → inSetOf sets n b ≡ true → inSetOf sets′ n b ≡ true
-  taken-old n b e = by (decLt n many)
+  taken-old : (caller kind : ℕ) → inSetOf sets caller kind ≡ true → inSetOf sets′ caller kind ≡ true
+  taken-old caller kind e = by (decLt caller many)
     where
-      by : Dec (n < many) → inSetOf sets′ n b ≡ true
-      by (yes l) = rw (r .done n l) (with-seen n b ∙ or-left _ e)
-      by (no l) = rw (r .left n (omega arith)) e
+      by : Dec (caller < many) → inSetOf sets′ caller kind ≡ true
+      by (yes l) = rw (callee-joined .done caller l) (with-seen caller kind ∙ or-left _ e)
+      by (no l) = rw (callee-joined .left caller (omega arith)) e
 
-  taken-new : (n b : ℕ) → inSetOf calls n k ≡ true → inSetOf sets k b ≡ true → inSetOf sets′ n b ≡ true
-  taken-new n b e f =
-      rw (r .done n (none n e)) (with-seen n b ∙ or-right (inSetOf sets n b) (and-eq-true-iff _ _ .1 (e, f)))
+  taken-new : (caller kind : ℕ) → inSetOf calls caller callee ≡ true → inSetOf sets callee kind ≡ true → inSetOf sets′ caller kind ≡ true
+  taken-new caller kind e f =
+      rw (callee-joined .done caller (none caller e)) (with-seen caller kind ∙ or-right (inSetOf sets caller kind) (and-eq-true-iff _ _ .1 (e, f)))
 
 -- ------------------------------------------------------------------ the loop
 
@@ -174,41 +189,42 @@ module _ {many k : ℕ} {calls sets sets′ : List ℕ} (r : CalleeJoined k many
 pub both-start : (calls kinds : List ℕ) → ClosedBoth 0 calls kinds calls kinds
 both-start calls kinds = record { calls-closed = closed-start calls calls; kinds-closed = closed-start calls kinds }
 
-module _ {callers : ℕ} {calls₀ kinds₀ : List ℕ} (u : UsedBelow callers calls₀) {k : ℕ} {calls kinds : List ℕ}
-    (c : ClosedBoth k calls₀ kinds₀ calls kinds) where
+module _ {callers : ℕ} {calls₀ kinds₀ : List ℕ} (used-below : UsedBelow callers calls₀) {callee : ℕ} {calls kinds : List ℕ}
+    (closed-both : ClosedBoth callee calls₀ kinds₀ calls kinds) where
   -- the arrays stay as long as they were
   pub both-lent : SetsLent calls₀ kinds₀ → StepLent callers calls kinds
   both-lent l =
       record {
-        lent = record { calls-many = c .calls-closed .as-many ∙ l .calls-many; kinds-many = c .kinds-closed .as-many ∙ l .kinds-many };
-        small = u .small;
+        lent = record { calls-many = closed-both .calls-closed .as-many ∙ l .calls-many; kinds-many = closed-both .kinds-closed .as-many ∙ l .kinds-many };
+        small = used-below .small;
       }
 
   -- one callee more
-  pub both-next : {calls′ kinds′ : List ℕ} → CalleeTaken k callers calls kinds calls′ kinds′ → ClosedBoth (k + 1) calls₀ kinds₀ calls′ kinds′
+  pub both-next : {calls′ kinds′ : List ℕ} → CalleeTaken callee callers calls kinds calls′ kinds′ → ClosedBoth (callee + 1) calls₀ kinds₀ calls′ kinds′
   both-next {calls′} {kinds′} t =
-      let none : (n : ℕ) → inSetOf calls n k ≡ true → n < callers = λ n e. no-set (c .calls-closed) (u .none) (u .none) n k e in
+      let none : (n : ℕ) → inSetOf calls n callee ≡ true → n < callers = λ n e. no-set (closed-both .calls-closed) (used-below .none)
+      (used-below .none) n callee e in
       let a = t .calls-joined in
       let x = t .kinds-joined in
       record {
         calls-closed =
-            closed-step calls′ calls′ (taken-came a none) (taken-came a none) (taken-old a none) (taken-new a none) (c .calls-closed)
-            (c .calls-closed) (a .as-many);
+            closed-step calls′ calls′ (taken-came a none) (taken-came a none) (taken-old a none) (taken-new a none) (closed-both .calls-closed)
+            (closed-both .calls-closed) (a .as-many);
         kinds-closed =
-            closed-step calls′ kinds′ (taken-came a none) (taken-came x none) (taken-old x none) (taken-new x none) (c .calls-closed)
-            (c .kinds-closed) (x .as-many);
+            closed-step calls′ kinds′ (taken-came a none) (taken-came x none) (taken-old x none) (taken-new x none) (closed-both .calls-closed)
+            (closed-both .kinds-closed) (x .as-many);
       }
 
   -- the other callees give nothing
-  pub both-end : {givers : ℕ} → UsedBelow givers kinds₀ → {many : ℕ} → Above callers givers many → many ≤ k
+  pub both-end : {givers : ℕ} → UsedBelow givers kinds₀ → {many : ℕ} → Above callers givers many → many ≤ callee
       → ClosedBoth 64 calls₀ kinds₀ calls kinds
   both-end v l h =
       record {
-        calls-closed = whole (c .calls-closed) (λ n g. u .none n (omega (arith, l .first)));
-        kinds-closed = whole (c .kinds-closed) (λ n g. v .none n (omega (arith, l .second)));
+        calls-closed = whole (closed-both .calls-closed) (λ n g. used-below .none n (omega (arith, l .first)));
+        kinds-closed = whole (closed-both .kinds-closed) (λ n g. v .none n (omega (arith, l .second)));
       }
     where
-      whole : {sets₀ sets : List ℕ} → ClosedBelow k calls₀ sets₀ calls sets → ((n : ℕ) → k ≤ n → getD sets₀ n 0 ≡ 0)
+      whole : {sets₀ sets : List ℕ} → ClosedBelow callee calls₀ sets₀ calls sets → ((caller : ℕ) → callee ≤ caller → getD sets₀ caller 0 ≡ 0)
           → ClosedBelow 64 calls₀ sets₀ calls sets
       whole d none =
           record {
@@ -216,7 +232,7 @@ module _ {callers : ℕ} {calls₀ kinds₀ : List ℕ} (u : UsedBelow callers c
             kept = d .kept;
             through =
                 λ n j b m e f.
-                d .through n j b (no-set {many = k} d (λ i g. u .none i (omega (arith, l .first))) none j b f) e f;
+                d .through n j b (no-set {many = callee} d (λ i g. used-below .none i (omega (arith, l .first))) none j b f) e f;
             least = d .least;
           }
 
@@ -227,13 +243,13 @@ pub used-start : (sets : List ℕ) → length sets ≡ 64 → UsedBelow 64 sets
 used-start sets e = record { small = omega arith; none = λ n h. List·getD-eq-default {A = ℕ} sets 0 {n = n} (omega arith) }
 
 -- a nonterminal with an empty set is not used
-pub used-next : {sets : List ℕ} {n : ℕ} → UsedBelow n sets → 0 < n → getD sets (n - 1) 0 ≤ 0 → UsedBelow (n - 1) sets
-used-next {sets} {n} u h e = record { small = omega (arith, u .small); none = λ i l. by i l (ℕ-discrete i (n - 1)) }
+pub used-next : {sets : List ℕ} {below-it : ℕ} → UsedBelow below-it sets → 0 < below-it → getD sets (below-it - 1) 0 ≤ 0 → UsedBelow (below-it - 1) sets
+used-next {sets} {below-it} u h e = record { small = omega (arith, u .small); none = λ i l. by i l (ℕ-discrete i (below-it - 1)) }
   where
-    by : (i : ℕ) → n - 1 ≤ i → Dec (i ≡ n - 1) → getD sets i 0 ≡ 0
-    by i l (yes z) = rw z (let y : getD sets (n - 1) 0 ≡ 0 = omega arith in y)
-    by i l (no z) = u .none i (omega arith)
+    by : (place : ℕ) → below-it - 1 ≤ place → Dec (place ≡ below-it - 1) → getD sets place 0 ≡ 0
+    by place l (yes z) = rw z (let y : getD sets (below-it - 1) 0 ≡ 0 = omega arith in y)
+    by place l (no z) = u .none place (omega arith)
 
 -- or none is used
-pub used-end : {sets : List ℕ} {n : ℕ} → UsedBelow n sets → n ≤ 0 → UsedBelow 0 sets
-used-end {n = n} u h = let z : n ≡ 0 = omega arith in rw z at u
+pub used-end : {sets : List ℕ} {below-it : ℕ} → UsedBelow below-it sets → below-it ≤ 0 → UsedBelow 0 sets
+used-end {below-it = below-it} u h = let z : below-it ≡ 0 = omega arith in rw z at u

@@ -14,21 +14,21 @@ use Rattle.firsts.proofs.NullablesExactly as nulls
 use Rattle.firsts.proofs.FirstSetsExactly.{sets-exactly, items-exactly, reads-exactly, calls-exactly}
 
 module _ (g : List Production) where
-  -- 1. Bit n of the nullables is set exactly if n is nullable.
-  pub nullable-exactly : (n : ℕ) → (hasKind (nullables g) n ≡ true) ↔ Nullable g n
+  -- 1. Bit `nonterminal` of the nullables is set exactly if `nonterminal` is nullable.
+  pub nullable-exactly : (nonterminal : ℕ) → (hasKind (nullables g) nonterminal ≡ true) ↔ Nullable g nonterminal
   nullable-exactly = nulls.nullable-exactly g
 
-  -- 2. Bit b of the first set of n is set exactly if kind b opens n.
-  pub opens-exactly : (n b : ℕ) → (hasKind (getD (firstSets (nullables g) g) n 0) b ≡ true) ↔ Opens g n b
+  -- 2. Bit `kind` of the first set of `nonterminal` is set exactly if `kind` opens `nonterminal`.
+  pub opens-exactly : (nonterminal kind : ℕ) → (hasKind (getD (firstSets (nullables g) g) nonterminal 0) kind ≡ true) ↔ Opens g nonterminal kind
   opens-exactly = sets-exactly false Reads reads-exactly g
 
-  -- 3. Bit m of the left calls of n is set exactly if n reaches m by calls preceded only by nullable items.
-  pub reaches-exactly : (n m : ℕ) → (hasKind (getD (leftCalls (nullables g) g) n 0) m ≡ true) ↔ LeftReaches g n m
+  -- 3. Bit `callee` of the left calls of `nonterminal` is set exactly if `nonterminal` reaches `callee` by calls preceded only by nullable items.
+  pub reaches-exactly : (nonterminal callee : ℕ) → (hasKind (getD (leftCalls (nullables g) g) nonterminal 0) callee ≡ true) ↔ LeftReaches g nonterminal callee
   reaches-exactly = sets-exactly true Calls calls-exactly g
 
-  -- 4. Bit b of the first set of one production is set exactly if its items give kind b first.
-  pub production-opens-exactly : (p : Production) (b : ℕ)
-      → (hasKind (firstOf (nullables g) (firstSets (nullables g) g) p) b ≡ true) ↔ First g Reads (p .items) b
+  -- 4. Bit `kind` of the first set of one production is set exactly if its items give `kind` first.
+  pub production-opens-exactly : (p : Production) (kind : ℕ)
+      → (hasKind (firstOf (nullables g) (firstSets (nullables g) g) p) kind ≡ true) ↔ First g Reads (p .items) kind
   production-opens-exactly p = items-exactly false Reads reads-exactly g (p .items)
 
   -- 5. A production is found nullable exactly if its items may all read nothing.

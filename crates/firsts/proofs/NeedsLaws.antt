@@ -36,60 +36,65 @@ none-high = record { none-above = λ n l. has-none n }
 step-high : (owner needs : ℕ) {nulls : ℕ} → Nonterminals nulls → Nonterminals (needStep owner needs nulls)
 step-high owner needs {nulls} h = record { none-above = λ n l. by n l (eqb (bitOr nulls needs) nulls) }
   where
-    by : (n : ℕ) → 64 ≤ n → (b : Bool) → hasKind (joinedIf b nulls (only owner)) n ≡ false
-    by n l true = has-join nulls (only owner) n ∙ rw (h .none-above n l) (has-above 64 (only owner) n (only-bound owner) l)
-    by n l false = h .none-above n l
+    by : (nonterminal : ℕ) → 64 ≤ nonterminal → (test : Bool) → hasKind (joinedIf test nulls (only owner)) nonterminal ≡ false
+    by nonterminal l true =
+        has-join nulls (only owner) nonterminal ∙ rw (h .none-above nonterminal l) (has-above 64 (only owner) nonterminal (only-bound owner) l)
+    by nonterminal l false = h .none-above nonterminal l
 
-pass-high : (place : ℕ → ℕ) (j : ℕ) (owners needs : List ℕ) {nulls : ℕ} → Nonterminals nulls → Nonterminals (needPass place j owners needs nulls)
+pass-high : (place : ℕ → ℕ) (turn : ℕ) (owners needs : List ℕ) {nulls : ℕ} → Nonterminals nulls → Nonterminals (needPass place turn owners needs nulls)
 unfolding needPass
 pass-high place zero owners needs h = h
-pass-high place (suc j) owners needs h = step-high (getD owners (place j) 0) (getD needs (place j) 0) (pass-high place j owners needs h)
+pass-high place (suc turn) owners needs h = step-high (getD owners (place turn) 0) (getD needs (place turn) 0) (pass-high place turn owners needs h)
 
 -- a nonterminal in a set is below 64
-small-in : {s : ℕ} → Nonterminals s → (n : ℕ) → hasKind s n ≡ true → n < 64
-small-in {s} h n e = by (decLt n 64)
+small-in : {reached-set : ℕ} → Nonterminals reached-set → (nonterminal : ℕ) → hasKind reached-set nonterminal ≡ true → nonterminal < 64
+small-in {reached-set} h nonterminal e = by (decLt nonterminal 64)
   where
-    by : Dec (n < 64) → n < 64
+    by : Dec (nonterminal < 64) → nonterminal < 64
     by (yes l) = l
-    by (no l) = absurd (false≢true (sym (h .none-above n (omega arith)) ∙ e))
+    by (no l) = absurd (false≢true (sym (h .none-above nonterminal (omega arith)) ∙ e))
 
 -- a test of each number below k
 allBelow : ℕ → (ℕ → Bool) → Bool
 allBelow zero t = true
 allBelow (suc k) t = t k && allBelow k t
 
-each-below : (k : ℕ) (t : ℕ → Bool) → allBelow k t ≡ true → (n : ℕ) → n < k → t n ≡ true
+each-below : (bound : ℕ) (test : ℕ → Bool) → allBelow bound test ≡ true → (below : ℕ) → below < bound → test below ≡ true
 unfolding allBelow
-each-below zero t e n l = absurd (omega arith)
-each-below (suc k) t e n l =
-    let both = and-eq-true-iff (t k) (allBelow k t) .0 e in
-    dite (decLt n k) (λ h. each-below k t (both .1) n h) (λ h. let z : n ≡ k = omega arith in rw z (both .0))
+each-below zero test e below l = absurd (omega arith)
+each-below (suc bound) test e below l =
+    let both = and-eq-true-iff (test bound) (allBelow bound test) .0 e in
+    dite (decLt below bound) (λ h. each-below bound test (both .1) below h) (λ h. let z : below ≡ bound = omega arith in rw z (both .0))
 
 -- all are in the set of all
-every-has : (n : ℕ) → n < 64 → hasKind everyOne n ≡ true
+every-has : (nonterminal : ℕ) → nonterminal < 64 → hasKind everyOne nonterminal ≡ true
 unfolding hasKind allBelow
 every-has = each-below 64 (hasKind everyOne) refl
 
-every-small : (n : ℕ) → hasKind everyOne n ≡ true → n < 64
+every-small : (nonterminal : ℕ) → hasKind everyOne nonterminal ≡ true → nonterminal < 64
 every-small = small-in (record { none-above = λ n l. has-above 64 everyOne n (omega arith) l })
 
 -- joining adds nothing exactly if all is in already
-joins-none : (s t : ℕ) → ((n : ℕ) → hasKind t n ≡ true → hasKind s n ≡ true) → eqb (bitOr s t) s ≡ true
-joins-none s t h = eq-eqb (bitOr s t) s (same-set (bitOr s t) s (λ n. has-join s t n ∙ by (hasKind s n) (hasKind t n) (h n)))
+joins-none : (reached-set other : ℕ) → ((nonterminal : ℕ) → hasKind other nonterminal ≡ true → hasKind reached-set nonterminal ≡ true)
+    → eqb (bitOr reached-set other) reached-set ≡ true
+joins-none reached-set other h =
+    eq-eqb (bitOr reached-set other) reached-set
+    (same-set (bitOr reached-set other) reached-set (λ n. has-join reached-set other n ∙ by (hasKind reached-set n) (hasKind other n) (h n)))
   where
-    by : (a b : Bool) → (b ≡ true → a ≡ true) → (a || b) ≡ a
-    by true b f = refl
+    by : (first second : Bool) → (second ≡ true → first ≡ true) → (first || second) ≡ first
+    by true second f = refl
     by false true f = sym (f refl)
     by false false f = refl
 
-joined-in : (s t : ℕ) → eqb (bitOr s t) s ≡ true → (n : ℕ) → hasKind t n ≡ true → hasKind s n ≡ true
-joined-in s t e n f =
-    cc (eqb-true (bitOr s t) s e, has-join s t n, or-right (hasKind s n) f)
+joined-in : (reached-set other : ℕ) → eqb (bitOr reached-set other) reached-set ≡ true → (nonterminal : ℕ) → hasKind other nonterminal ≡ true
+    → hasKind reached-set nonterminal ≡ true
+joined-in reached-set other e nonterminal f =
+    cc (eqb-true (bitOr reached-set other) reached-set e, has-join reached-set other nonterminal, or-right (hasKind reached-set nonterminal) f)
 
 -- ------------------------------------------------------------------ the items of a production
 
 -- an item that is passed is passed with all nonterminals nullable
-passed-every : {nulls : ℕ} → Nonterminals nulls → (i : Item) → isPassed nulls i ≡ true → isPassed everyOne i ≡ true
+passed-every : {nulls : ℕ} → Nonterminals nulls → (item : Item) → isPassed nulls item ≡ true → isPassed everyOne item ≡ true
 passed-every h (keyword k) e = e
 passed-every h (ide s) e = e
 passed-every h number e = e
@@ -97,15 +102,15 @@ passed-every h local e = e
 passed-every h (call n ts) e = every-has n (small-in h n e)
 
 -- what an item calls, where it is passed
-passed-needs : (nulls b : ℕ) (i : Item) → isPassed nulls i ≡ true → given true b nothing i ≡ true → hasKind nulls b ≡ true
-passed-needs nulls b (keyword k) e f = absurd (false≢true e)
-passed-needs nulls b (ide s) e f = absurd (false≢true e)
-passed-needs nulls b number e f = absurd (false≢true e)
-passed-needs nulls b local e f = absurd (⊎-elim (λ p. false≢true (sym (has-none b) ∙ p)) (λ p. false≢true p) (or-split (hasKind 0 b) f))
-passed-needs nulls b (call n ts) e f = rw (only-has n b (⊎-elim (λ p. p) (λ p. absurd (false≢true p)) (or-split (hasKind (only n) b) f)) .0) e
+passed-needs : (nulls kind : ℕ) (item : Item) → isPassed nulls item ≡ true → given true kind nothing item ≡ true → hasKind nulls kind ≡ true
+passed-needs nulls kind (keyword k) e f = absurd (false≢true e)
+passed-needs nulls kind (ide s) e f = absurd (false≢true e)
+passed-needs nulls kind number e f = absurd (false≢true e)
+passed-needs nulls kind local e f = absurd (⊎-elim (λ p. false≢true (sym (has-none kind) ∙ p)) (λ p. false≢true p) (or-split (hasKind 0 kind) f))
+passed-needs nulls kind (call n ts) e f = rw (only-has n kind (⊎-elim (λ p. p) (λ p. absurd (false≢true p)) (or-split (hasKind (only n) kind) f)) .0) e
 
-needs-passed : (nulls : ℕ) (i : Item) → isPassed everyOne i ≡ true → ((b : ℕ) → given true b nothing i ≡ true → hasKind nulls b ≡ true)
-    → isPassed nulls i ≡ true
+needs-passed : (nulls : ℕ) (item : Item) → isPassed everyOne item ≡ true → ((kind : ℕ) → given true kind nothing item ≡ true → hasKind nulls kind ≡ true)
+    → isPassed nulls item ≡ true
 needs-passed nulls (keyword k) e h = e
 needs-passed nulls (ide s) e h = e
 needs-passed nulls number e h = e
@@ -146,20 +151,20 @@ module _ (is : List Item) where
   abbrev needsOf : ℕ
   needsOf = gather true everyOne [] is 0
 
-  needs-seen : (b : ℕ) → hasKind needsOf b ≡ firstIn true everyOne b nothing is
-  needs-seen b = items-seen true everyOne b [] is ∙ ap (λ s. firstIn true everyOne b s is) (fun-ext (λ n. has-none b))
+  needs-seen : (kind : ℕ) → hasKind needsOf kind ≡ firstIn true everyOne kind nothing is
+  needs-seen kind = items-seen true everyOne kind [] is ∙ ap (λ s. firstIn true everyOne kind s is) (fun-ext (λ n. has-none kind))
 
   -- with only locals and calls, the needs decide
   test-is : allPassed everyOne is ≡ true → (nulls : ℕ) → eqb (bitOr nulls needsOf) nulls ≡ allPassed nulls is
   test-is e nulls = by _ _ refl refl
     where
-      by : (a b : Bool) → eqb (bitOr nulls needsOf) nulls ≡ a → allPassed nulls is ≡ b → eqb (bitOr nulls needsOf) nulls ≡ allPassed nulls is
-      by true b ea eb = ea ∙ sym (needed-all nulls is e (λ n f. joined-in nulls needsOf ea n (needs-seen n ∙ f)))
+      by : (first second : Bool) → eqb (bitOr nulls needsOf) nulls ≡ first → allPassed nulls is ≡ second → eqb (bitOr nulls needsOf) nulls ≡ allPassed nulls is
+      by true second ea eb = ea ∙ sym (needed-all nulls is e (λ n f. joined-in nulls needsOf ea n (needs-seen n ∙ f)))
       by false true ea eb = joins-none nulls needsOf (λ n f. all-needed nulls is eb n (sym (needs-seen n) ∙ f)) ∙ sym eb
       by false false ea eb = ea ∙ sym eb
 
 -- the test of the definition, with the code's
-by-cases : (owner nulls : ℕ) (b : Bool) → joinedIf b nulls (only owner) ≡ (elim b [ true ↦ bitOr nulls (only owner) | false ↦ nulls ])
+by-cases : (owner nulls : ℕ) (test : Bool) → joinedIf test nulls (only owner) ≡ (elim test [ true ↦ bitOr nulls (only owner) | false ↦ nulls ])
 by-cases owner nulls true = refl
 by-cases owner nulls false = refl
 
@@ -180,130 +185,137 @@ module _ (bs : List ℕ) (owner start : ℕ) {found : Gathered} (ef : found ≡ 
       let none : allPassed nulls items ≡ false = by (allPassed nulls items) refl in
       rw (none, nullStep) refl
     where
-      by : (b : Bool) → allPassed nulls items ≡ b → allPassed nulls items ≡ false
+      by : (test : Bool) → allPassed nulls items ≡ test → allPassed nulls items ≡ false
       by true f =
           absurd (false≢true (sym (rw ef at e) ∙ all-every h items f))
       by false f = f
 
 -- ------------------------------------------------------------------ the productions that are held
 
--- what is written behind the first k changes nothing for these
-round-kept : (i : ℕ) {k : ℕ} → i ≤ k → (owners needs : List ℕ) (o v nulls : ℕ)
-    → needRound i (set owners k o) (set needs k v) nulls ≡ needRound i owners needs nulls
+-- what is written behind the first `many` changes nothing for these
+round-kept : (place : ℕ) {many : ℕ} → place ≤ many → (owners needs : List ℕ) (owner needed nulls : ℕ)
+    → needRound place (set owners many owner) (set needs many needed) nulls ≡ needRound place owners needs nulls
 unfolding needPass
-round-kept zero l owners needs o v nulls = refl
-round-kept (suc i) {k} l owners needs o v nulls =
-    let ne : (i ≡ k → ⊥) = λ e. omega arith in
-    rw (getD-set-other owners k i o 0 ne, getD-set-other needs k i v 0 ne, round-kept i {k = k} (omega arith) owners needs o v nulls) refl
+round-kept zero l owners needs owner needed nulls = refl
+round-kept (suc place) {many} l owners needs owner needed nulls =
+    let ne : (place ≡ many → ⊥) = λ e. omega arith in
+    rw (
+      getD-set-other owners many place owner 0 ne,
+      getD-set-other needs many place needed 0 ne,
+      round-kept place {many = many} (omega arith) owners needs owner needed nulls,
+    ) refl
 
 -- one production more
-round-one : (k : ℕ) (owners needs : List ℕ) (o v nulls : ℕ) → k < length owners → k < length needs
-    → needRound (suc k) (set owners k o) (set needs k v) nulls ≡ needStep o v (needRound k owners needs nulls)
+round-one : (many : ℕ) (owners needs : List ℕ) (owner needed nulls : ℕ) → many < length owners → many < length needs
+    → needRound (suc many) (set owners many owner) (set needs many needed) nulls ≡ needStep owner needed (needRound many owners needs nulls)
 unfolding needPass
-round-one k owners needs o v nulls h l =
-    rw (getD-set-same owners k o 0 h, getD-set-same needs k v 0 l, round-kept k {k = k} (omega arith) owners needs o v nulls) refl
+round-one many owners needs owner needed nulls h l =
+    rw (getD-set-same owners many owner 0 h, getD-set-same needs many needed 0 l, round-kept many {many = many} (omega arith) owners needs owner needed nulls)
+    refl
 
--- the productions before number j are held, k of them, as far as they have only locals and calls
-pub record Holding (bs owners starts : List ℕ) (m : ℕ) (whose₀ needs₀ : List ℕ) (k j : ℕ) (whose needs : List ℕ) : Type 0 where
+-- the productions before number `turn` are held, `total` of them, as far as they have only locals and calls
+pub record Holding (bs owners starts : List ℕ) (many : ℕ) (whose₀ needs₀ : List ℕ) (total turn : ℕ) (whose needs : List ℕ) : Type 0 where
   -- no more are held than were looked at
-  pub few : k ≤ j
+  pub few : total ≤ turn
   -- the arrays have room for all productions
-  pub lent : NeedsLent m whose needs
+  pub lent : NeedsLent many whose needs
   -- the array of owners keeps its length
   pub whose-many : length whose ≡ length whose₀
   -- the array of needs keeps its length
   pub needs-many : length needs ≡ length needs₀
   -- a round over those held is one over the productions looked at
-  pub over : (nulls : ℕ) → Nonterminals nulls → Over nullStep bs owners starts m nulls j (needRound k whose needs nulls)
+  pub over : (nulls : ℕ) → Nonterminals nulls → Over nullStep bs owners starts many nulls turn (needRound total whose needs nulls)
 
 -- room for 256 is enough
-pub needs-lent : {m : ℕ} → m ≤ 256 → NeedsLent m (replicate 256 0) (replicate 256 0)
+pub needs-lent : {many : ℕ} → many ≤ 256 → NeedsLent many (replicate 256 0) (replicate 256 0)
 needs-lent h = record { owners-many = omega (arith, h, length-replicate {A = ℕ} 256 0); needs-many = omega (arith, h, length-replicate {A = ℕ} 256 0) }
 
 -- none is held at first
-pub holding-start : (bs owners starts : List ℕ) (m : ℕ) {whose needs : List ℕ} → NeedsLent m whose needs
-    → Holding bs owners starts m whose needs 0 0 whose needs
+pub holding-start : (bs owners starts : List ℕ) (many : ℕ) {whose needs : List ℕ} → NeedsLent many whose needs
+    → Holding bs owners starts many whose needs 0 0 whose needs
 unfolding needPass
-holding-start bs owners starts m l =
-    record { few = omega arith; lent = l; whose-many = refl; needs-many = refl; over = λ nulls h. over-start nullStep bs owners starts m nulls }
+holding-start bs owners starts many l =
+    record { few = omega arith; lent = l; whose-many = refl; needs-many = refl; over = λ nulls h. over-start nullStep bs owners starts many nulls }
 
-module _ {bs owners starts : List ℕ} {m : ℕ} {whose₀ needs₀ : List ℕ} {k j : ℕ} {whose needs : List ℕ}
-    (c : Holding bs owners starts m whose₀ needs₀ k j whose needs) where
+module _ {bs owners starts : List ℕ} {many : ℕ} {whose₀ needs₀ : List ℕ} {total turn : ℕ} {whose needs : List ℕ}
+    (holding : Holding bs owners starts many whose₀ needs₀ total turn whose needs) where
   -- there is room for one owner more
-  pub holding-whose : j < m → k < length whose
-  holding-whose h = omega (arith, c .few, c .lent .owners-many)
+  pub holding-whose : turn < many → total < length whose
+  holding-whose h = omega (arith, holding .few, holding .lent .owners-many)
 
   -- and for its needs
-  pub holding-needs : j < m → k < length needs
-  holding-needs h = omega (arith, c .few, c .lent .needs-many)
+  pub holding-needs : turn < many → total < length needs
+  holding-needs h = omega (arith, holding .few, holding .lent .needs-many)
 
-  module _ (h : j < m) {o s : ℕ} (eo : o ≡ getD owners j 0) (es : s ≡ getD starts j 0) {found : Gathered}
-      (ef : found ≡ gathered everyOne [] [] (itemsOf (fieldsAt bs s))) where
+  module _ (below : turn < many) {owner start : ℕ} (eo : owner ≡ getD owners turn 0) (es : start ≡ getD starts turn 0) {found : Gathered}
+      (ef : found ≡ gathered everyOne [] [] (itemsOf (fieldsAt bs start))) where
     -- a production that is held
-    pub holding-held : found .nullable ≡ true → Holding bs owners starts m whose₀ needs₀ (k + 1) (j + 1) (set whose k o) (set needs k (found .calls))
+    pub holding-held : found .nullable ≡ true → Holding bs owners starts many whose₀ needs₀ (total + 1) (turn + 1) (set whose total owner)
+        (set needs total (found .calls))
     holding-held e =
-        let z : k + 1 ≡ suc k = omega arith in
+        let z : total + 1 ≡ suc total = omega arith in
         record {
-          few = omega (arith, c .few);
+          few = omega (arith, holding .few);
           lent =
               record {
-                owners-many = omega (arith, c .lent .owners-many, length-set whose k o);
-                needs-many = omega (arith, c .lent .needs-many, length-set needs k (found .calls));
+                owners-many = omega (arith, holding .lent .owners-many, length-set whose total owner);
+                needs-many = omega (arith, holding .lent .needs-many, length-set needs total (found .calls));
               };
-          whose-many = length-set whose k o ∙ c .whose-many;
-          needs-many = length-set needs k (found .calls) ∙ c .needs-many;
+          whose-many = length-set whose total owner ∙ holding .whose-many;
+          needs-many = length-set needs total (found .calls) ∙ holding .needs-many;
           over =
               λ nulls n.
-              over-next (c .over nulls n) h eo es
-              (rw z (round-one k whose needs o (found .calls) nulls (holding-whose h) (holding-needs h))
-              ∙ held-step bs o s ef e (needRound k whose needs nulls));
+              over-next (holding .over nulls n) below eo es
+              (rw z (round-one total whose needs owner (found .calls) nulls (holding-whose below) (holding-needs below))
+              ∙ held-step bs owner start ef e (needRound total whose needs nulls));
         }
 
     -- one that is not
-    pub holding-other : found .nullable ≡ false → Holding bs owners starts m whose₀ needs₀ k (j + 1) whose needs
+    pub holding-other : found .nullable ≡ false → Holding bs owners starts many whose₀ needs₀ total (turn + 1) whose needs
     holding-other e =
         record {
-          few = omega (arith, c .few);
-          lent = c .lent;
-          whose-many = c .whose-many;
-          needs-many = c .needs-many;
-          over = λ nulls n. over-next (c .over nulls n) h eo es (other-step bs o s ef e (pass-high (λ i. i) k whose needs n));
+          few = omega (arith, holding .few);
+          lent = holding .lent;
+          whose-many = holding .whose-many;
+          needs-many = holding .needs-many;
+          over = λ nulls n. over-next (holding .over nulls n) below eo es (other-step bs owner start ef e (pass-high (λ i. i) total whose needs n));
         }
 
   -- all productions were looked at
-  pub holding-end : m ≤ j → NeedsHeld (productionsBy m bs owners starts) k whose needs
-  holding-end h = record { same = λ nulls n. over-end (c .over nulls n) h }
+  pub holding-end : many ≤ turn → NeedsHeld (productionsBy many bs owners starts) total whose needs
+  holding-end h = record { same = λ nulls n. over-end (holding .over nulls n) h }
 
 -- ------------------------------------------------------------------ a pass
 
--- j of the k steps are done
-pub record Passing (owners needs : List ℕ) (down : Bool) (nulls k j set : ℕ) : Type 0 where
-  -- j is at most k
-  pub within : j ≤ k
+-- `turn` of the `many` steps are done
+pub record Passing (owners needs : List ℕ) (down : Bool) (nulls many turn set : ℕ) : Type 0 where
+  -- `turn` is at most `many`
+  pub within : turn ≤ many
   -- the set is what these steps make of the one before
-  pub done : set ≡ needPass (stepPlace down k) j owners needs nulls
+  pub done : set ≡ needPass (stepPlace down many) turn owners needs nulls
 
 -- no step is done at first
-pub passing-start : (owners needs : List ℕ) (down : Bool) (nulls k : ℕ) → Passing owners needs down nulls k 0 nulls
+pub passing-start : (owners needs : List ℕ) (down : Bool) (nulls many : ℕ) → Passing owners needs down nulls many 0 nulls
 unfolding needPass
-passing-start owners needs down nulls k = record { within = omega arith; done = refl }
+passing-start owners needs down nulls many = record { within = omega arith; done = refl }
 
-module _ {owners needs : List ℕ} {down : Bool} {nulls k j set : ℕ} (c : Passing owners needs down nulls k j set) where
+module _ {owners needs : List ℕ} {down : Bool} {nulls many turn set : ℕ} (passing : Passing owners needs down nulls many turn set) where
   -- one step more
-  pub passing-next : j < k → {i o v r : ℕ} → i ≡ stepPlace down k j → o ≡ getD owners i 0 → v ≡ getD needs i 0 → r ≡ needStep o v set
-      → Passing owners needs down nulls k (j + 1) r
+  pub passing-next : turn < many → {place owner needed result : ℕ} → place ≡ stepPlace down many turn → owner ≡ getD owners place 0
+      → needed ≡ getD needs place 0 → result ≡ needStep owner needed set
+      → Passing owners needs down nulls many (turn + 1) result
   unfolding needPass
   passing-next h ei eo ev er =
-      let z : j + 1 ≡ suc j = omega arith in
-      record { within = omega arith; done = rw z (er ∙ rw (c .done, eo, ev, ei) refl) }
+      let z : turn + 1 ≡ suc turn = omega arith in
+      record { within = omega arith; done = rw z (er ∙ rw (passing .done, eo, ev, ei) refl) }
 
   -- all steps are done
-  pub passing-end : k ≤ j → set ≡ needPass (stepPlace down k) k owners needs nulls
-  passing-end h = let z : j ≡ k = omega (arith, c .within) in rw z at (c .done)
+  pub passing-end : many ≤ turn → set ≡ needPass (stepPlace down many) many owners needs nulls
+  passing-end h = let z : turn ≡ many = omega (arith, passing .within) in rw z at (passing .done)
 
 -- needs that are all nullable bring in the owner
-pub need-taken : (owner needs nulls : ℕ) {both : ℕ} → both ≡ bitOr nulls needs → both ≡ nulls → {o : ℕ} → o ≡ only owner → {r : ℕ} → r ≡ bitOr nulls o
-    → r ≡ needStep owner needs nulls
+pub need-taken : (owner needs nulls : ℕ) {both : ℕ} → both ≡ bitOr nulls needs → both ≡ nulls → {own-set : ℕ} → own-set ≡ only owner → {joined : ℕ}
+    → joined ≡ bitOr nulls own-set → joined ≡ needStep owner needs nulls
 need-taken owner needs nulls e f eo er =
     rw (eq-eqb (bitOr nulls needs) nulls (sym e ∙ f)) (cc)
 
@@ -320,125 +332,131 @@ In s t = (n : ℕ) → hasKind s n ≡ true → hasKind t n ≡ true
 step-adds : (owner needs nulls : ℕ) → In nulls (needStep owner needs nulls)
 step-adds owner needs nulls n e = by (eqb (bitOr nulls needs) nulls)
   where
-    by : (b : Bool) → hasKind (joinedIf b nulls (only owner)) n ≡ true
+    by : (test : Bool) → hasKind (joinedIf test nulls (only owner)) n ≡ true
     by true = has-join nulls (only owner) n ∙ or-left _ e
     by false = e
 
-step-more : (owner needs s t : ℕ) → In s t → In (needStep owner needs s) (needStep owner needs t)
-step-more owner needs s t h n = by (eqb (bitOr s needs) s) refl
+step-more : (owner needs reached-set other : ℕ) → In reached-set other → In (needStep owner needs reached-set) (needStep owner needs other)
+step-more owner needs reached-set other h n = by (eqb (bitOr reached-set needs) reached-set) refl
   where
-    by : (b : Bool) → eqb (bitOr s needs) s ≡ b → hasKind (joinedIf b s (only owner)) n ≡ true → hasKind (needStep owner needs t) n ≡ true
+    by : (test : Bool) → eqb (bitOr reached-set needs) reached-set ≡ test → hasKind (joinedIf test reached-set (only owner)) n ≡ true
+        → hasKind (needStep owner needs other) n ≡ true
     by true e f =
-        rw (joins-none t needs (λ m g. h m (joined-in s needs e m g)))
-        (has-join t (only owner) n
-        ∙ ⊎-elim (λ p. or-left _ (h n p)) (λ p. or-right (hasKind t n) p) (or-split (hasKind s n) (sym (has-join s (only owner) n) ∙ f)))
-    by false e f = step-adds owner needs t n (h n f)
+        rw (joins-none other needs (λ m g. h m (joined-in reached-set needs e m g)))
+        (has-join other (only owner) n
+        ∙ ⊎-elim (λ p. or-left _ (h n p)) (λ p. or-right (hasKind other n) p)
+        (or-split (hasKind reached-set n) (sym (has-join reached-set (only owner) n) ∙ f)))
+    by false e f = step-adds owner needs other n (h n f)
 
 module _ (place : ℕ → ℕ) (owners needs : List ℕ) where
   -- step j
   abbrev stepAt : ℕ → ℕ → ℕ
   stepAt i nulls = needStep (getD owners i 0) (getD needs i 0) nulls
 
-  pass-adds : (j nulls : ℕ) → In nulls (needPass place j owners needs nulls)
+  pass-adds : (turn nulls : ℕ) → In nulls (needPass place turn owners needs nulls)
   unfolding needPass
   pass-adds zero nulls n e = e
-  pass-adds (suc j) nulls n e =
-      step-adds (getD owners (place j) 0) (getD needs (place j) 0) (needPass place j owners needs nulls) n (pass-adds j nulls n e)
+  pass-adds (suc turn) nulls n e =
+      step-adds (getD owners (place turn) 0) (getD needs (place turn) 0) (needPass place turn owners needs nulls) n (pass-adds turn nulls n e)
 
-  pass-more : (j s t : ℕ) → In s t → In (needPass place j owners needs s) (needPass place j owners needs t)
+  pass-more : (turn reached-set other : ℕ) → In reached-set other → In (needPass place turn owners needs reached-set) (needPass place turn owners needs other)
   unfolding needPass
-  pass-more zero s t h = h
-  pass-more (suc j) s t h = step-more (getD owners (place j) 0) (getD needs (place j) 0) _ _ (pass-more j s t h)
+  pass-more zero reached-set other h = h
+  pass-more (suc turn) reached-set other h = step-more (getD owners (place turn) 0) (getD needs (place turn) 0) _ _ (pass-more turn reached-set other h)
 
   -- a pass that changes nothing has no step that does
-  pass-fixes : (j s : ℕ) → needPass place j owners needs s ≡ s → (i : ℕ) → i < j → stepAt (place i) s ≡ s
+  pass-fixes : (turn reached-set : ℕ) → needPass place turn owners needs reached-set ≡ reached-set → (turn-before : ℕ) → turn-before < turn
+      → stepAt (place turn-before) reached-set ≡ reached-set
   unfolding needPass
-  pass-fixes zero s e i l = absurd (omega arith)
-  pass-fixes (suc j) s e i l =
-      let r : ℕ = needPass place j owners needs s in
-      let back : In r s = λ n h. rw e at (step-adds (getD owners (place j) 0) (getD needs (place j) 0) r n h) in
-      let same : r ≡ s = both-in r s back (pass-adds j s) in
-      dite (decLt i j) (λ h. pass-fixes j s same i h) (λ h. let z : i ≡ j = omega arith in rw z (ap (stepAt (place j)) (sym same) ∙ e))
+  pass-fixes zero reached-set e turn-before l = absurd (omega arith)
+  pass-fixes (suc turn) reached-set e turn-before l =
+      let r : ℕ = needPass place turn owners needs reached-set in
+      let back : In r reached-set = λ n h. rw e at (step-adds (getD owners (place turn) 0) (getD needs (place turn) 0) r n h) in
+      let same : r ≡ reached-set = both-in r reached-set back (pass-adds turn reached-set) in
+      dite (decLt turn-before turn) (λ h. pass-fixes turn reached-set same turn-before h)
+      (λ h. let z : turn-before ≡ turn = omega arith in rw z (ap (stepAt (place turn)) (sym same) ∙ e))
 
-  fixed-pass : (j s : ℕ) → ((i : ℕ) → i < j → stepAt (place i) s ≡ s) → needPass place j owners needs s ≡ s
+  fixed-pass : (turn reached-set : ℕ) → ((turn-before : ℕ) → turn-before < turn → stepAt (place turn-before) reached-set ≡ reached-set)
+      → needPass place turn owners needs reached-set ≡ reached-set
   unfolding needPass
-  fixed-pass zero s h = refl
-  fixed-pass (suc j) s h = ap (stepAt (place j)) (fixed-pass j s (λ i l. h i (omega arith))) ∙ h j (omega arith)
+  fixed-pass zero reached-set h = refl
+  fixed-pass (suc turn) reached-set h = ap (stepAt (place turn)) (fixed-pass turn reached-set (λ i l. h i (omega arith))) ∙ h turn (omega arith)
 
 -- the code's test
-pub place-by : (k j : ℕ) {down d : Bool} → down ≡ d → stepPlace d k j ≡ stepPlace down k j
-place-by k j e = rw e refl
+pub place-by : (total turn : ℕ) {down downwards : Bool} → down ≡ downwards → stepPlace downwards total turn ≡ stepPlace down total turn
+place-by total turn e = rw e refl
 
-place-below : (down : Bool) (k j : ℕ) → j < k → stepPlace down k j < k
-place-below true k j h = omega arith
-place-below false k j h = h
+place-below : (down : Bool) (total turn : ℕ) → turn < total → stepPlace down total turn < total
+place-below true total turn h = omega arith
+place-below false total turn h = h
 
 -- each place has its step
-place-step : (down : Bool) (k i : ℕ) → i < k → (j : ℕ) × (j < k) × (stepPlace down k j ≡ i)
-place-step true k i h = (k - 1 - i, omega arith, omega arith)
-place-step false k i h = (i, h, refl)
+place-step : (down : Bool) (total place : ℕ) → place < total → (turn : ℕ) × (turn < total) × (stepPlace down total turn ≡ place)
+place-step true total place h = (total - 1 - place, omega arith, omega arith)
+place-step false total place h = (place, h, refl)
 
 -- what was found is nullable
 pub record Found (g : List Production) (nulls : ℕ) : Type 0 where
   -- it has nonterminals only
   pub high : Nonterminals nulls
   -- each of them is nullable
-  pub nullable : (n : ℕ) → hasKind nulls n ≡ true → hasKind (nullables g) n ≡ true
+  pub nullable : (nonterminal : ℕ) → hasKind nulls nonterminal ≡ true → hasKind (nullables g) nonterminal ≡ true
 
 -- nothing is found at first
 pub found-start : (g : List Production) → Found g 0
 found-start g = record { high = none-high; nullable = λ n e. absurd (false≢true (sym (has-none n) ∙ e)) }
 
-module _ {g : List Production} {k : ℕ} {owners needs : List ℕ} (held : NeedsHeld g k owners needs) where
+module _ {g : List Production} {many : ℕ} {owners needs : List ℕ} (held : NeedsHeld g many owners needs) where
   nullables-high : Nonterminals (nullables g)
   nullables-high = record { none-above = λ n l. by n l (hasKind (nullables g) n) refl }
     where
-      by : (n : ℕ) → 64 ≤ n → (b : Bool) → hasKind (nullables g) n ≡ b → hasKind (nullables g) n ≡ false
-      by n l true e = let s : n < 64 = nullable-exactly g n .0 e .of .small in absurd (omega arith)
-      by n l false e = e
+      by : (nonterminal : ℕ) → 64 ≤ nonterminal → (test : Bool) → hasKind (nullables g) nonterminal ≡ test → hasKind (nullables g) nonterminal ≡ false
+      by nonterminal l true e = let s : nonterminal < 64 = nullable-exactly g nonterminal .0 e .of .small in absurd (omega arith)
+      by nonterminal l false e = e
 
   -- no step changes the nullables
-  nullables-fixed : (i : ℕ) → i < k → needStep (getD owners i 0) (getD needs i 0) (nullables g) ≡ nullables g
-  nullables-fixed = pass-fixes (λ j. j) owners needs k (nullables g) (held .same (nullables g) nullables-high ∙ nullables-settled g)
+  nullables-fixed : (place : ℕ) → place < many → needStep (getD owners place 0) (getD needs place 0) (nullables g) ≡ nullables g
+  nullables-fixed = pass-fixes (λ j. j) owners needs many (nullables g) (held .same (nullables g) nullables-high ∙ nullables-settled g)
 
   -- where no step changes a set, rounds from what is in it stay in it
-  rounds-in : (s : ℕ) → needRound k owners needs s ≡ s → (t x : ℕ) → Nonterminals x → In x s → In (rounds t (overAll nullStep g) x) s
+  rounds-in : (closed-set : ℕ) → needRound many owners needs closed-set ≡ closed-set → (times reached : ℕ) → Nonterminals reached → In reached closed-set
+      → In (rounds times (overAll nullStep g) reached) closed-set
   unfolding rounds
-  rounds-in s e zero x h i = i
-  rounds-in s e (suc t) x h i =
-      let ex : overAll nullStep g x ≡ needRound k owners needs x = sym (held .same x h) in
-      rounds-in s e t (overAll nullStep g x) (rw ex (pass-high (λ j. j) k owners needs h))
-      (λ n f. rw e at (pass-more (λ j. j) owners needs k x s i n (rw ex at f)))
+  rounds-in closed-set e zero reached h i = i
+  rounds-in closed-set e (suc times) reached h i =
+      let ex : overAll nullStep g reached ≡ needRound many owners needs reached = sym (held .same reached h) in
+      rounds-in closed-set e times (overAll nullStep g reached) (rw ex (pass-high (λ j. j) many owners needs h))
+      (λ n f. rw e at (pass-more (λ j. j) owners needs many reached closed-set i n (rw ex at f)))
 
-  nullables-in : (s : ℕ) → needRound k owners needs s ≡ s → In (nullables g) s
+  nullables-in : (reached-set : ℕ) → needRound many owners needs reached-set ≡ reached-set → In (nullables g) reached-set
   unfolding nullables
-  nullables-in s e = rounds-in s e 64 0 none-high (λ n f. absurd (false≢true (sym (has-none n) ∙ f)))
+  nullables-in reached-set e = rounds-in reached-set e 64 0 none-high (λ n f. absurd (false≢true (sym (has-none n) ∙ f)))
 
-  module _ {nulls : ℕ} (c : Found g nulls) (down : Bool) {more : ℕ} (em : more ≡ needPass (stepPlace down k) k owners needs nulls) where
+  module _ {nulls : ℕ} (found : Found g nulls) (down : Bool) {more : ℕ} (em : more ≡ needPass (stepPlace down many) many owners needs nulls) where
     -- what a pass finds is nullable
     pub found-next : Found g more
     found-next =
         record {
-          high = rw em (pass-high (stepPlace down k) k owners needs (c .high));
+          high = rw em (pass-high (stepPlace down many) many owners needs (found .high));
           nullable =
-              let stays = fixed-pass (stepPlace down k) owners needs k (nullables g) (λ j l. nullables-fixed _ (place-below down k j l)) in
-              λ n e. rw stays at (pass-more (stepPlace down k) owners needs k nulls (nullables g) (c .nullable) n (rw em at e));
+              let stays = fixed-pass (stepPlace down many) owners needs many (nullables g) (λ j l. nullables-fixed _ (place-below down many j l)) in
+              λ n e. rw stays at (pass-more (stepPlace down many) owners needs many nulls (nullables g) (found .nullable) n (rw em at e));
         }
 
     -- a pass that changes something finds more
     pub found-less : (more ≡ nulls → ⊥) → 64 - count 64 (hasKind more) < 64 - count 64 (hasKind nulls)
     found-less ne =
-        let adds : In nulls more = λ n e. rw em (pass-adds (stepPlace down k) owners needs k nulls n e) in
-        let above : (n : ℕ) → 64 ≤ n → hasKind more n ≡ hasKind nulls n = λ n l. found-next .high .none-above n l ∙ sym (c .high .none-above n l) in
+        let adds : In nulls more = λ n e. rw em (pass-adds (stepPlace down many) owners needs many nulls n e) in
+        let above : (n : ℕ) → 64 ≤ n → hasKind more n ≡ hasKind nulls n = λ n l. found-next .high .none-above n l ∙ sym (found .high .none-above n l) in
         ⊎-elim
         (λ m. absurd (ne (same-set more nulls (λ n. dite (decLt n 64) (m .0 n) (λ l. above n (omega arith))))))
         (λ l. omega (arith, l, count-le 64 (hasKind more))) (grows 64 adds)
 
     -- a pass that changes nothing has found all
     pub found-stop : more ≡ nulls → nulls ≡ nullables g
-    found-stop e = both-in nulls (nullables g) (c .nullable) (nullables-in nulls (fixed-pass (λ j. j) owners needs k nulls fixed))
+    found-stop e = both-in nulls (nullables g) (found .nullable) (nullables-in nulls (fixed-pass (λ j. j) owners needs many nulls fixed))
       where
-        fixed : (i : ℕ) → i < k → needStep (getD owners i 0) (getD needs i 0) nulls ≡ nulls
-        fixed i l =
-            let p = place-step down k i l in
-            rw (← (p .2)) (pass-fixes (stepPlace down k) owners needs k nulls (sym em ∙ e) (p .0) (p .1))
+        fixed : (place : ℕ) → place < many → needStep (getD owners place 0) (getD needs place 0) nulls ≡ nulls
+        fixed place l =
+            let p = place-step down many place l in
+            rw (← (p .2)) (pass-fixes (stepPlace down many) owners needs many nulls (sym em ∙ e) (p .0) (p .1))

@@ -26,7 +26,7 @@ allIn : Numbers → List Item → Bool
 allIn s [] = true
 allIn s (i ∷ is) = passed s i && allIn s is
 
-passed-seen : (nulls : ℕ) (i : Item) → isPassed nulls i ≡ passed (hasKind nulls) i
+passed-seen : (nulls : ℕ) (item : Item) → isPassed nulls item ≡ passed (hasKind nulls) item
 passed-seen nulls (keyword k) = refl
 passed-seen nulls (ide b) = refl
 passed-seen nulls number = refl
@@ -38,19 +38,19 @@ unfolding allPassed allIn
 all-seen nulls [] = refl
 all-seen nulls (i ∷ is) = ap₂ _&&_ (passed-seen nulls i) (all-seen nulls is)
 
-passed-more : (s t : Numbers) → Within s t → (i : Item) → passed s i ≡ true → passed t i ≡ true
-passed-more s t h (keyword k) e = e
-passed-more s t h (ide b) e = e
-passed-more s t h number e = e
-passed-more s t h local e = e
-passed-more s t h (call n ts) e = h n e
+passed-more : (numbers others : Numbers) → Within numbers others → (item : Item) → passed numbers item ≡ true → passed others item ≡ true
+passed-more numbers others h (keyword k) e = e
+passed-more numbers others h (ide b) e = e
+passed-more numbers others h number e = e
+passed-more numbers others h local e = e
+passed-more numbers others h (call n ts) e = h n e
 
-all-more : (s t : Numbers) → Within s t → (is : List Item) → allIn s is ≡ true → allIn t is ≡ true
+all-more : (numbers others : Numbers) → Within numbers others → (is : List Item) → allIn numbers is ≡ true → allIn others is ≡ true
 unfolding allIn
-all-more s t h [] e = e
-all-more s t h (i ∷ is) e =
+all-more numbers others h [] e = e
+all-more numbers others h (i ∷ is) e =
     let b = and-eq-true-iff _ _ .0 e in
-    and-eq-true-iff _ _ .1 (passed-more s t h i (b .0), all-more s t h is (b .1))
+    and-eq-true-iff _ _ .1 (passed-more numbers others h i (b .0), all-more numbers others h is (b .1))
 
 -- ------------------------------------------------------------------ the computed nullables are the least set
 
@@ -58,9 +58,11 @@ step-seen : (p : Production) (nulls : ℕ) → Unit {0} → hasKind (nullStep p 
 unfolding nullStep
 step-seen p nulls u = fun-ext (λ n. by n (allPassed nulls (p .items)) refl)
   where
-    by : (n : ℕ) (b : Bool) → allPassed nulls (p .items) ≡ b → hasKind (nullStep p nulls) n ≡ admit allIn p (hasKind nulls) n
-    by n true e = rw (← all-seen nulls (p .items), e, nullStep) (rw (has-only (p .owner) n) at (has-join nulls (only (p .owner)) n))
-    by n false e = rw (← all-seen nulls (p .items), e, nullStep) (sym (or-false (hasKind nulls n)))
+    by : (nonterminal : ℕ) (test : Bool) → allPassed nulls (p .items) ≡ test
+        → hasKind (nullStep p nulls) nonterminal ≡ admit allIn p (hasKind nulls) nonterminal
+    by nonterminal true e =
+        rw (← all-seen nulls (p .items), e, nullStep) (rw (has-only (p .owner) nonterminal) at (has-join nulls (only (p .owner)) nonterminal))
+    by nonterminal false e = rw (← all-seen nulls (p .items), e, nullStep) (sym (or-false (hasKind nulls nonterminal)))
 
 nullables-seen : (g : List Production) → hasKind (nullables g) ≡ least allIn g
 unfolding nullables
@@ -77,17 +79,17 @@ nullables-settled g =
 -- ------------------------------------------------------------------ the rules
 
 module _ (g : List Production) where
-  null-sound : (s : Numbers) → Each (Nullable g) s → (is : List Item) → allIn s is ≡ true → NullItems g is
+  null-sound : (numbers : Numbers) → Each (Nullable g) numbers → (is : List Item) → allIn numbers is ≡ true → NullItems g is
   unfolding allIn
-  null-sound s hs [] e = null-none
-  null-sound s hs (keyword k ∷ is) e = absurd (false≢true e)
-  null-sound s hs (ide b ∷ is) e = absurd (false≢true e)
-  null-sound s hs (number ∷ is) e = absurd (false≢true e)
-  null-sound s hs (local ∷ is) e = null-local (null-sound s hs is e)
-  null-sound s hs (call n ts ∷ is) e =
+  null-sound numbers hs [] e = null-none
+  null-sound numbers hs (keyword k ∷ is) e = absurd (false≢true e)
+  null-sound numbers hs (ide b ∷ is) e = absurd (false≢true e)
+  null-sound numbers hs (number ∷ is) e = absurd (false≢true e)
+  null-sound numbers hs (local ∷ is) e = null-local (null-sound numbers hs is e)
+  null-sound numbers hs (call n ts ∷ is) e =
       let b = and-eq-true-iff _ _ .0 e in
       let h : Nullable g n = hs n (b .0) in
-      null-call (h .of) (h .items) (null-sound s hs is (b .1))
+      null-call (h .of) (h .items) (null-sound numbers hs is (b .1))
 
   null-complete : {is : List Item} → NullItems g is → allIn (least allIn g) is ≡ true
   unfolding allIn
@@ -95,15 +97,16 @@ module _ (g : List Production) where
   null-complete (null-local h) = null-complete h
   null-complete (null-call o h t) = and-eq-true-iff _ _ .1 (least-closed allIn all-more g o (null-complete h), null-complete t)
 
-  -- bit n is there exactly if n is nullable by the rules
-  pub nullable-exactly : (n : ℕ) → (hasKind (nullables g) n ≡ true) ↔ Nullable g n
-  nullable-exactly n = (
-    λ e. least-within allIn g (Nullable g) keeps n (rw (nullables-seen g) at e),
+  -- bit `nonterminal` is there exactly if `nonterminal` is nullable by the rules
+  pub nullable-exactly : (nonterminal : ℕ) → (hasKind (nullables g) nonterminal ≡ true) ↔ Nullable g nonterminal
+  nullable-exactly nonterminal = (
+    λ e. least-within allIn g (Nullable g) keeps nonterminal (rw (nullables-seen g) at e),
     λ h. rw (nullables-seen g) (least-closed allIn all-more g (h .of) (null-complete (h .items))),
   )
     where
-      keeps : (s : Numbers) → Each (Nullable g) s → (n : ℕ) (p : Production) → Of g n p → allIn s (p .items) ≡ true → Nullable g n
-      keeps s hs n p o e = record { production = p; of = o; items = null-sound s hs (p .items) e }
+      keeps : (numbers : Numbers) → Each (Nullable g) numbers → (nonterminal : ℕ) (p : Production) → Of g nonterminal p → allIn numbers (p .items) ≡ true
+          → Nullable g nonterminal
+      keeps numbers hs nonterminal p o e = record { production = p; of = o; items = null-sound numbers hs (p .items) e }
 
   -- items are found nullable exactly if they are
   pub null-items-exactly : (is : List Item) → (allPassed (nullables g) is ≡ true) ↔ NullItems g is
@@ -113,7 +116,7 @@ module _ (g : List Production) where
   )
 
   -- and so it is with one item
-  pub null-item-exactly : (i : Item) → (isPassed (nullables g) i ≡ true) ↔ NullItems g (i ∷ [])
+  pub null-item-exactly : (item : Item) → (isPassed (nullables g) item ≡ true) ↔ NullItems g (item ∷ [])
   unfolding allPassed
-  null-item-exactly i =
-      (λ e. null-items-exactly (i ∷ []) .0 (and-true _ ∙ e), λ h. sym (and-true _) ∙ null-items-exactly (i ∷ []) .1 h)
+  null-item-exactly item =
+      (λ e. null-items-exactly (item ∷ []) .0 (and-true _ ∙ e), λ h. sym (and-true _) ∙ null-items-exactly (item ∷ []) .1 h)

@@ -17,16 +17,16 @@ use Rattle.firsts.specs.Rules.{In, in-first, in-later, Of}
 -- ------------------------------------------------------------------ tests
 
 -- one side is enough
-pub or-left : {a : Bool} (b : Bool) → a ≡ true → (a || b) ≡ true
-or-left b e = rw e refl
+pub or-left : {first : Bool} (second : Bool) → first ≡ true → (first || second) ≡ true
+or-left second e = rw e refl
 
 -- and so is the other
-pub or-right : (a : Bool) {b : Bool} → b ≡ true → (a || b) ≡ true
+pub or-right : (first : Bool) {second : Bool} → second ≡ true → (first || second) ≡ true
 or-right true e = refl
 or-right false e = e
 
 -- one of the two it is
-pub or-split : (a : Bool) {b : Bool} → (a || b) ≡ true → (a ≡ true) ⊎ (b ≡ true)
+pub or-split : (first : Bool) {second : Bool} → (first || second) ≡ true → (first ≡ true) ⊎ (second ≡ true)
 or-split true e = inl refl
 or-split false e = inr e
 
@@ -37,8 +37,8 @@ abbrev pub Numbers : Type 0
 Numbers = ℕ → Bool
 
 -- equal sets have the same numbers
-pub same-at : {s t : Numbers} → s ≡ t → (n : ℕ) → s n ≡ t n
-same-at e n = ap (λ (s : Numbers). s n) e
+pub same-at : {numbers others : Numbers} → numbers ≡ others → (number : ℕ) → numbers number ≡ others number
+same-at e number = ap (λ (s : Numbers). s number) e
 
 -- none
 abbrev pub nothing : Numbers
@@ -61,35 +61,38 @@ pub count : ℕ → Numbers → ℕ
 count zero s = 0
 count (suc n) s = counted (s n) (count n s)
 
-counted-le : (b : Bool) {c n : ℕ} → c ≤ n → counted b c ≤ suc n
+counted-le : (test : Bool) {count-below bound : ℕ} → count-below ≤ bound → counted test count-below ≤ suc bound
 counted-le true h = omega arith
 counted-le false h = omega arith
 
 -- no more than there are
-pub count-le : (n : ℕ) (s : Numbers) → count n s ≤ n
+pub count-le : (bound : ℕ) (numbers : Numbers) → count bound numbers ≤ bound
 unfolding count
-count-le zero s = omega arith
-count-le (suc n) s = counted-le (s n) (count-le n s)
+count-le zero numbers = omega arith
+count-le (suc bound) numbers = counted-le (numbers bound) (count-le bound numbers)
 
 -- the same numbers below n
 abbrev pub Same : ℕ → Numbers → Numbers → Type 0
 Same n s t = (k : ℕ) → k < n → t k ≡ s k
 
-same-next : {n : ℕ} {s t : Numbers} → Same n s t → t n ≡ s n → Same (suc n) s t
-same-next {n} {s} {t} same e k h = by (decLt k n)
+same-next : {bound : ℕ} {numbers others : Numbers} → Same bound numbers others → others bound ≡ numbers bound → Same (suc bound) numbers others
+same-next {bound} {numbers} {others} same e k h = by (decLt k bound)
   where
-    by : Dec (k < n) → t k ≡ s k
+    by : Dec (k < bound) → others k ≡ numbers k
     by (yes l) = same k l
-    by (no l) = let at : k ≡ n = omega arith in rw at e
+    by (no l) = let at : k ≡ bound = omega arith in rw at e
 
 -- a set that grows has the same numbers, or more of them
-pub grows : (n : ℕ) {s t : Numbers} → Within s t → (Same n s t × (count n s ≡ count n t)) ⊎ (count n s < count n t)
+pub grows : (bound : ℕ) {numbers others : Numbers} → Within numbers others → (Same bound numbers others × (count bound numbers ≡ count bound others))
+    ⊎ (count bound numbers < count bound others)
 unfolding count
 grows zero h = inl ((λ k l. absurd (omega arith)), refl)
-grows (suc n) {s} {t} h = by (s n) (t n) refl refl (h n) (grows n h)
+grows (suc bound) {numbers} {others} h = by (numbers bound) (others bound) refl refl (h bound) (grows bound h)
   where
-    by : (b c : Bool) → s n ≡ b → t n ≡ c → (s n ≡ true → t n ≡ true) → (Same n s t × (count n s ≡ count n t)) ⊎ (count n s < count n t)
-        → (Same (suc n) s t × (counted b (count n s) ≡ counted c (count n t))) ⊎ (counted b (count n s) < counted c (count n t))
+    by : (first second : Bool) → numbers bound ≡ first → others bound ≡ second → (numbers bound ≡ true → others bound ≡ true)
+        → (Same bound numbers others × (count bound numbers ≡ count bound others)) ⊎ (count bound numbers < count bound others)
+        → (Same (suc bound) numbers others × (counted first (count bound numbers) ≡ counted second (count bound others)))
+        ⊎ (counted first (count bound numbers) < counted second (count bound others))
     by true true es et i (inl m) = inl (same-next (m .0) (et ∙ sym es), ap suc (m .1))
     by true true es et i (inr m) = inr (omega arith)
     by false true es et i (inl m) = inr (omega (arith, m .1))
@@ -101,34 +104,36 @@ grows (suc n) {s} {t} h = by (s n) (t n) refl refl (h n) (grows n h)
 -- ------------------------------------------------------------------ rounds that settle
 
 -- where a round changes nothing, no further one does
-pub rounds-fixed : {A : Type 0} (k : ℕ) (f : A → A) (x : A) → f x ≡ x → rounds k f x ≡ x
+pub rounds-fixed : {A : Type 0} (times : ℕ) (round : A → A) (item : A) → round item ≡ item → rounds times round item ≡ item
 unfolding rounds
-rounds-fixed zero f x e = refl
-rounds-fixed (suc k) f x e = ap (rounds k f) e ∙ rounds-fixed k f x e
+rounds-fixed zero round item e = refl
+rounds-fixed (suc times) round item e = ap (rounds times round) e ∙ rounds-fixed times round item e
 
 -- a round that only adds, and only numbers below 64
-module _ (f : Numbers → Numbers) (adds : (s : Numbers) → Within s (f s)) (high : (s : Numbers) (n : ℕ) → 64 ≤ n → f s n ≡ s n) where
-  round-grows : (s : Numbers) → (f s ≡ s) ⊎ (count 64 s < count 64 (f s))
-  round-grows s = ⊎-elim (λ m. inl (fun-ext (λ n. by n (m .0) (decLt n 64)))) (λ l. inr l) (grows 64 (adds s))
+module _ (round : Numbers → Numbers) (adds : (numbers : Numbers) → Within numbers (round numbers))
+    (high : (numbers : Numbers) (number : ℕ) → 64 ≤ number → round numbers number ≡ numbers number) where
+  round-grows : (numbers : Numbers) → (round numbers ≡ numbers) ⊎ (count 64 numbers < count 64 (round numbers))
+  round-grows numbers = ⊎-elim (λ m. inl (fun-ext (λ n. by n (m .0) (decLt n 64)))) (λ l. inr l) (grows 64 (adds numbers))
     where
-      by : (n : ℕ) → Same 64 s (f s) → Dec (n < 64) → f s n ≡ s n
-      by n same (yes l) = same n l
-      by n same (no l) = high s n (omega arith)
+      by : (number : ℕ) → Same 64 numbers (round numbers) → Dec (number < 64) → round numbers number ≡ numbers number
+      by number same (yes l) = same number l
+      by number same (no l) = high numbers number (omega arith)
 
-  -- after k rounds nothing changes, or k numbers have come in
-  settling : (k c : ℕ) (s : Numbers) → c ≤ count 64 s → (f (rounds k f s) ≡ rounds k f s) ⊎ (k + c ≤ count 64 (rounds k f s))
+  -- after `times` rounds nothing changes, or `times` numbers have come in
+  settling : (times count-so-far : ℕ) (numbers : Numbers) → count-so-far ≤ count 64 numbers → (round (rounds times round numbers) ≡ rounds times round numbers)
+      ⊎ (times + count-so-far ≤ count 64 (rounds times round numbers))
   unfolding rounds
-  settling zero c s h = inr (omega arith)
-  settling (suc k) c s h =
-      ⊎-elim (λ e. inl (rw (rounds-fixed (suc k) f s e) e))
-      (λ l. ⊎-elim (λ e. inl e) (λ m. inr (omega arith)) (settling k (suc c) (f s) (omega arith))) (round-grows s)
+  settling zero count-so-far numbers h = inr (omega arith)
+  settling (suc times) count-so-far numbers h =
+      ⊎-elim (λ e. inl (rw (rounds-fixed (suc times) round numbers e) e))
+      (λ l. ⊎-elim (λ e. inl e) (λ m. inr (omega arith)) (settling times (suc count-so-far) (round numbers) (omega arith))) (round-grows numbers)
 
   -- so 64 rounds settle it
-  pub settled : (s : Numbers) → f (rounds 64 f s) ≡ rounds 64 f s
-  settled s =
+  pub settled : (numbers : Numbers) → round (rounds 64 round numbers) ≡ rounds 64 round numbers
+  settled numbers =
       ⊎-elim (λ e. e)
-      (λ m. ⊎-elim (λ e. e) (λ l. absurd (omega (arith, count-le 64 (f (rounds 64 f s))))) (round-grows (rounds 64 f s)))
-      (settling 64 0 s (omega arith))
+      (λ m. ⊎-elim (λ e. e) (λ l. absurd (omega (arith, count-le 64 (round (rounds 64 round numbers))))) (round-grows (rounds 64 round numbers)))
+      (settling 64 0 numbers (omega arith))
 
 -- ------------------------------------------------------------------ the least set that the productions keep
 
@@ -141,26 +146,26 @@ pub least : (Numbers → List Item → Bool) → List Production → Numbers
 least passes g = rounds 64 (overAll (admit passes) g) nothing
 
 module _ (passes : Numbers → List Item → Bool) (g : List Production) (P : ℕ → Type 0)
-    (keeps : (s : Numbers) → Each P s → (n : ℕ) (p : Production) → Of g n p → passes s (p .items) ≡ true → P n) where
-  step-within : (s : Numbers) → Each P s → (p : Production) → In g p → Each P (admit passes p s)
-  step-within s hs p member n e = ⊎-elim (hs n) (λ a. came (and-eq-true-iff _ _ .0 a)) (or-split (s n) e)
+    (keeps : (numbers : Numbers) → Each P numbers → (number : ℕ) (p : Production) → Of g number p → passes numbers (p .items) ≡ true → P number) where
+  step-within : (numbers : Numbers) → Each P numbers → (p : Production) → In g p → Each P (admit passes p numbers)
+  step-within numbers hs p member n e = ⊎-elim (hs n) (λ a. came (and-eq-true-iff _ _ .0 a)) (or-split (numbers n) e)
     where
-      came : (passes s (p .items) ≡ true) × ((ltb n 64 && eqb n (p .owner)) ≡ true) → P n
+      came : (passes numbers (p .items) ≡ true) × ((ltb n 64 && eqb n (p .owner)) ≡ true) → P n
       came a =
           let t = and-eq-true-iff _ _ .0 (a .1) in
-          keeps s hs n p (record { member = member; owned = sym (eqb-true n (p .owner) (t .1)); small = ltb-true n 64 (t .0) }) (a .0)
+          keeps numbers hs n p (record { member = member; owned = sym (eqb-true n (p .owner) (t .1)); small = ltb-true n 64 (t .0) }) (a .0)
 
   -- and of each number after a round
-  pub over-within : (h : List Production) → ((p : Production) → In h p → In g p) → (s : Numbers) → Each P s
-      → Each P (overAll (admit passes) h s)
+  pub over-within : (part : List Production) → ((p : Production) → In part p → In g p) → (numbers : Numbers) → Each P numbers
+      → Each P (overAll (admit passes) part numbers)
   unfolding overAll
-  over-within [] i s hs = hs
-  over-within (p ∷ h) i s hs = over-within h (λ q m. i q (in-later m)) (admit passes p s) (step-within s hs p (i p in-first))
+  over-within [] i numbers hs = hs
+  over-within (p ∷ part) i numbers hs = over-within part (λ q m. i q (in-later m)) (admit passes p numbers) (step-within numbers hs p (i p in-first))
 
-  rounds-within : (k : ℕ) (s : Numbers) → Each P s → Each P (rounds k (overAll (admit passes) g) s)
+  rounds-within : (times : ℕ) (numbers : Numbers) → Each P numbers → Each P (rounds times (overAll (admit passes) g) numbers)
   unfolding rounds
-  rounds-within zero s hs = hs
-  rounds-within (suc k) s hs = rounds-within k (overAll (admit passes) g s) (over-within g (λ q m. m) s hs)
+  rounds-within zero numbers hs = hs
+  rounds-within (suc times) numbers hs = rounds-within times (overAll (admit passes) g numbers) (over-within g (λ q m. m) numbers hs)
 
   -- what the productions keep holds of each number in it
   pub least-within : Each P (least passes g)
@@ -168,36 +173,38 @@ module _ (passes : Numbers → List Item → Bool) (g : List Production) (P : �
   least-within = rounds-within 64 nothing (λ n e. absurd (false≢true e))
 
 module _ (passes : Numbers → List Item → Bool)
-    (more : (s t : Numbers) → Within s t → (is : List Item) → passes s is ≡ true → passes t is ≡ true) where
-  step-adds : (p : Production) (s : Numbers) → Within s (admit passes p s)
-  step-adds p s n e = or-left _ e
+    (more : (numbers others : Numbers) → Within numbers others → (is : List Item) → passes numbers is ≡ true → passes others is ≡ true) where
+  step-adds : (p : Production) (numbers : Numbers) → Within numbers (admit passes p numbers)
+  step-adds p numbers n e = or-left _ e
 
-  over-adds : (g : List Production) (s : Numbers) → Within s (overAll (admit passes) g s)
+  over-adds : (g : List Production) (numbers : Numbers) → Within numbers (overAll (admit passes) g numbers)
   unfolding overAll
-  over-adds [] s n e = e
-  over-adds (p ∷ g) s n e = over-adds g (admit passes p s) n (step-adds p s n e)
+  over-adds [] numbers n e = e
+  over-adds (p ∷ g) numbers n e = over-adds g (admit passes p numbers) n (step-adds p numbers n e)
 
-  step-high : (p : Production) (s : Numbers) (n : ℕ) → 64 ≤ n → admit passes p s n ≡ s n
-  step-high p s n h = rw (le-ltb n 64 h) (by (s n) (passes s (p .items)))
+  step-high : (p : Production) (numbers : Numbers) (nonterminal : ℕ) → 64 ≤ nonterminal → admit passes p numbers nonterminal ≡ numbers nonterminal
+  step-high p numbers nonterminal h = rw (le-ltb nonterminal 64 h) (by (numbers nonterminal) (passes numbers (p .items)))
     where
-      by : (a b : Bool) → (a || (b && false)) ≡ a
-      by true b = refl
+      by : (first second : Bool) → (first || (second && false)) ≡ first
+      by true second = refl
       by false true = refl
       by false false = refl
 
-  over-high : (g : List Production) (s : Numbers) (n : ℕ) → 64 ≤ n → overAll (admit passes) g s n ≡ s n
+  over-high : (g : List Production) (numbers : Numbers) (nonterminal : ℕ) → 64 ≤ nonterminal
+      → overAll (admit passes) g numbers nonterminal ≡ numbers nonterminal
   unfolding overAll
-  over-high [] s n h = refl
-  over-high (p ∷ g) s n h = over-high g (admit passes p s) n h ∙ step-high p s n h
+  over-high [] numbers nonterminal h = refl
+  over-high (p ∷ g) numbers nonterminal h = over-high g (admit passes p numbers) nonterminal h ∙ step-high p numbers nonterminal h
 
   -- in a round each production has its turn, with all that was in before
-  over-admits : {g : List Production} {p : Production} → In g p → (s : Numbers) → passes s (p .items) ≡ true → p .owner < 64
-      → overAll (admit passes) g s (p .owner) ≡ true
+  over-admits : {g : List Production} {p : Production} → In g p → (numbers : Numbers) → passes numbers (p .items) ≡ true → p .owner < 64
+      → overAll (admit passes) g numbers (p .owner) ≡ true
   unfolding overAll
-  over-admits (in-first {p = p} {g = g}) s e l =
-      over-adds g (admit passes p s) (p .owner)
-      (or-right (s (p .owner)) (rw (e, lt-ltb (p .owner) 64 l, eq-eqb (p .owner) (p .owner) refl) refl))
-  over-admits (in-later {p = p} {q = q} m) s e l = over-admits m (admit passes q s) (more s (admit passes q s) (step-adds q s) (p .items) e) l
+  over-admits (in-first {p = p} {g = g}) numbers e l =
+      over-adds g (admit passes p numbers) (p .owner)
+      (or-right (numbers (p .owner)) (rw (e, lt-ltb (p .owner) 64 l, eq-eqb (p .owner) (p .owner) refl) refl))
+  over-admits (in-later {p = p} {q = q} m) numbers e l =
+      over-admits m (admit passes q numbers) (more numbers (admit passes q numbers) (step-adds q numbers) (p .items) e) l
 
   -- one more round changes nothing
   pub least-settled : (g : List Production) → overAll (admit passes) g (least passes g) ≡ least passes g
@@ -205,14 +212,15 @@ module _ (passes : Numbers → List Item → Bool)
   least-settled g = settled (overAll (admit passes) g) (over-adds g) (over-high g) nothing
 
   -- a production whose items pass with what is in has its nonterminal in
-  pub least-closed : (g : List Production) {n : ℕ} {p : Production} → Of g n p → passes (least passes g) (p .items) ≡ true → least passes g n ≡ true
-  least-closed g {n} {p} o e =
-      sym (same-at (least-settled g) n)
+  pub least-closed : (g : List Production) {nonterminal : ℕ} {p : Production} → Of g nonterminal p → passes (least passes g) (p .items) ≡ true
+      → least passes g nonterminal ≡ true
+  least-closed g {nonterminal} {p} o e =
+      sym (same-at (least-settled g) nonterminal)
       ∙ (rw (← (o .owned)) (over-admits (o .member) (least passes g) e (rw (o .owned) (o .small))))
 
   -- one round admits what passes where nothing is in
-  pub round-admits : {g : List Production} {n : ℕ} {p : Production} → Of g n p → passes nothing (p .items) ≡ true
-      → overAll (admit passes) g nothing n ≡ true
+  pub round-admits : {g : List Production} {nonterminal : ℕ} {p : Production} → Of g nonterminal p → passes nothing (p .items) ≡ true
+      → overAll (admit passes) g nothing nonterminal ≡ true
   round-admits o e = rw (← (o .owned)) (over-admits (o .member) nothing e (rw (o .owned) (o .small)))
 
   -- and nothing that is not in the least set
@@ -224,26 +232,27 @@ module _ (passes : Numbers → List Item → Bool)
 -- ------------------------------------------------------------------ rounds on another state, seen as sets
 
 module _ {A : Type 0} (Good : A → Type 0) (view : A → Numbers) (passes : Numbers → List Item → Bool) (step : Production → A → A)
-    (stays : (p : Production) (x : A) → Good x → Good (step p x))
-    (seen : (p : Production) (x : A) → Good x → view (step p x) ≡ admit passes p (view x)) where
-  over-stays : (g : List Production) (x : A) → Good x → Good (overAll step g x)
+    (stays : (p : Production) (item : A) → Good item → Good (step p item))
+    (seen : (p : Production) (item : A) → Good item → view (step p item) ≡ admit passes p (view item)) where
+  over-stays : (g : List Production) (item : A) → Good item → Good (overAll step g item)
   unfolding overAll
-  over-stays [] x h = h
-  over-stays (p ∷ g) x h = over-stays g (step p x) (stays p x h)
+  over-stays [] item h = h
+  over-stays (p ∷ g) item h = over-stays g (step p item) (stays p item h)
 
   -- a round on the state is one on the set
-  pub over-seen : (g : List Production) (x : A) → Good x → view (overAll step g x) ≡ overAll (admit passes) g (view x)
+  pub over-seen : (g : List Production) (item : A) → Good item → view (overAll step g item) ≡ overAll (admit passes) g (view item)
   unfolding overAll
-  over-seen [] x h = refl
-  over-seen (p ∷ g) x h = over-seen g (step p x) (stays p x h) ∙ ap (overAll (admit passes) g) (seen p x h)
+  over-seen [] item h = refl
+  over-seen (p ∷ g) item h = over-seen g (step p item) (stays p item h) ∙ ap (overAll (admit passes) g) (seen p item h)
 
-  rounds-seen : (k : ℕ) (g : List Production) (x : A) → Good x → view (rounds k (overAll step g) x) ≡ rounds k (overAll (admit passes) g) (view x)
+  rounds-seen : (times : ℕ) (g : List Production) (item : A) → Good item
+      → view (rounds times (overAll step g) item) ≡ rounds times (overAll (admit passes) g) (view item)
   unfolding rounds
-  rounds-seen zero g x h = refl
-  rounds-seen (suc k) g x h =
-      rounds-seen k g (overAll step g x) (over-stays g x h) ∙ ap (rounds k (overAll (admit passes) g)) (over-seen g x h)
+  rounds-seen zero g item h = refl
+  rounds-seen (suc times) g item h =
+      rounds-seen times g (overAll step g item) (over-stays g item h) ∙ ap (rounds times (overAll (admit passes) g)) (over-seen g item h)
 
   -- and so the rounds on the state give the least set
-  pub least-seen : (g : List Production) (x : A) → Good x → view x ≡ nothing → view (rounds 64 (overAll step g) x) ≡ least passes g
+  pub least-seen : (g : List Production) (item : A) → Good item → view item ≡ nothing → view (rounds 64 (overAll step g) item) ≡ least passes g
   unfolding least
-  least-seen g x h e = rounds-seen 64 g x h ∙ ap (rounds 64 (overAll (admit passes) g)) e
+  least-seen g item h e = rounds-seen 64 g item h ∙ ap (rounds 64 (overAll (admit passes) g)) e

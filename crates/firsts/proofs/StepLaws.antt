@@ -17,40 +17,42 @@ use Rattle.productions.proofs.IndexLaws.{places-next, places-none}
 
 -- ------------------------------------------------------------------ a loop over the productions
 
--- the steps of the productions from number j on lead from x to where those of all lead from x₀
-pub record Over {A : Type 0} (f : Production → A → A) (bs owners starts : List ℕ) (m : ℕ) (x₀ : A) (j : ℕ) (x : A) : Type 0 where
-  -- the productions left lead from x to where all lead from x₀
-  pub rest : overAll f (productionsAt bs (placesFrom (m - j) owners starts j)) x ≡ overAll f (productionsBy m bs owners starts) x₀
+-- the steps of the productions from number `turn` on lead from `state` to where those of all lead from `state₀`
+pub record Over {A : Type 0} (step : Production → A → A) (bs owners starts : List ℕ) (many : ℕ) (state₀ : A) (turn : ℕ) (state : A) : Type 0 where
+  -- the productions left lead from `state` to where all lead from `state₀`
+  pub rest : overAll step (productionsAt bs (placesFrom (many - turn) owners starts turn)) state ≡ overAll step (productionsBy many bs owners starts) state₀
 
 -- all productions are left at first
-pub over-start : {A : Type 0} (f : Production → A → A) (bs owners starts : List ℕ) (m : ℕ) (x₀ : A) → Over f bs owners starts m x₀ 0 x₀
-over-start f bs owners starts m x₀ = record { rest = rw sub-zero refl }
+pub over-start : {A : Type 0} (step : Production → A → A) (bs owners starts : List ℕ) (many : ℕ) (state₀ : A) → Over step bs owners starts many state₀ 0 state₀
+over-start step bs owners starts many state₀ = record { rest = rw sub-zero refl }
 
-module _ {A : Type 0} {f : Production → A → A} {bs owners starts : List ℕ} {m : ℕ} {x₀ : A} {j : ℕ} {x : A} (c : Over f bs owners starts m x₀ j x) where
-  over-one : (ps : List Place) → placesFrom (m - j) owners starts j ≡ ps
-      → overAll f (productionsAt bs ps) x ≡ overAll f (productionsBy m bs owners starts) x₀
-  over-one ps e = rw e at (c .rest)
+module _ {A : Type 0} {step : Production → A → A} {bs owners starts : List ℕ} {many : ℕ} {state₀ : A} {turn : ℕ} {state : A}
+    (over : Over step bs owners starts many state₀ turn state) where
+  over-one : (ps : List Place) → placesFrom (many - turn) owners starts turn ≡ ps
+      → overAll step (productionsAt bs ps) state ≡ overAll step (productionsBy many bs owners starts) state₀
+  over-one ps e = rw e at (over .rest)
 
   -- one production more
-  pub over-next : j < m → {o s : ℕ} → o ≡ getD owners j 0 → s ≡ getD starts j 0 → {y : A} → y ≡ f (productionAt bs o s) x
-      → Over f bs owners starts m x₀ (j + 1) y
+  pub over-next : turn < many → {owner start : ℕ} → owner ≡ getD owners turn 0 → start ≡ getD starts turn 0 → {next : A}
+      → next ≡ step (productionAt bs owner start) state
+      → Over step bs owners starts many state₀ (turn + 1) next
   unfolding overAll
   over-next h eo es ey =
       record {
         rest =
-            rw (ey, eo, es) (over-one _ (places-next owners starts m j h));
+            rw (ey, eo, es) (over-one _ (places-next owners starts many turn h));
       }
 
   -- no production is left
-  pub over-end : m ≤ j → x ≡ overAll f (productionsBy m bs owners starts) x₀
+  pub over-end : many ≤ turn → state ≡ overAll step (productionsBy many bs owners starts) state₀
   unfolding overAll
-  over-end h = over-one [] (places-none owners starts m j h)
+  over-end h = over-one [] (places-none owners starts many turn h)
 
 -- ------------------------------------------------------------------ first sets and left calls
 
 -- past the last set nothing is joined
-pub join-past : (sets : List ℕ) (n v : ℕ) → length sets ≤ n → sets ≡ set sets n v
-join-past sets n v h = sym (set-out sets n v h)
+pub join-past : (sets : List ℕ) (owner value : ℕ) → length sets ≤ owner → sets ≡ set sets owner value
+join-past sets owner value h = sym (set-out sets owner value h)
 
 -- the sets of the nonterminal of one production
 pub step-is : (nulls : ℕ) (bs : List ℕ) (owner start : ℕ) (kinds calls : List ℕ) {found : Gathered}
@@ -71,11 +73,11 @@ unfolding overAll
 length-over calls nulls [] sets = refl
 length-over calls nulls (p ∷ g) sets = length-over calls nulls g _ ∙ length-step calls nulls p sets
 
-length-rounds : (k : ℕ) (f : List ℕ → List ℕ) → ((sets : List ℕ) → length (f sets) ≡ length sets) → (sets : List ℕ)
-    → length (rounds k f sets) ≡ length sets
+length-rounds : (times : ℕ) (step : List ℕ → List ℕ) → ((sets : List ℕ) → length (step sets) ≡ length sets) → (sets : List ℕ)
+    → length (rounds times step sets) ≡ length sets
 unfolding rounds
-length-rounds zero f e sets = refl
-length-rounds (suc k) f e sets = length-rounds k f e (f sets) ∙ e sets
+length-rounds zero step e sets = refl
+length-rounds (suc times) step e sets = length-rounds times step e (step sets) ∙ e sets
 
 -- 64 sets, whatever the grammar
 pub length-sets : (calls : Bool) (nulls : ℕ) (g : List Production) → length (setsOf calls nulls g) ≡ 64
@@ -83,43 +85,43 @@ unfolding setsOf
 length-sets calls nulls g =
     length-rounds 64 (overAll (firstStep calls nulls) g) (length-over calls nulls g) (replicate 64 0) ∙ length-replicate {A = ℕ} 64 0
 
--- the sets after the productions before number j
-pub record Joining (nulls : ℕ) (bs owners starts : List ℕ) (m : ℕ) (kinds₀ calls₀ : List ℕ) (j : ℕ) (kinds calls : List ℕ) : Type 0 where
+-- the sets after the productions before number `turn`
+pub record Joining (nulls : ℕ) (bs owners starts : List ℕ) (many : ℕ) (kinds₀ calls₀ : List ℕ) (turn : ℕ) (kinds calls : List ℕ) : Type 0 where
   -- the first sets so far, and the productions left, give those after a whole round
-  pub kinds-over : Over (firstStep false nulls) bs owners starts m kinds₀ j kinds
+  pub kinds-over : Over (firstStep false nulls) bs owners starts many kinds₀ turn kinds
   -- so do the sets of left calls
-  pub calls-over : Over (firstStep true nulls) bs owners starts m calls₀ j calls
+  pub calls-over : Over (firstStep true nulls) bs owners starts many calls₀ turn calls
   -- the first sets are as many as before
   pub kinds-many : length kinds ≡ length kinds₀
   -- so are the sets of left calls
   pub calls-many : length calls ≡ length calls₀
 
 -- all productions are left at first
-pub joining-start : (nulls : ℕ) (bs owners starts : List ℕ) (m : ℕ) (kinds calls : List ℕ) → Joining nulls bs owners starts m kinds calls 0 kinds calls
-joining-start nulls bs owners starts m kinds calls =
+pub joining-start : (nulls : ℕ) (bs owners starts : List ℕ) (many : ℕ) (kinds calls : List ℕ) → Joining nulls bs owners starts many kinds calls 0 kinds calls
+joining-start nulls bs owners starts many kinds calls =
     record {
-      kinds-over = over-start (firstStep false nulls) bs owners starts m kinds;
-      calls-over = over-start (firstStep true nulls) bs owners starts m calls;
+      kinds-over = over-start (firstStep false nulls) bs owners starts many kinds;
+      calls-over = over-start (firstStep true nulls) bs owners starts many calls;
       kinds-many = refl;
       calls-many = refl;
     }
 
-module _ {nulls : ℕ} {bs owners starts : List ℕ} {m : ℕ} {kinds₀ calls₀ : List ℕ} {j : ℕ} {kinds calls : List ℕ}
-    (c : Joining nulls bs owners starts m kinds₀ calls₀ j kinds calls) where
+module _ {nulls : ℕ} {bs owners starts : List ℕ} {many : ℕ} {kinds₀ calls₀ : List ℕ} {turn : ℕ} {kinds calls : List ℕ}
+    (joining : Joining nulls bs owners starts many kinds₀ calls₀ turn kinds calls) where
   -- one production more
-  pub joining-next : j < m → {o s : ℕ} → o ≡ getD owners j 0 → s ≡ getD starts j 0 → {kinds′ calls′ : List ℕ}
-      → StepTaken nulls (productionAt bs o s) kinds calls kinds′ calls′ → Joining nulls bs owners starts m kinds₀ calls₀ (j + 1) kinds′ calls′
+  pub joining-next : turn < many → {owner start : ℕ} → owner ≡ getD owners turn 0 → start ≡ getD starts turn 0 → {kinds′ calls′ : List ℕ}
+      → StepTaken nulls (productionAt bs owner start) kinds calls kinds′ calls′ → Joining nulls bs owners starts many kinds₀ calls₀ (turn + 1) kinds′ calls′
   joining-next h eo es e =
       record {
-        kinds-over = over-next (c .kinds-over) h eo es (e .kinds-are);
-        calls-over = over-next (c .calls-over) h eo es (e .calls-are);
-        kinds-many = ap length (e .kinds-are) ∙ length-step false nulls _ kinds ∙ c .kinds-many;
-        calls-many = ap length (e .calls-are) ∙ length-step true nulls _ calls ∙ c .calls-many;
+        kinds-over = over-next (joining .kinds-over) h eo es (e .kinds-are);
+        calls-over = over-next (joining .calls-over) h eo es (e .calls-are);
+        kinds-many = ap length (e .kinds-are) ∙ length-step false nulls _ kinds ∙ joining .kinds-many;
+        calls-many = ap length (e .calls-are) ∙ length-step true nulls _ calls ∙ joining .calls-many;
       }
 
   -- no production is left
-  pub joining-end : m ≤ j → RoundTaken nulls (productionsBy m bs owners starts) kinds₀ calls₀ kinds calls
-  joining-end h = record { kinds-are = over-end (c .kinds-over) h; calls-are = over-end (c .calls-over) h }
+  pub joining-end : many ≤ turn → RoundTaken nulls (productionsBy many bs owners starts) kinds₀ calls₀ kinds calls
+  joining-end h = record { kinds-are = over-end (joining .kinds-over) h; calls-are = over-end (joining .calls-over) h }
 
 -- the sets of one round from empty ones
 pub round-lent : {nulls : ℕ} {g : List Production} {kinds calls : List ℕ} → RoundTaken nulls g (replicate 64 0) (replicate 64 0) kinds calls

@@ -19,43 +19,43 @@ use Rattle.frames.specs.Frames.{Standing}
 
 -- ------------------------------------------------------------------ 16 variables, copied one by one
 
--- i of them stand from a base on, and what stands below is as it was
-pub record Saving (old new : List ℕ) (base : ℕ) (vars : List ℕ) (i : ℕ) : Type 0 where
+-- `done` of them stand from a base on, and what stands below is as it was
+pub record Saving (old new : List ℕ) (base : ℕ) (vars : List ℕ) (done : ℕ) : Type 0 where
   -- the room keeps its length
   pub long : length new ≡ length old
   -- there are 16 at most
-  pub small : i ≤ 16
+  pub small : done ≤ 16
   -- what stands below the base is as before
-  pub same : (j : ℕ) → j < base → getD new j 0 ≡ getD old j 0
-  -- the first i stand in their places
-  pub values : (j : ℕ) → j < i → getD new (base + j) 0 ≡ getD vars j 0
+  pub same : (place : ℕ) → place < base → getD new place 0 ≡ getD old place 0
+  -- the first `done` stand in their places
+  pub values : (place : ℕ) → place < done → getD new (base + place) 0 ≡ getD vars place 0
 
 -- None stands yet.
 pub saving-start : (old : List ℕ) (base : ℕ) (vars : List ℕ) → Saving old old base vars 0
 saving-start old base vars = record { long = refl; small = omega arith; same = λ j h. refl; values = λ j h. absurd (omega arith) }
 
 -- One more stands.
-pub saving-next : {old new : List ℕ} {base : ℕ} {vars : List ℕ} {i : ℕ} → Saving old new base vars i → i < 16 → base + 16 ≤ length old
-    → Saving old (set new (base + i) (getD vars i 0)) base vars (i + 1)
-saving-next {old} {new} {base} {vars} {i} c h room =
+pub saving-next : {old new : List ℕ} {base : ℕ} {vars : List ℕ} {done : ℕ} → Saving old new base vars done → done < 16 → base + 16 ≤ length old
+    → Saving old (set new (base + done) (getD vars done 0)) base vars (done + 1)
+saving-next {old} {new} {base} {vars} {done} c h room =
     record {
-      long = length-set new (base + i) (getD vars i 0) ∙ c .long;
+      long = length-set new (base + done) (getD vars done 0) ∙ c .long;
       small = omega arith;
-      same = λ j l. getD-set-other new (base + i) j (getD vars i 0) 0 (λ e. omega arith) ∙ c .same j l;
-      values = λ j l. by j l (ℕ-discrete j i);
+      same = λ j l. getD-set-other new (base + done) j (getD vars done 0) 0 (λ e. omega arith) ∙ c .same j l;
+      values = λ j l. by j l (ℕ-discrete j done);
     }
   where
-    by : (j : ℕ) → j < i + 1 → Dec (j ≡ i) → getD (set new (base + i) (getD vars i 0)) (base + j) 0 ≡ getD vars j 0
-    by j l (yes e) =
-        rw (e, getD-set-same new (base + i) (getD vars i 0) 0 (omega (arith, c .long)))
-    by j l (no n) = getD-set-other new (base + i) (base + j) (getD vars i 0) 0 (λ e. n (omega arith)) ∙ c .values j (omega arith)
+    by : (place : ℕ) → place < done + 1 → Dec (place ≡ done) → getD (set new (base + done) (getD vars done 0)) (base + place) 0 ≡ getD vars place 0
+    by place l (yes e) =
+        rw (e, getD-set-same new (base + done) (getD vars done 0) 0 (omega (arith, c .long)))
+    by place l (no n) = getD-set-other new (base + done) (base + place) (getD vars done 0) 0 (λ e. n (omega arith)) ∙ c .values place (omega arith)
 
 -- All 16 stand, and the two numbers behind them.
-pub saving-end : {old new : List ℕ} {level : ℕ} {vars : List ℕ} {i : ℕ} → Saving old new (level * frameSize) vars i → 16 ≤ i
+pub saving-end : {old new : List ℕ} {level : ℕ} {vars : List ℕ} {done : ℕ} → Saving old new (level * frameSize) vars done → 16 ≤ done
     → level * frameSize + frameSize ≤ length old
     → (count next : ℕ)
     → Saved old (set (set new (level * frameSize + 16) count) (level * frameSize + 17) next) level vars count next
-saving-end {old} {new} {level} {vars} {i} c h room count next =
+saving-end {old} {new} {level} {vars} {done} c h room count next =
     record {
       same = λ j l. kept j (λ e. omega arith) (λ e. omega arith) ∙ c .same j l;
       values = λ j l. kept (level * frameSize + j) (λ e. omega arith) (λ e. omega arith) ∙ c .values j (omega arith);
@@ -67,55 +67,56 @@ saving-end {old} {new} {level} {vars} {i} c h room count next =
           (omega (arith, c .long, length-set new (level * frameSize + 16) count));
     }
   where
-    kept : (j : ℕ) → (j ≡ level * frameSize + 16 → ⊥) → (j ≡ level * frameSize + 17 → ⊥)
-        → getD (set (set new (level * frameSize + 16) count) (level * frameSize + 17) next) j 0 ≡ getD new j 0
-    kept j a b =
-        getD-set-other (set new (level * frameSize + 16) count) (level * frameSize + 17) j next 0 b
-        ∙ getD-set-other new (level * frameSize + 16) j count 0 a
+    kept : (place : ℕ) → (place ≡ level * frameSize + 16 → ⊥) → (place ≡ level * frameSize + 17 → ⊥)
+        → getD (set (set new (level * frameSize + 16) count) (level * frameSize + 17) next) place 0 ≡ getD new place 0
+    kept place a b =
+        getD-set-other (set new (level * frameSize + 16) count) (level * frameSize + 17) place next 0 b
+        ∙ getD-set-other new (level * frameSize + 16) place count 0 a
 
--- i of 16 variables are read back from a base on
-pub record Loading (frames : List ℕ) (base : ℕ) (vars : List ℕ) (i : ℕ) : Type 0 where
+-- `done` of 16 variables are read back from a base on
+pub record Loading (frames : List ℕ) (base : ℕ) (vars : List ℕ) (done : ℕ) : Type 0 where
   -- the array has 16 places
   pub long : length vars ≡ 16
-  -- i is 16 at most
-  pub small : i ≤ 16
-  -- the first i are read
-  pub values : (j : ℕ) → j < i → getD vars j 0 ≡ getD frames (base + j) 0
+  -- `done` is 16 at most
+  pub small : done ≤ 16
+  -- the first `done` are read
+  pub values : (place : ℕ) → place < done → getD vars place 0 ≡ getD frames (base + place) 0
 
 -- None is read yet.
 pub loading-start : (frames : List ℕ) (base : ℕ) → Loading frames base (replicate 16 0) 0
 loading-start frames base = record { long = refl; small = omega arith; values = λ j h. absurd (omega arith) }
 
 -- One more is read.
-pub loading-next : {frames : List ℕ} {base : ℕ} {vars : List ℕ} {i : ℕ} → Loading frames base vars i → i < 16
-    → Loading frames base (set vars i (getD frames (base + i) 0)) (i + 1)
-loading-next {frames} {base} {vars} {i} c h =
+pub loading-next : {frames : List ℕ} {base : ℕ} {vars : List ℕ} {done : ℕ} → Loading frames base vars done → done < 16
+    → Loading frames base (set vars done (getD frames (base + done) 0)) (done + 1)
+loading-next {frames} {base} {vars} {done} c h =
     record {
-      long = length-set vars i (getD frames (base + i) 0) ∙ c .long;
+      long = length-set vars done (getD frames (base + done) 0) ∙ c .long;
       small = omega arith;
-      values = λ j l. by j l (ℕ-discrete j i);
+      values = λ j l. by j l (ℕ-discrete j done);
     }
   where
-    by : (j : ℕ) → j < i + 1 → Dec (j ≡ i) → getD (set vars i (getD frames (base + i) 0)) j 0 ≡ getD frames (base + j) 0
-    by j l (yes e) =
-        rw (e, getD-set-same vars i (getD frames (base + i) 0) 0 (omega (arith, c .long)))
-    by j l (no n) = getD-set-other vars i j (getD frames (base + i) 0) 0 n ∙ c .values j (omega arith)
+    by : (place : ℕ) → place < done + 1 → Dec (place ≡ done) → getD (set vars done (getD frames (base + done) 0)) place 0 ≡ getD frames (base + place) 0
+    by place l (yes e) =
+        rw (e, getD-set-same vars done (getD frames (base + done) 0) 0 (omega (arith, c .long)))
+    by place l (no n) = getD-set-other vars done place (getD frames (base + done) 0) 0 n ∙ c .values place (omega arith)
 
 -- All 16 are read.
-pub loading-end : {frames : List ℕ} {level : ℕ} {vars : List ℕ} {i : ℕ} → Loading frames (level * frameSize) vars i → 16 ≤ i → Loaded frames level vars
+pub loading-end : {frames : List ℕ} {level : ℕ} {vars : List ℕ} {done : ℕ} → Loading frames (level * frameSize) vars done → 16 ≤ done → Loaded frames level vars
 loading-end c h = record { long = c .long; values = λ j l. c .values j (omega arith) }
 
 -- ------------------------------------------------------------------ the calls that wait
 
 -- Calls that wait pass a refusal on.
-pub resume-halt : (I : Input) (bs : List ℕ) (fs : List Frame) (r : Refusal) (cells : List ℕ) → resume I bs fs (halt r cells) ≡ halt r cells
+pub resume-halt : (input : Input) (bs : List ℕ) (fs : List Frame) (refusal : Refusal) (cells : List ℕ)
+    → resume input bs fs (halt refusal cells) ≡ halt refusal cells
 unfolding resume
-resume-halt I bs [] r cells = refl
-resume-halt I bs (f ∷ fs) r cells = resume-halt I bs fs r cells
+resume-halt input bs [] refusal cells = refl
+resume-halt input bs (f ∷ fs) refusal cells = resume-halt input bs fs refusal cells
 
-waits-same : {bs old new : List ℕ} {level : ℕ} {f : Frame} → Waits bs old level f
-    → ((i : ℕ) → i < level * frameSize + frameSize → getD new i 0 ≡ getD old i 0)
-    → Waits bs new level f
+waits-same : {bs old new : List ℕ} {level : ℕ} {frame : Frame} → Waits bs old level frame
+    → ((place : ℕ) → place < level * frameSize + frameSize → getD new place 0 ≡ getD old place 0)
+    → Waits bs new level frame
 waits-same {level = level} w h =
     record {
       counted = h (level * frameSize + 16) (omega arith) ∙ w .counted;
@@ -126,17 +127,17 @@ waits-same {level = level} w h =
     }
 
 -- what stands above them changes nothing
-pub stacked-same : {bs old new : List ℕ} {fs : List Frame} → ((i : ℕ) → i < length fs * frameSize → getD new i 0 ≡ getD old i 0) → Stacked bs old fs
-    → Stacked bs new fs
+pub stacked-same : {bs old new : List ℕ} {fs : List Frame} → ((place : ℕ) → place < length fs * frameSize → getD new place 0 ≡ getD old place 0)
+    → Stacked bs old fs → Stacked bs new fs
 stacked-same h stacked-none = stacked-none
 stacked-same h (stacked-one w few s) = stacked-one (waits-same w (λ i l. h i (omega arith))) few (stacked-same (λ i l. h i (omega arith)) s)
 
 -- a call that is saved
-pub waits-saved : {bs old new vars : List ℕ} {count next level : ℕ} {M : List ℕ} → Saved old new level vars count next
-    → Holds vars count M
+pub waits-saved : {bs old new vars : List ℕ} {count next level : ℕ} {values : List ℕ} → Saved old new level vars count next
+    → Holds vars count values
     → wholeBody (fieldsAt bs next) ≡ true
     → next ≤ length bs
-    → Waits bs new level (record { next = next; values = M })
+    → Waits bs new level (record { next = next; values = values })
 waits-saved v g w inside =
     record {
       counted = v .counted ∙ sym (g .count);
@@ -147,23 +148,23 @@ waits-saved v g w inside =
     }
 
 -- one more waits
-pub stacked-more : {bs old new vars : List ℕ} {count next level : ℕ} {M : List ℕ} {fs : List Frame} → length fs ≡ level
+pub stacked-more : {bs old new vars : List ℕ} {count next level : ℕ} {values : List ℕ} {fs : List Frame} → length fs ≡ level
     → Saved old new level vars count next
-    → Holds vars count M
+    → Holds vars count values
     → wholeBody (fieldsAt bs next) ≡ true
     → count < length bs + next
     → next ≤ length bs
     → Stacked bs old fs
-    → Stacked bs new (record { next = next; values = M } ∷ fs)
-stacked-more {next = next} {M = M} {fs = fs} e v g w few inside s =
-    stacked-one {f = record { next = next; values = M }} {fs = fs} (rw e (waits-saved v g w inside))
+    → Stacked bs new (record { next = next; values = values } ∷ fs)
+stacked-more {next = next} {values = values} {fs = fs} e v g w few inside s =
+    stacked-one {f = record { next = next; values = values }} {fs = fs} (rw e (waits-saved v g w inside))
     (omega (arith, g .count))
     (stacked-same (λ i l. v .same i (omega arith)) s)
 
 -- the variables of the innermost, read back
-pub waits-holds : {bs frames vars : List ℕ} {level : ℕ} {f : Frame} {count : ℕ} → Waits bs frames level f → Loaded frames level vars
+pub waits-holds : {bs frames vars : List ℕ} {level : ℕ} {frame : Frame} {count : ℕ} → Waits bs frames level frame → Loaded frames level vars
     → count ≡ getD frames (level * frameSize + 16) 0
-    → Holds vars count (f .values)
+    → Holds vars count (frame .values)
 waits-holds w l e =
     record {
       long = l .long;
@@ -174,10 +175,10 @@ waits-holds w l e =
 -- ------------------------------------------------------------------ where an expansion stands
 
 -- the same in another room, as far as the calls stand
-pub standing-same : {I : Input} {bs old new : List ℕ} {level : ℕ} {here : State} {cells : List ℕ} {R : Result ℕ} → LevelFits new level
-    → ((i : ℕ) → i < level * frameSize + frameSize → getD new i 0 ≡ getD old i 0)
-    → Standing I bs old level here cells R
-    → Standing I bs new level here cells R
+pub standing-same : {input : Input} {bs old new : List ℕ} {level : ℕ} {here : State} {cells : List ℕ} {result : Result ℕ} → LevelFits new level
+    → ((place : ℕ) → place < level * frameSize + frameSize → getD new place 0 ≡ getD old place 0)
+    → Standing input bs old level here cells result
+    → Standing input bs new level here cells result
 standing-same f h s =
     record {
       fits = f;
@@ -192,25 +193,25 @@ standing-same f h s =
     }
 
 -- a room of frames copied into a longer one
-pub record Copying (short old frames : List ℕ) (i : ℕ) : Type 0 where
+pub record Copying (short old frames : List ℕ) (done : ℕ) : Type 0 where
   -- the longer room keeps its length
   pub long : length frames ≡ length old
   -- no more is copied than there is
-  pub small : i ≤ shortFrames
-  -- the first i numbers are copied
-  pub values : (j : ℕ) → j < i → getD frames j 0 ≡ getD short j 0
+  pub small : done ≤ shortFrames
+  -- the first `done` numbers are copied
+  pub values : (place : ℕ) → place < done → getD frames place 0 ≡ getD short place 0
 
 -- One more number is copied.
-pub copying-next : {short old frames : List ℕ} {i : ℕ} → Copying short old frames i → i < shortFrames → shortFrames ≤ length old
-    → Copying short old (set frames i (getD short i 0)) (i + 1)
-copying-next {short} {old} {frames} {i} c h fits =
+pub copying-next : {short old frames : List ℕ} {done : ℕ} → Copying short old frames done → done < shortFrames → shortFrames ≤ length old
+    → Copying short old (set frames done (getD short done 0)) (done + 1)
+copying-next {short} {old} {frames} {done} c h fits =
     record {
-      long = length-set frames i (getD short i 0) ∙ c .long;
+      long = length-set frames done (getD short done 0) ∙ c .long;
       small = omega arith;
-      values = λ j l. by j l (ℕ-discrete j i);
+      values = λ j l. by j l (ℕ-discrete j done);
     }
   where
-    by : (j : ℕ) → j < i + 1 → Dec (j ≡ i) → getD (set frames i (getD short i 0)) j 0 ≡ getD short j 0
-    by j l (yes e) =
-        rw (e, getD-set-same frames i (getD short i 0) 0 (omega (arith, c .long)))
-    by j l (no n) = getD-set-other frames i j (getD short i 0) 0 n ∙ c .values j (omega arith)
+    by : (place : ℕ) → place < done + 1 → Dec (place ≡ done) → getD (set frames done (getD short done 0)) place 0 ≡ getD short place 0
+    by place l (yes e) =
+        rw (e, getD-set-same frames done (getD short done 0) 0 (omega (arith, c .long)))
+    by place l (no n) = getD-set-other frames done place (getD short done 0) 0 n ∙ c .values place (omega arith)

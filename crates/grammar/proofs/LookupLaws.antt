@@ -78,9 +78,9 @@ Inside table at (Field t n) = at + (3 + n) ≤ length table
 not-empty-drop : (at : ℕ) (table : List ℕ) → eqb (length (drop at table)) 0 ≡ false → 0 < length (drop at table)
 not-empty-drop at table e = elim-zero (length (drop at table)) (eqb-false (length (drop at table)) 0 e)
   where
-    elim-zero : (n : ℕ) → (n ≡ 0 → ⊥) → 0 < n
+    elim-zero : (count : ℕ) → (count ≡ 0 → ⊥) → 0 < count
     elim-zero zero h = absurd (h refl)
-    elim-zero (suc n) h = omega arith
+    elim-zero (suc count) h = omega arith
 
 front-inside-by : (table : List ℕ) (at : ℕ) (empty whole : Bool)
     → eqb (length (drop at table)) 0 ≡ empty
@@ -95,20 +95,20 @@ front-inside-by table at false false e f =
     rw (front-tests (drop at table) false false e f) (omega (arith, length-drop at table, not-empty-drop at table e))
 
 -- a field that stands somewhere lies within the table
-pub front-inside : (table : List ℕ) (at : ℕ) {r : Front} → r ≡ frontOf (drop at table) → Inside table at r
+pub front-inside : (table : List ℕ) (at : ℕ) {front : Front} → front ≡ frontOf (drop at table) → Inside table at front
 front-inside table at e =
     rw e (front-inside-by table at _ _ refl refl)
 
 -- ------------------------------------------------------------------ the fields from an offset on
 
 -- any bound on the bytes left gives the same fields
-fuel : (k k′ at : ℕ) (rest : List ℕ) → length rest ≤ k → length rest ≤ k′ → fieldsFrom k at rest ≡ fieldsFrom k′ at rest
+fuel : (steps steps′ at : ℕ) (rest : List ℕ) → length rest ≤ steps → length rest ≤ steps′ → fieldsFrom steps at rest ≡ fieldsFrom steps′ at rest
 unfolding fieldsFrom
 fuel zero zero at rest h h′ = refl
-fuel zero (suc k′) at rest h h′ = rw (eq-eqb (length rest) 0 (omega arith), fieldsFrom) refl
-fuel (suc k) zero at rest h h′ = rw (eq-eqb (length rest) 0 (omega arith), fieldsFrom) refl
-fuel (suc k) (suc k′) at rest h h′ =
-    cc (fuel k k′ (at + (3 + sizeOf rest)) (drop (3 + sizeOf rest) rest) (omega (arith, length-drop (3 + sizeOf rest) rest))
+fuel zero (suc steps′) at rest h h′ = rw (eq-eqb (length rest) 0 (omega arith), fieldsFrom) refl
+fuel (suc steps) zero at rest h h′ = rw (eq-eqb (length rest) 0 (omega arith), fieldsFrom) refl
+fuel (suc steps) (suc steps′) at rest h h′ =
+    cc (fuel steps steps′ (at + (3 + sizeOf rest)) (drop (3 + sizeOf rest) rest) (omega (arith, length-drop (3 + sizeOf rest) rest))
     (omega (arith, length-drop (3 + sizeOf rest) rest)))
 
 -- the fields from an offset on, by what stands there
@@ -122,19 +122,19 @@ openedFrom k at rest Nothing = end at
 openedFrom k at rest Short = cut at
 openedFrom k at rest (Field t n) = next at t (take n (drop 3 rest)) (fieldsFrom k (at + (3 + n)) (drop (3 + n) rest))
 
-from-tests : (k at : ℕ) (rest : List ℕ) (empty whole : Bool) → eqb (length rest) 0 ≡ empty
+from-tests : (steps at : ℕ) (rest : List ℕ) (empty whole : Bool) → eqb (length rest) 0 ≡ empty
     → leb (3 + sizeOf rest) (length rest) ≡ whole
-    → fieldsFrom (suc k) at rest
-    ≡ openedFrom k at rest
+    → fieldsFrom (suc steps) at rest
+    ≡ openedFrom steps at rest
     (elim empty [ true ↦ Nothing | false ↦ elim whole [ true ↦ Field (getD rest 0 0) (sizeOf rest) | false ↦ Short ] ])
 unfolding fieldsFrom
-from-tests k at rest true whole e f = rw (e, fieldsFrom) refl
-from-tests k at rest false true e f = rw (e, f, fieldsFrom) refl
-from-tests k at rest false false e f = rw (e, f, fieldsFrom) refl
+from-tests steps at rest true whole e f = rw (e, fieldsFrom) refl
+from-tests steps at rest false true e f = rw (e, f, fieldsFrom) refl
+from-tests steps at rest false false e f = rw (e, f, fieldsFrom) refl
 
-from-front : (k at : ℕ) (rest : List ℕ) → fieldsFrom (suc k) at rest ≡ openedFrom k at rest (frontOf rest)
-from-front k at rest =
-    from-tests k at rest _ _ refl refl ∙ sym (ap (openedFrom k at rest) (front-tests rest _ _ refl refl))
+from-front : (steps at : ℕ) (rest : List ℕ) → fieldsFrom (suc steps) at rest ≡ openedFrom steps at rest (frontOf rest)
+from-front steps at rest =
+    from-tests steps at rest _ _ refl refl ∙ sym (ap (openedFrom steps at rest) (front-tests rest _ _ refl refl))
 
 -- one more than enough
 fields-more : (table : List ℕ) (at : ℕ) → fieldsAt table at ≡ fieldsFrom (suc (length table)) at (drop at table)
@@ -143,7 +143,7 @@ fields-more table at =
     fuel (length table) (suc (length table)) at (drop at table) (omega (arith, length-drop at table))
     (omega (arith, length-drop at table))
 
-opened-from : (table : List ℕ) (at : ℕ) (r : Front) → openedFrom (length table) at (drop at table) r ≡ opened table at r
+opened-from : (table : List ℕ) (at : ℕ) (front : Front) → openedFrom (length table) at (drop at table) front ≡ opened table at front
 unfolding fieldsAt
 opened-from table at Nothing = refl
 opened-from table at Short = refl
@@ -151,11 +151,11 @@ opened-from table at (Field t n) =
     rw (drop-drop 3 at table, drop-drop (3 + n) at table, add-assoc at 3 n) refl
 
 -- the fields from an offset on, by what stands there
-pub fields-at : (table : List ℕ) (at : ℕ) {r : Front} → r ≡ frontOf (drop at table) → fieldsAt table at ≡ opened table at r
-fields-at table at {r} e =
+pub fields-at : (table : List ℕ) (at : ℕ) {front : Front} → front ≡ frontOf (drop at table) → fieldsAt table at ≡ opened table at front
+fields-at table at {front} e =
     fields-more table at ∙ from-front (length table) at (drop at table)
     ∙ ap (openedFrom (length table) at (drop at table)) (sym e)
-    ∙ opened-from table at r
+    ∙ opened-from table at front
 
 -- all fields are those from offset 0 on
 pub fields-of : (table : List ℕ) → fieldsOf table ≡ fieldsAt table 0
@@ -169,39 +169,39 @@ abbrev pub shifted : ℕ → Found → Found
 shifted i (At k) = At (i + k)
 shifted i Absent = Absent
 
-shifted-twice : (i : ℕ) (f : Found) → shifted i (shifted 1 f) ≡ shifted (i + 1) f
-shifted-twice i (At k) = ap At (sym (add-assoc i 1 k))
-shifted-twice i Absent = refl
+shifted-twice : (shift : ℕ) (found : Found) → shifted shift (shifted 1 found) ≡ shifted (shift + 1) found
+shifted-twice shift (At k) = ap At (sym (add-assoc shift 1 k))
+shifted-twice shift Absent = refl
 
-found-tests : (s : List ℕ) (vs : List (List ℕ)) (b : Bool) → ltb (indexOf s vs) (length vs) ≡ b
-    → foundIn s vs ≡ elim b [ true ↦ At (indexOf s vs) | false ↦ Absent ]
+found-tests : (sought : List ℕ) (vs : List (List ℕ)) (inside : Bool) → ltb (indexOf sought vs) (length vs) ≡ inside
+    → foundIn sought vs ≡ elim inside [ true ↦ At (indexOf sought vs) | false ↦ Absent ]
 unfolding foundIn
-found-tests s vs b e = rw (e, foundIn) refl
+found-tests sought vs inside e = rw (e, foundIn) refl
 
 -- nothing is found among no spellings
-pub found-nil : (s : List ℕ) → foundIn s [] ≡ Absent
+pub found-nil : (sought : List ℕ) → foundIn sought [] ≡ Absent
 unfolding foundIn indexOf
-found-nil s = refl
+found-nil sought = refl
 
 -- the first spelling is found at 0
-pub found-here : (s v : List ℕ) (vs : List (List ℕ)) → same v s ≡ true → foundIn s (v ∷ vs) ≡ At 0
+pub found-here : (sought value : List ℕ) (vs : List (List ℕ)) → same value sought ≡ true → foundIn sought (value ∷ vs) ≡ At 0
 unfolding indexOf
-found-here s v vs e =
-    let z : indexOf s (v ∷ vs) ≡ 0 = rw (e, indexOf) refl in
-    found-tests s (v ∷ vs) true (rw z (lt-ltb 0 (suc (length vs)) (omega arith))) ∙ ap At z
+found-here sought value vs e =
+    let z : indexOf sought (value ∷ vs) ≡ 0 = rw (e, indexOf) refl in
+    found-tests sought (value ∷ vs) true (rw z (lt-ltb 0 (suc (length vs)) (omega arith))) ∙ ap At z
 
-found-later-by : (s v : List ℕ) (vs : List (List ℕ)) (b : Bool) → indexOf s (v ∷ vs) ≡ suc (indexOf s vs)
-    → ltb (indexOf s vs) (length vs) ≡ b
-    → foundIn s (v ∷ vs) ≡ shifted 1 (foundIn s vs)
-found-later-by s v vs true z e =
-    found-tests s (v ∷ vs) true (rw (z, leb·suc-suc) e) ∙ ap At (z ∙ omega arith) ∙ sym (ap (shifted 1) (found-tests s vs true e))
-found-later-by s v vs false z e =
-    found-tests s (v ∷ vs) false (rw (z, leb·suc-suc) e) ∙ sym (ap (shifted 1) (found-tests s vs false e))
+found-later-by : (sought value : List ℕ) (vs : List (List ℕ)) (inside : Bool) → indexOf sought (value ∷ vs) ≡ suc (indexOf sought vs)
+    → ltb (indexOf sought vs) (length vs) ≡ inside
+    → foundIn sought (value ∷ vs) ≡ shifted 1 (foundIn sought vs)
+found-later-by sought value vs true z e =
+    found-tests sought (value ∷ vs) true (rw (z, leb·suc-suc) e) ∙ ap At (z ∙ omega arith) ∙ sym (ap (shifted 1) (found-tests sought vs true e))
+found-later-by sought value vs false z e =
+    found-tests sought (value ∷ vs) false (rw (z, leb·suc-suc) e) ∙ sym (ap (shifted 1) (found-tests sought vs false e))
 
 -- another one is looked for among those behind
-pub found-later : (s v : List ℕ) (vs : List (List ℕ)) → same v s ≡ false → foundIn s (v ∷ vs) ≡ shifted 1 (foundIn s vs)
+pub found-later : (sought value : List ℕ) (vs : List (List ℕ)) → same value sought ≡ false → foundIn sought (value ∷ vs) ≡ shifted 1 (foundIn sought vs)
 unfolding indexOf
-found-later s v vs e = found-later-by s v vs _ (rw (e, indexOf) refl) refl
+found-later sought value vs e = found-later-by sought value vs _ (rw (e, indexOf) refl) refl
 
 -- ------------------------------------------------------------------ the fields of one tag at the front
 
@@ -212,97 +212,97 @@ Stops tag Short = Unit {0}
 Stops tag (Field t n) = t ≡ tag → ⊥
 
 module _ (table : List ℕ) (at tag : ℕ) where
-  leading-stop : (r : Front) → Stops tag r → leading tag (opened table at r) ≡ []
+  leading-stop : (front : Front) → Stops tag front → leading tag (opened table at front) ≡ []
   unfolding leading
   leading-stop Nothing h = refl
   leading-stop Short h = refl
   leading-stop (Field t n) h = rw (ne-eqb t tag h, leading) refl
 
-  after-stop : (r : Front) → Stops tag r → afterLeading tag (opened table at r) ≡ opened table at r
+  after-stop : (front : Front) → Stops tag front → afterLeading tag (opened table at front) ≡ opened table at front
   unfolding afterLeading
   after-stop Nothing h = refl
   after-stop Short h = refl
   after-stop (Field t n) h = rw (ne-eqb t tag h, afterLeading) refl
 
-  leading-goes : (t : ℕ) (v : List ℕ) (fs : RawFields) → t ≡ tag → leading tag (next at t v fs) ≡ v ∷ leading tag fs
+  leading-goes : (front : ℕ) (value : List ℕ) (fs : RawFields) → front ≡ tag → leading tag (next at front value fs) ≡ value ∷ leading tag fs
   unfolding leading
-  leading-goes t v fs e = rw (eq-eqb t tag e, leading) refl
+  leading-goes front value fs e = rw (eq-eqb front tag e, leading) refl
 
-  after-goes : (t : ℕ) (v : List ℕ) (fs : RawFields) → t ≡ tag → afterLeading tag (next at t v fs) ≡ afterLeading tag fs
+  after-goes : (front : ℕ) (value : List ℕ) (fs : RawFields) → front ≡ tag → afterLeading tag (next at front value fs) ≡ afterLeading tag fs
   unfolding afterLeading
-  after-goes t v fs e = rw (eq-eqb t tag e, afterLeading) refl
+  after-goes front value fs e = rw (eq-eqb front tag e, afterLeading) refl
 
 -- ------------------------------------------------------------------ the loops
 
--- i fields of the tag do not have the spelling; those from `at` on give what is asked
-pub record Searching (table s : List ℕ) (tag most start at i : ℕ) : Type 0 where
+-- `count` fields of the tag do not have the spelling; those from `at` on give what is asked
+pub record Searching (table sought : List ℕ) (tag most start at count : ℕ) : Type 0 where
   -- no more are passed than count
-  pub small : i ≤ most
+  pub small : count ≤ most
   -- what is left gives what all of them give
   pub rest :
-      shifted i (foundIn s (take (most - i) (leading tag (fieldsAt table at))))
-      ≡ foundIn s (take most (leading tag (fieldsAt table start)))
+      shifted count (foundIn sought (take (most - count) (leading tag (fieldsAt table at))))
+      ≡ foundIn sought (take most (leading tag (fieldsAt table start)))
 
-shifted-none : (f : Found) → shifted 0 f ≡ f
+shifted-none : (found : Found) → shifted 0 found ≡ found
 shifted-none (At k) = ap At (zero-add k)
 shifted-none Absent = refl
 
 -- nothing is passed at the start
-pub searching-start : (table s : List ℕ) (tag most start : ℕ) → Searching table s tag most start start 0
-searching-start table s tag most start = record { small = omega arith; rest = rw (sub-zero, shifted-none) refl }
+pub searching-start : (table sought : List ℕ) (tag most start : ℕ) → Searching table sought tag most start start 0
+searching-start table sought tag most start = record { small = omega arith; rest = rw (sub-zero, shifted-none) refl }
 
-module _ {table s : List ℕ} {tag most start at i : ℕ} (c : Searching table s tag most start at i) where
+module _ {table sought : List ℕ} {tag most start at count : ℕ} (searching : Searching table sought tag most start at count) where
   -- with the spellings that are left
-  rest-is : (vs : List (List ℕ)) → take (most - i) (leading tag (fieldsAt table at)) ≡ vs
-      → shifted i (foundIn s vs) ≡ foundIn s (take most (leading tag (fieldsAt table start)))
-  rest-is vs e = cc (c .rest)
+  rest-is : (vs : List (List ℕ)) → take (most - count) (leading tag (fieldsAt table at)) ≡ vs
+      → shifted count (foundIn sought vs) ≡ foundIn sought (take most (leading tag (fieldsAt table start)))
+  rest-is vs e = cc (searching .rest)
 
-  none-left : take (most - i) (leading tag (fieldsAt table at)) ≡ []
-      → Absent ≡ foundIn s (take most (leading tag (fieldsAt table start)))
-  none-left e = sym (ap (shifted i) (found-nil s)) ∙ rest-is [] e
+  none-left : take (most - count) (leading tag (fieldsAt table at)) ≡ []
+      → Absent ≡ foundIn sought (take most (leading tag (fieldsAt table start)))
+  none-left e = sym (ap (shifted count) (found-nil sought)) ∙ rest-is [] e
 
   -- where the fields of the tag end, the spelling is absent
-  pub searching-out : (r : Front) → r ≡ frontOf (drop at table) → Stops tag r
-      → Absent ≡ foundIn s (take most (leading tag (fieldsAt table start)))
-  searching-out r e h =
+  pub searching-out : (front : Front) → front ≡ frontOf (drop at table) → Stops tag front
+      → Absent ≡ foundIn sought (take most (leading tag (fieldsAt table start)))
+  searching-out front e h =
       none-left
-      (cc (fields-at table at e, leading-stop table at tag r h, take-nil (most - i)))
+      (cc (fields-at table at e, leading-stop table at tag front h, take-nil (most - count)))
 
   -- behind the last that counts, the spelling is absent
-  pub searching-end : most ≤ i → Absent ≡ foundIn s (take most (leading tag (fieldsAt table start)))
+  pub searching-end : most ≤ count → Absent ≡ foundIn sought (take most (leading tag (fieldsAt table start)))
   searching-end h =
-      let z : most - i ≡ 0 = omega arith in
+      let z : most - count ≡ 0 = omega arith in
       none-left (cc)
 
-  module _ (h : i < most) {t n : ℕ} (e : Field t n ≡ frontOf (drop at table)) (tagged : t ≡ tag) where
-    one-left : take (most - i) (leading tag (fieldsAt table at))
-        ≡ take n (drop (at + 3) table) ∷ take (most - (i + 1)) (leading tag (fieldsAt table (at + 3 + n)))
+  module _ (below : count < most) {found size : ℕ} (equal : Field found size ≡ frontOf (drop at table)) (tagged : found ≡ tag) where
+    one-left : take (most - count) (leading tag (fieldsAt table at))
+        ≡ take size (drop (at + 3) table) ∷ take (most - (count + 1)) (leading tag (fieldsAt table (at + 3 + size)))
     one-left =
-        let z : most - i ≡ suc (most - (i + 1)) = omega arith in
-        cc (fields-at table at e, leading-goes table at tag t _ _ tagged)
+        let z : most - count ≡ suc (most - (count + 1)) = omega arith in
+        cc (fields-at table at equal, leading-goes table at tag found _ _ tagged)
 
     -- the value as the code has it, from a start to an end
-    value-is : take (at + 3 + n - (at + 3)) (drop (at + 3) table) ≡ take n (drop (at + 3) table)
+    value-is : take (at + 3 + size - (at + 3)) (drop (at + 3) table) ≡ take size (drop (at + 3) table)
     value-is =
-        let z : at + 3 + n - (at + 3) ≡ n = omega arith in
+        let z : at + 3 + size - (at + 3) ≡ size = omega arith in
         cc
 
     -- the field here spells it
-    pub searching-found : same (take (at + 3 + n - (at + 3)) (drop (at + 3) table)) s ≡ true
-        → At i ≡ foundIn s (take most (leading tag (fieldsAt table start)))
+    pub searching-found : same (take (at + 3 + size - (at + 3)) (drop (at + 3) table)) sought ≡ true
+        → At count ≡ foundIn sought (take most (leading tag (fieldsAt table start)))
     searching-found q =
-        sym (ap (shifted i) (found-here s _ _ (rw value-is at q)) ∙ ap At (add-zero i)) ∙ rest-is _ one-left
+        sym (ap (shifted count) (found-here sought _ _ (rw value-is at q)) ∙ ap At (add-zero count)) ∙ rest-is _ one-left
 
     -- the field here does not: those behind it are left
-    pub searching-next : same (take (at + 3 + n - (at + 3)) (drop (at + 3) table)) s ≡ false
-        → Searching table s tag most start (at + 3 + n) (i + 1)
+    pub searching-next : same (take (at + 3 + size - (at + 3)) (drop (at + 3) table)) sought ≡ false
+        → Searching table sought tag most start (at + 3 + size) (count + 1)
     searching-next q =
         record {
           small = omega arith;
           rest =
               sym
-              (ap (shifted i) (found-later s _ _ (rw value-is at q))
-              ∙ shifted-twice i (foundIn s (take (most - (i + 1)) (leading tag (fieldsAt table (at + 3 + n))))))
+              (ap (shifted count) (found-later sought _ _ (rw value-is at q))
+              ∙ shifted-twice count (foundIn sought (take (most - (count + 1)) (leading tag (fieldsAt table (at + 3 + size))))))
               ∙ rest-is _ one-left;
         }
 
@@ -311,19 +311,19 @@ pub record Passing (table : List ℕ) (tag at : ℕ) : Type 0 where
   -- what stands behind the leading fields is the same from here
   pub rest : afterLeading tag (fieldsAt table at) ≡ afterLeading tag (fieldsAt table 0)
 
-module _ {table : List ℕ} {tag at : ℕ} (c : Passing table tag at) where
+module _ {table : List ℕ} {tag at : ℕ} (passing : Passing table tag at) where
   -- at another field, or at none, the leading fields are passed
-  pub passing-out : (r : Front) → r ≡ frontOf (drop at table) → Stops tag r
+  pub passing-out : (front : Front) → front ≡ frontOf (drop at table) → Stops tag front
       → fieldsAt table at ≡ afterLeading tag (fieldsAt table 0)
-  passing-out r e h =
-      fields-at table at e ∙ sym (after-stop table at tag r h) ∙ sym (ap (afterLeading tag) (fields-at table at e)) ∙ c .rest
+  passing-out front e h =
+      fields-at table at e ∙ sym (after-stop table at tag front h) ∙ sym (ap (afterLeading tag) (fields-at table at e)) ∙ passing .rest
 
   -- one leading field is passed
-  pub passing-next : {t n : ℕ} → Field t n ≡ frontOf (drop at table) → t ≡ tag → Passing table tag (at + (3 + n))
-  passing-next {t} {n} e h =
+  pub passing-next : {found size : ℕ} → Field found size ≡ frontOf (drop at table) → found ≡ tag → Passing table tag (at + (3 + size))
+  passing-next {found} {size} e h =
       record {
         rest =
-            cc (add-assoc at 3 n, after-goes table at tag t _ _ h, fields-at table at e, c .rest);
+            cc (add-assoc at 3 size, after-goes table at tag found _ _ h, fields-at table at e, passing .rest);
       }
 
 -- ------------------------------------------------------------------ the lexicon of a table
@@ -355,25 +355,25 @@ abbrev pub Within : List (List ℕ) → Found → Type 0
 Within vs (At k) = k < length vs
 Within vs Absent = Unit {0}
 
-found-within-by : (s : List ℕ) (vs : List (List ℕ)) (b : Bool) → ltb (indexOf s vs) (length vs) ≡ b → Within vs (foundIn s vs)
-found-within-by s vs true e =
-    rw (found-tests s vs true e) (ltb-true (indexOf s vs) (length vs) e)
-found-within-by s vs false e = rw (found-tests s vs false e) tt
+found-within-by : (sought : List ℕ) (vs : List (List ℕ)) (inside : Bool) → ltb (indexOf sought vs) (length vs) ≡ inside → Within vs (foundIn sought vs)
+found-within-by sought vs true e =
+    rw (found-tests sought vs true e) (ltb-true (indexOf sought vs) (length vs) e)
+found-within-by sought vs false e = rw (found-tests sought vs false e) tt
 
 -- what is found is an index of the list
-pub found-within : (s : List ℕ) (vs : List (List ℕ)) {f : Found} → f ≡ foundIn s vs → Within vs f
-found-within s vs e = rw e (found-within-by s vs _ refl)
+pub found-within : (sought : List ℕ) (vs : List (List ℕ)) {found : Found} → found ≡ foundIn sought vs → Within vs found
+found-within sought vs e = rw e (found-within-by sought vs _ refl)
 
 -- what stands at a place that is found
 abbrev Spells : List ℕ → List (List ℕ) → Found → Type 0
 Spells s vs (At k) = getD vs k [] ≡ s
 Spells s vs Absent = Unit {0}
 
-found-spells-by : (s : List ℕ) (vs : List (List ℕ)) (b : Bool) → ltb (indexOf s vs) (length vs) ≡ b → Spells s vs (foundIn s vs)
-found-spells-by s vs true e =
-    subst (Spells s vs) (sym (found-tests s vs true e)) (index-found s vs (ltb-true (indexOf s vs) (length vs) e))
-found-spells-by s vs false e = subst (Spells s vs) (sym (found-tests s vs false e)) tt
+found-spells-by : (sought : List ℕ) (vs : List (List ℕ)) (inside : Bool) → ltb (indexOf sought vs) (length vs) ≡ inside → Spells sought vs (foundIn sought vs)
+found-spells-by sought vs true e =
+    subst (Spells sought vs) (sym (found-tests sought vs true e)) (index-found sought vs (ltb-true (indexOf sought vs) (length vs) e))
+found-spells-by sought vs false e = subst (Spells sought vs) (sym (found-tests sought vs false e)) tt
 
 -- at the index that is found the spelling stands
-pub found-spells : (s : List ℕ) (vs : List (List ℕ)) {k : ℕ} → At k ≡ foundIn s vs → getD vs k [] ≡ s
-found-spells s vs e = subst (Spells s vs) (sym e) (found-spells-by s vs _ refl)
+pub found-spells : (sought : List ℕ) (vs : List (List ℕ)) {index : ℕ} → At index ≡ foundIn sought vs → getD vs index [] ≡ sought
+found-spells sought vs e = subst (Spells sought vs) (sym e) (found-spells-by sought vs _ refl)

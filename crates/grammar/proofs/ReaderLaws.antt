@@ -22,45 +22,45 @@ abbrev pub arities : List ℕ
 arities = 1 ∷ 2 ∷ 2 ∷ 1 ∷ 2 ∷ 0 ∷ 3 ∷ 1 ∷ []
 
 -- the arity of a constructor is the one listed for it
-pub arity-at : (c : ℕ) → getD arities (c - 32) 0 ≡ arity c
+pub arity-at : (code : ℕ) → getD arities (code - 32) 0 ≡ arity code
 unfolding constructorSignatures constructor
-arity-at c = List·getD-map (λ (s : Signature). length (s .params)) constructorSignatures (c - 32) (gives [] unit)
+arity-at code = List·getD-map (λ (s : Signature). length (s .params)) constructorSignatures (code - 32) (gives [] unit)
 
 -- a code below the constructors counts as the first of them
-pub arity-low : (c : ℕ) → c < 32 → 1 ≡ arity c
-arity-low c h =
-    let z : c - 32 ≡ 0 = omega arith in
-    cc (arity-at c)
+pub arity-low : (code : ℕ) → code < 32 → 1 ≡ arity code
+arity-low code h =
+    let z : code - 32 ≡ 0 = omega arith in
+    cc (arity-at code)
 
 -- a code above them has no argument
-pub arity-high : (c : ℕ) → 8 ≤ c - 32 → 0 ≡ arity c
-arity-high c h = sym (getD-past arities (c - 32) 0 h) ∙ arity-at c
+pub arity-high : (code : ℕ) → 8 ≤ code - 32 → 0 ≡ arity code
+arity-high code h = sym (getD-past arities (code - 32) 0 h) ∙ arity-at code
 
-entry-few : (l : List ℕ) (k : ℕ) → every (λ n. leb n 3) l ≡ true → getD l k 0 ≤ 3
+entry-few : (entries : List ℕ) (place : ℕ) → every (λ n. leb n 3) entries ≡ true → getD entries place 0 ≤ 3
 unfolding every
-entry-few [] k e = omega arith
+entry-few [] place e = omega arith
 entry-few (x ∷ xs) zero e = leb-true x 3 (and-eq-true-iff (leb x 3) (every (λ n. leb n 3) xs) .0 e .0)
-entry-few (x ∷ xs) (suc k) e = entry-few xs k (and-eq-true-iff (leb x 3) (every (λ n. leb n 3) xs) .0 e .1)
+entry-few (x ∷ xs) (suc place) e = entry-few xs place (and-eq-true-iff (leb x 3) (every (λ n. leb n 3) xs) .0 e .1)
 
 -- no constructor takes more than three
-pub arity-few : (c : ℕ) → arity c ≤ 3
+pub arity-few : (code : ℕ) → arity code ≤ 3
 unfolding every
-arity-few c = omega (arith, arity-at c, entry-few arities (c - 32) refl)
+arity-few code = omega (arith, arity-at code, entry-few arities (code - 32) refl)
 
 -- ------------------------------------------------------------------ a part of a slice
 
-module _ (s : List ℕ) (at n : ℕ) where
+module _ (bytes : List ℕ) (at size : ℕ) where
   -- past the end a part is empty
-  pub part-past : length s ≤ at → [] ≡ take n (drop at s)
-  part-past h = sym (ap (take n) (drop-of-length-le s h) ∙ take-nil n)
+  pub part-past : length bytes ≤ at → [] ≡ take size (drop at bytes)
+  part-past h = sym (ap (take size) (drop-of-length-le bytes h) ∙ take-nil size)
 
   -- a part that runs past the end stops there
-  pub part-rest : length s - at ≤ n → take (length s - at) (drop at s) ≡ take n (drop at s)
+  pub part-rest : length bytes - at ≤ size → take (length bytes - at) (drop at bytes) ≡ take size (drop at bytes)
   part-rest h =
-      let k : length (drop at s) ≤ n = omega (arith, length-drop at s) in
-      let j : length (drop at s) ≤ length s - at = omega (arith, length-drop at s) in
-      take-all (length s - at) (drop at s) j ∙ sym (take-all n (drop at s) k)
+      let k : length (drop at bytes) ≤ size = omega (arith, length-drop at bytes) in
+      let j : length (drop at bytes) ≤ length bytes - at = omega (arith, length-drop at bytes) in
+      take-all (length bytes - at) (drop at bytes) j ∙ sym (take-all size (drop at bytes) k)
 
   -- a part that ends in time is the one asked for
-  pub part-within : take (at + n - at) (drop at s) ≡ take n (drop at s)
-  part-within = let z : at + n - at ≡ n = omega arith in cc
+  pub part-within : take (at + size - at) (drop at bytes) ≡ take size (drop at bytes)
+  part-within = let z : at + size - at ≡ size = omega arith in cc

@@ -12,45 +12,46 @@ use Rattle.grammar.specs.Sorts.{Signature, gives, unit, constructorSigna
 use Rattle.grammar.proofs.ReaderLaws.{getD-past, arities, arity-at, arity-high}
 
 -- a code below the first reads the first, one past the last nothing
-pub code-low : (l : List ℕ) (c : ℕ) → c < 32 → getD l 0 0 ≡ getD l (c - 32) 0
-code-low l c h = let z : 0 ≡ c - 32 = omega arith in cc
+pub code-low : (entries : List ℕ) (code : ℕ) → code < 32 → getD entries 0 0 ≡ getD entries (code - 32) 0
+code-low entries code h = let z : 0 ≡ code - 32 = omega arith in cc
 
 -- past a list of eight stands the default
-pub code-high : (l : List ℕ) (c : ℕ) → length l ≡ 8 → 8 ≤ c - 32 → 0 ≡ getD l (c - 32) 0
-code-high l c e h = sym (getD-past l (c - 32) 0 (omega arith))
+pub code-high : (entries : List ℕ) (code : ℕ) → length entries ≡ 8 → 8 ≤ code - 32 → 0 ≡ getD entries (code - 32) 0
+code-high entries code e h = sym (getD-past entries (code - 32) 0 (omega arith))
 
 -- the results of the eight constructors
-pub results : (c : ℕ) → getD (4 ∷ 4 ∷ 4 ∷ 4 ∷ 4 ∷ 5 ∷ 5 ∷ 4 ∷ []) (c - 32) 0 ≡ constructor c .result
+pub results : (code : ℕ) → getD (4 ∷ 4 ∷ 4 ∷ 4 ∷ 4 ∷ 5 ∷ 5 ∷ 4 ∷ []) (code - 32) 0 ≡ constructor code .result
 unfolding constructorSignatures constructor
-results c = List·getD-map (λ (s : Signature). s .result) constructorSignatures (c - 32) (gives [] unit)
+results code = List·getD-map (λ (s : Signature). s .result) constructorSignatures (code - 32) (gives [] unit)
 
 -- the sorts of their first arguments
-pub firsts : (c : ℕ) → getD (1 ∷ 2 ∷ 4 ∷ 5 ∷ 4 ∷ 0 ∷ 3 ∷ 6 ∷ []) (c - 32) 0 ≡ getD (constructor c .params) 0 unit
+pub firsts : (code : ℕ) → getD (1 ∷ 2 ∷ 4 ∷ 5 ∷ 4 ∷ 0 ∷ 3 ∷ 6 ∷ []) (code - 32) 0 ≡ getD (constructor code .params) 0 unit
 unfolding constructorSignatures constructor
-firsts c = List·getD-map (λ (s : Signature). getD (s .params) 0 unit) constructorSignatures (c - 32) (gives [] unit)
+firsts code = List·getD-map (λ (s : Signature). getD (s .params) 0 unit) constructorSignatures (code - 32) (gives [] unit)
 
 -- of their second arguments
-pub seconds : (c : ℕ) → getD (0 ∷ 4 ∷ 4 ∷ 0 ∷ 3 ∷ 0 ∷ 4 ∷ 0 ∷ []) (c - 32) 0 ≡ getD (constructor c .params) 1 unit
+pub seconds : (code : ℕ) → getD (0 ∷ 4 ∷ 4 ∷ 0 ∷ 3 ∷ 0 ∷ 4 ∷ 0 ∷ []) (code - 32) 0 ≡ getD (constructor code .params) 1 unit
 unfolding constructorSignatures constructor
-seconds c = List·getD-map (λ (s : Signature). getD (s .params) 1 unit) constructorSignatures (c - 32) (gives [] unit)
+seconds code = List·getD-map (λ (s : Signature). getD (s .params) 1 unit) constructorSignatures (code - 32) (gives [] unit)
 
 -- and of their third arguments
-pub thirds : (c : ℕ) → getD (0 ∷ 0 ∷ 0 ∷ 0 ∷ 0 ∷ 0 ∷ 5 ∷ 0 ∷ []) (c - 32) 0 ≡ getD (constructor c .params) 2 unit
+pub thirds : (code : ℕ) → getD (0 ∷ 0 ∷ 0 ∷ 0 ∷ 0 ∷ 0 ∷ 5 ∷ 0 ∷ []) (code - 32) 0 ≡ getD (constructor code .params) 2 unit
 unfolding constructorSignatures constructor
-thirds c = List·getD-map (λ (s : Signature). getD (s .params) 2 unit) constructorSignatures (c - 32) (gives [] unit)
+thirds code = List·getD-map (λ (s : Signature). getD (s .params) 2 unit) constructorSignatures (code - 32) (gives [] unit)
 
 -- a constructor has three arguments at most
-pub arity-small : (c : ℕ) → arity c ≤ 3
+pub arity-small : (code : ℕ) → arity code ≤ 3
 unfolding every
-arity-small c =
-    by-test (ltb (c - 32) 8)
-    (λ e. rw (← (arity-at c)) (leb-true _ 3 (every-at (λ n. leb n 3) arities (c - 32) refl (ltb-true _ 8 e))))
-    (λ e. omega (arith, arity-high c (ltb-false _ 8 e)))
+arity-small code =
+    by-test (ltb (code - 32) 8)
+    (λ e. rw (← (arity-at code)) (leb-true _ 3 (every-at (λ n. leb n 3) arities (code - 32) refl (ltb-true _ 8 e))))
+    (λ e. omega (arith, arity-high code (ltb-false _ 8 e)))
 
 -- no constructor has a fourth argument
-pub arguments-end : (c k : ℕ) → 3 ≤ k → unit ≡ getD (constructor c .params) k unit
-arguments-end c k h = sym (getD-past (constructor c .params) k unit (omega (arith, arity-small c)))
+pub arguments-end : (code place : ℕ) → 3 ≤ place → unit ≡ getD (constructor code .params) place unit
+arguments-end code place h = sym (getD-past (constructor code .params) place unit (omega (arith, arity-small code)))
 
--- argument j, where k is j
-pub argument-is : {r k j : ℕ} (c : ℕ) → k ≡ j → r ≡ getD (constructor c .params) j unit → r ≡ getD (constructor c .params) k unit
-argument-is {r} c e h = rw e h
+-- argument `index`, where `place` is `index`
+pub argument-is : {result place index : ℕ} (code : ℕ) → place ≡ index → result ≡ getD (constructor code .params) index unit
+    → result ≡ getD (constructor code .params) place unit
+argument-is {result} code e h = rw e h

@@ -22,129 +22,129 @@ use Rattle.judgements.proofs.Accepting.{then-passed, then-passes}
 use Rattle.judgements.proofs.Environments.{defined-newest, newest-defined, newest-signature}
 use Rattle.judgements.proofs.TemplateSorts.{both, pair, fits-rule, rule-fits, sorted-rule, rule-sorted, fill-rule, rule-fill}
 
-module _ (G : Scope) where
+module _ (scope : Scope) where
   -- ------------------------------------------------------------------ an item
 
   -- a passed item has a sort by the rules, and that sort is the check's value
   item-rule :
-      (L : List ℕ) (at : ℕ) (i : Item) (P : ℕ → Type 0) → ItemWithin i → Accepts (checkItem G L at i) P
-      → (B : ℕ) × ItemSorted G L i B × P B
+      (L : List ℕ) (at : ℕ) (item : Item) (P : ℕ → Type 0) → ItemWithin item → Accepts (checkItem scope L at item) P
+      → (B : ℕ) × ItemSorted scope L item B × P B
   item-rule L at (keyword k) P w h =
-      let n = need-passed (ltb k (G .keywords)) 9 at _ (then-passed P (need (ltb k (G .keywords)) 9 at) (ok unit) h) in
-      (unit, by-keyword (ltb-true k (G .keywords) (n .0)), n .1)
+      let n = need-passed (ltb k (scope .keywords)) 9 at _ (then-passed P (need (ltb k (scope .keywords)) 9 at) (ok unit) h) in
+      (unit, by-keyword (ltb-true k (scope .keywords) (n .0)), n .1)
   item-rule L at (ide s) P (ide-within l u) h = (s, by-ide l u, h)
   item-rule L at number P w h = (_, by-number, h)
   item-rule L at local P w h = (_, by-local, h)
   item-rule L at (call n ts) P (call-within l ws) h =
-      let S : Signature = signatureOf (G .env) n in
-      let closed : Bool = isDefined (G .env) n && areClosed ts G (length L) in
+      let S : Signature = signatureOf (scope .env) n in
+      let closed : Bool = isDefined (scope .env) n && areClosed ts scope (length L) in
       let tests : Checked (Unit {0}) = need closed 9 at >> need (fill ts L (S .params)) 11 at in
       let q = needs-passed closed (fill ts L (S .params)) 9 11 at (λ u. P (S .result)) (then-passed P tests (ok (S .result)) h) in
-      let d = both (isDefined (G .env) n) (areClosed ts G (length L)) (q .0) in
-      (S .result, by-call (defined-newest (G .env) n (d .0)) (fill-rule G L ts (S .params) ws (d .1) (q .1)), q .2)
+      let d = both (isDefined (scope .env) n) (areClosed ts scope (length L)) (q .0) in
+      (S .result, by-call (defined-newest (scope .env) n (d .0)) (fill-rule scope L ts (S .params) ws (d .1) (q .1)), q .2)
 
   rule-item :
-      {L : List ℕ} (at : ℕ) {i : Item} {B : ℕ} (P : ℕ → Type 0) → ItemSorted G L i B → P B → Accepts (checkItem G L at i) P
+      {L : List ℕ} (at : ℕ) {item : Item} {B : ℕ} (P : ℕ → Type 0) → ItemSorted scope L item B → P B → Accepts (checkItem scope L at item) P
   rule-item at P (by-keyword {k = k} h) p =
-      then-passes P (need (ltb k (G .keywords)) 9 at) (ok unit)
-      (need-passes (ltb k (G .keywords)) 9 at _ (lt-ltb k (G .keywords) h) p)
+      then-passes P (need (ltb k (scope .keywords)) 9 at) (ok unit)
+      (need-passes (ltb k (scope .keywords)) 9 at _ (lt-ltb k (scope .keywords) h) p)
   rule-item at P (by-ide l u) p = p
   rule-item at P by-number p = p
   rule-item at P by-local p = p
   rule-item {L} at P (by-call {n = n} {S = S} {ts = ts} d h) p =
-      let f = rule-fill G L ts h in
-      let closed : Bool = isDefined (G .env) n && areClosed ts G (length L) in
+      let f = rule-fill scope L ts h in
+      let closed : Bool = isDefined (scope .env) n && areClosed ts scope (length L) in
       rw (newest-signature d) (then-passes P (need closed 9 at >> need (fill ts L (S .params)) 11 at) (ok (S .result))
-      (needs-passes closed _ 9 11 at _ (pair (isDefined (G .env) n) _ (newest-defined d) (f .0)) (f .1) p))
+      (needs-passes closed _ 9 11 at _ (pair (isDefined (scope .env) n) _ (newest-defined d) (f .0)) (f .1) p))
 
   -- ------------------------------------------------------------------ an alternative
 
   module _ (P : Unit {0} → Type 0) where
     -- once the sorts of all variables are known, the result is checked
     abbrev Rest : ℕ → ℕ → Template → List ℕ → Type 0
-    Rest B at t L = Accepts (checkResult G L B at t) P
+    Rest B at t L = Accepts (checkResult scope L B at t) P
 
     -- items and result together
     body-rule :
-        (is : List Item) (L : List ℕ) (B at from : ℕ) (t : Template) → Each ItemWithin is → TemplateWithin t
-        → Accepts (checkItems G L at is) (Rest B from t)
-        → Body G L is t B × P tt
+        (is : List Item) (L : List ℕ) (B at from : ℕ) (template : Template) → Each ItemWithin is → TemplateWithin template
+        → Accepts (checkItems scope L at is) (Rest B from template)
+        → Body scope L is template B × P tt
     unfolding checkItems
-    body-rule [] L B at from t each-none w h =
-        let n = needs-passed (isClosed t G (length L)) (isSorted t L && fits (sortOf t L) B) 9 11 from P h in
-        let s = both (isSorted t L) (fits (sortOf t L) B) (n .1) in
-        (by-result (sorted-rule G L t w (n .0) (s .0)) (fits-rule (sortOf t L) B (s .1)), n .2)
-    body-rule (i ∷ is) L B at from t (each-more z zs) w h =
-        let r = item-rule L at i _ z (bind-passed (Rest B from t) (checkItem G L at i) _ h) in
-        let q = body-rule is (L ++ (r .0 ∷ [])) B _ from t zs w (r .2) in
+    body-rule [] L B at from template each-none w h =
+        let n = needs-passed (isClosed template scope (length L)) (isSorted template L && fits (sortOf template L) B) 9 11 from P h in
+        let s = both (isSorted template L) (fits (sortOf template L) B) (n .1) in
+        (by-result (sorted-rule scope L template w (n .0) (s .0)) (fits-rule (sortOf template L) B (s .1)), n .2)
+    body-rule (i ∷ is) L B at from template (each-more z zs) w h =
+        let r = item-rule L at i _ z (bind-passed (Rest B from template) (checkItem scope L at i) _ h) in
+        let q = body-rule is (L ++ (r .0 ∷ [])) B _ from template zs w (r .2) in
         (by-binding (r .1) (q .0), q .1)
 
     rule-body :
-        {is : List Item} {L : List ℕ} {B : ℕ} (at from : ℕ) {t : Template} → Body G L is t B → P tt
-        → Accepts (checkItems G L at is) (Rest B from t)
+        {is : List Item} {L : List ℕ} {B : ℕ} (at from : ℕ) {template : Template} → Body scope L is template B → P tt
+        → Accepts (checkItems scope L at is) (Rest B from template)
     unfolding checkItems
     rule-body at from (by-result {L = L} {t = t} {A = A} {B = B} s f) p =
-        let r = rule-sorted G L t s in
+        let r = rule-sorted scope L t s in
         needs-passes _ _ 9 11 from P (r .0)
         (pair (isSorted t L) (fits (sortOf t L) B) (r .1) (cc (r .2, rule-fits f))) p
     rule-body at from (by-binding {L = L} {i = i} {t = t} {B = B} s b) p =
-        bind-passes (Rest B from t) (checkItem G L at i) _ (rule-item at _ s (rule-body _ from b p))
+        bind-passes (Rest B from t) (checkItem scope L at i) _ (rule-item at _ s (rule-body _ from b p))
 
     alternative-rule :
-        (S : Signature) (at : ℕ) (a : Alternative) → AlternativeWithin a → Accepts (checkAlternative G S at a) P
-        → Body G (S .params) (a .items) (a .result) (S .result) × P tt
+        (S : Signature) (at : ℕ) (alternative : Alternative) → AlternativeWithin alternative → Accepts (checkAlternative scope S at alternative) P
+        → Body scope (S .params) (alternative .items) (alternative .result) (S .result) × P tt
     unfolding checkAlternative
-    alternative-rule S at a w h =
-        body-rule (a .items) (S .params) (S .result) (at + 3) (at + 3 + itemsSize (a .items)) (a .result) (w .items) (w .result)
-        (bind-passed P (checkItems G (S .params) (at + 3) (a .items)) _ h)
+    alternative-rule S at alternative w h =
+        body-rule (alternative .items) (S .params) (S .result) (at + 3) (at + 3 + itemsSize (alternative .items)) (alternative .result) (w .items) (w .result)
+        (bind-passed P (checkItems scope (S .params) (at + 3) (alternative .items)) _ h)
 
     rule-alternative :
-        (S : Signature) (at : ℕ) (a : Alternative) → Body G (S .params) (a .items) (a .result) (S .result) → P tt
-        → Accepts (checkAlternative G S at a) P
+        (S : Signature) (at : ℕ) (alternative : Alternative) → Body scope (S .params) (alternative .items) (alternative .result) (S .result) → P tt
+        → Accepts (checkAlternative scope S at alternative) P
     unfolding checkAlternative
-    rule-alternative S at a b p =
-        bind-passes P (checkItems G (S .params) (at + 3) (a .items)) _ (rule-body (at + 3) (at + 3 + itemsSize (a .items)) b p)
+    rule-alternative S at alternative b p =
+        bind-passes P (checkItems scope (S .params) (at + 3) (alternative .items)) _ (rule-body (at + 3) (at + 3 + itemsSize (alternative .items)) b p)
 
   -- ------------------------------------------------------------------ alternatives and definitions
 
   bodies-rule :
       (P : Unit {0} → Type 0) (S : Signature) (at : ℕ) (choices : List Alternative) → Each AlternativeWithin choices
-      → Accepts (checkAlternatives G S at choices) P
-      → Bodies G S choices × P tt
+      → Accepts (checkAlternatives scope S at choices) P
+      → Bodies scope S choices × P tt
   unfolding checkAlternatives
   bodies-rule P S at [] each-none h = (no-alternative, h)
   bodies-rule P S at (a ∷ rest) (each-more w ws) h =
-      let r = alternative-rule _ S at a w (then-passed P (checkAlternative G S at a) _ h) in
+      let r = alternative-rule _ S at a w (then-passed P (checkAlternative scope S at a) _ h) in
       let q = bodies-rule P S _ rest ws (r .1) in
       (by-choice (r .0) (q .0), q .1)
 
   rule-bodies :
-      (P : Unit {0} → Type 0) {S : Signature} (at : ℕ) {choices : List Alternative} → Bodies G S choices → P tt
-      → Accepts (checkAlternatives G S at choices) P
+      (P : Unit {0} → Type 0) {S : Signature} (at : ℕ) {choices : List Alternative} → Bodies scope S choices → P tt
+      → Accepts (checkAlternatives scope S at choices) P
   unfolding checkAlternatives
   rule-bodies P at no-alternative p = p
   rule-bodies P {S} at (by-choice {a = a} b bs) p =
-      then-passes P (checkAlternative G S at a) _ (rule-alternative _ S at a b (rule-bodies P _ bs p))
+      then-passes P (checkAlternative scope S at a) _ (rule-alternative _ S at a b (rule-bodies P _ bs p))
 
   -- bodies that the check accepts are derived
   pub ok-rule :
-      (P : Unit {0} → Type 0) (at : ℕ) (ds : List Definition) → Each DefinitionWithin ds → Accepts (checkBodies G at ds) P → Ok G ds × P tt
+      (P : Unit {0} → Type 0) (at : ℕ) (ds : List Definition) → Each DefinitionWithin ds → Accepts (checkBodies scope at ds) P → Ok scope ds × P tt
   unfolding checkBodies
   ok-rule P at [] each-none h = (ok-empty, h)
   ok-rule P at (d ∷ ds) (each-more w ws) h =
       let from : ℕ = at + fieldSize (headValue d) in
-      let bodies : Checked (Unit {0}) = checkAlternatives G (d .signature) from (d .alternatives) in
+      let bodies : Checked (Unit {0}) = checkAlternatives scope (d .signature) from (d .alternatives) in
       let r = bodies-rule _ (d .signature) from (d .alternatives) (w .alternatives)
-      (then-passed P bodies (checkBodies G (at + definitionSize d) ds) h) in
+      (then-passed P bodies (checkBodies scope (at + definitionSize d) ds) h) in
       let q = ok-rule P (at + definitionSize d) ds ws (r .1) in
       (ok-definition (r .0) (q .0), q .1)
 
   -- bodies that are derived are accepted
-  pub rule-ok : (P : Unit {0} → Type 0) (at : ℕ) {ds : List Definition} → Ok G ds → P tt → Accepts (checkBodies G at ds) P
+  pub rule-ok : (P : Unit {0} → Type 0) (at : ℕ) {ds : List Definition} → Ok scope ds → P tt → Accepts (checkBodies scope at ds) P
   unfolding checkBodies
   rule-ok P at ok-empty p = p
   rule-ok P at (ok-definition {d = d} {ds = ds} b o) p =
       let from : ℕ = at + fieldSize (headValue d) in
-      let bodies : Checked (Unit {0}) = checkAlternatives G (d .signature) from (d .alternatives) in
-      let rest : Checked (Unit {0}) = checkBodies G (at + definitionSize d) ds in
+      let bodies : Checked (Unit {0}) = checkAlternatives scope (d .signature) from (d .alternatives) in
+      let rest : Checked (Unit {0}) = checkBodies scope (at + definitionSize d) ds in
       then-passes P bodies rest (rule-bodies (λ u. Accepts rest P) from b (rule-ok P (at + definitionSize d) o p))

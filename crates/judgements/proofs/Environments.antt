@@ -12,55 +12,59 @@ use Rattle.judgements.specs.Scopes.{Declaration, Env}
 use Rattle.judgements.specs.Judgements.{Newest, newest-first, newest-later, Undeclared, absent-empty, absent-entry}
 
 -- the first entry is the one asked for, or the others are looked at
-pub defined-here : (e : Declaration) (E : Env) (n : ℕ) → eqb (e .nonterminal) n ≡ true → isDefined (e ∷ E) n ≡ true
+pub defined-here : (declared : Declaration) (E : Env) (nonterminal : ℕ) → eqb (declared .nonterminal) nonterminal ≡ true
+    → isDefined (declared ∷ E) nonterminal ≡ true
 unfolding isDefined
-defined-here e E n h = rw (h, isDefined) refl
+defined-here declared E nonterminal h = rw (h, isDefined) refl
 
 -- another entry does not matter to what is defined
-pub defined-later : (e : Declaration) (E : Env) (n : ℕ) → eqb (e .nonterminal) n ≡ false → isDefined (e ∷ E) n ≡ isDefined E n
+pub defined-later : (declared : Declaration) (E : Env) (nonterminal : ℕ) → eqb (declared .nonterminal) nonterminal ≡ false
+    → isDefined (declared ∷ E) nonterminal ≡ isDefined E nonterminal
 unfolding isDefined
-defined-later e E n h = rw (h, isDefined) refl
+defined-later declared E nonterminal h = rw (h, isDefined) refl
 
 -- an entry gives its signature
-pub signature-here : (e : Declaration) (E : Env) (n : ℕ) → eqb (e .nonterminal) n ≡ true → signatureOf (e ∷ E) n ≡ e .signature
+pub signature-here : (declared : Declaration) (E : Env) (nonterminal : ℕ) → eqb (declared .nonterminal) nonterminal ≡ true
+    → signatureOf (declared ∷ E) nonterminal ≡ declared .signature
 unfolding signatureOf
-signature-here e E n h = rw (h, signatureOf) refl
+signature-here declared E nonterminal h = rw (h, signatureOf) refl
 
 -- another entry does not matter to a signature
-pub signature-later : (e : Declaration) (E : Env) (n : ℕ) → eqb (e .nonterminal) n ≡ false → signatureOf (e ∷ E) n ≡ signatureOf E n
+pub signature-later : (declared : Declaration) (E : Env) (nonterminal : ℕ) → eqb (declared .nonterminal) nonterminal ≡ false
+    → signatureOf (declared ∷ E) nonterminal ≡ signatureOf E nonterminal
 unfolding signatureOf
-signature-later e E n h = rw (h, signatureOf) refl
+signature-later declared E nonterminal h = rw (h, signatureOf) refl
 
 -- a nonterminal that is defined has the signature found as its newest
-pub defined-newest : (E : Env) (n : ℕ) → isDefined E n ≡ true → Newest E n (signatureOf E n)
+pub defined-newest : (E : Env) (nonterminal : ℕ) → isDefined E nonterminal ≡ true → Newest E nonterminal (signatureOf E nonterminal)
 unfolding isDefined
-defined-newest [] n h = absurd (true≢false (sym h))
-defined-newest (e ∷ E) n h =
-    by-test (eqb (e .nonterminal) n)
-    (λ q. rw (signature-here e E n q) (rw (← (eqb-true _ n q)) newest-first))
-    (λ q. rw (signature-later e E n q)
-    (newest-later (eqb-false _ n q) (defined-newest E n (sym (defined-later e E n q) ∙ h))))
+defined-newest [] nonterminal h = absurd (true≢false (sym h))
+defined-newest (e ∷ E) nonterminal h =
+    by-test (eqb (e .nonterminal) nonterminal)
+    (λ q. rw (signature-here e E nonterminal q) (rw (← (eqb-true _ nonterminal q)) newest-first))
+    (λ q. rw (signature-later e E nonterminal q)
+    (newest-later (eqb-false _ nonterminal q) (defined-newest E nonterminal (sym (defined-later e E nonterminal q) ∙ h))))
 
 -- what has a newest entry is defined
-pub newest-defined : {E : Env} {n : ℕ} {S : Signature} → Newest E n S → isDefined E n ≡ true
+pub newest-defined : {E : Env} {nonterminal : ℕ} {S : Signature} → Newest E nonterminal S → isDefined E nonterminal ≡ true
 newest-defined (newest-first {e = e} {E = E}) = defined-here e E (e .nonterminal) (eq-eqb (e .nonterminal) (e .nonterminal) refl)
 newest-defined (newest-later {e = e} {E = E} {n = n} d h) = defined-later e E n (ne-eqb _ n d) ∙ newest-defined h
 
 -- with its signature
-pub newest-signature : {E : Env} {n : ℕ} {S : Signature} → Newest E n S → signatureOf E n ≡ S
+pub newest-signature : {E : Env} {nonterminal : ℕ} {S : Signature} → Newest E nonterminal S → signatureOf E nonterminal ≡ S
 newest-signature (newest-first {e = e} {E = E}) = signature-here e E (e .nonterminal) (eq-eqb (e .nonterminal) (e .nonterminal) refl)
 newest-signature (newest-later {e = e} {E = E} {n = n} d h) = signature-later e E n (ne-eqb _ n d) ∙ newest-signature h
 
 -- a nonterminal that is not defined is absent
-pub undefined-absent : (E : Env) (n : ℕ) → isDefined E n ≡ false → Undeclared E n
+pub undefined-absent : (E : Env) (nonterminal : ℕ) → isDefined E nonterminal ≡ false → Undeclared E nonterminal
 unfolding isDefined
-undefined-absent [] n h = absent-empty
-undefined-absent (e ∷ E) n h =
-    by-test (eqb (e .nonterminal) n) (λ q. absurd (true≢false (sym (defined-here e E n q) ∙ h)))
-    (λ q. absent-entry (eqb-false _ n q) (undefined-absent E n (sym (defined-later e E n q) ∙ h)))
+undefined-absent [] nonterminal h = absent-empty
+undefined-absent (e ∷ E) nonterminal h =
+    by-test (eqb (e .nonterminal) nonterminal) (λ q. absurd (true≢false (sym (defined-here e E nonterminal q) ∙ h)))
+    (λ q. absent-entry (eqb-false _ nonterminal q) (undefined-absent E nonterminal (sym (defined-later e E nonterminal q) ∙ h)))
 
 -- what is absent is not defined
-pub absent-undefined : {E : Env} {n : ℕ} → Undeclared E n → isDefined E n ≡ false
+pub absent-undefined : {E : Env} {nonterminal : ℕ} → Undeclared E nonterminal → isDefined E nonterminal ≡ false
 unfolding isDefined
 absent-undefined absent-empty = refl
 absent-undefined (absent-entry {e = e} {E = E} {n = n} d h) = defined-later e E n (ne-eqb _ n d) ∙ absent-undefined h

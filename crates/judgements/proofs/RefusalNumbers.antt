@@ -23,47 +23,47 @@ IsSortRefusal r = List·Memᴰ (r .number) (7 ∷ 8 ∷ 9 ∷ 11 ∷ []) × (r .
 
 -- a check that gives no other refusal
 data Sort {A : Type 0} : Checked A → Type 0 where
-  none : {a : A} → Sort (ok a)
-  one : {r : Refusal} → IsSortRefusal r → Sort (bad r)
+  none : {item : A} → Sort (ok item)
+  one : {refusal : Refusal} → IsSortRefusal refusal → Sort (bad refusal)
 
-refused : {r : Refusal} → Sort {A = Unit {0}} (bad r) → IsSortRefusal r
+refused : {refusal : Refusal} → Sort {A = Unit {0}} (bad refusal) → IsSortRefusal refusal
 refused (one h) = h
 
-need-sort : (b : Bool) (n at : ℕ) → List·Memᴰ n (7 ∷ 8 ∷ 9 ∷ 11 ∷ []) → Sort (need b n at)
-need-sort true n at m = none
-need-sort false n at m = one (m, refl, refl)
+need-sort : (test : Bool) (cause-number at : ℕ) → List·Memᴰ cause-number (7 ∷ 8 ∷ 9 ∷ 11 ∷ []) → Sort (need test cause-number at)
+need-sort true cause-number at m = none
+need-sort false cause-number at m = one (m, refl, refl)
 
-need-7 : (b : Bool) (at : ℕ) → Sort (need b 7 at)
-need-7 b at = need-sort b 7 at (List·Memᴰ·head refl)
+need-7 : (test : Bool) (at : ℕ) → Sort (need test 7 at)
+need-7 test at = need-sort test 7 at (List·Memᴰ·head refl)
 
-need-8 : (b : Bool) (at : ℕ) → Sort (need b 8 at)
-need-8 b at = need-sort b 8 at (List·Memᴰ·tail (List·Memᴰ·head refl))
+need-8 : (test : Bool) (at : ℕ) → Sort (need test 8 at)
+need-8 test at = need-sort test 8 at (List·Memᴰ·tail (List·Memᴰ·head refl))
 
-need-9 : (b : Bool) (at : ℕ) → Sort (need b 9 at)
-need-9 b at = need-sort b 9 at (List·Memᴰ·tail (List·Memᴰ·tail (List·Memᴰ·head refl)))
+need-9 : (test : Bool) (at : ℕ) → Sort (need test 9 at)
+need-9 test at = need-sort test 9 at (List·Memᴰ·tail (List·Memᴰ·tail (List·Memᴰ·head refl)))
 
-need-11 : (b : Bool) (at : ℕ) → Sort (need b 11 at)
-need-11 b at = need-sort b 11 at (List·Memᴰ·tail (List·Memᴰ·tail (List·Memᴰ·tail (List·Memᴰ·head refl))))
+need-11 : (test : Bool) (at : ℕ) → Sort (need test 11 at)
+need-11 test at = need-sort test 11 at (List·Memᴰ·tail (List·Memᴰ·tail (List·Memᴰ·tail (List·Memᴰ·head refl))))
 
 module _ {A B : Type 0} where
-  bind : (c : Checked A) (k : A → Checked B) → Sort c → ((a : A) → Sort (k a)) → Sort (c >>= k)
-  bind (ok a) k h f = f a
-  bind (bad r) k (one h) f = one h
+  bind : (first : Checked A) (then-check : A → Checked B) → Sort first → ((item : A) → Sort (then-check item)) → Sort (first >>= then-check)
+  bind (ok a) then-check h f = f a
+  bind (bad r) then-check (one h) f = one h
 
-  after : (c : Checked A) (k : Checked B) → Sort c → Sort k → Sort (c >> k)
-  after (ok a) k h f = f
-  after (bad r) k (one h) f = one h
+  after : (first : Checked A) (then-check : Checked B) → Sort first → Sort then-check → Sort (first >> then-check)
+  after (ok a) then-check h f = f
+  after (bad r) then-check (one h) f = one h
 
 -- 9 before 11 at one place
-needs-sort : (b c : Bool) (at : ℕ) → Sort (need b 9 at >> need c 11 at)
-needs-sort b c at = after (need b 9 at) (need c 11 at) (need-9 b at) (need-11 c at)
+needs-sort : (first second : Bool) (at : ℕ) → Sort (need first 9 at >> need second 11 at)
+needs-sort first second at = after (need first 9 at) (need second 11 at) (need-9 first at) (need-11 second at)
 
 -- ------------------------------------------------------------------ the parts of the check
 
-consistent-sort : (m : Mode) (E own : Env) (d : Definition) (at : ℕ) → Sort (consistent m E own d at)
-consistent-sort add E own d at = need-7 (isUnused E own d) at
-consistent-sort extend E own d at = need-8 (isAsBefore E own d) at
-consistent-sort update E own d at = need-8 (isAsBefore E own d) at
+consistent-sort : (mode : Mode) (E own : Env) (definition : Definition) (at : ℕ) → Sort (consistent mode E own definition at)
+consistent-sort add E own definition at = need-7 (isUnused E own definition) at
+consistent-sort extend E own definition at = need-8 (isAsBefore E own definition) at
+consistent-sort update E own definition at = need-8 (isAsBefore E own definition) at
 
 collect-sort : (E own : Env) (at : ℕ) (ds : List Definition) → Sort (collect E own at ds)
 unfolding collect
@@ -71,44 +71,44 @@ collect-sort E own at [] = none
 collect-sort E own at (d ∷ ds) =
     after _ _ (consistent-sort (d .mode) E own d at) (collect-sort E (entryOf d ∷ own) (at + definitionSize d) ds)
 
-module _ (G : Scope) where
-  item-sort : (L : List ℕ) (at : ℕ) (i : Item) → Sort (checkItem G L at i)
-  item-sort L at (keyword k) = after (need (ltb k (G .keywords)) 9 at) (ok unit) (need-9 (ltb k (G .keywords)) at) none
+module _ (scope : Scope) where
+  item-sort : (L : List ℕ) (at : ℕ) (item : Item) → Sort (checkItem scope L at item)
+  item-sort L at (keyword k) = after (need (ltb k (scope .keywords)) 9 at) (ok unit) (need-9 (ltb k (scope .keywords)) at) none
   item-sort L at (ide s) = none
   item-sort L at number = none
   item-sort L at local = none
   item-sort L at (call n ts) =
-      after _ (ok (signatureOf (G .env) n .result))
-      (needs-sort (isDefined (G .env) n && areClosed ts G (length L)) (fill ts L (signatureOf (G .env) n .params)) at) none
+      after _ (ok (signatureOf (scope .env) n .result))
+      (needs-sort (isDefined (scope .env) n && areClosed ts scope (length L)) (fill ts L (signatureOf (scope .env) n .params)) at) none
 
-  items-sort : (L : List ℕ) (at : ℕ) (is : List Item) → Sort (checkItems G L at is)
+  items-sort : (L : List ℕ) (at : ℕ) (is : List Item) → Sort (checkItems scope L at is)
   unfolding checkItems
   items-sort L at [] = none
   items-sort L at (i ∷ is) = bind _ _ (item-sort L at i) (λ s. items-sort (L ++ (s ∷ [])) (at + fieldSize (itemValue i)) is)
 
-  alternatives-sort : (S : Signature) (at : ℕ) (choices : List Alternative) → Sort (checkAlternatives G S at choices)
+  alternatives-sort : (S : Signature) (at : ℕ) (choices : List Alternative) → Sort (checkAlternatives scope S at choices)
   unfolding checkAlternatives checkAlternative
   alternatives-sort S at [] = none
   alternatives-sort S at (a ∷ rest) =
       after _ _
       (bind _ _ (items-sort (S .params) _ (a .items))
-      (λ L. needs-sort (isClosed (a .result) G (length L)) (isSorted (a .result) L && fits (sortOf (a .result) L) (S .result)) _))
+      (λ L. needs-sort (isClosed (a .result) scope (length L)) (isSorted (a .result) L && fits (sortOf (a .result) L) (S .result)) _))
       (alternatives-sort S (at + alternativeSize a) rest)
 
-  bodies-sort : (at : ℕ) (ds : List Definition) → Sort (checkBodies G at ds)
+  bodies-sort : (at : ℕ) (ds : List Definition) → Sort (checkBodies scope at ds)
   unfolding checkBodies
   bodies-sort at [] = none
   bodies-sort at (d ∷ ds) = after _ _ (alternatives-sort (d .signature) _ (d .alternatives)) (bodies-sort (at + definitionSize d) ds)
 
-blocks-sort : (K N : ℕ) (E : Env) (at : ℕ) (gs : List (List Definition)) → Sort (checkBlocks K N E at gs)
+blocks-sort : (keywords outsides : ℕ) (E : Env) (at : ℕ) (gs : List (List Definition)) → Sort (checkBlocks keywords outsides E at gs)
 unfolding checkBlocks
-blocks-sort K N E at [] = none
-blocks-sort K N E at (g ∷ gs) =
-    bind _ _ (collect-sort E [] _ g) (λ own. after _ _ (bodies-sort _ _ g) (blocks-sort K N (own ++ E) (at + 3 + definitionsSize g) gs))
+blocks-sort keywords outsides E at [] = none
+blocks-sort keywords outsides E at (g ∷ gs) =
+    bind _ _ (collect-sort E [] _ g) (λ own. after _ _ (bodies-sort _ _ g) (blocks-sort keywords outsides (own ++ E) (at + 3 + definitionsSize g) gs))
 
 -- the check of sorts refuses with 7, 8, 9 or 11 only
-pub table-sort : (t : Table) (r : Refusal) → checkSorts t ≡ bad r → IsSortRefusal r
+pub table-sort : (table : Table) (refusal : Refusal) → checkSorts table ≡ bad refusal → IsSortRefusal refusal
 unfolding checkSorts checkRoot
-table-sort t r e =
-    refused (subst Sort e (bind _ _ (blocks-sort _ _ [] _ (t .blocks))
-    (λ E. needs-sort (isDefined E (t .root)) (eqb (length (signatureOf E (t .root) .params)) 0 && eqb (signatureOf E (t .root) .result) term) _)))
+table-sort table refusal e =
+    refused (subst Sort e (bind _ _ (blocks-sort _ _ [] _ (table .blocks))
+    (λ E. needs-sort (isDefined E (table .root)) (eqb (length (signatureOf E (table .root) .params)) 0 && eqb (signatureOf E (table .root) .result) term) _)))

@@ -13,9 +13,9 @@ use Rattle.judgements.proofs.RefusalNumbers.{IsSortRefusal, table-sort}
 
 -- A table within the counts and ranges passes the sort check exactly if the judgements derive its sequence of grammars and its root is defined, without
 -- parameters, of sort Term.
-pub sorts-exactly : (t : Table) → Within t → (checkSorts t ≡ ok tt) ↔ WellSorted t
-sorts-exactly t w = (λ e. table-rule t w (passed (checkSorts t) e), λ s. passes (checkSorts t) (rule-table t s))
+pub sorts-exactly : (table : Table) → Within table → (checkSorts table ≡ ok tt) ↔ WellSorted table
+sorts-exactly table w = (λ e. table-rule table w (passed (checkSorts table) e), λ s. passes (checkSorts table) (rule-table table s))
 
 -- A table that does not pass is refused with 7, 8, 9 or 11; of the values, only the place can differ from 0.
-pub sort-refusals : (t : Table) (r : Refusal) → checkSorts t ≡ bad r → IsSortRefusal r
+pub sort-refusals : (table : Table) (refusal : Refusal) → checkSorts table ≡ bad refusal → IsSortRefusal refusal
 sort-refusals = table-sort

@@ -26,80 +26,82 @@ use Rattle.layout.proofs.IndexLaws.{has-none, has-next}
 
 -- a field that passes has room, and what has been read is one field further
 first-ok :
-    (known ordered spelled room whole : Bool) (at : ℕ) (s u : Progress) → firstFault known ordered spelled room whole at s ≡ ok u
-    → (room ≡ true) × (u ≡ s)
-first-ok false ordered spelled room whole at s u e = let z : _≡_ {A = ℕ} 0 1 = cc in absurd (omega arith)
-first-ok true false spelled room whole at s u e = let z : _≡_ {A = ℕ} 0 1 = cc in absurd (omega arith)
-first-ok true true false room whole at s u e = let z : _≡_ {A = ℕ} 0 1 = cc in absurd (omega arith)
-first-ok true true true false whole at s u e = let z : _≡_ {A = ℕ} 0 1 = cc in absurd (omega arith)
-first-ok true true true true false at s u e = let z : _≡_ {A = ℕ} 0 1 = cc in absurd (omega arith)
-first-ok true true true true true at s u e = (refl, cc)
+    (known ordered spelled room whole : Bool) (at : ℕ) (progress next : Progress) → firstFault known ordered spelled room whole at progress ≡ ok next
+    → (room ≡ true) × (next ≡ progress)
+first-ok false ordered spelled room whole at progress next e = let z : _≡_ {A = ℕ} 0 1 = cc in absurd (omega arith)
+first-ok true false spelled room whole at progress next e = let z : _≡_ {A = ℕ} 0 1 = cc in absurd (omega arith)
+first-ok true true false room whole at progress next e = let z : _≡_ {A = ℕ} 0 1 = cc in absurd (omega arith)
+first-ok true true true false whole at progress next e = let z : _≡_ {A = ℕ} 0 1 = cc in absurd (omega arith)
+first-ok true true true true false at progress next e = let z : _≡_ {A = ℕ} 0 1 = cc in absurd (omega arith)
+first-ok true true true true true at progress next e = (refl, cc)
 
 field-ok :
-    (before : List values.Field) (at tag : ℕ) (v : List ℕ) (s u : Progress) → checkField before at tag v s ≡ ok u
-    → (hasRoom tag s ≡ true) × (u ≡ passed tag s)
-field-ok before at tag v s u e =
-    first-ok (isKnown tag v) (follows tag (s .last)) (isSpelled tag v before) (hasRoom tag s) (isWhole tag v) at (passed tag s) u
-    (sym (field-by before at tag v s _ _ _ _ _ refl refl refl refl refl) ∙ e)
+    (before : List values.Field) (at tag : ℕ) (bytes : List ℕ) (progress next : Progress) → checkField before at tag bytes progress ≡ ok next
+    → (hasRoom tag progress ≡ true) × (next ≡ passed tag progress)
+field-ok before at tag bytes progress next e =
+    first-ok (isKnown tag bytes) (follows tag (progress .last)) (isSpelled tag bytes before) (hasRoom tag progress) (isWhole tag bytes) at
+    (passed tag progress) next
+    (sym (field-by before at tag bytes progress _ _ _ _ _ refl refl refl refl refl) ∙ e)
 
 -- the counts are below their limits where a field of the tag has room
-below : (n limit : ℕ) (here : Bool) → (not here || ltb n limit) ≡ true → limit ≤ 64 → here ≡ true → n < 64
-below n limit true e h k = omega (arith, ltb-true n limit e)
-below n limit false e h k = absurd (let z : _≡_ {A = ℕ} 0 1 = cc in omega arith)
+below : (count limit : ℕ) (here : Bool) → (not here || ltb count limit) ≡ true → limit ≤ 64 → here ≡ true → count < 64
+below count limit true e h k = omega (arith, ltb-true count limit e)
+below count limit false e h k = absurd (let z : _≡_ {A = ℕ} 0 1 = cc in omega arith)
 
 has-moved :
-    {table : List ℕ} {tag : ℕ} {b b′ : List values.Field} {k k′ : ℕ} {r r′ : List ℕ} → b ≡ b′ → k ≡ k′ → r ≡ r′ → HasSpellings table tag b k r
-    → HasSpellings table tag b′ k′ r′
-has-moved {table} {tag} {b} {b′} {k} {k′} {r} e f g h =
-    subst (HasSpellings table tag b′ k′) g (rw (← f) (rw (← e) h))
+    {table : List ℕ} {tag : ℕ} {fields fields′ : List values.Field} {count count′ : ℕ} {room room′ : List ℕ} → fields ≡ fields′ → count ≡ count′ → room ≡ room′
+    → HasSpellings table tag fields count room → HasSpellings table tag fields′ count′ room′
+has-moved {table} {tag} {fields} {fields′} {count} {count′} {room} e f g h =
+    subst (HasSpellings table tag fields′ count′) g (rw (← f) (rw (← e) h))
 
 -- no field yet
-pub remembered-start : {table : List ℕ} {s : Progress} → s ≡ initialProgress → Remembered table 0 s (replicate 320 0) (replicate 320 0)
+pub remembered-start : {table : List ℕ} {progress : Progress} → progress ≡ initialProgress → Remembered table 0 progress (replicate 320 0) (replicate 320 0)
 remembered-start {table} e =
     record {
       keywords = has-moved (sym (none-before table)) (cc) refl has-none;
       outsides = has-moved (sym (none-before table)) (cc) refl has-none;
     }
 
-module _ {table : List ℕ} {at : ℕ} {s : Progress} {K N : List ℕ} (c : Turn table at s) (m : Remembered table at s K N) {t n : ℕ}
-    (e : Field t n ≡ frontOf (drop at table)) {u : Progress}
-    (f : Further u ≡ checking (checkField (fieldsBefore table at) at t (take (at + 3 + n - (at + 3)) (drop (at + 3) table)) s)) where
+module _ {table : List ℕ} {at : ℕ} {progress : Progress} {keywords outsides : List ℕ} (turn : Turn table at progress)
+    (remembered : Remembered table at progress keywords outsides) {tag size : ℕ} (equal : Field tag size ≡ frontOf (drop at table)) {next : Progress}
+    (agrees : Further next ≡ checking (checkField (fieldsBefore table at) at tag (take (at + 3 + size - (at + 3)) (drop (at + 3) table)) progress)) where
   abbrev value : List ℕ
-  value = take n (drop (at + 3) table)
+  value = take size (drop (at + 3) table)
 
   abbrev lent : List ℕ
-  lent = take (at + 3 + n - (at + 3)) (drop (at + 3) table)
+  lent = take (at + 3 + size - (at + 3)) (drop (at + 3) table)
 
-  passes : (hasRoom t s ≡ true) × (u ≡ passed t s)
-  passes = field-ok (fieldsBefore table at) at t lent s u (checked-ok _ u f)
+  passes : (hasRoom tag progress ≡ true) × (next ≡ passed tag progress)
+  passes = field-ok (fieldsBefore table at) at tag lent progress next (checked-ok _ next agrees)
 
   -- the value is found again by its place and length
   again : take (length value) (drop (at + 3) table) ≡ value
   again =
-      let z : length value ≡ n = omega (arith, length-take n (drop (at + 3) table), length-drop (at + 3) table, front-inside table at e) in
+      let z : length value ≡ size = omega (arith, length-take size (drop (at + 3) table), length-drop (at + 3) table, front-inside table at equal) in
       cc
 
   -- room for one more of either tag
-  pub keyword-room : eqb t 1 ≡ true → s .keywords < 64
-  keyword-room h = below (s .keywords) (most .keywords) (eqb t 1) (room-of t s (passes .0) .keywords) (omega arith) h
+  pub keyword-room : eqb tag 1 ≡ true → progress .keywords < 64
+  keyword-room h = below (progress .keywords) (most .keywords) (eqb tag 1) (room-of tag progress (passes .0) .keywords) (omega arith) h
 
   -- an outside name has room among the 64
-  pub outside-room : eqb t 2 ≡ true → s .outsides < 64
-  outside-room h = below (s .outsides) (most .outsides) (eqb t 2) (room-of t s (passes .0) .outsides) (omega arith) h
+  pub outside-room : eqb tag 2 ≡ true → progress .outsides < 64
+  outside-room h = below (progress .outsides) (most .outsides) (eqb tag 2) (room-of tag progress (passes .0) .outsides) (omega arith) h
 
   -- one field more
   pub remembered-next :
-      {K′ N′ : List ℕ} → K′ ≡ entered K (eqb t 1) (s .keywords) (at + 3) lent → N′ ≡ entered N (eqb t 2) (s .outsides) (at + 3) lent
-      → Remembered table (at + 3 + n) u K′ N′
+      {keywords′ outsides′ : List ℕ} → keywords′ ≡ entered keywords (eqb tag 1) (progress .keywords) (at + 3) lent
+      → outsides′ ≡ entered outsides (eqb tag 2) (progress .outsides) (at + 3) lent
+      → Remembered table (at + 3 + size) next keywords′ outsides′
   unfolding passed
-  remembered-next {K′} {N′} p q =
-      let same : lent ≡ value = lent-is table (at + 3) n in
-      let fields : field t value ∷ fieldsBefore table at ≡ fieldsBefore table (at + 3 + n) = sym (before-next c e) in
+  remembered-next {keywords′} {outsides′} p q =
+      let same : lent ≡ value = lent-is table (at + 3) size in
+      let fields : field tag value ∷ fieldsBefore table at ≡ fieldsBefore table (at + 3 + size) = sym (before-next turn equal) in
       record {
         keywords =
-            has-moved fields (cc (passes .1)) (sym (p ∙ ap (entered K (eqb t 1) (s .keywords) (at + 3)) same))
-            (has-next (m .keywords) t value (at + 3) again (eqb t 1) refl keyword-room);
+            has-moved fields (cc (passes .1)) (sym (p ∙ ap (entered keywords (eqb tag 1) (progress .keywords) (at + 3)) same))
+            (has-next (remembered .keywords) tag value (at + 3) again (eqb tag 1) refl keyword-room);
         outsides =
-            has-moved fields (cc (passes .1)) (sym (q ∙ ap (entered N (eqb t 2) (s .outsides) (at + 3)) same))
-            (has-next (m .outsides) t value (at + 3) again (eqb t 2) refl outside-room);
+            has-moved fields (cc (passes .1)) (sym (q ∙ ap (entered outsides (eqb tag 2) (progress .outsides) (at + 3)) same))
+            (has-next (remembered .outsides) tag value (at + 3) again (eqb tag 2) refl outside-room);
       }

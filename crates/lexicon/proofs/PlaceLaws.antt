@@ -12,74 +12,74 @@ use Rattle.spellings.specs.Bytes.{same}
 use Rattle.lexicon.specs.Places.{wordAt, wordsFrom, wordsIn}
 
 -- two stores side by side are one of two numbers
-pub place-stored : (room : List ℕ) (i a b : ℕ) → set (set room i a) (i + 1) b ≡ sets room i (a ∷ b ∷ [])
-place-stored room i a b = rw add-one refl
+pub place-stored : (room : List ℕ) (place start size : ℕ) → set (set room place start) (place + 1) size ≡ sets room place (start ∷ size ∷ [])
+place-stored room place start size = rw add-one refl
 
--- k places name k words
-pub words-length : (k : ℕ) (formula room : List ℕ) (i : ℕ) → length (wordsFrom k formula room i) ≡ k
+-- `count` places name `count` words
+pub words-length : (count : ℕ) (formula room : List ℕ) (from : ℕ) → length (wordsFrom count formula room from) ≡ count
 unfolding wordsFrom
-words-length zero formula room i = refl
-words-length (suc k) formula room i = ap suc (words-length k formula room (i + 1))
+words-length zero formula room from = refl
+words-length (suc count) formula room from = ap suc (words-length count formula room (from + 1))
 
-words-at : (k : ℕ) (formula room : List ℕ) (i j : ℕ) → j < k
-    → getD (wordsFrom k formula room i) j [] ≡ take (getD room ((i + j) * 2 + 1) 0) (drop (getD room ((i + j) * 2) 0) formula)
+words-at : (count : ℕ) (formula room : List ℕ) (from index : ℕ) → index < count
+    → getD (wordsFrom count formula room from) index [] ≡ take (getD room ((from + index) * 2 + 1) 0) (drop (getD room ((from + index) * 2) 0) formula)
 unfolding wordsFrom
-words-at zero formula room i j h = absurd (omega arith)
-words-at (suc k) formula room i zero h = rw add-zero refl
-words-at (suc k) formula room i (suc j) h =
-    let z : i + 1 + j ≡ i + suc j = omega arith in
-    cc (words-at k formula room (i + 1) j (omega arith))
+words-at zero formula room from index h = absurd (omega arith)
+words-at (suc count) formula room from zero h = rw add-zero refl
+words-at (suc count) formula room from (suc index) h =
+    let z : from + 1 + index ≡ from + suc index = omega arith in
+    cc (words-at count formula room (from + 1) index (omega arith))
 
--- word j of the list is the one at place j
-pub word-listed : (count : ℕ) (text room : List ℕ) (j : ℕ) → j < count → getD (wordsIn text room count) j [] ≡ wordAt text room j
-word-listed count text room j h = let z : 0 + j ≡ j = omega arith in words-at count text room 0 j h ∙ ap (wordAt text room) z
+-- word `index` of the list is the one at place `index`
+pub word-listed : (count : ℕ) (text room : List ℕ) (index : ℕ) → index < count → getD (wordsIn text room count) index [] ≡ wordAt text room index
+word-listed count text room index h = let z : 0 + index ≡ index = omega arith in words-at count text room 0 index h ∙ ap (wordAt text room) z
 
 -- a word as the code reads it
-pub word-read : (text room s : List ℕ) (i : ℕ) {at size : ℕ} {v : List ℕ} {b : Bool} → at ≡ getD room (i * 2) 0 → size ≡ getD room (i * 2 + 1) 0
-    → v ≡ take size (drop at text)
-    → b ≡ same v s
-    → b ≡ same (wordAt text room i) s
-word-read text room s i ea es ev eb = eb ∙ ap (λ (w : List ℕ). same w s) (ev ∙ rw (ea, es) refl)
+pub word-read : (text room sought : List ℕ) (place : ℕ) {at size : ℕ} {word : List ℕ} {test : Bool} → at ≡ getD room (place * 2) 0
+    → size ≡ getD room (place * 2 + 1) 0 → word ≡ take size (drop at text)
+    → test ≡ same word sought
+    → test ≡ same (wordAt text room place) sought
+word-read text room sought place ea es ev eb = eb ∙ ap (λ (w : List ℕ). same w sought) (ev ∙ rw (ea, es) refl)
 
--- word i as the code compares it
-pub word-same : (formula room s : List ℕ) (count i : ℕ) {at size : ℕ} {b : Bool} → i < count → at ≡ getD room (i * 2) 0
-    → size ≡ getD room (i * 2 + 1) 0
-    → same (take size (drop at formula)) s ≡ b
-    → same (getD (wordsIn formula room count) i []) s ≡ b
-word-same formula room s count i h a n e =
-    let z : 0 + i ≡ i = omega arith in
-    ap (λ (v : List ℕ). same v s)
-    (words-at count formula room 0 i h
+-- word `place` as the code compares it
+pub word-same : (formula room sought : List ℕ) (count place : ℕ) {at size : ℕ} {test : Bool} → place < count → at ≡ getD room (place * 2) 0
+    → size ≡ getD room (place * 2 + 1) 0
+    → same (take size (drop at formula)) sought ≡ test
+    → same (getD (wordsIn formula room count) place []) sought ≡ test
+word-same formula room sought count place h a n e =
+    let z : 0 + place ≡ place = omega arith in
+    ap (λ (v : List ℕ). same v sought)
+    (words-at count formula room 0 place h
     ∙ ap (λ (j : ℕ). take (getD room (j * 2 + 1) 0) (drop (getD room (j * 2) 0) formula)) z)
     ∙ rw (← a, ← n) e
 
 -- one word more at the end
-words-snoc : (k : ℕ) (formula room : List ℕ) (i : ℕ)
-    → wordsFrom (suc k) formula room i
-    ≡ wordsFrom k formula room i ++ (take (getD room ((i + k) * 2 + 1) 0) (drop (getD room ((i + k) * 2) 0) formula) ∷ [])
+words-snoc : (count : ℕ) (formula room : List ℕ) (from : ℕ)
+    → wordsFrom (suc count) formula room from
+    ≡ wordsFrom count formula room from ++ (take (getD room ((from + count) * 2 + 1) 0) (drop (getD room ((from + count) * 2) 0) formula) ∷ [])
 unfolding wordsFrom
-words-snoc zero formula room i = rw add-zero refl
-words-snoc (suc k) formula room i =
-    let z : i + 1 + k ≡ i + suc k = omega arith in
-    cc (words-snoc k formula room (i + 1))
+words-snoc zero formula room from = rw add-zero refl
+words-snoc (suc count) formula room from =
+    let z : from + 1 + count ≡ from + suc count = omega arith in
+    cc (words-snoc count formula room (from + 1))
 
 -- a store behind the words leaves them
-words-same : (k : ℕ) (formula room : List ℕ) (i j v : ℕ) → (i + k) * 2 ≤ j
-    → wordsFrom k formula (set room j v) i ≡ wordsFrom k formula room i
+words-same : (count : ℕ) (formula room : List ℕ) (from behind stored : ℕ) → (from + count) * 2 ≤ behind
+    → wordsFrom count formula (set room behind stored) from ≡ wordsFrom count formula room from
 unfolding wordsFrom
-words-same zero formula room i j v h = refl
-words-same (suc k) formula room i j v h =
-    let a : getD (set room j v) (i * 2 + 1) 0 ≡ getD room (i * 2 + 1) 0 = getD-set-other room j (i * 2 + 1) v 0 (omega arith) in
-    let b : getD (set room j v) (i * 2) 0 ≡ getD room (i * 2) 0 = getD-set-other room j (i * 2) v 0 (omega arith) in
-    rw (a, b, words-same k formula room (i + 1) j v (omega arith)) refl
+words-same zero formula room from behind stored h = refl
+words-same (suc count) formula room from behind stored h =
+    let a : getD (set room behind stored) (from * 2 + 1) 0 ≡ getD room (from * 2 + 1) 0 = getD-set-other room behind (from * 2 + 1) stored 0 (omega arith) in
+    let b : getD (set room behind stored) (from * 2) 0 ≡ getD room (from * 2) 0 = getD-set-other room behind (from * 2) stored 0 (omega arith) in
+    rw (a, b, words-same count formula room (from + 1) behind stored (omega arith)) refl
 
 -- rooms with the same places have the same words
-pub words-alike : (k : ℕ) (text room room′ : List ℕ) (i : ℕ) → ((j : ℕ) → j < (i + k) * 2 → getD room′ j 0 ≡ getD room j 0)
-    → wordsFrom k text room′ i ≡ wordsFrom k text room i
+pub words-alike : (count : ℕ) (text room room′ : List ℕ) (from : ℕ) → ((index : ℕ) → index < (from + count) * 2 → getD room′ index 0 ≡ getD room index 0)
+    → wordsFrom count text room′ from ≡ wordsFrom count text room from
 unfolding wordsFrom
-words-alike zero text room room′ i h = refl
-words-alike (suc k) text room room′ i h =
-    rw (h (i * 2 + 1) (omega arith), h (i * 2) (omega arith), words-alike k text room room′ (i + 1) (λ j l. h j (omega arith))) refl
+words-alike zero text room room′ from h = refl
+words-alike (suc count) text room room′ from h =
+    rw (h (from * 2 + 1) (omega arith), h (from * 2) (omega arith), words-alike count text room room′ (from + 1) (λ j l. h j (omega arith))) refl
 
 -- the words after the place of one more is stored behind them
 pub words-added : (formula room : List ℕ) (count at size : ℕ) → count * 2 + 1 < length room

@@ -22,132 +22,133 @@ use Rattle.lexicon.proofs.PlaceLaws.{words-length, word-same}
 
 -- ------------------------------------------------------------------ a search
 
--- where a search for s stands
-pub record Walking (mask : ℕ) (words : List (List ℕ)) (links s : List ℕ) (slot turns : ℕ) : Type 0 where
+-- where a search for `sought` stands
+pub record Walking (mask : ℕ) (words : List (List ℕ)) (links sought : List ℕ) (slot turns : ℕ) : Type 0 where
   -- the link is one of the spellings' own
   pub below : slot < mask + 1 + length words * 2
-  -- if s is a spelling, the branches taken from here lead to its first node
-  pub ahead : indexOf s words < length words → Leads links mask slot turns (indexOf s words)
+  -- if `sought` is a spelling, the branches taken from here lead to its first node
+  pub ahead : indexOf sought words < length words → Leads links mask slot turns (indexOf sought words)
   -- what the branches from here lead to, in these links or more, those from the root lead to
-  pub back : (links′ : List ℕ) (i : ℕ) → Extends links links′ → Leads links′ mask slot turns i
-      → Leads links′ mask (rootOf mask s) (turnsOf s) i
+  pub back : (links′ : List ℕ) (number : ℕ) → Extends links links′ → Leads links′ mask slot turns number
+      → Leads links′ mask (rootOf mask sought) (turnsOf sought) number
 
-module _ {mask : ℕ} {words : List (List ℕ)} {links : List ℕ} (k : SearchTree mask words links) (s : List ℕ) where
-  walking-start : Walking mask words links s (rootOf mask s) (turnsOf s)
+module _ {mask : ℕ} {words : List (List ℕ)} {links : List ℕ} (search-tree : SearchTree mask words links) (sought : List ℕ) where
+  walking-start : Walking mask words links sought (rootOf mask sought) (turnsOf sought)
   walking-start =
-      record { below = omega (arith, and-le-r (hashOf s) mask); ahead = k .leads s; back = λ links′ i x l. l }
+      record { below = omega (arith, and-le-r (hashOf sought) mask); ahead = search-tree .leads sought; back = λ links′ i x l. l }
 
-  module _ {slot turns : ℕ} (w : Walking mask words links s slot turns) where
-    module _ {j : ℕ} (e : getD links slot 0 ≡ suc j) where
-      walking-found : same (getD words j []) s ≡ true → FoundAt words s j
+  module _ {slot turns : ℕ} (walking : Walking mask words links sought slot turns) where
+    module _ {found : ℕ} (equal : getD links slot 0 ≡ suc found) where
+      walking-found : same (getD words found []) sought ≡ true → FoundAt words sought found
       walking-found f =
-          let n : Linked mask words slot j = k .linked slot j e in
-          record { index = cc (n .first, same-true (getD words j []) s f); inside = n .small }
+          let n : Linked mask words slot found = search-tree .linked slot found equal in
+          record { index = cc (n .first, same-true (getD words found []) sought f); inside = n .small }
 
-      -- the node that s is found at is not this one
-      onward : {turns i : ℕ} → (i ≡ j → ⊥) → Leads links mask slot turns i → Leads links mask (branchOf mask j turns) (turns / 2) i
-      onward {turns} {i} no-this (there f) = absurd (no-this (omega (arith, sym f ∙ e)))
-      onward {turns} {i} no-this (further {j = j′} f l) =
-          let z : j′ ≡ j = omega (arith, sym f ∙ e) in
+      -- the node that `sought` is found at is not this one
+      onward : {turns number : ℕ} → (number ≡ found → ⊥) → Leads links mask slot turns number → Leads links mask (branchOf mask found turns) (turns / 2) number
+      onward {turns} {number} no-this (there f) = absurd (no-this (omega (arith, sym f ∙ equal)))
+      onward {turns} {number} no-this (further {j = j′} f l) =
+          let z : j′ ≡ found = omega (arith, sym f ∙ equal) in
           rw (z) at l
 
-      walking-next : same (getD words j []) s ≡ false → Walking mask words links s (branchOf mask j turns) (turns / 2)
+      walking-next : same (getD words found []) sought ≡ false → Walking mask words links sought (branchOf mask found turns) (turns / 2)
       walking-next f =
-          let n : Linked mask words slot j = k .linked slot j e in
+          let n : Linked mask words slot found = search-tree .linked slot found equal in
           record {
             below = omega (arith, n .small);
             ahead =
                 λ h.
-                let differs : indexOf s words ≡ j → ⊥
-                = λ z. same-false (getD words j []) s f (cc (index-found s words h)) in
-                onward differs (w .ahead h);
-            back = λ links′ i x l. w .back links′ i x (further (x slot j e) l);
+                let differs : indexOf sought words ≡ found → ⊥
+                = λ z. same-false (getD words found []) sought f (cc (index-found sought words h)) in
+                onward differs (walking .ahead h);
+            back = λ links′ i x l. walking .back links′ i x (further (x slot found equal) l);
           }
 
-      walking-behind : slot < branchOf mask j turns
-      walking-behind = omega (arith, k .linked slot j e .behind)
+      walking-behind : slot < branchOf mask found turns
+      walking-behind = omega (arith, search-tree .linked slot found equal .behind)
 
-    walking-end : getD links slot 0 ≡ 0 → FreeFor mask words links s slot
+    walking-end : getD links slot 0 ≡ 0 → FreeFor mask words links sought slot
     walking-end e =
         record {
-          none = by-test (ltb (indexOf s words) (length words)) found (λ f. omega (arith, ltb-false (indexOf s words) (length words) f, index-le s words));
+          none = by-test (ltb (indexOf sought words) (length words)) found
+              (λ f. omega (arith, ltb-false (indexOf sought words) (length words) f, index-le sought words));
           empty = e;
-          below = w .below;
-          back = λ links′ i x l. w .back links′ i x (there l);
+          below = walking .below;
+          back = λ links′ i x l. walking .back links′ i x (there l);
         }
       where
-        nowhere : {turns i : ℕ} → Leads links mask slot turns i → ⊥
+        nowhere : {turns number : ℕ} → Leads links mask slot turns number → ⊥
         nowhere (there f) = omega (arith, sym f ∙ e)
         nowhere (further f l) = omega (arith, sym f ∙ e)
 
-        found : ltb (indexOf s words) (length words) ≡ true → indexOf s words ≡ length words
-        found f = absurd (nowhere (w .ahead (ltb-true (indexOf s words) (length words) f)))
+        found : ltb (indexOf sought words) (length words) ≡ true → indexOf sought words ≡ length words
+        found f = absurd (nowhere (walking .ahead (ltb-true (indexOf sought words) (length words) f)))
 
 -- ------------------------------------------------------------------ one more spelling
 
-leads-extended : {links links′ : List ℕ} {mask slot turns i : ℕ} → Extends links links′ → Leads links mask slot turns i
-    → Leads links′ mask slot turns i
+leads-extended : {links links′ : List ℕ} {mask slot turns number : ℕ} → Extends links links′ → Leads links mask slot turns number
+    → Leads links′ mask slot turns number
 leads-extended x (there {slot = slot} {i = i} e) = there (x slot i e)
 leads-extended x (further {slot = slot} {j = j} e l) = further (x slot j e) (leads-extended x l)
 
 -- a room of zeros links nothing
-pub zeros : (k i : ℕ) → getD (replicate {A = ℕ} k 0) i 0 ≡ 0
-zeros zero i = refl
-zeros (suc k) zero = refl
-zeros (suc k) (suc i) = zeros k i
+pub zeros : (count place : ℕ) → getD (replicate {A = ℕ} count 0) place 0 ≡ 0
+zeros zero place = refl
+zeros (suc count) zero = refl
+zeros (suc count) (suc place) = zeros count place
 
 -- links that are all zero are the trees of no spelling
-pub tree-none : (mask : ℕ) (links : List ℕ) → ((i : ℕ) → getD links i 0 ≡ 0) → SearchTree mask [] links
+pub tree-none : (mask : ℕ) (links : List ℕ) → ((number : ℕ) → getD links number 0 ≡ 0) → SearchTree mask [] links
 tree-none mask links z =
     record { leads = λ s h. absurd (omega (arith, h)); linked = λ slot j e. absurd (omega (arith, sym (z slot) ∙ e)) }
 
-module _ {mask : ℕ} {words : List (List ℕ)} {links : List ℕ} (k : SearchTree mask words links) (s : List ℕ) where
-  longer : length (words ++ (s ∷ [])) ≡ length words + 1
-  longer = length-append words (s ∷ [])
+module _ {mask : ℕ} {words : List (List ℕ)} {links : List ℕ} (search-tree : SearchTree mask words links) (sought : List ℕ) where
+  longer : length (words ++ (sought ∷ [])) ≡ length words + 1
+  longer = length-append words (sought ∷ [])
 
   -- a node stays what it is
-  linked-more : (slot j : ℕ) → Linked mask words slot j → Linked mask (words ++ (s ∷ [])) slot j
-  linked-more slot j n =
-      let g : getD (words ++ (s ∷ [])) j [] ≡ getD words j [] = List·getD-append words (s ∷ []) [] j (n .small) in
+  linked-more : (slot found : ℕ) → Linked mask words slot found → Linked mask (words ++ (sought ∷ [])) slot found
+  linked-more slot found n =
+      let g : getD (words ++ (sought ∷ [])) found [] ≡ getD words found [] = List·getD-append words (sought ∷ []) [] found (n .small) in
       record {
         small = omega (arith, n .small, longer);
         first =
-            cc (index-front (getD words j []) words (s ∷ []) (omega (arith, n .first, n .small)), n .first);
+            cc (index-front (getD words found []) words (sought ∷ []) (omega (arith, n .first, n .small)), n .first);
         behind = n .behind;
       }
 
-  module _ (links′ : List ℕ) (x : Extends links links′)
-      (new : indexOf s words ≡ length words → Leads links′ mask (rootOf mask s) (turnsOf s) (length words)) where
-    leads-more : (v : List ℕ) → indexOf v (words ++ (s ∷ [])) < length (words ++ (s ∷ []))
-        → Leads links′ mask (rootOf mask v) (turnsOf v) (indexOf v (words ++ (s ∷ [])))
-    leads-more v h = by-test (ltb (indexOf v words) (length words)) old other
+  module _ (links′ : List ℕ) (given-extends : Extends links links′)
+      (new : indexOf sought words ≡ length words → Leads links′ mask (rootOf mask sought) (turnsOf sought) (length words)) where
+    leads-more : (word : List ℕ) → indexOf word (words ++ (sought ∷ [])) < length (words ++ (sought ∷ []))
+        → Leads links′ mask (rootOf mask word) (turnsOf word) (indexOf word (words ++ (sought ∷ [])))
+    leads-more word h = by-test (ltb (indexOf word words) (length words)) old other
       where
-        old : ltb (indexOf v words) (length words) ≡ true → Leads links′ mask (rootOf mask v) (turnsOf v) (indexOf v (words ++ (s ∷ [])))
+        old : ltb (indexOf word words) (length words) ≡ true → Leads links′ mask (rootOf mask word) (turnsOf word) (indexOf word (words ++ (sought ∷ [])))
         old e =
-            let l : indexOf v words < length words = ltb-true (indexOf v words) (length words) e in
-            rw (index-front v words (s ∷ []) l) (leads-extended x (k .leads v l))
+            let l : indexOf word words < length words = ltb-true (indexOf word words) (length words) e in
+            rw (index-front word words (sought ∷ []) l) (leads-extended given-extends (search-tree .leads word l))
 
-        other : ltb (indexOf v words) (length words) ≡ false
-            → Leads links′ mask (rootOf mask v) (turnsOf v) (indexOf v (words ++ (s ∷ [])))
+        other : ltb (indexOf word words) (length words) ≡ false
+            → Leads links′ mask (rootOf mask word) (turnsOf word) (indexOf word (words ++ (sought ∷ [])))
         other e =
-            let none : indexOf v words ≡ length words = omega (arith, ltb-false (indexOf v words) (length words) e, index-le v words) in
-            let r : indexOf v (words ++ (s ∷ [])) ≡ length words + indexOf v (s ∷ []) = index-rest v words (s ∷ []) none in
-            let z : indexOf v (s ∷ []) ≡ 0 = omega (arith, r, longer, h) in
-            let one : getD (s ∷ []) (indexOf v (s ∷ [])) [] ≡ v = index-found v (s ∷ []) (omega arith) in
-            let same-word : s ≡ v = cc in
-            rw (← same-word) (rw (index-rest s words (s ∷ []) (ap (λ (u : List ℕ). indexOf u words) same-word ∙ none), index-self s, add-zero)
+            let none : indexOf word words ≡ length words = omega (arith, ltb-false (indexOf word words) (length words) e, index-le word words) in
+            let r : indexOf word (words ++ (sought ∷ [])) ≡ length words + indexOf word (sought ∷ []) = index-rest word words (sought ∷ []) none in
+            let z : indexOf word (sought ∷ []) ≡ 0 = omega (arith, r, longer, h) in
+            let one : getD (sought ∷ []) (indexOf word (sought ∷ [])) [] ≡ word = index-found word (sought ∷ []) (omega arith) in
+            let same-word : sought ≡ word = cc in
+            rw (← same-word) (rw (index-rest sought words (sought ∷ []) (ap (λ (u : List ℕ). indexOf u words) same-word ∙ none), index-self sought, add-zero)
             (new (ap (λ (u : List ℕ). indexOf u words) same-word ∙ none)))
 
   -- one that stands there already needs no node
-  pub tree-again : indexOf s words < length words → SearchTree mask (words ++ (s ∷ [])) links
+  pub tree-again : indexOf sought words < length words → SearchTree mask (words ++ (sought ∷ [])) links
   tree-again h =
       record {
         leads = leads-more links (λ slot j e. e) (λ z. absurd (omega (arith, z)));
-        linked = λ slot j e. linked-more slot j (k .linked slot j e);
+        linked = λ slot j e. linked-more slot j (search-tree .linked slot j e);
       }
 
   -- one that is new is linked where a search for it ends
-  module _ {slot : ℕ} (f : FreeFor mask words links s slot) (inside : slot < length links) where
+  module _ {slot : ℕ} (free-for : FreeFor mask words links sought slot) (inside : slot < length links) where
     links₁ : List ℕ
     links₁ = set links slot (length words + 1)
 
@@ -155,139 +156,139 @@ module _ {mask : ℕ} {words : List (List ℕ)} {links : List ℕ} (k : SearchTr
     unfolding links₁
     set-there = getD-set-same links slot (length words + 1) 0 inside ∙ omega arith
 
-    set-other : (i : ℕ) → (i ≡ slot → ⊥) → getD links₁ i 0 ≡ getD links i 0
+    set-other : (place : ℕ) → (place ≡ slot → ⊥) → getD links₁ place 0 ≡ getD links place 0
     unfolding links₁
-    set-other i d = getD-set-other links slot i (length words + 1) 0 d
+    set-other place d = getD-set-other links slot place (length words + 1) 0 d
 
     extends : Extends links links₁
     extends i j e =
-        let differs : i ≡ slot → ⊥ = λ z. omega (arith, sym (f .empty) ∙ ap (λ (n : ℕ). getD links n 0) (sym z) ∙ e) in
+        let differs : i ≡ slot → ⊥ = λ z. omega (arith, sym (free-for .empty) ∙ ap (λ (n : ℕ). getD links n 0) (sym z) ∙ e) in
         set-other i differs ∙ e
 
-    linked-new : (i j : ℕ) → getD links₁ i 0 ≡ suc j → Linked mask (words ++ (s ∷ [])) i j
-    linked-new i j e =
-        by-test (eqb i slot)
+    linked-new : (place number : ℕ) → getD links₁ place 0 ≡ suc number → Linked mask (words ++ (sought ∷ [])) place number
+    linked-new place number e =
+        by-test (eqb place slot)
         (λ t.
-        let z : i ≡ slot = eqb-true i slot t in
-        let n : j ≡ length words = omega (arith, sym e ∙ ap (λ (n : ℕ). getD links₁ n 0) z ∙ set-there) in
-        let g : getD (words ++ (s ∷ [])) j [] ≡ s = getD-at words s [] [] j (sym n) in
+        let z : place ≡ slot = eqb-true place slot t in
+        let n : number ≡ length words = omega (arith, sym e ∙ ap (λ (n : ℕ). getD links₁ n 0) z ∙ set-there) in
+        let g : getD (words ++ (sought ∷ [])) number [] ≡ sought = getD-at words sought [] [] number (sym n) in
         record {
           small = omega (arith, longer);
           first =
-              rw (g) refl ∙ index-rest s words (s ∷ []) (f .none)
-              ∙ omega (arith, index-self s, n);
-          behind = omega (arith, f .below);
+              rw (g) refl ∙ index-rest sought words (sought ∷ []) (free-for .none)
+              ∙ omega (arith, index-self sought, n);
+          behind = omega (arith, free-for .below);
         })
-        (λ t. linked-more i j (k .linked i j (sym (set-other i (eqb-false i slot t)) ∙ e)))
+        (λ t. linked-more place number (search-tree .linked place number (sym (set-other place (eqb-false place slot t)) ∙ e)))
 
-    tree-new : SearchTree mask (words ++ (s ∷ [])) links₁
+    tree-new : SearchTree mask (words ++ (sought ∷ [])) links₁
     tree-new =
         record {
-          leads = leads-more links₁ extends (λ z. f .back links₁ (length words) extends set-there);
+          leads = leads-more links₁ extends (λ z. free-for .back links₁ (length words) extends set-there);
           linked = linked-new;
         }
 
     -- a new spelling linked where its search ended is in the trees
-    pub tree-more : {links′ : List ℕ} → links′ ≡ set links slot (length words + 1) → SearchTree mask (words ++ (s ∷ [])) links′
+    pub tree-more : {links′ : List ℕ} → links′ ≡ set links slot (length words + 1) → SearchTree mask (words ++ (sought ∷ [])) links′
     unfolding links₁
     tree-more e = rw e tree-new
 
   -- either way it is there afterwards
-  pub tree-with : (spot : Spot) {links′ : List ℕ} → Searched mask words links s spot → Linkable links spot
+  pub tree-with : (spot : Spot) {links′ : List ℕ} → Searched mask words links sought spot → Linkable links spot
       → links′ ≡ linksWith links spot (length words)
-      → SearchTree mask (words ++ (s ∷ [])) links′
+      → SearchTree mask (words ++ (sought ∷ [])) links′
   tree-with (Node i) f h e = rw e (tree-again (omega (arith, f .index, f .inside)))
   tree-with (Free slot) f h e = tree-more f h e
 
 -- where a search ended there is room for a link
-pub linkable : (mask : ℕ) (words : List (List ℕ)) (links s : List ℕ) (spot : Spot) → Searched mask words links s spot
+pub linkable : (mask : ℕ) (words : List (List ℕ)) (links sought : List ℕ) (spot : Spot) → Searched mask words links sought spot
     → mask + 1 + length words * 2 ≤ length links
     → Linkable links spot
-linkable mask words links s (Node i) f h = tt
-linkable mask words links s (Free slot) f h = omega (arith, f .below)
+linkable mask words links sought (Node i) f h = tt
+linkable mask words links sought (Free slot) f h = omega (arith, f .below)
 
 -- a link keeps the number of links
-pub links-long : (links : List ℕ) (spot : Spot) (e : ℕ) → length (linksWith links spot e) ≡ length links
-links-long links (Node i) e = refl
-links-long links (Free slot) e = length-set links slot (e + 1)
+pub links-long : (links : List ℕ) (spot : Spot) (number : ℕ) → length (linksWith links spot number) ≡ length links
+links-long links (Node i) number = refl
+links-long links (Free slot) number = length-set links slot (number + 1)
 
 -- a free link as the code has it
-module _ (links : List ℕ) {spot : Spot} {slot : ℕ} (z : spot ≡ Free slot) where
+module _ (links : List ℕ) {spot : Spot} {slot : ℕ} (equal : spot ≡ Free slot) where
   -- the free link is one of the room's
   pub free-inside : Linkable links spot → slot < length links
-  free-inside h = subst (Linkable links) z h
+  free-inside h = subst (Linkable links) equal h
 
   -- storing the spelling's number there links it
-  pub free-set : (e : ℕ) → set links slot (e + 1) ≡ linksWith links spot e
-  free-set e = sym (cc)
+  pub free-set : (number : ℕ) → set links slot (number + 1) ≡ linksWith links spot number
+  free-set number = sym (cc)
 
 -- ------------------------------------------------------------------ the search as the code has it
 
--- the search for s stands at a link of the room
-pub record Chasing (text places links : List ℕ) (mask count : ℕ) (s : List ℕ) (slot turns p : ℕ) : Type 0 where
+-- the search for `sought` stands at a link of the room
+pub record Chasing (text places links : List ℕ) (mask count : ℕ) (sought : List ℕ) (slot turns link : ℕ) : Type 0 where
   -- the trees and their rooms
   pub planted : Planted text places links mask count
-  -- p is the number stored at the link: 0, or a node and one
-  pub here : p ≡ getD links slot 0
+  -- `link` is the number stored at the link: 0, or a node and one
+  pub here : link ≡ getD links slot 0
   -- the link is one of the spellings' own
   pub below : slot < mask + 1 + count * 2
   -- the search stands there
-  pub walking : Walking mask (wordsIn text places count) links s slot turns
+  pub walking : Walking mask (wordsIn text places count) links sought slot turns
 
-module _ {text places links : List ℕ} {mask count : ℕ} (k : Planted text places links mask count) (s : List ℕ) where
-  chased : {slot turns p : ℕ} → p ≡ getD links slot 0 → Walking mask (wordsIn text places count) links s slot turns
-      → Chasing text places links mask count s slot turns p
-  chased e w = record { planted = k; here = e; below = omega (arith, w .below, words-length count text places 0); walking = w }
+module _ {text places links : List ℕ} {mask count : ℕ} (planted : Planted text places links mask count) (sought : List ℕ) where
+  chased : {slot turns link : ℕ} → link ≡ getD links slot 0 → Walking mask (wordsIn text places count) links sought slot turns
+      → Chasing text places links mask count sought slot turns link
+  chased e w = record { planted = planted; here = e; below = omega (arith, w .below, words-length count text places 0); walking = w }
 
   -- a search begins at the root of the spelling's tree
-  pub chasing-start : {h slot turns p : ℕ} → h ≡ hashOf s → slot ≡ bitAnd h mask → turns ≡ h / 2048 → p ≡ getD links slot 0
-      → Chasing text places links mask count s slot turns p
-  chasing-start {h} {slot} {turns} eh es et ep =
-      let a : slot ≡ rootOf mask s = cc in
-      let b : turns ≡ turnsOf s = cc in
-      chased ep (rw (a, b) (walking-start (k .tree) s))
+  pub chasing-start : {hash slot turns link : ℕ} → hash ≡ hashOf sought → slot ≡ bitAnd hash mask → turns ≡ hash / 2048 → link ≡ getD links slot 0
+      → Chasing text places links mask count sought slot turns link
+  chasing-start {hash} {slot} {turns} eh es et ep =
+      let a : slot ≡ rootOf mask sought = cc in
+      let b : turns ≡ turnsOf sought = cc in
+      chased ep (rw (a, b) (walking-start (planted .tree) sought))
 
   -- the root's link is one of the room's
-  pub root-inside : (h : ℕ) → bitAnd h mask < length links
-  root-inside h = omega (arith, and-le-r h mask, k .linked)
+  pub root-inside : (hash : ℕ) → bitAnd hash mask < length links
+  root-inside hash = omega (arith, and-le-r hash mask, planted .linked)
 
-module _ {text places links : List ℕ} {mask count : ℕ} {s : List ℕ} {slot turns p : ℕ}
-    (c : Chasing text places links mask count s slot turns p) where
+module _ {text places links : List ℕ} {mask count : ℕ} {sought : List ℕ} {slot turns link : ℕ}
+    (chasing : Chasing text places links mask count sought slot turns link) where
   -- a link of 0 is free for the spelling, which is in no tree
-  pub chasing-end : p ≤ 0 → FreeFor mask (wordsIn text places count) links s slot
-  chasing-end h = walking-end (c .planted .tree) s (c .walking) (omega (arith, c .here))
+  pub chasing-end : link ≤ 0 → FreeFor mask (wordsIn text places count) links sought slot
+  chasing-end h = walking-end (chasing .planted .tree) sought (chasing .walking) (omega (arith, chasing .here))
 
-  module _ (h : 0 < p) where
-    leads-here : getD links slot 0 ≡ suc (p - 1)
-    leads-here = omega (arith, c .here)
+  module _ (below : 0 < link) where
+    leads-here : getD links slot 0 ≡ suc (link - 1)
+    leads-here = omega (arith, chasing .here)
 
-    chasing-small : p - 1 < count
-    chasing-small = omega (arith, c .planted .tree .linked slot (p - 1) leads-here .small, words-length count text places 0)
+    chasing-small : link - 1 < count
+    chasing-small = omega (arith, chasing .planted .tree .linked slot (link - 1) leads-here .small, words-length count text places 0)
 
     -- the node has its place, and its branches their links
-    pub place-inside : (p - 1) * 2 + 1 < length places
-    place-inside = omega (arith, chasing-small, c .planted .placed)
+    pub place-inside : (link - 1) * 2 + 1 < length places
+    place-inside = omega (arith, chasing-small, chasing .planted .placed)
 
     -- the links of the node's branches are in the room
-    pub branch-inside : mask + 1 + (p - 1) * 2 + 1 < length links
-    branch-inside = omega (arith, chasing-small, c .planted .linked)
+    pub branch-inside : mask + 1 + (link - 1) * 2 + 1 < length links
+    branch-inside = omega (arith, chasing-small, chasing .planted .linked)
 
     -- a branch's link stands behind the one that led to its node
-    pub chasing-behind : slot < branchOf mask (p - 1) turns
-    chasing-behind = walking-behind (c .planted .tree) s (c .walking) leads-here
+    pub chasing-behind : slot < branchOf mask (link - 1) turns
+    chasing-behind = walking-behind (chasing .planted .tree) sought (chasing .walking) leads-here
 
-    compared : {b : Bool} → b ≡ same (wordAt text places (p - 1)) s → same (getD (wordsIn text places count) (p - 1) []) s ≡ b
-    compared e = word-same text places s count (p - 1) chasing-small refl refl (sym e)
+    compared : {test : Bool} → test ≡ same (wordAt text places (link - 1)) sought → same (getD (wordsIn text places count) (link - 1) []) sought ≡ test
+    compared e = word-same text places sought count (link - 1) chasing-small refl refl (sym e)
 
     -- a node with the same spelling is where it stands first
-    pub chasing-found : {b : Bool} → b ≡ same (wordAt text places (p - 1)) s → b ≡ true → FoundAt (wordsIn text places count) s (p - 1)
-    chasing-found e t = walking-found (c .planted .tree) s (c .walking) leads-here (compared e ∙ t)
+    pub chasing-found : {test : Bool} → test ≡ same (wordAt text places (link - 1)) sought → test ≡ true → FoundAt (wordsIn text places count) sought (link - 1)
+    chasing-found e t = walking-found (chasing .planted .tree) sought (chasing .walking) leads-here (compared e ∙ t)
 
     -- at another spelling the search goes on by the branch that the next bit names
-    pub chasing-next : {b : Bool} → b ≡ same (wordAt text places (p - 1)) s → b ≡ false → {slot′ turns′ p′ : ℕ}
-        → slot′ ≡ branchOf mask (p - 1) turns
+    pub chasing-next : {test : Bool} → test ≡ same (wordAt text places (link - 1)) sought → test ≡ false → {slot′ turns′ link′ : ℕ}
+        → slot′ ≡ branchOf mask (link - 1) turns
         → turns′ ≡ turns / 2
-        → p′ ≡ getD links slot′ 0
-        → Chasing text places links mask count s slot′ turns′ p′
+        → link′ ≡ getD links slot′ 0
+        → Chasing text places links mask count sought slot′ turns′ link′
     chasing-next e t a b d =
-        chased (c .planted) s d (rw (a, b) (walking-next (c .planted .tree) s (c .walking) leads-here (compared e ∙ t)))
+        chased (chasing .planted) sought d (rw (a, b) (walking-next (chasing .planted .tree) sought (chasing .walking) leads-here (compared e ∙ t)))

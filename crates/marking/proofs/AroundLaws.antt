@@ -26,26 +26,27 @@ use Rattle.terms.specs.Names.{Distinct}
 -- ------------------------------------------------------------------ names by their values
 
 module _ (spell : ℕ → List ℕ) where
-  named-word : (n : ℕ) → n < nameBase → nameOf spell (1 * nameBase + n) ≡ word (spell n)
+  named-word : (number : ℕ) → number < nameBase → nameOf spell (1 * nameBase + number) ≡ word (spell number)
   unfolding nameOf
-  named-word n h =
-      let c : (1 * nameBase + n) / nameBase ≡ 1 = omega arith in
-      let d : (1 * nameBase + n) % nameBase ≡ n = omega arith in
+  named-word number h =
+      let c : (1 * nameBase + number) / nameBase ≡ 1 = omega arith in
+      let d : (1 * nameBase + number) % nameBase ≡ number = omega arith in
       rw (c, nameOf) cc
 
-  named-fresh : (n : ℕ) → n < nameBase → nameOf spell (2 * nameBase + n) ≡ fresh n
+  named-fresh : (number : ℕ) → number < nameBase → nameOf spell (2 * nameBase + number) ≡ fresh number
   unfolding nameOf
-  named-fresh n h =
-      let c : (2 * nameBase + n) / nameBase ≡ 2 = omega arith in
-      let d : (2 * nameBase + n) % nameBase ≡ n = omega arith in
+  named-fresh number h =
+      let c : (2 * nameBase + number) / nameBase ≡ 2 = omega arith in
+      let d : (2 * nameBase + number) % nameBase ≡ number = omega arith in
       rw (c, nameOf) (rw c (ap fresh d))
 
   -- a name belongs to a binder exactly if their values are equal
-  pub belongs-same : (x : ℕ) → Bindable spell x → belongs (nameOf spell x) (nameOf spell x) ≡ true
+  pub belongs-same : (name-value : ℕ) → Bindable spell name-value → belongs (nameOf spell name-value) (nameOf spell name-value) ≡ true
   belongs-same _ (bindable-word {n = n} h w) = rw (named-word n h) (same-refl (spell n))
   belongs-same _ (bindable-fresh {n = n} h) = rw (named-fresh n h) (eq-eqb n n refl)
 
-  belongs-other : Distinct spell → (x y : ℕ) → Bindable spell x → Bindable spell y → (x ≡ y → ⊥) → belongs (nameOf spell x) (nameOf spell y) ≡ false
+  belongs-other : Distinct spell → (name-value other : ℕ) → Bindable spell name-value → Bindable spell other → (name-value ≡ other → ⊥)
+      → belongs (nameOf spell name-value) (nameOf spell other) ≡ false
   belongs-other apart _ _ (bindable-word {n = n} h w) (bindable-word {n = m} k v) d =
       rw (named-word n h, named-word m k)
       (by-test (same (spell n) (spell m)) (λ e. absurd (d (cc (apart n m w (same-true (spell n) (spell m) e))))) (λ e. e))
@@ -56,38 +57,41 @@ module _ (spell : ℕ → List ℕ) where
 
   -- ------------------------------------------------------------------ the environment
 
-  owner-own : (around : List Binder) (b : Binder) (v : Name) → belongs v (b .name) ≡ true → ownerOf (b ∷ around) v ≡ boundAt (b .place)
+  owner-own : (around : List Binder) (binder : Binder) (name : Name) → belongs name (binder .name) ≡ true
+      → ownerOf (binder ∷ around) name ≡ boundAt (binder .place)
   unfolding ownerOf
-  owner-own around b v e = rw (e, ownerOf) refl
+  owner-own around binder name e = rw (e, ownerOf) refl
 
-  owner-outer : (around : List Binder) (b : Binder) (v : Name) → belongs v (b .name) ≡ false → ownerOf (b ∷ around) v ≡ ownerOf around v
+  owner-outer : (around : List Binder) (binder : Binder) (name : Name) → belongs name (binder .name) ≡ false
+      → ownerOf (binder ∷ around) name ≡ ownerOf around name
   unfolding ownerOf
-  owner-outer around b v e = rw (e, ownerOf) refl
+  owner-outer around binder name e = rw (e, ownerOf) refl
 
   -- under one more binder, at a place: its slot has the place and one more
-  pub around-binder : Distinct spell → (cells : List ℕ) (around : List Binder) (current : List ℕ) (y p : ℕ) → Bindable spell y → slotOf cells y < mostCells
-      → slotOf cells y < length current
-      → Around spell cells around current → Around spell cells (record { name = nameOf spell y; place = p } ∷ around) (set current (slotOf cells y) (p + 1))
-  around-binder apart cells around current y p b l n env x a =
-      by-test (eqb x y)
+  pub around-binder : Distinct spell → (cells : List ℕ) (around : List Binder) (current : List ℕ) (binder place : ℕ) → Bindable spell binder
+      → slotOf cells binder < mostCells → slotOf cells binder < length current
+      → Around spell cells around current
+      → Around spell cells (record { name = nameOf spell binder; place = place } ∷ around) (set current (slotOf cells binder) (place + 1))
+  around-binder apart cells around current binder place b l n env x a =
+      by-test (eqb x binder)
       (λ e.
-      let z : x ≡ y = eqb-true x y e in
+      let z : x ≡ binder = eqb-true x binder e in
       rw z refl
-      ∙ getD-set-same current (slotOf cells y) (p + 1) 0 (omega arith)
-      ∙ sym (ap ownerCode (owner-own around (record { name = nameOf spell y; place = p }) (nameOf spell x)
-      (cc (z, belongs-same y b))) ∙ omega arith))
+      ∙ getD-set-same current (slotOf cells binder) (place + 1) 0 (omega arith)
+      ∙ sym (ap ownerCode (owner-own around (record { name = nameOf spell binder; place = place }) (nameOf spell x)
+      (cc (z, belongs-same binder b))) ∙ omega arith))
       (λ e.
-      let d : x ≡ y → ⊥ = eqb-false x y e in
-      let apart-slots : slotOf cells x ≡ slotOf cells y → ⊥ =
-      λ s. d (cc (slot-name cells x (omega arith), s, slot-name cells y l)) in
-      getD-set-other current (slotOf cells y) (slotOf cells x) (p + 1) 0 apart-slots
+      let d : x ≡ binder → ⊥ = eqb-false x binder e in
+      let apart-slots : slotOf cells x ≡ slotOf cells binder → ⊥ =
+      λ s. d (cc (slot-name cells x (omega arith), s, slot-name cells binder l)) in
+      getD-set-other current (slotOf cells binder) (slotOf cells x) (place + 1) 0 apart-slots
       ∙ env x a
-      ∙ sym (ap ownerCode (owner-outer around (record { name = nameOf spell y; place = p }) (nameOf spell x) (belongs-other apart x y a b d))))
+      ∙ sym (ap ownerCode (owner-outer around (record { name = nameOf spell binder; place = place }) (nameOf spell x) (belongs-other apart x binder a b d))))
 
 -- left again, the slot is as before
-pub restored : (current : List ℕ) (s v : ℕ) → set (set current s v) s (getD current s 0) ≡ current
-restored current s v = set-set current s v (getD current s 0) ∙ set-getD current s 0
+pub restored : (current : List ℕ) (slot value : ℕ) → set (set current slot value) slot (getD current slot 0) ≡ current
+restored current slot value = set-set current slot value (getD current slot 0) ∙ set-getD current slot 0
 
 -- A store in a slot that is not there.
-pub not-exchanged : {current : List ℕ} {s v r : ℕ} → r ≡ getD current s 0 → length current ≤ s → Exchanged s v current current r
-not-exchanged {current} {s} {v} was l = record { stored = sym (set-out current s v l); was = was }
+pub not-exchanged : {current : List ℕ} {slot value found : ℕ} → found ≡ getD current slot 0 → length current ≤ slot → Exchanged slot value current current found
+not-exchanged {current} {slot} {value} was l = record { stored = sym (set-out current slot value l); was = was }

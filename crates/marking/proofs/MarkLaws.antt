@@ -11,24 +11,24 @@ mutual
   unfolding marks marksFields size sizeFields
 
   -- a term has a mark for each constructor
-  pub length-marks : (around : List Binder) (p : ℕ) (t : Term Name) → length (marks around p t) ≡ size t
-  length-marks around p (variable v) = refl
-  length-marks around p (function b t) = ap suc (length-marks (record { name = b; place = p } ∷ around) (suc p) t)
-  length-marks around p (apply t u) =
+  pub length-marks : (around : List Binder) (place : ℕ) (t : Term Name) → length (marks around place t) ≡ size t
+  length-marks around place (variable v) = refl
+  length-marks around place (function b t) = ap suc (length-marks (record { name = b; place = place } ∷ around) (suc place) t)
+  length-marks around place (apply t u) =
       ap suc (cc (
-        length-append (marks around (suc p) t) (marks around (suc p + size t) u),
-        length-marks around (suc p) t,
-        length-marks around (suc p + size t) u,
+        length-append (marks around (suc place) t) (marks around (suc place + size t) u),
+        length-marks around (suc place) t,
+        length-marks around (suc place + size t) u,
       ))
-  length-marks around p (rcd f) = ap suc (length-marks-fields around (suc p) f)
-  length-marks around p (dot t l) = ap suc (length-marks around (suc p) t)
-  length-marks around p (number n) = refl
+  length-marks around place (rcd f) = ap suc (length-marks-fields around (suc place) f)
+  length-marks around place (dot t l) = ap suc (length-marks around (suc place) t)
+  length-marks around place (number n) = refl
 
-  length-marks-fields : (around : List Binder) (p : ℕ) (f : Fields Name) → length (marksFields around p f) ≡ sizeFields f
-  length-marks-fields around p nil = refl
-  length-marks-fields around p (cons l t f) =
+  length-marks-fields : (around : List Binder) (place : ℕ) (fields : Fields Name) → length (marksFields around place fields) ≡ sizeFields fields
+  length-marks-fields around place nil = refl
+  length-marks-fields around place (cons l t fields) =
       ap suc (cc (
-        length-append (marks around (suc p) t) (marksFields around (suc p + size t) f),
-        length-marks around (suc p) t,
-        length-marks-fields around (suc p + size t) f,
+        length-append (marks around (suc place) t) (marksFields around (suc place + size t) fields),
+        length-marks around (suc place) t,
+        length-marks-fields around (suc place + size t) fields,
       ))

@@ -26,56 +26,57 @@ use Rattle.meaning.proofs.Stages as Stages
 
 -- ------------------------------------------------------------------ demand 3
 
-module _ (t : Table) (T : Passing t) (formula cells text : List ℕ) where
-  hygienic : {u : Term Name} → Means t formula u → loosePlaces (occurrences [] 0 u) ≡ [] → Hygienic t formula u (print (rename u))
-  hygienic {u} M none =
-      let words = worded t T formula (M .scans) (M .parsed) in
+module _ (table : Table) (passing : Passing table) (formula cells text : List ℕ) where
+  hygienic : {meant : Term Name} → Means table formula meant → loosePlaces (occurrences [] 0 meant) ≡ [] → Hygienic table formula meant (print (rename meant))
+  hygienic {meant} M none =
+      let words = worded table passing formula (M .scans) (M .parsed) in
       record {
         means = M;
-        only = λ w N. means-one t T formula N M;
+        only = λ w N. means-one table passing formula N M;
         sorted = parses-placed (M .parsed);
-        words-as-written = words-as-written t T formula (M .scans);
-        outsides-as-listed = outsides-as-listed t T formula (M .scans);
-        reads-back = terms.reads-back u words;
-        same-constructors = terms.same-constructors u words;
-        labels-stay = terms.labels-stay u;
-        occurrences = occurrences [] 0 u;
-        occur = occurs [] 0 u;
-        owned = all-owned u (occurs [] 0 u) (subst (Says (occurrences [] 0 u)) none (loose-says (occurrences [] 0 u)));
-        whose = terms.whose-name-is-whose u words;
+        words-as-written = words-as-written table passing formula (M .scans);
+        outsides-as-listed = outsides-as-listed table passing formula (M .scans);
+        reads-back = terms.reads-back meant words;
+        same-constructors = terms.same-constructors meant words;
+        labels-stay = terms.labels-stay meant;
+        occurrences = occurrences [] 0 meant;
+        occur = occurs [] 0 meant;
+        owned = all-owned meant (occurs [] 0 meant) (subst (Says (occurrences [] 0 meant)) none (loose-says (occurrences [] 0 meant)));
+        whose = terms.whose-name-is-whose meant words;
       }
 
   abbrev EndsAs : Expanded → Type 0
-  EndsAs x = Ends t formula cells text (x .answer) (x .text)
+  EndsAs x = Ends table formula cells text (x .answer) (x .text)
 
-  ends-last : {u : Term Name} {cells′ : List ℕ} {x : Expanded} (E : MeansWithin t formula cells u) → Finish (cellsOf E) u cells′ text x → EndsAs x
-  ends-last E (too-big b) = refuses (Meaning.too-large E b)
-  ends-last {u = u} E (is-loose s l) =
-      refuses (Meaning.is-loose E s (occurs [] 0 u) (subst (Says (occurrences [] 0 u)) l (loose-says (occurrences [] 0 u))))
-  ends-last {u = u} E (Stages.too-long s l b) =
-      refuses (Meaning.text-too-long E s (occurs [] 0 u) (subst (Says (occurrences [] 0 u)) l (loose-says (occurrences [] 0 u))) b)
-  ends-last {u = u} E (prints s l b) =
+  ends-last : {meant : Term Name} {cells′ : List ℕ} {given-expanded : Expanded} (means-within : MeansWithin table formula cells meant)
+      → Finish (cellsOf means-within) meant cells′ text given-expanded → EndsAs given-expanded
+  ends-last means-within (too-big b) = refuses (Meaning.too-large means-within b)
+  ends-last {meant = meant} means-within (is-loose s l) =
+      refuses (Meaning.is-loose means-within s (occurs [] 0 meant) (subst (Says (occurrences [] 0 meant)) l (loose-says (occurrences [] 0 meant))))
+  ends-last {meant = meant} means-within (Stages.too-long s l b) =
+      refuses (Meaning.text-too-long means-within s (occurs [] 0 meant) (subst (Says (occurrences [] 0 meant)) l (loose-says (occurrences [] 0 meant))) b)
+  ends-last {meant = meant} means-within (prints s l b) =
       Hygiene.prints
       (record {
-        means = E;
+        means = means-within;
         small = s;
-        occurrences = occurrences [] 0 u;
-        occur = occurs [] 0 u;
-        none-loose = subst (Says (occurrences [] 0 u)) l (loose-says (occurrences [] 0 u));
+        occurrences = occurrences [] 0 meant;
+        occur = occurs [] 0 meant;
+        none-loose = subst (Says (occurrences [] 0 meant)) l (loose-says (occurrences [] 0 meant));
         fits = b;
         cells-are = refl;
         size-is = refl;
         length-is = refl;
       })
-      (hygienic (E .means) l)
+      (hygienic (means-within .means) l)
 
-  ends-stage : {x : Expanded} → Stage t T formula cells text x → EndsAs x
+  ends-stage : {given-expanded : Expanded} → Stage table passing formula cells text given-expanded → EndsAs given-expanded
   ends-stage (in-scan u) = refuses (Meaning.unscanned u)
   ends-stage (in-parse S e h) = refuses (Meaning.stopped S h)
   ends-stage (at-last E R f) = ends-last E f
 
-  table-ends : EndsAs (expandTable t formula cells text)
-  table-ends = ends-stage (stages t T formula cells text)
+  table-ends : EndsAs (expandTable table formula cells text)
+  table-ends = ends-stage (stages table passing formula cells text)
 
 -- Whatever an expansion answers, it meets demand 3.
 pub demand-3 : (table formula cells text : List ℕ)

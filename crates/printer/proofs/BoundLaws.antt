@@ -23,22 +23,22 @@ use Rattle.rows.proofs.RowLaws.{as-word, as-fresh, as-outside}
 use Rattle.rows.proofs.SizeLaws.{size-spell}
 use Rattle.terms.proofs.TextLength.{text-length}
 
-module _ (S : ℕ → List ℕ) (cells numbers : List ℕ) (short : (m : ℕ) → length (S m) ≤ 31) (few : (i : ℕ) → getD numbers i 0 < 65536)
-    (wide : (i : ℕ) → getD cells i 0 < 4294967296) where
-  written-short : (x : ℕ) → length (written (nameOf S x)) ≤ 31
+module _ (spell : ℕ → List ℕ) (cells numbers : List ℕ) (short : (number : ℕ) → length (spell number) ≤ 31) (few : (place : ℕ) → getD numbers place 0 < 65536)
+    (wide : (place : ℕ) → getD cells place 0 < 4294967296) where
+  written-short : (value : ℕ) → length (written (nameOf spell value)) ≤ 31
   unfolding newName
-  written-short x =
-      by-test (eqb (x / nameBase) 1)
-      (λ e. rw (as-word S x (eqb-true (x / nameBase) 1 e)) (short (x % nameBase)))
+  written-short value =
+      by-test (eqb (value / nameBase) 1)
+      (λ e. rw (as-word spell value (eqb-true (value / nameBase) 1 e)) (short (value % nameBase)))
       (λ e.
-      by-test (eqb (x / nameBase) 2)
-      (λ f. rw (as-fresh S x (eqb-true (x / nameBase) 2 f)) (omega (arith, decimal-bound 0 0 (omega arith))))
-      (λ f. rw (as-outside S x (eqb-false (x / nameBase) 1 e) (eqb-false (x / nameBase) 2 f)) (short (x % nameBase))))
+      by-test (eqb (value / nameBase) 2)
+      (λ f. rw (as-fresh spell value (eqb-true (value / nameBase) 2 f)) (omega (arith, decimal-bound 0 0 (omega arith))))
+      (λ f. rw (as-outside spell value (eqb-false (value / nameBase) 1 e) (eqb-false (value / nameBase) 2 f)) (short (value % nameBase))))
 
-  name-short : (n x : ℕ) → n < 65536 → length (nameShown n (nameOf S x)) ≤ 31
+  name-short : (number value : ℕ) → number < 65536 → length (nameShown number (nameOf spell value)) ≤ 31
   unfolding newName
-  name-short zero x h = written-short x
-  name-short (suc n) x h = omega (arith, decimal-bound 4 (suc n) (omega arith))
+  name-short zero value h = written-short value
+  name-short (suc number) value h = omega (arith, decimal-bound 4 (suc number) (omega arith))
 
   abbrev Short : (ℕ → Term Name) → Type 0
   Short terms = (q p : ℕ) → textSize (labelled numbers p (terms q)) ≤ 46 * size (terms q)
@@ -46,47 +46,51 @@ module _ (S : ℕ → List ℕ) (cells numbers : List ℕ) (short : (m : ℕ) �
   abbrev ShortFields : (ℕ → Fields Name) → Type 0
   ShortFields fields = (q p : ℕ) → textSizeFields (labelledFields numbers p (fields q)) ≤ 46 * sizeFields (fields q)
 
-  module _ (terms : ℕ → Term Name) (fields : ℕ → Fields Name) (st : Short terms) (sf : ShortFields fields) (r p : ℕ) where
-    by-term : (c : Constructor) → textSize (labelled numbers p (termBy c S cells r terms fields)) ≤ 46 * size (termBy c S cells r terms fields)
+  module _ (terms : ℕ → Term Name) (fields : ℕ → Fields Name) (st : Short terms) (sf : ShortFields fields) (row place : ℕ) where
+    by-term : (constructed : Constructor) → textSize (labelled numbers place (termBy constructed spell cells row terms fields)) ≤ 46 * size
+        (termBy constructed spell cells row terms fields)
     unfolding termBy textSize labelled size
-    by-term varRow = omega (arith, name-short (getD numbers p 0) (column cells r 1) (few p))
-    by-term funRow = omega (arith, name-short (getD numbers p 0) (column cells r 1) (few p), st (column cells r 2) (suc p))
-    by-term appRow = omega (arith, st (column cells r 1) (suc p), st (column cells r 2) (suc p + size (terms (column cells r 1))))
-    by-term rcdRow = omega (arith, sf (column cells r 1) (suc p))
-    by-term dotRow = omega (arith, st (column cells r 1) (suc p), short (column cells r 2))
+    by-term varRow = omega (arith, name-short (getD numbers place 0) (column cells row 1) (few place))
+    by-term funRow = omega (arith, name-short (getD numbers place 0) (column cells row 1) (few place), st (column cells row 2) (suc place))
+    by-term appRow = omega (arith, st (column cells row 1) (suc place), st (column cells row 2) (suc place + size (terms (column cells row 1))))
+    by-term rcdRow = omega (arith, sf (column cells row 1) (suc place))
+    by-term dotRow = omega (arith, st (column cells row 1) (suc place), short (column cells row 2))
     by-term nilRow = omega (arith, decimal-bound 0 0 (omega arith))
     by-term consRow = omega (arith, decimal-bound 0 0 (omega arith))
-    by-term numRow = omega (arith, decimal-bound 9 (column cells r 1) (omega (arith, wide (r * columns + 1))))
+    by-term numRow = omega (arith, decimal-bound 9 (column cells row 1) (omega (arith, wide (row * columns + 1))))
 
-    by-fields : (b : Bool)
-        → textSizeFields (labelledFields numbers p (fieldsBy b S cells r terms fields)) ≤ 46 * sizeFields (fieldsBy b S cells r terms fields)
+    by-fields : (test : Bool)
+        → textSizeFields (labelledFields numbers place (fieldsBy test spell cells row terms fields)) ≤ 46 * sizeFields
+        (fieldsBy test spell cells row terms fields)
     unfolding fieldsBy textSizeFields labelledFields sizeFields
     by-fields true =
-        omega (arith, st (column cells r 2) (suc p), sf (column cells r 3) (suc p + size (terms (column cells r 2))), short (column cells r 1))
+        omega (arith, st (column cells row 2) (suc place), sf (column cells row 3) (suc place + size (terms (column cells row 2))), short (column cells row 1))
     by-fields false = omega arith
 
   mutual
     unfolding termAt fieldListAt textSize textSizeFields labelled labelledFields size sizeFields
 
-    short-text : (k r p : ℕ) → textSize (labelled numbers p (termAt k S cells r)) ≤ 46 * size (termAt k S cells r)
-    short-text zero r p = omega (arith, decimal-bound 0 0 (omega arith))
-    short-text (suc k) r p =
-        by-term (λ q. termAt k S cells q) (λ q. fieldListAt k S cells q) (λ q n. short-text k q n) (λ q n. short-fields k q n) r p
-        (constructorOf (column cells r 0))
+    short-text : (depth row place : ℕ) → textSize (labelled numbers place (termAt depth spell cells row)) ≤ 46 * size (termAt depth spell cells row)
+    short-text zero row place = omega (arith, decimal-bound 0 0 (omega arith))
+    short-text (suc depth) row place =
+        by-term (λ q. termAt depth spell cells q) (λ q. fieldListAt depth spell cells q) (λ q n. short-text depth q n) (λ q n. short-fields depth q n) row place
+        (constructorOf (column cells row 0))
 
-    short-fields : (k r p : ℕ) → textSizeFields (labelledFields numbers p (fieldListAt k S cells r)) ≤ 46 * sizeFields (fieldListAt k S cells r)
-    short-fields zero r p = omega arith
-    short-fields (suc k) r p =
-        by-fields (λ q. termAt k S cells q) (λ q. fieldListAt k S cells q) (λ q n. short-text k q n) (λ q n. short-fields k q n) r p
-        (isCons (constructorOf (column cells r 0)))
+    short-fields : (depth row place : ℕ) → textSizeFields (labelledFields numbers place (fieldListAt depth spell cells row)) ≤ 46 * sizeFields
+        (fieldListAt depth spell cells row)
+    short-fields zero row place = omega arith
+    short-fields (suc depth) row place =
+        by-fields (λ q. termAt depth spell cells q) (λ q. fieldListAt depth spell cells q) (λ q n. short-text depth q n) (λ q n. short-fields depth q n) row
+        place
+        (isCons (constructorOf (column cells row 0)))
 
 -- a spelling of the room is short
-spelling-short : (pool : List ℕ) → ShortSpellings pool → (m : ℕ) → length (spellIn pool m) ≤ 31
+spelling-short : (pool : List ℕ) → ShortSpellings pool → (number : ℕ) → length (spellIn pool number) ≤ 31
 unfolding spellIn
-spelling-short pool h m = omega (arith, h m, length-take (getD pool (m * 32) 0) (drop (m * 32 + 1) pool))
+spelling-short pool h number = omega (arith, h number, length-take (getD pool (number * 32) 0) (drop (number * 32 + 1) pool))
 
-module _ {pool cells numbers : List ℕ} {made root : ℕ} (h : PrintableBy pool cells made root numbers)
-    (wide : (i : ℕ) → getD cells i 0 < 4294967296) (few : (i : ℕ) → getD numbers i 0 < 65536) where
+module _ {pool cells numbers : List ℕ} {made root : ℕ} (printable-by : PrintableBy pool cells made root numbers)
+    (wide : (place : ℕ) → getD cells place 0 < 4294967296) (few : (place : ℕ) → getD numbers place 0 < 65536) where
   -- the text of a term has at most 46 bytes for each number
   text-short : length (partText pool cells numbers (termPart made root) 0) ≤ length numbers * 46
   unfolding partText
@@ -95,14 +99,14 @@ module _ {pool cells numbers : List ℕ} {made root : ℕ} (h : PrintableBy pool
         arith,
         size-spell made noSpell (spellIn pool) cells root,
         text-length (labelled numbers 0 (termAt made (spellIn pool) cells root)),
-        short-text (spellIn pool) cells numbers (spelling-short pool (h .short)) few wide made root 0,
-        h .marked,
+        short-text (spellIn pool) cells numbers (spelling-short pool (printable-by .short)) few wide made root 0,
+        printable-by .marked,
       )
 
   -- it fits where so many bytes are lent
-  pub text-within : {n : ℕ} → length numbers * 46 ≤ n → length (partText pool cells numbers (termPart made root) 0) ≤ n
+  pub text-within : {room : ℕ} → length numbers * 46 ≤ room → length (partText pool cells numbers (termPart made root) 0) ≤ room
   text-within l = omega (arith, text-short)
 
   -- the text of a term that is not too large is not too long
   pub text-fits : PartFits pool cells numbers (termPart made root) 0 0
-  text-fits = record { room = omega (arith, text-short, h .small); inside = omega (arith, h .marked); few = h .small }
+  text-fits = record { room = omega (arith, text-short, printable-by .small); inside = omega (arith, printable-by .marked); few = printable-by .small }

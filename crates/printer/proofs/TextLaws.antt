@@ -12,11 +12,11 @@ use Rattle.printer.specs.Printed.{termPart, partText, textBy, Prints}
 use Rattle.writer.specs.Pool.{Pooled}
 
 -- a text that is too long
-pub prints-none : (out text : List ℕ) {r : ℕ} → r ≡ length out → length text < r → Prints out text text r
+pub prints-none : (out text : List ℕ) {reached : ℕ} → reached ≡ length out → length text < reached → Prints out text text reached
 prints-none out text e l = record { needed = e; placed = sym (written-not out text (omega arith)) }
 
 -- a text that fits
-pub prints-whole : {out text text′ : List ℕ} {r : ℕ} → length out ≤ length text → Wrote text 0 out r text′ → Prints out text text′ r
+pub prints-whole : {out text text′ : List ℕ} {reached : ℕ} → length out ≤ length text → Wrote text 0 out reached text′ → Prints out text text′ reached
 prints-whole {out} {text} fits w =
     let z : 0 + length out ≡ length out = zero-add (length out) in
     record {
@@ -25,9 +25,10 @@ prints-whole {out} {text} fits w =
     }
 
 -- the text by what the room spells
-pub prints-spelled : (cells numbers : List ℕ) (made root : ℕ) {pool text text′ : List ℕ} {S : ℕ → List ℕ} {r : ℕ}
-    → Pooled pool S → Prints (partText pool cells numbers (termPart made root) 0) text text′ r → Prints (textBy S cells numbers made root) text text′ r
+pub prints-spelled : (cells numbers : List ℕ) (made root : ℕ) {pool text text′ : List ℕ} {spell : ℕ → List ℕ} {reached : ℕ}
+    → Pooled pool spell → Prints (partText pool cells numbers (termPart made root) 0) text text′ reached
+    → Prints (textBy spell cells numbers made root) text text′ reached
 unfolding partText textBy
-prints-spelled cells numbers made root {pool} {S = S} h p =
-    let spelled : spellIn pool ≡ S = λ i m. h .spelled m i in
+prints-spelled cells numbers made root {pool} {spell = spell} h p =
+    let spelled : spellIn pool ≡ spell = λ i m. h .spelled m i in
     rw spelled at p

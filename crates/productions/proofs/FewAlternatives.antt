@@ -19,29 +19,29 @@ use Rattle.productions.specs.Index.{alternativeFields}
 use Rattle.productions.specs.IndexCalls.{FitsIndex}
 
 -- where there is room, one more is not too many
-one-more : (n : ℕ) (b : Bool) → (not b || ltb n 256) ≡ true → n ≤ 256 → n + oneIf b ≤ 256
-one-more n true e h = omega (arith, ltb-true n 256 e)
-one-more n false e h = omega arith
+one-more : (count : ℕ) (here : Bool) → (not here || ltb count 256) ≡ true → count ≤ 256 → count + oneIf here ≤ 256
+one-more count true e h = omega (arith, ltb-true count 256 e)
+one-more count false e h = omega arith
 
 -- a field, and those that follow it
-count-field : (at tag : ℕ) (v : List ℕ) (fs : RawFields) → alternativeFields (next at tag v fs) ≡ oneIf (eqb tag 5) + alternativeFields fs
+count-field : (at tag : ℕ) (value : List ℕ) (fs : RawFields) → alternativeFields (next at tag value fs) ≡ oneIf (eqb tag 5) + alternativeFields fs
 unfolding alternativeFields
-count-field at tag v fs = by (eqb tag 5)
+count-field at tag value fs = by (eqb tag 5)
   where
-    by : (b : Bool) → (elim b as (λ x. ℕ) [ true ↦ suc (alternativeFields fs) | false ↦ alternativeFields fs ]) ≡ oneIf b + alternativeFields fs
+    by : (here : Bool) → (elim here as (λ x. ℕ) [ true ↦ suc (alternativeFields fs) | false ↦ alternativeFields fs ]) ≡ oneIf here + alternativeFields fs
     by true = omega arith
     by false = omega arith
 
-few-fields : (fs : RawFields) (before : List Field) (s : Progress) → s .alternatives ≤ 256 → checkFields fs before s ≡ ok tt
-    → s .alternatives + alternativeFields fs ≤ 256
+few-fields : (fs : RawFields) (before : List Field) (progress : Progress) → progress .alternatives ≤ 256 → checkFields fs before progress ≡ ok tt
+    → progress .alternatives + alternativeFields fs ≤ 256
 unfolding alternativeFields passed
-few-fields (end at) before s l h = omega arith
-few-fields (cut at) before s l h = omega arith
-few-fields (next at tag v fs) before s l h =
-    let passes = accepted at tag v fs before s h in
-    let room : s .alternatives + oneIf (eqb tag 5) ≤ 256 =
-    one-more (s .alternatives) (eqb tag 5) (room-of tag s (passes .0 .room) .alternatives) l in
-    omega (arith, count-field at tag v fs, few-fields fs (field tag v ∷ before) (passed tag s) room (passes .1))
+few-fields (end at) before progress l h = omega arith
+few-fields (cut at) before progress l h = omega arith
+few-fields (next at tag v fs) before progress l h =
+    let passes = accepted at tag v fs before progress h in
+    let room : progress .alternatives + oneIf (eqb tag 5) ≤ 256 =
+    one-more (progress .alternatives) (eqb tag 5) (room-of tag progress (passes .0 .room) .alternatives) l in
+    omega (arith, count-field at tag v fs, few-fields fs (field tag v ∷ before) (passed tag progress) room (passes .1))
 
 -- A table of a right layout fits the index.
 pub few-alternatives : (bs : List ℕ) → layout bs ≡ ok tt → FitsIndex bs

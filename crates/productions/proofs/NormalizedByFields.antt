@@ -27,19 +27,20 @@ behind b n g = normalizedFrom (definedAll (g ++ productionsOf n (b .alternatives
 -- ------------------------------------------------------------------ one field
 
 -- the statement of some fields, for every definition that they begin in
-record Agrees (fs : RawFields) (b : Decoded) : Type 0 where
-  items : itemsOf fs ≡ b .items
-  result : resultOf fs ≡ b .result
-  normal : (n : ℕ) (g : List Production) → normalizedBy fs n g ≡ behind b n g
+record Agrees (fs : RawFields) (decoded : Decoded) : Type 0 where
+  items : itemsOf fs ≡ decoded .items
+  result : resultOf fs ≡ decoded .result
+  normal : (nonterminal : ℕ) (g : List Production) → normalizedBy fs nonterminal g ≡ behind decoded nonterminal g
 
 abbrev Step : ℕ → Type 0
 Step tag = (at : ℕ) (v : List ℕ) (fs : RawFields) (b : Decoded) → Agrees fs b → Agrees (next at tag v fs) (put tag v b)
 
 -- a tag that is none of a definition, an alternative, an item or a result
 step-other : (tag : ℕ) → eqb tag 4 ≡ false → eqb tag 5 ≡ false → eqb tag 6 ≡ false → eqb tag 7 ≡ false
-    → ((v : List ℕ) (b : Decoded) → put tag v b .items ≡ []) → ((v : List ℕ) (b : Decoded) → put tag v b .result ≡ variable 0)
-    → ((v : List ℕ) (b : Decoded) (n : ℕ) (g : List Production) → behind (put tag v b) n g ≡ behind b n g)
-    → Step tag
+    → ((value : List ℕ) (decoded : Decoded) → put tag value decoded .items ≡ [])
+    → ((value : List ℕ) (decoded : Decoded) → put tag value decoded .result ≡ variable 0)
+    → ((value : List ℕ) (decoded : Decoded) (nonterminal : ℕ) (g : List Production) → behind (put tag value decoded) nonterminal g
+    ≡ behind decoded nonterminal g) → Step tag
 unfolding itemsOf resultOf normalizedBy
 step-other tag e4 e5 e6 e7 no-items no-result same at v fs b h =
     record {
@@ -130,8 +131,8 @@ agrees (next at tag v fs) =
     (λ e. step-known tag (ltb-false 8 tag e) at v fs (decodeFields fs) (agrees fs))
 
 -- The normalized grammar of a table is what the fields of its encoding give in order.
-pub normalized-by : (t : Table) → Within t → normalizedBy (fieldsOf (encode t)) 0 [] ≡ normalized (t .blocks)
+pub normalized-by : (table : Table) → Within table → normalizedBy (fieldsOf (encode table)) 0 [] ≡ normalized (table .blocks)
 unfolding encode productionsOf definedAll
-normalized-by t w =
-    agrees (fieldsOf (encode t)) .normal 0 []
-    ∙ ap (λ b. behind b 0 []) (ap decodeFields (fields-of-bytes (tableFields t)) ∙ parts-built t 0 w)
+normalized-by table w =
+    agrees (fieldsOf (encode table)) .normal 0 []
+    ∙ ap (λ b. behind b 0 []) (ap decodeFields (fields-of-bytes (tableFields table)) ∙ parts-built table 0 w)

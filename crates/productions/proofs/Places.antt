@@ -42,15 +42,15 @@ Stands bs (end at) = Unit {0}
 Stands bs (cut at) = Unit {0}
 Stands bs (next at tag v fs) = (at + 3 + length v ≤ length bs) × (fieldsAt bs (at + 3 + length v) ≡ fs) × Stands bs fs
 
-stands-here : (bs : List ℕ) (at at′ tag : ℕ) (v : List ℕ) (fs : RawFields) (r : Front) → r ≡ frontOf (drop at bs)
-    → next at′ tag v fs ≡ opened bs at r
-    → (at′ + 3 + length v ≤ length bs) × (fieldsAt bs (at′ + 3 + length v) ≡ fs)
-stands-here bs at at′ tag v fs Nothing e f = let z : _≡_ {A = ℕ} 0 1 = cc in absurd (omega arith)
-stands-here bs at at′ tag v fs Short e f = let z : _≡_ {A = ℕ} 0 1 = cc in absurd (omega arith)
-stands-here bs at at′ tag v fs (front.Field t n) e f =
+stands-here : (bs : List ℕ) (at at′ tag : ℕ) (value : List ℕ) (fs : RawFields) (front-read : Front) → front-read ≡ frontOf (drop at bs)
+    → next at′ tag value fs ≡ opened bs at front-read
+    → (at′ + 3 + length value ≤ length bs) × (fieldsAt bs (at′ + 3 + length value) ≡ fs)
+stands-here bs at at′ tag value fs Nothing e f = let z : _≡_ {A = ℕ} 0 1 = cc in absurd (omega arith)
+stands-here bs at at′ tag value fs Short e f = let z : _≡_ {A = ℕ} 0 1 = cc in absurd (omega arith)
+stands-here bs at at′ tag value fs (front.Field t n) e f =
     let a : at′ ≡ at = cc in
-    let u : v ≡ take n (drop (at + 3) bs) = cc in
-    let l : length v ≡ n = ap length u ∙ simp (length-take, length-drop) (omega (arith, front-inside bs at e)) in
+    let u : value ≡ take n (drop (at + 3) bs) = cc in
+    let l : length value ≡ n = ap length u ∙ simp (length-take, length-drop) (omega (arith, front-inside bs at e)) in
     let g : fs ≡ fieldsAt bs (at + 3 + n) = cc in
     (omega (arith, front-inside bs at e), rw (a, l) (sym g))
 
@@ -66,39 +66,40 @@ stands bs = stands-from bs (fieldsOf bs) 0 (fields-of bs)
 
 -- ------------------------------------------------------------------ the productions there
 
-without-at : (bs : List ℕ) (n : ℕ) (ps : List Place) → productionsAt bs (placesWithout n ps) ≡ without n (productionsAt bs ps)
+without-at : (bs : List ℕ) (nonterminal : ℕ) (ps : List Place) → productionsAt bs (placesWithout nonterminal ps) ≡ without nonterminal (productionsAt bs ps)
 unfolding placesWithout without productionAt
-without-at bs n [] = refl
-without-at bs n (p ∷ ps) =
-    by-test (eqb (p .owner) n) (λ e. rw (e, placesWithout, without) (without-at bs n ps))
-    (λ e. rw (e, placesWithout, without) (ap (_∷_ (productionAt bs (p .owner) (p .start))) (without-at bs n ps)))
+without-at bs nonterminal [] = refl
+without-at bs nonterminal (p ∷ ps) =
+    by-test (eqb (p .owner) nonterminal) (λ e. rw (e, placesWithout, without) (without-at bs nonterminal ps))
+    (λ e. rw (e, placesWithout, without) (ap (_∷_ (productionAt bs (p .owner) (p .start))) (without-at bs nonterminal ps)))
 
-kept-at : (bs : List ℕ) (m : Mode) (n : ℕ) (ps : List Place) → productionsAt bs (placesKept m n ps) ≡ kept m n (productionsAt bs ps)
-kept-at bs add n ps = refl
-kept-at bs extend n ps = refl
-kept-at bs update n ps = without-at bs n ps
+kept-at : (bs : List ℕ) (mode : Mode) (nonterminal : ℕ) (ps : List Place)
+    → productionsAt bs (placesKept mode nonterminal ps) ≡ kept mode nonterminal (productionsAt bs ps)
+kept-at bs add nonterminal ps = refl
+kept-at bs extend nonterminal ps = refl
+kept-at bs update nonterminal ps = without-at bs nonterminal ps
 
-map-snoc : {A B : Type 0} (f : A → B) (l : List A) (a : A) → map f (l ++ (a ∷ [])) ≡ map f l ++ (f a ∷ [])
-map-snoc f [] a = refl
-map-snoc f (x ∷ l) a = ap (_∷_ (f x)) (map-snoc f l a)
+map-snoc : {A B : Type 0} (image : A → B) (items : List A) (item : A) → map image (items ++ (item ∷ [])) ≡ map image items ++ (image item ∷ [])
+map-snoc image [] item = refl
+map-snoc image (x ∷ items) item = ap (_∷_ (image x)) (map-snoc image items item)
 
-normal-at : (bs : List ℕ) (fs : RawFields) → Stands bs fs → (n : ℕ) (ps : List Place)
-    → productionsAt bs (placesBy fs n ps) ≡ normalizedBy fs n (productionsAt bs ps)
+normal-at : (bs : List ℕ) (fs : RawFields) → Stands bs fs → (nonterminal : ℕ) (ps : List Place)
+    → productionsAt bs (placesBy fs nonterminal ps) ≡ normalizedBy fs nonterminal (productionsAt bs ps)
 unfolding placesBy normalizedBy productionAt
-normal-at bs (end at) s n ps = refl
-normal-at bs (cut at) s n ps = refl
-normal-at bs (next at tag v fs) s n ps =
+normal-at bs (end at) s nonterminal ps = refl
+normal-at bs (cut at) s nonterminal ps = refl
+normal-at bs (next at tag v fs) s nonterminal ps =
     by-test (eqb tag 4)
     (λ e. rw (e, placesBy, normalizedBy)
     (normal-at bs fs (s .2) (getD v 0 0) (placesKept (modeOf (getD v 1 0)) (getD v 0 0) ps)
     ∙ ap (normalizedBy fs (getD v 0 0)) (kept-at bs (modeOf (getD v 1 0)) (getD v 0 0) ps)))
     (λ e. by-test (eqb tag 5)
     (λ f. rw (e, f, placesBy, normalizedBy)
-    (normal-at bs fs (s .2) n (ps ++ (record { owner = n; start = at + 3 + length v } ∷ []))
-    ∙ ap (normalizedBy fs n)
-    (map-snoc (λ p. productionAt bs (p .owner) (p .start)) ps (record { owner = n; start = at + 3 + length v })
-    ∙ ap (λ g. productionsAt bs ps ++ (record { owner = n; items = itemsOf g; result = resultOf g } ∷ [])) (s .1))))
-    (λ f. rw (e, f, placesBy, normalizedBy) (normal-at bs fs (s .2) n ps)))
+    (normal-at bs fs (s .2) nonterminal (ps ++ (record { owner = nonterminal; start = at + 3 + length v } ∷ []))
+    ∙ ap (normalizedBy fs nonterminal)
+    (map-snoc (λ p. productionAt bs (p .owner) (p .start)) ps (record { owner = nonterminal; start = at + 3 + length v })
+    ∙ ap (λ g. productionsAt bs ps ++ (record { owner = nonterminal; items = itemsOf g; result = resultOf g } ∷ [])) (s .1))))
+    (λ f. rw (e, f, placesBy, normalizedBy) (normal-at bs fs (s .2) nonterminal ps)))
 
 -- The productions at the places of a table are its normalized grammar, field by field.
 pub productions-at : (bs : List ℕ) → productionsAt bs (placesOf bs) ≡ normalizedBy (fieldsOf bs) 0 []
@@ -106,23 +107,23 @@ productions-at bs = normal-at bs (fieldsOf bs) (stands bs) 0 []
 
 -- ------------------------------------------------------------------ how many there are
 
-without-fewer : (n : ℕ) (ps : List Place) → length (placesWithout n ps) ≤ length ps
+without-fewer : (nonterminal : ℕ) (ps : List Place) → length (placesWithout nonterminal ps) ≤ length ps
 unfolding placesWithout
-without-fewer n [] = omega arith
-without-fewer n (p ∷ ps) =
-    by-test (eqb (p .owner) n) (λ e. rw (e, placesWithout) (omega (arith, without-fewer n ps)))
-    (λ e. rw (e, placesWithout) (omega (arith, without-fewer n ps)))
+without-fewer nonterminal [] = omega arith
+without-fewer nonterminal (p ∷ ps) =
+    by-test (eqb (p .owner) nonterminal) (λ e. rw (e, placesWithout) (omega (arith, without-fewer nonterminal ps)))
+    (λ e. rw (e, placesWithout) (omega (arith, without-fewer nonterminal ps)))
 
-kept-fewer : (m : Mode) (n : ℕ) (ps : List Place) → length (placesKept m n ps) ≤ length ps
-kept-fewer add n ps = omega arith
-kept-fewer extend n ps = omega arith
-kept-fewer update n ps = without-fewer n ps
+kept-fewer : (mode : Mode) (nonterminal : ℕ) (ps : List Place) → length (placesKept mode nonterminal ps) ≤ length ps
+kept-fewer add nonterminal ps = omega arith
+kept-fewer extend nonterminal ps = omega arith
+kept-fewer update nonterminal ps = without-fewer nonterminal ps
 
-places-fewer : (fs : RawFields) (n : ℕ) (ps : List Place) → length (placesBy fs n ps) ≤ length ps + alternativeFields fs
+places-fewer : (fs : RawFields) (nonterminal : ℕ) (ps : List Place) → length (placesBy fs nonterminal ps) ≤ length ps + alternativeFields fs
 unfolding placesBy alternativeFields
-places-fewer (end at) n ps = omega arith
-places-fewer (cut at) n ps = omega arith
-places-fewer (next at tag v fs) n ps =
+places-fewer (end at) nonterminal ps = omega arith
+places-fewer (cut at) nonterminal ps = omega arith
+places-fewer (next at tag v fs) nonterminal ps =
     by-test (eqb tag 4)
     (λ e. rw (e, placesBy, alternativeFields, ne-eqb tag 5 (λ q. omega (arith, eqb-true tag 4 e)))
     (omega (
@@ -134,10 +135,10 @@ places-fewer (next at tag v fs) n ps =
     (λ f. rw (e, f, placesBy, alternativeFields)
     (omega (
       arith,
-      places-fewer fs n (ps ++ (record { owner = n; start = at + 3 + length v } ∷ [])),
-      length-append ps (record { owner = n; start = at + 3 + length v } ∷ []),
+      places-fewer fs nonterminal (ps ++ (record { owner = nonterminal; start = at + 3 + length v } ∷ [])),
+      length-append ps (record { owner = nonterminal; start = at + 3 + length v } ∷ []),
     )))
-    (λ f. rw (e, f, placesBy, alternativeFields) (places-fewer fs n ps)))
+    (λ f. rw (e, f, placesBy, alternativeFields) (places-fewer fs nonterminal ps)))
 
 -- A table whose layout is right has at most 256 productions.
 pub few-places : (bs : List ℕ) → layout bs ≡ ok tt → length (placesOf bs) ≤ 256
@@ -146,98 +147,102 @@ few-places bs h = omega (arith, places-fewer (fieldsOf bs) 0 [], few-alternative
 -- ------------------------------------------------------------------ that each is whole
 
 -- an item that is no call has two bytes
-all-but-last : (k₀ k₁ k₂ k₃ k₄ t a b c d e : Bool)
-    → ((k₀ && t) || (k₁ && t && a) || (k₂ && t && b) || (k₃ && t && c) || (k₄ && d && e)) ≡ true → k₄ ≡ false → t ≡ true
-all-but-last k₀ k₁ k₂ k₃ k₄ true a b c d e h f = refl
-all-but-last k₀ k₁ k₂ k₃ true false a b c d e h f = absurd (true≢false f)
-all-but-last k₀ k₁ k₂ k₃ false false a b c d e h f = sym (simp and-false refl) ∙ h
+all-but-last : (kind₀ kind₁ kind₂ kind₃ kind₄ two first second further fourth fifth : Bool)
+    → ((kind₀ && two) || (kind₁ && two && first) || (kind₂ && two && second) || (kind₃ && two && further) || (kind₄ && fourth && fifth)) ≡ true → kind₄ ≡ false
+    → two ≡ true
+all-but-last kind₀ kind₁ kind₂ kind₃ kind₄ true first second further fourth fifth h f = refl
+all-but-last kind₀ kind₁ kind₂ kind₃ true false first second further fourth fifth h f = absurd (true≢false f)
+all-but-last kind₀ kind₁ kind₂ kind₃ false false first second further fourth fifth h f = sym (simp and-false refl) ∙ h
 
-two-bytes : (v : List ℕ) → isItem v ≡ true → eqb (getD v 0 0) 4 ≡ false → eqb (length v) 2 ≡ true
+two-bytes : (value : List ℕ) → isItem value ≡ true → eqb (getD value 0 0) 4 ≡ false → eqb (length value) 2 ≡ true
 unfolding isItem
-two-bytes v =
-    all-but-last (eqb (getD v 0 0) 0) (eqb (getD v 0 0) 1) (eqb (getD v 0 0) 2) (eqb (getD v 0 0) 3) (eqb (getD v 0 0) 4) (eqb (length v) 2)
-    (isIdeSort (getD v 1 0)) (eqb (getD v 1 0) 0) (eqb (getD v 1 0) 0) (leb 2 (length v)) (isNonterminal (getD v 1 0))
+two-bytes value =
+    all-but-last (eqb (getD value 0 0) 0) (eqb (getD value 0 0) 1) (eqb (getD value 0 0) 2) (eqb (getD value 0 0) 3) (eqb (getD value 0 0) 4)
+    (eqb (length value) 2)
+    (isIdeSort (getD value 1 0)) (eqb (getD value 1 0) 0) (eqb (getD value 1 0) 0) (leb 2 (length value)) (isNonterminal (getD value 1 0))
 
-known-item : (v : List ℕ) → isKnown 6 v ≡ isItem v
+known-item : (value : List ℕ) → isKnown 6 value ≡ isItem value
 unfolding isKnown
-known-item v = simp or-false
+known-item value = simp or-false
 
-known-head : (v : List ℕ) → isKnown 4 v ≡ isHead v
+known-head : (value : List ℕ) → isKnown 4 value ≡ isHead value
 unfolding isKnown
-known-head v = simp or-false
+known-head value = simp or-false
 
 -- the templates of an item's field: only a call has any
-item-templates : (v : List ℕ) → isKnown 6 v ≡ true → isWhole 6 v ≡ true → isTemplates (templatesOf (drop 2 v)) ≡ true
+item-templates : (value : List ℕ) → isKnown 6 value ≡ true → isWhole 6 value ≡ true → isTemplates (templatesOf (drop 2 value)) ≡ true
 unfolding isWhole templatesOf
-item-templates v known whole =
-    by-test (eqb (getD v 0 0) 4) (λ e. sym (and-true _) ∙ rw e at whole)
-    (λ e. rw (drop-of-length-le v {i = 2} (omega (arith, eqb-true (length v) 2 (two-bytes v (sym (known-item v) ∙ known) e)))) refl)
+item-templates value known whole =
+    by-test (eqb (getD value 0 0) 4) (λ e. sym (and-true _) ∙ rw e at whole)
+    (λ e. rw (drop-of-length-le value {i = 2} (omega (arith, eqb-true (length value) 2 (two-bytes value (sym (known-item value) ∙ known) e)))) refl)
 
 -- the fields of a table whose layout is right have whole templates
-whole-fields : (fs : RawFields) (before : List Field) (s : Progress) → checkFields fs before s ≡ ok tt → wholeBody fs ≡ true
+whole-fields : (fs : RawFields) (before : List Field) (progress : Progress) → checkFields fs before progress ≡ ok tt → wholeBody fs ≡ true
 unfolding wholeBody isWhole
-whole-fields (end at) before s h = refl
-whole-fields (cut at) before s h = refl
-whole-fields (next at tag v fs) before s h =
-    let passes = accepted at tag v fs before s h in
+whole-fields (end at) before progress h = refl
+whole-fields (cut at) before progress h = refl
+whole-fields (next at tag v fs) before progress h =
+    let passes = accepted at tag v fs before progress h in
     by-test (eqb tag 6)
     (λ e. let t = eqb-true tag 6 e in
     rw (e, wholeBody)
     (rw (item-templates v (rw t at (passes .0 .known)) (rw t at (passes .0 .whole)))
-    (whole-fields fs (field tag v ∷ before) (passed tag s) (passes .1))))
+    (whole-fields fs (field tag v ∷ before) (passed tag progress) (passes .1))))
     (λ e. by-test (eqb tag 7)
     (λ f. rw (e, f, wholeBody) (rw (eqb-true tag 7 f) at (passes .0 .whole)))
     (λ f. rw (e, f, wholeBody) refl))
 
 -- the nonterminal of a definition
-third : (a b c d e : Bool) → (a && b && c && d && e) ≡ true → c ≡ true
-third a b c d e h = and-right (a && b) c (and-left (a && b && c) d (and-left (a && b && c && d) e h))
+third : (first second middle fourth last : Bool) → (first && second && middle && fourth && last) ≡ true → middle ≡ true
+third first second middle fourth last h =
+    and-right (first && second) middle (and-left (first && second && middle) fourth (and-left (first && second && middle && fourth) last h))
 
-head-small : (v : List ℕ) → isKnown 4 v ≡ true → getD v 0 0 < most .nonterminals
+head-small : (value : List ℕ) → isKnown 4 value ≡ true → getD value 0 0 < most .nonterminals
 unfolding isHead
-head-small v known =
-    let small : isNonterminal (getD v 0 0) ≡ true =
-    third (leb 3 (length v)) (leb (length v) (3 + most .parameters)) (isNonterminal (getD v 0 0)) (leb (getD v 1 0) 2) (every isSort (drop 2 v))
-    (sym (known-head v) ∙ known) in
-    ltb-true (getD v 0 0) (most .nonterminals) small
+head-small value known =
+    let small : isNonterminal (getD value 0 0) ≡ true =
+    third (leb 3 (length value)) (leb (length value) (3 + most .parameters)) (isNonterminal (getD value 0 0)) (leb (getD value 1 0) 2)
+    (every isSort (drop 2 value))
+    (sym (known-head value) ∙ known) in
+    ltb-true (getD value 0 0) (most .nonterminals) small
 
-each-without : {P : Place → Type 0} (n : ℕ) (ps : List Place) → Each P ps → Each P (placesWithout n ps)
+each-without : {P : Place → Type 0} (nonterminal : ℕ) (ps : List Place) → Each P ps → Each P (placesWithout nonterminal ps)
 unfolding placesWithout
-each-without n [] h = each-none
-each-without n (p ∷ ps) (each-more h hs) =
-    by-test (eqb (p .owner) n) (λ e. rw (e, placesWithout) (each-without n ps hs))
-    (λ e. rw (e, placesWithout) (each-more h (each-without n ps hs)))
+each-without nonterminal [] h = each-none
+each-without nonterminal (p ∷ ps) (each-more h hs) =
+    by-test (eqb (p .owner) nonterminal) (λ e. rw (e, placesWithout) (each-without nonterminal ps hs))
+    (λ e. rw (e, placesWithout) (each-more h (each-without nonterminal ps hs)))
 
-each-kept : {P : Place → Type 0} (m : Mode) (n : ℕ) (ps : List Place) → Each P ps → Each P (placesKept m n ps)
-each-kept add n ps h = h
-each-kept extend n ps h = h
-each-kept update n ps h = each-without n ps h
+each-kept : {P : Place → Type 0} (mode : Mode) (nonterminal : ℕ) (ps : List Place) → Each P ps → Each P (placesKept mode nonterminal ps)
+each-kept add nonterminal ps h = h
+each-kept extend nonterminal ps h = h
+each-kept update nonterminal ps h = each-without nonterminal ps h
 
-each-snoc : {P : Place → Type 0} {ps : List Place} {p : Place} → Each P ps → P p → Each P (ps ++ (p ∷ []))
+each-snoc : {P : Place → Type 0} {ps : List Place} {place : Place} → Each P ps → P place → Each P (ps ++ (place ∷ []))
 each-snoc each-none h = each-more h each-none
 each-snoc (each-more g gs) h = each-more g (each-snoc gs h)
 
-whole-by : (bs : List ℕ) (fs : RawFields) → Stands bs fs → (before : List Field) (s : Progress) → checkFields fs before s ≡ ok tt
-    → (n : ℕ) → n < 64 → (ps : List Place) → Each (Whole bs) ps → Each (Whole bs) (placesBy fs n ps)
+whole-by : (bs : List ℕ) (fs : RawFields) → Stands bs fs → (before : List Field) (progress : Progress) → checkFields fs before progress ≡ ok tt
+    → (nonterminal : ℕ) → nonterminal < 64 → (ps : List Place) → Each (Whole bs) ps → Each (Whole bs) (placesBy fs nonterminal ps)
 unfolding placesBy
-whole-by bs (end at) stand before s h n small ps each = each
-whole-by bs (cut at) stand before s h n small ps each = each
-whole-by bs (next at tag v fs) stand before s h n small ps each =
-    let passes = accepted at tag v fs before s h in
-    let rest = whole-by bs fs (stand .2) (field tag v ∷ before) (passed tag s) (passes .1) in
+whole-by bs (end at) stand before progress h nonterminal small ps each = each
+whole-by bs (cut at) stand before progress h nonterminal small ps each = each
+whole-by bs (next at tag v fs) stand before progress h nonterminal small ps each =
+    let passes = accepted at tag v fs before progress h in
+    let rest = whole-by bs fs (stand .2) (field tag v ∷ before) (passed tag progress) (passes .1) in
     by-test (eqb tag 4)
     (λ e. rw (e, placesBy)
     (rest (getD v 0 0) (head-small v (rw (eqb-true tag 4 e) at (passes .0 .known))) _ (each-kept (modeOf (getD v 1 0)) (getD v 0 0) ps each)))
     (λ e. by-test (eqb tag 5)
     (λ f. rw (e, f, placesBy)
-    (rest n small _
+    (rest nonterminal small _
     (each-snoc each
     (record {
       small = small;
       inside = stand .0;
-      whole = ap wholeBody (stand .1) ∙ whole-fields fs (field tag v ∷ before) (passed tag s) (passes .1);
+      whole = ap wholeBody (stand .1) ∙ whole-fields fs (field tag v ∷ before) (passed tag progress) (passes .1);
     }))))
-    (λ f. rw (e, f, placesBy) (rest n small ps each)))
+    (λ f. rw (e, f, placesBy) (rest nonterminal small ps each)))
 
 -- Each place of a table whose layout is right is of a nonterminal, and a whole alternative stands there.
 pub whole-places : (bs : List ℕ) → layout bs ≡ ok tt → Each (Whole bs) (placesOf bs)

@@ -19,31 +19,31 @@ use Rattle.resolver.specs.Numbers.{looseIn}
 use Rattle.terms.proofs.Loose.{walk-stops, loose-append, loose-here, loose-further}
 use Rattle.marking.proofs.MarkLaws.{length-marks}
 
-loose-there : (p m : ℕ) (ms : List ℕ) → eqb m noOwner ≡ true → looseIn p (m ∷ ms) ≡ p ∷ looseIn (suc p) ms
+loose-there : (place mark : ℕ) (ms : List ℕ) → eqb mark noOwner ≡ true → looseIn place (mark ∷ ms) ≡ place ∷ looseIn (suc place) ms
 unfolding looseIn
-loose-there p m ms e = rw (e, looseIn) refl
+loose-there place mark ms e = rw (e, looseIn) refl
 
-loose-not : (p m : ℕ) (ms : List ℕ) → eqb m noOwner ≡ false → looseIn p (m ∷ ms) ≡ looseIn (suc p) ms
+loose-not : (place mark : ℕ) (ms : List ℕ) → eqb mark noOwner ≡ false → looseIn place (mark ∷ ms) ≡ looseIn (suc place) ms
 unfolding looseIn
-loose-not p m ms e = rw (e, looseIn) refl
+loose-not place mark ms e = rw (e, looseIn) refl
 
-loose-both : (p : ℕ) (ms ns : List ℕ) → looseIn p (ms ++ ns) ≡ looseIn p ms ++ looseIn (p + length ms) ns
+loose-both : (place : ℕ) (ms ns : List ℕ) → looseIn place (ms ++ ns) ≡ looseIn place ms ++ looseIn (place + length ms) ns
 unfolding looseIn
-loose-both p [] ns = cc (add-zero p)
-loose-both p (m ∷ ms) ns =
-    let z : suc p + length ms ≡ p + length (m ∷ ms) = omega arith in
+loose-both place [] ns = cc (add-zero place)
+loose-both place (m ∷ ms) ns =
+    let z : suc place + length ms ≡ place + length (m ∷ ms) = omega arith in
     by-test (eqb m noOwner)
-    (λ e. cc (loose-there p m (ms ++ ns) e, loose-both (suc p) ms ns, loose-there p m ms e))
-    (λ e. cc (loose-not p m (ms ++ ns) e, loose-both (suc p) ms ns, loose-not p m ms e))
+    (λ e. cc (loose-there place m (ms ++ ns) e, loose-both (suc place) ms ns, loose-there place m ms e))
+    (λ e. cc (loose-not place m (ms ++ ns) e, loose-both (suc place) ms ns, loose-not place m ms e))
 
 -- a mark says whether a variable is loose
-mark-loose : (v : Name) (o : Owner) → ownerCode o ≤ largestTerm → eqb (markOf v (ownerCode o)) noOwner ≡ isLoose v o
-mark-loose (word s) o l = ne-eqb (ownerCode o) noOwner (λ e. omega arith)
+mark-loose : (name : Name) (owner : Owner) → ownerCode owner ≤ largestTerm → eqb (markOf name (ownerCode owner)) noOwner ≡ isLoose name owner
+mark-loose (word s) owner l = ne-eqb (ownerCode owner) noOwner (λ e. omega arith)
 mark-loose (fresh n) unbound l = refl
 mark-loose (fresh n) (boundAt q) l = ne-eqb (suc q) noOwner (λ e. omega arith)
-mark-loose (outside s) o l = refl
+mark-loose (outside s) owner l = refl
 
-binder-not : (b : Bool) → eqb (binderMark b) noOwner ≡ false
+binder-not : (test : Bool) → eqb (binderMark test) noOwner ≡ false
 unfolding binderMark
 binder-not true = refl
 binder-not false = refl
@@ -51,50 +51,50 @@ binder-not false = refl
 abbrev Near : List Binder → Type 0
 Near around = (v : Name) → ownerCode (ownerOf around v) ≤ largestTerm
 
-near-more : (around : List Binder) (b : Name) (p : ℕ) → Near around → p < largestTerm → Near (record { name = b; place = p } ∷ around)
+near-more : (around : List Binder) (name : Name) (place : ℕ) → Near around → place < largestTerm → Near (record { name = name; place = place } ∷ around)
 unfolding ownerOf
-near-more around b p h l v = by-test (belongs v b) (λ e. rw (e, ownerOf) (omega arith)) (λ e. rw (e, ownerOf) (h v))
+near-more around name place h l v = by-test (belongs v name) (λ e. rw (e, ownerOf) (omega arith)) (λ e. rw (e, ownerOf) (h v))
 
-loose-variable : (around : List Binder) (p : ℕ) (v : Name) → Near around
-    → looseIn p (markOf v (ownerCode (ownerOf around v)) ∷ []) ≡ loosePlaces (occurrence around p v ∷ [])
+loose-variable : (around : List Binder) (place : ℕ) (name : Name) → Near around
+    → looseIn place (markOf name (ownerCode (ownerOf around name)) ∷ []) ≡ loosePlaces (occurrence around place name ∷ [])
 unfolding looseIn loosePlaces
-loose-variable around p v h =
-    let m = markOf v (ownerCode (ownerOf around v)) in
-    by-test (isLoose v (ownerOf around v))
-    (λ e. loose-there p m [] (mark-loose v (ownerOf around v) (h v) ∙ e) ∙ sym (loose-here (occurrence around p v) [] e))
-    (λ e. loose-not p m [] (mark-loose v (ownerOf around v) (h v) ∙ e) ∙ sym (loose-further (occurrence around p v) [] e))
+loose-variable around place name h =
+    let m = markOf name (ownerCode (ownerOf around name)) in
+    by-test (isLoose name (ownerOf around name))
+    (λ e. loose-there place m [] (mark-loose name (ownerOf around name) (h name) ∙ e) ∙ sym (loose-here (occurrence around place name) [] e))
+    (λ e. loose-not place m [] (mark-loose name (ownerOf around name) (h name) ∙ e) ∙ sym (loose-further (occurrence around place name) [] e))
 
 mutual
   unfolding marks marksFields occurrences occurrencesFields size sizeFields loosePlaces looseIn
 
-  loose-marks : (around : List Binder) (p : ℕ) (t : Term Name) → Near around → p + size t ≤ largestTerm
-      → looseIn p (marks around p t) ≡ loosePlaces (occurrences around p t)
-  loose-marks around p (variable v) h l = loose-variable around p v h
-  loose-marks around p (function b t) h l =
-      loose-not p (binderMark (isRenamed b t)) (marks (record { name = b; place = p } ∷ around) (suc p) t) (binder-not (isRenamed b t))
-      ∙ loose-marks (record { name = b; place = p } ∷ around) (suc p) t (near-more around b p h (omega arith)) (omega arith)
-  loose-marks around p (apply t u) h l =
+  loose-marks : (around : List Binder) (place : ℕ) (t : Term Name) → Near around → place + size t ≤ largestTerm
+      → looseIn place (marks around place t) ≡ loosePlaces (occurrences around place t)
+  loose-marks around place (variable v) h l = loose-variable around place v h
+  loose-marks around place (function b t) h l =
+      loose-not place (binderMark (isRenamed b t)) (marks (record { name = b; place = place } ∷ around) (suc place) t) (binder-not (isRenamed b t))
+      ∙ loose-marks (record { name = b; place = place } ∷ around) (suc place) t (near-more around b place h (omega arith)) (omega arith)
+  loose-marks around place (apply t u) h l =
       cc (
-        loose-both (suc p) (marks around (suc p) t) (marks around (suc p + size t) u),
-        loose-marks around (suc p) t h (omega arith),
-        length-marks around (suc p) t,
-        loose-marks around (suc p + size t) u h (omega arith),
-        loose-append (occurrences around (suc p) t) (occurrences around (suc p + size t) u),
+        loose-both (suc place) (marks around (suc place) t) (marks around (suc place + size t) u),
+        loose-marks around (suc place) t h (omega arith),
+        length-marks around (suc place) t,
+        loose-marks around (suc place + size t) u h (omega arith),
+        loose-append (occurrences around (suc place) t) (occurrences around (suc place + size t) u),
       )
-  loose-marks around p (rcd f) h l = loose-marks-fields around (suc p) f h (omega arith)
-  loose-marks around p (dot t s) h l = loose-marks around (suc p) t h (omega arith)
-  loose-marks around p (number n) h l = refl
+  loose-marks around place (rcd f) h l = loose-marks-fields around (suc place) f h (omega arith)
+  loose-marks around place (dot t s) h l = loose-marks around (suc place) t h (omega arith)
+  loose-marks around place (number n) h l = refl
 
-  loose-marks-fields : (around : List Binder) (p : ℕ) (f : Fields Name) → Near around → p + sizeFields f ≤ largestTerm
-      → looseIn p (marksFields around p f) ≡ loosePlaces (occurrencesFields around p f)
-  loose-marks-fields around p nil h l = refl
-  loose-marks-fields around p (cons s t f) h l =
+  loose-marks-fields : (around : List Binder) (place : ℕ) (fields : Fields Name) → Near around → place + sizeFields fields ≤ largestTerm
+      → looseIn place (marksFields around place fields) ≡ loosePlaces (occurrencesFields around place fields)
+  loose-marks-fields around place nil h l = refl
+  loose-marks-fields around place (cons s t fields) h l =
       cc (
-        loose-both (suc p) (marks around (suc p) t) (marksFields around (suc p + size t) f),
-        loose-marks around (suc p) t h (omega arith),
-        length-marks around (suc p) t,
-        loose-marks-fields around (suc p + size t) f h (omega arith),
-        loose-append (occurrences around (suc p) t) (occurrencesFields around (suc p + size t) f),
+        loose-both (suc place) (marks around (suc place) t) (marksFields around (suc place + size t) fields),
+        loose-marks around (suc place) t h (omega arith),
+        length-marks around (suc place) t,
+        loose-marks-fields around (suc place + size t) fields h (omega arith),
+        loose-append (occurrences around (suc place) t) (occurrencesFields around (suc place + size t) fields),
       )
 
 -- The walk of refusal 23 stops at the first place without an owner.

@@ -24,18 +24,18 @@ use Rattle.resolver.specs.Numbers.{Resolvable, Resolves}
 -- ------------------------------------------------------------------ rows
 
 -- One row more.
-pub quiet-more : (cells : List ℕ) (n : ℕ) {code x : ℕ} → QuietTo n cells → code ≡ column cells n 0 → x ≡ column cells n 1 → QuietRow code x
-    → QuietTo (n + 1) cells
-quiet-more cells n q ec ex r row l =
-    by-test (eqb row n)
-    (λ e. let z : row ≡ n = eqb-true row n e in rw (z, ← ec, ← ex) r)
-    (λ e. q row (omega (arith, eqb-false row n e)))
+pub quiet-more : (cells : List ℕ) (many : ℕ) {code value : ℕ} → QuietTo many cells → code ≡ column cells many 0 → value ≡ column cells many 1
+    → QuietRow code value → QuietTo (many + 1) cells
+quiet-more cells many q ec ex r row l =
+    by-test (eqb row many)
+    (λ e. let z : row ≡ many = eqb-true row many e in rw (z, ← ec, ← ex) r)
+    (λ e. q row (omega (arith, eqb-false row many e)))
 
 -- A row that is not there is a number's.
-pub quiet-all : {cells : List ℕ} (n : ℕ) → WholeRows cells → QuietTo n cells → length cells / columns ≤ n → Quiet cells
-quiet-all {cells} n w q l row = by (decLt row n)
+pub quiet-all : {cells : List ℕ} (many : ℕ) → WholeRows cells → QuietTo many cells → length cells / columns ≤ many → Quiet cells
+quiet-all {cells} many w q l row = by (decLt row many)
   where
-    by : Dec (row < n) → QuietRow (column cells row 0) (column cells row 1)
+    by : Dec (row < many) → QuietRow (column cells row 0) (column cells row 1)
     by (yes h) = q row h
     by (no h) =
         let past : column cells row 0 ≡ 0 = getD-past cells (row * columns + 0) 0 (omega (arith, w .whole)) in
@@ -62,87 +62,89 @@ unfoldable mutual
   StillFields nil = Unit {0}
   StillFields (cons l t f) = Still t × StillFields f
 
-module _ (numbers : List ℕ) (zeros : (i : ℕ) → getD numbers i 0 ≡ 0) where
-  name-same : (p c : ℕ) (v : Name) → labelled numbers p (variable v) ≡ renamed [] c (variable v)
+module _ (numbers : List ℕ) (zeros : (place : ℕ) → getD numbers place 0 ≡ 0) where
+  name-same : (place counter : ℕ) (name : Name) → labelled numbers place (variable name) ≡ renamed [] counter (variable name)
   unfolding labelled renamed shownAs
-  name-same p c v = rw (zeros p) refl
+  name-same place counter name = rw (zeros place) refl
 
   mutual
     unfolding Still StillFields labelled labelledFields renamed renamedFields
 
-    still-same : (p c : ℕ) (t : Term Name) → Still t → labelled numbers p t ≡ renamed [] c t
-    still-same p c (variable v) k = name-same p c v
-    still-same p c (function b t) k = absurd k
-    still-same p c (apply t u) k = ap₂ apply (still-same (suc p) c t (k .0)) (still-same (suc p + size t) (renames t + c) u (k .1))
-    still-same p c (rcd f) k = ap rcd (still-same-fields (suc p) c f k)
-    still-same p c (dot t l) k = ap (λ x. dot x l) (still-same (suc p) c t k)
-    still-same p c (number n) k = refl
+    still-same : (place counter : ℕ) (t : Term Name) → Still t → labelled numbers place t ≡ renamed [] counter t
+    still-same place counter (variable v) k = name-same place counter v
+    still-same place counter (function b t) k = absurd k
+    still-same place counter (apply t u) k =
+        ap₂ apply (still-same (suc place) counter t (k .0)) (still-same (suc place + size t) (renames t + counter) u (k .1))
+    still-same place counter (rcd f) k = ap rcd (still-same-fields (suc place) counter f k)
+    still-same place counter (dot t l) k = ap (λ x. dot x l) (still-same (suc place) counter t k)
+    still-same place counter (number n) k = refl
 
-    still-same-fields : (p c : ℕ) (f : Fields Name) → StillFields f → labelledFields numbers p f ≡ renamedFields [] c f
-    still-same-fields p c nil k = refl
-    still-same-fields p c (cons l t f) k =
-        ap₂ (cons l) (still-same (suc p) c t (k .0)) (still-same-fields (suc p + size t) (renames t + c) f (k .1))
+    still-same-fields : (place counter : ℕ) (fields : Fields Name) → StillFields fields → labelledFields numbers place fields ≡ renamedFields [] counter fields
+    still-same-fields place counter nil k = refl
+    still-same-fields place counter (cons l t fields) k =
+        ap₂ (cons l) (still-same (suc place) counter t (k .0)) (still-same-fields (suc place + size t) (renames t + counter) fields (k .1))
 
 mutual
   unfolding Still StillFields walk walkFields walkName size sizeFields
 
-  still-reaches : (p : ℕ) (t : Term Name) → Still t → walk [] p t ≡ reached (p + size t)
-  still-reaches p (variable (word s)) k = ap reached (omega arith)
-  still-reaches p (variable (fresh n)) k = absurd k
-  still-reaches p (variable (outside s)) k = ap reached (omega arith)
-  still-reaches p (function b t) k = absurd k
-  still-reaches p (apply t u) k = rw (still-reaches (suc p) t (k .0), still-reaches (suc p + size t) u (k .1)) (ap reached (omega arith))
-  still-reaches p (rcd f) k = rw (still-reaches-fields (suc p) f k) (ap reached (omega arith))
-  still-reaches p (dot t l) k = rw (still-reaches (suc p) t k) (ap reached (omega arith))
-  still-reaches p (number n) k = ap reached (omega arith)
+  still-reaches : (place : ℕ) (t : Term Name) → Still t → walk [] place t ≡ reached (place + size t)
+  still-reaches place (variable (word s)) k = ap reached (omega arith)
+  still-reaches place (variable (fresh n)) k = absurd k
+  still-reaches place (variable (outside s)) k = ap reached (omega arith)
+  still-reaches place (function b t) k = absurd k
+  still-reaches place (apply t u) k = rw (still-reaches (suc place) t (k .0), still-reaches (suc place + size t) u (k .1)) (ap reached (omega arith))
+  still-reaches place (rcd f) k = rw (still-reaches-fields (suc place) f k) (ap reached (omega arith))
+  still-reaches place (dot t l) k = rw (still-reaches (suc place) t k) (ap reached (omega arith))
+  still-reaches place (number n) k = ap reached (omega arith)
 
-  still-reaches-fields : (p : ℕ) (f : Fields Name) → StillFields f → walkFields [] p f ≡ reached (p + sizeFields f)
-  still-reaches-fields p nil k = ap reached (omega arith)
-  still-reaches-fields p (cons l t f) k =
-      rw (still-reaches (suc p) t (k .0), still-reaches-fields (suc p + size t) f (k .1)) (ap reached (omega arith))
+  still-reaches-fields : (place : ℕ) (fields : Fields Name) → StillFields fields → walkFields [] place fields ≡ reached (place + sizeFields fields)
+  still-reaches-fields place nil k = ap reached (omega arith)
+  still-reaches-fields place (cons l t fields) k =
+      rw (still-reaches (suc place) t (k .0), still-reaches-fields (suc place + size t) fields (k .1)) (ap reached (omega arith))
 
 -- ------------------------------------------------------------------ the term of a row
 
 module _ (spell : ℕ → List ℕ) (cells : List ℕ) (quiet : Quiet cells) where
-  spelled-name : (x : ℕ) → (x / nameBase ≡ 2 → ⊥) → Spelled (nameOf spell x)
-  spelled-name x d =
-      by-test (eqb (x / nameBase) 1)
-      (λ e. rw (rows.as-word spell x (eqb-true (x / nameBase) 1 e)) tt)
-      (λ e. rw (rows.as-outside spell x (eqb-false (x / nameBase) 1 e) d) tt)
+  spelled-name : (value : ℕ) → (value / nameBase ≡ 2 → ⊥) → Spelled (nameOf spell value)
+  spelled-name value d =
+      by-test (eqb (value / nameBase) 1)
+      (λ e. rw (rows.as-word spell value (eqb-true (value / nameBase) 1 e)) tt)
+      (λ e. rw (rows.as-outside spell value (eqb-false (value / nameBase) 1 e) d) tt)
 
   mutual
     unfolding Still StillFields termAt fieldListAt
 
-    still-at : (k row : ℕ) → Still (termAt k spell cells row)
+    still-at : (depth row : ℕ) → Still (termAt depth spell cells row)
     still-at zero row = tt
-    still-at (suc k) row =
-        let z : suc k - 1 ≡ k = omega arith in
+    still-at (suc depth) row =
+        let z : suc depth - 1 ≡ depth = omega arith in
         let code : ℕ = column cells row 0 in
-        let some : suc k ≡ 0 → ⊥ = λ e. omega (arith, e) in
+        let some : suc depth ≡ 0 → ⊥ = λ e. omega (arith, e) in
         by-test (eqb code 32)
         (λ e.
         let is = eqb-true code 32 e in
-        rw (rows.var-row spell cells (suc k) row some refl is) (spelled-name (column cells row 1) (quiet row .no-fresh is)))
+        rw (rows.var-row spell cells (suc depth) row some refl is) (spelled-name (column cells row 1) (quiet row .no-fresh is)))
         (λ v. by-test (eqb code 34)
-        (λ e. rw (rows.app-row spell cells (suc k) row some refl (eqb-true code 34 e), z) (still-at k (column cells row 1), still-at k (column cells row 2)))
+        (λ e. rw (rows.app-row spell cells (suc depth) row some refl (eqb-true code 34 e), z)
+        (still-at depth (column cells row 1), still-at depth (column cells row 2)))
         (λ a. by-test (eqb code 35)
-        (λ e. rw (rows.rcd-row spell cells (suc k) row some refl (eqb-true code 35 e), z) (still-fields-at k (column cells row 1)))
+        (λ e. rw (rows.rcd-row spell cells (suc depth) row some refl (eqb-true code 35 e), z) (still-fields-at depth (column cells row 1)))
         (λ r. by-test (eqb code 36)
-        (λ e. rw (rows.dot-row spell cells (suc k) row some refl (eqb-true code 36 e), z) (still-at k (column cells row 1)))
+        (λ e. rw (rows.dot-row spell cells (suc depth) row some refl (eqb-true code 36 e), z) (still-at depth (column cells row 1)))
         (λ d.
-        rows.number-row spell cells (suc k) row some refl Still (λ n. tt) (eqb-false code 32 v) (quiet row .no-binder) (eqb-false code 34 a)
+        rows.number-row spell cells (suc depth) row some refl Still (λ n. tt) (eqb-false code 32 v) (quiet row .no-binder) (eqb-false code 34 a)
         (eqb-false code 35 r) (eqb-false code 36 d)))))
 
-    still-fields-at : (k row : ℕ) → StillFields (fieldListAt k spell cells row)
+    still-fields-at : (depth row : ℕ) → StillFields (fieldListAt depth spell cells row)
     still-fields-at zero row = tt
-    still-fields-at (suc k) row =
-        let z : suc k - 1 ≡ k = omega arith in
-        let some : suc k ≡ 0 → ⊥ = λ e. omega (arith, e) in
+    still-fields-at (suc depth) row =
+        let z : suc depth - 1 ≡ depth = omega arith in
+        let some : suc depth ≡ 0 → ⊥ = λ e. omega (arith, e) in
         by-test (eqb (column cells row 0) 38)
         (λ e.
-        rw (rows.cons-row spell cells (suc k) row some refl (eqb-true (column cells row 0) 38 e), z)
-        (still-at k (column cells row 2), still-fields-at k (column cells row 3)))
-        (λ e. rw (rows.nil-row spell cells (suc k) row some refl (eqb-false (column cells row 0) 38 e)) tt)
+        rw (rows.cons-row spell cells (suc depth) row some refl (eqb-true (column cells row 0) 38 e), z)
+        (still-at depth (column cells row 2), still-fields-at depth (column cells row 3)))
+        (λ e. rw (rows.nil-row spell cells (suc depth) row some refl (eqb-false (column cells row 0) 38 e)) tt)
 
 -- Zeros are the numbers of such a term.
 pub quiet-resolves : {cells room : List ℕ} {made root : ℕ} → Resolvable cells made root room → Quiet cells → Resolves cells made root room Numbered

@@ -27,26 +27,26 @@ unfolding ownerOf
 around-none spell cells current e x b = cc (zeros (length current) (slotOf cells x))
 
 -- the first place without an owner is where the walk stops
-stops-first : (ps : List ℕ) (end : ℕ) {r : Resolution} → r ≡ firstLoose ps → stopsAtFirst ps end ≡ walkOf r end
+stops-first : (ps : List ℕ) (end : ℕ) {resolution : Resolution} → resolution ≡ firstLoose ps → stopsAtFirst ps end ≡ walkOf resolution end
 stops-first [] end e = sym cc
 stops-first (p ∷ ps) end e = sym cc
 
 -- a walk's marks, numbered, are a resolution
-pub resolves-numbered : {cells links current room room₁ room₂ current′ : List ℕ} {made root held n : ℕ} {r : Resolution}
-    → Resolvable cells made root room → WalkPrepared cells links current → n ≡ length room
+pub resolves-numbered : {cells links current room room₁ room₂ current′ : List ℕ} {made root held all : ℕ} {resolution : Resolution}
+    → Resolvable cells made root room → WalkPrepared cells links current → all ≡ length room
     → ResolvesTerm cells made root 0 current current′ room room₁ held
-    → r ≡ firstLoose (looseIn 0 (take n room₁)) → (r ≡ Numbered → room₂ ≡ numberedMarks [] 1 (take n room₁) ++ drop n room₁)
-    → Resolves cells made root room₂ r
-resolves-numbered {cells} {current = current} {room} {room₁} {made = made} {root} {n = n} pre begun en resolves er named spell apart known =
+    → resolution ≡ firstLoose (looseIn 0 (take all room₁)) → (resolution ≡ Numbered → room₂ ≡ numberedMarks [] 1 (take all room₁) ++ drop all room₁)
+    → Resolves cells made root room₂ resolution
+resolves-numbered {cells} {current = current} {room} {room₁} {made = made} {root} {all = all} pre begun en resolves er named spell apart known =
     let t : Term Name = termAt made spell cells root in
     let w = resolves spell [] apart (pre .whole) known (begun .room) (around-none spell cells current (begun .none)) in
-    let same : size t ≡ n = size-spell made spell noSpell cells root ∙ sym (pre .counted) ∙ sym en in
+    let same : size t ≡ all = size-spell made spell noSpell cells root ∙ sym (pre .counted) ∙ sym en in
     let small : size t ≤ largestTerm = omega (arith, pre .few) in
-    let long : n ≤ length room = omega (arith, en) in
-    let front : take n room₁ ≡ marks [] 0 t = ap (take n) (w .marked) ∙ sets-front room (marks [] 0 t) n (length-marks [] 0 t ∙ same) long in
+    let long : all ≤ length room = omega (arith, en) in
+    let front : take all room₁ ≡ marks [] 0 t = ap (take all) (w .marked) ∙ sets-front room (marks [] 0 t) all (length-marks [] 0 t ∙ same) long in
     record {
       answer = walk-by-marks t small ∙ stops-first (looseIn 0 (marks [] 0 t)) (size t) (rw front at er);
       named =
           λ e.
-          cc (named e, numbered-is-renamed t small (drop n room₁));
+          cc (named e, numbered-is-renamed t small (drop all room₁));
     }

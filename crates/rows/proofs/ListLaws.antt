@@ -12,22 +12,26 @@ use Rattle.spellings.proofs.BytesLaws.{by-test}
 use Rattle.grammar.proofs.ReaderLaws.{getD-past}
 
 -- a room of zeros reads as 0 everywhere
-pub zeros : (n k : ℕ) → getD {A = ℕ} (replicate n 0) k 0 ≡ 0
-zeros n k =
-    by-test (ltb k n) (λ e. getD-replicate {A = ℕ} n k 0 0 (ltb-true k n e))
-    (λ e. getD-past {A = ℕ} (replicate n 0) k 0 (omega (arith, ltb-false k n e, length-replicate {A = ℕ} n 0)))
+pub zeros : (count place : ℕ) → getD {A = ℕ} (replicate count 0) place 0 ≡ 0
+zeros count place =
+    by-test (ltb place count) (λ e. getD-replicate {A = ℕ} count place 0 0 (ltb-true place count e))
+    (λ e. getD-past {A = ℕ} (replicate count 0) place 0 (omega (arith, ltb-false place count e, length-replicate {A = ℕ} count 0)))
 
 -- two runs of stores, one behind the other, are one
-pub sets-append : (l : List ℕ) (i : ℕ) (a b : List ℕ) → sets l i (a ++ b) ≡ sets (sets l i a) (i + length a) b
-sets-append l i [] b = cc (add-zero i)
-sets-append l i (x ∷ a) b = let e : suc i + length a ≡ i + suc (length a) = omega arith in cc (sets-append (set l i x) (suc i) a b)
+pub sets-append : (numbers : List ℕ) (place : ℕ) (written more : List ℕ)
+    → sets numbers place (written ++ more) ≡ sets (sets numbers place written) (place + length written) more
+sets-append numbers place [] more = cc (add-zero place)
+sets-append numbers place (x ∷ written) more =
+    let e : suc place + length written ≡ place + suc (length written) = omega arith in cc (sets-append (set numbers place x) (suc place) written more)
 
 -- a store before a run of stores may come after it
-pub set-sets : (l : List ℕ) (p i v : ℕ) (a : List ℕ) → p < i → set (sets l i a) p v ≡ sets (set l p v) i a
-set-sets l p i v [] h = refl
-set-sets l p i v (x ∷ a) h = cc (set-sets (set l i x) p (suc i) v a (omega arith), set-comm l i p x v (λ e. omega arith))
+pub set-sets : (numbers : List ℕ) (before place value : ℕ) (written : List ℕ) → before < place
+    → set (sets numbers place written) before value ≡ sets (set numbers before value) place written
+set-sets numbers before place value [] h = refl
+set-sets numbers before place value (x ∷ written) h =
+    cc (set-sets (set numbers place x) before (suc place) value written (omega arith), set-comm numbers place before x value (λ e. omega arith))
 
 -- what was stored at the front stands there
-pub sets-front : (room ms : List ℕ) (n : ℕ) → length ms ≡ n → n ≤ length room → take n (sets room 0 ms) ≡ ms
-sets-front room ms n e l =
-    ap (take n) (sets-eq ms room 0 (omega arith)) ∙ take-at ms (drop (0 + length ms) room) n e
+pub sets-front : (room ms : List ℕ) (count : ℕ) → length ms ≡ count → count ≤ length room → take count (sets room 0 ms) ≡ ms
+sets-front room ms count e l =
+    ap (take count) (sets-eq ms room 0 (omega arith)) ∙ take-at ms (drop (0 + length ms) room) count e

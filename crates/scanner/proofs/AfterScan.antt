@@ -29,10 +29,10 @@ largest-fits : largest + 1 ≤ 2 ^ 30
 largest-fits = lit≤ tt
 
 -- a token's value, by its rule
-value-small : {lex : Lexicon} {at : ℕ} {rest : List ℕ} {met met′ : List (List ℕ)} {t : Token} → length (lex .outsides) ≤ 64
+value-small : {lex : Lexicon} {at : ℕ} {rest : List ℕ} {met met′ : List (List ℕ)} {token : Token} → length (lex .outsides) ≤ 64
     → length met ≤ 4096
-    → Stands lex at rest met t met′
-    → t .value ≤ largest
+    → Stands lex at rest met token met′
+    → token .value ≤ largest
 value-small few h (a-keyword w f) = omega arith
 value-small few h (a-keyword-symbol y f) = omega arith
 value-small few h (an-outside-name w n f) = omega (arith, f .there)
@@ -42,7 +42,7 @@ value-small few h (a-number d) = d .small
 value-small few h (a-symbol y n) = omega arith
 
 -- a token adds one word at most
-one-more : {lex : Lexicon} {at : ℕ} {rest : List ℕ} {met met′ : List (List ℕ)} {t : Token} → Stands lex at rest met t met′
+one-more : {lex : Lexicon} {at : ℕ} {rest : List ℕ} {met met′ : List (List ℕ)} {token : Token} → Stands lex at rest met token met′
     → length met′ ≤ length met + 1
 one-more (a-keyword w f) = omega arith
 one-more (a-keyword-symbol y f) = omega arith
@@ -54,11 +54,11 @@ one-more (a-symbol y n) = omega arith
 
 module _ (lex : Lexicon) (few : length (lex .outsides) ≤ 64) (formula : List ℕ) where
   -- at most as many tokens as bytes and at most 4,096, small values, and at most as many words as tokens
-  record Sized (n : ℕ) (l : Lexed) : Type 0 where
-    bytes : n + length (l .tokens) ≤ length formula
-    tokens : n + length (l .tokens) ≤ 4096
-    values : Every (λ t. t .value ≤ largest) (l .tokens)
-    words : length (l .words) ≤ n + length (l .tokens)
+  record Sized (many : ℕ) (lexed : Lexed) : Type 0 where
+    bytes : many + length (lexed .tokens) ≤ length formula
+    tokens : many + length (lexed .tokens) ≤ 4096
+    values : Every (λ t. t .value ≤ largest) (lexed .tokens)
+    words : length (lexed .words) ≤ many + length (lexed .tokens)
 
   SizedFrom : ℕ → ℕ → List (List ℕ) → Lexed → Type 0
   SizedFrom at n words l = n ≤ at → at ≤ length formula → n ≤ 4096 → length words ≤ n → Sized n l
@@ -88,26 +88,26 @@ module _ (lex : Lexicon) (few : length (lex .outsides) ≤ 64) (formula : List �
   -- ------------------------------------------------------------------ the rooms after a scan
 
   -- the rooms of an accepted scan hold its tokens and its words
-  pub record Holds (tokens words : List ℕ) (n count : ℕ) : Type 0 where
-    -- the scan accepts n tokens and as many words of the formula's own as counted
-    pub answered : scan lex formula .answer ≡ Tokens n count
-    -- the first n rows are its tokens
-    pub tokens-are : tokensIn tokens n ≡ scan lex formula .tokens
+  pub record Holds (tokens words : List ℕ) (many count : ℕ) : Type 0 where
+    -- the scan accepts `many` tokens and as many words of the formula's own as counted
+    pub answered : scan lex formula .answer ≡ Tokens many count
+    -- the first `many` rows are its tokens
+    pub tokens-are : tokensIn tokens many ≡ scan lex formula .tokens
     -- they can be read off the room
-    pub tokens-fit : TokensFit tokens n
+    pub tokens-fit : TokensFit tokens many
     -- the places stored name its words
     pub words-are : wordsIn formula words count ≡ scan lex formula .words
     -- there are no more words than tokens
-    pub few-words : count ≤ n
+    pub few-words : count ≤ many
 
   module _ {tokens words : List ℕ} (room : RoomFor formula tokens words) where
-    stored : {n count : ℕ} → scan lex formula .answer ≡ Tokens n count
-        → Holds (sets tokens 0 (tokenRows (scan lex formula .tokens))) (sets words 0 (wordPlaces 0 (scan lex formula .tokens))) n count
-    stored {n} {count} e =
+    stored : {many count : ℕ} → scan lex formula .answer ≡ Tokens many count
+        → Holds (sets tokens 0 (tokenRows (scan lex formula .tokens))) (sets words 0 (wordPlaces 0 (scan lex formula .tokens))) many count
+    stored {many} {count} e =
         let ts : List Token = scan lex formula .tokens in
         let c = scan-counted lex few formula e in
         let enough : length ts * 4 ≤ length tokens = room .for-tokens (length ts) (omega (arith, scan-sized .bytes)) (omega (arith, c .0, c .2)) in
-        let t : tokensIn (sets tokens 0 (tokenRows ts)) n ≡ ts = rw (c .0) (tokens-stored ts tokens enough) in
+        let t : tokensIn (sets tokens 0 (tokenRows ts)) many ≡ ts = rw (c .0) (tokens-stored ts tokens enough) in
         record {
           answered = e;
           tokens-are = t;
@@ -118,7 +118,7 @@ module _ (lex : Lexicon) (few : length (lex .outsides) ≤ 64) (formula : List �
                 values =
                     λ i l.
                     let r : rowOf (sets tokens 0 (tokenRows ts)) i ≡ getD ts i endToken
-                    = cc (token-in (sets tokens 0 (tokenRows ts)) n i l) in
+                    = cc (token-in (sets tokens 0 (tokenRows ts)) many i l) in
                     let small = every-at _ ts i endToken (scan-sized .values) (omega (arith, c .0)) in
                     omega (arith, ap (λ (u : Token). u .value) r, small, largest-fits);
               };
@@ -128,29 +128,29 @@ module _ (lex : Lexicon) (few : length (lex .outsides) ≤ 64) (formula : List �
 
     module _ {tokens′ words′ : List ℕ} where
       -- A scan that is not refused leaves rooms that hold its tokens and its words.
-      pub scan-holds : {n count : ℕ} → filled (Tokens n count) tokens′ words′ ≡ scanInto lex formula tokens words → Holds tokens′ words′ n count
+      pub scan-holds : {many count : ℕ} → filled (Tokens many count) tokens′ words′ ≡ scanInto lex formula tokens words → Holds tokens′ words′ many count
       unfolding scanInto
-      scan-holds {n} {count} e =
-          let a : scan lex formula .answer ≡ Tokens n count = cc in
+      scan-holds {many} {count} e =
+          let a : scan lex formula .answer ≡ Tokens many count = cc in
           let t : tokens′ ≡ sets tokens 0 (tokenRows (scan lex formula .tokens)) = cc in
           let w : words′ ≡ sets words 0 (wordPlaces 0 (scan lex formula .tokens)) = cc in
           rw (t, w) (stored a)
 
       -- A scan that is refused answers what the definition does.
-      pub scan-refused : {r : Refusal} → filled (Unscanned r) tokens′ words′ ≡ scanInto lex formula tokens words
-          → scan lex formula .answer ≡ Unscanned r
+      pub scan-refused : {refusal : Refusal} → filled (Unscanned refusal) tokens′ words′ ≡ scanInto lex formula tokens words
+          → scan lex formula .answer ≡ Unscanned refusal
       unfolding scanInto
       scan-refused e = cc
 
   -- The words of a formula have numbers below 4,160.
-  pub word-numbers-small : (i : ℕ) → getD (scan lex formula .tokens) i endToken .kind ≡ wordKind
-      → getD (scan lex formula .tokens) i endToken .value < 4160
-  word-numbers-small i k =
-      by-test (ltb i (length (scan lex formula .tokens)))
+  pub word-numbers-small : (place : ℕ) → getD (scan lex formula .tokens) place endToken .kind ≡ wordKind
+      → getD (scan lex formula .tokens) place endToken .value < 4160
+  word-numbers-small place k =
+      by-test (ltb place (length (scan lex formula .tokens)))
       (λ e.
-      let s = every-at _ (scan lex formula .tokens) i endToken (scan-spelled lex few formula) (ltb-true i _ e) k in
+      let s = every-at _ (scan lex formula .tokens) place endToken (scan-spelled lex few formula) (ltb-true place _ e) k in
       omega (arith, s .known, scan-sized .words, scan-sized .tokens))
       (λ e.
-      let z : getD (scan lex formula .tokens) i endToken ≡ endToken
-      = List·getD-eq-default (scan lex formula .tokens) endToken (ltb-false i _ e) in
+      let z : getD (scan lex formula .tokens) place endToken ≡ endToken
+      = List·getD-eq-default (scan lex formula .tokens) endToken (ltb-false place _ e) in
       absurd (omega (arith, sym (ap (λ (t : Token). t .kind) z) ∙ k)))

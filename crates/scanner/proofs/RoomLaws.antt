@@ -20,77 +20,77 @@ use Rattle.tokens.proofs.TokenLaws.{Kept, scan-kept}
 -- ------------------------------------------------------------------ tokens
 
 -- stores behind an index leave it
-sets-front : (vs room : List ℕ) (i j : ℕ) → j < i → getD (sets room i vs) j 0 ≡ getD room j 0
-sets-front [] room i j h = refl
-sets-front (v ∷ vs) room i j h =
-    sets-front vs (set room i v) (suc i) j (omega arith) ∙ getD-set-other room i j v 0 (λ e. omega (arith, e))
+sets-front : (vs room : List ℕ) (place before : ℕ) → before < place → getD (sets room place vs) before 0 ≡ getD room before 0
+sets-front [] room place before h = refl
+sets-front (v ∷ vs) room place before h =
+    sets-front vs (set room place v) (suc place) before (omega arith) ∙ getD-set-other room place before v 0 (λ e. omega (arith, e))
 
-row-front : (vs room : List ℕ) (i k : ℕ) → k * 4 + 4 ≤ i → rowOf (sets room i vs) k ≡ rowOf room k
-row-front vs room i k h =
+row-front : (vs room : List ℕ) (place row : ℕ) → row * 4 + 4 ≤ place → rowOf (sets room place vs) row ≡ rowOf room row
+row-front vs room place row h =
     rw (
-      sets-front vs room i (k * 4) (omega arith),
-      sets-front vs room i (k * 4 + 1) (omega arith),
-      sets-front vs room i (k * 4 + 2) (omega arith),
-      sets-front vs room i (k * 4 + 3) (omega arith),
+      sets-front vs room place (row * 4) (omega arith),
+      sets-front vs room place (row * 4 + 1) (omega arith),
+      sets-front vs room place (row * 4 + 2) (omega arith),
+      sets-front vs room place (row * 4 + 3) (omega arith),
     )
     refl
 
-sets-at : (vs room : List ℕ) (i v : ℕ) → i < length room → getD (sets room i (v ∷ vs)) i 0 ≡ v
-sets-at vs room i v h = sets-front vs (set room i v) (suc i) i (omega arith) ∙ getD-set-same room i v 0 h
+sets-at : (vs room : List ℕ) (place value : ℕ) → place < length room → getD (sets room place (value ∷ vs)) place 0 ≡ value
+sets-at vs room place value h = sets-front vs (set room place value) (suc place) place (omega arith) ∙ getD-set-same room place value 0 h
 
 -- the row that is stored
-four-stored : (room : List ℕ) (i a b c d : ℕ) → i + 4 ≤ length room
-    → token (getD (sets room i (a ∷ b ∷ c ∷ d ∷ [])) i 0) (getD (sets room i (a ∷ b ∷ c ∷ d ∷ [])) (i + 1) 0)
-    (getD (sets room i (a ∷ b ∷ c ∷ d ∷ [])) (i + 2) 0)
-    (getD (sets room i (a ∷ b ∷ c ∷ d ∷ [])) (i + 3) 0)
-    ≡ token a b c d
-four-stored room i a b c d h =
-    let l₁ : length (set room i a) ≡ length room = length-set room i a in
-    let l₂ : length (set (set room i a) (suc i) b) ≡ length (set room i a) = length-set (set room i a) (suc i) b in
-    let l₃ : length (set (set (set room i a) (suc i) b) (suc (suc i)) c) ≡ length (set (set room i a) (suc i) b)
-    = length-set (set (set room i a) (suc i) b) (suc (suc i)) c in
+four-stored : (room : List ℕ) (place first second third fourth : ℕ) → place + 4 ≤ length room
+    → token (getD (sets room place (first ∷ second ∷ third ∷ fourth ∷ [])) place 0)
+    (getD (sets room place (first ∷ second ∷ third ∷ fourth ∷ [])) (place + 1) 0) (getD (sets room place (first ∷ second ∷ third ∷ fourth ∷ [])) (place + 2) 0)
+    (getD (sets room place (first ∷ second ∷ third ∷ fourth ∷ [])) (place + 3) 0)
+    ≡ token first second third fourth
+four-stored room place first second third fourth h =
+    let l₁ : length (set room place first) ≡ length room = length-set room place first in
+    let l₂ : length (set (set room place first) (suc place) second) ≡ length (set room place first) = length-set (set room place first) (suc place) second in
+    let l₃ : length (set (set (set room place first) (suc place) second) (suc (suc place)) third) ≡ length (set (set room place first) (suc place) second)
+    = length-set (set (set room place first) (suc place) second) (suc (suc place)) third in
     rw (
-      add-one i,
-      add-two i,
-      add-three i,
-      sets-at (b ∷ c ∷ d ∷ []) room i a (omega arith),
-      sets-at (c ∷ d ∷ []) (set room i a) (suc i) b (omega arith),
-      sets-at (d ∷ []) (set (set room i a) (suc i) b) (suc (suc i)) c (omega arith),
-      sets-at [] (set (set (set room i a) (suc i) b) (suc (suc i)) c) (suc (suc (suc i))) d (omega arith),
+      add-one place,
+      add-two place,
+      add-three place,
+      sets-at (second ∷ third ∷ fourth ∷ []) room place first (omega arith),
+      sets-at (third ∷ fourth ∷ []) (set room place first) (suc place) second (omega arith),
+      sets-at (fourth ∷ []) (set (set room place first) (suc place) second) (suc (suc place)) third (omega arith),
+      sets-at [] (set (set (set room place first) (suc place) second) (suc (suc place)) third) (suc (suc (suc place))) fourth (omega arith),
     )
     refl
 
-row-stored : (room : List ℕ) (n : ℕ) (t : Token) → n * 4 + 4 ≤ length room → rowOf (sets room (n * 4) (rowThen t [])) n ≡ t
-row-stored room n t h = four-stored room (n * 4) (t .kind) (t .at) (t .size) (t .value) h
+row-stored : (room : List ℕ) (row : ℕ) (read-token : Token) → row * 4 + 4 ≤ length room → rowOf (sets room (row * 4) (rowThen read-token [])) row ≡ read-token
+row-stored room row read-token h = four-stored room (row * 4) (read-token .kind) (read-token .at) (read-token .size) (read-token .value) h
 
--- Token i of those that are stored from row n on stands in row n + i.
-pub row-at : (ts : List Token) (room : List ℕ) (n i : ℕ) (d : Token) → i < length ts → (n + length ts) * 4 ≤ length room
-    → rowOf (sets room (n * 4) (tokenRows ts)) (n + i) ≡ getD ts i d
-row-at [] room n i d h k = absurd (omega arith)
-row-at (t ∷ ts) room n zero d h k =
-    let z : n + 0 ≡ n = omega arith in
+-- Token `index` of those that are stored from row `start` on stands in row `start` + `index`.
+pub row-at : (ts : List Token) (room : List ℕ) (start index : ℕ) (default : Token) → index < length ts → (start + length ts) * 4 ≤ length room
+    → rowOf (sets room (start * 4) (tokenRows ts)) (start + index) ≡ getD ts index default
+row-at [] room start index default h k = absurd (omega arith)
+row-at (t ∷ ts) room start zero default h k =
+    let z : start + 0 ≡ start = omega arith in
     cc (
-      fill-rows n room t ts,
-      row-front (tokenRows ts) (sets room (n * 4) (rowThen t [])) ((n + 1) * 4) n (omega arith),
-      row-stored room n t (omega arith),
+      fill-rows start room t ts,
+      row-front (tokenRows ts) (sets room (start * 4) (rowThen t [])) ((start + 1) * 4) start (omega arith),
+      row-stored room start t (omega arith),
     )
-row-at (t ∷ ts) room n (suc i) d h k =
-    let z : n + suc i ≡ n + 1 + i = omega arith in
+row-at (t ∷ ts) room start (suc index) default h k =
+    let z : start + suc index ≡ start + 1 + index = omega arith in
     cc (
-      fill-rows n room t ts,
-      row-at ts (sets room (n * 4) (rowThen t [])) (n + 1) i d (omega arith) (omega (arith, length-sets room (n * 4) (rowThen t []))),
+      fill-rows start room t ts,
+      row-at ts (sets room (start * 4) (rowThen t [])) (start + 1) index default (omega arith) (omega (arith, length-sets room (start * 4) (rowThen t []))),
     )
 
 -- the tokens of a room, row by row
-tokens-by-row : (ts : List Token) (room : List ℕ) (j : ℕ) → ((i : ℕ) → i < length ts → rowOf room (j + i) ≡ getD ts i endToken)
-    → tokensFrom (length ts) room j ≡ ts
+tokens-by-row : (ts : List Token) (room : List ℕ) (start : ℕ) → ((index : ℕ) → index < length ts → rowOf room (start + index) ≡ getD ts index endToken)
+    → tokensFrom (length ts) room start ≡ ts
 unfolding tokensFrom
-tokens-by-row [] room j h = refl
-tokens-by-row (t ∷ ts) room j h =
+tokens-by-row [] room start h = refl
+tokens-by-row (t ∷ ts) room start h =
     cc (
-      add-zero j,
+      add-zero start,
       h 0 (omega arith),
-      tokens-by-row ts room (j + 1) (λ i l. let z : j + 1 + i ≡ j + suc i = omega arith in ap (rowOf room) z ∙ h (suc i) (omega arith)),
+      tokens-by-row ts room (start + 1) (λ i l. let z : start + 1 + i ≡ start + suc i = omega arith in ap (rowOf room) z ∙ h (suc i) (omega arith)),
     )
 
 -- The tokens that are stored are those that the room holds.
@@ -99,27 +99,27 @@ tokens-stored ts room h =
     tokens-by-row ts (sets room 0 (tokenRows ts)) 0 (λ i l. row-at ts room 0 i endToken l (omega arith))
 
 module _ (room : List ℕ) where
-  token-from : (n i at : ℕ) → at < n → getD (tokensFrom n room i) at endToken ≡ rowOf room (i + at)
+  token-from : (count start at : ℕ) → at < count → getD (tokensFrom count room start) at endToken ≡ rowOf room (start + at)
   unfolding tokensFrom
-  token-from zero i at h = absurd (omega arith)
-  token-from (suc n) i zero h = ap (rowOf room) (sym (add-zero i))
-  token-from (suc n) i (suc at) h =
-      let z : i + 1 + at ≡ i + suc at = omega arith in
-      token-from n (i + 1) at (omega arith) ∙ ap (rowOf room) z
+  token-from zero start at h = absurd (omega arith)
+  token-from (suc count) start zero h = ap (rowOf room) (sym (add-zero start))
+  token-from (suc count) start (suc at) h =
+      let z : start + 1 + at ≡ start + suc at = omega arith in
+      token-from count (start + 1) at (omega arith) ∙ ap (rowOf room) z
 
-  past-from : (n i at : ℕ) → n ≤ at → getD (tokensFrom n room i) at endToken ≡ endToken
+  past-from : (count start at : ℕ) → count ≤ at → getD (tokensFrom count room start) at endToken ≡ endToken
   unfolding tokensFrom
-  past-from zero i at h = refl
-  past-from (suc n) i zero h = absurd (omega arith)
-  past-from (suc n) i (suc at) h = past-from n (i + 1) at (omega arith)
+  past-from zero start at h = refl
+  past-from (suc count) start zero h = absurd (omega arith)
+  past-from (suc count) start (suc at) h = past-from count (start + 1) at (omega arith)
 
   -- a token that a room holds, and the end of the tokens
-  pub token-in : (n at : ℕ) → at < n → rowOf room at ≡ getD (tokensIn room n) at endToken
-  token-in n at h = ap (rowOf room) (sym (zero-add at)) ∙ sym (token-from n 0 at h)
+  pub token-in : (count at : ℕ) → at < count → rowOf room at ≡ getD (tokensIn room count) at endToken
+  token-in count at h = ap (rowOf room) (sym (zero-add at)) ∙ sym (token-from count 0 at h)
 
   -- past the tokens of a room there is the end
-  pub token-past : (n at : ℕ) → n ≤ at → endToken ≡ getD (tokensIn room n) at endToken
-  token-past n at h = sym (past-from n 0 at h)
+  pub token-past : (count at : ℕ) → count ≤ at → endToken ≡ getD (tokensIn room count) at endToken
+  token-past count at h = sym (past-from count 0 at h)
 
 -- ------------------------------------------------------------------ words
 
@@ -137,19 +137,19 @@ module _ (lex : Lexicon) (few : length (lex .outsides) ≤ 64) (formula : List �
       let z : length words ≡ count = sym (ap length e) ∙ words-length count formula room 0 in
       ap (wordsIn formula room) z ∙ e
 
-  named-token : (at n : ℕ) (words : List (List ℕ)) (t : Token) (l : Lexed) → at < length formula → n < 4096 → 0 < t .size
-      → t .at ≡ at
-      → NamedFrom (at + t .size) (n + 1) (wordsWith words (take (t .size) (drop at formula)) t) l
-      → NamedFrom at n words (withToken t l)
+  named-token : (at before : ℕ) (words : List (List ℕ)) (read-token : Token) (lexed : Lexed) → at < length formula → before < 4096 → 0 < read-token .size
+      → read-token .at ≡ at
+      → NamedFrom (at + read-token .size) (before + 1) (wordsWith words (take (read-token .size) (drop at formula)) read-token) lexed
+      → NamedFrom at before words (withToken read-token lexed)
   unfolding NamedFrom
-  named-token at n words t l h m some a p room count long later fewer e =
-      let room₁ : List ℕ = sets room (count * 2) (placeThen count t []) in
-      let w : wordsIn formula room₁ (countWith count t) ≡ wordsWith words (take (t .size) (drop at formula)) t
-      = cc (words-stored formula room count t (omega (arith, long (n + 1) (omega arith) (omega arith)))) in
+  named-token at before words read-token lexed h m some a p room count long later fewer e =
+      let room₁ : List ℕ = sets room (count * 2) (placeThen count read-token []) in
+      let w : wordsIn formula room₁ (countWith count read-token) ≡ wordsWith words (take (read-token .size) (drop at formula)) read-token
+      = cc (words-stored formula room count read-token (omega (arith, long (before + 1) (omega arith) (omega arith)))) in
       cc (
-        fill-places count room t (l .tokens),
-        p room₁ (countWith count t) (λ j b d. omega (arith, long j b d, length-sets room (count * 2) (placeThen count t []))) (omega arith)
-            (omega (arith, count-grows count t (isNew count t) refl)) w,
+        fill-places count room read-token (lexed .tokens),
+        p room₁ (countWith count read-token) (λ j b d. omega (arith, long j b d, length-sets room (count * 2) (placeThen count read-token []))) (omega arith)
+            (omega (arith, count-grows count read-token (isNew count read-token) refl)) w,
       )
 
   named-kept : Kept lex formula NamedFrom
@@ -163,7 +163,7 @@ module _ (lex : Lexicon) (few : length (lex .outsides) ≤ 64) (formula : List �
       }
 
   -- The places that a scan stores name its words in the formula.
-  pub words-named : (room : List ℕ) → ((m : ℕ) → m ≤ length formula → m ≤ 4096 → m * 2 ≤ length room)
+  pub words-named : (room : List ℕ) → ((many : ℕ) → many ≤ length formula → many ≤ 4096 → many * 2 ≤ length room)
       → wordsIn formula (sets room 0 (wordPlaces 0 (scan lex formula .tokens))) (length (scan lex formula .words)) ≡ scan lex formula .words
   unfolding NamedFrom wordsFrom
   words-named room long = scan-kept lex few formula NamedFrom named-kept room 0 long (omega arith) (omega arith) refl

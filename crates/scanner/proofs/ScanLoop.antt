@@ -30,65 +30,65 @@ fillFrom n count tokens words l =
     filled (l .answer) (sets tokens (n * 4) (tokenRows (l .tokens))) (sets words (count * 2) (wordPlaces count (l .tokens)))
 
 -- storing tokens is storing the first, then the others behind it
-pub fill-rows : (n : ℕ) (tokens : List ℕ) (t : Token) (ts : List Token)
-    → sets tokens (n * 4) (tokenRows (t ∷ ts)) ≡ sets (sets tokens (n * 4) (rowThen t [])) ((n + 1) * 4) (tokenRows ts)
+pub fill-rows : (many : ℕ) (tokens : List ℕ) (token : Token) (ts : List Token)
+    → sets tokens (many * 4) (tokenRows (token ∷ ts)) ≡ sets (sets tokens (many * 4) (rowThen token [])) ((many + 1) * 4) (tokenRows ts)
 unfolding tokenRows
-fill-rows n tokens t ts =
-    let z : suc (suc (suc (suc (n * 4)))) ≡ (n + 1) * 4 = omega arith in
+fill-rows many tokens token ts =
+    let z : suc (suc (suc (suc (many * 4)))) ≡ (many + 1) * 4 = omega arith in
     cc
 
-fill-places-by : (count : ℕ) (words : List ℕ) (t : Token) (follow : List ℕ) (new : Bool)
-    → sets words (count * 2) (elim new [ true ↦ t .at ∷ t .size ∷ follow | false ↦ follow ])
-    ≡ sets (sets words (count * 2) (elim new [ true ↦ t .at ∷ t .size ∷ [] | false ↦ [] ]))
+fill-places-by : (count : ℕ) (words : List ℕ) (token : Token) (follow : List ℕ) (new : Bool)
+    → sets words (count * 2) (elim new [ true ↦ token .at ∷ token .size ∷ follow | false ↦ follow ])
+    ≡ sets (sets words (count * 2) (elim new [ true ↦ token .at ∷ token .size ∷ [] | false ↦ [] ]))
     (elim new [ true ↦ count + 1 | false ↦ count ] * 2)
     follow
-fill-places-by count words t follow true =
+fill-places-by count words token follow true =
     let z : suc (suc (count * 2)) ≡ (count + 1) * 2 = omega arith in
     cc
-fill-places-by count words t follow false = refl
+fill-places-by count words token follow false = refl
 
 -- storing words is storing the first token's, if it is new, then the others' behind it
-pub fill-places : (count : ℕ) (words : List ℕ) (t : Token) (ts : List Token)
-    → sets words (count * 2) (wordPlaces count (t ∷ ts))
-    ≡ sets (sets words (count * 2) (placeThen count t [])) (countWith count t * 2) (wordPlaces (countWith count t) ts)
+pub fill-places : (count : ℕ) (words : List ℕ) (token : Token) (ts : List Token)
+    → sets words (count * 2) (wordPlaces count (token ∷ ts))
+    ≡ sets (sets words (count * 2) (placeThen count token [])) (countWith count token * 2) (wordPlaces (countWith count token) ts)
 unfolding wordPlaces
-fill-places count words t ts = fill-places-by count words t (wordPlaces (countWith count t) ts) (isNew count t)
+fill-places count words token ts = fill-places-by count words token (wordPlaces (countWith count token) ts) (isNew count token)
 
-fill-token : (n count : ℕ) (tokens words : List ℕ) (t : Token) (l : Lexed)
-    → fillFrom n count tokens words (withToken t l)
-    ≡ fillFrom (n + 1) (countWith count t) (sets tokens (n * 4) (rowThen t [])) (sets words (count * 2) (placeThen count t [])) l
-fill-token n count tokens words t l =
-    ap₂ (filled (l .answer)) (fill-rows n tokens t (l .tokens)) (fill-places count words t (l .tokens))
+fill-token : (many count : ℕ) (tokens words : List ℕ) (token : Token) (lexed : Lexed)
+    → fillFrom many count tokens words (withToken token lexed)
+    ≡ fillFrom (many + 1) (countWith count token) (sets tokens (many * 4) (rowThen token [])) (sets words (count * 2) (placeThen count token [])) lexed
+fill-token many count tokens words token lexed =
+    ap₂ (filled (lexed .answer)) (fill-rows many tokens token (lexed .tokens)) (fill-places count words token (lexed .tokens))
 
 -- a token adds one word at most
-pub count-grows : (count : ℕ) (t : Token) (new : Bool) → isNew count t ≡ new → countWith count t ≤ count + 1
-count-grows count t true e = rw (e, countWith) (omega arith)
-count-grows count t false e = rw (e, countWith) (omega arith)
+pub count-grows : (count : ℕ) (token : Token) (new : Bool) → isNew count token ≡ new → countWith count token ≤ count + 1
+count-grows count token true e = rw (e, countWith) (omega arith)
+count-grows count token false e = rw (e, countWith) (omega arith)
 
 -- ------------------------------------------------------------------ the loop
 
--- n tokens and `count` words of the bytes before `at` are stored, and what is left gives what the whole gives
-pub record Turn (lex : Lexicon) (formula tokens₀ words₀ tokens words : List ℕ) (at n count : ℕ) : Type 0 where
+-- `many` tokens and `count` words of the bytes before `at` are stored, and what is left gives what the whole gives
+pub record Turn (lex : Lexicon) (formula tokens₀ words₀ tokens words : List ℕ) (at many count : ℕ) : Type 0 where
   -- a bound on the bytes left
   pub fuel : ℕ
   -- it is large enough
   pub enough : length formula ≤ at + fuel
   -- there are at most 4,096 tokens
-  pub small : n ≤ 4096
+  pub small : many ≤ 4096
   -- there are no more words than tokens
-  pub few : count ≤ n
+  pub few : count ≤ many
   -- there are no more tokens than bytes passed
-  pub passed : n ≤ at
+  pub passed : many ≤ at
   -- what is left, stored behind what was found, fills the rooms as the whole does
   pub rest :
-      fillFrom n count tokens words (lexFrom fuel lex at (drop at formula) n (wordsIn formula words count))
+      fillFrom many count tokens words (lexFrom fuel lex at (drop at formula) many (wordsIn formula words count))
       ≡ scanInto lex formula tokens₀ words₀
 
 -- the rooms after the whole, by what the scan is
-into : (lex : Lexicon) (formula tokens words : List ℕ) (l : Lexed) → scan lex formula ≡ l
-    → fillFrom 0 0 tokens words l ≡ scanInto lex formula tokens words
+into : (lex : Lexicon) (formula tokens words : List ℕ) (lexed : Lexed) → scan lex formula ≡ lexed
+    → fillFrom 0 0 tokens words lexed ≡ scanInto lex formula tokens words
 unfolding scanInto
-into lex formula tokens words l e = ap (fillFrom 0 0 tokens words) (sym e)
+into lex formula tokens words lexed e = ap (fillFrom 0 0 tokens words) (sym e)
 
 -- 14 leaves the rooms as they were
 pub too-long : (lex : Lexicon) (formula tokens words : List ℕ) → 65535 < length formula
@@ -110,31 +110,31 @@ turn-start lex formula tokens words h =
       rest = into lex formula tokens words _ (scan-short lex formula h);
     }
 
-module _ {lex : Lexicon} {formula tokens₀ words₀ tokens words : List ℕ} {at n count : ℕ}
-    (c : Turn lex formula tokens₀ words₀ tokens words at n count) where
+module _ {lex : Lexicon} {formula tokens₀ words₀ tokens words : List ℕ} {at many count : ℕ}
+    (turn : Turn lex formula tokens₀ words₀ tokens words at many count) where
   -- what is left is what it is by the step at its front
-  rest-by : at < length formula → (r : Step) → r ≡ stepOf lex (wordsIn formula words count) at (drop at formula)
-      → fillFrom n count tokens words (after (c .fuel - 1) lex at (drop at formula) n (wordsIn formula words count) r)
+  rest-by : at < length formula → (step : Step) → step ≡ stepOf lex (wordsIn formula words count) at (drop at formula)
+      → fillFrom many count tokens words (after (turn .fuel - 1) lex at (drop at formula) many (wordsIn formula words count) step)
       ≡ scanInto lex formula tokens₀ words₀
-  rest-by h r e =
-      let z : c .fuel ≡ suc (c .fuel - 1) = omega (arith, c .enough) in
+  rest-by h step e =
+      let z : turn .fuel ≡ suc (turn .fuel - 1) = omega (arith, turn .enough) in
       let some : 0 < length (drop at formula) = omega (arith, length-drop at formula) in
-      ap (fillFrom n count tokens words)
+      ap (fillFrom many count tokens words)
       (sym
-      (ap (λ (k : ℕ). lexFrom k lex at (drop at formula) n (wordsIn formula words count)) z
-      ∙ lex-step (c .fuel - 1) lex at (drop at formula) n (wordsIn formula words count) r some e))
-      ∙ c .rest
+      (ap (λ (k : ℕ). lexFrom k lex at (drop at formula) many (wordsIn formula words count)) z
+      ∙ lex-step (turn .fuel - 1) lex at (drop at formula) many (wordsIn formula words count) step some e))
+      ∙ turn .rest
 
   -- a separator is passed
   pub turn-skip : at < length formula → Skip ≡ stepOf lex (wordsIn formula words count) at (drop at formula)
-      → Turn lex formula tokens₀ words₀ tokens words (at + 1) n count
+      → Turn lex formula tokens₀ words₀ tokens words (at + 1) many count
   turn-skip h e =
       record {
-        fuel = c .fuel - 1;
-        enough = omega (arith, c .enough);
-        small = c .small;
-        few = c .few;
-        passed = omega (arith, c .passed);
+        fuel = turn .fuel - 1;
+        enough = omega (arith, turn .enough);
+        small = turn .small;
+        few = turn .few;
+        passed = omega (arith, turn .passed);
         rest = rw drop-drop at (rest-by h Skip e);
       }
 
@@ -144,79 +144,79 @@ module _ {lex : Lexicon} {formula tokens₀ words₀ tokens words : List ℕ} {a
   unfolding tokenRows wordPlaces
   turn-stop h e = rest-by h Stop e
 
-  module _ (h : at < length formula) {t : Token} (e : Emit t ≡ stepOf lex (wordsIn formula words count) at (drop at formula)) where
+  module _ (below : at < length formula) {token : Token} (equal : Emit token ≡ stepOf lex (wordsIn formula words count) at (drop at formula)) where
     -- what is left, by whether there may be one more token
-    rest-emit : (more : Bool) → ltb n mostTokens ≡ more
-        → fillFrom n count tokens words (emitted (c .fuel - 1) lex at (drop at formula) n (wordsIn formula words count) t more)
+    rest-emit : (more : Bool) → ltb many mostTokens ≡ more
+        → fillFrom many count tokens words (emitted (turn .fuel - 1) lex at (drop at formula) many (wordsIn formula words count) token more)
         ≡ scanInto lex formula tokens₀ words₀
     rest-emit more f =
-        cc (rest-by h (Emit t) e)
+        cc (rest-by below (Emit token) equal)
 
-    lies : (t .at ≡ at) × (0 < t .size) × (t .size ≤ length (drop at formula))
+    lies : (token .at ≡ at) × (0 < token .size) × (token .size ≤ length (drop at formula))
     lies =
-        step-lies lex (wordsIn formula words count) at (drop at formula) (Emit t) (omega (arith, length-drop at formula)) e
+        step-lies lex (wordsIn formula words count) at (drop at formula) (Emit token) (omega (arith, length-drop at formula)) equal
 
     -- past a token fewer bytes are left
-    pub turn-less : length formula - (at + t .size) < length formula - at
+    pub turn-less : length formula - (at + token .size) < length formula - at
     turn-less = omega (arith, lies .1)
 
     -- a token after 4,096 others gives 16
-    pub turn-full : n ≡ 4096 → filled (Unscanned (refusal 16 0 0 0)) tokens words ≡ scanInto lex formula tokens₀ words₀
+    pub turn-full : many ≡ 4096 → filled (Unscanned (refusal 16 0 0 0)) tokens words ≡ scanInto lex formula tokens₀ words₀
     unfolding tokenRows wordPlaces
-    turn-full z = rest-emit false (le-ltb n mostTokens (omega arith))
+    turn-full z = rest-emit false (le-ltb many mostTokens (omega arith))
 
-    module _ (z : n ≡ 4096 → ⊥) (room : count * 2 + 2 ≤ length words) where
+    module _ (not-full : many ≡ 4096 → ⊥) (room : count * 2 + 2 ≤ length words) where
       -- the rooms with the token and its word
       tokens₁ : List ℕ
-      tokens₁ = sets tokens (n * 4) (rowThen t [])
+      tokens₁ = sets tokens (many * 4) (rowThen token [])
 
       words₁ : List ℕ
-      words₁ = sets words (count * 2) (placeThen count t [])
+      words₁ = sets words (count * 2) (placeThen count token [])
 
-      less : n < 4096
-      less = omega (arith, c .small, z)
+      less : many < 4096
+      less = omega (arith, turn .small, not-full)
 
-      left-is : lexFrom (c .fuel - 1) lex (at + t .size) (drop (t .size) (drop at formula)) (n + 1)
-          (wordsWith (wordsIn formula words count) (take (t .size) (drop at formula)) t)
-          ≡ lexFrom (c .fuel - 1) lex (at + t .size) (drop (at + t .size) formula) (n + 1) (wordsIn formula words₁ (countWith count t))
+      left-is : lexFrom (turn .fuel - 1) lex (at + token .size) (drop (token .size) (drop at formula)) (many + 1)
+          (wordsWith (wordsIn formula words count) (take (token .size) (drop at formula)) token)
+          ≡ lexFrom (turn .fuel - 1) lex (at + token .size) (drop (at + token .size) formula) (many + 1) (wordsIn formula words₁ (countWith count token))
       unfolding words₁
       left-is =
-          let w : wordsIn formula (sets words (count * 2) (placeThen count t [])) (countWith count t)
-          ≡ wordsWith (wordsIn formula words count) (take (t .size) (drop (t .at) formula)) t
-          = words-stored formula words count t (omega (arith, room)) in
-          cc (drop-drop (t .size) at formula, lies .0)
+          let w : wordsIn formula (sets words (count * 2) (placeThen count token [])) (countWith count token)
+          ≡ wordsWith (wordsIn formula words count) (take (token .size) (drop (token .at) formula)) token
+          = words-stored formula words count token (omega (arith, room)) in
+          cc (drop-drop (token .size) at formula, lies .0)
 
-      rest-next : fillFrom (n + 1) (countWith count t) tokens₁ words₁
-          (lexFrom (c .fuel - 1) lex (at + t .size) (drop (at + t .size) formula) (n + 1) (wordsIn formula words₁ (countWith count t)))
+      rest-next : fillFrom (many + 1) (countWith count token) tokens₁ words₁
+          (lexFrom (turn .fuel - 1) lex (at + token .size) (drop (at + token .size) formula) (many + 1) (wordsIn formula words₁ (countWith count token)))
           ≡ scanInto lex formula tokens₀ words₀
       unfolding tokens₁ words₁
       rest-next =
-          ap (fillFrom (n + 1) (countWith count t) tokens₁ words₁) (sym left-is)
+          ap (fillFrom (many + 1) (countWith count token) tokens₁ words₁) (sym left-is)
           ∙ sym
-          (fill-token n count tokens words t
-          (lexFrom (c .fuel - 1) lex (at + t .size) (drop (t .size) (drop at formula)) (n + 1)
-          (wordsWith (wordsIn formula words count) (take (t .size) (drop at formula)) t)))
-          ∙ rest-emit true (lt-ltb n mostTokens less)
+          (fill-token many count tokens words token
+          (lexFrom (turn .fuel - 1) lex (at + token .size) (drop (token .size) (drop at formula)) (many + 1)
+          (wordsWith (wordsIn formula words count) (take (token .size) (drop at formula)) token)))
+          ∙ rest-emit true (lt-ltb many mostTokens less)
 
       -- a token and its word are stored
-      pub turn-emit : {tokens′ words′ : List ℕ} {count′ : ℕ} → tokens′ ≡ sets tokens (n * 4) (rowThen t [])
-          → words′ ≡ sets words (count * 2) (placeThen count t [])
-          → count′ ≡ countWith count t
-          → Turn lex formula tokens₀ words₀ tokens′ words′ (at + t .size) (n + 1) count′
+      pub turn-emit : {tokens′ words′ : List ℕ} {count′ : ℕ} → tokens′ ≡ sets tokens (many * 4) (rowThen token [])
+          → words′ ≡ sets words (count * 2) (placeThen count token [])
+          → count′ ≡ countWith count token
+          → Turn lex formula tokens₀ words₀ tokens′ words′ (at + token .size) (many + 1) count′
       unfolding tokens₁ words₁
       turn-emit {tokens′} {words′} {count′} et ew ec =
-          let en : 0 < t .size = lies .1 in
+          let en : 0 < token .size = lies .1 in
           record {
-            fuel = c .fuel - 1;
-            enough = omega (arith, c .enough, en);
+            fuel = turn .fuel - 1;
+            enough = omega (arith, turn .enough, en);
             small = omega (arith, less);
-            few = omega (arith, c .few, count-grows count t (isNew count t) refl);
-            passed = omega (arith, c .passed, en);
+            few = omega (arith, turn .few, count-grows count token (isNew count token) refl);
+            passed = omega (arith, turn .passed, en);
             rest = rw (et, ew, ec) rest-next;
           }
 
   -- where nothing is left, the rooms are filled and the scan accepts
-  pub turn-end : length formula ≤ at → filled (Tokens n count) tokens words ≡ scanInto lex formula tokens₀ words₀
+  pub turn-end : length formula ≤ at → filled (Tokens many count) tokens words ≡ scanInto lex formula tokens₀ words₀
   unfolding tokenRows wordPlaces
   turn-end h =
-      cc (words-length count formula words 0, lex-end (c .fuel) lex at n (wordsIn formula words count), drop-of-length-le formula h, c .rest)
+      cc (words-length count formula words 0, lex-end (turn .fuel) lex at many (wordsIn formula words count), drop-of-length-le formula h, turn .rest)

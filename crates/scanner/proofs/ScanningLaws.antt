@@ -25,15 +25,15 @@ use Rattle.tokens.proofs.StepLaws.{step-lies}
 use Rattle.scanner.proofs.ScanLoop.{Turn, turn-start, turn-skip, turn-emit, count-grows}
 
 -- where the scan stands, with the words met in their trees and the rooms as long as they were
-pub record Scanning (table room tree formula tokens₀ words₀ links₀ tokens words links : List ℕ) (mask at n count : ℕ) : Type 0 where
+pub record Scanning (table room tree formula tokens₀ words₀ links₀ tokens words links : List ℕ) (mask at many count : ℕ) : Type 0 where
   -- what is left gives what the whole gives
-  pub turn : Turn (lexiconOf table) formula tokens₀ words₀ tokens words at n count
+  pub turn : Turn (lexiconOf table) formula tokens₀ words₀ tokens words at many count
   -- the lexicon and the words met can be searched
   pub ready : Ready table room tree formula words links mask count
   -- the rooms for tokens and words are long enough
   pub room-for : RoomFor formula tokens words
   -- so is the room for links
-  pub enough : (m : ℕ) → m ≤ length formula → m ≤ 4096 → mask + 1 + m * 2 ≤ length links
+  pub enough : (size : ℕ) → size ≤ length formula → size ≤ 4096 → mask + 1 + size * 2 ≤ length links
   -- the formula is not too long
   pub short : length formula < 65536
   -- the room for tokens keeps its length
@@ -67,141 +67,141 @@ scanning-start {table} {formula = formula} {tokens = tokens} {words = words} {li
       links-same = refl;
     }
 
-module _ {table room tree formula tokens₀ words₀ links₀ tokens words links : List ℕ} {mask at n count : ℕ}
-    (c : Scanning table room tree formula tokens₀ words₀ links₀ tokens words links mask at n count) (h : at < length formula) {r : Made}
-    (p : Stepped (lexiconOf table) mask (wordsIn formula words count) links at (drop at formula) r) where
-  step-eq : {step : Step} → r .step ≡ step → step ≡ stepOf (lexiconOf table) (wordsIn formula words count) at (drop at formula)
-  step-eq e = sym e ∙ p .step-is
+module _ {table room tree formula tokens₀ words₀ links₀ tokens words links : List ℕ} {mask at many count : ℕ}
+    (scanning : Scanning table room tree formula tokens₀ words₀ links₀ tokens words links mask at many count) (under : at < length formula) {made : Made}
+    (stepped : Stepped (lexiconOf table) mask (wordsIn formula words count) links at (drop at formula) made) where
+  step-eq : {step : Step} → made .step ≡ step → step ≡ stepOf (lexiconOf table) (wordsIn formula words count) at (drop at formula)
+  step-eq e = sym e ∙ stepped .step-is
 
   -- the step found is the definition's: a stop
-  pub stop-eq : r .step ≡ Stop → Stop ≡ stepOf (lexiconOf table) (wordsIn formula words count) at (drop at formula)
+  pub stop-eq : made .step ≡ Stop → Stop ≡ stepOf (lexiconOf table) (wordsIn formula words count) at (drop at formula)
   stop-eq e = step-eq e
 
   -- a separator is passed
-  pub scanning-skip : r .step ≡ Skip → Scanning table room tree formula tokens₀ words₀ links₀ tokens words links mask (at + 1) n count
+  pub scanning-skip : made .step ≡ Skip → Scanning table room tree formula tokens₀ words₀ links₀ tokens words links mask (at + 1) many count
   scanning-skip e =
       record {
-        turn = turn-skip (c .turn) h (step-eq e);
-        ready = c .ready;
-        room-for = c .room-for;
-        enough = c .enough;
-        short = c .short;
-        tokens-same = c .tokens-same;
-        words-same = c .words-same;
-        links-same = c .links-same;
+        turn = turn-skip (scanning .turn) under (step-eq e);
+        ready = scanning .ready;
+        room-for = scanning .room-for;
+        enough = scanning .enough;
+        short = scanning .short;
+        tokens-same = scanning .tokens-same;
+        words-same = scanning .words-same;
+        links-same = scanning .links-same;
       }
 
-  module _ {t : Token} (e : r .step ≡ Emit t) where
+  module _ {token : Token} (equal : made .step ≡ Emit token) where
     -- the step found is the definition's: this token
-    pub emit-eq : Emit t ≡ stepOf (lexiconOf table) (wordsIn formula words count) at (drop at formula)
-    emit-eq = step-eq e
+    pub emit-eq : Emit token ≡ stepOf (lexiconOf table) (wordsIn formula words count) at (drop at formula)
+    emit-eq = step-eq equal
 
     counted : length (wordsIn formula words count) ≡ count
     counted = words-length count formula words 0
 
     -- the token is a new word exactly if a link is free for it
-    pub spot-agrees : Agrees count t (r .spot)
-    spot-agrees = rw (counted) at (p .agrees t e)
+    pub spot-agrees : Agrees count token (made .spot)
+    spot-agrees = rw (counted) at (stepped .agrees token equal)
 
     s : List ℕ
-    s = take (t .size) (drop at formula)
+    s = take (token .size) (drop at formula)
 
     free-inside : (spot : Spot) → FreeIn mask (wordsIn formula words count) links s spot → Linkable links spot
     free-inside (Node i) f = tt
-    free-inside (Free slot) f = omega (arith, f .below, counted, c .ready .linked)
+    free-inside (Free slot) f = omega (arith, f .below, counted, scanning .ready .linked)
 
     -- a free link is one of the room's
-    pub spot-linkable : Linkable links (r .spot)
+    pub spot-linkable : Linkable links (made .spot)
     unfolding s
-    spot-linkable = free-inside (r .spot) (p .free t e)
+    spot-linkable = free-inside (made .spot) (stepped .free token equal)
 
-    lies : (t .at ≡ at) × (0 < t .size) × (t .size ≤ length (drop at formula))
-    lies = step-lies (lexiconOf table) (wordsIn formula words count) at (drop at formula) (Emit t) (omega (arith, length-drop at formula)) emit-eq
+    lies : (token .at ≡ at) × (0 < token .size) × (token .size ≤ length (drop at formula))
+    lies = step-lies (lexiconOf table) (wordsIn formula words count) at (drop at formula) (Emit token) (omega (arith, length-drop at formula)) emit-eq
 
     -- the token ends inside the formula
-    pub token-inside : at + t .size ≤ length formula
+    pub token-inside : at + token .size ≤ length formula
     token-inside = omega (arith, lies .2, length-drop at formula)
 
-    module _ (z : n ≡ 4096 → ⊥) where
-      below : n < 4096
-      below = omega (arith, c .turn .small, z)
+    module _ (not-full : many ≡ 4096 → ⊥) where
+      below : many < 4096
+      below = omega (arith, scanning .turn .small, not-full)
 
       -- there is room for its row
-      pub row-inside : n * 4 + 4 ≤ length tokens
-      row-inside = omega (arith, c .room-for .for-tokens (n + 1) (omega (arith, c .turn .passed)) (omega (arith, below)))
+      pub row-inside : many * 4 + 4 ≤ length tokens
+      row-inside = omega (arith, scanning .room-for .for-tokens (many + 1) (omega (arith, scanning .turn .passed)) (omega (arith, below)))
 
       -- there is room for its word's place
       pub place-inside : count * 2 + 2 ≤ length words
       place-inside =
-          omega (arith, c .turn .few, c .room-for .for-words (n + 1) (omega (arith, c .turn .passed)) (omega (arith, below)))
+          omega (arith, scanning .turn .few, scanning .room-for .for-words (many + 1) (omega (arith, scanning .turn .passed)) (omega (arith, below)))
 
       -- the words met are fewer than 4,096
       pub few-inside : count < 4096
-      few-inside = omega (arith, c .turn .few, below)
+      few-inside = omega (arith, scanning .turn .few, below)
 
       -- the trees after the token
-      tree-after : (spot : Spot) → Agrees count t spot → FreeIn mask (wordsIn formula words count) links s spot
-          → SearchTree mask (wordsWith (wordsIn formula words count) s t) (linksWith links spot count)
+      tree-after : (spot : Spot) → Agrees count token spot → FreeIn mask (wordsIn formula words count) links s spot
+          → SearchTree mask (wordsWith (wordsIn formula words count) s token) (linksWith links spot count)
       tree-after (Node i) a f =
-          rw (with-old (wordsIn formula words count) s t (rw (counted, a) refl)) (c .ready .met)
+          rw (with-old (wordsIn formula words count) s token (rw (counted, a) refl)) (scanning .ready .met)
       tree-after (Free slot) a f =
-          rw (with-new (wordsIn formula words count) s t (rw (counted, a) refl))
-          (tree-more (c .ready .met) s f (free-inside (Free slot) f) (rw (counted) refl))
+          rw (with-new (wordsIn formula words count) s token (rw (counted, a) refl))
+          (tree-more (scanning .ready .met) s f (free-inside (Free slot) f) (rw (counted) refl))
 
-      module _ {tokens′ words′ links′ : List ℕ} {count′ : ℕ} (et : tokens′ ≡ sets tokens (n * 4) (rowThen t []))
-          (ew : words′ ≡ sets words (count * 2) (placeThen count t []))
-          (el : links′ ≡ linksWith links (r .spot) count)
-          (ec : count′ ≡ countWith count t) where
-        words-after : wordsIn formula words′ count′ ≡ wordsWith (wordsIn formula words count) s t
+      module _ {tokens′ words′ links′ : List ℕ} {count′ : ℕ} (et : tokens′ ≡ sets tokens (many * 4) (rowThen token []))
+          (ew : words′ ≡ sets words (count * 2) (placeThen count token []))
+          (el : links′ ≡ linksWith links (made .spot) count)
+          (ec : count′ ≡ countWith count token) where
+        words-after : wordsIn formula words′ count′ ≡ wordsWith (wordsIn formula words count) s token
         unfolding s
         words-after =
-            rw (ew, ec) (words-stored formula words count t (omega (arith, place-inside)))
-            ∙ ap (λ (i : ℕ). wordsWith (wordsIn formula words count) (take (t .size) (drop i formula)) t) (lies .0)
+            rw (ew, ec) (words-stored formula words count token (omega (arith, place-inside)))
+            ∙ ap (λ (i : ℕ). wordsWith (wordsIn formula words count) (take (token .size) (drop i formula)) token) (lies .0)
 
         same-words : length words′ ≡ length words
-        same-words = ap length ew ∙ length-sets words (count * 2) (placeThen count t [])
+        same-words = ap length ew ∙ length-sets words (count * 2) (placeThen count token [])
 
         same-tokens : length tokens′ ≡ length tokens
-        same-tokens = ap length et ∙ length-sets tokens (n * 4) (rowThen t [])
+        same-tokens = ap length et ∙ length-sets tokens (many * 4) (rowThen token [])
 
         same-links : length links′ ≡ length links
-        same-links = ap length el ∙ links-long links (r .spot) count
+        same-links = ap length el ∙ links-long links (made .spot) count
 
-        few-after : count′ ≤ n + 1
-        few-after = omega (arith, ec, count-grows count t (isNew count t) refl, c .turn .few)
+        few-after : count′ ≤ many + 1
+        few-after = omega (arith, ec, count-grows count token (isNew count token) refl, scanning .turn .few)
 
         -- the token, its word and its link are stored
-        pub scanning-emit : Scanning table room tree formula tokens₀ words₀ links₀ tokens′ words′ links′ mask (at + t .size) (n + 1) count′
+        pub scanning-emit : Scanning table room tree formula tokens₀ words₀ links₀ tokens′ words′ links′ mask (at + token .size) (many + 1) count′
         unfolding s
         scanning-emit =
-            let bound = c .turn .passed in
+            let bound = scanning .turn .passed in
             record {
-              turn = turn-emit (c .turn) h emit-eq z place-inside et ew ec;
+              turn = turn-emit (scanning .turn) under emit-eq not-full place-inside et ew ec;
               ready =
                   record {
-                    lexical = c .ready .lexical;
-                    met = rw (words-after, el) (tree-after (r .spot) spot-agrees (p .free t e));
+                    lexical = scanning .ready .lexical;
+                    met = rw (words-after, el) (tree-after (made .spot) spot-agrees (stepped .free token equal));
                     few = omega (arith, few-after, below);
                     placed =
                         omega
-                        (arith, few-after, same-words, c .room-for .for-words (n + 1) (omega (arith, bound)) (omega (arith, below)));
-                    linked = omega (arith, few-after, same-links, c .enough (n + 1) (omega (arith, bound)) (omega (arith, below)));
+                        (arith, few-after, same-words, scanning .room-for .for-words (many + 1) (omega (arith, bound)) (omega (arith, below)));
+                    linked = omega (arith, few-after, same-links, scanning .enough (many + 1) (omega (arith, bound)) (omega (arith, below)));
                   };
               room-for =
                   record {
-                    for-tokens = λ m a b. omega (arith, c .room-for .for-tokens m a b, same-tokens);
-                    for-words = λ m a b. omega (arith, c .room-for .for-words m a b, same-words);
+                    for-tokens = λ m a b. omega (arith, scanning .room-for .for-tokens m a b, same-tokens);
+                    for-words = λ m a b. omega (arith, scanning .room-for .for-words m a b, same-words);
                   };
-              enough = λ m a b. omega (arith, c .enough m a b, same-links);
-              short = c .short;
-              tokens-same = same-tokens ∙ c .tokens-same;
-              words-same = same-words ∙ c .words-same;
-              links-same = same-links ∙ c .links-same;
+              enough = λ m a b. omega (arith, scanning .enough m a b, same-links);
+              short = scanning .short;
+              tokens-same = same-tokens ∙ scanning .tokens-same;
+              words-same = same-words ∙ scanning .words-same;
+              links-same = same-links ∙ scanning .links-same;
             }
 
 -- a room of zeros that is long enough is ready for a scan's links
 pub scannable : (formula : List ℕ) (mask room : ℕ) → length formula < 65536
-    → ((n : ℕ) → n ≤ length formula → n ≤ 4096 → mask + 1 + n * 2 ≤ room)
+    → ((size : ℕ) → size ≤ length formula → size ≤ 4096 → mask + 1 + size * 2 ≤ room)
     → Scannable formula (replicate room 0) mask
 scannable formula mask room short enough =
     record {

@@ -47,13 +47,13 @@ abbrev faultBy : Bool → Bool → ℕ
 faultBy closed filled = choose (choose 0 11 filled) 9 closed
 
 call-by :
-    (at s : ℕ) (defined closed filled : Bool)
-    → sortedAt at (choose (Unsorted 9) (unlessFault s (faultBy closed filled)) (not defined))
-    ≡ (need (defined && closed) 9 at >> need filled 11 at >> ok s)
-call-by at s true true true = refl
-call-by at s true true false = refl
-call-by at s true false filled = refl
-call-by at s false closed filled = refl
+    (at sort : ℕ) (defined closed filled : Bool)
+    → sortedAt at (choose (Unsorted 9) (unlessFault sort (faultBy closed filled)) (not defined))
+    ≡ (need (defined && closed) 9 at >> need filled 11 at >> ok sort)
+call-by at sort true true true = refl
+call-by at sort true true false = refl
+call-by at sort true false filled = refl
+call-by at sort false closed filled = refl
 
 result-by : (at : ℕ) (closed filled : Bool) → verdictOf at (faultBy closed filled) ≡ verdict (need closed 9 at >> need filled 11 at)
 result-by at true true = refl
@@ -66,34 +66,34 @@ root-by at true true = refl
 root-by at true false = refl
 root-by at false fitting = refl
 
-module _ (bs : List ℕ) (G : Scope) (H : List ℕ) (knows : (n : ℕ) → n < 64 → Knows bs (G .env) H n) where
-  missing : (n : ℕ) → n < 64 → eqb (getD H n 0) 0 ≡ not (isDefined (G .env) n)
-  missing n l = zero-test (getD H n 0) ∙ ap not (knows n l .defined)
+module _ (bs : List ℕ) (scope : Scope) (heads : List ℕ) (knows : (nonterminal : ℕ) → nonterminal < 64 → Knows bs (scope .env) heads nonterminal) where
+  missing : (nonterminal : ℕ) → nonterminal < 64 → eqb (getD heads nonterminal 0) 0 ≡ not (isDefined (scope .env) nonterminal)
+  missing nonterminal l = zero-test (getD heads nonterminal 0) ∙ ap not (knows nonterminal l .defined)
 
-  module _ (h : ℕ) (L : List ℕ) (at : ℕ) where
+  module _ (head : ℕ) (L : List ℕ) (at : ℕ) where
     -- ------------------------------------------------------------------ calls and items
 
     call-agrees :
-        (n : ℕ) {ts : Templates} → n < 64 → TemplatesWithin ts
-        → sortedAt at (callAt bs (contextOf G h H L) n (templatesThen ts [])) ≡ checkItem G L at (call n ts)
+        (nonterminal : ℕ) {ts : Templates} → nonterminal < 64 → TemplatesWithin ts
+        → sortedAt at (callAt bs (contextOf scope head heads L) nonterminal (templatesThen ts [])) ≡ checkItem scope L at (call nonterminal ts)
     unfolding callAt templatesFault
-    call-agrees n {ts} l w =
+    call-agrees nonterminal {ts} l w =
         let args : List ℕ = templatesThen ts [] in
-        let closed : Bool = areClosed ts G (length L) in
-        let S : Signature = signatureOf (G .env) n in
-        let sig : List ℕ = signatureAt bs (getD H n 0) in
-        let known = missing n l in
-        let within = closed-bytes G (length L) args ts (read-templates w) in
-        let tests = call-by at (getD sig 0 0) (isDefined (G .env) n) closed (fillBytes false args L (drop 1 sig)) in
-        by-test (isDefined (G .env) n) (λ e. cc (knows n l .shown e, fill-bytes L args ts (S .params) (read-templates w))) (λ e. cc)
+        let closed : Bool = areClosed ts scope (length L) in
+        let S : Signature = signatureOf (scope .env) nonterminal in
+        let sig : List ℕ = signatureAt bs (getD heads nonterminal 0) in
+        let known = missing nonterminal l in
+        let within = closed-bytes scope (length L) args ts (read-templates w) in
+        let tests = call-by at (getD sig 0 0) (isDefined (scope .env) nonterminal) closed (fillBytes false args L (drop 1 sig)) in
+        by-test (isDefined (scope .env) nonterminal) (λ e. cc (knows nonterminal l .shown e, fill-bytes L args ts (S .params) (read-templates w))) (λ e. cc)
 
-    keyword-agrees : (t : Bool) → sortedAt at (choose (As 0) (Unsorted 9) t) ≡ (need t 9 at >> ok 0)
+    keyword-agrees : (test : Bool) → sortedAt at (choose (As 0) (Unsorted 9) test) ≡ (need test 9 at >> ok 0)
     keyword-agrees true = refl
     keyword-agrees false = refl
 
-    value-agrees : {i : Item} → ItemWithin i → sortedAt at (itemAt bs (contextOf G h H L) (itemValue i)) ≡ checkItem G L at i
+    value-agrees : {item : Item} → ItemWithin item → sortedAt at (itemAt bs (contextOf scope head heads L) (itemValue item)) ≡ checkItem scope L at item
     unfolding itemAt itemValue
-    value-agrees (keyword-within {k} l) = keyword-agrees (ltb k (G .keywords))
+    value-agrees (keyword-within {k} l) = keyword-agrees (ltb k (scope .keywords))
     value-agrees (ide-within l k) = refl
     value-agrees number-within = refl
     value-agrees local-within = refl
@@ -101,47 +101,48 @@ module _ (bs : List ℕ) (G : Scope) (H : List ℕ) (knows : (n : ℕ) → n < 6
 
     -- an item's bytes are checked as the item
     pub item-agrees :
-        (v : List ℕ) → Bytes v → isKnown 6 v ≡ true → isWhole 6 v ≡ true
-        → sortedAt at (itemAt bs (contextOf G h H L) v) ≡ checkItem G L at (itemOf v)
-    item-agrees v b k w =
-        let i = item-value v b k w in
+        (value : List ℕ) → Bytes value → isKnown 6 value ≡ true → isWhole 6 value ≡ true
+        → sortedAt at (itemAt bs (contextOf scope head heads L) value) ≡ checkItem scope L at (itemOf value)
+    item-agrees value b k w =
+        let i = item-value value b k w in
         cc (i .1, value-agrees (i .2), item-read (i .2))
 
     -- ------------------------------------------------------------------ results
 
     -- a result's bytes are checked as the template
     pub result-agrees :
-        (S : Signature) (v : List ℕ) → signatureAt bs h ≡ S .result ∷ S .params → Bytes v → isWhole 7 v ≡ true
-        → verdictOf at (resultAt bs (contextOf G h H L) v) ≡ verdict (checkResult G L (S .result) at (headTemplate (found (templatesOf v))))
+        (S : Signature) (value : List ℕ) → signatureAt bs head ≡ S .result ∷ S .params → Bytes value → isWhole 7 value ≡ true
+        → verdictOf at (resultAt bs (contextOf scope head heads L) value)
+        ≡ verdict (checkResult scope L (S .result) at (headTemplate (found (templatesOf value))))
     unfolding resultAt templatesFault areClosed fill
-    result-agrees S v e b w =
+    result-agrees S value e b w =
         let B : ℕ = S .result in
-        let r = result-value v b w in
+        let r = result-value value b w in
         let t : Template = r .0 in
         let one = read-template (r .2) in
         cc (
           r .1,
-          closed-bytes G (length L) (templateThen t []) (more t none) one,
-          and-true (isClosed t G (length L)),
+          closed-bytes scope (length L) (templateThen t []) (more t none) one,
+          and-true (isClosed t scope (length L)),
           fill-bytes L (templateThen t []) (more t none) (B ∷ []) one,
           and-true (isSorted t L && fits (sortOf t L) B),
-          result-by at (isClosed t G (length L)) (isSorted t L && fits (sortOf t L) B),
+          result-by at (isClosed t scope (length L)) (isSorted t L && fits (sortOf t L) B),
           result-read (r .2),
         )
 
   -- ------------------------------------------------------------------ the root
 
   -- the root's byte is checked as the root
-  pub root-agrees : (at n : ℕ) → n < 64 → verdictOf at (rootAt bs H n) ≡ verdict (checkRoot (G .env) at n)
+  pub root-agrees : (at nonterminal : ℕ) → nonterminal < 64 → verdictOf at (rootAt bs heads nonterminal) ≡ verdict (checkRoot (scope .env) at nonterminal)
   unfolding rootAt checkRoot
-  root-agrees at n l =
-      let S : Signature = signatureOf (G .env) n in
+  root-agrees at nonterminal l =
+      let S : Signature = signatureOf (scope .env) nonterminal in
       let fitting : List ℕ → Bool = λ s. leb (length s) 1 && eqb (getD s 0 0) term in
-      let sig : List ℕ = signatureAt bs (getD H n 0) in
-      rw (rootAt, missing n l)
-      (root-by at (isDefined (G .env) n) (fitting sig)
-      ∙ by-test (isDefined (G .env) n) (λ e. cc (knows n l .shown e, none-left (S .result) (S .params))) (λ e. cc))
+      let sig : List ℕ = signatureAt bs (getD heads nonterminal 0) in
+      rw (rootAt, missing nonterminal l)
+      (root-by at (isDefined (scope .env) nonterminal) (fitting sig)
+      ∙ by-test (isDefined (scope .env) nonterminal) (λ e. cc (knows nonterminal l .shown e, none-left (S .result) (S .params))) (λ e. cc))
     where
-      none-left : (r : ℕ) (ps : List ℕ) → leb (length (r ∷ ps)) 1 ≡ eqb (length ps) 0
-      none-left r [] = refl
-      none-left r (p ∷ ps) = lt-leb (length (r ∷ p ∷ ps)) 1 (omega arith) ∙ sym (eqb·suc-zero (length ps))
+      none-left : (result : ℕ) (ps : List ℕ) → leb (length (result ∷ ps)) 1 ≡ eqb (length ps) 0
+      none-left result [] = refl
+      none-left result (p ∷ ps) = lt-leb (length (result ∷ p ∷ ps)) 1 (omega arith) ∙ sym (eqb·suc-zero (length ps))

@@ -28,205 +28,213 @@ use Rattle.bodies.specs.ByFields.{headOf, collectBy, bodiesBy, blocksBy, checkS
 
 -- ------------------------------------------------------------------ checks in order
 
-bind-bind : {A B C : Type 0} (m : Checked A) (f : A → Checked B) (g : B → Checked C) → (m >>= f >>= g) ≡ (m >>= λ a. f a >>= g)
-bind-bind (ok a) f g = refl
-bind-bind (bad r) f g = refl
+bind-bind : {A B C : Type 0} (first : Checked A) (then-check : A → Checked B) (last-check : B → Checked C)
+    → (first >>= then-check >>= last-check) ≡ (first >>= λ a. then-check a >>= last-check)
+bind-bind (ok a) then-check last-check = refl
+bind-bind (bad r) then-check last-check = refl
 
-bind-then : {A B C : Type 0} (m : Checked A) (f : A → Checked B) (n : Checked C) → (m >>= f >> n) ≡ (m >>= λ a. f a >> n)
-bind-then (ok a) f n = refl
-bind-then (bad r) f n = refl
+bind-then : {A B C : Type 0} (first : Checked A) (then-check : A → Checked B) (second : Checked C)
+    → (first >>= then-check >> second) ≡ (first >>= λ a. then-check a >> second)
+bind-then (ok a) then-check second = refl
+bind-then (bad r) then-check second = refl
 
-then-bind : {A B C : Type 0} (m : Checked A) (n : Checked B) (g : B → Checked C) → (m >> n >>= g) ≡ (m >> (n >>= g))
-then-bind (ok a) n g = refl
-then-bind (bad r) n g = refl
+then-bind : {A B C : Type 0} (first : Checked A) (second : Checked B) (last-check : B → Checked C)
+    → (first >> second >>= last-check) ≡ (first >> (second >>= last-check))
+then-bind (ok a) second last-check = refl
+then-bind (bad r) second last-check = refl
 
-then-then : {A B C : Type 0} (m : Checked A) (n : Checked B) (o : Checked C) → (m >> n >> o) ≡ (m >> (n >> o))
-then-then (ok a) n o = refl
-then-then (bad r) n o = refl
+then-then : {A B C : Type 0} (first : Checked A) (second : Checked B) (checked : Checked C) → (first >> second >> checked) ≡ (first >> (second >> checked))
+then-then (ok a) second checked = refl
+then-then (bad r) second checked = refl
 
 -- ------------------------------------------------------------------ heads
 
-mode-read : (m : Mode) → modeOf (modeCode m) ≡ m
+mode-read : (mode : Mode) → modeOf (modeCode mode) ≡ mode
 mode-read add = refl
 mode-read extend = refl
 mode-read update = refl
 
-by-head : (d : Definition) (m : Mode) (E own : Env) (at : ℕ) → consistent m E own (headOf (headValue d)) at ≡ consistent m E own d at
+by-head : (definition : Definition) (mode : Mode) (E own : Env) (at : ℕ)
+    → consistent mode E own (headOf (headValue definition)) at ≡ consistent mode E own definition at
 unfolding headValue definitionOf
-by-head d add E own at = refl
-by-head d extend E own at = refl
-by-head d update E own at = refl
+by-head definition add E own at = refl
+by-head definition extend E own at = refl
+by-head definition update E own at = refl
 
 head-consistent :
-    (d : Definition) (E own : Env) (at : ℕ)
-    → consistent (headOf (headValue d) .mode) E own (headOf (headValue d)) at ≡ consistent (d .mode) E own d at
+    (definition : Definition) (E own : Env) (at : ℕ)
+    → consistent (headOf (headValue definition) .mode) E own (headOf (headValue definition)) at ≡ consistent (definition .mode) E own definition at
 unfolding headValue definitionOf
-head-consistent d E own at = cc (mode-read (d .mode), by-head d (d .mode) E own at)
+head-consistent definition E own at = cc (mode-read (definition .mode), by-head definition (definition .mode) E own at)
 
 -- ------------------------------------------------------------------ signatures
 
 module _ (E : Env) where
   -- a place counted in two ways is one
-  collect-at : (k : List Field) (own : Env) {a b : ℕ} → a ≡ b → collectBy (spread a k) E own ≡ collectBy (spread b k) E own
-  collect-at k own e = cc
+  collect-at : (follow : List Field) (own : Env) {here there : ℕ} → here ≡ there → collectBy (spread here follow) E own ≡ collectBy (spread there follow) E own
+  collect-at follow own e = cc
 
   collect-items :
-      (is : List Item) (k : List Field) (own : Env) (at : ℕ)
-      → collectBy (spread at (itemsThen is k)) E own ≡ collectBy (spread (at + itemsSize is) k) E own
+      (is : List Item) (follow : List Field) (own : Env) (at : ℕ)
+      → collectBy (spread at (itemsThen is follow)) E own ≡ collectBy (spread (at + itemsSize is) follow) E own
   unfolding spread itemsThen itemsSize collectBy
-  collect-items [] k own at = collect-at k own (omega arith)
-  collect-items (i ∷ is) k own at =
-      collect-items is k own (at + (3 + length (itemValue i))) ∙ collect-at k own (omega arith)
+  collect-items [] follow own at = collect-at follow own (omega arith)
+  collect-items (i ∷ is) follow own at =
+      collect-items is follow own (at + (3 + length (itemValue i))) ∙ collect-at follow own (omega arith)
 
   collect-alternatives :
-      (rest : List Alternative) (k : List Field) (own : Env) (at : ℕ)
-      → collectBy (spread at (alternativesThen rest k)) E own ≡ collectBy (spread (at + alternativesSize rest) k) E own
+      (rest : List Alternative) (follow : List Field) (own : Env) (at : ℕ)
+      → collectBy (spread at (alternativesThen rest follow)) E own ≡ collectBy (spread (at + alternativesSize rest) follow) E own
   unfolding spread alternativesThen alternativesSize alternativeSize collectBy
-  collect-alternatives [] k own at = collect-at k own (omega arith)
-  collect-alternatives (a ∷ rest) k own at =
-      collect-items (a .items) (field 7 (templateThen (a .result) []) ∷ alternativesThen rest k) own (at + 3)
-      ∙ collect-alternatives rest k own (at + 3 + itemsSize (a .items) + (3 + length (templateThen (a .result) [])))
-      ∙ collect-at k own (omega arith)
+  collect-alternatives [] follow own at = collect-at follow own (omega arith)
+  collect-alternatives (a ∷ rest) follow own at =
+      collect-items (a .items) (field 7 (templateThen (a .result) []) ∷ alternativesThen rest follow) own (at + 3)
+      ∙ collect-alternatives rest follow own (at + 3 + itemsSize (a .items) + (3 + length (templateThen (a .result) [])))
+      ∙ collect-at follow own (omega arith)
 
   -- what follows a block's definitions ends the block
-  module _ (k : List Field) (ends : (at : ℕ) (own : Env) → collectBy (spread at k) E own ≡ ok own) where
-    collect-definitions : (ds : List Definition) (own : Env) (at : ℕ) → collectBy (spread at (definitionsThen ds k)) E own ≡ collect E own at ds
+  module _ (follow : List Field) (ends : (at : ℕ) (own : Env) → collectBy (spread at follow) E own ≡ ok own) where
+    collect-definitions : (ds : List Definition) (own : Env) (at : ℕ) → collectBy (spread at (definitionsThen ds follow)) E own ≡ collect E own at ds
     unfolding spread definitionsThen collectBy collect definitionSize headValue definitionOf
     collect-definitions [] own at = ends at own
     collect-definitions (d ∷ ds) own at =
         let behind : ℕ = at + fieldSize (headValue d) in
         cc (
           head-consistent d E own at,
-          collect-alternatives (d .alternatives) (definitionsThen ds k) (entryOf d ∷ own) behind,
-          collect-at (definitionsThen ds k) (entryOf d ∷ own) {a = behind + alternativesSize (d .alternatives)} {b = at + definitionSize d}
+          collect-alternatives (d .alternatives) (definitionsThen ds follow) (entryOf d ∷ own) behind,
+          collect-at (definitionsThen ds follow) (entryOf d ∷ own) {here = behind + alternativesSize (d .alternatives)} {there = at + definitionSize d}
               (omega arith),
           collect-definitions ds (entryOf d ∷ own) (at + definitionSize d),
         )
 
 -- ------------------------------------------------------------------ bodies
 
-module _ (G : Scope) where
+module _ (scope : Scope) where
   -- an alternative's items and its result, then what follows
-  bodies-items : {is : List Item} → Each ItemWithin is → {t : Template} → TemplateWithin t → (k : List Field) (S : Signature) (L : List ℕ) (at : ℕ)
-      → bodiesBy (spread at (itemsThen is (field 7 (templateThen t []) ∷ k))) G S L
-      ≡ (checkItems G L at is
+  bodies-items : {is : List Item} → Each ItemWithin is → {template : Template} → TemplateWithin template
+      → (follow : List Field) (S : Signature) (L : List ℕ) (at : ℕ)
+      → bodiesBy (spread at (itemsThen is (field 7 (templateThen template []) ∷ follow))) scope S L
+      ≡ (checkItems scope L at is
       >>= λ L′.
-      checkResult G L′ (S .result) (at + itemsSize is) t
-      >> bodiesBy (spread (at + itemsSize is + fieldSize (templateThen t [])) k) G S [])
+      checkResult scope L′ (S .result) (at + itemsSize is) template
+      >> bodiesBy (spread (at + itemsSize is + fieldSize (templateThen template [])) follow) scope S [])
   unfolding spread itemsThen itemsSize bodiesBy checkItems
-  bodies-items each-none {t} w k S L at =
+  bodies-items each-none {template} w follow S L at =
       cc (result-read w, add-zero at)
-  bodies-items (each-more {x = i} {xs = is} h hs) {t} w k S L at =
+  bodies-items (each-more {x = i} {xs = is} h hs) {template} w follow S L at =
       let behind : ℕ = at + fieldSize (itemValue i) in
       let place : behind + itemsSize is ≡ at + itemsSize (i ∷ is) = omega arith in
       rw (item-read h)
-      (ap (_>>=_ (checkItem G L at i)) (fun-ext (λ s. rw place at (bodies-items hs w k S (L ++ (s ∷ [])) behind)))
-      ∙ sym (bind-bind (checkItem G L at i) _ _))
+      (ap (_>>=_ (checkItem scope L at i)) (fun-ext (λ s. rw place at (bodies-items hs w follow S (L ++ (s ∷ [])) behind)))
+      ∙ sym (bind-bind (checkItem scope L at i) _ _))
 
   -- a place counted in two ways is one
-  bodies-at : (k : List Field) (S : Signature) {a b : ℕ} → a ≡ b → bodiesBy (spread a k) G S [] ≡ bodiesBy (spread b k) G S []
-  bodies-at k S e = cc
+  bodies-at : (follow : List Field) (S : Signature) {here there : ℕ} → here ≡ there
+      → bodiesBy (spread here follow) scope S [] ≡ bodiesBy (spread there follow) scope S []
+  bodies-at follow S e = cc
 
-  bodies-alternatives : {rest : List Alternative} → Each AlternativeWithin rest → (k : List Field) (S : Signature) (at : ℕ)
-      → bodiesBy (spread at (alternativesThen rest k)) G S []
-      ≡ (checkAlternatives G S at rest >> bodiesBy (spread (at + alternativesSize rest) k) G S [])
+  bodies-alternatives : {rest : List Alternative} → Each AlternativeWithin rest → (follow : List Field) (S : Signature) (at : ℕ)
+      → bodiesBy (spread at (alternativesThen rest follow)) scope S []
+      ≡ (checkAlternatives scope S at rest >> bodiesBy (spread (at + alternativesSize rest) follow) scope S [])
   unfolding spread alternativesThen alternativesSize alternativeSize bodiesBy checkAlternatives checkAlternative
-  bodies-alternatives each-none k S at = cc (add-zero at)
-  bodies-alternatives (each-more {x = a} {xs = rest} h hs) k S at =
-      bodies-items (h .items) (h .result) (alternativesThen rest k) S (S .params) (at + 3)
-      ∙ sym (bind-then (checkItems G (S .params) (at + 3) (a .items)) _ _)
-      ∙ ap (_>>_ (checkAlternative G S at a))
-      (bodies-at (alternativesThen rest k) S (omega arith)
-      ∙ bodies-alternatives hs k S (at + alternativeSize a)
-      ∙ ap (_>>_ (checkAlternatives G S (at + alternativeSize a) rest)) (bodies-at k S (omega arith)))
-      ∙ sym (then-then (checkAlternative G S at a) _ _)
+  bodies-alternatives each-none follow S at = cc (add-zero at)
+  bodies-alternatives (each-more {x = a} {xs = rest} h hs) follow S at =
+      bodies-items (h .items) (h .result) (alternativesThen rest follow) S (S .params) (at + 3)
+      ∙ sym (bind-then (checkItems scope (S .params) (at + 3) (a .items)) _ _)
+      ∙ ap (_>>_ (checkAlternative scope S at a))
+      (bodies-at (alternativesThen rest follow) S (omega arith)
+      ∙ bodies-alternatives hs follow S (at + alternativeSize a)
+      ∙ ap (_>>_ (checkAlternatives scope S (at + alternativeSize a) rest)) (bodies-at follow S (omega arith)))
+      ∙ sym (then-then (checkAlternative scope S at a) _ _)
 
   -- what follows a block's definitions ends the block
-  module _ (k : List Field) (ends : (at : ℕ) (S : Signature) → bodiesBy (spread at k) G S [] ≡ ok tt) where
+  module _ (follow : List Field) (ends : (at : ℕ) (S : Signature) → bodiesBy (spread at follow) scope S [] ≡ ok tt) where
     bodies-definitions :
         {ds : List Definition} → Each DefinitionWithin ds → (S : Signature) (at : ℕ)
-        → bodiesBy (spread at (definitionsThen ds k)) G S [] ≡ checkBodies G at ds
+        → bodiesBy (spread at (definitionsThen ds follow)) scope S [] ≡ checkBodies scope at ds
     unfolding spread definitionsThen bodiesBy checkBodies definitionSize headValue definitionOf
     bodies-definitions each-none S at = ends at S
     bodies-definitions (each-more {x = d} {xs = ds} h hs) S at =
         let behind : ℕ = at + fieldSize (headValue d) in
-        bodies-alternatives (h .alternatives) (definitionsThen ds k) (d .signature) behind
-        ∙ ap (_>>_ (checkAlternatives G (d .signature) behind (d .alternatives)))
-        (bodies-at (definitionsThen ds k) (d .signature) (omega arith) ∙ bodies-definitions hs (d .signature) (at + definitionSize d))
+        bodies-alternatives (h .alternatives) (definitionsThen ds follow) (d .signature) behind
+        ∙ ap (_>>_ (checkAlternatives scope (d .signature) behind (d .alternatives)))
+        (bodies-at (definitionsThen ds follow) (d .signature) (omega arith) ∙ bodies-definitions hs (d .signature) (at + definitionSize d))
 
 -- ------------------------------------------------------------------ blocks
 
-module _ (K N : ℕ) where
+module _ (keywords outsides : ℕ) where
   -- a place counted in two ways is one
-  blocks-at : (k : List Field) (E : Env) {a b : ℕ} → a ≡ b → blocksBy (spread a k) K N E ≡ blocksBy (spread b k) K N E
-  blocks-at k E e = cc
+  blocks-at : (follow : List Field) (E : Env) {here there : ℕ} → here ≡ there
+      → blocksBy (spread here follow) keywords outsides E ≡ blocksBy (spread there follow) keywords outsides E
+  blocks-at follow E e = cc
 
   -- only the fields 03 and 08 count here
   blocks-items :
-      (is : List Item) (k : List Field) (E : Env) (at : ℕ)
-      → blocksBy (spread at (itemsThen is k)) K N E ≡ blocksBy (spread (at + itemsSize is) k) K N E
+      (is : List Item) (follow : List Field) (E : Env) (at : ℕ)
+      → blocksBy (spread at (itemsThen is follow)) keywords outsides E ≡ blocksBy (spread (at + itemsSize is) follow) keywords outsides E
   unfolding spread itemsThen itemsSize blocksBy
-  blocks-items [] k E at = cc (add-zero at)
-  blocks-items (i ∷ is) k E at = blocks-items is k E (at + fieldSize (itemValue i)) ∙ blocks-at k E (omega arith)
+  blocks-items [] follow E at = cc (add-zero at)
+  blocks-items (i ∷ is) follow E at = blocks-items is follow E (at + fieldSize (itemValue i)) ∙ blocks-at follow E (omega arith)
 
   blocks-alternatives :
-      (rest : List Alternative) (k : List Field) (E : Env) (at : ℕ)
-      → blocksBy (spread at (alternativesThen rest k)) K N E ≡ blocksBy (spread (at + alternativesSize rest) k) K N E
+      (rest : List Alternative) (follow : List Field) (E : Env) (at : ℕ)
+      → blocksBy (spread at (alternativesThen rest follow)) keywords outsides E ≡ blocksBy (spread (at + alternativesSize rest) follow) keywords outsides E
   unfolding spread alternativesThen alternativesSize alternativeSize blocksBy
-  blocks-alternatives [] k E at = cc (add-zero at)
-  blocks-alternatives (a ∷ rest) k E at =
-      blocks-items (a .items) (field 7 (templateThen (a .result) []) ∷ alternativesThen rest k) E (at + 3)
-      ∙ blocks-alternatives rest k E (at + 3 + itemsSize (a .items) + fieldSize (templateThen (a .result) []))
-      ∙ blocks-at k E (omega arith)
+  blocks-alternatives [] follow E at = cc (add-zero at)
+  blocks-alternatives (a ∷ rest) follow E at =
+      blocks-items (a .items) (field 7 (templateThen (a .result) []) ∷ alternativesThen rest follow) E (at + 3)
+      ∙ blocks-alternatives rest follow E (at + 3 + itemsSize (a .items) + fieldSize (templateThen (a .result) []))
+      ∙ blocks-at follow E (omega arith)
 
   blocks-definitions :
-      (ds : List Definition) (k : List Field) (E : Env) (at : ℕ)
-      → blocksBy (spread at (definitionsThen ds k)) K N E ≡ blocksBy (spread (at + definitionsSize ds) k) K N E
+      (ds : List Definition) (follow : List Field) (E : Env) (at : ℕ)
+      → blocksBy (spread at (definitionsThen ds follow)) keywords outsides E ≡ blocksBy (spread (at + definitionsSize ds) follow) keywords outsides E
   unfolding spread definitionsThen definitionsSize definitionSize blocksBy
-  blocks-definitions [] k E at = cc (add-zero at)
-  blocks-definitions (d ∷ ds) k E at =
-      blocks-alternatives (d .alternatives) (definitionsThen ds k) E (at + fieldSize (headValue d))
-      ∙ blocks-definitions ds k E (at + fieldSize (headValue d) + alternativesSize (d .alternatives))
-      ∙ blocks-at k E (omega arith)
+  blocks-definitions [] follow E at = cc (add-zero at)
+  blocks-definitions (d ∷ ds) follow E at =
+      blocks-alternatives (d .alternatives) (definitionsThen ds follow) E (at + fieldSize (headValue d))
+      ∙ blocks-definitions ds follow E (at + fieldSize (headValue d) + alternativesSize (d .alternatives))
+      ∙ blocks-at follow E (omega arith)
 
   blocks-skip :
-      (tag : ℕ) → eqb tag 3 ≡ false → eqb tag 8 ≡ false → (at : ℕ) (v : List ℕ) (fs : RawFields) (E : Env)
-      → blocksBy (next at tag v fs) K N E ≡ blocksBy fs K N E
+      (tag : ℕ) → eqb tag 3 ≡ false → eqb tag 8 ≡ false → (at : ℕ) (value : List ℕ) (fs : RawFields) (E : Env)
+      → blocksBy (next at tag value fs) keywords outsides E ≡ blocksBy fs keywords outsides E
   unfolding blocksBy
-  blocks-skip tag block root at v fs E = rw (blocksBy, block, root) refl
+  blocks-skip tag block root at value fs E = rw (blocksBy, block, root) refl
 
   blocks-spellings :
-      (tag : ℕ) → eqb tag 3 ≡ false → eqb tag 8 ≡ false → (ss : List (List ℕ)) (k : List Field) (E : Env) (at : ℕ)
-      → blocksBy (spread at (spellingsThen tag ss k)) K N E ≡ blocksBy (spread (at + spellingsSize ss) k) K N E
+      (tag : ℕ) → eqb tag 3 ≡ false → eqb tag 8 ≡ false → (ss : List (List ℕ)) (follow : List Field) (E : Env) (at : ℕ)
+      → blocksBy (spread at (spellingsThen tag ss follow)) keywords outsides E ≡ blocksBy (spread (at + spellingsSize ss) follow) keywords outsides E
   unfolding spread spellingsThen spellingsSize
-  blocks-spellings tag block root [] k E at = cc (add-zero at)
-  blocks-spellings tag block root (s ∷ ss) k E at =
+  blocks-spellings tag block root [] follow E at = cc (add-zero at)
+  blocks-spellings tag block root (s ∷ ss) follow E at =
       blocks-skip tag block root at s _ E
-      ∙ blocks-spellings tag block root ss k E (at + fieldSize s)
-      ∙ blocks-at k E (omega arith)
+      ∙ blocks-spellings tag block root ss follow E (at + fieldSize s)
+      ∙ blocks-at follow E (omega arith)
 
   -- the field behind the blocks ends the last of them
-  module _ (r : ℕ) where
+  module _ (root : ℕ) where
     abbrev rootField : List Field
-    rootField = field 8 (r ∷ []) ∷ []
+    rootField = field 8 (root ∷ []) ∷ []
 
     collect-ends : (bs : List (List Definition)) (at : ℕ) (E own : Env) → collectBy (spread at (blocksThen bs rootField)) E own ≡ ok own
     unfolding spread blocksThen collectBy
     collect-ends [] at E own = refl
     collect-ends (b ∷ bs) at E own = refl
 
-    bodies-ends : (bs : List (List Definition)) (G : Scope) (at : ℕ) (S : Signature) → bodiesBy (spread at (blocksThen bs rootField)) G S [] ≡ ok tt
+    bodies-ends : (bs : List (List Definition)) (scope : Scope) (at : ℕ) (S : Signature) → bodiesBy (spread at (blocksThen bs rootField)) scope S [] ≡ ok tt
     unfolding spread blocksThen bodiesBy
-    bodies-ends [] G at S = refl
-    bodies-ends (b ∷ bs) G at S = refl
+    bodies-ends [] scope at S = refl
+    bodies-ends (b ∷ bs) scope at S = refl
 
     blocks-sorts : {bs : List (List Definition)} → Each (Each DefinitionWithin) bs → (E : Env) (at : ℕ)
-        → blocksBy (spread at (blocksThen bs rootField)) K N E ≡ (checkBlocks K N E at bs >>= λ E′. checkRoot E′ (at + blocksSize bs) r)
+        → blocksBy (spread at (blocksThen bs rootField)) keywords outsides E
+        ≡ (checkBlocks keywords outsides E at bs >>= λ E′. checkRoot E′ (at + blocksSize bs) root)
     unfolding spread blocksThen blocksBy checkBlocks blocksSize
     blocks-sorts each-none E at = cc (add-zero at)
     blocks-sorts (each-more {x = b} {xs = bs} h hs) E at =
         let behind : List Field = blocksThen bs rootField in
-        let scope : Env → Scope = λ own. record { keywords = K; outsides = N; env = own ++ E } in
+        let scope : Env → Scope = λ own. record { keywords = keywords; outsides = outsides; env = own ++ E } in
         let place : at + 3 + definitionsSize b + blocksSize bs ≡ at + blocksSize (b ∷ bs) = omega arith in
         rw (collect-definitions E behind (λ a own. collect-ends bs a E own) b [] (at + 3))
         (ap (_>>=_ (collect E [] (at + 3) b))
@@ -241,18 +249,18 @@ module _ (K N : ℕ) where
 -- ------------------------------------------------------------------ the whole table
 
 -- the check field by field is the check of the table
-pub fields-sorts : (t : Table) → Within t → checkSortsBy (encode t) ≡ checkSorts t
+pub fields-sorts : (table : Table) → Within table → checkSortsBy (encode table) ≡ checkSorts table
 unfolding checkSortsBy checkSorts encode tableFields
-fields-sorts t w =
-    let ks : List (List ℕ) = t .keywords in
-    let os : List (List ℕ) = t .outsides in
-    let behind : List Field = blocksThen (t .blocks) (field 8 (t .root ∷ []) ∷ []) in
+fields-sorts table w =
+    let ks : List (List ℕ) = table .keywords in
+    let os : List (List ℕ) = table .outsides in
+    let behind : List Field = blocksThen (table .blocks) (field 8 (table .root ∷ []) ∷ []) in
     let first : ℕ = spellingsSize ks + spellingsSize os in
     let fs : RawFields = spread 0 (spellingsThen 1 ks (spellingsThen 2 os behind)) in
-    let e : fieldsOf (encode t) ≡ fs = fields-of-bytes (tableFields t) in
-    let led = leading-decoded (encode t) t (decode-encoded t w) in
+    let e : fieldsOf (encode table) ≡ fs = fields-of-bytes (tableFields table) in
+    let led = leading-decoded (encode table) table (decode-encoded table w) in
     rw (led .0, led .1, e)
     (blocks-spellings (length ks) (length os) 1 refl refl ks (spellingsThen 2 os behind) [] 0
     ∙ blocks-spellings (length ks) (length os) 2 refl refl os behind [] (0 + spellingsSize ks)
     ∙ blocks-at (length ks) (length os) behind [] (omega arith)
-    ∙ blocks-sorts (length ks) (length os) (t .root) (w .blocks) [] first)
+    ∙ blocks-sorts (length ks) (length os) (table .root) (w .blocks) [] first)

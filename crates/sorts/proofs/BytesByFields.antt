@@ -43,19 +43,19 @@ use Rattle.sorts.proofs.BodiesByBytes.{contextOf, sortedAt, item-agrees
 
 module _ (bs : List ℕ) where
   -- the heads show an environment, and none lies behind the block that the fields begin in
-  pub record Shows (E : Env) (H : List ℕ) (fs : RawFields) : Type 0 where
+  pub record Shows (E : Env) (heads : List ℕ) (fs : RawFields) : Type 0 where
     -- there is a head for each nonterminal
-    pub size : length H ≡ 64
+    pub size : length heads ≡ 64
     -- each head shows what the environment has
-    pub knows : (n : ℕ) → n < 64 → Knows bs E H n
+    pub knows : (nonterminal : ℕ) → nonterminal < 64 → Knows bs E heads nonterminal
     -- no head lies behind the offset of the fields
-    pub below : Below H (endOf fs)
+    pub below : Below heads (endOf fs)
 
-  -- between alternatives: the tag before, and the signature of the definition begun last, whose head stands at h
-  data Between (h : ℕ) (S : Signature) : ℕ → Type 0 where
-    after-block : Between h S 3
-    after-head : signatureAt bs h ≡ bytesOf S → length (S .params) ≤ 4 → Between h S 4
-    after-result : signatureAt bs h ≡ bytesOf S → length (S .params) ≤ 4 → Between h S 7
+  -- between alternatives: the tag before, and the signature of the definition begun last, whose head stands at `head`
+  data Between (head : ℕ) (S : Signature) : ℕ → Type 0 where
+    after-block : Between head S 3
+    after-head : signatureAt bs head ≡ bytesOf S → length (S .params) ≤ 4 → Between head S 4
+    after-result : signatureAt bs head ≡ bytesOf S → length (S .params) ≤ 4 → Between head S 7
 
   -- in an alternative with some items
   data Inside : ℕ → Type 0 where
@@ -71,14 +71,14 @@ module _ (bs : List ℕ) where
 
   -- ------------------------------------------------------------------ which tag follows
 
-  begun : {h : ℕ} {S : Signature} {last : ℕ} → Between h S last → follows 5 last ≡ true → (signatureAt bs h ≡ bytesOf S) × (length (S .params) ≤ 4)
+  begun : {head : ℕ} {S : Signature} {last : ℕ} → Between head S last → follows 5 last ≡ true → (signatureAt bs head ≡ bytesOf S) × (length (S .params) ≤ 4)
   unfolding follows
   begun after-block e = absurd (false≢true e)
   begun (after-head s f) e = (s, f)
   begun (after-result s f) e = (s, f)
 
   never :
-      {h : ℕ} {S : Signature} {last : ℕ} (tag : ℕ) → Between h S last → follows tag 3 ≡ false → follows tag 4 ≡ false → follows tag 7 ≡ false
+      {head : ℕ} {S : Signature} {last : ℕ} (tag : ℕ) → Between head S last → follows tag 3 ≡ false → follows tag 4 ≡ false → follows tag 7 ≡ false
       → follows tag last ≡ true → ⊥
   never tag after-block a b c e = true≢false (sym e ∙ a)
   never tag (after-head s f) a b c e = true≢false (sym e ∙ b)
@@ -91,63 +91,65 @@ module _ (bs : List ℕ) where
   -- ------------------------------------------------------------------ answers put together
 
   item-case :
-      (fs : RawFields) (K N h : ℕ) (E : Env) (H : List ℕ) (S : Signature) (L : List ℕ) (at : ℕ) (c : ItemSort)
-      → ((s : ℕ) → bytesVerdict fs K N h H (take 16 (L ++ (s ∷ []))) ≡ fieldsVerdict fs K N E S (L ++ (s ∷ [])))
-      → goOn (afterItem (contextOf (scope K N E) h H L) at c) (λ X. sortsFrom fs bs X)
-      ≡ verdict ((sortedAt at c >>= λ s. bodiesBy fs (scope K N E) S (L ++ (s ∷ []))) >> blocksBy fs K N E)
-  item-case fs K N h E H S L at (As s) f = f s
-  item-case fs K N h E H S L at (Unsorted fault) f = refl
+      (fs : RawFields) (keywords outsides head : ℕ) (E : Env) (heads : List ℕ) (S : Signature) (L : List ℕ) (at : ℕ) (item-sort : ItemSort)
+      → ((sort : ℕ) → bytesVerdict fs keywords outsides head heads (take 16 (L ++ (sort ∷ []))) ≡ fieldsVerdict fs keywords outsides E S (L ++ (sort ∷ [])))
+      → goOn (afterItem (contextOf (scope keywords outsides E) head heads L) at item-sort) (λ X. sortsFrom fs bs X)
+      ≡ verdict ((sortedAt at item-sort >>= λ s. bodiesBy fs (scope keywords outsides E) S (L ++ (s ∷ []))) >> blocksBy fs keywords outsides E)
+  item-case fs keywords outsides head E heads S L at (As s) f = f s
+  item-case fs keywords outsides head E heads S L at (Unsorted fault) f = refl
 
   result-case :
-      (fs : RawFields) (K N h : ℕ) (E : Env) (H : List ℕ) (S : Signature) (L L′ : List ℕ) (c : Checked (Unit {0}))
-      → bytesVerdict fs K N h H L ≡ fieldsVerdict fs K N E S L′
-      → goOn (afterVerdict (contextOf (scope K N E) h H L) (verdict c)) (λ X. sortsFrom fs bs X)
-      ≡ verdict (c >> bodiesBy fs (scope K N E) S L′ >> blocksBy fs K N E)
-  result-case fs K N h E H S L L′ (ok u) f = f
-  result-case fs K N h E H S L L′ (bad r) f = refl
+      (fs : RawFields) (keywords outsides head : ℕ) (E : Env) (heads : List ℕ) (S : Signature) (L L′ : List ℕ) (checked : Checked (Unit {0}))
+      → bytesVerdict fs keywords outsides head heads L ≡ fieldsVerdict fs keywords outsides E S L′
+      → goOn (afterVerdict (contextOf (scope keywords outsides E) head heads L) (verdict checked)) (λ X. sortsFrom fs bs X)
+      ≡ verdict (checked >> bodiesBy fs (scope keywords outsides E) S L′ >> blocksBy fs keywords outsides E)
+  result-case fs keywords outsides head E heads S L L′ (ok u) f = f
+  result-case fs keywords outsides head E heads S L L′ (bad r) f = refl
 
   block-case :
-      (fs : RawFields) (K N h block : ℕ) (E : Env) (H₀ L : List ℕ) (c : Checked Env) (x : Collected) → Agree bs E block (endOf fs) c x
-      → ((own : Env) (H : List ℕ) → Collects bs E own block H → Below H (endOf fs)
-      → bytesVerdict fs K N h H L ≡ fieldsVerdict fs K N (own ++ E) (gives [] unit) [])
-      → goOn (afterBlock (contextOf (scope K N E) h H₀ L) x) (λ X. sortsFrom fs bs X)
-      ≡ verdict (c >>= λ own. bodiesBy fs (scope K N (own ++ E)) (gives [] unit) [] >> blocksBy fs K N (own ++ E))
-  block-case fs K N h block E H₀ L (ok own) (collected Passed H) a f = f own H (a .0) (a .1)
-  block-case fs K N h block E H₀ L (ok own) (collected (Refused r) H) a f = absurd a
-  block-case fs K N h block E H₀ L (bad r) (collected Passed H) a f = absurd a
-  block-case fs K N h block E H₀ L (bad r) (collected (Refused q) H) a f = ap Refused (sym a)
+      (fs : RawFields) (keywords outsides head block : ℕ) (E : Env) (heads₀ L : List ℕ) (checked : Checked Env) (given-collected : Collected)
+      → Agree bs E block (endOf fs) checked given-collected
+      → ((own : Env) (heads : List ℕ) → Collects bs E own block heads → Below heads (endOf fs)
+      → bytesVerdict fs keywords outsides head heads L ≡ fieldsVerdict fs keywords outsides (own ++ E) (gives [] unit) [])
+      → goOn (afterBlock (contextOf (scope keywords outsides E) head heads₀ L) given-collected) (λ X. sortsFrom fs bs X)
+      ≡ verdict (checked >>= λ own. bodiesBy fs (scope keywords outsides (own ++ E)) (gives [] unit) [] >> blocksBy fs keywords outsides (own ++ E))
+  block-case fs keywords outsides head block E heads₀ L (ok own) (collected Passed H) a f = f own H (a .0) (a .1)
+  block-case fs keywords outsides head block E heads₀ L (ok own) (collected (Refused r) H) a f = absurd a
+  block-case fs keywords outsides head block E heads₀ L (bad r) (collected Passed H) a f = absurd a
+  block-case fs keywords outsides head block E heads₀ L (bad r) (collected (Refused q) H) a f = ap Refused (sym a)
 
   -- ------------------------------------------------------------------ one field
 
   -- the fields behind a field, and what is known of it
-  module _ (at : ℕ) (v : List ℕ) (fs : RawFields) (K N h : ℕ) (E : Env) (H L : List ℕ) (p : Placed bs (at + 3) fs) where
+  module _ (at : ℕ) (value : List ℕ) (fs : RawFields) (keywords outsides head : ℕ) (E : Env) (heads L : List ℕ) (placed : Placed bs (at + 3) fs) where
     -- a block is collected, then its bodies follow
     block-agrees :
-        (before : List Field) (s : Progress) → checkFields fs before s ≡ ok tt → Shows E H (next at 3 v fs)
-        → ((own : Env) (H′ : List ℕ) → Shows (own ++ E) H′ fs → bytesVerdict fs K N h H′ L ≡ fieldsVerdict fs K N (own ++ E) (gives [] unit) [])
-        → bytesVerdict (next at 3 v fs) K N h H L ≡ verdict (blocksBy (next at 3 v fs) K N E)
+        (before : List Field) (progress : Progress) → checkFields fs before progress ≡ ok tt → Shows E heads (next at 3 value fs)
+        → ((own : Env) (heads′ : List ℕ) → Shows (own ++ E) heads′ fs → bytesVerdict fs keywords outsides head heads′ L ≡ fieldsVerdict fs keywords outsides
+        (own ++ E) (gives [] unit) [])
+        → bytesVerdict (next at 3 value fs) keywords outsides head heads L ≡ verdict (blocksBy (next at 3 value fs) keywords outsides E)
     unfolding sortsFrom stepAt blocksBy endOf isDefined
-    block-agrees before s a w f =
-        let low : (n : ℕ) → getD H n 0 ≤ at = w .below in
-        let behind : at + 3 ≤ endOf fs = placed-end bs (at + 3) fs p in
-        let c : Collects bs E [] at H = record { size = w .size; knows = w .knows; here = λ n l. le-leb (getD H n 0) at (low n) } in
-        block-case fs K N h at E H L (collectBy fs E []) (collectFrom fs bs at H)
-        (collect-agrees bs E at fs before s [] H a (placed-from-lower bs (at + 3) (at + 1) fs (omega arith) p) c
+    block-agrees before progress a w f =
+        let low : (n : ℕ) → getD heads n 0 ≤ at = w .below in
+        let behind : at + 3 ≤ endOf fs = placed-end bs (at + 3) fs placed in
+        let c : Collects bs E [] at heads = record { size = w .size; knows = w .knows; here = λ n l. le-leb (getD heads n 0) at (low n) } in
+        block-case fs keywords outsides head at E heads L (collectBy fs E []) (collectFrom fs bs at heads)
+        (collect-agrees bs E at fs before progress [] heads a (placed-from-lower bs (at + 3) (at + 1) fs (omega arith) placed) c
         (λ n. omega (arith, low n)))
         (λ own H′ d b. f own H′ (record { size = d .size; knows = d .knows; below = b }))
 
     root-verdict :
-        isKnown 8 v ≡ true → Shows E H (next at 8 v fs)
-        → bytesVerdict (next at 8 v fs) K N h H L ≡ verdict (blocksBy (next at 8 v fs) K N E)
+        isKnown 8 value ≡ true → Shows E heads (next at 8 value fs)
+        → bytesVerdict (next at 8 value fs) keywords outsides head heads L ≡ verdict (blocksBy (next at 8 value fs) keywords outsides E)
     unfolding sortsFrom stepAt blocksBy
     root-verdict k w =
-        let r = root-value v k in
-        let low : getD v 0 0 < 64 = rw (r .1) (omega (arith, r .2)) in
-        root-agrees bs (scope K N E) H (w .knows) at (getD v 0 0) low
+        let r = root-value value k in
+        let low : getD value 0 0 < 64 = rw (r .1) (omega (arith, r .2)) in
+        root-agrees bs (scope keywords outsides E) heads (w .knows) at (getD value 0 0) low
 
   -- the sorts of one variable more
-  one-more : (L : List ℕ) (s : ℕ) → length L ≤ 15 → take 16 (L ++ (s ∷ [])) ≡ L ++ (s ∷ [])
-  one-more L s h = take-all 16 (L ++ (s ∷ [])) (omega (arith, length-append L (s ∷ [])))
+  one-more : (L : List ℕ) (sort : ℕ) → length L ≤ 15 → take 16 (L ++ (sort ∷ [])) ≡ L ++ (sort ∷ [])
+  one-more L sort h = take-all 16 (L ++ (sort ∷ [])) (omega (arith, length-append L (sort ∷ [])))
 
   -- ------------------------------------------------------------------ blocks
 
@@ -155,65 +157,66 @@ module _ (bs : List ℕ) where
     unfolding sortsFrom stepAt bodiesBy blocksBy endOf passed follows
 
     between-agrees :
-        (fs : RawFields) (before : List Field) (s : Progress) → checkFields fs before s ≡ ok tt → ValueBytes fs → (from : ℕ) → Placed bs from fs
-        → (K N h : ℕ) (E : Env) (H L : List ℕ) (S : Signature) (L′ : List ℕ) → Shows E H fs → Between h S (s .last)
-        → bytesVerdict fs K N h H L ≡ fieldsVerdict fs K N E S L′
-    between-agrees (end at) before s a y from p K N h E H L S L′ w b = refl
-    between-agrees (cut at) before s a y from p K N h E H L S L′ w b = refl
-    between-agrees (next at tag v fs) before s a y from p K N h E H L S L′ w b =
-        let q = accepted at tag v fs before s a in
+        (fs : RawFields) (before : List Field) (progress : Progress) → checkFields fs before progress ≡ ok tt → ValueBytes fs → (from : ℕ) → Placed bs from fs
+        → (keywords outsides head : ℕ) (E : Env) (heads L : List ℕ) (S : Signature) (L′ : List ℕ) → Shows E heads fs → Between head S (progress .last)
+        → bytesVerdict fs keywords outsides head heads L ≡ fieldsVerdict fs keywords outsides E S L′
+    between-agrees (end at) before progress a y from p keywords outsides head E heads L S L′ w b = refl
+    between-agrees (cut at) before progress a y from p keywords outsides head E heads L S L′ w b = refl
+    between-agrees (next at tag v fs) before progress a y from p keywords outsides head E heads L S L′ w b =
+        let q = accepted at tag v fs before progress a in
         by-tag
-        (λ t. Passes before t v s → checkFields fs (field t v ∷ before) (passed t s) ≡ ok tt → Shows E H (next at t v fs)
-        → bytesVerdict (next at t v fs) K N h H L ≡ fieldsVerdict (next at t v fs) K N E S L′)
+        (λ t. Passes before t v progress → checkFields fs (field t v ∷ before) (passed t progress) ≡ ok tt → Shows E heads (next at t v fs)
+        → bytesVerdict (next at t v fs) keywords outsides head heads L ≡ fieldsVerdict (next at t v fs) keywords outsides E S L′)
         (λ o r w. absurd (never 1 b refl refl refl (o .ordered)))
         (λ o r w. absurd (never 2 b refl refl refl (o .ordered)))
         (λ o r w.
-        block-agrees at v fs K N h E H L (p .2) (field 3 v ∷ before) (passed 3 s) r w
+        block-agrees at v fs keywords outsides head E heads L (p .2) (field 3 v ∷ before) (passed 3 progress) r w
         (λ own H′ d.
-        between-agrees fs (field 3 v ∷ before) (passed 3 s) r (y .1) (at + 3) (p .2) K N h (own ++ E) H′ L (gives [] unit) [] d after-block))
+        between-agrees fs (field 3 v ∷ before) (passed 3 progress) r (y .1) (at + 3) (p .2) keywords outsides head (own ++ E) H′ L
+        (gives [] unit) [] d after-block))
         (λ o r w.
         let d : Head v = head-known v (o .known) in
-        between-agrees fs (field 4 v ∷ before) (passed 4 s) r (y .1) (at + 3) (p .2) K N at E H L (headOf v .signature) L′
+        between-agrees fs (field 4 v ∷ before) (passed 4 progress) r (y .1) (at + 3) (p .2) keywords outsides at E heads L (headOf v .signature) L′
         (record { size = w .size; knows = w .knows; below = w .below }) (after-head (head-signature bs at (p .1) d) (head-few d)))
         (λ o r w.
         let g = begun b (o .ordered) in
         rw (g .0)
-        (inside-agrees fs (field 5 v ∷ before) (passed 5 s) r (y .1) (at + 3) (p .2) K N h E H S (S .params)
+        (inside-agrees fs (field 5 v ∷ before) (passed 5 progress) r (y .1) (at + 3) (p .2) keywords outsides head E heads S (S .params)
         (record { size = w .size; knows = w .knows; below = w .below }) (g .0) (g .1) after-start (g .1)))
         (λ o r w. absurd (never 6 b refl refl refl (o .ordered)))
         (λ o r w. absurd (never 7 b refl refl refl (o .ordered)))
-        (λ o r w. root-verdict at v fs K N h E H L (p .2) (o .known) w)
+        (λ o r w. root-verdict at v fs keywords outsides head E heads L (p .2) (o .known) w)
         tag v (q .0 .known) (q .0) (q .1) w
 
     inside-agrees :
-        (fs : RawFields) (before : List Field) (s : Progress) → checkFields fs before s ≡ ok tt → ValueBytes fs → (from : ℕ) → Placed bs from fs
-        → (K N h : ℕ) (E : Env) (H : List ℕ) (S : Signature) (L : List ℕ) → Shows E H fs → signatureAt bs h ≡ bytesOf S → length (S .params) ≤ 4
-        → Inside (s .last) → length L ≤ 4 + s .items
-        → bytesVerdict fs K N h H L ≡ fieldsVerdict fs K N E S L
-    inside-agrees (end at) before s a y from p K N h E H S L w sig few b l = refl
-    inside-agrees (cut at) before s a y from p K N h E H S L w sig few b l = refl
-    inside-agrees (next at tag v fs) before s a y from p K N h E H S L w sig few b l =
-        let q = accepted at tag v fs before s a in
+        (fs : RawFields) (before : List Field) (progress : Progress) → checkFields fs before progress ≡ ok tt → ValueBytes fs → (from : ℕ) → Placed bs from fs
+        → (keywords outsides head : ℕ) (E : Env) (heads : List ℕ) (S : Signature) (L : List ℕ) → Shows E heads fs → signatureAt bs head ≡ bytesOf S
+        → length (S .params) ≤ 4 → Inside (progress .last) → length L ≤ 4 + progress .items
+        → bytesVerdict fs keywords outsides head heads L ≡ fieldsVerdict fs keywords outsides E S L
+    inside-agrees (end at) before progress a y from p keywords outsides head E heads S L w sig few b l = refl
+    inside-agrees (cut at) before progress a y from p keywords outsides head E heads S L w sig few b l = refl
+    inside-agrees (next at tag v fs) before progress a y from p keywords outsides head E heads S L w sig few b l =
+        let q = accepted at tag v fs before progress a in
         by-tag
-        (λ t. Passes before t v s → checkFields fs (field t v ∷ before) (passed t s) ≡ ok tt → Shows E H (next at t v fs)
-        → bytesVerdict (next at t v fs) K N h H L ≡ fieldsVerdict (next at t v fs) K N E S L)
+        (λ t. Passes before t v progress → checkFields fs (field t v ∷ before) (passed t progress) ≡ ok tt → Shows E heads (next at t v fs)
+        → bytesVerdict (next at t v fs) keywords outsides head heads L ≡ fieldsVerdict (next at t v fs) keywords outsides E S L)
         (λ o r w. absurd (never-inside 1 b refl refl (o .ordered)))
         (λ o r w. absurd (never-inside 2 b refl refl (o .ordered)))
         (λ o r w. absurd (never-inside 3 b refl refl (o .ordered)))
         (λ o r w. absurd (never-inside 4 b refl refl (o .ordered)))
         (λ o r w. absurd (never-inside 5 b refl refl (o .ordered)))
         (λ o r w.
-        let room : s .items < 12 = ltb-true (s .items) 12 (room-of 6 s (o .room) .items) in
-        item-case fs K N h E H S L at (itemAt bs (contextOf (scope K N E) h H L) v)
+        let room : progress .items < 12 = ltb-true (progress .items) 12 (room-of 6 progress (o .room) .items) in
+        item-case fs keywords outsides head E heads S L at (itemAt bs (contextOf (scope keywords outsides E) head heads L) v)
         (λ x.
-        ap (bytesVerdict fs K N h H) (one-more L x (omega arith))
-        ∙ inside-agrees fs (field 6 v ∷ before) (passed 6 s) r (y .1) (at + 3) (p .2) K N h E H S (L ++ (x ∷ []))
+        ap (bytesVerdict fs keywords outsides head heads) (one-more L x (omega arith))
+        ∙ inside-agrees fs (field 6 v ∷ before) (passed 6 progress) r (y .1) (at + 3) (p .2) keywords outsides head E heads S (L ++ (x ∷ []))
         (record { size = w .size; knows = w .knows; below = w .below }) sig few after-item (omega (arith, length-append L (x ∷ []))))
-        ∙ rw (item-agrees bs (scope K N E) H (w .knows) h L at v (y .0) (o .known) (o .whole)))
+        ∙ rw (item-agrees bs (scope keywords outsides E) heads (w .knows) head L at v (y .0) (o .known) (o .whole)))
         (λ o r w.
-        rw (result-agrees bs (scope K N E) H (w .knows) h L at S v sig (y .0) (o .whole))
-        (result-case fs K N h E H S L [] (checkResult (scope K N E) L (S .result) at (headTemplate (found (templatesOf v))))
-        (between-agrees fs (field 7 v ∷ before) (passed 7 s) r (y .1) (at + 3) (p .2) K N h E H L S []
+        rw (result-agrees bs (scope keywords outsides E) heads (w .knows) head L at S v sig (y .0) (o .whole))
+        (result-case fs keywords outsides head E heads S L [] (checkResult (scope keywords outsides E) L (S .result) at (headTemplate (found (templatesOf v))))
+        (between-agrees fs (field 7 v ∷ before) (passed 7 progress) r (y .1) (at + 3) (p .2) keywords outsides head E heads L S []
         (record { size = w .size; knows = w .knows; below = w .below }) (after-result sig few))))
         (λ o r w. absurd (never-inside 8 b refl refl (o .ordered)))
         tag v (q .0 .known) (q .0) (q .1) w
@@ -236,82 +239,84 @@ module _ (bs : List ℕ) where
   not-naming : {last : ℕ} (tag : ℕ) → Naming last → follows tag 2 ≡ false → follows tag last ≡ true → ⊥
   not-naming tag after-name a e = true≢false (sym e ∙ a)
 
-  -- a block or the root, where K keywords and N outside names are defined
+  -- a block or the root, where `keywords` keywords and `outsides` outside names are defined
   first-block :
-      (at : ℕ) (v : List ℕ) (fs : RawFields) (before : List Field) (s : Progress) → checkFields fs (field 3 v ∷ before) (passed 3 s) ≡ ok tt
-      → ValueBytes fs → Placed bs (at + 3) fs → (K N : ℕ) (H : List ℕ) → Shows [] H (next at 3 v fs)
-      → bytesVerdict (next at 3 v fs) K N 0 H [] ≡ verdict (blocksBy (next at 3 v fs) K N [])
+      (at : ℕ) (value : List ℕ) (fs : RawFields) (before : List Field) (progress : Progress) → checkFields fs (field 3 value ∷ before) (passed 3 progress)
+      ≡ ok tt → ValueBytes fs → Placed bs (at + 3) fs → (keywords outsides : ℕ) (heads : List ℕ) → Shows [] heads (next at 3 value fs)
+      → bytesVerdict (next at 3 value fs) keywords outsides 0 heads [] ≡ verdict (blocksBy (next at 3 value fs) keywords outsides [])
   unfolding passed
-  first-block at v fs before s r y p K N H w =
-      block-agrees at v fs K N 0 [] H [] p (field 3 v ∷ before) (passed 3 s) r w
-      (λ own H′ d. between-agrees fs (field 3 v ∷ before) (passed 3 s) r y (at + 3) p K N 0 (own ++ []) H′ [] (gives [] unit) [] d after-block)
+  first-block at value fs before progress r y p keywords outsides heads w =
+      block-agrees at value fs keywords outsides 0 [] heads [] p (field 3 value ∷ before) (passed 3 progress) r w
+      (λ own H′ d. between-agrees fs (field 3 value ∷ before) (passed 3 progress) r y (at + 3) p keywords outsides 0 (own ++ []) H′ []
+      (gives [] unit) [] d after-block)
 
   names-agree :
-      (fs : RawFields) (before : List Field) (s : Progress) → checkFields fs before s ≡ ok tt → ValueBytes fs → (from : ℕ) → Placed bs from fs
-      → (K N : ℕ) (H : List ℕ) → Shows [] H fs → Naming (s .last)
-      → bytesVerdict fs K N 0 H [] ≡ verdict (blocksBy fs K (N + length (leading 2 fs)) [])
+      (fs : RawFields) (before : List Field) (progress : Progress) → checkFields fs before progress ≡ ok tt → ValueBytes fs → (from : ℕ) → Placed bs from fs
+      → (keywords outsides : ℕ) (heads : List ℕ) → Shows [] heads fs → Naming (progress .last)
+      → bytesVerdict fs keywords outsides 0 heads [] ≡ verdict (blocksBy fs keywords (outsides + length (leading 2 fs)) [])
   unfolding sortsFrom stepAt blocksBy endOf passed follows leading
-  names-agree (end at) before s a y from p K N H w b = refl
-  names-agree (cut at) before s a y from p K N H w b = refl
-  names-agree (next at tag v fs) before s a y from p K N H w b =
-      let q = accepted at tag v fs before s a in
+  names-agree (end at) before progress a y from p keywords outsides heads w b = refl
+  names-agree (cut at) before progress a y from p keywords outsides heads w b = refl
+  names-agree (next at tag v fs) before progress a y from p keywords outsides heads w b =
+      let q = accepted at tag v fs before progress a in
       by-tag
-      (λ t. Passes before t v s → checkFields fs (field t v ∷ before) (passed t s) ≡ ok tt → Shows [] H (next at t v fs)
-      → bytesVerdict (next at t v fs) K N 0 H [] ≡ verdict (blocksBy (next at t v fs) K (N + length (leading 2 (next at t v fs))) []))
+      (λ t. Passes before t v progress → checkFields fs (field t v ∷ before) (passed t progress) ≡ ok tt → Shows [] heads (next at t v fs)
+      → bytesVerdict (next at t v fs) keywords outsides 0 heads []
+      ≡ verdict (blocksBy (next at t v fs) keywords (outsides + length (leading 2 (next at t v fs))) []))
       (λ o r w. absurd (not-naming 1 b refl (o .ordered)))
       (λ o r w.
-      let z : N + 1 + length (leading 2 fs) ≡ N + suc (length (leading 2 fs)) = omega arith in
-      cc (names-agree fs (field 2 v ∷ before) (passed 2 s) r (y .1) (at + 3) (p .2) K (N + 1) H
+      let z : outsides + 1 + length (leading 2 fs) ≡ outsides + suc (length (leading 2 fs)) = omega arith in
+      cc (names-agree fs (field 2 v ∷ before) (passed 2 progress) r (y .1) (at + 3) (p .2) keywords (outsides + 1) heads
       (record { size = w .size; knows = w .knows; below = w .below }) after-name))
       (λ o r w.
-      cc (first-block at v fs before s r (y .1) (p .2) K N H w, add-zero N))
+      cc (first-block at v fs before progress r (y .1) (p .2) keywords outsides heads w, add-zero outsides))
       (λ o r w. absurd (not-naming 4 b refl (o .ordered)))
       (λ o r w. absurd (not-naming 5 b refl (o .ordered)))
       (λ o r w. absurd (not-naming 6 b refl (o .ordered)))
       (λ o r w. absurd (not-naming 7 b refl (o .ordered)))
-      (λ o r w. root-verdict at v fs K N 0 [] H [] (p .2) (o .known) w)
+      (λ o r w. root-verdict at v fs keywords outsides 0 [] heads [] (p .2) (o .known) w)
       tag v (q .0 .known) (q .0) (q .1) w
 
   spellings-agree :
-      (fs : RawFields) (before : List Field) (s : Progress) → checkFields fs before s ≡ ok tt → ValueBytes fs → (from : ℕ) → Placed bs from fs
-      → (K : ℕ) (H : List ℕ) → Shows [] H fs → Spelling (s .last)
-      → bytesVerdict fs K 0 0 H [] ≡ verdict (blocksBy fs (K + length (leading 1 fs)) (length (leading 2 (afterLeading 1 fs))) [])
+      (fs : RawFields) (before : List Field) (progress : Progress) → checkFields fs before progress ≡ ok tt → ValueBytes fs → (from : ℕ) → Placed bs from fs
+      → (keywords : ℕ) (heads : List ℕ) → Shows [] heads fs → Spelling (progress .last)
+      → bytesVerdict fs keywords 0 0 heads [] ≡ verdict (blocksBy fs (keywords + length (leading 1 fs)) (length (leading 2 (afterLeading 1 fs))) [])
   unfolding sortsFrom stepAt blocksBy endOf passed follows leading afterLeading
-  spellings-agree (end at) before s a y from p K H w b = refl
-  spellings-agree (cut at) before s a y from p K H w b = refl
-  spellings-agree (next at tag v fs) before s a y from p K H w b =
-      let q = accepted at tag v fs before s a in
+  spellings-agree (end at) before progress a y from p keywords heads w b = refl
+  spellings-agree (cut at) before progress a y from p keywords heads w b = refl
+  spellings-agree (next at tag v fs) before progress a y from p keywords heads w b =
+      let q = accepted at tag v fs before progress a in
       by-tag
-      (λ t. Passes before t v s → checkFields fs (field t v ∷ before) (passed t s) ≡ ok tt → Shows [] H (next at t v fs)
-      → bytesVerdict (next at t v fs) K 0 0 H []
+      (λ t. Passes before t v progress → checkFields fs (field t v ∷ before) (passed t progress) ≡ ok tt → Shows [] heads (next at t v fs)
+      → bytesVerdict (next at t v fs) keywords 0 0 heads []
       ≡ verdict
-      (blocksBy (next at t v fs) (K + length (leading 1 (next at t v fs))) (length (leading 2 (afterLeading 1 (next at t v fs)))) []))
+      (blocksBy (next at t v fs) (keywords + length (leading 1 (next at t v fs))) (length (leading 2 (afterLeading 1 (next at t v fs)))) []))
       (λ o r w.
-      let z : K + 1 + length (leading 1 fs) ≡ K + suc (length (leading 1 fs)) = omega arith in
-      cc (spellings-agree fs (field 1 v ∷ before) (passed 1 s) r (y .1) (at + 3) (p .2) (K + 1) H
+      let z : keywords + 1 + length (leading 1 fs) ≡ keywords + suc (length (leading 1 fs)) = omega arith in
+      cc (spellings-agree fs (field 1 v ∷ before) (passed 1 progress) r (y .1) (at + 3) (p .2) (keywords + 1) heads
       (record { size = w .size; knows = w .knows; below = w .below }) after-keyword))
       (λ o r w.
       let z : 1 + length (leading 2 fs) ≡ suc (length (leading 2 fs)) = omega arith in
       cc (
-        names-agree fs (field 2 v ∷ before) (passed 2 s) r (y .1) (at + 3) (p .2) K 1 H
+        names-agree fs (field 2 v ∷ before) (passed 2 progress) r (y .1) (at + 3) (p .2) keywords 1 heads
             (record { size = w .size; knows = w .knows; below = w .below }) after-name,
-        add-zero K,
+        add-zero keywords,
       ))
       (λ o r w.
-      cc (first-block at v fs before s r (y .1) (p .2) K 0 H w, add-zero K))
+      cc (first-block at v fs before progress r (y .1) (p .2) keywords 0 heads w, add-zero keywords))
       (λ o r w. absurd (not-spelling 4 b refl refl (o .ordered)))
       (λ o r w. absurd (not-spelling 5 b refl refl (o .ordered)))
       (λ o r w. absurd (not-spelling 6 b refl refl (o .ordered)))
       (λ o r w. absurd (not-spelling 7 b refl refl (o .ordered)))
-      (λ o r w. root-verdict at v fs K 0 0 [] H [] (p .2) (o .known) w)
+      (λ o r w. root-verdict at v fs keywords 0 0 [] heads [] (p .2) (o .known) w)
       tag v (q .0 .known) (q .0) (q .1) w
 
   -- ------------------------------------------------------------------ the whole table
 
-  no-heads : (k n : ℕ) → getD {A = ℕ} (replicate k 0) n 0 ≡ 0
-  no-heads zero n = refl
-  no-heads (suc k) zero = refl
-  no-heads (suc k) (suc n) = no-heads k n
+  no-heads : (count place : ℕ) → getD {A = ℕ} (replicate count 0) place 0 ≡ 0
+  no-heads zero place = refl
+  no-heads (suc count) zero = refl
+  no-heads (suc count) (suc place) = no-heads count place
 
   nothing-shown : (fs : RawFields) → Shows [] (replicate 64 0) fs
   unfolding isDefined

@@ -30,15 +30,15 @@ abbrev pub Below : List ℕ → ℕ → Type 0
 Below H limit = (n : ℕ) → getD H n 0 ≤ limit
 
 -- one head more
-below-more : (H : List ℕ) (n at limit : ℕ) → Below H limit → at ≤ limit → Below (set H n at) limit
-below-more H n at limit b h j =
-    by-test (eqb j n)
+below-more : (heads : List ℕ) (nonterminal at limit : ℕ) → Below heads limit → at ≤ limit → Below (set heads nonterminal at) limit
+below-more heads nonterminal at limit b h j =
+    by-test (eqb j nonterminal)
     (λ e.
-    let z : j ≡ n = eqb-true j n e in
-    by-test (leb (length H) n)
-    (λ l. rw (set-out H n at (leb-true (length H) n l)) (b j))
-    (λ l. rw z (rw (getD-set-same H n at 0 (leb-false (length H) n l)) h)))
-    (λ e. rw (getD-set-other H n j at 0 (eqb-false j n e)) (b j))
+    let z : j ≡ nonterminal = eqb-true j nonterminal e in
+    by-test (leb (length heads) nonterminal)
+    (λ l. rw (set-out heads nonterminal at (leb-true (length heads) nonterminal l)) (b j))
+    (λ l. rw z (rw (getD-set-same heads nonterminal at 0 (leb-false (length heads) nonterminal l)) h)))
+    (λ e. rw (getD-set-other heads nonterminal j at 0 (eqb-false j nonterminal e)) (b j))
 
 -- both checks agree: the same refusal, or an environment and the heads that show it
 abbrev pub Agree : List ℕ → Env → ℕ → ℕ → Checked Env → Collected → Type 0
@@ -49,44 +49,44 @@ Agree bs E block limit (bad r) (collected (Refused q) H) = r ≡ q
 
 module _ (bs : List ℕ) (E : Env) (block : ℕ) where
   -- one field, by what it is and what the fields behind it give
-  module _ (at tag : ℕ) (v : List ℕ) (fs : RawFields) (own : Env) (H : List ℕ)
-      (other : Below H (endOf fs) → Agree bs E block (endOf fs) (collectBy fs E own) (collectFrom fs bs block H)) where
+  module _ (at tag : ℕ) (value : List ℕ) (fs : RawFields) (own : Env) (heads : List ℕ)
+      (other : Below heads (endOf fs) → Agree bs E block (endOf fs) (collectBy fs E own) (collectFrom fs bs block heads)) where
     abbrev fieldsGive : Bool → Bool → Checked Env
     fieldsGive ends head =
         choose (ok own)
-        (choose (consistent (headOf v .mode) E own (headOf v) at >> collectBy fs E (entryOf (headOf v) ∷ own)) (collectBy fs E own) head)
+        (choose (consistent (headOf value .mode) E own (headOf value) at >> collectBy fs E (entryOf (headOf value) ∷ own)) (collectBy fs E own) head)
         ends
 
     abbrev bytesGive : Bool → Bool → Collected
     bytesGive ends head =
-        choose (collected Passed H)
+        choose (collected Passed heads)
         (choose
-        (choose (collectFrom fs bs block (withHead bs at H)) (collected (Refused (refusal (faultOf bs at block H) at 0 0)) H)
-        (eqb (faultOf bs at block H) 0))
-        (collectFrom fs bs block H) head)
+        (choose (collectFrom fs bs block (withHead bs at heads)) (collected (Refused (refusal (faultOf bs at block heads) at 0 0)) heads)
+        (eqb (faultOf bs at block heads) 0))
+        (collectFrom fs bs block heads) head)
         ends
 
     -- a head: refused by both, or one more
     refused-or-more :
         (clean : Bool)
-        → Agree bs E block (endOf fs) (collectBy fs E (entryOf (headOf v) ∷ own)) (collectFrom fs bs block (withHead bs at H))
+        → Agree bs E block (endOf fs) (collectBy fs E (entryOf (headOf value) ∷ own)) (collectFrom fs bs block (withHead bs at heads))
         → Agree bs E block (endOf fs)
-        (choose (ok (tt {0})) (bad (refusal (faultOf bs at block H) at 0 0)) clean >> collectBy fs E (entryOf (headOf v) ∷ own))
-        (choose (collectFrom fs bs block (withHead bs at H)) (collected (Refused (refusal (faultOf bs at block H) at 0 0)) H) clean)
+        (choose (ok (tt {0})) (bad (refusal (faultOf bs at block heads) at 0 0)) clean >> collectBy fs E (entryOf (headOf value) ∷ own))
+        (choose (collectFrom fs bs block (withHead bs at heads)) (collected (Refused (refusal (faultOf bs at block heads) at 0 0)) heads) clean)
     refused-or-more true more = more
     refused-or-more false more = refl
 
     head-agrees :
-        consistent (headOf v .mode) E own (headOf v) at
-        ≡ choose (ok tt) (bad (refusal (faultOf bs at block H) at 0 0)) (eqb (faultOf bs at block H) 0)
-        → Agree bs E block (endOf fs) (collectBy fs E (entryOf (headOf v) ∷ own)) (collectFrom fs bs block (withHead bs at H))
+        consistent (headOf value .mode) E own (headOf value) at
+        ≡ choose (ok tt) (bad (refusal (faultOf bs at block heads) at 0 0)) (eqb (faultOf bs at block heads) 0)
+        → Agree bs E block (endOf fs) (collectBy fs E (entryOf (headOf value) ∷ own)) (collectFrom fs bs block (withHead bs at heads))
         → Agree bs E block (endOf fs) (fieldsGive false true) (bytesGive false true)
     head-agrees q more =
-        rw q (refused-or-more (eqb (faultOf bs at block H) 0) more)
+        rw q (refused-or-more (eqb (faultOf bs at block heads) 0) more)
 
     field-agrees :
-        (ends head : Bool) → Collects bs E own block H → Below H (choose at (endOf fs) ends)
-        → (head ≡ true → Below H (endOf fs) → Agree bs E block (endOf fs) (fieldsGive false true) (bytesGive false true))
+        (ends head : Bool) → Collects bs E own block heads → Below heads (choose at (endOf fs) ends)
+        → (head ≡ true → Below heads (endOf fs) → Agree bs E block (endOf fs) (fieldsGive false true) (bytesGive false true))
         → Agree bs E block (choose at (endOf fs) ends) (fieldsGive ends head) (bytesGive ends head)
     field-agrees true head c b h = (c, b)
     field-agrees false true c b h = h refl b
@@ -94,22 +94,22 @@ module _ (bs : List ℕ) (E : Env) (block : ℕ) where
 
   -- the heads of a block are collected from the bytes as from the fields
   pub collect-agrees :
-      (fs : RawFields) (before : List Field) (s : Progress) (own : Env) (H : List ℕ) → checkFields fs before s ≡ ok tt
-      → Placed bs (block + 1) fs → Collects bs E own block H → Below H (endOf fs)
-      → Agree bs E block (endOf fs) (collectBy fs E own) (collectFrom fs bs block H)
+      (fs : RawFields) (before : List Field) (progress : Progress) (own : Env) (heads : List ℕ) → checkFields fs before progress ≡ ok tt
+      → Placed bs (block + 1) fs → Collects bs E own block heads → Below heads (endOf fs)
+      → Agree bs E block (endOf fs) (collectBy fs E own) (collectFrom fs bs block heads)
   unfolding collectBy collectFrom endOf
-  collect-agrees (end at) before s own H a p c b = (c, b)
-  collect-agrees (cut at) before s own H a p c b = (c, b)
-  collect-agrees (next at tag v fs) before s own H a p c b =
-      let q = accepted at tag v fs before s a in
+  collect-agrees (end at) before progress own heads a p c b = (c, b)
+  collect-agrees (cut at) before progress own heads a p c b = (c, b)
+  collect-agrees (next at tag v fs) before progress own heads a p c b =
+      let q = accepted at tag v fs before progress a in
       let low : block + 1 ≤ at = p .0 in
       let rest : Placed bs (block + 1) fs = placed-from-lower bs (at + 3) (block + 1) fs (omega arith) (p .2) in
-      field-agrees at tag v fs own H (λ l. collect-agrees fs (field tag v ∷ before) (passed tag s) own H (q .1) rest c l)
+      field-agrees at tag v fs own heads (λ l. collect-agrees fs (field tag v ∷ before) (passed tag progress) own heads (q .1) rest c l)
       (endsBlock tag) (eqb tag 4) c b
       (λ e l.
       let h : Head v = head-known v (rw (← (eqb-true tag 4 e)) (q .0 .known)) in
       let behind : at + 3 ≤ endOf fs = placed-end bs (at + 3) fs (p .2) in
-      head-agrees at tag v fs own H (λ l. collect-agrees fs (field tag v ∷ before) (passed tag s) own H (q .1) rest c l)
-      (head-same bs E own block H c at (p .1) h)
-      (collect-agrees fs (field tag v ∷ before) (passed tag s) (entryOf (headOf v) ∷ own) (withHead bs at H) (q .1) rest
-      (head-more bs E own block H c at (p .1) h (omega arith)) (below-more H (getD bs (at + 3) 0) at (endOf fs) l (omega arith))))
+      head-agrees at tag v fs own heads (λ l. collect-agrees fs (field tag v ∷ before) (passed tag progress) own heads (q .1) rest c l)
+      (head-same bs E own block heads c at (p .1) h)
+      (collect-agrees fs (field tag v ∷ before) (passed tag progress) (entryOf (headOf v) ∷ own) (withHead bs at heads) (q .1) rest
+      (head-more bs E own block heads c at (p .1) h (omega arith)) (below-more heads (getD bs (at + 3) 0) at (endOf fs) l (omega arith))))

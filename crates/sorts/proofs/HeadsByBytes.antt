@@ -32,7 +32,7 @@ use Rattle.judgements.proofs.Environments.{defined-here, defined-later, signatu
 -- ------------------------------------------------------------------ a head
 
 -- a known head: nonterminal, mode, result, parameters
-pub record Head (v : List ℕ) : Type 0 where
+pub record Head (value : List ℕ) : Type 0 where
   -- the nonterminal defined
   pub nonterminal : ℕ
   -- how it is defined: add, extend or update
@@ -42,19 +42,19 @@ pub record Head (v : List ℕ) : Type 0 where
   -- the sorts of its parameters
   pub params : List ℕ
   -- the value is these bytes in order
-  pub shape : v ≡ nonterminal ∷ modeCode mode ∷ result ∷ params
+  pub shape : value ≡ nonterminal ∷ modeCode mode ∷ result ∷ params
   -- the nonterminal is below 64
   pub low : nonterminal < 64
   -- there are at most four parameters
   pub few : length params ≤ 4
 
 -- a value that passes as a head is one
-pub head-known : (v : List ℕ) → isKnown 4 v ≡ true → Head v
+pub head-known : (value : List ℕ) → isKnown 4 value ≡ true → Head value
 unfolding definitionOf headValue
-head-known v e =
-    let h = head-value v e (record { items = []; result = variable 0 } ∷ [])
+head-known value e =
+    let h = head-value value e (record { items = []; result = variable 0 } ∷ [])
     (each-more (record { items = each-none; itemCount = omega arith; result = variable-within (omega arith) }) each-none) (omega arith) in
-    let d : Definition = definitionOf v (record { items = []; result = variable 0 } ∷ []) in
+    let d : Definition = definitionOf value (record { items = []; result = variable 0 } ∷ []) in
     let low : d .nonterminal < most .nonterminals = h .1 .nonterminal in
     record {
       nonterminal = d .nonterminal;
@@ -70,107 +70,109 @@ head-known v e =
 abbrev pub bytesOf : Signature → List ℕ
 bytesOf S = S .result ∷ S .params
 
-mode-of : (m : Mode) (n r : ℕ) (ps : List ℕ) → headOf (n ∷ modeCode m ∷ r ∷ ps) .mode ≡ m
+mode-of : (mode : Mode) (nonterminal result-sort : ℕ) (ps : List ℕ) → headOf (nonterminal ∷ modeCode mode ∷ result-sort ∷ ps) .mode ≡ mode
 unfolding definitionOf
-mode-of add n r ps = refl
-mode-of extend n r ps = refl
-mode-of update n r ps = refl
+mode-of add nonterminal result-sort ps = refl
+mode-of extend nonterminal result-sort ps = refl
+mode-of update nonterminal result-sort ps = refl
 
-module _ (bs : List ℕ) (at : ℕ) {v : List ℕ} (p : v ≡ valueAt bs at) (h : Head v) where
+module _ (bs : List ℕ) (at : ℕ) {value : List ℕ} (equal : value ≡ valueAt bs at) (given-head : Head value) where
   -- the bytes of the table that hold it
-  byte-at : (i x : ℕ) → i < 3 → getD (h .nonterminal ∷ modeCode (h .mode) ∷ h .result ∷ h .params) i 0 ≡ x → getD bs (at + 3 + i) 0 ≡ x
-  byte-at i x l e =
+  byte-at : (place byte : ℕ) → place < 3 → getD (given-head .nonterminal ∷ modeCode (given-head .mode) ∷ given-head .result ∷ given-head .params) place 0 ≡ byte
+      → getD bs (at + 3 + place) 0 ≡ byte
+  byte-at place byte l e =
       let size : ℕ = getD bs (at + 1) 0 * 256 + getD bs (at + 2) 0 in
-      let long : suc (suc (suc (length (h .params)))) ≡ length (valueAt bs at) = ap length (sym (h .shape) ∙ p) in
-      cc (getD-drop (at + 3) bs i 0, getD-take size (drop (at + 3) bs) i 0 (omega (arith, length-take size (drop (at + 3) bs))), h .shape)
+      let long : suc (suc (suc (length (given-head .params)))) ≡ length (valueAt bs at) = ap length (sym (given-head .shape) ∙ equal) in
+      cc (getD-drop (at + 3) bs place 0, getD-take size (drop (at + 3) bs) place 0 (omega (arith, length-take size (drop (at + 3) bs))), given-head .shape)
 
   -- its nonterminal
-  head-nonterminal : getD bs (at + 3) 0 ≡ h .nonterminal
-  head-nonterminal = cc (add-zero (at + 3), byte-at 0 (h .nonterminal) (omega arith) refl)
+  head-nonterminal : getD bs (at + 3) 0 ≡ given-head .nonterminal
+  head-nonterminal = cc (add-zero (at + 3), byte-at 0 (given-head .nonterminal) (omega arith) refl)
 
   -- its mode
-  head-mode : getD bs (at + 4) 0 ≡ modeCode (h .mode)
-  head-mode = cc (add-assoc at 3 1, byte-at 1 (modeCode (h .mode)) (omega arith) refl)
+  head-mode : getD bs (at + 4) 0 ≡ modeCode (given-head .mode)
+  head-mode = cc (add-assoc at 3 1, byte-at 1 (modeCode (given-head .mode)) (omega arith) refl)
 
   -- its signature
-  pub head-signature : signatureAt bs at ≡ bytesOf (headOf v .signature)
+  pub head-signature : signatureAt bs at ≡ bytesOf (headOf value .signature)
   unfolding signatureAt definitionOf
   head-signature =
-      cc (h .shape, take-all 5 (h .result ∷ h .params) (omega (arith, h .few)))
+      cc (given-head .shape, take-all 5 (given-head .result ∷ given-head .params) (omega (arith, given-head .few)))
 
 -- as the definition has them
-head-of-nonterminal : {v : List ℕ} (h : Head v) → headOf v .nonterminal ≡ h .nonterminal
+head-of-nonterminal : {value : List ℕ} (given-head : Head value) → headOf value .nonterminal ≡ given-head .nonterminal
 unfolding definitionOf
-head-of-nonterminal h = cc (h .shape)
+head-of-nonterminal given-head = cc (given-head .shape)
 
 -- as the definition has it
-head-of-mode : {v : List ℕ} (h : Head v) → headOf v .mode ≡ h .mode
-head-of-mode h = cc (h .shape, mode-of (h .mode) (h .nonterminal) (h .result) (h .params))
+head-of-mode : {value : List ℕ} (given-head : Head value) → headOf value .mode ≡ given-head .mode
+head-of-mode given-head = cc (given-head .shape, mode-of (given-head .mode) (given-head .nonterminal) (given-head .result) (given-head .params))
 
 -- four parameters at most
-pub head-few : {v : List ℕ} (h : Head v) → length (headOf v .signature .params) ≤ 4
+pub head-few : {value : List ℕ} (given-head : Head value) → length (headOf value .signature .params) ≤ 4
 unfolding definitionOf
-head-few h = rw (h .shape) (h .few)
+head-few given-head = rw (given-head .shape) (given-head .few)
 
 -- ------------------------------------------------------------------ environments
 
 -- one nonterminal: its head's offset is not 0 exactly if it is defined, and the head has its newest signature
-pub record Knows (bs : List ℕ) (E : Env) (H : List ℕ) (n : ℕ) : Type 0 where
+pub record Knows (bs : List ℕ) (E : Env) (known-heads : List ℕ) (nonterminal : ℕ) : Type 0 where
   -- it has a head exactly if it is defined
-  pub defined : ltb 0 (getD H n 0) ≡ isDefined E n
+  pub defined : ltb 0 (getD known-heads nonterminal 0) ≡ isDefined E nonterminal
   -- the head of a defined one spells its newest signature
-  pub shown : isDefined E n ≡ true → signatureAt bs (getD H n 0) ≡ bytesOf (signatureOf E n)
+  pub shown : isDefined E nonterminal ≡ true → signatureAt bs (getD known-heads nonterminal 0) ≡ bytesOf (signatureOf E nonterminal)
 
 -- a number is 0 exactly if it is not above 0
-pub zero-test : (k : ℕ) → eqb k 0 ≡ not (ltb 0 k)
-zero-test k =
-    by-test (ltb 0 k) (λ e. ne-eqb k 0 (λ z. let l : 0 < k = ltb-true 0 k e in omega arith) ∙ sym (ap not e))
-    (λ e. eq-eqb k 0 (let l : k ≤ 0 = ltb-false 0 k e in omega arith) ∙ sym (ap not e))
+pub zero-test : (count : ℕ) → eqb count 0 ≡ not (ltb 0 count)
+zero-test count =
+    by-test (ltb 0 count) (λ e. ne-eqb count 0 (λ z. let l : 0 < count = ltb-true 0 count e in omega arith) ∙ sym (ap not e))
+    (λ e. eq-eqb count 0 (let l : count ≤ 0 = ltb-false 0 count e in omega arith) ∙ sym (ap not e))
 
 -- an environment followed by another
-append-defined : (own E : Env) (n : ℕ) → isDefined (own ++ E) n ≡ (isDefined own n || isDefined E n)
+append-defined : (own E : Env) (nonterminal : ℕ) → isDefined (own ++ E) nonterminal ≡ (isDefined own nonterminal || isDefined E nonterminal)
 unfolding isDefined
-append-defined [] E n = refl
-append-defined (e ∷ own) E n =
-    by-test (eqb (e .nonterminal) n)
-    (λ q. cc (defined-here e (own ++ E) n q, defined-here e own n q))
+append-defined [] E nonterminal = refl
+append-defined (e ∷ own) E nonterminal =
+    by-test (eqb (e .nonterminal) nonterminal)
+    (λ q. cc (defined-here e (own ++ E) nonterminal q, defined-here e own nonterminal q))
     (λ q.
-    cc (defined-later e (own ++ E) n q, append-defined own E n, defined-later e own n q))
+    cc (defined-later e (own ++ E) nonterminal q, append-defined own E nonterminal, defined-later e own nonterminal q))
 
-append-signature : (own E : Env) (n : ℕ) → isDefined own n ≡ false → signatureOf (own ++ E) n ≡ signatureOf E n
+append-signature : (own E : Env) (nonterminal : ℕ) → isDefined own nonterminal ≡ false → signatureOf (own ++ E) nonterminal ≡ signatureOf E nonterminal
 unfolding isDefined
-append-signature [] E n h = refl
-append-signature (e ∷ own) E n h =
-    by-test (eqb (e .nonterminal) n) (λ q. absurd (true≢false (sym (defined-here e own n q) ∙ h)))
-    (λ q. signature-later e (own ++ E) n q ∙ append-signature own E n (sym (defined-later e own n q) ∙ h))
+append-signature [] E nonterminal h = refl
+append-signature (e ∷ own) E nonterminal h =
+    by-test (eqb (e .nonterminal) nonterminal) (λ q. absurd (true≢false (sym (defined-here e own nonterminal q) ∙ h)))
+    (λ q. signature-later e (own ++ E) nonterminal q ∙ append-signature own E nonterminal (sym (defined-later e own nonterminal q) ∙ h))
 
 -- what a block has defined lies behind its beginning
-pub record Collects (bs : List ℕ) (E own : Env) (block : ℕ) (H : List ℕ) : Type 0 where
+pub record Collects (bs : List ℕ) (E own : Env) (block : ℕ) (known-heads : List ℕ) : Type 0 where
   -- there is a head for each nonterminal
-  pub size : length H ≡ 64
+  pub size : length known-heads ≡ 64
   -- each head shows what the block and the environment before it have
-  pub knows : (n : ℕ) → n < 64 → Knows bs (own ++ E) H n
+  pub knows : (nonterminal : ℕ) → nonterminal < 64 → Knows bs (own ++ E) known-heads nonterminal
   -- a head lies in front of the block exactly if the block does not define its nonterminal
-  pub here : (n : ℕ) → n < 64 → leb (getD H n 0) block ≡ not (isDefined own n)
+  pub here : (nonterminal : ℕ) → nonterminal < 64 → leb (getD known-heads nonterminal 0) block ≡ not (isDefined own nonterminal)
 
 -- three tests, each of which is asked only after those before it
 three :
-    (a b c a′ b′ c′ : Bool) → a ≡ a′ → (a′ ≡ true → b ≡ b′) → (a′ ≡ true → b′ ≡ true → c ≡ c′) → (a && b && c) ≡ (a′ && b′ && c′)
-three a b c true true c′ e f g = cc (f refl, g refl refl)
-three a b c true false c′ e f g = cc (f refl)
-three a b c false b′ c′ e f g = cc
+    (first second third first′ second′ third′ : Bool) → first ≡ first′ → (first′ ≡ true → second ≡ second′) → (first′ ≡ true → second′ ≡ true → third ≡ third′)
+    → (first && second && third) ≡ (first′ && second′ && third′)
+three first second third true true third′ e f g = cc (f refl, g refl refl)
+three first second third true false third′ e f g = cc (f refl)
+three first second third false second′ third′ e f g = cc
 
-module _ (bs : List ℕ) (E own : Env) (block : ℕ) (H : List ℕ) (c : Collects bs E own block H) (at : ℕ) {v : List ℕ}
-    (p : v ≡ valueAt bs at) (h : Head v) where
+module _ (bs : List ℕ) (E own : Env) (block : ℕ) (known-heads : List ℕ) (collects : Collects bs E own block known-heads) (at : ℕ) {value : List ℕ}
+    (equal : value ≡ valueAt bs at) (given-head : Head value) where
   n : ℕ
-  n = h .nonterminal
+  n = given-head .nonterminal
 
   head : ℕ
-  head = getD H n 0
+  head = getD known-heads n 0
 
-  known-head : Knows bs (own ++ E) H n
+  known-head : Knows bs (own ++ E) known-heads n
   unfolding n
-  known-head = c .knows n (h .low)
+  known-head = collects .knows n (given-head .low)
 
   -- refusal 7: no head
   new-same : eqb head 0 ≡ (not (isDefined own n) && not (isDefined E n))
@@ -180,58 +182,58 @@ module _ (bs : List ℕ) (E own : Env) (block : ℕ) (H : List ℕ) (c : Collect
       ∙ ap not (known-head .defined ∙ append-defined own E n)
       ∙ not-or (isDefined own n) (isDefined E n)
     where
-      not-or : (a b : Bool) → not (a || b) ≡ (not a && not b)
-      not-or true b = refl
-      not-or false b = refl
+      not-or : (first second : Bool) → not (first || second) ≡ (not first && not second)
+      not-or true second = refl
+      not-or false second = refl
 
   -- refusal 8: a head before the block, with the same signature
   before-same :
       (leb head block && ltb 0 head && same (signatureAt bs head) (signatureAt bs at))
-      ≡ (not (isDefined own n) && isDefined E n && sameSignature (signatureOf E n) (headOf v .signature))
+      ≡ (not (isDefined own n) && isDefined E n && sameSignature (signatureOf E n) (headOf value .signature))
   unfolding head n
   before-same =
       three (leb head block) (ltb 0 head) (same (signatureAt bs head) (signatureAt bs at)) (not (isDefined own n)) (isDefined E n)
-      (sameSignature (signatureOf E n) (headOf v .signature)) (c .here n (h .low))
+      (sameSignature (signatureOf E n) (headOf value .signature)) (collects .here n (given-head .low))
       (λ o. cc (known-head .defined, append-defined own E n, not-true (isDefined own n) o))
       (λ o e.
       let missing : isDefined own n ≡ false = not-true (isDefined own n) o in
       let known : isDefined (own ++ E) n ≡ true = cc (append-defined own E n) in
-      ap₂ same (known-head .shown known ∙ ap bytesOf (append-signature own E n missing)) (head-signature bs at p h))
+      ap₂ same (known-head .shown known ∙ ap bytesOf (append-signature own E n missing)) (head-signature bs at equal given-head))
 
   -- the refusal of the head is that of the definition
   outcome : ℕ → Checked (Unit {0})
   outcome fault = choose (ok tt) (bad (refusal fault at 0 0)) (eqb fault 0)
 
-  need-outcome-7 : (t : Bool) → need t 7 at ≡ outcome (choose 0 7 t)
+  need-outcome-7 : (test : Bool) → need test 7 at ≡ outcome (choose 0 7 test)
   unfolding outcome
   need-outcome-7 true = refl
   need-outcome-7 false = refl
 
-  need-outcome-8 : (t : Bool) → need t 8 at ≡ outcome (choose 0 8 t)
+  need-outcome-8 : (test : Bool) → need test 8 at ≡ outcome (choose 0 8 test)
   unfolding outcome
   need-outcome-8 true = refl
   need-outcome-8 false = refl
 
-  numbered : headOf v .nonterminal ≡ n
+  numbered : headOf value .nonterminal ≡ n
   unfolding n
-  numbered = head-of-nonterminal h
+  numbered = head-of-nonterminal given-head
 
-  coded : {m : Mode} → h .mode ≡ m → modeCode m ≡ getD bs (at + 4) 0
-  coded q = sym (head-mode bs at p h ∙ ap modeCode q)
+  coded : {mode : Mode} → given-head .mode ≡ mode → modeCode mode ≡ getD bs (at + 4) 0
+  coded q = sym (head-mode bs at equal given-head ∙ ap modeCode q)
 
-  new-outcome : (eqb (modeCode (h .mode)) 1 || eqb (modeCode (h .mode)) 2) ≡ false → need (isUnused E own (headOf v)) 7 at
-      ≡ outcome (faultOf bs at block H)
+  new-outcome : (eqb (modeCode (given-head .mode)) 1 || eqb (modeCode (given-head .mode)) 2) ≡ false → need (isUnused E own (headOf value)) 7 at
+      ≡ outcome (faultOf bs at block known-heads)
   unfolding head n
   new-outcome m =
       cc (
         numbered,
         new-same,
         need-outcome-7 (eqb head 0),
-        fault-new bs H at block (sym (head-nonterminal bs at p h)) (coded refl) refl m (eqb head 0) refl,
+        fault-new bs known-heads at block (sym (head-nonterminal bs at equal given-head)) (coded refl) refl m (eqb head 0) refl,
       )
 
-  before-outcome : (eqb (modeCode (h .mode)) 1 || eqb (modeCode (h .mode)) 2) ≡ true → need (isAsBefore E own (headOf v)) 8 at
-      ≡ outcome (faultOf bs at block H)
+  before-outcome : (eqb (modeCode (given-head .mode)) 1 || eqb (modeCode (given-head .mode)) 2) ≡ true → need (isAsBefore E own (headOf value)) 8 at
+      ≡ outcome (faultOf bs at block known-heads)
   unfolding head n
   before-outcome m =
       let good : Bool = leb head block && ltb 0 head && same (signatureAt bs head) (signatureAt bs at) in
@@ -239,81 +241,82 @@ module _ (bs : List ℕ) (E own : Env) (block : ℕ) (H : List ℕ) (c : Collect
         numbered,
         before-same,
         need-outcome-8 good,
-        fault-earlier bs H at block (sym (head-nonterminal bs at p h)) (coded refl) refl m refl refl refl good refl,
+        fault-earlier bs known-heads at block (sym (head-nonterminal bs at equal given-head)) (coded refl) refl m refl refl refl good refl,
       )
 
   -- the refusal of a head is that of its definition
   pub head-same :
-      consistent (headOf v .mode) E own (headOf v) at
-      ≡ choose (ok tt) (bad (refusal (faultOf bs at block H) at 0 0)) (eqb (faultOf bs at block H) 0)
+      consistent (headOf value .mode) E own (headOf value) at
+      ≡ choose (ok tt) (bad (refusal (faultOf bs at block known-heads) at 0 0)) (eqb (faultOf bs at block known-heads) 0)
   unfolding outcome
-  head-same = by (headOf v .mode) (sym (head-of-mode h))
+  head-same = by (headOf value .mode) (sym (head-of-mode given-head))
     where
-      by : (m : Mode) → h .mode ≡ m → consistent m E own (headOf v) at ≡ outcome (faultOf bs at block H)
+      by : (mode : Mode) → given-head .mode ≡ mode → consistent mode E own (headOf value) at ≡ outcome (faultOf bs at block known-heads)
       by add q = new-outcome (cc q)
       by extend q = before-outcome (cc q)
       by update q = before-outcome (cc q)
 
   -- one head more
-  module _ (l : block < at) where
+  module _ (later : block < at) where
     e : Declaration
-    e = entryOf (headOf v)
+    e = entryOf (headOf value)
 
     heads : List ℕ
-    heads = withHead bs at H
+    heads = withHead bs at known-heads
 
-    placed : heads ≡ set H n at
+    placed : heads ≡ set known-heads n at
     unfolding heads n
-    placed = cc (head-nonterminal bs at p h)
+    placed = cc (head-nonterminal bs at equal given-head)
 
     own-head : getD heads n 0 ≡ at
     unfolding heads n
-    own-head = cc (placed, getD-set-same H n at 0 (let k : n < 64 = h .low in omega (arith, c .size)))
+    own-head = cc (placed, getD-set-same known-heads n at 0 (let k : n < 64 = given-head .low in omega (arith, collects .size)))
 
-    other-head : (j : ℕ) → (j ≡ n → ⊥) → getD heads j 0 ≡ getD H j 0
-    other-head j d = cc (placed, getD-set-other H n j at 0 d)
+    other-head : (other : ℕ) → (other ≡ n → ⊥) → getD heads other 0 ≡ getD known-heads other 0
+    other-head other d = cc (placed, getD-set-other known-heads n other at 0 d)
 
     -- the new head's nonterminal, or another one
-    this : (j : ℕ) → eqb n j ≡ true → eqb (e .nonterminal) j ≡ true
+    this : (other : ℕ) → eqb n other ≡ true → eqb (e .nonterminal) other ≡ true
     unfolding e
-    this j q = cc numbered
+    this other q = cc numbered
 
-    that : (j : ℕ) → eqb n j ≡ false → eqb (e .nonterminal) j ≡ false
+    that : (other : ℕ) → eqb n other ≡ false → eqb (e .nonterminal) other ≡ false
     unfolding e
-    that j q = cc numbered
+    that other q = cc numbered
 
-    this-head : (j : ℕ) → eqb n j ≡ true → getD heads j 0 ≡ at
-    this-head j q = cc (eqb-true n j q, own-head)
+    this-head : (other : ℕ) → eqb n other ≡ true → getD heads other 0 ≡ at
+    this-head other q = cc (eqb-true n other q, own-head)
 
-    that-head : (j : ℕ) → eqb n j ≡ false → getD heads j 0 ≡ getD H j 0
-    that-head j q = other-head j (λ z. eqb-false n j q (sym z))
+    that-head : (other : ℕ) → eqb n other ≡ false → getD heads other 0 ≡ getD known-heads other 0
+    that-head other q = other-head other (λ z. eqb-false n other q (sym z))
 
-    knows-more : (j : ℕ) → j < 64 → Knows bs (e ∷ own ++ E) heads j
+    knows-more : (other : ℕ) → other < 64 → Knows bs (e ∷ own ++ E) heads other
     unfolding e
-    knows-more j k =
-        by-test (eqb n j)
+    knows-more other k =
+        by-test (eqb n other)
         (λ q.
         record {
-          defined = ap (ltb 0) (this-head j q) ∙ lt-ltb 0 at (omega arith) ∙ sym (defined-here e (own ++ E) j (this j q));
-          shown = λ d. ap (signatureAt bs) (this-head j q) ∙ head-signature bs at p h ∙ ap bytesOf (sym (signature-here e (own ++ E) j (this j q)));
+          defined = ap (ltb 0) (this-head other q) ∙ lt-ltb 0 at (omega arith) ∙ sym (defined-here e (own ++ E) other (this other q));
+          shown = λ d. ap (signatureAt bs) (this-head other q) ∙ head-signature bs at equal given-head
+              ∙ ap bytesOf (sym (signature-here e (own ++ E) other (this other q)));
         })
         (λ q.
-        let old = c .knows j k in
+        let old = collects .knows other k in
         record {
-          defined = ap (ltb 0) (that-head j q) ∙ old .defined ∙ sym (defined-later e (own ++ E) j (that j q));
+          defined = ap (ltb 0) (that-head other q) ∙ old .defined ∙ sym (defined-later e (own ++ E) other (that other q));
           shown = λ d.
-              ap (signatureAt bs) (that-head j q)
-              ∙ old .shown (sym (defined-later e (own ++ E) j (that j q)) ∙ d)
-              ∙ ap bytesOf (sym (signature-later e (own ++ E) j (that j q)));
+              ap (signatureAt bs) (that-head other q)
+              ∙ old .shown (sym (defined-later e (own ++ E) other (that other q)) ∙ d)
+              ∙ ap bytesOf (sym (signature-later e (own ++ E) other (that other q)));
         })
 
-    here-more : (j : ℕ) → j < 64 → leb (getD heads j 0) block ≡ not (isDefined (e ∷ own) j)
-    here-more j k =
-        by-test (eqb n j)
-        (λ q. cc (this-head j q, lt-leb at block l, defined-here e own j (this j q)))
-        (λ q. cc (that-head j q, c .here j k, defined-later e own j (that j q)))
+    here-more : (other : ℕ) → other < 64 → leb (getD heads other 0) block ≡ not (isDefined (e ∷ own) other)
+    here-more other k =
+        by-test (eqb n other)
+        (λ q. cc (this-head other q, lt-leb at block later, defined-here e own other (this other q)))
+        (λ q. cc (that-head other q, collects .here other k, defined-later e own other (that other q)))
 
     -- the heads show one entry more
-    pub head-more : Collects bs E (entryOf (headOf v) ∷ own) block (withHead bs at H)
+    pub head-more : Collects bs E (entryOf (headOf value) ∷ own) block (withHead bs at known-heads)
     unfolding e heads
-    head-more = record { size = length-set H (getD bs (at + 3) 0) at ∙ c .size; knows = knows-more; here = here-more }
+    head-more = record { size = length-set known-heads (getD bs (at + 3) 0) at ∙ collects .size; knows = knows-more; here = here-more }

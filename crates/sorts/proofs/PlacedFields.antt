@@ -32,7 +32,7 @@ placed-end bs from (end at) p = p
 placed-end bs from (cut at) p = p
 placed-end bs from (next at tag v fs) p = by (endsBlock tag) (placed-end bs (at + 3) fs (p .2))
   where
-    by : (t : Bool) → at + 3 ≤ endOf fs → from ≤ choose at (endOf fs) t
+    by : (test : Bool) → at + 3 ≤ endOf fs → from ≤ choose at (endOf fs) test
     by true h = p .0
     by false h = let q : from ≤ at = p .0 in omega arith
 
@@ -43,16 +43,16 @@ placed-from-lower bs from lower (cut at) h p = omega arith
 placed-from-lower bs from lower (next at tag v fs) h p = (let q : from ≤ at = p .0 in omega arith, p .1, p .2)
 
 fields-by :
-    (k at : ℕ) (rest : List ℕ) (empty whole : Bool) → eqb (length rest) 0 ≡ empty → leb (3 + sizeOf rest) (length rest) ≡ whole
-    → fieldsFrom (suc k) at rest
+    (fuel at : ℕ) (rest : List ℕ) (empty whole : Bool) → eqb (length rest) 0 ≡ empty → leb (3 + sizeOf rest) (length rest) ≡ whole
+    → fieldsFrom (suc fuel) at rest
     ≡ choose (end at)
-    (choose (next at (getD rest 0 0) (take (sizeOf rest) (drop 3 rest)) (fieldsFrom k (at + (3 + sizeOf rest)) (drop (3 + sizeOf rest) rest)))
+    (choose (next at (getD rest 0 0) (take (sizeOf rest) (drop 3 rest)) (fieldsFrom fuel (at + (3 + sizeOf rest)) (drop (3 + sizeOf rest) rest)))
     (cut at) whole)
     empty
 unfolding fieldsFrom
-fields-by k at rest empty whole e f =
+fields-by fuel at rest empty whole e f =
     let first : RawFields =
-    next at (getD rest 0 0) (take (sizeOf rest) (drop 3 rest)) (fieldsFrom k (at + (3 + sizeOf rest)) (drop (3 + sizeOf rest) rest)) in
+    next at (getD rest 0 0) (take (sizeOf rest) (drop 3 rest)) (fieldsFrom fuel (at + (3 + sizeOf rest)) (drop (3 + sizeOf rest) rest)) in
     cc
 
 module _ (bs : List ℕ) where
@@ -60,21 +60,21 @@ module _ (bs : List ℕ) where
   value-placed at =
       cc (getD-drop at bs 1 0, getD-drop at bs 2 0, drop-drop 3 at bs)
 
-  placed-from : (k at from : ℕ) → from ≤ at → Placed bs from (fieldsFrom k at (drop at bs))
+  placed-from : (fuel at from : ℕ) → from ≤ at → Placed bs from (fieldsFrom fuel at (drop at bs))
   unfolding fieldsFrom
   placed-from zero at from h = h
-  placed-from (suc k) at from h =
+  placed-from (suc fuel) at from h =
       let rest : List ℕ = drop at bs in
-      by-test (eqb (length rest) 0) (λ e. subst⁻¹ (Placed bs from) (fields-by k at rest true _ e refl) h)
+      by-test (eqb (length rest) 0) (λ e. subst⁻¹ (Placed bs from) (fields-by fuel at rest true _ e refl) h)
       (λ e.
       by-test (leb (3 + sizeOf rest) (length rest))
       (λ f.
-      subst⁻¹ (Placed bs from) (fields-by k at rest false true e f) (
+      subst⁻¹ (Placed bs from) (fields-by fuel at rest false true e f) (
         h,
         value-placed at,
-        rw (drop-drop (3 + sizeOf rest) at bs) (placed-from k (at + (3 + sizeOf rest)) (at + 3) (omega arith)),
+        rw (drop-drop (3 + sizeOf rest) at bs) (placed-from fuel (at + (3 + sizeOf rest)) (at + 3) (omega arith)),
       ))
-      (λ f. subst⁻¹ (Placed bs from) (fields-by k at rest false false e f) h))
+      (λ f. subst⁻¹ (Placed bs from) (fields-by fuel at rest false false e f) h))
 
   -- the fields of bytes stand at their offsets
   pub placed-fields : Placed bs 0 (fieldsOf bs)

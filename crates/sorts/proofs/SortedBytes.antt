@@ -14,7 +14,7 @@ use Rattle.sorts.proofs.BytesByFields.{bytes-sorts}
 use Rattle.sorts.proofs.ByFieldsSorts.{fields-sorts}
 
 -- On the bytes of a decoded table the code's check, `sortsOf`, is the verdict of the sort check of that table.
-pub bytes-checked : (bs : List ℕ) → Bytes bs → (t : Table) → decode bs ≡ ok t → sortsOf bs ≡ verdict (checkSorts t)
-bytes-checked bs b t e =
-    let laid = decoded-encoding bs b t e in
-    bytes-sorts bs b (decoded-layout bs t e .0) ∙ ap verdict (ap checkSortsBy (laid .0) ∙ fields-sorts t (laid .1))
+pub bytes-checked : (bs : List ℕ) → Bytes bs → (table : Table) → decode bs ≡ ok table → sortsOf bs ≡ verdict (checkSorts table)
+bytes-checked bs b table e =
+    let laid = decoded-encoding bs b table e in
+    bytes-sorts bs b (decoded-layout bs table e .0) ∙ ap verdict (ap checkSortsBy (laid .0) ∙ fields-sorts table (laid .1))

@@ -31,69 +31,72 @@ Ends P H (halt r cells) = H r
 
 -- a run that ends well, and then another
 pub ends-after : {A B : Type 0} (P : A → State → List ℕ → Type 0) (H : Refusal → Type 0) (Q : B → State → List ℕ → Type 0) (K : Refusal → Type 0)
-    (r : Result A) (k : A → Run B) → Ends P H r → ((a : A) (s : State) (cells : List ℕ) → P a s cells → Ends Q K (k a s cells))
-    → ((q : Refusal) → H q → K q) → Ends Q K (after r k)
-ends-after P H Q K (done a s cells) k p f h = f a s cells p
-ends-after P H Q K (halt q cells) k p f h = h q p
+    (result : Result A) (then-run : A → Run B) → Ends P H result
+    → ((item : A) (state : State) (cells : List ℕ) → P item state cells → Ends Q K (then-run item state cells))
+    → ((other : Refusal) → H other → K other) → Ends Q K (after result then-run)
+ends-after P H Q K (done a s cells) then-run p f h = f a s cells p
+ends-after P H Q K (halt q cells) then-run p f h = h q p
 
 -- a run ends as well as what follows from it
 pub ends-map : {A : Type 0} (P : A → State → List ℕ → Type 0) (H : Refusal → Type 0) (Q : A → State → List ℕ → Type 0) (K : Refusal → Type 0)
-    (r : Result A) → Ends P H r → ((a : A) (s : State) (cells : List ℕ) → P a s cells → Q a s cells) → ((q : Refusal) → H q → K q) → Ends Q K r
+    (result : Result A) → Ends P H result → ((item : A) (state : State) (cells : List ℕ) → P item state cells → Q item state cells)
+    → ((other : Refusal) → H other → K other) → Ends Q K result
 ends-map P H Q K (done a s cells) p f h = f a s cells p
 ends-map P H Q K (halt q cells) p f h = h q p
 
 -- the same, with what the run was
-pub after-by : {A B : Type 0} (Q : B → State → List ℕ → Type 0) (K : Refusal → Type 0) (r : Result A) (k : A → Run B)
-    → ((a : A) (s : State) (cells : List ℕ) → r ≡ done a s cells → Ends Q K (k a s cells))
-    → ((q : Refusal) (cells : List ℕ) → r ≡ halt q cells → K q) → Ends Q K (after r k)
-after-by Q K (done a s cells) k f h = f a s cells refl
-after-by Q K (halt q cells) k f h = h q cells refl
+pub after-by : {A B : Type 0} (Q : B → State → List ℕ → Type 0) (K : Refusal → Type 0) (result : Result A) (then-run : A → Run B)
+    → ((item : A) (state : State) (cells : List ℕ) → result ≡ done item state cells → Ends Q K (then-run item state cells))
+    → ((other : Refusal) (cells : List ℕ) → result ≡ halt other cells → K other) → Ends Q K (after result then-run)
+after-by Q K (done a s cells) then-run f h = f a s cells refl
+after-by Q K (halt q cells) then-run f h = h q cells refl
 
 -- two facts of one run
-pub ends-both : {A : Type 0} (P Q : A → State → List ℕ → Type 0) (H K : Refusal → Type 0) (x : Result A) → Ends P H x → Ends Q K x
-    → Ends (λ a s c. P a s c × Q a s c) (λ r. H r × K r) x
+pub ends-both : {A : Type 0} (P Q : A → State → List ℕ → Type 0) (H K : Refusal → Type 0) (result : Result A) → Ends P H result → Ends Q K result
+    → Ends (λ a s c. P a s c × Q a s c) (λ r. H r × K r) result
 ends-both P Q H K (done a s c) p q = (p, q)
 ends-both P Q H K (halt r c) p q = (p, q)
 
 -- ------------------------------------------------------------------ what templates make
 
--- n cells more, and nothing else moved; no more than the rows there are
-pub record Made (rows n : ℕ) (s : State) (cells : List ℕ) (s′ : State) (cells′ : List ℕ) : Type 0 where
+-- `new-rows` cells more, and nothing else moved; no more than the rows there are
+pub record Made (rows new-rows : ℕ) (state : State) (cells : List ℕ) (state′ : State) (cells′ : List ℕ) : Type 0 where
   -- rows are added only
-  pub grown : Grown (s .made) cells (s′ .made) cells′
+  pub grown : Grown (state .made) cells (state′ .made) cells′
   -- no token is read
-  pub at-kept : s′ .at ≡ s .at
+  pub at-kept : state′ .at ≡ state .at
   -- no new name is drawn
-  pub fresh-kept : s′ .fresh ≡ s .fresh
+  pub fresh-kept : state′ .fresh ≡ state .fresh
   -- no call is begun
-  pub calls-kept : s′ .calls ≡ s .calls
-  -- n rows are made
-  pub made-is : s′ .made ≡ s .made + n
+  pub calls-kept : state′ .calls ≡ state .calls
+  -- `new-rows` rows are made
+  pub made-is : state′ .made ≡ state .made + new-rows
   -- there is room for them
-  pub fits : s′ .made ≤ rows
+  pub fits : state′ .made ≤ rows
 
 -- refusal 21 where the cells wanted are more than the rows
-pub record Full (rows n : ℕ) (r : Refusal) : Type 0 where
+pub record Full (rows new-rows : ℕ) (cause : Refusal) : Type 0 where
   -- the refusal is 21
-  pub is-21 : r .number ≡ 21
+  pub is-21 : cause .number ≡ 21
   -- the rows are more than there are
-  pub beyond : rows < n
+  pub beyond : rows < new-rows
 
-module _ (spell : ℕ → List ℕ) (I : Input) where
+module _ (spell : ℕ → List ℕ) (input : Input) where
   -- a template is built as its value
   abbrev pub Built : ℕ → State → List ℕ → Value → ℕ → State → List ℕ → Type 0
-  Built n s cells v x s′ cells′ = Made (I .rows) n s cells s′ cells′ × Shows spell (s′ .made) cells′ x v
+  Built n s cells v x s′ cells′ = Made (input .rows) n s cells s′ cells′ × Shows spell (s′ .made) cells′ x v
 
   -- templates are built as their values
   abbrev pub BuiltAll : ℕ → State → List ℕ → List Value → List ℕ → State → List ℕ → Type 0
-  BuiltAll n s cells vs xs s′ cells′ = Made (I .rows) n s cells s′ cells′ × ShowAll spell (s′ .made) cells′ xs vs
+  BuiltAll n s cells vs xs s′ cells′ = Made (input .rows) n s cells s′ cells′ × ShowAll spell (s′ .made) cells′ xs vs
 
-  nothing-made : (s : State) (cells : List ℕ) → s .made ≤ I .rows → Made (I .rows) 0 s cells s cells
-  nothing-made s cells h =
-      record { grown = grown-not (s .made) cells; at-kept = refl; fresh-kept = refl; calls-kept = refl; made-is = omega arith; fits = h }
+  nothing-made : (state : State) (cells : List ℕ) → state .made ≤ input .rows → Made (input .rows) 0 state cells state cells
+  nothing-made state cells h =
+      record { grown = grown-not (state .made) cells; at-kept = refl; fresh-kept = refl; calls-kept = refl; made-is = omega arith; fits = h }
 
-  made-trans : {m n : ℕ} {s s′ s″ : State} {cells cells′ cells″ : List ℕ} → Made (I .rows) m s cells s′ cells′ → Made (I .rows) n s′ cells′ s″ cells″
-      → Made (I .rows) (m + n) s cells s″ cells″
+  made-trans : {rows-before new-rows : ℕ} {state state′ state″ : State} {cells cells′ cells″ : List ℕ}
+      → Made (input .rows) rows-before state cells state′ cells′ → Made (input .rows) new-rows state′ cells′ state″ cells″
+      → Made (input .rows) (rows-before + new-rows) state cells state″ cells″
   made-trans h k =
       record {
         grown = grown-trans (h .grown) (k .grown);
@@ -104,18 +107,18 @@ module _ (spell : ℕ → List ℕ) (I : Input) where
         fits = k .fits;
       }
 
-  cell-ends : {c : ℕ} {xs : List ℕ} {vs : List Value} {v : Value} (s : State) (cells : List ℕ) → I .rows * columns ≤ length cells → Constructs c vs v
-      → ShowAll spell (s .made) cells xs vs
-      → Ends (Built 1 s cells v) (Full (I .rows) (s .made + 1)) (cell I c xs s cells)
-  cell-ends {c} {xs} {vs} {v} s cells room k a = go (ltb (s .made) (I .rows)) refl
+  cell-ends : {code : ℕ} {xs : List ℕ} {vs : List Value} {value : Value} (state : State) (cells : List ℕ) → input .rows * columns ≤ length cells
+      → Constructs code vs value → ShowAll spell (state .made) cells xs vs
+      → Ends (Built 1 state cells value) (Full (input .rows) (state .made + 1)) (cell input code xs state cells)
+  cell-ends {code} {xs} {vs} {value} state cells room k a = go (ltb (state .made) (input .rows)) refl
     where
-      go : (b : Bool) → ltb (s .made) (I .rows) ≡ b
-          → Ends (Built 1 s cells v) (Full (I .rows) (s .made + 1))
-          (elim b [ true ↦ done (s .made) (cellMade s) (withRow cells (s .made) c xs) | false ↦ halt (refusal 21 (s .at) 0 0) cells ])
+      go : (test : Bool) → ltb (state .made) (input .rows) ≡ test
+          → Ends (Built 1 state cells value) (Full (input .rows) (state .made + 1))
+          (elim test [ true ↦ done (state .made) (cellMade state) (withRow cells (state .made) code xs) | false ↦ halt (refusal 21 (state .at) 0 0) cells ])
       go true e =
-          let l : s .made < I .rows = ltb-true (s .made) (I .rows) e in (
+          let l : state .made < input .rows = ltb-true (state .made) (input .rows) e in (
             record {
-              grown = row-grown (s .made) cells c xs
+              grown = row-grown (state .made) cells code xs
                   (omega arith);
               at-kept = refl;
               fresh-kept = refl;
@@ -123,50 +126,57 @@ module _ (spell : ℕ → List ℕ) (I : Input) where
               made-is = refl;
               fits = omega arith;
             },
-            row-shows spell (s .made) cells (omega arith) k a,
+            row-shows spell (state .made) cells (omega arith) k a,
           )
-      go false e = record { is-21 = refl; beyond = omega (arith, ltb-false (s .made) (I .rows) e) }
+      go false e = record { is-21 = refl; beyond = omega (arith, ltb-false (state .made) (input .rows) e) }
 
-  full-more : {m n : ℕ} → m ≤ n → (r : Refusal) → Full (I .rows) m r → Full (I .rows) n r
-  full-more l r h = record { is-21 = h .is-21; beyond = omega (arith, h .beyond) }
+  full-more : {fewer most : ℕ} → fewer ≤ most → (cause : Refusal) → Full (input .rows) fewer cause → Full (input .rows) most cause
+  full-more l cause h = record { is-21 = h .is-21; beyond = omega (arith, h .beyond) }
 
   mutual
     unfolding build buildAll rowsOf rowsOfAll
 
     -- a template that gives a value is built as it, or no row is left
-    pub build-ends : {N : ℕ} {L : List ℕ} {A : ℕ} {M : List Value} (t : Template) {v : Value} {xs : List ℕ} (s : State) (cells : List ℕ)
-        → Gives spell M t v → Sorted N L t A → N ≤ nameBase → I .rows * columns ≤ length cells → s .made ≤ I .rows → ShowAll spell (s .made) cells xs M
-        → Ends (Built (rowsOf t) s cells v) (Full (I .rows) (s .made + rowsOf t)) (build t I xs s cells)
-    build-ends (Table.variable i) s cells (by-variable b) w small room fit a = (nothing-made s cells fit, shows-bound a b)
-    build-ends (Table.outsideVar n) s cells by-global (Judgements.by-global l) small room fit a =
-        (nothing-made s cells fit, shows-var (outside-named spell n (omega arith)))
-    build-ends (Table.outsideLabel n) s cells by-label w small room fit a = (nothing-made s cells fit, shows-label)
-    build-ends (Table.make c ts) {v = v} {xs = xs} s cells (by-constructor {vs = vs} g k) (Judgements.by-constructor lo hi w) small room fit a =
+    pub build-ends : {outsides : ℕ} {L : List ℕ} {A : ℕ} {M : List Value} (template : Template) {value : Value} {xs : List ℕ} (state : State) (cells : List ℕ)
+        → Gives spell M template value → Sorted outsides L template A → outsides ≤ nameBase → input .rows * columns ≤ length cells → state .made ≤ input .rows
+        → ShowAll spell (state .made) cells xs M
+        → Ends (Built (rowsOf template) state cells value) (Full (input .rows) (state .made + rowsOf template)) (build template input xs state cells)
+    build-ends (Table.variable i) state cells (by-variable b) w small room fit a = (nothing-made state cells fit, shows-bound a b)
+    build-ends (Table.outsideVar n) state cells by-global (Judgements.by-global l) small room fit a =
+        (nothing-made state cells fit, shows-var (outside-named spell n (omega arith)))
+    build-ends (Table.outsideLabel n) state cells by-label w small room fit a = (nothing-made state cells fit, shows-label)
+    build-ends (Table.make c ts) {value = value} {xs = xs} state cells (by-constructor {vs = vs} g k) (Judgements.by-constructor lo hi w) small room fit a =
         let n : ℕ = rowsOfAll ts in
-        ends-after (BuiltAll n s cells vs) (Full (I .rows) (s .made + n)) (Built (n + 1) s cells v) (Full (I .rows) (s .made + (n + 1)))
-        (buildAll ts I xs s cells) (λ ys. cell I c ys)
-        (build-all-ends ts s cells g w small room fit a)
+        ends-after (BuiltAll n state cells vs) (Full (input .rows) (state .made + n)) (Built (n + 1) state cells value)
+        (Full (input .rows) (state .made + (n + 1)))
+        (buildAll ts input xs state cells) (λ ys. cell input c ys)
+        (build-all-ends ts state cells g w small room fit a)
         (λ ys s₁ c₁ b.
-        ends-map (Built 1 s₁ c₁ v) (Full (I .rows) (s₁ .made + 1)) (Built (n + 1) s cells v) (Full (I .rows) (s .made + (n + 1))) (cell I c ys s₁ c₁)
+        ends-map (Built 1 s₁ c₁ value) (Full (input .rows) (s₁ .made + 1)) (Built (n + 1) state cells value) (Full (input .rows) (state .made + (n + 1)))
+        (cell input c ys s₁ c₁)
         (cell-ends s₁ c₁ (rw (b .0 .grown .as-many) room) k (b .1))
         (λ x s₂ c₂ d. (made-trans (b .0) (d .0), d .1))
         (full-more (omega (arith, b .0 .made-is))))
         (full-more (omega arith))
 
     -- so are templates
-    pub build-all-ends : {N : ℕ} {L : List ℕ} {Bs : List ℕ} {M : List Value} (ts : Templates) {vs : List Value} {xs : List ℕ} (s : State) (cells : List ℕ)
-        → GiveAll spell M ts vs → Fill N L ts Bs → N ≤ nameBase → I .rows * columns ≤ length cells → s .made ≤ I .rows → ShowAll spell (s .made) cells xs M
-        → Ends (BuiltAll (rowsOfAll ts) s cells vs) (Full (I .rows) (s .made + rowsOfAll ts)) (buildAll ts I xs s cells)
-    build-all-ends none s cells give-none fill-none small room fit a = (nothing-made s cells fit, show-none)
-    build-all-ends (more t ts) {xs = xs} s cells (give-more {v = v} {vs = vs} g gs) (fill-more w f ws) small room fit a =
+    pub build-all-ends : {outsides : ℕ} {L : List ℕ} {Bs : List ℕ} {M : List Value} (ts : Templates) {vs : List Value} {xs : List ℕ} (state : State)
+        (cells : List ℕ)
+        → GiveAll spell M ts vs → Fill outsides L ts Bs → outsides ≤ nameBase → input .rows * columns ≤ length cells → state .made ≤ input .rows
+        → ShowAll spell (state .made) cells xs M
+        → Ends (BuiltAll (rowsOfAll ts) state cells vs) (Full (input .rows) (state .made + rowsOfAll ts)) (buildAll ts input xs state cells)
+    build-all-ends none state cells give-none fill-none small room fit a = (nothing-made state cells fit, show-none)
+    build-all-ends (more t ts) {xs = xs} state cells (give-more {v = v} {vs = vs} g gs) (fill-more w f ws) small room fit a =
         let m : ℕ = rowsOf t in
         let n : ℕ = rowsOfAll ts in
-        ends-after (Built m s cells v) (Full (I .rows) (s .made + m)) (BuiltAll (m + n) s cells (v ∷ vs)) (Full (I .rows) (s .made + (m + n)))
-        (build t I xs s cells) _
-        (build-ends t s cells g w small room fit a)
+        ends-after (Built m state cells v) (Full (input .rows) (state .made + m)) (BuiltAll (m + n) state cells (v ∷ vs))
+        (Full (input .rows) (state .made + (m + n)))
+        (build t input xs state cells) _
+        (build-ends t state cells g w small room fit a)
         (λ x s₁ c₁ b.
-        ends-after (BuiltAll n s₁ c₁ vs) (Full (I .rows) (s₁ .made + n)) (BuiltAll (m + n) s cells (v ∷ vs)) (Full (I .rows) (s .made + (m + n)))
-        (buildAll ts I xs s₁ c₁) _
+        ends-after (BuiltAll n s₁ c₁ vs) (Full (input .rows) (s₁ .made + n)) (BuiltAll (m + n) state cells (v ∷ vs))
+        (Full (input .rows) (state .made + (m + n)))
+        (buildAll ts input xs s₁ c₁) _
         (build-all-ends ts s₁ c₁ gs ws small (rw (b .0 .grown .as-many) room) (b .0 .fits) (all-later (b .0 .grown) a))
         (λ ys s₂ c₂ d. (made-trans (b .0) (d .0), show-more (shows-later (d .0 .grown) (b .1)) (d .1)))
         (full-more (omega (arith, b .0 .made-is))))

@@ -42,59 +42,62 @@ use Rattle.terms.specs.Cells.{columns}
 -- ------------------------------------------------------------------ the next token
 
 -- the first token of what is left, and what is left after it
-pub token-is : (tokens : List Token) (at : ℕ) {t : Token} {s : List Token} → drop at tokens ≡ t ∷ s → (getD tokens at endToken ≡ t)
+pub token-is : (tokens : List Token) (at : ℕ) {token : Token} {s : List Token} → drop at tokens ≡ token ∷ s → (getD tokens at endToken ≡ token)
     × (drop (at + 1) tokens ≡ s)
-token-is tokens at {t} {s} e =
+token-is tokens at {token} {s} e =
     by-test (ltb at (length tokens))
-    (λ b. let h : getD tokens at endToken ∷ drop (at + 1) tokens ≡ t ∷ s = sym (token-here tokens at (ltb-true at (length tokens) b)) ∙ e in ((cc), (cc)))
+    (λ b. let h : getD tokens at endToken ∷ drop (at + 1) tokens ≡ token ∷ s = sym (token-here tokens at (ltb-true at (length tokens) b)) ∙ e in ((cc), (cc)))
     (λ b.
     let n : _≡_ {A = ℕ} 0 (suc (length s)) = ap length (sym (drop-of-length-le tokens (ltb-false at (length tokens) b)) ∙ e) in
     absurd (omega arith))
 
-take-done : (I : Input) (kind : ℕ) (value : ℕ → ℕ) (s : State) (cells : List ℕ) → nextToken I s .kind ≡ kind
-    → takeToken I kind value s cells ≡ done (value (nextToken I s .value)) (tokenTaken s) cells
-take-done I kind value s cells e = rw (eq-eqb (nextToken I s .kind) kind e, takeToken) refl
+take-done : (lent : Input) (kind : ℕ) (value : ℕ → ℕ) (state : State) (cells : List ℕ) → nextToken lent state .kind ≡ kind
+    → takeToken lent kind value state cells ≡ done (value (nextToken lent state .value)) (tokenTaken state) cells
+take-done lent kind value state cells e = rw (eq-eqb (nextToken lent state .kind) kind e, takeToken) refl
 
 -- the items behind one that is read
-pub items-after : (C : ℕ → List ℕ → Run ℕ) (I : Input) (i : Item) (is : List Item) (xs : List ℕ) (s : State) (cells : List ℕ) (x : ℕ) (s′ : State)
-    (cells′ : List ℕ)
-    → runItem C I i xs s cells ≡ done x s′ cells′ → runItems C I (i ∷ is) xs s cells ≡ runItems C I is (xs ++ (x ∷ [])) s′ cells′
+pub items-after : (callee : ℕ → List ℕ → Run ℕ) (lent : Input) (item : Item) (is : List Item) (xs : List ℕ) (state : State) (cells : List ℕ) (row : ℕ)
+    (state′ : State) (cells′ : List ℕ)
+    → runItem callee lent item xs state cells ≡ done row state′ cells′
+    → runItems callee lent (item ∷ is) xs state cells ≡ runItems callee lent is (xs ++ (row ∷ [])) state′ cells′
 unfolding runItems
-items-after C I i is xs s cells x s′ cells′ e = cc
+items-after callee lent item is xs state cells row state′ cells′ e = cc
 
 -- ------------------------------------------------------------------ limits
 
 -- refusal 19, 20 or 21 where the calls open, the calls in all or the cells are more than there may be
-pub data Beyond (rows deep opened begun made : ℕ) (r : Refusal) : Type 0 where
-  too-deep : r .number ≡ 19 → deep < opened → Beyond rows deep opened begun made r
-  too-many : r .number ≡ 20 → mostCalls < begun → Beyond rows deep opened begun made r
-  too-large : r .number ≡ 21 → rows < made → Beyond rows deep opened begun made r
+pub data Beyond (rows deep opened begun made : ℕ) (cause : Refusal) : Type 0 where
+  too-deep : cause .number ≡ 19 → deep < opened → Beyond rows deep opened begun made cause
+  too-many : cause .number ≡ 20 → mostCalls < begun → Beyond rows deep opened begun made cause
+  too-large : cause .number ≡ 21 → rows < made → Beyond rows deep opened begun made cause
 
-beyond-more : {rows d o o′ c c′ m m′ : ℕ} → o ≤ o′ → c ≤ c′ → m ≤ m′ → (r : Refusal) → Beyond rows d o c m r → Beyond rows d o′ c′ m′ r
-beyond-more x y z r (too-deep e l) = too-deep e (omega arith)
-beyond-more x y z r (too-many e l) = too-many e (omega arith)
-beyond-more x y z r (too-large e l) = too-large e (omega arith)
+beyond-more : {rows depth opened opened′ calls calls′ made made′ : ℕ} → opened ≤ opened′ → calls ≤ calls′ → made ≤ made′ → (cause : Refusal)
+    → Beyond rows depth opened calls made cause → Beyond rows depth opened′ calls′ made′ cause
+beyond-more x y z cause (too-deep e l) = too-deep e (omega arith)
+beyond-more x y z cause (too-many e l) = too-many e (omega arith)
+beyond-more x y z cause (too-large e l) = too-large e (omega arith)
 
-beyond-open : {rows d o c c′ m m′ : ℕ} → c ≤ c′ → m ≤ m′ → (r : Refusal) → Beyond rows d o c m r → Beyond rows (suc d) (o + 1) c′ m′ r
-beyond-open y z r (too-deep e l) = too-deep e (omega arith)
-beyond-open y z r (too-many e l) = too-many e (omega arith)
-beyond-open y z r (too-large e l) = too-large e (omega arith)
+beyond-open : {rows depth opened calls calls′ made made′ : ℕ} → calls ≤ calls′ → made ≤ made′ → (cause : Refusal) → Beyond rows depth opened calls made cause
+    → Beyond rows (suc depth) (opened + 1) calls′ made′ cause
+beyond-open y z cause (too-deep e l) = too-deep e (omega arith)
+beyond-open y z cause (too-many e l) = too-many e (omega arith)
+beyond-open y z cause (too-large e l) = too-large e (omega arith)
 
-full-beyond : {rows d o c m m′ : ℕ} → m ≤ m′ → (r : Refusal) → Full rows m r → Beyond rows d o c m′ r
-full-beyond z r h = too-large (h .is-21) (omega (arith, h .beyond))
+full-beyond : {rows depth opened calls made made′ : ℕ} → made ≤ made′ → (cause : Refusal) → Full rows made cause → Beyond rows depth opened calls made′ cause
+full-beyond z cause h = too-large (h .is-21) (omega (arith, h .beyond))
 
-module _ {g : List Production} (X : Setting g) where
+module _ {g : List Production} (setting : Setting g) where
   abbrev F : FitAll g
-  F = X .fit
+  F = setting .fit
 
   abbrev spell : ℕ → List ℕ
-  spell = X .spell
+  spell = setting .spell
 
   abbrev tokens : List Token
-  tokens = X .tokens
+  tokens = setting .tokens
 
   abbrev rows : ℕ
-  rows = X .rows
+  rows = setting .rows
 
   -- what a run reads
   abbrev pub I : Input
@@ -104,91 +107,103 @@ module _ {g : List Production} (X : Setting g) where
   abbrev pub from : State → List Token
   from s = drop (s .at) tokens
 
-  -- the way from a state with b calls begun and m cells made: o calls open, c calls begun and n cells made, to the place t and the counter i
-  pub record Went (k d o c n : ℕ) (t : List Token) (i b m : ℕ) (cells : List ℕ) (s′ : State) (cells′ : List ℕ) : Type 0 where
+  -- the way from a state with `calls-before` calls begun and `made` cells made: `opened` calls open, `calls` calls begun and `rows-made` cells made,
+  -- to the place `left` and the counter i
+  pub record Went (names-left depth opened calls rows-made : ℕ) (left : List Token) (i calls-before made : ℕ) (cells : List ℕ) (state′ : State)
+      (cells′ : List ℕ) : Type 0 where
     -- rows are added only
-    pub grown : Grown m cells (s′ .made) cells′
+    pub grown : Grown made cells (state′ .made) cells′
     -- the bounds of a run still hold
-    pub kept : Kept rows k s′ cells′
+    pub kept : Kept rows names-left state′ cells′
     -- the tokens left are those of the derivation
-    pub place : from s′ ≡ t
+    pub place : from state′ ≡ left
     -- so is the counter of new names
-    pub counter : s′ .fresh ≡ i
+    pub counter : state′ .fresh ≡ i
     -- the calls begun
-    pub calls-are : s′ .calls ≡ b + c
+    pub calls-are : state′ .calls ≡ calls-before + calls
     -- the rows made
-    pub made-are : s′ .made ≡ m + n
+    pub made-are : state′ .made ≡ made + rows-made
     -- the calls open at once
-    pub deep : o ≤ d
+    pub deep : opened ≤ depth
 
   -- the run is where the derivation is, with its values shown
-  abbrev pub Reached : (k d o c n : ℕ) → List Token → ℕ → List Value → ℕ → ℕ → List ℕ → List ℕ → State → List ℕ → Type 0
-  Reached k d o c n t i M b m cells xs s′ cells′ = Went k d o c n t i b m cells s′ cells′ × ShowAll spell (s′ .made) cells′ xs M
+  abbrev pub Reached : (names-left depth opened calls rows-made : ℕ) → List Token → ℕ → List Value → ℕ → ℕ → List ℕ → List ℕ → State → List ℕ → Type 0
+  Reached names-left depth opened calls rows-made t i M b m cells xs s′ cells′ =
+      Went names-left depth opened calls rows-made t i b m cells s′ cells′ × ShowAll spell (s′ .made) cells′ xs M
 
   -- the run gives what the derivation gives
-  abbrev pub Gave : (k d o c n : ℕ) → List Token → ℕ → Value → ℕ → ℕ → List ℕ → ℕ → State → List ℕ → Type 0
-  Gave k d o c n t i v b m cells x s′ cells′ = Went k d o c n t i b m cells s′ cells′ × Shows spell (s′ .made) cells′ x v
+  abbrev pub Gave : (names-left depth opened calls rows-made : ℕ) → List Token → ℕ → Value → ℕ → ℕ → List ℕ → ℕ → State → List ℕ → Type 0
+  Gave names-left depth opened calls rows-made t i v b m cells x s′ cells′ =
+      Went names-left depth opened calls rows-made t i b m cells s′ cells′ × Shows spell (s′ .made) cells′ x v
 
   -- the run of items beside a derivation with its costs
-  pub record Along (o c n : ℕ) (t : List Token) (i : ℕ) (is : List Item) (M M′ : List Value) (t′ : List Token) (i′ : ℕ) : Type 0 where
+  pub record Along (opened calls rows-made : ℕ) (left : List Token) (i : ℕ) (is : List Item) (M M′ : List Value) (left′ : List Token) (i′ : ℕ) : Type 0 where
     -- from any state that fits, the run goes along
-    pub along : (d k : ℕ) (r : Template) (B : ℕ) (L xs : List ℕ) (s : State) (cells : List ℕ) → Body (F .scope) L is r B → from s ≡ t → s .fresh ≡ i
-        → Kept rows (k + length is) s cells → ShowAll spell (s .made) cells xs M
-        → Ends (Reached k d o c n t′ i′ M′ (s .calls) (s .made) cells) (Beyond rows d o (s .calls + c) (s .made + n)) (runItems (runCall d I) I is xs s cells)
+    pub along : (depth names-left : ℕ) (result : Template) (B : ℕ) (L xs : List ℕ) (state : State) (cells : List ℕ) → Body (F .scope) L is result B
+        → from state ≡ left → state .fresh ≡ i → Kept rows (names-left + length is) state cells → ShowAll spell (state .made) cells xs M
+        → Ends (Reached names-left depth opened calls rows-made left′ i′ M′ (state .calls) (state .made) cells)
+        (Beyond rows depth opened (state .calls + calls) (state .made + rows-made)) (runItems (runCall depth I) I is xs state cells)
 
   -- a token taken, and the items after it
-  token-along : {o c n : ℕ} {t : Token} {s₀ s′ : List Token} {i i′ : ℕ} {is : List Item} {M M′ : List Value} {v : Value} (item : Item) (kind : ℕ)
-      (value : ℕ → ℕ)
-      → ((C : ℕ → List ℕ → Run ℕ) (xs : List ℕ) → runItem C I item xs ≡ takeToken I kind value)
-      → t .kind ≡ kind
-      → ((s : State) (cells : List ℕ) → nextToken I s ≡ t → Shows spell (s .made) cells (value (nextToken I s .value)) v)
-      → Along o c n s₀ i is (M ++ (v ∷ [])) M′ s′ i′ → Along o c n (t ∷ s₀) i (item ∷ is) M M′ s′ i′
-  token-along {o} {c} {n} {t} {s₀} {s′} {i} {i′} {is} {M} {M′} {v} item kind value same e shown A =
+  token-along : {opened calls rows-made : ℕ} {token : Token} {s₀ s′ : List Token} {i i′ : ℕ} {is : List Item} {M M′ : List Value} {given-value : Value}
+      (item : Item) (kind : ℕ) (value : ℕ → ℕ)
+      → ((callee : ℕ → List ℕ → Run ℕ) (xs : List ℕ) → runItem callee I item xs ≡ takeToken I kind value)
+      → token .kind ≡ kind
+      → ((state : State) (cells : List ℕ) → nextToken I state ≡ token → Shows spell (state .made) cells (value (nextToken I state .value)) given-value)
+      → Along opened calls rows-made s₀ i is (M ++ (given-value ∷ [])) M′ s′ i′ → Along opened calls rows-made (token ∷ s₀) i (item ∷ is) M M′ s′ i′
+  token-along {opened} {calls} {rows-made} {token} {s₀} {s′} {i} {i′} {is} {M} {M′} {given-value} item kind value same e shown A =
       record { along = λ d k r B L xs s cells b p f h a. go d k r B L xs s cells b p f h a }
     where
-      go : (d k : ℕ) (r : Template) (B : ℕ) (L xs : List ℕ) (s : State) (cells : List ℕ) → Body (F .scope) L (item ∷ is) r B → from s ≡ t ∷ s₀ → s .fresh ≡ i
-          → Kept rows (k + length (item ∷ is)) s cells → ShowAll spell (s .made) cells xs M
-          → Ends (Reached k d o c n s′ i′ M′ (s .calls) (s .made) cells) (Beyond rows d o (s .calls + c) (s .made + n))
-          (runItems (runCall d I) I (item ∷ is) xs s cells)
-      go d k r B L xs s cells (by-binding w b) p f h a =
-          let q = token-is tokens (s .at) p in
-          let x : ℕ = value (nextToken I s .value) in
-          let taken : runItem (runCall d I) I item xs s cells ≡ done x (tokenTaken s) cells =
-          cc (same (runCall d I) xs, take-done I kind value s cells (cc (q .0))) in
-          rw (items-after (runCall d I) I item is xs s cells x (tokenTaken s) cells taken)
-          (A .along d k r B _ (xs ++ (x ∷ [])) (tokenTaken s) cells b (q .1) f
-          (record { room = h .room; fits = h .fits; names = omega (arith, h .names); begun = h .begun }) (all-and a (shown s cells (q .0))))
+      go : (depth names-left : ℕ) (result : Template) (B : ℕ) (L xs : List ℕ) (state : State) (cells : List ℕ) → Body (F .scope) L (item ∷ is) result B
+          → from state ≡ token ∷ s₀ → state .fresh ≡ i
+          → Kept rows (names-left + length (item ∷ is)) state cells → ShowAll spell (state .made) cells xs M
+          → Ends (Reached names-left depth opened calls rows-made s′ i′ M′ (state .calls) (state .made) cells)
+          (Beyond rows depth opened (state .calls + calls) (state .made + rows-made)) (runItems (runCall depth I) I (item ∷ is) xs state cells)
+      go depth names-left result B L xs state cells (by-binding w b) p f h a =
+          let q = token-is tokens (state .at) p in
+          let x : ℕ = value (nextToken I state .value) in
+          let taken : runItem (runCall depth I) I item xs state cells ≡ done x (tokenTaken state) cells =
+          cc (same (runCall depth I) xs, take-done I kind value state cells (cc (q .0))) in
+          rw (items-after (runCall depth I) I item is xs state cells x (tokenTaken state) cells taken)
+          (A .along depth names-left result B _ (xs ++ (x ∷ [])) (tokenTaken state) cells b (q .1) f
+          (record { room = h .room; fits = h .fits; names = omega (arith, h .names); begun = h .begun }) (all-and a (shown state cells (q .0))))
 
-  word-shown : (s : State) (t : Token) → nextToken I s ≡ t → t .kind ≡ wordKind
-      → nameOf spell (Rattle.terms.specs.Cells.wordName (nextToken I s .value)) ≡ word (spell (t .value))
-  word-shown s t q e = cc (word-named spell (nextToken I s .value) (X .small (s .at) (cc)))
+  word-shown : (state : State) (token : Token) → nextToken I state ≡ token → token .kind ≡ wordKind
+      → nameOf spell (Rattle.terms.specs.Cells.wordName (nextToken I state .value)) ≡ word (spell (token .value))
+  word-shown state token q e = cc (word-named spell (nextToken I state .value) (setting .small (state .at) (cc)))
 
   -- a call beside the derivation of its production
-  module _ {o c n m : ℕ} {t t′ : List Token} {i i′ : ℕ} {vs M : List Value} {v : Value} (p : Production) (taken : Taken g m t p)
-      (A : Along o c n t i (p .items) vs M t′ i′) (gives : Gives spell M (p .result) v) where
+  module _ {opened calls rows-made nonterminal : ℕ} {left left′ : List Token} {i i′ : ℕ} {vs M : List Value} {value : Value} (p : Production)
+      (taken : Taken g nonterminal left p)
+      (along : Along opened calls rows-made left i (p .items) vs M left′ i′) (gives : Gives spell M (p .result) value) where
     -- the calls and rows of a derivation
     abbrev pub cost : ℕ
-    cost = n + rowsOf (p .result)
+    cost = rows-made + rowsOf (p .result)
 
-    module _ (k : ℕ) (xs : List ℕ) (s : State) (cells : List ℕ) (e : from s ≡ t) (f : s .fresh ≡ i) (h : Kept rows k s cells)
-        (a : ShowAll spell (s .made) cells xs vs) where
+    module _ (names-left : ℕ) (xs : List ℕ) (state : State) (cells : List ℕ) (equal : from state ≡ left) (agrees : state .fresh ≡ i)
+        (kept : Kept rows names-left state cells) (show-all : ShowAll spell (state .made) cells xs vs) where
       -- a call goes along, or a limit is passed
       abbrev pub Called : ℕ → Result ℕ → Type 0
-      Called d z = Ends (Gave k d (o + 1) (c + 1) cost t′ i′ v (s .calls) (s .made) cells) (Beyond rows d (o + 1) (s .calls + (c + 1)) (s .made + cost)) z
+      Called d z =
+          Ends (Gave names-left d (opened + 1) (calls + 1) cost left′ i′ value (state .calls) (state .made) cells)
+          (Beyond rows d (opened + 1) (state .calls + (calls + 1)) (state .made + cost)) z
 
-      production-along : (d : ℕ) → s .calls < mostCalls
-          → Called (suc d) (after (runItems (runCall d I) I (p .items) xs (callBegun s) cells) (λ ys. build (p .result) I ys))
-      production-along d l =
+      production-along : (depth : ℕ) → state .calls < mostCalls
+          → Called (suc depth) (after (runItems (runCall depth I) I (p .items) xs (callBegun state) cells) (λ ys. build (p .result) I ys))
+      production-along depth l =
           let q = F .each p (taken-of taken .member) in
           let w = result-sorted (q .body) in
-          ends-after (Reached k d o c n t′ i′ M (callBegun s .calls) (s .made) cells) (Beyond rows d o (callBegun s .calls + c) (s .made + n))
-          (Gave k (suc d) (o + 1) (c + 1) cost t′ i′ v (s .calls) (s .made) cells) (Beyond rows (suc d) (o + 1) (s .calls + (c + 1)) (s .made + cost))
-          (runItems (runCall d I) I (p .items) xs (callBegun s) cells) (λ ys. build (p .result) I ys)
-          (A .along d k (p .result) (q .signature .result) (q .signature .params) xs (callBegun s) cells (q .body) e f
-          (record { room = h .room; fits = h .fits; names = omega (arith, h .names, q .itemCount); begun = omega arith }) a)
+          ends-after (Reached names-left depth opened calls rows-made left′ i′ M (callBegun state .calls) (state .made) cells)
+          (Beyond rows depth opened (callBegun state .calls + calls) (state .made + rows-made))
+          (Gave names-left (suc depth) (opened + 1) (calls + 1) cost left′ i′ value (state .calls) (state .made) cells)
+          (Beyond rows (suc depth) (opened + 1) (state .calls + (calls + 1)) (state .made + cost))
+          (runItems (runCall depth I) I (p .items) xs (callBegun state) cells) (λ ys. build (p .result) I ys)
+          (along .along depth names-left (p .result) (q .signature .result) (q .signature .params) xs (callBegun state) cells (q .body) equal agrees
+          (record { room = kept .room; fits = kept .fits; names = omega (arith, kept .names, q .itemCount); begun = omega arith }) show-all)
           (λ ys s₁ c₁ y.
-          ends-map (Built spell I (rowsOf (p .result)) s₁ c₁ v) (Full rows (s₁ .made + rowsOf (p .result)))
-          (Gave k (suc d) (o + 1) (c + 1) cost t′ i′ v (s .calls) (s .made) cells) (Beyond rows (suc d) (o + 1) (s .calls + (c + 1)) (s .made + cost))
+          ends-map (Built spell I (rowsOf (p .result)) s₁ c₁ value) (Full rows (s₁ .made + rowsOf (p .result)))
+          (Gave names-left (suc depth) (opened + 1) (calls + 1) cost left′ i′ value (state .calls) (state .made) cells)
+          (Beyond rows (suc depth) (opened + 1) (state .calls + (calls + 1)) (state .made + cost))
           (build (p .result) I ys s₁ c₁)
           (build-ends spell I (p .result) s₁ c₁ gives (w .2) (omega (arith, F .outsideCount)) (y .0 .kept .room) (y .0 .kept .fits) (y .1))
           (λ x s₂ c₂ b. (
@@ -206,65 +221,73 @@ module _ {g : List Production} (X : Setting g) where
           (full-beyond (omega (arith, y .0 .made-are))))
           (beyond-open (omega arith) (omega arith))
 
-      call-along : (d : ℕ) → Called d (runCall d I m xs s cells)
+      call-along : (depth : ℕ) → Called depth (runCall depth I nonterminal xs state cells)
       unfolding runCall
       call-along zero = too-deep refl (omega arith)
-      call-along (suc d) = go (ltb (s .calls) mostCalls) refl (choice-picks g m (taken-of taken .small) (from s))
+      call-along (suc depth) = go (ltb (state .calls) mostCalls) refl (choice-picks g nonterminal (taken-of taken .small) (from state))
         where
-          go : (b : Bool) → ltb (s .calls) mostCalls ≡ b → Picks g m (from s) (choice (ready g) m (kindOf (from s)))
-              → Called (suc d) (runCall (suc d) I m xs s cells)
-          go false l q = subst⁻¹ (Called (suc d)) (call-full d I m xs s cells l) (too-many refl (omega (arith, ltb-false (s .calls) mostCalls l)))
+          go : (test : Bool) → ltb (state .calls) mostCalls ≡ test → Picks g nonterminal (from state) (choice (ready g) nonterminal (kindOf (from state)))
+              → Called (suc depth) (runCall (suc depth) I nonterminal xs state cells)
+          go false l q =
+              subst⁻¹ (Called (suc depth)) (call-full depth I nonterminal xs state cells l)
+              (too-many refl (omega (arith, ltb-false (state .calls) mostCalls l)))
           go true l (picks p′ w z) =
-              let same : p′ ≡ p = taken-one g (X .passed) w (rw (← e) at taken) in
-              let picked : choice (ready g) m (nextToken I s .kind) ≡ Rattle.expansion.specs.Expansion.chosen (rule g p) =
-              cc (kind-next (s .at) tokens) in
-              subst⁻¹ (Called (suc d)) (call-chosen d I m xs s cells (rule g p) l picked) (production-along d (ltb-true (s .calls) mostCalls l))
-          go true l (picks-none f z) = absurd (f p (rw (← e) at taken))
+              let same : p′ ≡ p = taken-one g (setting .passed) w (rw (← equal) at taken) in
+              let picked : choice (ready g) nonterminal (nextToken I state .kind) ≡ Rattle.expansion.specs.Expansion.chosen (rule g p) =
+              cc (kind-next (state .at) tokens) in
+              subst⁻¹ (Called (suc depth)) (call-chosen depth I nonterminal xs state cells (rule g p) l picked)
+              (production-along depth (ltb-true (state .calls) mostCalls l))
+          go true l (picks-none f z) = absurd (f p (rw (← equal) at taken))
 
   -- a fresh name, and the items after it
-  local-along : {o c n : ℕ} {t t′ : List Token} {i i′ : ℕ} {is : List Item} {M M′ : List Value}
-      → Along o c n t (i + 1) is (M ++ (binder (fresh i) ∷ [])) M′ t′ i′
-      → Along o c n t i (local ∷ is) M M′ t′ i′
-  local-along {o} {c} {n} {t} {t′} {i} {i′} {is} {M} {M′} A = record { along = go }
+  local-along : {opened calls rows-made : ℕ} {left left′ : List Token} {i i′ : ℕ} {is : List Item} {M M′ : List Value}
+      → Along opened calls rows-made left (i + 1) is (M ++ (binder (fresh i) ∷ [])) M′ left′ i′
+      → Along opened calls rows-made left i (local ∷ is) M M′ left′ i′
+  local-along {opened} {calls} {rows-made} {left} {left′} {i} {i′} {is} {M} {M′} A = record { along = go }
     where
-      go : (d k : ℕ) (r : Template) (B : ℕ) (L xs : List ℕ) (s : State) (cells : List ℕ) → Body (F .scope) L (local ∷ is) r B → from s ≡ t → s .fresh ≡ i
-          → Kept rows (k + length (local ∷ is)) s cells → ShowAll spell (s .made) cells xs M
-          → Ends (Reached k d o c n t′ i′ M′ (s .calls) (s .made) cells) (Beyond rows d o (s .calls + c) (s .made + n))
-          (runItems (runCall d I) I (local ∷ is) xs s cells)
-      go d k r B L xs s cells (by-binding w b) p f h a =
-          rw (items-after (runCall d I) I local is xs s cells _ _ cells refl)
-          (A .along d k r B _ _ (record { at = s .at; fresh = s .fresh + 1; calls = s .calls; made = s .made }) cells b p (cc)
+      go : (depth names-left : ℕ) (result : Template) (B : ℕ) (L xs : List ℕ) (state : State) (cells : List ℕ) → Body (F .scope) L (local ∷ is) result B
+          → from state ≡ left → state .fresh ≡ i → Kept rows (names-left + length (local ∷ is)) state cells → ShowAll spell (state .made) cells xs M
+          → Ends (Reached names-left depth opened calls rows-made left′ i′ M′ (state .calls) (state .made) cells)
+          (Beyond rows depth opened (state .calls + calls) (state .made + rows-made)) (runItems (runCall depth I) I (local ∷ is) xs state cells)
+      go depth names-left result B L xs state cells (by-binding w b) p f h a =
+          rw (items-after (runCall depth I) I local is xs state cells _ _ cells refl)
+          (A .along depth names-left result B _ _ (record { at = state .at; fresh = state .fresh + 1; calls = state .calls; made = state .made }) cells b p (cc)
           (record { room = h .room; fits = h .fits; names = omega (arith, h .names); begun = h .begun })
-          (all-and a (shows-binder (fresh-named spell (s .fresh) (omega (arith, h .names, h .begun)) ∙ ap fresh f))))
+          (all-and a (shows-binder (fresh-named spell (state .fresh) (omega (arith, h .names, h .begun)) ∙ ap fresh f))))
 
   -- a call with its arguments, and the items after it
-  call-item-along : {o c n o′ c′ n′ m : ℕ} {t t₁ t′ : List Token} {i i₁ i′ : ℕ} {is : List Item} {ts : Templates} {M M₁ M′ vs : List Value} {v : Value}
-      (p : Production)
-      → GiveAll spell M ts vs → Taken g m t p → Along o c n t i (p .items) vs M₁ t₁ i₁ → Gives spell M₁ (p .result) v
-      → Along o′ c′ n′ t₁ i₁ is (M ++ (v ∷ [])) M′ t′ i′
-      → Along (max (o + 1) o′) (c + 1 + c′) (rowsOfAll ts + n + rowsOf (p .result) + n′) t i (call m ts ∷ is) M M′ t′ i′
+  call-item-along : {opened calls rows-made opened′ calls′ rows-made′ nonterminal : ℕ} {left left₁ left′ : List Token} {i i₁ i′ : ℕ} {is : List Item}
+      {ts : Templates} {M M₁ M′ vs : List Value} {value : Value} (p : Production)
+      → GiveAll spell M ts vs → Taken g nonterminal left p → Along opened calls rows-made left i (p .items) vs M₁ left₁ i₁ → Gives spell M₁ (p .result) value
+      → Along opened′ calls′ rows-made′ left₁ i₁ is (M ++ (value ∷ [])) M′ left′ i′
+      → Along (max (opened + 1) opened′) (calls + 1 + calls′) (rowsOfAll ts + rows-made + rowsOf (p .result) + rows-made′) left i (call nonterminal ts ∷ is) M
+      M′ left′ i′
   unfolding runItems
-  call-item-along {o} {c} {n} {o′} {c′} {n′} {m} {t} {t₁} {t′} {i} {i₁} {i′} {is} {ts} {M} {M₁} {M′} {vs} {v} p gs taken A gives A′ = record { along = go }
+  call-item-along {opened} {calls} {rows-made} {opened′} {calls′} {rows-made′} {nonterminal} {left} {left₁} {left′} {i} {i₁} {i′} {is} {ts} {M} {M₁} {M′} {vs}
+      {value} p gs taken A gives A′ = record { along = go }
     where
       cells-of : ℕ
-      cells-of = rowsOfAll ts + n + rowsOf (p .result)
+      cells-of = rowsOfAll ts + rows-made + rowsOf (p .result)
 
-      item : (d k : ℕ) {L Bs xs : List ℕ} (s : State) (cells : List ℕ) → Judgements.Fill (F .scope .outsides) L ts Bs → from s ≡ t → s .fresh ≡ i
-          → Kept rows (k + 1) s cells → ShowAll spell (s .made) cells xs M
-          → Ends (Gave k d (o + 1) (c + 1) cells-of t₁ i₁ v (s .calls) (s .made) cells) (Beyond rows d (o + 1) (s .calls + (c + 1)) (s .made + cells-of))
-          (runItem (runCall d I) I (call m ts) xs s cells)
-      item d k {xs = xs} s cells w e f h a =
-          ends-after (BuiltAll spell I (rowsOfAll ts) s cells vs) (Full rows (s .made + rowsOfAll ts))
-          (Gave k d (o + 1) (c + 1) cells-of t₁ i₁ v (s .calls) (s .made) cells) (Beyond rows d (o + 1) (s .calls + (c + 1)) (s .made + cells-of))
-          (buildAll ts I xs s cells) (λ ys. runCall d I m ys)
-          (build-all-ends spell I ts s cells gs w (omega (arith, F .outsideCount)) (h .room) (h .fits) a)
+      item : (depth names-left : ℕ) {L Bs xs : List ℕ} (state : State) (cells : List ℕ) → Judgements.Fill (F .scope .outsides) L ts Bs → from state ≡ left
+          → state .fresh ≡ i → Kept rows (names-left + 1) state cells → ShowAll spell (state .made) cells xs M
+          → Ends (Gave names-left depth (opened + 1) (calls + 1) cells-of left₁ i₁ value (state .calls) (state .made) cells)
+          (Beyond rows depth (opened + 1) (state .calls + (calls + 1)) (state .made + cells-of))
+          (runItem (runCall depth I) I (call nonterminal ts) xs state cells)
+      item depth names-left {xs = xs} state cells w e f h a =
+          ends-after (BuiltAll spell I (rowsOfAll ts) state cells vs) (Full rows (state .made + rowsOfAll ts))
+          (Gave names-left depth (opened + 1) (calls + 1) cells-of left₁ i₁ value (state .calls) (state .made) cells)
+          (Beyond rows depth (opened + 1) (state .calls + (calls + 1)) (state .made + cells-of))
+          (buildAll ts I xs state cells) (λ ys. runCall depth I nonterminal ys)
+          (build-all-ends spell I ts state cells gs w (omega (arith, F .outsideCount)) (h .room) (h .fits) a)
           (λ ys s₁ c₁ b.
-          ends-map (Gave k d (o + 1) (c + 1) (n + rowsOf (p .result)) t₁ i₁ v (s₁ .calls) (s₁ .made) c₁)
-          (Beyond rows d (o + 1) (s₁ .calls + (c + 1)) (s₁ .made + (n + rowsOf (p .result))))
-          (Gave k d (o + 1) (c + 1) cells-of t₁ i₁ v (s .calls) (s .made) cells) (Beyond rows d (o + 1) (s .calls + (c + 1)) (s .made + cells-of))
-          (runCall d I m ys s₁ c₁)
-          (call-along p taken A gives k ys s₁ c₁ (cc (b .0 .at-kept)) (b .0 .fresh-kept ∙ f) (kept-less (kept-made h (b .0)))
-          (b .1) d)
+          ends-map (Gave names-left depth (opened + 1) (calls + 1) (rows-made + rowsOf (p .result)) left₁ i₁ value (s₁ .calls) (s₁ .made) c₁)
+          (Beyond rows depth (opened + 1) (s₁ .calls + (calls + 1)) (s₁ .made + (rows-made + rowsOf (p .result))))
+          (Gave names-left depth (opened + 1) (calls + 1) cells-of left₁ i₁ value (state .calls) (state .made) cells)
+          (Beyond rows depth (opened + 1) (state .calls + (calls + 1)) (state .made + cells-of))
+          (runCall depth I nonterminal ys s₁ c₁)
+          (call-along p taken A gives names-left ys s₁ c₁ (cc (b .0 .at-kept)) (b .0 .fresh-kept ∙ f) (kept-less (kept-made h (b .0)))
+          (b .1) depth)
           (λ x s₂ c₂ y. (
             record {
               grown = grown-trans (b .0 .grown) (y .0 .grown);
@@ -280,23 +303,29 @@ module _ {g : List Production} (X : Setting g) where
           (beyond-more (omega arith) (omega (arith, b .0 .calls-kept)) (omega (arith, b .0 .made-is))))
           (full-beyond (omega arith))
 
-      go : (d k : ℕ) (r : Template) (B : ℕ) (L xs : List ℕ) (s : State) (cells : List ℕ) → Body (F .scope) L (call m ts ∷ is) r B → from s ≡ t → s .fresh ≡ i
-          → Kept rows (k + length (call m ts ∷ is)) s cells → ShowAll spell (s .made) cells xs M
-          → Ends (Reached k d (max (o + 1) o′) (c + 1 + c′) (cells-of + n′) t′ i′ M′ (s .calls) (s .made) cells)
-          (Beyond rows d (max (o + 1) o′) (s .calls + (c + 1 + c′)) (s .made + (cells-of + n′))) (runItems (runCall d I) I (call m ts ∷ is) xs s cells)
-      go d k r B L xs s cells (by-binding (Judgements.by-call w z) b) e f h a =
-          ends-after (Gave (k + length is) d (o + 1) (c + 1) cells-of t₁ i₁ v (s .calls) (s .made) cells)
-          (Beyond rows d (o + 1) (s .calls + (c + 1)) (s .made + cells-of))
-          (Reached k d (max (o + 1) o′) (c + 1 + c′) (cells-of + n′) t′ i′ M′ (s .calls) (s .made) cells)
-          (Beyond rows d (max (o + 1) o′) (s .calls + (c + 1 + c′)) (s .made + (cells-of + n′)))
-          (runItem (runCall d I) I (call m ts) xs s cells) (λ x. runItems (runCall d I) I is (xs ++ (x ∷ [])))
-          (item d (k + length is) s cells z e f (record { room = h .room; fits = h .fits; names = omega (arith, h .names); begun = h .begun }) a)
+      go : (depth names-left : ℕ) (result : Template) (B : ℕ) (L xs : List ℕ) (state : State) (cells : List ℕ)
+          → Body (F .scope) L (call nonterminal ts ∷ is) result B → from state ≡ left → state .fresh ≡ i
+          → Kept rows (names-left + length (call nonterminal ts ∷ is)) state cells → ShowAll spell (state .made) cells xs M
+          → Ends
+          (Reached names-left depth (max (opened + 1) opened′) (calls + 1 + calls′) (cells-of + rows-made′) left′ i′ M′ (state .calls) (state .made) cells)
+          (Beyond rows depth (max (opened + 1) opened′) (state .calls + (calls + 1 + calls′)) (state .made + (cells-of + rows-made′)))
+          (runItems (runCall depth I) I (call nonterminal ts ∷ is) xs state cells)
+      go depth names-left result B L xs state cells (by-binding (Judgements.by-call w z) b) e f h a =
+          ends-after (Gave (names-left + length is) depth (opened + 1) (calls + 1) cells-of left₁ i₁ value (state .calls) (state .made) cells)
+          (Beyond rows depth (opened + 1) (state .calls + (calls + 1)) (state .made + cells-of))
+          (Reached names-left depth (max (opened + 1) opened′) (calls + 1 + calls′) (cells-of + rows-made′) left′ i′ M′ (state .calls) (state .made) cells)
+          (Beyond rows depth (max (opened + 1) opened′) (state .calls + (calls + 1 + calls′)) (state .made + (cells-of + rows-made′)))
+          (runItem (runCall depth I) I (call nonterminal ts) xs state cells) (λ x. runItems (runCall depth I) I is (xs ++ (x ∷ [])))
+          (item depth (names-left + length is) state cells z e f (record { room = h .room; fits = h .fits; names = omega (arith, h .names); begun = h .begun })
+          a)
           (λ x s₁ c₁ y.
-          ends-map (Reached k d o′ c′ n′ t′ i′ M′ (s₁ .calls) (s₁ .made) c₁) (Beyond rows d o′ (s₁ .calls + c′) (s₁ .made + n′))
-          (Reached k d (max (o + 1) o′) (c + 1 + c′) (cells-of + n′) t′ i′ M′ (s .calls) (s .made) cells)
-          (Beyond rows d (max (o + 1) o′) (s .calls + (c + 1 + c′)) (s .made + (cells-of + n′)))
-          (runItems (runCall d I) I is (xs ++ (x ∷ [])) s₁ c₁)
-          (A′ .along d k r B _ (xs ++ (x ∷ [])) s₁ c₁ b (y .0 .place) (y .0 .counter) (y .0 .kept) (all-and (all-later (y .0 .grown) a) (y .1)))
+          ends-map (Reached names-left depth opened′ calls′ rows-made′ left′ i′ M′ (s₁ .calls) (s₁ .made) c₁)
+          (Beyond rows depth opened′ (s₁ .calls + calls′) (s₁ .made + rows-made′))
+          (Reached names-left depth (max (opened + 1) opened′) (calls + 1 + calls′) (cells-of + rows-made′) left′ i′ M′ (state .calls) (state .made) cells)
+          (Beyond rows depth (max (opened + 1) opened′) (state .calls + (calls + 1 + calls′)) (state .made + (cells-of + rows-made′)))
+          (runItems (runCall depth I) I is (xs ++ (x ∷ [])) s₁ c₁)
+          (A′ .along depth names-left result B _ (xs ++ (x ∷ [])) s₁ c₁ b (y .0 .place) (y .0 .counter) (y .0 .kept)
+          (all-and (all-later (y .0 .grown) a) (y .1)))
           (λ ys s₂ c₂ q. (
             record {
               grown = grown-trans (y .0 .grown) (q .0 .grown);
@@ -313,8 +342,8 @@ module _ {g : List Production} (X : Setting g) where
           (beyond-more (omega arith) (omega arith) (omega arith))
 
   -- the run of items goes along their derivation
-  pub items-along : {M M′ : List Value} {s s′ : List Token} {i i′ : ℕ} {is : List Item} (D : Derives g spell M s i is M′ s′ i′)
-      → Along (openIn D) (callsIn D) (rowsIn D) s i is M M′ s′ i′
+  pub items-along : {M M′ : List Value} {s s′ : List Token} {i i′ : ℕ} {is : List Item} (derives : Derives g spell M s i is M′ s′ i′)
+      → Along (openIn derives) (callsIn derives) (rowsIn derives) s i is M M′ s′ i′
   unfolding openIn callsIn rowsIn runItems
   items-along by-end =
       record {
@@ -331,80 +360,81 @@ module _ {g : List Production} (X : Setting g) where
           a,
         );
       }
-  items-along (by-terminal (by-keyword {k = k} e) D) =
-      token-along (keyword k) (keywordKind k) (λ v. 0) (λ C xs. refl) e (λ s cells q. shows-unit) (items-along D)
-  items-along (by-terminal (by-ide {t = t} e as-var) D) =
-      token-along (ide Sorts.var) wordKind (wordValue Sorts.var) (λ C xs. refl) e (λ s cells q. shows-var (word-shown s t q e)) (items-along D)
-  items-along (by-terminal (by-ide {t = t} e as-binder) D) =
-      token-along (ide Sorts.binder) wordKind (wordValue Sorts.binder) (λ C xs. refl) e (λ s cells q. shows-binder (word-shown s t q e)) (items-along D)
-  items-along (by-terminal (by-ide {t = t} e as-label) D) =
+  items-along (by-terminal (by-keyword {k = k} e) derives) =
+      token-along (keyword k) (keywordKind k) (λ v. 0) (λ C xs. refl) e (λ s cells q. shows-unit) (items-along derives)
+  items-along (by-terminal (by-ide {t = t} e as-var) derives) =
+      token-along (ide Sorts.var) wordKind (wordValue Sorts.var) (λ C xs. refl) e (λ s cells q. shows-var (word-shown s t q e)) (items-along derives)
+  items-along (by-terminal (by-ide {t = t} e as-binder) derives) =
+      token-along (ide Sorts.binder) wordKind (wordValue Sorts.binder) (λ C xs. refl) e (λ s cells q. shows-binder (word-shown s t q e)) (items-along derives)
+  items-along (by-terminal (by-ide {t = t} e as-label) derives) =
       token-along (ide Sorts.label) wordKind (wordValue Sorts.label) (λ C xs. refl) e
-      (λ s cells q. rw (← q) shows-label) (items-along D)
-  items-along (by-terminal (by-number {t = t} e) D) =
+      (λ s cells q. rw (← q) shows-label) (items-along derives)
+  items-along (by-terminal (by-number {t = t} e) derives) =
       token-along number numberKind (λ v. v) (λ C xs. refl) e
-      (λ s cells q. rw (← q) shows-num) (items-along D)
-  items-along (by-terminal by-local D) = local-along (items-along D)
-  items-along (by-call {p = p} gs t D q D′) = call-item-along p gs t (items-along D) q (items-along D′)
+      (λ s cells q. rw (← q) shows-num) (items-along derives)
+  items-along (by-terminal by-local derives) = local-along (items-along derives)
+  items-along (by-call {p = p} gs t derives q D′) = call-item-along p gs t (items-along derives) q (items-along D′)
 
   -- ------------------------------------------------------------------ the whole formula
 
   -- the items that are one call of the root run as that call
-  root-ends : (P : List ℕ → State → List ℕ → Type 0) (H : Refusal → Type 0) (d : ℕ) (cells : List ℕ)
-      → Ends P H (runItems (runCall d I) I (call (X .root) none ∷ []) [] initialState cells)
-      → Ends (λ x s c. P (x ∷ []) s c) H (runCall d I (X .root) [] initialState cells)
+  root-ends : (P : List ℕ → State → List ℕ → Type 0) (H : Refusal → Type 0) (depth : ℕ) (cells : List ℕ)
+      → Ends P H (runItems (runCall depth I) I (call (setting .root) none ∷ []) [] initialState cells)
+      → Ends (λ x s c. P (x ∷ []) s c) H (runCall depth I (setting .root) [] initialState cells)
   unfolding runItems buildAll
-  root-ends P H d cells h = go (runCall d I (X .root) [] initialState cells) h
+  root-ends P H depth cells h = go (runCall depth I (setting .root) [] initialState cells) h
     where
-      go : (x : Result ℕ) → Ends P H (after x (λ v. runItems (runCall d I) I [] ([] ++ (v ∷ [])))) → Ends (λ x s c. P (x ∷ []) s c) H x
+      go : (result : Result ℕ) → Ends P H (after result (λ v. runItems (runCall depth I) I [] ([] ++ (v ∷ []))))
+          → Ends (λ result s c. P (result ∷ []) s c) H result
       go (done v s c) q = q
       go (halt r c) q = q
 
   -- the call of the root beside its derivation
-  pub root-along : {M : List Value} {t : List Token} {i : ℕ} (D : Derives g spell [] tokens 1 (call (X .root) none ∷ []) M t i)
+  pub root-along : {M : List Value} {left : List Token} {i : ℕ} (derives : Derives g spell [] tokens 1 (call (setting .root) none ∷ []) M left i)
       → (cells : List ℕ) → rows * columns ≤ length cells
-      → Ends (λ x s c. Reached 0 mostOpen (openIn D) (callsIn D) (rowsIn D) t i M 0 0 cells (x ∷ []) s c)
-      (Beyond rows mostOpen (openIn D) (callsIn D) (rowsIn D))
-      (runCall mostOpen I (X .root) [] initialState cells)
-  root-along {M} {t} {i} D cells room =
-      let W = Reached 0 mostOpen (openIn D) (callsIn D) (rowsIn D) t i M 0 0 cells in
-      let K = Beyond rows mostOpen (openIn D) (callsIn D) (rowsIn D) in
+      → Ends (λ x s c. Reached 0 mostOpen (openIn derives) (callsIn derives) (rowsIn derives) left i M 0 0 cells (x ∷ []) s c)
+      (Beyond rows mostOpen (openIn derives) (callsIn derives) (rowsIn derives))
+      (runCall mostOpen I (setting .root) [] initialState cells)
+  root-along {M} {left} {i} derives cells room =
+      let W = Reached 0 mostOpen (openIn derives) (callsIn derives) (rowsIn derives) left i M 0 0 cells in
+      let K = Beyond rows mostOpen (openIn derives) (callsIn derives) (rowsIn derives) in
       root-ends W K mostOpen cells
-      (ends-map W (Beyond rows mostOpen (openIn D) (0 + callsIn D) (0 + rowsIn D)) W K
-      (runItems (runCall mostOpen I) I (call (X .root) none ∷ []) [] initialState cells)
-      (items-along D .along mostOpen 0 (make 0x25 none) Sorts.fields [] [] initialState cells (root-body X) refl refl
+      (ends-map W (Beyond rows mostOpen (openIn derives) (0 + callsIn derives) (0 + rowsIn derives)) W K
+      (runItems (runCall mostOpen I) I (call (setting .root) none ∷ []) [] initialState cells)
+      (items-along derives .along mostOpen 0 (make 0x25 none) Sorts.fields [] [] initialState cells (root-body setting) refl refl
       (record { room = room; fits = omega arith; names = omega arith; begun = omega arith }) show-none)
       (λ xs s c u. u) (beyond-more (omega arith) (omega arith) (omega arith)))
 
-  module _ {t : Term Name} (P : Parses g spell (X .root) tokens t) where
+  module _ {t : Term Name} (parses : Parses g spell (setting .root) tokens t) where
     -- accepted with the term, within the limits
-    pub record Accepts (v : ℕ) (s : State) (cells : List ℕ) : Type 0 where
+    pub record Accepts (row : ℕ) (state : State) (cells : List ℕ) : Type 0 where
       -- the row given shows the term
-      pub term-is : termAt (s .made) spell cells v ≡ t
+      pub term-is : termAt (state .made) spell cells row ≡ t
       -- the limits allow the derivation
-      pub affords : Affords rows 0 0 0 (P .derived)
+      pub affords : Affords rows 0 0 0 (parses .derived)
       -- the rows made
-      pub made-are : s .made ≡ rowsIn (P .derived)
+      pub made-are : state .made ≡ rowsIn (parses .derived)
 
     abbrev Exceeds : Refusal → Type 0
-    Exceeds r = Beyond rows mostOpen (openIn (P .derived)) (callsIn (P .derived)) (rowsIn (P .derived)) r
+    Exceeds r = Beyond rows mostOpen (openIn (parses .derived)) (callsIn (parses .derived)) (rowsIn (parses .derived)) r
 
     all-read : (at : ℕ) → drop at tokens ≡ [] → length tokens ≤ at
     all-read at e = omega (arith, sym (length-drop at tokens) ∙ ap length e)
 
-    ended-along : (v : ℕ) (s : State) (cells : List ℕ) → from s ≡ [] → Accepts v s cells → Ends Accepts Exceeds (ended I v s cells)
-    ended-along v s cells e h =
-        subst⁻¹ (λ b. Ends Accepts Exceeds (elim b [ true ↦ halt (refusal 18 (s .at) 0 0) cells | false ↦ done v s cells ]))
-        (le-ltb (s .at) (length tokens) (all-read (s .at) e)) h
+    ended-along : (row : ℕ) (state : State) (cells : List ℕ) → from state ≡ [] → Accepts row state cells → Ends Accepts Exceeds (ended I row state cells)
+    ended-along row state cells e h =
+        subst⁻¹ (λ b. Ends Accepts Exceeds (elim b [ true ↦ halt (refusal 18 (state .at) 0 0) cells | false ↦ done row state cells ]))
+        (le-ltb (state .at) (length tokens) (all-read (state .at) e)) h
 
-    shown-first : {made : ℕ} {cells : List ℕ} {x : ℕ} → ShowAll spell made cells (x ∷ []) (term t ∷ []) → termAt made spell cells x ≡ t
-    shown-first (show-more h show-none) = shown X h
+    shown-first : {made : ℕ} {cells : List ℕ} {row : ℕ} → ShowAll spell made cells (row ∷ []) (term t ∷ []) → termAt made spell cells row ≡ t
+    shown-first (show-more h show-none) = shown setting h
 
-    run-along : (cells : List ℕ) → rows * columns ≤ length cells → Ends Accepts Exceeds (run I (X .root) cells)
+    run-along : (cells : List ℕ) → rows * columns ≤ length cells → Ends Accepts Exceeds (run I (setting .root) cells)
     unfolding run
     run-along cells room =
-        let D = P .derived in
-        ends-after (λ x s c. Reached 0 mostOpen (openIn D) (callsIn D) (rowsIn D) [] (P .counter) (term t ∷ []) 0 0 cells (x ∷ []) s c) Exceeds
-        Accepts Exceeds (runCall mostOpen I (X .root) [] initialState cells) (ended I) (root-along D cells room)
+        let D = parses .derived in
+        ends-after (λ x s c. Reached 0 mostOpen (openIn D) (callsIn D) (rowsIn D) [] (parses .counter) (term t ∷ []) 0 0 cells (x ∷ []) s c) Exceeds
+        Accepts Exceeds (runCall mostOpen I (setting .root) [] initialState cells) (ended I) (root-along D cells room)
         (λ v s c y.
         ended-along v s c (y .0 .place)
         (record {
@@ -420,22 +450,23 @@ module _ {g : List Production} (X : Setting g) where
         }))
         (λ r u. u)
 
-    within-not : {r : Refusal} → Affords rows 0 0 0 (P .derived) → Exceeds r → ⊥
+    within-not : {cause : Refusal} → Affords rows 0 0 0 (parses .derived) → Exceeds cause → ⊥
     within-not h (too-deep e l) = omega (arith, h .few-open, l)
     within-not h (too-many e l) = omega (arith, h .few-calls, l)
     within-not h (too-large e l) = omega (arith, h .few-rows, l)
 
     -- accepted beside the derivation
-    pub accepts : (cells : List ℕ) → rows * columns ≤ length cells → (v : ℕ) (s : State) (cells′ : List ℕ) → run I (X .root) cells ≡ done v s cells′
-        → Accepts v s cells′
-    accepts cells room v s cells′ e = rw e at (run-along cells room)
+    pub accepts : (cells : List ℕ) → rows * columns ≤ length cells → (row : ℕ) (state : State) (cells′ : List ℕ)
+        → run I (setting .root) cells ≡ done row state cells′
+        → Accepts row state cells′
+    accepts cells room row state cells′ e = rw e at (run-along cells room)
 
     -- a derivation within the limits is accepted
-    pub accepted : (cells : List ℕ) → rows * columns ≤ length cells → Affords rows 0 0 0 (P .derived)
-        → (v : ℕ) × (s : State) × (cells′ : List ℕ) × (run I (X .root) cells ≡ done v s cells′)
-    accepted cells room h = go (run I (X .root) cells) refl (run-along cells room)
+    pub accepted : (cells : List ℕ) → rows * columns ≤ length cells → Affords rows 0 0 0 (parses .derived)
+        → (row : ℕ) × (state : State) × (cells′ : List ℕ) × (run I (setting .root) cells ≡ done row state cells′)
+    accepted cells room h = go (run I (setting .root) cells) refl (run-along cells room)
       where
-        go : (x : Result ℕ) → run I (X .root) cells ≡ x → Ends Accepts Exceeds x
-            → (v : ℕ) × (s : State) × (cells′ : List ℕ) × (run I (X .root) cells ≡ done v s cells′)
+        go : (result : Result ℕ) → run I (setting .root) cells ≡ result → Ends Accepts Exceeds result
+            → (row : ℕ) × (state : State) × (cells′ : List ℕ) × (run I (setting .root) cells ≡ done row state cells′)
         go (done v s cells′) e a = (v, s, cells′, e)
         go (halt r cells′) e q = absurd (within-not h q)

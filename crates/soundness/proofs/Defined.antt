@@ -19,51 +19,52 @@ use Rattle.productions.specs.Normal.{Production, productionsOf, without, kept, 
 use Rattle.firsts.specs.Rules.{In, in-first, in-later, Of}
 use Rattle.soundness.proofs.Normalizing.{scopeOf}
 
-in-front : {g : List Production} (h : List Production) {p : Production} → In g p → In (g ++ h) p
-in-front h in-first = in-first
-in-front h (in-later m) = in-later (in-front h m)
+in-front : {g : List Production} (more : List Production) {p : Production} → In g p → In (g ++ more) p
+in-front more in-first = in-first
+in-front more (in-later m) = in-later (in-front more m)
 
-in-back : (g : List Production) {h : List Production} {p : Production} → In h p → In (g ++ h) p
+in-back : (g : List Production) {more : List Production} {p : Production} → In more p → In (g ++ more) p
 in-back [] m = m
 in-back (q ∷ g) m = in-later (in-back g m)
 
 -- a production of another nonterminal stays
-in-without : (n : ℕ) {g : List Production} {p : Production} → (p .owner ≡ n → ⊥) → In g p → In (without n g) p
+in-without : (nonterminal : ℕ) {g : List Production} {p : Production} → (p .owner ≡ nonterminal → ⊥) → In g p → In (without nonterminal g) p
 unfolding without
-in-without n d (in-first {p = p} {g = g}) = go (eqb (p .owner) n) refl
+in-without nonterminal d (in-first {p = p} {g = g}) = go (eqb (p .owner) nonterminal) refl
   where
-    go : (b : Bool) → eqb (p .owner) n ≡ b → In (elim b [ true ↦ without n g | false ↦ p ∷ without n g ]) p
-    go true e = absurd (d (eqb-true (p .owner) n e))
+    go : (test : Bool) → eqb (p .owner) nonterminal ≡ test → In (elim test [ true ↦ without nonterminal g | false ↦ p ∷ without nonterminal g ]) p
+    go true e = absurd (d (eqb-true (p .owner) nonterminal e))
     go false e = in-first
-in-without n {p = p} d (in-later {q = q} {g = g} m) = go (eqb (q .owner) n) (in-without n d m)
+in-without nonterminal {p = p} d (in-later {q = q} {g = g} m) = go (eqb (q .owner) nonterminal) (in-without nonterminal d m)
   where
-    go : (b : Bool) → In (without n g) p → In (elim b [ true ↦ without n g | false ↦ q ∷ without n g ]) p
+    go : (test : Bool) → In (without nonterminal g) p → In (elim test [ true ↦ without nonterminal g | false ↦ q ∷ without nonterminal g ]) p
     go true k = k
     go false k = in-later k
 
-in-kept : (m : Mode) (n : ℕ) {g : List Production} {p : Production} → (p .owner ≡ n → ⊥) → In g p → In (kept m n g) p
-in-kept add n d k = k
-in-kept extend n d k = k
-in-kept update n d k = in-without n d k
+in-kept : (mode : Mode) (nonterminal : ℕ) {g : List Production} {p : Production} → (p .owner ≡ nonterminal → ⊥) → In g p → In (kept mode nonterminal g) p
+in-kept add nonterminal d k = k
+in-kept extend nonterminal d k = k
+in-kept update nonterminal d k = in-without nonterminal d k
 
 -- the first alternative of a definition
-first-of : (n : ℕ) (rest : List Alternative) → 1 ≤ length rest → (p : Production) × In (productionsOf n rest) p × (p .owner ≡ n)
+first-of : (nonterminal : ℕ) (rest : List Alternative) → 1 ≤ length rest → (p : Production) × In (productionsOf nonterminal rest) p × (p .owner ≡ nonterminal)
 unfolding productionsOf
-first-of n [] h = absurd (omega (arith, h))
-first-of n (a ∷ rest) h = (record { owner = n; items = a .items; result = a .result }, in-first, refl)
+first-of nonterminal [] h = absurd (omega (arith, h))
+first-of nonterminal (a ∷ rest) h = (record { owner = nonterminal; items = a .items; result = a .result }, in-first, refl)
 
 -- each nonterminal of an environment has a production
 abbrev Supplied : Env → List Production → Type 0
 Supplied E g = (n : ℕ) (S : Signature) → Newest E n S → (p : Production) × Of g n p
 
-definition-supplied : {E : Env} {g : List Production} (d : Definition) → DefinitionWithin d → Supplied E g → Supplied (entryOf d ∷ E) (defined g d)
-definition-supplied {g = g} d z h n S newest-first =
-    let f = first-of (d .nonterminal) (d .alternatives) (z .alternativeCount) in
-    (f .0, record { member = in-back (kept (d .mode) (d .nonterminal) g) (f .1); owned = f .2; small = omega (arith, z .nonterminal) })
-definition-supplied d z h n S (newest-later k w) =
+definition-supplied : {E : Env} {g : List Production} (definition : Definition) → DefinitionWithin definition → Supplied E g
+    → Supplied (entryOf definition ∷ E) (defined g definition)
+definition-supplied {g = g} definition z h n S newest-first =
+    let f = first-of (definition .nonterminal) (definition .alternatives) (z .alternativeCount) in
+    (f .0, record { member = in-back (kept (definition .mode) (definition .nonterminal) g) (f .1); owned = f .2; small = omega (arith, z .nonterminal) })
+definition-supplied definition z h n S (newest-later k w) =
     let f = h n S w in
-    let apart : f .0 .owner ≡ d .nonterminal → ⊥ = λ e. k (cc (e, f .1 .owned)) in
-    (f .0, record { member = in-front _ (in-kept (d .mode) (d .nonterminal) apart (f .1 .member)); owned = f .1 .owned; small = f .1 .small })
+    let apart : f .0 .owner ≡ definition .nonterminal → ⊥ = λ e. k (cc (e, f .1 .owned)) in
+    (f .0, record { member = in-front _ (in-kept (definition .mode) (definition .nonterminal) apart (f .1 .member)); owned = f .1 .owned; small = f .1 .small })
 
 defines-supplied : {E own own′ : Env} {ds : List Definition} {g : List Production} → Defines E own ds own′ → Each DefinitionWithin ds
     → Supplied (own ++ E) g → Supplied (own′ ++ E) (definedAll g ds)
@@ -73,21 +74,21 @@ defines-supplied (by-add {d = d} e a b k) (each-more z zs) h = defines-supplied 
 defines-supplied (by-extend {d = d} e a b k) (each-more z zs) h = defines-supplied k zs (definition-supplied d z h)
 defines-supplied (by-update {d = d} e a b k) (each-more z zs) h = defines-supplied k zs (definition-supplied d z h)
 
-sequence-supplied : {K N : ℕ} {E E′ : Env} {g : List Production} {bs : List (List Definition)} → Sequence K N E bs E′ → Each (Each DefinitionWithin) bs
-    → Supplied E g → Supplied E′ (normalizedFrom g bs)
+sequence-supplied : {keywords outsides : ℕ} {E E′ : Env} {g : List Production} {bs : List (List Definition)} → Sequence keywords outsides E bs E′
+    → Each (Each DefinitionWithin) bs → Supplied E g → Supplied E′ (normalizedFrom g bs)
 unfolding normalizedFrom
 sequence-supplied no-grammar each-none h = h
 sequence-supplied (by-grammar d o s) (each-more z zs) h = sequence-supplied s zs (defines-supplied d z h)
 
-none-newest : {n : ℕ} {S : Signature} → Newest [] n S → ⊥
+none-newest : {nonterminal : ℕ} {S : Signature} → Newest [] nonterminal S → ⊥
 unfolding isDefined
 none-newest k = true≢false (sym (newest-defined k))
 
 -- A call that is well sorted in a table within the counts is of a nonterminal that has a production.
-pub called-is-defined : (t : Table) → Within t → (w : WellSorted t) {L : List ℕ} {n A : ℕ} {ts : Templates}
-    → ItemSorted (scopeOf t w) L (call n ts) A
-    → (p : Production) × Of (normalized (t .blocks)) n p
-called-is-defined t z w (by-call {S = S} k f) = sequence-supplied (w .sequence) (z .blocks) nothing _ S k
+pub called-is-defined : (table : Table) → Within table → (well-sorted : WellSorted table) {L : List ℕ} {nonterminal A : ℕ} {ts : Templates}
+    → ItemSorted (scopeOf table well-sorted) L (call nonterminal ts) A
+    → (p : Production) × Of (normalized (table .blocks)) nonterminal p
+called-is-defined table z well-sorted (by-call {S = S} k f) = sequence-supplied (well-sorted .sequence) (z .blocks) nothing _ S k
   where
     nothing : Supplied [] []
     nothing n S k = absurd (none-newest k)

@@ -54,102 +54,104 @@ use Rattle.soundness.proofs.Scanned.{scanned-small}
 pub scanned-is-small : (lex : Lexicon) → length (lex .outsides) ≤ 64 → (formula : List ℕ) → SmallWords (scan lex formula .tokens)
 scanned-is-small = scanned-small
 
-module _ (t : Table) (T : Passing t) where
+module _ (table : Table) (passing : Passing table) where
   -- A passing table has neither 12 nor 13.
-  pub firsts-passed : checkFirsts (grammarOf t) ≡ ok tt
-  firsts-passed = passes-exactly (grammarOf t) .1 (T .meets .not-left-recursive, T .meets .without-clash)
+  pub firsts-passed : checkFirsts (grammarOf table) ≡ ok tt
+  firsts-passed = passes-exactly (grammarOf table) .1 (passing .meets .not-left-recursive, passing .meets .without-clash)
 
   -- ------------------------------------------------------------------ sorts
 
   -- Parsing respects typing (001, Theorem 1): under variables of their sorts, an alternative of sort B derives a value of sort B.
   pub parsing-respects-typing : {spell : ℕ → List ℕ} {M M′ : List Value} {s s′ : List Token} {i i′ B : ℕ} {items : List Item}
-      {result : Template} {L : List ℕ} {v : Value}
-      → Body (scopeOf t (T .meets .sorted)) L items result B
+      {result : Template} {L : List ℕ} {value : Value}
+      → Body (scopeOf table (passing .meets .sorted)) L items result B
       → Matches M L
-      → Derives (grammarOf t) spell M s i items M′ s′ i′
-      → Gives spell M′ result v
-      → Typed v B
-  parsing-respects-typing b m d k = items-typed (table-fits t (T .within) (T .meets .sorted)) d m b k
+      → Derives (grammarOf table) spell M s i items M′ s′ i′
+      → Gives spell M′ result value
+      → Typed value B
+  parsing-respects-typing b m d k = items-typed (table-fits table (passing .within) (passing .meets .sorted)) d m b k
 
   -- Whatever a call of the root derives is a term (001, Corollary 1).
   pub root-derives-term : {spell : ℕ → List ℕ} {M : List Value} {s s′ : List Token} {i i′ : ℕ}
-      → Derives (grammarOf t) spell [] s i (call (t .root) none ∷ []) M s′ i′
-      → (u : Term Name) × (M ≡ term u ∷ [])
+      → Derives (grammarOf table) spell [] s i (call (table .root) none ∷ []) M s′ i′
+      → (other : Term Name) × (M ≡ term other ∷ [])
   root-derives-term (by-call {v = v} give-none k d g by-end) =
-      let F = table-fits t (T .within) (T .meets .sorted) in
-      let matched : Matches [] (T .meets .sorted .signature .params) = rw (T .meets .sorted .without) matches-none in
-      go v (subst (Typed v) (T .meets .sorted .of-term) (items-typed F d matched (body-of F (taken-of k) (T .meets .sorted .defined)) g))
+      let F = table-fits table (passing .within) (passing .meets .sorted) in
+      let matched : Matches [] (passing .meets .sorted .signature .params) = rw (passing .meets .sorted .without) matches-none in
+      go v (subst (Typed v) (passing .meets .sorted .of-term) (items-typed F d matched (body-of F (taken-of k) (passing .meets .sorted .defined)) g))
     where
-      go : (v : Value) → Typed v Sorts.term → (u : Term Name) × (_≡_ {A = List Value} (v ∷ []) (term u ∷ []))
+      go : (value : Value) → Typed value Sorts.term → (other : Term Name) × (_≡_ {A = List Value} (value ∷ []) (term other ∷ []))
       go (term u) typed-term = (u, refl)
 
   -- A well sorted call, under variables of their sorts, has values for its arguments and a production of its nonterminal: it is never `wrong`.
-  pub call-never-wrong : (spell : ℕ → List ℕ) {M : List Value} {L : List ℕ} {n A : ℕ} (ts : Templates) → Matches M L
-      → ItemSorted (scopeOf t (T .meets .sorted)) L (call n ts) A
-      → ((vs : List Value) × GiveAll spell M ts vs) × ((p : Production) × Of (grammarOf t) n p)
+  pub call-never-wrong : (spell : ℕ → List ℕ) {M : List Value} {L : List ℕ} {nonterminal A : ℕ} (ts : Templates) → Matches M L
+      → ItemSorted (scopeOf table (passing .meets .sorted)) L (call nonterminal ts) A
+      → ((vs : List Value) × GiveAll spell M ts vs) × ((p : Production) × Of (grammarOf table) nonterminal p)
   call-never-wrong spell ts m (Judgements.by-call w f) =
-      let k = give-all-exist spell m ts f in ((k .0, k .1), called-is-defined t (T .within) (T .meets .sorted) (Judgements.by-call w f))
+      let k = give-all-exist spell m ts f in ((k .0, k .1), called-is-defined table (passing .within) (passing .meets .sorted) (Judgements.by-call w f))
 
   -- ------------------------------------------------------------------ readings
 
-  module _ (R : Lexemes) where
+  module _ (lexemes : Lexemes) where
     -- Figure 3 derives the term from the table's root over all the tokens.
     abbrev pub ParsesAs : Term Name → Type 0
-    ParsesAs u = Parses (grammarOf t) (R .spell) (t .root) (R .tokens) u
+    ParsesAs u = Parses (grammarOf table) (lexemes .spell) (table .root) (lexemes .tokens) u
 
     -- A formula has one reading at most: two derivations from the root give the same term.
-    pub derived-once : {u w : Term Name} → ParsesAs u → ParsesAs w → u ≡ w
+    pub derived-once : {other second : Term Name} → ParsesAs other → ParsesAs second → other ≡ second
     derived-once P Q = parses-one firsts-passed P Q
 
     -- Each place of a derived term holds what its sort asks for (01, "Whose name is whose").
-    pub derived-is-placed : {u : Term Name} (P : ParsesAs u) → Placed (givenIn (P .derived)) (R .spell) u
-    derived-is-placed P = parses-placed P
+    pub derived-is-placed : {other : Term Name} (parses-as : ParsesAs other) → Placed (givenIn (parses-as .derived)) (lexemes .spell) other
+    derived-is-placed parses-as = parses-placed parses-as
 
-    abbrev setting : ℕ → Setting (grammarOf t)
+    abbrev setting : ℕ → Setting (grammarOf table)
     setting rows =
         record {
-          fit = table-fits t (T .within) (T .meets .sorted);
+          fit = table-fits table (passing .within) (passing .meets .sorted);
           passed = firsts-passed;
-          spell = R .spell;
-          tokens = R .tokens;
+          spell = lexemes .spell;
+          tokens = lexemes .tokens;
           rows = rows;
-          small = R .small;
-          root = t .root;
-          root-small = omega (arith, T .within .root);
-          signature = T .meets .sorted .signature;
-          defined = T .meets .sorted .defined;
-          without = T .meets .sorted .without;
-          of-term = T .meets .sorted .of-term;
+          small = lexemes .small;
+          root = table .root;
+          root-small = omega (arith, passing .within .root);
+          signature = passing .meets .sorted .signature;
+          defined = passing .meets .sorted .defined;
+          without = passing .meets .sorted .without;
+          of-term = passing .meets .sorted .of-term;
         }
 
     -- What was given in its derivation is a token of the formula or one of the table's outside names.
-    pub derived-is-supplied : {u : Term Name} (P : ParsesAs u) → Each (Supplied (R .tokens) (length (t .outsides))) (givenIn (P .derived))
-    derived-is-supplied P = parses-supplied (setting 0) P
+    pub derived-is-supplied : {other : Term Name} (parses-as : ParsesAs other)
+        → Each (Supplied (lexemes .tokens) (length (table .outsides))) (givenIn (parses-as .derived))
+    derived-is-supplied parses-as = parses-supplied (setting 0) parses-as
 
     -- So a derived term has only words for names and labels, if those of the formula and of the table are words.
-    pub derived-is-worded : ((w : Token) → Among (R .tokens) w → w .kind ≡ wordKind → isWord (R .spell (w .value)) ≡ true)
-        → ((n : ℕ) → n < length (t .outsides) → isWord (R .spell n) ≡ true)
-        → {u : Term Name} → ParsesAs u → isWorded u ≡ true
-    derived-is-worded words outsides P = placed-worded (R .spell) (derived-is-supplied P) words outsides (derived-is-placed P)
+    pub derived-is-worded : ((other : Token) → Among (lexemes .tokens) other → other .kind ≡ wordKind → isWord (lexemes .spell (other .value)) ≡ true)
+        → ((nonterminal : ℕ) → nonterminal < length (table .outsides) → isWord (lexemes .spell nonterminal) ≡ true)
+        → {derived : Term Name} → ParsesAs derived → isWorded derived ≡ true
+    derived-is-worded words outsides P = placed-worded (lexemes .spell) (derived-is-supplied P) words outsides (derived-is-placed P)
 
     -- ------------------------------------------------------------------ runs and parses
 
     module _ (rows : ℕ) (cells : List ℕ) (room : rows * columns ≤ length cells) where
       -- An expansion over these rows and cells ends so.
       abbrev pub Answers : Result ℕ → Type 0
-      Answers x = Runs (grammarOf t) (t .root) (R .tokens) rows cells x
+      Answers x = Runs (grammarOf table) (table .root) (lexemes .tokens) rows cells x
 
       -- What is accepted is derived: Figure 3 parses the whole formula as the term that the cells at exit show at the row given.
-      pub accepted-is-derived : (v : ℕ) (s : State) (cells′ : List ℕ) → Answers (done v s cells′) → ParsesAs (termAt (s .made) (R .spell) cells′ v)
+      pub accepted-is-derived : (row : ℕ) (state : State) (cells′ : List ℕ) → Answers (done row state cells′)
+          → ParsesAs (termAt (state .made) (lexemes .spell) cells′ row)
       accepted-is-derived = run-sound (setting rows) cells room
 
       -- A term is accepted exactly if it is derived within the limits.
-      pub accepted-exactly : (u : Term Name)
-          → ((v : ℕ) × (s : State) × (cells′ : List ℕ) × Answers (done v s cells′) × (termAt (s .made) (R .spell) cells′ v ≡ u))
-          ↔ ((P : ParsesAs u) × Affords rows 0 0 0 (P .derived))
-      accepted-exactly u = (
+      pub accepted-exactly : (other : Term Name)
+          → ((row : ℕ) × (state : State) × (cells′ : List ℕ) × Answers (done row state cells′) × (termAt (state .made) (lexemes .spell) cells′ row ≡ other))
+          ↔ ((parses-as : ParsesAs other) × Affords rows 0 0 0 (parses-as .derived))
+      accepted-exactly other = (
         λ a.
-            let P : ParsesAs u = subst ParsesAs (a .4) (accepted-is-derived (a .0) (a .1) (a .2) (a .3)) in
+            let P : ParsesAs other = subst ParsesAs (a .4) (accepted-is-derived (a .0) (a .1) (a .2) (a .3)) in
             (P, accepts (setting rows) P cells room (a .0) (a .1) (a .2) (a .3) .affords),
         λ d.
             let b = accepted (setting rows) (d .0) cells room (d .1) in
@@ -157,17 +159,18 @@ module _ (t : Table) (T : Passing t) where
       )
 
       -- Accepted beside a derivation, the cells show the term derived, and the state has counted the derivation's cells.
-      pub accepted-as-derived : {u : Term Name} (P : ParsesAs u) (v : ℕ) (s : State) (cells′ : List ℕ) → Answers (done v s cells′)
-          → (termAt (s .made) (R .spell) cells′ v ≡ u) × (s .made ≡ rowsIn (P .derived))
-      accepted-as-derived P v s cells′ e = let a = accepts (setting rows) P cells room v s cells′ e in (a .term-is, a .made-are)
+      pub accepted-as-derived : {other : Term Name} (parses-as : ParsesAs other) (row : ℕ) (state : State) (cells′ : List ℕ) → Answers (done row state cells′)
+          → (termAt (state .made) (lexemes .spell) cells′ row ≡ other) × (state .made ≡ rowsIn (parses-as .derived))
+      accepted-as-derived parses-as row state cells′ e = let a = accepts (setting rows) parses-as cells room row state cells′ e in (a .term-is, a .made-are)
 
       -- The term of an accepted expansion lies in the rows that it made, which are no more than there are.
-      pub accepted-leaves : {v : ℕ} {s : State} {cells′ : List ℕ} → Answers (done v s cells′) → Leaves (setting rows) cells v s cells′
+      pub accepted-leaves : {row : ℕ} {state : State} {cells′ : List ℕ} → Answers (done row state cells′) → Leaves (setting rows) cells row state cells′
       accepted-leaves = run-leaves-rows (setting rows) cells room
 
       -- An expansion halts with a refusal exactly if the rules stop with it: the number, and all its values.
-      pub refused-exactly : (r : Refusal) → ((cells′ : List ℕ) × Answers (halt r cells′)) ↔ Refuses (grammarOf t) (R .spell) rows (R .tokens) (t .root) r
-      refused-exactly r = (
+      pub refused-exactly : (refusal : Refusal) → ((cells′ : List ℕ) × Answers (halt refusal cells′)) ↔ Refuses (grammarOf table) (lexemes .spell) rows
+          (lexemes .tokens) (table .root) refusal
+      refused-exactly refusal = (
         λ a.
             rw (a .1) at (run-halts (setting rows) cells room),
         λ h. refuses-halts (setting rows) h cells room,
@@ -176,6 +179,6 @@ module _ (t : Table) (T : Passing t) where
 -- ------------------------------------------------------------------ never wrong
 
 -- A well sorted template, under variables of their sorts, gives a value of its sort: never `wrong` (001, Theorem 1).
-pub never-wrong : (spell : ℕ → List ℕ) {N : ℕ} {M : List Value} {L : List ℕ} {A : ℕ} (t : Template) → Matches M L → Sorted N L t A
-    → (v : Value) × Gives spell M t v × Typed v A
-never-wrong spell t m w = gives-exists spell m t w
+pub never-wrong : (spell : ℕ → List ℕ) {outsides : ℕ} {M : List Value} {L : List ℕ} {A : ℕ} (template : Template) → Matches M L → Sorted outsides L template A
+    → (value : Value) × Gives spell M template value × Typed value A
+never-wrong spell template m w = gives-exists spell m template w

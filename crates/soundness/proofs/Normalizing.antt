@@ -30,19 +30,19 @@ each-in : {P : Production → Type 0} {g : List Production} {p : Production} →
 each-in (each-more h hs) in-first = h
 each-in (each-more h hs) (in-later m) = each-in hs m
 
-each-without : {P : Production → Type 0} (n : ℕ) {g : List Production} → Each P g → Each P (without n g)
+each-without : {P : Production → Type 0} (nonterminal : ℕ) {g : List Production} → Each P g → Each P (without nonterminal g)
 unfolding without
-each-without n each-none = each-none
-each-without {P} n (each-more {x = p} {xs = g} h hs) = go (eqb (p .owner) n) (each-without n hs)
+each-without nonterminal each-none = each-none
+each-without {P} nonterminal (each-more {x = p} {xs = g} h hs) = go (eqb (p .owner) nonterminal) (each-without nonterminal hs)
   where
-    go : (b : Bool) → Each P (without n g) → Each P (elim b [ true ↦ without n g | false ↦ p ∷ without n g ])
+    go : (test : Bool) → Each P (without nonterminal g) → Each P (elim test [ true ↦ without nonterminal g | false ↦ p ∷ without nonterminal g ])
     go true k = k
     go false k = each-more h k
 
-each-kept : {P : Production → Type 0} (m : Mode) (n : ℕ) {g : List Production} → Each P g → Each P (kept m n g)
-each-kept add n h = h
-each-kept extend n h = h
-each-kept update n h = each-without n h
+each-kept : {P : Production → Type 0} (mode : Mode) (nonterminal : ℕ) {g : List Production} → Each P g → Each P (kept mode nonterminal g)
+each-kept add nonterminal h = h
+each-kept extend nonterminal h = h
+each-kept update nonterminal h = each-without nonterminal h
 
 -- ------------------------------------------------------------------ environments that grow
 
@@ -50,29 +50,32 @@ each-kept update n h = each-without n h
 abbrev More : Env → Env → Type 0
 More E E′ = (n : ℕ) (S : Signature) → Newest E n S → Newest E′ n S
 
-absent-append : {own E : Env} {n : ℕ} → Undeclared own n → Undeclared E n → Undeclared (own ++ E) n
+absent-append : {own E : Env} {nonterminal : ℕ} → Undeclared own nonterminal → Undeclared E nonterminal → Undeclared (own ++ E) nonterminal
 absent-append absent-empty k = k
 absent-append (absent-entry d h) k = absent-entry d (absent-append h k)
 
-newest-append : {own E : Env} {n : ℕ} {S : Signature} → Undeclared own n → Newest E n S → Newest (own ++ E) n S
+newest-append : {own E : Env} {nonterminal : ℕ} {S : Signature} → Undeclared own nonterminal → Newest E nonterminal S → Newest (own ++ E) nonterminal S
 newest-append absent-empty k = k
 newest-append (absent-entry d h) k = newest-later d (newest-append h k)
 
 -- a definition that has the signature there is, if there is one
-entry-more : (d : Definition) (E : Env) → ((S : Signature) → Newest E (d .nonterminal) S → d .signature ≡ S) → More E (entryOf d ∷ E)
-entry-more d E same n S h =
-    by-test (eqb (d .nonterminal) n)
+entry-more : (definition : Definition) (E : Env) → ((S : Signature) → Newest E (definition .nonterminal) S → definition .signature ≡ S)
+    → More E (entryOf definition ∷ E)
+entry-more definition E same n S h =
+    by-test (eqb (definition .nonterminal) n)
     (λ e.
-    let q : d .nonterminal ≡ n = eqb-true (d .nonterminal) n e in
-    let r : Newest (entryOf d ∷ E) (d .nonterminal) S = rw (← (same S (rw q h))) newest-first in
+    let q : definition .nonterminal ≡ n = eqb-true (definition .nonterminal) n e in
+    let r : Newest (entryOf definition ∷ E) (definition .nonterminal) S = rw (← (same S (rw q h))) newest-first in
     rw (← q) r)
-    (λ e. newest-later (eqb-false (d .nonterminal) n e) h)
+    (λ e. newest-later (eqb-false (definition .nonterminal) n e) h)
 
-added : {own E : Env} (d : Definition) → Undeclared own (d .nonterminal) → Undeclared E (d .nonterminal) → More (own ++ E) (entryOf d ∷ own ++ E)
-added d a b = entry-more d _ (λ S h. absurd (true≢false (sym (newest-defined h) ∙ absent-undefined (absent-append a b))))
+added : {own E : Env} (definition : Definition) → Undeclared own (definition .nonterminal) → Undeclared E (definition .nonterminal)
+    → More (own ++ E) (entryOf definition ∷ own ++ E)
+added definition a b = entry-more definition _ (λ S h. absurd (true≢false (sym (newest-defined h) ∙ absent-undefined (absent-append a b))))
 
-changed : {own E : Env} (d : Definition) → Undeclared own (d .nonterminal) → Newest E (d .nonterminal) (d .signature) → More (own ++ E) (entryOf d ∷ own ++ E)
-changed d a b = entry-more d _ (λ S h. sym (newest-signature (newest-append a b)) ∙ newest-signature h)
+changed : {own E : Env} (definition : Definition) → Undeclared own (definition .nonterminal) → Newest E (definition .nonterminal) (definition .signature)
+    → More (own ++ E) (entryOf definition ∷ own ++ E)
+changed definition a b = entry-more definition _ (λ S h. sym (newest-signature (newest-append a b)) ∙ newest-signature h)
 
 module _ {E : Env} where
   defines-more : {own own′ : Env} {ds : List Definition} → Defines E own ds own′ → More (own ++ E) (own′ ++ E)
@@ -90,19 +93,21 @@ module _ {E : Env} where
 
 -- ------------------------------------------------------------------ productions
 
-module _ (K N : ℕ) where
-  item-more : {E E′ : Env} {L : List ℕ} {i : Item} {A : ℕ} → More E E′ → ItemSorted (scope K N E) L i A → ItemSorted (scope K N E′) L i A
+module _ (keywords outsides : ℕ) where
+  item-more : {E E′ : Env} {L : List ℕ} {item : Item} {A : ℕ} → More E E′ → ItemSorted (scope keywords outsides E) L item A
+      → ItemSorted (scope keywords outsides E′) L item A
   item-more m (by-keyword l) = by-keyword l
   item-more m (by-ide l u) = by-ide l u
   item-more m by-number = by-number
   item-more m by-local = by-local
   item-more m (by-call w f) = by-call (m _ _ w) f
 
-  body-more : {E E′ : Env} {L : List ℕ} {is : List Item} {r : Template} {B : ℕ} → More E E′ → Body (scope K N E) L is r B → Body (scope K N E′) L is r B
+  body-more : {E E′ : Env} {L : List ℕ} {is : List Item} {result : Template} {B : ℕ} → More E E′ → Body (scope keywords outsides E) L is result B
+      → Body (scope keywords outsides E′) L is result B
   body-more m (by-result w f) = by-result w f
   body-more m (by-binding i b) = by-binding (item-more m i) (body-more m b)
 
-  fits-more : {E E′ : Env} {g : List Production} → More E E′ → Each (Fit (scope K N E)) g → Each (Fit (scope K N E′)) g
+  fits-more : {E E′ : Env} {g : List Production} → More E E′ → Each (Fit (scope keywords outsides E)) g → Each (Fit (scope keywords outsides E′)) g
   fits-more m each-none = each-none
   fits-more m (each-more h hs) =
       each-more
@@ -117,37 +122,39 @@ module _ (K N : ℕ) where
       (fits-more m hs)
 
   module _ {E : Env} where
-    alternatives-fit : {n : ℕ} {S : Signature} {rest : List Alternative} → Newest E n S → Bodies (scope K N E) S rest → Each AlternativeWithin rest
-        → Each (Fit (scope K N E)) (productionsOf n rest)
+    alternatives-fit : {nonterminal : ℕ} {S : Signature} {rest : List Alternative} → Newest E nonterminal S → Bodies (scope keywords outsides E) S rest
+        → Each AlternativeWithin rest → Each (Fit (scope keywords outsides E)) (productionsOf nonterminal rest)
     unfolding productionsOf
     alternatives-fit w no-alternative each-none = each-none
     alternatives-fit {S = S} w (by-choice b bs) (each-more a more) =
         each-more (record { signature = S; newest = w; body = b; items = a .items; itemCount = a .itemCount; result = a .result })
         (alternatives-fit w bs more)
 
-    definitions-fit : {g : List Production} {ds : List Definition} → Each (Fit (scope K N E)) g → Each (λ d. Newest E (d .nonterminal) (d .signature)) ds
-        → Ok (scope K N E) ds → Each DefinitionWithin ds
-        → Each (Fit (scope K N E)) (definedAll g ds)
+    definitions-fit : {g : List Production} {ds : List Definition} → Each (Fit (scope keywords outsides E)) g
+        → Each (λ d. Newest E (d .nonterminal) (d .signature)) ds
+        → Ok (scope keywords outsides E) ds → Each DefinitionWithin ds
+        → Each (Fit (scope keywords outsides E)) (definedAll g ds)
     unfolding definedAll
     definitions-fit h each-none ok-empty each-none = h
     definitions-fit h (each-more {x = d} w ws) (ok-definition b o) (each-more z zs) =
         definitions-fit (each-append (each-kept (d .mode) (d .nonterminal) h) (alternatives-fit w b (z .alternatives))) ws o zs
 
-  sequence-fits : {E E′ : Env} {g : List Production} {bs : List (List Definition)} → Sequence K N E bs E′ → Each (Each DefinitionWithin) bs
-      → Each (Fit (scope K N E)) g
-      → Each (Fit (scope K N E′)) (normalizedFrom g bs)
+  sequence-fits : {E E′ : Env} {g : List Production} {bs : List (List Definition)} → Sequence keywords outsides E bs E′ → Each (Each DefinitionWithin) bs
+      → Each (Fit (scope keywords outsides E)) g
+      → Each (Fit (scope keywords outsides E′)) (normalizedFrom g bs)
   unfolding normalizedFrom
   sequence-fits no-grammar each-none h = h
   sequence-fits (by-grammar d o s) (each-more z zs) h = sequence-fits s zs (definitions-fit (fits-more (defines-more d) h) (defines-all d) o z)
 
 -- the scope in which the bodies of a table are sorted
-abbrev pub scopeOf : (t : Table) → WellSorted t → Scope
-scopeOf t w = scope (length (t .keywords)) (length (t .outsides)) (w .env)
+abbrev pub scopeOf : (table : Table) → WellSorted table → Scope
+scopeOf table w = scope (length (table .keywords)) (length (table .outsides)) (w .env)
 
 -- each production of a well sorted table fits its scope
-pub each-fits : (t : Table) → Within t → (w : WellSorted t) → (p : Production) → In (normalized (t .blocks)) p → Fit (scopeOf t w) p
-each-fits t z w p m = each-in (sequence-fits _ _ (w .sequence) (z .blocks) each-none) m
+pub each-fits : (table : Table) → Within table → (well-sorted : WellSorted table) → (p : Production) → In (normalized (table .blocks)) p
+    → Fit (scopeOf table well-sorted) p
+each-fits table z well-sorted p m = each-in (sequence-fits _ _ (well-sorted .sequence) (z .blocks) each-none) m
 
 -- the productions of a well sorted table fit it
-abbrev pub table-fits : (t : Table) → Within t → WellSorted t → FitAll (normalized (t .blocks))
-table-fits t z w = record { scope = scopeOf t w; keywordCount = z .keywordCount; outsideCount = z .outsideCount; each = each-fits t z w }
+abbrev pub table-fits : (table : Table) → Within table → WellSorted table → FitAll (normalized (table .blocks))
+table-fits table z w = record { scope = scopeOf table w; keywordCount = z .keywordCount; outsideCount = z .outsideCount; each = each-fits table z w }

@@ -24,44 +24,46 @@ use Rattle.soundness.proofs.Building.{Ends, ends-after}
 use Rattle.soundness.proofs.Typing.{items-typed, body-of, taken-of}
 use Rattle.soundness.proofs.Sound.{Any, Root, root-called}
 
-module _ {g : List Production} (X : Setting g) where
-  -- what is left after the value v: no more rows than there are, as many numbers as before, and the term in the rows made
-  pub record Leaves (cells : List ℕ) (v : ℕ) (s : State) (cells′ : List ℕ) : Type 0 where
+module _ {g : List Production} (setting : Setting g) where
+  -- what is left after the value `row`: no more rows than there are, as many numbers as before, and the term in the rows made
+  pub record Leaves (cells : List ℕ) (row : ℕ) (state : State) (cells′ : List ℕ) : Type 0 where
     -- no more rows are made than there are
-    pub few : s .made ≤ X .rows
+    pub few : state .made ≤ setting .rows
     -- the cells are as many
     pub as-many : length cells′ ≡ length cells
     -- the rows made are all that the term reads
-    pub same : termAt (s .made) (X .spell) (take (s .made * columns) cells′) v ≡ termAt (s .made) (X .spell) cells′ v
+    pub same : termAt (state .made) (setting .spell) (take (state .made * columns) cells′) row ≡ termAt (state .made) (setting .spell) cells′ row
 
-  term-rows : {cells′ : List ℕ} {x made : ℕ} (v : Value) → Typed v Sorts.term → Shows (X .spell) made cells′ x v
-      → termAt made (X .spell) (take (made * columns) cells′) x ≡ termAt made (X .spell) cells′ x
-  term-rows {cells′} {x} {made} (term t) typed-term (shows-term h) =
+  term-rows : {cells′ : List ℕ} {row made : ℕ} (value : Value) → Typed value Sorts.term → Shows (setting .spell) made cells′ row value
+      → termAt made (setting .spell) (take (made * columns) cells′) row ≡ termAt made (setting .spell) cells′ row
+  term-rows {cells′} {row} {made} (term t) typed-term (shows-term h) =
       h .read (take (made * columns) cells′) (record { same = λ j b. getD-take (made * columns) cells′ j 0 b }) made (h .below)
       ∙ sym (h .read cells′ (record { same = λ j b. refl }) made (h .below))
 
-  root-leaves : {cells : List ℕ} {x : ℕ} {s′ : State} {cells′ : List ℕ} → Root X cells x s′ cells′ → Leaves cells x s′ cells′
+  root-leaves : {cells : List ℕ} {row : ℕ} {state′ : State} {cells′ : List ℕ} → Root setting cells row state′ cells′ → Leaves cells row state′ cells′
   root-leaves c =
-      let sorted = items-typed (X .fit) (c .derived) (no-arguments X) (body-of (X .fit) (taken-of (c .taken)) (X .defined)) (c .given) in
+      let sorted = items-typed (setting .fit) (c .derived) (no-arguments setting) (body-of (setting .fit) (taken-of (c .taken)) (setting .defined))
+      (c .given) in
       record {
         few = c .kept .fits;
         as-many = c .grown .as-many;
-        same = term-rows (c .value) (subst (Typed (c .value)) (X .of-term) sorted) (c .shows);
+        same = term-rows (c .value) (subst (Typed (c .value)) (setting .of-term) sorted) (c .shows);
       }
 
-  ended-leaves : (cells : List ℕ) (x : ℕ) (s′ : State) (cells′ : List ℕ) → Root X cells x s′ cells′
-      → Ends (Leaves cells) (Any X) (ended (input g (X .tokens) (X .rows)) x s′ cells′)
-  ended-leaves cells x s′ cells′ c = go (ltb (s′ .at) (length (X .tokens)))
+  ended-leaves : (cells : List ℕ) (row : ℕ) (state′ : State) (cells′ : List ℕ) → Root setting cells row state′ cells′
+      → Ends (Leaves cells) (Any setting) (ended (input g (setting .tokens) (setting .rows)) row state′ cells′)
+  ended-leaves cells row state′ cells′ c = go (ltb (state′ .at) (length (setting .tokens)))
     where
-      go : (b : Bool) → Ends (Leaves cells) (Any X) (elim b [ true ↦ halt (refusal 18 (s′ .at) 0 0) cells′ | false ↦ done x s′ cells′ ])
+      go : (test : Bool) → Ends (Leaves cells) (Any setting) (elim test [ true ↦ halt (refusal 18 (state′ .at) 0 0) cells′ | false ↦ done row state′ cells′ ])
       go true = tt
       go false = root-leaves c
 
   -- An accepted expansion leaves its term in the rows made.
-  pub run-leaves-rows : (cells : List ℕ) → X .rows * columns ≤ length cells → {v : ℕ} {s : State} {cells′ : List ℕ}
-      → run (input g (X .tokens) (X .rows)) (X .root) cells ≡ done v s cells′ → Leaves cells v s cells′
+  pub run-leaves-rows : (cells : List ℕ) → setting .rows * columns ≤ length cells → {row : ℕ} {state : State} {cells′ : List ℕ}
+      → run (input g (setting .tokens) (setting .rows)) (setting .root) cells ≡ done row state cells′ → Leaves cells row state cells′
   unfolding run
   run-leaves-rows cells room e =
-      rw e at (ends-after (Root X cells) (Any X) (Leaves cells) (Any X)
-      (runCall mostOpen (input g (X .tokens) (X .rows)) (X .root) [] initialState cells) (ended (input g (X .tokens) (X .rows))) (root-called X cells room)
+      rw e at (ends-after (Root setting cells) (Any setting) (Leaves cells) (Any setting)
+      (runCall mostOpen (input g (setting .tokens) (setting .rows)) (setting .root) [] initialState cells) (ended (input g (setting .tokens) (setting .rows)))
+      (root-called setting cells room)
       (ended-leaves cells) (λ r u. u))

@@ -20,52 +20,54 @@ use Rattle.expansion.specs.Parsing.{SmallWords}
 use Rattle.soundness.proofs.Sound.{token-before}
 
 -- a token adds one word at most
-one-more : (words : List (List ℕ)) (s : List ℕ) (t : Token) → length (wordsWith words s t) ≤ length words + 1
+one-more : (words : List (List ℕ)) (spelling : List ℕ) (token : Token) → length (wordsWith words spelling token) ≤ length words + 1
 unfolding wordsWith
-one-more words s t = go (isNew (length words) t)
+one-more words spelling token = go (isNew (length words) token)
   where
-    go : (b : Bool) → length {A = List ℕ} (elim b as (λ x. List (List ℕ)) [ true ↦ words ++ (s ∷ []) | false ↦ words ]) ≤ length words + 1
-    go true = omega (arith, length-append words (s ∷ []))
+    go : (test : Bool) → length {A = List ℕ} (elim test as (λ x. List (List ℕ)) [ true ↦ words ++ (spelling ∷ []) | false ↦ words ]) ≤ length words + 1
+    go true = omega (arith, length-append words (spelling ∷ []))
     go false = omega arith
 
-few-from : (k : ℕ) (lex : Lexicon) (at : ℕ) (rest : List ℕ) (n : ℕ) (words : List (List ℕ)) → n ≤ mostTokens
-    → length (lexFrom k lex at rest n words .words) + n ≤ length words + mostTokens
+few-from : (fuel : ℕ) (lex : Lexicon) (at : ℕ) (rest : List ℕ) (before : ℕ) (words : List (List ℕ)) → before ≤ mostTokens
+    → length (lexFrom fuel lex at rest before words .words) + before ≤ length words + mostTokens
 unfolding lexFrom
-few-from zero lex at rest n words l = omega arith
-few-from (suc k) lex at [] n words l = omega arith
-few-from (suc k) lex at (b ∷ bs) n words l =
-    go (stepOf lex words at (b ∷ bs)) (few-from k lex (at + 1) bs n words l)
-    (λ t h. few-from k lex (at + t .size) (drop (t .size) (b ∷ bs)) (n + 1) (wordsWith words (take (t .size) (b ∷ bs)) t) h)
+few-from zero lex at rest before words l = omega arith
+few-from (suc fuel) lex at [] before words l = omega arith
+few-from (suc fuel) lex at (b ∷ bs) before words l =
+    go (stepOf lex words at (b ∷ bs)) (few-from fuel lex (at + 1) bs before words l)
+    (λ t h. few-from fuel lex (at + t .size) (drop (t .size) (b ∷ bs)) (before + 1) (wordsWith words (take (t .size) (b ∷ bs)) t) h)
   where
     emitted : Token → Lexed
-    emitted t = withToken t (lexFrom k lex (at + t .size) (drop (t .size) (b ∷ bs)) (n + 1) (wordsWith words (take (t .size) (b ∷ bs)) t))
+    emitted t = withToken t (lexFrom fuel lex (at + t .size) (drop (t .size) (b ∷ bs)) (before + 1) (wordsWith words (take (t .size) (b ∷ bs)) t))
 
-    limited : (t : Token) (c : Bool) → ltb n mostTokens ≡ c
-        → (n + 1 ≤ mostTokens → length (emitted t .words) + (n + 1) ≤ length (wordsWith words (take (t .size) (b ∷ bs)) t) + mostTokens)
-        → length ((elim c as (λ x. Lexed) [ false ↦ scanEnded (Unscanned (refusal 16 0 0 0)) words | true ↦ emitted t ]) .words) + n ≤ length words + mostTokens
-    limited t false e h = omega arith
-    limited t true e h = omega (arith, h (omega (arith, ltb-true n mostTokens e)), one-more words (take (t .size) (b ∷ bs)) t)
+    limited : (token : Token) (test : Bool) → ltb before mostTokens ≡ test
+        → (before + 1 ≤ mostTokens → length (emitted token .words) + (before + 1) ≤ length (wordsWith words (take (token .size) (b ∷ bs)) token) + mostTokens)
+        → length ((elim test as (λ x. Lexed) [ false ↦ scanEnded (Unscanned (refusal 16 0 0 0)) words | true ↦ emitted token ]) .words) + before ≤ length
+        words + mostTokens
+    limited token false e h = omega arith
+    limited token true e h = omega (arith, h (omega (arith, ltb-true before mostTokens e)), one-more words (take (token .size) (b ∷ bs)) token)
 
-    go : (r : Step) → length (lexFrom k lex (at + 1) bs n words .words) + n ≤ length words + mostTokens
-        → ((t : Token) → n + 1 ≤ mostTokens → length (emitted t .words) + (n + 1) ≤ length (wordsWith words (take (t .size) (b ∷ bs)) t) + mostTokens)
+    go : (step : Step) → length (lexFrom fuel lex (at + 1) bs before words .words) + before ≤ length words + mostTokens
+        → ((token : Token) → before + 1 ≤ mostTokens → length (emitted token .words) + (before + 1) ≤ length
+        (wordsWith words (take (token .size) (b ∷ bs)) token) + mostTokens)
         → length
-        ((elim r as (λ x. Lexed) [
-          | Skip ↦ lexFrom k lex (at + 1) bs n words
+        ((elim step as (λ x. Lexed) [
+          | Skip ↦ lexFrom fuel lex (at + 1) bs before words
           | Stop ↦ scanEnded (Unscanned (refusal 15 at 0 0)) words
-          | Emit t ↦ elim (ltb n mostTokens) as (λ x. Lexed) [ false ↦ scanEnded (Unscanned (refusal 16 0 0 0)) words | true ↦ emitted t ]
+          | Emit t ↦ elim (ltb before mostTokens) as (λ x. Lexed) [ false ↦ scanEnded (Unscanned (refusal 16 0 0 0)) words | true ↦ emitted t ]
         ])
-        .words) + n ≤ length words + mostTokens
+        .words) + before ≤ length words + mostTokens
     go Skip h f = h
     go Stop h f = omega arith
-    go (Emit t) h f = limited t (ltb n mostTokens) refl (f t)
+    go (Emit t) h f = limited t (ltb before mostTokens) refl (f t)
 
 few-words : (lex : Lexicon) (formula : List ℕ) → length (scan lex formula .words) ≤ mostTokens
 unfolding scan
 few-words lex formula = go (leb (length formula) longestFormula)
   where
-    go : (b : Bool)
+    go : (test : Bool)
         → length
-        ((elim b as (λ x. Lexed) [ true ↦ lexFrom (length formula) lex 0 formula 0 [] | false ↦ scanEnded (Unscanned (refusal 14 0 0 0)) [] ]) .words) ≤
+        ((elim test as (λ x. Lexed) [ true ↦ lexFrom (length formula) lex 0 formula 0 [] | false ↦ scanEnded (Unscanned (refusal 14 0 0 0)) [] ]) .words) ≤
         mostTokens
     go true = omega (arith, few-from (length formula) lex 0 formula 0 [] (omega arith))
     go false = omega arith

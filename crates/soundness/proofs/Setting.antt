@@ -44,20 +44,21 @@ pub record Setting (g : List Production) : Type 0 where
   -- of sort Term
   pub of-term : signature .result ≡ Sorts.term
 
-module _ {g : List Production} (X : Setting g) where
+module _ {g : List Production} (setting : Setting g) where
   -- the root is called without arguments
-  pub no-arguments : Matches [] (X .signature .params)
-  no-arguments = subst⁻¹ (Matches []) (X .without) matches-none
+  pub no-arguments : Matches [] (setting .signature .params)
+  no-arguments = subst⁻¹ (Matches []) (setting .without) matches-none
 
   -- an item that is sorted, as a body of its own
-  pub item-body : {L : List ℕ} {i : Item} {A : ℕ} → Judgements.ItemSorted (X .fit .scope) L i A → Body (X .fit .scope) L (i ∷ []) (make 0x25 none) Sorts.fields
+  pub item-body : {L : List ℕ} {item : Item} {A : ℕ} → Judgements.ItemSorted (setting .fit .scope) L item A
+      → Body (setting .fit .scope) L (item ∷ []) (make 0x25 none) Sorts.fields
   unfolding constructor constructorSignatures
   item-body w = by-binding w (by-result (Judgements.by-constructor {c = 0x25} (omega arith) (omega arith) fill-none) Judgements.fits-equal)
 
   -- the call of the root, as a body of its own
-  pub root-body : Body (X .fit .scope) [] (call (X .root) none ∷ []) (make 0x25 none) Sorts.fields
-  root-body = item-body (Judgements.by-call (X .defined) (subst⁻¹ (Fill (X .fit .scope .outsides) [] none) (X .without) fill-none))
+  pub root-body : Body (setting .fit .scope) [] (call (setting .root) none ∷ []) (make 0x25 none) Sorts.fields
+  root-body = item-body (Judgements.by-call (setting .defined) (subst⁻¹ (Fill (setting .fit .scope .outsides) [] none) (setting .without) fill-none))
 
   -- the call of the root is an item
-  pub root-within : Each ItemWithin (call (X .root) none ∷ [])
-  root-within = each-more (call-within {n = X .root} (omega (arith, X .root-small)) none-within) each-none
+  pub root-within : Each ItemWithin (call (setting .root) none ∷ [])
+  root-within = each-more (call-within {n = setting .root} (omega (arith, setting .root-small)) none-within) each-none

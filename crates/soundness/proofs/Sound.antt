@@ -49,28 +49,29 @@ pub token-here : (tokens : List Token) (at : ℕ) → at < length tokens → dro
 token-here tokens at h = rw (add-one at) (drop-cons tokens at endToken h)
 
 -- a kind below 64 is that of a token
-pub token-before : (tokens : List Token) (at : ℕ) {k : ℕ} → getD tokens at endToken .kind ≡ k → k < 64 → at < length tokens
-token-before tokens at {k} e l =
+pub token-before : (tokens : List Token) (at : ℕ) {kind : ℕ} → getD tokens at endToken .kind ≡ kind → kind < 64 → at < length tokens
+token-before tokens at {kind} e l =
     by-test (ltb at (length tokens)) (λ b. ltb-true at (length tokens) b)
     (λ b.
-    let n : 64 ≡ k = cc (List·getD-eq-default tokens endToken (ltb-false at (length tokens) b)) in
+    let n : 64 ≡ kind = cc (List·getD-eq-default tokens endToken (ltb-false at (length tokens) b)) in
     absurd (omega arith))
 
 -- ------------------------------------------------------------------ what an expansion is given
 
--- The rows have room in the cells, and the fresh names in a name: each call begun has at most 12 of them, k of which are to come.
-pub record Kept (rows k : ℕ) (s : State) (cells : List ℕ) : Type 0 where
+-- The rows have room in the cells, and the fresh names in a name: each call begun has at most 12 of them, `names-left` of which are to come.
+pub record Kept (rows names-left : ℕ) (state : State) (cells : List ℕ) : Type 0 where
   -- the cells have room for all rows
   pub room : rows * columns ≤ length cells
   -- the rows made are not more
-  pub fits : s .made ≤ rows
+  pub fits : state .made ≤ rows
   -- twelve new names a call at most
-  pub names : s .fresh + k ≤ 2 + 12 * s .calls
+  pub names : state .fresh + names-left ≤ 2 + 12 * state .calls
   -- the calls are not more than the limit
-  pub begun : s .calls ≤ mostCalls
+  pub begun : state .calls ≤ mostCalls
 
 -- the bounds hold after rows are made
-pub kept-made : {rows n k : ℕ} {s s′ : State} {cells cells′ : List ℕ} → Kept rows k s cells → Made rows n s cells s′ cells′ → Kept rows k s′ cells′
+pub kept-made : {rows new-rows names-left : ℕ} {state state′ : State} {cells cells′ : List ℕ} → Kept rows names-left state cells
+    → Made rows new-rows state cells state′ cells′ → Kept rows names-left state′ cells′
 kept-made h m =
     record {
       room = rw (m .grown .as-many) (h .room);
@@ -80,41 +81,43 @@ kept-made h m =
     }
 
 -- and with one name fewer to come
-pub kept-less : {rows k : ℕ} {s : State} {cells : List ℕ} → Kept rows (k + 1) s cells → Kept rows k s cells
+pub kept-less : {rows names-left : ℕ} {state : State} {cells : List ℕ} → Kept rows (names-left + 1) state cells → Kept rows names-left state cells
 kept-less h = record { room = h .room; fits = h .fits; names = omega (arith, h .names); begun = h .begun }
 
 -- ------------------------------------------------------------------ a call's tests
 
-module _ (d : ℕ) (I : Input) (n : ℕ) (xs : List ℕ) (s : State) (cells : List ℕ) where
+module _ (depth : ℕ) (lent : Input) (nonterminal : ℕ) (xs : List ℕ) (state : State) (cells : List ℕ) where
   -- no call is left: refusal 20
-  pub call-full : ltb (s .calls) mostCalls ≡ false → runCall (suc d) I n xs s cells ≡ halt (refusal 20 (s .at) 0 0) cells
+  pub call-full : ltb (state .calls) mostCalls ≡ false → runCall (suc depth) lent nonterminal xs state cells ≡ halt (refusal 20 (state .at) 0 0) cells
   unfolding runCall
   call-full e = rw (e, runCall) refl
 
   -- no production fits: refusal 17
-  pub call-unfit : ltb (s .calls) mostCalls ≡ true → choice (I .grammar) n (nextToken I s .kind) ≡ unfit
-      → runCall (suc d) I n xs s cells ≡ misfit (getD (I .grammar .firsts) n 0) s cells
+  pub call-unfit : ltb (state .calls) mostCalls ≡ true → choice (lent .grammar) nonterminal (nextToken lent state .kind) ≡ unfit
+      → runCall (suc depth) lent nonterminal xs state cells ≡ misfit (getD (lent .grammar .firsts) nonterminal 0) state cells
   unfolding runCall
   call-unfit e f = rw (e, f, runCall) refl
 
   -- the production chosen is run
-  pub call-chosen : (r : Rule) → ltb (s .calls) mostCalls ≡ true → choice (I .grammar) n (nextToken I s .kind) ≡ chosen r
-      → runCall (suc d) I n xs s cells ≡ after (runItems (runCall d I) I (r .items) xs (callBegun s) cells) (λ ys. build (r .result) I ys)
+  pub call-chosen : (given-rule : Rule) → ltb (state .calls) mostCalls ≡ true → choice (lent .grammar) nonterminal (nextToken lent state .kind)
+      ≡ chosen given-rule
+      → runCall (suc depth) lent nonterminal xs state cells ≡ after (runItems (runCall depth lent) lent (given-rule .items) xs (callBegun state) cells)
+      (λ ys. build (given-rule .result) lent ys)
   unfolding runCall
-  call-chosen r e f = rw (e, f, runCall) refl
+  call-chosen given-rule e f = rw (e, f, runCall) refl
 
-module _ {g : List Production} (X : Setting g) where
+module _ {g : List Production} (setting : Setting g) where
   abbrev F : FitAll g
-  F = X .fit
+  F = setting .fit
 
   abbrev spell : ℕ → List ℕ
-  spell = X .spell
+  spell = setting .spell
 
   abbrev tokens : List Token
-  tokens = X .tokens
+  tokens = setting .tokens
 
   abbrev rows : ℕ
-  rows = X .rows
+  rows = setting .rows
 
   -- what a run reads
   abbrev pub I : Input
@@ -127,41 +130,42 @@ module _ {g : List Production} (X : Setting g) where
   -- ------------------------------------------------------------------ items
 
   -- an item derived, with its value, and any derivation of the items after it goes on from it
-  pub record Stepped (k : ℕ) (i : Item) (A : ℕ) (M : List Value) (s : State) (cells : List ℕ) (x : ℕ) (s′ : State) (cells′ : List ℕ) : Type 0 where
+  pub record Stepped (names-left : ℕ) (item : Item) (A : ℕ) (M : List Value) (state : State) (cells : List ℕ) (row : ℕ) (state′ : State)
+      (cells′ : List ℕ) : Type 0 where
     -- the value that Figure 3 gives the item
     pub value : Value
     -- it is of the item's sort
     pub typed : Typed value A
     -- the number found shows it in the cells at exit
-    pub shows : Shows spell (s′ .made) cells′ x value
+    pub shows : Shows spell (state′ .made) cells′ row value
     -- rows are added only
-    pub grown : Grown (s .made) cells (s′ .made) cells′
+    pub grown : Grown (state .made) cells (state′ .made) cells′
     -- the bounds hold with one name fewer to come
-    pub kept : Kept rows k s′ cells′
+    pub kept : Kept rows names-left state′ cells′
     -- a derivation of the items behind, under this variable too, gives one of this item and those
-    pub step : (is : List Item) (M′ : List Value) (t : List Token) (j : ℕ) → Derives g spell (M ++ (value ∷ [])) (from s′) (s′ .fresh) is M′ t j
-        → Derives g spell M (from s) (s .fresh) (i ∷ is) M′ t j
+    pub step : (is : List Item) (M′ : List Value) (left : List Token) (i′ : ℕ) → Derives g spell (M ++ (value ∷ [])) (from state′) (state′ .fresh) is M′ left i′
+        → Derives g spell M (from state) (state .fresh) (item ∷ is) M′ left i′
 
   -- a call derived
-  pub record Called (k n : ℕ) (vs : List Value) (s : State) (cells : List ℕ) (x : ℕ) (s′ : State) (cells′ : List ℕ) : Type 0 where
+  pub record Called (names-left nonterminal : ℕ) (vs : List Value) (state : State) (cells : List ℕ) (row : ℕ) (state′ : State) (cells′ : List ℕ) : Type 0 where
     -- the alternative chosen
     pub production : Production
     -- Figure 3 takes it at these tokens
-    pub taken : Taken g n (from s) production
+    pub taken : Taken g nonterminal (from state) production
     -- the values of all its variables, parameters first
     pub variables : List Value
     -- its items are derived
-    pub derived : Derives g spell vs (from s) (s .fresh) (production .items) variables (from s′) (s′ .fresh)
+    pub derived : Derives g spell vs (from state) (state .fresh) (production .items) variables (from state′) (state′ .fresh)
     -- the call's value
     pub value : Value
     -- the alternative's result gives it under the variables
     pub given : Gives spell variables (production .result) value
     -- the number found shows it in the cells at exit
-    pub shows : Shows spell (s′ .made) cells′ x value
+    pub shows : Shows spell (state′ .made) cells′ row value
     -- rows are added only
-    pub grown : Grown (s .made) cells (s′ .made) cells′
+    pub grown : Grown (state .made) cells (state′ .made) cells′
     -- the bounds hold still
-    pub kept : Kept rows k s′ cells′
+    pub kept : Kept rows names-left state′ cells′
 
   -- of refusals nothing is said here
   abbrev pub Any : Refusal → Type 0
@@ -173,32 +177,35 @@ module _ {g : List Production} (X : Setting g) where
       (k n : ℕ) (S : Signature) (vs : List Value) (xs : List ℕ) (s : State) (cells : List ℕ) → Newest (F .scope .env) n S → n < 64 → Matches vs (S .params)
       → Kept rows k s cells → ShowAll spell (s .made) cells xs vs → Ends (Called k n vs s cells) Any (C n xs s cells)
 
-  take-ends : (P : ℕ → State → List ℕ → Type 0) (kind : ℕ) (value : ℕ → ℕ) (s : State) (cells : List ℕ)
-      → (nextToken I s .kind ≡ kind → P (value (nextToken I s .value)) (tokenTaken s) cells) → Ends P Any (takeToken I kind value s cells)
-  take-ends P kind value s cells f = go (eqb (nextToken I s .kind) kind) refl
+  take-ends : (P : ℕ → State → List ℕ → Type 0) (kind : ℕ) (value : ℕ → ℕ) (state : State) (cells : List ℕ)
+      → (nextToken I state .kind ≡ kind → P (value (nextToken I state .value)) (tokenTaken state) cells) → Ends P Any (takeToken I kind value state cells)
+  take-ends P kind value state cells f = go (eqb (nextToken I state .kind) kind) refl
     where
-      go : (b : Bool) → eqb (nextToken I s .kind) kind ≡ b
+      go : (test : Bool) → eqb (nextToken I state .kind) kind ≡ test
           → Ends P Any
-          (elim b [ true ↦ done (value (nextToken I s .value)) (tokenTaken s) cells | false ↦ misfit (Rattle.kinds.specs.Kinds.only kind) s cells ])
-      go true e = f (eqb-true (nextToken I s .kind) kind e)
+          (elim test
+          [ true ↦ done (value (nextToken I state .value)) (tokenTaken state) cells | false ↦ misfit (Rattle.kinds.specs.Kinds.only kind) state cells ])
+      go true e = f (eqb-true (nextToken I state .kind) kind e)
       go false e = tt
 
-  kept-on : {k : ℕ} {s : State} {cells : List ℕ} → Kept rows (k + 1) s cells → Kept rows k (tokenTaken s) cells
+  kept-on : {names-left : ℕ} {state : State} {cells : List ℕ} → Kept rows (names-left + 1) state cells → Kept rows names-left (tokenTaken state) cells
   kept-on h = record { room = h .room; fits = h .fits; names = omega (arith, h .names); begun = h .begun }
 
-  -- a token taken as the value v
-  taken-as : {k : ℕ} {i : Item} {A kind : ℕ} {M : List Value} {s : State} {cells : List ℕ} (x : ℕ) (v : Value) → nextToken I s .kind ≡ kind → kind < 64
-      → Kept rows (k + 1) s cells → Typed v A → Shows spell (s .made) cells x v
-      → ((is : List Item) (M′ : List Value) (t : List Token) (j : ℕ) → Derives g spell (M ++ (v ∷ [])) (drop (s .at + 1) tokens) (s .fresh) is M′ t j
-      → Derives g spell M (nextToken I s ∷ drop (s .at + 1) tokens) (s .fresh) (i ∷ is) M′ t j)
-      → Stepped k i A M s cells x (tokenTaken s) cells
-  taken-as {i = i} {M = M} {s = s} {cells = cells} x v e l h w z f =
-      let h′ : drop (s .at) tokens ≡ nextToken I s ∷ drop (s .at + 1) tokens = token-here tokens (s .at) (token-before tokens (s .at) e l) in
+  -- a token taken as the `value`
+  taken-as : {names-left : ℕ} {item : Item} {A kind : ℕ} {M : List Value} {state : State} {cells : List ℕ} (row : ℕ) (value : Value)
+      → nextToken I state .kind ≡ kind → kind < 64
+      → Kept rows (names-left + 1) state cells → Typed value A → Shows spell (state .made) cells row value
+      → ((is : List Item) (M′ : List Value) (left : List Token) (i′ : ℕ) → Derives g spell (M ++ (value ∷ [])) (drop (state .at + 1) tokens)
+      (state .fresh) is M′ left i′ → Derives g spell M (nextToken I state ∷ drop (state .at + 1) tokens) (state .fresh) (item ∷ is) M′ left i′)
+      → Stepped names-left item A M state cells row (tokenTaken state) cells
+  taken-as {item = item} {M = M} {state = state} {cells = cells} row value e l h w z f =
+      let h′ : drop (state .at) tokens ≡ nextToken I state ∷ drop (state .at + 1) tokens = token-here tokens (state .at)
+      (token-before tokens (state .at) e l) in
       record {
-        value = v;
+        value = value;
         typed = w;
         shows = z;
-        grown = grown-not (s .made) cells;
+        grown = grown-not (state .made) cells;
         kept = kept-on h;
         step = λ is M′ t j d. rw h′ (f is M′ t j d);
       }
@@ -210,44 +217,46 @@ module _ {g : List Production} (X : Setting g) where
   at-ide P (suc (suc (suc zero))) l h a b c = c
   at-ide P (suc (suc (suc (suc B)))) l h a b c = absurd (omega arith)
 
-  module _ (C : ℕ → List ℕ → Run ℕ) (callee : Callee C) where
+  module _ (called : ℕ → List ℕ → Run ℕ) (callee : Callee called) where
     -- an item that is run is derived
-    pub item-sound : (k : ℕ) {i : Item} {A : ℕ} {M : List Value} {L xs : List ℕ} (s : State) (cells : List ℕ) → ItemSorted (F .scope) L i A → ItemWithin i
-        → Matches M L
-        → Kept rows (k + 1) s cells → ShowAll spell (s .made) cells xs M → Ends (Stepped k i A M s cells) Any (runItem C I i xs s cells)
-    item-sound k {M = M} s cells (Judgements.by-keyword {k = w} l) z m h a =
-        take-ends (Stepped k (keyword w) Sorts.unit M s cells) (keywordKind w) (λ v. 0) s cells
+    pub item-sound : (names-left : ℕ) {item : Item} {A : ℕ} {M : List Value} {L xs : List ℕ} (state : State) (cells : List ℕ) → ItemSorted (F .scope) L item A
+        → ItemWithin item → Matches M L
+        → Kept rows (names-left + 1) state cells → ShowAll spell (state .made) cells xs M
+        → Ends (Stepped names-left item A M state cells) Any (runItem called I item xs state cells)
+    item-sound names-left {M = M} state cells (Judgements.by-keyword {k = w} l) z m h a =
+        take-ends (Stepped names-left (keyword w) Sorts.unit M state cells) (keywordKind w) (λ v. 0) state cells
         (λ e. taken-as 0 unit e (omega (arith, l, F .keywordCount)) h typed-unit shows-unit (λ is M′ t j d. by-terminal (by-keyword e) d))
-    item-sound k {M = M} {L = L} {xs = xs} s cells (Judgements.by-ide {B = B} l u) z m h a =
-        at-ide (λ B. Ends (Stepped k (ide B) B M s cells) Any (runItem C I (ide B) xs s cells)) B l u
-        (take-ends (Stepped k (ide Sorts.var) Sorts.var M s cells) wordKind (wordValue Sorts.var) s cells
-        (λ e. taken-as _ _ e (omega arith) h typed-var (shows-var (word-named spell (nextToken I s .value) (X .small (s .at) e)))
+    item-sound names-left {M = M} {L = L} {xs = xs} state cells (Judgements.by-ide {B = B} l u) z m h a =
+        at-ide (λ B. Ends (Stepped names-left (ide B) B M state cells) Any (runItem called I (ide B) xs state cells)) B l u
+        (take-ends (Stepped names-left (ide Sorts.var) Sorts.var M state cells) wordKind (wordValue Sorts.var) state cells
+        (λ e. taken-as _ _ e (omega arith) h typed-var (shows-var (word-named spell (nextToken I state .value) (setting .small (state .at) e)))
         (λ is M′ t j d. by-terminal (by-ide e as-var) d)))
-        (take-ends (Stepped k (ide Sorts.binder) Sorts.binder M s cells) wordKind (wordValue Sorts.binder) s cells
-        (λ e. taken-as _ _ e (omega arith) h typed-binder (shows-binder (word-named spell (nextToken I s .value) (X .small (s .at) e)))
+        (take-ends (Stepped names-left (ide Sorts.binder) Sorts.binder M state cells) wordKind (wordValue Sorts.binder) state cells
+        (λ e. taken-as _ _ e (omega arith) h typed-binder (shows-binder (word-named spell (nextToken I state .value) (setting .small (state .at) e)))
         (λ is M′ t j d. by-terminal (by-ide e as-binder) d)))
-        (take-ends (Stepped k (ide Sorts.label) Sorts.label M s cells) wordKind (wordValue Sorts.label) s cells
+        (take-ends (Stepped names-left (ide Sorts.label) Sorts.label M state cells) wordKind (wordValue Sorts.label) state cells
         (λ e. taken-as _ _ e (omega arith) h typed-label shows-label (λ is M′ t j d. by-terminal (by-ide e as-label) d)))
-    item-sound k {M = M} s cells Judgements.by-number z m h a =
-        take-ends (Stepped k number Sorts.num M s cells) numberKind (λ v. v) s cells
+    item-sound names-left {M = M} state cells Judgements.by-number z m h a =
+        take-ends (Stepped names-left number Sorts.num M state cells) numberKind (λ v. v) state cells
         (λ e. taken-as _ _ e (omega arith) h typed-num shows-num (λ is M′ t j d. by-terminal (by-number e) d))
-    item-sound k {M = M} s cells Judgements.by-local z m h a =
+    item-sound names-left {M = M} state cells Judgements.by-local z m h a =
         record {
-          value = binder (Rattle.terms.specs.Term.fresh (s .fresh));
+          value = binder (Rattle.terms.specs.Term.fresh (state .fresh));
           typed = typed-binder;
-          shows = shows-binder (fresh-named spell (s .fresh) (omega (arith, h .names, h .begun)));
-          grown = grown-not (s .made) cells;
+          shows = shows-binder (fresh-named spell (state .fresh) (omega (arith, h .names, h .begun)));
+          grown = grown-not (state .made) cells;
           kept = record { room = h .room; fits = h .fits; names = omega (arith, h .names); begun = h .begun };
           step = λ is M′ t j d. by-terminal by-local d;
         }
-    item-sound k {A = A} {M = M} {L = L} {xs = xs} s cells (Judgements.by-call {n = n} {S = S} {ts = ts} w f) (call-within l ws) m h a =
+    item-sound names-left {A = A} {M = M} {L = L} {xs = xs} state cells (Judgements.by-call {n = n} {S = S} {ts = ts} w f) (call-within l ws) m h a =
         let vs = give-all-exist spell m ts f in
-        ends-after (BuiltAll spell I (rowsOfAll ts) s cells (vs .0)) (Full rows (s .made + rowsOfAll ts)) (Stepped k (call n ts) A M s cells) Any
-        (buildAll ts I xs s cells) (λ ys. C n ys)
-        (build-all-ends spell I ts s cells (vs .1) f (omega (arith, F .outsideCount)) (h .room) (h .fits) a)
+        ends-after (BuiltAll spell I (rowsOfAll ts) state cells (vs .0)) (Full rows (state .made + rowsOfAll ts))
+        (Stepped names-left (call n ts) A M state cells) Any
+        (buildAll ts I xs state cells) (λ ys. called n ys)
+        (build-all-ends spell I ts state cells (vs .1) f (omega (arith, F .outsideCount)) (h .room) (h .fits) a)
         (λ ys s₁ c₁ b.
-        ends-map (Called k n (vs .0) s₁ c₁) Any (Stepped k (call n ts) A M s cells) Any (C n ys s₁ c₁)
-        (callee k n S (vs .0) ys s₁ c₁ w (omega arith) (vs .2) (kept-less (kept-made h (b .0))) (b .1))
+        ends-map (Called names-left n (vs .0) s₁ c₁) Any (Stepped names-left (call n ts) A M state cells) Any (called n ys s₁ c₁)
+        (callee names-left n S (vs .0) ys s₁ c₁ w (omega arith) (vs .2) (kept-less (kept-made h (b .0))) (b .1))
         (λ x s₂ c₂ d.
         record {
           value = d .value;
@@ -263,12 +272,12 @@ module _ {g : List Production} (X : Setting g) where
         (λ r u. tt)
 
     -- the items derived, and the result sorted under their variables
-    pub record Derived (k : ℕ) (is : List Item) (r : Template) (B : ℕ) (M : List Value) (s : State) (cells : List ℕ) (xs : List ℕ) (s′ : State)
-        (cells′ : List ℕ) : Type 0 where
+    pub record Derived (names-left : ℕ) (is : List Item) (result : Template) (B : ℕ) (M : List Value) (state : State) (cells : List ℕ) (xs : List ℕ)
+        (state′ : State) (cells′ : List ℕ) : Type 0 where
       -- the values of all variables, the items' own last
       pub variables : List Value
       -- the items give them
-      pub derived : Derives g spell M (from s) (s .fresh) is variables (from s′) (s′ .fresh)
+      pub derived : Derives g spell M (from state) (state .fresh) is variables (from state′) (state′ .fresh)
       -- the variables' sorts
       pub sorts : List ℕ
       -- each variable is of its sort
@@ -276,22 +285,23 @@ module _ {g : List Production} (X : Setting g) where
       -- the sort of the result
       pub sort : ℕ
       -- the result has it under the variables' sorts
-      pub sorted : Sorted (F .scope .outsides) sorts r sort
+      pub sorted : Sorted (F .scope .outsides) sorts result sort
       -- it fits where the sort B is asked for
       pub fit : Fits sort B
       -- the numbers found show the variables in the cells at exit
-      pub shows : ShowAll spell (s′ .made) cells′ xs variables
+      pub shows : ShowAll spell (state′ .made) cells′ xs variables
       -- rows are added only
-      pub grown : Grown (s .made) cells (s′ .made) cells′
+      pub grown : Grown (state .made) cells (state′ .made) cells′
       -- the bounds hold still
-      pub kept : Kept rows k s′ cells′
+      pub kept : Kept rows names-left state′ cells′
 
     -- items that are run are derived
-    pub items-sound : (k : ℕ) (is : List Item) {r : Template} {B : ℕ} {M : List Value} {L xs : List ℕ} (s : State) (cells : List ℕ) → Body (F .scope) L is r B
-        → Each ItemWithin is → Matches M L
-        → Kept rows (k + length is) s cells → ShowAll spell (s .made) cells xs M → Ends (Derived k is r B M s cells) Any (runItems C I is xs s cells)
+    pub items-sound : (names-left : ℕ) (is : List Item) {result : Template} {B : ℕ} {M : List Value} {L xs : List ℕ} (state : State) (cells : List ℕ)
+        → Body (F .scope) L is result B → Each ItemWithin is → Matches M L
+        → Kept rows (names-left + length is) state cells → ShowAll spell (state .made) cells xs M
+        → Ends (Derived names-left is result B M state cells) Any (runItems called I is xs state cells)
     unfolding runItems
-    items-sound k [] {M = M} {L = L} s cells (by-result {A = A} w f) each-none m h a =
+    items-sound names-left [] {M = M} {L = L} state cells (by-result {A = A} w f) each-none m h a =
         record {
           variables = M;
           derived = by-end;
@@ -301,16 +311,18 @@ module _ {g : List Production} (X : Setting g) where
           sorted = w;
           fit = f;
           shows = a;
-          grown = grown-not (s .made) cells;
+          grown = grown-not (state .made) cells;
           kept = record { room = h .room; fits = h .fits; names = omega (arith, h .names); begun = h .begun };
         }
-    items-sound k (i ∷ is) {r = r} {B = B} {M = M} {xs = xs} s cells (by-binding {A = A} w b) (each-more z zs) m h a =
-        ends-after (Stepped (k + length is) i A M s cells) Any (Derived k (i ∷ is) r B M s cells) Any (runItem C I i xs s cells)
-        (λ x. runItems C I is (xs ++ (x ∷ [])))
-        (item-sound (k + length is) s cells w z m (record { room = h .room; fits = h .fits; names = omega (arith, h .names); begun = h .begun }) a)
+    items-sound names-left (i ∷ is) {result = result} {B = B} {M = M} {xs = xs} state cells (by-binding {A = A} w b) (each-more z zs) m h a =
+        ends-after (Stepped (names-left + length is) i A M state cells) Any (Derived names-left (i ∷ is) result B M state cells) Any
+        (runItem called I i xs state cells)
+        (λ x. runItems called I is (xs ++ (x ∷ [])))
+        (item-sound (names-left + length is) state cells w z m (record { room = h .room; fits = h .fits; names = omega (arith, h .names); begun = h .begun }) a)
         (λ x s₁ c₁ p.
-        ends-map (Derived k is r B (M ++ (p .value ∷ [])) s₁ c₁) Any (Derived k (i ∷ is) r B M s cells) Any (runItems C I is (xs ++ (x ∷ [])) s₁ c₁)
-        (items-sound k is s₁ c₁ b zs (matches-and m (p .typed)) (p .kept) (all-and (all-later (p .grown) a) (p .shows)))
+        ends-map (Derived names-left is result B (M ++ (p .value ∷ [])) s₁ c₁) Any (Derived names-left (i ∷ is) result B M state cells) Any
+        (runItems called I is (xs ++ (x ∷ [])) s₁ c₁)
+        (items-sound names-left is s₁ c₁ b zs (matches-and m (p .typed)) (p .kept) (all-and (all-later (p .grown) a) (p .shows)))
         (λ ys s₂ c₂ q.
         record {
           variables = q .variables;
@@ -329,19 +341,19 @@ module _ {g : List Production} (X : Setting g) where
 
   -- ------------------------------------------------------------------ calls
 
-  call-step : (d : ℕ) → Callee (runCall d I) → Callee (runCall (suc d) I)
-  call-step d callee k n S vs xs s cells w l m h a = go (ltb (s .calls) mostCalls) refl (choice-picks g n l (from s))
+  call-step : (depth : ℕ) → Callee (runCall depth I) → Callee (runCall (suc depth) I)
+  call-step depth callee k n S vs xs s cells w l m h a = go (ltb (s .calls) mostCalls) refl (choice-picks g n l (from s))
     where
       Goal : Result ℕ → Type 0
       Goal r = Ends (Called k n vs s cells) Any r
 
       items : (p : Production) → Taken g n (from s) p → s .calls < mostCalls
-          → Goal (after (runItems (runCall d I) I (p .items) xs (callBegun s) cells) (λ ys. build (p .result) I ys))
+          → Goal (after (runItems (runCall depth I) I (p .items) xs (callBegun s) cells) (λ ys. build (p .result) I ys))
       items p t c =
           let q = F .each p (taken-of t .member) in
-          ends-after (Derived (runCall d I) callee k (p .items) (p .result) (S .result) vs (callBegun s) cells) Any (Called k n vs s cells) Any
-          (runItems (runCall d I) I (p .items) xs (callBegun s) cells) (λ ys. build (p .result) I ys)
-          (items-sound (runCall d I) callee k (p .items) (callBegun s) cells (body-of F (taken-of t) w) (q .items) m
+          ends-after (Derived (runCall depth I) callee k (p .items) (p .result) (S .result) vs (callBegun s) cells) Any (Called k n vs s cells) Any
+          (runItems (runCall depth I) I (p .items) xs (callBegun s) cells) (λ ys. build (p .result) I ys)
+          (items-sound (runCall depth I) callee k (p .items) (callBegun s) cells (body-of F (taken-of t) w) (q .items) m
           (record { room = h .room; fits = h .fits; names = omega (arith, h .names, q .itemCount); begun = omega arith }) a)
           (λ ys s₁ c₁ e.
           let v = gives-exists spell (e .matches) (p .result) (e .sorted) in
@@ -365,72 +377,75 @@ module _ {g : List Production} (X : Setting g) where
           (λ r u. tt))
           (λ r u. u)
 
-      go : (b : Bool) → ltb (s .calls) mostCalls ≡ b → Picks g n (from s) (choice (ready g) n (kindOf (from s))) → Goal (runCall (suc d) I n xs s cells)
-      go false e q = subst⁻¹ (Ends (Called k n vs s cells) Any) (call-full d I n xs s cells e) tt
+      go : (test : Bool) → ltb (s .calls) mostCalls ≡ test → Picks g n (from s) (choice (ready g) n (kindOf (from s)))
+          → Goal (runCall (suc depth) I n xs s cells)
+      go false e q = subst⁻¹ (Ends (Called k n vs s cells) Any) (call-full depth I n xs s cells e) tt
       go true e (picks p t f) =
-          subst⁻¹ (Ends (Called k n vs s cells) Any) (call-chosen d I n xs s cells (rule g p) e (ap (choice (ready g) n) (kind-next (s .at) tokens) ∙ f))
+          subst⁻¹ (Ends (Called k n vs s cells) Any) (call-chosen depth I n xs s cells (rule g p) e (ap (choice (ready g) n) (kind-next (s .at) tokens) ∙ f))
           (items p t (ltb-true (s .calls) mostCalls e))
       go true e (picks-none f c) =
-          subst⁻¹ (Ends (Called k n vs s cells) Any) (call-unfit d I n xs s cells e (ap (choice (ready g) n) (kind-next (s .at) tokens) ∙ c)) tt
+          subst⁻¹ (Ends (Called k n vs s cells) Any) (call-unfit depth I n xs s cells e (ap (choice (ready g) n) (kind-next (s .at) tokens) ∙ c)) tt
 
   -- a call that is run is derived
-  pub call-sound : (d : ℕ) → Callee (runCall d I)
+  pub call-sound : (depth : ℕ) → Callee (runCall depth I)
   unfolding runCall
   call-sound zero k n S vs xs s cells w l m h a = tt
-  call-sound (suc d) k n S vs xs s cells w l m h a = call-step d (call-sound d) k n S vs xs s cells w l m h a
+  call-sound (suc depth) k n S vs xs s cells w l m h a = call-step depth (call-sound depth) k n S vs xs s cells w l m h a
 
   -- ------------------------------------------------------------------ the whole formula
 
   -- the row of a term is read as the term
-  pub shown : {made : ℕ} {cells : List ℕ} {x : ℕ} {t : Term Name} → Shows spell made cells x (term t) → termAt made spell cells x ≡ t
+  pub shown : {made : ℕ} {cells : List ℕ} {row : ℕ} {t : Term Name} → Shows spell made cells row (term t) → termAt made spell cells row ≡ t
   shown {made} {cells} (shows-term h) = h .read cells (record { same = λ j l. refl }) made (h .below)
 
   -- a run of the whole gives a term that its tokens derive
   abbrev pub Root : List ℕ → ℕ → State → List ℕ → Type 0
-  Root cells = Called 0 (X .root) [] initialState cells
+  Root cells = Called 0 (setting .root) [] initialState cells
 
   -- the root, called
-  pub root-called : (cells : List ℕ) → rows * columns ≤ length cells → Ends (Root cells) Any (runCall mostOpen I (X .root) [] initialState cells)
+  pub root-called : (cells : List ℕ) → rows * columns ≤ length cells → Ends (Root cells) Any (runCall mostOpen I (setting .root) [] initialState cells)
   root-called cells room =
-      call-sound mostOpen 0 (X .root) (X .signature) [] [] initialState cells (X .defined) (X .root-small) (no-arguments X)
+      call-sound mostOpen 0 (setting .root) (setting .signature) [] [] initialState cells (setting .defined) (setting .root-small) (no-arguments setting)
       (record { room = room; fits = omega arith; names = omega arith; begun = omega arith }) show-none
 
   -- as a derivation of one call
-  pub root-derived : {cells : List ℕ} {x : ℕ} {s′ : State} {cells′ : List ℕ} (c : Root cells x s′ cells′)
-      → Derives g spell [] tokens 1 (call (X .root) none ∷ []) (c .value ∷ []) (from s′) (s′ .fresh)
-  root-derived c = by-call give-none (c .taken) (c .derived) (c .given) by-end
+  pub root-derived : {cells : List ℕ} {row : ℕ} {state′ : State} {cells′ : List ℕ} (root : Root cells row state′ cells′)
+      → Derives g spell [] tokens 1 (call (setting .root) none ∷ []) (root .value ∷ []) (from state′) (state′ .fresh)
+  root-derived root = by-call give-none (root .taken) (root .derived) (root .given) by-end
 
   abbrev RootGives : ℕ → Value → List Token → Type 0
-  RootGives i v ts = Derives g spell [] tokens 1 (call (X .root) none ∷ []) (v ∷ []) ts i
+  RootGives i v ts = Derives g spell [] tokens 1 (call (setting .root) none ∷ []) (v ∷ []) ts i
 
-  parses : {cells : List ℕ} {x : ℕ} {s′ : State} {cells′ : List ℕ} → length tokens ≤ s′ .at → (c : Root cells x s′ cells′)
-      → Parses g spell (X .root) tokens (termAt (s′ .made) spell cells′ x)
-  parses {x = x} {s′} {cells′} l c =
-      go (c .value)
-      (subst (Typed (c .value)) (X .of-term) (items-typed F (c .derived) (no-arguments X) (body-of F (taken-of (c .taken)) (X .defined)) (c .given)))
-      (root-derived c) (c .shows)
+  parses : {cells : List ℕ} {row : ℕ} {state′ : State} {cells′ : List ℕ} → length tokens ≤ state′ .at → (root : Root cells row state′ cells′)
+      → Parses g spell (setting .root) tokens (termAt (state′ .made) spell cells′ row)
+  parses {row = row} {state′} {cells′} l root =
+      go (root .value)
+      (subst (Typed (root .value)) (setting .of-term)
+      (items-typed F (root .derived) (no-arguments setting) (body-of F (taken-of (root .taken)) (setting .defined)) (root .given)))
+      (root-derived root) (root .shows)
     where
-      go : (v : Value) → Typed v Sorts.term → RootGives (s′ .fresh) v (from s′) → Shows spell (s′ .made) cells′ x v
-          → Parses g spell (X .root) tokens (termAt (s′ .made) spell cells′ x)
+      go : (value : Value) → Typed value Sorts.term → RootGives (state′ .fresh) value (from state′) → Shows spell (state′ .made) cells′ row value
+          → Parses g spell (setting .root) tokens (termAt (state′ .made) spell cells′ row)
       go (term t) typed-term d z =
-          record { counter = s′ .fresh; derived = subst₂ (RootGives (s′ .fresh)) (ap term (sym (shown z))) (drop-of-length-le tokens l) d }
+          record { counter = state′ .fresh; derived = subst₂ (RootGives (state′ .fresh)) (ap term (sym (shown z))) (drop-of-length-le tokens l) d }
 
   Accepted : ℕ → State → List ℕ → Type 0
-  Accepted v s cells = Parses g spell (X .root) tokens (termAt (s .made) spell cells v)
+  Accepted v s cells = Parses g spell (setting .root) tokens (termAt (s .made) spell cells v)
 
-  ended-sound : (cells : List ℕ) (x : ℕ) (s′ : State) (cells′ : List ℕ) → Root cells x s′ cells′ → Ends Accepted Any (ended I x s′ cells′)
+  ended-sound : (cells : List ℕ) (row : ℕ) (state′ : State) (cells′ : List ℕ) → Root cells row state′ cells′ → Ends Accepted Any (ended I row state′ cells′)
   unfolding Accepted
-  ended-sound cells x s′ cells′ c = go (ltb (s′ .at) (length tokens)) refl
+  ended-sound cells row state′ cells′ c = go (ltb (state′ .at) (length tokens)) refl
     where
-      go : (b : Bool) → ltb (s′ .at) (length tokens) ≡ b
-          → Ends Accepted Any (elim b [ true ↦ halt (refusal 18 (s′ .at) 0 0) cells′ | false ↦ done x s′ cells′ ])
+      go : (test : Bool) → ltb (state′ .at) (length tokens) ≡ test
+          → Ends Accepted Any (elim test [ true ↦ halt (refusal 18 (state′ .at) 0 0) cells′ | false ↦ done row state′ cells′ ])
       go true e = tt
-      go false e = parses (ltb-false (s′ .at) (length tokens) e) c
+      go false e = parses (ltb-false (state′ .at) (length tokens) e) c
 
   -- what is accepted is parsed
-  pub run-sound : (cells : List ℕ) → rows * columns ≤ length cells → (v : ℕ) (s : State) (cells′ : List ℕ) → run I (X .root) cells ≡ done v s cells′
-      → Parses g spell (X .root) tokens (termAt (s .made) spell cells′ v)
+  pub run-sound : (cells : List ℕ) → rows * columns ≤ length cells → (row : ℕ) (state : State) (cells′ : List ℕ)
+      → run I (setting .root) cells ≡ done row state cells′
+      → Parses g spell (setting .root) tokens (termAt (state .made) spell cells′ row)
   unfolding run Accepted
-  run-sound cells room v s cells′ e =
-      let root = runCall mostOpen I (X .root) [] initialState cells in
+  run-sound cells room row state cells′ e =
+      let root = runCall mostOpen I (setting .root) [] initialState cells in
       rw e at (ends-after (Root cells) Any Accepted Any root (ended I) (root-called cells room) (ended-sound cells) (λ r u. u))

@@ -38,45 +38,48 @@ use Rattle.soundness.specs.Stopping.{nextIndex, FirstSet}
 
 -- ------------------------------------------------------------------ first sets
 
-below-power : (n : ℕ) → n < 2 ^ n
+below-power : (number : ℕ) → number < 2 ^ number
 below-power zero = omega arith
-below-power (suc n) = rw (pow-suc 2 n) (omega (arith, below-power n))
+below-power (suc number) = rw (pow-suc 2 number) (omega (arith, below-power number))
 
-same-set : (a b : ℕ) → ((k : ℕ) → hasKind a k ≡ hasKind b k) → a ≡ b
-same-set a b h = same-kinds (a + b) a b (omega (arith, below-power (a + b))) (omega (arith, below-power (a + b))) (λ k l. h k)
+same-set : (set other : ℕ) → ((kind : ℕ) → hasKind set kind ≡ hasKind other kind) → set ≡ other
+same-set set other h = same-kinds (set + other) set other (omega (arith, below-power (set + other))) (omega (arith, below-power (set + other))) (λ k l. h k)
 
-both-true : (x y : Bool) → (x ≡ true → y ≡ true) → (y ≡ true → x ≡ true) → x ≡ y
-both-true true y f g = sym (f refl)
+both-true : (one other : Bool) → (one ≡ true → other ≡ true) → (other ≡ true → one ≡ true) → one ≡ other
+both-true true other f g = sym (f refl)
 both-true false true f g = g refl
 both-true false false f g = refl
 
 -- a nonterminal has one first set, the one that the rounds find
-pub first-set-one : {g : List Production} {n set : ℕ} → FirstSet g n set → set ≡ getD (firstSets (nullables g) g) n 0
-first-set-one {g} {n} {set} w =
-    same-set set _ (λ k. both-true _ _ (λ e. opens-exactly g n k .1 (w k .0 e)) (λ e. w k .1 (opens-exactly g n k .0 e)))
+pub first-set-one : {g : List Production} {nonterminal set : ℕ} → FirstSet g nonterminal set → set ≡ getD (firstSets (nullables g) g) nonterminal 0
+first-set-one {g} {nonterminal} {set} w =
+    same-set set _ (λ k. both-true _ _ (λ e. opens-exactly g nonterminal k .1 (w k .0 e)) (λ e. w k .1 (opens-exactly g nonterminal k .0 e)))
 
 -- ------------------------------------------------------------------ templates
 
-module _ (I : Input) where
+module _ (lent : Input) where
   -- the place stays, and a refusal is 21 there
   abbrev pub Stays : {A : Type 0} → State → Result A → Type 0
   Stays s x = Ends (λ a s′ c. s′ .at ≡ s .at) (λ r. r ≡ refusal 21 (s .at) 0 0) x
 
-  stays-after : {A B : Type 0} (s : State) (x : Result A) (k : A → Run B) → Stays s x → ((a : A) (s′ : State) (c : List ℕ) → Stays s′ (k a s′ c))
-      → Stays s (after x k)
-  stays-after s (halt r c) k h f = h
-  stays-after {B = B} s (done a s′ c) k h f = go (k a s′ c) (f a s′ c)
+  stays-after : {A B : Type 0} (state : State) (result : Result A) (follow : A → Run B) → Stays state result
+      → ((item : A) (state′ : State) (cells : List ℕ) → Stays state′ (follow item state′ cells))
+      → Stays state (after result follow)
+  stays-after state (halt r c) follow h f = h
+  stays-after {B = B} state (done a s′ c) follow h f = go (follow a s′ c) (f a s′ c)
     where
-      go : (y : Result B) → Stays s′ y → Stays s y
+      go : (result : Result B) → Stays s′ result → Stays state result
       go (done b s″ c″) q = q ∙ h
       go (halt r c″) q = cc q
 
-  cell-stays : (code : ℕ) (xs : List ℕ) (s : State) (cells : List ℕ) → Stays s (cell I code xs s cells)
-  cell-stays code xs s cells = go (ltb (s .made) (I .rows))
+  cell-stays : (code : ℕ) (xs : List ℕ) (state : State) (cells : List ℕ) → Stays state (cell lent code xs state cells)
+  cell-stays code xs state cells = go (ltb (state .made) (lent .rows))
     where
-      go : (b : Bool)
-          → Stays {A = ℕ} s
-          (elim b as (λ x. Result ℕ) [ true ↦ done (s .made) (cellMade s) (withRow cells (s .made) code xs) | false ↦ halt (refusal 21 (s .at) 0 0) cells ])
+      go : (test : Bool)
+          → Stays {A = ℕ} state
+          (elim test as
+          (λ x. Result ℕ)
+          [ true ↦ done (state .made) (cellMade state) (withRow cells (state .made) code xs) | false ↦ halt (refusal 21 (state .at) 0 0) cells ])
       go true = refl
       go false = refl
 
@@ -84,41 +87,42 @@ module _ (I : Input) where
     unfolding build buildAll
 
     -- building a template reads no token
-    pub build-stays : (t : Template) (M : List ℕ) (s : State) (cells : List ℕ) → Stays s (build t I M s cells)
-    build-stays (Table.variable i) M s cells = refl
-    build-stays (Table.outsideVar n) M s cells = refl
-    build-stays (Table.outsideLabel n) M s cells = refl
-    build-stays (Table.make c ts) M s cells =
-        stays-after s (buildAll ts I M s cells) (λ vs. cell I c vs) (build-all-stays ts M s cells) (λ vs s′ c′. cell-stays c vs s′ c′)
+    pub build-stays : (template : Template) (values : List ℕ) (state : State) (cells : List ℕ) → Stays state (build template lent values state cells)
+    build-stays (Table.variable i) values state cells = refl
+    build-stays (Table.outsideVar n) values state cells = refl
+    build-stays (Table.outsideLabel n) values state cells = refl
+    build-stays (Table.make c ts) values state cells =
+        stays-after state (buildAll ts lent values state cells) (λ vs. cell lent c vs) (build-all-stays ts values state cells)
+        (λ vs s′ c′. cell-stays c vs s′ c′)
 
     -- nor does building templates
-    pub build-all-stays : (ts : Templates) (M : List ℕ) (s : State) (cells : List ℕ) → Stays s (buildAll ts I M s cells)
-    build-all-stays none M s cells = refl
-    build-all-stays (more t ts) M s cells =
-        stays-after s (build t I M s cells) _ (build-stays t M s cells)
-        (λ v s′ c′. stays-after s′ (buildAll ts I M s′ c′) _ (build-all-stays ts M s′ c′) (λ vs s″ c″. refl))
+    pub build-all-stays : (ts : Templates) (values : List ℕ) (state : State) (cells : List ℕ) → Stays state (buildAll ts lent values state cells)
+    build-all-stays none values state cells = refl
+    build-all-stays (more t ts) values state cells =
+        stays-after state (build t lent values state cells) _ (build-stays t values state cells)
+        (λ v s′ c′. stays-after s′ (buildAll ts lent values s′ c′) _ (build-all-stays ts values s′ c′) (λ vs s″ c″. refl))
 
 -- ------------------------------------------------------------------ tokens
 
-is-next : (s : List Token) {k : ℕ} → kindOf s ≡ k → k < 64 → Next s k
+is-next : (s : List Token) {kind : ℕ} → kindOf s ≡ kind → kind < 64 → Next s kind
 is-next [] e l = absurd (omega (arith, e))
 is-next (t ∷ s) e l = subst (Next (t ∷ s)) e next
 
-next-is : {s : List Token} {k : ℕ} → Next s k → kindOf s ≡ k
+next-is : {s : List Token} {kind : ℕ} → Next s kind → kindOf s ≡ kind
 next-is next = refl
 
-module _ {g : List Production} (X : Setting g) where
+module _ {g : List Production} (setting : Setting g) where
   abbrev F : FitAll g
-  F = X .fit
+  F = setting .fit
 
   abbrev spell : ℕ → List ℕ
-  spell = X .spell
+  spell = setting .spell
 
   abbrev tokens : List Token
-  tokens = X .tokens
+  tokens = setting .tokens
 
   abbrev rows : ℕ
-  rows = X .rows
+  rows = setting .rows
 
   abbrev J : Input
   J = input g tokens rows
@@ -127,21 +131,21 @@ module _ {g : List Production} (X : Setting g) where
   rest s = drop (s .at) tokens
 
   -- the index of what is left is the state's place
-  pub index-is : (s : State) {t : List Token} → rest s ≡ t → s .at ≤ length tokens → nextIndex tokens t ≡ s .at
-  index-is s e l = omega (arith, ap length e, length-drop (s .at) tokens)
+  pub index-is : (state : State) {left : List Token} → rest state ≡ left → state .at ≤ length tokens → nextIndex tokens left ≡ state .at
+  index-is state e l = omega (arith, ap length e, length-drop (state .at) tokens)
 
   -- a token taken is of the kind, and one that is not is none of it
-  next-kind : (s : State) {k : ℕ} → nextToken J s .kind ≡ k → k < 64 → Next (rest s) k
-  next-kind s e l = is-next (rest s) (sym (kind-next (s .at) tokens) ∙ e) l
+  next-kind : (state : State) {kind : ℕ} → nextToken J state .kind ≡ kind → kind < 64 → Next (rest state) kind
+  next-kind state e l = is-next (rest state) (sym (kind-next (state .at) tokens) ∙ e) l
 
   -- the next token's kind
-  pub kind-of-next : (s : State) {k : ℕ} → Next (rest s) k → nextToken J s .kind ≡ k
-  kind-of-next s n = kind-next (s .at) tokens ∙ next-is n
+  pub kind-of-next : (state : State) {kind : ℕ} → Next (rest state) kind → nextToken J state .kind ≡ kind
+  kind-of-next state n = kind-next (state .at) tokens ∙ next-is n
 
   -- a token of another kind stops the run
-  pub take-halts : (kind : ℕ) (value : ℕ → ℕ) (s : State) (cells : List ℕ) → kind < 64 → (Next (rest s) kind → ⊥)
-      → takeToken J kind value s cells ≡ halt (refusal 17 (s .at) (only kind) (ones (only kind))) cells
-  take-halts kind value s cells l n = rw (ne-eqb (nextToken J s .kind) kind (λ e. n (next-kind s e l)), takeToken) refl
+  pub take-halts : (kind : ℕ) (value : ℕ → ℕ) (state : State) (cells : List ℕ) → kind < 64 → (Next (rest state) kind → ⊥)
+      → takeToken J kind value state cells ≡ halt (refusal 17 (state .at) (only kind) (ones (only kind))) cells
+  take-halts kind value state cells l n = rw (ne-eqb (nextToken J state .kind) kind (λ e. n (next-kind state e l)), takeToken) refl
 
   -- ------------------------------------------------------------------ the place
 
@@ -149,59 +153,67 @@ module _ {g : List Production} (X : Setting g) where
   abbrev pub Bounded : {A : Type 0} → Result A → Type 0
   Bounded x = Ends (λ a s c. s .at ≤ length tokens) (λ r. Unit {0}) x
 
-  bounded-after : {A B : Type 0} (x : Result A) (k : A → Run B) → Bounded x → ((a : A) (s : State) (c : List ℕ) → s .at ≤ length tokens → Bounded (k a s c))
-      → Bounded (after x k)
-  bounded-after (done a s c) k h f = f a s c h
-  bounded-after (halt r c) k h f = tt
+  bounded-after : {A B : Type 0} (result : Result A) (follow : A → Run B) → Bounded result
+      → ((item : A) (state : State) (cells : List ℕ) → state .at ≤ length tokens → Bounded (follow item state cells))
+      → Bounded (after result follow)
+  bounded-after (done a s c) follow h f = f a s c h
+  bounded-after (halt r c) follow h f = tt
 
-  stays-bounded : {A : Type 0} (s : State) (x : Result A) → s .at ≤ length tokens → Stays J s x → Bounded x
-  stays-bounded s (done a s′ c) l h = omega arith
-  stays-bounded s (halt r c) l h = tt
+  stays-bounded : {A : Type 0} (state : State) (result : Result A) → state .at ≤ length tokens → Stays J state result → Bounded result
+  stays-bounded state (done a s′ c) l h = omega arith
+  stays-bounded state (halt r c) l h = tt
 
-  take-bounded : (kind : ℕ) (value : ℕ → ℕ) (s : State) (cells : List ℕ) → kind < 64 → Bounded (takeToken J kind value s cells)
-  take-bounded kind value s cells l = go (eqb (nextToken J s .kind) kind) refl
+  take-bounded : (kind : ℕ) (value : ℕ → ℕ) (state : State) (cells : List ℕ) → kind < 64 → Bounded (takeToken J kind value state cells)
+  take-bounded kind value state cells l = go (eqb (nextToken J state .kind) kind) refl
     where
-      go : (b : Bool) → eqb (nextToken J s .kind) kind ≡ b
-          → Bounded {A = ℕ} (elim b as (λ x. Result ℕ)
-          [ true ↦ done (value (nextToken J s .value)) (tokenTaken s) cells | false ↦ misfit (only kind) s cells ])
-      go true e = omega (arith, token-before tokens (s .at) (eqb-true (nextToken J s .kind) kind e) l)
+      go : (test : Bool) → eqb (nextToken J state .kind) kind ≡ test
+          → Bounded {A = ℕ} (elim test as (λ x. Result ℕ)
+          [ true ↦ done (value (nextToken J state .value)) (tokenTaken state) cells | false ↦ misfit (only kind) state cells ])
+      go true e = omega (arith, token-before tokens (state .at) (eqb-true (nextToken J state .kind) kind e) l)
       go false e = tt
 
-  module _ (C : ℕ → List ℕ → Run ℕ)
-      (callee : (n : ℕ) (vs : List ℕ) (s : State) (cells : List ℕ) → n < 64 → s .at ≤ length tokens → Bounded (C n vs s cells)) where
-    -- an item does
-    pub item-bounded : {i : Item} {A : ℕ} {L : List ℕ} (xs : List ℕ) (s : State) (cells : List ℕ) → ItemSorted (F .scope) L i A → ItemWithin i
-        → s .at ≤ length tokens → Bounded (runItem C J i xs s cells)
-    item-bounded xs s cells (Judgements.by-keyword {k = k} l) z h = take-bounded (keywordKind k) (λ v. 0) s cells (omega (arith, l, F .keywordCount))
-    item-bounded xs s cells (Judgements.by-ide {B = B} l u) z h = take-bounded wordKind (wordValue B) s cells (omega arith)
-    item-bounded xs s cells Judgements.by-number z h = take-bounded numberKind (λ v. v) s cells (omega arith)
-    item-bounded xs s cells Judgements.by-local z h = h
-    item-bounded xs s cells (Judgements.by-call {n = n} {ts = ts} w f) (call-within l ws) h =
-        bounded-after (buildAll ts J xs s cells) (λ vs. C n vs) (stays-bounded s (buildAll ts J xs s cells) h (build-all-stays J ts xs s cells))
-        (λ vs s′ c′ b. callee n vs s′ c′ (omega arith) b)
+  module _ (called : ℕ → List ℕ → Run ℕ)
+      (callee : (number : ℕ) (vs : List ℕ) (state : State) (cells : List ℕ) → number < 64 → state .at ≤ length tokens → Bounded (called number vs state cells))
+    where
+      -- an item does
+      pub item-bounded : {item : Item} {A : ℕ} {L : List ℕ} (xs : List ℕ) (state : State) (cells : List ℕ) → ItemSorted (F .scope) L item A → ItemWithin item
+          → state .at ≤ length tokens → Bounded (runItem called J item xs state cells)
+      item-bounded xs state cells (Judgements.by-keyword {k = k} l) z h = take-bounded (keywordKind k) (λ v. 0) state cells (omega (arith, l, F .keywordCount))
+      item-bounded xs state cells (Judgements.by-ide {B = B} l u) z h = take-bounded wordKind (wordValue B) state cells (omega arith)
+      item-bounded xs state cells Judgements.by-number z h = take-bounded numberKind (λ v. v) state cells (omega arith)
+      item-bounded xs state cells Judgements.by-local z h = h
+      item-bounded xs state cells (Judgements.by-call {n = n} {ts = ts} w f) (call-within l ws) h =
+          bounded-after (buildAll ts J xs state cells) (λ vs. called n vs)
+          (stays-bounded state (buildAll ts J xs state cells) h (build-all-stays J ts xs state cells))
+          (λ vs s′ c′ b. callee n vs s′ c′ (omega arith) b)
 
-    -- items do
-    pub items-bounded : (is : List Item) {r : Template} {B : ℕ} {L : List ℕ} (xs : List ℕ) (s : State) (cells : List ℕ) → Body (F .scope) L is r B
-        → Each ItemWithin is → s .at ≤ length tokens → Bounded (runItems C J is xs s cells)
-    unfolding runItems
-    items-bounded [] xs s cells b z h = h
-    items-bounded (i ∷ is) xs s cells (by-binding w b) (each-more z zs) h =
-        bounded-after (runItem C J i xs s cells) (λ v. runItems C J is (xs ++ (v ∷ []))) (item-bounded xs s cells w z h)
-        (λ v s′ c′ l. items-bounded is (xs ++ (v ∷ [])) s′ c′ b zs l)
+      -- items do
+      pub items-bounded : (is : List Item) {result : Template} {B : ℕ} {L : List ℕ} (xs : List ℕ) (state : State) (cells : List ℕ)
+          → Body (F .scope) L is result B → Each ItemWithin is → state .at ≤ length tokens → Bounded (runItems called J is xs state cells)
+      unfolding runItems
+      items-bounded [] xs state cells b z h = h
+      items-bounded (i ∷ is) xs state cells (by-binding w b) (each-more z zs) h =
+          bounded-after (runItem called J i xs state cells) (λ v. runItems called J is (xs ++ (v ∷ []))) (item-bounded xs state cells w z h)
+          (λ v s′ c′ l. items-bounded is (xs ++ (v ∷ [])) s′ c′ b zs l)
 
   -- a call does
-  pub call-bounded : (d n : ℕ) (vs : List ℕ) (s : State) (cells : List ℕ) → n < 64 → s .at ≤ length tokens → Bounded (runCall d J n vs s cells)
+  pub call-bounded : (depth nonterminal : ℕ) (vs : List ℕ) (state : State) (cells : List ℕ) → nonterminal < 64 → state .at ≤ length tokens
+      → Bounded (runCall depth J nonterminal vs state cells)
   unfolding runCall
-  call-bounded zero n vs s cells l h = tt
-  call-bounded (suc d) n vs s cells l h = go (call-bounded d) (ltb (s .calls) mostCalls) refl (choice-picks g n l (rest s))
+  call-bounded zero nonterminal vs state cells l h = tt
+  call-bounded (suc depth) nonterminal vs state cells l h =
+      go (call-bounded depth) (ltb (state .calls) mostCalls) refl (choice-picks g nonterminal l (rest state))
     where
-      go : ((m : ℕ) (ws : List ℕ) (s′ : State) (c′ : List ℕ) → m < 64 → s′ .at ≤ length tokens → Bounded (runCall d J m ws s′ c′)) → (b : Bool)
-          → ltb (s .calls) mostCalls ≡ b
-          → Picks g n (rest s) (choice (ready g) n (kindOf (rest s))) → Bounded (runCall (suc d) J n vs s cells)
-      go f false e q = subst⁻¹ Bounded (call-full d J n vs s cells e) tt
+      go : ((callee : ℕ) (ws : List ℕ) (state′ : State) (cells′ : List ℕ) → callee < 64 → state′ .at ≤ length tokens
+          → Bounded (runCall depth J callee ws state′ cells′)) → (test : Bool)
+          → ltb (state .calls) mostCalls ≡ test
+          → Picks g nonterminal (rest state) (choice (ready g) nonterminal (kindOf (rest state))) → Bounded (runCall (suc depth) J nonterminal vs state cells)
+      go f false e q = subst⁻¹ Bounded (call-full depth J nonterminal vs state cells e) tt
       go f true e (picks p t z) =
-          subst⁻¹ Bounded (call-chosen d J n vs s cells (rule g p) e (ap (choice (ready g) n) (kind-next (s .at) tokens) ∙ z))
-          (bounded-after (runItems (runCall d J) J (p .items) vs (callBegun s) cells) (λ M. build (p .result) J M)
-          (items-bounded (runCall d J) f (p .items) vs (callBegun s) cells (F .each p (taken-of t .member) .body) (F .each p (taken-of t .member) .items) h)
+          subst⁻¹ Bounded (call-chosen depth J nonterminal vs state cells (rule g p) e (ap (choice (ready g) nonterminal) (kind-next (state .at) tokens) ∙ z))
+          (bounded-after (runItems (runCall depth J) J (p .items) vs (callBegun state) cells) (λ M. build (p .result) J M)
+          (items-bounded (runCall depth J) f (p .items) vs (callBegun state) cells (F .each p (taken-of t .member) .body)
+          (F .each p (taken-of t .member) .items) h)
           (λ M s′ c′ b. stays-bounded s′ (build (p .result) J M s′ c′) b (build-stays J (p .result) M s′ c′)))
-      go f true e (picks-none a z) = subst⁻¹ Bounded (call-unfit d J n vs s cells e (ap (choice (ready g) n) (kind-next (s .at) tokens) ∙ z)) tt
+      go f true e (picks-none a z) =
+          subst⁻¹ Bounded (call-unfit depth J nonterminal vs state cells e (ap (choice (ready g) nonterminal) (kind-next (state .at) tokens) ∙ z)) tt

@@ -42,18 +42,18 @@ use Rattle.soundness.specs.Stopping.{at-arguments, at-call, past-item, C
 use Rattle.soundness.proofs.StopLaws.{build-stays, build-all-stays, index-is, kind-of-next, item-bounded, items-bounded, call-bounded}
 use Rattle.terms.specs.Cells.{columns}
 
-module _ {g : List Production} (X : Setting g) where
+module _ {g : List Production} (setting : Setting g) where
   abbrev F : FitAll g
-  F = X .fit
+  F = setting .fit
 
   abbrev spell : ℕ → List ℕ
-  spell = X .spell
+  spell = setting .spell
 
   abbrev tokens : List Token
-  tokens = X .tokens
+  tokens = setting .tokens
 
   abbrev rows : ℕ
-  rows = X .rows
+  rows = setting .rows
 
   abbrev J : Input
   J = input g tokens rows
@@ -71,14 +71,14 @@ module _ {g : List Production} (X : Setting g) where
   abbrev EntersAt : ℕ → ℕ → List Value → State → Refusal → Type 0
   EntersAt o n vs s r = CallStops g spell rows tokens o (s .calls) (s .made) n vs (rest s) (s .fresh) r
 
-  here : (s : State) → s .at ≤ length tokens → nextIndex tokens (rest s) ≡ s .at
-  here s l = index-is X s refl l
+  here : (state : State) → state .at ≤ length tokens → nextIndex tokens (rest state) ≡ state .at
+  here state l = index-is setting state refl l
 
   -- a step that fails at the index of what is left fails at the state's place
-  fails-here : {o c m k a b : ℕ} {step : Action} (s : State) → s .at ≤ length tokens
-      → Fails g spell rows tokens o c m (rest s) step (refusal k (nextIndex tokens (rest s)) a b)
-      → Fails g spell rows tokens o c m (rest s) step (refusal k (s .at) a b)
-  fails-here s l f = rw (here s l) at f
+  fails-here : {opened begun made number value other : ℕ} {step : Action} (state : State) → state .at ≤ length tokens
+      → Fails g spell rows tokens opened begun made (rest state) step (refusal number (nextIndex tokens (rest state)) value other)
+      → Fails g spell rows tokens opened begun made (rest state) step (refusal number (state .at) value other)
+  fails-here state l f = rw (here state l) at f
 
   -- what is asked of a callee
   abbrev Halting : ℕ → Type 0
@@ -87,125 +87,133 @@ module _ {g : List Production} (X : Setting g) where
       (F .scope .env) n S → n < 64 → Matches vs (S .params)
       → s .at ≤ length tokens → Kept rows k s cells → ShowAll spell (s .made) cells xs vs → Ends Fine (EntersAt o n vs s) (runCall d J n xs s cells)
 
-  take-halts : (o : ℕ) (M : List Value) {j : Item} (is : List Item) (kind : ℕ) (value : ℕ → ℕ) (s : State) (cells : List ℕ) → Reads j kind
-      → s .at ≤ length tokens
-      → Ends Fine (StopsAt o M (j ∷ is) s) (takeToken J kind value s cells)
-  take-halts o M {j} is kind value s cells w l = go (eqb (nextToken J s .kind) kind) refl
+  take-halts : (opened : ℕ) (M : List Value) {item : Item} (is : List Item) (kind : ℕ) (value : ℕ → ℕ) (state : State) (cells : List ℕ) → Reads item kind
+      → state .at ≤ length tokens
+      → Ends Fine (StopsAt opened M (item ∷ is) state) (takeToken J kind value state cells)
+  take-halts opened M {item} is kind value state cells w l = go (eqb (nextToken J state .kind) kind) refl
     where
-      go : (b : Bool) → eqb (nextToken J s .kind) kind ≡ b
-          → Ends {A = ℕ} Fine (StopsAt o M (j ∷ is) s)
-          (elim b as (λ x. Result ℕ) [ true ↦ done (value (nextToken J s .value)) (tokenTaken s) cells | false ↦ misfit (only kind) s cells ])
+      go : (test : Bool) → eqb (nextToken J state .kind) kind ≡ test
+          → Ends {A = ℕ} Fine (StopsAt opened M (item ∷ is) state)
+          (elim test as (λ x. Result ℕ) [ true ↦ done (value (nextToken J state .value)) (tokenTaken state) cells | false ↦ misfit (only kind) state cells ])
       go true e = tt
       go false e =
           at-token w
-          (fails-here s l
-          (no-token (λ n. eqb-false (nextToken J s .kind) kind e (kind-of-next X s n))))
+          (fails-here state l
+          (no-token (λ n. eqb-false (nextToken J state .kind) kind e (kind-of-next setting state n))))
 
-  full-row : (o c m : ℕ) {n : ℕ} (s : State) → s .at ≤ length tokens → rows < m + n
-      → Fails g spell rows tokens o c m (rest s) (makes n) (refusal 21 (s .at) 0 0)
-  full-row o c m {n} s l h = fails-here s l (no-row h)
+  full-row : (opened begun made : ℕ) {needed : ℕ} (state : State) → state .at ≤ length tokens → rows < made + needed
+      → Fails g spell rows tokens opened begun made (rest state) (makes needed) (refusal 21 (state .at) 0 0)
+  full-row opened begun made {needed} state l h = fails-here state l (no-row h)
 
   -- a call of a state after its arguments is one of the state before them
-  enters-stops : {o n : ℕ} {M vs : List Value} {ts : Templates} (is : List Item) {s s₁ : State} {cells c₁ : List ℕ} → GiveAll spell M ts vs
-      → Made rows (rowsOfAll ts) s cells s₁ c₁
-      → (r : Refusal) → EntersAt o n vs s₁ r → StopsAt o M (call n ts ∷ is) s r
-  enters-stops {o} {n} {vs = vs} {ts = ts} is {s = s} {s₁ = s₁} gs b r e =
-      let fits : s .made + rowsOfAll ts ≤ rows = omega (arith, b .fits, b .made-is) in
+  enters-stops : {opened nonterminal : ℕ} {M vs : List Value} {ts : Templates} (is : List Item) {state state₁ : State} {cells cells-after₁ : List ℕ}
+      → GiveAll spell M ts vs → Made rows (rowsOfAll ts) state cells state₁ cells-after₁
+      → (cause : Refusal) → EntersAt opened nonterminal vs state₁ cause → StopsAt opened M (call nonterminal ts ∷ is) state cause
+  enters-stops {opened} {nonterminal} {vs = vs} {ts = ts} is {state = state} {state₁ = state₁} gs b cause e =
+      let fits : state .made + rowsOfAll ts ≤ rows = omega (arith, b .fits, b .made-is) in
       at-call gs fits
-      (subst₂ (λ at i. CallStops g spell rows tokens o (s .calls) (s .made + rowsOfAll ts) n vs (drop at tokens) i r) (b .at-kept) (b .fresh-kept)
-      (subst₂ (λ c m. CallStops g spell rows tokens o c m n vs (rest s₁) (s₁ .fresh) r) (b .calls-kept) (b .made-is) e))
+      (subst₂ (λ at i. CallStops g spell rows tokens opened (state .calls) (state .made + rowsOfAll ts) nonterminal vs (drop at tokens) i cause) (b .at-kept)
+      (b .fresh-kept)
+      (subst₂ (λ c m. CallStops g spell rows tokens opened c m nonterminal vs (rest state₁) (state₁ .fresh) cause) (b .calls-kept) (b .made-is) e))
 
-  module _ (d o : ℕ) (left : d + o ≡ mostOpen) (halting : Halting d) where
-    item-halts : (k : ℕ) {i : Item} {A : ℕ} {M : List Value} {L xs : List ℕ} (is : List Item) (s : State) (cells : List ℕ) → ItemSorted (F .scope) L i A
-        → ItemWithin i → Matches M L
-        → s .at ≤ length tokens → Kept rows (k + 1) s cells → ShowAll spell (s .made) cells xs M
-        → Ends Fine (StopsAt o M (i ∷ is) s) (runItem (runCall d J) J i xs s cells)
-    item-halts k {M = M} is s cells (Judgements.by-keyword {k = w} l) z m b h a =
-        take-halts o M is (keywordKind w) (λ v. 0) s cells (reads-keyword (omega (arith, l, F .keywordCount))) b
-    item-halts k {M = M} is s cells (Judgements.by-ide {B = B} l u) z m b h a = take-halts o M is wordKind (wordValue B) s cells reads-word b
-    item-halts k {M = M} is s cells Judgements.by-number z m b h a = take-halts o M is numberKind (λ v. v) s cells reads-number b
-    item-halts k is s cells Judgements.by-local z m b h a = tt
-    item-halts k {M = M} {xs = xs} is s cells (Judgements.by-call {n = n} {S = S} {ts = ts} w f) (call-within l ws) m b h a =
+  module _ (depth opened : ℕ) (left : depth + opened ≡ mostOpen) (halting : Halting depth) where
+    item-halts : (names-left : ℕ) {item : Item} {A : ℕ} {M : List Value} {L xs : List ℕ} (is : List Item) (state : State) (cells : List ℕ)
+        → ItemSorted (F .scope) L item A → ItemWithin item → Matches M L
+        → state .at ≤ length tokens → Kept rows (names-left + 1) state cells → ShowAll spell (state .made) cells xs M
+        → Ends Fine (StopsAt opened M (item ∷ is) state) (runItem (runCall depth J) J item xs state cells)
+    item-halts names-left {M = M} is state cells (Judgements.by-keyword {k = w} l) z m b h a =
+        take-halts opened M is (keywordKind w) (λ v. 0) state cells (reads-keyword (omega (arith, l, F .keywordCount))) b
+    item-halts names-left {M = M} is state cells (Judgements.by-ide {B = B} l u) z m b h a =
+        take-halts opened M is wordKind (wordValue B) state cells reads-word b
+    item-halts names-left {M = M} is state cells Judgements.by-number z m b h a = take-halts opened M is numberKind (λ v. v) state cells reads-number b
+    item-halts names-left is state cells Judgements.by-local z m b h a = tt
+    item-halts names-left {M = M} {xs = xs} is state cells (Judgements.by-call {n = n} {S = S} {ts = ts} w f) (call-within l ws) m b h a =
         let vs = give-all-exist spell m ts f in
-        ends-after (λ ys s₁ c₁. BuiltAll spell J (rowsOfAll ts) s cells (vs .0) ys s₁ c₁ × (s₁ .at ≡ s .at))
-        (λ r. Full rows (s .made + rowsOfAll ts) r × (r ≡ refusal 21 (s .at) 0 0))
-        Fine (StopsAt o M (call n ts ∷ is) s) (buildAll ts J xs s cells) (λ ys. runCall d J n ys)
-        (ends-both (BuiltAll spell J (rowsOfAll ts) s cells (vs .0)) (λ ys s₁ c₁. s₁ .at ≡ s .at) (Full rows (s .made + rowsOfAll ts))
-        (λ r. r ≡ refusal 21 (s .at) 0 0) (buildAll ts J xs s cells)
-        (build-all-ends spell J ts s cells (vs .1) f (omega (arith, F .outsideCount)) (h .room) (h .fits) a) (build-all-stays J ts xs s cells))
+        ends-after (λ ys s₁ c₁. BuiltAll spell J (rowsOfAll ts) state cells (vs .0) ys s₁ c₁ × (s₁ .at ≡ state .at))
+        (λ r. Full rows (state .made + rowsOfAll ts) r × (r ≡ refusal 21 (state .at) 0 0))
+        Fine (StopsAt opened M (call n ts ∷ is) state) (buildAll ts J xs state cells) (λ ys. runCall depth J n ys)
+        (ends-both (BuiltAll spell J (rowsOfAll ts) state cells (vs .0)) (λ ys s₁ c₁. s₁ .at ≡ state .at) (Full rows (state .made + rowsOfAll ts))
+        (λ r. r ≡ refusal 21 (state .at) 0 0) (buildAll ts J xs state cells)
+        (build-all-ends spell J ts state cells (vs .1) f (omega (arith, F .outsideCount)) (h .room) (h .fits) a) (build-all-stays J ts xs state cells))
         (λ ys s₁ c₁ y.
-        ends-map Fine (EntersAt o n (vs .0) s₁) Fine (StopsAt o M (call n ts ∷ is) s) (runCall d J n ys s₁ c₁)
-        (halting o k n S (vs .0) ys s₁ c₁ left w (omega arith) (vs .2) (omega (arith, y .1)) (kept-less (kept-made h (y .0 .0))) (y .0 .1))
+        ends-map Fine (EntersAt opened n (vs .0) s₁) Fine (StopsAt opened M (call n ts ∷ is) state) (runCall depth J n ys s₁ c₁)
+        (halting opened names-left n S (vs .0) ys s₁ c₁ left w (omega arith) (vs .2) (omega (arith, y .1)) (kept-less (kept-made h (y .0 .0))) (y .0 .1))
         (λ x s₂ c₂ u. u) (enters-stops is (vs .1) (y .0 .0)))
         (λ r u. at-arguments (vs .1)
-        (rw (u .1) (full-row o (s .calls) (s .made) s b (u .0 .beyond))))
+        (rw (u .1) (full-row opened (state .calls) (state .made) state b (u .0 .beyond))))
 
     -- an item derived has cost what its derivation costs
-    item-costs : (k : ℕ) {i : Item} {A : ℕ} {M : List Value} {L : List ℕ} (xs : List ℕ) (s : State) (cells : List ℕ) → ItemSorted (F .scope) L i A
-        → Kept rows (k + 1) s cells → ShowAll spell (s .made) cells xs M → (x : ℕ) (s₁ : State) (c₁ : List ℕ)
-        → runItem (runCall d J) J i xs s cells ≡ done x s₁ c₁
-        → {M₁ : List Value} (D : Derives g spell M (rest s) (s .fresh) (i ∷ []) M₁ (rest s₁) (s₁ .fresh))
-        → (s₁ .calls ≡ s .calls + callsIn D) × (s₁ .made ≡ s .made + rowsIn D) × (openIn D ≤ d)
+    item-costs : (names-left : ℕ) {item : Item} {A : ℕ} {M : List Value} {L : List ℕ} (xs : List ℕ) (state : State) (cells : List ℕ)
+        → ItemSorted (F .scope) L item A
+        → Kept rows (names-left + 1) state cells → ShowAll spell (state .made) cells xs M → (row : ℕ) (state₁ : State) (cells-after₁ : List ℕ)
+        → runItem (runCall depth J) J item xs state cells ≡ done row state₁ cells-after₁
+        → {M₁ : List Value} (derives : Derives g spell M (rest state) (state .fresh) (item ∷ []) M₁ (rest state₁) (state₁ .fresh))
+        → (state₁ .calls ≡ state .calls + callsIn derives) × (state₁ .made ≡ state .made + rowsIn derives) × (openIn derives ≤ depth)
     unfolding runItems
-    item-costs k {i} {L = L} xs s cells w h a x s₁ c₁ e {M₁} D =
-        let q = rw (items-after (runCall d J) J i [] xs s cells x s₁ c₁ e) at
-        (items-along X D .along d k (make 0x25 none) Sorts.fields L xs s cells (item-body X w) refl refl h a) in
+    item-costs names-left {item} {L = L} xs state cells w h a row state₁ cells-after₁ e {M₁} derives =
+        let q = rw (items-after (runCall depth J) J item [] xs state cells row state₁ cells-after₁ e) at
+        (items-along setting derives .along depth names-left (make 0x25 none) Sorts.fields L xs state cells (item-body setting w) refl refl h a) in
         (q .0 .calls-are, q .0 .made-are, q .0 .deep)
 
-    items-halt : (k : ℕ) (is : List Item) {r : Template} {B : ℕ} {M : List Value} {L xs : List ℕ} (s : State) (cells : List ℕ) → Body (F .scope) L is r B
-        → Each ItemWithin is → Matches M L
-        → s .at ≤ length tokens → Kept rows (k + length is) s cells → ShowAll spell (s .made) cells xs M
-        → Ends Fine (StopsAt o M is s) (runItems (runCall d J) J is xs s cells)
+    items-halt : (names-left : ℕ) (is : List Item) {result : Template} {B : ℕ} {M : List Value} {L xs : List ℕ} (state : State) (cells : List ℕ)
+        → Body (F .scope) L is result B → Each ItemWithin is → Matches M L
+        → state .at ≤ length tokens → Kept rows (names-left + length is) state cells → ShowAll spell (state .made) cells xs M
+        → Ends Fine (StopsAt opened M is state) (runItems (runCall depth J) J is xs state cells)
     unfolding runItems
-    items-halt k [] s cells b z m n h a = tt
-    items-halt k (i ∷ is) {M = M} {xs = xs} s cells (by-binding {A = A} w b) (each-more z zs) m n h a =
-        let h′ : Kept rows (k + length is + 1) s cells = record { room = h .room; fits = h .fits; names = omega (arith, h .names); begun = h .begun } in
-        after-by Fine (StopsAt o M (i ∷ is) s) (runItem (runCall d J) J i xs s cells) (λ x. runItems (runCall d J) J is (xs ++ (x ∷ [])))
+    items-halt names-left [] state cells b z m n h a = tt
+    items-halt names-left (i ∷ is) {M = M} {xs = xs} state cells (by-binding {A = A} w b) (each-more z zs) m n h a =
+        let h′ : Kept rows (names-left + length is + 1) state cells = record
+        { room = h .room; fits = h .fits; names = omega (arith, h .names); begun = h .begun } in
+        after-by Fine (StopsAt opened M (i ∷ is) state) (runItem (runCall depth J) J i xs state cells) (λ x. runItems (runCall depth J) J is (xs ++ (x ∷ [])))
         (λ x s₁ c₁ e.
-        let p : Stepped X (k + length is) i A M s cells x s₁ c₁ =
-        rw e at (item-sound X (runCall d J) (call-sound X d) (k + length is) s cells w z m h′ a) in
+        let p : Stepped setting (names-left + length is) i A M state cells x s₁ c₁ =
+        rw e at (item-sound setting (runCall depth J) (call-sound setting depth) (names-left + length is) state cells w z m h′ a) in
         let D = p .step [] (M ++ (p .value ∷ [])) (rest s₁) (s₁ .fresh) by-end in
-        let q = item-costs (k + length is) xs s cells w h′ a x s₁ c₁ e D in
+        let q = item-costs (names-left + length is) xs state cells w h′ a x s₁ c₁ e D in
         let n₁ : s₁ .at ≤ length tokens =
-        rw e at (item-bounded X (runCall d J) (call-bounded X d) xs s cells w z n) in
-        ends-map Fine (StopsAt o (M ++ (p .value ∷ [])) is s₁) Fine (StopsAt o M (i ∷ is) s) (runItems (runCall d J) J is (xs ++ (x ∷ [])) s₁ c₁)
-        (items-halt k is s₁ c₁ b zs (matches-and m (p .typed)) n₁ (p .kept) (all-and (all-later (p .grown) a) (p .shows)))
+        rw e at (item-bounded setting (runCall depth J) (call-bounded setting depth) xs state cells w z n) in
+        ends-map Fine (StopsAt opened (M ++ (p .value ∷ [])) is s₁) Fine (StopsAt opened M (i ∷ is) state)
+        (runItems (runCall depth J) J is (xs ++ (x ∷ [])) s₁ c₁)
+        (items-halt names-left is s₁ c₁ b zs (matches-and m (p .typed)) n₁ (p .kept) (all-and (all-later (p .grown) a) (p .shows)))
         (λ ys s₂ c₂ u. u)
         (λ r u.
-        past-item {o = o} {c = s .calls} {m = s .made} D
+        past-item {o = opened} {c = state .calls} {m = state .made} D
         (record { few-open = omega (arith, q .2); few-calls = omega (arith, q .0, p .kept .begun); few-rows = omega (arith, q .1, p .kept .fits) })
-        (subst₂ (λ c m. Stops g spell rows tokens o c m (M ++ (p .value ∷ [])) (rest s₁) (s₁ .fresh) is r) (q .0) (q .1) u)))
-        (λ q c₁ e. rw e at (item-halts (k + length is) is s cells w z m n h′ a))
+        (subst₂ (λ c m. Stops g spell rows tokens opened c m (M ++ (p .value ∷ [])) (rest s₁) (s₁ .fresh) is r) (q .0) (q .1) u)))
+        (λ q c₁ e. rw e at (item-halts (names-left + length is) is state cells w z m n h′ a))
 
   -- ------------------------------------------------------------------ calls
 
-  module _ (d o : ℕ) (left : suc d + o ≡ mostOpen) (halting : Halting d) (k n : ℕ) (S : Signature) (vs : List Value) (xs : List ℕ) (s : State)
-      (cells : List ℕ) (w : Newest (F .scope .env) n S) (l : n < 64) (m : Matches vs (S .params)) (b : s .at ≤ length tokens) (h : Kept rows k s cells)
-      (a : ShowAll spell (s .made) cells xs vs) where
+  module _ (depth opened : ℕ) (left : suc depth + opened ≡ mostOpen) (halting : Halting depth) (names-left nonterminal : ℕ) (S : Signature) (vs : List Value)
+      (xs : List ℕ) (state : State)
+      (cells : List ℕ) (newest : Newest (F .scope .env) nonterminal S) (below : nonterminal < 64) (matches : Matches vs (S .params))
+      (within : state .at ≤ length tokens) (kept : Kept rows names-left state cells) (show-all : ShowAll spell (state .made) cells xs vs) where
     abbrev Goal : Result ℕ → Type 0
-    Goal z = Ends Fine (EntersAt o n vs s) z
+    Goal z = Ends Fine (EntersAt opened nonterminal vs state) z
 
-    deeper : o < mostOpen
+    deeper : opened < mostOpen
     deeper = omega arith
 
-    production-halts : (p : Production) → Taken g n (rest s) p → s .calls < mostCalls
-        → Goal (after (runItems (runCall d J) J (p .items) xs (callBegun s) cells) (λ ys. build (p .result) J ys))
+    production-halts : (p : Production) → Taken g nonterminal (rest state) p → state .calls < mostCalls
+        → Goal (after (runItems (runCall depth J) J (p .items) xs (callBegun state) cells) (λ ys. build (p .result) J ys))
     production-halts p t c =
         let q = F .each p (taken-of t .member) in
-        let h′ : Kept rows (k + length (p .items)) (callBegun s) cells =
-        record { room = h .room; fits = h .fits; names = omega (arith, h .names, q .itemCount); begun = omega arith } in
-        let body = body-of F (taken-of t) w in
-        let K = EntersAt o n vs s in
-        after-by Fine K (runItems (runCall d J) J (p .items) xs (callBegun s) cells) (λ ys. build (p .result) J ys)
+        let h′ : Kept rows (names-left + length (p .items)) (callBegun state) cells =
+        record { room = kept .room; fits = kept .fits; names = omega (arith, kept .names, q .itemCount); begun = omega arith } in
+        let body = body-of F (taken-of t) newest in
+        let K = EntersAt opened nonterminal vs state in
+        after-by Fine K (runItems (runCall depth J) J (p .items) xs (callBegun state) cells) (λ ys. build (p .result) J ys)
         (λ ys s₁ c₁ e.
-        let y : Derived X (runCall d J) (call-sound X d) k (p .items) (p .result) (S .result) vs (callBegun s) cells ys s₁ c₁ =
-        rw e at (items-sound X (runCall d J) (call-sound X d) k (p .items) (callBegun s) cells body (q .items) m h′ a) in
+        let y : Derived setting (runCall depth J) (call-sound setting depth) names-left (p .items) (p .result) (S .result) vs (callBegun state) cells ys s₁ c₁ =
+        rw e at
+        (items-sound setting (runCall depth J) (call-sound setting depth) names-left (p .items) (callBegun state) cells body (q .items) matches h′ show-all) in
         let D = y .derived in
-        let z = rw e at (items-along X D .along d k (p .result) (S .result) (S .params) xs (callBegun s) cells body refl refl h′ a) in
+        let z = rw e at
+        (items-along setting D .along depth names-left (p .result) (S .result) (S .params) xs (callBegun state) cells body refl refl h′ show-all) in
         let b₁ : s₁ .at ≤ length tokens =
-        rw e at (items-bounded X (runCall d J) (call-bounded X d) (p .items) xs (callBegun s) cells body (q .items) b) in
+        rw e at (items-bounded setting (runCall depth J) (call-bounded setting depth) (p .items) xs (callBegun state) cells body (q .items) within) in
         let v = gives-exists spell (y .matches) (p .result) (y .sorted) in
-        let A : Affords rows (o + 1) (s .calls + 1) (s .made) D =
+        let A : Affords rows (opened + 1) (state .calls + 1) (state .made) D =
         record {
           few-open = omega (arith, z .0 .deep, left);
           few-calls = omega (arith, z .0 .calls-are, y .kept .begun);
@@ -217,52 +225,54 @@ module _ {g : List Production} (X : Setting g) where
         (build (p .result) J ys s₁ c₁)
         (ends-both (Built spell J (rowsOf (p .result)) s₁ c₁ (v .0)) (λ x s₂ c₂. s₂ .at ≡ s₁ .at) (Full rows (s₁ .made + rowsOf (p .result)))
         (λ r. r ≡ refusal 21 (s₁ .at) 0 0) (build (p .result) J ys s₁ c₁)
-        (build-ends spell J (p .result) {v = v .0} s₁ c₁ (v .1) (y .sorted) (omega (arith, F .outsideCount)) (y .kept .room) (y .kept .fits) (y .shows))
+        (build-ends spell J (p .result) {value = v .0} s₁ c₁ (v .1) (y .sorted) (omega (arith, F .outsideCount)) (y .kept .room) (y .kept .fits) (y .shows))
         (build-stays J (p .result) ys s₁ c₁))
         (λ x s₂ c₂ u. tt)
         (λ r u.
         at-result {v = v .0} t D A (v .1)
-        (rw (u .1) (full-row (o + 1) (s .calls + 1 + callsIn D) (s .made + rowsIn D) s₁ b₁ (omega (arith, u .0 .beyond, z .0 .made-are))))))
+        (rw (u .1) (full-row (opened + 1) (state .calls + 1 + callsIn D) (state .made + rowsIn D) s₁ b₁ (omega (arith, u .0 .beyond, z .0 .made-are))))))
         (λ r c₁ e.
         in-items deeper c t
-        (rw e at (items-halt d (o + 1) (omega (arith, left)) halting k (p .items) (callBegun s) cells body (q .items) m b h′ a)))
+        (rw e at
+        (items-halt depth (opened + 1) (omega (arith, left)) halting names-left (p .items) (callBegun state) cells body (q .items) matches within h′ show-all)))
 
-    call-step : Goal (runCall (suc d) J n xs s cells)
+    call-step : Goal (runCall (suc depth) J nonterminal xs state cells)
     unfolding ready
-    call-step = go (ltb (s .calls) mostCalls) refl (choice-picks g n l (rest s))
+    call-step = go (ltb (state .calls) mostCalls) refl (choice-picks g nonterminal below (rest state))
       where
-        go : (c : Bool) → ltb (s .calls) mostCalls ≡ c → Picks g n (rest s) (choice (ready g) n (kindOf (rest s))) → Goal (runCall (suc d) J n xs s cells)
+        go : (test : Bool) → ltb (state .calls) mostCalls ≡ test → Picks g nonterminal (rest state) (choice (ready g) nonterminal (kindOf (rest state)))
+            → Goal (runCall (suc depth) J nonterminal xs state cells)
         go false e q =
-            subst⁻¹ Goal (call-full d J n xs s cells e)
-            (at-start (fails-here s b (too-many-calls deeper (ltb-false (s .calls) mostCalls e))))
+            subst⁻¹ Goal (call-full depth J nonterminal xs state cells e)
+            (at-start (fails-here state within (too-many-calls deeper (ltb-false (state .calls) mostCalls e))))
         go true e (picks p t f) =
-            subst⁻¹ Goal (call-chosen d J n xs s cells (rule g p) e (ap (choice (ready g) n) (kind-next (s .at) tokens) ∙ f))
-            (production-halts p t (ltb-true (s .calls) mostCalls e))
+            subst⁻¹ Goal (call-chosen depth J nonterminal xs state cells (rule g p) e (ap (choice (ready g) nonterminal) (kind-next (state .at) tokens) ∙ f))
+            (production-halts p t (ltb-true (state .calls) mostCalls e))
         go true e (picks-none f c) =
-            subst⁻¹ Goal (call-unfit d J n xs s cells e (ap (choice (ready g) n) (kind-next (s .at) tokens) ∙ c))
-            (at-start (fails-here s b (no-choice deeper (ltb-true (s .calls) mostCalls e) f (opens-exactly g n))))
+            subst⁻¹ Goal (call-unfit depth J nonterminal xs state cells e (ap (choice (ready g) nonterminal) (kind-next (state .at) tokens) ∙ c))
+            (at-start (fails-here state within (no-choice deeper (ltb-true (state .calls) mostCalls e) f (opens-exactly g nonterminal))))
 
-  call-halts : (d : ℕ) → Halting d
+  call-halts : (depth : ℕ) → Halting depth
   unfolding runCall
   call-halts zero o k n S vs xs s cells e w l m b h a =
       at-start {o = o} (fails-here s b (too-deep (omega (arith, e))))
-  call-halts (suc d) o k n S vs xs s cells e w l m b h a = call-step d o e (call-halts d) k n S vs xs s cells w l m b h a
+  call-halts (suc depth) o k n S vs xs s cells e w l m b h a = call-step depth o e (call-halts depth) k n S vs xs s cells w l m b h a
 
   -- ------------------------------------------------------------------ the whole formula
 
   -- the call of the root is the one item of the whole
-  root-stops : {r : Refusal} → EntersAt 0 (X .root) [] initialState r → Refuses g spell rows tokens (X .root) r
+  root-stops : {cause : Refusal} → EntersAt 0 (setting .root) [] initialState cause → Refuses g spell rows tokens (setting .root) cause
   unfolding rowsOfAll
   root-stops e = stops (at-call {m = 0} {ts = none} give-none (omega arith) e)
 
-  leftover : (cells : List ℕ) (x : ℕ) (s : State) (cells′ : List ℕ) {t : Token} {ts : List Token} → rows * columns ≤ length cells
-      → runCall mostOpen J (X .root) [] initialState cells ≡ done x s cells′ → Root X cells x s cells′ → s .at ≤ length tokens → rest s ≡ t ∷ ts
-      → Refuses g spell rows tokens (X .root) (refusal 18 (s .at) 0 0)
-  leftover cells x s cells′ {t} {ts} room q y b e =
-      let D : Derives g spell [] tokens 1 (call (X .root) none ∷ []) (y .value ∷ []) (t ∷ ts) (s .fresh) =
-      rw (← e) (root-derived X y) in
-      let z = rw q at (root-along X D cells room) in
-      rw (← (index-is X s e b)) (left-over D
+  leftover : (cells : List ℕ) (row : ℕ) (state : State) (cells′ : List ℕ) {token : Token} {ts : List Token} → rows * columns ≤ length cells
+      → runCall mostOpen J (setting .root) [] initialState cells ≡ done row state cells′ → Root setting cells row state cells′ → state .at ≤ length tokens
+      → rest state ≡ token ∷ ts → Refuses g spell rows tokens (setting .root) (refusal 18 (state .at) 0 0)
+  leftover cells row state cells′ {token} {ts} room q y b e =
+      let D : Derives g spell [] tokens 1 (call (setting .root) none ∷ []) (y .value ∷ []) (token ∷ ts) (state .fresh) =
+      rw (← e) (root-derived setting y) in
+      let z = rw q at (root-along setting D cells room) in
+      rw (← (index-is setting state e b)) (left-over D
       (record {
         few-open = omega (arith, z .0 .deep);
         few-calls = omega (arith, z .0 .calls-are, z .0 .kept .begun);
@@ -270,24 +280,27 @@ module _ {g : List Production} (X : Setting g) where
       }))
 
   -- a run that stops is refused by the rules
-  pub run-halts : (cells : List ℕ) → rows * columns ≤ length cells → Ends Fine (Refuses g spell rows tokens (X .root)) (run J (X .root) cells)
+  pub run-halts : (cells : List ℕ) → rows * columns ≤ length cells → Ends Fine (Refuses g spell rows tokens (setting .root)) (run J (setting .root) cells)
   unfolding run
   run-halts cells room =
-      after-by Fine (Refuses g spell rows tokens (X .root)) (runCall mostOpen J (X .root) [] initialState cells) (ended J)
+      after-by Fine (Refuses g spell rows tokens (setting .root)) (runCall mostOpen J (setting .root) [] initialState cells) (ended J)
       (λ v s c₁ q.
-      over v s c₁ q (rw q at (root-called X cells room))
-      (rw q at (call-bounded X mostOpen (X .root) [] initialState cells (X .root-small) (omega arith))))
+      over v s c₁ q (rw q at (root-called setting cells room))
+      (rw q at (call-bounded setting mostOpen (setting .root) [] initialState cells (setting .root-small) (omega arith))))
       (λ r c₁ q.
       root-stops
-      (rw q at (call-halts mostOpen 0 0 (X .root) (X .signature) [] [] initialState cells refl (X .defined) (X .root-small) (no-arguments X) (omega arith)
+      (rw q at
+      (call-halts mostOpen 0 0 (setting .root) (setting .signature) [] [] initialState cells refl (setting .defined) (setting .root-small)
+      (no-arguments setting) (omega arith)
       (record { room = room; fits = omega arith; names = omega arith; begun = omega arith }) show-none)))
     where
-      over : (v : ℕ) (s : State) (c₁ : List ℕ) → runCall mostOpen J (X .root) [] initialState cells ≡ done v s c₁ → Root X cells v s c₁ → s .at ≤ length tokens
-          → Ends Fine (Refuses g spell rows tokens (X .root)) (ended J v s c₁)
-      over v s c₁ q y b = go (ltb (s .at) (length tokens)) refl
+      over : (row : ℕ) (state : State) (cells-after₁ : List ℕ) → runCall mostOpen J (setting .root) [] initialState cells ≡ done row state cells-after₁
+          → Root setting cells row state cells-after₁ → state .at ≤ length tokens
+          → Ends Fine (Refuses g spell rows tokens (setting .root)) (ended J row state cells-after₁)
+      over row state cells-after₁ q y b = go (ltb (state .at) (length tokens)) refl
         where
-          go : (c : Bool) → ltb (s .at) (length tokens) ≡ c
-              → Ends {A = ℕ} Fine (Refuses g spell rows tokens (X .root))
-              (elim c as (λ x. Result ℕ) [ true ↦ halt (refusal 18 (s .at) 0 0) c₁ | false ↦ done v s c₁ ])
-          go true e = leftover cells v s c₁ room q y b (token-here tokens (s .at) (ltb-true (s .at) (length tokens) e))
+          go : (test : Bool) → ltb (state .at) (length tokens) ≡ test
+              → Ends {A = ℕ} Fine (Refuses g spell rows tokens (setting .root))
+              (elim test as (λ x. Result ℕ) [ true ↦ halt (refusal 18 (state .at) 0 0) cells-after₁ | false ↦ done row state cells-after₁ ])
+          go true e = leftover cells row state cells-after₁ room q y b (token-here tokens (state .at) (ltb-true (state .at) (length tokens) e))
           go false e = tt

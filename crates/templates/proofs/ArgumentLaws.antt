@@ -35,176 +35,178 @@ Some fault = Unit {0}
 Some (parsed none) = ⊥
 Some (parsed (more t ts)) = Unit {0}
 
-some-front : (t : Template) (p : ReadTemplates) → Some (inFront t p)
-some-front t fault = tt
-some-front t (parsed ts) = tt
+some-front : (template : Template) (read : ReadTemplates) → Some (inFront template read)
+some-front template fault = tt
+some-front template (parsed ts) = tt
 
-some-applied : (c : ℕ) (x : SplitTemplates) → Some (applied c x)
-some-applied c short = tt
-some-applied c (taken us vs) = tt
+some-applied : (code : ℕ) (split : SplitTemplates) → Some (applied code split)
+some-applied code short = tt
+some-applied code (taken us vs) = tt
 
-some-constructed : (c : ℕ) (p : ReadTemplates) → Some (constructed c p)
-some-constructed c fault = tt
-some-constructed c (parsed ts) = some-applied c (takeTemplates (arity c) ts)
+some-constructed : (code : ℕ) (read : ReadTemplates) → Some (constructed code read)
+some-constructed code fault = tt
+some-constructed code (parsed ts) = some-applied code (takeTemplates (arity code) ts)
 
-some-byte : (b : ℕ) (p : ReadTemplates) → Some (byteInFront b p)
-some-byte b p =
-    by-test (ltb b 0x10) (λ e. subst⁻¹ Some (variable-first b p e) (some-front (variable b) p))
+some-byte : (byte : ℕ) (read : ReadTemplates) → Some (byteInFront byte read)
+some-byte byte read =
+    by-test (ltb byte 0x10) (λ e. subst⁻¹ Some (variable-first byte read e) (some-front (variable byte) read))
     (λ e.
-    by-test (isConstructor b) (λ k. subst⁻¹ Some (constructor-first b p e k) (some-constructed b p))
-    (λ k. subst⁻¹ Some (unknown-first b p e k) tt))
+    by-test (isConstructor byte) (λ k. subst⁻¹ Some (constructor-first byte read e k) (some-constructed byte read))
+    (λ k. subst⁻¹ Some (unknown-first byte read e k) tt))
 
-some-name : (b : ℕ) (bs : List ℕ) → isNameTag b ≡ true → Some (templatesOf (b ∷ bs))
-some-name b [] e = subst⁻¹ Some (name-last b e) tt
-some-name b (n ∷ bs) e = subst⁻¹ Some (name-first b n bs e) (some-front _ (templatesOf bs))
+some-name : (byte : ℕ) (bs : List ℕ) → isNameTag byte ≡ true → Some (templatesOf (byte ∷ bs))
+some-name byte [] e = subst⁻¹ Some (name-last byte e) tt
+some-name byte (n ∷ bs) e = subst⁻¹ Some (name-first byte n bs e) (some-front _ (templatesOf bs))
 
-some-read : (b : ℕ) (bs : List ℕ) → Some (templatesOf (b ∷ bs))
-some-read b bs =
-    by-test (isNameTag b) (some-name b bs) (λ e. subst⁻¹ Some (byte-first b bs e) (some-byte b (templatesOf bs)))
+some-read : (byte : ℕ) (bs : List ℕ) → Some (templatesOf (byte ∷ bs))
+some-read byte bs =
+    by-test (isNameTag byte) (some-name byte bs) (λ e. subst⁻¹ Some (byte-first byte bs e) (some-byte byte (templatesOf bs)))
 
 -- the first template, where bytes are left
 abbrev pub First : List ℕ → ℕ → Templates → Type 0
 First v at ts = (a : Ahead v at) × (ts ≡ more (a .template) (a .others))
 
-first-by : (v : List ℕ) (at : ℕ) (ts : Templates) → Some (parsed ts) → templatesOf (drop at v) ≡ parsed ts → First v at ts
-first-by v at none s e = absurd s
-first-by v at (more t ts) s e = (record { template = t; others = ts; read = e }, refl)
+first-by : (bytes : List ℕ) (at : ℕ) (ts : Templates) → Some (parsed ts) → templatesOf (drop at bytes) ≡ parsed ts → First bytes at ts
+first-by bytes at none s e = absurd s
+first-by bytes at (more t ts) s e = (record { template = t; others = ts; read = e }, refl)
 
 -- the first template ahead, and those behind it
-pub first-of : (v : List ℕ) (at : ℕ) (ts : Templates) → at < length v → templatesOf (drop at v) ≡ parsed ts → First v at ts
-first-of v at ts h e =
-    first-by v at ts
-    (subst Some e (rw (drop-cons v at 0 h) (some-read (getD v at 0) (drop (suc at) v))))
+pub first-of : (bytes : List ℕ) (at : ℕ) (ts : Templates) → at < length bytes → templatesOf (drop at bytes) ≡ parsed ts → First bytes at ts
+first-of bytes at ts h e =
+    first-by bytes at ts
+    (subst Some e (rw (drop-cons bytes at 0 h) (some-read (getD bytes at 0) (drop (suc at) bytes))))
     e
 
 -- ------------------------------------------------------------------ one by one
 
--- n values are listed, and the templates ahead give with them what all give
-pub record Listing (v : List ℕ) (start : ℕ) (env : List ℕ) (k rows made : ℕ) (cells₀ out cells : List ℕ) (at n count : ℕ) : Type 0 where
+-- `given-count` values are listed, and the templates ahead give with them what all give
+pub record Listing (bytes : List ℕ) (start : ℕ) (env : List ℕ) (variables rows made : ℕ) (cells₀ out cells : List ℕ) (at given-count count : ℕ) : Type 0 where
   -- each value took a byte at least
-  pub small : n + start ≤ at
+  pub small : given-count + start ≤ at
   -- there are no more values than bytes
-  pub few : n ≤ length v
+  pub few : given-count ≤ length bytes
   -- the cells are as many as before
   pub as-long : length cells ≡ length cells₀
   -- the values listed
   pub given : List ℕ
   -- they stand in the array
-  pub holds : Holds out n given
+  pub holds : Holds out given-count given
   -- the templates left
   pub ahead : Templates
   -- they are read at the offset
-  pub read : templatesOf (drop at v) ≡ parsed ahead
+  pub read : templatesOf (drop at bytes) ≡ parsed ahead
   -- the values listed and those of the templates left are what all templates give
   pub rest :
-      (I : Input) (s : State) (M : List ℕ) → I .rows ≡ rows → Holds env k M
-      → after (buildAll ahead I M (withMade s count) cells) (λ ys. return (given ++ ys))
-      ≡ buildAll (found (templatesOf (drop start v))) I M (withMade s made) cells₀
+      (input : Input) (state : State) (values : List ℕ) → input .rows ≡ rows → Holds env variables values
+      → after (buildAll ahead input values (withMade state count) cells) (λ ys. return (given ++ ys))
+      ≡ buildAll (found (templatesOf (drop start bytes))) input values (withMade state made) cells₀
 
-whole-read : (p : ReadTemplates) → isTemplates p ≡ true → p ≡ parsed (found p)
+whole-read : (read : ReadTemplates) → isTemplates read ≡ true → read ≡ parsed (found read)
 whole-read fault e = let z : _≡_ {A = ℕ} 0 1 = cc in absurd (omega arith)
 whole-read (parsed ts) e = refl
 
-same-after : (r : Result (List ℕ)) → after r (λ ys. return ([] ++ ys)) ≡ r
+same-after : (result : Result (List ℕ)) → after result (λ ys. return ([] ++ ys)) ≡ result
 same-after (done vs s cs) = refl
-same-after (halt r cs) = refl
+same-after (halt result cs) = refl
 
 -- no template is built at the start
-pub listing-start : (v : List ℕ) (start : ℕ) (env : List ℕ) (k rows made : ℕ) (cells out : List ℕ) → length out ≡ 16
-    → isTemplates (templatesOf (drop start v)) ≡ true
-    → Listing v start env k rows made cells out cells start 0 made
-listing-start v start env k rows made cells out l w =
+pub listing-start : (bytes : List ℕ) (start : ℕ) (env : List ℕ) (variables rows made : ℕ) (cells out : List ℕ) → length out ≡ 16
+    → isTemplates (templatesOf (drop start bytes)) ≡ true
+    → Listing bytes start env variables rows made cells out cells start 0 made
+listing-start bytes start env variables rows made cells out l w =
     record {
       small = omega arith;
       few = omega arith;
       as-long = refl;
       given = [];
       holds = record { long = l; count = refl; same = λ i a b. absurd (omega arith) };
-      ahead = found (templatesOf (drop start v));
-      read = whole-read (templatesOf (drop start v)) w;
-      rest = λ I s M e g. same-after (buildAll (found (templatesOf (drop start v))) I M (withMade s made) cells);
+      ahead = found (templatesOf (drop start bytes));
+      read = whole-read (templatesOf (drop start bytes)) w;
+      rest = λ I s M e g. same-after (buildAll (found (templatesOf (drop start bytes))) I M (withMade s made) cells);
     }
 
-module _ {v : List ℕ} {start : ℕ} {env : List ℕ} {k rows made : ℕ} {cells₀ out cells : List ℕ} {at n count : ℕ}
-    (c : Listing v start env k rows made cells₀ out cells at n count) where
-  module _ (less : at < length v) where
+module _ {bytes : List ℕ} {start : ℕ} {env : List ℕ} {variables rows made : ℕ} {cells₀ out cells : List ℕ} {at given-count count : ℕ}
+    (listing : Listing bytes start env variables rows made cells₀ out cells at given-count count) where
+  module _ (less : at < length bytes) where
     -- a template stands ahead
-    pub listing-first : First v at (c .ahead)
-    listing-first = first-of v at (c .ahead) less (c .read)
+    pub listing-first : First bytes at (listing .ahead)
+    listing-first = first-of bytes at (listing .ahead) less (listing .read)
 
-    listing-one : (R : Result ℕ) (I : Input) (s : State) (M : List ℕ) → I .rows ≡ rows → Holds env k M
-        → R ≡ build (templateAt v at) I M (withMade s count) cells
-        → after (after R (λ x. buildAll (listing-first .0 .others) I M >>= λ ys. return (x ∷ ys))) (λ ys. return (c .given ++ ys))
-        ≡ buildAll (found (templatesOf (drop start v))) I M (withMade s made) cells₀
-    listing-one R I s M e g h =
+    listing-one : (result : Result ℕ) (input : Input) (state : State) (values : List ℕ) → input .rows ≡ rows → Holds env variables values
+        → result ≡ build (templateAt bytes at) input values (withMade state count) cells
+        → after (after result (λ x. buildAll (listing-first .0 .others) input values >>= λ ys. return (x ∷ ys))) (λ ys. return (listing .given ++ ys))
+        ≡ buildAll (found (templatesOf (drop start bytes))) input values (withMade state made) cells₀
+    listing-one result input state values e g h =
         cc (
-          first-built (λ ys. return ys) (c .given) I M (listing-first .0 .template) (listing-first .0 .others) R (withMade s count) cells
-              (cc (template-is v at (listing-first .0))),
+          first-built (λ ys. return ys) (listing .given) input values (listing-first .0 .template) (listing-first .0 .others) result
+              (withMade state count) cells
+              (cc (template-is bytes at (listing-first .0))),
           listing-first .1,
-          c .rest I s M e g,
+          listing .rest input state values e g,
         )
 
     -- what `build` ensures of one template
-    module _ (cells′ : List ℕ) (r : Built)
-        (f : (I : Input) (s : State) (M : List ℕ) → I .rows ≡ rows → Holds env k M
-        → built s r cells′ ≡ build (templateAt v at) I M (withMade s count) cells) where
+    module _ (cells′ : List ℕ) (given-built : Built)
+        (builds : (input : Input) (state : State) (values : List ℕ) → input .rows ≡ rows → Holds env variables values
+        → built state given-built cells′ ≡ build (templateAt bytes at) input values (withMade state count) cells) where
       -- no row is left: refusal 21
-      pub listing-full : r ≡ Full → (I : Input) (s : State) (M : List ℕ) → I .rows ≡ rows → Holds env k M
-          → buildAll (found (templatesOf (drop start v))) I M (withMade s made) cells₀ ≡ noRow s cells′
-      listing-full er I s M e g =
-          sym (listing-one (noRow s cells′) I s M e g (cc (f I s M e g)))
+      pub listing-full : given-built ≡ Full → (input : Input) (state : State) (values : List ℕ) → input .rows ≡ rows → Holds env variables values
+          → buildAll (found (templatesOf (drop start bytes))) input values (withMade state made) cells₀ ≡ noRow state cells′
+      listing-full er input state values e g =
+          sym (listing-one (noRow state cells′) input state values e g (cc (builds input state values e g)))
 
       -- a template takes a byte at least
-      pub listing-less : {x after′ made′ : ℕ} → r ≡ Made x after′ made′ → Behind v at r → length v - after′ < length v - at
-      listing-less {x} {after′} {made′} er bh =
-          let q : Behind v at (Made x after′ made′) = subst (Behind v at) er bh in
+      pub listing-less : {row after′ made′ : ℕ} → given-built ≡ Made row after′ made′ → Behind bytes at given-built → length bytes - after′ < length bytes - at
+      listing-less {row} {after′} {made′} er bh =
+          let q : Behind bytes at (Made row after′ made′) = subst (Behind bytes at) er bh in
           omega (arith, q .0, q .1)
 
       -- one template more is built
-      pub listing-next : {x after′ made′ : ℕ} → length cells′ ≡ length cells → r ≡ Made x after′ made′ → Behind v at r
+      pub listing-next : {row after′ made′ : ℕ} → length cells′ ≡ length cells → given-built ≡ Made row after′ made′ → Behind bytes at given-built
           → (out′ : List ℕ)
-          → ((M : List ℕ) → Holds out n M → Holds out′ (n + 1) (M ++ (x ∷ [])))
-          → Listing v start env k rows made cells₀ out′ cells′ after′ (n + 1) made′
-      listing-next {x} {after′} {made′} el er bh out′ put =
-          let q : Behind v at (Made x after′ made′) = subst (Behind v at) er bh in
+          → ((values : List ℕ) → Holds out given-count values → Holds out′ (given-count + 1) (values ++ (row ∷ [])))
+          → Listing bytes start env variables rows made cells₀ out′ cells′ after′ (given-count + 1) made′
+      listing-next {row} {after′} {made′} el er bh out′ put =
+          let q : Behind bytes at (Made row after′ made′) = subst (Behind bytes at) er bh in
           record {
-            small = omega (arith, c .small, q .0);
-            few = omega (arith, c .small);
-            as-long = el ∙ c .as-long;
-            given = c .given ++ (x ∷ []);
-            holds = put (c .given) (c .holds);
+            small = omega (arith, listing .small, q .0);
+            few = omega (arith, listing .small);
+            as-long = el ∙ listing .as-long;
+            given = listing .given ++ (row ∷ []);
+            holds = put (listing .given) (listing .holds);
             ahead = listing-first .0 .others;
-            read = q .2 ∙ ap parsed (others-are v at (listing-first .0));
+            read = q .2 ∙ ap parsed (others-are bytes at (listing-first .0));
             rest =
                 λ I s M e g.
-                regroup (λ ys. return ys) (c .given) x (buildAll (listing-first .0 .others) I M (withMade s made′) cells′)
-                ∙ listing-one (done x (withMade s made′) cells′) I s M e g
-                (cc (f I s M e g));
+                regroup (λ ys. return ys) (listing .given) row (buildAll (listing-first .0 .others) I M (withMade s made′) cells′)
+                ∙ listing-one (done row (withMade s made′) cells′) I s M e g
+                (cc (builds I s M e g));
           }
 
     -- what `head_at` ensures of a template that makes no cell
-    module _ (h : Head) {x next : ℕ} (e : h ≡ Leaf x next) (leads : (M : List ℕ) → Holds env k M → HeadValue v at M h) (heads : Heads v at h) where
-      leaf : Evaluates v at env k rows count cells (Made x next count) cells × Behind v at (Made x next count)
-      leaf = leaf-built v at h e leads heads rows count cells
+    module _ (head : Head) {row next : ℕ} (equal : head ≡ Leaf row next)
+        (leads : (values : List ℕ) → Holds env variables values → HeadValue bytes at values head) (heads : Heads bytes at head) where
+      leaf : Evaluates bytes at env variables rows count cells (Made row next count) cells × Behind bytes at (Made row next count)
+      leaf = leaf-built bytes at head equal leads heads rows count cells
 
       -- it takes a byte at least
-      pub leaf-less : length v - next < length v - at
-      leaf-less = listing-less cells (Made x next count) (leaf .0) refl (leaf .1)
+      pub leaf-less : length bytes - next < length bytes - at
+      leaf-less = listing-less cells (Made row next count) (leaf .0) refl (leaf .1)
 
       -- its value is one more
-      pub leaf-next : (out′ : List ℕ) → ((M : List ℕ) → Holds out n M → Holds out′ (n + 1) (M ++ (x ∷ [])))
-          → Listing v start env k rows made cells₀ out′ cells next (n + 1) count
-      leaf-next = listing-next cells (Made x next count) (leaf .0) refl refl (leaf .1)
+      pub leaf-next : (out′ : List ℕ) → ((values : List ℕ) → Holds out given-count values → Holds out′ (given-count + 1) (values ++ (row ∷ [])))
+          → Listing bytes start env variables rows made cells₀ out′ cells next (given-count + 1) count
+      leaf-next = listing-next cells (Made row next count) (leaf .0) refl refl (leaf .1)
 
   -- all templates are built
-  pub listing-end : length v ≤ at → (I : Input) (s : State) (M : List ℕ) → I .rows ≡ rows → Holds env k M
-      → Lists s (Listed n count) out cells (buildAll (found (templatesOf (drop start v))) I M (withMade s made) cells₀)
+  pub listing-end : length bytes ≤ at → (input : Input) (state : State) (values : List ℕ) → input .rows ≡ rows → Holds env variables values
+      → Lists state (Listed given-count count) out cells (buildAll (found (templatesOf (drop start bytes))) input values (withMade state made) cells₀)
   unfolding buildAll templatesOf
-  listing-end h I s M e g =
-      let d : drop at v ≡ [] = drop-of-length-le v {i = at} h in
-      let f : parsed none ≡ parsed (c .ahead) = sym (ap templatesOf d) ∙ c .read in
-      let a : none ≡ c .ahead = cc in (
-        c .given,
-        cc (c .rest I s M e g, append-nil (c .given)),
-        c .holds,
+  listing-end h input state values e g =
+      let d : drop at bytes ≡ [] = drop-of-length-le bytes {i = at} h in
+      let f : parsed none ≡ parsed (listing .ahead) = sym (ap templatesOf d) ∙ listing .read in
+      let a : none ≡ listing .ahead = cc in (
+        listing .given,
+        cc (listing .rest input state values e g, append-nil (listing .given)),
+        listing .holds,
       )

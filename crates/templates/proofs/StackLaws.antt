@@ -53,35 +53,38 @@ resume I M (p ∷ ps) r =
     (after (after r (λ x. buildAll (p .left) I M >>= λ ys. return (x ∷ ys))) (λ ys. cell I (p .code) (p .given ++ ys)))
 
 -- a refusal stays a refusal
-pub resume-halt : (I : Input) (M : List ℕ) (ps : List Pending) (r : Refusal) (cells : List ℕ) → resume I M ps (halt r cells) ≡ halt r cells
+pub resume-halt : (input : Input) (values : List ℕ) (ps : List Pending) (refusal : Refusal) (cells : List ℕ)
+    → resume input values ps (halt refusal cells) ≡ halt refusal cells
 unfolding resume
-resume-halt I M [] r cells = refl
-resume-halt I M (p ∷ ps) r cells = resume-halt I M ps r cells
+resume-halt input values [] refusal cells = refl
+resume-halt input values (p ∷ ps) refusal cells = resume-halt input values ps refusal cells
 
-module _ (I : Input) (M : List ℕ) (p : Pending) (s : State) (cells : List ℕ) where
+module _ (input : Input) (values : List ℕ) (pending : Pending) (state : State) (cells : List ℕ) where
   -- a value is the next argument
-  pub takes-value : (ps : List Pending) (x : ℕ) → resume I M (p ∷ ps) (done x s cells) ≡ resume I M ps (going I M (fed p x (p .left)) s cells)
+  pub takes-value : (ps : List Pending) (row : ℕ)
+      → resume input values (pending ∷ ps) (done row state cells) ≡ resume input values ps (going input values (fed pending row (pending .left)) state cells)
   unfolding resume
-  takes-value ps x = ap (resume I M ps) (sym (regroup (cell I (p .code)) (p .given) x (buildAll (p .left) I M s cells)))
+  takes-value ps row =
+      ap (resume input values ps) (sym (regroup (cell input (pending .code)) (pending .given) row (buildAll (pending .left) input values state cells)))
 
   -- the next template is evaluated, and the constructor waits for its value
-  pub waits-for : (ps : List Pending) {t : Template} {ts : Templates} → p .left ≡ more t ts
-      → resume I M ps (going I M p s cells) ≡ resume I M (waits p ts ∷ ps) (build t I M s cells)
+  pub waits-for : (ps : List Pending) {template : Template} {ts : Templates} → pending .left ≡ more template ts
+      → resume input values ps (going input values pending state cells) ≡ resume input values (waits pending ts ∷ ps) (build template input values state cells)
   unfolding resume
-  waits-for ps {t} {ts} e =
-      cc (first-built (cell I (p .code)) (p .given) I M t ts (build t I M s cells) s cells refl)
+  waits-for ps {template} {ts} e =
+      cc (first-built (cell input (pending .code)) (pending .given) input values template ts (build template input values state cells) state cells refl)
 
   -- no template is left
-  pub makes-cell : p .left ≡ none → going I M p s cells ≡ cell I (p .code) (p .given) s cells
+  pub makes-cell : pending .left ≡ none → going input values pending state cells ≡ cell input (pending .code) (pending .given) state cells
   unfolding buildAll
   makes-cell e =
-      cc (append-nil (p .given))
+      cc (append-nil (pending .given))
 
 -- building a constructor begins with no argument
-pub going-make : (I : Input) (M : List ℕ) (b : ℕ) (own : Templates) (s : State) (cells : List ℕ)
-    → build (make b own) I M s cells ≡ going I M (opened b own) s cells
+pub going-make : (input : Input) (values : List ℕ) (code : ℕ) (own : Templates) (state : State) (cells : List ℕ)
+    → build (make code own) input values state cells ≡ going input values (opened code own) state cells
 unfolding build
-going-make I M b own s cells = refl
+going-make input values code own state cells = refl
 
 -- ------------------------------------------------------------------ the templates left to them
 
@@ -99,21 +102,22 @@ abbrev Took : ℕ → Templates → SplitTemplates → Type 0
 Took k ts short = Unit {0}
 Took k ts (taken us vs) = (count us ≡ k) × (ts ≡ join us vs)
 
-also-took : (k : ℕ) (t : Template) (ts : Templates) (r : SplitTemplates) → Took k ts r → Took (suc k) (more t ts) (alsoTaken t r)
+also-took : (many : ℕ) (template : Template) (ts : Templates) (split : SplitTemplates) → Took many ts split
+    → Took (suc many) (more template ts) (alsoTaken template split)
 unfolding count join
-also-took k t ts short h = tt
-also-took k t ts (taken us vs) h = (ap suc (h .0), ap (more t) (h .1))
+also-took many template ts short h = tt
+also-took many template ts (taken us vs) h = (ap suc (h .0), ap (more template) (h .1))
 
--- the first k of some templates, and the others, are these templates
-pub took : (k : ℕ) (ts : Templates) → Took k ts (takeTemplates k ts)
+-- the first `many` of some templates, and the others, are these templates
+pub took : (many : ℕ) (ts : Templates) → Took many ts (takeTemplates many ts)
 unfolding takeTemplates count join
 took zero ts = (refl, refl)
-took (suc k) none = tt
-took (suc k) (more t ts) = also-took k t ts (takeTemplates k ts) (took k ts)
+took (suc many) none = tt
+took (suc many) (more t ts) = also-took many t ts (takeTemplates many ts) (took many ts)
 
 -- templates taken, and those behind them
-pub took-are : {k : ℕ} {ts us vs : Templates} → takeTemplates k ts ≡ taken us vs → (count us ≡ k) × (ts ≡ join us vs)
-took-are {k} {ts} e = subst (Took k ts) e (took k ts)
+pub took-are : {many : ℕ} {ts us vs : Templates} → takeTemplates many ts ≡ taken us vs → (count us ≡ many) × (ts ≡ join us vs)
+took-are {many} {ts} e = subst (Took many ts) e (took many ts)
 
 -- ------------------------------------------------------------------ how they stand in the stack
 
@@ -135,118 +139,118 @@ place-none [] e = refl
 place-none (p ∷ ps) e = absurd (omega arith)
 
 -- how long the stack is
-pub image-length : (p : Pending) (ps : List Pending) → length (image (p ∷ ps)) ≡ place (p ∷ ps) + length (p .given)
+pub image-length : (pending : Pending) (ps : List Pending) → length (image (pending ∷ ps)) ≡ place (pending ∷ ps) + length (pending .given)
 unfolding image place
-image-length p ps = length-append (image ps) ((p .code + 256 * place ps) ∷ p .given) ∙ omega arith
+image-length pending ps = length-append (image ps) ((pending .code + 256 * place ps) ∷ pending .given) ∙ omega arith
 
-image-fed : (p : Pending) (ps : List Pending) (x : ℕ) (ts : Templates) → image (p ∷ ps) ++ (x ∷ []) ≡ image (fed p x ts ∷ ps)
+image-fed : (pending : Pending) (ps : List Pending) (row : ℕ) (ts : Templates) → image (pending ∷ ps) ++ (row ∷ []) ≡ image (fed pending row ts ∷ ps)
 unfolding image
-image-fed p ps x ts = append-assoc (image ps) ((p .code + 256 * place ps) ∷ p .given) (x ∷ [])
+image-fed pending ps row ts = append-assoc (image ps) ((pending .code + 256 * place ps) ∷ pending .given) (row ∷ [])
 
-image-opened : (p : Pending) (ps : List Pending) (b : ℕ) (us ts : Templates)
-    → image (p ∷ ps) ++ ((b + 256 * place (p ∷ ps)) ∷ []) ≡ image (opened b ts ∷ waits p us ∷ ps)
+image-opened : (pending : Pending) (ps : List Pending) (code : ℕ) (us ts : Templates)
+    → image (pending ∷ ps) ++ ((code + 256 * place (pending ∷ ps)) ∷ []) ≡ image (opened code ts ∷ waits pending us ∷ ps)
 unfolding image place
-image-opened p ps b us ts = refl
+image-opened pending ps code us ts = refl
 
 -- the numbers up to `top` stand for the open constructors
-pub record Stands (stack : List ℕ) (pos top : ℕ) (p : Pending) (ps : List Pending) : Type 0 where
+pub record Stands (stack : List ℕ) (pos top : ℕ) (pending : Pending) (ps : List Pending) : Type 0 where
   -- the stack is that high
   pub fits : top ≤ length stack
   -- it holds the numbers of the open constructors
-  pub held : take top stack ≡ image (p ∷ ps)
+  pub held : take top stack ≡ image (pending ∷ ps)
   -- the innermost one's arguments begin at this place
-  pub pos-is : pos ≡ place (p ∷ ps)
+  pub pos-is : pos ≡ place (pending ∷ ps)
 
-module _ {stack : List ℕ} {pos top : ℕ} {p : Pending} {ps : List Pending} (h : Stands stack pos top p ps) where
+module _ {stack : List ℕ} {pos top : ℕ} {pending : Pending} {ps : List Pending} (stands : Stands stack pos top pending ps) where
   -- the top is behind the arguments given
-  pub stands-top : top ≡ pos + length (p .given)
+  pub stands-top : top ≡ pos + length (pending .given)
   stands-top =
-      cc (length-take-le top stack (h .fits), h .held, image-length p ps, h .pos-is)
+      cc (length-take-le top stack (stands .fits), stands .held, image-length pending ps, stands .pos-is)
 
   -- the first pos - 1 numbers are those around it
   place-is : pos ≡ length (image ps) + 1
   unfolding place
-  place-is = h .pos-is
+  place-is = stands .pos-is
 
   stands-around : take (pos - 1) stack ≡ image ps
   unfolding image
   stands-around =
       let e : length (image ps) ≡ pos - 1 = omega (arith, place-is) in
       sym (take-take (pos - 1) top stack (omega (arith, stands-top)))
-      ∙ ap (take (pos - 1)) (h .held)
-      ∙ take-at (image ps) ((p .code + 256 * place ps) ∷ p .given) (pos - 1) e
+      ∙ ap (take (pos - 1)) (stands .held)
+      ∙ take-at (image ps) ((pending .code + 256 * place ps) ∷ pending .given) (pos - 1) e
 
   -- the number in front of them
-  pub stands-number : getD stack (pos - 1) 0 ≡ p .code + 256 * place ps
+  pub stands-number : getD stack (pos - 1) 0 ≡ pending .code + 256 * place ps
   unfolding image
   stands-number =
       let e : length (image ps) ≡ pos - 1 = omega (arith, place-is) in
       cc (
         getD-take top stack (pos - 1) 0 (omega (arith, stands-top, place-is)),
-        h .held,
-        getD-at (image ps) (p .code + 256 * place ps) (p .given) 0 (pos - 1) e,
+        stands .held,
+        getD-at (image ps) (pending .code + 256 * place ps) (pending .given) 0 (pos - 1) e,
       )
 
   -- the arguments given
-  pub stands-given : take (top - pos) (drop pos stack) ≡ p .given
+  pub stands-given : take (top - pos) (drop pos stack) ≡ pending .given
   unfolding image
   stands-given =
-      let e : length (image ps ++ (p .code + 256 * place ps) ∷ []) ≡ pos =
-      length-append (image ps) ((p .code + 256 * place ps) ∷ []) ∙ sym place-is in
+      let e : length (image ps ++ (pending .code + 256 * place ps) ∷ []) ≡ pos =
+      length-append (image ps) ((pending .code + 256 * place ps) ∷ []) ∙ sym place-is in
       let z : pos + (top - pos) ≡ top = omega (arith, stands-top) in
-      let l : length (take pos stack) ≡ pos = length-take-le pos stack (omega (arith, stands-top, h .fits)) in
+      let l : length (take pos stack) ≡ pos = length-take-le pos stack (omega (arith, stands-top, stands .fits)) in
       cc (
         drop-at (take pos stack) (take (top - pos) (drop pos stack)) pos l,
         take-add pos (top - pos) stack,
-        h .held,
-        append-assoc (image ps) ((p .code + 256 * place ps) ∷ []) (p .given),
-        drop-at (image ps ++ (p .code + 256 * place ps) ∷ []) (p .given) pos e,
+        stands .held,
+        append-assoc (image ps) ((pending .code + 256 * place ps) ∷ []) (pending .given),
+        drop-at (image ps ++ (pending .code + 256 * place ps) ∷ []) (pending .given) pos e,
       )
 
   -- one number more
   module _ (less : top < length stack) where
-    one-more : (x : ℕ) → take (top + 1) (set stack top x) ≡ image (p ∷ ps) ++ (x ∷ [])
-    one-more x =
-        cc (add-one top, take-suc-set stack top x less, h .held)
+    one-more : (row : ℕ) → take (top + 1) (set stack top row) ≡ image (pending ∷ ps) ++ (row ∷ [])
+    one-more row =
+        cc (add-one top, take-suc-set stack top row less, stands .held)
 
     -- one argument more
-    pub stands-fed : (x : ℕ) (ts : Templates) → Stands (set stack top x) pos (top + 1) (fed p x ts) ps
+    pub stands-fed : (row : ℕ) (ts : Templates) → Stands (set stack top row) pos (top + 1) (fed pending row ts) ps
     unfolding place
-    stands-fed x ts =
+    stands-fed row ts =
         record {
-          fits = omega (arith, length-set stack top x);
-          held = one-more x ∙ image-fed p ps x ts;
-          pos-is = h .pos-is;
+          fits = omega (arith, length-set stack top row);
+          held = one-more row ∙ image-fed pending ps row ts;
+          pos-is = stands .pos-is;
         }
 
     -- one constructor more
-    pub stands-opened : {w b : ℕ} → w ≡ b + 256 * pos → (us ts : Templates)
-        → Stands (set stack top w) (top + 1) (top + 1) (opened b ts) (waits p us ∷ ps)
+    pub stands-opened : {packed-head code : ℕ} → packed-head ≡ code + 256 * pos → (us ts : Templates)
+        → Stands (set stack top packed-head) (top + 1) (top + 1) (opened code ts) (waits pending us ∷ ps)
     unfolding place image
-    stands-opened {w} {b} e us ts =
+    stands-opened {packed-head} {code} e us ts =
         record {
-          fits = omega (arith, length-set stack top w);
+          fits = omega (arith, length-set stack top packed-head);
           held =
-              cc (one-more w, h .pos-is, image-opened p ps b us ts);
-          pos-is = cc (length-take-le top stack (h .fits), h .held);
+              cc (one-more packed-head, stands .pos-is, image-opened pending ps code us ts);
+          pos-is = cc (length-take-le top stack (stands .fits), stands .held);
         }
 
 -- the innermost one is closed, and its value is an argument of the one around it
-pub stands-closed : {stack : List ℕ} {pos top : ℕ} {p q : Pending} {qs : List Pending} → Stands stack pos top p (q ∷ qs) → (x : ℕ)
-    → Stands (set stack (pos - 1) x) (place (q ∷ qs)) pos (fed q x (q .left)) qs
-stands-closed {stack} {pos} {top} {p} {q} {qs} h x =
-    let around : Stands stack (place (q ∷ qs)) (pos - 1) q qs
+pub stands-closed : {stack : List ℕ} {pos top : ℕ} {pending other : Pending} {qs : List Pending} → Stands stack pos top pending (other ∷ qs) → (row : ℕ)
+    → Stands (set stack (pos - 1) row) (place (other ∷ qs)) pos (fed other row (other .left)) qs
+stands-closed {stack} {pos} {top} {pending} {other} {qs} h row =
+    let around : Stands stack (place (other ∷ qs)) (pos - 1) other qs
     = record { fits = omega (arith, stands-top h, h .fits); held = stands-around h; pos-is = refl } in
     let z : pos - 1 + 1 ≡ pos = omega (arith, place-is h) in
-    rw z at (stands-fed around (omega (arith, stands-top h, place-is h, h .fits)) x (q .left))
+    rw z at (stands-fed around (omega (arith, stands-top h, place-is h, h .fits)) row (other .left))
 
 -- the first constructor
-pub stands-start : (stack : List ℕ) → 0 < length stack → {w b : ℕ} → w ≡ b + 256 * 0 → (ts : Templates)
-    → Stands (set stack 0 w) 1 1 (opened b ts) []
+pub stands-start : (stack : List ℕ) → 0 < length stack → {packed-head code : ℕ} → packed-head ≡ code + 256 * 0 → (ts : Templates)
+    → Stands (set stack 0 packed-head) 1 1 (opened code ts) []
 unfolding image place
-stands-start stack h {w} {b} e ts =
+stands-start stack h {packed-head} {code} e ts =
     record {
-      fits = omega (arith, length-set stack 0 w);
-      held = cc (take-suc-set stack 0 w h);
+      fits = omega (arith, length-set stack 0 packed-head);
+      held = cc (take-suc-set stack 0 packed-head h);
       pos-is = refl;
     }

@@ -20,84 +20,84 @@ use Rattle.templates.specs.Built.{RoomsFit, Holds}
 
 -- ------------------------------------------------------------------ variables
 
-module _ (env M : List ℕ) (k : ℕ) (h : Holds env k M) where
+module _ (env values : List ℕ) (count : ℕ) (holds : Holds env count values) where
   -- a variable that is bound has its value
-  pub picked : (i : ℕ) → i < 16 → i < k → getD env i 0 ≡ getD M i 0
-  picked i small less = h .same i small less
+  pub picked : (index : ℕ) → index < 16 → index < count → getD env index 0 ≡ getD values index 0
+  picked index small less = holds .same index small less
 
   -- one that is not counts as 0
-  pub not-picked : (i : ℕ) → k ≤ i → 0 ≡ getD M i 0
-  not-picked i l = sym (getD-past M i 0 (omega (arith, h .count)))
+  pub not-picked : (index : ℕ) → count ≤ index → 0 ≡ getD values index 0
+  not-picked index l = sym (getD-past values index 0 (omega (arith, holds .count)))
 
   -- one more
-  longer : (v : ℕ) → length (M ++ (v ∷ [])) ≡ k + 1
-  longer v = length-append M (v ∷ []) ∙ omega (arith, h .count)
+  longer : (value : ℕ) → length (values ++ (value ∷ [])) ≡ count + 1
+  longer value = length-append values (value ∷ []) ∙ omega (arith, holds .count)
 
-  older : (v i : ℕ) → i < k → getD (M ++ (v ∷ [])) i 0 ≡ getD M i 0
-  older v i l = List·getD-append M (v ∷ []) 0 i (omega (arith, h .count))
+  older : (value index : ℕ) → index < count → getD (values ++ (value ∷ [])) index 0 ≡ getD values index 0
+  older value index l = List·getD-append values (value ∷ []) 0 index (omega (arith, holds .count))
 
   -- from the seventeenth on, no value is kept
-  pub put-outside : (v : ℕ) → 16 ≤ k → Holds env (k + 1) (M ++ (v ∷ []))
-  put-outside v l =
+  pub put-outside : (value : ℕ) → 16 ≤ count → Holds env (count + 1) (values ++ (value ∷ []))
+  put-outside value l =
       record {
-        long = h .long;
-        count = longer v;
-        same = λ i small less. h .same i small (omega arith) ∙ sym (older v i (omega arith));
+        long = holds .long;
+        count = longer value;
+        same = λ i small less. holds .same i small (omega arith) ∙ sym (older value i (omega arith));
       }
 
   -- a value is kept at its place
-  pub put-inside : (v : ℕ) → k < 16 → Holds (set env k v) (k + 1) (M ++ (v ∷ []))
-  put-inside v l =
+  pub put-inside : (value : ℕ) → count < 16 → Holds (set env count value) (count + 1) (values ++ (value ∷ []))
+  put-inside value l =
       record {
-        long = length-set env k v ∙ h .long;
-        count = longer v;
-        same = λ i small less. by i less (ℕ-discrete i k);
+        long = length-set env count value ∙ holds .long;
+        count = longer value;
+        same = λ i small less. by i less (ℕ-discrete i count);
       }
     where
-      by : (i : ℕ) → i < k + 1 → Dec (i ≡ k) → getD (set env k v) i 0 ≡ getD (M ++ (v ∷ [])) i 0
-      by i less (yes e) =
-          rw e (getD-set-same env k v 0 (omega (arith, h .long)) ∙ sym (getD-at M v [] 0 k (h .count)))
-      by i less (no n) =
-          let l′ : i < k = omega arith in
-          getD-set-other env k i v 0 n ∙ h .same i (omega arith) l′ ∙ sym (older v i l′)
+      by : (index : ℕ) → index < count + 1 → Dec (index ≡ count) → getD (set env count value) index 0 ≡ getD (values ++ (value ∷ [])) index 0
+      by index less (yes e) =
+          rw e (getD-set-same env count value 0 (omega (arith, holds .long)) ∙ sym (getD-at values value [] 0 count (holds .count)))
+      by index less (no n) =
+          let l′ : index < count = omega arith in
+          getD-set-other env count index value 0 n ∙ holds .same index (omega arith) l′ ∙ sym (older value index l′)
 
 -- ------------------------------------------------------------------ outside names
 
-name-by : (b : Bool) (n : ℕ) (I : Input) (M : List ℕ) (s : State) (cells : List ℕ)
-    → build (nameBy b n) I M s cells ≡ done (elim b [ true ↦ outsideName n | false ↦ n ]) s cells
+name-by : (test : Bool) (number : ℕ) (input : Input) (values : List ℕ) (state : State) (cells : List ℕ)
+    → build (nameBy test number) input values state cells ≡ done (elim test [ true ↦ outsideName number | false ↦ number ]) state cells
 unfolding build
-name-by true n I M s cells = refl
-name-by false n I M s cells = refl
+name-by true number input values state cells = refl
+name-by false number input values state cells = refl
 
-module _ (tag n : ℕ) (I : Input) (M : List ℕ) (s : State) (cells : List ℕ) where
-  name-is : (b : Bool) → eqb tag 0x10 ≡ b
-      → build (nameBy (eqb tag 0x10) n) I M s cells ≡ done (elim b [ true ↦ outsideName n | false ↦ n ]) s cells
-  name-is b e = cc (name-by b n I M s cells)
+module _ (tag number : ℕ) (input : Input) (values : List ℕ) (state : State) (cells : List ℕ) where
+  name-is : (test : Bool) → eqb tag 0x10 ≡ test
+      → build (nameBy (eqb tag 0x10) number) input values state cells ≡ done (elim test [ true ↦ outsideName number | false ↦ number ]) state cells
+  name-is test e = cc (name-by test number input values state cells)
 
   -- a name after 0x10 is an outside name
-  pub name-var : tag ≡ 0x10 → build (nameBy (eqb tag 0x10) n) I M s cells ≡ done (outsideName n) s cells
+  pub name-var : tag ≡ 0x10 → build (nameBy (eqb tag 0x10) number) input values state cells ≡ done (outsideName number) state cells
   name-var e = name-is true (eq-eqb tag 0x10 e)
 
   -- after any other it is a label
-  pub name-label : (tag ≡ 0x10 → ⊥) → build (nameBy (eqb tag 0x10) n) I M s cells ≡ done n s cells
+  pub name-label : (tag ≡ 0x10 → ⊥) → build (nameBy (eqb tag 0x10) number) input values state cells ≡ done number state cells
   name-label e = name-is false (ne-eqb tag 0x10 e)
 
 -- ------------------------------------------------------------------ rows
 
 -- the rows of the cells fit
-pub rooms-fit : {v cells stack : List ℕ} {rows : ℕ} → length v ≤ 16384 → length v ≤ length stack → rows ≡ rowsLent (length cells)
-    → RoomsFit v rows cells stack
+pub rooms-fit : {bytes cells stack : List ℕ} {rows : ℕ} → length bytes ≤ 16384 → length bytes ≤ length stack → rows ≡ rowsLent (length cells)
+    → RoomsFit bytes rows cells stack
 rooms-fit small long e = record { small = small; stack-long = long; few = omega arith; rows-long = omega arith }
 
 -- four stores in a row
-pub row-stored : (cells args : List ℕ) (i code : ℕ) → length args ≡ 3
-    → set (set (set (set cells i code) (i + 1) (getD args 0 0)) (i + 2) (getD args 1 0)) (i + 3) (getD args 2 0)
-    ≡ sets cells i (code ∷ args)
-row-stored cells [] i code e = absurd (omega arith)
-row-stored cells (a ∷ []) i code e = absurd (omega arith)
-row-stored cells (a ∷ b ∷ []) i code e = absurd (omega arith)
-row-stored cells (a ∷ b ∷ c ∷ []) i code e = rw (add-one, add-two, add-three) refl
-row-stored cells (a ∷ b ∷ c ∷ d ∷ l) i code e = absurd (omega arith)
+pub row-stored : (cells args : List ℕ) (place code : ℕ) → length args ≡ 3
+    → set (set (set (set cells place code) (place + 1) (getD args 0 0)) (place + 2) (getD args 1 0)) (place + 3) (getD args 2 0)
+    ≡ sets cells place (code ∷ args)
+row-stored cells [] place code e = absurd (omega arith)
+row-stored cells (a ∷ []) place code e = absurd (omega arith)
+row-stored cells (a ∷ b ∷ []) place code e = absurd (omega arith)
+row-stored cells (a ∷ b ∷ c ∷ []) place code e = rw (add-one, add-two, add-three) refl
+row-stored cells (a ∷ b ∷ c ∷ d ∷ l) place code e = absurd (omega arith)
 
 -- arguments in an array of three, spare ones 0
 abbrev pub spare : List ℕ → List ℕ

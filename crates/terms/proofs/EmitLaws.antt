@@ -32,11 +32,11 @@ module _ (write : Term Name → List ℕ) (made : ℕ) (t : Term Name) (text : L
   emitted-large h = rw (lt-leb (size t) largestTerm h, emitted, passing) refl
 
   -- 23
-  pub emitted-loose : {p : ℕ} → size t ≤ largestTerm → walk [] 0 t ≡ loose p → emitted write made t text ≡ leaves (Refusing (refusal 23 p 0 0)) text
+  pub emitted-loose : {place : ℕ} → size t ≤ largestTerm → walk [] 0 t ≡ loose place → emitted write made t text ≡ leaves (Refusing (refusal 23 place 0 0)) text
   unfolding emitted passing
   emitted-loose h w = rw (le-leb (size t) largestTerm h, w, emitted, passing) refl
 
   -- else what is written, if it fits
-  pub emitted-fitted : {q : ℕ} → size t ≤ largestTerm → walk [] 0 t ≡ reached q → emitted write made t text ≡ fitted made (size t) (write t) text
+  pub emitted-fitted : {end : ℕ} → size t ≤ largestTerm → walk [] 0 t ≡ reached end → emitted write made t text ≡ fitted made (size t) (write t) text
   unfolding emitted passing
   emitted-fitted h w = rw (le-leb (size t) largestTerm h, w, emitted, passing) refl

@@ -35,49 +35,49 @@ abbrev prefixed : List Token → Lexed → Lexed
 prefixed [] l = l
 prefixed (t ∷ ts) l = withToken t (prefixed ts l)
 
-prefixed-end : (ts : List Token) (r : Scanned) (words : List (List ℕ))
-    → prefixed ts (scanEnded r words) ≡ record { answer = r; tokens = ts; words = words }
-prefixed-end [] r words = refl
-prefixed-end (t ∷ ts) r words = ap (withToken t) (prefixed-end ts r words)
+prefixed-end : (ts : List Token) (scanned : Scanned) (words : List (List ℕ))
+    → prefixed ts (scanEnded scanned words) ≡ record { answer = scanned; tokens = ts; words = words }
+prefixed-end [] scanned words = refl
+prefixed-end (t ∷ ts) scanned words = ap (withToken t) (prefixed-end ts scanned words)
 
-prefixed-answer : (ts : List Token) (l : Lexed) → prefixed ts l .answer ≡ l .answer
-prefixed-answer [] l = refl
-prefixed-answer (t ∷ ts) l = prefixed-answer ts l
+prefixed-answer : (ts : List Token) (lexed : Lexed) → prefixed ts lexed .answer ≡ lexed .answer
+prefixed-answer [] lexed = refl
+prefixed-answer (t ∷ ts) lexed = prefixed-answer ts lexed
 
 module _ (lex : Lexicon) (few : length (lex .outsides) ≤ 64) (formula : List ℕ) where
   -- the scan from an offset on finds the tokens of a tiling and goes on at its end
-  record Follows (k at n : ℕ) (met : List (List ℕ)) (ts : List Token) (to : ℕ) (met′ : List (List ℕ)) : Type 0 where
+  record Follows (steps at before : ℕ) (met : List (List ℕ)) (ts : List Token) (to : ℕ) (met′ : List (List ℕ)) : Type 0 where
     fuel : ℕ
     enough : length formula ≤ to + fuel
-    same : lexFrom k lex at (drop at formula) n met ≡ prefixed ts (lexFrom fuel lex to (drop to formula) (n + length ts) met′)
+    same : lexFrom steps lex at (drop at formula) before met ≡ prefixed ts (lexFrom fuel lex to (drop to formula) (before + length ts) met′)
 
-  follow : {at to : ℕ} {met met′ : List (List ℕ)} {ts : List Token} → Tiled lex formula at met ts to met′ → (k n : ℕ)
-      → length formula ≤ at + k
-      → n + length ts ≤ 4096
-      → Follows k at n met ts to met′
-  follow {at} {met = met} here k n enough small =
-      record { fuel = k; enough = enough; same = cc (add-zero n) }
-  follow (past-separator h s d) zero n enough small = absurd (omega arith)
-  follow {at} {met = met} (past-separator h s d) (suc k) n enough small =
+  follow : {at to : ℕ} {met met′ : List (List ℕ)} {ts : List Token} → Tiled lex formula at met ts to met′ → (fuel before : ℕ)
+      → length formula ≤ at + fuel
+      → before + length ts ≤ 4096
+      → Follows fuel at before met ts to met′
+  follow {at} {met = met} here fuel before enough small =
+      record { fuel = fuel; enough = enough; same = cc (add-zero before) }
+  follow (past-separator h s d) zero before enough small = absurd (omega arith)
+  follow {at} {met = met} (past-separator h s d) (suc fuel) before enough small =
       let some : 0 < length (drop at formula) = omega (arith, length-drop at formula) in
       let e : Skip ≡ stepOf lex met at (drop at formula)
       = step-by lex met at (drop at formula) (lexeme-separator (drop at formula) (ap isSeparator (front-byte formula at) ∙ s)) in
-      let l : lexFrom (suc k) lex at (drop at formula) n met ≡ lexFrom k lex (at + 1) (drop (at + 1) formula) n met
-      = cc (lex-step k lex at (drop at formula) n met Skip some e, drop-drop 1 at formula) in
-      let f = follow d k n (omega arith) small in
+      let l : lexFrom (suc fuel) lex at (drop at formula) before met ≡ lexFrom fuel lex (at + 1) (drop (at + 1) formula) before met
+      = cc (lex-step fuel lex at (drop at formula) before met Skip some e, drop-drop 1 at formula) in
+      let f = follow d fuel before (omega arith) small in
       record { fuel = f .fuel; enough = f .enough; same = l ∙ f .same }
-  follow (past-token h st d) zero n enough small = absurd (omega arith)
-  follow {at} {to} {met} {met′} (past-token {met₁ = met₁} {t = t} {ts = ts} h st d) (suc k) n enough small =
+  follow (past-token h st d) zero before enough small = absurd (omega arith)
+  follow {at} {to} {met} {met′} (past-token {met₁ = met₁} {t = t} {ts = ts} h st d) (suc fuel) before enough small =
       let rest : List ℕ = drop at formula in
       let some : 0 < length rest = omega (arith, length-drop at formula) in
       let m : Steps lex met at rest t met₁ = stands-steps few some st in
       let positive : 0 < t .size = step-lies lex met at rest (Emit t) some (m .emits) .1 in
-      let f = follow d k (n + 1) (omega arith) (omega arith) in
-      let z : n + 1 + length ts ≡ n + suc (length ts) = omega arith in
-      let l : lexFrom (suc k) lex at rest n met
-      ≡ withToken t (lexFrom k lex (at + t .size) (drop (t .size) rest) (n + 1) (wordsWith met (take (t .size) rest) t))
-      = lex-step k lex at rest n met (Emit t) some (m .emits)
-      ∙ ap (emitted k lex at rest n met t) (lt-ltb n mostTokens (omega arith)) in
+      let f = follow d fuel (before + 1) (omega arith) (omega arith) in
+      let z : before + 1 + length ts ≡ before + suc (length ts) = omega arith in
+      let l : lexFrom (suc fuel) lex at rest before met
+      ≡ withToken t (lexFrom fuel lex (at + t .size) (drop (t .size) rest) (before + 1) (wordsWith met (take (t .size) rest) t))
+      = lex-step fuel lex at rest before met (Emit t) some (m .emits)
+      ∙ ap (emitted fuel lex at rest before met t) (lt-ltb before mostTokens (omega arith)) in
       record {
         fuel = f .fuel;
         enough = f .enough;
@@ -106,24 +106,24 @@ module _ (lex : Lexicon) (few : length (lex .outsides) ≤ 64) (formula : List �
 
   -- ------------------------------------------------------------------ where the rules stop
 
-  fault-answer : (k at n : ℕ) (met : List (List ℕ)) → length formula ≤ at + k → at < length formula → Faulty (drop at formula)
-      → lexFrom k lex at (drop at formula) n met .answer ≡ Unscanned (refusal 15 at 0 0)
-  fault-answer zero at n met enough h f = absurd (omega arith)
-  fault-answer (suc k) at n met enough h f =
+  fault-answer : (fuel at before : ℕ) (met : List (List ℕ)) → length formula ≤ at + fuel → at < length formula → Faulty (drop at formula)
+      → lexFrom fuel lex at (drop at formula) before met .answer ≡ Unscanned (refusal 15 at 0 0)
+  fault-answer zero at before met enough h f = absurd (omega arith)
+  fault-answer (suc fuel) at before met enough h f =
       let e : Stop ≡ stepOf lex met at (drop at formula) = step-by lex met at (drop at formula) (lexeme-fault (drop at formula) f) in
-      cc (lex-step k lex at (drop at formula) n met Stop (omega (arith, length-drop at formula)) e)
+      cc (lex-step fuel lex at (drop at formula) before met Stop (omega (arith, length-drop at formula)) e)
 
-  token-answer : (k at n : ℕ) (met met′ : List (List ℕ)) (t : Token) → length formula ≤ at + k → at < length formula → n ≡ mostTokens
-      → Stands lex at (drop at formula) met t met′
-      → lexFrom k lex at (drop at formula) n met .answer ≡ Unscanned (refusal 16 0 0 0)
-  token-answer zero at n met met′ t enough h e st = absurd (omega arith)
-  token-answer (suc k) at n met met′ t enough h e st =
+  token-answer : (fuel at before : ℕ) (met met′ : List (List ℕ)) (token : Token) → length formula ≤ at + fuel → at < length formula → before ≡ mostTokens
+      → Stands lex at (drop at formula) met token met′
+      → lexFrom fuel lex at (drop at formula) before met .answer ≡ Unscanned (refusal 16 0 0 0)
+  token-answer zero at before met met′ token enough h e st = absurd (omega arith)
+  token-answer (suc fuel) at before met met′ token enough h e st =
       let some : 0 < length (drop at formula) = omega (arith, length-drop at formula) in
-      let m : Steps lex met at (drop at formula) t met′ = stands-steps few some st in
-      rw (lex-step k lex at (drop at formula) n met (Emit t) some (m .emits), le-ltb n mostTokens (omega arith)) refl
+      let m : Steps lex met at (drop at formula) token met′ = stands-steps few some st in
+      rw (lex-step fuel lex at (drop at formula) before met (Emit token) some (m .emits), le-ltb before mostTokens (omega arith)) refl
 
   -- What the rules refuse, the scan refuses with the same refusal.
-  pub unscans-answer : {r : Refusal} → Unscans lex formula r → scan lex formula .answer ≡ Unscanned r
+  pub unscans-answer : {cause : Refusal} → Unscans lex formula cause → scan lex formula .answer ≡ Unscanned cause
   unscans-answer (formula-too-long h) = simp (scan-long lex formula h)
   unscans-answer (a-fault {at = at} {ts = ts} {met = met} short d small h f) =
       let w = follow d (length formula) 0 (omega arith) (omega arith) in
@@ -136,35 +136,35 @@ module _ (lex : Lexicon) (few : length (lex .outsides) ≤ 64) (formula : List �
 
   -- ------------------------------------------------------------------ where the scan stops
 
-  -- from an offset on, after n tokens and the words met
-  data StopsFrom (at n : ℕ) (met : List (List ℕ)) : Refusal → Type 0 where
-    long : longestFormula < length formula → StopsFrom at n met (refusal 14 0 0 0)
-    fault : {to : ℕ} {ts : List Token} {met′ : List (List ℕ)} → Tiled lex formula at met ts to met′ → n + length ts ≤ mostTokens
+  -- from an offset on, after `before` tokens and the words met
+  data StopsFrom (at before : ℕ) (met : List (List ℕ)) : Refusal → Type 0 where
+    long : longestFormula < length formula → StopsFrom at before met (refusal 14 0 0 0)
+    fault : {to : ℕ} {ts : List Token} {met′ : List (List ℕ)} → Tiled lex formula at met ts to met′ → before + length ts ≤ mostTokens
         → to < length formula
         → Faulty (drop to formula)
-        → StopsFrom at n met (refusal 15 to 0 0)
-    full : {to : ℕ} {ts : List Token} {met′ met″ : List (List ℕ)} {t : Token} → Tiled lex formula at met ts to met′
-        → n + length ts ≡ mostTokens
+        → StopsFrom at before met (refusal 15 to 0 0)
+    full : {to : ℕ} {ts : List Token} {met′ met″ : List (List ℕ)} {token : Token} → Tiled lex formula at met ts to met′
+        → before + length ts ≡ mostTokens
         → to < length formula
-        → Stands lex to (drop to formula) met′ t met″
-        → StopsFrom at n met (refusal 16 0 0 0)
+        → Stands lex to (drop to formula) met′ token met″
+        → StopsFrom at before met (refusal 16 0 0 0)
 
-  halts-stops : {at n : ℕ} {met : List (List ℕ)} {r : Refusal} → Halts lex formula at n met r → StopsFrom at n met r
+  halts-stops : {at before : ℕ} {met : List (List ℕ)} {cause : Refusal} → Halts lex formula at before met cause → StopsFrom at before met cause
   halts-stops (at-once h) = long h
   halts-stops (at-fault h m f) = fault here (omega arith) h f
   halts-stops (at-token h m told) = full here (omega arith) h (told .stands)
 
-  skip-stops : {at n : ℕ} {met : List (List ℕ)} {r : Refusal} → at < length formula → isSeparator (getD formula at 0) ≡ true
-      → StopsFrom (at + 1) n met r
-      → StopsFrom at n met r
+  skip-stops : {at before : ℕ} {met : List (List ℕ)} {cause : Refusal} → at < length formula → isSeparator (getD formula at 0) ≡ true
+      → StopsFrom (at + 1) before met cause
+      → StopsFrom at before met cause
   skip-stops h s (long l) = long l
   skip-stops h s (fault d l h′ f) = fault (past-separator h s d) l h′ f
   skip-stops h s (full d l h′ f) = full (past-separator h s d) l h′ f
 
-  emit-stops : {at n : ℕ} {met met₁ : List (List ℕ)} {t : Token} {r : Refusal} → at < length formula
-      → Stands lex at (drop at formula) met t met₁
-      → StopsFrom (at + t .size) (n + 1) met₁ r
-      → StopsFrom at n met r
+  emit-stops : {at before : ℕ} {met met₁ : List (List ℕ)} {token : Token} {cause : Refusal} → at < length formula
+      → Stands lex at (drop at formula) met token met₁
+      → StopsFrom (at + token .size) (before + 1) met₁ cause
+      → StopsFrom at before met cause
   emit-stops h st (long l) = long l
   emit-stops h st (fault d l h′ f) = fault (past-token h st d) (omega arith) h′ f
   emit-stops h st (full d l h′ f) = full (past-token h st d) (omega arith) h′ f
@@ -173,7 +173,7 @@ module _ (lex : Lexicon) (few : length (lex .outsides) ≤ 64) (formula : List �
   Refused (Tokens m count) P = Unit {0}
   Refused (Unscanned r) P = P r
 
-  refused : (a : Scanned) {P Q : Refusal → Type 0} → ((r : Refusal) → P r → Q r) → Refused a P → Refused a Q
+  refused : (scanned : Scanned) {P Q : Refusal → Type 0} → ((cause : Refusal) → P cause → Q cause) → Refused scanned P → Refused scanned Q
   refused (Tokens m count) f p = tt
   refused (Unscanned r) f p = f r p
 
@@ -190,7 +190,7 @@ module _ (lex : Lexicon) (few : length (lex .outsides) ≤ 64) (formula : List �
         emits = λ at n met t l h m told inside p. refused (l .answer) (λ r. emit-stops h (told .stands)) p;
       }
 
-  stops-unscans : {r : Refusal} → length formula ≤ longestFormula → StopsFrom 0 0 [] r → Unscans lex formula r
+  stops-unscans : {cause : Refusal} → length formula ≤ longestFormula → StopsFrom 0 0 [] cause → Unscans lex formula cause
   stops-unscans short (long h) = formula-too-long h
   stops-unscans short (fault d l h f) = a-fault short d (omega arith) h f
   stops-unscans short (full d l h st) = too-many-tokens short d (omega arith) h st
@@ -207,5 +207,5 @@ module _ (lex : Lexicon) (few : length (lex .outsides) ≤ 64) (formula : List �
       rw (scan-long lex formula over) (formula-too-long over))
 
   -- What the scan refuses, the rules refuse with the same refusal.
-  pub answer-unscans : {r : Refusal} → scan lex formula .answer ≡ Unscanned r → Unscans lex formula r
+  pub answer-unscans : {cause : Refusal} → scan lex formula .answer ≡ Unscanned cause → Unscans lex formula cause
   answer-unscans e = rw (e) at scan-unscans

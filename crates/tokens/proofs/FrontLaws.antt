@@ -17,72 +17,77 @@ use Rattle.tokens.proofs.WordLaws.{both}
 
 -- ------------------------------------------------------------------ the classes of bytes are apart
 
-separator-low : (b : ℕ) → 33 ≤ b → isSeparator b ≡ false
-separator-low b h =
+separator-low : (byte : ℕ) → 33 ≤ byte → isSeparator byte ≡ false
+separator-low byte h =
     rw (
-      ne-eqb b 9 (λ e. omega (arith, e)),
-      ne-eqb b 10 (λ e. omega (arith, e)),
-      ne-eqb b 13 (λ e. omega (arith, e)),
-      ne-eqb b 32 (λ e. omega (arith, e)),
+      ne-eqb byte 9 (λ e. omega (arith, e)),
+      ne-eqb byte 10 (λ e. omega (arith, e)),
+      ne-eqb byte 13 (λ e. omega (arith, e)),
+      ne-eqb byte 32 (λ e. omega (arith, e)),
     )
     refl
 
-letter-high : (b : ℕ) → isLetter b ≡ true → 65 ≤ b
-letter-high b e = by-test (leb 65 b) (λ h. leb-true 65 b h) later
+letter-high : (byte : ℕ) → isLetter byte ≡ true → 65 ≤ byte
+letter-high byte e = by-test (leb 65 byte) (λ h. leb-true 65 byte h) later
   where
-    later : leb 65 b ≡ false → 65 ≤ b
+    later : leb 65 byte ≡ false → 65 ≤ byte
     later h =
-        let f : (leb 97 b && leb b 122) ≡ true = rw h at e in
-        omega (arith, leb-true 97 b (both (leb 97 b) (leb b 122) f .0))
+        let f : (leb 97 byte && leb byte 122) ≡ true = rw h at e in
+        omega (arith, leb-true 97 byte (both (leb 97 byte) (leb byte 122) f .0))
 
-letter-low : (b : ℕ) → isLetter b ≡ true → b ≤ 126
-letter-low b e = by-test (leb 65 b && leb b 90) (λ h. omega (arith, leb-true b 90 (both (leb 65 b) (leb b 90) h .1))) later
+letter-low : (byte : ℕ) → isLetter byte ≡ true → byte ≤ 126
+letter-low byte e = by-test (leb 65 byte && leb byte 90) (λ h. omega (arith, leb-true byte 90 (both (leb 65 byte) (leb byte 90) h .1))) later
   where
-    later : (leb 65 b && leb b 90) ≡ false → b ≤ 126
+    later : (leb 65 byte && leb byte 90) ≡ false → byte ≤ 126
     later h =
-        let f : (leb 97 b && leb b 122) ≡ true = rw h at e in
-        omega (arith, leb-true b 122 (both (leb 97 b) (leb b 122) f .1))
+        let f : (leb 97 byte && leb byte 122) ≡ true = rw h at e in
+        omega (arith, leb-true byte 122 (both (leb 97 byte) (leb byte 122) f .1))
 
-digit-range : (b : ℕ) → isDigit b ≡ true → (48 ≤ b) × (b ≤ 57)
-digit-range b e =
-    let p = both (leb 48 b) (leb b 57) e in
-    (leb-true 48 b (p .0), leb-true b 57 (p .1))
+digit-range : (byte : ℕ) → isDigit byte ≡ true → (48 ≤ byte) × (byte ≤ 57)
+digit-range byte e =
+    let p = both (leb 48 byte) (leb byte 57) e in
+    (leb-true 48 byte (p .0), leb-true byte 57 (p .1))
 
-digit-no-letter : (b : ℕ) → isDigit b ≡ true → isLetter b ≡ false
-digit-no-letter b e =
-    let r = digit-range b e in
-    rw (lt-leb 65 b (omega (arith, r .1)), lt-leb 97 b (omega (arith, r .1))) refl
+digit-no-letter : (byte : ℕ) → isDigit byte ≡ true → isLetter byte ≡ false
+digit-no-letter byte e =
+    let r = digit-range byte e in
+    rw (lt-leb 65 byte (omega (arith, r .1)), lt-leb 97 byte (omega (arith, r .1))) refl
 
 -- a byte that may be a symbol
-pub record SymbolOnly (b : ℕ) : Type 0 where
+pub record SymbolOnly (byte : ℕ) : Type 0 where
   -- it is not below the first symbol
-  pub high : 33 ≤ b
+  pub high : 33 ≤ byte
   -- it is not above the last
-  pub low : b ≤ 126
+  pub low : byte ≤ 126
   -- it is no letter
-  pub no-letter : isLetter b ≡ false
+  pub no-letter : isLetter byte ≡ false
   -- it is no digit
-  pub no-digit : isDigit b ≡ false
+  pub no-digit : isDigit byte ≡ false
 
 -- a symbol is a byte of 33 to 126 that is neither letter nor digit
-pub symbol-only : (b : ℕ) → isSymbol b ≡ true → SymbolOnly b
-symbol-only b e =
-    let p = both (leb 33 b && leb b 126 && not (isLetter b)) (not (isDigit b)) e in
-    let q = both (leb 33 b && leb b 126) (not (isLetter b)) (p .0) in
-    let r = both (leb 33 b) (leb b 126) (q .0) in
-    record { high = leb-true 33 b (r .0); low = leb-true b 126 (r .1); no-letter = not-true (isLetter b) (q .1); no-digit = not-true (isDigit b) (p .1) }
+pub symbol-only : (byte : ℕ) → isSymbol byte ≡ true → SymbolOnly byte
+symbol-only byte e =
+    let p = both (leb 33 byte && leb byte 126 && not (isLetter byte)) (not (isDigit byte)) e in
+    let q = both (leb 33 byte && leb byte 126) (not (isLetter byte)) (p .0) in
+    let r = both (leb 33 byte) (leb byte 126) (q .0) in
+    record {
+      high = leb-true 33 byte (r .0);
+      low = leb-true byte 126 (r .1);
+      no-letter = not-true (isLetter byte) (q .1);
+      no-digit = not-true (isDigit byte) (p .1);
+    }
 
 -- a byte outside of 33 to 126 is none of them
-module _ (b : ℕ) (out : 33 ≤ b → b ≤ 126 → ⊥) where
-  outside-letter : isLetter b ≡ false
-  outside-letter = by-test (isLetter b) (λ e. absurd (out (omega (arith, letter-high b e)) (letter-low b e))) (λ e. e)
+module _ (byte : ℕ) (out : 33 ≤ byte → byte ≤ 126 → ⊥) where
+  outside-letter : isLetter byte ≡ false
+  outside-letter = by-test (isLetter byte) (λ e. absurd (out (omega (arith, letter-high byte e)) (letter-low byte e))) (λ e. e)
 
-  outside-digit : isDigit b ≡ false
+  outside-digit : isDigit byte ≡ false
   outside-digit =
-      by-test (isDigit b) (λ e. let r = digit-range b e in absurd (out (omega (arith, r .0)) (omega (arith, r .1)))) (λ e. e)
+      by-test (isDigit byte) (λ e. let r = digit-range byte e in absurd (out (omega (arith, r .0)) (omega (arith, r .1)))) (λ e. e)
 
-  outside-symbol : isSymbol b ≡ false
-  outside-symbol = by-test (isSymbol b) (λ e. let o = symbol-only b e in absurd (out (o .high) (o .low))) (λ e. e)
+  outside-symbol : isSymbol byte ≡ false
+  outside-symbol = by-test (isSymbol byte) (λ e. let o = symbol-only byte e in absurd (out (o .high) (o .low))) (λ e. e)
 
 -- ------------------------------------------------------------------ the lexeme that the bytes at the front tell
 

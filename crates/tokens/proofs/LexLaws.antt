@@ -33,26 +33,27 @@ after k lex at rest n words Skip = lexFrom k lex (at + 1) (drop 1 rest) n words
 after k lex at rest n words Stop = scanEnded (Unscanned (refusal 15 at 0 0)) words
 after k lex at rest n words (Emit t) = emitted k lex at rest n words t (ltb n mostTokens)
 
-lex-by : (k : ℕ) (lex : Lexicon) (at b : ℕ) (bs : List ℕ) (n : ℕ) (words : List (List ℕ)) (r : Step)
-    → r ≡ stepOf lex words at (b ∷ bs)
-    → lexFrom (suc k) lex at (b ∷ bs) n words ≡ after k lex at (b ∷ bs) n words r
+lex-by : (fuel : ℕ) (lex : Lexicon) (at byte : ℕ) (bs : List ℕ) (many : ℕ) (words : List (List ℕ)) (step : Step)
+    → step ≡ stepOf lex words at (byte ∷ bs)
+    → lexFrom (suc fuel) lex at (byte ∷ bs) many words ≡ after fuel lex at (byte ∷ bs) many words step
 unfolding lexFrom
-lex-by k lex at b bs n words Skip e = rw (← e, lexFrom) refl
-lex-by k lex at b bs n words Stop e = rw (← e, lexFrom) refl
-lex-by k lex at b bs n words (Emit t) e = rw (← e, lexFrom) refl
+lex-by fuel lex at byte bs many words Skip e = rw (← e, lexFrom) refl
+lex-by fuel lex at byte bs many words Stop e = rw (← e, lexFrom) refl
+lex-by fuel lex at byte bs many words (Emit t) e = rw (← e, lexFrom) refl
 
 -- what is left gives what the step at its front makes of it
-pub lex-step : (k : ℕ) (lex : Lexicon) (at : ℕ) (rest : List ℕ) (n : ℕ) (words : List (List ℕ)) (r : Step) → 0 < length rest
-    → r ≡ stepOf lex words at rest
-    → lexFrom (suc k) lex at rest n words ≡ after k lex at rest n words r
-lex-step k lex at [] n words r h e = absurd (omega arith)
-lex-step k lex at (b ∷ bs) n words r h e = lex-by k lex at b bs n words r e
+pub lex-step : (fuel : ℕ) (lex : Lexicon) (at : ℕ) (rest : List ℕ) (many : ℕ) (words : List (List ℕ)) (step : Step) → 0 < length rest
+    → step ≡ stepOf lex words at rest
+    → lexFrom (suc fuel) lex at rest many words ≡ after fuel lex at rest many words step
+lex-step fuel lex at [] many words step h e = absurd (omega arith)
+lex-step fuel lex at (b ∷ bs) many words step h e = lex-by fuel lex at b bs many words step e
 
 -- where nothing is left, the tokens counted are accepted
-pub lex-end : (k : ℕ) (lex : Lexicon) (at n : ℕ) (words : List (List ℕ)) → lexFrom k lex at [] n words ≡ scanEnded (Tokens n (length words)) words
+pub lex-end : (fuel : ℕ) (lex : Lexicon) (at many : ℕ) (words : List (List ℕ))
+    → lexFrom fuel lex at [] many words ≡ scanEnded (Tokens many (length words)) words
 unfolding lexFrom
-lex-end zero lex at n words = refl
-lex-end (suc k) lex at n words = refl
+lex-end zero lex at many words = refl
+lex-end (suc fuel) lex at many words = refl
 
 -- a formula of at most 65,535 bytes is scanned from its front
 pub scan-short : (lex : Lexicon) (formula : List ℕ) → length formula ≤ 65535 → scan lex formula ≡ lexFrom (length formula) lex 0 formula 0 []

@@ -22,32 +22,32 @@ use Rattle.tokens.specs.Scan.{Lexeme, Separator, Word, Number, Symbol, F
 -- ------------------------------------------------------------------ words and numbers
 
 -- a run of at most 31 bytes is a word
-pub word-fits : (n : ℕ) → n ≤ 31 → wordLexeme n ≡ Word n
-word-fits n h = rw (le-leb n 31 h, wordLexeme) refl
+pub word-fits : (size : ℕ) → size ≤ 31 → wordLexeme size ≡ Word size
+word-fits size h = rw (le-leb size 31 h, wordLexeme) refl
 
 -- a longer one is a fault
-pub word-long : (n : ℕ) → 31 < n → wordLexeme n ≡ Fault
-word-long n h = rw (lt-leb n 31 h, wordLexeme) refl
+pub word-long : (size : ℕ) → 31 < size → wordLexeme size ≡ Fault
+word-long size h = rw (lt-leb size 31 h, wordLexeme) refl
 
 -- the lexeme of n digits, by their number
 abbrev pub numberBy : ℕ → number.Number → Lexeme
 numberBy n (Value v) = Number n v
 numberBy n TooLarge = Fault
 
-number-tests : (ds : List ℕ) (b : Bool) → leb (valueOf ds) largest ≡ b → numberLexeme ds ≡ numberBy (length ds) (numberOf ds)
+number-tests : (ds : List ℕ) (test : Bool) → leb (valueOf ds) largest ≡ test → numberLexeme ds ≡ numberBy (length ds) (numberOf ds)
 number-tests ds true e = rw (e, numberLexeme, numberBy) refl
 number-tests ds false e = rw (e, numberLexeme, numberBy) refl
 
 -- the digits as the code has them, a part of what is left
-pub number-is : (rest : List ℕ) {n : ℕ} (v : number.Number) → n ≡ length (longestRun isDigit rest) → v ≡ numberOf (take n rest)
-    → numberLexeme (longestRun isDigit rest) ≡ numberBy n v
-number-is rest {n} v e f =
-    let d : take n rest ≡ longestRun isDigit rest = cc (e, run-prefix isDigit rest) in
+pub number-is : (rest : List ℕ) {size : ℕ} (value : number.Number) → size ≡ length (longestRun isDigit rest) → value ≡ numberOf (take size rest)
+    → numberLexeme (longestRun isDigit rest) ≡ numberBy size value
+number-is rest {size} value e f =
+    let d : take size rest ≡ longestRun isDigit rest = cc (e, run-prefix isDigit rest) in
     number-tests (longestRun isDigit rest) _ refl ∙ rw (← e) refl
-    ∙ ap (numberBy n) (sym (f ∙ ap numberOf d))
+    ∙ ap (numberBy size) (sym (f ∙ ap numberOf d))
 
 -- a run of digits ends inside what is left
-pub digits-within : (rest : List ℕ) {n : ℕ} → n ≡ length (longestRun isDigit rest) → n ≤ length rest
+pub digits-within : (rest : List ℕ) {size : ℕ} → size ≡ length (longestRun isDigit rest) → size ≤ length rest
 digits-within rest e = omega (arith, run-length isDigit rest)
 
 -- ------------------------------------------------------------------ the lexeme by its first byte
@@ -67,11 +67,11 @@ chosen rest separator letter digit symbol =
     ]
 
 -- the lexeme, by the four tests of the first byte
-pub lexeme-is : (rest : List ℕ) {b : ℕ} (separator letter digit symbol : Bool) → b ≡ getD rest 0 0
-    → isSeparator b ≡ separator → isLetter b ≡ letter → isDigit b ≡ digit → isSymbol b ≡ symbol
+pub lexeme-is : (rest : List ℕ) {byte : ℕ} (separator letter digit symbol : Bool) → byte ≡ getD rest 0 0
+    → isSeparator byte ≡ separator → isLetter byte ≡ letter → isDigit byte ≡ digit → isSymbol byte ≡ symbol
     → lexemeOf rest ≡ chosen rest separator letter digit symbol
 unfolding lexemeOf
-lexeme-is rest {b} separator letter digit symbol e s l d y =
+lexeme-is rest {byte} separator letter digit symbol e s l d y =
     cc
 
 -- ------------------------------------------------------------------ kinds and spelling numbers by what a search finds
@@ -81,35 +81,36 @@ kindBy (At k) other = keywordKind k
 kindBy Absent other = other
 
 -- a spelling's kind, by what a search among the keywords finds
-pub kind-found : (lex : Lexicon) (s : List ℕ) (other : ℕ) (f : Found) → f ≡ foundIn s (lex .keywords) → kindOf lex s other ≡ kindBy f other
+pub kind-found : (lex : Lexicon) (spelling : List ℕ) (other : ℕ) (found : Found) → found ≡ foundIn spelling (lex .keywords)
+    → kindOf lex spelling other ≡ kindBy found other
 unfolding kindOf
-kind-found lex s other (At k) e = rw (← e, kindOf) refl
-kind-found lex s other Absent e = rw (← e, kindOf) refl
+kind-found lex spelling other (At k) e = rw (← e, kindOf) refl
+kind-found lex spelling other Absent e = rw (← e, kindOf) refl
 
 -- only a word has the kind of a word
-pub word-only : (lex : Lexicon) (s : List ℕ) (other : ℕ) → (other ≡ wordKind → ⊥) → kindOf lex s other ≡ wordKind → ⊥
-word-only lex s other h e = by-found (foundIn s (lex .keywords)) refl
+pub word-only : (lex : Lexicon) (spelling : List ℕ) (other : ℕ) → (other ≡ wordKind → ⊥) → kindOf lex spelling other ≡ wordKind → ⊥
+word-only lex spelling other h e = by-found (foundIn spelling (lex .keywords)) refl
   where
-    by-found : (f : Found) → f ≡ foundIn s (lex .keywords) → ⊥
-    by-found (At k) p = omega (arith, sym (kind-found lex s other (At k) p) ∙ e)
-    by-found Absent p = h (sym (kind-found lex s other Absent p) ∙ e)
+    by-found : (found : Found) → found ≡ foundIn spelling (lex .keywords) → ⊥
+    by-found (At k) p = omega (arith, sym (kind-found lex spelling other (At k) p) ∙ e)
+    by-found Absent p = h (sym (kind-found lex spelling other Absent p) ∙ e)
 
 abbrev numberIs : Found → ℕ → ℕ
 numberIs (At k) fresh = k
 numberIs Absent fresh = fresh
 
-number-found : (lex : Lexicon) (s : List ℕ) (fresh : ℕ) (f : Found) → f ≡ foundIn s (lex .outsides)
-    → numberOr lex s fresh ≡ numberIs f fresh
+number-found : (lex : Lexicon) (spelling : List ℕ) (fresh : ℕ) (found : Found) → found ≡ foundIn spelling (lex .outsides)
+    → numberOr lex spelling fresh ≡ numberIs found fresh
 unfolding numberOr
-number-found lex s fresh (At k) e = rw (← e, numberOr) refl
-number-found lex s fresh Absent e = rw (← e, numberOr) refl
+number-found lex spelling fresh (At k) e = rw (← e, numberOr) refl
+number-found lex spelling fresh Absent e = rw (← e, numberOr) refl
 
-spelling-number : (lex : Lexicon) (words : List (List ℕ)) (s : List ℕ)
-    → numberOr lex s (64 + indexOf s words) ≡ spellingOf lex words s
+spelling-number : (lex : Lexicon) (words : List (List ℕ)) (spelling : List ℕ)
+    → numberOr lex spelling (64 + indexOf spelling words) ≡ spellingOf lex words spelling
 unfolding spellingOf
-spelling-number lex words s = refl
+spelling-number lex words spelling = refl
 
 -- a word's spelling number, by what a search among the outside names finds
-pub spelling-found : (lex : Lexicon) (words : List (List ℕ)) (s : List ℕ) (f : Found) → f ≡ foundIn s (lex .outsides)
-    → spellingOf lex words s ≡ numberIs f (64 + indexOf s words)
-spelling-found lex words s f e = sym (spelling-number lex words s) ∙ number-found lex s (64 + indexOf s words) f e
+pub spelling-found : (lex : Lexicon) (words : List (List ℕ)) (spelling : List ℕ) (found : Found) → found ≡ foundIn spelling (lex .outsides)
+    → spellingOf lex words spelling ≡ numberIs found (64 + indexOf spelling words)
+spelling-found lex words spelling found e = sym (spelling-number lex words spelling) ∙ number-found lex spelling (64 + indexOf spelling words) found e

@@ -28,8 +28,8 @@ use Rattle.tokens.proofs.SpellingLaws.{Spelled, every-at, scan-spelled,
 
 module _ (lex : Lexicon) (few : length (lex .outsides) ≤ 64) (formula : List ℕ) where
   -- a scan that is not refused is of a formula that is not too long
-  not-long : {n count : ℕ} → scan lex formula .answer ≡ Tokens n count → length formula ≤ longestFormula
-  not-long {n} {count} e =
+  not-long : {many count : ℕ} → scan lex formula .answer ≡ Tokens many count → length formula ≤ longestFormula
+  not-long {many} {count} e =
       by-test (leb (length formula) longestFormula) (λ h. leb-true (length formula) longestFormula h)
       (λ h.
       let l : scan lex formula .answer ≡ Unscanned (refusal 14 0 0 0)
@@ -52,43 +52,43 @@ module _ (lex : Lexicon) (few : length (lex .outsides) ≤ 64) (formula : List �
   )
 
   -- A scan gives a refusal exactly if the rules for 14, 15 and 16 do.
-  pub refused-exactly : (r : Refusal) → (scan lex formula .answer ≡ Unscanned r) ↔ Unscans lex formula r
-  refused-exactly r = (answer-unscans lex few formula, unscans-answer lex few formula)
+  pub refused-exactly : (cause : Refusal) → (scan lex formula .answer ≡ Unscanned cause) ↔ Unscans lex formula cause
+  refused-exactly cause = (answer-unscans lex few formula, unscans-answer lex few formula)
 
   -- The answer counts the tokens, of which there are at most 4,096, and the words that are neither keywords nor outside names.
-  pub tokens-counted : {n count : ℕ} → scan lex formula .answer ≡ Tokens n count
-      → (n ≡ length (scan lex formula .tokens)) × (count ≡ length (scan lex formula .words)) × (n ≤ mostTokens)
+  pub tokens-counted : {many count : ℕ} → scan lex formula .answer ≡ Tokens many count
+      → (many ≡ length (scan lex formula .tokens)) × (count ≡ length (scan lex formula .words)) × (many ≤ mostTokens)
   tokens-counted e = scan-counted lex few formula e
 
-  -- token i, if it is a word
-  word-at : (i : ℕ) → tokenAt (scan lex formula .tokens) i .kind ≡ wordKind
-      → Spelled lex formula (scan lex formula .words) (tokenAt (scan lex formula .tokens) i)
-  word-at i k =
-      by-test (ltb i (length (scan lex formula .tokens)))
-      (λ e. every-at _ (scan lex formula .tokens) i _ (scan-spelled lex few formula) (ltb-true i _ e) k)
+  -- token `place`, if it is a word
+  word-at : (place : ℕ) → tokenAt (scan lex formula .tokens) place .kind ≡ wordKind
+      → Spelled lex formula (scan lex formula .words) (tokenAt (scan lex formula .tokens) place)
+  word-at place k =
+      by-test (ltb place (length (scan lex formula .tokens)))
+      (λ e. every-at _ (scan lex formula .tokens) place _ (scan-spelled lex few formula) (ltb-true place _ e) k)
       (λ e.
-      let z : tokenAt (scan lex formula .tokens) i ≡ endToken
-      = List·getD-eq-default (scan lex formula .tokens) endToken (ltb-false i _ e) in
+      let z : tokenAt (scan lex formula .tokens) place ≡ endToken
+      = List·getD-eq-default (scan lex formula .tokens) endToken (ltb-false place _ e) in
       absurd (omega (arith, sym (ap (λ (t : Token). t .kind) z) ∙ k)))
 
   -- The bytes of a word token are a word.
-  pub words-are-words : (i : ℕ) → tokenAt (scan lex formula .tokens) i .kind ≡ wordKind
-      → isWord (bytesOf formula (tokenAt (scan lex formula .tokens) i)) ≡ true
-  words-are-words i k = word-at i k .is-word
+  pub words-are-words : (place : ℕ) → tokenAt (scan lex formula .tokens) place .kind ≡ wordKind
+      → isWord (bytesOf formula (tokenAt (scan lex formula .tokens) place)) ≡ true
+  words-are-words place k = word-at place k .is-word
 
   -- A word token's spelling number, below 64 an outside name's and from 64 on a word's by first appearance, stands for its bytes.
-  pub numbers-spell : (i : ℕ) → tokenAt (scan lex formula .tokens) i .kind ≡ wordKind
-      → spelled lex (scan lex formula .words) (tokenAt (scan lex formula .tokens) i .value)
-      ≡ bytesOf formula (tokenAt (scan lex formula .tokens) i)
-  numbers-spell i k = spelled-number lex few formula _ _ (word-at i k)
+  pub numbers-spell : (place : ℕ) → tokenAt (scan lex formula .tokens) place .kind ≡ wordKind
+      → spelled lex (scan lex formula .words) (tokenAt (scan lex formula .tokens) place .value)
+      ≡ bytesOf formula (tokenAt (scan lex formula .tokens) place)
+  numbers-spell place k = spelled-number lex few formula _ _ (word-at place k)
 
   -- Two word tokens have the same spelling number exactly if their bytes are equal.
-  pub same-number : (i j : ℕ) → tokenAt (scan lex formula .tokens) i .kind ≡ wordKind
-      → tokenAt (scan lex formula .tokens) j .kind ≡ wordKind
-      → (tokenAt (scan lex formula .tokens) i .value ≡ tokenAt (scan lex formula .tokens) j .value)
-      ↔ (bytesOf formula (tokenAt (scan lex formula .tokens) i) ≡ bytesOf formula (tokenAt (scan lex formula .tokens) j))
-  same-number i j ki kj = (
-    λ e. sym (numbers-spell i ki) ∙ ap (spelled lex (scan lex formula .words)) e ∙ numbers-spell j kj,
+  pub same-number : (place other : ℕ) → tokenAt (scan lex formula .tokens) place .kind ≡ wordKind
+      → tokenAt (scan lex formula .tokens) other .kind ≡ wordKind
+      → (tokenAt (scan lex formula .tokens) place .value ≡ tokenAt (scan lex formula .tokens) other .value)
+      ↔ (bytesOf formula (tokenAt (scan lex formula .tokens) place) ≡ bytesOf formula (tokenAt (scan lex formula .tokens) other))
+  same-number place other ki kj = (
+    λ e. sym (numbers-spell place ki) ∙ ap (spelled lex (scan lex formula .words)) e ∙ numbers-spell other kj,
     λ e.
-        word-at i ki .numbered ∙ ap (spellingOf lex (scan lex formula .words)) e ∙ sym (word-at j kj .numbered),
+        word-at place ki .numbered ∙ ap (spellingOf lex (scan lex formula .words)) e ∙ sym (word-at other kj .numbered),
   )

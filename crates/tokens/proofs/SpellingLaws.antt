@@ -36,12 +36,12 @@ run-word (b ∷ bs) l h =
     ap isWord r ∙ rw (l, every-run isWordByte bs, le-leb _ 31 n) refl
 
 -- the word at the front is a word
-pub front-word : {rest s : List ℕ} → WordFront rest s → isWord s ≡ true
+pub front-word : {rest spelling : List ℕ} → WordFront rest spelling → isWord spelling ≡ true
 front-word {rest} w = rw (w .whole) (run-word rest (w .begins) (omega (arith, w .short, ap length (w .whole))))
 
-stands-word : {lex : Lexicon} {at : ℕ} {rest : List ℕ} {met met′ : List (List ℕ)} {t : Token} → Stands lex at rest met t met′
-    → t .kind ≡ wordKind
-    → isWord (take (t .size) rest) ≡ true
+stands-word : {lex : Lexicon} {at : ℕ} {rest : List ℕ} {met met′ : List (List ℕ)} {token : Token} → Stands lex at rest met token met′
+    → token .kind ≡ wordKind
+    → isWord (take (token .size) rest) ≡ true
 stands-word (a-keyword w f) e = absurd (omega (arith, e))
 stands-word (a-keyword-symbol y f) e = absurd (omega (arith, e))
 stands-word (an-outside-name w n f) e = rw (word-taken w) (front-word w)
@@ -52,14 +52,14 @@ stands-word (a-symbol y n) e = absurd (omega (arith, e))
 
 -- ------------------------------------------------------------------ spelling numbers
 
--- a word token, by the words W of the whole scan
-pub record Spelled (lex : Lexicon) (formula : List ℕ) (W : List (List ℕ)) (t : Token) : Type 0 where
+-- a word token, by the words `listed` of the whole scan
+pub record Spelled (lex : Lexicon) (formula : List ℕ) (listed : List (List ℕ)) (token : Token) : Type 0 where
   -- its bytes are a word
-  pub is-word : isWord (bytesOf formula t) ≡ true
+  pub is-word : isWord (bytesOf formula token) ≡ true
   -- its value is the spelling number of its bytes
-  pub numbered : t .value ≡ spellingOf lex W (bytesOf formula t)
+  pub numbered : token .value ≡ spellingOf lex listed (bytesOf formula token)
   -- its value is that of an outside name or of a word met
-  pub known : t .value < 64 + length W
+  pub known : token .value < 64 + length listed
 
 -- a fact of every token
 abbrev pub Every : (Token → Type 0) → List Token → Type 0
@@ -67,62 +67,64 @@ Every P [] = Unit {0}
 Every P (t ∷ ts) = P t × Every P ts
 
 -- a fact of every token is one of each
-pub every-at : (P : Token → Type 0) (ts : List Token) (i : ℕ) (d : Token) → Every P ts → i < length ts → P (getD ts i d)
-every-at P [] i d p h = absurd (omega arith)
-every-at P (t ∷ ts) zero d p h = p .0
-every-at P (t ∷ ts) (suc i) d p h = every-at P ts i d (p .1) (omega arith)
+pub every-at : (P : Token → Type 0) (ts : List Token) (place : ℕ) (default : Token) → Every P ts → place < length ts → P (getD ts place default)
+every-at P [] place default p h = absurd (omega arith)
+every-at P (t ∷ ts) zero default p h = p .0
+every-at P (t ∷ ts) (suc place) default p h = every-at P ts place default (p .1) (omega arith)
 
 -- a word that is met has a place among the words then met, which stays
-record Placed (words words′ : List (List ℕ)) (s : List ℕ) : Type 0 where
-  same-place : indexOf s words′ ≡ indexOf s words
-  there : indexOf s words′ < length words′
+record Placed (words words′ : List (List ℕ)) (spelling : List ℕ) : Type 0 where
+  same-place : indexOf spelling words′ ≡ indexOf spelling words
+  there : indexOf spelling words′ < length words′
 
-new-is : (count : ℕ) (t : Token) → t .kind ≡ wordKind → t .value ≡ 64 + count → isNew count t ≡ true
-new-is count t k v = rw (eq-eqb (t .kind) wordKind k, eq-eqb (t .value) (64 + count) v) refl
+new-is : (count : ℕ) (token : Token) → token .kind ≡ wordKind → token .value ≡ 64 + count → isNew count token ≡ true
+new-is count token k v = rw (eq-eqb (token .kind) wordKind k, eq-eqb (token .value) (64 + count) v) refl
 
-old-is : (count : ℕ) (t : Token) → t .kind ≡ wordKind → (t .value ≡ 64 + count → ⊥) → isNew count t ≡ false
-old-is count t k v = rw (eq-eqb (t .kind) wordKind k, ne-eqb (t .value) (64 + count) v) refl
+old-is : (count : ℕ) (token : Token) → token .kind ≡ wordKind → (token .value ≡ 64 + count → ⊥) → isNew count token ≡ false
+old-is count token k v = rw (eq-eqb (token .kind) wordKind k, ne-eqb (token .value) (64 + count) v) refl
 
-placed : (words : List (List ℕ)) (s : List ℕ) (t : Token) → t .kind ≡ wordKind → t .value ≡ 64 + indexOf s words
-    → Placed words (wordsWith words s t) s
-placed words s t k v = by-test (ltb (indexOf s words) (length words)) old new
+placed : (words : List (List ℕ)) (spelling : List ℕ) (token : Token) → token .kind ≡ wordKind → token .value ≡ 64 + indexOf spelling words
+    → Placed words (wordsWith words spelling token) spelling
+placed words spelling token k v = by-test (ltb (indexOf spelling words) (length words)) old new
   where
-    old : ltb (indexOf s words) (length words) ≡ true → Placed words (wordsWith words s t) s
+    old : ltb (indexOf spelling words) (length words) ≡ true → Placed words (wordsWith words spelling token) spelling
     old e =
-        let h : indexOf s words < length words = ltb-true (indexOf s words) (length words) e in
-        let w : wordsWith words s t ≡ words = with-old words s t (old-is (length words) t k (λ z. omega (arith, z, v))) in
-        record { same-place = ap (indexOf s) w; there = rw w h }
+        let h : indexOf spelling words < length words = ltb-true (indexOf spelling words) (length words) e in
+        let w : wordsWith words spelling token ≡ words = with-old words spelling token (old-is (length words) token k (λ z. omega (arith, z, v))) in
+        record { same-place = ap (indexOf spelling) w; there = rw w h }
 
-    new : ltb (indexOf s words) (length words) ≡ false → Placed words (wordsWith words s t) s
+    new : ltb (indexOf spelling words) (length words) ≡ false → Placed words (wordsWith words spelling token) spelling
     new e =
-        let z : indexOf s words ≡ length words = omega (arith, ltb-false (indexOf s words) (length words) e, index-le s words) in
-        let w : wordsWith words s t ≡ words ++ (s ∷ []) = with-new words s t (new-is (length words) t k (cc)) in
-        let i : indexOf s (words ++ (s ∷ [])) ≡ length words
-        = cc (index-rest s words (s ∷ []) z, index-self s, add-zero (length words)) in
-        record { same-place = ap (indexOf s) w ∙ i ∙ sym z; there = rw w (omega (arith, i, length-append words (s ∷ []))) }
+        let z : indexOf spelling words ≡ length words = omega (arith, ltb-false (indexOf spelling words) (length words) e, index-le spelling words) in
+        let w : wordsWith words spelling token ≡ words ++ (spelling ∷ []) = with-new words spelling token (new-is (length words) token k (cc)) in
+        let i : indexOf spelling (words ++ (spelling ∷ [])) ≡ length words
+        = cc (index-rest spelling words (spelling ∷ []) z, index-self spelling, add-zero (length words)) in
+        record { same-place = ap (indexOf spelling) w ∙ i ∙ sym z; there = rw w (omega (arith, i, length-append words (spelling ∷ []))) }
 
 -- a word's spelling number by the words then met is its spelling number by all words
 module _ (lex : Lexicon) (few : length (lex .outsides) ≤ 64) where
-  stays : (words more : List (List ℕ)) (s : List ℕ) (t : Token) (f : Found) → f ≡ foundIn s (lex .outsides) → t .kind ≡ wordKind
-      → t .value ≡ spellingOf lex words s
-      → (t .value ≡ spellingOf lex (wordsWith words s t ++ more) s) × (t .value < 64 + length (wordsWith words s t ++ more))
-  stays words more s t (At i) e k v =
-      let a : t .value ≡ i = v ∙ spelling-found lex words s (At i) e in (
-        a ∙ sym (spelling-found lex (wordsWith words s t ++ more) s (At i) e),
-        omega (arith, a, found-within s (lex .outsides) e),
+  stays : (words more : List (List ℕ)) (spelling : List ℕ) (token : Token) (found : Found) → found ≡ foundIn spelling (lex .outsides) → token .kind ≡ wordKind
+      → token .value ≡ spellingOf lex words spelling
+      → (token .value ≡ spellingOf lex (wordsWith words spelling token ++ more) spelling)
+      × (token .value < 64 + length (wordsWith words spelling token ++ more))
+  stays words more spelling token (At i) e k v =
+      let a : token .value ≡ i = v ∙ spelling-found lex words spelling (At i) e in (
+        a ∙ sym (spelling-found lex (wordsWith words spelling token ++ more) spelling (At i) e),
+        omega (arith, a, found-within spelling (lex .outsides) e),
       )
-  stays words more s t Absent e k v =
-      let a : t .value ≡ 64 + indexOf s words = v ∙ spelling-found lex words s Absent e in
-      let p : Placed words (wordsWith words s t) s = placed words s t k a in
-      let i : indexOf s (wordsWith words s t ++ more) ≡ indexOf s words = index-front s (wordsWith words s t) more (p .there) ∙ p .same-place in (
-        a ∙ sym (cc (spelling-found lex (wordsWith words s t ++ more) s Absent e)),
-        omega (arith, a, p .there, p .same-place, length-append (wordsWith words s t) more),
+  stays words more spelling token Absent e k v =
+      let a : token .value ≡ 64 + indexOf spelling words = v ∙ spelling-found lex words spelling Absent e in
+      let p : Placed words (wordsWith words spelling token) spelling = placed words spelling token k a in
+      let i : indexOf spelling (wordsWith words spelling token ++ more) ≡ indexOf spelling words = index-front spelling (wordsWith words spelling token) more
+      (p .there) ∙ p .same-place in (
+        a ∙ sym (cc (spelling-found lex (wordsWith words spelling token ++ more) spelling Absent e)),
+        omega (arith, a, p .there, p .same-place, length-append (wordsWith words spelling token) more),
       )
 
-  grown : (words : List (List ℕ)) (s : List ℕ) (t : Token) → (extra : List (List ℕ)) × (wordsWith words s t ≡ words ++ extra)
-  grown words s t =
-      by-test (isNew (length words) t) (λ e. (s ∷ [], with-new words s t e))
-      (λ e. ([], with-old words s t e ∙ sym (append-nil words)))
+  grown : (words : List (List ℕ)) (spelling : List ℕ) (token : Token) → (extra : List (List ℕ)) × (wordsWith words spelling token ≡ words ++ extra)
+  grown words spelling token =
+      by-test (isNew (length words) token) (λ e. (spelling ∷ [], with-new words spelling token e))
+      (λ e. ([], with-old words spelling token e ∙ sym (append-nil words)))
 
   module _ (formula : List ℕ) where
     SpelledFrom : ℕ → ℕ → List (List ℕ) → Lexed → Type 0
@@ -131,13 +133,13 @@ module _ (lex : Lexicon) (few : length (lex .outsides) ≤ 64) where
         × (l .words ≡ words ++ more)
         × Every (λ t. t .kind ≡ wordKind → Spelled lex formula (l .words) t) (l .tokens)
 
-    spelled-token : (at : ℕ) (words more : List (List ℕ)) (t : Token) (W : List (List ℕ)) → Emits lex words at (drop at formula) t
-        → W ≡ wordsWith words (take (t .size) (drop at formula)) t ++ more
-        → t .kind ≡ wordKind
-        → Spelled lex formula W t
-    spelled-token at words more t W told w k =
-        let b : bytesOf formula t ≡ take (t .size) (drop at formula) = cc (told .placed) in
-        let p = stays words more (take (t .size) (drop at formula)) t _ refl k (told .valued k) in
+    spelled-token : (at : ℕ) (words more : List (List ℕ)) (token : Token) (listed : List (List ℕ)) → Emits lex words at (drop at formula) token
+        → listed ≡ wordsWith words (take (token .size) (drop at formula)) token ++ more
+        → token .kind ≡ wordKind
+        → Spelled lex formula listed token
+    spelled-token at words more token listed told w k =
+        let b : bytesOf formula token ≡ take (token .size) (drop at formula) = cc (told .placed) in
+        let p = stays words more (take (token .size) (drop at formula)) token _ refl k (told .valued k) in
         record {
           is-word = ap isWord b ∙ stands-word (told .stands) k;
           numbered = rw (b, w) (p .0);
@@ -166,17 +168,17 @@ module _ (lex : Lexicon) (few : length (lex .outsides) ≤ 64) where
     scan-spelled = scan-kept lex few formula SpelledFrom spelled-kept .2
 
     -- what a word token's number stands for
-    pub spelled-number : (W : List (List ℕ)) (t : Token) → Spelled lex formula W t → spelled lex W (t .value) ≡ bytesOf formula t
-    spelled-number W t w = by-found (foundIn (bytesOf formula t) (lex .outsides)) refl
+    pub spelled-number : (listed : List (List ℕ)) (token : Token) → Spelled lex formula listed token → spelled lex listed (token .value) ≡ bytesOf formula token
+    spelled-number listed token w = by-found (foundIn (bytesOf formula token) (lex .outsides)) refl
       where
-        by-found : (f : Found) → f ≡ foundIn (bytesOf formula t) (lex .outsides) → spelled lex W (t .value) ≡ bytesOf formula t
+        by-found : (found : Found) → found ≡ foundIn (bytesOf formula token) (lex .outsides) → spelled lex listed (token .value) ≡ bytesOf formula token
         by-found (At k) e =
-            let a : t .value ≡ k = w .numbered ∙ spelling-found lex W (bytesOf formula t) (At k) e in
-            let h : k < length (lex .outsides) = found-within (bytesOf formula t) (lex .outsides) e in
-            ap (spelled lex W) a ∙ rw (lt-ltb k 64 (omega arith), spelled) (found-spells (bytesOf formula t) (lex .outsides) e)
+            let a : token .value ≡ k = w .numbered ∙ spelling-found lex listed (bytesOf formula token) (At k) e in
+            let h : k < length (lex .outsides) = found-within (bytesOf formula token) (lex .outsides) e in
+            ap (spelled lex listed) a ∙ rw (lt-ltb k 64 (omega arith), spelled) (found-spells (bytesOf formula token) (lex .outsides) e)
         by-found Absent e =
-            let a : t .value ≡ 64 + indexOf (bytesOf formula t) W = w .numbered ∙ spelling-found lex W (bytesOf formula t) Absent e in
-            let z : 64 + indexOf (bytesOf formula t) W - 64 ≡ indexOf (bytesOf formula t) W = omega arith in
-            ap (spelled lex W) a
-            ∙ rw (le-ltb (64 + indexOf (bytesOf formula t) W) 64 (omega arith), spelled)
-            (cc (index-found (bytesOf formula t) W (omega (arith, a, w .known))))
+            let a : token .value ≡ 64 + indexOf (bytesOf formula token) listed = w .numbered ∙ spelling-found lex listed (bytesOf formula token) Absent e in
+            let z : 64 + indexOf (bytesOf formula token) listed - 64 ≡ indexOf (bytesOf formula token) listed = omega arith in
+            ap (spelled lex listed) a
+            ∙ rw (le-ltb (64 + indexOf (bytesOf formula token) listed) 64 (omega arith), spelled)
+            (cc (index-found (bytesOf formula token) listed (omega (arith, a, w .known))))

@@ -29,142 +29,146 @@ use Rattle.tokens.proofs.StepLaws.{Fits, lexeme-fits, step-by, token-wo
 
 -- ------------------------------------------------------------------ the words after a token
 
-module _ (met : List (List ℕ)) (s : List ℕ) (t : Token) where
+module _ (met : List (List ℕ)) (spelling : List ℕ) (read-token : Token) where
   -- no word
-  with-other : (t .kind ≡ wordKind → ⊥) → wordsWith met s t ≡ met
-  with-other h = with-old met s t (rw (ne-eqb (t .kind) wordKind h) refl)
+  with-other : (read-token .kind ≡ wordKind → ⊥) → wordsWith met spelling read-token ≡ met
+  with-other h = with-old met spelling read-token (rw (ne-eqb (read-token .kind) wordKind h) refl)
 
-  module _ (k : t .kind ≡ wordKind) where
+  module _ (is-word : read-token .kind ≡ wordKind) where
     -- a word whose number is not the next one
-    with-known : (t .value ≡ 64 + length met → ⊥) → wordsWith met s t ≡ met
-    with-known h = with-old met s t (rw (eq-eqb (t .kind) wordKind k, ne-eqb (t .value) (64 + length met) h) refl)
+    with-known : (read-token .value ≡ 64 + length met → ⊥) → wordsWith met spelling read-token ≡ met
+    with-known h = with-old met spelling read-token (rw (eq-eqb (read-token .kind) wordKind is-word, ne-eqb (read-token .value) (64 + length met) h) refl)
 
-    with-next : t .value ≡ 64 + length met → wordsWith met s t ≡ met ++ (s ∷ [])
-    with-next h = with-new met s t (rw (eq-eqb (t .kind) wordKind k, eq-eqb (t .value) (64 + length met) h) refl)
+    with-next : read-token .value ≡ 64 + length met → wordsWith met spelling read-token ≡ met ++ (spelling ∷ [])
+    with-next h = with-new met spelling read-token (rw (eq-eqb (read-token .kind) wordKind is-word, eq-eqb (read-token .value) (64 + length met) h) refl)
 
 -- ------------------------------------------------------------------ the token of a spelling, by what is found
 
 -- a token made of a spelling, and the words after it
-record Makes (made : Token) (met : List (List ℕ)) (s : List ℕ) (t : Token) (met′ : List (List ℕ)) : Type 0 where
-  token-is : t ≡ made
-  words-are : wordsWith met s t ≡ met′
+record Makes (made : Token) (met : List (List ℕ)) (spelling : List ℕ) (read-token : Token) (met′ : List (List ℕ)) : Type 0 where
+  token-is : read-token ≡ made
+  words-are : wordsWith met spelling read-token ≡ met′
 
-module _ (lex : Lexicon) (few : length (lex .outsides) ≤ 64) (met : List (List ℕ)) (at : ℕ) (s : List ℕ) (other : ℕ) where
+module _ (lex : Lexicon) (few : length (lex .outsides) ≤ 64) (met : List (List ℕ)) (at : ℕ) (spelling : List ℕ) (other : ℕ) where
   made : Token
-  made = spelledToken lex met at s (kindOf lex s other)
+  made = spelledToken lex met at spelling (kindOf lex spelling other)
 
-  makes-keyword : {k : ℕ} → FirstAt s (lex .keywords) k → Makes made met s (token (keywordKind k) at (length s) 0) met
+  makes-keyword : {number : ℕ} → FirstAt spelling (lex .keywords) number → Makes made met spelling (token (keywordKind number) at (length spelling) 0) met
   unfolding made
-  makes-keyword {k} f =
-      let none : keywordKind k ≡ 0 → ⊥ = λ e. omega (arith, e) in
+  makes-keyword {number} f =
+      let none : keywordKind number ≡ 0 → ⊥ = λ e. omega (arith, e) in
       record {
-        token-is = token-other lex met at s other (sym (kind-found lex s other (At k) (first-found f))) none;
-        words-are = with-other met s _ none;
+        token-is = token-other lex met at spelling other (sym (kind-found lex spelling other (At number) (first-found f))) none;
+        words-are = with-other met spelling _ none;
       }
 
-  makes-symbol : (other ≡ 0 → ⊥) → NotIn s (lex .keywords) → Makes made met s (token other at (length s) 0) met
+  makes-symbol : (other ≡ 0 → ⊥) → NotIn spelling (lex .keywords) → Makes made met spelling (token other at (length spelling) 0) met
   unfolding made
   makes-symbol none n =
       record {
-        token-is = token-other lex met at s other (sym (kind-found lex s other Absent (none-found n))) none;
-        words-are = with-other met s _ none;
+        token-is = token-other lex met at spelling other (sym (kind-found lex spelling other Absent (none-found n))) none;
+        words-are = with-other met spelling _ none;
       }
 
-  module _ (word : other ≡ wordKind) (n : NotIn s (lex .keywords)) where
-    kind-word : other ≡ kindOf lex s other
-    kind-word = sym (kind-found lex s other Absent (none-found n))
+  module _ (word : other ≡ wordKind) (no-keyword : NotIn spelling (lex .keywords)) where
+    kind-word : other ≡ kindOf lex spelling other
+    kind-word = sym (kind-found lex spelling other Absent (none-found no-keyword))
 
-    makes-outside : {k : ℕ} → FirstAt s (lex .outsides) k → Makes made met s (token other at (length s) k) met
+    makes-outside : {number : ℕ} → FirstAt spelling (lex .outsides) number → Makes made met spelling (token other at (length spelling) number) met
     unfolding made
-    makes-outside {k} f =
+    makes-outside {number} f =
         record {
-          token-is = token-word lex met at s other kind-word word (sym (spelling-found lex met s (At k) (first-found f)));
-          words-are = with-known met s _ word (λ e. omega (arith, e, f .there));
+          token-is = token-word lex met at spelling other kind-word word (sym (spelling-found lex met spelling (At number) (first-found f)));
+          words-are = with-known met spelling _ word (λ e. omega (arith, e, f .there));
         }
 
-    makes-again : {k : ℕ} → NotIn s (lex .outsides) → FirstAt s met k → Makes made met s (token other at (length s) (64 + k)) met
+    makes-again : {number : ℕ} → NotIn spelling (lex .outsides) → FirstAt spelling met number
+        → Makes made met spelling (token other at (length spelling) (64 + number)) met
     unfolding made
-    makes-again {k} o f =
+    makes-again {number} o f =
         record {
           token-is =
-              token-word lex met at s other kind-word word
-              (cc (first-index f, spelling-found lex met s Absent (none-found o)));
-          words-are = with-known met s _ word (λ e. omega (arith, e, f .there));
+              token-word lex met at spelling other kind-word word
+              (cc (first-index f, spelling-found lex met spelling Absent (none-found o)));
+          words-are = with-known met spelling _ word (λ e. omega (arith, e, f .there));
         }
 
-    makes-new : NotIn s (lex .outsides) → NotIn s met → Makes made met s (token other at (length s) (64 + length met)) (met ++ (s ∷ []))
+    makes-new : NotIn spelling (lex .outsides) → NotIn spelling met
+        → Makes made met spelling (token other at (length spelling) (64 + length met)) (met ++ (spelling ∷ []))
     unfolding made
     makes-new o f =
         record {
           token-is =
-              token-word lex met at s other kind-word word
-              (cc (none-index f, spelling-found lex met s Absent (none-found o)));
-          words-are = with-next met s _ word refl;
+              token-word lex met at spelling other kind-word word
+              (cc (none-index f, spelling-found lex met spelling Absent (none-found o)));
+          words-are = with-next met spelling _ word refl;
         }
 
 -- ------------------------------------------------------------------ the bytes of a token at the front
 
 -- as many bytes as a word has, from the front, are the word
-pub word-taken : {rest s : List ℕ} → WordFront rest s → take (length s) rest ≡ s
+pub word-taken : {rest spelling : List ℕ} → WordFront rest spelling → take (length spelling) rest ≡ spelling
 word-taken {rest} w = cc (w .whole, run-prefix isWordByte rest)
 
 -- ------------------------------------------------------------------ from a step to the rules
 
 -- a token and the words after it, as a rule tells them
-stands-made : {lex : Lexicon} {at : ℕ} {rest : List ℕ} {met met′ : List (List ℕ)} {s : List ℕ} {t u : Token} → Stands lex at rest met t met′
-    → Makes u met s t met′
-    → Stands lex at rest met u (wordsWith met s u)
-stands-made {met = met} {s = s} st m =
-    let w : wordsWith met s _ ≡ _ = ap (wordsWith met s) (sym (m .token-is)) ∙ m .words-are in
+stands-made : {lex : Lexicon} {at : ℕ} {rest : List ℕ} {met met′ : List (List ℕ)} {spelling : List ℕ} {read-token other : Token}
+    → Stands lex at rest met read-token met′ → Makes other met spelling read-token met′
+    → Stands lex at rest met other (wordsWith met spelling other)
+stands-made {met = met} {spelling = spelling} st m =
+    let w : wordsWith met spelling _ ≡ _ = ap (wordsWith met spelling) (sym (m .token-is)) ∙ m .words-are in
     rw (w, ← m .token-is) st
 
-module _ (lex : Lexicon) (few : length (lex .outsides) ≤ 64) (met : List (List ℕ)) (at : ℕ) (rest s : List ℕ) where
-  word-stands : WordFront rest s → Stands lex at rest met (made lex few met at s wordKind) (wordsWith met s (made lex few met at s wordKind))
-  word-stands w = by-keyword (foundIn s (lex .keywords)) refl
+module _ (lex : Lexicon) (few : length (lex .outsides) ≤ 64) (met : List (List ℕ)) (at : ℕ) (rest spelling : List ℕ) where
+  word-stands : WordFront rest spelling
+      → Stands lex at rest met (made lex few met at spelling wordKind) (wordsWith met spelling (made lex few met at spelling wordKind))
+  word-stands w = by-keyword (foundIn spelling (lex .keywords)) refl
     where
-      by-met : NotIn s (lex .keywords) → NotIn s (lex .outsides) → (f : Found) → f ≡ foundIn s met
-          → Stands lex at rest met (made lex few met at s wordKind) (wordsWith met s (made lex few met at s wordKind))
+      by-met : NotIn spelling (lex .keywords) → NotIn spelling (lex .outsides) → (found : Found) → found ≡ foundIn spelling met
+          → Stands lex at rest met (made lex few met at spelling wordKind) (wordsWith met spelling (made lex few met at spelling wordKind))
       by-met n o (At k) e =
-          let f : FirstAt s met k = found-by s met (At k) e in
-          stands-made (a-word-again w n o f) (makes-again lex few met at s wordKind refl n o f)
+          let f : FirstAt spelling met k = found-by spelling met (At k) e in
+          stands-made (a-word-again w n o f) (makes-again lex few met at spelling wordKind refl n o f)
       by-met n o Absent e =
-          let f : NotIn s met = found-by s met Absent e in
-          stands-made (a-new-word w n o f) (makes-new lex few met at s wordKind refl n o f)
+          let f : NotIn spelling met = found-by spelling met Absent e in
+          stands-made (a-new-word w n o f) (makes-new lex few met at spelling wordKind refl n o f)
 
-      by-outside : NotIn s (lex .keywords) → (f : Found) → f ≡ foundIn s (lex .outsides)
-          → Stands lex at rest met (made lex few met at s wordKind) (wordsWith met s (made lex few met at s wordKind))
+      by-outside : NotIn spelling (lex .keywords) → (found : Found) → found ≡ foundIn spelling (lex .outsides)
+          → Stands lex at rest met (made lex few met at spelling wordKind) (wordsWith met spelling (made lex few met at spelling wordKind))
       by-outside n (At k) e =
-          let f : FirstAt s (lex .outsides) k = found-by s (lex .outsides) (At k) e in
-          stands-made (an-outside-name w n f) (makes-outside lex few met at s wordKind refl n f)
-      by-outside n Absent e = by-met n (found-by s (lex .outsides) Absent e) (foundIn s met) refl
+          let f : FirstAt spelling (lex .outsides) k = found-by spelling (lex .outsides) (At k) e in
+          stands-made (an-outside-name w n f) (makes-outside lex few met at spelling wordKind refl n f)
+      by-outside n Absent e = by-met n (found-by spelling (lex .outsides) Absent e) (foundIn spelling met) refl
 
-      by-keyword : (f : Found) → f ≡ foundIn s (lex .keywords)
-          → Stands lex at rest met (made lex few met at s wordKind) (wordsWith met s (made lex few met at s wordKind))
+      by-keyword : (found : Found) → found ≡ foundIn spelling (lex .keywords)
+          → Stands lex at rest met (made lex few met at spelling wordKind) (wordsWith met spelling (made lex few met at spelling wordKind))
       by-keyword (At k) e =
-          let f : FirstAt s (lex .keywords) k = found-by s (lex .keywords) (At k) e in
-          stands-made (a-keyword w f) (makes-keyword lex few met at s wordKind f)
-      by-keyword Absent e = by-outside (found-by s (lex .keywords) Absent e) (foundIn s (lex .outsides)) refl
+          let f : FirstAt spelling (lex .keywords) k = found-by spelling (lex .keywords) (At k) e in
+          stands-made (a-keyword w f) (makes-keyword lex few met at spelling wordKind f)
+      by-keyword Absent e = by-outside (found-by spelling (lex .keywords) Absent e) (foundIn spelling (lex .outsides)) refl
 
-  symbol-stands : SymbolFront rest s → Stands lex at rest met (made lex few met at s noKind) (wordsWith met s (made lex few met at s noKind))
-  symbol-stands y = by-keyword (foundIn s (lex .keywords)) refl
+  symbol-stands : SymbolFront rest spelling
+      → Stands lex at rest met (made lex few met at spelling noKind) (wordsWith met spelling (made lex few met at spelling noKind))
+  symbol-stands y = by-keyword (foundIn spelling (lex .keywords)) refl
     where
-      by-keyword : (f : Found) → f ≡ foundIn s (lex .keywords)
-          → Stands lex at rest met (made lex few met at s noKind) (wordsWith met s (made lex few met at s noKind))
+      by-keyword : (found : Found) → found ≡ foundIn spelling (lex .keywords)
+          → Stands lex at rest met (made lex few met at spelling noKind) (wordsWith met spelling (made lex few met at spelling noKind))
       by-keyword (At k) e =
-          let f : FirstAt s (lex .keywords) k = found-by s (lex .keywords) (At k) e in
-          stands-made (a-keyword-symbol y f) (makes-keyword lex few met at s noKind f)
+          let f : FirstAt spelling (lex .keywords) k = found-by spelling (lex .keywords) (At k) e in
+          stands-made (a-keyword-symbol y f) (makes-keyword lex few met at spelling noKind f)
       by-keyword Absent e =
-          let f : NotIn s (lex .keywords) = found-by s (lex .keywords) Absent e in
-          stands-made (a-symbol y f) (makes-symbol lex few met at s noKind (λ z. omega (arith, z)) f)
+          let f : NotIn spelling (lex .keywords) = found-by spelling (lex .keywords) Absent e in
+          stands-made (a-symbol y f) (makes-symbol lex few met at spelling noKind (λ z. omega (arith, z)) f)
 
 -- what a step that emits a token tells of it
-pub record Emits (lex : Lexicon) (words : List (List ℕ)) (at : ℕ) (rest : List ℕ) (t : Token) : Type 0 where
+pub record Emits (lex : Lexicon) (words : List (List ℕ)) (at : ℕ) (rest : List ℕ) (read-token : Token) : Type 0 where
   -- it stands at the offset
-  pub placed : t .at ≡ at
+  pub placed : read-token .at ≡ at
   -- it stands there by the rules, with the words met
-  pub stands : Stands lex at rest words t (wordsWith words (take (t .size) rest) t)
+  pub stands : Stands lex at rest words read-token (wordsWith words (take (read-token .size) rest) read-token)
   -- a word's value is its spelling number
-  pub valued : t .kind ≡ wordKind → t .value ≡ spellingOf lex words (take (t .size) rest)
+  pub valued : read-token .kind ≡ wordKind → read-token .value ≡ spellingOf lex words (take (read-token .size) rest)
 
 -- what a step tells of the bytes at the front
 abbrev pub Told : Lexicon → List (List ℕ) → ℕ → List ℕ → Step → Type 0
@@ -172,17 +176,17 @@ Told lex words at rest Skip = isSeparator (getD rest 0 0) ≡ true
 Told lex words at rest Stop = Faulty rest
 Told lex words at rest (Emit t) = Emits lex words at rest t
 
-told-spelled : (lex : Lexicon) (words : List (List ℕ)) (at : ℕ) (rest : List ℕ) (n kind : ℕ) → n ≤ length rest
-    → spelledToken lex words at (take n rest) kind .kind ≡ wordKind
-    → spelledToken lex words at (take n rest) kind .value ≡ spellingOf lex words (take (length (take n rest)) rest)
-told-spelled lex words at rest n kind h e =
-    let z : length (take n rest) ≡ n = omega (arith, length-take n rest) in
+told-spelled : (lex : Lexicon) (words : List (List ℕ)) (at : ℕ) (rest : List ℕ) (size kind : ℕ) → size ≤ length rest
+    → spelledToken lex words at (take size rest) kind .kind ≡ wordKind
+    → spelledToken lex words at (take size rest) kind .value ≡ spellingOf lex words (take (length (take size rest)) rest)
+told-spelled lex words at rest size kind h e =
+    let z : length (take size rest) ≡ size = omega (arith, length-take size rest) in
     cc (eq-eqb kind wordKind e)
 
-take-again : (n : ℕ) (rest : List ℕ) → take (length (take n rest)) rest ≡ take n rest
+take-again : (size : ℕ) (rest : List ℕ) → take (length (take size rest)) rest ≡ take size rest
 take-again zero rest = refl
-take-again (suc n) [] = refl
-take-again (suc n) (b ∷ bs) = cc (take-again n bs)
+take-again (suc size) [] = refl
+take-again (suc size) (b ∷ bs) = cc (take-again size bs)
 
 -- the symbol at the front
 pub one-byte : (rest : List ℕ) → 0 < length rest → take 1 rest ≡ getD rest 0 0 ∷ []
@@ -190,7 +194,7 @@ one-byte [] h = absurd (omega arith)
 one-byte (b ∷ bs) h = refl
 
 module _ (lex : Lexicon) (few : length (lex .outsides) ≤ 64) (words : List (List ℕ)) (at : ℕ) (rest : List ℕ) where
-  told-by : (l : Lexeme) → 0 < length rest → Fits rest l → Told lex words at rest (stepBy lex words at rest l)
+  told-by : (lexeme : Lexeme) → 0 < length rest → Fits rest lexeme → Told lex words at rest (stepBy lex words at rest lexeme)
   unfolding made
   told-by Separator h f = f
   told-by (Word n) h f =
@@ -224,27 +228,27 @@ module _ (lex : Lexicon) (few : length (lex .outsides) ≤ 64) (words : List (Li
   told-by Fault h f = f
 
   -- the definition's step tells it
-  pub step-told : (r : Step) → 0 < length rest → r ≡ stepOf lex words at rest → Told lex words at rest r
-  step-told r h e =
+  pub step-told : (step : Step) → 0 < length rest → step ≡ stepOf lex words at rest → Told lex words at rest step
+  step-told step h e =
       subst (Told lex words at rest) (step-by lex words at rest refl ∙ sym e)
       (told-by (lexemeOf rest) h (lexeme-fits rest (lexemeOf rest) refl))
 
 -- ------------------------------------------------------------------ from the rules to a step
 
 -- the token that a step emits, and the words after it
-pub record Steps (lex : Lexicon) (met : List (List ℕ)) (at : ℕ) (rest : List ℕ) (t : Token) (met′ : List (List ℕ)) : Type 0 where
+pub record Steps (lex : Lexicon) (met : List (List ℕ)) (at : ℕ) (rest : List ℕ) (read-token : Token) (met′ : List (List ℕ)) : Type 0 where
   -- the step is this token
-  pub emits : Emit t ≡ stepOf lex met at rest
+  pub emits : Emit read-token ≡ stepOf lex met at rest
   -- the words met after it
-  pub words : wordsWith met (take (t .size) rest) t ≡ met′
+  pub words : wordsWith met (take (read-token .size) rest) read-token ≡ met′
 
 module _ {lex : Lexicon} (few : length (lex .outsides) ≤ 64) {at : ℕ} {rest : List ℕ} {met : List (List ℕ)} where
-  word-steps : {s : List ℕ} {t : Token} {met′ : List (List ℕ)} → WordFront rest s → t .size ≡ length s
-      → Makes (made lex few met at s wordKind) met s t met′
-      → Steps lex met at rest t met′
+  word-steps : {spelling : List ℕ} {read-token : Token} {met′ : List (List ℕ)} → WordFront rest spelling → read-token .size ≡ length spelling
+      → Makes (made lex few met at spelling wordKind) met spelling read-token met′
+      → Steps lex met at rest read-token met′
   unfolding made
-  word-steps {s} {t} w z m =
-      let e : take (length (longestRun isWordByte rest)) rest ≡ s = sym (run-prefix isWordByte rest) ∙ sym (w .whole) in
+  word-steps {spelling} {read-token} w z m =
+      let e : take (length (longestRun isWordByte rest)) rest ≡ spelling = sym (run-prefix isWordByte rest) ∙ sym (w .whole) in
       let l = lexeme-word rest (w .begins) (omega (arith, w .short, ap length (w .whole))) in
       record {
         emits =
@@ -253,13 +257,13 @@ module _ {lex : Lexicon} (few : length (lex .outsides) ≤ 64) {at : ℕ} {rest 
         words = cc (word-taken w, m .words-are);
       }
 
-  symbol-steps : {s : List ℕ} {t : Token} {met′ : List (List ℕ)} → 0 < length rest → SymbolFront rest s → t .size ≡ length s
-      → Makes (made lex few met at s noKind) met s t met′
-      → Steps lex met at rest t met′
+  symbol-steps : {spelling : List ℕ} {read-token : Token} {met′ : List (List ℕ)} → 0 < length rest → SymbolFront rest spelling
+      → read-token .size ≡ length spelling → Makes (made lex few met at spelling noKind) met spelling read-token met′
+      → Steps lex met at rest read-token met′
   unfolding made
-  symbol-steps {s} {t} h y z m =
-      let e : take 1 rest ≡ s = one-byte rest h ∙ sym (y .whole) in
-      let n : t .size ≡ 1 = z ∙ ap length (y .whole) in
+  symbol-steps {spelling} {read-token} h y z m =
+      let e : take 1 rest ≡ spelling = one-byte rest h ∙ sym (y .whole) in
+      let n : read-token .size ≡ 1 = z ∙ ap length (y .whole) in
       record {
         emits =
             ap Emit (cc (m .token-is))
@@ -268,7 +272,8 @@ module _ {lex : Lexicon} (few : length (lex .outsides) ≤ 64) {at : ℕ} {rest 
       }
 
   -- a token that stands there by the rules is the one that the step emits
-  pub stands-steps : {t : Token} {met′ : List (List ℕ)} → 0 < length rest → Stands lex at rest met t met′ → Steps lex met at rest t met′
+  pub stands-steps : {read-token : Token} {met′ : List (List ℕ)} → 0 < length rest → Stands lex at rest met read-token met′
+      → Steps lex met at rest read-token met′
   stands-steps h (a-keyword {s = s} w f) = word-steps w refl (makes-keyword lex few met at s wordKind f)
   stands-steps h (a-keyword-symbol {s = s} y f) = symbol-steps h y refl (makes-keyword lex few met at s noKind f)
   stands-steps h (an-outside-name {s = s} w n f) = word-steps w refl (makes-outside lex few met at s wordKind refl n f)

@@ -33,7 +33,7 @@ Fits rest (Number n v) =
 Fits rest Symbol = isSymbol (getD rest 0 0) ≡ true
 Fits rest Fault = Faulty rest
 
-word-fits : (rest : List ℕ) (b : Bool) → isLetter (getD rest 0 0) ≡ true → leb (length (longestRun isWordByte rest)) 31 ≡ b
+word-fits : (rest : List ℕ) (test : Bool) → isLetter (getD rest 0 0) ≡ true → leb (length (longestRun isWordByte rest)) 31 ≡ test
     → Fits rest (wordLexeme (length (longestRun isWordByte rest)))
 word-fits rest true l e =
     let h : length (longestRun isWordByte rest) ≤ 31 = leb-true (length (longestRun isWordByte rest)) 31 e in
@@ -42,7 +42,7 @@ word-fits rest false l e =
     let z : wordLexeme (length (longestRun isWordByte rest)) ≡ Fault = rw (e, wordLexeme) refl in
     subst (Fits rest) (sym z) (long-word l (leb-false (length (longestRun isWordByte rest)) 31 e))
 
-number-fits : (rest : List ℕ) (b : Bool) → isDigit (getD rest 0 0) ≡ true → leb (valueOf (longestRun isDigit rest)) largest ≡ b
+number-fits : (rest : List ℕ) (test : Bool) → isDigit (getD rest 0 0) ≡ true → leb (valueOf (longestRun isDigit rest)) largest ≡ test
     → Fits rest (numberLexeme (longestRun isDigit rest))
 number-fits rest true d e =
     let z : numberLexeme (longestRun isDigit rest) ≡ Number (length (longestRun isDigit rest)) (valueOf (longestRun isDigit rest))
@@ -53,9 +53,9 @@ number-fits rest false d e =
     subst (Fits rest) (sym z) (large-number d (leb-false (valueOf (longestRun isDigit rest)) largest e))
 
 -- a byte that may be in a formula and is neither a letter nor a digit is a symbol
-pub no-symbol : (b : ℕ) → isLetter b ≡ false → isDigit b ≡ false → isSymbol b ≡ false → 33 ≤ b → b ≤ 126 → ⊥
-no-symbol b l d y low high =
-    let t : isSymbol b ≡ true = rw (le-leb 33 b low, le-leb b 126 high, l, d) refl in
+pub no-symbol : (byte : ℕ) → isLetter byte ≡ false → isDigit byte ≡ false → isSymbol byte ≡ false → 33 ≤ byte → byte ≤ 126 → ⊥
+no-symbol byte l d y low high =
+    let t : isSymbol byte ≡ true = rw (le-leb 33 byte low, le-leb byte 126 high, l, d) refl in
     let z : _≡_ {A = ℕ} 0 1 = cc in
     omega arith
 
@@ -75,13 +75,13 @@ fits-by rest false false false false s l d y =
     (bad-byte s (no-symbol (getD rest 0 0) l d y))
 
 -- the lexeme at the front is so by its bytes
-pub lexeme-fits : (rest : List ℕ) (l : Lexeme) → l ≡ lexemeOf rest → Fits rest l
-lexeme-fits rest l e = subst (Fits rest) (sym e) (fits-by rest _ _ _ _ refl refl refl refl)
+pub lexeme-fits : (rest : List ℕ) (lexeme : Lexeme) → lexeme ≡ lexemeOf rest → Fits rest lexeme
+lexeme-fits rest lexeme e = subst (Fits rest) (sym e) (fits-by rest _ _ _ _ refl refl refl refl)
 
 -- a run that begins has a byte
-pub run-some : (p : ℕ → Bool) (s : List ℕ) → 0 < length s → p (getD s 0 0) ≡ true → 0 < length (longestRun p s)
-run-some p [] h e = absurd (omega arith)
-run-some p (b ∷ bs) h e = let z : length (longestRun p (b ∷ bs)) ≡ suc (length (longestRun p bs)) = ap length (run-taken p b bs e) in omega arith
+pub run-some : (test : ℕ → Bool) (spelling : List ℕ) → 0 < length spelling → test (getD spelling 0 0) ≡ true → 0 < length (longestRun test spelling)
+run-some test [] h e = absurd (omega arith)
+run-some test (b ∷ bs) h e = let z : length (longestRun test (b ∷ bs)) ≡ suc (length (longestRun test bs)) = ap length (run-taken test b bs e) in omega arith
 
 -- ------------------------------------------------------------------ the token
 
@@ -91,8 +91,8 @@ Lies at rest Skip = Unit {0}
 Lies at rest Stop = Unit {0}
 Lies at rest (Emit t) = (t .at ≡ at) × (0 < t .size) × (t .size ≤ length rest)
 
-lies-by : (lex : Lexicon) (words : List (List ℕ)) (at : ℕ) (rest : List ℕ) (l : Lexeme) → 0 < length rest → Fits rest l
-    → Lies at rest (stepBy lex words at rest l)
+lies-by : (lex : Lexicon) (words : List (List ℕ)) (at : ℕ) (rest : List ℕ) (lexeme : Lexeme) → 0 < length rest → Fits rest lexeme
+    → Lies at rest (stepBy lex words at rest lexeme)
 lies-by lex words at rest Separator h f = tt
 lies-by lex words at rest (Word n) h f =
     let some : 0 < length (longestRun isWordByte rest) = run-some isWordByte rest h (letter-word-byte (getD rest 0 0) (f .0)) in
@@ -104,37 +104,37 @@ lies-by lex words at rest Symbol h f = (refl, omega (arith, length-take 1 rest),
 lies-by lex words at rest Fault h f = tt
 
 -- the step is the one for the lexeme at the front
-pub step-by : (lex : Lexicon) (words : List (List ℕ)) (at : ℕ) (rest : List ℕ) {l : Lexeme} → l ≡ lexemeOf rest
-    → stepBy lex words at rest l ≡ stepOf lex words at rest
+pub step-by : (lex : Lexicon) (words : List (List ℕ)) (at : ℕ) (rest : List ℕ) {lexeme : Lexeme} → lexeme ≡ lexemeOf rest
+    → stepBy lex words at rest lexeme ≡ stepOf lex words at rest
 unfolding stepOf
 step-by lex words at rest e = ap (stepBy lex words at rest) e
 
 -- the definition's token lies in what is left
-pub step-lies : (lex : Lexicon) (words : List (List ℕ)) (at : ℕ) (rest : List ℕ) (r : Step) → 0 < length rest
-    → r ≡ stepOf lex words at rest
-    → Lies at rest r
-step-lies lex words at rest r h e =
+pub step-lies : (lex : Lexicon) (words : List (List ℕ)) (at : ℕ) (rest : List ℕ) (step : Step) → 0 < length rest
+    → step ≡ stepOf lex words at rest
+    → Lies at rest step
+step-lies lex words at rest step h e =
     subst (Lies at rest) (step-by lex words at rest refl ∙ sym e)
     (lies-by lex words at rest (lexemeOf rest) h (lexeme-fits rest (lexemeOf rest) refl))
 
 -- ------------------------------------------------------------------ the steps as the code takes them
 
-module _ (lex : Lexicon) (words : List (List ℕ)) (at : ℕ) (s : List ℕ) (other : ℕ) where
+module _ (lex : Lexicon) (words : List (List ℕ)) (at : ℕ) (spelling : List ℕ) (other : ℕ) where
   -- a token of a word has its spelling number
-  pub token-word : {kind value : ℕ} → kind ≡ kindOf lex s other → kind ≡ 0 → value ≡ spellingOf lex words s
-      → token kind at (length s) value ≡ spelledToken lex words at s (kindOf lex s other)
+  pub token-word : {kind value : ℕ} → kind ≡ kindOf lex spelling other → kind ≡ 0 → value ≡ spellingOf lex words spelling
+      → token kind at (length spelling) value ≡ spelledToken lex words at spelling (kindOf lex spelling other)
   token-word {kind} {value} e z v =
-      ap (token kind at (length s))
+      ap (token kind at (length spelling))
       (cc (eq-eqb kind wordKind z))
-      ∙ ap (spelledToken lex words at s) e
+      ∙ ap (spelledToken lex words at spelling) e
 
   -- any other has the value 0
-  pub token-other : {kind : ℕ} → kind ≡ kindOf lex s other → (kind ≡ 0 → ⊥)
-      → token kind at (length s) 0 ≡ spelledToken lex words at s (kindOf lex s other)
+  pub token-other : {kind : ℕ} → kind ≡ kindOf lex spelling other → (kind ≡ 0 → ⊥)
+      → token kind at (length spelling) 0 ≡ spelledToken lex words at spelling (kindOf lex spelling other)
   token-other {kind} e z =
-      ap (token kind at (length s))
+      ap (token kind at (length spelling))
       (cc (ne-eqb kind wordKind z))
-      ∙ ap (spelledToken lex words at s) e
+      ∙ ap (spelledToken lex words at spelling) e
 
 -- the first byte of what is left
 pub front-byte : (formula : List ℕ) (at : ℕ) → getD (drop at formula) 0 0 ≡ getD formula at 0
@@ -145,15 +145,15 @@ pub rest-lent : (formula : List ℕ) (at : ℕ) → take (length formula - at) (
 rest-lent formula at = take-all (length formula - at) (drop at formula) (omega (arith, length-drop at formula))
 
 -- a part of what is left is no longer than the formula
-pub part-within : (formula : List ℕ) (at n : ℕ) {s : List ℕ} → s ≡ take n (drop at formula) → length s ≤ length formula
-part-within formula at n e =
-    omega (arith, ap length e, length-take n (drop at formula), length-drop at formula)
+pub part-within : (formula : List ℕ) (at size : ℕ) {spelling : List ℕ} → spelling ≡ take size (drop at formula) → length spelling ≤ length formula
+part-within formula at size e =
+    omega (arith, ap length e, length-take size (drop at formula), length-drop at formula)
 
 -- a symbol's token is the one that the step emits
-pub emit-symbol : (lex : Lexicon) (words : List (List ℕ)) (at : ℕ) {s u : List ℕ} {t : Token}
-    → t ≡ token (kindOf lex s noKind) at (length s) 0
-    → s ≡ u
-    → Emit t ≡ Emit (spelledToken lex words at u (kindOf lex u noKind))
-emit-symbol lex words at {s} e f =
+pub emit-symbol : (lex : Lexicon) (words : List (List ℕ)) (at : ℕ) {spelling other : List ℕ} {read-token : Token}
+    → read-token ≡ token (kindOf lex spelling noKind) at (length spelling) 0
+    → spelling ≡ other
+    → Emit read-token ≡ Emit (spelledToken lex words at other (kindOf lex other noKind))
+emit-symbol lex words at {spelling} e f =
     ap Emit
-    (cc (token-other lex words at s noKind refl (lexemes.word-only lex s noKind (λ z. omega (arith, z)))))
+    (cc (token-other lex words at spelling noKind refl (lexemes.word-only lex spelling noKind (λ z. omega (arith, z)))))

@@ -19,9 +19,9 @@ abbrev Unrefused : Scanned → Type 0 → Type 0
 Unrefused (Tokens n count) A = A
 Unrefused (Unscanned r) A = Unit {0}
 
-unrefused : (r : Scanned) {A B : Type 0} → (A → B) → Unrefused r A → Unrefused r B
+unrefused : (scanned : Scanned) {A B : Type 0} → (A → B) → Unrefused scanned A → Unrefused scanned B
 unrefused (Tokens n count) f a = f a
-unrefused (Unscanned r) f a = tt
+unrefused (Unscanned scanned) f a = tt
 
 module _ (lex : Lexicon) (few : length (lex .outsides) ≤ 64) (formula : List ℕ) where
   TiledFrom : ℕ → ℕ → List (List ℕ) → Lexed → Type 0
@@ -38,7 +38,7 @@ module _ (lex : Lexicon) (few : length (lex .outsides) ≤ 64) (formula : List �
       }
 
   -- an accepted formula is tiled by the scan's tokens
-  pub scan-tiled : {n count : ℕ} → scan lex formula .answer ≡ Tokens n count
+  pub scan-tiled : {many count : ℕ} → scan lex formula .answer ≡ Tokens many count
       → Tiled lex formula 0 [] (scan lex formula .tokens) (length formula) (scan lex formula .words)
   unfolding TiledFrom
   scan-tiled e =
@@ -64,14 +64,14 @@ module _ (lex : Lexicon) (few : length (lex .outsides) ≤ 64) (formula : List �
       }
 
   -- the answer counts the tokens, of which there are at most 4,096, and the words
-  pub scan-counted : {n count : ℕ} → scan lex formula .answer ≡ Tokens n count
-      → (n ≡ length (scan lex formula .tokens)) × (count ≡ length (scan lex formula .words)) × (n ≤ 4096)
+  pub scan-counted : {many count : ℕ} → scan lex formula .answer ≡ Tokens many count
+      → (many ≡ length (scan lex formula .tokens)) × (count ≡ length (scan lex formula .words)) × (many ≤ 4096)
   unfolding CountedFrom
-  scan-counted {n} {count} e =
+  scan-counted {many} {count} e =
       let l : Lexed = scan lex formula in
-      let p : (Tokens n count ≡ Tokens (0 + length (l .tokens)) (length (l .words))) × (0 + length (l .tokens) ≤ 4096)
+      let p : (Tokens many count ≡ Tokens (0 + length (l .tokens)) (length (l .words))) × (0 + length (l .tokens) ≤ 4096)
       = rw (e) at (scan-kept lex few formula CountedFrom counted-kept) in
-      let q : Tokens n count ≡ Tokens (0 + length (l .tokens)) (length (l .words)) = p .0 in
-      let a : n ≡ 0 + length (l .tokens) = cc in
+      let q : Tokens many count ≡ Tokens (0 + length (l .tokens)) (length (l .words)) = p .0 in
+      let a : many ≡ 0 + length (l .tokens) = cc in
       let b : count ≡ length (l .words) = cc in
       (omega arith, b, omega (arith, p .1))

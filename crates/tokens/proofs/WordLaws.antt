@@ -9,16 +9,17 @@ use Rattle.tokens.specs.declared.Token.{Token}
 use Rattle.tokens.specs.Scan.{isNew, wordsWith}
 
 -- both parts of a test that passes
-pub both : (a b : Bool) → (a && b) ≡ true → (a ≡ true) × (b ≡ true)
-both true b e = (refl, e)
-both false b e = let z : _≡_ {A = ℕ} 0 1 = cc in absurd (omega arith)
+pub both : (first second : Bool) → (first && second) ≡ true → (first ≡ true) × (second ≡ true)
+both true second e = (refl, e)
+both false second e = let z : _≡_ {A = ℕ} 0 1 = cc in absurd (omega arith)
 
 -- a new word is added to those met
-pub with-new : (words : List (List ℕ)) (s : List ℕ) (t : Token) → isNew (length words) t ≡ true → wordsWith words s t ≡ words ++ (s ∷ [])
+pub with-new : (words : List (List ℕ)) (spelling : List ℕ) (token : Token) → isNew (length words) token ≡ true
+    → wordsWith words spelling token ≡ words ++ (spelling ∷ [])
 unfolding wordsWith
-with-new words s t e = rw (e, wordsWith) refl
+with-new words spelling token e = rw (e, wordsWith) refl
 
 -- a token that is no new word adds none
-pub with-old : (words : List (List ℕ)) (s : List ℕ) (t : Token) → isNew (length words) t ≡ false → wordsWith words s t ≡ words
+pub with-old : (words : List (List ℕ)) (spelling : List ℕ) (token : Token) → isNew (length words) token ≡ false → wordsWith words spelling token ≡ words
 unfolding wordsWith
-with-old words s t e = rw (e, wordsWith) refl
+with-old words spelling token e = rw (e, wordsWith) refl

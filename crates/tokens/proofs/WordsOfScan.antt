@@ -20,13 +20,13 @@ use Rattle.tokens.proofs.SpellingLaws.{front-word}
 -- words of a formula's own, each once, and none a name of the table
 pub record PlainWords (lex : Lexicon) (words : List (List ℕ)) : Type 0 where
   -- each is a word
-  pub are-words : (i : ℕ) → i < length words → isWord (getD words i []) ≡ true
+  pub are-words : (index : ℕ) → index < length words → isWord (getD words index []) ≡ true
   -- none stands twice
-  pub once : (i j : ℕ) → i < length words → j < length words → getD words i [] ≡ getD words j [] → i ≡ j
+  pub once : (index other : ℕ) → index < length words → other < length words → getD words index [] ≡ getD words other [] → index ≡ other
   -- none is a keyword
-  pub no-keyword : (i j : ℕ) → i < length (lex .keywords) → j < length words → getD (lex .keywords) i [] ≡ getD words j [] → ⊥
+  pub no-keyword : (index other : ℕ) → index < length (lex .keywords) → other < length words → getD (lex .keywords) index [] ≡ getD words other [] → ⊥
   -- none is an outside name
-  pub no-outside : (i j : ℕ) → i < length (lex .outsides) → j < length words → getD (lex .outsides) i [] ≡ getD words j [] → ⊥
+  pub no-outside : (index other : ℕ) → index < length (lex .outsides) → other < length words → getD (lex .outsides) index [] ≡ getD words other [] → ⊥
 
 no-words : (lex : Lexicon) → PlainWords lex []
 no-words lex =
@@ -38,42 +38,42 @@ no-words lex =
     }
 
 -- one more word, that stands nowhere yet
-module _ {lex : Lexicon} {words : List (List ℕ)} {s : List ℕ} (f : PlainWords lex words) (w : isWord s ≡ true) (k : NotIn s (lex .keywords))
-    (o : NotIn s (lex .outsides)) (n : NotIn s words) where
-  longer : length (words ++ (s ∷ [])) ≡ length words + 1
-  longer = length-append words (s ∷ [])
+module _ {lex : Lexicon} {words : List (List ℕ)} {spelling : List ℕ} (plain-words : PlainWords lex words) (is-word : isWord spelling ≡ true)
+    (no-keyword-there : NotIn spelling (lex .keywords)) (not-outside : NotIn spelling (lex .outsides)) (not-met : NotIn spelling words) where
+  longer : length (words ++ (spelling ∷ [])) ≡ length words + 1
+  longer = length-append words (spelling ∷ [])
 
-  front : (i : ℕ) → i < length words → getD (words ++ (s ∷ [])) i [] ≡ getD words i []
-  front i l = List·getD-append words (s ∷ []) [] i l
+  front : (index : ℕ) → index < length words → getD (words ++ (spelling ∷ [])) index [] ≡ getD words index []
+  front index l = List·getD-append words (spelling ∷ []) [] index l
 
-  last : (i : ℕ) → i < length (words ++ (s ∷ [])) → length words ≤ i → getD (words ++ (s ∷ [])) i [] ≡ s
-  last i l d = let z : length words ≡ i = omega (arith, longer) in getD-at words s [] [] i z
+  last : (index : ℕ) → index < length (words ++ (spelling ∷ [])) → length words ≤ index → getD (words ++ (spelling ∷ [])) index [] ≡ spelling
+  last index l d = let z : length words ≡ index = omega (arith, longer) in getD-at words spelling [] [] index z
 
-  by-place : {A : Type 0} (i : ℕ) → (i < length words → A) → (length words ≤ i → A) → A
-  by-place i a b =
-      by-test (ltb i (length words)) (λ e. a (ltb-true i (length words) e)) (λ e. b (ltb-false i (length words) e))
+  by-place : {A : Type 0} (index : ℕ) → (index < length words → A) → (length words ≤ index → A) → A
+  by-place index a b =
+      by-test (ltb index (length words)) (λ e. a (ltb-true index (length words) e)) (λ e. b (ltb-false index (length words) e))
 
-  one-word-more : PlainWords lex (words ++ (s ∷ []))
+  one-word-more : PlainWords lex (words ++ (spelling ∷ []))
   one-word-more =
       record {
-        are-words = λ i b. by-place i (λ l. ap isWord (front i l) ∙ f .are-words i l) (λ l. ap isWord (last i b l) ∙ w);
+        are-words = λ i b. by-place i (λ l. ap isWord (front i l) ∙ plain-words .are-words i l) (λ l. ap isWord (last i b l) ∙ is-word);
         once =
             λ i j a b e.
             by-place i
             (λ l.
-            by-place j (λ m. f .once i j l m (sym (front i l) ∙ e ∙ front j m))
-            (λ m. absurd (n .none i l (sym (front i l) ∙ e ∙ last j b m))))
+            by-place j (λ m. plain-words .once i j l m (sym (front i l) ∙ e ∙ front j m))
+            (λ m. absurd (not-met .none i l (sym (front i l) ∙ e ∙ last j b m))))
             (λ l.
-            by-place j (λ m. absurd (n .none j m (sym (front j m) ∙ sym e ∙ last i a l))) (λ m. omega (arith, longer)));
+            by-place j (λ m. absurd (not-met .none j m (sym (front j m) ∙ sym e ∙ last i a l))) (λ m. omega (arith, longer)));
         no-keyword =
             λ i j a b e.
-            by-place j (λ m. f .no-keyword i j a m (e ∙ front j m)) (λ m. k .none i a (e ∙ last j b m));
+            by-place j (λ m. plain-words .no-keyword i j a m (e ∙ front j m)) (λ m. no-keyword-there .none i a (e ∙ last j b m));
         no-outside =
             λ i j a b e.
-            by-place j (λ m. f .no-outside i j a m (e ∙ front j m)) (λ m. o .none i a (e ∙ last j b m));
+            by-place j (λ m. plain-words .no-outside i j a m (e ∙ front j m)) (λ m. not-outside .none i a (e ∙ last j b m));
       }
 
-stands-plain : {lex : Lexicon} {at : ℕ} {rest : List ℕ} {met met′ : List (List ℕ)} {t : Token} → Stands lex at rest met t met′
+stands-plain : {lex : Lexicon} {at : ℕ} {rest : List ℕ} {met met′ : List (List ℕ)} {token : Token} → Stands lex at rest met token met′
     → PlainWords lex met
     → PlainWords lex met′
 stands-plain (a-keyword w f) p = p

@@ -34,93 +34,95 @@ abbrev entered : ℕ → Input → ℕ → List ℕ → State → List ℕ → C
 entered depth I n vs s cells unfit = misfit (getD (I .grammar .firsts) n 0) s cells
 entered depth I n vs s cells (chosen r) = after (runItems (runCall depth I) I (r .items) vs (callBegun s) cells) (λ M. build (r .result) I M)
 
-module _ (I : Input) (n : ℕ) (vs : List ℕ) (s : State) (cells : List ℕ) where
-  call-closed : (depth : ℕ) → depth ≡ 0 → halt (refusal 19 (s .at) 0 0) cells ≡ runCall depth I n vs s cells
+module _ (lent : Input) (nonterminal : ℕ) (vs : List ℕ) (state : State) (cells : List ℕ) where
+  call-closed : (depth : ℕ) → depth ≡ 0 → halt (refusal 19 (state .at) 0 0) cells ≡ runCall depth lent nonterminal vs state cells
   unfolding runCall
   call-closed depth e = rw e
 
-  call-by : (depth : ℕ) → (depth ≡ 0 → ⊥) → (b : Bool) → ltb (s .calls) mostCalls ≡ b
-      → (elim b [
-        | false ↦ halt (refusal 20 (s .at) 0 0) cells
-        | true ↦ entered (depth - 1) I n vs s cells (choice (I .grammar) n (nextToken I s .kind))
+  call-by : (depth : ℕ) → (depth ≡ 0 → ⊥) → (test : Bool) → ltb (state .calls) mostCalls ≡ test
+      → (elim test [
+        | false ↦ halt (refusal 20 (state .at) 0 0) cells
+        | true ↦ entered (depth - 1) lent nonterminal vs state cells (choice (lent .grammar) nonterminal (nextToken lent state .kind))
       ])
-      ≡ runCall depth I n vs s cells
+      ≡ runCall depth lent nonterminal vs state cells
   unfolding runCall
-  call-by zero f b e = absurd (f refl)
+  call-by zero f test e = absurd (f refl)
   call-by (suc depth) f false e = rw (e, runCall) refl
-  call-by (suc depth) f true e = rw (sub-one (suc depth)) (rw (e, runCall) (by (choice (I .grammar) n (nextToken I s .kind))))
+  call-by (suc depth) f true e = rw (sub-one (suc depth)) (rw (e, runCall) (by (choice (lent .grammar) nonterminal (nextToken lent state .kind))))
     where
-      by : (c : Choice)
-          → entered depth I n vs s cells c
-          ≡ elim c [
-            | unfit ↦ misfit (getD (I .grammar .firsts) n 0) s cells
-            | chosen r ↦ after (runItems (runCall depth I) I (r .items) vs (callBegun s) cells) (λ M. build (r .result) I M)
+      by : (given-choice : Choice)
+          → entered depth lent nonterminal vs state cells given-choice
+          ≡ elim given-choice [
+            | unfit ↦ misfit (getD (lent .grammar .firsts) nonterminal 0) state cells
+            | chosen r ↦ after (runItems (runCall depth lent) lent (r .items) vs (callBegun state) cells) (λ M. build (r .result) lent M)
           ]
       by unfit = refl
       by (chosen r) = refl
 
 -- What is not 0 is above it.
-pub positive : (o : ℕ) → (o ≡ 0 → ⊥) → 0 < o
+pub positive : (left : ℕ) → (left ≡ 0 → ⊥) → 0 < left
 positive zero g = absurd (g refl)
-positive (suc o) g = omega arith
+positive (suc left) g = omega arith
 
 -- a refusal, whatever is remembered
-starts-refused : {I : Input} {bs : List ℕ} {depth n : ℕ} {s : State} {r q : Refusal} → r ≡ q
-    → ((vs cells : List ℕ) → halt q cells ≡ runCall depth I n vs s cells)
+starts-refused : {lent : Input} {bs : List ℕ} {depth nonterminal : ℕ} {state : State} {cause other : Refusal} → cause ≡ other
+    → ((vs cells : List ℕ) → halt other cells ≡ runCall depth lent nonterminal vs state cells)
     → {memory : List ℕ}
     → Remembers bs memory
-    → Starts I bs depth n s (Refused r) memory
+    → Starts lent bs depth nonterminal state (Refused cause) memory
 starts-refused e h m = record { begins = λ vs cells. rw e (h vs cells); enters = tt; remembers = m }
 
-module _ {bs room : List ℕ} (h : Held bs room) (tokens : List ℕ) (n rows depth nonterminal : ℕ) (s : State) where
+module _ {bs room : List ℕ} (held : Held bs room) (tokens : List ℕ) (count rows depth nonterminal : ℕ) (state : State) where
   abbrev input : Input
-  input = lentInput bs tokens n rows
+  input = lentInput bs tokens count rows
 
   abbrev Ends : Begun → List ℕ → Type 0
-  Ends b memory = Starts input bs depth nonterminal s b memory
+  Ends b memory = Starts input bs depth nonterminal state b memory
 
   -- Refusal 19: no more calls may be open.
-  pub starts-closed : {memory : List ℕ} → Remembers bs memory → depth ≡ 0 → {r : Refusal} → r ≡ refusal 19 (s .at) 0 0 → Ends (Refused r) memory
-  starts-closed m e er = starts-refused er (λ vs cells. call-closed input nonterminal vs s cells depth e) m
+  pub starts-closed : {memory : List ℕ} → Remembers bs memory → depth ≡ 0 → {cause : Refusal} → cause ≡ refusal 19 (state .at) 0 0 → Ends (Refused cause) memory
+  starts-closed m e er = starts-refused er (λ vs cells. call-closed input nonterminal vs state cells depth e) m
 
   module _ (may-open : depth ≡ 0 → ⊥) where
     -- Refusal 20: no more calls may be begun.
-    pub starts-spent : {memory : List ℕ} → Remembers bs memory → 65536 ≤ s .calls → {r : Refusal} → r ≡ refusal 20 (s .at) 0 0 → Ends (Refused r) memory
+    pub starts-spent : {memory : List ℕ} → Remembers bs memory → 65536 ≤ state .calls → {cause : Refusal} → cause ≡ refusal 20 (state .at) 0 0
+        → Ends (Refused cause) memory
     starts-spent m l er =
-        starts-refused er (λ vs cells. call-by input nonterminal vs s cells depth may-open false (le-ltb (s .calls) 65536 l)) m
+        starts-refused er (λ vs cells. call-by input nonterminal vs state cells depth may-open false (le-ltb (state .calls) 65536 l)) m
 
     -- by the place that is chosen
-    module _ (may-call : s .calls < 65536) {kind : ℕ} (ekind : kind ≡ getD (tokensIn tokens n) (s .at) endToken .kind) {j : ℕ}
-        {memory : List ℕ} (ch : Chooses bs nonterminal kind j memory) where
+    module _ (may-call : state .calls < 65536) {kind : ℕ} (ekind : kind ≡ getD (tokensIn tokens count) (state .at) endToken .kind) {place : ℕ}
+        {memory : List ℕ} (ch : Chooses bs nonterminal kind place memory) where
       firsts-are : input .grammar .firsts ≡ firstSetsOf bs
       unfolding ready firstSetsOf
       firsts-are = refl
 
-      by-choice : {c : Choice} → choice (ready (productionsIn bs)) nonterminal kind ≡ c → (vs cells : List ℕ)
-          → entered (depth - 1) input nonterminal vs s cells c ≡ runCall depth input nonterminal vs s cells
+      by-choice : {given-choice : Choice} → choice (ready (productionsIn bs)) nonterminal kind ≡ given-choice → (vs cells : List ℕ)
+          → entered (depth - 1) input nonterminal vs state cells given-choice ≡ runCall depth input nonterminal vs state cells
       by-choice e vs cells =
-          ap (entered (depth - 1) input nonterminal vs s cells) (sym (ap (choice (ready (productionsIn bs)) nonterminal) (sym ekind) ∙ e))
-          ∙ call-by input nonterminal vs s cells depth may-open true (lt-ltb (s .calls) 65536 may-call)
+          ap (entered (depth - 1) input nonterminal vs state cells) (sym (ap (choice (ready (productionsIn bs)) nonterminal) (sym ekind) ∙ e))
+          ∙ call-by input nonterminal vs state cells depth may-open true (lt-ltb (state .calls) 65536 may-call)
 
       -- Refusal 17: no rule fits.
-      pub starts-nowhere : 256 ≤ j → {set : ℕ} → set ≡ getD (firstSetsOf bs) nonterminal 0 → {r : Refusal} → r ≡ refusal 17 (s .at) set (ones set)
-          → Ends (Refused r) memory
+      pub starts-nowhere : 256 ≤ place → {set : ℕ} → set ≡ getD (firstSetsOf bs) nonterminal 0 → {cause : Refusal}
+          → cause ≡ refusal 17 (state .at) set (ones set)
+          → Ends (Refused cause) memory
       starts-nowhere l es er =
-          starts-refused (er ∙ ap (λ (k : ℕ). refusal 17 (s .at) k (ones k)) (es ∙ ap (λ sets. getD sets nonterminal 0) (sym firsts-are)))
-          (by-choice (chosen-nowhere h nonterminal kind (ch .place-is) l)) (ch .memory-is)
+          starts-refused (er ∙ ap (λ (k : ℕ). refusal 17 (state .at) k (ones k)) (es ∙ ap (λ sets. getD sets nonterminal 0) (sym firsts-are)))
+          (by-choice (chosen-nowhere held nonterminal kind (ch .place-is) l)) (ch .memory-is)
 
       -- The items of the rule that is chosen stand at the offset that the room has.
-      pub starts-at : j < 256 → {start : ℕ} → start ≡ startIn room j → {t : State} → t ≡ callBegun s → Ends (Entered start t) memory
+      pub starts-at : place < 256 → {start : ℕ} → start ≡ startIn room place → {next : State} → next ≡ callBegun state → Ends (Entered start next) memory
       unfolding body productionAt
-      starts-at l {start} es {t} et =
+      starts-at l {start} es {next} et =
           record {
             begins =
                 λ vs cells.
-                rw (et, es ∙ start-is h nonterminal kind (ch .place-is) l) (by-choice (chosen-here h nonterminal kind (ch .place-is) l) vs cells);
+                rw (et, es ∙ start-is held nonterminal kind (ch .place-is) l) (by-choice (chosen-here held nonterminal kind (ch .place-is) l) vs cells);
             enters =
                 record {
-                  whole = rw es (chosen-whole h nonterminal kind (ch .place-is) l);
-                  inside = omega (arith, es, chosen-inside h nonterminal kind (ch .place-is) l);
+                  whole = rw es (chosen-whole held nonterminal kind (ch .place-is) l);
+                  inside = omega (arith, es, chosen-inside held nonterminal kind (ch .place-is) l);
                   may-open = positive depth may-open;
                   may-call = may-call;
                   begun = et;
@@ -129,6 +131,6 @@ module _ {bs room : List ℕ} (h : Held bs room) (tokens : List ℕ) (n rows dep
           }
 
 -- One more call leaves room for its items.
-pub entry-weight : {bs : List ℕ} {depth : ℕ} {s : State} {start : ℕ} {t : State} → CallBegunAt bs depth s start t → length bs ≤ 16384
-    → weight t + (length bs - start) ≤ weight s
+pub entry-weight : {bs : List ℕ} {depth : ℕ} {state : State} {start : ℕ} {next : State} → CallBegunAt bs depth state start next → length bs ≤ 16384
+    → weight next + (length bs - start) ≤ weight state
 entry-weight e h = omega (arith, ap weight (e .begun), e .may-call)

@@ -45,12 +45,12 @@ resumes-at {frames} {from} l {count} ec ea =
     }
 
 -- The call at a level of the room is loaded.
-pub going-resumed : {I : Input} {bs frames : List ℕ} {from : Resumption} {cells : List ℕ} {R : Result ℕ}
-    → Standing I bs frames (from .level) (from .state) cells R
-    → {vars : List ℕ} {c : Cursor}
-    → Resumes frames from vars c
-    → Going I bs frames vars c cells R
-going-resumed {I} {bs} {frames} {from} {cells} {R} s {vars} r =
+pub going-resumed : {input : Input} {bs frames : List ℕ} {from : Resumption} {cells : List ℕ} {result : Result ℕ}
+    → Standing input bs frames (from .level) (from .state) cells result
+    → {vars : List ℕ} {cursor : Cursor}
+    → Resumes frames from vars cursor
+    → Going input bs frames vars cursor cells result
+going-resumed {input} {bs} {frames} {from} {cells} {result} s {vars} r =
     let w = s .on-top in
     let e = w .next-is in
     rw (r .cursor-is)
@@ -70,93 +70,97 @@ going-resumed {I} {bs} {frames} {from} {cells} {R} s {vars} r =
     })
 
 -- an item takes no more than it leaves behind
-onward-light : {bs : List ℕ} {at next : ℕ} {s t : State} → Onward bs at next s t → (more : ℕ) {most : ℕ} → weight s + (length bs - at) + more ≤ most
-    → weight t + (length bs - next) + more ≤ most
+onward-light : {bs : List ℕ} {at next : ℕ} {state state′ : State} → Onward bs at next state state′ → (more : ℕ) {most : ℕ}
+    → weight state + (length bs - at) + more ≤ most
+    → weight state′ + (length bs - next) + more ≤ most
 onward-light o more h = omega (arith, h, o .less, o .inside, o .counted, o .called)
 
-light-below : {wt wh : ℕ} (x o y o′ : ℕ) {most : ℕ} → wt ≡ wh → o ≡ y + o′ → wh + x + o ≤ most → wt + y + o′ ≤ most
-light-below x o y o′ e f h = omega arith
+light-below : {wt wh : ℕ} (heavy over lighter over′ : ℕ) {most : ℕ} → wt ≡ wh → over ≡ lighter + over′ → wh + heavy + over ≤ most → wt + lighter + over′ ≤ most
+light-below heavy over lighter over′ e f h = omega arith
 
 -- What the item at a cursor does, and how far it goes.
-pub record Stepped (I : Input) (bs vars : List ℕ) (c : Cursor) (cells : List ℕ) (step : ItemStep) (args cells′ : List ℕ) : Type 0 where
+pub record Stepped (input : Input) (bs vars : List ℕ) (cursor : Cursor) (cells : List ℕ) (step : ItemStep) (args cells′ : List ℕ) : Type 0 where
   -- under any values of the variables it does what the definition does
-  pub does : (M : List ℕ) → Holds vars (c .count) M → Steps bs (c .at) I M (c .state) cells step args cells′
+  pub does : (values : List ℕ) → Holds vars (cursor .count) values → Steps bs (cursor .at) input values (cursor .state) cells step args cells′
   -- the next offset, if there is one, is behind it and inside the table
-  pub advances : Advances bs (c .at) (c .state) step
+  pub advances : Advances bs (cursor .at) (cursor .state) step
 
 -- No item stands at a cursor, and what the result of the alternative gives.
-pub record Resulting (I : Input) (bs vars : List ℕ) (c : Cursor) (cells : List ℕ) (o : Outcome) (cells′ : List ℕ) : Type 0 where
+pub record Resulting (input : Input) (bs vars : List ℕ) (cursor : Cursor) (cells : List ℕ) (outcome : Outcome) (cells′ : List ℕ) : Type 0 where
   -- the items are done
-  pub no-item : itemsOf (fieldsAt bs (c .at)) ≡ []
+  pub no-item : itemsOf (fieldsAt bs (cursor .at)) ≡ []
   -- under any values of the variables it gives what the result's template gives
-  pub gives : (M : List ℕ) → Holds vars (c .count) M → ran o cells′ ≡ build (resultOf (fieldsAt bs (c .at))) I M (c .state) cells
+  pub gives : (values : List ℕ) → Holds vars (cursor .count) values
+      → ran outcome cells′ ≡ build (resultOf (fieldsAt bs (cursor .at))) input values (cursor .state) cells
   -- it takes no token, draws no fresh name and begins no call
-  pub stays : Stays (c .state) o
+  pub stays : Stays (cursor .state) outcome
 
-module _ {I : Input} {bs frames vars : List ℕ} {c : Cursor} {cells : List ℕ} {R : Result ℕ} (g : Going I bs frames vars c cells R) where
+module _ {input : Input} {bs frames vars : List ℕ} {cursor : Cursor} {cells : List ℕ} {result : Result ℕ}
+    (going : Going input bs frames vars cursor cells result) where
   abbrev callee : ℕ → List ℕ → Run ℕ
-  callee = runCall (mostWaiting - c .level) I
+  callee = runCall (mostWaiting - cursor .level) input
 
   abbrev now-left : Result ℕ
-  now-left = body callee bs (c .at) I (g .M) (c .state) cells
+  now-left = body callee bs (cursor .at) input (going .M) (cursor .state) cells
 
   -- The counters are small.
-  pub going-bounds : (c .state .at < 2 ^ 32) × (c .state .fresh < 2 ^ 31)
-  going-bounds = (omega (arith, g .light), omega (arith, g .light))
+  pub going-bounds : (cursor .state .at < 2 ^ 32) × (cursor .state .fresh < 2 ^ 31)
+  going-bounds = (omega (arith, going .light), omega (arith, going .light))
 
   -- A room that is too short: the call that goes on is saved too.
-  pub going-paused : {frames′ : List ℕ} → Saved frames frames′ (c .level) vars (c .count) (c .at) → length frames′ ≡ length frames
-      → Standing I bs frames′ (c .level) (c .state) cells R
+  pub going-paused : {frames′ : List ℕ} → Saved frames frames′ (cursor .level) vars (cursor .count) (cursor .at) → length frames′ ≡ length frames
+      → Standing input bs frames′ (cursor .level) (cursor .state) cells result
   going-paused saved long =
       record {
-        fits = record { few = g .fits .few; inside = omega (arith, g .fits .inside, long) };
-        current = record { next = c .at; values = g .M };
-        waiting = g .waiting;
-        many = g .many;
-        on-top = waits-saved saved (g .holds) (g .whole) (g .inside);
-        counted = omega (arith, g .counted, g .holds .count);
-        stacked = stacked-same (λ i l. saved .same i (omega (arith, g .many))) (g .stacked);
-        light = g .light;
-        rest = g .rest;
+        fits = record { few = going .fits .few; inside = omega (arith, going .fits .inside, long) };
+        current = record { next = cursor .at; values = going .M };
+        waiting = going .waiting;
+        many = going .many;
+        on-top = waits-saved saved (going .holds) (going .whole) (going .inside);
+        counted = omega (arith, going .counted, going .holds .count);
+        stacked = stacked-same (λ i l. saved .same i (omega (arith, going .many))) (going .stacked);
+        light = going .light;
+        rest = going .rest;
       }
 
   -- a result in place of what is left
-  instead : {r : Result ℕ} → r ≡ now-left → resume I bs (g .waiting) r ≡ R
-  instead e = ap (resume I bs (g .waiting)) e ∙ g .rest
+  instead : {outcome : Result ℕ} → outcome ≡ now-left → resume input bs (going .waiting) outcome ≡ result
+  instead e = ap (resume input bs (going .waiting)) e ∙ going .rest
 
-  halted : {r : Refusal} {cs : List ℕ} → halt r cs ≡ now-left → halt r cs ≡ R
-  halted {r} {cs} e = sym (resume-halt I bs (g .waiting) r cs) ∙ instead e
+  halted : {refusal : Refusal} {cs : List ℕ} → halt refusal cs ≡ now-left → halt refusal cs ≡ result
+  halted {refusal} {cs} e = sym (resume-halt input bs (going .waiting) refusal cs) ∙ instead e
 
   -- ---------------------------------------------------------------- the item that stands at the cursor
 
-  module _ {step : ItemStep} {args cells′ : List ℕ} (d : Stepped I bs vars c cells step args cells′) where
-    steps : {q : ItemStep} → step ≡ q → Steps bs (c .at) I (g .M) (c .state) cells q args cells′
-    steps e = rw e at (d .does (g .M) (g .holds))
+  module _ {step : ItemStep} {args cells′ : List ℕ} (stepped : Stepped input bs vars cursor cells step args cells′) where
+    steps : {item-step : ItemStep} → step ≡ item-step → Steps bs (cursor .at) input (going .M) (cursor .state) cells item-step args cells′
+    steps e = rw e at (stepped .does (going .M) (going .holds))
 
     -- The item refuses.
-    pub step-stopped : {r : Refusal} → step ≡ Stopped r → halt r cells′ ≡ R
+    pub step-stopped : {refusal : Refusal} → step ≡ Stopped refusal → halt refusal cells′ ≡ result
     step-stopped e = halted (sym (steps e callee))
 
     -- No item is left.
-    pub step-none : step ≡ Finished → itemsOf (fieldsAt bs (c .at)) ≡ []
-    step-none e = subst (Advances bs (c .at) (c .state)) e (d .advances)
+    pub step-none : step ≡ Finished → itemsOf (fieldsAt bs (cursor .at)) ≡ []
+    step-none e = subst (Advances bs (cursor .at) (cursor .state)) e (stepped .advances)
 
     -- The cells are as they were.
-    pub step-finished : step ≡ Finished → Going I bs frames vars c cells′ R
-    step-finished e = rw (steps e) g
+    pub step-finished : step ≡ Finished → Going input bs frames vars cursor cells′ result
+    step-finished e = rw (steps e) going
 
     -- The item gives a value.
-    module _ {x next : ℕ} {t : State} (e : step ≡ Taken x next t) where
-      taken-onward : Onward bs (c .at) next (c .state) t
-      taken-onward = subst (Advances bs (c .at) (c .state)) e (d .advances)
+    module _ {made-value next : ℕ} {state′ : State} (equal : step ≡ Taken made-value next state′) where
+      taken-onward : Onward bs (cursor .at) next (cursor .state) state′
+      taken-onward = subst (Advances bs (cursor .at) (cursor .state)) equal (stepped .advances)
 
       -- It has few variables.
-      pub taken-few : c .count ≤ length bs + length bs
-      taken-few = omega (arith, g .counted, taken-onward .less, taken-onward .inside)
+      pub taken-few : cursor .count ≤ length bs + length bs
+      taken-few = omega (arith, going .counted, taken-onward .less, taken-onward .inside)
 
       -- The value is its next variable, and it goes on behind the item.
-      pub step-taken : {vars′ : List ℕ} {u : Cursor} → Values vars c x next t vars′ u → (c .level + 2) * frameSize ≤ length frames
-          → Turns I bs (left bs c) R frames vars′ cells′ u
+      pub step-taken : {vars′ : List ℕ} {other : Cursor} → Values vars cursor made-value next state′ vars′ other
+          → (cursor .level + 2) * frameSize ≤ length frames
+          → Turns input bs (left bs cursor) result frames vars′ cells′ other
       step-taken {vars′} v spare =
           let o = taken-onward in
           rw (v .cursor-is)
@@ -165,15 +169,15 @@ module _ {I : Input} {bs frames vars : List ℕ} {c : Cursor} {cells : List ℕ}
               record {
                 whole = o .whole;
                 inside = o .inside;
-                counted = omega (arith, g .counted, o .less);
-                waiting = g .waiting;
-                many = g .many;
-                fits = g .fits;
-                stacked = g .stacked;
-                light = onward-light o (owed bs (g .waiting)) (g .light);
-                M = g .M ++ (x ∷ []);
-                holds = v .holds (g .M) (g .holds);
-                rest = instead (sym (steps e callee));
+                counted = omega (arith, going .counted, o .less);
+                waiting = going .waiting;
+                many = going .many;
+                fits = going .fits;
+                stacked = going .stacked;
+                light = onward-light o (owed bs (going .waiting)) (going .light);
+                M = going .M ++ (made-value ∷ []);
+                holds = v .holds (going .M) (going .holds);
+                rest = instead (sym (steps equal callee));
               },
               spare,
             );
@@ -181,23 +185,24 @@ module _ {I : Input} {bs frames vars : List ℕ} {c : Cursor} {cells : List ℕ}
           })
 
     -- The item calls.
-    pub step-opened : {n k next : ℕ} {t : State} → step ≡ Opened n k next t → (c .level + 2) * frameSize ≤ length frames
-        → Calling I bs frames vars c args n k next t cells′ R
+    pub step-opened : {nonterminal given next : ℕ} {state′ : State} → step ≡ Opened nonterminal given next state′
+        → (cursor .level + 2) * frameSize ≤ length frames
+        → Calling input bs frames vars cursor args nonterminal given next state′ cells′ result
     step-opened e spare =
         let q = steps e in
-        let a : Onward _ _ _ _ _ × (_ ≤ _) = subst (Advances bs (c .at) (c .state)) e (d .advances) in
+        let a : Onward _ _ _ _ _ × (_ ≤ _) = subst (Advances bs (cursor .at) (cursor .state)) e (stepped .advances) in
         record {
           onward = a .0;
           few-given = a .1;
-          counted = g .counted;
-          waiting = g .waiting;
-          many = g .many;
-          few = g .fits .few;
+          counted = going .counted;
+          waiting = going .waiting;
+          many = going .many;
+          few = going .fits .few;
           spare = spare;
-          stacked = g .stacked;
-          light = g .light;
-          M = g .M;
-          holds = g .holds;
+          stacked = going .stacked;
+          light = going .light;
+          M = going .M;
+          holds = going .holds;
           vs = q .0;
           given = q .1;
           rest = instead (sym (q .2 callee));
@@ -205,69 +210,71 @@ module _ {I : Input} {bs frames vars : List ℕ} {c : Cursor} {cells : List ℕ}
 
   -- ---------------------------------------------------------------- the result of the call
 
-  module _ {o : Outcome} {cells′ : List ℕ} (d : Resulting I bs vars c cells o cells′) where
-    gives-all : ran o cells′ ≡ now-left
+  module _ {outcome : Outcome} {cells′ : List ℕ} (resulting : Resulting input bs vars cursor cells outcome cells′) where
+    gives-all : ran outcome cells′ ≡ now-left
     unfolding body runItems
     gives-all =
-        d .gives (g .M) (g .holds)
+        resulting .gives (going .M) (going .holds)
         ∙ ap
-        (λ (is : List Item). after (runItems callee I is (g .M) (c .state) cells) (λ M. build (resultOf (fieldsAt bs (c .at))) I M)) (sym (d .no-item))
+        (λ (is : List Item). after (runItems callee input is (going .M) (cursor .state) cells) (λ M. build (resultOf (fieldsAt bs (cursor .at))) input M))
+        (sym (resulting .no-item))
 
-    given-by : {q : Outcome} → o ≡ q → ran q cells′ ≡ now-left
+    given-by : {other : Outcome} → outcome ≡ other → ran other cells′ ≡ now-left
     given-by e = rw e at gives-all
 
     -- It refuses.
-    pub closed-halted : {x : Refusal} → o ≡ Halted x → ran o cells′ ≡ R
+    pub closed-halted : {refusal : Refusal} → outcome ≡ Halted refusal → ran outcome cells′ ≡ result
     closed-halted e = rw e (halted (given-by e))
 
-    module _ {x : ℕ} {t : State} (e : o ≡ Value x t) where
+    module _ {made-value : ℕ} {next : State} (equal : outcome ≡ Value made-value next) where
       -- No call waits.
-      pub closed-root : c .level ≡ 0 → done x t cells′ ≡ R
+      pub closed-root : cursor .level ≡ 0 → done made-value next cells′ ≡ result
       unfolding resume
-      closed-root z = by (g .waiting) refl
+      closed-root z = by (going .waiting) refl
         where
-          by : (fs : List Frame) → g .waiting ≡ fs → done x t cells′ ≡ R
-          by [] ef = rw ef at (instead (given-by e))
-          by (f ∷ fs) ef = absurd (omega (arith, g .many, ap length ef))
+          by : (fs : List Frame) → going .waiting ≡ fs → done made-value next cells′ ≡ result
+          by [] ef = rw ef at (instead (given-by equal))
+          by (f ∷ fs) ef = absurd (omega (arith, going .many, ap length ef))
 
       -- The innermost of those that wait goes on.
-      module _ (below : c .level ≡ 0 → ⊥) where
+      module _ (below : cursor .level ≡ 0 → ⊥) where
         abbrev from : Resumption
-        from = record { level = c .level - 1; state = t }
+        from = record { level = cursor .level - 1; state = next }
 
         -- Its frame stands in the room.
         pub below-fits : LevelFits frames (from .level)
-        below-fits = record { few = omega (arith, g .fits .few); inside = omega (arith, g .fits .inside) }
+        below-fits = record { few = omega (arith, going .fits .few); inside = omega (arith, going .fits .inside) }
 
-        unmoved : (t .at ≡ c .state .at) × (t .fresh ≡ c .state .fresh) × (t .calls ≡ c .state .calls)
-        unmoved = subst (Stays (c .state)) e (d .stays)
+        unmoved : (next .at ≡ cursor .state .at) × (next .fresh ≡ cursor .state .fresh) × (next .calls ≡ cursor .state .calls)
+        unmoved = subst (Stays (cursor .state)) equal (resulting .stays)
 
-        top-frame : (f : Frame) × (fs : List Frame) × (g .waiting ≡ f ∷ fs) × (length fs ≡ from .level)
-            × Waits bs frames (from .level) f × Stacked bs frames fs
-            × (length (f .values) < length bs + f .next)
-        top-frame = by (g .waiting) refl (g .stacked)
+        top-frame : (frame : Frame) × (fs : List Frame) × (going .waiting ≡ frame ∷ fs) × (length fs ≡ from .level)
+            × Waits bs frames (from .level) frame × Stacked bs frames fs
+            × (length (frame .values) < length bs + frame .next)
+        top-frame = by (going .waiting) refl (going .stacked)
           where
-            by : (ws : List Frame) → g .waiting ≡ ws → Stacked bs frames ws
-                → (f : Frame) × (fs : List Frame) × (g .waiting ≡ f ∷ fs) × (length fs ≡ from .level)
-                × Waits bs frames (from .level) f × Stacked bs frames fs
-                × (length (f .values) < length bs + f .next)
-            by [] ef stacked-none = absurd (below (sym (g .many) ∙ ap length ef))
+            by : (ws : List Frame) → going .waiting ≡ ws → Stacked bs frames ws
+                → (frame : Frame) × (fs : List Frame) × (going .waiting ≡ frame ∷ fs) × (length fs ≡ from .level)
+                × Waits bs frames (from .level) frame × Stacked bs frames fs
+                × (length (frame .values) < length bs + frame .next)
+            by [] ef stacked-none = absurd (below (sym (going .many) ∙ ap length ef))
             by (f ∷ fs) ef (stacked-one w few st) =
-                let l : length fs ≡ from .level = omega (arith, g .many, ap length ef) in
+                let l : length fs ≡ from .level = omega (arith, going .many, ap length ef) in
                 (f, fs, ef, l, rw l at w, st, few)
 
-        weight-same : weight t ≡ weight (c .state)
+        weight-same : weight next ≡ weight (cursor .state)
         weight-same = omega (arith, unmoved .0, unmoved .1, unmoved .2)
 
-        module _ {vars₁ : List ℕ} {v : Cursor} (r : Resumes frames from vars₁ v) where
+        module _ {vars₁ : List ℕ} {other : Cursor} (resumes : Resumes frames from vars₁ other) where
           abbrev at-top : Cursor
           at-top = cursorAt frames from
 
           at-few : at-top .count < length bs + at-top .at
           at-few = omega (arith, top-frame .4 .next-is, top-frame .4 .counted, top-frame .6)
 
-          closed-going : {vars₂ : List ℕ} → ((M : List ℕ) → Holds vars₁ (at-top .count) M → Holds vars₂ (at-top .count + 1) (M ++ (x ∷ [])))
-              → Going I bs frames vars₂ (moved at-top (at-top .at) t) cells′ R
+          closed-going : {vars₂ : List ℕ}
+              → ((values : List ℕ) → Holds vars₁ (at-top .count) values → Holds vars₂ (at-top .count + 1) (values ++ (made-value ∷ [])))
+              → Going input bs frames vars₂ (moved at-top (at-top .at) next) cells′ result
           unfolding resume owed
           closed-going put =
               let f = top-frame .0 in
@@ -282,99 +289,100 @@ module _ {I : Input} {bs frames vars : List ℕ} {c : Cursor} {cells : List ℕ}
                 fits = below-fits;
                 stacked = top-frame .5;
                 light =
-                    light-below (length bs - c .at) (owed bs (g .waiting)) (length bs - at-top .at) (owed bs fs) weight-same
-                    (ap (owed bs) (top-frame .2) ∙ ap (λ (a : ℕ). length bs - a + owed bs fs) (sym (w .next-is))) (g .light);
-                M = f .values ++ (x ∷ []);
-                holds = put (f .values) (waits-holds w (r .loaded) refl);
+                    light-below (length bs - cursor .at) (owed bs (going .waiting)) (length bs - at-top .at) (owed bs fs) weight-same
+                    (ap (owed bs) (top-frame .2) ∙ ap (λ (a : ℕ). length bs - a + owed bs fs) (sym (w .next-is))) (going .light);
+                M = f .values ++ (made-value ∷ []);
+                holds = put (f .values) (waits-holds w (resumes .loaded) refl);
                 rest =
-                    rw (w .next-is, sym (top-frame .3)) (rw (top-frame .2) at (instead (given-by e)));
+                    rw (w .next-is, sym (top-frame .3)) (rw (top-frame .2) at (instead (given-by equal)));
               }
 
         -- The value is its next variable, and it goes on where it waited.
-        pub closed-on : {vars₂ : List ℕ} {u : Cursor} → Returns frames (c .level - 1) x t vars₂ u → length bs ≤ 16384
-            → Turns I bs (left bs c) R frames vars₂ cells′ u
+        pub closed-on : {vars₂ : List ℕ} {other : Cursor} → Returns frames (cursor .level - 1) made-value next vars₂ other → length bs ≤ 16384
+            → Turns input bs (left bs cursor) result frames vars₂ cells′ other
         closed-on r small =
             let v = r .resumes .cursor-is in
             rw (r .values .cursor-is, v)
             (record {
               stands = (
                 closed-going (r .resumes) (rw v at (r .values .holds)),
-                omega (arith, g .fits .inside),
+                omega (arith, going .fits .inside),
               );
               less =
-                  let p : 0 < c .level = positive (c .level) below in
+                  let p : 0 < cursor .level = positive (cursor .level) below in
                   omega (arith, unmoved .2);
             })
 
 -- ------------------------------------------------------------------ a call that is begun
 
-module _ {I : Input} {bs frames vars : List ℕ} {c : Cursor} {args : List ℕ} {callee′ given next : ℕ} {t : State} {cells : List ℕ} {R : Result ℕ}
-    (k : Calling I bs frames vars c args callee′ given next t cells R) where
+module _ {input : Input} {bs frames vars : List ℕ} {cursor : Cursor} {args : List ℕ} {callee′ given next : ℕ} {state′ : State} {cells : List ℕ}
+    {result : Result ℕ} (calling : Calling input bs frames vars cursor args callee′ given next state′ cells result) where
   abbrev depth : ℕ
-  depth = mostWaiting - c .level
+  depth = mostWaiting - cursor .level
 
   -- The call that calls can be saved.
-  pub calling-savable : length bs ≤ 16384 → Savable frames c next
+  pub calling-savable : length bs ≤ 16384 → Savable frames cursor next
   calling-savable small =
-      let o = k .onward in
+      let o = calling .onward in
       record {
-        fits = record { few = k .few; inside = omega (arith, k .spare) };
-        few = omega (arith, k .counted, o .less, o .inside);
+        fits = record { few = calling .few; inside = omega (arith, calling .spare) };
+        few = omega (arith, calling .counted, o .less, o .inside);
         near = omega (arith, o .inside);
       }
 
-  module _ {b : Begun} {memory : List ℕ} (s : Starts I bs depth callee′ t b memory) where
-    begun-as : {q : Begun} → b ≡ q → Begins I bs depth callee′ t q
-    begun-as e = subst (Begins I bs depth callee′ t) e (s .begins)
+  module _ {begun : Begun} {memory : List ℕ} (starts : Starts input bs depth callee′ state′ begun memory) where
+    begun-as : {other : Begun} → begun ≡ other → Begins input bs depth callee′ state′ other
+    begun-as e = subst (Begins input bs depth callee′ state′) e (starts .begins)
 
     -- It refuses.
-    pub opened-refused : {r : Refusal} → b ≡ Refused r → halt r cells ≡ R
-    opened-refused {r} e =
-        sym (resume-halt I bs (k .waiting) r cells)
-        ∙ rw (sym (begun-as e (k .vs) cells)) at (k .rest)
+    pub opened-refused : {refusal : Refusal} → begun ≡ Refused refusal → halt refusal cells ≡ result
+    opened-refused {refusal} e =
+        sym (resume-halt input bs (calling .waiting) refusal cells)
+        ∙ rw (sym (begun-as e (calling .vs) cells)) at (calling .rest)
 
     -- It is entered, and the call that called waits.
-    module _ {first : ℕ} {u : State} (e : b ≡ Entered first u) where
+    module _ {first : ℕ} {further : State} (equal : begun ≡ Entered first further) where
       -- A whole alternative stands where it is entered.
-      opened-entry : CallBegunAt bs depth t first u
-      opened-entry = subst (CallEntered bs depth t) e (s .enters)
+      opened-entry : CallBegunAt bs depth state′ first further
+      opened-entry = subst (CallEntered bs depth state′) equal (starts .enters)
 
-      module _ {frames′ vars′ : List ℕ} {d : Cursor} (p : Pushes frames vars args c given next first u frames′ vars′ d)
+      module _ {frames′ vars′ : List ℕ} {other : Cursor} (pushes : Pushes frames vars args cursor given next first further frames′ vars′ other)
           (long : length frames′ ≡ length frames) (small : length bs ≤ 16384) where
-        going-at : Going I bs frames′ args (enteredAt c given first u) cells R
+        going-at : Going input bs frames′ args (enteredAt cursor given first further) cells result
         unfolding resume owed
         going-at =
-            let o = k .onward in
+            let o = calling .onward in
             record {
               whole = opened-entry .whole;
               inside = opened-entry .inside;
-              counted = omega (arith, k .few-given);
-              waiting = record { next = next; values = k .M } ∷ k .waiting;
-              many = omega (arith, k .many);
-              fits = record { few = omega (arith, opened-entry .may-open); inside = omega (arith, k .spare, long) };
-              stacked = stacked-more (k .many) (p .saved) (k .holds) (o .whole) (omega (arith, k .counted, o .less)) (o .inside) (k .stacked);
-              light = omega (arith, onward-light o (owed bs (k .waiting)) (k .light), entry-weight opened-entry small);
-              M = k .vs;
-              holds = k .given;
+              counted = omega (arith, calling .few-given);
+              waiting = record { next = next; values = calling .M } ∷ calling .waiting;
+              many = omega (arith, calling .many);
+              fits = record { few = omega (arith, opened-entry .may-open); inside = omega (arith, calling .spare, long) };
+              stacked = stacked-more (calling .many) (pushes .saved) (calling .holds) (o .whole) (omega (arith, calling .counted, o .less)) (o .inside)
+                  (calling .stacked);
+              light = omega (arith, onward-light o (owed bs (calling .waiting)) (calling .light), entry-weight opened-entry small);
+              M = calling .vs;
+              holds = calling .given;
               rest =
-                  let z : mostWaiting - (c .level + 1) ≡ mostWaiting - c .level - 1 = omega arith in
-                  rw (k .many, z, begun-as e (k .vs) cells) (k .rest);
+                  let z : mostWaiting - (cursor .level + 1) ≡ mostWaiting - cursor .level - 1 = omega arith in
+                  rw (calling .many, z, begun-as equal (calling .vs) cells) (calling .rest);
             }
 
         -- What is left of it, and of the calls that wait, gives what was to be given.
-        pub opened-going : Going I bs frames′ vars′ d cells R
-        opened-going = rw (p .vars-are, p .cursor-is) going-at
+        pub opened-going : Going input bs frames′ vars′ other cells result
+        opened-going = rw (pushes .vars-are, pushes .cursor-is) going-at
 
         -- It can be saved.
-        pub opened-savable : Savable frames′ d (d .at)
+        pub opened-savable : Savable frames′ other (other .at)
         opened-savable =
             let g = opened-going in
             record { fits = g .fits; few = omega (arith, g .counted, g .inside); near = omega (arith, g .inside) }
 
         -- The call that is entered goes on.
-        pub opened-on : (c .level + 3) * frameSize ≤ length frames′ → Turns I bs (left bs c) R frames′ vars′ cells d
+        pub opened-on : (cursor .level + 3) * frameSize ≤ length frames′ → Turns input bs (left bs cursor) result frames′ vars′ cells other
         opened-on spare =
-            rw (p .vars-are, p .cursor-is)
+            rw (pushes .vars-are, pushes .cursor-is)
             (record {
               stands = (going-at, omega (arith, spare));
               less =
@@ -383,17 +391,17 @@ module _ {I : Input} {bs frames vars : List ℕ} {c : Cursor} {args : List ℕ} 
                     small,
                     opened-entry .may-call,
                     ap (λ (q : State). 40000 * (65536 - q .calls)) (opened-entry .begun),
-                    k .onward .called,
+                    calling .onward .called,
                   );
             })
 
         -- The room is too short: it is saved too.
-        pub opened-paused : {frames″ : List ℕ} {r : Advance} → Pauses frames′ vars′ d frames″ r → length frames″ ≡ length frames′
-            → length frames′ < (c .level + 3) * frameSize
-            → Goes I bs R frames″ cells r
+        pub opened-paused : {frames″ : List ℕ} {advance : Advance} → Pauses frames′ vars′ other frames″ advance → length frames″ ≡ length frames′
+            → length frames′ < (cursor .level + 3) * frameSize
+            → Goes input bs result frames″ cells advance
         opened-paused q long′ full =
             let g = opened-going in
-            let l : d .level ≡ c .level + 1 = ap (λ (x : Cursor). x .level) (p .cursor-is) in
+            let l : other .level ≡ cursor .level + 1 = ap (λ (x : Cursor). x .level) (pushes .cursor-is) in
             rw (q .paused) ((going-paused g (q .saved) long′, omega (arith, g .fits .few)))
 
 -- ------------------------------------------------------------------ the loop over the turns
@@ -416,39 +424,39 @@ abbrev pub Stood : Input → List ℕ → Result ℕ → Place → Type 0
 Stood I bs R p = TurnStands I bs R (p .frames) (p .vars) (p .cells) (p .cursor)
 
 -- Rooms are as long as they were, choices are remembered, and what gave R at the first place still gives it.
-pub record Turning (I : Input) (bs : List ℕ) (p q : Place) (memory : List ℕ) : Type 0 where
+pub record Turning (input : Input) (bs : List ℕ) (place other : Place) (memory : List ℕ) : Type 0 where
   -- the cells are as many
-  pub cells-long : length (q .cells) ≡ length (p .cells)
+  pub cells-long : length (other .cells) ≡ length (place .cells)
   -- the stack keeps its length
-  pub stack-long : length (q .stack) ≡ length (p .stack)
+  pub stack-long : length (other .stack) ≡ length (place .stack)
   -- the room of frames keeps its length
-  pub frames-long : length (q .frames) ≡ length (p .frames)
+  pub frames-long : length (other .frames) ≡ length (place .frames)
   -- the choices remembered are the table's
   pub remembers : Remembers bs memory
-  -- what gave R at the first place gives it here
-  pub stands : (R : Result ℕ) → Stood I bs R p → Stood I bs R q
+  -- what gave `result` at the first place gives it here
+  pub stands : (result : Result ℕ) → Stood input bs result place → Stood input bs result other
 
 -- The loop begins.
-pub turning-start : {I : Input} {bs : List ℕ} (p : Place) {memory : List ℕ} → Remembers bs memory → Turning I bs p p memory
-turning-start p m = record { cells-long = refl; stack-long = refl; frames-long = refl; remembers = m; stands = λ R s. s }
+pub turning-start : {input : Input} {bs : List ℕ} (place : Place) {memory : List ℕ} → Remembers bs memory → Turning input bs place place memory
+turning-start place m = record { cells-long = refl; stack-long = refl; frames-long = refl; remembers = m; stands = λ R s. s }
 
 -- What the room of frames says gives what the first place says.
-pub turned-start : {I : Input} {bs frames : List ℕ} {from : Resumption} {cells : List ℕ} {R : Result ℕ}
-    → Standing I bs frames (from .level) (from .state) cells R
-    → {vars : List ℕ} {c : Cursor}
-    → Resumes frames from vars c
+pub turned-start : {input : Input} {bs frames : List ℕ} {from : Resumption} {cells : List ℕ} {result : Result ℕ}
+    → Standing input bs frames (from .level) (from .state) cells result
+    → {vars : List ℕ} {cursor : Cursor}
+    → Resumes frames from vars cursor
     → (from .level + 2) * frameSize ≤ length frames
-    → TurnStands I bs R frames vars cells c
+    → TurnStands input bs result frames vars cells cursor
 turned-start s r spare = (going-resumed s r, omega (arith, spare, ap (λ (c : Cursor). c .level) (r .cursor-is)))
 
 -- One turn more.
-pub turning-next : {I : Input} {bs : List ℕ} {p q : Place} {memory : List ℕ} → Turning I bs p q memory → (next : Place) {memory′ : List ℕ}
-    → length (next .cells) ≡ length (q .cells)
-    → length (next .stack) ≡ length (q .stack)
-    → length (next .frames) ≡ length (q .frames)
+pub turning-next : {input : Input} {bs : List ℕ} {place other : Place} {memory : List ℕ} → Turning input bs place other memory
+    → (next : Place) {memory′ : List ℕ} → length (next .cells) ≡ length (other .cells)
+    → length (next .stack) ≡ length (other .stack)
+    → length (next .frames) ≡ length (other .frames)
     → Remembers bs memory′
-    → ((R : Result ℕ) → Stood I bs R p → Stood I bs R next)
-    → Turning I bs p next memory′
+    → ((result : Result ℕ) → Stood input bs result place → Stood input bs result next)
+    → Turning input bs place next memory′
 turning-next w next ec es ef m stands =
     record {
       cells-long = ec ∙ w .cells-long;

@@ -49,71 +49,74 @@ module _ (table formula cells text : List ℕ) where
   -- ------------------------------------------------------------------ demand 2: a table that does not pass
 
   -- A table of bytes that does not pass gets exactly the refusal of its check, and nothing that was lent changes.
-  pub not-passed : ((i : ℕ) → getD table i 0 < 256) → (Passes table → ⊥) → (r : Refusal) × (check table ≡ Refused r) × (X ≡ refused r cells text)
+  pub not-passed : ((place : ℕ) → getD table place 0 < 256) → (Passes table → ⊥)
+      → (refusal : Refusal) × (check table ≡ Refused refusal) × (X ≡ refused refusal cells text)
   not-passed bytes = exactly.not-passed table bytes formula cells text
 
   -- ------------------------------------------------------------------ demand 2: a table that passes
 
-  module _ (P : Passes table) where
-    abbrev T : Passing (P .table)
-    T = record { within = P .within; meets = P .meets }
+  module _ (passes : Passes table) where
+    abbrev T : Passing (passes .table)
+    T = record { within = passes .within; meets = passes .meets }
 
     -- A refusal is given exactly in its case of document 01's table of causes, with the values listed there.
-    pub refused-exactly : (r : Refusal) → (X .answer ≡ Refusing r) ↔ Cause (P .table) formula cells text r
-    refused-exactly = rw (expand-passed table P formula cells text) (exactly.refused-exactly (P .table) T formula cells text)
+    pub refused-exactly : (refusal : Refusal) → (X .answer ≡ Refusing refusal) ↔ Cause (passes .table) formula cells text refusal
+    refused-exactly = rw (expand-passed table passes formula cells text) (exactly.refused-exactly (passes .table) T formula cells text)
 
     -- A formula is accepted exactly if Figure 3 derives a term within the limits and the rows lent, which is not too large, has no loose
-    -- fresh variable and fits the text lent; a, b and c are its cells, constructors and bytes.
-    pub accepted-exactly : (a b c : ℕ) → (X .answer ≡ Accepted a b c) ↔ ((u : Term Name) × Accepts (P .table) formula cells text u a b c)
-    accepted-exactly = rw (expand-passed table P formula cells text) (exactly.accepted-exactly (P .table) T formula cells text)
+    -- fresh variable and fits the text lent; `made`, `constructors` and `text-size` are its cells, constructors and bytes.
+    pub accepted-exactly : (made constructors text-size : ℕ) → (X .answer ≡ Accepted made constructors text-size)
+        ↔ ((meant : Term Name) × Accepts (passes .table) formula cells text meant made constructors text-size)
+    accepted-exactly = rw (expand-passed table passes formula cells text) (exactly.accepted-exactly (passes .table) T formula cells text)
 
     -- Figure 3 derives one term at most.
-    pub one-term : {u w : Term Name} → Means (P .table) formula u → Means (P .table) formula w → u ≡ w
-    one-term = means-one (P .table) T formula
+    pub one-term : {meant other : Term Name} → Means (passes .table) formula meant → Means (passes .table) formula other → meant ≡ other
+    one-term = means-one (passes .table) T formula
 
     -- The text of an acceptance is that term renamed and printed, with what was lent behind it.
-    pub accepted-text : (a b c : ℕ) → X .answer ≡ Accepted a b c → {u : Term Name} → Means (P .table) formula u
-        → X .text ≡ print (rename u) ++ drop (textLength u) text
-    accepted-text = rw (expand-passed table P formula cells text) (exactly.accepted-text (P .table) T formula cells text)
+    pub accepted-text : (made constructors text-size : ℕ) → X .answer ≡ Accepted made constructors text-size → {meant : Term Name}
+        → Means (passes .table) formula meant → X .text ≡ print (rename meant) ++ drop (textLength meant) text
+    accepted-text = rw (expand-passed table passes formula cells text) (exactly.accepted-text (passes .table) T formula cells text)
 
     -- A row of those made shows that term, whatever the other rows held.
-    pub accepted-cells : (a b c : ℕ) → X .answer ≡ Accepted a b c → {u : Term Name} (M : Means (P .table) formula u)
-        → (v : ℕ) × (termAt a (spellOf (P .table) (M .words)) (take (a * columns) (X .cells)) v ≡ u)
-    accepted-cells = rw (expand-passed table P formula cells text) (exactly.accepted-cells (P .table) T formula cells text)
+    pub accepted-cells : (made constructors text-size : ℕ) → X .answer ≡ Accepted made constructors text-size
+        → {meant : Term Name} (means : Means (passes .table) formula meant)
+        → (row : ℕ) × (termAt made (spellOf (passes .table) (means .words)) (take (made * columns) (X .cells)) row ≡ meant)
+    accepted-cells = rw (expand-passed table passes formula cells text) (exactly.accepted-cells (passes .table) T formula cells text)
 
     -- 14, 15 and 16 leave the cells as they were, too.
-    pub cells-kept : (r : Refusal) → Unscans (lexiconOfTable (P .table)) formula r → X .cells ≡ cells
-    cells-kept = rw (expand-passed table P formula cells text) (exactly.cells-kept (P .table) T formula cells text)
+    pub cells-kept : (refusal : Refusal) → Unscans (lexiconOfTable (passes .table)) formula refusal → X .cells ≡ cells
+    cells-kept = rw (expand-passed table passes formula cells text) (exactly.cells-kept (passes .table) T formula cells text)
 
     -- Acceptance, 22, 23 and 24 leave the cells behind those that the term costs.
-    pub cells-behind : {u : Term Name} (E : MeansWithin (P .table) formula cells u) → Left (cellsOf E) cells (X .cells)
-    cells-behind E = rw (expand-passed table P formula cells text) (exactly.cells-behind (P .table) T formula cells text E)
+    pub cells-behind : {meant : Term Name} (means-within : MeansWithin (passes .table) formula cells meant) → Left (cellsOf means-within) cells (X .cells)
+    cells-behind means-within = rw (expand-passed table passes formula cells text) (exactly.cells-behind (passes .table) T formula cells text means-within)
 
     -- Any answer leaves the cells behind the rows made, which are no more than there are.
-    pub cells-left : (m : ℕ) × (m ≤ rowsLent (length cells)) × Left m cells (X .cells)
+    pub cells-left : (made : ℕ) × (made ≤ rowsLent (length cells)) × Left made cells (X .cells)
     cells-left =
-        let k = exactly.keeps (P .table) T formula cells text in rw (expand-passed table P formula cells text) (k .rows, k .few, k .left)
+        let k = exactly.keeps (passes .table) T formula cells text in rw (expand-passed table passes formula cells text) (k .rows, k .few, k .left)
 
     -- ------------------------------------------------------------------ 001, Theorem 1
 
     -- Parsing respects typing: under variables of their sorts, an alternative of sort B derives a value of sort B.
     pub parsing-respects-typing : {spell : ℕ → List ℕ} {M M′ : List Value} {s s′ : List Token} {i i′ B : ℕ} {items : List Item} {result : Template}
-        {L : List ℕ} {v : Value} → Body (scopeOf (P .table) (P .meets .sorted)) L items result B → Matches M L
-        → Derives (grammarOf (P .table)) spell M s i items M′ s′ i′ → Gives spell M′ result v → Typed v B
-    parsing-respects-typing = expansion.parsing-respects-typing (P .table) T
+        {L : List ℕ} {value : Value} → Body (scopeOf (passes .table) (passes .meets .sorted)) L items result B → Matches M L
+        → Derives (grammarOf (passes .table)) spell M s i items M′ s′ i′ → Gives spell M′ result value → Typed value B
+    parsing-respects-typing = expansion.parsing-respects-typing (passes .table) T
 
     -- Whatever a call of the root derives is a term: Corollary 1.
     pub root-derives-term : {spell : ℕ → List ℕ} {M : List Value} {s s′ : List Token} {i i′ : ℕ}
-        → Derives (grammarOf (P .table)) spell [] s i (call (P .table .root) none ∷ []) M s′ i′ → (u : Term Name) × (M ≡ term u ∷ [])
-    root-derives-term = expansion.root-derives-term (P .table) T
+        → Derives (grammarOf (passes .table)) spell [] s i (call (passes .table .root) none ∷ []) M s′ i′ → (meant : Term Name) × (M ≡ term meant ∷ [])
+    root-derives-term = expansion.root-derives-term (passes .table) T
 
     -- A well sorted call, under variables of their sorts, has values for its arguments and a production of its nonterminal: it is never `wrong`.
-    pub call-never-wrong : (spell : ℕ → List ℕ) {M : List Value} {L : List ℕ} {n A : ℕ} (ts : Templates) → Matches M L
-        → ItemSorted (scopeOf (P .table) (P .meets .sorted)) L (call n ts) A
-        → ((vs : List Value) × GiveAll spell M ts vs) × ((p : Production) × Of (grammarOf (P .table)) n p)
-    call-never-wrong = expansion.call-never-wrong (P .table) T
+    pub call-never-wrong : (spell : ℕ → List ℕ) {M : List Value} {L : List ℕ} {nonterminal A : ℕ} (ts : Templates) → Matches M L
+        → ItemSorted (scopeOf (passes .table) (passes .meets .sorted)) L (call nonterminal ts) A
+        → ((vs : List Value) × GiveAll spell M ts vs) × ((p : Production) × Of (grammarOf (passes .table)) nonterminal p)
+    call-never-wrong = expansion.call-never-wrong (passes .table) T
 
 -- And a well sorted template, under variables of their sorts, gives a value of its sort: it never gives `wrong`.
-pub never-wrong : (spell : ℕ → List ℕ) {N : ℕ} {M : List Value} {L : List ℕ} {A : ℕ} (t : Template) → Matches M L → Sorted N L t A
-    → (v : Value) × Gives spell M t v × Typed v A
+pub never-wrong : (spell : ℕ → List ℕ) {outsides : ℕ} {M : List Value} {L : List ℕ} {A : ℕ} (template : Template) → Matches M L → Sorted outsides L template A
+    → (value : Value) × Gives spell M template value × Typed value A
 never-wrong = expansion.never-wrong

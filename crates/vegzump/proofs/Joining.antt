@@ -57,47 +57,50 @@ use Rattle.meaning.proofs.Stages as stages
 
 module _ {bs : List ℕ} (bytes : Bytes bs) where
   -- a table that the check passes, and its room
-  pub checked-passes : {room₀ room : List ℕ} {r : Verdict} → CheckedInto bs room₀ room r → r ≡ Passed → HoldsPassed bs room
+  pub checked-passes : {room₀ room : List ℕ} {verdict : Verdict} → CheckedInto bs room₀ room verdict → verdict ≡ Passed → HoldsPassed bs room
   checked-passes c e =
       let P : Passes bs = check-exactly bs bytes .0 (sym (c .answer) ∙ e) in
       record { passes = P; held = record { grammar = passed-holds bytes P c; places = passed-places bytes P } }
 
-  module _ (P : Passes bs) (formula cells : List ℕ) where
+  module _ (passes : Passes bs) (formula cells : List ℕ) where
     abbrev lex : Lexicon
-    lex = lexiconOfTable (P .table)
+    lex = lexiconOfTable (passes .table)
 
     abbrev few : length (lex .outsides) ≤ 64
-    few = P .within .outsideCount
+    few = passes .within .outsideCount
 
-    passed : passedTable bs ≡ ok (P .table)
-    passed = stages.passed-table bs P
+    passed : passedTable bs ≡ ok (passes .table)
+    passed = stages.passed-table bs passes
 
     -- ------------------------------------------------------------------ the scan
 
     module _ {tokens words : List ℕ} (room : RoomFor formula tokens words) where
-      in-lexicon : {f : Filled} → f ≡ scanInto (lexiconOf bs) formula tokens words → f ≡ scanInto lex formula tokens words
-      in-lexicon e = rw (naming.lexicon-passed bs bytes P) at e
+      in-lexicon : {given-filled : Filled} → given-filled ≡ scanInto (lexiconOf bs) formula tokens words → given-filled ≡ scanInto lex formula tokens words
+      in-lexicon e = rw (naming.lexicon-passed bs bytes passes) at e
 
       -- A scan that refuses is the end of the parse.
-      pub parse-stops : {a : Scanned} {r : Refusal} {tokens′ words′ : List ℕ} → filled a tokens′ words′ ≡ scanInto (lexiconOf bs) formula tokens words
-          → a ≡ Unscanned r → halt r cells ≡ parse bs formula cells
+      pub parse-stops : {scanned : Scanned} {refusal : Refusal} {tokens′ words′ : List ℕ}
+          → filled scanned tokens′ words′ ≡ scanInto (lexiconOf bs) formula tokens words
+          → scanned ≡ Unscanned refusal → halt refusal cells ≡ parse bs formula cells
       parse-stops e h = sym (parsing.parse-unscanned bs formula cells passed (scan-refused lex few formula room (rw h at (in-lexicon e))))
 
       -- The same with all rooms.
-      pub stops-whole : {a : Scanned} {r : Refusal} {q : Parsed} {tokens′ words′ : List ℕ}
-          → filled a tokens′ words′ ≡ scanInto (lexiconOf bs) formula tokens words
-          → a ≡ Unscanned r → q ≡ haltedParse r → parsedInto q tokens′ words′ cells ≡ parseInto bs formula tokens words cells
+      pub stops-whole : {scanned : Scanned} {refusal : Refusal} {parsed : Parsed} {tokens′ words′ : List ℕ}
+          → filled scanned tokens′ words′ ≡ scanInto (lexiconOf bs) formula tokens words
+          → scanned ≡ Unscanned refusal → parsed ≡ haltedParse refusal → parsedInto parsed tokens′ words′ cells ≡ parseInto bs formula tokens words cells
       stops-whole e h = parsing.into-unscanned bs formula tokens words cells passed (rw h at (in-lexicon e))
 
       -- One that does not leaves its tokens and words in the rooms.
-      pub scan-fills : {a : Scanned} {n count : ℕ} {tokens′ words′ : List ℕ} → filled a tokens′ words′ ≡ scanInto (lexiconOf bs) formula tokens words
-          → a ≡ Tokens n count → Holds lex few formula tokens′ words′ n count
+      pub scan-fills : {scanned : Scanned} {many count : ℕ} {tokens′ words′ : List ℕ}
+          → filled scanned tokens′ words′ ≡ scanInto (lexiconOf bs) formula tokens words
+          → scanned ≡ Tokens many count → Holds lex few formula tokens′ words′ many count
       scan-fills e h = scan-holds lex few formula room (rw h at (in-lexicon e))
 
     -- ------------------------------------------------------------------ the run
 
     -- the rooms are as long after a scan
-    same-rooms : (tokens words : List ℕ) {a : Scanned} {tokens′ words′ : List ℕ} → filled a tokens′ words′ ≡ scanInto (lexiconOf bs) formula tokens words
+    same-rooms : (tokens words : List ℕ) {scanned : Scanned} {tokens′ words′ : List ℕ}
+        → filled scanned tokens′ words′ ≡ scanInto (lexiconOf bs) formula tokens words
         → (length tokens′ ≡ length tokens) × (length words′ ≡ length words)
     unfolding scanInto
     same-rooms tokens words {tokens′ = tokens′} {words′} e =
@@ -107,31 +110,31 @@ module _ {bs : List ℕ} (bytes : Bytes bs) where
           ap length w ∙ length-sets words 0 (wordPlaces 0 (scan (lexiconOf bs) formula .tokens)),
         )
 
-    module _ {tokens words : List ℕ} {n count : ℕ} (H : Holds lex few formula tokens words n count) where
+    module _ {tokens words : List ℕ} {many count : ℕ} (holds : Holds lex few formula tokens words many count) where
       -- The run of the tokens in the room is the parse.
-      pub parse-runs : run (lentInput bs tokens n (rowsLent (length cells))) (getD bs (length bs - 1) 0) cells ≡ parse bs formula cells
+      pub parse-runs : run (lentInput bs tokens many (rowsLent (length cells))) (getD bs (length bs - 1) 0) cells ≡ parse bs formula cells
       parse-runs =
-          rw (passed-grammar bytes P, H .tokens-are, root-last (P .table) (P .encoded))
-          (sym (parsing.parse-run bs formula cells passed (H .answered)))
+          rw (passed-grammar bytes passes, holds .tokens-are, root-last (passes .table) (passes .encoded))
+          (sym (parsing.parse-run bs formula cells passed (holds .answered)))
 
       -- The words are known, in a room half as long as that of the tokens or longer.
       pub known : length tokens ≤ length words * 2 → WordsKnown bs formula words count
       known half =
           record {
-            passes = P;
-            tokens = n;
-            few = omega (arith, H .few-words, H .tokens-fit .few);
-            lie = omega (arith, H .few-words, H .tokens-fit .long);
-            answered = H .answered;
-            words-are = H .words-are;
+            passes = passes;
+            tokens = many;
+            few = omega (arith, holds .few-words, holds .tokens-fit .few);
+            lie = omega (arith, holds .few-words, holds .tokens-fit .long);
+            answered = holds .answered;
+            words-are = holds .words-are;
           }
 
 -- ------------------------------------------------------------------ the last step
 
-module _ {bs : List ℕ} (bytes : Bytes bs) (cells : List ℕ) {formula words cells′ : List ℕ} {v count : ℕ} {s : State}
-    (K : WordsKnown bs formula words count) (reached : done v s cells′ ≡ parse bs formula cells) where
+module _ {bs : List ℕ} (bytes : Bytes bs) (cells : List ℕ) {formula words cells′ : List ℕ} {row count : ℕ} {state : State}
+    (words-known : WordsKnown bs formula words count) (reached : done row state cells′ ≡ parse bs formula cells) where
   abbrev P : Passes bs
-  P = K .passes
+  P = words-known .passes
 
   abbrev T : Passing (P .table)
   T = record { within = P .within; meets = P .meets }
@@ -143,7 +146,7 @@ module _ {bs : List ℕ} (bytes : Bytes bs) (cells : List ℕ) {formula words ce
   spell = spelled (lexiconOfTable (P .table)) (lexed .words)
 
   abbrev S : Meaning.Scans (P .table) formula (lexed .tokens) (lexed .words)
-  S = stages.scans-of (P .table) T formula (K .answered)
+  S = stages.scans-of (P .table) T formula (words-known .answered)
 
   abbrev L : Lexemes
   L =
@@ -153,23 +156,23 @@ module _ {bs : List ℕ} (bytes : Bytes bs) (cells : List ℕ) {formula words ce
         small = expansion.scanned-is-small (lexiconOfTable (P .table)) (P .within .outsideCount) formula;
       }
 
-  answers : run (input (grammarOf (P .table)) (lexed .tokens) (rowsLent (length cells))) (P .table .root) cells ≡ done v s cells′
-  answers = sym (parsing.parse-run bs formula cells (passed bytes P formula cells) (K .answered)) ∙ sym reached
+  answers : run (input (grammarOf (P .table)) (lexed .tokens) (rowsLent (length cells))) (P .table .root) cells ≡ done row state cells′
+  answers = sym (parsing.parse-run bs formula cells (passed bytes P formula cells) (words-known .answered)) ∙ sym reached
 
-  derived : Figure3.Parses (grammarOf (P .table)) spell (P .table .root) (lexed .tokens) (termAt (s .made) spell cells′ v)
-  derived = expansion.accepted-is-derived (P .table) T L (rowsLent (length cells)) cells (omega arith) v s cells′ answers
+  derived : Figure3.Parses (grammarOf (P .table)) spell (P .table .root) (lexed .tokens) (termAt (state .made) spell cells′ row)
+  derived = expansion.accepted-is-derived (P .table) T L (rowsLent (length cells)) cells (omega arith) row state cells′ answers
 
-  leaves : (s .made ≤ rowsLent (length cells)) × (length cells′ ≡ length cells)
-      × (termAt (s .made) spell (take (s .made * columns) cells′) v ≡ termAt (s .made) spell cells′ v)
+  leaves : (state .made ≤ rowsLent (length cells)) × (length cells′ ≡ length cells)
+      × (termAt (state .made) spell (take (state .made * columns) cells′) row ≡ termAt (state .made) spell cells′ row)
   leaves =
       let l = expansion.accepted-leaves (P .table) T L (rowsLent (length cells)) cells (omega arith) answers in
       (l .few, l .as-many, l .same)
 
   -- The rows made lie in the cells.
-  pub rows-lie : RowsLie (s .made) cells′
+  pub rows-lie : RowsLie (state .made) cells′
   rows-lie = record { few = omega (arith, leaves .0); inside = omega (arith, leaves .0, leaves .1) }
 
-  named : WellNamed spell (termAt (s .made) spell cells′ v)
+  named : WellNamed spell (termAt (state .made) spell cells′ row)
   named =
       naming.placed-named spell (P .within .outsideCount) (expansion.derived-is-supplied (P .table) T L derived)
       (λ w a k. ap isWord (stages.words-as-written (P .table) T formula S w a k) ∙ stages.spelled-at (P .table) T formula S w a k .is-word)
@@ -177,48 +180,48 @@ module _ {bs : List ℕ} (bytes : Bytes bs) (cells : List ℕ) {formula words ce
       (expansion.derived-is-placed (P .table) T L derived)
 
   abbrev spelled-is : spelledBy bs formula words count ≡ spell
-  spelled-is = naming.spelled-by bs bytes P formula words (K .answered) (K .words-are)
+  spelled-is = naming.spelled-by bs bytes P formula words (words-known .answered) (words-known .words-are)
 
   -- the term in the rows made, with the spellings that the last step reads
-  term-is : termAt (s .made) (spelledBy bs formula words count) (take (s .made * columns) cells′) v ≡ termAt (s .made) spell cells′ v
+  term-is : termAt (state .made) (spelledBy bs formula words count) (take (state .made * columns) cells′) row ≡ termAt (state .made) spell cells′ row
   term-is = rw spelled-is (leaves .2)
 
-  long : length (take (s .made * columns) cells′) ≡ s .made * columns
-  long = length-take-le (s .made * columns) cells′ (rows-lie .inside)
+  long : length (take (state .made * columns) cells′) ≡ state .made * columns
+  long = length-take-le (state .made * columns) cells′ (rows-lie .inside)
 
   -- The last step is given what it asks.
-  pub emittable : Emittable bs formula words count (take (s .made * columns) cells′) (s .made) v
+  pub emittable : Emittable bs formula words count (take (state .made * columns) cells′) (state .made) row
   emittable =
       record {
-        few = K .few;
-        lie = K .lie;
+        few = words-known .few;
+        lie = words-known .lie;
         outsidesFit = naming.outsides-fit bs bytes P;
-        wordsFit = naming.words-fit bs bytes P formula words (K .answered) (K .words-are);
-        distinct = naming.distinct bs bytes P formula words (K .answered) (K .words-are);
+        wordsFit = naming.words-fit bs bytes P formula words (words-known .answered) (words-known .words-are);
+        distinct = naming.distinct bs bytes P formula words (words-known .answered) (words-known .words-are);
         whole = record { few = omega (arith, long, rows-lie .few); whole = omega (arith, long) };
         wellNamed =
             rw (spelled-is, leaves .2) named;
       }
 
   -- What the last step answers and writes is what the expansion does.
-  pub emits : (text : List ℕ) {r : Answer} {text′ : List ℕ}
-      → emitted textOf (s .made) (termAt (s .made) (spelledBy bs formula words count) (take (s .made * columns) cells′) v) text
-      ≡ record { answer = r; text = text′ }
-      → expanded r cells′ text′ ≡ expand bs formula cells text
-  emits text {r} {text′} e =
+  pub emits : (text : List ℕ) {answer : Answer} {text′ : List ℕ}
+      → emitted textOf (state .made) (termAt (state .made) (spelledBy bs formula words count) (take (state .made * columns) cells′) row) text
+      ≡ record { answer = answer; text = text′ }
+      → expanded answer cells′ text′ ≡ expand bs formula cells text
+  emits text {answer} {text′} e =
       sym
       (parsing.expand-finishes bs formula cells text (passed bytes P formula cells)
       ∙ ap (finished spell text) (sym reached)
-      ∙ ap (λ (u : Term Name). withCells cells′ (emitted textOf (s .made) u text)) (sym term-is)
+      ∙ ap (λ (u : Term Name). withCells cells′ (emitted textOf (state .made) u text)) (sym term-is)
       ∙ ap (withCells cells′) e)
 
 -- ------------------------------------------------------------------ the promises of the parse and of the whole call
 
 -- A parse that refused before its run.
-pub refused-parses : {bs formula cells : List ℕ} (words′ : List ℕ) {r : Refusal} {q : Parsed} → q ≡ haltedParse r → halt r cells ≡ parse bs formula cells
-    → ParsesTo bs formula cells words′ cells q
-refused-parses {cells = cells} words′ {r} {q} e h =
-    let never : (v : ℕ) (s : State) → q .outcome ≡ Value v s → ⊥ = λ v s z. let n : _≡_ {A = ℕ} 0 1 = cc in omega arith in
+pub refused-parses : {bs formula cells : List ℕ} (words′ : List ℕ) {refusal : Refusal} {parsed : Parsed} → parsed ≡ haltedParse refusal
+    → halt refusal cells ≡ parse bs formula cells → ParsesTo bs formula cells words′ cells parsed
+refused-parses {cells = cells} words′ {refusal} {parsed} e h =
+    let never : (v : ℕ) (s : State) → parsed .outcome ≡ Value v s → ⊥ = λ v s z. let n : _≡_ {A = ℕ} 0 1 = cc in omega arith in
     record {
       equal = rw e h;
       words-known = λ v s z. absurd (never v s z);
@@ -226,16 +229,16 @@ refused-parses {cells = cells} words′ {r} {q} e h =
     }
 
 -- A parse that ran.
-pub ran-parses : {bs : List ℕ} (bytes : Bytes bs) (P : Passes bs) (formula cells : List ℕ) {tokens words : List ℕ} (rooms : Rooms formula tokens words)
-    {tokens′ words′ cells′ : List ℕ} {a : Scanned} {n count : ℕ} {o : Outcome}
-    → filled a tokens′ words′ ≡ scanInto (lexiconOf bs) formula tokens words → a ≡ Tokens n count
-    → ran o cells′ ≡ run (lentInput bs tokens′ n (rowsLent (length cells))) (getD bs (length bs - 1) 0) cells
-    → ParsesInto bs formula tokens words cells tokens′ words′ cells′ (record { outcome = o; words = count })
-ran-parses {bs} bytes P formula cells {tokens} {words} rooms {tokens′} {words′} {cells′} {n = n} {count} {o} f h e =
-    let H = scan-fills bytes P formula cells (rooms .enough) f h in
-    let same = e ∙ parse-runs bytes P formula cells H in
-    let long = same-rooms bytes P formula cells tokens words f in
-    let K : WordsKnown bs formula words′ count = known bytes P formula cells H (omega (arith, rooms .half, long .0, long .1)) in
+pub ran-parses : {bs : List ℕ} (bytes : Bytes bs) (passes : Passes bs) (formula cells : List ℕ) {tokens words : List ℕ} (rooms : Rooms formula tokens words)
+    {tokens′ words′ cells′ : List ℕ} {scanned : Scanned} {many count : ℕ} {outcome : Outcome}
+    → filled scanned tokens′ words′ ≡ scanInto (lexiconOf bs) formula tokens words → scanned ≡ Tokens many count
+    → ran outcome cells′ ≡ run (lentInput bs tokens′ many (rowsLent (length cells))) (getD bs (length bs - 1) 0) cells
+    → ParsesInto bs formula tokens words cells tokens′ words′ cells′ (record { outcome = outcome; words = count })
+ran-parses {bs} bytes passes formula cells {tokens} {words} rooms {tokens′} {words′} {cells′} {many = many} {count} {outcome} f h e =
+    let H = scan-fills bytes passes formula cells (rooms .enough) f h in
+    let same = e ∙ parse-runs bytes passes formula cells H in
+    let long = same-rooms bytes passes formula cells tokens words f in
+    let K : WordsKnown bs formula words′ count = known bytes passes formula cells H (omega (arith, rooms .half, long .0, long .1)) in
     record {
       parsed =
           record {
@@ -244,17 +247,18 @@ ran-parses {bs} bytes P formula cells {tokens} {words} rooms {tokens′} {words�
             rows-lie = λ v s z. rows-lie bytes cells K (rw z at same);
           };
       whole =
-          parsing.into-run bs formula tokens words cells (passed bytes P formula cells) o
-          (rw h at (in-lexicon bytes P formula cells (rooms .enough) f))
-          (same ∙ parsing.parse-run bs formula cells (passed bytes P formula cells) (H .answered));
+          parsing.into-run bs formula tokens words cells (passed bytes passes formula cells) outcome
+          (rw h at (in-lexicon bytes passes formula cells (rooms .enough) f))
+          (same ∙ parsing.parse-run bs formula cells (passed bytes passes formula cells) (H .answered));
     }
 
-module _ {bs formula cells words′ cells′ : List ℕ} {q : Parsed} (p : ParsesTo bs formula cells words′ cells′ q) where
+module _ {bs formula cells words′ cells′ : List ℕ} {parsed : Parsed} (parses-to : ParsesTo bs formula cells words′ cells′ parsed) where
   -- A call whose parse refuses.
-  pub call-refuses : (text : List ℕ) {r : Refusal} → q .outcome ≡ Halted r → expanded (Refusing r) cells′ text ≡ expand bs formula cells text
+  pub call-refuses : (text : List ℕ) {refusal : Refusal} → parsed .outcome ≡ Halted refusal
+      → expanded (Refusing refusal) cells′ text ≡ expand bs formula cells text
   call-refuses text e =
-      sym (parsing.expand-refused bs formula cells text (rw e at (sym (p .equal))))
+      sym (parsing.expand-refused bs formula cells text (rw e at (sym (parses-to .equal))))
 
   -- A call whose parse reaches a value.
-  pub value-reached : {v : ℕ} {s : State} → q .outcome ≡ Value v s → done v s cells′ ≡ parse bs formula cells
-  value-reached e = rw e at (p .equal)
+  pub value-reached : {row : ℕ} {state : State} → parsed .outcome ≡ Value row state → done row state cells′ ≡ parse bs formula cells
+  value-reached e = rw e at (parses-to .equal)

@@ -32,46 +32,48 @@ use Rattle.checker.specs.Passes.{Passes}
 
 -- ------------------------------------------------------------------ lists
 
-each-at : {A : Type 0} {P : A → Type 0} {xs : List A} → Each P xs → (n : ℕ) (d : A) → n < length xs → P (getD xs n d)
-each-at each-none n d l = absurd (omega arith)
-each-at (each-more h hs) zero d l = h
-each-at (each-more h hs) (suc n) d l = each-at hs n d (omega arith)
+each-at : {A : Type 0} {P : A → Type 0} {xs : List A} → Each P xs → (index : ℕ) (default : A) → index < length xs → P (getD xs index default)
+each-at each-none index default l = absurd (omega arith)
+each-at (each-more h hs) zero default l = h
+each-at (each-more h hs) (suc index) default l = each-at hs index default (omega arith)
 
 -- different spellings stand once each
-different-once : {l : List (List ℕ)} → Different l → Once l
+different-once : {words : List (List ℕ)} → Different words → Once words
 different-once different-none i j a b e = absurd (omega arith)
 different-once (different-more h d) zero zero a b e = refl
 different-once (different-more h d) zero (suc j) a b e = absurd (each-at h j [] (omega arith) e)
 different-once (different-more h d) (suc i) zero a b e = absurd (each-at h i [] (omega arith) (sym e))
 different-once (different-more h d) (suc i) (suc j) a b e = ap suc (different-once d i j (omega arith) (omega arith) e)
 
--- word i of those that a room of places names
-words-at : (k i j : ℕ) (formula room : List ℕ) → j < k → getD (wordsFrom k formula room i) j [] ≡ spanned formula room (i + j)
+-- word `first` of those that a room of places names
+words-at : (count first index : ℕ) (formula room : List ℕ) → index < count
+    → getD (wordsFrom count formula room first) index [] ≡ spanned formula room (first + index)
 unfolding wordsFrom
-words-at zero i j formula room h = absurd (omega arith)
-words-at (suc k) i zero formula room h = let z : i + 0 ≡ i = omega arith in rw z refl
-words-at (suc k) i (suc j) formula room h =
-    let z : i + 1 + j ≡ i + suc j = omega arith in
-    words-at k (i + 1) j formula room (omega arith) ∙ ap (spanned formula room) z
+words-at zero first index formula room h = absurd (omega arith)
+words-at (suc count) first zero formula room h = let z : first + 0 ≡ first = omega arith in rw z refl
+words-at (suc count) first (suc index) formula room h =
+    let z : first + 1 + index ≡ first + suc index = omega arith in
+    words-at count (first + 1) index formula room (omega arith) ∙ ap (spanned formula room) z
 
 -- ------------------------------------------------------------------ names of a derived term
 
-module _ {tokens : List Token} {N : ℕ} {G : List Given} (spell : ℕ → List ℕ) (few : N ≤ 64) (known : Each (Supplied tokens N) G)
-    (words : (t : Token) → Among tokens t → t .kind ≡ wordKind → isWord (spell (t .value)) ≡ true)
-    (outsides : (n : ℕ) → n < N → isWord (spell n) ≡ true) where
-  word-given : {B : ℕ} {t : Token} → Supplied tokens N (word-at B t) → isWord (spell (t .value)) ≡ true
+module _ {tokens : List Token} {outside-count : ℕ} {given : List Given} (spell : ℕ → List ℕ) (few : outside-count ≤ 64)
+    (known : Each (Supplied tokens outside-count) given)
+    (words : (token : Token) → Among tokens token → token .kind ≡ wordKind → isWord (spell (token .value)) ≡ true)
+    (outsides : (many : ℕ) → many < outside-count → isWord (spell many) ≡ true) where
+  word-given : {B : ℕ} {token : Token} → Supplied tokens outside-count (word-at B token) → isWord (spell (token .value)) ≡ true
   word-given (supplied-word h e) = words _ h e
 
-  outside-given : {n : ℕ} → Supplied tokens N (outside-name n) → VariableName spell (outside (spell n))
-  outside-given {n} (supplied-outside l) = (n, omega arith, refl, outsides n l)
+  outside-given : {index : ℕ} → Supplied tokens outside-count (outside-name index) → VariableName spell (outside (spell index))
+  outside-given {index} (supplied-outside l) = (index, omega arith, refl, outsides index l)
 
-  variable-named : {x : Name} → VarPlace G spell x → VariableName spell x
+  variable-named : {name : Name} → VarPlace given spell name → VariableName spell name
   variable-named (var-var h) = word-given (placing.each-at known h)
   variable-named (var-binder h) = word-given (placing.each-at known h)
   variable-named (var-local h) = tt
   variable-named (var-outside h) = outside-given (placing.each-at known h)
 
-  binder-named : {x : Name} → BinderPlace G spell x → BinderName spell x
+  binder-named : {name : Name} → BinderPlace given spell name → BinderName spell name
   binder-named (binder-binder h) = word-given (placing.each-at known h)
   binder-named (binder-local h) = tt
 
@@ -79,7 +81,7 @@ module _ {tokens : List Token} {N : ℕ} {G : List Given} (spell : ℕ → List 
     unfolding WellNamed WellNamedFields
 
     -- Of a term whose parts are of the sorts that their places demand, every name is one that can be printed.
-    pub placed-named : {u : Term Name} → Placed G spell u → WellNamed spell u
+    pub placed-named : {other : Term Name} → Placed given spell other → WellNamed spell other
     placed-named (placed-variable x) = variable-named x
     placed-named (placed-function x t) = (binder-named x, placed-named t)
     placed-named (placed-apply t u) = (placed-named t, placed-named u)
@@ -87,28 +89,28 @@ module _ {tokens : List Token} {N : ℕ} {G : List Given} (spell : ℕ → List 
     placed-named (placed-dot t l) = placed-named t
     placed-named (placed-number n) = tt
 
-    fields-named : {f : Fields Name} → PlacedFields G spell f → WellNamedFields spell f
+    fields-named : {fields : Fields Name} → PlacedFields given spell fields → WellNamedFields spell fields
     fields-named placed-nil = tt
     fields-named (placed-cons l t f) = (placed-named t, fields-named f)
 
 -- ------------------------------------------------------------------ a passed table
 
-module _ (bs : List ℕ) (bytes : (i : ℕ) → getD bs i 0 < 256) (P : Passes bs) where
+module _ (bs : List ℕ) (bytes : (place : ℕ) → getD bs place 0 < 256) (passes : Passes bs) where
   -- The scanner finds the keywords and outside names of a passed table in its bytes.
-  pub lexicon-passed : lexiconOf bs ≡ lexiconOfTable (P .table)
-  lexicon-passed = lexicon-decoded bs (P .table) (decode-exactly bs bytes (P .table) .1 (P .encoded, P .within))
+  pub lexicon-passed : lexiconOf bs ≡ lexiconOfTable (passes .table)
+  lexicon-passed = lexicon-decoded bs (passes .table) (decode-exactly bs bytes (passes .table) .1 (passes .encoded, passes .within))
 
   -- An outside name has less than 32 bytes.
-  pub outsides-fit : (m : ℕ) → length (oneOf (lexiconOf bs .outsides) m) < 32
-  outsides-fit m =
-      rw lexicon-passed (short-words (P .table .outsides) (λ i l. each-at (P .within .outsides) i [] l) m)
+  pub outsides-fit : (number : ℕ) → length (oneOf (lexiconOf bs .outsides) number) < 32
+  outsides-fit number =
+      rw lexicon-passed (short-words (passes .table .outsides) (λ i l. each-at (passes .within .outsides) i [] l) number)
 
-  module _ (formula words : List ℕ) {n count : ℕ} (answered : scan (lexiconOfTable (P .table)) formula .answer ≡ Tokens n count)
-      (words-are : wordsIn formula words count ≡ scan (lexiconOfTable (P .table)) formula .words) where
-    words-list : Words formula words count (scan (lexiconOfTable (P .table)) formula .words)
+  module _ (formula words : List ℕ) {many count : ℕ} (answered : scan (lexiconOfTable (passes .table)) formula .answer ≡ Tokens many count)
+      (words-are : wordsIn formula words count ≡ scan (lexiconOfTable (passes .table)) formula .words) where
+    words-list : Words formula words count (scan (lexiconOfTable (passes .table)) formula .words)
     words-list =
         record {
-          many = sym (tokens-counted (lexiconOfTable (P .table)) (P .within .outsideCount) formula answered .1);
+          many = sym (tokens-counted (lexiconOfTable (passes .table)) (passes .within .outsideCount) formula answered .1);
           each =
               λ i l.
               let z : 0 + i ≡ i = omega arith in
@@ -116,26 +118,26 @@ module _ (bs : List ℕ) (bytes : (i : ℕ) → getD bs i 0 < 256) (P : Passes b
         }
 
     -- The spellings that the last step reads are those of the formula's words and the table's outside names.
-    pub spelled-by : spelledBy bs formula words count ≡ spelled (lexiconOfTable (P .table)) (scan (lexiconOfTable (P .table)) formula .words)
+    pub spelled-by : spelledBy bs formula words count ≡ spelled (lexiconOfTable (passes .table)) (scan (lexiconOfTable (passes .table)) formula .words)
     spelled-by =
-        spelled-lists bs formula words (scan (lexiconOfTable (P .table)) formula .words) words-list
-        ∙ ap (λ (l : Lexicon). spelled l (scan (lexiconOfTable (P .table)) formula .words)) lexicon-passed
+        spelled-lists bs formula words (scan (lexiconOfTable (passes .table)) formula .words) words-list
+        ∙ ap (λ (l : Lexicon). spelled l (scan (lexiconOfTable (passes .table)) formula .words)) lexicon-passed
 
     -- So has a word of the formula.
-    pub words-fit : (j : ℕ) → j < count → length (spanned formula words j) < 32
-    words-fit j l =
-        let plain = scan-plain (lexiconOfTable (P .table)) (P .within .outsideCount) formula in
-        let at = words-list .each j l in
+    pub words-fit : (index : ℕ) → index < count → length (spanned formula words index) < 32
+    words-fit index l =
+        let plain = scan-plain (lexiconOfTable (passes .table)) (passes .within .outsideCount) formula in
+        let at = words-list .each index l in
         omega (
           arith,
-          word-length (getD (scan (lexiconOfTable (P .table)) formula .words) j []) (plain .are-words j (omega (arith, words-list .many))),
+          word-length (getD (scan (lexiconOfTable (passes .table)) formula .words) index []) (plain .are-words index (omega (arith, words-list .many))),
           ap length at,
         )
 
     -- Different numbers stand for different spellings.
     pub distinct : Distinct (spelledBy bs formula words count)
     distinct =
-        let plain = scan-plain (lexiconOfTable (P .table)) (P .within .outsideCount) formula in
+        let plain = scan-plain (lexiconOfTable (passes .table)) (passes .within .outsideCount) formula in
         rw spelled-by
-        (apart-lists (lexiconOfTable (P .table)) (scan (lexiconOfTable (P .table)) formula .words)
-        (different-once (P .within .outsidesDiffer)) (plain .once) (plain .no-outside))
+        (apart-lists (lexiconOfTable (passes .table)) (scan (lexiconOfTable (passes .table)) formula .words)
+        (different-once (passes .within .outsidesDiffer)) (plain .once) (plain .no-outside))

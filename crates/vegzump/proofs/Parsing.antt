@@ -27,92 +27,95 @@ use Rattle.vegzump.specs.Parse.{parseFilled, parseIntoChecked, parseInto
 
 module _ (bs formula cells : List ℕ) where
   -- A table that the check refuses.
-  pub parse-refused : {r : Refusal} → check bs ≡ Refused r → parse bs formula cells ≡ halt r cells
+  pub parse-refused : {refusal : Refusal} → check bs ≡ Refused refusal → parse bs formula cells ≡ halt refusal cells
   unfolding check parse
-  parse-refused {r} e = go (passedTable bs) e
+  parse-refused {refusal} e = go (passedTable bs) e
     where
-      go : (c : Checked Table) → verdict c ≡ Refused r → parseChecked c formula cells ≡ halt r cells
-      go (bad q) h = let z : q ≡ r = cc in rw z refl
+      go : (checked : Checked Table) → verdict checked ≡ Refused refusal → parseChecked checked formula cells ≡ halt refusal cells
+      go (bad q) h = let z : q ≡ refusal = cc in rw z refl
       go (ok t) h = let z : _≡_ {A = ℕ} 0 1 = cc in absurd (omega arith)
 
-  module _ {t : Table} (passed : passedTable bs ≡ ok t) where
+  module _ {table : Table} (passed : passedTable bs ≡ ok table) where
     -- A formula that the scan refuses.
-    pub parse-unscanned : {r : Refusal} → scan (lexiconOfTable t) formula .answer ≡ Unscanned r → parse bs formula cells ≡ halt r cells
+    pub parse-unscanned : {refusal : Refusal} → scan (lexiconOfTable table) formula .answer ≡ Unscanned refusal → parse bs formula cells ≡ halt refusal cells
     unfolding parse
     parse-unscanned e = rw (passed, e)
 
     -- A formula that is tokens.
-    pub parse-run : {n m : ℕ} → scan (lexiconOfTable t) formula .answer ≡ Tokens n m
-        → parse bs formula cells ≡ run (inputOf t (scan (lexiconOfTable t) formula .tokens) cells) (t .root) cells
+    pub parse-run : {many word-count : ℕ} → scan (lexiconOfTable table) formula .answer ≡ Tokens many word-count
+        → parse bs formula cells ≡ run (inputOf table (scan (lexiconOfTable table) formula .tokens) cells) (table .root) cells
     unfolding parse
     parse-run e = rw (passed, e)
 
 -- ------------------------------------------------------------------ with the rooms that are lent
 
-outcome-ran : (o : Outcome) (cells : List ℕ) → outcomeOf (ran o cells) ≡ o
+outcome-ran : (outcome : Outcome) (cells : List ℕ) → outcomeOf (ran outcome cells) ≡ outcome
 outcome-ran (Value v s) cells = refl
 outcome-ran (Halted r) cells = refl
 
-cells-ran : (o : Outcome) (cells : List ℕ) → cellsAfter (ran o cells) ≡ cells
+cells-ran : (outcome : Outcome) (cells : List ℕ) → cellsAfter (ran outcome cells) ≡ cells
 cells-ran (Value v s) cells = refl
 cells-ran (Halted r) cells = refl
 
 module _ (bs formula tokens words cells : List ℕ) where
   -- A table that the check refuses leaves all rooms as they were.
-  pub into-refused : {r : Refusal} {q : Parsed} → check bs ≡ Refused r → q ≡ haltedParse r
-      → parsedInto q tokens words cells ≡ parseInto bs formula tokens words cells
+  pub into-refused : {refusal : Refusal} {parsed : Parsed} → check bs ≡ Refused refusal → parsed ≡ haltedParse refusal
+      → parsedInto parsed tokens words cells ≡ parseInto bs formula tokens words cells
   unfolding check parseInto
-  into-refused {r} {q} e eq = rw eq (go (passedTable bs) e)
+  into-refused {refusal} {parsed} e eq = rw eq (go (passedTable bs) e)
     where
-      go : (c : Checked Table) → verdict c ≡ Refused r → parsedInto (haltedParse r) tokens words cells ≡ parseIntoChecked c formula tokens words cells
-      go (bad x) h = let z : x ≡ r = cc in rw z refl
+      go : (checked : Checked Table) → verdict checked ≡ Refused refusal
+          → parsedInto (haltedParse refusal) tokens words cells ≡ parseIntoChecked checked formula tokens words cells
+      go (bad x) h = let z : x ≡ refusal = cc in rw z refl
       go (ok t) h = let z : _≡_ {A = ℕ} 0 1 = cc in absurd (omega arith)
 
-  module _ {t : Table} (passed : passedTable bs ≡ ok t) where
-    into-filled : {f : Filled} → f ≡ scanInto (lexiconOfTable t) formula tokens words
-        → parseInto bs formula tokens words cells ≡ parseFilled t (scan (lexiconOfTable t) formula) f cells
+  module _ {table : Table} (passed : passedTable bs ≡ ok table) where
+    into-filled : {given-filled : Filled} → given-filled ≡ scanInto (lexiconOfTable table) formula tokens words
+        → parseInto bs formula tokens words cells ≡ parseFilled table (scan (lexiconOfTable table) formula) given-filled cells
     unfolding parseInto
     into-filled e = rw (passed, ← e)
 
     -- A formula that the scan refuses.
-    pub into-unscanned : {tokens′ words′ : List ℕ} {r : Refusal} {q : Parsed}
-        → filled (Unscanned r) tokens′ words′ ≡ scanInto (lexiconOfTable t) formula tokens words
-        → q ≡ haltedParse r → parsedInto q tokens′ words′ cells ≡ parseInto bs formula tokens words cells
+    pub into-unscanned : {tokens′ words′ : List ℕ} {refusal : Refusal} {parsed : Parsed}
+        → filled (Unscanned refusal) tokens′ words′ ≡ scanInto (lexiconOfTable table) formula tokens words
+        → parsed ≡ haltedParse refusal → parsedInto parsed tokens′ words′ cells ≡ parseInto bs formula tokens words cells
     into-unscanned e eq = rw (eq, into-filled e)
 
     -- A formula whose tokens are run.
-    pub into-run : {tokens′ words′ : List ℕ} {n m : ℕ} (o : Outcome) {cells′ : List ℕ}
-        → filled (Tokens n m) tokens′ words′ ≡ scanInto (lexiconOfTable t) formula tokens words
-        → ran o cells′ ≡ run (inputOf t (scan (lexiconOfTable t) formula .tokens) cells) (t .root) cells
-        → parsedInto (record { outcome = o; words = m }) tokens′ words′ cells′ ≡ parseInto bs formula tokens words cells
-    into-run o {cells′} e er = rw (into-filled e, ← er, outcome-ran o cells′, cells-ran o cells′)
+    pub into-run : {tokens′ words′ : List ℕ} {many word-count : ℕ} (outcome : Outcome) {cells′ : List ℕ}
+        → filled (Tokens many word-count) tokens′ words′ ≡ scanInto (lexiconOfTable table) formula tokens words
+        → ran outcome cells′ ≡ run (inputOf table (scan (lexiconOfTable table) formula .tokens) cells) (table .root) cells
+        → parsedInto (record { outcome = outcome; words = word-count }) tokens′ words′ cells′ ≡ parseInto bs formula tokens words cells
+    into-run outcome {cells′} e er = rw (into-filled e, ← er, outcome-ran outcome cells′, cells-ran outcome cells′)
 
 -- ------------------------------------------------------------------ what the expansion makes of it
 
 module _ (bs formula cells text : List ℕ) where
-  scanned-is : (t : Table) (s : Scanned)
-      → scanned t (scan (lexiconOfTable t) formula) s cells text
-      ≡ finished (spelled (lexiconOfTable t) (scan (lexiconOfTable t) formula .words)) text (parseScanned t (scan (lexiconOfTable t) formula) s cells)
-  scanned-is t (Unscanned r) = refl
-  scanned-is t (Tokens n m) = refl
+  scanned-is : (table : Table) (given-scanned : Scanned)
+      → scanned table (scan (lexiconOfTable table) formula) given-scanned cells text
+      ≡ finished (spelled (lexiconOfTable table) (scan (lexiconOfTable table) formula .words)) text
+      (parseScanned table (scan (lexiconOfTable table) formula) given-scanned cells)
+  scanned-is table (Unscanned r) = refl
+  scanned-is table (Tokens n m) = refl
 
   -- An expansion of a passed table is the last step on what the parse gives.
-  pub expand-finishes : {t : Table} → passedTable bs ≡ ok t
+  pub expand-finishes : {table : Table} → passedTable bs ≡ ok table
       → expand bs formula cells text
-      ≡ finished (spelled (lexiconOfTable t) (scan (lexiconOfTable t) formula .words)) text (parse bs formula cells)
+      ≡ finished (spelled (lexiconOfTable table) (scan (lexiconOfTable table) formula .words)) text (parse bs formula cells)
   unfolding expand expandTable parse
-  expand-finishes {t} e =
-      rw e (scanned-is t (scan (lexiconOfTable t) formula .answer))
+  expand-finishes {table} e =
+      rw e (scanned-is table (scan (lexiconOfTable table) formula .answer))
 
   -- An expansion whose parse refuses gives that refusal, with the cells made and the text as it was.
-  pub expand-refused : {r : Refusal} {cells′ : List ℕ} → parse bs formula cells ≡ halt r cells′ → expand bs formula cells text ≡ refused r cells′ text
+  pub expand-refused : {refusal : Refusal} {cells′ : List ℕ} → parse bs formula cells ≡ halt refusal cells′
+      → expand bs formula cells text ≡ refused refusal cells′ text
   unfolding expand expandTable parse
-  expand-refused {r} {cells′} e = go (passedTable bs) refl
+  expand-refused {refusal} {cells′} e = go (passedTable bs) refl
     where
-      go : (c : Checked Table) → passedTable bs ≡ c → checkedFirst (passedTable bs) formula cells text ≡ refused r cells′ text
+      go : (checked : Checked Table) → passedTable bs ≡ checked → checkedFirst (passedTable bs) formula cells text ≡ refused refusal cells′ text
       go (bad q) h =
-          let a : _≡_ {A = Result ℕ} (halt q cells) (halt r cells′) = rw h at e in
-          let same : q ≡ r = cc in
+          let a : _≡_ {A = Result ℕ} (halt q cells) (halt refusal cells′) = rw h at e in
+          let same : q ≡ refusal = cc in
           let left : cells ≡ cells′ = cc in
           rw (h, same, left)
       go (ok t) h = expand-finishes h ∙ ap (finished (spelled (lexiconOfTable t) (scan (lexiconOfTable t) formula .words)) text) e

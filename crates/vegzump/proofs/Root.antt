@@ -9,57 +9,57 @@ use Rattle.grammar.specs.Table.{Table, Item, Alternative, Definition}
 use Rattle.grammar.specs.Encode.{fieldBytes, spellingsThen, itemsThen, alternativesThen, definitionsThen, blocksThen, tableFields, encode}
 use Rattle.grammar.specs.Values.{Field, field}
 
--- The bytes of some fields end with x.
-pub record Ends (x : ℕ) (fs : List Field) : Type 0 where
+-- The bytes of some fields end with `root`.
+pub record Ends (root : ℕ) (fs : List Field) : Type 0 where
   -- what stands before it
   pub front : List ℕ
-  -- and x itself
-  pub ends : fieldBytes fs ≡ front ++ (x ∷ [])
+  -- and `root` itself
+  pub ends : fieldBytes fs ≡ front ++ (root ∷ [])
 
-module _ {x : ℕ} where
-  field-before : (tag : ℕ) (v : List ℕ) {fs : List Field} → Ends x fs → Ends x (field tag v ∷ fs)
+module _ {root : ℕ} where
+  field-before : (tag : ℕ) (value : List ℕ) {fs : List Field} → Ends root fs → Ends root (field tag value ∷ fs)
   unfolding fieldBytes
-  field-before tag v {fs} e =
-      let first : List ℕ = tag ∷ length v / 256 ∷ length v % 256 ∷ v in
+  field-before tag value {fs} e =
+      let first : List ℕ = tag ∷ length value / 256 ∷ length value % 256 ∷ value in
       record { front = first ++ e .front; ends = rw (e .ends, append-assoc) }
 
-  spellings-before : (tag : ℕ) (ss : List (List ℕ)) {fs : List Field} → Ends x fs → Ends x (spellingsThen tag ss fs)
+  spellings-before : (tag : ℕ) (ss : List (List ℕ)) {fs : List Field} → Ends root fs → Ends root (spellingsThen tag ss fs)
   unfolding spellingsThen
   spellings-before tag [] e = e
   spellings-before tag (s ∷ ss) e = field-before tag s (spellings-before tag ss e)
 
-  items-before : (is : List Item) {fs : List Field} → Ends x fs → Ends x (itemsThen is fs)
+  items-before : (is : List Item) {fs : List Field} → Ends root fs → Ends root (itemsThen is fs)
   unfolding itemsThen
   items-before [] e = e
   items-before (i ∷ is) e = field-before 6 _ (items-before is e)
 
-  alternatives-before : (rest : List Alternative) {fs : List Field} → Ends x fs → Ends x (alternativesThen rest fs)
+  alternatives-before : (rest : List Alternative) {fs : List Field} → Ends root fs → Ends root (alternativesThen rest fs)
   unfolding alternativesThen
   alternatives-before [] e = e
   alternatives-before (a ∷ rest) e = field-before 5 [] (items-before (a .items) (field-before 7 _ (alternatives-before rest e)))
 
-  definitions-before : (ds : List Definition) {fs : List Field} → Ends x fs → Ends x (definitionsThen ds fs)
+  definitions-before : (ds : List Definition) {fs : List Field} → Ends root fs → Ends root (definitionsThen ds fs)
   unfolding definitionsThen
   definitions-before [] e = e
   definitions-before (d ∷ ds) e = field-before 4 _ (alternatives-before (d .alternatives) (definitions-before ds e))
 
-  blocks-before : (bs : List (List Definition)) {fs : List Field} → Ends x fs → Ends x (blocksThen bs fs)
+  blocks-before : (bs : List (List Definition)) {fs : List Field} → Ends root fs → Ends root (blocksThen bs fs)
   unfolding blocksThen
   blocks-before [] e = e
   blocks-before (b ∷ bs) e = field-before 3 [] (definitions-before b (blocks-before bs e))
 
-encode-ends : (t : Table) → Ends (t .root) (tableFields t)
+encode-ends : (table : Table) → Ends (table .root) (tableFields table)
 unfolding tableFields fieldBytes
-encode-ends t =
-    spellings-before 1 (t .keywords)
-    (spellings-before 2 (t .outsides)
-    (blocks-before (t .blocks) (record { front = 8 ∷ 0 ∷ 1 ∷ []; ends = refl })))
+encode-ends table =
+    spellings-before 1 (table .keywords)
+    (spellings-before 2 (table .outsides)
+    (blocks-before (table .blocks) (record { front = 8 ∷ 0 ∷ 1 ∷ []; ends = refl })))
 
 -- The last byte of an encoded table is its root.
-pub root-last : {bs : List ℕ} (t : Table) → bs ≡ encode t → getD bs (length bs - 1) 0 ≡ t .root
+pub root-last : {bs : List ℕ} (table : Table) → bs ≡ encode table → getD bs (length bs - 1) 0 ≡ table .root
 unfolding encode
-root-last {bs} t e =
-    let h = encode-ends t in
-    let s : bs ≡ h .front ++ (t .root ∷ []) = e ∙ h .ends in
-    let z : length (h .front) ≡ length bs - 1 = omega (arith, ap length s, length-append (h .front) (t .root ∷ [])) in
-    ap (λ (l : List ℕ). getD l (length bs - 1) 0) s ∙ getD-at (h .front) (t .root) [] 0 (length bs - 1) z
+root-last {bs} table e =
+    let h = encode-ends table in
+    let s : bs ≡ h .front ++ (table .root ∷ []) = e ∙ h .ends in
+    let z : length (h .front) ≡ length bs - 1 = omega (arith, ap length s, length-append (h .front) (table .root ∷ [])) in
+    ap (λ (l : List ℕ). getD l (length bs - 1) 0) s ∙ getD-at (h .front) (table .root) [] 0 (length bs - 1) z

@@ -22,54 +22,56 @@ no-word : isWord [] ≡ true → ⊥
 no-word e = true≢false (sym e)
 
 -- a word has at most 31 bytes
-pub word-length : (s : List ℕ) → isWord s ≡ true → length s < 32
+pub word-length : (spelling : List ℕ) → isWord spelling ≡ true → length spelling < 32
 word-length [] e = absurd (no-word e)
 word-length (b ∷ bs) e =
     omega (arith, leb-true (suc (length bs)) 31 (and-eq-true-iff (isLetter b && every isWordByte bs) (leb (suc (length bs)) 31) .0 e .1))
 
 -- spellings that are words are short enough for the room
-pub short-words : (l : List (List ℕ)) → ((m : ℕ) → m < length l → isWord (getD l m []) ≡ true) → (m : ℕ) → length (oneOf l m) < 32
-short-words l h m =
-    by-test (ltb m (length l)) (λ e. word-length (getD l m []) (h m (ltb-true m (length l) e)))
-    (λ e. rw (getD-past l m [] (omega (arith, ltb-false m (length l) e))) (omega arith))
+pub short-words : (words : List (List ℕ)) → ((number : ℕ) → number < length words → isWord (getD words number []) ≡ true) → (number : ℕ)
+    → length (oneOf words number) < 32
+short-words words h number =
+    by-test (ltb number (length words)) (λ e. word-length (getD words number []) (h number (ltb-true number (length words) e)))
+    (λ e. rw (getD-past words number [] (omega (arith, ltb-false number (length words) e))) (omega arith))
 
 -- a list has a spelling once
 abbrev pub Once : List (List ℕ) → Type 0
 Once l = (i j : ℕ) → i < length l → j < length l → getD l i [] ≡ getD l j [] → i ≡ j
 
-inside : (l : List (List ℕ)) (i : ℕ) → isWord (getD l i []) ≡ true → i < length l
-inside l i w =
-    by-test (ltb i (length l)) (λ e. ltb-true i (length l) e)
-    (λ e. absurd (no-word (ap isWord (sym (getD-past l i [] (omega (arith, ltb-false i (length l) e)))) ∙ w)))
+inside : (words : List (List ℕ)) (index : ℕ) → isWord (getD words index []) ≡ true → index < length words
+inside words index w =
+    by-test (ltb index (length words)) (λ e. ltb-true index (length words) e)
+    (λ e. absurd (no-word (ap isWord (sym (getD-past words index [] (omega (arith, ltb-false index (length words) e)))) ∙ w)))
 
 module _ (lex : Lexicon) (words : List (List ℕ)) (once-outs : Once (lex .outsides)) (once-words : Once words)
-    (other : (i j : ℕ) → i < length (lex .outsides) → j < length words → getD (lex .outsides) i [] ≡ getD words j [] → ⊥) where
-  near : (n : ℕ) → n < 64 → spelled lex words n ≡ getD (lex .outsides) n []
-  near n h = rw (lt-ltb n 64 h, spelled) refl
+    (other : (index later : ℕ) → index < length (lex .outsides) → later < length words → getD (lex .outsides) index [] ≡ getD words later [] → ⊥) where
+  near : (number : ℕ) → number < 64 → spelled lex words number ≡ getD (lex .outsides) number []
+  near number h = rw (lt-ltb number 64 h, spelled) refl
 
-  far : (n : ℕ) → 64 ≤ n → spelled lex words n ≡ getD words (n - 64) []
-  far n h = rw (le-ltb n 64 h, spelled) refl
+  far : (number : ℕ) → 64 ≤ number → spelled lex words number ≡ getD words (number - 64) []
+  far number h = rw (le-ltb number 64 h, spelled) refl
 
   abbrev S : ℕ → List ℕ
   S = spelled lex words
 
-  one : (m n : ℕ) → m < 64 → n < 64 → isWord (S m) ≡ true → S m ≡ S n → m ≡ n
-  one m n a b w e =
-      let e′ : getD (lex .outsides) m [] ≡ getD (lex .outsides) n [] = sym (near m a) ∙ e ∙ near n b in
-      let wm : isWord (getD (lex .outsides) m []) ≡ true = ap isWord (sym (near m a)) ∙ w in
-      once-outs m n (inside (lex .outsides) m wm) (inside (lex .outsides) n (ap isWord (sym e′) ∙ wm)) e′
+  one : (number second : ℕ) → number < 64 → second < 64 → isWord (S number) ≡ true → S number ≡ S second → number ≡ second
+  one number second a b w e =
+      let e′ : getD (lex .outsides) number [] ≡ getD (lex .outsides) second [] = sym (near number a) ∙ e ∙ near second b in
+      let wm : isWord (getD (lex .outsides) number []) ≡ true = ap isWord (sym (near number a)) ∙ w in
+      once-outs number second (inside (lex .outsides) number wm) (inside (lex .outsides) second (ap isWord (sym e′) ∙ wm)) e′
 
-  two : (m n : ℕ) → m < 64 → 64 ≤ n → isWord (S m) ≡ true → S m ≡ S n → ⊥
-  two m n a b w e =
-      let e′ : getD (lex .outsides) m [] ≡ getD words (n - 64) [] = sym (near m a) ∙ e ∙ far n b in
-      let wm : isWord (getD (lex .outsides) m []) ≡ true = ap isWord (sym (near m a)) ∙ w in
-      other m (n - 64) (inside (lex .outsides) m wm) (inside words (n - 64) (ap isWord (sym e′) ∙ wm)) e′
+  two : (number second : ℕ) → number < 64 → 64 ≤ second → isWord (S number) ≡ true → S number ≡ S second → ⊥
+  two number second a b w e =
+      let e′ : getD (lex .outsides) number [] ≡ getD words (second - 64) [] = sym (near number a) ∙ e ∙ far second b in
+      let wm : isWord (getD (lex .outsides) number []) ≡ true = ap isWord (sym (near number a)) ∙ w in
+      other number (second - 64) (inside (lex .outsides) number wm) (inside words (second - 64) (ap isWord (sym e′) ∙ wm)) e′
 
-  both : (m n : ℕ) → 64 ≤ m → 64 ≤ n → isWord (S m) ≡ true → S m ≡ S n → m ≡ n
-  both m n a b w e =
-      let e′ : getD words (m - 64) [] ≡ getD words (n - 64) [] = sym (far m a) ∙ e ∙ far n b in
-      let wm : isWord (getD words (m - 64) []) ≡ true = ap isWord (sym (far m a)) ∙ w in
-      let z : m - 64 ≡ n - 64 = once-words (m - 64) (n - 64) (inside words (m - 64) wm) (inside words (n - 64) (ap isWord (sym e′) ∙ wm)) e′ in
+  both : (number second : ℕ) → 64 ≤ number → 64 ≤ second → isWord (S number) ≡ true → S number ≡ S second → number ≡ second
+  both number second a b w e =
+      let e′ : getD words (number - 64) [] ≡ getD words (second - 64) [] = sym (far number a) ∙ e ∙ far second b in
+      let wm : isWord (getD words (number - 64) []) ≡ true = ap isWord (sym (far number a)) ∙ w in
+      let z : number - 64 ≡ second - 64 = once-words (number - 64) (second - 64) (inside words (number - 64) wm)
+      (inside words (second - 64) (ap isWord (sym e′) ∙ wm)) e′ in
       omega arith
 
   -- Words have one number each, if no list has a spelling twice and the two share none.

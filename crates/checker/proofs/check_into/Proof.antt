@@ -32,24 +32,24 @@ claims = (
 )
 
 -- the layout is right
-module _ (p : lts.After-enum-told claims reads.Pre reads.Post) where
+module _ (point : lts.After-enum-told claims reads.Pre reads.Post) where
   abbrev bs : List ℕ
-  bs = p .before .before .before .before .args .table .now
+  bs = point .before .before .before .before .args .table .now
 
   bytes : Bytes bs
-  bytes i = omega (arith, p .before .before .before .shared-slice-known .given i)
+  bytes i = omega (arith, point .before .before .before .shared-slice-known .given i)
 
   laid : verdict (layout bs) ≡ Passed
-  laid = sym (p .before .before .check-layout .ensures) ∙ p .enum-told .given .1
+  laid = sym (point .before .before .check-layout .ensures) ∙ point .enum-told .given .1
 
 -- the sorts are right
-sorted : (p : lts.After-enum-told2 claims reads.Pre reads.Post) → sortsOf (bs (p .before .before .before)) ≡ Passed
-sorted p = sym (p .before .before .check-sorts .ensures) ∙ p .enum-told2 .given .1
+sorted : (point : lts.After-enum-told2 claims reads.Pre reads.Post) → sortsOf (bs (point .before .before .before)) ≡ Passed
+sorted point = sym (point .before .before .check-sorts .ensures) ∙ point .enum-told2 .given .1
 
 -- the index has been built
-module _ (p : lts.After-build-index claims reads.Pre reads.Post) where
+module _ (point : lts.After-build-index claims reads.Pre reads.Post) where
   abbrev after-sorts : lts.After-enum-told2 claims reads.Pre reads.Post
-  after-sorts = p .before .before .before
+  after-sorts = point .before .before .before
 
   abbrev after-layout : lts.After-enum-told claims reads.Pre reads.Post
   after-layout = after-sorts .before .before .before

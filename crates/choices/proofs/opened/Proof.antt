@@ -22,24 +22,24 @@ loop-holds : tie.Need-loop-holds Inv-loop μ-loop
 loop-holds c = λ bs h. laws.walk-start h (c .before .pre .1) (c .before .args .kind) (c .first-place .ensures)
 
 -- after a test
-module _ (p : tie.After-has-kind Inv-loop μ-loop) where
+module _ (point : tie.After-has-kind Inv-loop μ-loop) where
   abbrev test : tie.In-loop Inv-loop μ-loop
-  test = p .before .before
+  test = point .before .before
 
   abbrev entry : tie.Start Inv-loop μ-loop
   entry = test .before .before .before
 
-  module _ {bs : List ℕ} (h : Held bs (entry .args .room .now)) where
-    found : p .has-kind .result ≡ true → test .before .loop .j ≡ placeFrom (opensOf (entry .args .n) (entry .args .kind)) (entriesOf bs) 0
+  module _ {bs : List ℕ} (held : Held bs (entry .args .room .now)) where
+    found : point .has-kind .result ≡ true → test .before .loop .j ≡ placeFrom (opensOf (entry .args .n) (entry .args .kind)) (entriesOf bs) 0
     found t =
-        laws.walk-found h (entry .pre .1) (entry .args .kind) (test .before .loop .inv bs h) (test .loop-test .taken) (p .before .first .ensures)
-        (sym (p .has-kind .ensures) ∙ t)
+        laws.walk-found held (entry .pre .1) (entry .args .kind) (test .before .loop .inv bs held) (test .loop-test .taken) (point .before .first .ensures)
+        (sym (point .has-kind .ensures) ∙ t)
 
-    onward : p .has-kind .result ≡ false → {k : ℕ} → k ≡ nextPlaceIn (entry .args .room .now) (test .before .loop .j)
-        → (test .before .loop .j < k) × laws.Walking (entriesOf bs) (entry .args .n) (entry .args .kind) k
+    onward : point .has-kind .result ≡ false → {next-place : ℕ} → next-place ≡ nextPlaceIn (entry .args .room .now) (test .before .loop .j)
+        → (test .before .loop .j < next-place) × laws.Walking (entriesOf bs) (entry .args .n) (entry .args .kind) next-place
     onward t e =
-        laws.walk-next h (entry .pre .1) (entry .args .kind) (test .before .loop .inv bs h) (test .loop-test .taken) (p .before .first .ensures)
-        (sym (p .has-kind .ensures) ∙ t) e
+        laws.walk-next held (entry .pre .1) (entry .args .kind) (test .before .loop .inv bs held) (test .loop-test .taken) (point .before .first .ensures)
+        (sym (point .has-kind .ensures) ∙ t) e
 
 returns : tie.Need-returns Inv-loop μ-loop
 returns c = λ bs h. found (c .before) h (c .if1 .taken)

@@ -14,24 +14,24 @@ abbrev μ-loop : tie.MeasureT-loop
 μ-loop v from single due₀ i₀ due i = length v - i
 
 -- a whole template's first bytes stand here
-module _ (c : tie.Else1 Inv-loop μ-loop) where
+module _ (point : tie.Else1 Inv-loop μ-loop) where
   abbrev turn : tie.At-loop Inv-loop μ-loop
-  turn = c .before .before .before .before
+  turn = point .before .before .before .before
 
   abbrev start : tie.Start Inv-loop μ-loop
   start = turn .before .before .before
 
   abbrev size : ℕ
-  size = c .before .head-size .result
+  size = point .before .head-size .result
 
   room : (0 < size) × (size ≤ length (start .args .v .now) - turn .loop .i)
-  room = laws.due-room (turn .loop .inv) (c .before .before .before .loop-test .taken) (c .before .head-size .ensures) (c .if1 .left)
+  room = laws.due-room (turn .loop .inv) (point .before .before .before .loop-test .taken) (point .before .head-size .ensures) (point .if1 .left)
 
 next :
-    (c : tie.After-argument-count Inv-loop μ-loop)
-    → let p = c .before .before in let a = start p .args in
-    laws.Due (a .v .now) (a .from) (a .single) (c .before .less-one .result + c .argument-count .result) (turn p .loop .i + size p)
-next c = search laws.due-next
+    (point : tie.After-argument-count Inv-loop μ-loop)
+    → let p = point .before .before in let a = start p .args in
+    laws.Due (a .v .now) (a .from) (a .single) (point .before .less-one .result + point .argument-count .result) (turn p .loop .i + size p)
+next point = search laws.due-next
 
 loop-holds : tie.Need-loop-holds Inv-loop μ-loop
 loop-holds c = laws.due-start _ _ _ _ (c .one-if .ensures)

@@ -18,17 +18,17 @@ abbrev μ-loop : tie.MeasureT-loop
 μ-loop table tag at₀ at = length table - at
 
 -- a whole field stands here
-module _ (p : tie.After-known-told Inv-loop μ-loop) where
+module _ (point : tie.After-known-told Inv-loop μ-loop) where
   abbrev turn : tie.At-loop Inv-loop μ-loop
-  turn = p .before .before .before .before .before
+  turn = point .before .before .before .before .before
 
   abbrev table : List ℕ
   table = turn .before .before .args .table .now
 
-  stands : Field (p .before .front .given .0 .0) (p .before .front .given .0 .1 .0) ≡ frontOf (drop (turn .loop .at) table)
-  stands = sym (p .before .front .given .1) ∙ p .before .before .before .front-at .ensures
+  stands : Field (point .before .front .given .0 .0) (point .before .front .given .0 .1 .0) ≡ frontOf (drop (turn .loop .at) table)
+  stands = sym (point .before .front .given .1) ∙ point .before .before .before .front-at .ensures
 
-  inside : turn .loop .at + (3 + p .before .front .given .0 .1 .0) ≤ length table
+  inside : turn .loop .at + (3 + point .before .front .given .0 .1 .0) ≤ length table
   inside = laws.front-inside table (turn .loop .at) stands
 
 loop-holds : tie.Need-loop-holds Inv-loop μ-loop

@@ -23,24 +23,25 @@ abbrev fourth : tie.Else4 → tie.Else3
 fourth c = c .before .before
 
 -- what each test told
-known : (c : tie.Else1) → isKnown (start c .args .tag) (start c .args .v .now) ≡ true
-known c = laws.passes (c .before .is-known .ensures) (c .if1 .left)
+known : (point : tie.Else1) → isKnown (start point .args .tag) (start point .args .v .now) ≡ true
+known point = laws.passes (point .before .is-known .ensures) (point .if1 .left)
 
-ordered : (c : tie.Else2) → follows (start (second c) .args .tag) (start (second c) .args .s .last) ≡ true
-ordered c = laws.passes (c .before .may-follow .ensures) (c .if2 .left)
+ordered : (point : tie.Else2) → follows (start (second point) .args .tag) (start (second point) .args .s .last) ≡ true
+ordered point = laws.passes (point .before .may-follow .ensures) (point .if2 .left)
 
 spelling :
-    (p : tie.After-is-spelled)
-    → let a = start (second (p .before)) .args in p .is-spelled .result ≡ isSpelled (a .tag) (a .v .now) (fieldsBefore (a .table .now) (a .at))
-spelling p =
-    let s = start (second (p .before)) in
-    p .is-spelled .ensures (fieldsBefore (s .args .table .now) (s .args .at)) (s .pre .remembered .keywords .indexed) (s .pre .remembered .outsides .indexed)
+    (point : tie.After-is-spelled)
+    → let a = start (second (point .before)) .args in point .is-spelled .result ≡ isSpelled (a .tag) (a .v .now) (fieldsBefore (a .table .now) (a .at))
+spelling point =
+    let s = start (second (point .before)) in
+    point .is-spelled .ensures (fieldsBefore (s .args .table .now) (s .args .at)) (s .pre .remembered .keywords .indexed)
+    (s .pre .remembered .outsides .indexed)
 
-spelled : (c : tie.Else3) → let a = start (second (third c)) .args in isSpelled (a .tag) (a .v .now) (fieldsBefore (a .table .now) (a .at)) ≡ true
-spelled c = laws.passes (spelling (c .before)) (c .if3 .left)
+spelled : (point : tie.Else3) → let a = start (second (third point)) .args in isSpelled (a .tag) (a .v .now) (fieldsBefore (a .table .now) (a .at)) ≡ true
+spelled point = laws.passes (spelling (point .before)) (point .if3 .left)
 
-room : (c : tie.Else4) → let a = start (second (third (fourth c))) .args in hasRoom (a .tag) (a .s) ≡ true
-room c = laws.passes (c .before .has-room .ensures) (c .if4 .left)
+room : (point : tie.Else4) → let a = start (second (third (fourth point))) .args in hasRoom (a .tag) (a .s) ≡ true
+room point = laws.passes (point .before .has-room .ensures) (point .if4 .left)
 
 returns : tie.Need-returns
 returns c = cc (ap checking (laws.field-by _ _ _ _ _ false _ _ _ _

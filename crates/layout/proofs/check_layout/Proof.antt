@@ -25,9 +25,9 @@ abbrev μ-loop : tie.MeasureT-loop
 μ-loop table keywords₀ outsides₀ at₀ s₀ keywords outsides at s = length table - at
 
 -- a whole field stands here
-module _ (p : tie.After-known-told Inv-loop μ-loop) where
+module _ (point : tie.After-known-told Inv-loop μ-loop) where
   abbrev turn : tie.At-loop Inv-loop μ-loop
-  turn = p .before .before .before .before
+  turn = point .before .before .before .before
 
   abbrev table : List ℕ
   table = turn .before .before .before .before .args .table .now
@@ -36,13 +36,13 @@ module _ (p : tie.After-known-told Inv-loop μ-loop) where
   at = turn .loop .at
 
   abbrev tag : ℕ
-  tag = p .before .front .given .0 .0
+  tag = point .before .front .given .0 .0
 
   abbrev size : ℕ
-  size = p .before .front .given .0 .1 .0
+  size = point .before .front .given .0 .1 .0
 
   stands : Field tag size ≡ frontOf (drop at table)
-  stands = sym (p .before .front .given .1) ∙ p .before .before .before .front-at .ensures
+  stands = sym (point .before .front .given .1) ∙ point .before .before .before .front-at .ensures
 
   inside : at + (3 + size) ≤ length table
   inside = front-inside table at stands
@@ -63,19 +63,19 @@ field p = p .before .before .before .before .before
 
 -- the hash of a spelling
 spelled :
-    (p : tie.After-check-field Inv-loop μ-loop)
-    → tag (field p) ≤ 2 → p .before .before .before .spelling-hash .result ≡ bucketHash (lent (field p))
-spelled p l = p .before .before .before .spelling-hash .ensures .spelled l
+    (point : tie.After-check-field Inv-loop μ-loop)
+    → tag (field point) ≤ 2 → point .before .before .before .spelling-hash .result ≡ bucketHash (lent (field point))
+spelled point l = point .before .before .before .spelling-hash .ensures .spelled l
 
 abbrev accepted : tie.After-known-told3 Inv-loop μ-loop → tie.After-check-field Inv-loop μ-loop
 accepted p = p .before .before .before
 
 further :
-    (q : tie.After-known-told3 Inv-loop μ-loop)
-    → let p = field (accepted q) in
-    Further (q .before .checked2 .given .0 .0)
+    (point : tie.After-known-told3 Inv-loop μ-loop)
+    → let p = field (accepted point) in
+    Further (point .before .checked2 .given .0 .0)
     ≡ checking (checkField (fieldsBefore (table p) (at p)) (at p) (tag p) (lent p) (turn p .loop .s))
-further q = sym (q .before .checked2 .given .1) ∙ accepted q .check-field .ensures
+further point = sym (point .before .checked2 .given .1) ∙ accepted point .check-field .ensures
 
 returns : tie.Need-returns Inv-loop μ-loop
 returns c = cc (laws.layout-long _ (c .before .if1 .taken))

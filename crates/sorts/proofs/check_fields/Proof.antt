@@ -21,9 +21,9 @@ abbrev μ-loop : tie.MeasureT-loop
 μ-loop heads₀ sorts₀ stack₀ table at₀ known₀ heads sorts stack at known = length table - at
 
 -- a whole field stands here
-module _ (p : tie.After-known-told Inv-loop μ-loop) where
+module _ (point : tie.After-known-told Inv-loop μ-loop) where
   abbrev turn : tie.At-loop Inv-loop μ-loop
-  turn = p .before .before .before .before
+  turn = point .before .before .before .before
 
   abbrev start : tie.Start Inv-loop μ-loop
   start = turn .before .before .before .before .before
@@ -32,10 +32,10 @@ module _ (p : tie.After-known-told Inv-loop μ-loop) where
   table = start .args .table .now
 
   abbrev size : ℕ
-  size = p .before .front .given .0 .1 .0
+  size = point .before .front .given .0 .1 .0
 
-  stands : Field (p .before .front .given .0 .0) size ≡ frontOf (drop (turn .loop .at) table)
-  stands = sym (p .before .front .given .1) ∙ p .before .before .before .front-at .ensures
+  stands : Field (point .before .front .given .0 .0) size ≡ frontOf (drop (turn .loop .at) table)
+  stands = sym (point .before .front .given .1) ∙ point .before .before .before .front-at .ensures
 
   inside : turn .loop .at + (3 + size) ≤ length table
   inside = front-inside table (turn .loop .at) stands

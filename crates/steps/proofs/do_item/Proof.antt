@@ -26,9 +26,9 @@ build-arguments-requires c κs =
     (may .whole, rooms-fit (may .small .few) (may .small .stack-long) (rows-place .rows-of .ensures))
 
 -- after the arguments
-module _ (p : tie.After-build-arguments) where
+module _ (point : tie.After-build-arguments) where
   abbrev rows-place : tie.After-rows-of
-  rows-place = p .before .before .before .before
+  rows-place = point .before .before .before .before
 
   abbrev call-place : tie.Then1
   call-place = rows-place .before
@@ -40,21 +40,22 @@ module _ (p : tie.After-build-arguments) where
   entry = byte-place .before .before .before .before .before .before
 
   abbrev out′ : List ℕ
-  out′ = let from-3 = p .build-arguments .last .1 .1 .1 in let from-6 = from-3 .1 .1 .1 in from-6 .0
+  out′ = let from-3 = point .build-arguments .last .1 .1 .1 in let from-6 = from-3 .1 .1 .1 in from-6 .0
 
   abbrev cells′ : List ℕ
-  cells′ = let from-3 = p .build-arguments .last .1 .1 .1 in let from-6 = from-3 .1 .1 .1 in from-6 .1 .0
+  cells′ = let from-3 = point .build-arguments .last .1 .1 .1 in let from-6 = from-3 .1 .1 .1 in from-6 .1 .0
 
-  lists : (I : Input) (M : List ℕ) → I .rows ≡ rowsLent (length (entry .args .cells .now)) → Holds (entry .args .vars .now) (entry .args .c .count) M
-      → Lists (entry .args .c .state) (p .build-arguments .result) out′ cells′
-      (buildAll (found (templatesOf (drop 2 (entry .args .v .now)))) I M (entry .args .c .state) (entry .args .cells .now))
-  lists I M er g = p .build-arguments .ensures .0 I (entry .args .c .state) M (er ∙ sym (rows-place .rows-of .ensures)) g
+  lists : (input : Input) (values : List ℕ) → input .rows ≡ rowsLent (length (entry .args .cells .now))
+      → Holds (entry .args .vars .now) (entry .args .c .count) values
+      → Lists (entry .args .c .state) (point .build-arguments .result) out′ cells′
+      (buildAll (found (templatesOf (drop 2 (entry .args .v .now)))) input values (entry .args .c .state) (entry .args .cells .now))
+  lists input values er g = point .build-arguments .ensures .0 input (entry .args .c .state) values (er ∙ sym (rows-place .rows-of .ensures)) g
 
   same : length cells′ ≡ length (entry .args .cells .now)
-  same = let from-3 = p .build-arguments .kept .1 .1 .1 in let from-6 = from-3 .1 .1 .1 in from-6 .1 .0
+  same = let from-3 = point .build-arguments .kept .1 .1 .1 in let from-6 = from-3 .1 .1 .1 in from-6 .1 .0
 
-  stack-same : length (let from-3 = p .build-arguments .last .1 .1 .1 in let from-6 = from-3 .1 .1 .1 in from-6 .1 .1 .0) ≡ length (entry .args .stack .now)
-  stack-same = let from-3 = p .build-arguments .kept .1 .1 .1 in let from-6 = from-3 .1 .1 .1 in from-6 .1 .1 .0
+  stack-same : length (let from-3 = point .build-arguments .last .1 .1 .1 in let from-6 = from-3 .1 .1 .1 in from-6 .1 .1 .0) ≡ length (entry .args .stack .now)
+  stack-same = let from-3 = point .build-arguments .kept .1 .1 .1 in let from-6 = from-3 .1 .1 .1 in from-6 .1 .1 .0
 
 abbrev overfull : tie.After-enum-told → tie.After-build-arguments
 overfull told = told .before .before .before .before .before .before
@@ -105,19 +106,19 @@ read-item-requires c κs =
     byte-place .before .before .before .before .before .before .pre .may-read
 
 -- after a token or a fresh name
-module _ (q : tie.After-read-item) where
+module _ (point : tie.After-read-item) where
   abbrev q-byte : tie.After-byte
-  q-byte = q .before .before .before
+  q-byte = point .before .before .before
 
   abbrev q-entry : tie.Start
   q-entry = q-byte .before .before .before .before .before .before
 
-  reads : (I : Input) (M : List ℕ) → I .tokens ≡ tokensIn (q-entry .args .tokens .now) (q-entry .args .n) → (C : ℕ → List ℕ → Run ℕ)
-      → ran (q .read-item .result) (q-entry .args .cells .now)
-      ≡ runItem C I (itemOf (q-entry .args .v .now)) M (q-entry .args .c .state) (q-entry .args .cells .now)
-  reads I M et C =
-      q .read-item .ensures .0 (q-entry .args .v .now) C I M (q-entry .args .cells .now) et (q-byte .byte .ensures)
-      (q .before .before .byte2 .ensures) (q .before .if1 .left)
+  reads : (input : Input) (values : List ℕ) → input .tokens ≡ tokensIn (q-entry .args .tokens .now) (q-entry .args .n) → (callee : ℕ → List ℕ → Run ℕ)
+      → ran (point .read-item .result) (q-entry .args .cells .now)
+      ≡ runItem callee input (itemOf (q-entry .args .v .now)) values (q-entry .args .c .state) (q-entry .args .cells .now)
+  reads input values et callee =
+      point .read-item .ensures .0 (q-entry .args .v .now) callee input values (q-entry .args .cells .now) et (q-byte .byte .ensures)
+      (point .before .before .byte2 .ensures) (point .before .if1 .left)
 
 returns-3 : tie.Need-returns-3
 returns-3 c =

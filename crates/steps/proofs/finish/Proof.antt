@@ -19,24 +19,24 @@ use Rattle.steps.proofs.finish.Statement.{statement}
 use Rattle.steps.proofs.finish.Tie as tie
 
 -- after a field is looked at
-module _ (p : tie.After-front-at) where
+module _ (point : tie.After-front-at) where
   abbrev entry : tie.Start
-  entry = p .before .before .before .before .before
+  entry = point .before .before .before .before .before
 
   -- what a template gives is what the result gives
-  module _ (I : Input) (M : List ℕ) where
+  module _ (input : Input) (values : List ℕ) where
     abbrev gives : Template → Result ℕ
-    gives t = build t I M (entry .args .c .state) (entry .args .cells .now)
+    gives t = build t input values (entry .args .c .state) (entry .args .cells .now)
 
-    as-result : {t : Template} → t ≡ resultOf (fieldsAt (entry .args .table .now) (entry .args .c .at)) → {r : Result ℕ} → r ≡ gives t
-        → r ≡ gives (resultOf (fieldsAt (entry .args .table .now) (entry .args .c .at)))
+    as-result : {template : Template} → template ≡ resultOf (fieldsAt (entry .args .table .now) (entry .args .c .at)) → {result : Result ℕ}
+        → result ≡ gives template → result ≡ gives (resultOf (fieldsAt (entry .args .table .now) (entry .args .c .at)))
     as-result e f = f ∙ ap gives e
 
-  module _ {t n : ℕ} (e : p .front-at .result ≡ Field t n) where
-    stands : Field t n ≡ frontOf (drop (entry .args .c .at) (entry .args .table .now))
-    stands = sym e ∙ p .front-at .ensures
+  module _ {tag size : ℕ} (equal : point .front-at .result ≡ Field tag size) where
+    stands : Field tag size ≡ frontOf (drop (entry .args .c .at) (entry .args .table .now))
+    stands = sym equal ∙ point .front-at .ensures
 
-    inside : entry .args .c .at + (3 + n) ≤ length (entry .args .table .now)
+    inside : entry .args .c .at + (3 + size) ≤ length (entry .args .table .now)
     inside = front-inside (entry .args .table .now) (entry .args .c .at) stands
 
 returns : tie.Need-returns

@@ -14,20 +14,20 @@ use Rattle.steps.proofs.item_step.Statement.{statement}
 use Rattle.steps.proofs.item_step.Tie as tie
 
 -- after a field is looked at
-module _ (p : tie.After-front-at) where
+module _ (point : tie.After-front-at) where
   abbrev entry : tie.Start
-  entry = p .before .before .before .before .before
+  entry = point .before .before .before .before .before
 
-  module _ {t n : ℕ} (e : p .front-at .result ≡ Field t n) where
-    stands : Field t n ≡ frontOf (drop (entry .args .c .at) (entry .args .table .now))
-    stands = sym e ∙ p .front-at .ensures
+  module _ {tag size : ℕ} (equal : point .front-at .result ≡ Field tag size) where
+    stands : Field tag size ≡ frontOf (drop (entry .args .c .at) (entry .args .table .now))
+    stands = sym equal ∙ point .front-at .ensures
 
-    inside : entry .args .c .at + (3 + n) ≤ length (entry .args .table .now)
+    inside : entry .args .c .at + (3 + size) ≤ length (entry .args .table .now)
     inside = front-inside (entry .args .table .now) (entry .args .c .at) stands
 
-    item : t ≡ 6
+    item : tag ≡ 6
         → ItemAt (entry .args .table .now) (entry .args .c .at) (laws.value (entry .args .table .now) (entry .args .c .at) stands)
-        (entry .args .c .at + 3 + n)
+        (entry .args .c .at + 3 + size)
     item i = laws.item-at _ _ stands i (entry .pre .whole)
 
 returns : tie.Need-returns

@@ -17,17 +17,17 @@ abbrev μ-loop : tie.MeasureT-loop
 μ-loop v start env k rows made out₀ cells₀ stack₀ at₀ n₀ count₀ out cells stack at n count = length v - at
 
 -- a template that makes no cell: its value goes into the list
-module _ (p : tie.After-put Inv-loop μ-loop) where
+module _ (point : tie.After-put Inv-loop μ-loop) where
   abbrev leaf : tie.After-head Inv-loop μ-loop
-  leaf = p .before .before .before
+  leaf = point .before .before .before
 
   abbrev leaf-seen : tie.After-head-at Inv-loop μ-loop
   leaf-seen = leaf .before .before
 
 -- a constructor is built, and its row goes into the list
-module _ (p : tie.After-put2 Inv-loop μ-loop) where
+module _ (point : tie.After-put2 Inv-loop μ-loop) where
   abbrev told : tie.After-part Inv-loop μ-loop
-  told = p .before .before .before
+  told = point .before .before .before
 
   abbrev built : tie.After-build-node Inv-loop μ-loop
   built = told .before .before .before .before .before .before

@@ -20,9 +20,9 @@ abbrev μ-loop : tie.MeasureT-loop
     16386 * (length v - at) + pos
 
 -- after the innermost constructor is read
-module _ (p : tie.After-arity-of Inv-loop μ-loop) where
+module _ (point : tie.After-arity-of Inv-loop μ-loop) where
   abbrev at-loop : tie.At-loop Inv-loop μ-loop
-  at-loop = p .before .before .before
+  at-loop = point .before .before .before
 
   abbrev entry : tie.Start Inv-loop μ-loop
   entry = at-loop .before .before .before .before .before
@@ -51,8 +51,8 @@ module _ (p : tie.After-arity-of Inv-loop μ-loop) where
         top = at-loop .loop .top;
       }
 
-  looked : laws.Looked whole turn (getD (turn .stack) (turn .pos - 1) 0) (p .before .code-of .result) (p .arity-of .result)
-  looked = record { building = at-loop .loop .inv; number = refl; code-is = p .before .code-of .ensures; arity-is = p .arity-of .ensures }
+  looked : laws.Looked whole turn (getD (turn .stack) (turn .pos - 1) 0) (point .before .code-of .result) (point .arity-of .result)
+  looked = record { building = at-loop .loop .inv; number = refl; code-is = point .before .code-of .ensures; arity-is = point .arity-of .ensures }
 
   -- the bytes are few, and so are the numbers in the stack
   small : (turn .top ≤ turn .at) × (turn .at ≤ length (whole .v)) × (length (whole .v) ≤ 16384)
@@ -73,9 +73,9 @@ abbrev node : tie.After-opening2 Inv-loop μ-loop → tie.After-head-at Inv-loop
 node p = p .before .before .before .before
 
 -- after the row of the innermost constructor is made
-module _ (q : tie.After-around-of Inv-loop μ-loop) where
+module _ (point : tie.After-around-of Inv-loop μ-loop) where
   abbrev stored : tie.After-store-cell Inv-loop μ-loop
-  stored = q .before .before .before
+  stored = point .before .before .before
 
   abbrev roomy : tie.Else2 Inv-loop μ-loop
   roomy = stored .before .before .before
@@ -84,7 +84,7 @@ module _ (q : tie.After-around-of Inv-loop μ-loop) where
   q-looked = roomy .before .before
 
   closing :
-      laws.Closing (whole q-looked) (turn q-looked) (q-looked .before .code-of .result) (q-looked .arity-of .result) (q .around-of .result)
+      laws.Closing (whole q-looked) (turn q-looked) (q-looked .before .code-of .result) (q-looked .arity-of .result) (point .around-of .result)
       (stored .store-cell .last .0)
   closing =
       record {
@@ -94,7 +94,7 @@ module _ (q : tie.After-around-of Inv-loop μ-loop) where
         row = roomy .if2 .left;
         stored = stored .store-cell .ensures;
         same = stored .store-cell .kept .0;
-        out-is = q .around-of .ensures;
+        out-is = point .around-of .ensures;
       }
 
 loop-holds : tie.Need-loop-holds Inv-loop μ-loop

@@ -35,7 +35,7 @@ add-t11 c =
     omega (
       arith,
       (laws.name-head (entry-place .pre) (byte-place .byte .ensures) (if1-place .if1 .left) (q .if2 .taken)
-          (p .byte2 .ensures) (c .name-value .ensures) {env = entry-place .args .env .now} {k = entry-place .args .k}) .1 .inside,
+          (p .byte2 .ensures) (c .name-value .ensures) {env = entry-place .args .env .now} {variables = entry-place .args .k}) .1 .inside,
       entry-place .good,
     )
 

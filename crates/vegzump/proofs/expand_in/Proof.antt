@@ -16,9 +16,9 @@ abbrev claims : lts.Claims
 claims = (parse-by-size-reads.Asked, parse-by-size-reads.Learnt, emit-reads.Asked, emit-reads.Learnt)
 
 -- the formula has been parsed
-module _ (p : lts.After-parse-by-size claims reads.Pre reads.Post) where
+module _ (point : lts.After-parse-by-size claims reads.Pre reads.Post) where
   abbrev arguments : lts.After-parse-by-size-arg claims reads.Pre reads.Post
-  arguments = p .before .before
+  arguments = point .before .before
 
   abbrev known : lts.After-shared-slice-known claims reads.Pre reads.Post
   known = arguments .before .before .before .before .before

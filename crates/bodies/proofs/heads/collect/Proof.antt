@@ -17,17 +17,17 @@ abbrev μ-loop : tie.MeasureT-loop
 μ-loop heads₀ table block from at₀ heads at = length table - at
 
 -- a whole field stands here
-module _ (p : tie.After-known-told Inv-loop μ-loop) where
+module _ (point : tie.After-known-told Inv-loop μ-loop) where
   abbrev turn : tie.At-loop Inv-loop μ-loop
-  turn = p .before .before .before .before
+  turn = point .before .before .before .before
 
   abbrev start : tie.Start Inv-loop μ-loop
   start = turn .before .before .before
 
-  stands : Field (p .before .front .given .0 .0) (p .before .front .given .0 .1 .0) ≡ frontOf (drop (turn .loop .at) (start .args .table .now))
-  stands = sym (p .before .front .given .1) ∙ p .before .before .before .front-at .ensures
+  stands : Field (point .before .front .given .0 .0) (point .before .front .given .0 .1 .0) ≡ frontOf (drop (turn .loop .at) (start .args .table .now))
+  stands = sym (point .before .front .given .1) ∙ point .before .before .before .front-at .ensures
 
-  inside : turn .loop .at + (3 + p .before .front .given .0 .1 .0) ≤ length (start .args .table .now)
+  inside : turn .loop .at + (3 + point .before .front .given .0 .1 .0) ≤ length (start .args .table .now)
   inside = laws.front-inside (start .args .table .now) (turn .loop .at) stands
 
 -- it is defined

@@ -8,15 +8,15 @@ use Rattle.bodies.proofs.heads.signature_at.Statement.{statement}
 use Rattle.bodies.proofs.heads.signature_at.Tie as tie
 
 -- the two bytes of the length
-module _ (p : tie.After-wide-byte2) where
+module _ (point : tie.After-wide-byte2) where
   abbrev start : tie.After-shared-slice-known
-  start = p .before .before .before .before .before
+  start = point .before .before .before .before .before
 
-  high : p .before .before .wide-byte .result ≡ getD (start .before .args .table .now) (start .before .args .at + 1) 0
-  high = p .before .before .wide-byte .ensures ∙ p .before .before .before .byte .ensures
+  high : point .before .before .wide-byte .result ≡ getD (start .before .args .table .now) (start .before .args .at + 1) 0
+  high = point .before .before .wide-byte .ensures ∙ point .before .before .before .byte .ensures
 
-  low : p .wide-byte2 .result ≡ getD (start .before .args .table .now) (start .before .args .at + 2) 0
-  low = p .wide-byte2 .ensures ∙ p .before .byte2 .ensures
+  low : point .wide-byte2 .result ≡ getD (start .before .args .table .now) (start .before .args .at + 2) 0
+  low = point .wide-byte2 .ensures ∙ point .before .byte2 .ensures
 
 returns : tie.Need-returns
 returns c = cc (laws.signature-past _ _ (c .before .if1 .taken))

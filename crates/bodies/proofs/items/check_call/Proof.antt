@@ -12,15 +12,15 @@ use Rattle.bodies.proofs.items.check_call.Statement.{statement}
 use Rattle.bodies.proofs.items.check_call.Tie as tie
 
 -- the nonterminal's signature
-module _ (p : tie.After-signature-at) where
+module _ (point : tie.After-signature-at) where
   abbrev head : tie.After-head-of
-  head = p .before .before
+  head = point .before .before
 
   abbrev start : tie.Start
   start = head .before .before .before .before .before .before
 
-  short : length (p .signature-at .result .now) ≤ 5
-  short = omega (arith, ap length (p .signature-at .ensures), signature-short (start .args .table .now) (head .head-of .result))
+  short : length (point .signature-at .result .now) ≤ 5
+  short = omega (arith, ap length (point .signature-at .ensures), signature-short (start .args .table .now) (head .head-of .result))
 
 -- the places of its parameters are open, then the arguments are tested
 abbrev opened : tie.After-part → tie.After-open-params
@@ -36,15 +36,15 @@ abbrev tested : tie.After-slice-known3 → tie.After-fault-in
 tested p = p .before .before
 
 fault :
-    (p : tie.After-fault-in)
-    → p .fault-in .result
-    ≡ templatesFault (start (signed p) .args .known .outsides)
-    (context (start (signed p) .args .known) (start (signed p) .args .heads .now) (start (signed p) .args .sorts .now) .sorts)
-    (start (signed p) .args .arguments .now)
-    (drop 1 (signed p .signature-at .result .now))
-fault p =
-    let a = start (signed p) .args in
-    cc (p .fault-in .ensures, opened (lent p) .open-params .ensures .loaded)
+    (point : tie.After-fault-in)
+    → point .fault-in .result
+    ≡ templatesFault (start (signed point) .args .known .outsides)
+    (context (start (signed point) .args .known) (start (signed point) .args .heads .now) (start (signed point) .args .sorts .now) .sorts)
+    (start (signed point) .args .arguments .now)
+    (drop 1 (signed point .signature-at .result .now))
+fault point =
+    let a = start (signed point) .args in
+    cc (point .fault-in .ensures, opened (lent point) .open-params .ensures .loaded)
 
 returns : tie.Need-returns
 returns c = search laws.call-undefined

@@ -16,14 +16,14 @@ abbrev μ-loop : tie.MeasureT-loop
 μ-loop table owners starts m nulls sets room₀ j₀ room j = j
 
 -- where the room is begun
-module _ (b : tie.After-begin Inv-loop μ-loop) where
+module _ (point : tie.After-begin Inv-loop μ-loop) where
   abbrev entry : tie.Start Inv-loop μ-loop
-  entry = b .before .before .before .before .before
+  entry = point .before .before .before .before .before
 
 -- at the loop's test
-module _ (l : tie.At-loop Inv-loop μ-loop) where
+module _ (point : tie.At-loop Inv-loop μ-loop) where
   abbrev began : tie.After-begin Inv-loop μ-loop
-  began = l .before .before .before
+  began = point .before .before .before
 
 loop-holds : tie.Need-loop-holds Inv-loop μ-loop
 loop-holds c = search laws.fill-start

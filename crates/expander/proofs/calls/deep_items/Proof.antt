@@ -17,9 +17,9 @@ use Rattle.expander.proofs.calls.deep_items.Statement.{statement}
 use Rattle.expander.proofs.calls.deep_items.Tie as tie
 
 -- after the copy
-module _ (p : tie.After-copy) where
+module _ (point : tie.After-copy) where
   abbrev entry : tie.Start
-  entry = p .before .before .before .before .before .before
+  entry = point .before .before .before .before .before .before
 
   abbrev input : Input
   input = lentInput (entry .args .table .now) (entry .args .tokens .now) (entry .args .n) (rowsLent (length (entry .args .cells .now)))
@@ -27,31 +27,31 @@ module _ (p : tie.After-copy) where
   abbrev Stands : List ℕ → Result ℕ → Type 0
   Stands frames R = Standing input (entry .args .table .now) frames (entry .args .from .level) (entry .args .from .state) (entry .args .cells .now) R
 
-  long : length (p .copy .last .0) ≡ longFrames
-  long = p .copy .kept .0
+  long : length (point .copy .last .0) ≡ longFrames
+  long = point .copy .kept .0
 
-  copied : {R : Result ℕ} → Stands (entry .args .short .now) R → Stands (p .copy .last .0) R
+  copied : {result : Result ℕ} → Stands (entry .args .short .now) result → Stands (point .copy .last .0) result
   copied s =
       standing-same (record { few = s .fits .few; inside = omega (arith, long, s .fits .few) })
-      (λ i l. p .copy .ensures i (omega (arith, entry .pre .frames-short, s .fits .inside))) s
+      (λ i l. point .copy .ensures i (omega (arith, entry .pre .frames-short, s .fits .inside))) s
 
 -- after the items
-module _ (q : tie.After-items) where
+module _ (point : tie.After-items) where
   abbrev q-copy : tie.After-copy
-  q-copy = q .before .before .before .before .before .before
+  q-copy = point .before .before .before .before .before .before
 
   abbrev cells′ : List ℕ
-  cells′ = let from-3 = q .items .last .1 .1 .1 in from-3 .1 .1 .0
+  cells′ = let from-3 = point .items .last .1 .1 .1 in from-3 .1 .1 .0
 
   abbrev frames′ : List ℕ
-  frames′ = let from-3 = q .items .last .1 .1 .1 in let from-6 = from-3 .1 .1 .1 in from-6 .1 .0
+  frames′ = let from-3 = point .items .last .1 .1 .1 in let from-6 = from-3 .1 .1 .1 in from-6 .1 .0
 
-  went : {R : Result ℕ} → Stands q-copy (entry q-copy .args .short .now) R
-      → Goes (input q-copy) (entry q-copy .args .table .now) R frames′ cells′ (q .items .result)
-  went {R} s = q .items .ensures .0 R (copied q-copy s)
+  went : {result : Result ℕ} → Stands q-copy (entry q-copy .args .short .now) result
+      → Goes (input q-copy) (entry q-copy .args .table .now) result frames′ cells′ (point .items .result)
+  went {result} s = point .items .ensures .0 result (copied q-copy s)
 
   same : length frames′ ≡ longFrames
-  same = (let from-3 = q .items .kept .1 .1 .1 in let from-6 = from-3 .1 .1 .1 in from-6 .1 .0) ∙ long q-copy
+  same = (let from-3 = point .items .kept .1 .1 .1 in let from-6 = from-3 .1 .1 .1 in from-6 .1 .0) ∙ long q-copy
 
 items-requires : tie.Need-items-requires
 items-requires c κs =

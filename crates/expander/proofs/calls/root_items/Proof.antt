@@ -19,9 +19,9 @@ use Rattle.expander.proofs.calls.root_items.Statement.{statement}
 use Rattle.expander.proofs.calls.root_items.Tie as tie
 
 -- after the root's alternative is saved
-module _ (p : tie.After-save) where
+module _ (point : tie.After-save) where
   abbrev saved : tie.After-vars
-  saved = p .before
+  saved = point .before
 
   abbrev entry : tie.Start
   entry = saved .before .before .before .before .before .before
@@ -32,35 +32,36 @@ module _ (p : tie.After-save) where
   abbrev result : Result ℕ
   result = rootItems input (entry .args .table .now) (entry .args .start) (entry .args .s) (entry .args .cells .now)
 
-  long : length (p .save .last .0) ≡ shortFrames
-  long = p .save .kept .0
+  long : length (point .save .last .0) ≡ shortFrames
+  long = point .save .kept .0
 
-  fits : LevelFits (p .save .last .0) 0
+  fits : LevelFits (point .save .last .0) 0
   fits = record { few = omega arith; inside = omega (arith, long) }
 
-  standing : Standing input (entry .args .table .now) (p .save .last .0) 0 (entry .args .s) (entry .args .cells .now) result
-  standing = laws.standing-root (entry .pre .stands) (entry .args .cells .now) fits (p .save .ensures)
+  standing : Standing input (entry .args .table .now) (point .save .last .0) 0 (entry .args .s) (entry .args .cells .now) result
+  standing = laws.standing-root (entry .pre .stands) (entry .args .cells .now) fits (point .save .ensures)
 
 -- after the items
-module _ (q : tie.After-items) where
+module _ (point : tie.After-items) where
   abbrev q-save : tie.After-save
-  q-save = q .before .before .before .before .before .before
+  q-save = point .before .before .before .before .before .before
 
   abbrev cells′ : List ℕ
-  cells′ = let from-3 = q .items .last .1 .1 .1 in from-3 .1 .1 .0
+  cells′ = let from-3 = point .items .last .1 .1 .1 in from-3 .1 .1 .0
 
   abbrev frames′ : List ℕ
-  frames′ = let from-3 = q .items .last .1 .1 .1 in let from-6 = from-3 .1 .1 .1 in from-6 .1 .0
+  frames′ = let from-3 = point .items .last .1 .1 .1 in let from-6 = from-3 .1 .1 .1 in from-6 .1 .0
 
-  went : Goes (input q-save) (entry q-save .args .table .now) (result q-save) frames′ cells′ (q .items .result)
-  went = q .items .ensures .0 (result q-save) (standing q-save)
+  went : Goes (input q-save) (entry q-save .args .table .now) (result q-save) frames′ cells′ (point .items .result)
+  went = point .items .ensures .0 (result q-save) (standing q-save)
 
-  paused : {from : Resumption} → q .items .result ≡ Paused from
+  paused : {from : Resumption} → point .items .result ≡ Paused from
       → Standing (lentInput (entry q-save .args .table .now) (entry q-save .args .tokens .now) (entry q-save .args .n) (rowsLent (length cells′)))
       (entry q-save .args .table .now) frames′ (from .level) (from .state) cells′ (result q-save)
   paused e =
-      laws.standing-rows (entry q-save .args .tokens .now) (entry q-save .args .n) (ap rowsLent (sym (let from-3 = q .items .kept .1 .1 .1 in from-3 .1 .1 .0)))
-      (laws.goes-paused _ _ (result q-save) frames′ cells′ (q .items .result) went e .0)
+      laws.standing-rows (entry q-save .args .tokens .now) (entry q-save .args .n)
+      (ap rowsLent (sym (let from-3 = point .items .kept .1 .1 .1 in from-3 .1 .1 .0)))
+      (laws.goes-paused _ _ (result q-save) frames′ cells′ (point .items .result) went e .0)
 
 items-requires : tie.Need-items-requires
 items-requires c κs =

@@ -19,27 +19,27 @@ use Rattle.expander.proofs.calls.run.Statement.{statement}
 use Rattle.expander.proofs.calls.run.Tie as tie
 
 -- after the beginning of the root's call
-module _ (p : tie.After-begin-root) where
+module _ (point : tie.After-begin-root) where
   abbrev entry : tie.Start
-  entry = p .before .before .before .before .before .before
+  entry = point .before .before .before .before .before .before
 
   abbrev input : Input
   input = lentInput (entry .args .table .now) (entry .args .tokens .now) (entry .args .n) (rowsLent (length (entry .args .cells .now)))
 
-  starts : Starts input (entry .args .table .now) 1024 (entry .args .root) initialState (p .begin-root .result) (p .begin-root .last .1 .0)
+  starts : Starts input (entry .args .table .now) 1024 (entry .args .root) initialState (point .begin-root .result) (point .begin-root .last .1 .0)
   starts =
-      p .begin-root .ensures (entry .args .table .now) (rowsLent (length (entry .args .cells .now)))
+      point .begin-root .ensures (entry .args .table .now) (rowsLent (length (entry .args .cells .now)))
       (entry .pre .table) (remembers-none (entry .args .table .now))
 
-  begins : {q : Begun} → p .begin-root .result ≡ q → Begins input (entry .args .table .now) 1024 (entry .args .root) initialState q
+  begins : {begun : Begun} → point .begin-root .result ≡ begun → Begins input (entry .args .table .now) 1024 (entry .args .root) initialState begun
   begins e =
-      laws.begins-as input (entry .args .table .now) 1024 (entry .args .root) initialState (p .begin-root .result) e (starts .begins)
+      laws.begins-as input (entry .args .table .now) 1024 (entry .args .root) initialState (point .begin-root .result) e (starts .begins)
 
-  enters : {first : ℕ} {t : _} → p .begin-root .result ≡ Entered first t → CallBegunAt (entry .args .table .now) 1024 initialState first t
-  enters e = laws.entry-of (p .begin-root .result) e (starts .enters)
+  enters : {first : ℕ} {state : _} → point .begin-root .result ≡ Entered first state → CallBegunAt (entry .args .table .now) 1024 initialState first state
+  enters e = laws.entry-of (point .begin-root .result) e (starts .enters)
 
-  runs : {R : Result ℕ} → R ≡ runCall mostOpen input (entry .args .root) [] initialState (entry .args .cells .now)
-      → after R (ended input) ≡ run input (entry .args .root) (entry .args .cells .now)
+  runs : {result : Result ℕ} → result ≡ runCall mostOpen input (entry .args .root) [] initialState (entry .args .cells .now)
+      → after result (ended input) ≡ run input (entry .args .root) (entry .args .cells .now)
   runs e = laws.run-is input (entry .args .root) (entry .args .cells .now) e
 
 root-items-requires : tie.Need-root-items-requires

@@ -18,15 +18,16 @@ abbrev μ-loop : tie.MeasureT-loop
 μ-loop table start nulls kinds calls read₀ called₀ at₀ read called at = length table - at
 
 -- where an item stands at the offset
-module _ (p : tie.After-known-told Inv-loop μ-loop) where
+module _ (point : tie.After-known-told Inv-loop μ-loop) where
   abbrev looped : tie.At-loop Inv-loop μ-loop
-  looped = p .before .before .before .before .before
+  looped = point .before .before .before .before .before
 
   abbrev table : List ℕ
   table = looped .before .before .before .before .args .table .now
 
-  item : Past (p .before .step .given .0 .0) (p .before .step .given .0 .1 .0) ≡ symbolStep table (looped .loop .at) (frontOf (drop (looped .loop .at) table))
-  item = sym (p .before .step .given .1) ∙ p .before .before .before .item-at .ensures
+  item : Past (point .before .step .given .0 .0) (point .before .step .given .0 .1 .0) ≡ symbolStep table (looped .loop .at)
+      (frontOf (drop (looped .loop .at) table))
+  item = sym (point .before .step .given .1) ∙ point .before .before .before .item-at .ensures
 
 loop-holds : tie.Need-loop-holds Inv-loop μ-loop
 loop-holds c = laws.walk-start _ _ _ _ _

@@ -14,18 +14,18 @@ use Rattle.firsts.proofs.items.item_at.Statement.{statement}
 use Rattle.firsts.proofs.items.item_at.Tie as tie
 
 -- where a field stands at the offset
-module _ (p : tie.After-known-told) where
+module _ (point : tie.After-known-told) where
   abbrev entry : tie.Start
-  entry = p .before .before .before .before .before
+  entry = point .before .before .before .before .before
 
   abbrev table : List ℕ
   table = entry .args .table .now
 
   abbrev size : ℕ
-  size = p .before .front .given .0 .1 .0
+  size = point .before .front .given .0 .1 .0
 
-  field : Field (p .before .front .given .0 .0) size ≡ frontOf (drop (entry .args .at) table)
-  field = sym (p .before .front .given .1) ∙ p .before .before .before .front-at .ensures
+  field : Field (point .before .front .given .0 .0) size ≡ frontOf (drop (entry .args .at) table)
+  field = sym (point .before .front .given .1) ∙ point .before .before .before .front-at .ensures
 
   inside : entry .args .at + (3 + size) ≤ length table
   inside = front-inside table (entry .args .at) field

@@ -13,9 +13,9 @@ abbrev μ-loop : tie.MeasureT-loop
 μ-loop calls₀ kinds₀ callers givers many k₀ calls kinds k = many - k
 
 -- before the loop
-module _ (l : tie.After-larger Inv-loop μ-loop) where
+module _ (point : tie.After-larger Inv-loop μ-loop) where
   abbrev counted : tie.After-used Inv-loop μ-loop
-  counted = l .before .before .before
+  counted = point .before .before .before
 
 loop-holds : tie.Need-loop-holds Inv-loop μ-loop
 loop-holds c = laws.both-start _ _

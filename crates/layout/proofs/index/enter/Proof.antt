@@ -10,15 +10,15 @@ use Rattle.layout.proofs.index.enter.Statement.{statement}
 use Rattle.layout.proofs.index.enter.Tie as tie
 
 -- there is a spelling to enter
-module _ (p : tie.Else1) where
+module _ (point : tie.Else1) where
   abbrev start : tie.Start
-  start = p .before
+  start = point .before
 
   few : start .args .count < 64
-  few = start .pre .few (not-false _ (p .if1 .left))
+  few = start .pre .few (not-false _ (point .if1 .left))
 
   hashed : start .args .h ≡ bucketHash (start .args .v .now)
-  hashed = start .pre .hashed (not-false _ (p .if1 .left))
+  hashed = start .pre .hashed (not-false _ (point .if1 .left))
 
 returns : tie.Need-returns
 returns c = search (laws.entered-none, not-true)

@@ -18,22 +18,22 @@ abbrev μ-loop : tie.MeasureT-loop
 μ-loop room table v h p₀ p = p
 
 -- where the search starts
-module _ (p : tie.After-wide-number Inv-loop μ-loop) where
+module _ (point : tie.After-wide-number Inv-loop μ-loop) where
   abbrev start : tie.Start Inv-loop μ-loop
-  start = p .before .before .before .before
+  start = point .before .before .before .before
 
 -- a spelling of the bucket
-module _ (p : tie.After-is-entry Inv-loop μ-loop) where
+module _ (point : tie.After-is-entry Inv-loop μ-loop) where
   abbrev turn : tie.At-loop Inv-loop μ-loop
-  turn = p .before .before
+  turn = point .before .before
 
   here :
-      (w : List ℕ) (q : ℕ) → SpellingHeld (start (turn .before) .args .table .now) (start (turn .before) .args .room .now) (turn .loop .p) w q
-      → p .is-entry .result ≡ same w (start (turn .before) .args .v .now)
-  here w q e = p .is-entry .ensures w q e (start (turn .before) .pre .hashed)
+      (word : List ℕ) (link : ℕ) → SpellingHeld (start (turn .before) .args .table .now) (start (turn .before) .args .room .now) (turn .loop .p) word link
+      → point .is-entry .result ≡ same word (start (turn .before) .args .v .now)
+  here word link e = point .is-entry .ensures word link e (start (turn .before) .pre .hashed)
 
   falls : getD (start (turn .before) .args .room .now) (60 + 4 * turn .loop .p) 0 < turn .loop .p
-  falls = start (turn .before) .pre .falling .links (turn .loop .p) (p .before .loop-test .taken) (turn .loop .inv .small)
+  falls = start (turn .before) .pre .falling .links (turn .loop .p) (point .before .loop-test .taken) (turn .loop .inv .small)
 
 mul-wide-number : tie.Need-mul-wide-number Inv-loop μ-loop
 mul-wide-number c = omega arith

@@ -62,78 +62,79 @@ print-fields-claims t = (
 )
 
 -- places, each from a later one
-abbrev else1 : {t : ℕ} → print-fields-lts.After-column (print-fields-claims t) (print-fields-at t) print-fields.Post
-    → print-fields-lts.Else1 (print-fields-claims t) (print-fields-at t) print-fields.Post
+abbrev else1 : {measure : ℕ} → print-fields-lts.After-column (print-fields-claims measure) (print-fields-at measure) print-fields.Post
+    → print-fields-lts.Else1 (print-fields-claims measure) (print-fields-at measure) print-fields.Post
 else1 p = p .before .before
 
-abbrev then2 : {t : ℕ} → print-fields-lts.After-column2 (print-fields-claims t) (print-fields-at t) print-fields.Post
-    → print-fields-lts.Then2 (print-fields-claims t) (print-fields-at t) print-fields.Post
+abbrev then2 : {measure : ℕ} → print-fields-lts.After-column2 (print-fields-claims measure) (print-fields-at measure) print-fields.Post
+    → print-fields-lts.Then2 (print-fields-claims measure) (print-fields-at measure) print-fields.Post
 then2 p = p .before .before
 
-abbrev after-column3 : {t : ℕ} → print-fields-lts.After-print-fields-arg2 (print-fields-claims t) (print-fields-at t) print-fields.Post
-    → print-fields-lts.After-column3 (print-fields-claims t) (print-fields-at t) print-fields.Post
+abbrev after-column3 : {measure : ℕ} → print-fields-lts.After-print-fields-arg2 (print-fields-claims measure) (print-fields-at measure) print-fields.Post
+    → print-fields-lts.After-column3 (print-fields-claims measure) (print-fields-at measure) print-fields.Post
 after-column3 p = p .before .before
 
-abbrev after-print-term : {t : ℕ} → print-fields-lts.After-byte-at-arg2 (print-fields-claims t) (print-fields-at t) print-fields.Post
-    → print-fields-lts.After-print-term (print-fields-claims t) (print-fields-at t) print-fields.Post
+abbrev after-print-term : {measure : ℕ} → print-fields-lts.After-byte-at-arg2 (print-fields-claims measure) (print-fields-at measure) print-fields.Post
+    → print-fields-lts.After-print-term (print-fields-claims measure) (print-fields-at measure) print-fields.Post
 after-print-term p = p .before .before .before
 
-abbrev after-print-fields : {t : ℕ} → print-fields-lts.After-byte-at-arg3 (print-fields-claims t) (print-fields-at t) print-fields.Post
-    → print-fields-lts.After-print-fields (print-fields-claims t) (print-fields-at t) print-fields.Post
+abbrev after-print-fields : {measure : ℕ} → print-fields-lts.After-byte-at-arg3 (print-fields-claims measure) (print-fields-at measure) print-fields.Post
+    → print-fields-lts.After-print-fields (print-fields-claims measure) (print-fields-at measure) print-fields.Post
 after-print-fields p = p .before .before .before
 
-abbrev after-column : {t : ℕ} → print-fields-lts.After-column2 (print-fields-claims t) (print-fields-at t) print-fields.Post
-    → print-fields-lts.After-column (print-fields-claims t) (print-fields-at t) print-fields.Post
+abbrev after-column : {measure : ℕ} → print-fields-lts.After-column2 (print-fields-claims measure) (print-fields-at measure) print-fields.Post
+    → print-fields-lts.After-column (print-fields-claims measure) (print-fields-at measure) print-fields.Post
 after-column p = (then2 p) .before
 
-abbrev after-column2 : {t : ℕ} → print-fields-lts.After-print-term (print-fields-claims t) (print-fields-at t) print-fields.Post
-    → print-fields-lts.After-column2 (print-fields-claims t) (print-fields-at t) print-fields.Post
+abbrev after-column2 : {measure : ℕ} → print-fields-lts.After-print-term (print-fields-claims measure) (print-fields-at measure) print-fields.Post
+    → print-fields-lts.After-column2 (print-fields-claims measure) (print-fields-at measure) print-fields.Post
 after-column2 p = p .before .before .before
 
-abbrev after-open-fields′ : {t : ℕ} → print-fields-lts.Then1 (print-fields-claims t) (print-fields-at t) print-fields.Post
-    → print-fields-lts.After-open-fields (print-fields-claims t) (print-fields-at t) print-fields.Post
+abbrev after-open-fields′ : {measure : ℕ} → print-fields-lts.Then1 (print-fields-claims measure) (print-fields-at measure) print-fields.Post
+    → print-fields-lts.After-open-fields (print-fields-claims measure) (print-fields-at measure) print-fields.Post
 after-open-fields′ p = p .before .before .before
 
-abbrev after-print-term′ : {t : ℕ} → print-fields-lts.After-byte-at2 (print-fields-claims t) (print-fields-at t) print-fields.Post
-    → print-fields-lts.After-print-term (print-fields-claims t) (print-fields-at t) print-fields.Post
+abbrev after-print-term′ : {measure : ℕ} → print-fields-lts.After-byte-at2 (print-fields-claims measure) (print-fields-at measure) print-fields.Post
+    → print-fields-lts.After-print-term (print-fields-claims measure) (print-fields-at measure) print-fields.Post
 after-print-term′ p = after-print-term (p .before)
 
-abbrev after-byte-at2 : {t : ℕ} → print-fields-lts.After-column3 (print-fields-claims t) (print-fields-at t) print-fields.Post
-    → print-fields-lts.After-byte-at2 (print-fields-claims t) (print-fields-at t) print-fields.Post
+abbrev after-byte-at2 : {measure : ℕ} → print-fields-lts.After-column3 (print-fields-claims measure) (print-fields-at measure) print-fields.Post
+    → print-fields-lts.After-byte-at2 (print-fields-claims measure) (print-fields-at measure) print-fields.Post
 after-byte-at2 p = p .before .before .before .before
 
-abbrev at-start : {t : ℕ} → print-fields-lts.After-open-fields (print-fields-claims t) (print-fields-at t) print-fields.Post
-    → print-fields-lts.Start (print-fields-claims t) (print-fields-at t) print-fields.Post
+abbrev at-start : {measure : ℕ} → print-fields-lts.After-open-fields (print-fields-claims measure) (print-fields-at measure) print-fields.Post
+    → print-fields-lts.Start (print-fields-claims measure) (print-fields-at measure) print-fields.Post
 at-start p = p .before .before .before .before
 
-abbrev after-open-fields : {t : ℕ} → print-fields-lts.After-column (print-fields-claims t) (print-fields-at t) print-fields.Post
-    → print-fields-lts.After-open-fields (print-fields-claims t) (print-fields-at t) print-fields.Post
+abbrev after-open-fields : {measure : ℕ} → print-fields-lts.After-column (print-fields-claims measure) (print-fields-at measure) print-fields.Post
+    → print-fields-lts.After-open-fields (print-fields-claims measure) (print-fields-at measure) print-fields.Post
 after-open-fields p = (else1 p) .before .before .before
 
-print-fields-open-fields-requires : (t : ℕ) → print-fields-lts.Need-open-fields-requires (print-fields-claims t) (print-fields-at t) print-fields.Post
-print-fields-open-fields-requires t c κs = laws.fields-opening-fits (c .before .before .before .pre .1)
+print-fields-open-fields-requires : (measure : ℕ)
+    → print-fields-lts.Need-open-fields-requires (print-fields-claims measure) (print-fields-at measure) print-fields.Post
+print-fields-open-fields-requires measure c κs = laws.fields-opening-fits (c .before .before .before .pre .1)
 
-print-fields-add-place : (t : ℕ) → print-fields-lts.Need-add-place (print-fields-claims t) (print-fields-at t) print-fields.Post
-print-fields-add-place t c =
+print-fields-add-place : (measure : ℕ) → print-fields-lts.Need-add-place (print-fields-claims measure) (print-fields-at measure) print-fields.Post
+print-fields-add-place measure c =
     let entry = at-start (c .before .before) in
     omega (arith, laws.fields-inside (entry .pre .1))
 
-print-fields-byte-at-requires : (t : ℕ) → print-fields-lts.Need-byte-at-requires (print-fields-claims t) (print-fields-at t) print-fields.Post
-print-fields-byte-at-requires t c κs =
+print-fields-byte-at-requires : (measure : ℕ) → print-fields-lts.Need-byte-at-requires (print-fields-claims measure) (print-fields-at measure) print-fields.Post
+print-fields-byte-at-requires measure c κs =
     let at-open-fields = after-open-fields′ (c .before) in
     let entry = at-start at-open-fields in
     laws.next-room
     (laws.opened-shallow-fields (at-open-fields .open-fields .ensures) (c .before .if1 .taken))
     (entry .pre .1)
 
-print-fields-same-length : (t : ℕ) → print-fields-lts.Need-same-length (print-fields-claims t) (print-fields-at t) print-fields.Post
-print-fields-same-length t c =
+print-fields-same-length : (measure : ℕ) → print-fields-lts.Need-same-length (print-fields-claims measure) (print-fields-at measure) print-fields.Post
+print-fields-same-length measure c =
     let byte-at-place = c .before .before in
     let at-open-fields = after-open-fields′ (byte-at-place .before .before) in
     byte-at-place .byte-at .ensures .same ∙ at-open-fields .open-fields .ensures .same
 
-print-fields-returns : (t : ℕ) → print-fields-lts.Need-returns (print-fields-claims t) (print-fields-at t) print-fields.Post
-print-fields-returns t c =
+print-fields-returns : (measure : ℕ) → print-fields-lts.Need-returns (print-fields-claims measure) (print-fields-at measure) print-fields.Post
+print-fields-returns measure c =
     let byte-at-place = c .before .before in
     let at-if1 = byte-at-place .before .before in
     let at-open-fields = after-open-fields′ at-if1 in
@@ -142,17 +143,19 @@ print-fields-returns t c =
     (laws.opened-shallow-fields (at-open-fields .open-fields .ensures) (at-if1 .if1 .taken))
     (byte-at-place .byte-at .ensures))
 
-print-fields-sub-deep : (t : ℕ) → print-fields-lts.Need-sub-deep (print-fields-claims t) (print-fields-at t) print-fields.Post
-print-fields-sub-deep t c = omega (arith, c .if1 .left)
+print-fields-sub-deep : (measure : ℕ) → print-fields-lts.Need-sub-deep (print-fields-claims measure) (print-fields-at measure) print-fields.Post
+print-fields-sub-deep measure c = omega (arith, c .if1 .left)
 
-print-fields-column-requires : (t : ℕ) → print-fields-lts.Need-column-requires (print-fields-claims t) (print-fields-at t) print-fields.Post
-print-fields-column-requires t c κs = search needs
+print-fields-column-requires : (measure : ℕ) → print-fields-lts.Need-column-requires (print-fields-claims measure) (print-fields-at measure) print-fields.Post
+print-fields-column-requires measure c κs = search needs
 
-print-fields-column-requires-2 : (t : ℕ) → print-fields-lts.Need-column-requires-2 (print-fields-claims t) (print-fields-at t) print-fields.Post
-print-fields-column-requires-2 t c κs = search needs
+print-fields-column-requires-2 : (measure : ℕ)
+    → print-fields-lts.Need-column-requires-2 (print-fields-claims measure) (print-fields-at measure) print-fields.Post
+print-fields-column-requires-2 measure c κs = search needs
 
-print-fields-print-term-requires : (t : ℕ) → print-fields-lts.Need-print-term-requires (print-fields-claims t) (print-fields-at t) print-fields.Post
-print-fields-print-term-requires t c κs =
+print-fields-print-term-requires : (measure : ℕ)
+    → print-fields-lts.Need-print-term-requires (print-fields-claims measure) (print-fields-at measure) print-fields.Post
+print-fields-print-term-requires measure c κs =
     let column2-place = c .before .before in
     let at-if2 = then2 column2-place in
     let at-column = after-column column2-place in
@@ -166,8 +169,9 @@ print-fields-print-term-requires t c κs =
           (entry .pre .1),
     )
 
-print-fields-byte-at-requires-2 : (t : ℕ) → print-fields-lts.Need-byte-at-requires-2 (print-fields-claims t) (print-fields-at t) print-fields.Post
-print-fields-byte-at-requires-2 t c κs =
+print-fields-byte-at-requires-2 : (measure : ℕ)
+    → print-fields-lts.Need-byte-at-requires-2 (print-fields-claims measure) (print-fields-at measure) print-fields.Post
+print-fields-byte-at-requires-2 measure c κs =
     let print-term-place = after-print-term c in
     let at-column2 = after-column2 print-term-place in
     let at-if2 = then2 at-column2 in
@@ -182,11 +186,13 @@ print-fields-byte-at-requires-2 t c κs =
     (print-term-place .print-term .ensures))
     (entry .pre .1)
 
-print-fields-column-requires-3 : (t : ℕ) → print-fields-lts.Need-column-requires-3 (print-fields-claims t) (print-fields-at t) print-fields.Post
-print-fields-column-requires-3 t c κs = search needs
+print-fields-column-requires-3 : (measure : ℕ)
+    → print-fields-lts.Need-column-requires-3 (print-fields-claims measure) (print-fields-at measure) print-fields.Post
+print-fields-column-requires-3 measure c κs = search needs
 
-print-fields-print-fields-requires : (t : ℕ) → print-fields-lts.Need-print-fields-requires (print-fields-claims t) (print-fields-at t) print-fields.Post
-print-fields-print-fields-requires t c κs =
+print-fields-print-fields-requires : (measure : ℕ)
+    → print-fields-lts.Need-print-fields-requires (print-fields-claims measure) (print-fields-at measure) print-fields.Post
+print-fields-print-fields-requires measure c κs =
     let column3-place = after-column3 c in
     let at-byte-at2 = after-byte-at2 column3-place in
     let at-print-term = after-print-term′ at-byte-at2 in
@@ -207,8 +213,9 @@ print-fields-print-fields-requires t c κs =
           (entry .pre .1),
     )
 
-print-fields-byte-at-requires-3 : (t : ℕ) → print-fields-lts.Need-byte-at-requires-3 (print-fields-claims t) (print-fields-at t) print-fields.Post
-print-fields-byte-at-requires-3 t c κs =
+print-fields-byte-at-requires-3 : (measure : ℕ)
+    → print-fields-lts.Need-byte-at-requires-3 (print-fields-claims measure) (print-fields-at measure) print-fields.Post
+print-fields-byte-at-requires-3 measure c κs =
     let print-fields-place = after-print-fields c in
     let at-column3 = after-column3 (print-fields-place .before) in
     let at-byte-at2 = after-byte-at2 at-column3 in
@@ -230,8 +237,8 @@ print-fields-byte-at-requires-3 t c κs =
     (print-fields-place .print-fields .ensures))
     (entry .pre .1)
 
-print-fields-same-length-2 : (t : ℕ) → print-fields-lts.Need-same-length-2 (print-fields-claims t) (print-fields-at t) print-fields.Post
-print-fields-same-length-2 t c =
+print-fields-same-length-2 : (measure : ℕ) → print-fields-lts.Need-same-length-2 (print-fields-claims measure) (print-fields-at measure) print-fields.Post
+print-fields-same-length-2 measure c =
     let byte-at3-place = c .before .before in
     let at-print-fields = after-print-fields (byte-at3-place .before) in
     let at-byte-at2 = after-byte-at2 (after-column3 (at-print-fields .before)) in
@@ -240,8 +247,8 @@ print-fields-same-length-2 t c =
     byte-at3-place .byte-at3 .ensures .same ∙ at-print-fields .print-fields .ensures .wrote .same ∙ at-byte-at2 .byte-at2 .ensures .same
     ∙ at-print-term .print-term .ensures .wrote .same ∙ at-open-fields .open-fields .ensures .same
 
-print-fields-returns-2 : (t : ℕ) → print-fields-lts.Need-returns-2 (print-fields-claims t) (print-fields-at t) print-fields.Post
-print-fields-returns-2 t c =
+print-fields-returns-2 : (measure : ℕ) → print-fields-lts.Need-returns-2 (print-fields-claims measure) (print-fields-at measure) print-fields.Post
+print-fields-returns-2 measure c =
     let byte-at3-place = c .before .before in
     let at-print-fields = after-print-fields (byte-at3-place .before) in
     let at-column3 = after-column3 (at-print-fields .before) in
@@ -264,8 +271,9 @@ print-fields-returns-2 t c =
     (at-print-fields .print-fields .ensures))
     (byte-at3-place .byte-at3 .ensures))
 
-print-fields-byte-at-requires-4 : (t : ℕ) → print-fields-lts.Need-byte-at-requires-4 (print-fields-claims t) (print-fields-at t) print-fields.Post
-print-fields-byte-at-requires-4 t c κs =
+print-fields-byte-at-requires-4 : (measure : ℕ)
+    → print-fields-lts.Need-byte-at-requires-4 (print-fields-claims measure) (print-fields-at measure) print-fields.Post
+print-fields-byte-at-requires-4 measure c κs =
     let column-place = c .before .before in
     let at-if1 = else1 column-place in
     let at-open-fields = after-open-fields column-place in
@@ -274,14 +282,14 @@ print-fields-byte-at-requires-4 t c κs =
     (laws.opened-nil (at-open-fields .open-fields .ensures) (at-if1 .if1 .left) (column-place .column .ensures) (c .before .if2 .left))
     (entry .pre .1)
 
-print-fields-same-length-3 : (t : ℕ) → print-fields-lts.Need-same-length-3 (print-fields-claims t) (print-fields-at t) print-fields.Post
-print-fields-same-length-3 t c =
+print-fields-same-length-3 : (measure : ℕ) → print-fields-lts.Need-same-length-3 (print-fields-claims measure) (print-fields-at measure) print-fields.Post
+print-fields-same-length-3 measure c =
     let byte-at4-place = c .before .before in
     let at-open-fields = after-open-fields (byte-at4-place .before .before .before) in
     byte-at4-place .byte-at4 .ensures .same ∙ at-open-fields .open-fields .ensures .same
 
-print-fields-returns-3 : (t : ℕ) → print-fields-lts.Need-returns-3 (print-fields-claims t) (print-fields-at t) print-fields.Post
-print-fields-returns-3 t c =
+print-fields-returns-3 : (measure : ℕ) → print-fields-lts.Need-returns-3 (print-fields-claims measure) (print-fields-at measure) print-fields.Post
+print-fields-returns-3 measure c =
     let byte-at4-place = c .before .before in
     let at-if2 = byte-at4-place .before .before in
     let at-column = at-if2 .before in
@@ -309,133 +317,133 @@ print-term-claims t = (
 )
 
 -- places, each from a later one
-abbrev at-match-keys1 : {t : ℕ} → print-term-lts.After-column2 (print-term-claims t) (print-term-at t) print-term.Post
-    → print-term-lts.At-match-keys1 (print-term-claims t) (print-term-at t) print-term.Post
+abbrev at-match-keys1 : {measure : ℕ} → print-term-lts.After-column2 (print-term-claims measure) (print-term-at measure) print-term.Post
+    → print-term-lts.At-match-keys1 (print-term-claims measure) (print-term-at measure) print-term.Post
 at-match-keys1 p = p .before .before
 
-abbrev at-match-keys2 : {t : ℕ} → print-term-lts.After-column3 (print-term-claims t) (print-term-at t) print-term.Post
-    → print-term-lts.At-match-keys2 (print-term-claims t) (print-term-at t) print-term.Post
+abbrev at-match-keys2 : {measure : ℕ} → print-term-lts.After-column3 (print-term-claims measure) (print-term-at measure) print-term.Post
+    → print-term-lts.At-match-keys2 (print-term-claims measure) (print-term-at measure) print-term.Post
 at-match-keys2 p = p .before .before
 
-abbrev at-match-keys3 : {t : ℕ} → print-term-lts.After-column5 (print-term-claims t) (print-term-at t) print-term.Post
-    → print-term-lts.At-match-keys3 (print-term-claims t) (print-term-at t) print-term.Post
+abbrev at-match-keys3 : {measure : ℕ} → print-term-lts.After-column5 (print-term-claims measure) (print-term-at measure) print-term.Post
+    → print-term-lts.At-match-keys3 (print-term-claims measure) (print-term-at measure) print-term.Post
 at-match-keys3 p = p .before .before
 
-abbrev at-match-keys4 : {t : ℕ} → print-term-lts.After-column6 (print-term-claims t) (print-term-at t) print-term.Post
-    → print-term-lts.At-match-keys4 (print-term-claims t) (print-term-at t) print-term.Post
+abbrev at-match-keys4 : {measure : ℕ} → print-term-lts.After-column6 (print-term-claims measure) (print-term-at measure) print-term.Post
+    → print-term-lts.At-match-keys4 (print-term-claims measure) (print-term-at measure) print-term.Post
 at-match-keys4 p = p .before .before
 
-abbrev after-column5 : {t : ℕ} → print-term-lts.After-print-fields-arg2 (print-term-claims t) (print-term-at t) print-term.Post
-    → print-term-lts.After-column5 (print-term-claims t) (print-term-at t) print-term.Post
+abbrev after-column5 : {measure : ℕ} → print-term-lts.After-print-fields-arg2 (print-term-claims measure) (print-term-at measure) print-term.Post
+    → print-term-lts.After-column5 (print-term-claims measure) (print-term-at measure) print-term.Post
 after-column5 p = p .before .before
 
-abbrev after-column2′ : {t : ℕ} → print-term-lts.After-print-term-arg2 (print-term-claims t) (print-term-at t) print-term.Post
-    → print-term-lts.After-column2 (print-term-claims t) (print-term-at t) print-term.Post
+abbrev after-column2′ : {measure : ℕ} → print-term-lts.After-print-term-arg2 (print-term-claims measure) (print-term-at measure) print-term.Post
+    → print-term-lts.After-column2 (print-term-claims measure) (print-term-at measure) print-term.Post
 after-column2′ p = p .before .before
 
-abbrev after-column4 : {t : ℕ} → print-term-lts.After-print-term-arg6 (print-term-claims t) (print-term-at t) print-term.Post
-    → print-term-lts.After-column4 (print-term-claims t) (print-term-at t) print-term.Post
+abbrev after-column4 : {measure : ℕ} → print-term-lts.After-print-term-arg6 (print-term-claims measure) (print-term-at measure) print-term.Post
+    → print-term-lts.After-column4 (print-term-claims measure) (print-term-at measure) print-term.Post
 after-column4 p = p .before .before
 
-abbrev after-print-term′′ : {t : ℕ} → print-term-lts.After-byte-at-arg2 (print-term-claims t) (print-term-at t) print-term.Post
-    → print-term-lts.After-print-term (print-term-claims t) (print-term-at t) print-term.Post
+abbrev after-print-term′′ : {measure : ℕ} → print-term-lts.After-byte-at-arg2 (print-term-claims measure) (print-term-at measure) print-term.Post
+    → print-term-lts.After-print-term (print-term-claims measure) (print-term-at measure) print-term.Post
 after-print-term′′ p = p .before .before .before
 
-abbrev after-print-term2 : {t : ℕ} → print-term-lts.After-byte-at-arg3 (print-term-claims t) (print-term-at t) print-term.Post
-    → print-term-lts.After-print-term2 (print-term-claims t) (print-term-at t) print-term.Post
+abbrev after-print-term2 : {measure : ℕ} → print-term-lts.After-byte-at-arg3 (print-term-claims measure) (print-term-at measure) print-term.Post
+    → print-term-lts.After-print-term2 (print-term-claims measure) (print-term-at measure) print-term.Post
 after-print-term2 p = p .before .before .before
 
-abbrev after-print-term3 : {t : ℕ} → print-term-lts.After-byte-at-arg4 (print-term-claims t) (print-term-at t) print-term.Post
-    → print-term-lts.After-print-term3 (print-term-claims t) (print-term-at t) print-term.Post
+abbrev after-print-term3 : {measure : ℕ} → print-term-lts.After-byte-at-arg4 (print-term-claims measure) (print-term-at measure) print-term.Post
+    → print-term-lts.After-print-term3 (print-term-claims measure) (print-term-at measure) print-term.Post
 after-print-term3 p = p .before .before .before
 
-abbrev after-print-fields′ : {t : ℕ} → print-term-lts.After-byte-at-arg5 (print-term-claims t) (print-term-at t) print-term.Post
-    → print-term-lts.After-print-fields (print-term-claims t) (print-term-at t) print-term.Post
+abbrev after-print-fields′ : {measure : ℕ} → print-term-lts.After-byte-at-arg5 (print-term-claims measure) (print-term-at measure) print-term.Post
+    → print-term-lts.After-print-fields (print-term-claims measure) (print-term-at measure) print-term.Post
 after-print-fields′ p = p .before .before .before
 
-abbrev after-print-term4 : {t : ℕ} → print-term-lts.After-byte-at-arg6 (print-term-claims t) (print-term-at t) print-term.Post
-    → print-term-lts.After-print-term4 (print-term-claims t) (print-term-at t) print-term.Post
+abbrev after-print-term4 : {measure : ℕ} → print-term-lts.After-byte-at-arg6 (print-term-claims measure) (print-term-at measure) print-term.Post
+    → print-term-lts.After-print-term4 (print-term-claims measure) (print-term-at measure) print-term.Post
 after-print-term4 p = p .before .before .before
 
-abbrev after-label-at : {t : ℕ} → print-term-lts.After-byte-at-arg7 (print-term-claims t) (print-term-at t) print-term.Post
-    → print-term-lts.After-label-at (print-term-claims t) (print-term-at t) print-term.Post
+abbrev after-label-at : {measure : ℕ} → print-term-lts.After-byte-at-arg7 (print-term-claims measure) (print-term-at measure) print-term.Post
+    → print-term-lts.After-label-at (print-term-claims measure) (print-term-at measure) print-term.Post
 after-label-at p = p .before .before .before
 
-abbrev else1′ : {t : ℕ} → print-term-lts.After-column3 (print-term-claims t) (print-term-at t) print-term.Post
-    → print-term-lts.Else1 (print-term-claims t) (print-term-at t) print-term.Post
+abbrev else1′ : {measure : ℕ} → print-term-lts.After-column3 (print-term-claims measure) (print-term-at measure) print-term.Post
+    → print-term-lts.Else1 (print-term-claims measure) (print-term-at measure) print-term.Post
 else1′ p = (at-match-keys2 p) .before
 
-abbrev else1′′ : {t : ℕ} → print-term-lts.After-column6 (print-term-claims t) (print-term-at t) print-term.Post
-    → print-term-lts.Else1 (print-term-claims t) (print-term-at t) print-term.Post
+abbrev else1′′ : {measure : ℕ} → print-term-lts.After-column6 (print-term-claims measure) (print-term-at measure) print-term.Post
+    → print-term-lts.Else1 (print-term-claims measure) (print-term-at measure) print-term.Post
 else1′′ p = (at-match-keys4 p) .before
 
-abbrev after-column3′ : {t : ℕ} → print-term-lts.After-print-term2 (print-term-claims t) (print-term-at t) print-term.Post
-    → print-term-lts.After-column3 (print-term-claims t) (print-term-at t) print-term.Post
+abbrev after-column3′ : {measure : ℕ} → print-term-lts.After-print-term2 (print-term-claims measure) (print-term-at measure) print-term.Post
+    → print-term-lts.After-column3 (print-term-claims measure) (print-term-at measure) print-term.Post
 after-column3′ p = p .before .before .before
 
-abbrev after-column6 : {t : ℕ} → print-term-lts.After-print-term4 (print-term-claims t) (print-term-at t) print-term.Post
-    → print-term-lts.After-column6 (print-term-claims t) (print-term-at t) print-term.Post
+abbrev after-column6 : {measure : ℕ} → print-term-lts.After-print-term4 (print-term-claims measure) (print-term-at measure) print-term.Post
+    → print-term-lts.After-column6 (print-term-claims measure) (print-term-at measure) print-term.Post
 after-column6 p = p .before .before .before
 
-abbrev after-open-term′ : {t : ℕ} → print-term-lts.Then1 (print-term-claims t) (print-term-at t) print-term.Post
-    → print-term-lts.After-open-term (print-term-claims t) (print-term-at t) print-term.Post
+abbrev after-open-term′ : {measure : ℕ} → print-term-lts.Then1 (print-term-claims measure) (print-term-at measure) print-term.Post
+    → print-term-lts.After-open-term (print-term-claims measure) (print-term-at measure) print-term.Post
 after-open-term′ p = p .before .before .before
 
-abbrev after-print-term2′ : {t : ℕ} → print-term-lts.After-byte-at3 (print-term-claims t) (print-term-at t) print-term.Post
-    → print-term-lts.After-print-term2 (print-term-claims t) (print-term-at t) print-term.Post
+abbrev after-print-term2′ : {measure : ℕ} → print-term-lts.After-byte-at3 (print-term-claims measure) (print-term-at measure) print-term.Post
+    → print-term-lts.After-print-term2 (print-term-claims measure) (print-term-at measure) print-term.Post
 after-print-term2′ p = after-print-term2 (p .before)
 
-abbrev after-print-term4′ : {t : ℕ} → print-term-lts.After-byte-at6 (print-term-claims t) (print-term-at t) print-term.Post
-    → print-term-lts.After-print-term4 (print-term-claims t) (print-term-at t) print-term.Post
+abbrev after-print-term4′ : {measure : ℕ} → print-term-lts.After-byte-at6 (print-term-claims measure) (print-term-at measure) print-term.Post
+    → print-term-lts.After-print-term4 (print-term-claims measure) (print-term-at measure) print-term.Post
 after-print-term4′ p = after-print-term4 (p .before)
 
-abbrev after-byte-at3 : {t : ℕ} → print-term-lts.After-column4 (print-term-claims t) (print-term-at t) print-term.Post
-    → print-term-lts.After-byte-at3 (print-term-claims t) (print-term-at t) print-term.Post
+abbrev after-byte-at3 : {measure : ℕ} → print-term-lts.After-column4 (print-term-claims measure) (print-term-at measure) print-term.Post
+    → print-term-lts.After-byte-at3 (print-term-claims measure) (print-term-at measure) print-term.Post
 after-byte-at3 p = p .before .before .before .before
 
-abbrev after-byte-at6 : {t : ℕ} → print-term-lts.After-column7 (print-term-claims t) (print-term-at t) print-term.Post
-    → print-term-lts.After-byte-at6 (print-term-claims t) (print-term-at t) print-term.Post
+abbrev after-byte-at6 : {measure : ℕ} → print-term-lts.After-column7 (print-term-claims measure) (print-term-at measure) print-term.Post
+    → print-term-lts.After-byte-at6 (print-term-claims measure) (print-term-at measure) print-term.Post
 after-byte-at6 p = p .before .before .before .before
 
-abbrev after-open-term : {t : ℕ} → print-term-lts.Else1 (print-term-claims t) (print-term-at t) print-term.Post
-    → print-term-lts.After-open-term (print-term-claims t) (print-term-at t) print-term.Post
+abbrev after-open-term : {measure : ℕ} → print-term-lts.Else1 (print-term-claims measure) (print-term-at measure) print-term.Post
+    → print-term-lts.After-open-term (print-term-claims measure) (print-term-at measure) print-term.Post
 after-open-term p = p .before .before .before
 
-abbrev after-column′ : {t : ℕ} → print-term-lts.After-open-term (print-term-claims t) (print-term-at t) print-term.Post
-    → print-term-lts.After-column (print-term-claims t) (print-term-at t) print-term.Post
+abbrev after-column′ : {measure : ℕ} → print-term-lts.After-open-term (print-term-claims measure) (print-term-at measure) print-term.Post
+    → print-term-lts.After-column (print-term-claims measure) (print-term-at measure) print-term.Post
 after-column′ p = p .before .before .before
 
-abbrev at-start′ : {t : ℕ} → print-term-lts.After-open-term (print-term-claims t) (print-term-at t) print-term.Post
-    → print-term-lts.Start (print-term-claims t) (print-term-at t) print-term.Post
+abbrev at-start′ : {measure : ℕ} → print-term-lts.After-open-term (print-term-claims measure) (print-term-at measure) print-term.Post
+    → print-term-lts.Start (print-term-claims measure) (print-term-at measure) print-term.Post
 at-start′ p = (after-column′ p) .before .before .before .before
 
-print-term-open-term-requires : (t : ℕ) → print-term-lts.Need-open-term-requires (print-term-claims t) (print-term-at t) print-term.Post
-print-term-open-term-requires t c κs =
+print-term-open-term-requires : (measure : ℕ) → print-term-lts.Need-open-term-requires (print-term-claims measure) (print-term-at measure) print-term.Post
+print-term-open-term-requires measure c κs =
     let at-column = c .before .before in
     laws.opening-fits (at-column .column .ensures) (at-column .before .before .before .before .pre .1)
 
-print-term-add-place : (t : ℕ) → print-term-lts.Need-add-place (print-term-claims t) (print-term-at t) print-term.Post
-print-term-add-place t c =
+print-term-add-place : (measure : ℕ) → print-term-lts.Need-add-place (print-term-claims measure) (print-term-at measure) print-term.Post
+print-term-add-place measure c =
     let at-column = after-column′ (c .before .before) in
     let entry = at-start′ (c .before .before) in
     omega (arith, laws.opening-fits (at-column .column .ensures) (entry .pre .1) .inside, entry .pre .1 .few)
 
-print-term-byte-at-requires : (t : ℕ) → print-term-lts.Need-byte-at-requires (print-term-claims t) (print-term-at t) print-term.Post
-print-term-byte-at-requires t c κs =
+print-term-byte-at-requires : (measure : ℕ) → print-term-lts.Need-byte-at-requires (print-term-claims measure) (print-term-at measure) print-term.Post
+print-term-byte-at-requires measure c κs =
     let at-open-term = after-open-term′ (c .before) in
     let entry = at-start′ at-open-term in
     laws.next-room
     (laws.opened-shallow (at-open-term .open-term .ensures) (c .before .if1 .taken))
     (entry .pre .1)
 
-print-term-same-length : (t : ℕ) → print-term-lts.Need-same-length (print-term-claims t) (print-term-at t) print-term.Post
-print-term-same-length t c =
+print-term-same-length : (measure : ℕ) → print-term-lts.Need-same-length (print-term-claims measure) (print-term-at measure) print-term.Post
+print-term-same-length measure c =
     let byte-at-place = c .before .before in
     let at-open-term = after-open-term′ (byte-at-place .before .before) in
     byte-at-place .byte-at .ensures .same ∙ at-open-term .open-term .ensures .same
 
-print-term-returns : (t : ℕ) → print-term-lts.Need-returns (print-term-claims t) (print-term-at t) print-term.Post
-print-term-returns t c =
+print-term-returns : (measure : ℕ) → print-term-lts.Need-returns (print-term-claims measure) (print-term-at measure) print-term.Post
+print-term-returns measure c =
     let byte-at-place = c .before .before in
     let at-if1 = byte-at-place .before .before in
     let at-open-term = after-open-term′ at-if1 in
@@ -444,17 +452,17 @@ print-term-returns t c =
     (laws.opened-shallow (at-open-term .open-term .ensures) (at-if1 .if1 .taken))
     (byte-at-place .byte-at .ensures))
 
-print-term-sub-deep : (t : ℕ) → print-term-lts.Need-sub-deep (print-term-claims t) (print-term-at t) print-term.Post
-print-term-sub-deep t c = omega (arith, c .if1 .left)
+print-term-sub-deep : (measure : ℕ) → print-term-lts.Need-sub-deep (print-term-claims measure) (print-term-at measure) print-term.Post
+print-term-sub-deep measure c = omega (arith, c .if1 .left)
 
-print-term-column-requires : (t : ℕ) → print-term-lts.Need-column-requires (print-term-claims t) (print-term-at t) print-term.Post
-print-term-column-requires t c κs = search needs
+print-term-column-requires : (measure : ℕ) → print-term-lts.Need-column-requires (print-term-claims measure) (print-term-at measure) print-term.Post
+print-term-column-requires measure c κs = search needs
 
-print-term-column-requires-2 : (t : ℕ) → print-term-lts.Need-column-requires-2 (print-term-claims t) (print-term-at t) print-term.Post
-print-term-column-requires-2 t c κs = search needs
+print-term-column-requires-2 : (measure : ℕ) → print-term-lts.Need-column-requires-2 (print-term-claims measure) (print-term-at measure) print-term.Post
+print-term-column-requires-2 measure c κs = search needs
 
-print-term-print-term-requires : (t : ℕ) → print-term-lts.Need-print-term-requires (print-term-claims t) (print-term-at t) print-term.Post
-print-term-print-term-requires t c κs =
+print-term-print-term-requires : (measure : ℕ) → print-term-lts.Need-print-term-requires (print-term-claims measure) (print-term-at measure) print-term.Post
+print-term-print-term-requires measure c κs =
     let column2-place = after-column2′ c in
     let at-match = at-match-keys1 column2-place in
     let at-if1 = at-match .before in
@@ -468,8 +476,8 @@ print-term-print-term-requires t c κs =
           (entry .pre .1),
     )
 
-print-term-byte-at-requires-2 : (t : ℕ) → print-term-lts.Need-byte-at-requires-2 (print-term-claims t) (print-term-at t) print-term.Post
-print-term-byte-at-requires-2 t c κs =
+print-term-byte-at-requires-2 : (measure : ℕ) → print-term-lts.Need-byte-at-requires-2 (print-term-claims measure) (print-term-at measure) print-term.Post
+print-term-byte-at-requires-2 measure c κs =
     let print-term-place = after-print-term′′ c in
     let at-column2 = after-column2′ (print-term-place .before) in
     let at-match = at-match-keys1 at-column2 in
@@ -484,11 +492,11 @@ print-term-byte-at-requires-2 t c κs =
     (print-term-place .print-term .ensures))
     (entry .pre .1)
 
-print-term-column-requires-3 : (t : ℕ) → print-term-lts.Need-column-requires-3 (print-term-claims t) (print-term-at t) print-term.Post
-print-term-column-requires-3 t c κs = search needs
+print-term-column-requires-3 : (measure : ℕ) → print-term-lts.Need-column-requires-3 (print-term-claims measure) (print-term-at measure) print-term.Post
+print-term-column-requires-3 measure c κs = search needs
 
-print-term-print-term-requires-2 : (t : ℕ) → print-term-lts.Need-print-term-requires-2 (print-term-claims t) (print-term-at t) print-term.Post
-print-term-print-term-requires-2 t c κs =
+print-term-print-term-requires-2 : (measure : ℕ) → print-term-lts.Need-print-term-requires-2 (print-term-claims measure) (print-term-at measure) print-term.Post
+print-term-print-term-requires-2 measure c κs =
     let column3-place = c .before .before in
     let at-match = at-match-keys2 column3-place in
     let at-if1 = else1′ column3-place in
@@ -502,8 +510,8 @@ print-term-print-term-requires-2 t c κs =
           (entry .pre .1),
     )
 
-print-term-byte-at-requires-3 : (t : ℕ) → print-term-lts.Need-byte-at-requires-3 (print-term-claims t) (print-term-at t) print-term.Post
-print-term-byte-at-requires-3 t c κs =
+print-term-byte-at-requires-3 : (measure : ℕ) → print-term-lts.Need-byte-at-requires-3 (print-term-claims measure) (print-term-at measure) print-term.Post
+print-term-byte-at-requires-3 measure c κs =
     let print-term2-place = after-print-term2 c in
     let at-column3 = after-column3′ print-term2-place in
     let at-match = at-match-keys2 at-column3 in
@@ -518,11 +526,11 @@ print-term-byte-at-requires-3 t c κs =
     (print-term2-place .print-term2 .ensures))
     (entry .pre .1)
 
-print-term-column-requires-4 : (t : ℕ) → print-term-lts.Need-column-requires-4 (print-term-claims t) (print-term-at t) print-term.Post
-print-term-column-requires-4 t c κs = search needs
+print-term-column-requires-4 : (measure : ℕ) → print-term-lts.Need-column-requires-4 (print-term-claims measure) (print-term-at measure) print-term.Post
+print-term-column-requires-4 measure c κs = search needs
 
-print-term-print-term-requires-3 : (t : ℕ) → print-term-lts.Need-print-term-requires-3 (print-term-claims t) (print-term-at t) print-term.Post
-print-term-print-term-requires-3 t c κs =
+print-term-print-term-requires-3 : (measure : ℕ) → print-term-lts.Need-print-term-requires-3 (print-term-claims measure) (print-term-at measure) print-term.Post
+print-term-print-term-requires-3 measure c κs =
     let column4-place = after-column4 c in
     let at-byte-at3 = after-byte-at3 column4-place in
     let at-print-term2 = after-print-term2′ at-byte-at3 in
@@ -543,8 +551,8 @@ print-term-print-term-requires-3 t c κs =
           (entry .pre .1),
     )
 
-print-term-byte-at-requires-4 : (t : ℕ) → print-term-lts.Need-byte-at-requires-4 (print-term-claims t) (print-term-at t) print-term.Post
-print-term-byte-at-requires-4 t c κs =
+print-term-byte-at-requires-4 : (measure : ℕ) → print-term-lts.Need-byte-at-requires-4 (print-term-claims measure) (print-term-at measure) print-term.Post
+print-term-byte-at-requires-4 measure c κs =
     let print-term3-place = after-print-term3 c in
     let at-column4 = after-column4 (print-term3-place .before) in
     let at-byte-at3 = after-byte-at3 at-column4 in
@@ -566,11 +574,11 @@ print-term-byte-at-requires-4 t c κs =
     (print-term3-place .print-term3 .ensures))
     (entry .pre .1)
 
-print-term-column-requires-5 : (t : ℕ) → print-term-lts.Need-column-requires-5 (print-term-claims t) (print-term-at t) print-term.Post
-print-term-column-requires-5 t c κs = search needs
+print-term-column-requires-5 : (measure : ℕ) → print-term-lts.Need-column-requires-5 (print-term-claims measure) (print-term-at measure) print-term.Post
+print-term-column-requires-5 measure c κs = search needs
 
-print-term-print-fields-requires : (t : ℕ) → print-term-lts.Need-print-fields-requires (print-term-claims t) (print-term-at t) print-term.Post
-print-term-print-fields-requires t c κs =
+print-term-print-fields-requires : (measure : ℕ) → print-term-lts.Need-print-fields-requires (print-term-claims measure) (print-term-at measure) print-term.Post
+print-term-print-fields-requires measure c κs =
     let column5-place = after-column5 c in
     let at-match = at-match-keys3 column5-place in
     let at-if1 = at-match .before in
@@ -584,8 +592,8 @@ print-term-print-fields-requires t c κs =
           (entry .pre .1),
     )
 
-print-term-byte-at-requires-5 : (t : ℕ) → print-term-lts.Need-byte-at-requires-5 (print-term-claims t) (print-term-at t) print-term.Post
-print-term-byte-at-requires-5 t c κs =
+print-term-byte-at-requires-5 : (measure : ℕ) → print-term-lts.Need-byte-at-requires-5 (print-term-claims measure) (print-term-at measure) print-term.Post
+print-term-byte-at-requires-5 measure c κs =
     let print-fields-place = after-print-fields′ c in
     let at-column5 = after-column5 (print-fields-place .before) in
     let at-match = at-match-keys3 at-column5 in
@@ -600,11 +608,11 @@ print-term-byte-at-requires-5 t c κs =
     (print-fields-place .print-fields .ensures))
     (entry .pre .1)
 
-print-term-column-requires-6 : (t : ℕ) → print-term-lts.Need-column-requires-6 (print-term-claims t) (print-term-at t) print-term.Post
-print-term-column-requires-6 t c κs = search needs
+print-term-column-requires-6 : (measure : ℕ) → print-term-lts.Need-column-requires-6 (print-term-claims measure) (print-term-at measure) print-term.Post
+print-term-column-requires-6 measure c κs = search needs
 
-print-term-print-term-requires-4 : (t : ℕ) → print-term-lts.Need-print-term-requires-4 (print-term-claims t) (print-term-at t) print-term.Post
-print-term-print-term-requires-4 t c κs =
+print-term-print-term-requires-4 : (measure : ℕ) → print-term-lts.Need-print-term-requires-4 (print-term-claims measure) (print-term-at measure) print-term.Post
+print-term-print-term-requires-4 measure c κs =
     let column6-place = c .before .before in
     let at-match = at-match-keys4 column6-place in
     let at-if1 = else1′′ column6-place in
@@ -618,8 +626,8 @@ print-term-print-term-requires-4 t c κs =
           (entry .pre .1),
     )
 
-print-term-byte-at-requires-6 : (t : ℕ) → print-term-lts.Need-byte-at-requires-6 (print-term-claims t) (print-term-at t) print-term.Post
-print-term-byte-at-requires-6 t c κs =
+print-term-byte-at-requires-6 : (measure : ℕ) → print-term-lts.Need-byte-at-requires-6 (print-term-claims measure) (print-term-at measure) print-term.Post
+print-term-byte-at-requires-6 measure c κs =
     let print-term4-place = after-print-term4 c in
     let at-column6 = after-column6 print-term4-place in
     let at-match = at-match-keys4 at-column6 in
@@ -634,11 +642,11 @@ print-term-byte-at-requires-6 t c κs =
     (print-term4-place .print-term4 .ensures))
     (entry .pre .1)
 
-print-term-column-requires-7 : (t : ℕ) → print-term-lts.Need-column-requires-7 (print-term-claims t) (print-term-at t) print-term.Post
-print-term-column-requires-7 t c κs = search needs
+print-term-column-requires-7 : (measure : ℕ) → print-term-lts.Need-column-requires-7 (print-term-claims measure) (print-term-at measure) print-term.Post
+print-term-column-requires-7 measure c κs = search needs
 
-print-term-label-at-requires : (t : ℕ) → print-term-lts.Need-label-at-requires (print-term-claims t) (print-term-at t) print-term.Post
-print-term-label-at-requires t c κs =
+print-term-label-at-requires : (measure : ℕ) → print-term-lts.Need-label-at-requires (print-term-claims measure) (print-term-at measure) print-term.Post
+print-term-label-at-requires measure c κs =
     let at-byte-at6 = after-byte-at6 (c .before) in
     let at-print-term4 = after-print-term4′ at-byte-at6 in
     let at-column6 = after-column6 at-print-term4 in
@@ -656,8 +664,8 @@ print-term-label-at-requires t c κs =
     (at-byte-at6 .byte-at6 .ensures))
     (entry .pre .1)
 
-print-term-byte-at-requires-7 : (t : ℕ) → print-term-lts.Need-byte-at-requires-7 (print-term-claims t) (print-term-at t) print-term.Post
-print-term-byte-at-requires-7 t c κs =
+print-term-byte-at-requires-7 : (measure : ℕ) → print-term-lts.Need-byte-at-requires-7 (print-term-claims measure) (print-term-at measure) print-term.Post
+print-term-byte-at-requires-7 measure c κs =
     let label-at-place = after-label-at c in
     let at-column7 = label-at-place .before .before in
     let at-byte-at6 = after-byte-at6 at-column7 in
@@ -679,8 +687,8 @@ print-term-byte-at-requires-7 t c κs =
     (label-at-place .label-at .ensures))
     (entry .pre .1)
 
-print-term-byte-at-requires-8 : (t : ℕ) → print-term-lts.Need-byte-at-requires-8 (print-term-claims t) (print-term-at t) print-term.Post
-print-term-byte-at-requires-8 t c κs =
+print-term-byte-at-requires-8 : (measure : ℕ) → print-term-lts.Need-byte-at-requires-8 (print-term-claims measure) (print-term-at measure) print-term.Post
+print-term-byte-at-requires-8 measure c κs =
     let match-rest-place = c .before in
     let at-if1 = match-rest-place .before in
     let at-open-term = after-open-term at-if1 in
@@ -691,15 +699,15 @@ print-term-byte-at-requires-8 t c κs =
     (match-rest-place .match .rest))
     (entry .pre .1)
 
-print-term-same-length-2 : (t : ℕ) → print-term-lts.Need-same-length-2 (print-term-claims t) (print-term-at t) print-term.Post
-print-term-same-length-2 t c =
+print-term-same-length-2 : (measure : ℕ) → print-term-lts.Need-same-length-2 (print-term-claims measure) (print-term-at measure) print-term.Post
+print-term-same-length-2 measure c =
     let byte-at2-place = c .before .before in
     let at-print-term = after-print-term′′ (byte-at2-place .before) in
     let at-open-term = after-open-term ((at-match-keys1 (after-column2′ (at-print-term .before))) .before) in
     byte-at2-place .byte-at2 .ensures .same ∙ at-print-term .print-term .ensures .wrote .same ∙ at-open-term .open-term .ensures .same
 
-print-term-returns-2 : (t : ℕ) → print-term-lts.Need-returns-2 (print-term-claims t) (print-term-at t) print-term.Post
-print-term-returns-2 t c =
+print-term-returns-2 : (measure : ℕ) → print-term-lts.Need-returns-2 (print-term-claims measure) (print-term-at measure) print-term.Post
+print-term-returns-2 measure c =
     let byte-at2-place = c .before .before in
     let at-print-term = after-print-term′′ (byte-at2-place .before) in
     let at-column2 = after-column2′ (at-print-term .before) in
@@ -715,8 +723,8 @@ print-term-returns-2 t c =
     (at-print-term .print-term .ensures))
     (byte-at2-place .byte-at2 .ensures))
 
-print-term-same-length-3 : (t : ℕ) → print-term-lts.Need-same-length-3 (print-term-claims t) (print-term-at t) print-term.Post
-print-term-same-length-3 t c =
+print-term-same-length-3 : (measure : ℕ) → print-term-lts.Need-same-length-3 (print-term-claims measure) (print-term-at measure) print-term.Post
+print-term-same-length-3 measure c =
     let byte-at4-place = c .before .before in
     let at-print-term3 = after-print-term3 (byte-at4-place .before) in
     let at-byte-at3 = after-byte-at3 (after-column4 (at-print-term3 .before)) in
@@ -725,8 +733,8 @@ print-term-same-length-3 t c =
     byte-at4-place .byte-at4 .ensures .same ∙ at-print-term3 .print-term3 .ensures .wrote .same ∙ at-byte-at3 .byte-at3 .ensures .same ∙
     at-print-term2 .print-term2 .ensures .wrote .same ∙ at-open-term .open-term .ensures .same
 
-print-term-returns-3 : (t : ℕ) → print-term-lts.Need-returns-3 (print-term-claims t) (print-term-at t) print-term.Post
-print-term-returns-3 t c =
+print-term-returns-3 : (measure : ℕ) → print-term-lts.Need-returns-3 (print-term-claims measure) (print-term-at measure) print-term.Post
+print-term-returns-3 measure c =
     let byte-at4-place = c .before .before in
     let at-print-term3 = after-print-term3 (byte-at4-place .before) in
     let at-column4 = after-column4 (at-print-term3 .before) in
@@ -749,16 +757,16 @@ print-term-returns-3 t c =
     (at-print-term3 .print-term3 .ensures))
     (byte-at4-place .byte-at4 .ensures))
 
-print-term-same-length-4 : (t : ℕ) → print-term-lts.Need-same-length-4 (print-term-claims t) (print-term-at t) print-term.Post
-print-term-same-length-4 t c =
+print-term-same-length-4 : (measure : ℕ) → print-term-lts.Need-same-length-4 (print-term-claims measure) (print-term-at measure) print-term.Post
+print-term-same-length-4 measure c =
     let byte-at5-place = c .before .before in
     let at-print-fields = after-print-fields′ (byte-at5-place .before) in
     let at-open-term = after-open-term ((at-match-keys3 (after-column5 (at-print-fields .before))) .before) in
     byte-at5-place .byte-at5 .ensures .same ∙ at-print-fields .print-fields .ensures .wrote .same ∙
     at-open-term .open-term .ensures .same
 
-print-term-returns-4 : (t : ℕ) → print-term-lts.Need-returns-4 (print-term-claims t) (print-term-at t) print-term.Post
-print-term-returns-4 t c =
+print-term-returns-4 : (measure : ℕ) → print-term-lts.Need-returns-4 (print-term-claims measure) (print-term-at measure) print-term.Post
+print-term-returns-4 measure c =
     let byte-at5-place = c .before .before in
     let at-print-fields = after-print-fields′ (byte-at5-place .before) in
     let at-column5 = after-column5 (at-print-fields .before) in
@@ -774,8 +782,8 @@ print-term-returns-4 t c =
     (at-print-fields .print-fields .ensures))
     (byte-at5-place .byte-at5 .ensures))
 
-print-term-same-length-5 : (t : ℕ) → print-term-lts.Need-same-length-5 (print-term-claims t) (print-term-at t) print-term.Post
-print-term-same-length-5 t c =
+print-term-same-length-5 : (measure : ℕ) → print-term-lts.Need-same-length-5 (print-term-claims measure) (print-term-at measure) print-term.Post
+print-term-same-length-5 measure c =
     let byte-at7-place = c .before .before in
     let at-label-at = after-label-at (byte-at7-place .before) in
     let at-byte-at6 = after-byte-at6 (at-label-at .before .before) in
@@ -784,8 +792,8 @@ print-term-same-length-5 t c =
     byte-at7-place .byte-at7 .ensures .same ∙ at-label-at .label-at .ensures .same ∙ at-byte-at6 .byte-at6 .ensures .same ∙
     at-print-term4 .print-term4 .ensures .wrote .same ∙ at-open-term .open-term .ensures .same
 
-print-term-returns-5 : (t : ℕ) → print-term-lts.Need-returns-5 (print-term-claims t) (print-term-at t) print-term.Post
-print-term-returns-5 t c =
+print-term-returns-5 : (measure : ℕ) → print-term-lts.Need-returns-5 (print-term-claims measure) (print-term-at measure) print-term.Post
+print-term-returns-5 measure c =
     let byte-at7-place = c .before .before in
     let at-label-at = after-label-at (byte-at7-place .before) in
     let at-column7 = at-label-at .before .before in
@@ -808,14 +816,14 @@ print-term-returns-5 t c =
     (at-label-at .label-at .ensures))
     (byte-at7-place .byte-at7 .ensures))
 
-print-term-same-length-6 : (t : ℕ) → print-term-lts.Need-same-length-6 (print-term-claims t) (print-term-at t) print-term.Post
-print-term-same-length-6 t c =
+print-term-same-length-6 : (measure : ℕ) → print-term-lts.Need-same-length-6 (print-term-claims measure) (print-term-at measure) print-term.Post
+print-term-same-length-6 measure c =
     let byte-at8-place = c .before .before in
     let at-open-term = after-open-term (byte-at8-place .before .before .before) in
     byte-at8-place .byte-at8 .ensures .same ∙ at-open-term .open-term .ensures .same
 
-print-term-returns-6 : (t : ℕ) → print-term-lts.Need-returns-6 (print-term-claims t) (print-term-at t) print-term.Post
-print-term-returns-6 t c =
+print-term-returns-6 : (measure : ℕ) → print-term-lts.Need-returns-6 (print-term-claims measure) (print-term-at measure) print-term.Post
+print-term-returns-6 measure c =
     let byte-at8-place = c .before .before in
     let at-match = byte-at8-place .before .before in
     let at-if1 = at-match .before in

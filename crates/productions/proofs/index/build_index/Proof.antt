@@ -18,18 +18,18 @@ abbrev μ-loop : tie.MeasureT-loop
 μ-loop table owners₀ starts₀ at₀ n₀ k₀ owners starts at n k = length table - at
 
 -- where a field stands at the offset
-module _ (p : tie.After-known-told Inv-loop μ-loop) where
+module _ (point : tie.After-known-told Inv-loop μ-loop) where
   abbrev looped : tie.At-loop Inv-loop μ-loop
-  looped = p .before .before .before .before .before
+  looped = point .before .before .before .before .before
 
   abbrev table : List ℕ
   table = looped .before .before .args .table .now
 
   abbrev size : ℕ
-  size = p .before .front .given .0 .1 .0
+  size = point .before .front .given .0 .1 .0
 
-  field : Field (p .before .front .given .0 .0) size ≡ frontOf (drop (looped .loop .at) table)
-  field = sym (p .before .front .given .1) ∙ p .before .before .before .front-at .ensures
+  field : Field (point .before .front .given .0 .0) size ≡ frontOf (drop (looped .loop .at) table)
+  field = sym (point .before .front .given .1) ∙ point .before .before .before .front-at .ensures
 
   inside : looped .loop .at + (3 + size) ≤ length table
   inside = laws.building-inside (looped .loop .inv) field

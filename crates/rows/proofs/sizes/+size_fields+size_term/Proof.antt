@@ -46,98 +46,98 @@ claims t = (
   size-fields.Post,
 )
 
-size-fields-returns : (t : ℕ) → size-fields-lts.Need-returns (claims t) (size-fields-at t) size-fields.Post
-size-fields-returns t c = omega arith
+size-fields-returns : (measure : ℕ) → size-fields-lts.Need-returns (claims measure) (size-fields-at measure) size-fields.Post
+size-fields-returns measure c = omega arith
 
-size-fields-sub-rest : (t : ℕ) → size-fields-lts.Need-sub-rest (claims t) (size-fields-at t) size-fields.Post
-size-fields-sub-rest t c = search needs
+size-fields-sub-rest : (measure : ℕ) → size-fields-lts.Need-sub-rest (claims measure) (size-fields-at measure) size-fields.Post
+size-fields-sub-rest measure c = search needs
 
-size-fields-returns-2 : (t : ℕ) → size-fields-lts.Need-returns-2 (claims t) (size-fields-at t) size-fields.Post
-size-fields-returns-2 t c = search laws.shallow-fields
+size-fields-returns-2 : (measure : ℕ) → size-fields-lts.Need-returns-2 (claims measure) (size-fields-at measure) size-fields.Post
+size-fields-returns-2 measure c = search laws.shallow-fields
 
-size-fields-sub-deep : (t : ℕ) → size-fields-lts.Need-sub-deep (claims t) (size-fields-at t) size-fields.Post
-size-fields-sub-deep t c = search needs
+size-fields-sub-deep : (measure : ℕ) → size-fields-lts.Need-sub-deep (claims measure) (size-fields-at measure) size-fields.Post
+size-fields-sub-deep measure c = search needs
 
-size-fields-column-requires : (t : ℕ) → size-fields-lts.Need-column-requires (claims t) (size-fields-at t) size-fields.Post
-size-fields-column-requires t c κs = search needs
+size-fields-column-requires : (measure : ℕ) → size-fields-lts.Need-column-requires (claims measure) (size-fields-at measure) size-fields.Post
+size-fields-column-requires measure c κs = search needs
 
-size-fields-column-requires-2 : (t : ℕ) → size-fields-lts.Need-column-requires-2 (claims t) (size-fields-at t) size-fields.Post
-size-fields-column-requires-2 t c κs = search needs
+size-fields-column-requires-2 : (measure : ℕ) → size-fields-lts.Need-column-requires-2 (claims measure) (size-fields-at measure) size-fields.Post
+size-fields-column-requires-2 measure c κs = search needs
 
-size-fields-size-term-requires : (t : ℕ) → size-fields-lts.Need-size-term-requires (claims t) (size-fields-at t) size-fields.Post
-size-fields-size-term-requires t c κs = (omega arith, tt)
+size-fields-size-term-requires : (measure : ℕ) → size-fields-lts.Need-size-term-requires (claims measure) (size-fields-at measure) size-fields.Post
+size-fields-size-term-requires measure c κs = (omega arith, tt)
 
-size-fields-column-requires-3 : (t : ℕ) → size-fields-lts.Need-column-requires-3 (claims t) (size-fields-at t) size-fields.Post
-size-fields-column-requires-3 t c κs = search needs
+size-fields-column-requires-3 : (measure : ℕ) → size-fields-lts.Need-column-requires-3 (claims measure) (size-fields-at measure) size-fields.Post
+size-fields-column-requires-3 measure c κs = search needs
 
-size-fields-size-fields-requires : (t : ℕ) → size-fields-lts.Need-size-fields-requires (claims t) (size-fields-at t) size-fields.Post
-size-fields-size-fields-requires t c κs = (omega arith, tt)
+size-fields-size-fields-requires : (measure : ℕ) → size-fields-lts.Need-size-fields-requires (claims measure) (size-fields-at measure) size-fields.Post
+size-fields-size-fields-requires measure c κs = (omega arith, tt)
 
-size-fields-returns-3 : (t : ℕ) → size-fields-lts.Need-returns-3 (claims t) (size-fields-at t) size-fields.Post
-size-fields-returns-3 t c = search laws.cons-left
+size-fields-returns-3 : (measure : ℕ) → size-fields-lts.Need-returns-3 (claims measure) (size-fields-at measure) size-fields.Post
+size-fields-returns-3 measure c = search laws.cons-left
 
-size-fields-returns-4 : (t : ℕ) → size-fields-lts.Need-returns-4 (claims t) (size-fields-at t) size-fields.Post
-size-fields-returns-4 t c = search laws.nil-left
+size-fields-returns-4 : (measure : ℕ) → size-fields-lts.Need-returns-4 (claims measure) (size-fields-at measure) size-fields.Post
+size-fields-returns-4 measure c = search laws.nil-left
 
-size-term-returns : (t : ℕ) → size-term-lts.Need-returns (claims t) (size-term-at t) size-term.Post
-size-term-returns t c = omega arith
+size-term-returns : (measure : ℕ) → size-term-lts.Need-returns (claims measure) (size-term-at measure) size-term.Post
+size-term-returns measure c = omega arith
 
-size-term-sub-rest : (t : ℕ) → size-term-lts.Need-sub-rest (claims t) (size-term-at t) size-term.Post
-size-term-sub-rest t c = search needs
+size-term-sub-rest : (measure : ℕ) → size-term-lts.Need-sub-rest (claims measure) (size-term-at measure) size-term.Post
+size-term-sub-rest measure c = search needs
 
-size-term-returns-2 : (t : ℕ) → size-term-lts.Need-returns-2 (claims t) (size-term-at t) size-term.Post
-size-term-returns-2 t c = search laws.shallow
+size-term-returns-2 : (measure : ℕ) → size-term-lts.Need-returns-2 (claims measure) (size-term-at measure) size-term.Post
+size-term-returns-2 measure c = search laws.shallow
 
-size-term-sub-deep : (t : ℕ) → size-term-lts.Need-sub-deep (claims t) (size-term-at t) size-term.Post
-size-term-sub-deep t c = search needs
+size-term-sub-deep : (measure : ℕ) → size-term-lts.Need-sub-deep (claims measure) (size-term-at measure) size-term.Post
+size-term-sub-deep measure c = search needs
 
-size-term-column-requires : (t : ℕ) → size-term-lts.Need-column-requires (claims t) (size-term-at t) size-term.Post
-size-term-column-requires t c κs = search needs
+size-term-column-requires : (measure : ℕ) → size-term-lts.Need-column-requires (claims measure) (size-term-at measure) size-term.Post
+size-term-column-requires measure c κs = search needs
 
-size-term-column-requires-2 : (t : ℕ) → size-term-lts.Need-column-requires-2 (claims t) (size-term-at t) size-term.Post
-size-term-column-requires-2 t c κs = search needs
+size-term-column-requires-2 : (measure : ℕ) → size-term-lts.Need-column-requires-2 (claims measure) (size-term-at measure) size-term.Post
+size-term-column-requires-2 measure c κs = search needs
 
-size-term-size-term-requires : (t : ℕ) → size-term-lts.Need-size-term-requires (claims t) (size-term-at t) size-term.Post
-size-term-size-term-requires t c κs = (omega arith, tt)
+size-term-size-term-requires : (measure : ℕ) → size-term-lts.Need-size-term-requires (claims measure) (size-term-at measure) size-term.Post
+size-term-size-term-requires measure c κs = (omega arith, tt)
 
-size-term-column-requires-3 : (t : ℕ) → size-term-lts.Need-column-requires-3 (claims t) (size-term-at t) size-term.Post
-size-term-column-requires-3 t c κs = search needs
+size-term-column-requires-3 : (measure : ℕ) → size-term-lts.Need-column-requires-3 (claims measure) (size-term-at measure) size-term.Post
+size-term-column-requires-3 measure c κs = search needs
 
-size-term-size-term-requires-2 : (t : ℕ) → size-term-lts.Need-size-term-requires-2 (claims t) (size-term-at t) size-term.Post
-size-term-size-term-requires-2 t c κs = (omega arith, tt)
+size-term-size-term-requires-2 : (measure : ℕ) → size-term-lts.Need-size-term-requires-2 (claims measure) (size-term-at measure) size-term.Post
+size-term-size-term-requires-2 measure c κs = (omega arith, tt)
 
-size-term-column-requires-4 : (t : ℕ) → size-term-lts.Need-column-requires-4 (claims t) (size-term-at t) size-term.Post
-size-term-column-requires-4 t c κs = search needs
+size-term-column-requires-4 : (measure : ℕ) → size-term-lts.Need-column-requires-4 (claims measure) (size-term-at measure) size-term.Post
+size-term-column-requires-4 measure c κs = search needs
 
-size-term-size-term-requires-3 : (t : ℕ) → size-term-lts.Need-size-term-requires-3 (claims t) (size-term-at t) size-term.Post
-size-term-size-term-requires-3 t c κs = (omega arith, tt)
+size-term-size-term-requires-3 : (measure : ℕ) → size-term-lts.Need-size-term-requires-3 (claims measure) (size-term-at measure) size-term.Post
+size-term-size-term-requires-3 measure c κs = (omega arith, tt)
 
-size-term-column-requires-5 : (t : ℕ) → size-term-lts.Need-column-requires-5 (claims t) (size-term-at t) size-term.Post
-size-term-column-requires-5 t c κs = search needs
+size-term-column-requires-5 : (measure : ℕ) → size-term-lts.Need-column-requires-5 (claims measure) (size-term-at measure) size-term.Post
+size-term-column-requires-5 measure c κs = search needs
 
-size-term-size-fields-requires : (t : ℕ) → size-term-lts.Need-size-fields-requires (claims t) (size-term-at t) size-term.Post
-size-term-size-fields-requires t c κs = (omega arith, tt)
+size-term-size-fields-requires : (measure : ℕ) → size-term-lts.Need-size-fields-requires (claims measure) (size-term-at measure) size-term.Post
+size-term-size-fields-requires measure c κs = (omega arith, tt)
 
-size-term-column-requires-6 : (t : ℕ) → size-term-lts.Need-column-requires-6 (claims t) (size-term-at t) size-term.Post
-size-term-column-requires-6 t c κs = search needs
+size-term-column-requires-6 : (measure : ℕ) → size-term-lts.Need-column-requires-6 (claims measure) (size-term-at measure) size-term.Post
+size-term-column-requires-6 measure c κs = search needs
 
-size-term-size-term-requires-4 : (t : ℕ) → size-term-lts.Need-size-term-requires-4 (claims t) (size-term-at t) size-term.Post
-size-term-size-term-requires-4 t c κs = (omega arith, tt)
+size-term-size-term-requires-4 : (measure : ℕ) → size-term-lts.Need-size-term-requires-4 (claims measure) (size-term-at measure) size-term.Post
+size-term-size-term-requires-4 measure c κs = (omega arith, tt)
 
-size-term-returns-3 : (t : ℕ) → size-term-lts.Need-returns-3 (claims t) (size-term-at t) size-term.Post
-size-term-returns-3 t c = search laws.fun-left
+size-term-returns-3 : (measure : ℕ) → size-term-lts.Need-returns-3 (claims measure) (size-term-at measure) size-term.Post
+size-term-returns-3 measure c = search laws.fun-left
 
-size-term-returns-4 : (t : ℕ) → size-term-lts.Need-returns-4 (claims t) (size-term-at t) size-term.Post
-size-term-returns-4 t c = search laws.app-left
+size-term-returns-4 : (measure : ℕ) → size-term-lts.Need-returns-4 (claims measure) (size-term-at measure) size-term.Post
+size-term-returns-4 measure c = search laws.app-left
 
-size-term-returns-5 : (t : ℕ) → size-term-lts.Need-returns-5 (claims t) (size-term-at t) size-term.Post
-size-term-returns-5 t c = search laws.rcd-left
+size-term-returns-5 : (measure : ℕ) → size-term-lts.Need-returns-5 (claims measure) (size-term-at measure) size-term.Post
+size-term-returns-5 measure c = search laws.rcd-left
 
-size-term-returns-6 : (t : ℕ) → size-term-lts.Need-returns-6 (claims t) (size-term-at t) size-term.Post
-size-term-returns-6 t c = search laws.dot-left
+size-term-returns-6 : (measure : ℕ) → size-term-lts.Need-returns-6 (claims measure) (size-term-at measure) size-term.Post
+size-term-returns-6 measure c = search laws.dot-left
 
-size-term-returns-7 : (t : ℕ) → size-term-lts.Need-returns-7 (claims t) (size-term-at t) size-term.Post
-size-term-returns-7 t c = search laws.bare-left
+size-term-returns-7 : (measure : ℕ) → size-term-lts.Need-returns-7 (claims measure) (size-term-at measure) size-term.Post
+size-term-returns-7 measure c = search laws.bare-left
 
 -- the functions meet their contracts
 pub +size-fields+size-term-spec : {M : Type 1} → statement M

@@ -12,7 +12,8 @@ use Rattle.vegzump.proofs.hosts.vegzump_expand.Statement.{statement}
 use Rattle.vegzump.proofs.hosts.vegzump_expand.Tie as tie
 
 -- a reply made of an answer, beside the same cells and text
-beside : {o : Reply} {a : Answer} {cells text : List ℕ} {x : Expanded} → o ≡ reply (numbered a) → expanded a cells text ≡ x → replied o cells text ≡ replyOf x
+beside : {given-reply : Reply} {answer : Answer} {cells text : List ℕ} {given-expanded : Expanded} → given-reply ≡ reply (numbered answer)
+    → expanded answer cells text ≡ given-expanded → replied given-reply cells text ≡ replyOf given-expanded
 beside {cells = cells} {text} e h = ap (λ (o : Reply). replied o cells text) e ∙ ap replyOf h
 
 returns : tie.Need-returns

@@ -29,9 +29,9 @@ claims = (
 )
 
 -- the formula has been scanned
-module _ (p : lts.After-scan claims reads.Pre reads.Post) where
+module _ (point : lts.After-scan claims reads.Pre reads.Post) where
   abbrev third : lts.After-slice-known2 claims reads.Pre reads.Post
-  third = p .before .before .before .before
+  third = point .before .before .before .before
 
   abbrev first : lts.After-shared-slice-known claims reads.Pre reads.Post
   first = third .before .before .before

@@ -24,9 +24,9 @@ claims = (
 )
 
 -- the table has been checked
-module _ (p : lts.After-check-into claims reads.Pre reads.Post) where
+module _ (point : lts.After-check-into claims reads.Pre reads.Post) where
   abbrev first : lts.After-shared-slice-known claims reads.Pre reads.Post
-  first = p .before .before .before .before .before .before
+  first = point .before .before .before .before .before .before
 
   abbrev start : lts.Start claims reads.Pre reads.Post
   start = first .before
