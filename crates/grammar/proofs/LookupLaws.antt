@@ -1,13 +1,13 @@
--- Laws of a table's fields from an offset on, and of the search for a spelling among the first of them.
+-- Laws of a table's fields from an offset on, and of a spelling found in a list.
 use Prim.Native.Nat.{ℕ, zero, suc, _+_, _-_, _*_, _<_, _≤_}
 use mathlib.Core.Path.{_≡_, refl, sym, ap, _∙_, subst}
 use mathlib.Core.Bool.{Bool, true, false}
 use mathlib.Core.List.{List, [], _∷_}
-use native.Mathlib.Nat.{add-assoc, add-zero, zero-add, sub-zero}
+use native.Mathlib.Nat.{add-assoc, add-zero}
 use native.Mathlib.Omega.{arith}
 use lib.Dec.{eqb, leb, ltb, leb·suc-suc}
 use lib.ListN.{length, getD, take, drop, length-drop, length-take, drop-of-length-le}
-use lib.Seq.{getD-drop, drop-drop, take-nil}
+use lib.Seq.{getD-drop, drop-drop}
 use borrow.Author.Tests.{lt-ltb, ltb-true, eq-eqb, ne-eqb, le-leb, lt-leb, leb-true, eqb-true, eqb-false}
 use Rattle.spellings.specs.Bytes.{same, indexOf}
 use Rattle.spellings.proofs.BytesLaws.{index-found}
@@ -169,10 +169,6 @@ abbrev pub shifted : ℕ → Found → Found
 shifted i (At k) = At (i + k)
 shifted i Absent = Absent
 
-shifted-twice : (shift : ℕ) (found : Found) → shifted shift (shifted 1 found) ≡ shifted (shift + 1) found
-shifted-twice shift (At k) = ap At (sym (add-assoc shift 1 k))
-shifted-twice shift Absent = refl
-
 found-tests : (sought : List ℕ) (vs : List (List ℕ)) (inside : Bool) → ltb (indexOf sought vs) (length vs) ≡ inside
     → foundIn sought vs ≡ elim inside [ true ↦ At (indexOf sought vs) | false ↦ Absent ]
 unfolding foundIn
@@ -233,78 +229,6 @@ module _ (table : List ℕ) (at tag : ℕ) where
   after-goes front value fs e = rw (eq-eqb front tag e, afterLeading) refl
 
 -- ------------------------------------------------------------------ the loops
-
--- `count` fields of the tag do not have the spelling; those from `at` on give what is asked
-pub record Searching (table sought : List ℕ) (tag most start at count : ℕ) : Type 0 where
-  -- no more are passed than count
-  pub small : count ≤ most
-  -- what is left gives what all of them give
-  pub rest :
-      shifted count (foundIn sought (take (most - count) (leading tag (fieldsAt table at))))
-      ≡ foundIn sought (take most (leading tag (fieldsAt table start)))
-
-shifted-none : (found : Found) → shifted 0 found ≡ found
-shifted-none (At k) = ap At (zero-add k)
-shifted-none Absent = refl
-
--- nothing is passed at the start
-pub searching-start : (table sought : List ℕ) (tag most start : ℕ) → Searching table sought tag most start start 0
-searching-start table sought tag most start = record { small = omega arith; rest = rw (sub-zero, shifted-none) refl }
-
-module _ {table sought : List ℕ} {tag most start at count : ℕ} (searching : Searching table sought tag most start at count) where
-  -- with the spellings that are left
-  rest-is : (vs : List (List ℕ)) → take (most - count) (leading tag (fieldsAt table at)) ≡ vs
-      → shifted count (foundIn sought vs) ≡ foundIn sought (take most (leading tag (fieldsAt table start)))
-  rest-is vs e = cc (searching .rest)
-
-  none-left : take (most - count) (leading tag (fieldsAt table at)) ≡ []
-      → Absent ≡ foundIn sought (take most (leading tag (fieldsAt table start)))
-  none-left e = sym (ap (shifted count) (found-nil sought)) ∙ rest-is [] e
-
-  -- where the fields of the tag end, the spelling is absent
-  pub searching-out : (front : Front) → front ≡ frontOf (drop at table) → Stops tag front
-      → Absent ≡ foundIn sought (take most (leading tag (fieldsAt table start)))
-  searching-out front e h =
-      none-left
-      (cc (fields-at table at e, leading-stop table at tag front h, take-nil (most - count)))
-
-  -- behind the last that counts, the spelling is absent
-  pub searching-end : most ≤ count → Absent ≡ foundIn sought (take most (leading tag (fieldsAt table start)))
-  searching-end h =
-      let z : most - count ≡ 0 = omega arith in
-      none-left (cc)
-
-  module _ (below : count < most) {found size : ℕ} (equal : Field found size ≡ frontOf (drop at table)) (tagged : found ≡ tag) where
-    one-left : take (most - count) (leading tag (fieldsAt table at))
-        ≡ take size (drop (at + 3) table) ∷ take (most - (count + 1)) (leading tag (fieldsAt table (at + 3 + size)))
-    one-left =
-        let z : most - count ≡ suc (most - (count + 1)) = omega arith in
-        cc (fields-at table at equal, leading-goes table at tag found _ _ tagged)
-
-    -- the value as the code has it, from a start to an end
-    value-is : take (at + 3 + size - (at + 3)) (drop (at + 3) table) ≡ take size (drop (at + 3) table)
-    value-is =
-        let z : at + 3 + size - (at + 3) ≡ size = omega arith in
-        cc
-
-    -- the field here spells it
-    pub searching-found : same (take (at + 3 + size - (at + 3)) (drop (at + 3) table)) sought ≡ true
-        → At count ≡ foundIn sought (take most (leading tag (fieldsAt table start)))
-    searching-found q =
-        sym (ap (shifted count) (found-here sought _ _ (rw value-is at q)) ∙ ap At (add-zero count)) ∙ rest-is _ one-left
-
-    -- the field here does not: those behind it are left
-    pub searching-next : same (take (at + 3 + size - (at + 3)) (drop (at + 3) table)) sought ≡ false
-        → Searching table sought tag most start (at + 3 + size) (count + 1)
-    searching-next q =
-        record {
-          small = omega arith;
-          rest =
-              sym
-              (ap (shifted count) (found-later sought _ _ (rw value-is at q))
-              ∙ shifted-twice count (foundIn sought (take (most - (count + 1)) (leading tag (fieldsAt table (at + 3 + size))))))
-              ∙ rest-is _ one-left;
-        }
 
 -- the fields of the tag before `at` are passed
 pub record Passing (table : List ℕ) (tag at : ℕ) : Type 0 where

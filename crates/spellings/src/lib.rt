@@ -46,7 +46,7 @@ pub fn is_digit(b: u8) -> bool
     (48 <= b) & (b <= 57)
 }
 
-pub fn is_word_byte(b: u8) -> bool
+fn is_word_byte(b: u8) -> bool
     ensures { λ r. ⌜ r ≡ isWordByte b ⌝ }
 {
     is_letter(b) | is_digit(b) | (b == 95)
@@ -171,7 +171,7 @@ pub fn value(digits: &[u8]) -> Number
 }
 
 // The number of decimal digits of n.
-pub fn decimal_size(n: u32) -> usize
+fn decimal_size(n: u32) -> usize
     ensures { λ r. ⌜ r ≡ length (decimal n) ⌝ }
 {
     let mut size: usize = 1;
