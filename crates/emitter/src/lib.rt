@@ -4,7 +4,8 @@ use answers::refuse;
 use printer::print_text;
 use resolver::Resolution;
 use resolver::resolve;
-use rows::sizes::size_term;
+use rows::sizes::MOST_BOUND;
+use rows::sizes::size_left;
 ghost use mathlib.Core.Path.{_≡_};
 ghost use Rattle.answers.specs.Refusals.{refusal};
 ghost use Rattle.terms.specs.Rows.{termAt};
@@ -111,11 +112,11 @@ pub fn emit(
         (now (text .entry)) ≡ record { answer = r; text = now (text .exit) }
         ⌝ }
 {
-    let left = size_term(&cells, made, root, 16385);
+    let left = size_left(cells, made, root);
     if left == 0 {
         return refusing(22, made);
     }
-    let size = 16385 - left;
+    let size = MOST_BOUND - left;
     if size <= 256 {
         let mut marks = [0u16; 256];
         let mut room = &mut marks[..size];

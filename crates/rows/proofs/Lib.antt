@@ -1,3 +1,4 @@
 pub mod ListLaws
 pub mod RowLaws
 pub mod SizeLaws
+pub mod BoundLaws

@@ -4,6 +4,7 @@ ghost use Prim.Native.Nat.{_<_};
 ghost use mathlib.Core.Path.{_≡_};
 ghost use Rattle.terms.specs.Cells.{column, columns};
 
+mod bounds;
 pub mod sizes;
 
 // The number in a column of a row; what is not there reads as 0.

@@ -1,11 +1,16 @@
 // The number of constructors of the tree at a row, counted while some are left.
+use crate::bounds::is_too_large;
 use crate::column;
-ghost use Prim.Native.Nat.{_-_};
+ghost use Prim.Native.Nat.{_-_, _≤_};
 ghost use mathlib.Core.Path.{_≡_};
-ghost use Rattle.rows.specs.Sizes.{sizeAt, sizeFieldsAt};
+ghost use Rattle.rows.specs.Sizes.{sizeAt, sizeFieldsAt, WholeRows};
+ghost use Rattle.rows.specs.Bounds.{mostBound};
+
+// One constructor more than a term may have.
+pub const MOST_BOUND: usize = 16385;
 
 // What is left of `left` constructors without those of the term at a row; 0 if it has more. `bound` bounds the tree's depth.
-pub fn size_term(cells: &&[u32], bound: usize, row: u32, left: usize) -> usize
+fn size_term(cells: &&[u32], bound: usize, row: u32, left: usize) -> usize
     ensures { λ r. ⌜ r ≡ left - sizeAt (now (now (cells .entry))) bound row ⌝ }
 {
     if left == 0 {
@@ -47,4 +52,32 @@ fn size_fields(cells: &&[u32], bound: usize, row: u32, left: usize) -> usize
         return size_fields(cells, deep, column(*cells, row, 3), behind);
     }
     rest
+}
+
+// How many constructors are counted before the rows are looked at: as many as rows without shared parts can have, and some more.
+fn first_count(made: usize) -> usize
+    ensures { λ r. ⌜ r ≤ mostBound ⌝ }
+{
+    if made < 8000 {
+        2 * made + 64
+    } else {
+        MOST_BOUND
+    }
+}
+
+// What is left of one constructor more than a term may have. A term that goes on behind the first count has shared parts; a pass over the
+// rows then tells if it is too large, so that a few rows are not walked thousands of times.
+pub fn size_left(cells: &[u32], made: usize, root: u32) -> usize
+    requires { ⌜ WholeRows (now cells) ⌝ }
+    ensures { λ r. ⌜ r ≡ mostBound - sizeAt (now (cells .entry)) made root ⌝ }
+{
+    let count = first_count(made);
+    let left = size_term(&cells, made, root, count);
+    if 0 < left {
+        return left + (MOST_BOUND - count);
+    }
+    if is_too_large(cells, made, root) {
+        return 0;
+    }
+    size_term(&cells, made, root, MOST_BOUND)
 }

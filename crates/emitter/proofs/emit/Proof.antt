@@ -10,36 +10,36 @@ use Rattle.emitter.proofs.emit.Statement.{statement}
 use Rattle.emitter.proofs.emit.Tie as tie
 
 returns : tie.Need-returns
-returns c = laws.emit-large _ _ _ _ _ (omega (arith, c .before .before .size-term .ensures, c .before .if1 .taken)) (c .refusing .ensures)
+returns c = laws.emit-large _ _ _ _ _ (omega (arith, c .before .before .size-left .ensures, c .before .if1 .taken)) (c .refusing .ensures)
 
 sub-size : tie.Need-sub-size
-sub-size c = omega (arith, c .before .size-term .ensures)
+sub-size c = omega (arith, c .before .size-left .ensures)
 
 slice-aggregate-room : tie.Need-slice-aggregate-room
 slice-aggregate-room c =
-    let counted = c .before .before .before .size-term .ensures in
+    let counted = c .before .before .before .size-left .ensures in
     sym (length-take-le _ _ (omega (arith, length-replicate {A = ℕ} 256 0, counted, c .before .if2 .taken, c .before .before .if1 .left)))
 
 emit-in-requires : tie.Need-emit-in-requires
 emit-in-requires c κs =
     let sized = c .before .before .before .before .before in
     let asked = sized .before .before .before in
-    let entry = asked .before .before .before .before in
-    laws.markable 256 (entry .pre) (sized .size-term .ensures) (c .before .before .before .before .if1 .left)
-    (omega (arith, sized .size-term .ensures, c .before .before .before .if2 .taken, c .before .before .before .before .if1 .left))
+    let entry = asked .before .before .before in
+    laws.markable 256 (entry .pre) (sized .size-left .ensures) (c .before .before .before .before .if1 .left)
+    (omega (arith, sized .size-left .ensures, c .before .before .before .if2 .taken, c .before .before .before .before .if1 .left))
 
 slice-aggregate-room-2 : tie.Need-slice-aggregate-room-2
 slice-aggregate-room-2 c =
-    let counted = c .before .before .before .size-term .ensures in
+    let counted = c .before .before .before .size-left .ensures in
     sym (length-take-le _ _ (omega (arith, length-replicate {A = ℕ} 16384 0, counted, c .before .if2 .left, c .before .before .if1 .left)))
 
 emit-in-requires-2 : tie.Need-emit-in-requires-2
 emit-in-requires-2 c κs =
     let sized = c .before .before .before .before .before in
     let asked = sized .before .before .before in
-    let entry = asked .before .before .before .before in
-    laws.markable 16384 (entry .pre) (sized .size-term .ensures) (c .before .before .before .before .if1 .left)
-    (omega (arith, sized .size-term .ensures, c .before .before .before .if2 .left, c .before .before .before .before .if1 .left))
+    let entry = asked .before .before .before in
+    laws.markable 16384 (entry .pre) (sized .size-left .ensures) (c .before .before .before .before .if1 .left)
+    (omega (arith, sized .size-left .ensures, c .before .before .before .if2 .left, c .before .before .before .before .if1 .left))
 
 -- the function meets its contract
 pub emit-spec : {M : Type 1} → statement M
