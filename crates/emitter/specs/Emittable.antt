@@ -9,6 +9,7 @@ use Rattle.answers.specs.declared.Answer.{Answer}
 use Rattle.answers.specs.declared.Answer.the-variants.{Accepted, Refusing}
 use Rattle.answers.specs.Refusals.{refusal}
 use Rattle.grammar.specs.Lookup.{lexiconOf}
+use Rattle.tokens.specs.Tokens.{mostTokens}
 use Rattle.terms.specs.Rows.{termAt}
 use Rattle.terms.specs.Names.{Distinct, WellNamed}
 use Rattle.rows.specs.Sizes.{WholeRows, sizeAt}
@@ -17,7 +18,7 @@ use Rattle.terms.specs.Term.{largestTerm}
 
 -- Words and outside names as a scan of a passed table gives them, and the term of the rows that an expansion made.
 pub record Emittable (table formula words : List ℕ) (count : ℕ) (cells : List ℕ) (made root : ℕ) : Type 0 where
-  pub few : count ≤ 4096
+  pub few : count ≤ mostTokens
   pub lie : count * 2 ≤ length words
   pub outsidesFit : (m : ℕ) → length (oneOf (lexiconOf table .outsides) m) < 32
   pub wordsFit : (j : ℕ) → j < count → length (spanned formula words j) < 32

@@ -3,6 +3,7 @@ use Prim.Native.Nat.{ℕ, _+_, _*_, _^_, _<_, _≤_}
 use mathlib.Core.Path.{_≡_}
 use mathlib.Core.List.{List, []}
 use lib.ListN.{length}
+use Rattle.tokens.specs.Tokens.{mostTokens}
 use Rattle.spellings.specs.Buffers.{writtenInto}
 use Rattle.grammar.specs.Lookup.{lexiconOf}
 use Rattle.terms.specs.Rows.{termAt, fieldListAt}
@@ -51,7 +52,7 @@ pub record Prints (out text text′ : List ℕ) (r : ℕ) : Type 0 where
 
 -- what printing asks: few words, spellings that fit the room, and a number for each constructor of the term, not too many
 pub record Printable (table formula words : List ℕ) (count : ℕ) (cells : List ℕ) (made root : ℕ) (numbers : List ℕ) : Type 0 where
-  pub few : count ≤ 4096
+  pub few : count ≤ mostTokens
   pub lie : count * 2 ≤ length words
   pub outsidesFit : (m : ℕ) → length (oneOf (lexiconOf table .outsides) m) < 32
   pub wordsFit : (j : ℕ) → j < count → length (spanned formula words j) < 32

@@ -5,6 +5,7 @@ use mathlib.Core.Path.{_≡_}
 use mathlib.Core.Bool.{true}
 use mathlib.Core.List.{List, [], _∷_, _++_}
 use lib.ListN.{length, drop}
+use Rattle.grammar.specs.Limits.{most}
 use Rattle.grammar.specs.Fields.{next}
 use Rattle.grammar.specs.Lookup.{fieldsAt}
 use Rattle.decoding.specs.Prefix.{templatesOf, isTemplates}
@@ -30,7 +31,7 @@ body callee bs at I M s cells =
 
 -- a table, or the value of one of its fields, is small, and the stack is as long
 pub record Small (v stack : List ℕ) : Type 0 where
-  pub few : length v ≤ 16384
+  pub few : length v ≤ most .bytes
   pub stack-long : length v ≤ length stack
 
 -- the tokens fit, and so do the counters
@@ -62,10 +63,10 @@ pub record MayFinish (bs : List ℕ) (at : ℕ) (stack : List ℕ) : Type 0 wher
 -- Each item moves the token index or the counter of fresh names by one at most, and each of the calls left has fewer items than a
 -- table has bytes: what is used and what may still be used together never grow.
 abbrev pub weight : State → ℕ
-weight s = s .at + s .fresh + 16384 * (mostCalls - s .calls)
+weight s = s .at + s .fresh + most .bytes * (mostCalls - s .calls)
 
 abbrev pub mostWeight : ℕ
-mostWeight = 16384 * mostCalls + 1
+mostWeight = most .bytes * mostCalls + 1
 
 -- a result moves no counter but that of the cells
 abbrev pub Stays : State → Outcome → Type 0

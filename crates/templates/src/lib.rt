@@ -10,6 +10,7 @@ ghost use mathlib.Core.Path.{_≡_};
 ghost use mathlib.Core.List.{List, [], _∷_, _++_};
 ghost use lib.ListN.{length, getD, take, drop};
 ghost use lib.Seq.{sets};
+ghost use Rattle.grammar.specs.Limits.{most};
 ghost use Rattle.grammar.specs.Table.{Template};
 ghost use Rattle.terms.specs.Cells.{columns, withRow, mostCells, rowsLent};
 ghost use Rattle.decoding.specs.Prefix.{nameBy, templatesOf, isTemplates, found};
@@ -106,7 +107,7 @@ fn head_at(v: &[u8], at: usize, env: &[u32; 16], k: usize) -> Head
 
 // An open constructor in one number: its code, and where the one around it has its first argument.
 fn opening(code: u8, around: usize) -> u32
-    requires { ⌜ around ≤ 16384 ⌝ }
+    requires { ⌜ around ≤ most .bytes ⌝ }
     ensures { λ r. ⌜ r ≡ code + 256 * around ⌝ }
 {
     code as u32 + 256 * around as u32

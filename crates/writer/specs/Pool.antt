@@ -7,6 +7,7 @@ use mathlib.Core.List.{List, []}
 use lib.Dec.{ltb}
 use lib.ListN.{length, getD, take, drop}
 use Rattle.grammar.specs.Lookup.{lexiconOf}
+use Rattle.tokens.specs.Tokens.{mostTokens}
 use Rattle.writer.specs.Openings.{spellIn}
 
 -- the word whose offset and length are the i-th two numbers of a room
@@ -45,7 +46,7 @@ spelledBy table formula words count = filledTo (lexiconOf table .outsides) formu
 -- what filling a room asks: room for all spellings, none in it, each shorter than 32 bytes, and the words' places
 pub record Fillable (table formula words : List ℕ) (count : ℕ) (pool : List ℕ) : Type 0 where
   pub room : 2048 + count * 32 ≤ length pool
-  pub few : count ≤ 4096
+  pub few : count ≤ mostTokens
   pub lie : count * 2 ≤ length words
   pub none : Pooled pool noneOf
   pub outsidesFit : (m : ℕ) → length (oneOf (lexiconOf table .outsides) m) < 32
