@@ -26,11 +26,24 @@ pub arity-at : (code : ℕ) → getD arities (code - 32) 0 ≡ arity code
 unfolding constructorSignatures constructor
 arity-at code = List·getD-map (λ (s : Signature). length (s .params)) constructorSignatures (code - 32) (gives [] unit)
 
--- a code below the constructors counts as the first of them
-pub arity-low : (code : ℕ) → code < 32 → 1 ≡ arity code
-arity-low code h =
-    let z : code - 32 ≡ 0 = omega arith in
-    cc (arity-at code)
+-- the arity of a code that is known
+pub arity-is : {code : ℕ} (known : ℕ) → code ≡ known → getD arities (known - 32) 0 ≡ arity code
+arity-is {code} known e = cc (arity-at code)
+
+-- the other codes up to the last constructor's have one argument, those below the constructors as the first of them
+pub arity-one : (code : ℕ) → code < 40 → (code ≡ 33 → ⊥) → (code ≡ 34 → ⊥) → (code ≡ 36 → ⊥) → (code ≡ 37 → ⊥) → (code ≡ 38 → ⊥) → 1 ≡ arity code
+arity-one code small not-33 not-34 not-36 not-37 not-38 = by (code - 32) refl ∙ arity-at code
+  where
+    by : (place : ℕ) → place ≡ code - 32 → 1 ≡ getD arities (code - 32) 0
+    by zero e = rw (← e) refl
+    by (suc zero) e = absurd (not-33 (omega arith))
+    by (suc (suc zero)) e = absurd (not-34 (omega arith))
+    by (suc (suc (suc zero))) e = rw (← e) refl
+    by (suc (suc (suc (suc zero)))) e = absurd (not-36 (omega arith))
+    by (suc (suc (suc (suc (suc zero))))) e = absurd (not-37 (omega arith))
+    by (suc (suc (suc (suc (suc (suc zero)))))) e = absurd (not-38 (omega arith))
+    by (suc (suc (suc (suc (suc (suc (suc zero))))))) e = rw (← e) refl
+    by (suc (suc (suc (suc (suc (suc (suc (suc place)))))))) e = absurd (omega arith)
 
 -- a code above them has no argument
 pub arity-high : (code : ℕ) → 8 ≤ code - 32 → 0 ≡ arity code

@@ -24,16 +24,16 @@ pub fn part(s: &[u8], at: usize, n: usize) -> &[u8]
     &s[at..end]
 }
 
-// How many arguments the constructors take, in the order of their codes, from hex 20.
-const ARITIES: [usize; 8] = [1, 2, 2, 1, 2, 0, 3, 1];
-
-// How many arguments the constructor with a code takes.
+// How many arguments the constructor with a code takes: a code below hex 20 counts as hex 20, and one above hex 27 takes none.
 pub fn arity_of(code: u8) -> usize
     ensures { λ r. ⌜ r ≡ arity code ⌝ }
 {
-    if code < 32 {
-        return 1;
+    match code {
+        33 => 2,
+        34 => 2,
+        36 => 2,
+        37 => 0,
+        38 => 3,
+        _ => if code < 40 { 1 } else { 0 },
     }
-    let k = (code - 32) as usize;
-    if k < 8 { ARITIES[k] } else { 0 }
 }
