@@ -12,7 +12,7 @@ use Rattle.expansion.specs.Expansion.{Input, runCall}
 use Rattle.terms.specs.Cells.{rowsLent}
 use Rattle.choices.specs.Chosen.{Remembers}
 use Rattle.steps.specs.Steps.{body, weight, mostWeight}
-use Rattle.frames.specs.Frames.{frameSize, shortFrames, mostWaiting, Standing}
+use Rattle.frames.specs.Frames.{frameSize, mostWaiting, Standing}
 use Rattle.turns.specs.declared.Resumption.{Resumption}
 use Rattle.expander.specs.Lent.{lentInput, Lent}
 
@@ -44,7 +44,7 @@ pub record MayGo (bs room memory tokens : List ℕ) (n : ℕ) (cells stack frame
   pub stands : MayStand bs room memory tokens n cells stack frames from
   pub next-fits : (from .level + 2) * frameSize ≤ length frames
 
--- the same, in a short room that may have none
-pub record MayGoOn (bs room memory tokens : List ℕ) (n : ℕ) (cells stack frames : List ℕ) (from : Resumption) : Type 0 where
+-- the same, in a room of at most so many numbers, which may have none
+pub record MayGoOn (most : ℕ) (bs room memory tokens : List ℕ) (n : ℕ) (cells stack frames : List ℕ) (from : Resumption) : Type 0 where
   pub stands : MayStand bs room memory tokens n cells stack frames from
-  pub frames-short : length frames ≡ shortFrames
+  pub frames-short : length frames ≤ most

@@ -27,7 +27,7 @@ ghost use Rattle.expansion.specs.Outcomes.{ran};
 ghost use Rattle.expansion.specs.Expansion.{Input, ended, run};
 ghost use Rattle.terms.specs.Cells.{rowsLent};
 ghost use Rattle.choices.specs.Chosen.{Remembers};
-ghost use Rattle.frames.specs.Frames.{Standing};
+ghost use Rattle.frames.specs.Frames.{shortFrames, middleFrames, Standing};
 ghost use Rattle.expander.specs.Lent.{lentInput, Lent};
 ghost use Rattle.turns.specs.Turns.{Goes};
 ghost use Rattle.expander.specs.Calls.{rootItems, MayBeginRoot, MayGo, MayGoOn};
@@ -95,7 +95,7 @@ fn items(
     }
 }
 
-// The same, from a short room on, in a room for all the calls that may be open: there it does not pause.
+// The same, from a shorter room on, in a room for all the calls that may be open: there it does not pause.
 fn deep_items(
     table: &[u8],
     room: &[u64; 641],
@@ -104,10 +104,10 @@ fn deep_items(
     n: usize,
     cells: &mut [u32],
     stack: &mut [u32],
-    short: &[u32; 576],
+    short: &[u32],
     from: Resumption,
 ) -> Outcome
-    requires { ⌜ MayGoOn (now table) (now room) (now memory) (now tokens) n (now cells) (now stack) (now short) from ⌝ }
+    requires { ⌜ MayGoOn middleFrames (now table) (now room) (now memory) (now tokens) n (now cells) (now stack) (now short) from ⌝ }
     ensures { λ r. ⌜ ((R : Result ℕ) → Standing (lentInput (now (table .entry)) (now (tokens .entry)) n (rowsLent (length (now (cells .entry))))) (now
         (table .entry)) (now (short .entry)) (from .level) (from .state) (now (cells .entry)) R → ran r (now (cells .exit)) ≡ R) ⌝ }
 {
@@ -127,6 +127,66 @@ fn deep_items(
     match progress {
         Advance::Ended(o) => o,
         Advance::Paused(_) => Outcome::Halted(refuse(19, 0, 0, 0)),
+    }
+}
+
+// The same, from a short room on, in a room for 128 calls: most formulas that nest deeply fit there, and it is zeroed at less cost.
+fn middle_items(
+    table: &[u8],
+    room: &[u64; 641],
+    memory: &mut [u8; 4160],
+    tokens: &[u32],
+    n: usize,
+    cells: &mut [u32],
+    stack: &mut [u32],
+    short: &[u32],
+    from: Resumption,
+) -> Outcome
+    requires { ⌜ MayGoOn shortFrames (now table) (now room) (now memory) (now tokens) n (now cells) (now stack) (now short) from ⌝ }
+    ensures { λ r. ⌜ ((R : Result ℕ) → Standing (lentInput (now (table .entry)) (now (tokens .entry)) n (rowsLent (length (now (cells .entry))))) (now
+        (table .entry)) (now (short .entry)) (from .level) (from .state) (now (cells .entry)) R → ran r (now (cells .exit)) ≡ R) ⌝ }
+{
+    let mut frames = [0u32; 2304];
+    copy(&mut frames, short);
+    let progress = items(
+        table,
+        room,
+        memory,
+        tokens,
+        n,
+        cells,
+        stack,
+        &mut frames,
+        from,
+    );
+    match progress {
+        Advance::Ended(o) => o,
+        Advance::Paused(r) => {
+            deep_items(table, room, memory, tokens, n, cells, stack, &frames, r)
+        }
+    }
+}
+
+// The same, from a short room on: a formula of many tokens that does not fit there needs the long room most often.
+fn longer_items(
+    table: &[u8],
+    room: &[u64; 641],
+    memory: &mut [u8; 4160],
+    tokens: &[u32],
+    n: usize,
+    cells: &mut [u32],
+    stack: &mut [u32],
+    short: &[u32],
+    from: Resumption,
+) -> Outcome
+    requires { ⌜ MayGoOn shortFrames (now table) (now room) (now memory) (now tokens) n (now cells) (now stack) (now short) from ⌝ }
+    ensures { λ r. ⌜ ((R : Result ℕ) → Standing (lentInput (now (table .entry)) (now (tokens .entry)) n (rowsLent (length (now (cells .entry))))) (now
+        (table .entry)) (now (short .entry)) (from .level) (from .state) (now (cells .entry)) R → ran r (now (cells .exit)) ≡ R) ⌝ }
+{
+    if n < 256 {
+        middle_items(table, room, memory, tokens, n, cells, stack, short, from)
+    } else {
+        deep_items(table, room, memory, tokens, n, cells, stack, short, from)
     }
 }
 
@@ -164,7 +224,7 @@ fn root_items(
     match progress {
         Advance::Ended(o) => o,
         Advance::Paused(r) => {
-            deep_items(table, room, memory, tokens, n, cells, stack, &frames, r)
+            longer_items(table, room, memory, tokens, n, cells, stack, &frames, r)
         }
     }
 }

@@ -14,7 +14,7 @@ use Rattle.expansion.specs.declared.State.{State}
 use Rattle.expansion.specs.Run.{Result, halt}
 use Rattle.expansion.specs.Expansion.{Input}
 use Rattle.templates.specs.Built.{Holds}
-use Rattle.frames.specs.Frames.{frameSize, shortFrames, LevelFits, Saved, Loaded, Frame, resume, Waits, Stacked, stacked-none, stacked-one}
+use Rattle.frames.specs.Frames.{frameSize, LevelFits, Saved, Loaded, Frame, resume, Waits, Stacked, stacked-none, stacked-one}
 use Rattle.frames.specs.Frames.{Standing}
 
 -- ------------------------------------------------------------------ 16 variables, copied one by one
@@ -197,12 +197,12 @@ pub record Copying (short old frames : List ℕ) (done : ℕ) : Type 0 where
   -- the longer room keeps its length
   pub long : length frames ≡ length old
   -- no more is copied than there is
-  pub small : done ≤ shortFrames
+  pub small : done ≤ length short
   -- the first `done` numbers are copied
   pub values : (place : ℕ) → place < done → getD frames place 0 ≡ getD short place 0
 
 -- One more number is copied.
-pub copying-next : {short old frames : List ℕ} {done : ℕ} → Copying short old frames done → done < shortFrames → shortFrames ≤ length old
+pub copying-next : {short old frames : List ℕ} {done : ℕ} → Copying short old frames done → done < length short → length short ≤ length old
     → Copying short old (set frames done (getD short done 0)) (done + 1)
 copying-next {short} {old} {frames} {done} c h fits =
     record {

@@ -15,9 +15,12 @@ use Rattle.steps.specs.Steps.{body, weight, mostWeight}
 abbrev pub frameSize : ℕ
 frameSize = 18
 
--- the numbers of a short room, for 32 calls, and of a long one, for all that may be open
+-- the numbers of a short room, for 32 calls, of a middle one, for 128, and of a long one, for all that may be open
 abbrev pub shortFrames : ℕ
 shortFrames = 576
+
+abbrev pub middleFrames : ℕ
+middleFrames = 2304
 
 abbrev pub longFrames : ℕ
 longFrames = 18450

@@ -3,7 +3,7 @@ use spellings::wide_number;
 ghost use Prim.Native.Nat.{ℕ, _+_, _*_, _^_, _≤_, _<_};
 ghost use mathlib.Core.Path.{_≡_};
 ghost use lib.ListN.{length, getD};
-ghost use Rattle.frames.specs.Frames.{frameSize, shortFrames, LevelFits, Saved, Loaded};
+ghost use Rattle.frames.specs.Frames.{frameSize, LevelFits, Saved, Loaded};
 
 // The numbers of a frame.
 pub const FRAME: usize = 18;
@@ -55,13 +55,13 @@ pub fn next_of(frames: &[u32], level: usize) -> usize
     wide_number(frames[level * FRAME + 17])
 }
 
-// The frames of a short room at the front of a long one.
-pub fn copy(frames: &mut [u32], short: &[u32; 576])
-    requires { ⌜ shortFrames ≤ length (now frames) ⌝ }
-    ensures { λ r. ⌜ ((i : ℕ) → i < shortFrames → getD (now (frames .exit)) i 0 ≡ getD (now (short .entry)) i 0) ⌝ }
+// The frames of a room at the front of one that is no shorter.
+pub fn copy(frames: &mut [u32], short: &[u32])
+    requires { ⌜ length (now short) ≤ length (now frames) ⌝ }
+    ensures { λ r. ⌜ ((i : ℕ) → i < length (now (short .entry)) → getD (now (frames .exit)) i 0 ≡ getD (now (short .entry)) i 0) ⌝ }
 {
     let mut i: usize = 0;
-    while i < 576 {
+    while i < short.len() {
         frames[i] = short[i];
         i += 1;
     }

@@ -2,6 +2,7 @@
 use Prim.Native.Nat.{_-_}
 use mathlib.Core.Path.{refl}
 use native.Mathlib.Omega.{arith}
+use lib.ListN.{length}
 use borrow.Author.Needs.{needs}
 use Rattle.frames.proofs.FrameLaws as laws
 use Rattle.frames.proofs.copy.Statement.{statement}
@@ -11,7 +12,7 @@ abbrev Inv-loop : tie.InvT-loop
 Inv-loop frames₀ short i₀ frames i = laws.Copying short frames₀ frames i
 
 abbrev μ-loop : tie.MeasureT-loop
-μ-loop frames₀ short i₀ frames i = 576 - i
+μ-loop frames₀ short i₀ frames i = length short - i
 
 loop-holds : tie.Need-loop-holds Inv-loop μ-loop
 loop-holds c = record { long = refl; small = omega arith; values = λ j l. absurd (omega arith) }

@@ -18,8 +18,11 @@ use Rattle.expander.proofs.calls.deep_items.Tie as tie
 
 -- after the copy
 module _ (point : tie.After-copy) where
+  abbrev known : tie.After-shared-slice-known
+  known = point .before .before .before .before .before .before
+
   abbrev entry : tie.Start
-  entry = point .before .before .before .before .before .before
+  entry = known .before
 
   abbrev input : Input
   input = lentInput (entry .args .table .now) (entry .args .tokens .now) (entry .args .n) (rowsLent (length (entry .args .cells .now)))
@@ -33,7 +36,7 @@ module _ (point : tie.After-copy) where
   copied : {result : Result ℕ} → Stands (entry .args .short .now) result → Stands (point .copy .last .0) result
   copied s =
       standing-same (record { few = s .fits .few; inside = omega (arith, long, s .fits .few) })
-      (λ i l. point .copy .ensures i (omega (arith, entry .pre .frames-short, s .fits .inside))) s
+      (λ i l. point .copy .ensures i (omega (arith, s .fits .inside))) s
 
 -- after the items
 module _ (point : tie.After-items) where

@@ -1,4 +1,4 @@
--- `root_items`: the root's alternative stands at the lowest level of a short room; where it pauses it goes on in a long one.
+-- `root_items`: the root's alternative stands at the lowest level of a short room; where it pauses it goes on in a longer one.
 use Prim.Native.Nat.{ℕ}
 use mathlib.Core.Path.{_≡_, sym, ap, _∙_}
 use mathlib.Core.List.{List}
@@ -72,8 +72,8 @@ items-requires c κs =
       next-fits = omega (arith, long p);
     }
 
-deep-items-requires : tie.Need-deep-items-requires
-deep-items-requires c κs =
+longer-items-requires : tie.Need-longer-items-requires
+longer-items-requires c κs =
     let progress-place = c .before .before .before .before .before in
     let match-place = progress-place .before in
     let q = match-place .before .before .before .before .before .before in
@@ -91,7 +91,7 @@ deep-items-requires c κs =
             result = result (q-save q);
             standing = paused q (progress-place .progress2 .given .1);
           };
-      frames-short = (let from-3 = q .items .kept .1 .1 .1 in let from-6 = from-3 .1 .1 .1 in from-6 .1 .0) ∙ long (q-save q);
+      frames-short = omega (arith, (let from-3 = q .items .kept .1 .1 .1 in let from-6 = from-3 .1 .1 .1 in from-6 .1 .0), long (q-save q));
     }
 
 returns : tie.Need-returns
@@ -102,11 +102,11 @@ returns c =
 
 returns-2 : tie.Need-returns-2
 returns-2 c =
-    let deep-place = c .before .before .before .before in
-    let progress-place = deep-place .before .before .before .before .before .before in
+    let longer-place = c .before .before .before .before in
+    let progress-place = longer-place .before .before .before .before .before .before in
     let match-place = progress-place .before in
     let q = match-place .before .before .before .before .before .before in
-    deep-place .deep-items .ensures (result (q-save q)) (paused q (progress-place .progress2 .given .1))
+    longer-place .longer-items .ensures (result (q-save q)) (paused q (progress-place .progress2 .given .1))
 
 -- the function meets its contract
 pub root-items-spec : {M : Type 1} → statement M
@@ -119,7 +119,8 @@ root-items-spec =
     items-requires
     (λ c. search needs)
     (λ c. search needs)
-    deep-items-requires
+    (λ c. search needs)
+    longer-items-requires
     (λ c. search needs)
     (λ c. search needs)
     returns
