@@ -1,10 +1,10 @@
 -- A text has at most 46 bytes a constructor.
 use Prim.Native.Nat.{ℕ, zero, suc, _+_, _*_, _/_, _%_, _<_, _≤_}
 use mathlib.Core.Bool.{Bool, true, false}
-use mathlib.Core.List.{List}
+use mathlib.Core.List.{List, []}
 use native.Mathlib.Omega.{arith}
 use lib.Dec.{eqb}
-use lib.ListN.{length, getD, drop, length-take}
+use lib.ListN.{length, getD, drop, length-take, length-append}
 use borrow.Author.Tests.{eqb-true, eqb-false}
 use Rattle.spellings.proofs.BytesLaws.{by-test}
 use Rattle.spellings.proofs.DecimalLaws.{decimal-bound}
@@ -13,6 +13,7 @@ use Rattle.terms.specs.Term.{Name, Term, Fields, size, sizeFields}
 use Rattle.terms.specs.Rows.{nameOf, Constructor, varRow, funRow, appRow, rcdRow, dotRow, nilRow, consRow, numRow}
 use Rattle.terms.specs.Rows.{constructorOf, termBy, isCons, fieldsBy, termAt, fieldListAt}
 use Rattle.terms.specs.Rename.{newName, written}
+use Rattle.terms.specs.Print.{print}
 use Rattle.terms.specs.TextSize.{textSize, textSizeFields}
 use Rattle.terms.specs.Labelled.{nameShown, labelled, labelledFields}
 use Rattle.writer.specs.Openings.{spellIn}
@@ -92,21 +93,22 @@ spelling-short pool h number = omega (arith, h number, length-take (getD pool (n
 module _ {pool cells numbers : List ℕ} {made root : ℕ} (printable-by : PrintableBy pool cells made root numbers)
     (wide : (place : ℕ) → getD cells place 0 < 4294967296) (few : (place : ℕ) → getD numbers place 0 < 65536) where
   -- the text of a term has at most 46 bytes for each number
-  text-short : length (partText pool cells numbers (termPart made root) 0) ≤ length numbers * 46
+  text-short : length (partText pool cells numbers (termPart made root 0) 0) ≤ length numbers * 46
   unfolding partText
   text-short =
       omega (
         arith,
         size-spell made noSpell (spellIn pool) cells root,
         text-length (labelled numbers 0 (termAt made (spellIn pool) cells root)),
+        length-append (print (labelled numbers 0 (termAt made (spellIn pool) cells root))) [],
         short-text (spellIn pool) cells numbers (spelling-short pool (printable-by .short)) few wide made root 0,
         printable-by .marked,
       )
 
   -- it fits where so many bytes are lent
-  pub text-within : {room : ℕ} → length numbers * 46 ≤ room → length (partText pool cells numbers (termPart made root) 0) ≤ room
+  pub text-within : {room : ℕ} → length numbers * 46 ≤ room → length (partText pool cells numbers (termPart made root 0) 0) ≤ room
   text-within l = omega (arith, text-short)
 
   -- the text of a term that is not too large is not too long
-  pub text-fits : PartFits pool cells numbers (termPart made root) 0 0
+  pub text-fits : PartFits pool cells numbers (termPart made root 0) 0 0
   text-fits = record { room = omega (arith, text-short, printable-by .small); inside = omega (arith, printable-by .marked); few = printable-by .small }

@@ -1,7 +1,7 @@
 -- The text of a term and of a field list: what it begins with, then its parts.
 use Prim.Native.Nat.{ℕ, suc, _+_, _≤_}
 use mathlib.Core.Path.{_≡_, refl, sym, ap}
-use mathlib.Core.List.{List, [], _∷_, _++_, append-assoc}
+use mathlib.Core.List.{List, [], _∷_, _++_, append-assoc, append-nil}
 use native.Mathlib.Omega.{arith}
 use lib.ListN.{length, length-append}
 use Rattle.spellings.specs.Bytes.{bytes}
@@ -85,6 +85,35 @@ print-cons label term fields =
 pub print-nil : fieldsPrint nil ≡ openingFields {N = List ℕ} nil ++ 0x29 ∷ []
 unfolding bytes openingFields treeOfFields showThen argumentsThen othersThen
 print-nil = refl
+
+-- ------------------------------------------------------------------ and bytes behind it
+
+module _ (s : List ℕ) where
+  -- a function's text and s: the parenthesis goes with what is behind its body
+  pub fun-then : (x : List ℕ) (t : Term (List ℕ)) → print (function x t) ++ s ≡ opening (function x t) ++ ((print t ++ 0x29 ∷ s) ++ [])
+  fun-then x t = rw (print-fun x t) (simp (append-assoc, append-nil))
+
+  -- an application's
+  pub app-then : (t u : Term (List ℕ))
+      → print (apply t u) ++ s ≡ opening (apply t u) ++ ((print t ++ []) ++ (0x20 ∷ [] ++ ((print u ++ 0x29 ∷ s) ++ [])))
+  app-then t u = rw (print-app t u) (simp (append-assoc, append-nil))
+
+  -- a record's
+  pub rcd-then : (f : Fields (List ℕ)) → print (rcd f) ++ s ≡ opening (rcd f) ++ (fieldsPrint f ++ ((0x29 ∷ s) ++ []))
+  rcd-then f = rw (print-rcd f) (simp (append-assoc, append-nil))
+
+  -- a selection's
+  pub dot-then : (t : Term (List ℕ)) (l : List ℕ)
+      → print (dot t l) ++ s ≡ opening (dot t l) ++ ((print t ++ []) ++ (0x20 ∷ [] ++ (l ++ ((0x29 ∷ s) ++ []))))
+  dot-then t l = rw (print-dot t l) (simp (append-assoc, append-nil))
+
+  -- a variable's
+  pub var-then : (x : List ℕ) → print (variable x) ++ s ≡ opening (variable x) ++ ((0x29 ∷ s) ++ [])
+  var-then x = rw (print-var x) (simp (append-assoc, append-nil))
+
+  -- a number's
+  pub num-then : (n : ℕ) → print (number n) ++ s ≡ opening (number n) ++ ((0x29 ∷ s) ++ [])
+  num-then n = rw (print-num n) (simp (append-assoc, append-nil))
 
 -- ------------------------------------------------------------------ the opening is a part
 

@@ -1,7 +1,7 @@
 -- The text of a term by the numbers of new names at its places, as the printing walk has it. Nobody needs this to believe `expand`.
 use Prim.Native.Nat.{ℕ, _+_, _*_, _^_, _<_, _≤_}
 use mathlib.Core.Path.{_≡_}
-use mathlib.Core.List.{List, []}
+use mathlib.Core.List.{List, [], _++_}
 use lib.ListN.{length}
 use Rattle.tokens.specs.Tokens.{mostTokens}
 use Rattle.spellings.specs.Buffers.{writtenInto}
@@ -10,22 +10,22 @@ use Rattle.terms.specs.Rows.{termAt, fieldListAt}
 use Rattle.terms.specs.Print.{print, showThen, treeOfFields}
 use Rattle.terms.specs.Labelled.{labelled, labelledFields}
 use Rattle.rows.specs.Sizes.{sizeAt, sizeFieldsAt}
-use Rattle.writer.specs.Openings.{spellIn, Wrote}
+use Rattle.writer.specs.Openings.{closes, spellIn, Wrote}
 use Rattle.writer.specs.Pool.{oneOf, spanned, ShortSpellings}
 use Rattle.terms.specs.Term.{largestTerm}
 
--- what is printed of a row, by a bound of the depth: its term or its field list
+-- what is printed of a row, by a bound of the depth: its term and so many closing parentheses, or its field list
 pub data Part : Type 0 where
-  termPart : ℕ → ℕ → Part
+  termPart : ℕ → ℕ → ℕ → Part
   fieldsPart : ℕ → ℕ → Part
 
 -- the text of a part, whose place is p
 unfoldable pub partText : List ℕ → List ℕ → List ℕ → Part → ℕ → List ℕ
-partText pool cells numbers (termPart k row) p = print (labelled numbers p (termAt k (spellIn pool) cells row))
+partText pool cells numbers (termPart k row n) p = print (labelled numbers p (termAt k (spellIn pool) cells row)) ++ closes n
 partText pool cells numbers (fieldsPart k row) p = showThen (treeOfFields (labelledFields numbers p (fieldListAt k (spellIn pool) cells row))) []
 
 abbrev pub partSize : List ℕ → Part → ℕ
-partSize cells (termPart k row) = sizeAt cells k row
+partSize cells (termPart k row n) = sizeAt cells k row
 partSize cells (fieldsPart k row) = sizeFieldsAt cells k row
 
 -- a part is not too long, behind `at` bytes, and there is a number for each of its constructors, from a place on

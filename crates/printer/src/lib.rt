@@ -34,8 +34,8 @@ fn narrow_numbers(s: &[u16]) -> u16
 
 // The length of the text of the term at a row: it is printed into nothing.
 fn measure(pool: &[u8], cells: &[u32], shown: &[u16], made: usize, root: u32) -> usize
-    requires { ⌜ PartFits (now pool) (now cells) (now shown) (termPart made root) 0 0 ⌝ }
-    ensures { λ r. ⌜ r ≡ length (partText (now (pool .entry)) (now (cells .entry)) (now (shown .entry)) (termPart made root) 0) ⌝ }
+    requires { ⌜ PartFits (now pool) (now cells) (now shown) (termPart made root 0) 0 0 ⌝ }
+    ensures { λ r. ⌜ r ≡ length (partText (now (pool .entry)) (now (cells .entry)) (now (shown .entry)) (termPart made root 0) 0) ⌝ }
 {
     let mut none = [0u8; 1];
     let mut place: usize = 0;
@@ -60,10 +60,10 @@ fn print_whole(
     root: u32,
     text: &mut [u8],
 ) -> usize
-    requires { ⌜ PartFits (now pool) (now cells) (now shown) (termPart made root) 0 0 ⌝ }
-    requires { ⌜ length (partText (now pool) (now cells) (now shown) (termPart made root) 0) ≤ length (now text) ⌝ }
+    requires { ⌜ PartFits (now pool) (now cells) (now shown) (termPart made root 0) 0 0 ⌝ }
+    requires { ⌜ length (partText (now pool) (now cells) (now shown) (termPart made root 0) 0) ≤ length (now text) ⌝ }
     ensures { λ r. ⌜
-        Prints (partText (now (pool .entry)) (now (cells .entry)) (now (shown .entry)) (termPart made root) 0) (now (text .entry))
+        Prints (partText (now (pool .entry)) (now (cells .entry)) (now (shown .entry)) (termPart made root 0) 0) (now (text .entry))
         (now (text .exit)) r
         ⌝ }
 {
@@ -83,7 +83,7 @@ fn print_into(
 ) -> usize
     requires { ⌜ PrintableBy (now pool) (now cells) made root (now shown) ⌝ }
     ensures { λ r. ⌜
-        Prints (partText (now (pool .entry)) (now (cells .entry)) (now (shown .entry)) (termPart made root) 0) (now (text .entry))
+        Prints (partText (now (pool .entry)) (now (cells .entry)) (now (shown .entry)) (termPart made root 0) 0) (now (text .entry))
         (now (text .exit)) r
         ⌝ }
 {

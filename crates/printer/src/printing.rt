@@ -4,9 +4,12 @@ use writer::openings::label_at;
 use writer::openings::open_fields;
 use writer::openings::open_term;
 use writer::writing::byte_at;
+use writer::writing::close_at;
 ghost use Rattle.printer.specs.Printed.{termPart, fieldsPart, PartFits, PartPrinted};
 
-// The text of the term at a row, behind `at`; the answer is the place behind it. `place` moves on by its constructors.
+// The text of the term at a row, behind `at`; the answer is the place behind it. `place` moves on by its constructors. The loop goes from a
+// constructor to its last part, which takes the parenthesis behind it along: as many as the depth that the loop has gone. Parts before the last
+// are walked by calls.
 pub fn print_term(
     out: &mut [u8],
     at: usize,
@@ -17,48 +20,50 @@ pub fn print_term(
     row: u32,
     place: &mut usize,
 ) -> usize
-    requires { ⌜ PartFits (now (now pool)) (now (now cells)) (now (now shown)) (termPart bound row) at (now place) ⌝ }
+    requires { ⌜ PartFits (now (now pool)) (now (now cells)) (now (now shown)) (termPart bound row 0) at (now place) ⌝ }
     ensures { λ r. ⌜
-        PartPrinted (now (now (pool .entry))) (now (now (cells .entry))) (now (now (shown .entry))) (termPart bound row) at (now (place .entry))
+        PartPrinted (now (now (pool .entry))) (now (now (cells .entry))) (now (now (shown .entry))) (termPart bound row 0) at (now (place .entry))
         (now (out .entry)) r (now (place .exit)) (now (out .exit))
         ⌝ }
 {
-    let here = *place;
-    let code = column(*cells, row, 0);
-    let first = open_term(out, at, pool, cells, *shown, bound, row, here, code);
-    *place = here + 1;
-    if bound == 0 {
-        return byte_at(out, first, b')');
-    }
-    let deep = bound - 1;
-    match code {
-        33 => {
-            let part = column(*cells, row, 2);
-            let end = print_term(out, first, pool, cells, shown, deep, part, place);
-            byte_at(out, end, b')')
+    let mut end = at;
+    let mut deep = bound;
+    let mut part = row;
+    loop {
+        let here = *place;
+        let code = column(*cells, part, 0);
+        let first = open_term(out, end, pool, cells, *shown, deep, part, here, code);
+        *place = here + 1;
+        let closing = bound - deep + 1;
+        if deep == 0 {
+            return close_at(out, first, closing);
         }
-        34 => {
-            let part = column(*cells, row, 1);
-            let behind = print_term(out, first, pool, cells, shown, deep, part, place);
-            let second = byte_at(out, behind, b' ');
-            let last = column(*cells, row, 2);
-            let end = print_term(out, second, pool, cells, shown, deep, last, place);
-            byte_at(out, end, b')')
+        deep -= 1;
+        let inner = column(*cells, part, 1);
+        match code {
+            33 => {
+                end = first;
+                part = column(*cells, part, 2);
+            }
+            34 | 36 => {
+                let behind = print_term(out, first, pool, cells, shown, deep, inner, place);
+                let second = byte_at(out, behind, b' ');
+                let last = column(*cells, part, 2);
+                if column(*cells, part, 0) == 36 {
+                    let label = label_at(out, second, pool, last);
+                    return close_at(out, label, closing);
+                }
+                end = second;
+                part = last;
+            }
+            35 => {
+                let behind = print_fields(out, first, pool, cells, shown, deep, inner, place);
+                return close_at(out, behind, closing);
+            }
+            _ => {
+                return close_at(out, first, closing);
+            }
         }
-        35 => {
-            let part = column(*cells, row, 1);
-            let end = print_fields(out, first, pool, cells, shown, deep, part, place);
-            byte_at(out, end, b')')
-        }
-        36 => {
-            let part = column(*cells, row, 1);
-            let behind = print_term(out, first, pool, cells, shown, deep, part, place);
-            let second = byte_at(out, behind, b' ');
-            let label = column(*cells, row, 2);
-            let end = label_at(out, second, pool, label);
-            byte_at(out, end, b')')
-        }
-        _ => byte_at(out, first, b')'),
     }
 }
 

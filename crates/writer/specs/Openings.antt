@@ -3,7 +3,7 @@
 use Prim.Native.Nat.{ℕ, _+_, _*_, _^_, _<_, _≤_}
 use mathlib.Core.Path.{_≡_}
 use mathlib.Core.List.{List, [], _∷_, _++_}
-use lib.ListN.{length, getD, take, drop}
+use lib.ListN.{length, getD, take, drop, replicate}
 use lib.Seq.{sets}
 use Rattle.spellings.specs.Bytes.{bytes}
 use Rattle.terms.specs.Cells.{column}
@@ -42,6 +42,10 @@ termOpening pool cells numbers k row p = opening (labelled numbers p (termAt k (
 
 unfoldable pub fieldsOpening : List ℕ → List ℕ → ℕ → ℕ → List ℕ
 fieldsOpening pool cells k row = openingFields (fieldListAt k (spellIn pool) cells row)
+
+-- closing parentheses
+abbrev pub closes : ℕ → List ℕ
+closes n = replicate n 0x29
 
 -- Bytes were to be written behind `at` bytes of a buffer: the answer is the place behind them, whether they fit or not; where they
 -- fit, they stand there and nothing else has changed.

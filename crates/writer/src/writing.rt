@@ -7,7 +7,7 @@ ghost use mathlib.Core.Path.{_≡_};
 ghost use mathlib.Core.List.{[], _∷_};
 ghost use lib.ListN.{length};
 ghost use Rattle.spellings.specs.Bytes.{decimal};
-ghost use Rattle.writer.specs.Openings.{Wrote};
+ghost use Rattle.writer.specs.Openings.{closes, Wrote};
 
 // Where the rest of a buffer of `len` bytes begins, behind `at` bytes.
 fn within(at: usize, len: usize) -> usize
@@ -46,4 +46,18 @@ pub fn byte_at(out: &mut [u8], at: usize, b: u8) -> usize
         return at + 1;
     }
     at + 1
+}
+
+// The same of n closing parentheses.
+pub fn close_at(out: &mut [u8], at: usize, n: usize) -> usize
+    requires { ⌜ at + n < 2 ^ 62 ⌝ }
+    ensures { λ r. ⌜ Wrote (now (out .entry)) at (closes n) r (now (out .exit)) ⌝ }
+{
+    let mut end = at;
+    let mut left = n;
+    while 0 < left {
+        end = byte_at(out, end, b')');
+        left -= 1;
+    }
+    end
 }

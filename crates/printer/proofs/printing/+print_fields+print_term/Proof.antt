@@ -1,140 +1,136 @@
--- `print_term` and `print_fields`: what a constructor begins with, then its parts, then the parenthesis. The depth bound falls from a
--- constructor to its parts.
-use Prim.Native.Nat.{ℕ, _<_}
-use mathlib.Core.Path.{refl, _∙_}
+-- `print_term` and `print_fields`: what a constructor begins with, then its parts; the last part takes the parenthesis along. The depth bound
+-- falls from a constructor to its parts.
+use Prim.Native.Nat.{ℕ, _+_, _-_, _<_}
+use mathlib.Core.Path.{refl, sym, _∙_}
+use native.Mathlib.Nat.{sub-self}
 use native.Mathlib.Omega.{arith}
 use borrow.Author.Needs.{needs}
-use Rattle.printer.proofs.PrintLaws as laws
 use borrow.Fn.Kinds.{In}
 use borrow.Fn.PlainCycle.{Measures, is, falls, and}
+use Rattle.printer.specs.Printed.{termPart}
+use Rattle.printer.proofs.PrintLaws as laws
 use Rattle.printer.proofs.printing.print_fields.Reads as print-fields
 use Rattle.printer.proofs.printing.print_fields.Kinds as print-fields-kinds
-use Rattle.printer.proofs.printing.+print_fields+print_term.Lts-print_fields as print-fields-lts
+use Rattle.printer.proofs.printing.+print_fields+print_term.Lts-print_fields as fields-lts
 use Rattle.printer.proofs.printing.print_term.Reads as print-term
 use Rattle.printer.proofs.printing.print_term.Kinds as print-term-kinds
-use Rattle.printer.proofs.printing.+print_fields+print_term.Lts-print_term as print-term-lts
-use Rattle.writer.proofs.writing.byte_at.Reads as byte-at-reads
+use Rattle.printer.proofs.printing.+print_fields+print_term.Lts-print_term as term-lts
+use Rattle.rows.proofs.column.Reads as column-reads
 use Rattle.writer.proofs.openings.label_at.Reads as label-at-reads
 use Rattle.writer.proofs.openings.open_fields.Reads as open-fields-reads
 use Rattle.writer.proofs.openings.open_term.Reads as open-term-reads
-use Rattle.rows.proofs.column.Reads as column-reads
+use Rattle.writer.proofs.writing.byte_at.Reads as byte-at-reads
+use Rattle.writer.proofs.writing.close_at.Reads as close-at-reads
 use Rattle.printer.proofs.printing.+print_fields+print_term.{statement}
 use Rattle.printer.proofs.printing.+print_fields+print_term.Tie.{close}
 
-abbrev μ-print-fields : Measures 8 print-fields-kinds.ps ℕ
-μ-print-fields κs a = let from-cells = a .1 .1 .1 in from-cells .1 .1 .0
+abbrev μ-fields : Measures 8 print-fields-kinds.ps ℕ
+μ-fields κs a = let from-cells = a .1 .1 .1 in from-cells .1 .1 .0
 
-abbrev μ-print-term : Measures 8 print-term-kinds.ps ℕ
-μ-print-term κs a = let from-cells = a .1 .1 .1 in from-cells .1 .1 .0
+abbrev μ-term : Measures 8 print-term-kinds.ps ℕ
+μ-term κs a = let from-cells = a .1 .1 .1 in from-cells .1 .1 .0
 
-abbrev print-fields-at : ℕ → In 8 print-fields-kinds.ps
-print-fields-at t =
-    and 8 print-fields-kinds.ps (is 8 print-fields-kinds.ps μ-print-fields t) print-fields.Pre
+abbrev fields-at : ℕ → In 8 print-fields-kinds.ps
+fields-at t = and 8 print-fields-kinds.ps (is 8 print-fields-kinds.ps μ-fields t) print-fields.Pre
 
-abbrev print-fields-below : ℕ → In 8 print-fields-kinds.ps
-print-fields-below t =
-    and
-    8
-    print-fields-kinds.ps
-    (falls 8 print-fields-kinds.ps _<_ μ-print-fields t)
-    print-fields.Pre
+abbrev fields-below : ℕ → In 8 print-fields-kinds.ps
+fields-below t = and 8 print-fields-kinds.ps (falls 8 print-fields-kinds.ps _<_ μ-fields t) print-fields.Pre
 
-abbrev print-term-at : ℕ → In 8 print-term-kinds.ps
-print-term-at t =
-    and 8 print-term-kinds.ps (is 8 print-term-kinds.ps μ-print-term t) print-term.Pre
+abbrev term-at : ℕ → In 8 print-term-kinds.ps
+term-at t = and 8 print-term-kinds.ps (is 8 print-term-kinds.ps μ-term t) print-term.Pre
 
-abbrev print-term-below : ℕ → In 8 print-term-kinds.ps
-print-term-below t =
-    and 8 print-term-kinds.ps (falls 8 print-term-kinds.ps _<_ μ-print-term t) print-term.Pre
+abbrev term-below : ℕ → In 8 print-term-kinds.ps
+term-below t = and 8 print-term-kinds.ps (falls 8 print-term-kinds.ps _<_ μ-term t) print-term.Pre
 
-abbrev print-fields-claims : ℕ → print-fields-lts.Claims
-print-fields-claims t = (
+-- ------------------------------------------------------------------ field lists
+
+abbrev fields-claims : ℕ → fields-lts.Claims
+fields-claims t = (
   open-fields-reads.Asked,
   open-fields-reads.Learnt,
   byte-at-reads.Asked,
   byte-at-reads.Learnt,
   column-reads.Asked,
   column-reads.Learnt,
-  print-term-below t,
+  term-below t,
   print-term.Post,
-  print-fields-below t,
+  fields-below t,
   print-fields.Post,
 )
 
 -- places, each from a later one
-abbrev else1 : {measure : ℕ} → print-fields-lts.After-column (print-fields-claims measure) (print-fields-at measure) print-fields.Post
-    → print-fields-lts.Else1 (print-fields-claims measure) (print-fields-at measure) print-fields.Post
+abbrev else1 : {measure : ℕ} → fields-lts.After-column (fields-claims measure) (fields-at measure) print-fields.Post
+    → fields-lts.Else1 (fields-claims measure) (fields-at measure) print-fields.Post
 else1 p = p .before .before
 
-abbrev then2 : {measure : ℕ} → print-fields-lts.After-column2 (print-fields-claims measure) (print-fields-at measure) print-fields.Post
-    → print-fields-lts.Then2 (print-fields-claims measure) (print-fields-at measure) print-fields.Post
+abbrev then2 : {measure : ℕ} → fields-lts.After-column2 (fields-claims measure) (fields-at measure) print-fields.Post
+    → fields-lts.Then2 (fields-claims measure) (fields-at measure) print-fields.Post
 then2 p = p .before .before
 
-abbrev after-column3 : {measure : ℕ} → print-fields-lts.After-print-fields-arg2 (print-fields-claims measure) (print-fields-at measure) print-fields.Post
-    → print-fields-lts.After-column3 (print-fields-claims measure) (print-fields-at measure) print-fields.Post
+abbrev after-column3 : {measure : ℕ} → fields-lts.After-print-fields-arg2 (fields-claims measure) (fields-at measure) print-fields.Post
+    → fields-lts.After-column3 (fields-claims measure) (fields-at measure) print-fields.Post
 after-column3 p = p .before .before
 
-abbrev after-print-term : {measure : ℕ} → print-fields-lts.After-byte-at-arg2 (print-fields-claims measure) (print-fields-at measure) print-fields.Post
-    → print-fields-lts.After-print-term (print-fields-claims measure) (print-fields-at measure) print-fields.Post
+abbrev after-print-term : {measure : ℕ} → fields-lts.After-byte-at-arg2 (fields-claims measure) (fields-at measure) print-fields.Post
+    → fields-lts.After-print-term (fields-claims measure) (fields-at measure) print-fields.Post
 after-print-term p = p .before .before .before
 
-abbrev after-print-fields : {measure : ℕ} → print-fields-lts.After-byte-at-arg3 (print-fields-claims measure) (print-fields-at measure) print-fields.Post
-    → print-fields-lts.After-print-fields (print-fields-claims measure) (print-fields-at measure) print-fields.Post
+abbrev after-print-fields : {measure : ℕ} → fields-lts.After-byte-at-arg3 (fields-claims measure) (fields-at measure) print-fields.Post
+    → fields-lts.After-print-fields (fields-claims measure) (fields-at measure) print-fields.Post
 after-print-fields p = p .before .before .before
 
-abbrev after-column : {measure : ℕ} → print-fields-lts.After-column2 (print-fields-claims measure) (print-fields-at measure) print-fields.Post
-    → print-fields-lts.After-column (print-fields-claims measure) (print-fields-at measure) print-fields.Post
+abbrev after-column : {measure : ℕ} → fields-lts.After-column2 (fields-claims measure) (fields-at measure) print-fields.Post
+    → fields-lts.After-column (fields-claims measure) (fields-at measure) print-fields.Post
 after-column p = (then2 p) .before
 
-abbrev after-column2 : {measure : ℕ} → print-fields-lts.After-print-term (print-fields-claims measure) (print-fields-at measure) print-fields.Post
-    → print-fields-lts.After-column2 (print-fields-claims measure) (print-fields-at measure) print-fields.Post
+abbrev after-column2 : {measure : ℕ} → fields-lts.After-print-term (fields-claims measure) (fields-at measure) print-fields.Post
+    → fields-lts.After-column2 (fields-claims measure) (fields-at measure) print-fields.Post
 after-column2 p = p .before .before .before
 
-abbrev after-open-fields′ : {measure : ℕ} → print-fields-lts.Then1 (print-fields-claims measure) (print-fields-at measure) print-fields.Post
-    → print-fields-lts.After-open-fields (print-fields-claims measure) (print-fields-at measure) print-fields.Post
+abbrev after-open-fields′ : {measure : ℕ} → fields-lts.Then1 (fields-claims measure) (fields-at measure) print-fields.Post
+    → fields-lts.After-open-fields (fields-claims measure) (fields-at measure) print-fields.Post
 after-open-fields′ p = p .before .before .before
 
-abbrev after-print-term′ : {measure : ℕ} → print-fields-lts.After-byte-at2 (print-fields-claims measure) (print-fields-at measure) print-fields.Post
-    → print-fields-lts.After-print-term (print-fields-claims measure) (print-fields-at measure) print-fields.Post
+abbrev after-print-term′ : {measure : ℕ} → fields-lts.After-byte-at2 (fields-claims measure) (fields-at measure) print-fields.Post
+    → fields-lts.After-print-term (fields-claims measure) (fields-at measure) print-fields.Post
 after-print-term′ p = after-print-term (p .before)
 
-abbrev after-byte-at2 : {measure : ℕ} → print-fields-lts.After-column3 (print-fields-claims measure) (print-fields-at measure) print-fields.Post
-    → print-fields-lts.After-byte-at2 (print-fields-claims measure) (print-fields-at measure) print-fields.Post
+abbrev after-byte-at2 : {measure : ℕ} → fields-lts.After-column3 (fields-claims measure) (fields-at measure) print-fields.Post
+    → fields-lts.After-byte-at2 (fields-claims measure) (fields-at measure) print-fields.Post
 after-byte-at2 p = p .before .before .before .before
 
-abbrev at-start : {measure : ℕ} → print-fields-lts.After-open-fields (print-fields-claims measure) (print-fields-at measure) print-fields.Post
-    → print-fields-lts.Start (print-fields-claims measure) (print-fields-at measure) print-fields.Post
+abbrev at-start : {measure : ℕ} → fields-lts.After-open-fields (fields-claims measure) (fields-at measure) print-fields.Post
+    → fields-lts.Start (fields-claims measure) (fields-at measure) print-fields.Post
 at-start p = p .before .before .before .before
 
-abbrev after-open-fields : {measure : ℕ} → print-fields-lts.After-column (print-fields-claims measure) (print-fields-at measure) print-fields.Post
-    → print-fields-lts.After-open-fields (print-fields-claims measure) (print-fields-at measure) print-fields.Post
+abbrev after-open-fields : {measure : ℕ} → fields-lts.After-column (fields-claims measure) (fields-at measure) print-fields.Post
+    → fields-lts.After-open-fields (fields-claims measure) (fields-at measure) print-fields.Post
 after-open-fields p = (else1 p) .before .before .before
 
-print-fields-open-fields-requires : (measure : ℕ)
-    → print-fields-lts.Need-open-fields-requires (print-fields-claims measure) (print-fields-at measure) print-fields.Post
-print-fields-open-fields-requires measure c κs = laws.fields-opening-fits (c .before .before .before .pre .1)
+fields-open-fields-requires : (measure : ℕ) → fields-lts.Need-open-fields-requires (fields-claims measure) (fields-at measure) print-fields.Post
+fields-open-fields-requires t c κs = laws.fields-opening-fits (c .before .before .before .pre .1)
 
-print-fields-add-place : (measure : ℕ) → print-fields-lts.Need-add-place (print-fields-claims measure) (print-fields-at measure) print-fields.Post
-print-fields-add-place measure c =
+fields-add-place : (measure : ℕ) → fields-lts.Need-add-place (fields-claims measure) (fields-at measure) print-fields.Post
+fields-add-place t c =
     let entry = at-start (c .before .before) in
     omega (arith, laws.fields-inside (entry .pre .1))
 
-print-fields-byte-at-requires : (measure : ℕ) → print-fields-lts.Need-byte-at-requires (print-fields-claims measure) (print-fields-at measure) print-fields.Post
-print-fields-byte-at-requires measure c κs =
+fields-byte-at-requires : (measure : ℕ) → fields-lts.Need-byte-at-requires (fields-claims measure) (fields-at measure) print-fields.Post
+fields-byte-at-requires t c κs =
     let at-open-fields = after-open-fields′ (c .before) in
     let entry = at-start at-open-fields in
     laws.next-room
     (laws.opened-shallow-fields (at-open-fields .open-fields .ensures) (c .before .if1 .taken))
     (entry .pre .1)
 
-print-fields-same-length : (measure : ℕ) → print-fields-lts.Need-same-length (print-fields-claims measure) (print-fields-at measure) print-fields.Post
-print-fields-same-length measure c =
+fields-same-length : (measure : ℕ) → fields-lts.Need-same-length (fields-claims measure) (fields-at measure) print-fields.Post
+fields-same-length t c =
     let byte-at-place = c .before .before in
     let at-open-fields = after-open-fields′ (byte-at-place .before .before) in
     byte-at-place .byte-at .ensures .same ∙ at-open-fields .open-fields .ensures .same
 
-print-fields-returns : (measure : ℕ) → print-fields-lts.Need-returns (print-fields-claims measure) (print-fields-at measure) print-fields.Post
-print-fields-returns measure c =
+fields-returns : (measure : ℕ) → fields-lts.Need-returns (fields-claims measure) (fields-at measure) print-fields.Post
+fields-returns t c =
     let byte-at-place = c .before .before in
     let at-if1 = byte-at-place .before .before in
     let at-open-fields = after-open-fields′ at-if1 in
@@ -143,19 +139,17 @@ print-fields-returns measure c =
     (laws.opened-shallow-fields (at-open-fields .open-fields .ensures) (at-if1 .if1 .taken))
     (byte-at-place .byte-at .ensures))
 
-print-fields-sub-deep : (measure : ℕ) → print-fields-lts.Need-sub-deep (print-fields-claims measure) (print-fields-at measure) print-fields.Post
-print-fields-sub-deep measure c = omega (arith, c .if1 .left)
+fields-sub-deep : (measure : ℕ) → fields-lts.Need-sub-deep (fields-claims measure) (fields-at measure) print-fields.Post
+fields-sub-deep t c = omega (arith, c .if1 .left)
 
-print-fields-column-requires : (measure : ℕ) → print-fields-lts.Need-column-requires (print-fields-claims measure) (print-fields-at measure) print-fields.Post
-print-fields-column-requires measure c κs = search needs
+fields-column-requires : (measure : ℕ) → fields-lts.Need-column-requires (fields-claims measure) (fields-at measure) print-fields.Post
+fields-column-requires t c κs = search needs
 
-print-fields-column-requires-2 : (measure : ℕ)
-    → print-fields-lts.Need-column-requires-2 (print-fields-claims measure) (print-fields-at measure) print-fields.Post
-print-fields-column-requires-2 measure c κs = search needs
+fields-column-requires-2 : (measure : ℕ) → fields-lts.Need-column-requires-2 (fields-claims measure) (fields-at measure) print-fields.Post
+fields-column-requires-2 t c κs = search needs
 
-print-fields-print-term-requires : (measure : ℕ)
-    → print-fields-lts.Need-print-term-requires (print-fields-claims measure) (print-fields-at measure) print-fields.Post
-print-fields-print-term-requires measure c κs =
+fields-print-term-requires : (measure : ℕ) → fields-lts.Need-print-term-requires (fields-claims measure) (fields-at measure) print-fields.Post
+fields-print-term-requires t c κs =
     let column2-place = c .before .before in
     let at-if2 = then2 column2-place in
     let at-column = after-column column2-place in
@@ -169,9 +163,8 @@ print-fields-print-term-requires measure c κs =
           (entry .pre .1),
     )
 
-print-fields-byte-at-requires-2 : (measure : ℕ)
-    → print-fields-lts.Need-byte-at-requires-2 (print-fields-claims measure) (print-fields-at measure) print-fields.Post
-print-fields-byte-at-requires-2 measure c κs =
+fields-byte-at-requires-2 : (measure : ℕ) → fields-lts.Need-byte-at-requires-2 (fields-claims measure) (fields-at measure) print-fields.Post
+fields-byte-at-requires-2 t c κs =
     let print-term-place = after-print-term c in
     let at-column2 = after-column2 print-term-place in
     let at-if2 = then2 at-column2 in
@@ -186,13 +179,11 @@ print-fields-byte-at-requires-2 measure c κs =
     (print-term-place .print-term .ensures))
     (entry .pre .1)
 
-print-fields-column-requires-3 : (measure : ℕ)
-    → print-fields-lts.Need-column-requires-3 (print-fields-claims measure) (print-fields-at measure) print-fields.Post
-print-fields-column-requires-3 measure c κs = search needs
+fields-column-requires-3 : (measure : ℕ) → fields-lts.Need-column-requires-3 (fields-claims measure) (fields-at measure) print-fields.Post
+fields-column-requires-3 t c κs = search needs
 
-print-fields-print-fields-requires : (measure : ℕ)
-    → print-fields-lts.Need-print-fields-requires (print-fields-claims measure) (print-fields-at measure) print-fields.Post
-print-fields-print-fields-requires measure c κs =
+fields-print-fields-requires : (measure : ℕ) → fields-lts.Need-print-fields-requires (fields-claims measure) (fields-at measure) print-fields.Post
+fields-print-fields-requires t c κs =
     let column3-place = after-column3 c in
     let at-byte-at2 = after-byte-at2 column3-place in
     let at-print-term = after-print-term′ at-byte-at2 in
@@ -213,9 +204,8 @@ print-fields-print-fields-requires measure c κs =
           (entry .pre .1),
     )
 
-print-fields-byte-at-requires-3 : (measure : ℕ)
-    → print-fields-lts.Need-byte-at-requires-3 (print-fields-claims measure) (print-fields-at measure) print-fields.Post
-print-fields-byte-at-requires-3 measure c κs =
+fields-byte-at-requires-3 : (measure : ℕ) → fields-lts.Need-byte-at-requires-3 (fields-claims measure) (fields-at measure) print-fields.Post
+fields-byte-at-requires-3 t c κs =
     let print-fields-place = after-print-fields c in
     let at-column3 = after-column3 (print-fields-place .before) in
     let at-byte-at2 = after-byte-at2 at-column3 in
@@ -237,8 +227,8 @@ print-fields-byte-at-requires-3 measure c κs =
     (print-fields-place .print-fields .ensures))
     (entry .pre .1)
 
-print-fields-same-length-2 : (measure : ℕ) → print-fields-lts.Need-same-length-2 (print-fields-claims measure) (print-fields-at measure) print-fields.Post
-print-fields-same-length-2 measure c =
+fields-same-length-2 : (measure : ℕ) → fields-lts.Need-same-length-2 (fields-claims measure) (fields-at measure) print-fields.Post
+fields-same-length-2 t c =
     let byte-at3-place = c .before .before in
     let at-print-fields = after-print-fields (byte-at3-place .before) in
     let at-byte-at2 = after-byte-at2 (after-column3 (at-print-fields .before)) in
@@ -247,8 +237,8 @@ print-fields-same-length-2 measure c =
     byte-at3-place .byte-at3 .ensures .same ∙ at-print-fields .print-fields .ensures .wrote .same ∙ at-byte-at2 .byte-at2 .ensures .same
     ∙ at-print-term .print-term .ensures .wrote .same ∙ at-open-fields .open-fields .ensures .same
 
-print-fields-returns-2 : (measure : ℕ) → print-fields-lts.Need-returns-2 (print-fields-claims measure) (print-fields-at measure) print-fields.Post
-print-fields-returns-2 measure c =
+fields-returns-2 : (measure : ℕ) → fields-lts.Need-returns-2 (fields-claims measure) (fields-at measure) print-fields.Post
+fields-returns-2 t c =
     let byte-at3-place = c .before .before in
     let at-print-fields = after-print-fields (byte-at3-place .before) in
     let at-column3 = after-column3 (at-print-fields .before) in
@@ -271,9 +261,8 @@ print-fields-returns-2 measure c =
     (at-print-fields .print-fields .ensures))
     (byte-at3-place .byte-at3 .ensures))
 
-print-fields-byte-at-requires-4 : (measure : ℕ)
-    → print-fields-lts.Need-byte-at-requires-4 (print-fields-claims measure) (print-fields-at measure) print-fields.Post
-print-fields-byte-at-requires-4 measure c κs =
+fields-byte-at-requires-4 : (measure : ℕ) → fields-lts.Need-byte-at-requires-4 (fields-claims measure) (fields-at measure) print-fields.Post
+fields-byte-at-requires-4 t c κs =
     let column-place = c .before .before in
     let at-if1 = else1 column-place in
     let at-open-fields = after-open-fields column-place in
@@ -282,14 +271,14 @@ print-fields-byte-at-requires-4 measure c κs =
     (laws.opened-nil (at-open-fields .open-fields .ensures) (at-if1 .if1 .left) (column-place .column .ensures) (c .before .if2 .left))
     (entry .pre .1)
 
-print-fields-same-length-3 : (measure : ℕ) → print-fields-lts.Need-same-length-3 (print-fields-claims measure) (print-fields-at measure) print-fields.Post
-print-fields-same-length-3 measure c =
+fields-same-length-3 : (measure : ℕ) → fields-lts.Need-same-length-3 (fields-claims measure) (fields-at measure) print-fields.Post
+fields-same-length-3 t c =
     let byte-at4-place = c .before .before in
     let at-open-fields = after-open-fields (byte-at4-place .before .before .before) in
     byte-at4-place .byte-at4 .ensures .same ∙ at-open-fields .open-fields .ensures .same
 
-print-fields-returns-3 : (measure : ℕ) → print-fields-lts.Need-returns-3 (print-fields-claims measure) (print-fields-at measure) print-fields.Post
-print-fields-returns-3 measure c =
+fields-returns-3 : (measure : ℕ) → fields-lts.Need-returns-3 (fields-claims measure) (fields-at measure) print-fields.Post
+fields-returns-3 t c =
     let byte-at4-place = c .before .before in
     let at-if2 = byte-at4-place .before .before in
     let at-column = at-if2 .before in
@@ -300,600 +289,398 @@ print-fields-returns-3 measure c =
     (laws.opened-nil (at-open-fields .open-fields .ensures) (at-if1 .if1 .left) (at-column .column .ensures) (at-if2 .if2 .left))
     (byte-at4-place .byte-at4 .ensures))
 
-abbrev print-term-claims : ℕ → print-term-lts.Claims
-print-term-claims t = (
+-- ------------------------------------------------------------------ terms
+
+abbrev term-claims : ℕ → term-lts.Claims
+term-claims t = (
   column-reads.Asked,
   column-reads.Learnt,
   open-term-reads.Asked,
   open-term-reads.Learnt,
+  close-at-reads.Asked,
+  close-at-reads.Learnt,
+  term-below t,
+  print-term.Post,
   byte-at-reads.Asked,
   byte-at-reads.Learnt,
-  print-term-below t,
-  print-term.Post,
-  print-fields-below t,
-  print-fields.Post,
   label-at-reads.Asked,
   label-at-reads.Learnt,
+  fields-below t,
+  print-fields.Post,
 )
 
+abbrev term-inv : term-lts.InvT-loop
+term-inv out₀ at pool cells shown bound row place₀ end₀ deep₀ part₀ out place end deep part =
+    laws.Spine (pool .now) (cells .now) (shown .now) (termPart bound row 0) at place₀ out₀ bound out place end deep (termPart deep part (bound - deep))
+
+abbrev term-μ : term-lts.MeasureT-loop
+term-μ out₀ at pool cells shown bound row place₀ end₀ deep₀ part₀ out place end deep part = deep
+
 -- places, each from a later one
-abbrev at-match-keys1 : {measure : ℕ} → print-term-lts.After-column2 (print-term-claims measure) (print-term-at measure) print-term.Post
-    → print-term-lts.At-match-keys1 (print-term-claims measure) (print-term-at measure) print-term.Post
-at-match-keys1 p = p .before .before
+abbrev term-code : {measure : ℕ} → term-lts.After-open-term (term-claims measure) (term-at measure) print-term.Post term-inv term-μ
+    → term-lts.After-column (term-claims measure) (term-at measure) print-term.Post term-inv term-μ
+term-code p = p .before .before .before
 
-abbrev at-match-keys2 : {measure : ℕ} → print-term-lts.After-column3 (print-term-claims measure) (print-term-at measure) print-term.Post
-    → print-term-lts.At-match-keys2 (print-term-claims measure) (print-term-at measure) print-term.Post
-at-match-keys2 p = p .before .before
+abbrev term-turn : {measure : ℕ} → term-lts.After-open-term (term-claims measure) (term-at measure) print-term.Post term-inv term-μ
+    → term-lts.At-loop (term-claims measure) (term-at measure) print-term.Post term-inv term-μ
+term-turn p = p .before .before .before .before .before
 
-abbrev at-match-keys3 : {measure : ℕ} → print-term-lts.After-column5 (print-term-claims measure) (print-term-at measure) print-term.Post
-    → print-term-lts.At-match-keys3 (print-term-claims measure) (print-term-at measure) print-term.Post
-at-match-keys3 p = p .before .before
+abbrev term-start : {measure : ℕ} → term-lts.At-loop (term-claims measure) (term-at measure) print-term.Post term-inv term-μ
+    → term-lts.Start (term-claims measure) (term-at measure) print-term.Post term-inv term-μ
+term-start p = p .before .before
 
-abbrev at-match-keys4 : {measure : ℕ} → print-term-lts.After-column6 (print-term-claims measure) (print-term-at measure) print-term.Post
-    → print-term-lts.At-match-keys4 (print-term-claims measure) (print-term-at measure) print-term.Post
-at-match-keys4 p = p .before .before
+abbrev term-opened : {measure : ℕ} → term-lts.Else1 (term-claims measure) (term-at measure) print-term.Post term-inv term-μ
+    → term-lts.After-open-term (term-claims measure) (term-at measure) print-term.Post term-inv term-μ
+term-opened p = p .before .before .before
 
-abbrev after-column5 : {measure : ℕ} → print-term-lts.After-print-fields-arg2 (print-term-claims measure) (print-term-at measure) print-term.Post
-    → print-term-lts.After-column5 (print-term-claims measure) (print-term-at measure) print-term.Post
-after-column5 p = p .before .before
+abbrev term-some : {measure : ℕ} → term-lts.After-column2 (term-claims measure) (term-at measure) print-term.Post term-inv term-μ
+    → term-lts.Else1 (term-claims measure) (term-at measure) print-term.Post term-inv term-μ
+term-some p = p .before .before
 
-abbrev after-column2′ : {measure : ℕ} → print-term-lts.After-print-term-arg2 (print-term-claims measure) (print-term-at measure) print-term.Post
-    → print-term-lts.After-column2 (print-term-claims measure) (print-term-at measure) print-term.Post
-after-column2′ p = p .before .before
+abbrev pair-first : {measure : ℕ} → term-lts.After-print-term (term-claims measure) (term-at measure) print-term.Post term-inv term-μ
+    → term-lts.At-match-keys2 (term-claims measure) (term-at measure) print-term.Post term-inv term-μ
+pair-first p = p .before .before .before
 
-abbrev after-column4 : {measure : ℕ} → print-term-lts.After-print-term-arg6 (print-term-claims measure) (print-term-at measure) print-term.Post
-    → print-term-lts.After-column4 (print-term-claims measure) (print-term-at measure) print-term.Post
-after-column4 p = p .before .before
+abbrev pair-behind : {measure : ℕ} → term-lts.After-byte-at (term-claims measure) (term-at measure) print-term.Post term-inv term-μ
+    → term-lts.After-print-term (term-claims measure) (term-at measure) print-term.Post term-inv term-μ
+pair-behind p = p .before .before .before .before
 
-abbrev after-print-term′′ : {measure : ℕ} → print-term-lts.After-byte-at-arg2 (print-term-claims measure) (print-term-at measure) print-term.Post
-    → print-term-lts.After-print-term (print-term-claims measure) (print-term-at measure) print-term.Post
-after-print-term′′ p = p .before .before .before
+abbrev pair-space : {measure : ℕ} → term-lts.After-column4 (term-claims measure) (term-at measure) print-term.Post term-inv term-μ
+    → term-lts.After-byte-at (term-claims measure) (term-at measure) print-term.Post term-inv term-μ
+pair-space p = p .before .before .before .before
 
-abbrev after-print-term2 : {measure : ℕ} → print-term-lts.After-byte-at-arg3 (print-term-claims measure) (print-term-at measure) print-term.Post
-    → print-term-lts.After-print-term2 (print-term-claims measure) (print-term-at measure) print-term.Post
-after-print-term2 p = p .before .before .before
+abbrev pair-last : {measure : ℕ} → term-lts.After-column5 (term-claims measure) (term-at measure) print-term.Post term-inv term-μ
+    → term-lts.After-column4 (term-claims measure) (term-at measure) print-term.Post term-inv term-μ
+pair-last p = p .before .before
 
-abbrev after-print-term3 : {measure : ℕ} → print-term-lts.After-byte-at-arg4 (print-term-claims measure) (print-term-at measure) print-term.Post
-    → print-term-lts.After-print-term3 (print-term-claims measure) (print-term-at measure) print-term.Post
-after-print-term3 p = p .before .before .before
+abbrev rcd-inner : {measure : ℕ} → term-lts.After-print-fields (term-claims measure) (term-at measure) print-term.Post term-inv term-μ
+    → term-lts.At-match-keys3 (term-claims measure) (term-at measure) print-term.Post term-inv term-μ
+rcd-inner p = p .before .before .before
 
-abbrev after-print-fields′ : {measure : ℕ} → print-term-lts.After-byte-at-arg5 (print-term-claims measure) (print-term-at measure) print-term.Post
-    → print-term-lts.After-print-fields (print-term-claims measure) (print-term-at measure) print-term.Post
-after-print-fields′ p = p .before .before .before
+term-loop-holds : (measure : ℕ) → term-lts.Need-loop-holds (term-claims measure) (term-at measure) print-term.Post term-inv term-μ
+term-loop-holds t c = rw (sub-self (c .before .args .bound)) (laws.spine-start _ (c .before .pre .1))
 
-abbrev after-print-term4 : {measure : ℕ} → print-term-lts.After-byte-at-arg6 (print-term-claims measure) (print-term-at measure) print-term.Post
-    → print-term-lts.After-print-term4 (print-term-claims measure) (print-term-at measure) print-term.Post
-after-print-term4 p = p .before .before .before
+term-column-requires : (measure : ℕ) → term-lts.Need-column-requires (term-claims measure) (term-at measure) print-term.Post term-inv term-μ
+term-column-requires t c κs = search needs
 
-abbrev after-label-at : {measure : ℕ} → print-term-lts.After-byte-at-arg7 (print-term-claims measure) (print-term-at measure) print-term.Post
-    → print-term-lts.After-label-at (print-term-claims measure) (print-term-at measure) print-term.Post
-after-label-at p = p .before .before .before
+term-open-term-requires : (measure : ℕ) → term-lts.Need-open-term-requires (term-claims measure) (term-at measure) print-term.Post term-inv term-μ
+term-open-term-requires t c κs =
+    let read = c .before .before in
+    laws.opening-fits (read .column .ensures) (laws.left-fits (read .before .before .loop .inv))
 
-abbrev else1′ : {measure : ℕ} → print-term-lts.After-column3 (print-term-claims measure) (print-term-at measure) print-term.Post
-    → print-term-lts.Else1 (print-term-claims measure) (print-term-at measure) print-term.Post
-else1′ p = (at-match-keys2 p) .before
+term-add-place : (measure : ℕ) → term-lts.Need-add-place (term-claims measure) (term-at measure) print-term.Post term-inv term-μ
+term-add-place t c = omega (arith, laws.term-inside (laws.left-fits ((term-turn (c .before .before)) .loop .inv)))
 
-abbrev else1′′ : {measure : ℕ} → print-term-lts.After-column6 (print-term-claims measure) (print-term-at measure) print-term.Post
-    → print-term-lts.Else1 (print-term-claims measure) (print-term-at measure) print-term.Post
-else1′′ p = (at-match-keys4 p) .before
+term-sub-closing : (measure : ℕ) → term-lts.Need-sub-closing (term-claims measure) (term-at measure) print-term.Post term-inv term-μ
+term-sub-closing t c = omega (arith, (term-turn (c .before .before)) .loop .inv .within)
 
-abbrev after-column3′ : {measure : ℕ} → print-term-lts.After-print-term2 (print-term-claims measure) (print-term-at measure) print-term.Post
-    → print-term-lts.After-column3 (print-term-claims measure) (print-term-at measure) print-term.Post
-after-column3′ p = p .before .before .before
+term-add-closing : (measure : ℕ) → term-lts.Need-add-closing (term-claims measure) (term-at measure) print-term.Post term-inv term-μ
+term-add-closing t c = omega (arith, laws.term-closing (laws.left-fits ((term-turn (c .before .before)) .loop .inv)))
 
-abbrev after-column6 : {measure : ℕ} → print-term-lts.After-print-term4 (print-term-claims measure) (print-term-at measure) print-term.Post
-    → print-term-lts.After-column6 (print-term-claims measure) (print-term-at measure) print-term.Post
-after-column6 p = p .before .before .before
+term-close-at-requires : (measure : ℕ) → term-lts.Need-close-at-requires (term-claims measure) (term-at measure) print-term.Post term-inv term-μ
+term-close-at-requires t c κs =
+    let then1 = c .before in
+    let opened = then1 .before .before .before in
+    let turn = term-turn opened in
+    laws.close-room _
+    (laws.opened-shallow refl (opened .open-term .ensures) (then1 .if1 .taken))
+    (laws.left-fits (turn .loop .inv))
 
-abbrev after-open-term′ : {measure : ℕ} → print-term-lts.Then1 (print-term-claims measure) (print-term-at measure) print-term.Post
-    → print-term-lts.After-open-term (print-term-claims measure) (print-term-at measure) print-term.Post
-after-open-term′ p = p .before .before .before
-
-abbrev after-print-term2′ : {measure : ℕ} → print-term-lts.After-byte-at3 (print-term-claims measure) (print-term-at measure) print-term.Post
-    → print-term-lts.After-print-term2 (print-term-claims measure) (print-term-at measure) print-term.Post
-after-print-term2′ p = after-print-term2 (p .before)
-
-abbrev after-print-term4′ : {measure : ℕ} → print-term-lts.After-byte-at6 (print-term-claims measure) (print-term-at measure) print-term.Post
-    → print-term-lts.After-print-term4 (print-term-claims measure) (print-term-at measure) print-term.Post
-after-print-term4′ p = after-print-term4 (p .before)
-
-abbrev after-byte-at3 : {measure : ℕ} → print-term-lts.After-column4 (print-term-claims measure) (print-term-at measure) print-term.Post
-    → print-term-lts.After-byte-at3 (print-term-claims measure) (print-term-at measure) print-term.Post
-after-byte-at3 p = p .before .before .before .before
-
-abbrev after-byte-at6 : {measure : ℕ} → print-term-lts.After-column7 (print-term-claims measure) (print-term-at measure) print-term.Post
-    → print-term-lts.After-byte-at6 (print-term-claims measure) (print-term-at measure) print-term.Post
-after-byte-at6 p = p .before .before .before .before
-
-abbrev after-open-term : {measure : ℕ} → print-term-lts.Else1 (print-term-claims measure) (print-term-at measure) print-term.Post
-    → print-term-lts.After-open-term (print-term-claims measure) (print-term-at measure) print-term.Post
-after-open-term p = p .before .before .before
-
-abbrev after-column′ : {measure : ℕ} → print-term-lts.After-open-term (print-term-claims measure) (print-term-at measure) print-term.Post
-    → print-term-lts.After-column (print-term-claims measure) (print-term-at measure) print-term.Post
-after-column′ p = p .before .before .before
-
-abbrev at-start′ : {measure : ℕ} → print-term-lts.After-open-term (print-term-claims measure) (print-term-at measure) print-term.Post
-    → print-term-lts.Start (print-term-claims measure) (print-term-at measure) print-term.Post
-at-start′ p = (after-column′ p) .before .before .before .before
-
-print-term-open-term-requires : (measure : ℕ) → print-term-lts.Need-open-term-requires (print-term-claims measure) (print-term-at measure) print-term.Post
-print-term-open-term-requires measure c κs =
-    let at-column = c .before .before in
-    laws.opening-fits (at-column .column .ensures) (at-column .before .before .before .before .pre .1)
-
-print-term-add-place : (measure : ℕ) → print-term-lts.Need-add-place (print-term-claims measure) (print-term-at measure) print-term.Post
-print-term-add-place measure c =
-    let at-column = after-column′ (c .before .before) in
-    let entry = at-start′ (c .before .before) in
-    omega (arith, laws.opening-fits (at-column .column .ensures) (entry .pre .1) .inside, entry .pre .1 .few)
-
-print-term-byte-at-requires : (measure : ℕ) → print-term-lts.Need-byte-at-requires (print-term-claims measure) (print-term-at measure) print-term.Post
-print-term-byte-at-requires measure c κs =
-    let at-open-term = after-open-term′ (c .before) in
-    let entry = at-start′ at-open-term in
-    laws.next-room
-    (laws.opened-shallow (at-open-term .open-term .ensures) (c .before .if1 .taken))
-    (entry .pre .1)
-
-print-term-same-length : (measure : ℕ) → print-term-lts.Need-same-length (print-term-claims measure) (print-term-at measure) print-term.Post
-print-term-same-length measure c =
-    let byte-at-place = c .before .before in
-    let at-open-term = after-open-term′ (byte-at-place .before .before) in
-    byte-at-place .byte-at .ensures .same ∙ at-open-term .open-term .ensures .same
-
-print-term-returns : (measure : ℕ) → print-term-lts.Need-returns (print-term-claims measure) (print-term-at measure) print-term.Post
-print-term-returns measure c =
-    let byte-at-place = c .before .before in
-    let at-if1 = byte-at-place .before .before in
-    let at-open-term = after-open-term′ at-if1 in
-    laws.all-printed
+term-returns : (measure : ℕ) → term-lts.Need-returns (term-claims measure) (term-at measure) print-term.Post term-inv term-μ
+term-returns t c =
+    let closed = c .before .before in
+    let then1 = closed .before .before in
+    let opened = then1 .before .before .before in
+    let turn = term-turn opened in
+    laws.spine-end (turn .loop .inv)
     (laws.next-text
-    (laws.opened-shallow (at-open-term .open-term .ensures) (at-if1 .if1 .taken))
-    (byte-at-place .byte-at .ensures))
+    (laws.opened-shallow refl (opened .open-term .ensures) (then1 .if1 .taken))
+    (closed .close-at .ensures))
 
-print-term-sub-deep : (measure : ℕ) → print-term-lts.Need-sub-deep (print-term-claims measure) (print-term-at measure) print-term.Post
-print-term-sub-deep measure c = omega (arith, c .if1 .left)
+term-same-length : (measure : ℕ) → term-lts.Need-same-length (term-claims measure) (term-at measure) print-term.Post term-inv term-μ
+term-same-length t c = term-returns t c .wrote .same
 
-print-term-column-requires : (measure : ℕ) → print-term-lts.Need-column-requires (print-term-claims measure) (print-term-at measure) print-term.Post
-print-term-column-requires measure c κs = search needs
+term-sub-deep : (measure : ℕ) → term-lts.Need-sub-deep (term-claims measure) (term-at measure) print-term.Post term-inv term-μ
+term-sub-deep t c = omega (arith, c .if1 .left)
 
-print-term-column-requires-2 : (measure : ℕ) → print-term-lts.Need-column-requires-2 (print-term-claims measure) (print-term-at measure) print-term.Post
-print-term-column-requires-2 measure c κs = search needs
+term-column-requires-2 : (measure : ℕ) → term-lts.Need-column-requires-2 (term-claims measure) (term-at measure) print-term.Post term-inv term-μ
+term-column-requires-2 t c κs = search needs
 
-print-term-print-term-requires : (measure : ℕ) → print-term-lts.Need-print-term-requires (print-term-claims measure) (print-term-at measure) print-term.Post
-print-term-print-term-requires measure c κs =
-    let column2-place = after-column2′ c in
-    let at-match = at-match-keys1 column2-place in
-    let at-if1 = at-match .before in
-    let at-open-term = after-open-term at-if1 in
-    let at-column = after-column′ at-open-term in
-    let entry = at-start′ at-open-term in (
-      omega (arith, entry .pre .0),
-      laws.next-fits
-          (laws.opened-fun (at-open-term .open-term .ensures) (at-if1 .if1 .left) (at-column .column .ensures) (at-match .match .keys1)
-          (column2-place .column2 .ensures))
-          (entry .pre .1),
+term-column-requires-3 : (measure : ℕ) → term-lts.Need-column-requires-3 (term-claims measure) (term-at measure) print-term.Post term-inv term-μ
+term-column-requires-3 t c κs = search needs
+
+term-loop-less : (measure : ℕ) → term-lts.Need-loop-less (term-claims measure) (term-at measure) print-term.Post term-inv term-μ
+term-loop-less t c =
+    let else1 = term-some (c .before .before .before) in
+    omega (arith, else1 .if1 .left)
+
+term-loop-again : (measure : ℕ) → term-lts.Need-loop-again (term-claims measure) (term-at measure) print-term.Post term-inv term-μ
+term-loop-again t c =
+    let matched = c .before .before in
+    let else1 = term-some (matched .before) in
+    let opened = term-opened else1 in
+    let turn = term-turn opened in
+    laws.spine-next (turn .loop .inv)
+    (laws.opened-fun (omega (arith, turn .loop .inv .within, else1 .if1 .left))
+    (opened .open-term .ensures) (else1 .if1 .left) ((term-code opened) .column .ensures) (matched .match .keys1) (c .column3 .ensures))
+    (omega (arith, else1 .if1 .left))
+
+term-print-term-requires : (measure : ℕ) → term-lts.Need-print-term-requires (term-claims measure) (term-at measure) print-term.Post term-inv term-μ
+term-print-term-requires t c κs =
+    let matched = c .before .before in
+    let else1 = term-some (matched .before) in
+    let opened = term-opened else1 in
+    let turn = term-turn opened in (
+      omega (arith, (term-start turn) .pre .0, turn .loop .inv .within, else1 .if1 .left),
+      laws.first-fits refl (opened .open-term .ensures) (else1 .if1 .left) ((term-code opened) .column .ensures) (matched .match .keys2)
+          (matched .before .column2 .ensures) (laws.left-fits (turn .loop .inv)),
     )
 
-print-term-byte-at-requires-2 : (measure : ℕ) → print-term-lts.Need-byte-at-requires-2 (print-term-claims measure) (print-term-at measure) print-term.Post
-print-term-byte-at-requires-2 measure c κs =
-    let print-term-place = after-print-term′′ c in
-    let at-column2 = after-column2′ (print-term-place .before) in
-    let at-match = at-match-keys1 at-column2 in
-    let at-if1 = at-match .before in
-    let at-open-term = after-open-term at-if1 in
-    let at-column = after-column′ at-open-term in
-    let entry = at-start′ at-open-term in
+term-byte-at-requires : (measure : ℕ) → term-lts.Need-byte-at-requires (term-claims measure) (term-at measure) print-term.Post term-inv term-μ
+term-byte-at-requires t c κs =
+    let printed = c .before .before .before in
+    let matched = pair-first printed in
+    let else1 = term-some (matched .before) in
+    let opened = term-opened else1 in
+    let turn = term-turn opened in
+    laws.first-room refl (opened .open-term .ensures) (else1 .if1 .left) ((term-code opened) .column .ensures) (matched .match .keys2)
+    (matched .before .column2 .ensures) (laws.left-fits (turn .loop .inv)) (printed .print-term .ensures)
+
+term-column-requires-4 : (measure : ℕ) → term-lts.Need-column-requires-4 (term-claims measure) (term-at measure) print-term.Post term-inv term-μ
+term-column-requires-4 t c κs = search needs
+
+term-column-requires-5 : (measure : ℕ) → term-lts.Need-column-requires-5 (term-claims measure) (term-at measure) print-term.Post term-inv term-μ
+term-column-requires-5 t c κs = search needs
+
+term-label-at-requires : (measure : ℕ) → term-lts.Need-label-at-requires (term-claims measure) (term-at measure) print-term.Post term-inv term-μ
+term-label-at-requires t c κs =
+    let is-dot = c .before in
+    let again = is-dot .before in
+    let last = pair-last again in
+    let spaced = pair-space last in
+    let printed = pair-behind spaced in
+    let matched = pair-first printed in
+    let else1 = term-some (matched .before) in
+    let opened = term-opened else1 in
+    let turn = term-turn opened in
     laws.next-room
+    (laws.next-text
     (laws.next-part
-    (laws.opened-fun (at-open-term .open-term .ensures) (at-if1 .if1 .left) (at-column .column .ensures) (at-match .match .keys1)
-    (at-column2 .column2 .ensures))
-    (print-term-place .print-term .ensures))
-    (entry .pre .1)
+    (laws.opened-dot refl
+    (opened .open-term .ensures) (else1 .if1 .left) ((term-code opened) .column .ensures)
+    ((term-code opened) .column .ensures ∙ sym (again .column5 .ensures) ∙ is-dot .if2 .taken) (matched .before .column2 .ensures) (last .column4 .ensures))
+    (printed .print-term .ensures))
+    (spaced .byte-at .ensures))
+    (laws.left-fits (turn .loop .inv))
 
-print-term-column-requires-3 : (measure : ℕ) → print-term-lts.Need-column-requires-3 (print-term-claims measure) (print-term-at measure) print-term.Post
-print-term-column-requires-3 measure c κs = search needs
+term-close-at-requires-2 : (measure : ℕ) → term-lts.Need-close-at-requires-2 (term-claims measure) (term-at measure) print-term.Post term-inv term-μ
+term-close-at-requires-2 t c κs =
+    let labelled = c .before .before .before in
+    let is-dot = labelled .before .before in
+    let again = is-dot .before in
+    let last = pair-last again in
+    let spaced = pair-space last in
+    let printed = pair-behind spaced in
+    let matched = pair-first printed in
+    let else1 = term-some (matched .before) in
+    let opened = term-opened else1 in
+    let turn = term-turn opened in
+    laws.close-room _
+    (laws.next-text
+    (laws.next-text
+    (laws.next-part
+    (laws.opened-dot refl
+    (opened .open-term .ensures) (else1 .if1 .left) ((term-code opened) .column .ensures)
+    ((term-code opened) .column .ensures ∙ sym (again .column5 .ensures) ∙ is-dot .if2 .taken) (matched .before .column2 .ensures) (last .column4 .ensures))
+    (printed .print-term .ensures))
+    (spaced .byte-at .ensures))
+    (labelled .label-at .ensures))
+    (laws.left-fits (turn .loop .inv))
 
-print-term-print-term-requires-2 : (measure : ℕ) → print-term-lts.Need-print-term-requires-2 (print-term-claims measure) (print-term-at measure) print-term.Post
-print-term-print-term-requires-2 measure c κs =
-    let column3-place = c .before .before in
-    let at-match = at-match-keys2 column3-place in
-    let at-if1 = else1′ column3-place in
-    let at-open-term = after-open-term at-if1 in
-    let at-column = after-column′ at-open-term in
-    let entry = at-start′ at-open-term in (
-      omega (arith, entry .pre .0),
+term-returns-2 : (measure : ℕ) → term-lts.Need-returns-2 (term-claims measure) (term-at measure) print-term.Post term-inv term-μ
+term-returns-2 t c =
+    let closed = c .before .before in
+    let labelled = closed .before .before .before .before in
+    let is-dot = labelled .before .before in
+    let again = is-dot .before in
+    let last = pair-last again in
+    let spaced = pair-space last in
+    let printed = pair-behind spaced in
+    let matched = pair-first printed in
+    let else1 = term-some (matched .before) in
+    let opened = term-opened else1 in
+    let turn = term-turn opened in
+    laws.spine-end (turn .loop .inv)
+    (laws.next-text
+    (laws.next-text
+    (laws.next-text
+    (laws.next-part
+    (laws.opened-dot refl
+    (opened .open-term .ensures) (else1 .if1 .left) ((term-code opened) .column .ensures)
+    ((term-code opened) .column .ensures ∙ sym (again .column5 .ensures) ∙ is-dot .if2 .taken) (matched .before .column2 .ensures) (last .column4 .ensures))
+    (printed .print-term .ensures))
+    (spaced .byte-at .ensures))
+    (labelled .label-at .ensures))
+    (closed .close-at2 .ensures))
+
+term-same-length-2 : (measure : ℕ) → term-lts.Need-same-length-2 (term-claims measure) (term-at measure) print-term.Post term-inv term-μ
+term-same-length-2 t c = term-returns-2 t c .wrote .same
+
+term-loop-less-2 : (measure : ℕ) → term-lts.Need-loop-less-2 (term-claims measure) (term-at measure) print-term.Post term-inv term-μ
+term-loop-less-2 t c =
+    let matched = pair-first (pair-behind (pair-space (pair-last (c .before)))) in
+    let else1 = term-some (matched .before) in
+    omega (arith, else1 .if1 .left)
+
+term-loop-again-2 : (measure : ℕ) → term-lts.Need-loop-again-2 (term-claims measure) (term-at measure) print-term.Post term-inv term-μ
+term-loop-again-2 t c =
+    let again = c .before in
+    let last = pair-last again in
+    let spaced = pair-space last in
+    let printed = pair-behind spaced in
+    let matched = pair-first printed in
+    let else1 = term-some (matched .before) in
+    let opened = term-opened else1 in
+    let turn = term-turn opened in
+    let is-app = laws.not-second (matched .match .keys2) (λ e. c .if2 .left (again .column5 .ensures ∙ sym ((term-code opened) .column .ensures) ∙ e)) in
+    laws.spine-next (turn .loop .inv)
+    (laws.next-text
+    (laws.next-part
+    (laws.opened-app (omega (arith, turn .loop .inv .within, else1 .if1 .left))
+    (opened .open-term .ensures) (else1 .if1 .left) ((term-code opened) .column .ensures) is-app (matched .before .column2 .ensures) (last .column4 .ensures))
+    (printed .print-term .ensures))
+    (spaced .byte-at .ensures))
+    (omega (arith, else1 .if1 .left))
+
+term-print-fields-requires : (measure : ℕ) → term-lts.Need-print-fields-requires (term-claims measure) (term-at measure) print-term.Post term-inv term-μ
+term-print-fields-requires t c κs =
+    let matched = c .before .before in
+    let else1 = term-some (matched .before) in
+    let opened = term-opened else1 in
+    let turn = term-turn opened in (
+      omega (arith, (term-start turn) .pre .0, turn .loop .inv .within, else1 .if1 .left),
       laws.next-fits
-          (laws.opened-app (at-open-term .open-term .ensures) (at-if1 .if1 .left) (at-column .column .ensures) (at-match .match .keys2)
-          (column3-place .column3 .ensures) refl)
-          (entry .pre .1),
+          (laws.opened-rcd refl
+          (opened .open-term .ensures) (else1 .if1 .left) ((term-code opened) .column .ensures) (matched .match .keys3) (matched .before .column2 .ensures))
+          (laws.left-fits (turn .loop .inv)),
     )
 
-print-term-byte-at-requires-3 : (measure : ℕ) → print-term-lts.Need-byte-at-requires-3 (print-term-claims measure) (print-term-at measure) print-term.Post
-print-term-byte-at-requires-3 measure c κs =
-    let print-term2-place = after-print-term2 c in
-    let at-column3 = after-column3′ print-term2-place in
-    let at-match = at-match-keys2 at-column3 in
-    let at-if1 = else1′ at-column3 in
-    let at-open-term = after-open-term at-if1 in
-    let at-column = after-column′ at-open-term in
-    let entry = at-start′ at-open-term in
-    laws.next-room
+term-close-at-requires-3 : (measure : ℕ) → term-lts.Need-close-at-requires-3 (term-claims measure) (term-at measure) print-term.Post term-inv term-μ
+term-close-at-requires-3 t c κs =
+    let printed = c .before .before .before in
+    let matched = rcd-inner printed in
+    let else1 = term-some (matched .before) in
+    let opened = term-opened else1 in
+    let turn = term-turn opened in
+    laws.close-room _
     (laws.next-part
-    (laws.opened-app (at-open-term .open-term .ensures) (at-if1 .if1 .left) (at-column .column .ensures) (at-match .match .keys2)
-    (at-column3 .column3 .ensures) refl)
-    (print-term2-place .print-term2 .ensures))
-    (entry .pre .1)
+    (laws.opened-rcd refl
+    (opened .open-term .ensures) (else1 .if1 .left) ((term-code opened) .column .ensures) (matched .match .keys3) (matched .before .column2 .ensures))
+    (printed .print-fields .ensures))
+    (laws.left-fits (turn .loop .inv))
 
-print-term-column-requires-4 : (measure : ℕ) → print-term-lts.Need-column-requires-4 (print-term-claims measure) (print-term-at measure) print-term.Post
-print-term-column-requires-4 measure c κs = search needs
-
-print-term-print-term-requires-3 : (measure : ℕ) → print-term-lts.Need-print-term-requires-3 (print-term-claims measure) (print-term-at measure) print-term.Post
-print-term-print-term-requires-3 measure c κs =
-    let column4-place = after-column4 c in
-    let at-byte-at3 = after-byte-at3 column4-place in
-    let at-print-term2 = after-print-term2′ at-byte-at3 in
-    let at-column3 = after-column3′ at-print-term2 in
-    let at-match = at-match-keys2 at-column3 in
-    let at-if1 = else1′ at-column3 in
-    let at-open-term = after-open-term at-if1 in
-    let at-column = after-column′ at-open-term in
-    let entry = at-start′ at-open-term in (
-      omega (arith, entry .pre .0),
-      laws.next-fits
-          (laws.next-text
-          (laws.next-part
-          (laws.opened-app (at-open-term .open-term .ensures) (at-if1 .if1 .left) (at-column .column .ensures) (at-match .match .keys2)
-          (at-column3 .column3 .ensures) (column4-place .column4 .ensures))
-          (at-print-term2 .print-term2 .ensures))
-          (at-byte-at3 .byte-at3 .ensures))
-          (entry .pre .1),
-    )
-
-print-term-byte-at-requires-4 : (measure : ℕ) → print-term-lts.Need-byte-at-requires-4 (print-term-claims measure) (print-term-at measure) print-term.Post
-print-term-byte-at-requires-4 measure c κs =
-    let print-term3-place = after-print-term3 c in
-    let at-column4 = after-column4 (print-term3-place .before) in
-    let at-byte-at3 = after-byte-at3 at-column4 in
-    let at-print-term2 = after-print-term2′ at-byte-at3 in
-    let at-column3 = after-column3′ at-print-term2 in
-    let at-match = at-match-keys2 at-column3 in
-    let at-if1 = else1′ at-column3 in
-    let at-open-term = after-open-term at-if1 in
-    let at-column = after-column′ at-open-term in
-    let entry = at-start′ at-open-term in
-    laws.next-room
-    (laws.next-part
+term-returns-3 : (measure : ℕ) → term-lts.Need-returns-3 (term-claims measure) (term-at measure) print-term.Post term-inv term-μ
+term-returns-3 t c =
+    let closed = c .before .before in
+    let printed = closed .before .before .before .before in
+    let matched = rcd-inner printed in
+    let else1 = term-some (matched .before) in
+    let opened = term-opened else1 in
+    let turn = term-turn opened in
+    laws.spine-end (turn .loop .inv)
     (laws.next-text
     (laws.next-part
-    (laws.opened-app (at-open-term .open-term .ensures) (at-if1 .if1 .left) (at-column .column .ensures) (at-match .match .keys2)
-    (at-column3 .column3 .ensures) (at-column4 .column4 .ensures))
-    (at-print-term2 .print-term2 .ensures))
-    (at-byte-at3 .byte-at3 .ensures))
-    (print-term3-place .print-term3 .ensures))
-    (entry .pre .1)
+    (laws.opened-rcd refl
+    (opened .open-term .ensures) (else1 .if1 .left) ((term-code opened) .column .ensures) (matched .match .keys3) (matched .before .column2 .ensures))
+    (printed .print-fields .ensures))
+    (closed .close-at3 .ensures))
 
-print-term-column-requires-5 : (measure : ℕ) → print-term-lts.Need-column-requires-5 (print-term-claims measure) (print-term-at measure) print-term.Post
-print-term-column-requires-5 measure c κs = search needs
+term-same-length-3 : (measure : ℕ) → term-lts.Need-same-length-3 (term-claims measure) (term-at measure) print-term.Post term-inv term-μ
+term-same-length-3 t c = term-returns-3 t c .wrote .same
 
-print-term-print-fields-requires : (measure : ℕ) → print-term-lts.Need-print-fields-requires (print-term-claims measure) (print-term-at measure) print-term.Post
-print-term-print-fields-requires measure c κs =
-    let column5-place = after-column5 c in
-    let at-match = at-match-keys3 column5-place in
-    let at-if1 = at-match .before in
-    let at-open-term = after-open-term at-if1 in
-    let at-column = after-column′ at-open-term in
-    let entry = at-start′ at-open-term in (
-      omega (arith, entry .pre .0),
-      laws.next-fits
-          (laws.opened-rcd (at-open-term .open-term .ensures) (at-if1 .if1 .left) (at-column .column .ensures) (at-match .match .keys3)
-          (column5-place .column5 .ensures))
-          (entry .pre .1),
-    )
+term-close-at-requires-4 : (measure : ℕ) → term-lts.Need-close-at-requires-4 (term-claims measure) (term-at measure) print-term.Post term-inv term-μ
+term-close-at-requires-4 t c κs =
+    let matched = c .before in
+    let else1 = term-some (matched .before) in
+    let opened = term-opened else1 in
+    let turn = term-turn opened in
+    laws.close-room _
+    (laws.opened-bare refl
+    (opened .open-term .ensures) (else1 .if1 .left) ((term-code opened) .column .ensures) (matched .match .rest))
+    (laws.left-fits (turn .loop .inv))
 
-print-term-byte-at-requires-5 : (measure : ℕ) → print-term-lts.Need-byte-at-requires-5 (print-term-claims measure) (print-term-at measure) print-term.Post
-print-term-byte-at-requires-5 measure c κs =
-    let print-fields-place = after-print-fields′ c in
-    let at-column5 = after-column5 (print-fields-place .before) in
-    let at-match = at-match-keys3 at-column5 in
-    let at-if1 = at-match .before in
-    let at-open-term = after-open-term at-if1 in
-    let at-column = after-column′ at-open-term in
-    let entry = at-start′ at-open-term in
-    laws.next-room
-    (laws.next-part
-    (laws.opened-rcd (at-open-term .open-term .ensures) (at-if1 .if1 .left) (at-column .column .ensures) (at-match .match .keys3)
-    (at-column5 .column5 .ensures))
-    (print-fields-place .print-fields .ensures))
-    (entry .pre .1)
-
-print-term-column-requires-6 : (measure : ℕ) → print-term-lts.Need-column-requires-6 (print-term-claims measure) (print-term-at measure) print-term.Post
-print-term-column-requires-6 measure c κs = search needs
-
-print-term-print-term-requires-4 : (measure : ℕ) → print-term-lts.Need-print-term-requires-4 (print-term-claims measure) (print-term-at measure) print-term.Post
-print-term-print-term-requires-4 measure c κs =
-    let column6-place = c .before .before in
-    let at-match = at-match-keys4 column6-place in
-    let at-if1 = else1′′ column6-place in
-    let at-open-term = after-open-term at-if1 in
-    let at-column = after-column′ at-open-term in
-    let entry = at-start′ at-open-term in (
-      omega (arith, entry .pre .0),
-      laws.next-fits
-          (laws.opened-dot (at-open-term .open-term .ensures) (at-if1 .if1 .left) (at-column .column .ensures) (at-match .match .keys4)
-          (column6-place .column6 .ensures) refl)
-          (entry .pre .1),
-    )
-
-print-term-byte-at-requires-6 : (measure : ℕ) → print-term-lts.Need-byte-at-requires-6 (print-term-claims measure) (print-term-at measure) print-term.Post
-print-term-byte-at-requires-6 measure c κs =
-    let print-term4-place = after-print-term4 c in
-    let at-column6 = after-column6 print-term4-place in
-    let at-match = at-match-keys4 at-column6 in
-    let at-if1 = else1′′ at-column6 in
-    let at-open-term = after-open-term at-if1 in
-    let at-column = after-column′ at-open-term in
-    let entry = at-start′ at-open-term in
-    laws.next-room
-    (laws.next-part
-    (laws.opened-dot (at-open-term .open-term .ensures) (at-if1 .if1 .left) (at-column .column .ensures) (at-match .match .keys4)
-    (at-column6 .column6 .ensures) refl)
-    (print-term4-place .print-term4 .ensures))
-    (entry .pre .1)
-
-print-term-column-requires-7 : (measure : ℕ) → print-term-lts.Need-column-requires-7 (print-term-claims measure) (print-term-at measure) print-term.Post
-print-term-column-requires-7 measure c κs = search needs
-
-print-term-label-at-requires : (measure : ℕ) → print-term-lts.Need-label-at-requires (print-term-claims measure) (print-term-at measure) print-term.Post
-print-term-label-at-requires measure c κs =
-    let at-byte-at6 = after-byte-at6 (c .before) in
-    let at-print-term4 = after-print-term4′ at-byte-at6 in
-    let at-column6 = after-column6 at-print-term4 in
-    let at-match = at-match-keys4 at-column6 in
-    let at-if1 = else1′′ at-column6 in
-    let at-open-term = after-open-term at-if1 in
-    let at-column = after-column′ at-open-term in
-    let entry = at-start′ at-open-term in
-    laws.next-room
+term-returns-4 : (measure : ℕ) → term-lts.Need-returns-4 (term-claims measure) (term-at measure) print-term.Post term-inv term-μ
+term-returns-4 t c =
+    let closed = c .before .before in
+    let matched = closed .before .before in
+    let else1 = term-some (matched .before) in
+    let opened = term-opened else1 in
+    let turn = term-turn opened in
+    laws.spine-end (turn .loop .inv)
     (laws.next-text
-    (laws.next-part
-    (laws.opened-dot (at-open-term .open-term .ensures) (at-if1 .if1 .left) (at-column .column .ensures) (at-match .match .keys4)
-    (at-column6 .column6 .ensures) (c .before .column7 .ensures))
-    (at-print-term4 .print-term4 .ensures))
-    (at-byte-at6 .byte-at6 .ensures))
-    (entry .pre .1)
+    (laws.opened-bare refl
+    (opened .open-term .ensures) (else1 .if1 .left) ((term-code opened) .column .ensures) (matched .match .rest))
+    (closed .close-at4 .ensures))
 
-print-term-byte-at-requires-7 : (measure : ℕ) → print-term-lts.Need-byte-at-requires-7 (print-term-claims measure) (print-term-at measure) print-term.Post
-print-term-byte-at-requires-7 measure c κs =
-    let label-at-place = after-label-at c in
-    let at-column7 = label-at-place .before .before in
-    let at-byte-at6 = after-byte-at6 at-column7 in
-    let at-print-term4 = after-print-term4′ at-byte-at6 in
-    let at-column6 = after-column6 at-print-term4 in
-    let at-match = at-match-keys4 at-column6 in
-    let at-if1 = else1′′ at-column6 in
-    let at-open-term = after-open-term at-if1 in
-    let at-column = after-column′ at-open-term in
-    let entry = at-start′ at-open-term in
-    laws.next-room
-    (laws.next-text
-    (laws.next-text
-    (laws.next-part
-    (laws.opened-dot (at-open-term .open-term .ensures) (at-if1 .if1 .left) (at-column .column .ensures) (at-match .match .keys4)
-    (at-column6 .column6 .ensures) (at-column7 .column7 .ensures))
-    (at-print-term4 .print-term4 .ensures))
-    (at-byte-at6 .byte-at6 .ensures))
-    (label-at-place .label-at .ensures))
-    (entry .pre .1)
+term-same-length-4 : (measure : ℕ) → term-lts.Need-same-length-4 (term-claims measure) (term-at measure) print-term.Post term-inv term-μ
+term-same-length-4 t c = term-returns-4 t c .wrote .same
 
-print-term-byte-at-requires-8 : (measure : ℕ) → print-term-lts.Need-byte-at-requires-8 (print-term-claims measure) (print-term-at measure) print-term.Post
-print-term-byte-at-requires-8 measure c κs =
-    let match-rest-place = c .before in
-    let at-if1 = match-rest-place .before in
-    let at-open-term = after-open-term at-if1 in
-    let column-place = after-column′ at-open-term in
-    let entry = at-start′ at-open-term in
-    laws.next-room
-    (laws.opened-bare (at-open-term .open-term .ensures) (at-if1 .if1 .left) (column-place .column .ensures)
-    (match-rest-place .match .rest))
-    (entry .pre .1)
-
-print-term-same-length-2 : (measure : ℕ) → print-term-lts.Need-same-length-2 (print-term-claims measure) (print-term-at measure) print-term.Post
-print-term-same-length-2 measure c =
-    let byte-at2-place = c .before .before in
-    let at-print-term = after-print-term′′ (byte-at2-place .before) in
-    let at-open-term = after-open-term ((at-match-keys1 (after-column2′ (at-print-term .before))) .before) in
-    byte-at2-place .byte-at2 .ensures .same ∙ at-print-term .print-term .ensures .wrote .same ∙ at-open-term .open-term .ensures .same
-
-print-term-returns-2 : (measure : ℕ) → print-term-lts.Need-returns-2 (print-term-claims measure) (print-term-at measure) print-term.Post
-print-term-returns-2 measure c =
-    let byte-at2-place = c .before .before in
-    let at-print-term = after-print-term′′ (byte-at2-place .before) in
-    let at-column2 = after-column2′ (at-print-term .before) in
-    let at-match = at-match-keys1 at-column2 in
-    let at-if1 = at-match .before in
-    let at-open-term = after-open-term at-if1 in
-    let at-column = after-column′ at-open-term in
-    laws.all-printed
-    (laws.next-text
-    (laws.next-part
-    (laws.opened-fun (at-open-term .open-term .ensures) (at-if1 .if1 .left) (at-column .column .ensures) (at-match .match .keys1)
-    (at-column2 .column2 .ensures))
-    (at-print-term .print-term .ensures))
-    (byte-at2-place .byte-at2 .ensures))
-
-print-term-same-length-3 : (measure : ℕ) → print-term-lts.Need-same-length-3 (print-term-claims measure) (print-term-at measure) print-term.Post
-print-term-same-length-3 measure c =
-    let byte-at4-place = c .before .before in
-    let at-print-term3 = after-print-term3 (byte-at4-place .before) in
-    let at-byte-at3 = after-byte-at3 (after-column4 (at-print-term3 .before)) in
-    let at-print-term2 = after-print-term2′ at-byte-at3 in
-    let at-open-term = after-open-term (else1′ (after-column3′ at-print-term2)) in
-    byte-at4-place .byte-at4 .ensures .same ∙ at-print-term3 .print-term3 .ensures .wrote .same ∙ at-byte-at3 .byte-at3 .ensures .same ∙
-    at-print-term2 .print-term2 .ensures .wrote .same ∙ at-open-term .open-term .ensures .same
-
-print-term-returns-3 : (measure : ℕ) → print-term-lts.Need-returns-3 (print-term-claims measure) (print-term-at measure) print-term.Post
-print-term-returns-3 measure c =
-    let byte-at4-place = c .before .before in
-    let at-print-term3 = after-print-term3 (byte-at4-place .before) in
-    let at-column4 = after-column4 (at-print-term3 .before) in
-    let at-byte-at3 = after-byte-at3 at-column4 in
-    let at-print-term2 = after-print-term2′ at-byte-at3 in
-    let at-column3 = after-column3′ at-print-term2 in
-    let at-match = at-match-keys2 at-column3 in
-    let at-if1 = else1′ at-column3 in
-    let at-open-term = after-open-term at-if1 in
-    let at-column = after-column′ at-open-term in
-    laws.all-printed
-    (laws.next-text
-    (laws.next-part
-    (laws.next-text
-    (laws.next-part
-    (laws.opened-app (at-open-term .open-term .ensures) (at-if1 .if1 .left) (at-column .column .ensures) (at-match .match .keys2)
-    (at-column3 .column3 .ensures) (at-column4 .column4 .ensures))
-    (at-print-term2 .print-term2 .ensures))
-    (at-byte-at3 .byte-at3 .ensures))
-    (at-print-term3 .print-term3 .ensures))
-    (byte-at4-place .byte-at4 .ensures))
-
-print-term-same-length-4 : (measure : ℕ) → print-term-lts.Need-same-length-4 (print-term-claims measure) (print-term-at measure) print-term.Post
-print-term-same-length-4 measure c =
-    let byte-at5-place = c .before .before in
-    let at-print-fields = after-print-fields′ (byte-at5-place .before) in
-    let at-open-term = after-open-term ((at-match-keys3 (after-column5 (at-print-fields .before))) .before) in
-    byte-at5-place .byte-at5 .ensures .same ∙ at-print-fields .print-fields .ensures .wrote .same ∙
-    at-open-term .open-term .ensures .same
-
-print-term-returns-4 : (measure : ℕ) → print-term-lts.Need-returns-4 (print-term-claims measure) (print-term-at measure) print-term.Post
-print-term-returns-4 measure c =
-    let byte-at5-place = c .before .before in
-    let at-print-fields = after-print-fields′ (byte-at5-place .before) in
-    let at-column5 = after-column5 (at-print-fields .before) in
-    let at-match = at-match-keys3 at-column5 in
-    let at-if1 = at-match .before in
-    let at-open-term = after-open-term at-if1 in
-    let at-column = after-column′ at-open-term in
-    laws.all-printed
-    (laws.next-text
-    (laws.next-part
-    (laws.opened-rcd (at-open-term .open-term .ensures) (at-if1 .if1 .left) (at-column .column .ensures) (at-match .match .keys3)
-    (at-column5 .column5 .ensures))
-    (at-print-fields .print-fields .ensures))
-    (byte-at5-place .byte-at5 .ensures))
-
-print-term-same-length-5 : (measure : ℕ) → print-term-lts.Need-same-length-5 (print-term-claims measure) (print-term-at measure) print-term.Post
-print-term-same-length-5 measure c =
-    let byte-at7-place = c .before .before in
-    let at-label-at = after-label-at (byte-at7-place .before) in
-    let at-byte-at6 = after-byte-at6 (at-label-at .before .before) in
-    let at-print-term4 = after-print-term4′ at-byte-at6 in
-    let at-open-term = after-open-term (else1′′ (after-column6 at-print-term4)) in
-    byte-at7-place .byte-at7 .ensures .same ∙ at-label-at .label-at .ensures .same ∙ at-byte-at6 .byte-at6 .ensures .same ∙
-    at-print-term4 .print-term4 .ensures .wrote .same ∙ at-open-term .open-term .ensures .same
-
-print-term-returns-5 : (measure : ℕ) → print-term-lts.Need-returns-5 (print-term-claims measure) (print-term-at measure) print-term.Post
-print-term-returns-5 measure c =
-    let byte-at7-place = c .before .before in
-    let at-label-at = after-label-at (byte-at7-place .before) in
-    let at-column7 = at-label-at .before .before in
-    let at-byte-at6 = after-byte-at6 at-column7 in
-    let at-print-term4 = after-print-term4′ at-byte-at6 in
-    let at-column6 = after-column6 at-print-term4 in
-    let at-match = at-match-keys4 at-column6 in
-    let at-if1 = else1′′ at-column6 in
-    let at-open-term = after-open-term at-if1 in
-    let at-column = after-column′ at-open-term in
-    laws.all-printed
-    (laws.next-text
-    (laws.next-text
-    (laws.next-text
-    (laws.next-part
-    (laws.opened-dot (at-open-term .open-term .ensures) (at-if1 .if1 .left) (at-column .column .ensures) (at-match .match .keys4)
-    (at-column6 .column6 .ensures) (at-column7 .column7 .ensures))
-    (at-print-term4 .print-term4 .ensures))
-    (at-byte-at6 .byte-at6 .ensures))
-    (at-label-at .label-at .ensures))
-    (byte-at7-place .byte-at7 .ensures))
-
-print-term-same-length-6 : (measure : ℕ) → print-term-lts.Need-same-length-6 (print-term-claims measure) (print-term-at measure) print-term.Post
-print-term-same-length-6 measure c =
-    let byte-at8-place = c .before .before in
-    let at-open-term = after-open-term (byte-at8-place .before .before .before) in
-    byte-at8-place .byte-at8 .ensures .same ∙ at-open-term .open-term .ensures .same
-
-print-term-returns-6 : (measure : ℕ) → print-term-lts.Need-returns-6 (print-term-claims measure) (print-term-at measure) print-term.Post
-print-term-returns-6 measure c =
-    let byte-at8-place = c .before .before in
-    let at-match = byte-at8-place .before .before in
-    let at-if1 = at-match .before in
-    let at-open-term = after-open-term at-if1 in
-    let at-column = after-column′ at-open-term in
-    laws.all-printed
-    (laws.next-text
-    (laws.opened-bare (at-open-term .open-term .ensures) (at-if1 .if1 .left) (at-column .column .ensures)
-    (at-match .match .rest))
-    (byte-at8-place .byte-at8 .ensures))
-
--- the function meets its contract
+-- the functions meet their contracts
 pub +print-fields+print-term-spec : {M : Type 1} → statement M
-+print-fields+print-term-spec = close μ-print-fields μ-print-term (λ t. print-fields-lts.spec (print-fields-claims t)
-    (print-fields-at t)
++print-fields+print-term-spec = close μ-fields μ-term (λ t. fields-lts.spec (fields-claims t)
+    (fields-at t)
     print-fields.Post
-    (print-fields-open-fields-requires t)
-    (print-fields-add-place t)
-    (print-fields-byte-at-requires t)
-    (print-fields-same-length t)
-    (print-fields-returns t)
-    (print-fields-sub-deep t)
-    (print-fields-column-requires t)
-    (print-fields-column-requires-2 t)
-    (print-fields-print-term-requires t)
-    (print-fields-byte-at-requires-2 t)
-    (print-fields-column-requires-3 t)
-    (print-fields-print-fields-requires t)
-    (print-fields-byte-at-requires-3 t)
-    (print-fields-same-length-2 t)
-    (print-fields-returns-2 t)
-    (print-fields-byte-at-requires-4 t)
-    (print-fields-same-length-3 t)
-    (print-fields-returns-3 t))
-    λ t. print-term-lts.spec (print-term-claims t)
-    (print-term-at t)
+    (fields-open-fields-requires t)
+    (fields-add-place t)
+    (fields-byte-at-requires t)
+    (fields-same-length t)
+    (fields-returns t)
+    (fields-sub-deep t)
+    (fields-column-requires t)
+    (fields-column-requires-2 t)
+    (fields-print-term-requires t)
+    (fields-byte-at-requires-2 t)
+    (fields-column-requires-3 t)
+    (fields-print-fields-requires t)
+    (fields-byte-at-requires-3 t)
+    (fields-same-length-2 t)
+    (fields-returns-2 t)
+    (fields-byte-at-requires-4 t)
+    (fields-same-length-3 t)
+    (fields-returns-3 t))
+    λ t. term-lts.spec (term-claims t)
+    (term-at t)
     print-term.Post
-    (print-term-column-requires t)
-    (print-term-open-term-requires t)
-    (print-term-add-place t)
-    (print-term-byte-at-requires t)
-    (print-term-same-length t)
-    (print-term-returns t)
-    (print-term-sub-deep t)
-    (print-term-column-requires-2 t)
-    (print-term-print-term-requires t)
-    (print-term-byte-at-requires-2 t)
-    (print-term-column-requires-3 t)
-    (print-term-print-term-requires-2 t)
-    (print-term-byte-at-requires-3 t)
-    (print-term-column-requires-4 t)
-    (print-term-print-term-requires-3 t)
-    (print-term-byte-at-requires-4 t)
-    (print-term-column-requires-5 t)
-    (print-term-print-fields-requires t)
-    (print-term-byte-at-requires-5 t)
-    (print-term-column-requires-6 t)
-    (print-term-print-term-requires-4 t)
-    (print-term-byte-at-requires-6 t)
-    (print-term-column-requires-7 t)
-    (print-term-label-at-requires t)
-    (print-term-byte-at-requires-7 t)
-    (print-term-byte-at-requires-8 t)
-    (print-term-same-length-2 t)
-    (print-term-returns-2 t)
-    (print-term-same-length-3 t)
-    (print-term-returns-3 t)
-    (print-term-same-length-4 t)
-    (print-term-returns-4 t)
-    (print-term-same-length-5 t)
-    (print-term-returns-5 t)
-    (print-term-same-length-6 t)
-    (print-term-returns-6 t)
+    term-inv
+    term-μ
+    (term-loop-holds t)
+    (term-column-requires t)
+    (term-open-term-requires t)
+    (term-add-place t)
+    (term-sub-closing t)
+    (term-add-closing t)
+    (term-close-at-requires t)
+    (term-same-length t)
+    (term-returns t)
+    (term-sub-deep t)
+    (term-column-requires-2 t)
+    (term-column-requires-3 t)
+    (term-loop-less t)
+    (term-loop-again t)
+    (term-print-term-requires t)
+    (term-byte-at-requires t)
+    (term-column-requires-4 t)
+    (term-column-requires-5 t)
+    (term-label-at-requires t)
+    (term-close-at-requires-2 t)
+    (term-same-length-2 t)
+    (term-returns-2 t)
+    (term-loop-less-2 t)
+    (term-loop-again-2 t)
+    (term-print-fields-requires t)
+    (term-close-at-requires-3 t)
+    (term-same-length-3 t)
+    (term-returns-3 t)
+    (term-close-at-requires-4 t)
+    (term-same-length-4 t)
+    (term-returns-4 t)
