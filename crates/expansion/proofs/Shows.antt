@@ -134,46 +134,47 @@ module _ (spell : ℕ → List ℕ) (number : ℕ) (small : number < nameBase) w
 abbrev rowOf : ℕ → List ℕ → List ℕ
 rowOf code xs = take columns (code ∷ xs ++ 0 ∷ 0 ∷ 0 ∷ [])
 
-row-length : (code : ℕ) (xs : List ℕ) → length (rowOf code xs) ≡ 4
-row-length code xs = length-take-le 4 (code ∷ xs ++ 0 ∷ 0 ∷ 0 ∷ []) (omega (arith, length-append xs (0 ∷ 0 ∷ 0 ∷ [])))
+row-length : (code : ℕ) (xs : List ℕ) → length (rowOf code xs) ≡ columns
+row-length code xs = length-take-le columns (code ∷ xs ++ 0 ∷ 0 ∷ 0 ∷ []) (omega (arith, length-append xs (0 ∷ 0 ∷ 0 ∷ [])))
 
-module _ (made : ℕ) (cells : List ℕ) (code : ℕ) (xs : List ℕ) (room : made * 4 + 4 ≤ length cells) where
+module _ (made : ℕ) (cells : List ℕ) (code : ℕ) (xs : List ℕ) (room : made * columns + columns ≤ length cells) where
   front : List ℕ
-  front = take (made * 4) cells
+  front = take (made * columns) cells
 
-  front-length : length front ≡ made * 4
+  front-length : length front ≡ made * columns
   unfolding front
-  front-length = length-take-le (made * 4) cells (omega arith)
+  front-length = length-take-le (made * columns) cells (omega arith)
 
-  split : (place : ℕ) → place < made * 4 + 4 → getD (withRow cells made code xs) place 0 ≡ getD (front ++ rowOf code xs) place 0
+  split : (place : ℕ) → place < made * columns + columns → getD (withRow cells made code xs) place 0 ≡ getD (front ++ rowOf code xs) place 0
   unfolding front
   split place h =
-      let n : length (front ++ rowOf code xs) ≡ made * 4 + 4 = rw (length-append, row-length code xs, front-length) refl in
+      let n : length (front ++ rowOf code xs) ≡ made * columns + columns = rw (length-append, row-length code xs, front-length) refl in
       cc (
-        sets-eq (rowOf code xs) cells (made * 4) (rw (row-length code xs) room),
-        List·getD-append (front ++ rowOf code xs) (drop (made * 4 + length (rowOf code xs)) cells) 0 place (omega arith),
+        sets-eq (rowOf code xs) cells (made * columns) (rw (row-length code xs) room),
+        List·getD-append (front ++ rowOf code xs) (drop (made * columns + length (rowOf code xs)) cells) 0 place (omega arith),
       )
 
-  before-row : (place : ℕ) → place < made * 4 → getD (withRow cells made code xs) place 0 ≡ getD cells place 0
+  before-row : (place : ℕ) → place < made * columns → getD (withRow cells made code xs) place 0 ≡ getD cells place 0
   unfolding front
   before-row place h =
-      split place (omega arith) ∙ List·getD-append front (rowOf code xs) 0 place (omega (arith, front-length)) ∙ getD-take (made * 4) cells place 0 h
+      split place (omega arith) ∙ List·getD-append front (rowOf code xs) 0 place (omega (arith, front-length)) ∙ getD-take (made * columns) cells place 0 h
 
-  in-row : (column-number : ℕ) → column-number < 4 → getD (withRow cells made code xs) (made * 4 + column-number) 0 ≡ getD (rowOf code xs) column-number 0
+  in-row : (column-number : ℕ) → column-number < columns
+      → getD (withRow cells made code xs) (made * columns + column-number) 0 ≡ getD (rowOf code xs) column-number 0
   in-row column-number h =
-      cc (split (made * 4 + column-number) (omega arith), front-length, getD-append-add front (rowOf code xs) column-number 0)
+      cc (split (made * columns + column-number) (omega arith), front-length, getD-append-add front (rowOf code xs) column-number 0)
 
   -- one row more
   pub row-grown : Grown made cells (made + 1) (withRow cells made code xs)
-  row-grown = record { more = omega arith; agree = record { same = before-row }; as-many = length-sets cells (made * 4) (rowOf code xs) }
+  row-grown = record { more = omega arith; agree = record { same = before-row }; as-many = length-sets cells (made * columns) (rowOf code xs) }
 
   -- cells that have the new row too
   module _ (spell : ℕ → List ℕ) (cells′ : List ℕ) (same : Agree (made + 1) (withRow cells made code xs) cells′) where
     old : Agree made cells cells′
     old = agree-trans (row-grown .more) (row-grown .agree) same
 
-    at-column : (column-number : ℕ) → column-number < 4 → column cells′ made column-number ≡ getD (rowOf code xs) column-number 0
-    at-column column-number h = same .same (made * 4 + column-number) (omega arith) ∙ in-row column-number h
+    at-column : (column-number : ℕ) → column-number < columns → column cells′ made column-number ≡ getD (rowOf code xs) column-number 0
+    at-column column-number h = same .same (made * columns + column-number) (omega arith) ∙ in-row column-number h
 
     -- the term of the new row, by its constructor
     term-of : {constructed : Constructor} {t : Term Name} → constructorOf code ≡ constructed
@@ -192,24 +193,26 @@ module _ (made : ℕ) (cells : List ℕ) (code : ℕ) (xs : List ℕ) (room : ma
     fields-of e h (suc depth) l = rw (at-column 0 (omega arith), e) (h depth (omega arith))
 
     -- a column of the new row that holds `number`, which shows an argument
-    name-in : {number : ℕ} {named : Name} (column-number : ℕ) → column-number < 4 → getD (rowOf code xs) column-number 0 ≡ number → nameOf spell number ≡ named
+    name-in : {number : ℕ} {named : Name} (column-number : ℕ) → column-number < columns → getD (rowOf code xs) column-number 0 ≡ number
+        → nameOf spell number ≡ named
         → nameOf spell (column cells′ made column-number) ≡ named
     name-in column-number h e n = ap (nameOf spell) (at-column column-number h ∙ e) ∙ n
 
-    label-in : {number : ℕ} (column-number : ℕ) → column-number < 4 → getD (rowOf code xs) column-number 0 ≡ number
+    label-in : {number : ℕ} (column-number : ℕ) → column-number < columns → getD (rowOf code xs) column-number 0 ≡ number
         → spell (column cells′ made column-number) ≡ spell number
     label-in column-number h e = ap spell (at-column column-number h ∙ e)
 
-    term-in : {row : ℕ} {t : Term Name} (column-number : ℕ) → column-number < 4 → getD (rowOf code xs) column-number 0 ≡ row → ShowsTerm spell made cells row t
+    term-in : {row : ℕ} {t : Term Name} (column-number : ℕ) → column-number < columns → getD (rowOf code xs) column-number 0 ≡ row
+        → ShowsTerm spell made cells row t
         → (depth : ℕ) → made ≤ depth → termAt depth spell cells′ (column cells′ made column-number) ≡ t
     term-in column-number h e s depth l = ap (termAt depth spell cells′) (at-column column-number h ∙ e) ∙ s .read cells′ old depth (omega arith)
 
-    fields-in : {row : ℕ} {list : Fields Name} (column-number : ℕ) → column-number < 4 → getD (rowOf code xs) column-number 0 ≡ row
+    fields-in : {row : ℕ} {list : Fields Name} (column-number : ℕ) → column-number < columns → getD (rowOf code xs) column-number 0 ≡ row
         → ShowsFields spell made cells row list → (depth : ℕ) → made ≤ depth → fieldListAt depth spell cells′ (column cells′ made column-number) ≡ list
     fields-in column-number h e s depth l = ap (fieldListAt depth spell cells′) (at-column column-number h ∙ e) ∙ s .read cells′ old depth (omega arith)
 
 -- the new row of a constructor over shown arguments shows what is constructed
-module _ (spell : ℕ → List ℕ) (made : ℕ) (cells : List ℕ) (room : made * 4 + 4 ≤ length cells) where
+module _ (spell : ℕ → List ℕ) (made : ℕ) (cells : List ℕ) (room : made * columns + columns ≤ length cells) where
   abbrev After : ℕ → List ℕ → Value → Type 0
   After code xs v = Shows spell (made + 1) (withRow cells made code xs) made v
 

@@ -13,7 +13,7 @@ use Rattle.answers.specs.Refusals.{refusal}
 use Rattle.kinds.specs.Kinds.{wordKind, numberKind, keywordKind, only}
 use Rattle.grammar.specs.Table.{Template, Templates, none, more, Item}
 use Rattle.grammar.specs.Table as Table
-use Rattle.terms.specs.Cells.{withRow}
+use Rattle.terms.specs.Cells.{columns, withRow}
 use Rattle.expansion.specs.declared.State.{State}
 use Rattle.expansion.specs.Run.{Result, done, halt, Run, after}
 use Rattle.expansion.specs.Expansion.{Input, Choice, unfit, chosen, choice, nextToken, tokenTaken, takeToken, misfit, cellMade, cell, build, buildAll, runItem}
@@ -51,14 +51,14 @@ sets-other [] room place other h = refl
 sets-other (v ∷ vs) room place other h =
     sets-other vs (set room place v) (suc place) other (omega arith) ∙ getD-set-other room place other v 0 (λ e. omega (arith, e))
 
-row-length : (code : ℕ) (xs : List ℕ) → length (lists.take 4 (code ∷ xs ++ 0 ∷ 0 ∷ 0 ∷ [])) ≡ 4
-row-length code xs = length-take-le 4 (code ∷ xs ++ 0 ∷ 0 ∷ 0 ∷ []) (omega (arith, length-append xs (0 ∷ 0 ∷ 0 ∷ [])))
+row-length : (code : ℕ) (xs : List ℕ) → length (lists.take columns (code ∷ xs ++ 0 ∷ 0 ∷ 0 ∷ [])) ≡ columns
+row-length code xs = length-take-le columns (code ∷ xs ++ 0 ∷ 0 ∷ 0 ∷ []) (omega (arith, length-append xs (0 ∷ 0 ∷ 0 ∷ [])))
 
 row-left : (made : ℕ) (cells : List ℕ) (code : ℕ) (xs : List ℕ) → Left (made + 1) cells (withRow cells made code xs)
 row-left made cells code xs =
     record {
-      as-many = length-sets cells (made * 4) (lists.take 4 (code ∷ xs ++ 0 ∷ 0 ∷ 0 ∷ []));
-      same = λ j h. sets-other (lists.take 4 (code ∷ xs ++ 0 ∷ 0 ∷ 0 ∷ [])) cells (made * 4) j (omega (arith, row-length code xs));
+      as-many = length-sets cells (made * columns) (lists.take columns (code ∷ xs ++ 0 ∷ 0 ∷ 0 ∷ []));
+      same = λ j h. sets-other (lists.take columns (code ∷ xs ++ 0 ∷ 0 ∷ 0 ∷ [])) cells (made * columns) j (omega (arith, row-length code xs));
     }
 
 -- ------------------------------------------------------------------ templates, items, calls
