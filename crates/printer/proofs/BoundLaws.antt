@@ -17,7 +17,8 @@ use Rattle.terms.specs.Print.{print}
 use Rattle.terms.specs.TextSize.{textSize, textSizeFields}
 use Rattle.terms.specs.Labelled.{nameShown, labelled, labelledFields}
 use Rattle.writer.specs.Openings.{spellIn}
-use Rattle.printer.specs.Printed.{termPart, partText, PartFits, PrintableBy}
+use Rattle.printing.specs.PrintedParts.{termPart, partText, PartFits}
+use Rattle.printer.specs.Printed.{PrintableBy}
 use Rattle.writer.specs.Pool.{ShortSpellings}
 use Rattle.rows.specs.Sizes.{noSpell}
 use Rattle.rows.proofs.RowLaws.{as-word, as-fresh, as-outside}

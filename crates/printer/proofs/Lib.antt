@@ -1,4 +1,2 @@
-pub mod Texts
-pub mod PrintLaws
 pub mod BoundLaws
 pub mod TextLaws

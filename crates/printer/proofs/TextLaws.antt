@@ -11,7 +11,8 @@ use Rattle.terms.specs.Rows.{termAt}
 use Rattle.terms.specs.Print.{print}
 use Rattle.terms.specs.Labelled.{labelled}
 use Rattle.writer.specs.Openings.{spellIn, Wrote}
-use Rattle.printer.specs.Printed.{termPart, partText, textBy, Prints}
+use Rattle.printing.specs.PrintedParts.{termPart, partText}
+use Rattle.printer.specs.Printed.{textBy, Prints}
 use Rattle.writer.specs.Pool.{Pooled}
 
 -- a text that is too long

@@ -1,13 +1,12 @@
 // Printing a term whose new names are numbered.
-use crate::printing::print_term;
+use printing::print_term;
 use writer::pool::fill;
 ghost use Prim.Native.Nat.{ℕ, _≤_, _<_};
 ghost use mathlib.Core.Path.{_≡_};
 ghost use lib.ListN.{length, getD};
 ghost use Rattle.writer.specs.Pool.{spelledBy};
-ghost use Rattle.printer.specs.Printed.{termPart, partText, textBy, PartFits, Printable, PrintableBy, Prints};
-
-pub mod printing;
+ghost use Rattle.printing.specs.PrintedParts.{termPart, partText, PartFits};
+ghost use Rattle.printer.specs.Printed.{textBy, Printable, PrintableBy, Prints};
 
 // The most bytes that a constructor adds to a text: mkFieldCons with a label of 31 bytes takes 46.
 const LONGEST: usize = 46;

@@ -5,7 +5,7 @@ use writer::openings::open_fields;
 use writer::openings::open_term;
 use writer::writing::byte_at;
 use writer::writing::close_at;
-ghost use Rattle.printer.specs.Printed.{termPart, fieldsPart, PartFits, PartPrinted};
+ghost use Rattle.printing.specs.PrintedParts.{termPart, fieldsPart, PartFits, PartPrinted};
 
 // The text of the term at a row, behind `at`; the answer is the place behind it. `place` moves on by its constructors. The loop goes from a
 // constructor to its last part, which takes the parenthesis behind it along: as many as the depth that the loop has gone. Parts before the last

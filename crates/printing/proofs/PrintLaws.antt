@@ -15,10 +15,10 @@ use Rattle.rows.specs.Sizes.{noSpell, sizeAt, sizeFieldsAt}
 use Rattle.rows.proofs.RowLaws as rows
 use Rattle.rows.proofs.SizeLaws.{size-spell, size-some, size-some-fields}
 use Rattle.writer.specs.Openings.{opening, openingFields, closes, spellIn, termOpening, fieldsOpening, Wrote, OpeningFits, FieldsOpeningFits}
-use Rattle.printer.specs.Printed.{Part, termPart, fieldsPart, partText, partSize, PartFits, PartPrinted}
+use Rattle.printing.specs.PrintedParts.{Part, termPart, fieldsPart, partText, partSize, PartFits, PartPrinted}
 use Rattle.writer.proofs.Pieces.{then, as-text, nothing}
-use Rattle.printer.proofs.Texts.{fun-then, app-then, rcd-then, dot-then, var-then, num-then, print-cons, print-nil}
-use Rattle.printer.proofs.Texts.{opening-part, opening-part-fields}
+use Rattle.printing.proofs.Texts.{fun-then, app-then, rcd-then, dot-then, var-then, num-then, print-cons, print-nil}
+use Rattle.printing.proofs.Texts.{opening-part, opening-part-fields}
 
 -- ------------------------------------------------------------------ pieces of a part
 

@@ -7,22 +7,22 @@ use native.Mathlib.Omega.{arith}
 use borrow.Author.Needs.{needs}
 use borrow.Fn.Kinds.{In}
 use borrow.Fn.PlainCycle.{Measures, is, falls, and}
-use Rattle.printer.specs.Printed.{termPart}
-use Rattle.printer.proofs.PrintLaws as laws
-use Rattle.printer.proofs.printing.print_fields.Reads as print-fields
-use Rattle.printer.proofs.printing.print_fields.Kinds as print-fields-kinds
-use Rattle.printer.proofs.printing.+print_fields+print_term.Lts-print_fields as fields-lts
-use Rattle.printer.proofs.printing.print_term.Reads as print-term
-use Rattle.printer.proofs.printing.print_term.Kinds as print-term-kinds
-use Rattle.printer.proofs.printing.+print_fields+print_term.Lts-print_term as term-lts
+use Rattle.printing.specs.PrintedParts.{termPart}
+use Rattle.printing.proofs.PrintLaws as laws
+use Rattle.printing.proofs.print_fields.Reads as print-fields
+use Rattle.printing.proofs.print_fields.Kinds as print-fields-kinds
+use Rattle.printing.proofs.+print_fields+print_term.Lts-print_fields as fields-lts
+use Rattle.printing.proofs.print_term.Reads as print-term
+use Rattle.printing.proofs.print_term.Kinds as print-term-kinds
+use Rattle.printing.proofs.+print_fields+print_term.Lts-print_term as term-lts
 use Rattle.rows.proofs.column.Reads as column-reads
 use Rattle.writer.proofs.openings.label_at.Reads as label-at-reads
 use Rattle.writer.proofs.openings.open_fields.Reads as open-fields-reads
 use Rattle.writer.proofs.openings.open_term.Reads as open-term-reads
 use Rattle.writer.proofs.writing.byte_at.Reads as byte-at-reads
 use Rattle.writer.proofs.writing.close_at.Reads as close-at-reads
-use Rattle.printer.proofs.printing.+print_fields+print_term.{statement}
-use Rattle.printer.proofs.printing.+print_fields+print_term.Tie.{close}
+use Rattle.printing.proofs.+print_fields+print_term.{statement}
+use Rattle.printing.proofs.+print_fields+print_term.Tie.{close}
 
 abbrev μ-fields : Measures 8 print-fields-kinds.ps ℕ
 μ-fields κs a = let from-cells = a .1 .1 .1 in from-cells .1 .1 .0
