@@ -49,8 +49,7 @@ module _ (table formula cells text : List ℕ) where
   -- ------------------------------------------------------------------ demand 2: a table that does not pass
 
   -- A table of bytes that does not pass gets exactly the refusal of its check, and nothing that was lent changes.
-  pub not-passed : ((place : ℕ) → getD table place 0 < 256) → (Passes table → ⊥)
-      → (refusal : Refusal) × (check table ≡ Refused refusal) × (X ≡ refused refusal cells text)
+  pub not-passed : ((at : ℕ) → getD table at 0 < 256) → (Passes table → ⊥) → (r : Refusal) × (check table ≡ Refused r) × (X ≡ refused r cells text)
   not-passed bytes = exactly.not-passed table bytes formula cells text
 
   -- ------------------------------------------------------------------ demand 2: a table that passes
@@ -64,9 +63,9 @@ module _ (table formula cells text : List ℕ) where
     refused-exactly = rw (expand-passed table passes formula cells text) (exactly.refused-exactly (passes .table) T formula cells text)
 
     -- A formula is accepted exactly if Figure 3 derives a term within the limits and the rows lent, which is not too large, has no loose
-    -- fresh variable and fits the text lent; `made`, `constructors` and `text-size` are its cells, constructors and bytes.
-    pub accepted-exactly : (made constructors text-size : ℕ) → (X .answer ≡ Accepted made constructors text-size)
-        ↔ ((meant : Term Name) × Accepts (passes .table) formula cells text meant made constructors text-size)
+    -- fresh variable and fits the text lent; `made`, `size` and `bytes` are its cells, constructors and bytes.
+    pub accepted-exactly : (made size bytes : ℕ)
+        → (X .answer ≡ Accepted made size bytes) ↔ ((meant : Term Name) × Accepts (passes .table) formula cells text meant made size bytes)
     accepted-exactly = rw (expand-passed table passes formula cells text) (exactly.accepted-exactly (passes .table) T formula cells text)
 
     -- Figure 3 derives one term at most.
@@ -74,13 +73,12 @@ module _ (table formula cells text : List ℕ) where
     one-term = means-one (passes .table) T formula
 
     -- The text of an acceptance is that term renamed and printed, with what was lent behind it.
-    pub accepted-text : (made constructors text-size : ℕ) → X .answer ≡ Accepted made constructors text-size → {meant : Term Name}
+    pub accepted-text : (made size bytes : ℕ) → X .answer ≡ Accepted made size bytes → {meant : Term Name}
         → Means (passes .table) formula meant → X .text ≡ print (rename meant) ++ drop (textLength meant) text
     accepted-text = rw (expand-passed table passes formula cells text) (exactly.accepted-text (passes .table) T formula cells text)
 
     -- A row of those made shows that term, whatever the other rows held.
-    pub accepted-cells : (made constructors text-size : ℕ) → X .answer ≡ Accepted made constructors text-size
-        → {meant : Term Name} (means : Means (passes .table) formula meant)
+    pub accepted-cells : (made size bytes : ℕ) → X .answer ≡ Accepted made size bytes → {meant : Term Name} (means : Means (passes .table) formula meant)
         → (row : ℕ) × (termAt made (spellOf (passes .table) (means .words)) (take (made * columns) (X .cells)) row ≡ meant)
     accepted-cells = rw (expand-passed table passes formula cells text) (exactly.accepted-cells (passes .table) T formula cells text)
 
@@ -94,8 +92,7 @@ module _ (table formula cells text : List ℕ) where
 
     -- Any answer leaves the cells behind the rows made, which are no more than there are.
     pub cells-left : (made : ℕ) × (made ≤ rowsLent (length cells)) × Left made cells (X .cells)
-    cells-left =
-        let k = exactly.keeps (passes .table) T formula cells text in rw (expand-passed table passes formula cells text) (k .rows, k .few, k .left)
+    cells-left = let k = exactly.keeps (passes .table) T formula cells text in rw (expand-passed table passes formula cells text) (k .rows, k .few, k .left)
 
     -- ------------------------------------------------------------------ 001, Theorem 1
 

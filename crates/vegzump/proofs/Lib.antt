@@ -1,5 +1,1 @@
 pub mod Demands
-pub mod Naming
-pub mod Parsing
-pub mod Root
-pub mod Joining

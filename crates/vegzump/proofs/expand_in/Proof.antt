@@ -3,14 +3,14 @@ use mathlib.Core.Path.{sym}
 use native.Mathlib.Omega.{arith}
 use lib.Seq.{length-take-le}
 use Rattle.decoding.proofs.Split.{Bytes}
-use Rattle.vegzump.proofs.Joining as joining
+use Rattle.parser.proofs.Joining as joining
 use borrow.Author.Needs.{needs}
 use Rattle.vegzump.proofs.expand_in.Statement.{statement}
 use Rattle.vegzump.proofs.expand_in.Tie as tie
 use Rattle.vegzump.proofs.expand_in.Reads as reads
 use Rattle.vegzump.proofs.expand_in.Lts as lts
 use Rattle.emitter.proofs.emit.Reads as emit-reads
-use Rattle.vegzump.proofs.parse.parse_by_size.Reads as parse-by-size-reads
+use Rattle.parser.proofs.parse_by_size.Reads as parse-by-size-reads
 
 abbrev claims : lts.Claims
 claims = (parse-by-size-reads.Asked, parse-by-size-reads.Learnt, emit-reads.Asked, emit-reads.Learnt)

@@ -19,9 +19,9 @@ use Rattle.expansion.specs.Run.{Result, halt}
 use Rattle.expansion.specs.Outcomes.{ran}
 use Rattle.expansion.specs.Expansion.{run}
 use Rattle.meaning.specs.Expand.{refused, inputOf, finished, scanned, expandTable, checkedFirst, expand}
-use Rattle.vegzump.specs.declared.parse.Parsed.{Parsed}
-use Rattle.vegzump.specs.Parse.{parseScanned, parseChecked, parse, parsedInto, haltedParse, outcomeOf, cellsAfter}
-use Rattle.vegzump.specs.Parse.{parseFilled, parseIntoChecked, parseInto}
+use Rattle.parser.specs.declared.Parsed.{Parsed}
+use Rattle.parser.specs.Parse.{parseScanned, parseChecked, parse, parsedInto, haltedParse, outcomeOf, cellsAfter}
+use Rattle.parser.specs.Parse.{parseFilled, parseIntoChecked, parseInto}
 
 -- ------------------------------------------------------------------ what the parse gives
 

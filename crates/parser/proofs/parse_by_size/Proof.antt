@@ -1,8 +1,8 @@
 -- `parse_by_size`: a formula has no more tokens than bytes.
 use native.Mathlib.Omega.{arith}
 use borrow.Author.Needs.{needs}
-use Rattle.vegzump.proofs.parse.parse_by_size.Statement.{statement}
-use Rattle.vegzump.proofs.parse.parse_by_size.Tie as tie
+use Rattle.parser.proofs.parse_by_size.Statement.{statement}
+use Rattle.parser.proofs.parse_by_size.Tie as tie
 
 parse-in-requires : tie.Need-parse-in-requires
 parse-in-requires c κs =

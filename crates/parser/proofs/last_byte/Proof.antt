@@ -3,8 +3,8 @@ use mathlib.Core.Path.{sym}
 use native.Mathlib.Omega.{arith}
 use borrow.Author.Needs.{needs}
 use lib.ListN.{List·getD-eq-default}
-use Rattle.vegzump.proofs.parse.last_byte.Statement.{statement}
-use Rattle.vegzump.proofs.parse.last_byte.Tie as tie
+use Rattle.parser.proofs.last_byte.Statement.{statement}
+use Rattle.parser.proofs.last_byte.Tie as tie
 
 returns : tie.Need-returns
 returns c = sym (List·getD-eq-default (c .before .args .bytes .now) 0 (omega arith))

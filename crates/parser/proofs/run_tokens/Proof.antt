@@ -1,7 +1,7 @@
 -- `run_tokens`: the run with the root that the table's last byte names.
 use borrow.Author.Needs.{needs}
-use Rattle.vegzump.proofs.parse.run_tokens.Statement.{statement}
-use Rattle.vegzump.proofs.parse.run_tokens.Tie as tie
+use Rattle.parser.proofs.run_tokens.Statement.{statement}
+use Rattle.parser.proofs.run_tokens.Tie as tie
 
 returns : tie.Need-returns
 returns c =

@@ -46,11 +46,11 @@ use Rattle.soundness.specs.Passing.{Passing, Lexemes}
 use Rattle.soundness.proofs.ExpansionTheorems as expansion
 use Rattle.meaning.specs.Expand.{expanded, withCells, finished, expand}
 use Rattle.meaning.specs.Meaning as Meaning
-use Rattle.vegzump.specs.declared.parse.Parsed.{Parsed}
-use Rattle.vegzump.specs.Parse.{parse, HoldsPassed, Rooms, WordsKnown, RowsLie, ParsesInto, ParsesTo, haltedParse, parsedInto, parseInto}
-use Rattle.vegzump.proofs.Naming as naming
-use Rattle.vegzump.proofs.Parsing as parsing
-use Rattle.vegzump.proofs.Root.{root-last}
+use Rattle.parser.specs.declared.Parsed.{Parsed}
+use Rattle.parser.specs.Parse.{parse, HoldsPassed, Rooms, WordsKnown, RowsLie, ParsesInto, ParsesTo, haltedParse, parsedInto, parseInto}
+use Rattle.parser.proofs.Naming as naming
+use Rattle.parser.proofs.Parsing as parsing
+use Rattle.parser.proofs.Root.{root-last}
 use Rattle.meaning.proofs.Stages as stages
 
 -- ------------------------------------------------------------------ the check

@@ -8,15 +8,15 @@ use Rattle.tokens.specs.declared.Scanned.the-variants.{Tokens}
 use Rattle.scanner.specs.Rooms.{RoomFor}
 use Rattle.scanner.proofs.AfterScan.{Holds}
 use Rattle.grammar.specs.Table.{lexiconOfTable}
-use Rattle.vegzump.proofs.Joining as joining
+use Rattle.parser.proofs.Joining as joining
 use borrow.Author.Needs.{needs}
-use Rattle.vegzump.proofs.parse.parse_checked.Statement.{statement}
-use Rattle.vegzump.proofs.parse.parse_checked.Tie as tie
-use Rattle.vegzump.proofs.parse.parse_checked.Reads as reads
-use Rattle.vegzump.proofs.parse.parse_checked.Lts as lts
+use Rattle.parser.proofs.parse_checked.Statement.{statement}
+use Rattle.parser.proofs.parse_checked.Tie as tie
+use Rattle.parser.proofs.parse_checked.Reads as reads
+use Rattle.parser.proofs.parse_checked.Lts as lts
 use Rattle.scanner.proofs.scan.Reads as scan-reads
-use Rattle.vegzump.proofs.parse.halted.Reads as halted-reads
-use Rattle.vegzump.proofs.parse.run_tokens.Reads as run-tokens-reads
+use Rattle.parser.proofs.halted.Reads as halted-reads
+use Rattle.parser.proofs.run_tokens.Reads as run-tokens-reads
 
 abbrev claims : lts.Claims
 claims = (

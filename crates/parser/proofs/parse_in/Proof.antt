@@ -2,16 +2,16 @@
 use mathlib.Core.Path.{sym, _∙_}
 use native.Mathlib.Omega.{arith}
 use Rattle.decoding.proofs.Split.{Bytes}
-use Rattle.vegzump.proofs.Joining as joining
-use Rattle.vegzump.proofs.Parsing as parsing
+use Rattle.parser.proofs.Joining as joining
+use Rattle.parser.proofs.Parsing as parsing
 use borrow.Author.Needs.{needs}
-use Rattle.vegzump.proofs.parse.parse_in.Statement.{statement}
-use Rattle.vegzump.proofs.parse.parse_in.Tie as tie
-use Rattle.vegzump.proofs.parse.parse_in.Reads as reads
-use Rattle.vegzump.proofs.parse.parse_in.Lts as lts
+use Rattle.parser.proofs.parse_in.Statement.{statement}
+use Rattle.parser.proofs.parse_in.Tie as tie
+use Rattle.parser.proofs.parse_in.Reads as reads
+use Rattle.parser.proofs.parse_in.Lts as lts
 use Rattle.checker.proofs.check_into.Reads as check-into-reads
-use Rattle.vegzump.proofs.parse.halted.Reads as halted-reads
-use Rattle.vegzump.proofs.parse.parse_checked.Reads as parse-checked-reads
+use Rattle.parser.proofs.halted.Reads as halted-reads
+use Rattle.parser.proofs.parse_checked.Reads as parse-checked-reads
 
 abbrev claims : lts.Claims
 claims = (

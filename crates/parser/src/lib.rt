@@ -11,7 +11,7 @@ ghost use Rattle.expansion.specs.Outcomes.{ran};
 ghost use Rattle.expansion.specs.Expansion.{run};
 ghost use Rattle.expander.specs.Lent.{lentInput};
 ghost use Rattle.terms.specs.Cells.{rowsLent};
-ghost use Rattle.vegzump.specs.Parse.{Runnable, Rooms, WordRoom, Parseable, ParsesInto, ParsesTo, parsedInto, parseInto, numberedOutcome};
+ghost use Rattle.parser.specs.Parse.{Runnable, Rooms, WordRoom, Parseable, ParsesInto, ParsesTo, parsedInto, parseInto, numberedOutcome};
 
 // The outcome of a parse, and how many words the formula has that are neither keywords nor outside names.
 pub struct Parsed {
@@ -148,12 +148,7 @@ pub fn parse(
 }
 
 // The same with a room of the size that a formula's tokens need at most.
-pub(crate) fn parse_by_size(
-    table: &[u8],
-    formula: &[u8],
-    words: &mut [u32],
-    cells: &mut [u32],
-) -> Parsed
+pub fn parse_by_size(table: &[u8], formula: &[u8], words: &mut [u32], cells: &mut [u32]) -> Parsed
     requires { ⌜ WordRoom (now formula) (now words) ⌝ }
     ensures { λ r. ⌜ ParsesTo (now (table .entry)) (now (formula .entry)) (now (cells .entry)) (now (words .exit)) (now (cells .exit)) r ⌝ }
 {

@@ -1,7 +1,7 @@
 -- `parse`: the number and values follow from the equation.
 use borrow.Author.Needs.{needs}
-use Rattle.vegzump.proofs.parse.parse.Statement.{statement}
-use Rattle.vegzump.proofs.parse.parse.Tie as tie
+use Rattle.parser.proofs.parse.Statement.{statement}
+use Rattle.parser.proofs.parse.Tie as tie
 
 returns : tie.Need-returns
 returns c = let e = c .before .before .parse-in .ensures .whole in (e, rw (← e))
