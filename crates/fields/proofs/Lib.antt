@@ -1,2 +1,3 @@
+pub mod FollowLaws
 pub mod Laws
 pub mod LawsTemplates

@@ -12,9 +12,10 @@ use grammar::reader::byte;
 use grammar::sorts::Sort;
 ghost use mathlib.Core.Path.{_≡_};
 ghost use mathlib.Core.Bool.{true};
-ghost use Prim.Native.Nat.{_-_};
+ghost use Prim.Native.Nat.{ℕ, _-_};
 ghost use lib.ListN.{drop};
 ghost use Rattle.spellings.specs.Bytes.{every, oneIf};
+ghost use Rattle.kinds.specs.Kinds.{hasKind};
 ghost use Rattle.grammar.specs.SortTests.{isSort};
 ghost use Rattle.decoding.specs.Prefix.{templatesOf};
 ghost use Rattle.decoding.specs.Layout.{isHead, isItem, isRoot, isKnown, follows, hasRoom, passed, isWhole};
@@ -94,18 +95,28 @@ pub fn is_known(tag: u8, v: &[u8]) -> bool
 
 // ---------------------------------------------------------------- 4: order
 
+// The tags that a tag may follow, as a set: bit k stands for tag k, bit 0 for the start.
+fn tags_before(tag: u8) -> u64
+    ensures { λ r. ⌜ ((last : ℕ) → hasKind r last ≡ follows tag last) ⌝ }
+{
+    match tag {
+        1 => 0x03,
+        2 => 0x07,
+        3 => 0x8F,
+        4 => 0x88,
+        5 => 0x90,
+        6 => 0x60,
+        7 => 0x60,
+        8 => 0x8F,
+        _ => 0,
+    }
+}
+
 // Whether a tag may follow another, which is 0 at the start.
 pub fn may_follow(tag: u8, last: u8) -> bool
     ensures { λ r. ⌜ r ≡ follows tag last ⌝ }
 {
-    ((tag == 1) & (last <= 1))
-        | ((tag == 2) & (last <= 2))
-        | ((tag == 3) & ((last <= 3) | (last == 7)))
-        | ((tag == 4) & ((last == 3) | (last == 7)))
-        | ((tag == 5) & ((last == 4) | (last == 7)))
-        | ((tag == 6) & ((last == 5) | (last == 6)))
-        | ((tag == 7) & ((last == 5) | (last == 6)))
-        | ((tag == 8) & ((last <= 3) | (last == 7)))
+    kinds::has(tags_before(tag), last)
 }
 
 // ---------------------------------------------------------------- 6: counts
