@@ -25,6 +25,7 @@ use Rattle.clashes.specs.CheckCalls.{Prepared}
 use Rattle.clashes.proofs.FillLaws.{length-entries}
 use Rattle.clashes.proofs.HeldPairs.{no-clash-is}
 use Rattle.firsts.proofs.StepLaws.{length-sets}
+use Rattle.grammar.specs.Limits.{most}
 
 -- ------------------------------------------------------------------ the room
 
@@ -53,7 +54,7 @@ prepared bs places {room₀} {nulls = nulls} en e er el =
     }
 
 -- an offset in a table that is not too long
-near-entries : {bs : List ℕ} (nulls : ℕ) (sets : List ℕ) → length bs ≤ 16384 → {ps : List Place} → Each (Whole bs) ps → (place : ℕ)
+near-entries : {bs : List ℕ} (nulls : ℕ) (sets : List ℕ) → length bs ≤ most .bytes → {ps : List Place} → Each (Whole bs) ps → (place : ℕ)
     → getD (map (entryAt bs nulls sets) ps) place noEntry .start < 65536
 near-entries nulls sets short each-none place = omega arith
 near-entries nulls sets short (each-more w ws) zero = omega (arith, w .inside)

@@ -15,7 +15,7 @@ use Rattle.spellings.specs.Buffers.{writtenInto}
 use Rattle.spellings.proofs.BytesLaws.{by-test}
 use Rattle.spellings.proofs.BuffersLaws.{written-fits, written-not}
 use Rattle.grammar.proofs.ReaderLaws.{getD-past}
-use Rattle.terms.specs.Term.{Name, Term, size}
+use Rattle.terms.specs.Term.{Name, Term, size, largestTerm}
 use Rattle.terms.specs.Rows.{termAt}
 use Rattle.terms.specs.Print.{print}
 use Rattle.terms.specs.Emit.{textOf, fitted, emitted}
@@ -28,6 +28,7 @@ use Rattle.resolver.specs.declared.Resolution.the-variants.{Loose, Numbered}
 use Rattle.resolver.specs.Numbers.{walkOf, ResolvedAs}
 use Rattle.printer.specs.Printed.{textBy, Prints}
 use Rattle.emitter.specs.Emittable.{Emittable, Markable, answerBy}
+use Rattle.rows.specs.Bounds.{mostBound}
 
 module _ (made constructors needed room : ℕ) where
   -- a text longer than its buffer is refused with 24 and its length
@@ -63,11 +64,11 @@ module _ (spell : ℕ → List ℕ) (cells : List ℕ) (made root : ℕ) where
   sized = size-spell made noSpell spell cells root
 
   -- 22
-  pub emit-large : (text : List ℕ) {answer : Answer} → 16384 < sizeAt cells made root → answer ≡ Refusing (refusal 22 made 0 0)
+  pub emit-large : (text : List ℕ) {answer : Answer} → largestTerm < sizeAt cells made root → answer ≡ Refusing (refusal 22 made 0 0)
       → emitted textOf made T text ≡ leaves answer text
   emit-large text h e = emitted-large textOf made T text (omega (arith, sized)) ∙ ap (λ a. leaves a text) (sym e)
 
-  module _ (text : List ℕ) (small : sizeAt cells made root ≤ 16384) {numbers : List ℕ} {resolution : Resolution} (resolved : ResolvedAs T numbers resolution)
+  module _ (text : List ℕ) (small : sizeAt cells made root ≤ largestTerm) {numbers : List ℕ} {resolution : Resolution} (resolved : ResolvedAs T numbers resolution)
     where
       -- 23
       pub emit-loose : {place : ℕ} {answer : Answer} → resolution ≡ Loose place → answer ≡ Refusing (refusal 23 place 0 0)
@@ -100,8 +101,8 @@ zeros-front count size place =
 
 -- A room of as many marks as the term has constructors, at the front of `count-marked` zeros.
 pub markable : {table formula words cells : List ℕ} {count made root left : ℕ} (count-marked : ℕ) → Emittable table formula words count cells made root
-    → left ≡ 16385 - sizeAt cells made root → (left ≡ 0 → ⊥) → 16385 - left ≤ count-marked
-    → Markable table formula words count cells made root (take (16385 - left) (replicate count-marked 0))
+    → left ≡ mostBound - sizeAt cells made root → (left ≡ 0 → ⊥) → mostBound - left ≤ count-marked
+    → Markable table formula words count cells made root (take (mostBound - left) (replicate count-marked 0))
 markable {left = left} count-marked e counted some l =
-    let long = length-take-le {A = ℕ} (16385 - left) (replicate count-marked 0) (omega (arith, length-replicate {A = ℕ} count-marked 0)) in
-    record { emittable = e; counted = omega (arith, long); few = omega (arith, long); blank = zeros-front count-marked (16385 - left) }
+    let long = length-take-le {A = ℕ} (mostBound - left) (replicate count-marked 0) (omega (arith, length-replicate {A = ℕ} count-marked 0)) in
+    record { emittable = e; counted = omega (arith, long); few = omega (arith, long); blank = zeros-front count-marked (mostBound - left) }

@@ -18,6 +18,7 @@ use Rattle.grammar.proofs.LookupLaws.{fields-at, fields-of, front-inside, front
 use Rattle.decoding.specs.Decode.{modeOf}
 use Rattle.productions.specs.Index.{Place, placesFrom, placesIn, placesBy, placesOf, placesWithout, placesKept, alternativeFields}
 use Rattle.productions.specs.IndexCalls.{IndexRoomFor, Index, FitsIndex}
+use Rattle.grammar.specs.Limits.{most}
 
 -- ------------------------------------------------------------------ a walk over places
 
@@ -249,7 +250,7 @@ module _ (at tag : ℕ) (value : List ℕ) (fs : RawFields) where
 -- the fields before `at` gave the first `count` entries, and `nonterminal` is the nonterminal of the alternatives to come
 pub record Building (bs : List ℕ) (at nonterminal count : ℕ) (owners starts : List ℕ) : Type 0 where
   -- the table is not too long
-  pub short : length bs ≤ 16384
+  pub short : length bs ≤ most .bytes
   -- there is room for the alternatives left
   pub room : count + alternativeFields (fieldsAt bs at) ≤ 256
   -- the fields left, after the places entered, give the places of the whole table

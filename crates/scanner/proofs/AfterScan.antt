@@ -15,7 +15,7 @@ use Rattle.grammar.specs.Table.{Lexicon}
 use Rattle.tokens.specs.declared.Token.{Token}
 use Rattle.tokens.specs.declared.Scanned.the-variants.{Tokens, Unscanned}
 use Rattle.tokens.specs.Scan.{Lexed, scan}
-use Rattle.tokens.specs.Tokens.{endToken}
+use Rattle.tokens.specs.Tokens.{endToken, mostTokens}
 use Rattle.scanner.specs.Rooms.{tokenRows, rowOf, tokensIn, wordPlaces, wordsIn, RoomFor, TokensFit, filled, scanInto}
 use Rattle.tokens.specs.Tiling.{Stands, a-keyword, a-keyword-symbol, an-outside-name, a-word-again, a-new-word, a-number, a-symbol}
 use Rattle.tokens.proofs.TokenLaws.{Kept, scan-kept}
@@ -30,7 +30,7 @@ largest-fits = lit≤ tt
 
 -- a token's value, by its rule
 value-small : {lex : Lexicon} {at : ℕ} {rest : List ℕ} {met met′ : List (List ℕ)} {token : Token} → length (lex .outsides) ≤ 64
-    → length met ≤ 4096
+    → length met ≤ mostTokens
     → Stands lex at rest met token met′
     → token .value ≤ largest
 value-small few h (a-keyword w f) = omega arith
@@ -56,12 +56,12 @@ module _ (lex : Lexicon) (few : length (lex .outsides) ≤ 64) (formula : List �
   -- at most as many tokens as bytes and at most 4,096, small values, and at most as many words as tokens
   record Sized (many : ℕ) (lexed : Lexed) : Type 0 where
     bytes : many + length (lexed .tokens) ≤ length formula
-    tokens : many + length (lexed .tokens) ≤ 4096
+    tokens : many + length (lexed .tokens) ≤ mostTokens
     values : Every (λ t. t .value ≤ largest) (lexed .tokens)
     words : length (lexed .words) ≤ many + length (lexed .tokens)
 
   SizedFrom : ℕ → ℕ → List (List ℕ) → Lexed → Type 0
-  SizedFrom at n words l = n ≤ at → at ≤ length formula → n ≤ 4096 → length words ≤ n → Sized n l
+  SizedFrom at n words l = n ≤ at → at ≤ length formula → n ≤ mostTokens → length words ≤ n → Sized n l
 
   sized-kept : Kept lex formula SizedFrom
   unfolding SizedFrom

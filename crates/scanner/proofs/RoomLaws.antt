@@ -10,7 +10,7 @@ use lib.Seq.{sets, length-sets, getD-set-same, getD-set-other}
 use Rattle.grammar.specs.Table.{Lexicon}
 use Rattle.tokens.specs.declared.Token.{Token}
 use Rattle.tokens.specs.Scan.{Lexed, withToken, isNew, wordsWith, scan}
-use Rattle.tokens.specs.Tokens.{token, endToken}
+use Rattle.tokens.specs.Tokens.{token, endToken, mostTokens}
 use Rattle.scanner.specs.Rooms.{rowThen, tokenRows, rowOf, tokensFrom, tokensIn, placeThen, countWith, wordPlaces, wordsFrom, wordsIn}
 use Rattle.scanner.proofs.StoreLaws.{words-stored}
 use Rattle.lexicon.proofs.PlaceLaws.{words-length}
@@ -126,7 +126,7 @@ module _ (room : List ℕ) where
 module _ (lex : Lexicon) (few : length (lex .outsides) ≤ 64) (formula : List ℕ) where
   NamedFrom : ℕ → ℕ → List (List ℕ) → Lexed → Type 0
   NamedFrom at n words l =
-      (room : List ℕ) (count : ℕ) → ((m : ℕ) → m ≤ length formula → m ≤ 4096 → m * 2 ≤ length room) → n ≤ at → count ≤ n
+      (room : List ℕ) (count : ℕ) → ((m : ℕ) → m ≤ length formula → m ≤ mostTokens → m * 2 ≤ length room) → n ≤ at → count ≤ n
       → wordsIn formula room count ≡ words
       → wordsIn formula (sets room (count * 2) (wordPlaces count (l .tokens))) (length (l .words)) ≡ l .words
 
@@ -137,7 +137,7 @@ module _ (lex : Lexicon) (few : length (lex .outsides) ≤ 64) (formula : List �
       let z : length words ≡ count = sym (ap length e) ∙ words-length count formula room 0 in
       ap (wordsIn formula room) z ∙ e
 
-  named-token : (at before : ℕ) (words : List (List ℕ)) (read-token : Token) (lexed : Lexed) → at < length formula → before < 4096 → 0 < read-token .size
+  named-token : (at before : ℕ) (words : List (List ℕ)) (read-token : Token) (lexed : Lexed) → at < length formula → before < mostTokens → 0 < read-token .size
       → read-token .at ≡ at
       → NamedFrom (at + read-token .size) (before + 1) (wordsWith words (take (read-token .size) (drop at formula)) read-token) lexed
       → NamedFrom at before words (withToken read-token lexed)
@@ -163,7 +163,7 @@ module _ (lex : Lexicon) (few : length (lex .outsides) ≤ 64) (formula : List �
       }
 
   -- The places that a scan stores name its words in the formula.
-  pub words-named : (room : List ℕ) → ((many : ℕ) → many ≤ length formula → many ≤ 4096 → many * 2 ≤ length room)
+  pub words-named : (room : List ℕ) → ((many : ℕ) → many ≤ length formula → many ≤ mostTokens → many * 2 ≤ length room)
       → wordsIn formula (sets room 0 (wordPlaces 0 (scan lex formula .tokens))) (length (scan lex formula .words)) ≡ scan lex formula .words
   unfolding NamedFrom wordsFrom
   words-named room long = scan-kept lex few formula NamedFrom named-kept room 0 long (omega arith) (omega arith) refl

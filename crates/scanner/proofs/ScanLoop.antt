@@ -74,7 +74,7 @@ pub record Turn (lex : Lexicon) (formula tokens₀ words₀ tokens words : List 
   -- it is large enough
   pub enough : length formula ≤ at + fuel
   -- there are at most 4,096 tokens
-  pub small : many ≤ 4096
+  pub small : many ≤ mostTokens
   -- there are no more words than tokens
   pub few : count ≤ many
   -- there are no more tokens than bytes passed
@@ -91,13 +91,13 @@ unfolding scanInto
 into lex formula tokens words lexed e = ap (fillFrom 0 0 tokens words) (sym e)
 
 -- 14 leaves the rooms as they were
-pub too-long : (lex : Lexicon) (formula tokens words : List ℕ) → 65535 < length formula
+pub too-long : (lex : Lexicon) (formula tokens words : List ℕ) → longestFormula < length formula
     → filled (Unscanned (refusal 14 0 0 0)) tokens words ≡ scanInto lex formula tokens words
 unfolding tokenRows wordPlaces
 too-long lex formula tokens words h = into lex formula tokens words _ (scan-long lex formula h)
 
 -- nothing is scanned yet
-pub turn-start : (lex : Lexicon) (formula tokens words : List ℕ) → length formula ≤ 65535
+pub turn-start : (lex : Lexicon) (formula tokens words : List ℕ) → length formula ≤ longestFormula
     → Turn lex formula tokens words tokens words 0 0 0
 unfolding wordsFrom
 turn-start lex formula tokens words h =
@@ -161,11 +161,11 @@ module _ {lex : Lexicon} {formula tokens₀ words₀ tokens words : List ℕ} {a
     turn-less = omega (arith, lies .1)
 
     -- a token after 4,096 others gives 16
-    pub turn-full : many ≡ 4096 → filled (Unscanned (refusal 16 0 0 0)) tokens words ≡ scanInto lex formula tokens₀ words₀
+    pub turn-full : many ≡ mostTokens → filled (Unscanned (refusal 16 0 0 0)) tokens words ≡ scanInto lex formula tokens₀ words₀
     unfolding tokenRows wordPlaces
     turn-full z = rest-emit false (le-ltb many mostTokens (omega arith))
 
-    module _ (not-full : many ≡ 4096 → ⊥) (room : count * 2 + 2 ≤ length words) where
+    module _ (not-full : many ≡ mostTokens → ⊥) (room : count * 2 + 2 ≤ length words) where
       -- the rooms with the token and its word
       tokens₁ : List ℕ
       tokens₁ = sets tokens (many * 4) (rowThen token [])
@@ -173,7 +173,7 @@ module _ {lex : Lexicon} {formula tokens₀ words₀ tokens words : List ℕ} {a
       words₁ : List ℕ
       words₁ = sets words (count * 2) (placeThen count token [])
 
-      less : many < 4096
+      less : many < mostTokens
       less = omega (arith, turn .small, not-full)
 
       left-is : lexFrom (turn .fuel - 1) lex (at + token .size) (drop (token .size) (drop at formula)) (many + 1)

@@ -23,6 +23,7 @@ use Rattle.lexicon.proofs.PlaceLaws.{words-length}
 use Rattle.lexicon.proofs.TreeLaws.{zeros, tree-none, tree-more, links-long}
 use Rattle.tokens.proofs.StepLaws.{step-lies}
 use Rattle.scanner.proofs.ScanLoop.{Turn, turn-start, turn-skip, turn-emit, count-grows}
+use Rattle.tokens.specs.Tokens.{mostTokens}
 
 -- where the scan stands, with the words met in their trees and the rooms as long as they were
 pub record Scanning (table room tree formula tokens₀ words₀ links₀ tokens words links : List ℕ) (mask at many count : ℕ) : Type 0 where
@@ -33,7 +34,7 @@ pub record Scanning (table room tree formula tokens₀ words₀ links₀ tokens 
   -- the rooms for tokens and words are long enough
   pub room-for : RoomFor formula tokens words
   -- so is the room for links
-  pub enough : (size : ℕ) → size ≤ length formula → size ≤ 4096 → mask + 1 + size * 2 ≤ length links
+  pub enough : (size : ℕ) → size ≤ length formula → size ≤ mostTokens → mask + 1 + size * 2 ≤ length links
   -- the formula is not too long
   pub short : length formula < 65536
   -- the room for tokens keeps its length
@@ -122,8 +123,8 @@ module _ {table room tree formula tokens₀ words₀ links₀ tokens words links
     pub token-inside : at + token .size ≤ length formula
     token-inside = omega (arith, lies .2, length-drop at formula)
 
-    module _ (not-full : many ≡ 4096 → ⊥) where
-      below : many < 4096
+    module _ (not-full : many ≡ mostTokens → ⊥) where
+      below : many < mostTokens
       below = omega (arith, scanning .turn .small, not-full)
 
       -- there is room for its row
@@ -136,7 +137,7 @@ module _ {table room tree formula tokens₀ words₀ links₀ tokens words links
           omega (arith, scanning .turn .few, scanning .room-for .for-words (many + 1) (omega (arith, scanning .turn .passed)) (omega (arith, below)))
 
       -- the words met are fewer than 4,096
-      pub few-inside : count < 4096
+      pub few-inside : count < mostTokens
       few-inside = omega (arith, scanning .turn .few, below)
 
       -- the trees after the token
@@ -201,7 +202,7 @@ module _ {table room tree formula tokens₀ words₀ links₀ tokens words links
 
 -- a room of zeros that is long enough is ready for a scan's links
 pub scannable : (formula : List ℕ) (mask room : ℕ) → length formula < 65536
-    → ((size : ℕ) → size ≤ length formula → size ≤ 4096 → mask + 1 + size * 2 ≤ room)
+    → ((size : ℕ) → size ≤ length formula → size ≤ mostTokens → mask + 1 + size * 2 ≤ room)
     → Scannable formula (replicate room 0) mask
 scannable formula mask room short enough =
     record {

@@ -17,6 +17,7 @@ use Rattle.expansion.specs.declared.State.{State}
 use Rattle.expansion.specs.Run.{done}
 use Rattle.expansion.specs.Expansion.{Input, build}
 use Rattle.templates.specs.Built.{RoomsFit, Holds}
+use Rattle.grammar.specs.Limits.{most}
 
 -- ------------------------------------------------------------------ variables
 
@@ -85,7 +86,7 @@ module _ (tag number : ℕ) (input : Input) (values : List ℕ) (state : State) 
 -- ------------------------------------------------------------------ rows
 
 -- the rows of the cells fit
-pub rooms-fit : {bytes cells stack : List ℕ} {rows : ℕ} → length bytes ≤ 16384 → length bytes ≤ length stack → rows ≡ rowsLent (length cells)
+pub rooms-fit : {bytes cells stack : List ℕ} {rows : ℕ} → length bytes ≤ most .bytes → length bytes ≤ length stack → rows ≡ rowsLent (length cells)
     → RoomsFit bytes rows cells stack
 rooms-fit small long e = record { small = small; stack-long = long; few = omega arith; rows-long = omega arith }
 

@@ -53,7 +53,7 @@ module _ (lex : Lexicon) (few : length (lex .outsides) ≤ 64) (formula : List �
 
   follow : {at to : ℕ} {met met′ : List (List ℕ)} {ts : List Token} → Tiled lex formula at met ts to met′ → (fuel before : ℕ)
       → length formula ≤ at + fuel
-      → before + length ts ≤ 4096
+      → before + length ts ≤ mostTokens
       → Follows fuel at before met ts to met′
   follow {at} {met = met} here fuel before enough small =
       record { fuel = fuel; enough = enough; same = cc (add-zero before) }

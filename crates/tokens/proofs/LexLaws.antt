@@ -56,11 +56,11 @@ lex-end zero lex at many words = refl
 lex-end (suc fuel) lex at many words = refl
 
 -- a formula of at most 65,535 bytes is scanned from its front
-pub scan-short : (lex : Lexicon) (formula : List ℕ) → length formula ≤ 65535 → scan lex formula ≡ lexFrom (length formula) lex 0 formula 0 []
+pub scan-short : (lex : Lexicon) (formula : List ℕ) → length formula ≤ longestFormula → scan lex formula ≡ lexFrom (length formula) lex 0 formula 0 []
 unfolding scan
 scan-short lex formula h = rw (le-leb (length formula) longestFormula h, scan) refl
 
 -- a longer one is refused with 14
-pub scan-long : (lex : Lexicon) (formula : List ℕ) → 65535 < length formula → scan lex formula ≡ scanEnded (Unscanned (refusal 14 0 0 0)) []
+pub scan-long : (lex : Lexicon) (formula : List ℕ) → longestFormula < length formula → scan lex formula ≡ scanEnded (Unscanned (refusal 14 0 0 0)) []
 unfolding scan
 scan-long lex formula h = rw (lt-leb (length formula) longestFormula h, scan) refl

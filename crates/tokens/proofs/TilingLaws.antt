@@ -11,6 +11,7 @@ use Rattle.tokens.specs.declared.Scanned.the-variants.{Tokens, Unscanned
 use Rattle.tokens.specs.Scan.{Lexed, scan}
 use Rattle.tokens.specs.Tiling.{Tiled, here, past-separator, past-token}
 use Rattle.tokens.proofs.TokenLaws.{Kept, scan-kept}
+use Rattle.tokens.specs.Tokens.{mostTokens}
 
 -- ------------------------------------------------------------------ tiling
 
@@ -48,7 +49,7 @@ module _ (lex : Lexicon) (few : length (lex .outsides) ≤ 64) (formula : List �
 
   CountedFrom : ℕ → ℕ → List (List ℕ) → Lexed → Type 0
   CountedFrom at n words l =
-      Unrefused (l .answer) ((l .answer ≡ Tokens (n + length (l .tokens)) (length (l .words))) × (n + length (l .tokens) ≤ 4096))
+      Unrefused (l .answer) ((l .answer ≡ Tokens (n + length (l .tokens)) (length (l .words))) × (n + length (l .tokens) ≤ mostTokens))
 
   counted-kept : Kept lex formula CountedFrom
   unfolding CountedFrom
@@ -65,11 +66,11 @@ module _ (lex : Lexicon) (few : length (lex .outsides) ≤ 64) (formula : List �
 
   -- the answer counts the tokens, of which there are at most 4,096, and the words
   pub scan-counted : {many count : ℕ} → scan lex formula .answer ≡ Tokens many count
-      → (many ≡ length (scan lex formula .tokens)) × (count ≡ length (scan lex formula .words)) × (many ≤ 4096)
+      → (many ≡ length (scan lex formula .tokens)) × (count ≡ length (scan lex formula .words)) × (many ≤ mostTokens)
   unfolding CountedFrom
   scan-counted {many} {count} e =
       let l : Lexed = scan lex formula in
-      let p : (Tokens many count ≡ Tokens (0 + length (l .tokens)) (length (l .words))) × (0 + length (l .tokens) ≤ 4096)
+      let p : (Tokens many count ≡ Tokens (0 + length (l .tokens)) (length (l .words))) × (0 + length (l .tokens) ≤ mostTokens)
       = rw (e) at (scan-kept lex few formula CountedFrom counted-kept) in
       let q : Tokens many count ≡ Tokens (0 + length (l .tokens)) (length (l .words)) = p .0 in
       let a : many ≡ 0 + length (l .tokens) = cc in

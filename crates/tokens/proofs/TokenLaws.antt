@@ -29,14 +29,14 @@ use Rattle.tokens.proofs.LexLaws.{emitted, after, lex-step, lex-end, sc
 -- why a scan stops at an offset, after `many` tokens and the words met
 pub data Halts (lex : Lexicon) (formula : List ℕ) (at many : ℕ) (words : List (List ℕ)) : Refusal → Type 0 where
   at-once : longestFormula < length formula → Halts lex formula at many words (refusal 14 0 0 0)
-  at-fault : at < length formula → many ≤ 4096 → Faulty (drop at formula) → Halts lex formula at many words (refusal 15 at 0 0)
-  at-token : {token : Token} → at < length formula → many ≡ 4096 → Emits lex words at (drop at formula) token
+  at-fault : at < length formula → many ≤ mostTokens → Faulty (drop at formula) → Halts lex formula at many words (refusal 15 at 0 0)
+  at-token : {token : Token} → at < length formula → many ≡ mostTokens → Emits lex words at (drop at formula) token
       → Halts lex formula at many words (refusal 16 0 0 0)
 
 -- A fact of what is left at an offset, after n tokens and the words met, that each step hands on.
 pub record Kept (lex : Lexicon) (formula : List ℕ) (P : ℕ → ℕ → List (List ℕ) → Lexed → Type 0) : Type 0 where
   -- it holds at the end
-  pub ends : (many : ℕ) (words : List (List ℕ)) → many ≤ 4096 → P (length formula) many words (scanEnded (Tokens many (length words)) words)
+  pub ends : (many : ℕ) (words : List (List ℕ)) → many ≤ mostTokens → P (length formula) many words (scanEnded (Tokens many (length words)) words)
   -- it holds where a scan stops
   pub stops : (at many : ℕ) (words : List (List ℕ)) (cause : Refusal) → Halts lex formula at many words cause
       → P at many words (scanEnded (Unscanned cause) words)
@@ -45,7 +45,7 @@ pub record Kept (lex : Lexicon) (formula : List ℕ) (P : ℕ → ℕ → List (
       → P (at + 1) many words lexed
       → P at many words lexed
   -- it holds before a token, if it holds behind it
-  pub emits : (at many : ℕ) (words : List (List ℕ)) (token : Token) (lexed : Lexed) → at < length formula → many < 4096
+  pub emits : (at many : ℕ) (words : List (List ℕ)) (token : Token) (lexed : Lexed) → at < length formula → many < mostTokens
       → Emits lex words at (drop at formula) token
       → (0 < token .size) × (at + token .size ≤ length formula)
       → P (at + token .size) (many + 1) (wordsWith words (take (token .size) (drop at formula)) token) lexed
@@ -53,7 +53,7 @@ pub record Kept (lex : Lexicon) (formula : List ℕ) (P : ℕ → ℕ → List (
 
 module _ (lex : Lexicon) (few : length (lex .outsides) ≤ 64) (formula : List ℕ) (P : ℕ → ℕ → List (List ℕ) → Lexed → Type 0)
     (keeps : Kept lex formula P) where
-  at-end : (fuel at many : ℕ) (words : List (List ℕ)) → many ≤ 4096 → at ≡ length formula → P at many words (lexFrom fuel lex at (drop at formula) many words)
+  at-end : (fuel at many : ℕ) (words : List (List ℕ)) → many ≤ mostTokens → at ≡ length formula → P at many words (lexFrom fuel lex at (drop at formula) many words)
   at-end fuel at many words h e =
       let past : length formula ≤ at = omega arith in
       let none : drop at formula ≡ [] = drop-of-length-le formula past in
@@ -76,11 +76,11 @@ module _ (lex : Lexicon) (few : length (lex .outsides) ≤ 64) (formula : List �
       (sym (drop-drop (token .size) at formula))
       p)
 
-  kept-step : (fuel at many : ℕ) (words : List (List ℕ)) (step : Step) → at < length formula → many ≤ 4096 → length formula ≤ at + suc fuel
+  kept-step : (fuel at many : ℕ) (words : List (List ℕ)) (step : Step) → at < length formula → many ≤ mostTokens → length formula ≤ at + suc fuel
       → step ≡ stepOf lex words at (drop at formula)
       → Told lex words at (drop at formula) step
       → Lies at (drop at formula) step
-      → ((offset before : ℕ) (ws : List (List ℕ)) → length formula ≤ offset + fuel → offset ≤ length formula → before ≤ 4096
+      → ((offset before : ℕ) (ws : List (List ℕ)) → length formula ≤ offset + fuel → offset ≤ length formula → before ≤ mostTokens
       → P offset before ws (lexFrom fuel lex offset (drop offset formula) before ws))
       → P at many words (after fuel lex at (drop at formula) many words step)
   kept-step fuel at many words Skip h m enough e told lies rec =
@@ -97,7 +97,7 @@ module _ (lex : Lexicon) (few : length (lex .outsides) ≤ 64) (formula : List �
       (λ more.
       rw (more) (keeps .stops at many words (refusal 16 0 0 0) (at-token h (omega (arith, ltb-false many mostTokens more)) told)))
 
-  kept : (fuel at many : ℕ) (words : List (List ℕ)) → length formula ≤ at + fuel → at ≤ length formula → many ≤ 4096
+  kept : (fuel at many : ℕ) (words : List (List ℕ)) → length formula ≤ at + fuel → at ≤ length formula → many ≤ mostTokens
       → P at many words (lexFrom fuel lex at (drop at formula) many words)
   kept zero at many words enough h m = at-end zero at many words m (omega arith)
   kept (suc fuel) at many words enough h m =

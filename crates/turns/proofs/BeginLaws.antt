@@ -28,6 +28,7 @@ use Rattle.turns.specs.Lent.{lentInput}
 use Rattle.turns.specs.declared.begins.Begun.{Begun}
 use Rattle.turns.specs.declared.begins.Begun.the-variants.{Refused, Entered}
 use Rattle.turns.specs.Begins.{CallBegunAt, Starts}
+use Rattle.grammar.specs.Limits.{most}
 
 -- what a call does with the rule that is chosen
 abbrev entered : ℕ → Input → ℕ → List ℕ → State → List ℕ → Choice → Result ℕ
@@ -85,13 +86,13 @@ module _ {bs room : List ℕ} (held : Held bs room) (tokens : List ℕ) (count r
 
   module _ (may-open : depth ≡ 0 → ⊥) where
     -- Refusal 20: no more calls may be begun.
-    pub starts-spent : {memory : List ℕ} → Remembers bs memory → 65536 ≤ state .calls → {cause : Refusal} → cause ≡ refusal 20 (state .at) 0 0
+    pub starts-spent : {memory : List ℕ} → Remembers bs memory → mostCalls ≤ state .calls → {cause : Refusal} → cause ≡ refusal 20 (state .at) 0 0
         → Ends (Refused cause) memory
     starts-spent m l er =
-        starts-refused er (λ vs cells. call-by input nonterminal vs state cells depth may-open false (le-ltb (state .calls) 65536 l)) m
+        starts-refused er (λ vs cells. call-by input nonterminal vs state cells depth may-open false (le-ltb (state .calls) mostCalls l)) m
 
     -- by the place that is chosen
-    module _ (may-call : state .calls < 65536) {kind : ℕ} (ekind : kind ≡ getD (tokensIn tokens count) (state .at) endToken .kind) {place : ℕ}
+    module _ (may-call : state .calls < mostCalls) {kind : ℕ} (ekind : kind ≡ getD (tokensIn tokens count) (state .at) endToken .kind) {place : ℕ}
         {memory : List ℕ} (ch : Chooses bs nonterminal kind place memory) where
       firsts-are : input .grammar .firsts ≡ firstSetsOf bs
       unfolding ready firstSetsOf
@@ -101,7 +102,7 @@ module _ {bs room : List ℕ} (held : Held bs room) (tokens : List ℕ) (count r
           → entered (depth - 1) input nonterminal vs state cells given-choice ≡ runCall depth input nonterminal vs state cells
       by-choice e vs cells =
           ap (entered (depth - 1) input nonterminal vs state cells) (sym (ap (choice (ready (productionsIn bs)) nonterminal) (sym ekind) ∙ e))
-          ∙ call-by input nonterminal vs state cells depth may-open true (lt-ltb (state .calls) 65536 may-call)
+          ∙ call-by input nonterminal vs state cells depth may-open true (lt-ltb (state .calls) mostCalls may-call)
 
       -- Refusal 17: no rule fits.
       pub starts-nowhere : 256 ≤ place → {set : ℕ} → set ≡ getD (firstSetsOf bs) nonterminal 0 → {cause : Refusal}
@@ -131,6 +132,6 @@ module _ {bs room : List ℕ} (held : Held bs room) (tokens : List ℕ) (count r
           }
 
 -- One more call leaves room for its items.
-pub entry-weight : {bs : List ℕ} {depth : ℕ} {state : State} {start : ℕ} {next : State} → CallBegunAt bs depth state start next → length bs ≤ 16384
+pub entry-weight : {bs : List ℕ} {depth : ℕ} {state : State} {start : ℕ} {next : State} → CallBegunAt bs depth state start next → length bs ≤ most .bytes
     → weight next + (length bs - start) ≤ weight state
 entry-weight e h = omega (arith, ap weight (e .begun), e .may-call)

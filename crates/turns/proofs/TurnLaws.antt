@@ -31,6 +31,8 @@ use Rattle.turns.specs.Begins.{Begins, CallBegunAt, CallEntered, Starts}
 use Rattle.turns.specs.Turns.{cursorAt, moved, enteredAt, resumption, Resumes, Values, Returns, Savable, Pushes, Pauses, left, Going, Calling}
 use Rattle.turns.specs.Turns.{Goes, TurnStands, Turns}
 use Rattle.turns.proofs.BeginLaws.{positive, entry-weight}
+use Rattle.grammar.specs.Limits.{most}
+use Rattle.expansion.specs.Limits.{mostCalls}
 
 -- The call at a level of the room is read back.
 pub resumes-at : {frames : List ℕ} {from : Resumption} {vars : List ℕ} → Loaded frames (from .level) vars → {count at : ℕ}
@@ -298,7 +300,7 @@ module _ {input : Input} {bs frames vars : List ℕ} {cursor : Cursor} {cells : 
               }
 
         -- The value is its next variable, and it goes on where it waited.
-        pub closed-on : {vars₂ : List ℕ} {other : Cursor} → Returns frames (cursor .level - 1) made-value next vars₂ other → length bs ≤ 16384
+        pub closed-on : {vars₂ : List ℕ} {other : Cursor} → Returns frames (cursor .level - 1) made-value next vars₂ other → length bs ≤ most .bytes
             → Turns input bs (left bs cursor) result frames vars₂ cells′ other
         closed-on r small =
             let v = r .resumes .cursor-is in
@@ -321,7 +323,7 @@ module _ {input : Input} {bs frames vars : List ℕ} {cursor : Cursor} {args : L
   depth = mostWaiting - cursor .level
 
   -- The call that calls can be saved.
-  pub calling-savable : length bs ≤ 16384 → Savable frames cursor next
+  pub calling-savable : length bs ≤ most .bytes → Savable frames cursor next
   calling-savable small =
       let o = calling .onward in
       record {
@@ -347,7 +349,7 @@ module _ {input : Input} {bs frames vars : List ℕ} {cursor : Cursor} {args : L
       opened-entry = subst (CallEntered bs depth state′) equal (starts .enters)
 
       module _ {frames′ vars′ : List ℕ} {other : Cursor} (pushes : Pushes frames vars args cursor given next first further frames′ vars′ other)
-          (long : length frames′ ≡ length frames) (small : length bs ≤ 16384) where
+          (long : length frames′ ≡ length frames) (small : length bs ≤ most .bytes) where
         going-at : Going input bs frames′ args (enteredAt cursor given first further) cells result
         unfolding resume owed
         going-at =
@@ -390,7 +392,7 @@ module _ {input : Input} {bs frames vars : List ℕ} {cursor : Cursor} {args : L
                     arith,
                     small,
                     opened-entry .may-call,
-                    ap (λ (q : State). 40000 * (65536 - q .calls)) (opened-entry .begun),
+                    ap (λ (q : State). 40000 * (mostCalls - q .calls)) (opened-entry .begun),
                     calling .onward .called,
                   );
             })

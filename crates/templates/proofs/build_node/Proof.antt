@@ -8,6 +8,7 @@ use borrow.Author.Needs.{needs}
 use Rattle.templates.proofs.BuildLaws as laws
 use Rattle.templates.proofs.build_node.Statement.{statement}
 use Rattle.templates.proofs.build_node.Tie as tie
+use Rattle.grammar.specs.Limits.{most}
 
 abbrev Inv-loop : tie.InvT-loop
 Inv-loop v from code env k rows made cells₀ stack₀ at₀ count₀ pos₀ top₀ cells stack at count pos top =
@@ -55,7 +56,7 @@ module _ (point : tie.After-arity-of Inv-loop μ-loop) where
   looked = record { building = at-loop .loop .inv; number = refl; code-is = point .before .code-of .ensures; arity-is = point .arity-of .ensures }
 
   -- the bytes are few, and so are the numbers in the stack
-  small : (turn .top ≤ turn .at) × (turn .at ≤ length (whole .v)) × (length (whole .v) ≤ 16384)
+  small : (turn .top ≤ turn .at) × (turn .at ≤ length (whole .v)) × (length (whole .v) ≤ most .bytes)
   small = (omega (arith, at-loop .loop .inv .past), at-loop .loop .inv .inside, entry .pre .1 .small)
 
   -- the stack is as long as it was

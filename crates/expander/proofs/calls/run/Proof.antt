@@ -26,16 +26,16 @@ module _ (point : tie.After-begin-root) where
   abbrev input : Input
   input = lentInput (entry .args .table .now) (entry .args .tokens .now) (entry .args .n) (rowsLent (length (entry .args .cells .now)))
 
-  starts : Starts input (entry .args .table .now) 1024 (entry .args .root) initialState (point .begin-root .result) (point .begin-root .last .1 .0)
+  starts : Starts input (entry .args .table .now) mostOpen (entry .args .root) initialState (point .begin-root .result) (point .begin-root .last .1 .0)
   starts =
       point .begin-root .ensures (entry .args .table .now) (rowsLent (length (entry .args .cells .now)))
       (entry .pre .table) (remembers-none (entry .args .table .now))
 
-  begins : {begun : Begun} → point .begin-root .result ≡ begun → Begins input (entry .args .table .now) 1024 (entry .args .root) initialState begun
+  begins : {begun : Begun} → point .begin-root .result ≡ begun → Begins input (entry .args .table .now) mostOpen (entry .args .root) initialState begun
   begins e =
-      laws.begins-as input (entry .args .table .now) 1024 (entry .args .root) initialState (point .begin-root .result) e (starts .begins)
+      laws.begins-as input (entry .args .table .now) mostOpen (entry .args .root) initialState (point .begin-root .result) e (starts .begins)
 
-  enters : {first : ℕ} {state : _} → point .begin-root .result ≡ Entered first state → CallBegunAt (entry .args .table .now) 1024 initialState first state
+  enters : {first : ℕ} {state : _} → point .begin-root .result ≡ Entered first state → CallBegunAt (entry .args .table .now) mostOpen initialState first state
   enters e = laws.entry-of (point .begin-root .result) e (starts .enters)
 
   runs : {result : Result ℕ} → result ≡ runCall mostOpen input (entry .args .root) [] initialState (entry .args .cells .now)

@@ -6,6 +6,7 @@ use borrow.Author.Tests.{leb-true}
 use Rattle.rows.proofs.BoundLaws as laws
 use Rattle.rows.proofs.bounds.exceeds.Statement.{statement}
 use Rattle.rows.proofs.bounds.exceeds.Tie as tie
+use Rattle.rows.specs.Bounds.{mostBound}
 
 term-bound-requires : tie.Need-term-bound-requires
 term-bound-requires c κs =
@@ -16,7 +17,7 @@ returns : tie.Need-returns
 returns c =
     λ e depth h.
     let filled = c .before .before .before .before .fill .ensures in
-    omega (arith, leb-true 16385 (c .term-bound .result) e, c .term-bound .ensures .below depth (omega (arith, h, filled .1)))
+    omega (arith, leb-true mostBound (c .term-bound .result) e, c .term-bound .ensures .below depth (omega (arith, h, filled .1)))
 
 -- the function meets its contract
 pub exceeds-spec : {M : Type 1} → statement M
