@@ -68,7 +68,8 @@ module _ (spell : ℕ → List ℕ) (cells : List ℕ) (made root : ℕ) where
       → emitted textOf made T text ≡ leaves answer text
   emit-large text h e = emitted-large textOf made T text (omega (arith, sized)) ∙ ap (λ a. leaves a text) (sym e)
 
-  module _ (text : List ℕ) (small : sizeAt cells made root ≤ largestTerm) {numbers : List ℕ} {resolution : Resolution} (resolved : ResolvedAs T numbers resolution)
+  module _ (text : List ℕ) (small : sizeAt cells made root ≤ largestTerm) {numbers : List ℕ} {resolution : Resolution}
+      (resolved : ResolvedAs T numbers resolution)
     where
       -- 23
       pub emit-loose : {place : ℕ} {answer : Answer} → resolution ≡ Loose place → answer ≡ Refusing (refusal 23 place 0 0)

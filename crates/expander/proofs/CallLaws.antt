@@ -36,7 +36,8 @@ pub holds-none : Holds (replicate 16 0) 0 []
 holds-none = record { long = refl; count = refl; same = λ i a b. absurd (omega arith) }
 
 -- The root's call leaves room for its items
-pub stands-start : {bs : List ℕ} {first : ℕ} {next : State} → CallBegunAt bs mostOpen initialState first next → length bs ≤ most .bytes → BodyAhead bs first next
+pub stands-start : {bs : List ℕ} {first : ℕ} {next : State} → CallBegunAt bs mostOpen initialState first next → length bs ≤ most .bytes
+    → BodyAhead bs first next
 stands-start e h = record { whole = e .whole; inside = e .inside; light = omega (arith, entry-weight e h) }
 
 -- The root's alternative, saved at the lowest level

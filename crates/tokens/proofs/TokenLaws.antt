@@ -53,7 +53,8 @@ pub record Kept (lex : Lexicon) (formula : List ℕ) (P : ℕ → ℕ → List (
 
 module _ (lex : Lexicon) (few : length (lex .outsides) ≤ 64) (formula : List ℕ) (P : ℕ → ℕ → List (List ℕ) → Lexed → Type 0)
     (keeps : Kept lex formula P) where
-  at-end : (fuel at many : ℕ) (words : List (List ℕ)) → many ≤ mostTokens → at ≡ length formula → P at many words (lexFrom fuel lex at (drop at formula) many words)
+  at-end : (fuel at many : ℕ) (words : List (List ℕ)) → many ≤ mostTokens → at ≡ length formula
+      → P at many words (lexFrom fuel lex at (drop at formula) many words)
   at-end fuel at many words h e =
       let past : length formula ≤ at = omega arith in
       let none : drop at formula ≡ [] = drop-of-length-le formula past in
