@@ -1,5 +1,5 @@
 -- The check of sorts field by field, each test at its field's own offset: what the code does with a table's bytes. On a table whose
--- layout is right it is `checkSorts` of the table that the bytes are.
+-- layout is right it is `checkSorts` of the table that the bytes are. Nobody needs this file to believe `expand`.
 use Prim.Native.Nat.{ℕ}
 use mathlib.Core.Bool.{Bool, true, false, _||_}
 use mathlib.Core.List.{List, [], _∷_, _++_}

@@ -1,4 +1,4 @@
--- A room that holds the grammar of a table.
+-- A room that holds the grammar of a table. The room mirrors code: nobody needs it to believe `expand`.
 use mathlib.Core.List.{List}
 use Prim.Native.Nat.{ℕ}
 use Rattle.decoding.specs.Within.{Each}

@@ -1,4 +1,4 @@
--- What the code of an expansion answers, with the cells, as a result of the definitions.
+-- What the code of an expansion answers, with the cells, as a result of the definitions. Nobody needs this to believe `expand`.
 use Prim.Native.Nat.{ℕ}
 use mathlib.Core.List.{List}
 use Rattle.expansion.specs.declared.Outcome.{Outcome}

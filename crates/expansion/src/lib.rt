@@ -1,4 +1,5 @@
-// What an expansion is: the state that it moves and what a call answers. The definitions stand in specs/; the code is in `expander`.
+// What an expansion is: the state that it moves and what a call answers. The definitions stand in specs/; the code is in `choices`, `templates`,
+// `steps`, `frames`, `turns` and `expander`.
 use answers::Refusal;
 
 // Where an expansion stands: the next token not yet taken, the number of the next fresh name, the calls begun, the cells made.

@@ -1,4 +1,5 @@
 -- Reading bytes in prefix form from the left: what stands at the front of a template, and how many templates the bytes must be.
+-- These definitions mirror code: nobody needs them to believe `expand`.
 use Prim.Native.Nat.{ℕ}
 use mathlib.Core.Bool.{Bool, true, false, _||_}
 use lib.Dec.{ltb}

@@ -1,4 +1,5 @@
 -- What the code reads of an item: nullables and first sets look neither at the sort of an identifier nor at the arguments of a call.
+-- These definitions mirror code: nobody needs them to believe `expand`.
 use Prim.Native.Nat.{ℕ, _+_}
 use mathlib.Core.Bool.{Bool, true, false}
 use mathlib.Core.List.{List}

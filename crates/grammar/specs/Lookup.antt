@@ -1,4 +1,5 @@
--- A table's fields from an offset on, and where a spelling stands among the first of them.
+-- A table's fields from an offset on, and the keywords and outside names that stand at its front, for any bytes. These definitions mirror code:
+-- nobody needs them to believe `expand`.
 use Prim.Native.Nat.{ℕ, _+_}
 use mathlib.Core.Bool.{true, false}
 use mathlib.Core.List.{List, [], _∷_}

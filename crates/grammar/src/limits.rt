@@ -1,5 +1,5 @@
-// How much a table may have. Document 01, "Phrase table". specs/Limits has the same numbers: a limit is changed in these two places. Sizes
-// of arrays and the numbers that fit a byte or two follow from them.
+// How much a table may have. Document 01, "Phrase table". specs/Limits has the same numbers. Rooms whose size follows from a limit have it in
+// their types, in the crates above, and the laws on how large numbers get speak of it: who moves a limit moves these too (docs/PROOFS.md).
 pub const LONGEST_TABLE: usize = 16_384;
 
 pub const MOST_KEYWORDS: u16 = 62;

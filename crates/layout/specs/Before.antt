@@ -1,4 +1,5 @@
--- The fields that stand before an offset of a table, the last first: what the check of the field there has behind it.
+-- The fields that stand before an offset of a table, the last first: what the check of the field there has behind it. Nobody needs this
+-- file to believe `expand`.
 use Prim.Native.Nat.{ℕ}
 use mathlib.Core.Bool.{true, false}
 use mathlib.Core.List.{List, [], _∷_}

@@ -1,4 +1,4 @@
--- Spellings by their places in a text: two numbers each, offset and length.
+-- Spellings by their places in a text: two numbers each, offset and length. Nobody needs this to believe `expand`.
 use Prim.Native.Nat.{ℕ, zero, suc, _+_, _*_}
 use mathlib.Core.List.{List, [], _∷_}
 use lib.ListN.{getD, take, drop}

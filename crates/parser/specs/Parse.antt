@@ -1,5 +1,6 @@
 -- Check, scan and run in one: refusals 1 to 21, or the value of the root's call, with the cells then made. The first part of `expand`,
--- before its last step.
+-- before its last step. Nobody needs this file to believe `expand`, of which it is a part; a reader who calls `parse` itself believes it down to
+-- `parseInto`, and scanner/specs/Rooms with it. What follows behind mirrors code.
 use Prim.Native.Nat.{ℕ, _*_, _<_, _≤_}
 use mathlib.Core.Path.{_≡_}
 use mathlib.Core.List.{List}

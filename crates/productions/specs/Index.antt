@@ -1,5 +1,6 @@
 -- The index of a grammar in a lent table: each production by its nonterminal and the offset of its first item. The code works from
--- the table's bytes and the index; these definitions say what they stand for, for any bytes. Document 01, "Normalizing".
+-- the table's bytes and the index; these definitions say what they stand for, for any bytes. Document 01, "Normalizing". They mirror code: nobody
+-- needs them to believe `expand`.
 use Prim.Native.Nat.{ℕ, zero, suc, _+_, _<_, _≤_}
 use mathlib.Core.Path.{_≡_}
 use mathlib.Core.Bool.{Bool, true, false, _&&_}

@@ -1,4 +1,5 @@
--- How a scan fills the rooms that are lent to it.
+-- How a scan fills the rooms that are lent to it. Nobody needs this to believe `expand`, which leaves these rooms behind; `parser::parse` lends them
+-- to its caller.
 use Prim.Native.Nat.{ℕ, zero, suc, _+_, _*_, _^_, _<_, _≤_}
 use mathlib.Core.Bool.{true, false}
 use mathlib.Core.List.{List, [], _∷_}

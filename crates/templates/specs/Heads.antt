@@ -1,4 +1,5 @@
--- What stands in front of a template in prefix form, and the templates that a constructor takes.
+-- What stands in front of a template in prefix form, and the templates that a constructor takes. These definitions mirror code:
+-- nobody needs them to believe `expand`.
 use Prim.Native.Nat.{ℕ, _+_, _<_, _≤_}
 use mathlib.Core.Path.{_≡_}
 use mathlib.Core.List.{List}

@@ -1,4 +1,4 @@
--- What is lent to a call.
+-- What is lent to a call. These definitions mirror code: nobody needs them to believe `expand`.
 use Prim.Native.Nat.{ℕ}
 use mathlib.Core.List.{List}
 use Rattle.scanner.specs.Rooms.{tokensIn, TokensFit}

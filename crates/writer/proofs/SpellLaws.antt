@@ -1,4 +1,4 @@
--- What `finish` asks of spellings, from what is known of the lists of names and words.
+-- What `emit` asks of spellings, from what is known of the lists of names and words.
 use Prim.Native.Nat.{ℕ, suc, _-_, _<_, _≤_}
 use mathlib.Core.Path.{_≡_, refl, sym, ap, _∙_}
 use mathlib.Core.Bool.{true, true≢false, _&&_, and-eq-true-iff}
@@ -86,7 +86,7 @@ module _ (lex : Lexicon) (words : List (List ℕ)) (once-outs : Once (lex .outsi
       (λ q. absurd (two n m (ltb-true n 64 q) (omega (arith, ltb-false m 64 p)) (ap isWord (sym e) ∙ w) (sym e)))
       (λ q. both m n (omega (arith, ltb-false m 64 p)) (omega (arith, ltb-false n 64 q)) w e))
 
--- The spellings that `finish` reads are those of the lists.
+-- The spellings that `fill` stores are those of the lists.
 pub spelled-lists : (table formula room : List ℕ) {count : ℕ} (list : List (List ℕ)) → Words formula room count list
     → spelledBy table formula room count ≡ spelled (lexiconOf table) list
 spelled-lists table formula room list w = λ i m. filled-end (lexiconOf table) formula room list w m i
