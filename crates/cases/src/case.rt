@@ -64,7 +64,7 @@ fn number_of(b: &[u8; 4]) -> u32 {
 }
 
 // The number at an offset of some bytes; 0 if it is not whole.
-pub fn number_at(bytes: &[u8], at: usize) -> u32 {
+pub(crate) fn number_at(bytes: &[u8], at: usize) -> u32 {
     if bytes.len() < 4 {
         return 0;
     }

@@ -35,7 +35,7 @@ fn symbol(v: &[u8]) -> ItemKind
 }
 
 // What stands at an offset.
-pub fn item_at(table: &[u8], at: usize) -> SymbolStep
+fn item_at(table: &[u8], at: usize) -> SymbolStep
     ensures { λ r. ⌜ r ≡ symbolStep (now (table .entry)) at (frontOf (drop at (now (table .entry)))) ⌝ }
 {
     let front = front_at(table, at);

@@ -107,9 +107,6 @@ pub record HoldsEntries (sets : List ℕ) (es : List Entry) (room : List ℕ) : 
 
 -- ------------------------------------------------------------------ what is read off a room
 
-abbrev pub countIn : List ℕ → ℕ
-countIn room = getD room 0 0
-
 abbrev pub firstSetIn : List ℕ → ℕ → ℕ
 firstSetIn room n = getD room (1 + n) 0
 

@@ -5,19 +5,12 @@ ghost use mathlib.Core.Path.{_≡_};
 ghost use lib.ListN.{length, getD};
 ghost use mathlib.Core.Bool.{true, false};
 ghost use Rattle.productions.specs.Room.{flagNumber, begun, laid, RoomAndSets, RoomAt};
-ghost use Rattle.productions.specs.Room.{countIn, firstSetIn, firstPlaceIn, nullablePlaceIn, firstIn, startIn, nextPlaceIn, nullableIn};
+ghost use Rattle.productions.specs.Room.{firstSetIn, firstPlaceIn, nullablePlaceIn, firstIn, startIn, nextPlaceIn, nullableIn};
 
 fn size(x: u64) -> usize
     ensures { λ r. ⌜ r ≡ x ⌝ }
 {
     x as usize
-}
-
-// How many productions there are.
-pub fn count(room: &[u64; 641]) -> usize
-    ensures { λ r. ⌜ r ≡ countIn (now (room .entry)) ⌝ }
-{
-    size(room[0])
 }
 
 // The first set of a nonterminal.

@@ -35,7 +35,8 @@ pub fn print(line: &[u8]) {
     io::write_all(STDOUT_FILENO, line);
 }
 
-pub fn print_number(v: u64) {
+// Writes a number in decimal.
+pub(crate) fn print_number(v: u64) {
     io::print_decimal(STDOUT_FILENO, v);
 }
 
@@ -51,7 +52,7 @@ fn print_values(a: u64, b: u64, c: u64) {
 }
 
 // A number and its three values, each behind a space.
-pub fn print_numbers(r: Refusal) {
+fn print_numbers(r: Refusal) {
     print_value(r.number as u64);
     print_values(r.a, r.b, r.c);
 }

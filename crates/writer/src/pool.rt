@@ -14,7 +14,7 @@ ghost use Rattle.writer.specs.Openings.{spellIn};
 ghost use Rattle.writer.specs.Pool.{Pooled, noneOf, oneOf, filledTo, Fillable};
 
 // The spelling of a spelling number.
-pub fn spelling(pool: &[u8], n: u32) -> &[u8]
+pub(crate) fn spelling(pool: &[u8], n: u32) -> &[u8]
     ensures { λ r. ⌜ now r ≡ spellIn (now (pool .entry)) n ⌝ }
 {
     let i = (n as usize) * 32;
