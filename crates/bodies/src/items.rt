@@ -6,6 +6,7 @@ use crate::heads::signature_at;
 use crate::templates::fault_in;
 use grammar::reader::byte;
 use grammar::reader::part;
+use grammar::sorts::Sort;
 use spellings::wide_byte;
 ghost use Prim.Native.Nat.{_+_, _*_, _≤_};
 ghost use mathlib.Core.Path.{_≡_};
@@ -75,12 +76,12 @@ pub fn check_item(
     match kind {
         0 => {
             if wide_byte(operand) < known.keywords {
-                return ItemSort::As(0);
+                return ItemSort::As(Sort::UNIT.0);
             }
             ItemSort::Unsorted(9)
         }
         1 => ItemSort::As(operand),
-        3 => ItemSort::As(2),
+        3 => ItemSort::As(Sort::BINDER.0),
         4 => check_call(
             stack,
             table,
@@ -90,7 +91,7 @@ pub fn check_item(
             operand,
             part(v, 2, v.len()),
         ),
-        _ => ItemSort::As(6),
+        _ => ItemSort::As(Sort::NUM.0),
     }
 }
 

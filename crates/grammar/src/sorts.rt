@@ -52,15 +52,29 @@ impl Sort {
     }
 }
 
+const UNIT: u8 = Sort::UNIT.0;
+
+const VAR: u8 = Sort::VAR.0;
+
+const BINDER: u8 = Sort::BINDER.0;
+
+const LABEL: u8 = Sort::LABEL.0;
+
+const TERM: u8 = Sort::TERM.0;
+
+const FIELDS: u8 = Sort::FIELDS.0;
+
+const NUM: u8 = Sort::NUM.0;
+
 // The sorts that the constructors give and those of their arguments, in the order of their codes, from hex 20; Unit for an
 // argument that is not there.
-const RESULTS: [u8; 8] = [4, 4, 4, 4, 4, 5, 5, 4];
+const RESULTS: [u8; 8] = [TERM, TERM, TERM, TERM, TERM, FIELDS, FIELDS, TERM];
 
-const FIRSTS: [u8; 8] = [1, 2, 4, 5, 4, 0, 3, 6];
+const FIRSTS: [u8; 8] = [VAR, BINDER, TERM, FIELDS, TERM, UNIT, LABEL, NUM];
 
-const SECONDS: [u8; 8] = [0, 4, 4, 0, 3, 0, 4, 0];
+const SECONDS: [u8; 8] = [UNIT, TERM, TERM, UNIT, LABEL, UNIT, TERM, UNIT];
 
-const THIRDS: [u8; 8] = [0, 0, 0, 0, 0, 0, 5, 0];
+const THIRDS: [u8; 8] = [UNIT, UNIT, UNIT, UNIT, UNIT, UNIT, FIELDS, UNIT];
 
 // What a table has for a constructor's code.
 fn by_code(table: [u8; 8], code: u8) -> u8

@@ -9,6 +9,7 @@ use expansion::State;
 use grammar::Front;
 use grammar::front_at;
 use grammar::reader::byte;
+use grammar::sorts::Sort;
 use scanner::room::value_at;
 use templates::Arguments;
 use templates::Built;
@@ -58,7 +59,7 @@ fn word_value(sort: u8, v: u32) -> u32
     requires { ⌜ v < 2 ^ 30 ⌝ }
     ensures { λ r. ⌜ r ≡ wordValue sort v ⌝ }
 {
-    if sort == 3 { v } else { WORD + v }
+    if sort == Sort::LABEL.0 { v } else { WORD + v }
 }
 
 // A fresh name.
