@@ -49,7 +49,7 @@ pub fn print_term(
                 let behind = print_term(out, first, pool, cells, shown, deep, inner, place);
                 let second = byte_at(out, behind, b' ');
                 let last = column(*cells, part, 2);
-                if column(*cells, part, 0) == 36 {
+                if code == 36 {
                     let label = label_at(out, second, pool, last);
                     return close_at(out, label, closing);
                 }

@@ -1,7 +1,7 @@
 -- `print_term` and `print_fields`: what a constructor begins with, then its parts; the last part takes the parenthesis along. The depth bound
 -- falls from a constructor to its parts.
 use Prim.Native.Nat.{ℕ, _+_, _-_, _<_}
-use mathlib.Core.Path.{refl, sym, _∙_}
+use mathlib.Core.Path.{refl, _∙_}
 use native.Mathlib.Nat.{sub-self}
 use native.Mathlib.Omega.{arith}
 use borrow.Author.Needs.{needs}
@@ -349,10 +349,6 @@ abbrev pair-space : {measure : ℕ} → term-lts.After-column4 (term-claims meas
     → term-lts.After-byte-at (term-claims measure) (term-at measure) print-term.Post term-inv term-μ
 pair-space p = p .before .before .before .before
 
-abbrev pair-last : {measure : ℕ} → term-lts.After-column5 (term-claims measure) (term-at measure) print-term.Post term-inv term-μ
-    → term-lts.After-column4 (term-claims measure) (term-at measure) print-term.Post term-inv term-μ
-pair-last p = p .before .before
-
 abbrev rcd-inner : {measure : ℕ} → term-lts.After-print-fields (term-claims measure) (term-at measure) print-term.Post term-inv term-μ
     → term-lts.At-match-keys3 (term-claims measure) (term-at measure) print-term.Post term-inv term-μ
 rcd-inner p = p .before .before .before
@@ -449,14 +445,10 @@ term-byte-at-requires t c κs =
 term-column-requires-4 : (measure : ℕ) → term-lts.Need-column-requires-4 (term-claims measure) (term-at measure) print-term.Post term-inv term-μ
 term-column-requires-4 t c κs = search needs
 
-term-column-requires-5 : (measure : ℕ) → term-lts.Need-column-requires-5 (term-claims measure) (term-at measure) print-term.Post term-inv term-μ
-term-column-requires-5 t c κs = search needs
-
 term-label-at-requires : (measure : ℕ) → term-lts.Need-label-at-requires (term-claims measure) (term-at measure) print-term.Post term-inv term-μ
 term-label-at-requires t c κs =
     let is-dot = c .before in
-    let again = is-dot .before in
-    let last = pair-last again in
+    let last = is-dot .before in
     let spaced = pair-space last in
     let printed = pair-behind spaced in
     let matched = pair-first printed in
@@ -468,7 +460,7 @@ term-label-at-requires t c κs =
     (laws.next-part
     (laws.opened-dot refl
     (opened .open-term .ensures) (else1 .if1 .left) ((term-code opened) .column .ensures)
-    ((term-code opened) .column .ensures ∙ sym (again .column5 .ensures) ∙ is-dot .if2 .taken) (matched .before .column2 .ensures) (last .column4 .ensures))
+    (is-dot .if2 .taken) (matched .before .column2 .ensures) (last .column4 .ensures))
     (printed .print-term .ensures))
     (spaced .byte-at .ensures))
     (laws.left-fits (turn .loop .inv))
@@ -477,8 +469,7 @@ term-close-at-requires-2 : (measure : ℕ) → term-lts.Need-close-at-requires-2
 term-close-at-requires-2 t c κs =
     let labelled = c .before .before .before in
     let is-dot = labelled .before .before in
-    let again = is-dot .before in
-    let last = pair-last again in
+    let last = is-dot .before in
     let spaced = pair-space last in
     let printed = pair-behind spaced in
     let matched = pair-first printed in
@@ -491,7 +482,7 @@ term-close-at-requires-2 t c κs =
     (laws.next-part
     (laws.opened-dot refl
     (opened .open-term .ensures) (else1 .if1 .left) ((term-code opened) .column .ensures)
-    ((term-code opened) .column .ensures ∙ sym (again .column5 .ensures) ∙ is-dot .if2 .taken) (matched .before .column2 .ensures) (last .column4 .ensures))
+    (is-dot .if2 .taken) (matched .before .column2 .ensures) (last .column4 .ensures))
     (printed .print-term .ensures))
     (spaced .byte-at .ensures))
     (labelled .label-at .ensures))
@@ -502,8 +493,7 @@ term-returns-2 t c =
     let closed = c .before .before in
     let labelled = closed .before .before .before .before in
     let is-dot = labelled .before .before in
-    let again = is-dot .before in
-    let last = pair-last again in
+    let last = is-dot .before in
     let spaced = pair-space last in
     let printed = pair-behind spaced in
     let matched = pair-first printed in
@@ -517,7 +507,7 @@ term-returns-2 t c =
     (laws.next-part
     (laws.opened-dot refl
     (opened .open-term .ensures) (else1 .if1 .left) ((term-code opened) .column .ensures)
-    ((term-code opened) .column .ensures ∙ sym (again .column5 .ensures) ∙ is-dot .if2 .taken) (matched .before .column2 .ensures) (last .column4 .ensures))
+    (is-dot .if2 .taken) (matched .before .column2 .ensures) (last .column4 .ensures))
     (printed .print-term .ensures))
     (spaced .byte-at .ensures))
     (labelled .label-at .ensures))
@@ -528,21 +518,20 @@ term-same-length-2 t c = term-returns-2 t c .wrote .same
 
 term-loop-less-2 : (measure : ℕ) → term-lts.Need-loop-less-2 (term-claims measure) (term-at measure) print-term.Post term-inv term-μ
 term-loop-less-2 t c =
-    let matched = pair-first (pair-behind (pair-space (pair-last (c .before)))) in
+    let matched = pair-first (pair-behind (pair-space (c .before))) in
     let else1 = term-some (matched .before) in
     omega (arith, else1 .if1 .left)
 
 term-loop-again-2 : (measure : ℕ) → term-lts.Need-loop-again-2 (term-claims measure) (term-at measure) print-term.Post term-inv term-μ
 term-loop-again-2 t c =
-    let again = c .before in
-    let last = pair-last again in
+    let last = c .before in
     let spaced = pair-space last in
     let printed = pair-behind spaced in
     let matched = pair-first printed in
     let else1 = term-some (matched .before) in
     let opened = term-opened else1 in
     let turn = term-turn opened in
-    let is-app = laws.not-second (matched .match .keys2) (λ e. c .if2 .left (again .column5 .ensures ∙ sym ((term-code opened) .column .ensures) ∙ e)) in
+    let is-app = laws.not-second (matched .match .keys2) (c .if2 .left) in
     laws.spine-next (turn .loop .inv)
     (laws.next-text
     (laws.next-part
@@ -670,7 +659,6 @@ pub +print-fields+print-term-spec : {M : Type 1} → statement M
     (term-print-term-requires t)
     (term-byte-at-requires t)
     (term-column-requires-4 t)
-    (term-column-requires-5 t)
     (term-label-at-requires t)
     (term-close-at-requires-2 t)
     (term-same-length-2 t)
