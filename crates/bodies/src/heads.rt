@@ -1,6 +1,6 @@
 // The heads of definitions: signatures, and refusals 7 and 8.
 use answers::Verdict;
-use answers::refuse;
+use answers::refused;
 use grammar::Front;
 use grammar::front_at;
 use grammar::reader::byte;
@@ -10,14 +10,7 @@ use spellings::wide_byte;
 ghost use Prim.Native.Nat.{_+_, _≤_};
 ghost use mathlib.Core.Path.{_≡_};
 ghost use lib.ListN.{length, getD, take, drop, set};
-ghost use Rattle.answers.specs.Refusals.{refusal};
 ghost use Rattle.bodies.specs.HeadBytes.{signatureAt, faultOf, Defined, collected, collectAt};
-
-pub fn refused(number: u8, at: usize) -> Verdict
-    ensures { λ r. ⌜ r ≡ Verdict.Refused (refusal number at 0 0) ⌝ }
-{
-    Verdict::Refused(refuse(number, at as u64, 0, 0))
-}
 
 // The signature in the head at an offset: the sort of the result, then those of the parameters, four at most.
 pub fn signature_at(table: &[u8], at: usize) -> &[u8]

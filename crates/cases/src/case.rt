@@ -2,6 +2,7 @@
 // text are lent; the number and the three values expected; the rows expected, with the count of their 32-bit numbers before them; the text
 // expected, with its length before it. A value has eight bytes, every other number four, the high byte first.
 use answers::Refusal;
+use answers::refuse;
 ghost use Prim.Native.Nat.{_<_};
 
 // The last of document 01's causes.
@@ -148,12 +149,7 @@ fn read_expected(file: i32) -> Expected {
     let Eight::Value(c) = read_eight(file) else {
         return Expected::Broken;
     };
-    Expected::Answer(Refusal {
-        number: number as u8,
-        a,
-        b,
-        c,
-    })
+    Expected::Answer(refuse(number as u8, a, b, c))
 }
 
 // Reads what stands behind a table of `table` bytes.

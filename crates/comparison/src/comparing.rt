@@ -1,6 +1,7 @@
 // The expansion of a case, compared with what the case expects.
 use answers::Answer;
 use answers::Refusal;
+use answers::numbered;
 use cases::case::Sizes;
 use cases::rooms::UNTOUCHED_BYTE;
 use cases::rooms::UNTOUCHED_CELL;
@@ -8,7 +9,6 @@ use cases::rooms::same_cells;
 use cases::rooms::same_text;
 use reports::front;
 use reports::lines;
-use reports::numbered;
 use reports::same;
 ghost use Prim.Native.Nat.{_≤_};
 

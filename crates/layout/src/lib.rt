@@ -4,6 +4,7 @@ mod index;
 use answers::Refusal;
 use answers::Verdict;
 use answers::refuse;
+use answers::refused;
 use decoding::Progress;
 use fields::further;
 use fields::has_room;
@@ -105,12 +106,6 @@ fn check_field(
         return stopped(10, at);
     }
     Checking::Further(further(tag, s))
-}
-
-fn refused(number: u8, at: usize) -> Verdict
-    ensures { λ r. ⌜ r ≡ Verdict.Refused (refusal number at 0 0) ⌝ }
-{
-    Verdict::Refused(refuse(number, at as u64, 0, 0))
 }
 
 // The end of a table: the root is last.

@@ -2,13 +2,10 @@
 // 1,022 and 1,023 `.a`, sixteen and seventeen levels of nonterminals. A line tells of each whether it is as listed; the last one is
 // `CASES cases, DIFFER differ`. The tables are files in the folder it is started in.
 use answers::Refusal;
-use reports::numbered;
+use answers::numbered;
+use answers::refuse;
 use reports::print;
 use reports::same;
-
-fn answered(number: u8, a: u64, b: u64, c: u64) -> Refusal {
-    Refusal { number, a, b, c }
-}
 
 // Lays a part behind what a room has, as far as there is room, and tells where it ends.
 fn lay(room: &mut [u8; 4096], from: usize, part: &[u8]) -> usize {
@@ -174,32 +171,32 @@ fn count(differ: u64, more: u64) -> u64 {
 }
 
 fn parentheses_cases() -> u64 {
-    let a = parentheses(b"511 parentheses", 511, answered(0, 1, 1, 12));
-    let b = parentheses(b"512 parentheses", 512, answered(19, 512, 0, 0));
+    let a = parentheses(b"511 parentheses", 511, refuse(0, 1, 1, 12));
+    let b = parentheses(b"512 parentheses", 512, refuse(19, 512, 0, 0));
     count(a, b)
 }
 
 fn dots_cases() -> u64 {
-    let a = dots(b"1,022 selections", 1022, answered(0, 1023, 1023, 13298));
-    let b = dots(b"1,023 selections", 1023, answered(19, 2047, 0, 0));
+    let a = dots(b"1,022 selections", 1022, refuse(0, 1023, 1023, 13298));
+    let b = dots(b"1,023 selections", 1023, refuse(19, 2047, 0, 0));
     count(a, b)
 }
 
 fn twice_cases() -> u64 {
-    let a = twice(b"13 twice", 13, false, answered(24, 196596, 0, 0));
+    let a = twice(b"13 twice", 13, false, refuse(24, 196596, 0, 0));
     let b = twice(
         b"13 twice, in 196,596 bytes of text",
         13,
         true,
-        answered(0, 14, 16383, 196596),
+        refuse(0, 14, 16383, 196596),
     );
-    let c = twice(b"14 twice", 14, false, answered(22, 15, 0, 0));
+    let c = twice(b"14 twice", 14, false, refuse(22, 15, 0, 0));
     count(count(a, b), c)
 }
 
 fn levels_cases() -> u64 {
-    let a = levels(b"sixteen levels", b"levels16.tab", answered(0, 2, 2, 27));
-    let b = levels(b"seventeen levels", b"levels17.tab", answered(20, 0, 0, 0));
+    let a = levels(b"sixteen levels", b"levels16.tab", refuse(0, 2, 2, 27));
+    let b = levels(b"seventeen levels", b"levels17.tab", refuse(20, 0, 0, 0));
     count(a, b)
 }
 

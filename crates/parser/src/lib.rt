@@ -3,6 +3,7 @@ use answers::Refusal;
 use answers::Verdict;
 use expander::calls::run;
 use expansion::Outcome;
+use spellings::length_of;
 use tokens::Scanned;
 ghost use Prim.Native.Nat.{_-_};
 ghost use mathlib.Core.Path.{_≡_};
@@ -112,12 +113,6 @@ fn parse_in(
         Verdict::Refused(r) => halted(r),
         Verdict::Passed => parse_checked(table, &room, formula, tokens, words, cells),
     }
-}
-
-fn length_of(numbers: &[u32]) -> usize
-    ensures { λ r. ⌜ r ≡ length (now (numbers .entry)) ⌝ }
-{
-    numbers.len()
 }
 
 // Full rooms are as long as their types say: looking at them makes that known.

@@ -1,4 +1,4 @@
-// What the programs share: a room's front, answers by number and compared, and the lines that name them.
+// What the programs share: a room's front, answers compared, and the lines that name them.
 pub mod lines;
 
 use answers::Answer;
@@ -13,24 +13,12 @@ pub fn front(room: &[u8], n: usize) -> &[u8] {
     &room[..n]
 }
 
-// The number and values of an answer: 0 is acceptance, with its three counts.
-pub fn numbered(answer: Answer) -> Refusal {
-    match answer {
-        Answer::Accepted(cells, constructors, length) => Refusal {
-            number: 0,
-            a: cells as u64,
-            b: constructors as u64,
-            c: length as u64,
-        },
-        Answer::Refusing(r) => r,
-    }
-}
-
 // Whether two answers have one number and the same values.
 pub fn same(x: Refusal, y: Refusal) -> bool {
     (x.number == y.number) & (x.a == y.a) & (x.b == y.b) & (x.c == y.c)
 }
 
+// Writes some bytes.
 pub fn print(line: &[u8]) {
     io::write_all(STDOUT_FILENO, line);
 }

@@ -1,11 +1,11 @@
 // The sorts of a grammar sequence, field by field: refusals 7, 8, 9 and 11.
 use answers::Refusal;
 use answers::Verdict;
+use answers::refused;
 use bodies::ItemSort;
 use bodies::Known;
 use bodies::heads::collect;
 use bodies::heads::head_of;
-use bodies::heads::refused;
 use bodies::heads::signature_at;
 use bodies::items::add_sort;
 use bodies::items::check_item;

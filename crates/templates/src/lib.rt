@@ -2,6 +2,7 @@
 // of lent numbers.
 use grammar::reader::arity_of;
 use grammar::reader::byte;
+use spellings::length_of;
 use terms::COLUMNS;
 use terms::MOST_CELLS;
 use terms::OUTSIDE;
@@ -227,12 +228,6 @@ pub fn build(
         Head::Leaf(x, next) => Built::Made(x, next, made),
         Head::Node(b) => build_node(v, at, b, env, k, rows, made, cells, stack),
     }
-}
-
-fn length_of(values: &[u32]) -> usize
-    ensures { λ r. ⌜ r ≡ length (now (values .entry)) ⌝ }
-{
-    values.len()
 }
 
 // An array has as many values as its type says: looking at it makes that known.

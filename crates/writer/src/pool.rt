@@ -4,6 +4,7 @@ use crate::writing::copy_at;
 use grammar::reader::byte;
 use grammar::reader::part;
 use spellings::wide_byte;
+use spellings::wide_number;
 ghost use Prim.Native.Nat.{ℕ, _*_, _+_, _≤_, _<_};
 ghost use mathlib.Core.Path.{_≡_};
 ghost use mathlib.Core.List.{_∷_};
@@ -71,12 +72,6 @@ fn fill_outsides(table: &[u8], pool: &mut [u8])
     }
 }
 
-fn offset(x: u32) -> usize
-    ensures { λ r. ⌜ r ≡ x ⌝ }
-{
-    x as usize
-}
-
 // The table's outside names, and the formula's words, whose offsets and lengths stand in `words`.
 pub fn fill(table: &[u8], formula: &[u8], words: &[u32], count: usize, pool: &mut [u8])
     requires { ⌜ Fillable (now table) (now formula) (now words) count (now pool) ⌝ }
@@ -88,8 +83,8 @@ pub fn fill(table: &[u8], formula: &[u8], words: &[u32], count: usize, pool: &mu
     fill_outsides(table, pool);
     let mut i: usize = 0;
     while i < count {
-        let at = offset(words[i * 2]);
-        let size = offset(words[i * 2 + 1]);
+        let at = wide_number(words[i * 2]);
+        let size = wide_number(words[i * 2 + 1]);
         store(pool, i + 64, part(formula, at, size));
         i += 1;
     }
