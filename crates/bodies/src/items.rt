@@ -4,6 +4,7 @@ use crate::Known;
 use crate::heads::head_of;
 use crate::heads::signature_at;
 use crate::templates::fault_in;
+use grammar::limits::MOST_VARIABLES;
 use grammar::reader::byte;
 use grammar::reader::part;
 use grammar::sorts::Sort;
@@ -127,7 +128,7 @@ pub fn add_sort(sorts: &mut [u8], n: usize, s: u8) -> usize
     requires { ⌜ length (now sorts) ≡ 16 ⌝ }
     ensures { λ r. ⌜ take r (now (sorts .exit)) ≡ take 16 (take n (now (sorts .entry)) ++ (s ∷ [])) ⌝ }
 {
-    if n < 16 {
+    if n < MOST_VARIABLES {
         sorts[n] = s;
         return n + 1;
     }

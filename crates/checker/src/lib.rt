@@ -1,8 +1,10 @@
 // The check of a phrase table: refusals 1 to 13 in document 01's order.
 use answers::Verdict;
 use clashes::prepared::check_firsts;
+use grammar::limits::EACH_ALTERNATIVE;
 use layout::check_layout;
 use productions::index::build_index;
+use productions::room::ROOM;
 use sorts::check_sorts;
 ghost use mathlib.Core.Path.{_≡_};
 ghost use mathlib.Core.Logic.{_↔_};
@@ -13,7 +15,7 @@ ghost use Rattle.checker.specs.Passes.{Passes};
 
 // Checks a table, for any bytes, and lays in one lent room what an expansion needs of its grammar. The room is written where layout and
 // sorts are right, and else stays as it was. This rules out that a refused table passes, and that the room of one table holds another's.
-pub fn check_into(table: &[u8], room: &mut [u64; 641]) -> Verdict
+pub fn check_into(table: &[u8], room: &mut [u64; ROOM]) -> Verdict
     ensures { λ r. ⌜ CheckedInto (now (table .entry)) (now (room .entry)) (now (room .exit)) r ⌝ }
 {
     let laid = check_layout(table);
@@ -26,8 +28,8 @@ pub fn check_into(table: &[u8], room: &mut [u64; 641]) -> Verdict
         Verdict::Refused(q) => return Verdict::Refused(q),
         Verdict::Passed => {}
     }
-    let mut owners = [0u8; 256];
-    let mut starts = [0u16; 256];
+    let mut owners = [0u8; EACH_ALTERNATIVE];
+    let mut starts = [0u16; EACH_ALTERNATIVE];
     let m = build_index(table, &mut owners, &mut starts);
     check_firsts(table, &owners, &starts, m, room)
 }
@@ -38,6 +40,6 @@ pub fn check_table(table: &[u8]) -> Verdict
     ensures { λ r. ⌜ r ≡ check (now (table .entry)) ⌝ }
     ensures { λ r. ⌜ (r ≡ Passed) ↔ Passes (now (table .entry)) ⌝ }
 {
-    let mut room = [0u64; 641];
+    let mut room = [0u64; ROOM];
     check_into(table, &mut room)
 }

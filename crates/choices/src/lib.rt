@@ -1,5 +1,10 @@
 // The production that a call takes, by its place in the room of a grammar.
+use grammar::limits::EACH_NONTERMINAL;
+use grammar::limits::NONTERMINALS;
+use kinds::NO_KIND;
 use kinds::has_kind;
+use productions::room::NO_PLACE;
+use productions::room::ROOM;
 use productions::room::first;
 use productions::room::first_place;
 use productions::room::first_set;
@@ -14,33 +19,42 @@ ghost use Rattle.productions.specs.Room.{placeFrom};
 ghost use Rattle.choices.specs.Held.{Held, HoldsSome};
 ghost use Rattle.choices.specs.Chosen.{firstSetsOf, entriesOf, opensOf, chosenPlace, Remembers, Chooses};
 
+// The kinds, with the one that is none.
+const KINDS: usize = NO_KIND as usize + 1;
+
+// What is remembered: a byte for each nonterminal and kind.
+pub const MEMORY: usize = EACH_NONTERMINAL * KINDS;
+
+// The first place that a byte does not hold with one more.
+const NOT_HELD: usize = 255;
+
 // The place of the first production of nonterminal n whose first set holds a kind, 256 if there is none.
-fn opened(room: &[u64; 641], n: u8, kind: u32) -> usize
+fn opened(room: &[u64; ROOM], n: u8, kind: u32) -> usize
     requires { ⌜ HoldsSome (now room) × (n < 64) ⌝ }
     ensures { λ r. ⌜ ((bs : List ℕ) → Held bs (now (room .entry)) → r ≡ placeFrom (opensOf n kind) (entriesOf bs) 0) ⌝ }
 {
     let mut j = first_place(room, n);
-    while j < 256 {
+    while j < NO_PLACE {
         let fits = has_kind(first(room, j), kind);
         if fits {
             return j;
         }
         j = next_place(room, j);
     }
-    256
+    NO_PLACE
 }
 
 // The place of the production whose first set holds the kind of the next token, else of the nullable one; 256 if there is neither. It
 // looks at the productions of the nonterminal only.
-fn search(room: &[u64; 641], n: u8, kind: u32) -> usize
+fn search(room: &[u64; ROOM], n: u8, kind: u32) -> usize
     requires { ⌜ HoldsSome (now room) ⌝ }
     ensures { λ r. ⌜ ((bs : List ℕ) → Held bs (now (room .entry)) → r ≡ chosenPlace (entriesOf bs) n kind) ⌝ }
 {
-    if 64 <= n {
-        return 256;
+    if NONTERMINALS <= n {
+        return NO_PLACE;
     }
     let j = opened(room, n, kind);
-    if j < 256 {
+    if j < NO_PLACE {
         return j;
     }
     nullable_place(room, n)
@@ -48,34 +62,34 @@ fn search(room: &[u64; 641], n: u8, kind: u32) -> usize
 
 // The same, remembered: a choice is searched for where it is met first, and then looked up. A place is remembered as one more than it is;
 // 255 and 256 are searched for each time.
-pub fn choose(room: &[u64; 641], memory: &mut [u8; 4160], n: u8, kind: u32) -> usize
+pub fn choose(room: &[u64; ROOM], memory: &mut [u8; MEMORY], n: u8, kind: u32) -> usize
     requires { ⌜ HoldsSome (now room) ⌝ }
     ensures { λ r. ⌜ ((bs : List ℕ) → Held bs (now (room .entry)) → Remembers bs (now (memory .entry)) → Chooses bs n kind r (now (memory
         .exit))) ⌝ }
 {
-    if 64 <= n {
-        return 256;
+    if NONTERMINALS <= n {
+        return NO_PLACE;
     }
-    if 64 < kind {
+    if NO_KIND < kind {
         return search(room, n, kind);
     }
-    let at = n as usize * 65 + kind as usize;
+    let at = n as usize * KINDS + kind as usize;
     let known = wide_byte(memory[at]);
     if 0 < known {
         return known - 1;
     }
     let place = search(room, n, kind);
-    if place < 255 {
+    if place < NOT_HELD {
         memory[at] = place as u8 + 1;
     }
     place
 }
 
 // The first set of a nonterminal, empty for what is none.
-pub fn kinds_of(room: &[u64; 641], nonterminal: u8) -> u64
+pub fn kinds_of(room: &[u64; ROOM], nonterminal: u8) -> u64
     ensures { λ r. ⌜ ((bs : List ℕ) → Held bs (now (room .entry)) → r ≡ getD (firstSetsOf bs) nonterminal 0) ⌝ }
 {
-    if nonterminal < 64 {
+    if nonterminal < NONTERMINALS {
         first_set(room, nonterminal)
     } else {
         0

@@ -7,9 +7,12 @@ use answers::refuse;
 use firsts::items::gather;
 use firsts::nullable::nullables;
 use firsts::sets::sets_of;
+use grammar::limits::EACH_ALTERNATIVE;
+use grammar::limits::EACH_NONTERMINAL;
 use grammar::limits::NONTERMINALS;
 use kinds::lowest;
 use productions::index::offset;
+use productions::room::ROOM;
 use productions::room::begin;
 use productions::room::lay;
 ghost use mathlib.Core.Path.{_≡_};
@@ -23,8 +26,8 @@ ghost use Rattle.clashes.specs.CheckCalls.{roomFilled, FillRoom, Prepare
 // that each finds the next one of its nonterminal.
 fn fill(
     table: &[u8],
-    owners: &[u8; 256],
-    starts: &[u16; 256],
+    owners: &[u8; EACH_ALTERNATIVE],
+    starts: &[u16; EACH_ALTERNATIVE],
     m: usize,
     nulls: u64,
     sets: &[u64],
@@ -48,24 +51,24 @@ fn fill(
 // The lowest nonterminal that is left recursive, 64 if there is none, with what an expansion needs of a grammar in the room.
 fn prepare(
     table: &[u8],
-    owners: &[u8; 256],
-    starts: &[u16; 256],
+    owners: &[u8; EACH_ALTERNATIVE],
+    starts: &[u16; EACH_ALTERNATIVE],
     m: usize,
-    room: &mut [u64; 641],
+    room: &mut [u64; ROOM],
 ) -> u8
     requires { ⌜ WholeIndex (now table) m (now owners) (now starts) ⌝ }
     ensures { λ r. ⌜ Prepared (now (table .entry)) (placesIn m (now (owners .entry)) (now (starts .entry))) (now (room .entry)) (now (room .exit)) r ⌝ }
 {
     let nulls = nullables(table, owners, starts, m);
-    let mut sets = [0u64; 64];
-    let mut calls = [0u64; 64];
+    let mut sets = [0u64; EACH_NONTERMINAL];
+    let mut calls = [0u64; EACH_NONTERMINAL];
     sets_of(table, owners, starts, m, nulls, &mut sets, &mut calls);
     fill(table, owners, starts, m, nulls, &sets, room);
     left_recursive(&calls)
 }
 
 // Whether two productions of one nonterminal clash: refusal 13.
-fn check_clash(room: &[u64; 641]) -> Verdict
+fn check_clash(room: &[u64; ROOM]) -> Verdict
     ensures { λ r. ⌜ r ≡ verdict (noClashIn (now (room .entry))) ⌝ }
 {
     let n = clashing(room);
@@ -81,10 +84,10 @@ fn check_clash(room: &[u64; 641]) -> Verdict
 // that two nullable productions pass, and that a clash is told before left recursion, or with the kinds of one pair alone.
 pub fn check_firsts(
     table: &[u8],
-    owners: &[u8; 256],
-    starts: &[u16; 256],
+    owners: &[u8; EACH_ALTERNATIVE],
+    starts: &[u16; EACH_ALTERNATIVE],
     m: usize,
-    room: &mut [u64; 641],
+    room: &mut [u64; ROOM],
 ) -> Verdict
     requires { ⌜ WholeIndex (now table) m (now owners) (now starts) ⌝ }
     ensures { λ r. ⌜ FirstsChecked (now (table .entry)) (placesIn m (now (owners .entry)) (now (starts .entry))) (now (room .entry)) (now (room .exit)) r ⌝ }

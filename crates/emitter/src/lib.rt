@@ -6,6 +6,7 @@ use resolver::Resolution;
 use resolver::resolve;
 use rows::sizes::MOST_BOUND;
 use rows::sizes::size_left;
+use terms::LARGEST_TERM;
 ghost use mathlib.Core.Path.{_≡_};
 ghost use Rattle.answers.specs.Refusals.{refusal};
 ghost use Rattle.terms.specs.Rows.{termAt};
@@ -19,6 +20,9 @@ fn refusing(number: u8, a: usize) -> Answer
 {
     Answer::Refusing(refuse(number, a as u64, 0, 0))
 }
+
+// Constructors for which a shorter room is lent.
+const SMALL_TERM: usize = 256;
 
 // The answer where `needed` bytes are to go into a room.
 fn answered(made: usize, size: usize, needed: usize, room: usize) -> Answer
@@ -117,8 +121,8 @@ pub fn emit(
         return refusing(22, made);
     }
     let size = MOST_BOUND - left;
-    if size <= 256 {
-        let mut marks = [0u16; 256];
+    if size <= SMALL_TERM {
+        let mut marks = [0u16; SMALL_TERM];
         let mut room = &mut marks[..size];
         return emit_in(
             table,
@@ -132,7 +136,7 @@ pub fn emit(
             text,
         );
     }
-    let mut marks = [0u16; 16384];
+    let mut marks = [0u16; LARGEST_TERM];
     let mut room = &mut marks[..size];
     emit_in(
         table,

@@ -1,10 +1,17 @@
 // Calls: a rule is chosen, its items are done from the left, and its result is built.
 use answers::refuse;
+use choices::MEMORY;
+use expansion::MOST_OPEN;
 use expansion::Outcome;
 use expansion::State;
 use frames::FRAME;
+use frames::LONG_FRAMES;
+use frames::MIDDLE_FRAMES;
+use frames::SHORT_FRAMES;
 use frames::copy;
 use frames::save;
+use grammar::limits::MOST_VARIABLES;
+use productions::room::ROOM;
 use steps::ItemStep;
 use steps::finish;
 use steps::item_step;
@@ -33,14 +40,14 @@ ghost use Rattle.turns.specs.Turns.{Goes};
 ghost use Rattle.expander.specs.Calls.{rootItems, MayBeginRoot, MayGo, MayGoOn};
 
 // How many calls may wait.
-const MOST_WAITING: usize = 1023;
+const MOST_WAITING: usize = MOST_OPEN - 1;
 
 // The items of the call at a level of `frames`, its result, and so on with the calls that wait below it. The call that goes on is kept
 // apart from its frame.
 fn items(
     table: &[u8],
-    room: &[u64; 641],
-    memory: &mut [u8; 4160],
+    room: &[u64; ROOM],
+    memory: &mut [u8; MEMORY],
     tokens: &[u32],
     n: usize,
     cells: &mut [u32],
@@ -54,8 +61,8 @@ fn items(
         (tokens .entry)) n (rowsLent (length (now (cells .entry))))) (now (table .entry)) R (now (frames .exit)) (now (cells .exit)) r) ⌝ }
     ensures { λ r. ⌜ Remembers (now (table .entry)) (now (memory .exit)) ⌝ }
 {
-    let mut vars = [0u32; 16];
-    let mut args = [0u32; 16];
+    let mut vars = [0u32; MOST_VARIABLES];
+    let mut args = [0u32; MOST_VARIABLES];
     let mut c = resumed(frames, &mut vars, from);
     loop {
         let level = c.level;
@@ -98,8 +105,8 @@ fn items(
 // The same, from a shorter room on, in a room for all the calls that may be open: there it does not pause.
 fn deep_items(
     table: &[u8],
-    room: &[u64; 641],
-    memory: &mut [u8; 4160],
+    room: &[u64; ROOM],
+    memory: &mut [u8; MEMORY],
     tokens: &[u32],
     n: usize,
     cells: &mut [u32],
@@ -111,7 +118,7 @@ fn deep_items(
     ensures { λ r. ⌜ ((R : Result ℕ) → Standing (lentInput (now (table .entry)) (now (tokens .entry)) n (rowsLent (length (now (cells .entry))))) (now
         (table .entry)) (now (short .entry)) (from .level) (from .state) (now (cells .entry)) R → ran r (now (cells .exit)) ≡ R) ⌝ }
 {
-    let mut frames = [0u32; 18450];
+    let mut frames = [0u32; LONG_FRAMES];
     copy(&mut frames, short);
     let progress = items(
         table,
@@ -133,8 +140,8 @@ fn deep_items(
 // The same, from a short room on, in a room for 128 calls: most formulas that nest deeply fit there, and it is zeroed at less cost.
 fn middle_items(
     table: &[u8],
-    room: &[u64; 641],
-    memory: &mut [u8; 4160],
+    room: &[u64; ROOM],
+    memory: &mut [u8; MEMORY],
     tokens: &[u32],
     n: usize,
     cells: &mut [u32],
@@ -146,7 +153,7 @@ fn middle_items(
     ensures { λ r. ⌜ ((R : Result ℕ) → Standing (lentInput (now (table .entry)) (now (tokens .entry)) n (rowsLent (length (now (cells .entry))))) (now
         (table .entry)) (now (short .entry)) (from .level) (from .state) (now (cells .entry)) R → ran r (now (cells .exit)) ≡ R) ⌝ }
 {
-    let mut frames = [0u32; 2304];
+    let mut frames = [0u32; MIDDLE_FRAMES];
     copy(&mut frames, short);
     let progress = items(
         table,
@@ -170,8 +177,8 @@ fn middle_items(
 // The same, from a short room on: a formula of many tokens that does not fit there needs the long room most often.
 fn longer_items(
     table: &[u8],
-    room: &[u64; 641],
-    memory: &mut [u8; 4160],
+    room: &[u64; ROOM],
+    memory: &mut [u8; MEMORY],
     tokens: &[u32],
     n: usize,
     cells: &mut [u32],
@@ -193,8 +200,8 @@ fn longer_items(
 // The items of the root's alternative from an offset on, and its result: in a short room first, which is zeroed at less cost.
 fn root_items(
     table: &[u8],
-    room: &[u64; 641],
-    memory: &mut [u8; 4160],
+    room: &[u64; ROOM],
+    memory: &mut [u8; MEMORY],
     tokens: &[u32],
     n: usize,
     cells: &mut [u32],
@@ -206,8 +213,8 @@ fn root_items(
     ensures { λ r. ⌜ ran r (now (cells .exit)) ≡ rootItems (lentInput (now (table .entry)) (now (tokens .entry)) n (rowsLent (length (now (cells
         .entry))))) (now (table .entry)) start s (now (cells .entry)) ⌝ }
 {
-    let vars = [0u32; 16];
-    let mut frames = [0u32; 576];
+    let vars = [0u32; MOST_VARIABLES];
+    let mut frames = [0u32; SHORT_FRAMES];
     save(&mut frames, 0, &vars, 0, start);
     let from = Resumption { level: 0, state: s };
     let progress = items(
@@ -252,7 +259,7 @@ fn ended(n: usize, outcome: Outcome) -> Outcome
 // that claims 20 or 21 at its first step.
 pub fn run(
     table: &[u8],
-    room: &[u64; 641],
+    room: &[u64; ROOM],
     root: u8,
     tokens: &[u32],
     n: usize,
@@ -263,7 +270,7 @@ pub fn run(
     ensures { λ r. ⌜ ran r (now (cells .exit)) ≡ run (lentInput (now (table .entry)) (now (tokens .entry)) n (rowsLent (length (now (cells .entry)))))
         root (now (cells .entry)) ⌝ }
 {
-    let mut memory = [0u8; 4160];
+    let mut memory = [0u8; MEMORY];
     let begun = begin_root(room, &mut memory, tokens, n, root);
     match begun {
         Begun::Refused(r) => Outcome::Halted(r),

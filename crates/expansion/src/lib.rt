@@ -2,6 +2,12 @@
 // `steps`, `frames`, `turns` and `expander`.
 use answers::Refusal;
 
+// The most calls that may be open at once.
+pub const MOST_OPEN: usize = 1024;
+
+// The most calls that may be begun in all.
+pub const MOST_CALLS: usize = 65536;
+
 // Where an expansion stands: the next token not yet taken, the number of the next fresh name, the calls begun, the cells made.
 pub struct State {
     pub at: usize,

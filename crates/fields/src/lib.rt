@@ -1,5 +1,10 @@
 // The tests that a table's layout makes on one field: its tag, length and value, its order, the counts, whole templates. Refusals 3, 4, 6 and 10.
 use decoding::Progress;
+use grammar::codes::NAME_AS_LABEL;
+use grammar::codes::NAME_AS_VAR;
+use grammar::codes::TERM_NUM;
+use grammar::codes::TERM_VAR;
+use grammar::codes::VARIABLES;
 use grammar::limits::MOST_ALTERNATIVES;
 use grammar::limits::MOST_BLOCKS;
 use grammar::limits::MOST_ITEMS;
@@ -170,10 +175,10 @@ pub fn further(tag: u8, s: Progress) -> Progress
 fn head_size(b: u8) -> usize
     ensures { λ r. ⌜ r ≡ headSize b ⌝ }
 {
-    if (b == 16) | (b == 17) {
+    if (b == NAME_AS_VAR) | (b == NAME_AS_LABEL) {
         return 2;
     }
-    if (b < 16) | ((32 <= b) & (b <= 39)) {
+    if (b < VARIABLES) | ((TERM_VAR <= b) & (b <= TERM_NUM)) {
         1
     } else {
         0
@@ -184,7 +189,7 @@ fn head_size(b: u8) -> usize
 fn argument_count(b: u8) -> usize
     ensures { λ r. ⌜ r ≡ arguments b ⌝ }
 {
-    if (32 <= b) & (b <= 39) {
+    if (TERM_VAR <= b) & (b <= TERM_NUM) {
         arity_of(b)
     } else {
         0

@@ -6,6 +6,9 @@ use grammar::Front;
 use grammar::front_at;
 use grammar::limits::MOST_KEYWORDS;
 use grammar::reader::byte;
+use kinds::KEYWORD_KIND;
+use kinds::NUMBER_KIND;
+use kinds::WORD_KIND;
 use kinds::has;
 use kinds::join;
 use kinds::only;
@@ -69,11 +72,17 @@ fn passed(s: ItemKind, nulls: u64) -> bool
 
 const KEYWORDS: u8 = MOST_KEYWORDS as u8;
 
+const KEYWORD: u8 = KEYWORD_KIND as u8;
+
+const WORD: u8 = WORD_KIND as u8;
+
+const NUMBER: u8 = NUMBER_KIND as u8;
+
 // The set of the kind of keyword k.
 fn keyword_set(k: u8) -> u64
     ensures { λ r. ⌜ r ≡ only (keywordKind k) ⌝ }
 {
-    if k < KEYWORDS { only(k + 2) } else { 0 }
+    if k < KEYWORDS { only(k + KEYWORD) } else { 0 }
 }
 
 // What an item gives by itself: to a first set the kind that it reads, to the left calls the nonterminal that it calls.
@@ -91,8 +100,8 @@ fn own(s: ItemKind, calls: bool) -> u64
     } else {
         match s {
             ItemKind::Keyword(k) => keyword_set(k),
-            ItemKind::Word => only(0),
-            ItemKind::Number => only(1),
+            ItemKind::Word => only(WORD),
+            ItemKind::Number => only(NUMBER),
             ItemKind::Local => 0,
             ItemKind::Call(_) => 0,
         }

@@ -2,6 +2,7 @@
 // then look at these needs alone.
 use super::items::gather;
 use super::items::set_at;
+use grammar::limits::EACH_ALTERNATIVE;
 use grammar::reader::byte;
 use kinds::join;
 use kinds::only;
@@ -81,12 +82,17 @@ fn null_pass(whose: &[u8], needs: &[u64], k: usize, down: bool, nulls: u64) -> u
 
 // The nullable nonterminals: passes down and up until one changes nothing. A nonterminal's callees mostly stand behind it, or all before
 // it, so that few passes are needed. This rules out that a call never passes, and that one pass is taken for all.
-pub fn nullables(table: &[u8], owners: &[u8; 256], starts: &[u16; 256], m: usize) -> u64
+pub fn nullables(
+    table: &[u8],
+    owners: &[u8; EACH_ALTERNATIVE],
+    starts: &[u16; EACH_ALTERNATIVE],
+    m: usize,
+) -> u64
     requires { ⌜ WholeIndex (now table) m (now owners) (now starts) ⌝ }
     ensures { λ r. ⌜ r ≡ nullables (productionsBy m (now (table .entry)) (now (owners .entry)) (now (starts .entry))) ⌝ }
 {
-    let mut whose = [0u8; 256];
-    let mut needs = [0u64; 256];
+    let mut whose = [0u8; EACH_ALTERNATIVE];
+    let mut needs = [0u64; EACH_ALTERNATIVE];
     let k = needs_of(table, owners, starts, m, &mut whose, &mut needs);
     let mut set: u64 = 0;
     let mut down = true;

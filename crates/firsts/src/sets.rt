@@ -3,6 +3,7 @@
 // callee, and what it gives is joined to what its callers give.
 use super::items::gather;
 use super::items::set_at;
+use grammar::limits::EACH_NONTERMINAL;
 use grammar::limits::NONTERMINALS;
 use grammar::reader::byte;
 use kinds::has;
@@ -137,14 +138,14 @@ pub fn sets_of(
     starts: &[u16],
     m: usize,
     nulls: u64,
-    kinds: &mut [u64; 64],
-    calls: &mut [u64; 64],
+    kinds: &mut [u64; EACH_NONTERMINAL],
+    calls: &mut [u64; EACH_NONTERMINAL],
 )
     ensures { λ r. ⌜ BothSets nulls (productionsBy m (now (table .entry)) (now (owners .entry)) (now (starts .entry)))
         (now (kinds .exit)) (now (calls .exit)) ⌝ }
 {
-    *kinds = [0u64; 64];
-    *calls = [0u64; 64];
+    *kinds = [0u64; EACH_NONTERMINAL];
+    *calls = [0u64; EACH_NONTERMINAL];
     first_round(table, owners, starts, m, nulls, kinds, calls);
     close(calls, kinds);
 }

@@ -9,6 +9,7 @@ use Rattle.grammar.specs.Lookup.{fieldsAt}
 use Rattle.productions.specs.Index.{wholeBody}
 use Rattle.expansion.specs.declared.State.{State}
 use Rattle.expansion.specs.Run.{Result, after}
+use Rattle.expansion.specs.Limits.{mostOpen}
 use Rattle.expansion.specs.Expansion.{Input, runCall}
 use Rattle.steps.specs.Steps.{body, weight, mostWeight}
 
@@ -17,17 +18,17 @@ frameSize = 18
 
 -- the numbers of a short room, for 32 calls, of a middle one, for 128, and of a long one, for all that may be open
 abbrev pub shortFrames : ℕ
-shortFrames = 576
+shortFrames = 32 * frameSize
 
 abbrev pub middleFrames : ℕ
-middleFrames = 2304
+middleFrames = 128 * frameSize
 
 abbrev pub longFrames : ℕ
-longFrames = 18450
+longFrames = (mostOpen + 1) * frameSize
 
 -- as many calls as may wait: one less than may be open
 abbrev pub mostWaiting : ℕ
-mostWaiting = 1023
+mostWaiting = mostOpen - 1
 
 -- a level of the room
 pub record LevelFits (frames : List ℕ) (level : ℕ) : Type 0 where

@@ -1,5 +1,5 @@
-// How much a table may have. Document 01, "Phrase table". specs/Limits has the same numbers. Rooms whose size follows from a limit have it in
-// their types, in the crates above, and the laws on how large numbers get speak of it: who moves a limit moves these too (docs/PROOFS.md).
+// How much a table may have. Document 01, "Phrase table". specs/Limits has the same numbers. The sizes of rooms follow from these by
+// constants, in the code; specs and laws that speak of such a size, or of how large a number gets, have it as a number (docs/PROOFS.md).
 pub const LONGEST_TABLE: usize = 16_384;
 
 pub const MOST_KEYWORDS: u16 = 62;
@@ -18,3 +18,18 @@ pub const MOST_PARAMETERS: usize = 4;
 
 // Numbered from 0.
 pub const NONTERMINALS: u8 = 64;
+
+// The variables of an alternative: its parameters, and one for each of its items.
+pub const MOST_VARIABLES: usize = MOST_PARAMETERS + MOST_ITEMS as usize;
+
+// How many numbers a room has that holds one for each nonterminal.
+pub const EACH_NONTERMINAL: usize = NONTERMINALS as usize;
+
+// How many numbers a room has that holds one for each alternative.
+pub const EACH_ALTERNATIVE: usize = MOST_ALTERNATIVES as usize;
+
+// Sizes of tables for which shorter rooms are lent.
+pub const SMALL_TABLE: usize = 1_024;
+
+// The larger of the two.
+pub const MIDDLE_TABLE: usize = 4_096;

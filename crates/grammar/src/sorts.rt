@@ -1,4 +1,5 @@
 // The sorts by their codes, which sort fits which place, and the sorts of constructors. Document 01, "Core and sorts".
+use crate::codes::TERM_VAR;
 ghost use mathlib.Core.Path.{_≡_};
 ghost use Prim.Native.Nat.{_-_};
 ghost use lib.ListN.{getD};
@@ -80,10 +81,10 @@ const THIRDS: [u8; 8] = [UNIT, UNIT, UNIT, UNIT, UNIT, UNIT, FIELDS, UNIT];
 fn by_code(table: [u8; 8], code: u8) -> u8
     ensures { λ r. ⌜ r ≡ getD table (code - 32) 0 ⌝ }
 {
-    if code < 32 {
+    if code < TERM_VAR {
         return table[0];
     }
-    let k = (code - 32) as usize;
+    let k = (code - TERM_VAR) as usize;
     if k < 8 { table[k] } else { 0 }
 }
 

@@ -1,4 +1,5 @@
 // The spellings of one tag by their hash, so that a repeated one is found without comparing it with all of them.
+use grammar::limits::MOST_OUTSIDES;
 use grammar::reader::byte;
 use grammar::reader::part;
 use spellings::equal;
@@ -9,6 +10,17 @@ ghost use mathlib.Core.Path.{_≡_};
 ghost use mathlib.Core.List.{List};
 ghost use Rattle.spellings.specs.Bytes.{same};
 ghost use Rattle.layout.specs.Index.{isAmong, Packs, bucketMixed, bucketHash, HashedUnder, SpellingHeld, Indexed, Searchable, Enterable, entered};
+
+// A room has a link for each bucket and then an entry for each spelling, of so many numbers: a link, the hash, the offset and the length.
+const BUCKETS: usize = 64;
+
+const ENTRY: usize = 4;
+
+// The numbers of a room.
+pub const ROOM: usize = BUCKETS + ENTRY * MOST_OUTSIDES as usize;
+
+// Entries are numbered from 1, so that the first is one entry behind this.
+const BEFORE_FIRST: usize = BUCKETS - ENTRY;
 
 // Four bytes at the front as one number, the first lowest; those that are not there are 0.
 fn packed(v: &[u8]) -> usize
@@ -52,12 +64,12 @@ pub fn spelling_hash(tag: u8, v: &[u8]) -> usize
 }
 
 // Whether the entry of a number is the spelling v, which has the hash h.
-fn is_entry(room: &[u32; 320], table: &[u8], n: usize, h: usize, v: &[u8]) -> bool
+fn is_entry(room: &[u32; ROOM], table: &[u8], n: usize, h: usize, v: &[u8]) -> bool
     requires { ⌜ n ≤ 64 ⌝ }
     ensures { λ r. ⌜ ((w : List ℕ) (p : ℕ) → SpellingHeld (now (table .entry)) (now (room .entry)) n w p → h ≡ bucketHash (now (v .entry))
         → r ≡ same w (now (v .entry))) ⌝ }
 {
-    let at = 60 + 4 * n;
+    let at = BEFORE_FIRST + ENTRY * n;
     let stored = wide_number(room[at + 1]);
     if stored != h {
         return false;
@@ -68,31 +80,31 @@ fn is_entry(room: &[u32; 320], table: &[u8], n: usize, h: usize, v: &[u8]) -> bo
 }
 
 // Whether a spelling is among those that a room has. Only those of its bucket are looked at, and only those of its hash compared.
-pub fn is_among(room: &[u32; 320], table: &[u8], v: &[u8], h: usize) -> bool
+pub fn is_among(room: &[u32; ROOM], table: &[u8], v: &[u8], h: usize) -> bool
     requires { ⌜ Searchable (now room) (now v) h ⌝ }
     ensures { λ r. ⌜ ((words : List (List ℕ)) → Indexed (now (table .entry)) (now (room .entry)) words → r ≡ isAmong (now (v .entry)) words) ⌝ }
 {
-    let mut p = wide_number(room[h / 67_108_864 % 64]);
+    let mut p = wide_number(room[h / 67_108_864 % BUCKETS]);
     while 0 < p {
         let here = is_entry(room, table, p, h, v);
         if here {
             return true;
         }
-        p = wide_number(room[60 + 4 * p]);
+        p = wide_number(room[BEFORE_FIRST + ENTRY * p]);
     }
     false
 }
 
 // Enters a spelling that stands at an offset of the table, behind `count` others, with its hash, if there is one to enter.
-pub fn enter(room: &mut [u32; 320], spelled: bool, count: usize, from: usize, v: &[u8], h: usize)
+pub fn enter(room: &mut [u32; ROOM], spelled: bool, count: usize, from: usize, v: &[u8], h: usize)
     requires { ⌜ Enterable spelled count from (now v) h ⌝ }
     ensures { λ _. ⌜ now (room .exit) ≡ entered (now (room .entry)) spelled count from (now (v .entry)) ⌝ }
 {
     if !spelled {
         return;
     }
-    let bucket = h / 67_108_864 % 64;
-    let at = 64 + 4 * count;
+    let bucket = h / 67_108_864 % BUCKETS;
+    let at = BUCKETS + ENTRY * count;
     room[at] = room[bucket];
     room[at + 1] = h as u32;
     room[at + 2] = from as u32;

@@ -14,6 +14,7 @@ use fields::may_follow;
 use grammar::Front;
 use grammar::front_at;
 use grammar::limits::LONGEST_TABLE;
+use index::ROOM;
 use index::enter;
 use index::is_among;
 use index::spelling_hash;
@@ -42,8 +43,8 @@ pub enum Checking {
 
 // A keyword or an outside name is spelled as it must be and stands once under its tag; the rooms have those before it.
 fn is_spelled(
-    keywords: &[u32; 320],
-    outsides: &[u32; 320],
+    keywords: &[u32; ROOM],
+    outsides: &[u32; ROOM],
     table: &[u8],
     tag: u8,
     v: &[u8],
@@ -73,8 +74,8 @@ fn stopped(number: u8, at: usize) -> Checking
 // One field of a table at an offset, after those that begin before it, whose spellings the rooms have. A keyword or an outside name has
 // the hash h.
 fn check_field(
-    keywords: &[u32; 320],
-    outsides: &[u32; 320],
+    keywords: &[u32; ROOM],
+    outsides: &[u32; ROOM],
     table: &[u8],
     at: usize,
     tag: u8,
@@ -139,8 +140,8 @@ pub fn check_layout(table: &[u8]) -> Verdict
     if LONGEST_TABLE < table.len() {
         return refused(1, 0);
     }
-    let mut keywords = [0u32; 320];
-    let mut outsides = [0u32; 320];
+    let mut keywords = [0u32; ROOM];
+    let mut outsides = [0u32; ROOM];
     let mut at: usize = 0;
     let mut s = nothing_read();
     loop {

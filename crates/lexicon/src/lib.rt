@@ -10,6 +10,7 @@ use grammar::Front;
 use grammar::limits::MOST_KEYWORDS;
 use grammar::limits::MOST_OUTSIDES;
 use grammar::reader::part;
+use kinds::KEYWORD_KIND;
 use spellings::wide_number;
 ghost use mathlib.Core.Path.{_≡_};
 ghost use mathlib.Core.List.{[], _∷_, _++_};
@@ -27,6 +28,32 @@ const KEYWORDS: usize = MOST_KEYWORDS as usize;
 
 const OUTSIDES: usize = MOST_OUTSIDES as usize;
 
+const SPELLINGS: usize = KEYWORDS + OUTSIDES;
+
+// A keyword's kind is this and its number.
+const KEYWORD: usize = KEYWORD_KIND as usize;
+
+// One more than the largest byte of a symbol.
+const BYTES: u8 = 128;
+
+// Where a room has the kinds of symbols.
+pub const SYMBOLS: usize = SPELLINGS * 2;
+
+// Where it has the number of keywords.
+pub const KEYWORD_COUNT: usize = SYMBOLS + BYTES as usize;
+
+// Where it has the number of spellings.
+pub const SPELLING_COUNT: usize = KEYWORD_COUNT + 1;
+
+// The numbers of a room.
+pub const ROOM: usize = SPELLING_COUNT + 1;
+
+// The trees of a table's spellings are one more than this.
+pub const MASK: usize = 127;
+
+// The numbers of the room of their links.
+pub const TREE: usize = MASK + 1 + SPELLINGS * 2;
+
 // One more spelling: its place is stored, and if it is new its link.
 fn enter(table: &[u8], from: usize, size: usize, room: &mut [u32], tree: &mut [u32], e: usize)
     requires { ⌜ Enters (now table) (now room) (now tree) e 1 × (from + size ≤ length (now table)) ⌝ }
@@ -35,7 +62,7 @@ fn enter(table: &[u8], from: usize, size: usize, room: &mut [u32], tree: &mut [u
 {
     let s = part(table, from, size);
     let h = hash(s);
-    let spot = find(table, room, tree, 127, e, s, h);
+    let spot = find(table, room, tree, MASK, e, s, h);
     let i = e * 2;
     room[i] = from as u32;
     room[i + 1] = size as u32;
@@ -88,8 +115,8 @@ fn mark(room: &mut [u32], s: &[u8], k: usize)
 {
     if s.len() == 1 {
         let b = s[0];
-        if b < 128 {
-            room[252 + b as usize] = (k + 2) as u32;
+        if b < BYTES {
+            room[SYMBOLS + b as usize] = (k + KEYWORD) as u32;
         }
     }
 }
@@ -119,6 +146,6 @@ pub fn enter_table(table: &[u8], room: &mut [u32], tree: &mut [u32])
     mark_symbols(table, room, keywords);
     let names = grammar::after_leading(table, 1);
     let spellings = enter_leading(table, names, 2, OUTSIDES, room, tree, keywords);
-    room[380] = keywords as u32;
-    room[381] = spellings as u32;
+    room[KEYWORD_COUNT] = keywords as u32;
+    room[SPELLING_COUNT] = spellings as u32;
 }

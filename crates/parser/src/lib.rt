@@ -3,6 +3,13 @@ use answers::Refusal;
 use answers::Verdict;
 use expander::calls::run;
 use expansion::Outcome;
+use grammar::limits::LONGEST_TABLE;
+use grammar::limits::MIDDLE_TABLE;
+use grammar::limits::SMALL_TABLE;
+use productions::room::ROOM;
+use scanner::room::ALL_TOKENS;
+use scanner::room::ALL_WORDS;
+use scanner::room::TOKEN;
 use spellings::length_of;
 use tokens::Scanned;
 ghost use Prim.Native.Nat.{_-_};
@@ -13,6 +20,12 @@ ghost use Rattle.expansion.specs.Expansion.{run};
 ghost use Rattle.expander.specs.Lent.{lentInput};
 ghost use Rattle.terms.specs.Cells.{rowsLent};
 ghost use Rattle.parser.specs.Parse.{Runnable, Rooms, WordRoom, Parseable, ParsesInto, ParsesTo, parsedInto, parseInto, numberedOutcome};
+
+// Formulas up to this have the shortest rooms.
+pub const SHORT_FORMULA: usize = 128;
+
+// Formulas up to this have rooms between those and the longest.
+pub const MIDDLE_FORMULA: usize = 1024;
 
 // The outcome of a parse, and how many words the formula has that are neither keywords nor outside names.
 pub struct Parsed {
@@ -43,7 +56,7 @@ fn last_byte(bytes: &[u8]) -> u8
 // The run of n tokens, with a room for the templates of a table of its size.
 fn run_tokens(
     table: &[u8],
-    room: &[u64; 641],
+    room: &[u64; ROOM],
     tokens: &[u32],
     n: usize,
     cells: &mut [u32],
@@ -53,22 +66,22 @@ fn run_tokens(
         (getD (now (table .entry)) (length (now (table .entry)) - 1) 0) (now (cells .entry)) ⌝ }
 {
     let root = last_byte(table);
-    if table.len() <= 1024 {
-        let mut stack = [0u32; 1024];
+    if table.len() <= SMALL_TABLE {
+        let mut stack = [0u32; SMALL_TABLE];
         return run(table, room, root, tokens, n, cells, &mut stack);
     }
-    if table.len() <= 4096 {
-        let mut stack = [0u32; 4096];
+    if table.len() <= MIDDLE_TABLE {
+        let mut stack = [0u32; MIDDLE_TABLE];
         return run(table, room, root, tokens, n, cells, &mut stack);
     }
-    let mut stack = [0u32; 16384];
+    let mut stack = [0u32; LONGEST_TABLE];
     run(table, room, root, tokens, n, cells, &mut stack)
 }
 
 // The scan of a formula under a table that passes, and the run of its tokens.
 fn parse_checked(
     table: &[u8],
-    room: &[u64; 641],
+    room: &[u64; ROOM],
     formula: &[u8],
     tokens: &mut [u32],
     words: &mut [u32],
@@ -107,7 +120,7 @@ fn parse_in(
         (now (tokens .exit)) (now (words .exit)) (now (cells .exit)) r
         ⌝ }
 {
-    let mut room = [0u64; 641];
+    let mut room = [0u64; ROOM];
     let verdict = checker::check_into(table, &mut room);
     match verdict {
         Verdict::Refused(r) => halted(r),
@@ -116,7 +129,7 @@ fn parse_in(
 }
 
 // Full rooms are as long as their types say: looking at them makes that known.
-fn known_rooms(tokens: &[u32; 16384], words: &[u32; 8192]) -> usize
+fn known_rooms(tokens: &[u32; ALL_TOKENS], words: &[u32; ALL_WORDS]) -> usize
     ensures { λ _. ⌜ (length (now (tokens .entry)) ≡ 16384) × (length (now (words .entry)) ≡ 8192) ⌝ }
 {
     length_of(tokens);
@@ -129,8 +142,8 @@ fn known_rooms(tokens: &[u32; 16384], words: &[u32; 8192]) -> usize
 pub fn parse(
     table: &[u8],
     formula: &[u8],
-    tokens: &mut [u32; 16384],
-    words: &mut [u32; 8192],
+    tokens: &mut [u32; ALL_TOKENS],
+    words: &mut [u32; ALL_WORDS],
     cells: &mut [u32],
 ) -> Parsed
     ensures { λ r. ⌜ parsedInto r (now (tokens .exit)) (now (words .exit)) (now (cells .exit)) ≡ parseInto (now (table .entry))
@@ -147,14 +160,14 @@ pub fn parse_by_size(table: &[u8], formula: &[u8], words: &mut [u32], cells: &mu
     requires { ⌜ WordRoom (now formula) (now words) ⌝ }
     ensures { λ r. ⌜ ParsesTo (now (table .entry)) (now (formula .entry)) (now (cells .entry)) (now (words .exit)) (now (cells .exit)) r ⌝ }
 {
-    if formula.len() <= 128 {
-        let mut tokens = [0u32; 512];
+    if formula.len() <= SHORT_FORMULA {
+        let mut tokens = [0u32; SHORT_FORMULA * TOKEN];
         return parse_in(table, formula, &mut tokens, words, cells);
     }
-    if formula.len() <= 1024 {
-        let mut tokens = [0u32; 4096];
+    if formula.len() <= MIDDLE_FORMULA {
+        let mut tokens = [0u32; MIDDLE_FORMULA * TOKEN];
         return parse_in(table, formula, &mut tokens, words, cells);
     }
-    let mut tokens = [0u32; 16384];
+    let mut tokens = [0u32; ALL_TOKENS];
     parse_in(table, formula, &mut tokens, words, cells)
 }

@@ -1,5 +1,9 @@
 // Printing a term whose new names are numbered.
 use printing::print_term;
+use spellings::LONGEST_WORD;
+use tokens::MOST_TOKENS;
+use writer::pool::OUTSIDES;
+use writer::pool::SPELLING_ROOM;
 use writer::pool::fill;
 ghost use Prim.Native.Nat.{ℕ, _≤_, _<_};
 ghost use mathlib.Core.Path.{_≡_};
@@ -9,7 +13,19 @@ ghost use Rattle.printing.specs.PrintedParts.{termPart, partText, PartFits};
 ghost use Rattle.printer.specs.Printed.{textBy, Printable, PrintableBy, Prints};
 
 // The most bytes that a constructor adds to a text: mkFieldCons with a label of 31 bytes takes 46.
-const LONGEST: usize = 46;
+const LONGEST: usize = 15 + LONGEST_WORD;
+
+// Words for which shorter rooms are lent.
+const FEW_WORDS: usize = 64;
+
+const MORE_WORDS: usize = 256;
+
+// Rooms for the spellings of all outside names and of so many words.
+const SMALL_POOL: usize = (OUTSIDES + FEW_WORDS) * SPELLING_ROOM;
+
+const MEDIUM_POOL: usize = (OUTSIDES + MORE_WORDS) * SPELLING_ROOM;
+
+const LARGE_POOL: usize = (OUTSIDES + MOST_TOKENS) * SPELLING_ROOM;
 
 // Numbers of 32 bits are below 2^32. Nothing is done: a read makes the fact known of all of them.
 fn wide_numbers(s: &[u32]) -> u32
@@ -117,7 +133,7 @@ fn print_small(
         (now (text .entry)) (now (text .exit)) r
         ⌝ }
 {
-    let mut pool = [0u8; 4096];
+    let mut pool = [0u8; SMALL_POOL];
     fill(table, formula, words, count, &mut pool);
     print_into(&pool, cells, shown, made, root, text)
 }
@@ -141,7 +157,7 @@ fn print_medium(
         (now (text .entry)) (now (text .exit)) r
         ⌝ }
 {
-    let mut pool = [0u8; 10240];
+    let mut pool = [0u8; MEDIUM_POOL];
     fill(table, formula, words, count, &mut pool);
     print_into(&pool, cells, shown, made, root, text)
 }
@@ -165,7 +181,7 @@ fn print_large(
         (now (text .entry)) (now (text .exit)) r
         ⌝ }
 {
-    let mut pool = [0u8; 133120];
+    let mut pool = [0u8; LARGE_POOL];
     fill(table, formula, words, count, &mut pool);
     print_into(&pool, cells, shown, made, root, text)
 }
@@ -189,10 +205,10 @@ pub fn print_text(
         (now (text .entry)) (now (text .exit)) r
         ⌝ }
 {
-    if count <= 64 {
+    if count <= FEW_WORDS {
         return print_small(table, formula, words, count, cells, made, root, shown, text);
     }
-    if count <= 256 {
+    if count <= MORE_WORDS {
         return print_medium(table, formula, words, count, cells, made, root, shown, text);
     }
     print_large(table, formula, words, count, cells, made, root, shown, text)

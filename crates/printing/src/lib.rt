@@ -1,5 +1,10 @@
 // Printing: each part of the text is written into what remains of the buffer. A walk with an empty buffer measures the text.
 use rows::column;
+use terms::FIELD_CONS;
+use terms::TERM_APP;
+use terms::TERM_DOT;
+use terms::TERM_FUN;
+use terms::TERM_RCD;
 use writer::openings::label_at;
 use writer::openings::open_fields;
 use writer::openings::open_term;
@@ -41,22 +46,22 @@ pub fn print_term(
         deep -= 1;
         let inner = column(*cells, part, 1);
         match code {
-            33 => {
+            TERM_FUN => {
                 end = first;
                 part = column(*cells, part, 2);
             }
-            34 | 36 => {
+            TERM_APP | TERM_DOT => {
                 let behind = print_term(out, first, pool, cells, shown, deep, inner, place);
                 let second = byte_at(out, behind, b' ');
                 let last = column(*cells, part, 2);
-                if code == 36 {
+                if code == TERM_DOT {
                     let label = label_at(out, second, pool, last);
                     return close_at(out, label, closing);
                 }
                 end = second;
                 part = last;
             }
-            35 => {
+            TERM_RCD => {
                 let behind = print_fields(out, first, pool, cells, shown, deep, inner, place);
                 return close_at(out, behind, closing);
             }
@@ -92,7 +97,7 @@ fn print_fields(
     }
     let deep = bound - 1;
     let code = column(*cells, row, 0);
-    if code == 38 {
+    if code == FIELD_CONS {
         let part = column(*cells, row, 2);
         let behind = print_term(out, first, pool, cells, shown, deep, part, place);
         let second = byte_at(out, behind, b' ');

@@ -1,6 +1,7 @@
 // The index of a grammar in a table: the nonterminal of each production, and the offset of its first item.
 use grammar::Front;
 use grammar::front_at;
+use grammar::limits::EACH_ALTERNATIVE;
 use grammar::reader::byte;
 use spellings::wide_short;
 ghost use Prim.Native.Nat.{_+_, _≤_};
@@ -69,7 +70,11 @@ fn redefine(head: &[u8], owners: &mut [u8], starts: &mut [u16], k: usize) -> usi
 
 // The places of the productions of a table, in two arrays, and how many there are. This rules out that an extension replaces, and that
 // an update adds.
-pub fn build_index(table: &[u8], owners: &mut [u8; 256], starts: &mut [u16; 256]) -> usize
+pub fn build_index(
+    table: &[u8],
+    owners: &mut [u8; EACH_ALTERNATIVE],
+    starts: &mut [u16; EACH_ALTERNATIVE],
+) -> usize
     requires { ⌜ FitsIndex (now table) ⌝ }
     ensures { λ r. ⌜ Index (placesOf (now (table .entry))) 256 r (now (owners .exit)) (now (starts .exit)) ⌝ }
 {

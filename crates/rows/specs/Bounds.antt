@@ -1,14 +1,15 @@
 -- Lower bounds of sizes, row by row. Nobody needs this to believe `expand`.
-use Prim.Native.Nat.{ℕ, _<_, _≤_}
+use Prim.Native.Nat.{ℕ, _+_, _<_, _≤_}
 use mathlib.Core.Path.{_≡_}
 use mathlib.Core.List.{List}
 use lib.ListN.{length, getD}
 use Rattle.terms.specs.Cells.{column}
+use Rattle.terms.specs.Term.{largestTerm}
 use Rattle.rows.specs.Sizes.{sizeAt, sizeFieldsAt}
 
 -- bounds are cut off behind the largest term
 abbrev pub mostBound : ℕ
-mostBound = 16385
+mostBound = largestTerm + 1
 
 -- a bound of the term at a row, at any depth that reaches over the rows before `row`
 pub record TermBound (cells : List ℕ) (row part bound : ℕ) : Type 0 where

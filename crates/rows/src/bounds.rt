@@ -2,6 +2,13 @@
 // used, and a part that is used often is looked at once.
 use crate::column;
 use terms::COLUMNS;
+use terms::FIELD_CONS;
+use terms::LARGEST_TERM;
+use terms::MOST_CELLS;
+use terms::TERM_APP;
+use terms::TERM_DOT;
+use terms::TERM_FUN;
+use terms::TERM_RCD;
 ghost use Prim.Native.Nat.{ℕ, _+_, _≤_, _<_};
 ghost use mathlib.Core.Path.{_≡_};
 ghost use mathlib.Core.Bool.{true};
@@ -12,10 +19,10 @@ ghost use Rattle.rows.specs.Sizes.{sizeAt, WholeRows};
 ghost use Rattle.rows.specs.Bounds.{mostBound, TermBound, FieldsBound, RowBound, Bounded};
 
 // One more than the constructors that a term may have: bounds are cut off there.
-const MOST_BOUND: u16 = 16385;
+const MOST_BOUND: u16 = LARGEST_TERM as u16 + 1;
 
-// The code of mkFieldCons.
-const FIELD: u32 = 38;
+// Rows for which a shorter room is lent.
+const FEW_ROWS: usize = 256;
 
 // The bound of a constructor whose parts have these bounds.
 fn joined(first: u16, second: u16) -> u16
@@ -34,7 +41,7 @@ fn term_bound(cells: &[u32], bounds: &[u16], row: usize, part: u32) -> u16
     let code = column(cells, part, 0);
     let at = part as usize;
     if at < row {
-        if code == FIELD {
+        if code == FIELD_CONS {
             return 0;
         }
         return bounds[at];
@@ -50,7 +57,7 @@ fn fields_bound(cells: &[u32], bounds: &[u16], row: usize, part: u32) -> u16
     let code = column(cells, part, 0);
     let at = part as usize;
     if at < row {
-        if code == FIELD {
+        if code == FIELD_CONS {
             return bounds[at];
         }
         return 0;
@@ -68,14 +75,14 @@ fn row_bound(cells: &[u32], bounds: &[u16], row: usize) -> u16
     let first = column(cells, here, 1);
     let second = column(cells, here, 2);
     match code {
-        33 => joined(term_bound(cells, bounds, row, second), 0),
-        34 => joined(
+        TERM_FUN => joined(term_bound(cells, bounds, row, second), 0),
+        TERM_APP => joined(
             term_bound(cells, bounds, row, first),
             term_bound(cells, bounds, row, second),
         ),
-        35 => joined(fields_bound(cells, bounds, row, first), 0),
-        36 => joined(term_bound(cells, bounds, row, first), 0),
-        38 => joined(
+        TERM_RCD => joined(fields_bound(cells, bounds, row, first), 0),
+        TERM_DOT => joined(term_bound(cells, bounds, row, first), 0),
+        FIELD_CONS => joined(
             term_bound(cells, bounds, row, second),
             fields_bound(cells, bounds, row, column(cells, here, 3)),
         ),
@@ -117,10 +124,10 @@ pub fn is_too_large(cells: &[u32], made: usize, root: u32) -> bool
     if made < rows {
         return false;
     }
-    if rows <= 256 {
-        let mut bounds = [0u16; 256];
+    if rows <= FEW_ROWS {
+        let mut bounds = [0u16; FEW_ROWS];
         return exceeds(cells, root, &mut bounds[..rows]);
     }
-    let mut bounds = [0u16; 16384];
+    let mut bounds = [0u16; MOST_CELLS];
     exceeds(cells, root, &mut bounds[..rows])
 }

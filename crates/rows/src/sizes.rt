@@ -1,13 +1,19 @@
 // The number of constructors of the tree at a row, counted while some are left.
 use crate::bounds::is_too_large;
 use crate::column;
+use terms::FIELD_CONS;
+use terms::LARGEST_TERM;
+use terms::TERM_APP;
+use terms::TERM_DOT;
+use terms::TERM_FUN;
+use terms::TERM_RCD;
 ghost use Prim.Native.Nat.{_-_, _≤_};
 ghost use mathlib.Core.Path.{_≡_};
 ghost use Rattle.rows.specs.Sizes.{sizeAt, sizeFieldsAt, WholeRows};
 ghost use Rattle.rows.specs.Bounds.{mostBound};
 
 // One constructor more than a term may have.
-pub const MOST_BOUND: usize = 16385;
+pub const MOST_BOUND: usize = LARGEST_TERM + 1;
 
 // What is left of `left` constructors without those of the term at a row; 0 if it has more. `bound` bounds the tree's depth.
 fn size_term(cells: &&[u32], bound: usize, row: u32, left: usize) -> usize
@@ -23,13 +29,13 @@ fn size_term(cells: &&[u32], bound: usize, row: u32, left: usize) -> usize
     let deep = bound - 1;
     let code = column(*cells, row, 0);
     match code {
-        33 => size_term(cells, deep, column(*cells, row, 2), rest),
-        34 => {
+        TERM_FUN => size_term(cells, deep, column(*cells, row, 2), rest),
+        TERM_APP => {
             let behind = size_term(cells, deep, column(*cells, row, 1), rest);
             size_term(cells, deep, column(*cells, row, 2), behind)
         }
-        35 => size_fields(cells, deep, column(*cells, row, 1), rest),
-        36 => size_term(cells, deep, column(*cells, row, 1), rest),
+        TERM_RCD => size_fields(cells, deep, column(*cells, row, 1), rest),
+        TERM_DOT => size_term(cells, deep, column(*cells, row, 1), rest),
         _ => rest,
     }
 }
@@ -47,7 +53,7 @@ fn size_fields(cells: &&[u32], bound: usize, row: u32, left: usize) -> usize
     }
     let deep = bound - 1;
     let code = column(*cells, row, 0);
-    if code == 38 {
+    if code == FIELD_CONS {
         let behind = size_term(cells, deep, column(*cells, row, 2), rest);
         return size_fields(cells, deep, column(*cells, row, 3), behind);
     }

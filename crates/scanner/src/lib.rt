@@ -1,15 +1,29 @@
 // The scanner: from the bytes of a formula to its tokens.
 pub mod room;
 
+use crate::room::PLACE;
+use crate::room::TOKEN;
 use answers::Refusal;
 use grammar::limits::MOST_OUTSIDES;
 use grammar::reader::part;
+use kinds::KEYWORD_KIND;
+use kinds::NO_KIND;
+use kinds::NUMBER_KIND;
+use kinds::WORD_KIND;
+use lexicon::KEYWORD_COUNT;
+use lexicon::MASK;
+use lexicon::ROOM;
+use lexicon::SPELLING_COUNT;
+use lexicon::SYMBOLS;
+use lexicon::TREE;
 use lexicon::trees::Spot;
 use lexicon::trees::find;
 use lexicon::trees::word_at;
 use spellings::LONGEST_WORD;
 use spellings::Number;
 use spellings::wide_number;
+use tokens::LONGEST_FORMULA;
+use tokens::MOST_TOKENS;
 use tokens::Scanned;
 use tokens::Step;
 use tokens::Token;
@@ -28,11 +42,6 @@ ghost use Rattle.lexicon.specs.LexiconRoom.{Lexical};
 ghost use Rattle.scanner.specs.Stepping.{Named, Ready, OwnWord, made, Marks, Stepped, Agrees, Scannable};
 ghost use Rattle.answers.specs.Refusals.{refusal};
 ghost use Rattle.scanner.specs.Rooms.{rowThen, placeThen, countWith, wordsIn, RoomFor, LentToScan, filled, scanInto};
-
-// The tokens and the bytes that a formula may have; the rooms of its tokens and words are as long as these ask.
-const MOST_TOKENS: usize = 4096;
-
-const LONGEST_FORMULA: usize = 65535;
 
 // The spelling number of a formula's first word that is no outside name.
 const FIRST_WORD: u32 = MOST_OUTSIDES as u32;
@@ -62,7 +71,7 @@ fn number_step(formula: &[u8], at: usize) -> Step
     let number = spellings::value(&rest[..n]);
     match number {
         Number::Value(v) => Step::Emit(Token {
-            kind: 1,
+            kind: NUMBER_KIND,
             at: at as u32,
             size: n as u32,
             value: v,
@@ -86,7 +95,7 @@ fn mark_step(table: &[u8], room: &[u32], tree: &[u32], formula: &[u8], at: usize
     }
     if spellings::is_symbol(b) {
         return Step::Emit(Token {
-            kind: room[252 + b as usize],
+            kind: room[SYMBOLS + b as usize],
             at: at as u32,
             size: 1,
             value: 0,
@@ -102,9 +111,9 @@ fn name_of(table: &[u8], room: &[u32], tree: &[u32], s: &[u8], hash: u64) -> Wor
     requires { ⌜ Lexical (now table) (now room) (now tree) × (hash ≡ hashOf (now s)) ⌝ }
     ensures { λ r. ⌜ Named (lexiconOf (now (table .entry))) (now (s .entry)) r ⌝ }
 {
-    let keywords = room[380];
-    let spellings = wide_number(room[381]);
-    let spot = find(table, room, tree, 127, spellings, s, hash);
+    let keywords = room[KEYWORD_COUNT];
+    let spellings = wide_number(room[SPELLING_COUNT]);
+    let spot = find(table, room, tree, MASK, spellings, s, hash);
     match spot {
         Spot::Node(i) => {
             let k = i as u32;
@@ -159,8 +168,14 @@ fn own_word(
         hash,
     );
     match spot {
-        Spot::Node(i) => emit(0, at, size, FIRST_WORD + i as u32, Spot::Node(0)),
-        Spot::Free(slot) => emit(0, at, size, FIRST_WORD + count as u32, Spot::Free(slot)),
+        Spot::Node(i) => emit(WORD_KIND, at, size, FIRST_WORD + i as u32, Spot::Node(0)),
+        Spot::Free(slot) => emit(
+            WORD_KIND,
+            at,
+            size,
+            FIRST_WORD + count as u32,
+            Spot::Free(slot),
+        ),
     }
 }
 
@@ -192,8 +207,8 @@ fn word_step(
     }
     let name = name_of(table, room, tree, part(formula, at, size), hash);
     match name {
-        WordClass::Keyword(k) => emit(k + 2, at, size, 0, Spot::Node(0)),
-        WordClass::Outside(k) => emit(0, at, size, k, Spot::Node(0)),
+        WordClass::Keyword(k) => emit(k + KEYWORD_KIND, at, size, 0, Spot::Node(0)),
+        WordClass::Outside(k) => emit(WORD_KIND, at, size, k, Spot::Node(0)),
         WordClass::Other => own_word(formula, words, links, mask, count, at, size, hash),
     }
 }
@@ -233,7 +248,7 @@ fn store_token(tokens: &mut [u32], n: usize, t: Token)
     requires { ⌜ n * 4 + 4 ≤ length (now tokens) ⌝ }
     ensures { λ _. ⌜ now (tokens .exit) ≡ sets (now (tokens .entry)) (n * 4) (rowThen t []) ⌝ }
 {
-    let i = n * 4;
+    let i = n * TOKEN;
     tokens[i] = t.kind;
     tokens[i + 1] = t.at;
     tokens[i + 2] = t.size;
@@ -250,7 +265,7 @@ fn store_word(words: &mut [u32], links: &mut [u32], count: usize, t: Token, spot
     match spot {
         Spot::Node(_) => count,
         Spot::Free(slot) => {
-            let i = count * 2;
+            let i = count * PLACE;
             words[i] = t.at;
             words[i + 1] = t.size;
             links[slot] = (count + 1) as u32;
@@ -330,8 +345,8 @@ fn scan_with(
     ensures { λ r. ⌜ filled r (now (tokens .exit)) (now (words .exit))
         ≡ scanInto (lexiconOf (now (table .entry))) (now (formula .entry)) (now (tokens .entry)) (now (words .entry)) ⌝ }
 {
-    let mut room = [64u32; 382];
-    let mut tree = [0u32; 380];
+    let mut room = [NO_KIND; ROOM];
+    let mut tree = [0u32; TREE];
     lexicon::enter_table(table, &mut room, &mut tree);
     scan_loop(table, &room, &tree, formula, tokens, words, links, mask)
 }

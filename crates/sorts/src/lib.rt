@@ -13,7 +13,11 @@ use bodies::items::check_result;
 use bodies::items::load_params;
 use grammar::Front;
 use grammar::front_at;
+use grammar::limits::EACH_NONTERMINAL;
 use grammar::limits::LONGEST_TABLE;
+use grammar::limits::MIDDLE_TABLE;
+use grammar::limits::MOST_VARIABLES;
+use grammar::limits::SMALL_TABLE;
 use grammar::reader::byte;
 use grammar::sorts::Sort;
 ghost use Prim.Native.Nat.{_+_, _*_, _≤_};
@@ -207,14 +211,21 @@ fn check_fields(heads: &mut [u16], sorts: &mut [u8], stack: &mut [u8], table: &[
     }
 }
 
+// The places that the templates of a table open: at most two for each of its bytes, and some more.
+const SMALL_STACK: usize = 2 * SMALL_TABLE + 8;
+
+const MIDDLE_STACK: usize = 2 * MIDDLE_TABLE + 8;
+
+const LARGE_STACK: usize = 2 * LONGEST_TABLE + 8;
+
 // With room for the places that the templates of a small table open.
 fn check_small(table: &[u8]) -> Verdict
     requires { ⌜ length (now table) ≤ 1024 ⌝ }
     ensures { λ r. ⌜ r ≡ sortsOf (now (table .entry)) ⌝ }
 {
-    let mut heads = [0u16; 64];
-    let mut sorts = [0u8; 16];
-    let mut stack = [0u8; 2_056];
+    let mut heads = [0u16; EACH_NONTERMINAL];
+    let mut sorts = [0u8; MOST_VARIABLES];
+    let mut stack = [0u8; SMALL_STACK];
     check_fields(&mut heads, &mut sorts, &mut stack, table)
 }
 
@@ -223,9 +234,9 @@ fn check_medium(table: &[u8]) -> Verdict
     requires { ⌜ length (now table) ≤ 4096 ⌝ }
     ensures { λ r. ⌜ r ≡ sortsOf (now (table .entry)) ⌝ }
 {
-    let mut heads = [0u16; 64];
-    let mut sorts = [0u8; 16];
-    let mut stack = [0u8; 8_200];
+    let mut heads = [0u16; EACH_NONTERMINAL];
+    let mut sorts = [0u8; MOST_VARIABLES];
+    let mut stack = [0u8; MIDDLE_STACK];
     check_fields(&mut heads, &mut sorts, &mut stack, table)
 }
 
@@ -234,9 +245,9 @@ fn check_large(table: &[u8]) -> Verdict
     requires { ⌜ length (now table) ≤ most .bytes ⌝ }
     ensures { λ r. ⌜ r ≡ sortsOf (now (table .entry)) ⌝ }
 {
-    let mut heads = [0u16; 64];
-    let mut sorts = [0u8; 16];
-    let mut stack = [0u8; 32_776];
+    let mut heads = [0u16; EACH_NONTERMINAL];
+    let mut sorts = [0u8; MOST_VARIABLES];
+    let mut stack = [0u8; LARGE_STACK];
     check_fields(&mut heads, &mut sorts, &mut stack, table)
 }
 
@@ -247,10 +258,10 @@ pub fn check_sorts(table: &[u8]) -> Verdict
     if LONGEST_TABLE < table.len() {
         return Verdict::Passed;
     }
-    if table.len() <= 1024 {
+    if table.len() <= SMALL_TABLE {
         return check_small(table);
     }
-    if table.len() <= 4096 {
+    if table.len() <= MIDDLE_TABLE {
         return check_medium(table);
     }
     check_large(table)

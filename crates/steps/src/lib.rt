@@ -8,8 +8,12 @@ use expansion::Outcome;
 use expansion::State;
 use grammar::Front;
 use grammar::front_at;
+use grammar::limits::MOST_VARIABLES;
 use grammar::reader::byte;
 use grammar::sorts::Sort;
+use kinds::KEYWORD_KIND;
+use kinds::NUMBER_KIND;
+use kinds::WORD_KIND;
 use scanner::room::value_at;
 use templates::Arguments;
 use templates::Built;
@@ -90,10 +94,10 @@ fn read_item(kind: u8, operand: u8, tokens: &[u32], n: usize, s: State) -> Outco
     let at = s.at;
     let value = value_at(tokens, n, at);
     match kind {
-        0 => take(tokens, n, operand as u32 + 2, 0, s),
-        1 => take(tokens, n, 0, word_value(operand, value), s),
+        0 => take(tokens, n, operand as u32 + KEYWORD_KIND, 0, s),
+        1 => take(tokens, n, WORD_KIND, word_value(operand, value), s),
         3 => fresh_name(s),
-        _ => take(tokens, n, 1, value, s),
+        _ => take(tokens, n, NUMBER_KIND, value, s),
     }
 }
 
@@ -110,9 +114,9 @@ fn do_item(
     next: usize,
     tokens: &[u32],
     n: usize,
-    vars: &[u32; 16],
+    vars: &[u32; MOST_VARIABLES],
     c: Cursor,
-    out: &mut [u32; 16],
+    out: &mut [u32; MOST_VARIABLES],
     cells: &mut [u32],
     stack: &mut [u32],
 ) -> ItemStep
@@ -151,9 +155,9 @@ pub fn item_step(
     table: &[u8],
     tokens: &[u32],
     n: usize,
-    vars: &[u32; 16],
+    vars: &[u32; MOST_VARIABLES],
     c: Cursor,
-    out: &mut [u32; 16],
+    out: &mut [u32; MOST_VARIABLES],
     cells: &mut [u32],
     stack: &mut [u32],
 ) -> ItemStep
@@ -213,7 +217,7 @@ fn outcome_of(b: Built, s: State) -> Outcome
 }
 
 // The first variable, which stands for a result that is not there.
-fn first_variable(vars: &[u32; 16], count: usize, s: State) -> Outcome
+fn first_variable(vars: &[u32; MOST_VARIABLES], count: usize, s: State) -> Outcome
     ensures { λ r. ⌜ ((I : Input) (M cells : List ℕ) → Holds (now (vars .entry)) count M → ran r cells ≡ build (Template.variable 0) I M s
         cells) ⌝ }
     ensures { λ r. ⌜ Stays s r ⌝ }
@@ -224,7 +228,7 @@ fn first_variable(vars: &[u32; 16], count: usize, s: State) -> Outcome
 // The result of the alternative whose items end at an offset.
 pub fn finish(
     table: &[u8],
-    vars: &[u32; 16],
+    vars: &[u32; MOST_VARIABLES],
     c: Cursor,
     cells: &mut [u32],
     stack: &mut [u32],

@@ -1,5 +1,9 @@
 // Templates, evaluated from their bytes in prefix form: each constructor makes one cell, arguments first, left to right. A cell is a row
 // of lent numbers.
+use grammar::codes::NAME_AS_VAR;
+use grammar::codes::TERM_VAR;
+use grammar::codes::VARIABLES;
+use grammar::limits::MOST_VARIABLES;
 use grammar::reader::arity_of;
 use grammar::reader::byte;
 use spellings::length_of;
@@ -50,7 +54,7 @@ pub fn rows_of(numbers: usize) -> usize
 }
 
 // The value of variable i of k.
-pub fn pick(env: &[u32; 16], k: usize, i: usize) -> u32
+pub fn pick(env: &[u32; MOST_VARIABLES], k: usize, i: usize) -> u32
     requires { ⌜ i < 16 ⌝ }
     ensures { λ r. ⌜ ((M : List ℕ) → Holds (now (env .entry)) k M → r ≡ getD M i 0) ⌝ }
 {
@@ -58,10 +62,10 @@ pub fn pick(env: &[u32; 16], k: usize, i: usize) -> u32
 }
 
 // One more value behind k. The seventeenth and later ones are named by no template.
-pub fn put(env: &mut [u32; 16], k: usize, v: u32)
+pub fn put(env: &mut [u32; MOST_VARIABLES], k: usize, v: u32)
     ensures { λ r. ⌜ ((M : List ℕ) → Holds (now (env .entry)) k M → Holds (now (env .exit)) (k + 1) (M ++ (v ∷ []))) ⌝ }
 {
-    if k < 16 {
+    if k < MOST_VARIABLES {
         env[k] = v;
     }
 }
@@ -70,7 +74,7 @@ pub fn put(env: &mut [u32; 16], k: usize, v: u32)
 fn name_value(tag: u8, n: u8) -> u32
     ensures { λ r. ⌜ ((I : Input) (M : List ℕ) (s : State) (cells : List ℕ) → build (nameBy (eqb tag 0x10) n) I M s cells ≡ done r s cells) ⌝ }
 {
-    if tag == 16 {
+    if tag == NAME_AS_VAR {
         OUTSIDE + n as u32
     } else {
         n as u32
@@ -90,16 +94,16 @@ fn store_row(cells: &mut [u32], row: usize, code: u8, args: [u32; 3])
 }
 
 // What the template at an offset begins with, under k variables.
-fn head_at(v: &[u8], at: usize, env: &[u32; 16], k: usize) -> Head
+fn head_at(v: &[u8], at: usize, env: &[u32; MOST_VARIABLES], k: usize) -> Head
     requires { ⌜ Ahead (now v) at ⌝ }
     ensures { λ r. ⌜ ((M : List ℕ) → Holds (now (env .entry)) k M → HeadValue (now (v .entry)) at M r) ⌝ }
     ensures { λ r. ⌜ Heads (now (v .entry)) at r ⌝ }
 {
     let b = byte(v, at);
-    if b < 16 {
+    if b < VARIABLES {
         return Head::Leaf(pick(env, k, b as usize), at + 1);
     }
-    if b < 32 {
+    if b < TERM_VAR {
         let n = byte(v, at + 1);
         return Head::Leaf(name_value(b, n), at + 2);
     }
@@ -154,7 +158,7 @@ fn build_node(
     v: &[u8],
     from: usize,
     code: u8,
-    env: &[u32; 16],
+    env: &[u32; MOST_VARIABLES],
     k: usize,
     rows: usize,
     made: usize,
@@ -211,7 +215,7 @@ fn build_node(
 pub fn build(
     v: &[u8],
     at: usize,
-    env: &[u32; 16],
+    env: &[u32; MOST_VARIABLES],
     k: usize,
     rows: usize,
     made: usize,
@@ -231,7 +235,7 @@ pub fn build(
 }
 
 // An array has as many values as its type says: looking at it makes that known.
-fn known_values(values: &[u32; 16]) -> usize
+fn known_values(values: &[u32; MOST_VARIABLES]) -> usize
     ensures { λ _. ⌜ length (now (values .entry)) ≡ 16 ⌝ }
 {
     length_of(values)
@@ -241,11 +245,11 @@ fn known_values(values: &[u32; 16]) -> usize
 pub fn build_arguments(
     v: &[u8],
     start: usize,
-    env: &[u32; 16],
+    env: &[u32; MOST_VARIABLES],
     k: usize,
     rows: usize,
     made: usize,
-    out: &mut [u32; 16],
+    out: &mut [u32; MOST_VARIABLES],
     cells: &mut [u32],
     stack: &mut [u32],
 ) -> Arguments

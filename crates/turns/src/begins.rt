@@ -1,9 +1,13 @@
 // The beginning of a call.
 use answers::Refusal;
 use answers::refuse;
+use choices::MEMORY;
 use choices::choose;
 use choices::kinds_of;
+use expansion::MOST_CALLS;
 use expansion::State;
+use productions::room::NO_PLACE;
+use productions::room::ROOM;
 use productions::room::start;
 use scanner::room::kind_at;
 use steps::taking::misfit;
@@ -16,9 +20,6 @@ ghost use Rattle.choices.specs.Held.{Held};
 ghost use Rattle.choices.specs.Chosen.{Remembers};
 ghost use Rattle.turns.specs.Lent.{MayBegin, lentInput};
 ghost use Rattle.turns.specs.Begins.{Starts};
-
-// How many calls may be begun in all.
-const MOST_CALLS: usize = 65536;
 
 // How a call begins: it refuses, or a production is entered at an offset.
 pub enum Begun {
@@ -41,8 +42,8 @@ fn with_call(s: State) -> State
 
 // The beginning of a call of a nonterminal, while `depth` more calls may be open: tested 19, 20, 17.
 pub fn begin(
-    room: &[u64; 641],
-    memory: &mut [u8; 4160],
+    room: &[u64; ROOM],
+    memory: &mut [u8; MEMORY],
     tokens: &[u32],
     n: usize,
     depth: usize,
@@ -63,7 +64,7 @@ pub fn begin(
     }
     let kind = kind_at(tokens, n, at);
     let place = choose(room, memory, nonterminal, kind);
-    if place < 256 {
+    if place < NO_PLACE {
         return Begun::Entered(start(room, place), with_call(s));
     }
     Begun::Refused(misfit(at, kinds_of(room, nonterminal)))
@@ -71,8 +72,8 @@ pub fn begin(
 
 // The beginning of the root's call: none is open and none was begun, so that only 17 is tested.
 pub fn begin_root(
-    room: &[u64; 641],
-    memory: &mut [u8; 4160],
+    room: &[u64; ROOM],
+    memory: &mut [u8; MEMORY],
     tokens: &[u32],
     n: usize,
     root: u8,
@@ -89,7 +90,7 @@ pub fn begin_root(
     };
     let kind = kind_at(tokens, n, 0);
     let place = choose(room, memory, root, kind);
-    if place < 256 {
+    if place < NO_PLACE {
         return Begun::Entered(start(room, place), with_call(s));
     }
     Begun::Refused(misfit(0, kinds_of(room, root)))

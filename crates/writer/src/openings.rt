@@ -4,7 +4,15 @@ use crate::writing::byte_at;
 use crate::writing::copy_at;
 use crate::writing::decimal_at;
 use rows::column;
+use terms::FIELD_CONS;
+use terms::FIELD_NIL;
+use terms::FRESH_CLASS;
 use terms::NAME_BASE;
+use terms::TERM_APP;
+use terms::TERM_DOT;
+use terms::TERM_FUN;
+use terms::TERM_RCD;
+use terms::TERM_VAR;
 ghost use Prim.Native.Nat.{_+_, _^_, _<_, _≤_};
 ghost use mathlib.Core.Path.{_≡_};
 ghost use lib.ListN.{length, getD};
@@ -29,7 +37,7 @@ fn name_at(out: &mut [u8], at: usize, pool: &&[u8], x: u32, shown: u16) -> usize
         let behind = byte_at(out, at, b'_');
         return decimal_at(out, behind, wide(shown));
     }
-    if x / NAME_BASE == 2 {
+    if x / NAME_BASE == FRESH_CLASS {
         return copy_at(out, at, b"_0");
     }
     copy_at(out, at, spelling(*pool, x % NAME_BASE))
@@ -82,20 +90,20 @@ pub fn open_term(
     }
     let x = column(*cells, row, 1);
     match code {
-        32 => {
+        TERM_VAR => {
             let name = copy_at(out, at, b"mkTermVar(");
             name_at(out, name, pool, x, shown_at(shown, place))
         }
-        33 => {
+        TERM_FUN => {
             let name = copy_at(out, at, b"mkTermFun(");
             let behind = name_at(out, name, pool, x, shown_at(shown, place));
             byte_at(out, behind, b' ')
         }
-        34 => copy_at(out, at, b"mkTermApp("),
-        35 => copy_at(out, at, b"mkTermRcd("),
-        36 => copy_at(out, at, b"mkTermDot("),
-        37 => open_number(out, at, 0),
-        38 => open_number(out, at, 0),
+        TERM_APP => copy_at(out, at, b"mkTermApp("),
+        TERM_RCD => copy_at(out, at, b"mkTermRcd("),
+        TERM_DOT => copy_at(out, at, b"mkTermDot("),
+        FIELD_NIL => open_number(out, at, 0),
+        FIELD_CONS => open_number(out, at, 0),
         _ => open_number(out, at, x),
     }
 }
@@ -126,7 +134,7 @@ pub fn open_fields(
         return copy_at(out, at, b"mkFieldNil(");
     }
     let code = column(*cells, row, 0);
-    if code == 38 {
+    if code == FIELD_CONS {
         let label = copy_at(out, at, b"mkFieldCons(");
         let behind = label_at(out, label, pool, column(*cells, row, 1));
         return byte_at(out, behind, b' ');

@@ -1,8 +1,10 @@
 // Spellings, in a room of 32 bytes a spelling number.
 use crate::writing::byte_at;
 use crate::writing::copy_at;
+use grammar::limits::MOST_OUTSIDES;
 use grammar::reader::byte;
 use grammar::reader::part;
+use spellings::LONGEST_WORD;
 use spellings::wide_byte;
 use spellings::wide_number;
 ghost use Prim.Native.Nat.{ℕ, _*_, _+_, _≤_, _<_};
@@ -14,11 +16,17 @@ ghost use Rattle.grammar.specs.Lookup.{lexiconOf};
 ghost use Rattle.writer.specs.Openings.{spellIn};
 ghost use Rattle.writer.specs.Pool.{Pooled, noneOf, oneOf, filledTo, Fillable};
 
+// The bytes of a spelling number: the length of a spelling, and the longest spelling.
+pub const SPELLING_ROOM: usize = LONGEST_WORD + 1;
+
+// The spelling numbers of outside names; those of a formula's words stand behind them.
+pub const OUTSIDES: usize = MOST_OUTSIDES as usize;
+
 // The spelling of a spelling number.
 pub(crate) fn spelling(pool: &[u8], n: u32) -> &[u8]
     ensures { λ r. ⌜ now r ≡ spellIn (now (pool .entry)) n ⌝ }
 {
-    let i = (n as usize) * 32;
+    let i = (n as usize) * SPELLING_ROOM;
     part(pool, i + 1, wide_byte(byte(pool, i)))
 }
 
@@ -35,7 +43,7 @@ fn store(pool: &mut [u8], i: usize, s: &[u8])
     requires { ⌜ i < 8192 ⌝ }
     ensures { λ _. ⌜ now (pool .exit) ≡ sets (now (pool .entry)) (i * 32) (length (now (s .entry)) ∷ now (s .entry)) ⌝ }
 {
-    let at = i * 32;
+    let at = i * SPELLING_ROOM;
     let first = byte_at(pool, at, narrow(s.len()));
     copy_at(pool, first, s);
 }
@@ -50,7 +58,7 @@ fn fill_outsides(table: &[u8], pool: &mut [u8])
     let start = grammar::after_leading(table, 1);
     let mut at = start;
     let mut i: usize = 0;
-    while i < 64 {
+    while i < OUTSIDES {
         let front = grammar::front_at(table, at);
         match front {
             grammar::Front::Nothing => {
@@ -85,7 +93,7 @@ pub fn fill(table: &[u8], formula: &[u8], words: &[u32], count: usize, pool: &mu
     while i < count {
         let at = wide_number(words[i * 2]);
         let size = wide_number(words[i * 2 + 1]);
-        store(pool, i + 64, part(formula, at, size));
+        store(pool, i + OUTSIDES, part(formula, at, size));
         i += 1;
     }
 }
