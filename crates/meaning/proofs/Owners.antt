@@ -1,4 +1,4 @@
--- The variables of a term and their binders, as terms/specs/Binding computes them, are those of the rules of specs/Origins.
+-- The variables of a term and their binders, as terms/specs/Occurrences computes them, are those of the rules of specs/Origins.
 use Prim.Native.Nat.{ℕ, suc, _+_}
 use mathlib.Core.Path.{_≡_, refl, sym, ap, subst, _∙_}
 use mathlib.Core.Bool.{Bool, true, false, true≢false}

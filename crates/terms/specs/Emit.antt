@@ -20,13 +20,13 @@ use Rattle.terms.specs.Print.{print}
 abbrev pub sizeTest : ℕ → Term Name → Checked (Unit {0})
 sizeTest made t = need (leb (size t) largestTerm) 22 made
 
--- 23: the first fresh variable under no binder made with it
-abbrev pub noneLoose : Walk → Checked (Unit {0})
-noneLoose (loose p) = bad (refusal 23 p 0 0)
-noneLoose (reached p) = ok tt
+-- 23: a walk that ends at a fresh variable under no binder made with it
+abbrev pub walkTest : Walk → Checked (Unit {0})
+walkTest (loose p) = bad (refusal 23 p 0 0)
+walkTest (reached p) = ok tt
 
 abbrev pub bindingTest : Term Name → Checked (Unit {0})
-bindingTest t = noneLoose (walk [] 0 t)
+bindingTest t = walkTest (walk [] 0 t)
 
 -- the tests in order
 abbrev pub termTests : ℕ → List (Term Name → Checked (Unit {0}))

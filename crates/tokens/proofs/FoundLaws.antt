@@ -21,7 +21,7 @@ module _ {sought : List ℕ} {vs : List (List ℕ)} where
       (λ e.
       let l : indexOf sought vs < index = ltb-true (indexOf sought vs) index e in
       absurd (f .none-before (indexOf sought vs) l (index-found sought vs (omega (arith, f .there)))))
-      (λ e. omega (arith, ltb-false (indexOf sought vs) index e, index-at sought vs index (f .there) (f .spelled)))
+      (λ e. omega (arith, ltb-false (indexOf sought vs) index e, index-at sought vs index (f .there) (f .equal)))
 
   -- the place of a spelling that stands nowhere is the list's length
   pub none-index : NotIn sought vs → indexOf sought vs ≡ length vs
@@ -48,7 +48,7 @@ module _ (sought : List ℕ) (vs : List (List ℕ)) where
   -- a place within the list is where the spelling stands first
   pub index-is-first : indexOf sought vs < length vs → FirstAt sought vs (indexOf sought vs)
   index-is-first h =
-      record { there = h; spelled = index-found sought vs h; none-before = λ j l e. same-false _ sought (index-first sought vs j l) e }
+      record { there = h; equal = index-found sought vs h; none-before = λ j l e. same-false _ sought (index-first sought vs j l) e }
 
   -- where the place is the list's length, the spelling stands nowhere
   pub index-is-none : indexOf sought vs ≡ length vs → NotIn sought vs

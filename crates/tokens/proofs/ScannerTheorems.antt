@@ -7,7 +7,7 @@ use mathlib.Core.Bool.{true}
 use mathlib.Core.List.{List, []}
 use native.Mathlib.Omega.{arith}
 use lib.Dec.{leb, ltb}
-use lib.ListN.{length, List·getD-eq-default}
+use lib.ListN.{length, getD, List·getD-eq-default}
 use borrow.Author.Tests.{leb-true, leb-false, ltb-true, ltb-false}
 use Rattle.spellings.specs.Bytes.{isWord}
 use Rattle.spellings.proofs.BytesLaws.{by-test}
@@ -19,12 +19,16 @@ use Rattle.tokens.specs.declared.Token.{Token}
 use Rattle.tokens.specs.declared.Scanned.the-variants.{Tokens, Unscanned}
 use Rattle.tokens.specs.Scan.{spellingOf, scan}
 use Rattle.tokens.specs.Tokens.{endToken, mostTokens, longestFormula, spelled}
-use Rattle.tokens.specs.Tiling.{bytesOf, tokenAt, Tiled}
+use Rattle.tokens.specs.Tiling.{bytesOf, Tiled}
 use Rattle.tokens.specs.Unscanned.{Unscans}
 use Rattle.tokens.proofs.LexLaws.{scan-long}
 use Rattle.tokens.proofs.TilingLaws.{scan-tiled, scan-counted}
 use Rattle.tokens.proofs.FollowLaws.{tiled-scanned, answer-unscans, unscans-answer}
 use Rattle.tokens.proofs.SpellingLaws.{Spelled, every-at, scan-spelled, spelled-number}
+
+-- token i; past the last there is one of no kind
+abbrev pub tokenAt : List Token → ℕ → Token
+tokenAt ts i = getD ts i endToken
 
 module _ (lex : Lexicon) (few : length (lex .outsides) ≤ 64) (formula : List ℕ) where
   -- a scan that is not refused is of a formula that is not too long

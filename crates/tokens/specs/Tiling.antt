@@ -1,5 +1,5 @@
 -- How tokens lie in a formula and what they are, by rules. Document 01, "Formula".
-use Prim.Native.Nat.{ℕ, _+_, _-_, _<_, _≤_}
+use Prim.Native.Nat.{ℕ, _+_, _<_, _≤_}
 use mathlib.Core.Path.{_≡_}
 use mathlib.Core.Bool.{true}
 use mathlib.Core.List.{List, [], _∷_, _++_}
@@ -9,7 +9,7 @@ use Rattle.kinds.specs.Kinds.{wordKind, numberKind, keywordKind, noKind}
 use Rattle.grammar.specs.Limits.{most}
 use Rattle.grammar.specs.Table.{Lexicon}
 use Rattle.tokens.specs.declared.Token.{Token}
-use Rattle.tokens.specs.Tokens.{token, spelled, endToken}
+use Rattle.tokens.specs.Tokens.{token}
 
 -- a word: a letter, then letters, digits or underscores, the longest run, 31 bytes at most
 pub record WordFront (rest s : List ℕ) : Type 0 where
@@ -31,7 +31,7 @@ pub record SymbolFront (rest s : List ℕ) : Type 0 where
 -- spelling k of a list is s, and none before it is
 pub record FirstAt (s : List ℕ) (spellings : List (List ℕ)) (k : ℕ) : Type 0 where
   pub there : k < length spellings
-  pub spelled : getD spellings k [] ≡ s
+  pub equal : getD spellings k [] ≡ s
   pub none-before : (j : ℕ) → j < k → getD spellings j [] ≡ s → ⊥
 
 -- no spelling of a list is s
@@ -71,7 +71,3 @@ pub data Tiled (lex : Lexicon) (formula : List ℕ) : ℕ → List (List ℕ) �
 -- the bytes of a token
 abbrev pub bytesOf : List ℕ → Token → List ℕ
 bytesOf formula t = take (t .size) (drop (t .at) formula)
-
--- token i; past the last there is a token of no kind
-abbrev pub tokenAt : List Token → ℕ → Token
-tokenAt ts i = getD ts i endToken
