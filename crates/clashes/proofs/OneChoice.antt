@@ -4,15 +4,16 @@ use mathlib.Core.Path.{_≡_, refl}
 use mathlib.Core.Logic.{_⊎_, inl, inr}
 use mathlib.Core.List.{List, _∷_}
 use Rattle.productions.specs.Normal.{Production}
-use Rattle.firsts.specs.Rules.{In, in-first, in-later, Of, NullItems, First, Reads}
+use Rattle.decoding.specs.Within.{Among, among-first, among-later}
+use Rattle.firsts.specs.Rules.{Of, NullItems, First, Reads}
 use Rattle.clashes.specs.Clashes.{Before, before-first, before-later, Two, Clashes, Never}
 
 -- two members of a list are one, or one stands before the other
-apart : {g : List Production} {p other : Production} → In g p → In g other → (p ≡ other) ⊎ (Before g p other ⊎ Before g other p)
-apart in-first in-first = inl refl
-apart in-first (in-later m) = inr (inl (before-first m))
-apart (in-later m) in-first = inr (inr (before-first m))
-apart (in-later m) (in-later k) = later (apart m k)
+apart : {g : List Production} {p other : Production} → Among g p → Among g other → (p ≡ other) ⊎ (Before g p other ⊎ Before g other p)
+apart among-first among-first = inl refl
+apart among-first (among-later m) = inr (inl (before-first m))
+apart (among-later m) among-first = inr (inr (before-first m))
+apart (among-later m) (among-later k) = later (apart m k)
   where
     later : {g : List Production} {p other one : Production} → (p ≡ other) ⊎ (Before g p other ⊎ Before g other p)
         → (p ≡ other) ⊎ (Before (one ∷ g) p other ⊎ Before (one ∷ g) other p)

@@ -11,7 +11,7 @@ use Rattle.kinds.specs.Kinds.{hasKind}
 use Rattle.kinds.proofs.KindsLaws.{has-join}
 use Rattle.productions.specs.Normal.{Production}
 use Rattle.clashes.specs.CheckFirsts.{lowest, anyWith, anyPair, joinWith, joinPairs}
-use Rattle.firsts.specs.Rules.{In, in-first, in-later}
+use Rattle.decoding.specs.Within.{Among, among-first, among-later}
 use Rattle.clashes.specs.Clashes.{Before, before-first, before-later}
 use Rattle.firsts.proofs.Rounds.{or-left, or-right, or-split}
 
@@ -54,7 +54,7 @@ pub record FoundWith (test : Production → Bool) (g : List Production) : Type 0
   -- the production found
   pub production : Production
   -- it is one of the list
-  pub member : In g production
+  pub member : Among g production
   -- it passes the test
   pub passes : test production ≡ true
 
@@ -62,13 +62,13 @@ with-sound : (test : Production → Bool) (g : List Production) → anyWith test
 unfolding anyWith
 with-sound test [] e = absurd (false≢true e)
 with-sound test (q ∷ g) e =
-    ⊎-elim (λ h. record { production = q; member = in-first; passes = h })
-    (λ h. let r = with-sound test g h in record { production = r .production; member = in-later (r .member); passes = r .passes }) (or-split (test q) e)
+    ⊎-elim (λ h. record { production = q; member = among-first; passes = h })
+    (λ h. let r = with-sound test g h in record { production = r .production; member = among-later (r .member); passes = r .passes }) (or-split (test q) e)
 
-with-complete : (test : Production → Bool) {g : List Production} {other : Production} → In g other → test other ≡ true → anyWith test g ≡ true
+with-complete : (test : Production → Bool) {g : List Production} {other : Production} → Among g other → test other ≡ true → anyWith test g ≡ true
 unfolding anyWith
-with-complete test in-first e = or-left _ e
-with-complete test (in-later {q = r} m) e = or-right (test r) (with-complete test m e)
+with-complete test among-first e = or-left _ e
+with-complete test (among-later {y = r} m) e = or-right (test r) (with-complete test m e)
 
 -- two productions of a list, one before the other, that pass a test
 pub record FoundPair (test : Production → Production → Bool) (g : List Production) : Type 0 where

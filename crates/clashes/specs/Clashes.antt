@@ -4,11 +4,12 @@ use mathlib.Core.Path.{_≡_}
 use mathlib.Core.Logic.{_⊎_}
 use mathlib.Core.List.{List, _∷_}
 use Rattle.productions.specs.Normal.{Production}
-use Rattle.firsts.specs.Rules.{IsNonterminal, In, NullItems, First, Reads, LeftReaches}
+use Rattle.decoding.specs.Within.{Among}
+use Rattle.firsts.specs.Rules.{IsNonterminal, NullItems, First, Reads, LeftReaches}
 
 -- p stands before q in g: they are two productions, even if they read alike
 pub data Before : List Production → Production → Production → Type 0 where
-  before-first : {p q : Production} {g : List Production} → In g q → Before (p ∷ g) p q
+  before-first : {p q : Production} {g : List Production} → Among g q → Before (p ∷ g) p q
   before-later : {p q r : Production} {g : List Production} → Before g p q → Before (r ∷ g) p q
 
 -- two productions of the nonterminal n

@@ -16,12 +16,15 @@ pub data Each {A : Type 0} (P : A → Type 0) : List A → Type 0 where
   each-none : Each P []
   each-more : {x : A} {xs : List A} → P x → Each P xs → Each P (x ∷ xs)
 
+-- x is a member
+pub data Among {A : Type 0} : List A → A → Type 0 where
+  among-first : {x : A} {xs : List A} → Among (x ∷ xs) x
+  among-later : {x y : A} {xs : List A} → Among xs x → Among (y ∷ xs) x
+
 -- no spelling stands twice
 pub data Different : List (List ℕ) → Type 0 where
   different-none : Different []
   different-more : {s : List ℕ} {rest : List (List ℕ)} → Each (λ r. s ≡ r → ⊥) rest → Different rest → Different (s ∷ rest)
-
--- ------------------------------------------------------------------ ranges
 
 -- how many templates there are
 unfoldable pub count : Templates → ℕ
@@ -63,8 +66,6 @@ pub record DefinitionWithin (d : Definition) : Type 0 where
   pub paramCount : length (d .signature .params) ≤ most .parameters
   pub alternatives : Each AlternativeWithin (d .alternatives)
   pub alternativeCount : 1 ≤ length (d .alternatives)
-
--- ------------------------------------------------------------------ the table
 
 -- the alternatives of a block, and of all blocks
 unfoldable pub alternativesOf : List Definition → ℕ

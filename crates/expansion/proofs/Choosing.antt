@@ -15,7 +15,8 @@ use Rattle.tokens.specs.declared.Token.{Token}
 use Rattle.productions.specs.Normal.{Production}
 use Rattle.clashes.specs.CheckFirsts.{checkFirsts}
 use Rattle.firsts.specs.FirstSets.{nullables, firstSets}
-use Rattle.firsts.specs.Rules.{In, in-first, in-later, First, first-own, first-call, first-past, Reads, reads-keyword, reads-word, reads-number}
+use Rattle.decoding.specs.Within.{Among, among-first, among-later}
+use Rattle.firsts.specs.Rules.{First, first-own, first-call, first-past, Reads, reads-keyword, reads-word, reads-number}
 use Rattle.firsts.proofs.FirstsTheorems.{production-opens-exactly, production-nullable-exactly}
 use Rattle.clashes.proofs.ClashTheorems.{one-production}
 use Rattle.expansion.specs.Expansion.{Rule, ruleOf, ready, Choice, unfit, chosen, firstRule, choice}
@@ -51,9 +52,9 @@ first-small (first-own reads-number) = omega arith
 first-small (first-call o f) = first-small f
 first-small (first-past z f) = first-small f
 
-members : {g : List Production} {p : Production} → In g p → 0 < length g
-members in-first = omega arith
-members (in-later m) = omega arith
+members : {g : List Production} {p : Production} → Among g p → 0 < length g
+members among-first = omega arith
+members (among-later m) = omega arith
 
 -- ------------------------------------------------------------------ the first rule that passes a test
 
@@ -63,7 +64,7 @@ module _ (rule : Production → Rule) (owned : (p : Production) → rule p .owne
     -- the production that is found
     pub production : Production
     -- it is one of the grammar
-    pub member : In g production
+    pub member : Among g production
     -- it is of the nonterminal
     pub of : production .owner ≡ nonterminal
     -- its rule passes the test
@@ -74,7 +75,7 @@ module _ (rule : Production → Rule) (owned : (p : Production) → rule p .owne
   -- none is found, and the search gives the other answer
   pub record Missing (g : List Production) : Type 0 where
     -- no production of the nonterminal passes the test
-    pub none-passed : (p : Production) → In g p → p .owner ≡ nonterminal → test (rule p) ≡ true → ⊥
+    pub none-passed : (p : Production) → Among g p → p .owner ≡ nonterminal → test (rule p) ≡ true → ⊥
     -- the other answer is given
     pub answer : firstRule test nonterminal (map rule g) other ≡ other
 
@@ -84,9 +85,9 @@ module _ (rule : Production → Rule) (owned : (p : Production) → rule p .owne
   here p g answer e = rw (e, firstRule) refl
 
   missing-later : {p : Production} {g : List Production} → (eqb (rule p .owner) nonterminal && test (rule p)) ≡ false → Missing g
-      → (other : Production) → In (p ∷ g) other → other .owner ≡ nonterminal → test (rule other) ≡ true → ⊥
-  missing-later {p} e m other in-first o t = true≢false (sym (and-eq-true-iff _ _ .1 (eq-eqb (rule p .owner) nonterminal (owned p ∙ o), t)) ∙ e)
-  missing-later e m other (in-later k) o t = m .none-passed other k o t
+      → (other : Production) → Among (p ∷ g) other → other .owner ≡ nonterminal → test (rule other) ≡ true → ⊥
+  missing-later {p} e m other among-first o t = true≢false (sym (and-eq-true-iff _ _ .1 (eq-eqb (rule p .owner) nonterminal (owned p ∙ o), t)) ∙ e)
+  missing-later e m other (among-later k) o t = m .none-passed other k o t
 
   first-rule : (g : List Production) → Found g ⊎ Missing g
   unfolding firstRule
@@ -99,13 +100,13 @@ module _ (rule : Production → Rule) (owned : (p : Production) → rule p .owne
           inl
           (record {
             production = p;
-            member = in-first;
+            member = among-first;
             of = sym (owned p) ∙ eqb-true (rule p .owner) nonterminal (k .0);
             passed = k .1;
             answer = here p g true e;
           })
       go false e (inl f) =
-          inl (record { production = f .production; member = in-later (f .member); of = f .of; passed = f .passed; answer = here p g false e ∙ f .answer })
+          inl (record { production = f .production; member = among-later (f .member); of = f .of; passed = f .passed; answer = here p g false e ∙ f .answer })
       go false e (inr m) = inr (record { none-passed = missing-later e m; answer = here p g false e ∙ m .answer })
 
 -- ------------------------------------------------------------------ the choice

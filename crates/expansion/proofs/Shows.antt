@@ -4,6 +4,7 @@ use Prim.Native.Nat.{ℕ, zero, suc, _+_, _*_, _/_, _%_, _≤_, _<_}
 use mathlib.Core.Path.{_≡_, refl, ap, ap₂, _∙_}
 use mathlib.Core.List.{List, [], _∷_, _++_}
 use native.Mathlib.Omega.{arith}
+use native.Mathlib.Decide.{decLt}
 use lib.ListN.{length, getD, take, drop, length-append, List·getD-append}
 use lib.Seq.{sets-eq, length-sets, length-take-le, getD-take, getD-append-add}
 use Rattle.terms.specs.Cells.{columns, column, withRow, nameBase, wordName, freshName, outsideName}
@@ -20,18 +21,25 @@ pub record Agree (made : ℕ) (cells cells′ : List ℕ) : Type 0 where
   -- the cells of the rows made are the same
   pub same : (place : ℕ) → place < made * columns → getD cells′ place 0 ≡ getD cells place 0
 
--- from `made` rows to more: the old ones are the same, and as many numbers are lent
+-- the code of a constructor
+abbrev pub IsCode : ℕ → Type 0
+IsCode code = (0x20 ≤ code) × (code ≤ 0x27)
+
+-- from `made` rows to more: the old ones are the same, the new ones have constructors, and as many numbers are lent
 pub record Grown (made : ℕ) (cells : List ℕ) (made′ : ℕ) (cells′ : List ℕ) : Type 0 where
   -- no row is lost
   pub more : made ≤ made′
   -- the rows made before are kept
   pub agree : Agree made cells cells′
+  -- each row made since has the code of a constructor
+  pub coded : (row : ℕ) → made ≤ row → row < made′ → IsCode (column cells′ row 0)
   -- the cells are as many
   pub as-many : length cells′ ≡ length cells
 
 -- no row is made
 pub grown-not : (made : ℕ) (cells : List ℕ) → Grown made cells made cells
-grown-not made cells = record { more = omega arith; agree = record { same = λ j h. refl }; as-many = refl }
+grown-not made cells =
+    record { more = omega arith; agree = record { same = λ j h. refl }; coded = λ row l b. absurd (omega arith); as-many = refl }
 
 agree-trans : {fewer more : ℕ} {cells cells′ cells″ : List ℕ} → fewer ≤ more → Agree fewer cells cells′ → Agree more cells′ cells″ → Agree fewer cells cells″
 agree-trans l h k = record { same = λ j b. k .same j (omega arith) ∙ h .same j b }
@@ -39,7 +47,17 @@ agree-trans l h k = record { same = λ j b. k .same j (omega arith) ∙ h .same 
 -- rows made in two steps
 pub grown-trans : {made made′ made″ : ℕ} {cells cells′ cells″ : List ℕ} → Grown made cells made′ cells′ → Grown made′ cells′ made″ cells″
     → Grown made cells made″ cells″
-grown-trans h k = record { more = omega arith; agree = agree-trans (h .more) (h .agree) (k .agree); as-many = k .as-many ∙ h .as-many }
+grown-trans {made = made} {made′ = made′} {made″ = made″} {cells″ = cells″} h k =
+    record {
+      more = omega arith;
+      agree = agree-trans (h .more) (h .agree) (k .agree);
+      coded = λ row l b. by row l b (decLt row made′);
+      as-many = k .as-many ∙ h .as-many;
+    }
+  where
+    by : (row : ℕ) → made ≤ row → row < made″ → Dec (row < made′) → IsCode (column cells″ row 0)
+    by row l b (yes before) = rw (k .agree .same (row * columns + 0) (omega arith)) (h .coded row l before)
+    by row l b (no behind) = k .coded row (omega arith) b
 
 -- ------------------------------------------------------------------ what a number shows
 
@@ -165,13 +183,21 @@ module _ (made : ℕ) (cells : List ℕ) (code : ℕ) (xs : List ℕ) (room : ma
       cc (split (made * columns + column-number) (omega arith), front-length, getD-append-add front (rowOf code xs) column-number 0)
 
   -- one row more
-  pub row-grown : Grown made cells (made + 1) (withRow cells made code xs)
-  row-grown = record { more = omega arith; agree = record { same = before-row }; as-many = length-sets cells (made * columns) (rowOf code xs) }
+  pub row-grown : IsCode code → Grown made cells (made + 1) (withRow cells made code xs)
+  row-grown is-code =
+      record {
+        more = omega arith;
+        agree = record { same = before-row };
+        coded = λ row l b.
+            let here : row ≡ made = omega arith in
+            rw (here, in-row 0 (omega arith)) is-code;
+        as-many = length-sets cells (made * columns) (rowOf code xs);
+      }
 
   -- cells that have the new row too
   module _ (spell : ℕ → List ℕ) (cells′ : List ℕ) (same : Agree (made + 1) (withRow cells made code xs) cells′) where
     old : Agree made cells cells′
-    old = agree-trans (row-grown .more) (row-grown .agree) same
+    old = agree-trans (omega arith) (record { same = before-row }) same
 
     at-column : (column-number : ℕ) → column-number < columns → column cells′ made column-number ≡ getD (rowOf code xs) column-number 0
     at-column column-number h = same .same (made * columns + column-number) (omega arith) ∙ in-row column-number h

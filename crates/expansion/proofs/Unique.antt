@@ -78,21 +78,21 @@ terminal-one by-local by-local = (refl, refl, refl)
 -- ------------------------------------------------------------------ items
 
 module _ {g : List Production} (passed : checkFirsts g ≡ ok tt) {spell : ℕ → List ℕ} where
-  derives-one : {M M₁ M₂ : List Value} {s s₁ s₂ : List Token} {i i₁ i₂ : ℕ} {is : List Item} → Derives g spell M s i is M₁ s₁ i₁
-      → Derives g spell M s i is M₂ s₂ i₂
+  derives-one : {M M₁ M₂ : List Value} {s s₁ s₂ : List Token} {i i₁ i₂ : ℕ} {is : List Item} → Derives g spell M s i is s₁ i₁ M₁
+      → Derives g spell M s i is s₂ i₂ M₂
       → (M₁ ≡ M₂) × (s₁ ≡ s₂) × (i₁ ≡ i₂)
   derives-one by-end by-end = (refl, refl, refl)
   derives-one {M} (by-terminal {s₁ = t} {i₁ = j} {ps = ps} {v = v} e d) (by-terminal {M′ = M₂} {s₁ = t′} {s′ = s₂} {i₁ = j′} {i′ = i₂} {v = v′} f h) =
       let q = terminal-one e f in
-      derives-one d (subst₃ (λ w u k. Derives g spell (M ++ (w ∷ [])) u k ps M₂ s₂ i₂) (sym (q .0)) (sym (q .1)) (sym (q .2)) h)
+      derives-one d (subst₃ (λ w u k. Derives g spell (M ++ (w ∷ [])) u k ps s₂ i₂ M₂) (sym (q .0)) (sym (q .1)) (sym (q .2)) h)
   derives-one (by-terminal e d) (by-call gs t d₁ q r) = absurd (true≢false (terminal-item e))
   derives-one (by-call gs t d₁ q r) (by-terminal e d) = absurd (true≢false (terminal-item e))
   derives-one {M} {s = s} {i = i}
       (by-call {ts = ts} {ps = is} {p = p} gs t d q r)
       (by-call {M₁ = M₁} {M′ = M₂} {s₁ = s₁} {s′ = s₂} {i₁ = i₁} {i′ = i₂} {v = w} gs′ t′ d′ q′ r′) =
-      let a = derives-one d (subst₂ (λ vs x. Derives g spell vs s i (x .items) M₁ s₁ i₁) (sym (all-one ts gs gs′)) (sym (taken-one g passed t t′)) d′) in
+      let a = derives-one d (subst₂ (λ vs x. Derives g spell vs s i (x .items) s₁ i₁ M₁) (sym (all-one ts gs gs′)) (sym (taken-one g passed t t′)) d′) in
       let b = gives-one (p .result) q (subst₂ (λ m x. Gives spell m (x .result) w) (sym (a .0)) (sym (taken-one g passed t t′)) q′) in
-      derives-one r (subst₃ (λ v t j. Derives g spell (M ++ (v ∷ [])) t j is M₂ s₂ i₂) (sym b) (sym (a .1)) (sym (a .2)) r′)
+      derives-one r (subst₃ (λ v t j. Derives g spell (M ++ (v ∷ [])) t j is s₂ i₂ M₂) (sym b) (sym (a .1)) (sym (a .2)) r′)
 
   -- tokens have one parse at most
   pub parses-one : {root : ℕ} {tokens : List Token} {t other : Term Name} → Parses g spell root tokens t → Parses g spell root tokens other → t ≡ other

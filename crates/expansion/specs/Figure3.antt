@@ -6,8 +6,9 @@
 -- (⟨s, i⟩ p ⇒ ⟨s', i'⟩ v), or items in sequence, calls among them (M ⊢ ⟨s, i⟩ x1 = p1 .. xk = pk ⇒ ⟨s', i'⟩ M').
 --
 -- Document 01 changes: of two alternatives only the one taken derives (`Taken`); a number is read; an outside name may be a Label; a Binder
--- may stand where Var is asked. `wrong`, the paper's result for an unbound variable or an undefined nonterminal, is no value here: nothing
--- is derived in its place. That a well sorted production never meets it is a theorem (`never-wrong` on the page of the demands).
+-- may stand where Var is asked; global(x) gives an outside name, told apart from a formula's x_Var; K is all keywords of the table.
+-- `wrong`, the paper's result for an unbound variable or an undefined nonterminal, is no value here: nothing is derived in its place. That
+-- a well sorted production never meets it is a theorem (`never-wrong`, `call-never-wrong`, `productions-sorted` on the page of the demands).
 use Prim.Native.Nat.{ℕ, suc, _+_}
 use mathlib.Core.Path.{_≡_}
 use mathlib.Core.List.{List, [], _∷_, _++_}
@@ -108,7 +109,7 @@ pub data WordAs : ℕ → List ℕ → Value → Type 0 where
 module _ (g : List Production) (spell : ℕ → List ℕ) where
   infix 10 ⟨_∣_⟩_⇒⟨_∣_⟩_
   infix 10 _⊢⟨_∣_⟩_⇒⟨_∣_⟩_
-  -- terminals: "x", ide(B), 01's number, local
+  -- terminals: "x", ide(B), 01's number, local; x ∉ K(g) is `t .kind ≡ wordKind`, as the scan reads what is spelled as a keyword
   pub data ⟨_∣_⟩_⇒⟨_∣_⟩_ : List Token → ℕ → Item → List Token → ℕ → Value → Type 0 where
     by-keyword : {t : Token} {s : List Token} {i k : ℕ}
         → t .kind ≡ keywordKind k
@@ -123,7 +124,7 @@ module _ (g : List Production) (spell : ℕ → List ℕ) where
     by-local : {s : List Token} {i : ℕ} → ⟨ s ∣ i ⟩ local ⇒⟨ s ∣ i + 1 ⟩ binder (fresh i)
 
   -- x1 = p1 .. xk = pk, from the variables M and the configuration ⟨s, i⟩ to M' and ⟨s', i'⟩; arguments come before their call, whose
-  -- alternative begins with them as its only variables
+  -- alternative begins with them as its only variables: (x : S) == p ∈ g is `Of g n p` inside `Taken`
   pub data _⊢⟨_∣_⟩_⇒⟨_∣_⟩_ : List Value → List Token → ℕ → List Item → List Token → ℕ → List Value → Type 0 where
     by-end : {M : List Value} {s : List Token} {i : ℕ} → M ⊢⟨ s ∣ i ⟩ [] ⇒⟨ s ∣ i ⟩ M
     by-terminal : {M M′ : List Value} {s s₁ s′ : List Token} {i i₁ i′ : ℕ} {p : Item} {ps : List Item} {v : Value}
@@ -142,10 +143,10 @@ module _ (g : List Production) (spell : ℕ → List ℕ) where
 abbrev pub ReadsAs : List Production → (ℕ → List ℕ) → List Token → ℕ → Item → List Token → ℕ → Value → Type 0
 ReadsAs g spell s i p s′ i′ v = ⟨_∣_⟩_⇒⟨_∣_⟩_ g spell s i p s′ i′ v
 
-abbrev pub Derives : List Production → (ℕ → List ℕ) → List Value → List Token → ℕ → List Item → List Value → List Token → ℕ → Type 0
-Derives g spell M s i ps M′ s′ i′ = _⊢⟨_∣_⟩_⇒⟨_∣_⟩_ g spell M s i ps s′ i′ M′
+abbrev pub Derives : List Production → (ℕ → List ℕ) → List Value → List Token → ℕ → List Item → List Token → ℕ → List Value → Type 0
+Derives g spell M s i ps s′ i′ M′ = _⊢⟨_∣_⟩_⇒⟨_∣_⟩_ g spell M s i ps s′ i′ M′
 
 -- a whole formula: one call, of the root, with fresh names from 1, reads all tokens and gives a term (001, Corollary 1)
 pub record Parses (g : List Production) (spell : ℕ → List ℕ) (root : ℕ) (tokens : List Token) (t : Term Name) : Type 0 where
   pub counter : ℕ
-  pub derived : Derives g spell [] tokens 1 (call root none ∷ []) (term t ∷ []) [] counter
+  pub derived : Derives g spell [] tokens 1 (call root none ∷ []) [] counter (term t ∷ [])

@@ -10,7 +10,7 @@ pub data Typed : Value → ℕ → Type 0 where
   typed-unit : Typed unit Sorts.unit
   typed-var : {x : Name} → Typed (var x) Sorts.var
   typed-binder : {x : Name} → Typed (binder x) Sorts.binder
-  typed-either : {x : Name} → Typed (binder x) Sorts.var
+  typed-binder-as-var : {x : Name} → Typed (binder x) Sorts.var
   typed-label : {l : List ℕ} → Typed (label l) Sorts.label
   typed-term : {t : Term Name} → Typed (term t) Sorts.term
   typed-fields : {f : Fields Name} → Typed (fields f) Sorts.fields

@@ -12,7 +12,8 @@ use borrow.Author.Tests.{lt-ltb, le-ltb, eq-eqb, eqb-true, ltb-true}
 use Rattle.grammar.specs.Table.{Item}
 use Rattle.productions.specs.Normal.{Production}
 use Rattle.firsts.specs.FirstSets.{rounds, overAll}
-use Rattle.firsts.specs.Rules.{In, in-first, in-later, Of}
+use Rattle.decoding.specs.Within.{Among, among-first, among-later}
+use Rattle.firsts.specs.Rules.{Of}
 
 -- ------------------------------------------------------------------ tests
 
@@ -147,7 +148,7 @@ least passes g = rounds 64 (overAll (admit passes) g) nothing
 
 module _ (passes : Numbers → List Item → Bool) (g : List Production) (P : ℕ → Type 0)
     (keeps : (numbers : Numbers) → Each P numbers → (number : ℕ) (p : Production) → Of g number p → passes numbers (p .items) ≡ true → P number) where
-  step-within : (numbers : Numbers) → Each P numbers → (p : Production) → In g p → Each P (admit passes p numbers)
+  step-within : (numbers : Numbers) → Each P numbers → (p : Production) → Among g p → Each P (admit passes p numbers)
   step-within numbers hs p member n e = ⊎-elim (hs n) (λ a. came (and-eq-true-iff _ _ .0 a)) (or-split (numbers n) e)
     where
       came : (passes numbers (p .items) ≡ true) × ((ltb n 64 && eqb n (p .owner)) ≡ true) → P n
@@ -156,11 +157,11 @@ module _ (passes : Numbers → List Item → Bool) (g : List Production) (P : �
           keeps numbers hs n p (record { member = member; owned = sym (eqb-true n (p .owner) (t .1)); small = ltb-true n 64 (t .0) }) (a .0)
 
   -- and of each number after a round
-  pub over-within : (part : List Production) → ((p : Production) → In part p → In g p) → (numbers : Numbers) → Each P numbers
+  pub over-within : (part : List Production) → ((p : Production) → Among part p → Among g p) → (numbers : Numbers) → Each P numbers
       → Each P (overAll (admit passes) part numbers)
   unfolding overAll
   over-within [] i numbers hs = hs
-  over-within (p ∷ part) i numbers hs = over-within part (λ q m. i q (in-later m)) (admit passes p numbers) (step-within numbers hs p (i p in-first))
+  over-within (p ∷ part) i numbers hs = over-within part (λ q m. i q (among-later m)) (admit passes p numbers) (step-within numbers hs p (i p among-first))
 
   rounds-within : (times : ℕ) (numbers : Numbers) → Each P numbers → Each P (rounds times (overAll (admit passes) g) numbers)
   unfolding rounds
@@ -197,13 +198,13 @@ module _ (passes : Numbers → List Item → Bool)
   over-high (p ∷ g) numbers nonterminal h = over-high g (admit passes p numbers) nonterminal h ∙ step-high p numbers nonterminal h
 
   -- in a round each production has its turn, with all that was in before
-  over-admits : {g : List Production} {p : Production} → In g p → (numbers : Numbers) → passes numbers (p .items) ≡ true → p .owner < 64
+  over-admits : {g : List Production} {p : Production} → Among g p → (numbers : Numbers) → passes numbers (p .items) ≡ true → p .owner < 64
       → overAll (admit passes) g numbers (p .owner) ≡ true
   unfolding overAll
-  over-admits (in-first {p = p} {g = g}) numbers e l =
+  over-admits (among-first {x = p} {xs = g}) numbers e l =
       over-adds g (admit passes p numbers) (p .owner)
       (or-right (numbers (p .owner)) (rw (e, lt-ltb (p .owner) 64 l, eq-eqb (p .owner) (p .owner) refl) refl))
-  over-admits (in-later {p = p} {q = q} m) numbers e l =
+  over-admits (among-later {x = p} {y = q} m) numbers e l =
       over-admits m (admit passes q numbers) (more numbers (admit passes q numbers) (step-adds q numbers) (p .items) e) l
 
   -- one more round changes nothing

@@ -6,27 +6,21 @@ use mathlib.Core.List.{List, [], _∷_}
 use Rattle.kinds.specs.Kinds.{wordKind, numberKind, keywordKind}
 use Rattle.grammar.specs.Limits.{most}
 use Rattle.grammar.specs.Table.{Templates, Item, keyword, ide, number, local, call}
+use Rattle.decoding.specs.Within.{Among}
 use Rattle.productions.specs.Normal.{Production}
 
 -- Document 01, "Phrase table": nonterminals and keywords are numbered from 0
 abbrev pub IsNonterminal : ℕ → Type 0
 IsNonterminal n = n < most .nonterminals
 
-abbrev pub IsKeyword : ℕ → Type 0
-IsKeyword k = k < most .keywords
-
--- p is a production of g
-pub data In : List Production → Production → Type 0 where
-  in-first : {p : Production} {g : List Production} → In (p ∷ g) p
-  in-later : {p q : Production} {g : List Production} → In g p → In (q ∷ g) p
+abbrev pub IsKeywordNumber : ℕ → Type 0
+IsKeywordNumber k = k < most .keywords
 
 -- p is a production of the nonterminal n
 pub record Of (g : List Production) (n : ℕ) (p : Production) : Type 0 where
-  pub member : In g p
+  pub member : Among g p
   pub owned : p .owner ≡ n
   pub small : IsNonterminal n
-
--- ------------------------------------------------------------------ nullable
 
 -- items that may all read nothing: a local is nullable, and so is a call of a nonterminal some alternative of which is
 pub data NullItems (g : List Production) : List Item → Type 0 where
@@ -39,8 +33,6 @@ pub record Nullable (g : List Production) (n : ℕ) : Type 0 where
   pub production : Production
   pub of : Of g n production
   pub items : NullItems g (production .items)
-
--- ------------------------------------------------------------------ what stands first
 
 -- what the items give up to the first that is not nullable, where `own` says what an item gives by itself
 pub data First (g : List Production) (own : Item → ℕ → Type 0) : List Item → ℕ → Type 0 where
@@ -56,7 +48,7 @@ pub record FirstOf (g : List Production) (own : Item → ℕ → Type 0) (n b : 
 
 -- the kind that an item reads
 pub data Reads : Item → ℕ → Type 0 where
-  reads-keyword : {k : ℕ} → IsKeyword k → Reads (keyword k) (keywordKind k)
+  reads-keyword : {k : ℕ} → IsKeywordNumber k → Reads (keyword k) (keywordKind k)
   reads-word : {s : ℕ} → Reads (ide s) wordKind
   reads-number : Reads number numberKind
 

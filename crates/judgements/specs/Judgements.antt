@@ -5,8 +5,8 @@
 -- The paper has one judgement E; L ⊢ p : B over all productions p. A table cannot write `unit`, p1 p2 that binds nothing, a choice but between
 -- the alternatives of a definition, nor an argument that reads a token or calls; so p is a template (`Sorted`), an item (`ItemSorted`), items
 -- in sequence with a template behind them (`Body`), or a choice of these (`Bodies`).
--- Document 01 changes: a Binder may stand where Var is asked (`Fits`); a number is read; an outside name may be a Label; add needs a number that
--- no earlier grammar uses.
+-- Document 01 changes: a Binder may stand where Var is asked (`Fits`); a number is read; an outside name may be a Label; keywords and outside
+-- names must be defined (cause 9); add needs a number that no earlier grammar uses.
 use Prim.Native.Nat.{ℕ, suc, _≤_, _<_}
 use mathlib.Core.Path.{_≡_}
 use mathlib.Core.List.{List, [], _∷_, _++_}
@@ -26,12 +26,18 @@ pub data Has : List ℕ → ℕ → ℕ → Type 0 where
 -- E, x : S, E' has x : S where x is not in Dom(E')
 pub data Newest : Env → ℕ → Signature → Type 0 where
   newest-first : {e : Declaration} {E : Env} → Newest (e ∷ E) (e .nonterminal) (e .signature)
-  newest-later : {e : Declaration} {E : Env} {n : ℕ} {S : Signature} → (e .nonterminal ≡ n → ⊥) → Newest E n S → Newest (e ∷ E) n S
+  newest-later : {e : Declaration} {E : Env} {n : ℕ} {S : Signature}
+      → (e .nonterminal ≡ n → ⊥)
+      → Newest E n S
+      → Newest (e ∷ E) n S
 
 -- x is not in Dom(E)
 pub data Undeclared : Env → ℕ → Type 0 where
   absent-empty : {n : ℕ} → Undeclared [] n
-  absent-entry : {e : Declaration} {E : Env} {n : ℕ} → (e .nonterminal ≡ n → ⊥) → Undeclared E n → Undeclared (e ∷ E) n
+  absent-entry : {e : Declaration} {E : Env} {n : ℕ}
+      → (e .nonterminal ≡ n → ⊥)
+      → Undeclared E n
+      → Undeclared (e ∷ E) n
 
 -- what has sort A may stand where B is asked (01: a Binder where Var is asked; otherwise the sorts are equal)
 pub data Fits : ℕ → ℕ → Type 0 where
@@ -102,9 +108,7 @@ pub data Bodies (G : Scope) (S : Signature) : List Alternative → Type 0 where
       → Bodies G S rest
       → Bodies G S (a ∷ rest)
 
--- ------------------------------------------------------------------ E ⊢ g :: E'
-
--- the signatures of g's definitions from the left, after those in `own`; 01: add needs a number that E lacks too
+-- E ⊢ g :: E': the signatures of g's definitions from the left, after those in `own`; 01: add needs a number that E lacks too
 pub data Defines (E : Env) : Env → List Definition → Env → Type 0 where
   no-definition : {own : Env} → Defines E own [] own
   by-add : {own own′ : Env} {d : Definition} {ds : List Definition}
@@ -126,8 +130,7 @@ pub data Defines (E : Env) : Env → List Definition → Env → Type 0 where
       → Defines E (entryOf d ∷ own) ds own′
       → Defines E own (d ∷ ds) own′
 
--- ------------------------------------------------------------------ E ⊢ g ok
-
+-- E ⊢ g ok: each body has the sort of its definition
 pub data Ok (G : Scope) : List Definition → Type 0 where
   ok-empty : Ok G []
   ok-definition : {d : Definition} {ds : List Definition}
@@ -135,12 +138,10 @@ pub data Ok (G : Scope) : List Definition → Type 0 where
       → Ok G ds
       → Ok G (d ∷ ds)
 
--- ------------------------------------------------------------------ ⊢ gseq ⇒ E
-
 abbrev pub scope : ℕ → ℕ → Env → Scope
 scope K N E = record { keywords = K; outsides = N; env = E }
 
--- from E on, the grammars of the sequence give E'; K keywords and N outside names are defined
+-- ⊢ gseq ⇒ E: from E on, the grammars of the sequence give E'; K keywords and N outside names are defined
 pub data Sequence (K N : ℕ) : Env → List (List Definition) → Env → Type 0 where
   no-grammar : {E : Env} → Sequence K N E [] E
   by-grammar : {E own E′ : Env} {g : List Definition} {gs : List (List Definition)}
@@ -157,3 +158,7 @@ pub record WellSorted (t : Table) : Type 0 where
   pub defined : Newest env (t .root) signature
   pub without : signature .params ≡ []
   pub of-term : signature .result ≡ term
+
+-- the scope in which its bodies are sorted: its keywords, its outside names and its last environment
+abbrev pub scopeOf : (t : Table) → WellSorted t → Scope
+scopeOf t w = scope (length (t .keywords)) (length (t .outsides)) (w .env)

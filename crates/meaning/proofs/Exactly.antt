@@ -14,23 +14,25 @@ use Rattle.grammar.specs.Table.{Table, lexiconOfTable}
 use Rattle.tokens.specs.Unscanned.{Unscans}
 use Rattle.tokens.specs.declared.Token.{Token}
 use Rattle.checker.specs.Check.{passedTable, check}
-use Rattle.checker.specs.Passes.{Passes}
+use Rattle.checker.specs.Passes.{grammarOf, Passes}
 use Rattle.checker.proofs.TableTheorems.{check-exactly}
 use Rattle.expansion.specs.Run.{Result}
+use Rattle.expansion.proofs.Shows.{IsCode}
 use Rattle.soundness.specs.Passing.{Passing}
+use Rattle.soundness.specs.Stopping.{Left, Refuses}
+use Rattle.soundness.proofs.CellsLeft.{Leaves, run-leaves}
 use Rattle.terms.specs.Term.{Name, Term, size, largestTerm}
-use Rattle.terms.specs.Cells.{columns, rowsLent}
+use Rattle.terms.specs.Cells.{columns, column, rowsLent}
 use Rattle.terms.specs.Rows.{termAt}
 use Rattle.terms.specs.Rename.{rename}
 use Rattle.terms.specs.Print.{print}
 use Rattle.terms.specs.Occurrences.{occurrences, loosePlaces}
 use Rattle.meaning.specs.Expand.{Expanded, refused, inputOf, expandTable, checkedFirst, expand}
-use Rattle.meaning.specs.Meaning.{spellOf, Means, MeansWithin, cellsOf, Cause, unscanned, stopped, Accepts, Left}
+use Rattle.meaning.specs.Meaning.{Scans, spellOf, Means, MeansWithin, cellsOf, Cause, unscanned, stopped, Accepts}
 use Rattle.meaning.specs.Meaning as Meaning
 use Rattle.meaning.proofs.Owners.{occurs, Says, loose-says, none-places, first-places}
 use Rattle.meaning.proofs.Stages.{Finish, too-big, is-loose, too-long, prints, same-words, means-one, RunsTo, Stage, in-scan, in-parse, at-last, stages}
 use Rattle.meaning.proofs.Stages.{unscanned-ends, stopped-ends, meant-ends, meant-reached}
-use Rattle.meaning.proofs.CellsLeft.{Leaves, left-not, run-leaves}
 
 -- ------------------------------------------------------------------ answers
 
@@ -202,18 +204,20 @@ module _ (table : Table) (passing : Passing table) (formula cells text : List �
   -- the cells of an acceptance show its term
   cells-of : {expanded : Expanded} → Stage table passing formula cells text expanded → (cells-made constructors text-size : ℕ)
       → expanded .answer ≡ Accepted cells-made constructors text-size → {meant : Term Name} (means : Means table formula meant)
-      → (row : ℕ) × (termAt cells-made (spellOf table (means .words)) (take (cells-made * columns) (expanded .cells)) row ≡ meant)
+      → ((row : ℕ) × (row < cells-made) × (termAt cells-made (spellOf table (means .words)) (take (cells-made * columns) (expanded .cells)) row ≡ meant))
+      × ((other : ℕ) → other < cells-made → IsCode (column (expanded .cells) other 0))
   cells-of (in-scan u) cells-made constructors text-size q means = never (sym q)
   cells-of (in-parse S h k) cells-made constructors text-size q means = never (sym q)
   cells-of (at-last {row = v} {state = s} E R f) cells-made constructors text-size q means =
       let words = same-words table passing formula (means .scans) (E .means .scans) in
       let made : cells-made ≡ s .made = finish-count f cells-made constructors text-size q ∙ sym (R .made-is) in
-      (v, rw (words, made, finish-cells f) (R .shown-by-made ∙ means-one table passing formula (E .means) means))
+      rw (words, made, finish-cells f) ((v, R .below, R .shown-by-made ∙ means-one table passing formula (E .means) means), R .coded)
 
-  -- A row of the cells of an acceptance shows the term.
+  -- A row of the cells made by an acceptance shows the term, and each of them has the code of a constructor.
   pub accepted-cells : (made constructors text-size : ℕ) → X .answer ≡ Accepted made constructors text-size
       → {meant : Term Name} (means : Means table formula meant)
-      → (row : ℕ) × (termAt made (spellOf table (means .words)) (take (made * columns) (X .cells)) row ≡ meant)
+      → ((row : ℕ) × (row < made) × (termAt made (spellOf table (means .words)) (take (made * columns) (X .cells)) row ≡ meant))
+      × ((other : ℕ) → other < made → IsCode (column (X .cells) other 0))
   accepted-cells = cells-of (stages table passing formula cells text)
 
   -- ------------------------------------------------------------------ what is left as it was
@@ -245,30 +249,7 @@ module _ (table : Table) (passing : Passing table) (formula cells text : List �
       let behind = ran (means-within .means .tokens) (q .3 .runs) .2 in
       rw (finish-cells (q .4), ← q .3 .made-is) behind
 
-  -- What an expansion does to the cells.
-  pub record Keeps (expanded : Expanded) : Type 0 where
-    -- So many rows were made,
-    pub rows : ℕ
-    -- no more than there are;
-    pub few : rows ≤ rowsLent (length cells)
-    -- the numbers behind them are as lent,
-    pub left : Left rows cells (expanded .cells)
-    -- and an acceptance counts them.
-    pub counted : (made constructors text-size : ℕ) → expanded .answer ≡ Accepted made constructors text-size → made ≡ rows
-
-  keeps-of : {expanded : Expanded} → Stage table passing formula cells text expanded → Keeps expanded
-  keeps-of (in-scan u) = record { rows = 0; few = omega arith; left = left-not 0 cells; counted = λ a b c q. never (sym q) }
-  keeps-of (in-parse {ts = ts} S e h) = let q = ran ts e in record { rows = q .0; few = q .2; left = q .3; counted = λ a b c q. never (sym q) }
-  keeps-of (at-last {state = s} E R f) =
-      let q = ran (E .means .tokens) (R .runs) in
-      record {
-        rows = s .made;
-        few = q .1;
-        left = subst⁻¹ (Left (s .made) cells) (finish-cells f) (q .2);
-        counted = λ a b c h. finish-count f a b c h ∙ sym
-            (R .made-is);
-      }
-
-  -- Every expansion keeps the cells behind the rows that it made.
-  pub keeps : Keeps X
-  keeps = keeps-of (stages table passing formula cells text)
+  -- Where the rules stop with 17 to 21, the numbers behind the cells made by then are as lent.
+  pub cells-left : {cause : Refusal} {made : ℕ} {ts : List Token} {ws : List (List ℕ)} → Scans table formula ts ws
+      → Refuses (grammarOf table) (spellOf table ws) (rowsLent (length cells)) ts (table .root) cause made → Left made cells (X .cells)
+  cells-left scans h = let q = stopped-ends table passing formula cells text scans h in rw (q .1) (q .2)

@@ -7,7 +7,7 @@ use Rattle.answers.specs.declared.Answer.{Answer}
 use Rattle.grammar.specs.Table.{Item, Table, Lexicon}
 use Rattle.tokens.specs.declared.Token.{Token}
 use Rattle.checker.specs.Passes.{Passes}
-use Rattle.soundness.specs.Passing.{Passing}
+use Rattle.soundness.specs.Passing.{Passing, passingOf}
 use Rattle.soundness.proofs.Placing.{parses-placed}
 use Rattle.terms.specs.Term.{Name, Term}
 use Rattle.terms.specs.Rename.{rename}
@@ -20,8 +20,8 @@ use Rattle.meaning.specs.Meaning as Meaning
 use Rattle.meaning.specs.Hygiene.{Hygienic, Ends, refuses, Demand3}
 use Rattle.meaning.specs.Hygiene as Hygiene
 use Rattle.meaning.proofs.Owners.{Says, occurs, loose-says, all-owned}
-use Rattle.meaning.proofs.Stages.{expand-passed, Finish, too-big, is-loose, prints, words-as-written, outsides-as-listed, worded, means-one, Stage}
-use Rattle.meaning.proofs.Stages.{in-scan, in-parse, at-last, stages}
+use Rattle.meaning.proofs.Stages.{expand-passed, Finish, too-big, is-loose, prints, supplied, words-as-written, outsides-as-listed, worded, means-one}
+use Rattle.meaning.proofs.Stages.{Stage, in-scan, in-parse, at-last, stages}
 use Rattle.meaning.proofs.Stages as Stages
 
 -- ------------------------------------------------------------------ demand 3
@@ -34,8 +34,10 @@ module _ (table : Table) (passing : Passing table) (formula cells text : List �
         means = M;
         only = λ w N. means-one table passing formula N M;
         sorted = parses-placed (M .parsed);
+        supplied = supplied table passing formula (M .scans) (M .parsed);
         words-as-written = words-as-written table passing formula (M .scans);
         outsides-as-listed = outsides-as-listed table passing formula (M .scans);
+        printed = refl;
         reads-back = terms.reads-back meant words;
         same-constructors = terms.same-constructors meant words;
         labels-stay = terms.labels-stay meant;
@@ -83,7 +85,7 @@ pub demand-3 : (table formula cells text : List ℕ)
     → Demand3 table formula cells text (expand table formula cells text .answer) (expand table formula cells text .text)
 demand-3 table formula cells text P =
     rw (expand-passed table P formula cells text)
-    (table-ends (P .table) (record { within = P .within; meets = P .meets }) formula cells text)
+    (table-ends (P .table) (passingOf P) formula cells text)
 
 -- So does every call that answers as `expand` does.
 pub call-meets-demand-3 : {table formula cells text : List ℕ} {answer : Answer} {cells′ text′ : List ℕ}

@@ -2,6 +2,7 @@
 use Prim.Native.Nat.{ℕ, zero, suc, _*_, _≤_, _<_}
 use mathlib.Core.Path.{_≡_, refl, sym, ap, ap₂, _∙_}
 use mathlib.Core.Bool.{true}
+use mathlib.Core.Logic.{_↔_}
 use mathlib.Core.List.{List, [], _∷_, _++_}
 use native.Mathlib.Omega.{arith}
 use native.Mathlib.Decide.{decLe}
@@ -14,8 +15,8 @@ use Rattle.answers.specs.Checked.{ok}
 use Rattle.spellings.specs.Bytes.{isWord}
 use Rattle.kinds.specs.Kinds.{wordKind}
 use Rattle.grammar.specs.Table.{Table, Lexicon, lexiconOfTable}
-use Rattle.terms.specs.Cells.{columns, rowsLent}
-use Rattle.decoding.specs.Within.{Each, each-none, each-more}
+use Rattle.terms.specs.Cells.{columns, column, rowsLent}
+use Rattle.decoding.specs.Within.{Each, each-none, each-more, Among, among-first, among-later}
 use Rattle.decoding.proofs.Inverse.{decode-encoded}
 use Rattle.judgements.proofs.SortTheorems.{sorts-exactly}
 use Rattle.clashes.proofs.ClashTheorems.{passes-exactly}
@@ -34,9 +35,10 @@ use Rattle.expansion.specs.declared.State.{State}
 use Rattle.expansion.specs.Run.{Result, done, halt}
 use Rattle.expansion.specs.Expansion.{run}
 use Rattle.expansion.specs.Parsing.{Runs}
+use Rattle.expansion.proofs.Shows.{IsCode}
 use Rattle.expansion.specs.Figure3.{Parses}
-use Rattle.soundness.specs.Stopping.{Refuses}
-use Rattle.soundness.specs.Places.{Among, among-first, among-later}
+use Rattle.soundness.specs.Stopping.{Left, Refuses}
+use Rattle.soundness.specs.Places.{Supplied, givenIn}
 use Rattle.soundness.specs.Passing.{Passing, Lexemes}
 use Rattle.soundness.proofs.ExpansionTheorems as expansion
 use Rattle.terms.specs.Term.{Name, Term, size, largestTerm}
@@ -191,6 +193,12 @@ module _ (table : Table) (passing : Passing table) (formula : List ℕ) where
     pub outsides-as-listed : (index : ℕ) → index < length (table .outsides) → spellOf table ws index ≡ getD (table .outsides) index []
     outsides-as-listed index l = rw (lt-ltb index 64 (omega (arith, few)), spelled) refl
 
+    -- What a derivation was given is a token of the formula or one of the table's outside names.
+    pub supplied : {core-term : Term Name} (parses : Parses (grammarOf table) (spellOf table ws) (table .root) ts core-term)
+        → Each (Supplied ts (length (table .outsides))) (givenIn (parses .derived))
+    unfolding lexemes
+    supplied parses = expansion.derived-is-supplied table passing lexemes parses
+
     -- All names of a derived term are words.
     pub worded : {core-term : Term Name} → Parses (grammarOf table) (spellOf table ws) (table .root) ts core-term → isWorded core-term ≡ true
     unfolding lexemes
@@ -216,15 +224,21 @@ module _ (table : Table) (passing : Passing table) (formula : List ℕ) where
     abbrev pub RunsTo : List Token → Result ℕ → Type 0
     RunsTo ts x = Runs (grammarOf table) (table .root) ts (rowsLent (length cells)) cells x
 
-    -- By the rules it stops with this refusal.
-    abbrev pub Stopped : List Token → List (List ℕ) → Refusal → Type 0
-    Stopped ts ws r = Refuses (grammarOf table) (spellOf table ws) (rowsLent (length cells)) ts (table .root) r
+    -- By the rules it stops with this refusal after so many cells were made.
+    abbrev pub Stopped : List Token → List (List ℕ) → Refusal → ℕ → Type 0
+    Stopped ts ws r made = Refuses (grammarOf table) (spellOf table ws) (rowsLent (length cells)) ts (table .root) r made
 
     -- A run stops exactly by those rules.
     pub stops-exactly : {ts : List Token} {ws : List (List ℕ)} → Scans table formula ts ws → (cause : Refusal)
-        → ((cells′ : List ℕ) × RunsTo ts (halt cause cells′) → Stopped ts ws cause) × (Stopped ts ws cause → (cells′ : List ℕ) × RunsTo ts (halt cause cells′))
+        → ((cells′ : List ℕ) × RunsTo ts (halt cause cells′)) ↔ ((made : ℕ) × Stopped ts ws cause made)
     unfolding lexemes
     stops-exactly S cause = expansion.refused-exactly table passing (lexemes S) (rowsLent (length cells)) cells room cause
+
+    -- Where the rules stop, a run leaves the cells not made.
+    pub stops-leave : {ts : List Token} {ws : List (List ℕ)} → Scans table formula ts ws → {cause : Refusal} {made : ℕ} → Stopped ts ws cause made
+        → (cells′ : List ℕ) × RunsTo ts (halt cause cells′) × Left made cells cells′
+    unfolding lexemes
+    stops-leave S h = expansion.refused-leaves table passing (lexemes S) (rowsLent (length cells)) cells room h
 
     -- The run of a term's tokens ends: in a value, with so many rows, of which one shows the term.
     pub record Reached {core-term : Term Name} (means-within : MeansWithin table formula cells core-term) (row : ℕ) (state : State) (cells′ : List ℕ) : Type 0
@@ -235,8 +249,12 @@ module _ (table : Table) (passing : Passing table) (formula : List ℕ) where
         pub made-is : state .made ≡ cellsOf means-within
         -- the root's row shows the term
         pub shows : termAt (state .made) (spellOf table (means-within .means .words)) cells′ row ≡ core-term
-        -- and needs no rows but those made
+        -- is one of those made,
+        pub below : row < state .made
+        -- and needs no rows but those made,
         pub shown-by-made : termAt (state .made) (spellOf table (means-within .means .words)) (take (state .made * columns) cells′) row ≡ core-term
+        -- each of which has the code of a constructor
+        pub coded : (other : ℕ) → other < state .made → IsCode (column cells′ other 0)
 
     -- A term within the limits is run to its end.
     pub run-to-end : {core-term : Term Name} (means-within : MeansWithin table formula cells core-term)
@@ -248,7 +266,7 @@ module _ (table : Table) (passing : Passing table) (formula : List ℕ) where
         (means-within .means .parsed, means-within .affords) in
         let c = expansion.accepted-as-derived table passing R (rowsLent (length cells)) cells room (means-within .means .parsed) (a .0) (a .1) (a .2) (a .3) in
         let l = expansion.accepted-leaves table passing R (rowsLent (length cells)) cells room (a .3) in
-        (a .0, a .1, a .2, record { runs = a .3; made-is = c .1; shows = a .4; shown-by-made = l .same ∙ a .4 })
+        (a .0, a .1, a .2, record { runs = a .3; made-is = c .1; shows = a .4; below = l .below; shown-by-made = l .same ∙ a .4; coded = l .coded })
 
     -- What is run to its end means a term within the limits.
     pub meant : {ts : List Token} {ws : List (List ℕ)} → Scans table formula ts ws → (row : ℕ) (state : State) (cells′ : List ℕ)
@@ -259,28 +277,24 @@ module _ (table : Table) (passing : Passing table) (formula : List ℕ) where
         let R = lexemes S in
         let W = expansion.accepted-exactly table passing R (rowsLent (length cells)) cells room (termAt (state .made) (spellOf table ws) cells′ row) .0
         (row, state, cells′, e, refl) in
-        let c = expansion.accepted-as-derived table passing R (rowsLent (length cells)) cells room (W .0) row state cells′ e in (
+        let c = expansion.accepted-as-derived table passing R (rowsLent (length cells)) cells room (W .0) row state cells′ e in
+        let l = expansion.accepted-leaves table passing R (rowsLent (length cells)) cells room e in (
           record { means = record { tokens = ts; words = ws; scans = S; parsed = W .0 }; affords = W .1 },
-          record {
-            runs = e;
-            made-is = c .1;
-            shows = refl;
-            shown-by-made = expansion.accepted-leaves table passing R (rowsLent (length cells)) cells room e .same;
-          },
+          record { runs = e; made-is = c .1; shows = refl; below = l .below; shown-by-made = l .same; coded = l .coded },
         )
 
     -- Where an expansion ends, with what is handed back: in the scan, in the parse, or in the last step.
     pub data Stage : Expanded → Type 0 where
       in-scan : {cause : Refusal} → Unscans lex formula cause → Stage (refused cause cells text)
-      in-parse : {cause : Refusal} {ts : List Token} {ws : List (List ℕ)} {cells′ : List ℕ} → Scans table formula ts ws → RunsTo ts (halt cause cells′)
-          → Stopped ts ws cause → Stage (refused cause cells′ text)
+      in-parse : {cause : Refusal} {made : ℕ} {ts : List Token} {ws : List (List ℕ)} {cells′ : List ℕ} → Scans table formula ts ws
+          → RunsTo ts (halt cause cells′) → Stopped ts ws cause made → Stage (refused cause cells′ text)
       at-last : {core-term : Term Name} {row : ℕ} {state : State} {cells′ : List ℕ} {expanded : Expanded}
           (means-within : MeansWithin table formula cells core-term) → Reached means-within row state cells′
           → Finish (cellsOf means-within) core-term cells′ text expanded → Stage expanded
 
     by-run : {ts : List Token} {ws : List (List ℕ)} → Scans table formula ts ws → (result : Result ℕ) → RunsTo ts result
         → Stage (finished (spellOf table ws) text result)
-    by-run S (halt r cells′) e = in-parse S e (stops-exactly S r .0 (cells′, e))
+    by-run S (halt r cells′) e = in-parse S e (stops-exactly S r .0 (cells′, e) .1)
     by-run {ts} {ws} S (done v s cells′) e =
         let m = meant S v s cells′ e in
         let u : Term Name = termAt (s .made) (spellOf table ws) cells′ v in
@@ -308,10 +322,10 @@ module _ (table : Table) (passing : Passing table) (formula : List ℕ) where
     unfolding expandTable
     run-ends S result e = rw (scanned-as S, e)
 
-    -- A refusal of the parse is the answer, and the text stays.
-    pub stopped-ends : {cause : Refusal} {ts : List Token} {ws : List (List ℕ)} → Scans table formula ts ws → Stopped ts ws cause
-        → (cells′ : List ℕ) × (expandTable table formula cells text ≡ refused cause cells′ text)
-    stopped-ends {cause} S h = let q = stops-exactly S cause .1 h in (q .0, run-ends S (halt cause (q .0)) (q .1))
+    -- A refusal of the parse is the answer, and the text stays, and the cells not made.
+    pub stopped-ends : {cause : Refusal} {made : ℕ} {ts : List Token} {ws : List (List ℕ)} → Scans table formula ts ws → Stopped ts ws cause made
+        → (cells′ : List ℕ) × (expandTable table formula cells text ≡ refused cause cells′ text) × Left made cells cells′
+    stopped-ends {cause} S h = let q = stops-leave S h in (q .0, run-ends S (halt cause (q .0)) (q .1), q .2)
 
     -- Where a term is derived within the limits, the run reaches it, and the last step is made.
     pub meant-reached : {core-term : Term Name} (means-within : MeansWithin table formula cells core-term)

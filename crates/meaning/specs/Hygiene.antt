@@ -8,29 +8,31 @@ use Rattle.answers.specs.declared.Answer.{Answer}
 use Rattle.answers.specs.declared.Answer.the-variants.{Accepted, Refusing}
 use Rattle.kinds.specs.Kinds.{wordKind}
 use Rattle.grammar.specs.Table.{Table}
-use Rattle.decoding.specs.Within.{Each}
+use Rattle.decoding.specs.Within.{Each, Among}
 use Rattle.tokens.specs.declared.Token.{Token}
 use Rattle.tokens.specs.Tiling.{bytesOf}
 use Rattle.checker.specs.Passes.{Passes}
-use Rattle.soundness.specs.Places.{givenIn, Among, Placed}
+use Rattle.soundness.specs.Places.{Supplied, givenIn, Placed}
 use Rattle.terms.specs.Term.{Name, Term}
 use Rattle.terms.specs.Rename.{rename}
-use Rattle.terms.specs.Print.{none, more, treeOf}
+use Rattle.terms.specs.Print.{none, more, treeOf, print}
 use Rattle.terms.specs.Parts.{constructors, shape}
 use Rattle.terms.specs.Binding.{Occurrence, useOf, constructorsInAll, nestingAll}
 use Rattle.terms.specs.Reading.{readText}
 use Rattle.meaning.specs.Meaning.{spellOf, Means, Cause, Accepts}
 use Rattle.meaning.specs.Origins.{Occurs, IsOwned}
 
--- The text `out` is the one term u of demand 2. Each part of u has the sort that its place demands; its words are the bytes of their tokens,
--- its outside names the table's spellings. The text has u's constructors and labels, and each of its variables belongs, by nesting and
--- bytes, to exactly the binder that its origin calls for.
+-- The text `out` is the one term u of demand 2, printed. Each part of u has the sort that its place demands; its words are tokens of the formula,
+-- each the bytes of its token, its outside names the table's spellings. The text has u's constructors and labels, and each of its variables
+-- belongs, by nesting and bytes, to exactly the binder that its origin calls for.
 pub record Hygienic (t : Table) (formula : List ℕ) (u : Term Name) (out : List ℕ) : Type 0 where
   pub means : Means t formula u
   pub only : (w : Term Name) → Means t formula w → w ≡ u
   pub sorted : Placed (givenIn (means .parsed .derived)) (spellOf t (means .words)) u
+  pub supplied : Each (Supplied (means .tokens) (length (t .outsides))) (givenIn (means .parsed .derived))
   pub words-as-written : (w : Token) → Among (means .tokens) w → w .kind ≡ wordKind → spellOf t (means .words) (w .value) ≡ bytesOf formula w
   pub outsides-as-listed : (n : ℕ) → n < length (t .outsides) → spellOf t (means .words) n ≡ getD (t .outsides) n []
+  pub printed : out ≡ print (rename u)
   pub reads-back : readText out ≡ more (treeOf (rename u)) none
   pub same-constructors : constructorsInAll (readText out) ≡ constructors u
   pub labels-stay : shape (rename u) ≡ shape u

@@ -1,13 +1,13 @@
 -- What a formula means under a passed table, and when each answer is given, by rules.
 -- Document 01, "Choice", "Formula" and "Causes, by number".
-use Prim.Native.Nat.{ℕ, _*_, _≤_, _<_}
+use Prim.Native.Nat.{ℕ, _≤_, _<_}
 use mathlib.Core.Path.{_≡_}
 use mathlib.Core.List.{List, []}
-use lib.ListN.{length, getD}
+use lib.ListN.{length}
 use Rattle.answers.specs.declared.Refusal.{Refusal}
 use Rattle.answers.specs.Refusals.{refusal}
 use Rattle.grammar.specs.Table.{Table, lexiconOfTable}
-use Rattle.terms.specs.Cells.{columns, rowsLent}
+use Rattle.terms.specs.Cells.{rowsLent}
 use Rattle.tokens.specs.declared.Token.{Token}
 use Rattle.tokens.specs.Tokens.{mostTokens, longestFormula, spelled}
 use Rattle.tokens.specs.Tiling.{Tiled}
@@ -21,8 +21,6 @@ use Rattle.terms.specs.Rename.{rename}
 use Rattle.terms.specs.Print.{print}
 use Rattle.terms.specs.Binding.{Occurrence}
 use Rattle.meaning.specs.Origins.{Occurs, FirstLoose, NoneLoose}
-
--- ------------------------------------------------------------------ the term of demand 2
 
 -- a formula's tokens and its words in the order of their numbers
 pub record Scans (t : Table) (formula : List ℕ) (tokens : List Token) (words : List (List ℕ)) : Type 0 where
@@ -63,9 +61,9 @@ pub data Cause (t : Table) (formula cells text : List ℕ) : Refusal → Type 0 
       → Unscans (lexiconOfTable t) formula r
       → Cause t formula cells text r
   -- 17 to 21
-  stopped : {r : Refusal} {tokens : List Token} {words : List (List ℕ)}
+  stopped : {r : Refusal} {made : ℕ} {tokens : List Token} {words : List (List ℕ)}
       → Scans t formula tokens words
-      → Refuses (grammarOf t) (spellOf t words) (rowsLent (length cells)) tokens (t .root) r
+      → Refuses (grammarOf t) (spellOf t words) (rowsLent (length cells)) tokens (t .root) r made
       → Cause t formula cells text r
   -- 22
   too-large : {u : Term Name}
@@ -99,8 +97,3 @@ pub record Accepts (t : Table) (formula cells text : List ℕ) (u : Term Name) (
   pub cells-are : a ≡ cellsOf means
   pub size-is : b ≡ size u
   pub length-is : c ≡ textLength u
-
--- from row m on the cells at exit are as lent, and as many
-pub record Left (m : ℕ) (cells cells′ : List ℕ) : Type 0 where
-  pub as-many : length cells′ ≡ length cells
-  pub same : (j : ℕ) → m * columns ≤ j → getD cells′ j 0 ≡ getD cells j 0

@@ -42,7 +42,7 @@ use Rattle.expansion.specs.Expansion.{run}
 use Rattle.expansion.specs.Parsing.{input}
 use Rattle.expansion.specs.Figure3 as Figure3
 use Rattle.expander.specs.Lent.{lentInput}
-use Rattle.soundness.specs.Passing.{Passing, Lexemes}
+use Rattle.soundness.specs.Passing.{Passing, passingOf, Lexemes}
 use Rattle.soundness.proofs.ExpansionTheorems as expansion
 use Rattle.meaning.specs.Expand.{expanded, withCells, finished, expand}
 use Rattle.meaning.specs.Meaning as Meaning
@@ -137,7 +137,7 @@ module _ {bs : List ℕ} (bytes : Bytes bs) (cells : List ℕ) {formula words ce
   P = words-known .passes
 
   abbrev T : Passing (P .table)
-  T = record { within = P .within; meets = P .meets }
+  T = passingOf P
 
   abbrev lexed : Lexed
   lexed = scan (lexiconOfTable (P .table)) formula

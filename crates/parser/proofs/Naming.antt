@@ -8,7 +8,7 @@ use lib.ListN.{length, getD}
 use Rattle.spellings.specs.Bytes.{isWord}
 use Rattle.grammar.specs.Table.{Lexicon, lexiconOfTable}
 use Rattle.grammar.specs.Lookup.{lexiconOf}
-use Rattle.decoding.specs.Within.{Each, each-none, each-more, Different, different-none, different-more}
+use Rattle.decoding.specs.Within.{Each, each-none, each-more, Different, different-none, different-more, Among}
 use Rattle.decoding.proofs.LayoutTheorems.{decode-exactly}
 use Rattle.decoding.proofs.DecodedLexicon.{lexicon-decoded}
 use Rattle.tokens.specs.Scan.{scan}
@@ -23,11 +23,11 @@ use Rattle.terms.specs.Term.{Name, outside, Term, Fields}
 use Rattle.terms.specs.Names.{Distinct, VariableName, BinderName, WellNamed, WellNamedFields}
 use Rattle.kinds.specs.Kinds.{wordKind}
 use Rattle.tokens.specs.declared.Token.{Token}
-use Rattle.soundness.specs.Places.{Among, Given, word-at, outside-name, VarPlace, var-var, var-binder, var-local, var-outside, BinderPlace, binder-binder}
+use Rattle.soundness.specs.Places.{Given, word-at, outside-name, VarPlace, var-var, var-binder, var-local, var-outside, BinderPlace, binder-binder}
 use Rattle.soundness.specs.Places.{binder-local, Placed, placed-variable, placed-function, placed-apply, placed-rcd, placed-dot, placed-number, PlacedFields}
 use Rattle.soundness.specs.Places.{placed-nil, placed-cons}
-use Rattle.soundness.proofs.Placing.{Supplied, supplied-word, supplied-outside}
-use Rattle.soundness.proofs.Placing as placing
+use Rattle.soundness.specs.Places.{Supplied, supplied-word, supplied-outside}
+use Rattle.soundness.proofs.Normalizing as normalizing
 use Rattle.checker.specs.Passes.{Passes}
 
 -- ------------------------------------------------------------------ lists
@@ -68,13 +68,13 @@ module _ {tokens : List Token} {outside-count : ℕ} {given : List Given} (spell
   outside-given {index} (supplied-outside l) = (index, omega arith, refl, outsides index l)
 
   variable-named : {name : Name} → VarPlace given spell name → VariableName spell name
-  variable-named (var-var h) = word-given (placing.each-at known h)
-  variable-named (var-binder h) = word-given (placing.each-at known h)
+  variable-named (var-var h) = word-given (normalizing.each-at known h)
+  variable-named (var-binder h) = word-given (normalizing.each-at known h)
   variable-named (var-local h) = tt
-  variable-named (var-outside h) = outside-given (placing.each-at known h)
+  variable-named (var-outside h) = outside-given (normalizing.each-at known h)
 
   binder-named : {name : Name} → BinderPlace given spell name → BinderName spell name
-  binder-named (binder-binder h) = word-given (placing.each-at known h)
+  binder-named (binder-binder h) = word-given (normalizing.each-at known h)
   binder-named (binder-local h) = tt
 
   mutual

@@ -19,7 +19,7 @@ use Rattle.expansion.specs.Run.{Result, done, halt, Run, after}
 use Rattle.expansion.specs.Expansion.{Input, cellMade, cell, build, buildAll}
 use Rattle.expansion.specs.Figure3.{Value, Constructs, Gives, by-variable, by-global, by-label, by-constructor, GiveAll, give-none, give-more}
 use Rattle.expansion.specs.Costs.{rowsOf, rowsOfAll}
-use Rattle.expansion.proofs.Shows.{Grown, grown-not, grown-trans, Shows, shows-var, shows-label, ShowAll, show-none, show-more, shows-later, all-later}
+use Rattle.expansion.proofs.Shows.{IsCode, Grown, grown-not, grown-trans, Shows, shows-var, shows-label, ShowAll, show-none, show-more, shows-later, all-later}
 use Rattle.expansion.proofs.Shows.{shows-bound, row-grown, row-shows, outside-named}
 
 -- ------------------------------------------------------------------ how a run ends
@@ -108,9 +108,9 @@ module _ (spell : ℕ → List ℕ) (input : Input) where
       }
 
   cell-ends : {code : ℕ} {xs : List ℕ} {vs : List Value} {value : Value} (state : State) (cells : List ℕ) → input .rows * columns ≤ length cells
-      → Constructs code vs value → ShowAll spell (state .made) cells xs vs
+      → IsCode code → Constructs code vs value → ShowAll spell (state .made) cells xs vs
       → Ends (Built 1 state cells value) (Full (input .rows) (state .made + 1)) (cell input code xs state cells)
-  cell-ends {code} {xs} {vs} {value} state cells room k a = go (ltb (state .made) (input .rows)) refl
+  cell-ends {code} {xs} {vs} {value} state cells room is-code k a = go (ltb (state .made) (input .rows)) refl
     where
       go : (test : Bool) → ltb (state .made) (input .rows) ≡ test
           → Ends (Built 1 state cells value) (Full (input .rows) (state .made + 1))
@@ -118,8 +118,7 @@ module _ (spell : ℕ → List ℕ) (input : Input) where
       go true e =
           let l : state .made < input .rows = ltb-true (state .made) (input .rows) e in (
             record {
-              grown = row-grown (state .made) cells code xs
-                  (omega arith);
+              grown = row-grown (state .made) cells code xs (omega arith) is-code;
               at-kept = refl;
               fresh-kept = refl;
               calls-kept = refl;
@@ -154,7 +153,7 @@ module _ (spell : ℕ → List ℕ) (input : Input) where
         (λ ys s₁ c₁ b.
         ends-map (Built 1 s₁ c₁ value) (Full (input .rows) (s₁ .made + 1)) (Built (n + 1) state cells value) (Full (input .rows) (state .made + (n + 1)))
         (cell input c ys s₁ c₁)
-        (cell-ends s₁ c₁ (rw (b .0 .grown .as-many) room) k (b .1))
+        (cell-ends s₁ c₁ (rw (b .0 .grown .as-many) room) (lo, hi) k (b .1))
         (λ x s₂ c₂ d. (made-trans (b .0) (d .0), d .1))
         (full-more (omega (arith, b .0 .made-is))))
         (full-more (omega arith))

@@ -342,7 +342,7 @@ module _ {g : List Production} (setting : Setting g) where
           (beyond-more (omega arith) (omega arith) (omega arith))
 
   -- the run of items goes along their derivation
-  pub items-along : {M M′ : List Value} {s s′ : List Token} {i i′ : ℕ} {is : List Item} (derives : Derives g spell M s i is M′ s′ i′)
+  pub items-along : {M M′ : List Value} {s s′ : List Token} {i i′ : ℕ} {is : List Item} (derives : Derives g spell M s i is s′ i′ M′)
       → Along (openIn derives) (callsIn derives) (rowsIn derives) s i is M M′ s′ i′
   unfolding openIn callsIn rowsIn runItems
   items-along by-end =
@@ -390,7 +390,7 @@ module _ {g : List Production} (setting : Setting g) where
       go (halt r c) q = q
 
   -- the call of the root beside its derivation
-  pub root-along : {M : List Value} {left : List Token} {i : ℕ} (derives : Derives g spell [] tokens 1 (call (setting .root) none ∷ []) M left i)
+  pub root-along : {M : List Value} {left : List Token} {i : ℕ} (derives : Derives g spell [] tokens 1 (call (setting .root) none ∷ []) left i M)
       → (cells : List ℕ) → rows * columns ≤ length cells
       → Ends (λ x s c. Reached 0 mostOpen (openIn derives) (callsIn derives) (rowsIn derives) left i M 0 0 cells (x ∷ []) s c)
       (Beyond rows mostOpen (openIn derives) (callsIn derives) (rowsIn derives))

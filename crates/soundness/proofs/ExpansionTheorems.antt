@@ -14,13 +14,14 @@ use Rattle.spellings.specs.Bytes.{isWord}
 use Rattle.kinds.specs.Kinds.{wordKind}
 use Rattle.grammar.specs.Table.{Lexicon, Template, Templates, none, Item, call, Table}
 use Rattle.terms.specs.Cells.{columns}
-use Rattle.decoding.specs.Within.{Each}
+use Rattle.decoding.specs.Within.{Each, Among}
 use Rattle.tokens.specs.declared.Token.{Token}
 use Rattle.tokens.specs.Scan.{scan}
 use Rattle.clashes.specs.CheckFirsts.{checkFirsts}
 use Rattle.clashes.proofs.ClashTheorems.{passes-exactly}
+use Rattle.grammar.specs.Sorts.{Signature}
 use Rattle.grammar.specs.Sorts as Sorts
-use Rattle.judgements.specs.Judgements.{Sorted, ItemSorted, Body}
+use Rattle.judgements.specs.Judgements.{Newest, ItemSorted, Body, scopeOf}
 use Rattle.judgements.specs.Judgements as Judgements
 use Rattle.checker.specs.Passes.{grammarOf}
 use Rattle.terms.specs.Term.{Name, Term}
@@ -33,21 +34,21 @@ use Rattle.firsts.specs.Rules.{Of}
 use Rattle.expansion.specs.Figure3.{Value, term, Gives, GiveAll, give-none, Derives, by-end, by-call, Parses}
 use Rattle.expansion.specs.ValueSorts.{Typed, typed-term, Matches, matches-none}
 use Rattle.expansion.specs.Costs.{rowsIn, Affords}
-use Rattle.soundness.specs.Stopping.{Refuses}
-use Rattle.soundness.specs.Places.{givenIn, Among, Placed}
+use Rattle.soundness.specs.Stopping.{Left, Refuses}
+use Rattle.soundness.specs.Places.{givenIn, Supplied, Placed}
 use Rattle.expansion.specs.Parsing.{Runs, SmallWords}
 use Rattle.expansion.proofs.Unique.{parses-one}
 use Rattle.soundness.specs.Passing.{Passing, Lexemes}
-use Rattle.soundness.proofs.Typing.{gives-exists, give-all-exist, items-typed, body-of, taken-of}
+use Rattle.soundness.proofs.Typing.{give-all-exist, items-typed, items-give, body-of, taken-of}
 use Rattle.soundness.proofs.RowsMade.{Leaves, run-leaves-rows}
 use Rattle.soundness.proofs.Setting.{Setting}
-use Rattle.soundness.proofs.Normalizing.{scopeOf, table-fits}
+use Rattle.soundness.proofs.Normalizing.{table-fits}
 use Rattle.soundness.proofs.Defined.{called-is-defined}
 use Rattle.soundness.proofs.Sound.{run-sound}
 use Rattle.soundness.proofs.Complete.{accepts, accepted}
 use Rattle.soundness.proofs.StopSound.{run-halts}
 use Rattle.soundness.proofs.StopComplete.{refuses-halts}
-use Rattle.soundness.proofs.Placing.{Supplied, parses-placed, parses-supplied, placed-worded}
+use Rattle.soundness.proofs.Placing.{parses-placed, parses-supplied, placed-worded}
 use Rattle.soundness.proofs.Scanned.{scanned-small}
 
 -- The words of a scan have numbers that a name can hold.
@@ -66,14 +67,29 @@ module _ (table : Table) (passing : Passing table) where
       {result : Template} {L : List ℕ} {value : Value}
       → Body (scopeOf table (passing .meets .sorted)) L items result B
       → Matches M L
-      → Derives (grammarOf table) spell M s i items M′ s′ i′
+      → Derives (grammarOf table) spell M s i items s′ i′ M′
       → Gives spell M′ result value
       → Typed value B
   parsing-respects-typing b m d k = items-typed (table-fits table (passing .within) (passing .meets .sorted)) d m b k
 
+  -- Behind items that are derived, the template of a well sorted alternative gives a value of its sort: never `wrong` (001, Theorem 1).
+  pub never-wrong : {spell : ℕ → List ℕ} {M M′ : List Value} {s s′ : List Token} {i i′ B : ℕ} {items : List Item} {result : Template} {L : List ℕ}
+      → Body (scopeOf table (passing .meets .sorted)) L items result B
+      → Matches M L
+      → Derives (grammarOf table) spell M s i items s′ i′ M′
+      → (value : Value) × Gives spell M′ result value × Typed value B
+  never-wrong b m d = items-give (table-fits table (passing .within) (passing .meets .sorted)) d m b
+
+  -- The productions of a normalized table are well sorted (001, section 4.2), each by the signature of its nonterminal.
+  pub productions-sorted : {n : ℕ} {p : Production} → Of (grammarOf table) n p
+      → (S : Signature) × Newest (passing .meets .sorted .env) n S
+      × Body (scopeOf table (passing .meets .sorted)) (S .params) (p .items) (p .result) (S .result)
+  productions-sorted {p = p} o =
+      let fit = table-fits table (passing .within) (passing .meets .sorted) .each p (o .member) in (fit .signature, rw (← (o .owned)) (fit .newest), fit .body)
+
   -- Whatever a call of the root derives is a term (001, Corollary 1).
   pub root-derives-term : {spell : ℕ → List ℕ} {M : List Value} {s s′ : List Token} {i i′ : ℕ}
-      → Derives (grammarOf table) spell [] s i (call (table .root) none ∷ []) M s′ i′
+      → Derives (grammarOf table) spell [] s i (call (table .root) none ∷ []) s′ i′ M
       → (other : Term Name) × (M ≡ term other ∷ [])
   root-derives-term (by-call {v = v} give-none k d g by-end) =
       let F = table-fits table (passing .within) (passing .meets .sorted) in
@@ -167,18 +183,19 @@ module _ (table : Table) (passing : Passing table) where
       pub accepted-leaves : {row : ℕ} {state : State} {cells′ : List ℕ} → Answers (done row state cells′) → Leaves (setting rows) cells row state cells′
       accepted-leaves = run-leaves-rows (setting rows) cells room
 
+      -- The rules stop with a refusal after so many cells were made.
+      abbrev pub Refused : Refusal → ℕ → Type 0
+      Refused refusal made = Refuses (grammarOf table) (lexemes .spell) rows (lexemes .tokens) (table .root) refusal made
+
       -- An expansion halts with a refusal exactly if the rules stop with it: the number, and all its values.
-      pub refused-exactly : (refusal : Refusal) → ((cells′ : List ℕ) × Answers (halt refusal cells′)) ↔ Refuses (grammarOf table) (lexemes .spell) rows
-          (lexemes .tokens) (table .root) refusal
+      pub refused-exactly : (refusal : Refusal) → ((cells′ : List ℕ) × Answers (halt refusal cells′)) ↔ ((made : ℕ) × Refused refusal made)
       refused-exactly refusal = (
         λ a.
             rw (a .1) at (run-halts (setting rows) cells room),
-        λ h. refuses-halts (setting rows) h cells room,
+        λ h. let halts = refuses-halts (setting rows) (h .1) cells room in (halts .cells′, halts .is),
       )
 
--- ------------------------------------------------------------------ never wrong
-
--- A well sorted template, under variables of their sorts, gives a value of its sort: never `wrong` (001, Theorem 1).
-pub never-wrong : (spell : ℕ → List ℕ) {outsides : ℕ} {M : List Value} {L : List ℕ} {A : ℕ} (template : Template) → Matches M L → Sorted outsides L template A
-    → (value : Value) × Gives spell M template value × Typed value A
-never-wrong spell template m w = gives-exists spell m template w
+      -- It leaves the cells behind those that were made by then.
+      pub refused-leaves : {refusal : Refusal} {made : ℕ} → Refused refusal made
+          → (cells′ : List ℕ) × Answers (halt refusal cells′) × Left made cells cells′
+      refused-leaves h = let halts = refuses-halts (setting rows) h cells room in (halts .cells′, halts .is, halts .left)

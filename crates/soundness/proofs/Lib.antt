@@ -6,6 +6,7 @@ pub mod Complete
 pub mod Normalizing
 pub mod Defined
 pub mod StopLaws
+pub mod CellsLeft
 pub mod StopSound
 pub mod StopComplete
 pub mod Placing

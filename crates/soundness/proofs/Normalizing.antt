@@ -9,26 +9,27 @@ use borrow.Author.Tests.{eqb-true, eqb-false}
 use Rattle.spellings.proofs.BytesLaws.{by-test}
 use Rattle.grammar.specs.Sorts.{Signature}
 use Rattle.grammar.specs.Table.{Template, Item, Alternative, Mode, add, extend, update, Definition, Table}
-use Rattle.decoding.specs.Within.{Each, each-none, each-more, AlternativeWithin, DefinitionWithin, Within}
-use Rattle.judgements.specs.Scopes.{Env, entryOf, Scope}
+use Rattle.decoding.specs.Within.{Each, each-none, each-more, AlternativeWithin, DefinitionWithin, Within, Among, among-first, among-later}
+use Rattle.judgements.specs.Scopes.{Env, entryOf}
 use Rattle.judgements.specs.Judgements.{Newest, newest-first, newest-later, Undeclared, absent-empty, absent-entry, ItemSorted, by-keyword, by-ide, by-number}
 use Rattle.judgements.specs.Judgements.{by-local}
 use Rattle.judgements.specs.Judgements.{by-call, Body, by-result, by-binding, Bodies, no-alternative, by-choice, Defines, no-definition, by-add, by-extend}
-use Rattle.judgements.specs.Judgements.{by-update, Ok, ok-empty, ok-definition, scope, Sequence, no-grammar, by-grammar, WellSorted}
+use Rattle.judgements.specs.Judgements.{by-update, Ok, ok-empty, ok-definition, scope, Sequence, no-grammar, by-grammar, WellSorted, scopeOf}
 use Rattle.judgements.proofs.Environments.{newest-defined, newest-signature, absent-undefined}
 use Rattle.productions.specs.Normal.{Production, productionsOf, without, kept, definedAll, normalizedFrom, normalized}
-use Rattle.firsts.specs.Rules.{In, in-first, in-later}
 use Rattle.soundness.proofs.Typing.{Fit, FitAll}
 
 -- ------------------------------------------------------------------ lists
 
-each-append : {A : Type 0} {P : A → Type 0} {xs ys : List A} → Each P xs → Each P ys → Each P (xs ++ ys)
+-- What holds of each of two lists holds of each of both.
+pub each-append : {A : Type 0} {P : A → Type 0} {xs ys : List A} → Each P xs → Each P ys → Each P (xs ++ ys)
 each-append each-none k = k
 each-append (each-more h hs) k = each-more h (each-append hs k)
 
-each-in : {P : Production → Type 0} {g : List Production} {p : Production} → Each P g → In g p → P p
-each-in (each-more h hs) in-first = h
-each-in (each-more h hs) (in-later m) = each-in hs m
+-- What holds of each holds of one among them.
+pub each-at : {A : Type 0} {P : A → Type 0} {xs : List A} {item : A} → Each P xs → Among xs item → P item
+each-at (each-more h hs) among-first = h
+each-at (each-more h hs) (among-later k) = each-at hs k
 
 each-without : {P : Production → Type 0} (nonterminal : ℕ) {g : List Production} → Each P g → Each P (without nonterminal g)
 unfolding without
@@ -146,14 +147,10 @@ module _ (keywords outsides : ℕ) where
   sequence-fits no-grammar each-none h = h
   sequence-fits (by-grammar d o s) (each-more z zs) h = sequence-fits s zs (definitions-fit (fits-more (defines-more d) h) (defines-all d) o z)
 
--- the scope in which the bodies of a table are sorted
-abbrev pub scopeOf : (table : Table) → WellSorted table → Scope
-scopeOf table w = scope (length (table .keywords)) (length (table .outsides)) (w .env)
-
 -- each production of a well sorted table fits its scope
-pub each-fits : (table : Table) → Within table → (well-sorted : WellSorted table) → (p : Production) → In (normalized (table .blocks)) p
+pub each-fits : (table : Table) → Within table → (well-sorted : WellSorted table) → (p : Production) → Among (normalized (table .blocks)) p
     → Fit (scopeOf table well-sorted) p
-each-fits table z well-sorted p m = each-in (sequence-fits _ _ (well-sorted .sequence) (z .blocks) each-none) m
+each-fits table z well-sorted p m = each-at (sequence-fits _ _ (well-sorted .sequence) (z .blocks) each-none) m
 
 -- the productions of a well sorted table fit it
 abbrev pub table-fits : (table : Table) → Within table → WellSorted table → FitAll (normalized (table .blocks))

@@ -4,11 +4,11 @@ use mathlib.Core.Path.{_≡_, refl}
 use mathlib.Core.Bool.{true, and-eq-true-iff}
 use mathlib.Core.List.{List, [], _∷_, _++_}
 use Rattle.spellings.specs.Bytes.{isWord}
-use Rattle.kinds.specs.Kinds.{wordKind, numberKind}
+use Rattle.kinds.specs.Kinds.{wordKind}
 use Rattle.grammar.specs.Sorts as Sorts
 use Rattle.grammar.specs.Table.{Template, Templates, none, more, Item}
 use Rattle.grammar.specs.Table as Table
-use Rattle.decoding.specs.Within.{Each, each-none, each-more}
+use Rattle.decoding.specs.Within.{Each, each-none, each-more, Among, among-first, among-later}
 use Rattle.judgements.specs.Judgements.{Sorted, Fill, fill-none, fill-more, Body, by-binding}
 use Rattle.judgements.specs.Judgements as Judgements
 use Rattle.tokens.specs.declared.Token.{Token}
@@ -19,11 +19,13 @@ use Rattle.expansion.specs.Figure3.{Value, unit, var, binder, label, num, term,
 use Rattle.expansion.specs.Figure3.{by-global, by-label, by-constructor, GiveAll, give-none, give-more, as-var, as-binder, as-label, ReadsAs, by-keyword}
 use Rattle.expansion.specs.Figure3.{by-ide, by-number, by-local, Derives, by-end, by-terminal, by-call, Parses}
 use Rattle.expansion.specs.Figure3 as Figure3
-use Rattle.soundness.specs.Places.{Given, word-at, fresh-name, number-at, outside-name, outside-label, namedIn, namedInAll, givenAt, givenIn, Among}
-use Rattle.soundness.specs.Places.{among-first, among-later, VarPlace, var-var, var-binder, var-local, var-outside, BinderPlace, binder-binder}
+use Rattle.soundness.specs.Places.{Given, word-at, fresh-name, number-at, outside-name, outside-label, namedIn, namedInAll, givenAt, givenIn}
+use Rattle.soundness.specs.Places.{Supplied, supplied-word, supplied-fresh, supplied-number, supplied-outside, supplied-label}
+use Rattle.soundness.specs.Places.{VarPlace, var-var, var-binder, var-local, var-outside, BinderPlace, binder-binder}
 use Rattle.soundness.specs.Places.{binder-local, LabelPlace, label-label, label-outside, NumPlace, num-number, Placed, placed-variable, placed-function}
 use Rattle.soundness.specs.Places.{placed-apply, placed-rcd, placed-dot, placed-number, PlacedFields, placed-nil, placed-cons}
 use Rattle.soundness.proofs.Typing.{FitAll, taken-of, result-sorted}
+use Rattle.soundness.proofs.Normalizing.{each-append, each-at}
 use Rattle.soundness.proofs.Setting.{Setting, root-body}
 
 each-and : {A : Type 0} {P : A → Type 0} {xs : List A} {item : A} → Each P xs → P item → Each P (xs ++ (item ∷ []))
@@ -101,7 +103,7 @@ module _ (given : List Given) (spell : ℕ → List ℕ) where
   terminal-from (by-number reads-as) a = from-num (num-number (first-of a))
   terminal-from by-local a = from-binder (binder-local (first-of a))
 
-  items-from : {g : List Production} {M M′ : List Value} {s s′ : List Token} {i i′ : ℕ} {is : List Item} (derives : Derives g spell M s i is M′ s′ i′)
+  items-from : {g : List Production} {M M′ : List Value} {s s′ : List Token} {i i′ : ℕ} {is : List Item} (derives : Derives g spell M s i is s′ i′ M′)
       → Each (Among given) (givenIn derives) → Each From M → Each From M′
   unfolding givenIn
   items-from by-end a m = m
@@ -126,23 +128,6 @@ parses-placed {spell = spell} parses =
     from-placed G spell (items-from G spell (parses .derived) (each-has G) each-none)
 
 -- ------------------------------------------------------------------ what is given
-
--- A word or a number is a token of its kind, an outside name one of `outsides`.
-pub data Supplied (tokens : List Token) (outsides : ℕ) : Given → Type 0 where
-  supplied-word : {B : ℕ} {token : Token} → Among tokens token → token .kind ≡ wordKind → Supplied tokens outsides (word-at B token)
-  supplied-fresh : {i : ℕ} → Supplied tokens outsides (fresh-name i)
-  supplied-number : {token : Token} → Among tokens token → token .kind ≡ numberKind → Supplied tokens outsides (number-at token)
-  supplied-outside : {number : ℕ} → number < outsides → Supplied tokens outsides (outside-name number)
-  supplied-label : {number : ℕ} → number < outsides → Supplied tokens outsides (outside-label number)
-
--- what holds of each holds of one among them
-pub each-at : {A : Type 0} {P : A → Type 0} {xs : List A} {item : A} → Each P xs → Among xs item → P item
-each-at (each-more h hs) among-first = h
-each-at (each-more h hs) (among-later k) = each-at hs k
-
-each-append : {A : Type 0} {P : A → Type 0} {xs ys : List A} → Each P xs → Each P ys → Each P (xs ++ ys)
-each-append each-none k = k
-each-append (each-more h hs) k = each-more h (each-append hs k)
 
 module _ {g : List Production} (fit-all : FitAll g) (tokens : List Token) (spell : ℕ → List ℕ) where
   abbrev N : ℕ
@@ -174,7 +159,7 @@ module _ {g : List Production} (fit-all : FitAll g) (tokens : List Token) (spell
   terminal-known by-local hs = (each-more supplied-fresh each-none, hs)
 
   items-known : {M M′ : List Value} {s s′ : List Token} {i i′ : ℕ} {is : List Item} {L : List ℕ} {result : Template} {B : ℕ}
-      (derives : Derives g spell M s i is M′ s′ i′) → Body (fit-all .scope) L is result B → Each (Among tokens) s
+      (derives : Derives g spell M s i is s′ i′ M′) → Body (fit-all .scope) L is result B → Each (Among tokens) s
       → Each Known (givenIn derives) × Each (Among tokens) s′
   unfolding givenIn
   items-known by-end b a = (each-none, a)

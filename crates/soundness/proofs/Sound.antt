@@ -143,8 +143,8 @@ module _ {g : List Production} (setting : Setting g) where
     -- the bounds hold with one name fewer to come
     pub kept : Kept rows names-left state′ cells′
     -- a derivation of the items behind, under this variable too, gives one of this item and those
-    pub step : (is : List Item) (M′ : List Value) (left : List Token) (i′ : ℕ) → Derives g spell (M ++ (value ∷ [])) (from state′) (state′ .fresh) is M′ left i′
-        → Derives g spell M (from state) (state .fresh) (item ∷ is) M′ left i′
+    pub step : (is : List Item) (M′ : List Value) (left : List Token) (i′ : ℕ) → Derives g spell (M ++ (value ∷ [])) (from state′) (state′ .fresh) is left i′ M′
+        → Derives g spell M (from state) (state .fresh) (item ∷ is) left i′ M′
 
   -- a call derived
   pub record Called (names-left nonterminal : ℕ) (vs : List Value) (state : State) (cells : List ℕ) (row : ℕ) (state′ : State) (cells′ : List ℕ) : Type 0 where
@@ -155,7 +155,7 @@ module _ {g : List Production} (setting : Setting g) where
     -- the values of all its variables, parameters first
     pub variables : List Value
     -- its items are derived
-    pub derived : Derives g spell vs (from state) (state .fresh) (production .items) variables (from state′) (state′ .fresh)
+    pub derived : Derives g spell vs (from state) (state .fresh) (production .items) (from state′) (state′ .fresh) variables
     -- the call's value
     pub value : Value
     -- the alternative's result gives it under the variables
@@ -196,7 +196,7 @@ module _ {g : List Production} (setting : Setting g) where
       → nextToken I state .kind ≡ kind → kind < 64
       → Kept rows (names-left + 1) state cells → Typed value A → Shows spell (state .made) cells row value
       → ((is : List Item) (M′ : List Value) (left : List Token) (i′ : ℕ) → Derives g spell (M ++ (value ∷ [])) (drop (state .at + 1) tokens)
-      (state .fresh) is M′ left i′ → Derives g spell M (nextToken I state ∷ drop (state .at + 1) tokens) (state .fresh) (item ∷ is) M′ left i′)
+      (state .fresh) is left i′ M′ → Derives g spell M (nextToken I state ∷ drop (state .at + 1) tokens) (state .fresh) (item ∷ is) left i′ M′)
       → Stepped names-left item A M state cells row (tokenTaken state) cells
   taken-as {item = item} {M = M} {state = state} {cells = cells} row value e l h w z f =
       let h′ : drop (state .at) tokens ≡ nextToken I state ∷ drop (state .at + 1) tokens = token-here tokens (state .at)
@@ -265,7 +265,7 @@ module _ {g : List Production} (setting : Setting g) where
           grown = grown-trans (b .0 .grown) (d .grown);
           kept = d .kept;
           step =
-              λ is M′ t j e. subst₂ (λ at i. Derives g spell M (drop at tokens) i (call n ts ∷ is) M′ t j) (b .0 .at-kept) (b .0 .fresh-kept)
+              λ is M′ t j e. subst₂ (λ at i. Derives g spell M (drop at tokens) i (call n ts ∷ is) t j M′) (b .0 .at-kept) (b .0 .fresh-kept)
               (by-call (vs .1) (d .taken) (d .derived) (d .given) e);
         })
         (λ r u. u))
@@ -277,7 +277,7 @@ module _ {g : List Production} (setting : Setting g) where
       -- the values of all variables, the items' own last
       pub variables : List Value
       -- the items give them
-      pub derived : Derives g spell M (from state) (state .fresh) is variables (from state′) (state′ .fresh)
+      pub derived : Derives g spell M (from state) (state .fresh) is (from state′) (state′ .fresh) variables
       -- the variables' sorts
       pub sorts : List ℕ
       -- each variable is of its sort
@@ -366,7 +366,7 @@ module _ {g : List Production} (setting : Setting g) where
             taken = t;
             variables = e .variables;
             derived =
-                subst₂ (λ at i. Derives g spell vs (from s) (s .fresh) (p .items) (e .variables) (drop at tokens) i) (sym (b .0 .at-kept))
+                subst₂ (λ at i. Derives g spell vs (from s) (s .fresh) (p .items) (drop at tokens) i (e .variables)) (sym (b .0 .at-kept))
                 (sym (b .0 .fresh-kept)) (e .derived);
             value = v .0;
             given = v .1;
@@ -410,11 +410,11 @@ module _ {g : List Production} (setting : Setting g) where
 
   -- as a derivation of one call
   pub root-derived : {cells : List ℕ} {row : ℕ} {state′ : State} {cells′ : List ℕ} (root : Root cells row state′ cells′)
-      → Derives g spell [] tokens 1 (call (setting .root) none ∷ []) (root .value ∷ []) (from state′) (state′ .fresh)
+      → Derives g spell [] tokens 1 (call (setting .root) none ∷ []) (from state′) (state′ .fresh) (root .value ∷ [])
   root-derived root = by-call give-none (root .taken) (root .derived) (root .given) by-end
 
   abbrev RootGives : ℕ → Value → List Token → Type 0
-  RootGives i v ts = Derives g spell [] tokens 1 (call (setting .root) none ∷ []) (v ∷ []) ts i
+  RootGives i v ts = Derives g spell [] tokens 1 (call (setting .root) none ∷ []) ts i (v ∷ [])
 
   parses : {cells : List ℕ} {row : ℕ} {state′ : State} {cells′ : List ℕ} → length tokens ≤ state′ .at → (root : Root cells row state′ cells′)
       → Parses g spell (setting .root) tokens (termAt (state′ .made) spell cells′ row)

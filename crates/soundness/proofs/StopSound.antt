@@ -66,18 +66,21 @@ module _ {g : List Production} (setting : Setting g) where
 
   -- from a state, with o calls open
   abbrev StopsAt : ℕ → List Value → List Item → State → Refusal → Type 0
-  StopsAt o M is s r = Stops g spell rows tokens o (s .calls) (s .made) M (rest s) (s .fresh) is r
+  StopsAt o M is s r = (made : ℕ) × Stops g spell rows tokens o (s .calls) (s .made) M (rest s) (s .fresh) is r made
 
   abbrev EntersAt : ℕ → ℕ → List Value → State → Refusal → Type 0
-  EntersAt o n vs s r = CallStops g spell rows tokens o (s .calls) (s .made) n vs (rest s) (s .fresh) r
+  EntersAt o n vs s r = (made : ℕ) × CallStops g spell rows tokens o (s .calls) (s .made) n vs (rest s) (s .fresh) r made
+
+  abbrev Refused : Refusal → Type 0
+  Refused r = (made : ℕ) × Refuses g spell rows tokens (setting .root) r made
 
   here : (state : State) → state .at ≤ length tokens → nextIndex tokens (rest state) ≡ state .at
   here state l = index-is setting state refl l
 
   -- a step that fails at the index of what is left fails at the state's place
-  fails-here : {opened begun made number value other : ℕ} {step : Action} (state : State) → state .at ≤ length tokens
-      → Fails g spell rows tokens opened begun made (rest state) step (refusal number (nextIndex tokens (rest state)) value other)
-      → Fails g spell rows tokens opened begun made (rest state) step (refusal number (state .at) value other)
+  fails-here : {opened begun made number value other total : ℕ} {step : Action} (state : State) → state .at ≤ length tokens
+      → Fails g spell rows tokens opened begun made (rest state) step (refusal number (nextIndex tokens (rest state)) value other) total
+      → Fails g spell rows tokens opened begun made (rest state) step (refusal number (state .at) value other) total
   fails-here state l f = rw (here state l) at f
 
   -- what is asked of a callee
@@ -96,13 +99,15 @@ module _ {g : List Production} (setting : Setting g) where
           → Ends {A = ℕ} Fine (StopsAt opened M (item ∷ is) state)
           (elim test as (λ x. Result ℕ) [ true ↦ done (value (nextToken J state .value)) (tokenTaken state) cells | false ↦ misfit (only kind) state cells ])
       go true e = tt
-      go false e =
-          at-token w
-          (fails-here state l
-          (no-token (λ n. eqb-false (nextToken J state .kind) kind e (kind-of-next setting state n))))
+      go false e = (
+        _,
+        at-token w
+            (fails-here state l
+            (no-token (λ n. eqb-false (nextToken J state .kind) kind e (kind-of-next setting state n)))),
+      )
 
   full-row : (opened begun made : ℕ) {needed : ℕ} (state : State) → state .at ≤ length tokens → rows < made + needed
-      → Fails g spell rows tokens opened begun made (rest state) (makes needed) (refusal 21 (state .at) 0 0)
+      → Fails g spell rows tokens opened begun made (rest state) (makes needed) (refusal 21 (state .at) 0 0) rows
   full-row opened begun made {needed} state l h = fails-here state l (no-row h)
 
   -- a call of a state after its arguments is one of the state before them
@@ -110,11 +115,14 @@ module _ {g : List Production} (setting : Setting g) where
       → GiveAll spell M ts vs → Made rows (rowsOfAll ts) state cells state₁ cells-after₁
       → (cause : Refusal) → EntersAt opened nonterminal vs state₁ cause → StopsAt opened M (call nonterminal ts ∷ is) state cause
   enters-stops {opened} {nonterminal} {vs = vs} {ts = ts} is {state = state} {state₁ = state₁} gs b cause e =
-      let fits : state .made + rowsOfAll ts ≤ rows = omega (arith, b .fits, b .made-is) in
-      at-call gs fits
-      (subst₂ (λ at i. CallStops g spell rows tokens opened (state .calls) (state .made + rowsOfAll ts) nonterminal vs (drop at tokens) i cause) (b .at-kept)
-      (b .fresh-kept)
-      (subst₂ (λ c m. CallStops g spell rows tokens opened c m nonterminal vs (rest state₁) (state₁ .fresh) cause) (b .calls-kept) (b .made-is) e))
+      let fits : state .made + rowsOfAll ts ≤ rows = omega (arith, b .fits, b .made-is) in (
+        e .0,
+        at-call gs fits
+            (subst₂ (λ at i. CallStops g spell rows tokens opened (state .calls) (state .made + rowsOfAll ts) nonterminal vs (drop at tokens) i cause (e .0))
+            (b .at-kept) (b .fresh-kept)
+            (subst₂ (λ c m. CallStops g spell rows tokens opened c m nonterminal vs (rest state₁) (state₁ .fresh) cause (e .0)) (b .calls-kept) (b .made-is)
+            (e .1))),
+      )
 
   module _ (depth opened : ℕ) (left : depth + opened ≡ mostOpen) (halting : Halting depth) where
     item-halts : (names-left : ℕ) {item : Item} {A : ℕ} {M : List Value} {L xs : List ℕ} (is : List Item) (state : State) (cells : List ℕ)
@@ -139,15 +147,18 @@ module _ {g : List Production} (setting : Setting g) where
         ends-map Fine (EntersAt opened n (vs .0) s₁) Fine (StopsAt opened M (call n ts ∷ is) state) (runCall depth J n ys s₁ c₁)
         (halting opened names-left n S (vs .0) ys s₁ c₁ left w (omega arith) (vs .2) (omega (arith, y .1)) (kept-less (kept-made h (y .0 .0))) (y .0 .1))
         (λ x s₂ c₂ u. u) (enters-stops is (vs .1) (y .0 .0)))
-        (λ r u. at-arguments (vs .1)
-        (rw (u .1) (full-row opened (state .calls) (state .made) state b (u .0 .beyond))))
+        (λ r u. (
+          rows,
+          at-arguments (vs .1)
+              (rw (u .1) (full-row opened (state .calls) (state .made) state b (u .0 .beyond))),
+        ))
 
     -- an item derived has cost what its derivation costs
     item-costs : (names-left : ℕ) {item : Item} {A : ℕ} {M : List Value} {L : List ℕ} (xs : List ℕ) (state : State) (cells : List ℕ)
         → ItemSorted (F .scope) L item A
         → Kept rows (names-left + 1) state cells → ShowAll spell (state .made) cells xs M → (row : ℕ) (state₁ : State) (cells-after₁ : List ℕ)
         → runItem (runCall depth J) J item xs state cells ≡ done row state₁ cells-after₁
-        → {M₁ : List Value} (derives : Derives g spell M (rest state) (state .fresh) (item ∷ []) M₁ (rest state₁) (state₁ .fresh))
+        → {M₁ : List Value} (derives : Derives g spell M (rest state) (state .fresh) (item ∷ []) (rest state₁) (state₁ .fresh) M₁)
         → (state₁ .calls ≡ state .calls + callsIn derives) × (state₁ .made ≡ state .made + rowsIn derives) × (openIn derives ≤ depth)
     unfolding runItems
     item-costs names-left {item} {L = L} xs state cells w h a row state₁ cells-after₁ e {M₁} derives =
@@ -176,10 +187,12 @@ module _ {g : List Production} (setting : Setting g) where
         (runItems (runCall depth J) J is (xs ++ (x ∷ [])) s₁ c₁)
         (items-halt names-left is s₁ c₁ b zs (matches-and m (p .typed)) n₁ (p .kept) (all-and (all-later (p .grown) a) (p .shows)))
         (λ ys s₂ c₂ u. u)
-        (λ r u.
-        past-item {o = opened} {c = state .calls} {m = state .made} D
-        (record { few-open = omega (arith, q .2); few-calls = omega (arith, q .0, p .kept .begun); few-rows = omega (arith, q .1, p .kept .fits) })
-        (subst₂ (λ c m. Stops g spell rows tokens opened c m (M ++ (p .value ∷ [])) (rest s₁) (s₁ .fresh) is r) (q .0) (q .1) u)))
+        (λ r u. (
+          u .0,
+          past-item {o = opened} {c = state .calls} {m = state .made} D
+              (record { few-open = omega (arith, q .2); few-calls = omega (arith, q .0, p .kept .begun); few-rows = omega (arith, q .1, p .kept .fits) })
+              (subst₂ (λ c m. Stops g spell rows tokens opened c m (M ++ (p .value ∷ [])) (rest s₁) (s₁ .fresh) is r (u .0)) (q .0) (q .1) (u .1)),
+        )))
         (λ q c₁ e. rw e at (item-halts (names-left + length is) is state cells w z m n h′ a))
 
   -- ------------------------------------------------------------------ calls
@@ -228,13 +241,16 @@ module _ {g : List Production} (setting : Setting g) where
         (build-ends spell J (p .result) {value = v .0} s₁ c₁ (v .1) (y .sorted) (omega (arith, F .outsideCount)) (y .kept .room) (y .kept .fits) (y .shows))
         (build-stays J (p .result) ys s₁ c₁))
         (λ x s₂ c₂ u. tt)
-        (λ r u.
-        at-result {v = v .0} t D A (v .1)
-        (rw (u .1) (full-row (opened + 1) (state .calls + 1 + callsIn D) (state .made + rowsIn D) s₁ b₁ (omega (arith, u .0 .beyond, z .0 .made-are))))))
+        (λ r u. (
+          rows,
+          at-result {v = v .0} t D A (v .1)
+              (rw (u .1) (full-row (opened + 1) (state .calls + 1 + callsIn D) (state .made + rowsIn D) s₁ b₁ (omega (arith, u .0 .beyond, z .0 .made-are)))),
+        )))
         (λ r c₁ e.
-        in-items deeper c t
-        (rw e at
-        (items-halt depth (opened + 1) (omega (arith, left)) halting names-left (p .items) (callBegun state) cells body (q .items) matches within h′ show-all)))
+        let x : StopsAt (opened + 1) vs (p .items) (callBegun state) r = rw e at
+        (items-halt depth (opened + 1) (omega (arith, left)) halting names-left (p .items) (callBegun state) cells body (q .items) matches within h′
+        show-all) in
+        (x .0, in-items deeper c t (x .1)))
 
     call-step : Goal (runCall (suc depth) J nonterminal xs state cells)
     unfolding ready
@@ -244,46 +260,49 @@ module _ {g : List Production} (setting : Setting g) where
             → Goal (runCall (suc depth) J nonterminal xs state cells)
         go false e q =
             subst⁻¹ Goal (call-full depth J nonterminal xs state cells e)
-            (at-start (fails-here state within (too-many-calls deeper (ltb-false (state .calls) mostCalls e))))
+            (_, at-start (fails-here state within (too-many-calls deeper (ltb-false (state .calls) mostCalls e))))
         go true e (picks p t f) =
             subst⁻¹ Goal (call-chosen depth J nonterminal xs state cells (rule g p) e (ap (choice (ready g) nonterminal) (kind-next (state .at) tokens) ∙ f))
             (production-halts p t (ltb-true (state .calls) mostCalls e))
         go true e (picks-none f c) =
             subst⁻¹ Goal (call-unfit depth J nonterminal xs state cells e (ap (choice (ready g) nonterminal) (kind-next (state .at) tokens) ∙ c))
-            (at-start (fails-here state within (no-choice deeper (ltb-true (state .calls) mostCalls e) f (opens-exactly g nonterminal))))
+            (_, at-start (fails-here state within (no-choice deeper (ltb-true (state .calls) mostCalls e) f (opens-exactly g nonterminal))))
 
   call-halts : (depth : ℕ) → Halting depth
   unfolding runCall
   call-halts zero o k n S vs xs s cells e w l m b h a =
-      at-start {o = o} (fails-here s b (too-deep (omega (arith, e))))
+      (_, at-start {o = o} (fails-here s b (too-deep (omega (arith, e)))))
   call-halts (suc depth) o k n S vs xs s cells e w l m b h a = call-step depth o e (call-halts depth) k n S vs xs s cells w l m b h a
 
   -- ------------------------------------------------------------------ the whole formula
 
   -- the call of the root is the one item of the whole
-  root-stops : {cause : Refusal} → EntersAt 0 (setting .root) [] initialState cause → Refuses g spell rows tokens (setting .root) cause
+  root-stops : {cause : Refusal} → EntersAt 0 (setting .root) [] initialState cause → Refused cause
   unfolding rowsOfAll
-  root-stops e = stops (at-call {m = 0} {ts = none} give-none (omega arith) e)
+  root-stops e = (e .0, stops (at-call {m = 0} {ts = none} give-none (omega arith) (e .1)))
 
   leftover : (cells : List ℕ) (row : ℕ) (state : State) (cells′ : List ℕ) {token : Token} {ts : List Token} → rows * columns ≤ length cells
       → runCall mostOpen J (setting .root) [] initialState cells ≡ done row state cells′ → Root setting cells row state cells′ → state .at ≤ length tokens
-      → rest state ≡ token ∷ ts → Refuses g spell rows tokens (setting .root) (refusal 18 (state .at) 0 0)
+      → rest state ≡ token ∷ ts → Refused (refusal 18 (state .at) 0 0)
   leftover cells row state cells′ {token} {ts} room q y b e =
-      let D : Derives g spell [] tokens 1 (call (setting .root) none ∷ []) (y .value ∷ []) (token ∷ ts) (state .fresh) =
+      let D : Derives g spell [] tokens 1 (call (setting .root) none ∷ []) (token ∷ ts) (state .fresh) (y .value ∷ []) =
       rw (← e) (root-derived setting y) in
       let z = rw q at (root-along setting D cells room) in
-      rw (← (index-is setting state e b)) (left-over D
-      (record {
-        few-open = omega (arith, z .0 .deep);
-        few-calls = omega (arith, z .0 .calls-are, z .0 .kept .begun);
-        few-rows = omega (arith, z .0 .made-are, z .0 .kept .fits);
-      }))
+      rw (← (index-is setting state e b)) (
+        rowsIn D,
+        left-over D
+            (record {
+              few-open = omega (arith, z .0 .deep);
+              few-calls = omega (arith, z .0 .calls-are, z .0 .kept .begun);
+              few-rows = omega (arith, z .0 .made-are, z .0 .kept .fits);
+            }),
+      )
 
   -- a run that stops is refused by the rules
-  pub run-halts : (cells : List ℕ) → rows * columns ≤ length cells → Ends Fine (Refuses g spell rows tokens (setting .root)) (run J (setting .root) cells)
+  pub run-halts : (cells : List ℕ) → rows * columns ≤ length cells → Ends Fine Refused (run J (setting .root) cells)
   unfolding run
   run-halts cells room =
-      after-by Fine (Refuses g spell rows tokens (setting .root)) (runCall mostOpen J (setting .root) [] initialState cells) (ended J)
+      after-by Fine Refused (runCall mostOpen J (setting .root) [] initialState cells) (ended J)
       (λ v s c₁ q.
       over v s c₁ q (rw q at (root-called setting cells room))
       (rw q at (call-bounded setting mostOpen (setting .root) [] initialState cells (setting .root-small) (omega arith))))
@@ -296,11 +315,11 @@ module _ {g : List Production} (setting : Setting g) where
     where
       over : (row : ℕ) (state : State) (cells-after₁ : List ℕ) → runCall mostOpen J (setting .root) [] initialState cells ≡ done row state cells-after₁
           → Root setting cells row state cells-after₁ → state .at ≤ length tokens
-          → Ends Fine (Refuses g spell rows tokens (setting .root)) (ended J row state cells-after₁)
+          → Ends Fine Refused (ended J row state cells-after₁)
       over row state cells-after₁ q y b = go (ltb (state .at) (length tokens)) refl
         where
           go : (test : Bool) → ltb (state .at) (length tokens) ≡ test
-              → Ends {A = ℕ} Fine (Refuses g spell rows tokens (setting .root))
+              → Ends {A = ℕ} Fine Refused
               (elim test as (λ x. Result ℕ) [ true ↦ halt (refusal 18 (state .at) 0 0) cells-after₁ | false ↦ done row state cells-after₁ ])
           go true e = leftover cells row state cells-after₁ room q y b (token-here tokens (state .at) (ltb-true (state .at) (length tokens) e))
           go false e = tt

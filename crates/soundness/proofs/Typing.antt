@@ -7,7 +7,7 @@ use lib.ListN.{length}
 use Rattle.grammar.specs.Sorts.{Signature, constructorSignatures, constructor}
 use Rattle.grammar.specs.Table.{Template, Templates, none, more, Item}
 use Rattle.grammar.specs.Table as Table
-use Rattle.decoding.specs.Within.{Each, TemplateWithin, ItemWithin}
+use Rattle.decoding.specs.Within.{Each, TemplateWithin, ItemWithin, Among}
 use Rattle.judgements.specs.CheckSorts.{signatureOf}
 use Rattle.judgements.specs.Scopes.{Scope}
 use Rattle.judgements.specs.Judgements.{Has, has-first, has-later, Newest, Fits, fits-equal, fits-binder, Sorted, Fill, fill-none, fill-more, ItemSorted, Body}
@@ -16,20 +16,20 @@ use Rattle.judgements.specs.Judgements as Judgements
 use Rattle.judgements.proofs.Environments.{newest-signature}
 use Rattle.tokens.specs.declared.Token.{Token}
 use Rattle.productions.specs.Normal.{Production}
-use Rattle.firsts.specs.Rules.{In, Of}
+use Rattle.firsts.specs.Rules.{Of}
 use Rattle.expansion.specs.Figure3.{Value, Constructs, Bound, bound-first, bound-later, Gives, by-variable, by-global, by-label, by-constructor, GiveAll}
 use Rattle.expansion.specs.Figure3.{give-none, give-more, Taken, taken-opened, taken-nullable, as-var, as-binder, as-label, ReadsAs, by-keyword, by-ide}
 use Rattle.expansion.specs.Figure3.{by-number, by-local, Derives, by-end, by-terminal, by-call}
 use Rattle.expansion.specs.Figure3 as Figure3
-use Rattle.expansion.specs.ValueSorts.{Typed, typed-unit, typed-var, typed-binder, typed-either, typed-label, typed-term, typed-fields, typed-num, Matches}
-use Rattle.expansion.specs.ValueSorts.{matches-none, matches-more}
+use Rattle.expansion.specs.ValueSorts.{Typed, typed-unit, typed-var, typed-binder, typed-binder-as-var, typed-label, typed-term, typed-fields, typed-num}
+use Rattle.expansion.specs.ValueSorts.{Matches, matches-none, matches-more}
 
 -- ------------------------------------------------------------------ values of a sort
 
 -- what may stand at a place may stand where the place's sort may
 typed-at : {value : Value} {A B : ℕ} → Typed value A → Fits A B → Typed value B
 typed-at h fits-equal = h
-typed-at typed-binder fits-binder = typed-either
+typed-at typed-binder fits-binder = typed-binder-as-var
 
 -- one value more, of its sort
 pub matches-and : {M : List Value} {L : List ℕ} {value : Value} {B : ℕ} → Matches M L → Typed value B → Matches (M ++ (value ∷ [])) (L ++ (B ∷ []))
@@ -63,7 +63,7 @@ constructs-by : (place : ℕ) → place < 8 → {vs : List Value} → Matches vs
     → (value : Value) × Constructs (0x20 + place) vs value
 unfolding constructor constructorSignatures
 constructs-by zero l (matches-more typed-var matches-none) = (_, Figure3.makes-var)
-constructs-by zero l (matches-more typed-either matches-none) = (_, Figure3.makes-var-of-binder)
+constructs-by zero l (matches-more typed-binder-as-var matches-none) = (_, Figure3.makes-var-of-binder)
 constructs-by (suc zero) l (matches-more typed-binder (matches-more typed-term matches-none)) = (_, Figure3.makes-fun)
 constructs-by (suc (suc zero)) l (matches-more typed-term (matches-more typed-term matches-none)) = (_, Figure3.makes-app)
 constructs-by (suc (suc (suc zero))) l (matches-more typed-fields matches-none) = (_, Figure3.makes-rcd)
@@ -142,7 +142,7 @@ pub record FitAll (g : List Production) : Type 0 where
   -- 64 outside names at most
   pub outsideCount : scope .outsides ≤ 64
   -- each production fits it
-  pub each : (p : Production) → In g p → Fit scope p
+  pub each : (p : Production) → Among g p → Fit scope p
 
 -- what a terminal gives has its sort
 terminal-typed : {g : List Production} {spell : ℕ → List ℕ} {scope : Scope} {L : List ℕ} {s s′ : List Token} {i i′ : ℕ} {p : Item} {value : Value} {A : ℕ}
@@ -176,8 +176,17 @@ module _ {g : List Production} (fit-all : FitAll g) where
 
   -- the variables after the items, and the sort of the result under them
   pub items-typed : {spell : ℕ → List ℕ} {M M′ : List Value} {s s′ : List Token} {i i′ : ℕ} {is : List Item} {L : List ℕ} {result : Template} {B : ℕ}
-      {value : Value} → Derives g spell M s i is M′ s′ i′ → Matches M L → Body (fit-all .scope) L is result B → Gives spell M′ result value → Typed value B
+      {value : Value} → Derives g spell M s i is s′ i′ M′ → Matches M L → Body (fit-all .scope) L is result B → Gives spell M′ result value → Typed value B
   items-typed {result = result} by-end m (by-result w f) k = typed-at (gives-typed _ m result w k) f
   items-typed (by-terminal e d) m (by-binding w b) k = items-typed d (matches-and m (terminal-typed e w)) b k
   items-typed (by-call {ts = ts} gs t d q d′) m (by-binding (Judgements.by-call w f) b) k =
       items-typed d′ (matches-and m (items-typed d (give-all-typed _ m ts f gs) (body-of (taken-of t) w) q)) b k
+
+  -- behind items that are derived the result gives a value, of the sort of the body
+  pub items-give : {spell : ℕ → List ℕ} {M M′ : List Value} {s s′ : List Token} {i i′ : ℕ} {is : List Item} {L : List ℕ} {result : Template} {B : ℕ}
+      → Derives g spell M s i is s′ i′ M′ → Matches M L → Body (fit-all .scope) L is result B → (value : Value) × Gives spell M′ result value × Typed value B
+  items-give {spell = spell} {result = result} by-end m (by-result w f) =
+      let given = gives-exists spell m result w in (given .0, given .1, typed-at (given .2) f)
+  items-give (by-terminal e d) m (by-binding w b) = items-give d (matches-and m (terminal-typed e w)) b
+  items-give (by-call {ts = ts} gs t d q d′) m (by-binding (Judgements.by-call w f) b) =
+      items-give d′ (matches-and m (items-typed d (give-all-typed _ m ts f gs) (body-of (taken-of t) w) q)) b

@@ -4,13 +4,17 @@ use mathlib.Core.List.{List}
 use Rattle.grammar.specs.Table.{Table}
 use Rattle.decoding.specs.Within.{Within}
 use Rattle.tokens.specs.declared.Token.{Token}
-use Rattle.checker.specs.Passes.{Meets}
+use Rattle.checker.specs.Passes.{Meets, Passes}
 use Rattle.expansion.specs.Parsing.{SmallWords}
 
 -- a table within the counts, spellings and ranges that meets the rules
 pub record Passing (t : Table) : Type 0 where
   pub within : Within t
   pub meets : Meets t
+
+-- of the bytes of a table, that theirs is such a table
+abbrev pub passingOf : {bytes : List ℕ} (passes : Passes bytes) → Passing (passes .table)
+passingOf passes = record { within = passes .within; meets = passes .meets }
 
 -- tokens whose words have numbers that a name can hold, and what a spelling number stands for
 pub record Lexemes : Type 0 where

@@ -2,20 +2,18 @@
 -- holds the name that an ide item of sort 1 or 2, a local or a template's 10 gave; a Binder place the name that an ide item of sort 2 or a
 -- local gave; a Label place the label that an ide item of sort 3 or a template's 11 gave; a Num place a number item's value. A Term or
 -- Fields place holds a constructor of that sort by the types of terms.
-use Prim.Native.Nat.{ℕ}
+use Prim.Native.Nat.{ℕ, _<_}
+use mathlib.Core.Path.{_≡_}
 use mathlib.Core.List.{List, [], _∷_, _++_}
+use Rattle.kinds.specs.Kinds.{wordKind, numberKind}
 use Rattle.grammar.specs.Sorts as Sorts
 use Rattle.grammar.specs.Table.{Template, Templates, none, more, Item}
 use Rattle.grammar.specs.Table as Table
+use Rattle.decoding.specs.Within.{Among}
 use Rattle.tokens.specs.declared.Token.{Token}
 use Rattle.productions.specs.Normal.{Production}
 use Rattle.terms.specs.Term.{Name, word, fresh, outside, Term, Fields, variable, function, apply, rcd, dot, number, nil, cons}
 use Rattle.expansion.specs.Figure3.{Value, ReadsAs, by-keyword, by-ide, by-number, by-local, Derives, by-end, by-terminal, by-call}
-
--- x is one of a list
-pub data Among {A : Type 0} : List A → A → Type 0 where
-  among-first : {x : A} {xs : List A} → Among (x ∷ xs) x
-  among-later : {x y : A} {xs : List A} → Among xs x → Among (y ∷ xs) x
 
 -- ------------------------------------------------------------------ what a derivation gave
 
@@ -26,6 +24,14 @@ pub data Given : Type 0 where
   number-at : Token → Given
   outside-name : ℕ → Given
   outside-label : ℕ → Given
+
+-- a word or a number is a token of the formula, of its kind; an outside name is one of the table's, of which there are so many
+pub data Supplied (tokens : List Token) (outsides : ℕ) : Given → Type 0 where
+  supplied-word : {B : ℕ} {t : Token} → Among tokens t → t .kind ≡ wordKind → Supplied tokens outsides (word-at B t)
+  supplied-fresh : {i : ℕ} → Supplied tokens outsides (fresh-name i)
+  supplied-number : {t : Token} → Among tokens t → t .kind ≡ numberKind → Supplied tokens outsides (number-at t)
+  supplied-outside : {n : ℕ} → n < outsides → Supplied tokens outsides (outside-name n)
+  supplied-label : {n : ℕ} → n < outsides → Supplied tokens outsides (outside-label n)
 
 -- by a template
 unfoldable mutual
@@ -48,7 +54,7 @@ module _ {g : List Production} {spell : ℕ → List ℕ} where
   givenAt (by-local {i = i}) = fresh-name i ∷ []
 
   -- by a sequence of items
-  unfoldable pub givenIn : {M M′ : List Value} {s s′ : List Token} {i i′ : ℕ} {ps : List Item} → Derives g spell M s i ps M′ s′ i′ → List Given
+  unfoldable pub givenIn : {M M′ : List Value} {s s′ : List Token} {i i′ : ℕ} {ps : List Item} → Derives g spell M s i ps s′ i′ M′ → List Given
   givenIn by-end = []
   givenIn (by-terminal e d) = givenAt e ++ givenIn d
   givenIn (by-call {ts = ts} {p = p} vs t d v d′) = namedInAll ts ++ (givenIn d ++ (namedIn (p .result) ++ givenIn d′))

@@ -20,13 +20,14 @@ use Rattle.expansion.specs.Expansion.{Input, Choice, unfit, chosen, choice, nex
 use Rattle.expansion.specs.Expansion.{runItems, callBegun, runCall, initialState, ended, run}
 use Rattle.expansion.specs.Limits.{mostCalls, mostOpen}
 use Rattle.expansion.specs.Expansion as Expansion
-use Rattle.meaning.specs.Meaning.{Left}
+use Rattle.soundness.specs.Stopping.{Left}
 
 -- Cells that were not touched are left.
 pub left-not : (made : ℕ) (cells : List ℕ) → Left made cells cells
 left-not made cells = record { as-many = refl; same = λ j h. refl }
 
-left-trans : {made later : ℕ} {cells cells′ cells″ : List ℕ} → made ≤ later → Left made cells cells′ → Left later cells′ cells″ → Left later cells cells″
+-- What is left after one run and then after another is left after both.
+pub left-trans : {made later : ℕ} {cells cells′ cells″ : List ℕ} → made ≤ later → Left made cells cells′ → Left later cells′ cells″ → Left later cells cells″
 left-trans l h k = record { as-many = k .as-many ∙ h .as-many; same = λ j b. k .same j b ∙ h .same j (omega arith) }
 
 -- What a run leaves that had made m rows: the rows made by then are no more than there are.
@@ -92,7 +93,8 @@ module _ (input : Input) where
   mutual
     unfolding build buildAll
 
-    build-leaves : (template : Template) (values : List ℕ) → Leaving (build template input values)
+    -- a template leaves the cells behind the rows that it made,
+    pub build-leaves : (template : Template) (values : List ℕ) → Leaving (build template input values)
     build-leaves (Table.variable i) values s cells h = stays s s cells refl h
     build-leaves (Table.outsideVar n) values s cells h = stays s s cells refl h
     build-leaves (Table.outsideLabel n) values s cells h = stays s s cells refl h
@@ -100,7 +102,8 @@ module _ (input : Input) where
         leaves-after (input .rows) (s .made) cells (buildAll ts input values s cells) (λ vs. cell input c vs) (build-all-leaves ts values s cells h)
         (λ vs s′ cells′ l. cell-leaves c vs s′ cells′ l)
 
-    build-all-leaves : (ts : Templates) (values : List ℕ) → Leaving (buildAll ts input values)
+    -- and so do templates,
+    pub build-all-leaves : (ts : Templates) (values : List ℕ) → Leaving (buildAll ts input values)
     build-all-leaves none values s cells h = stays s s cells refl h
     build-all-leaves (more t ts) values s cells h =
         leaves-after (input .rows) (s .made) cells (build t input values s cells) _ (build-leaves t values s cells h)
@@ -109,7 +112,8 @@ module _ (input : Input) where
         (λ vs s″ cells″ m. stays s″ s″ cells″ refl m))
 
   module _ (callee : ℕ → List ℕ → Run ℕ) (calls : (nonterminal : ℕ) (vs : List ℕ) → Leaving (callee nonterminal vs)) where
-    item-leaves : (item : Item) (values : List ℕ) → Leaving (runItem callee input item values)
+    -- an item,
+    pub item-leaves : (item : Item) (values : List ℕ) → Leaving (runItem callee input item values)
     item-leaves (Table.keyword k) values s cells h = take-leaves (keywordKind k) (λ v. 0) s cells h
     item-leaves (Table.ide b) values s cells h = take-leaves wordKind (Expansion.wordValue b) s cells h
     item-leaves Table.number values s cells h = take-leaves numberKind (λ v. v) s cells h
@@ -118,7 +122,8 @@ module _ (input : Input) where
         leaves-after (input .rows) (s .made) cells (buildAll ts input values s cells) (λ vs. callee n vs) (build-all-leaves ts values s cells h)
         (λ vs s′ cells′ l. calls n vs s′ cells′ l)
 
-    items-leave : (is : List Item) (values : List ℕ) → Leaving (runItems callee input is values)
+    -- items,
+    pub items-leave : (is : List Item) (values : List ℕ) → Leaving (runItems callee input is values)
     unfolding runItems
     items-leave [] values s cells h = stays s s cells refl h
     items-leave (i ∷ is) values s cells h =
@@ -126,7 +131,8 @@ module _ (input : Input) where
         (item-leaves i values s cells h)
         (λ v s′ cells′ l. items-leave is (values ++ (v ∷ [])) s′ cells′ l)
 
-  call-leaves : (depth nonterminal : ℕ) (vs : List ℕ) → Leaving (runCall depth input nonterminal vs)
+  -- and a call.
+  pub call-leaves : (depth nonterminal : ℕ) (vs : List ℕ) → Leaving (runCall depth input nonterminal vs)
   unfolding runCall
   call-leaves zero nonterminal vs s cells h = (s .made, omega arith, h, left-not (s .made) cells)
   call-leaves (suc depth) nonterminal vs s cells h =
