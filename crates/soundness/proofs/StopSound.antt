@@ -107,8 +107,8 @@ module _ {g : List Production} (setting : Setting g) where
       )
 
   full-row : (opened begun made : ℕ) {needed : ℕ} (state : State) → state .at ≤ length tokens → rows < made + needed
-      → Fails g spell rows tokens opened begun made (rest state) (makes needed) (refusal 21 (state .at) 0 0) rows
-  full-row opened begun made {needed} state l h = fails-here state l (no-row h)
+      → (total : ℕ) × Fails g spell rows tokens opened begun made (rest state) (makes needed) (refusal 21 (state .at) 0 0) total
+  full-row opened begun made {needed} state l h = (_, fails-here state l (no-row h))
 
   -- a call of a state after its arguments is one of the state before them
   enters-stops : {opened nonterminal : ℕ} {M vs : List Value} {ts : Templates} (is : List Item) {state state₁ : State} {cells cells-after₁ : List ℕ}
@@ -147,11 +147,7 @@ module _ {g : List Production} (setting : Setting g) where
         ends-map Fine (EntersAt opened n (vs .0) s₁) Fine (StopsAt opened M (call n ts ∷ is) state) (runCall depth J n ys s₁ c₁)
         (halting opened names-left n S (vs .0) ys s₁ c₁ left w (omega arith) (vs .2) (omega (arith, y .1)) (kept-less (kept-made h (y .0 .0))) (y .0 .1))
         (λ x s₂ c₂ u. u) (enters-stops is (vs .1) (y .0 .0)))
-        (λ r u. (
-          rows,
-          at-arguments (vs .1)
-              (rw (u .1) (full-row opened (state .calls) (state .made) state b (u .0 .beyond))),
-        ))
+        (λ r u. let full = full-row opened (state .calls) (state .made) state b (u .0 .beyond) in (full .0, at-arguments (vs .1) (rw (u .1) (full .1))))
 
     -- an item derived has cost what its derivation costs
     item-costs : (names-left : ℕ) {item : Item} {A : ℕ} {M : List Value} {L : List ℕ} (xs : List ℕ) (state : State) (cells : List ℕ)
@@ -241,11 +237,10 @@ module _ {g : List Production} (setting : Setting g) where
         (build-ends spell J (p .result) {value = v .0} s₁ c₁ (v .1) (y .sorted) (omega (arith, F .outsideCount)) (y .kept .room) (y .kept .fits) (y .shows))
         (build-stays J (p .result) ys s₁ c₁))
         (λ x s₂ c₂ u. tt)
-        (λ r u. (
-          rows,
-          at-result {v = v .0} t D A (v .1)
-              (rw (u .1) (full-row (opened + 1) (state .calls + 1 + callsIn D) (state .made + rowsIn D) s₁ b₁ (omega (arith, u .0 .beyond, z .0 .made-are)))),
-        )))
+        (λ r u.
+        let few : rows < state .made + rowsIn D + rowsOf (p .result) = omega (arith, u .0 .beyond, z .0 .made-are) in
+        let full = full-row (opened + 1) (state .calls + 1 + callsIn D) (state .made + rowsIn D) s₁ b₁ few in
+        (full .0, at-result {v = v .0} t D A (v .1) (rw (u .1) (full .1)))))
         (λ r c₁ e.
         let x : StopsAt (opened + 1) vs (p .items) (callBegun state) r = rw e at
         (items-halt depth (opened + 1) (omega (arith, left)) halting names-left (p .items) (callBegun state) cells body (q .items) matches within h′
@@ -289,7 +284,7 @@ module _ {g : List Production} (setting : Setting g) where
       rw (← e) (root-derived setting y) in
       let z = rw q at (root-along setting D cells room) in
       rw (← (index-is setting state e b)) (
-        rowsIn D,
+        _,
         left-over D
             (record {
               few-open = omega (arith, z .0 .deep);
