@@ -109,7 +109,7 @@ pub record Walking (es : List Entry) (nonterminal kind spot : ℕ) : Type 0 wher
   -- before 256 the place is an entry's
   pub inside : spot < 256 → spot < length es
   -- the entry is one of `nonterminal`'s
-  pub own : spot < 256 → getD es spot noEntry .owner ≡ nonterminal
+  pub own : spot < 256 → getD es spot noEntry .nonterminal ≡ nonterminal
   -- from there on the search ends where the whole search ends
   pub rest : placeFrom (opensOf nonterminal kind) (drop spot es) spot ≡ placeFrom (opensOf nonterminal kind) es 0
 
@@ -142,7 +142,7 @@ module _ (es : List Entry) (few : length es ≤ 256) (nonterminal kind : ℕ) wh
     here : drop spot es ≡ getD es spot noEntry ∷ drop (spot + 1) es
     here = drop-cons es spot noEntry (walking .inside less) ∙ rw add-one refl
 
-    owned : eqb (getD es spot noEntry .owner) nonterminal ≡ true
+    owned : eqb (getD es spot noEntry .nonterminal) nonterminal ≡ true
     owned = eq-eqb _ nonterminal (walking .own less)
 
     -- It ends at a place whose first set holds the kind.
@@ -151,7 +151,7 @@ module _ (es : List Entry) (few : length es ≤ 256) (nonterminal kind : ℕ) wh
 
     -- the next place is a later one
     pub walking-next : hasKind (getD es spot noEntry .first) kind ≡ false → {next-place : ℕ}
-        → next-place ≡ placeFrom (isOf (getD es spot noEntry .owner)) (drop (spot + 1) es) (spot + 1)
+        → next-place ≡ placeFrom (isOf (getD es spot noEntry .nonterminal)) (drop (spot + 1) es) (spot + 1)
         → (spot < next-place) × Walking es nonterminal kind next-place
     walking-next t e =
         let q = onto (spot + 1) (omega (arith, walking .inside less)) (rw (walking .own less) at e)
@@ -214,7 +214,7 @@ module _ {bs memory : List ℕ} (remembers : Remembers bs memory) {nonterminal k
 -- ------------------------------------------------------------------ what a place stands for
 
 abbrev somewhere : Place
-somewhere = record { owner = 0; start = 0 }
+somewhere = record { nonterminal = 0; start = 0 }
 
 -- the rule of the production at an index, else what is given
 unfoldable choiceAt : (Place → Rule) → List Place → ℕ → Choice → Choice
@@ -238,7 +238,7 @@ module _ (rule-at : Place → Rule) (other : Choice) where
 -- a search among rules, and one among the entries of the same productions
 module _ (entry-at : Place → Entry) (production-at : Place → Production) (rule-of : Production → Rule) (te : Entry → Bool) (tr : Rule → Bool) (nonterminal : ℕ)
     (agree : (stands-at : Place) → te (entry-at stands-at)
-    ≡ (eqb (rule-of (production-at stands-at) .owner) nonterminal && tr (rule-of (production-at stands-at)))) (other : Choice) where
+    ≡ (eqb (rule-of (production-at stands-at) .nonterminal) nonterminal && tr (rule-of (production-at stands-at)))) (other : Choice) where
   searched : (ps : List Place) (spot : ℕ) → spot + length ps ≤ 256
       → firstRule tr nonterminal (map rule-of (map production-at ps)) other ≡ choiceAt (λ p. rule-of (production-at p)) ps
       (placeFrom te (map entry-at ps) spot - spot) other
@@ -247,11 +247,11 @@ module _ (entry-at : Place → Entry) (production-at : Place → Production) (ru
   searched (p ∷ ps) spot h =
       by-test (te (entry-at p))
       (λ t.
-      let u : (eqb (rule-of (production-at p) .owner) nonterminal && tr (rule-of (production-at p))) ≡ true = sym (agree p) ∙ t in
+      let u : (eqb (rule-of (production-at p) .nonterminal) nonterminal && tr (rule-of (production-at p))) ≡ true = sym (agree p) ∙ t in
       let z : placeFrom te (map entry-at (p ∷ ps)) spot - spot ≡ 0 = ap (λ k. k - spot) (place-hit te (entry-at p) (map entry-at ps) spot t) ∙ sub-self spot in
       rw (u, z, firstRule) refl)
       (λ t.
-      let u : (eqb (rule-of (production-at p) .owner) nonterminal && tr (rule-of (production-at p))) ≡ false = sym (agree p) ∙ t in
+      let u : (eqb (rule-of (production-at p) .nonterminal) nonterminal && tr (rule-of (production-at p))) ≡ false = sym (agree p) ∙ t in
       let l : spot + 1 ≤ placeFrom te (map entry-at ps) (spot + 1) = landed te te (map entry-at ps) (spot + 1) (omega (arith, length-map ps entry-at)) .later in
       let z : placeFrom te (map entry-at (p ∷ ps)) spot - spot ≡ suc (placeFrom te (map entry-at ps) (spot + 1) - (spot + 1)) =
       ap (λ k. k - spot) (place-miss te (entry-at p) (map entry-at ps) spot t) ∙ omega arith in
@@ -278,7 +278,7 @@ module _ {bs room : List ℕ} (held : Held bs room) where
   E = entryAt bs nulls (firstSetsOf bs)
 
   abbrev R : Place → Rule
-  R p = ruleOf nulls (firstSetsOf bs) (productionAt bs (p .owner) (p .start))
+  R p = ruleOf nulls (firstSetsOf bs) (productionAt bs (p .nonterminal) (p .start))
 
   few : length (placesOf bs) ≤ 256
   few = held .grammar .few
@@ -349,7 +349,7 @@ module _ {bs room : List ℕ} (held : Held bs room) where
       place-nullable l ek = ek ∙ nullable-place-in entries-held nonterminal small ∙ chosen-nullable (entriesOf bs) nonterminal kind equal l
 
   -- the nonterminals are 64
-  each-other : (test : Entry → Bool) (nonterminal : ℕ) → 64 ≤ nonterminal → ((entry : Entry) → test entry ≡ true → entry .owner ≡ nonterminal)
+  each-other : (test : Entry → Bool) (nonterminal : ℕ) → 64 ≤ nonterminal → ((entry : Entry) → test entry ≡ true → entry .nonterminal ≡ nonterminal)
       → {ps : List Place} → Each (Whole bs) ps
       → (spot : ℕ)
       → placeFrom test (map E ps) spot ≡ 256
@@ -390,12 +390,12 @@ module _ {bs room : List ℕ} (held : Held bs room) where
         ≡ choiceAt R (placesOf bs) opened-at (choiceAt R (placesOf bs) nullable-at unfit)
     unfolding ready productionAt entriesOf firstSetsOf
     choice-is =
-        searched E (λ p. productionAt bs (p .owner) (p .start)) (ruleOf nulls (firstSetsOf bs)) (opensOf nonterminal kind) (λ r. hasKind (r .first) kind)
+        searched E (λ p. productionAt bs (p .nonterminal) (p .start)) (ruleOf nulls (firstSetsOf bs)) (opensOf nonterminal kind) (λ r. hasKind (r .first) kind)
         nonterminal
         (λ p. refl) _ (placesOf bs) 0 (omega (arith, few))
         ∙ rw (sub-zero opened-at)
         (ap (choiceAt R (placesOf bs) opened-at)
-        (searched E (λ p. productionAt bs (p .owner) (p .start)) (ruleOf nulls (firstSetsOf bs)) (isNullableOf nonterminal) (λ r. r .nullable) nonterminal
+        (searched E (λ p. productionAt bs (p .nonterminal) (p .start)) (ruleOf nulls (firstSetsOf bs)) (isNullableOf nonterminal) (λ r. r .nullable) nonterminal
         (λ p. refl) unfit (placesOf bs) 0 (omega (arith, few))
         ∙ rw (sub-zero nullable-at) refl))
 

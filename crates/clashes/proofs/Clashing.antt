@@ -35,7 +35,7 @@ kind-small (first-past n f) = kind-small f
 
 -- both productions are of n
 abbrev owned : ℕ → Production → Production → Bool
-owned n p q = eqb (p .owner) n && eqb (q .owner) n
+owned n p q = eqb (p .nonterminal) n && eqb (q .nonterminal) n
 
 shared-seen : (nulls : ℕ) (firsts : List ℕ) (nonterminal : ℕ) (p other : Production) (kind : ℕ)
     → hasKind (sharedBy nulls firsts nonterminal p other) kind
@@ -54,12 +54,17 @@ module _ (g : List Production) where
 
   two-sound : {nonterminal : ℕ} {p other : Production} → nonterminal < 64 → Before g p other → owned nonterminal p other ≡ true → Two g nonterminal p other
   two-sound {nonterminal} {p} {other} l apart e =
-      let o = and-eq-true-iff (eqb (p .owner) nonterminal) (eqb (other .owner) nonterminal) .0 e in
-      record { apart = apart; first-owned = eqb-true (p .owner) nonterminal (o .0); second-owned = eqb-true (other .owner) nonterminal (o .1); small = l }
+      let o = and-eq-true-iff (eqb (p .nonterminal) nonterminal) (eqb (other .nonterminal) nonterminal) .0 e in
+      record {
+        apart = apart;
+        first-owned = eqb-true (p .nonterminal) nonterminal (o .0);
+        second-owned = eqb-true (other .nonterminal) nonterminal (o .1);
+        small = l;
+      }
 
   two-complete : {nonterminal : ℕ} {p other : Production} → Two g nonterminal p other → owned nonterminal p other ≡ true
   two-complete {nonterminal} {p} {other} w =
-      and-eq-true-iff _ _ .1 (eq-eqb (p .owner) nonterminal (w .first-owned), eq-eqb (other .owner) nonterminal (w .second-owned))
+      and-eq-true-iff _ _ .1 (eq-eqb (p .nonterminal) nonterminal (w .first-owned), eq-eqb (other .nonterminal) nonterminal (w .second-owned))
 
   -- ---------------------------------------------------------------- a shared kind
 

@@ -14,7 +14,7 @@ use Rattle.firsts.specs.FirstSets.{rounds, overAll, allPassed, nullStep, nullab
 
 infix 80 _⟶_
 abbrev _⟶_ : ℕ → List Item → Production
-n ⟶ is = record { owner = n; items = is; result = variable 0 }
+n ⟶ is = record { nonterminal = n; items = is; result = variable 0 }
 
 abbrev nonterminal : ℕ → Item
 nonterminal n = call n none

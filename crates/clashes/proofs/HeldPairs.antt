@@ -66,7 +66,7 @@ module _ {sets : List ℕ} {es : List Entry} {room : List ℕ} (held : HoldsEntr
       after : (nonterminal : ℕ) → (place < length es) × (getD es place noEntry ≡ e) × (drop (place + 1) es ≡ entries) → isOf nonterminal e ≡ true
           → afterIn room place ≡ placeFrom (isOf nonterminal) entries (place + 1)
       after nonterminal at t =
-          let o : getD es place noEntry .owner ≡ nonterminal = rw (at .1) (eqb-true (e .owner) nonterminal t) in
+          let o : getD es place noEntry .nonterminal ≡ nonterminal = rw (at .1) (eqb-true (e .nonterminal) nonterminal t) in
           let p : nextPlaceIn room place ≡ placeFrom (isOf nonterminal) entries (place + 1) = next-place-in held place (at .0) ∙ rw (o, at .2) refl in
           let long : length (drop (place + 1) es) ≡ length entries = ap length (at .2) in
           let m : place < placeFrom (isOf nonterminal) entries (place + 1) =
@@ -80,7 +80,7 @@ module _ (bs : List ℕ) (nulls : ℕ) {sets : List ℕ} {es : List Entry} {room
   entry = entryAt bs nulls sets
 
   abbrev production : Place → Production
-  production p = productionAt bs (p .owner) (p .start)
+  production p = productionAt bs (p .nonterminal) (p .start)
 
   -- the production at a place of the room
   record At (row : ℕ) (place : Place) : Type 0 where
@@ -94,8 +94,8 @@ module _ (bs : List ℕ) (nulls : ℕ) {sets : List ℕ} {es : List Entry} {room
   read-nullable {row} a = nullable-in held row (a .inside) ∙ rw (a .here) refl
 
   module _ (nonterminal : ℕ) where
-    module _ {row place : ℕ} {at-place other : Place} (at-first : At row at-place) (at-other : At place other) (own : eqb (at-place .owner) nonterminal ≡ true)
-        (own′ : eqb (other .owner) nonterminal ≡ true) where
+    module _ {row place : ℕ} {at-place other : Place} (at-first : At row at-place) (at-other : At place other)
+        (own : eqb (at-place .nonterminal) nonterminal ≡ true) (own′ : eqb (other .nonterminal) nonterminal ≡ true) where
       shared-own : sharedIn room row place ≡ sharedBy nulls sets nonterminal (production at-place) (production other)
       unfolding productionAt
       shared-own = rw (own, own′, sharedBy) (rw (read-first at-first, read-first at-other) refl)
@@ -104,19 +104,23 @@ module _ (bs : List ℕ) (nulls : ℕ) {sets : List ℕ} {es : List Entry} {room
       unfolding productionAt
       clash-own = rw (own, own′, sharedBy) (rw (read-first at-first, read-first at-other, read-nullable at-first, read-nullable at-other) refl)
 
-    shared-off : (place other : Place) → eqb (other .owner) nonterminal ≡ false → sharedBy nulls sets nonterminal (production place) (production other) ≡ 0
+    shared-off : (place other : Place) → eqb (other .nonterminal) nonterminal ≡ false
+        → sharedBy nulls sets nonterminal (production place) (production other) ≡ 0
     unfolding productionAt
-    shared-off place other e = rw (e, and-false (eqb (place .owner) nonterminal), sharedBy) refl
+    shared-off place other e = rw (e, and-false (eqb (place .nonterminal) nonterminal), sharedBy) refl
 
-    clash-off : (place other : Place) → eqb (other .owner) nonterminal ≡ false → clash nulls sets nonterminal (production place) (production other) ≡ false
+    clash-off : (place other : Place) → eqb (other .nonterminal) nonterminal ≡ false
+        → clash nulls sets nonterminal (production place) (production other) ≡ false
     unfolding productionAt
-    clash-off place other e = rw (e, and-false (eqb (place .owner) nonterminal)) refl
+    clash-off place other e = rw (e, and-false (eqb (place .nonterminal) nonterminal)) refl
 
-    shared-none : (place : Place) (other : Production) → eqb (place .owner) nonterminal ≡ false → sharedBy nulls sets nonterminal (production place) other ≡ 0
+    shared-none : (place : Place) (other : Production) → eqb (place .nonterminal) nonterminal ≡ false
+        → sharedBy nulls sets nonterminal (production place) other ≡ 0
     unfolding productionAt
     shared-none place other e = rw (e, sharedBy) refl
 
-    clash-none : (place : Place) (other : Production) → eqb (place .owner) nonterminal ≡ false → clash nulls sets nonterminal (production place) other ≡ false
+    clash-none : (place : Place) (other : Production) → eqb (place .nonterminal) nonterminal ≡ false
+        → clash nulls sets nonterminal (production place) other ≡ false
     unfolding productionAt
     clash-none place other e = rw e refl
 
@@ -134,7 +138,7 @@ module _ (bs : List ℕ) (nulls : ℕ) {sets : List ℕ} {es : List Entry} {room
     here-at : (other : Place) (ps : List Place) (place : ℕ) → drop place es ≡ map entry (other ∷ ps) → At place other × (drop (place + 1) es ≡ map entry ps)
     here-at other ps place h = let f = front held (map entry ps) (entry other) place h in (record { inside = f .0; here = f .1 }, f .2)
 
-    module _ {row : ℕ} {place : Place} (at-place : At row place) (own : eqb (place .owner) nonterminal ≡ true) where
+    module _ {row : ℕ} {place : Place} (at-place : At row place) (own : eqb (place .nonterminal) nonterminal ≡ true) where
       any-with : (ps : List Place) (index : ℕ) → drop index es ≡ map entry ps
           → anyWith (clashIn room row) (ownPlaces nonterminal (map entry ps) index) ≡ anyWith (clash nulls sets nonterminal (production place))
           (productionsAt bs ps)
@@ -143,7 +147,7 @@ module _ (bs : List ℕ) (nulls : ℕ) {sets : List ℕ} {es : List Entry} {room
       any-with (q ∷ ps) index h =
           let f = here-at q ps index h in
           let rest = any-with ps (index + 1) (f .1) in
-          by-test (eqb (q .owner) nonterminal)
+          by-test (eqb (q .nonterminal) nonterminal)
           (λ t. rw (t, ownPlaces)
           (rw (clash-own at-place (f .0) own t, rest) refl))
           (λ t. rw (t, ownPlaces, clash-off place q t) rest)
@@ -155,7 +159,7 @@ module _ (bs : List ℕ) (nulls : ℕ) {sets : List ℕ} {es : List Entry} {room
       join-with [] index found h = refl
       join-with (q ∷ ps) index found h =
           let f = here-at q ps index h in
-          by-test (eqb (q .owner) nonterminal)
+          by-test (eqb (q .nonterminal) nonterminal)
           (λ t. rw (t, ownPlaces)
           (rw (shared-own at-place (f .0) own t) (join-with ps (index + 1) _ (f .1))))
           (λ t. rw (t, ownPlaces)
@@ -172,7 +176,7 @@ module _ (bs : List ℕ) (nulls : ℕ) {sets : List ℕ} {es : List Entry} {room
     any-pairs (q ∷ ps) place h =
         let f = here-at q ps place h in
         let rest = any-pairs ps (place + 1) (f .1) in
-        by-test (eqb (q .owner) nonterminal)
+        by-test (eqb (q .nonterminal) nonterminal)
         (λ t. rw (t, ownPlaces)
         (rw (any-with (f .0) t ps (place + 1) (f .1), rest) refl))
         (λ t. rw (t, ownPlaces, none-with (clash nulls sets nonterminal (production q)) (λ r. clash-none q r t) (productionsAt bs ps)) rest)
@@ -183,7 +187,7 @@ module _ (bs : List ℕ) (nulls : ℕ) {sets : List ℕ} {es : List Entry} {room
     join-pairs [] place found h = refl
     join-pairs (q ∷ ps) place found h =
         let f = here-at q ps place h in
-        by-test (eqb (q .owner) nonterminal)
+        by-test (eqb (q .nonterminal) nonterminal)
         (λ t. rw (t, ownPlaces)
         (join-pairs ps (place + 1) (joinWith (sharedIn room place) (ownPlaces nonterminal (map entry ps) (place + 1)) found) (f .1)
         ∙ ap (joinPairs (sharedBy nulls sets nonterminal) (productionsAt bs ps)) (join-with (f .0) t ps (place + 1) found (f .1))))

@@ -25,13 +25,13 @@ leftRecursive calls = lowest (most .nonterminals) (λ n. hasKind (getD calls n 0
 -- the kinds that two productions of n share
 abbrev pub sharedBy : ℕ → List ℕ → ℕ → Production → Production → ℕ
 sharedBy nulls firsts n p q =
-    elim (eqb (p .owner) n && eqb (q .owner) n)
+    elim (eqb (p .nonterminal) n && eqb (q .nonterminal) n)
     [ true ↦ bitAnd (firstOf nulls firsts p) (firstOf nulls firsts q) | false ↦ 0 ]
 
 -- two productions of n share a kind, or are both nullable
 abbrev pub clash : ℕ → List ℕ → ℕ → Production → Production → Bool
 clash nulls firsts n p q =
-    (eqb (p .owner) n && eqb (q .owner) n)
+    (eqb (p .nonterminal) n && eqb (q .nonterminal) n)
     && (ltb 0 (sharedBy nulls firsts n p q) || (allPassed nulls (p .items) && allPassed nulls (q .items)))
 
 -- a test of one with each of others, and of each pair

@@ -15,8 +15,8 @@ pub data Before : List Production → Production → Production → Type 0 where
 -- two productions of the nonterminal n
 pub record Two (g : List Production) (n : ℕ) (p q : Production) : Type 0 where
   pub apart : Before g p q
-  pub first-owned : p .owner ≡ n
-  pub second-owned : q .owner ≡ n
+  pub first-owned : p .nonterminal ≡ n
+  pub second-owned : q .nonterminal ≡ n
   pub small : IsNonterminal n
 
 -- two productions of n share kind b

@@ -58,7 +58,8 @@ members (among-later m) = omega arith
 
 -- ------------------------------------------------------------------ the first rule that passes a test
 
-module _ (rule : Production → Rule) (owned : (p : Production) → rule p .owner ≡ p .owner) (test : Rule → Bool) (nonterminal : ℕ) (other : Choice) where
+module _ (rule : Production → Rule) (owned : (p : Production) → rule p .nonterminal ≡ p .nonterminal) (test : Rule → Bool) (nonterminal : ℕ)
+    (other : Choice) where
   -- a production is found, and the search answers it
   pub record Found (g : List Production) : Type 0 where
     -- the production that is found
@@ -66,7 +67,7 @@ module _ (rule : Production → Rule) (owned : (p : Production) → rule p .owne
     -- it is one of the grammar
     pub member : Among g production
     -- it is of the nonterminal
-    pub of : production .owner ≡ nonterminal
+    pub of : production .nonterminal ≡ nonterminal
     -- its rule passes the test
     pub passed : test (rule production) ≡ true
     -- it is the one that is answered
@@ -75,33 +76,33 @@ module _ (rule : Production → Rule) (owned : (p : Production) → rule p .owne
   -- none is found, and the search gives the other answer
   pub record Missing (g : List Production) : Type 0 where
     -- no production of the nonterminal passes the test
-    pub none-passed : (p : Production) → Among g p → p .owner ≡ nonterminal → test (rule p) ≡ true → ⊥
+    pub none-passed : (p : Production) → Among g p → p .nonterminal ≡ nonterminal → test (rule p) ≡ true → ⊥
     -- the other answer is given
     pub answer : firstRule test nonterminal (map rule g) other ≡ other
 
-  here : (p : Production) (g : List Production) (answer : Bool) → (eqb (rule p .owner) nonterminal && test (rule p)) ≡ answer
+  here : (p : Production) (g : List Production) (answer : Bool) → (eqb (rule p .nonterminal) nonterminal && test (rule p)) ≡ answer
       → firstRule test nonterminal (map rule (p ∷ g)) other ≡ elim answer [ true ↦ chosen (rule p) | false ↦ firstRule test nonterminal (map rule g) other ]
   unfolding firstRule
   here p g answer e = rw (e, firstRule) refl
 
-  missing-later : {p : Production} {g : List Production} → (eqb (rule p .owner) nonterminal && test (rule p)) ≡ false → Missing g
-      → (other : Production) → Among (p ∷ g) other → other .owner ≡ nonterminal → test (rule other) ≡ true → ⊥
-  missing-later {p} e m other among-first o t = true≢false (sym (and-eq-true-iff _ _ .1 (eq-eqb (rule p .owner) nonterminal (owned p ∙ o), t)) ∙ e)
+  missing-later : {p : Production} {g : List Production} → (eqb (rule p .nonterminal) nonterminal && test (rule p)) ≡ false → Missing g
+      → (other : Production) → Among (p ∷ g) other → other .nonterminal ≡ nonterminal → test (rule other) ≡ true → ⊥
+  missing-later {p} e m other among-first o t = true≢false (sym (and-eq-true-iff _ _ .1 (eq-eqb (rule p .nonterminal) nonterminal (owned p ∙ o), t)) ∙ e)
   missing-later e m other (among-later k) o t = m .none-passed other k o t
 
   first-rule : (g : List Production) → Found g ⊎ Missing g
   unfolding firstRule
   first-rule [] = inr (record { none-passed = λ p m o t. omega (arith, members m); answer = refl })
-  first-rule (p ∷ g) = go (eqb (rule p .owner) nonterminal && test (rule p)) refl (first-rule g)
+  first-rule (p ∷ g) = go (eqb (rule p .nonterminal) nonterminal && test (rule p)) refl (first-rule g)
     where
-      go : (answer : Bool) → (eqb (rule p .owner) nonterminal && test (rule p)) ≡ answer → Found g ⊎ Missing g → Found (p ∷ g) ⊎ Missing (p ∷ g)
+      go : (answer : Bool) → (eqb (rule p .nonterminal) nonterminal && test (rule p)) ≡ answer → Found g ⊎ Missing g → Found (p ∷ g) ⊎ Missing (p ∷ g)
       go true e h =
-          let k = and-eq-true-iff (eqb (rule p .owner) nonterminal) (test (rule p)) .0 e in
+          let k = and-eq-true-iff (eqb (rule p .nonterminal) nonterminal) (test (rule p)) .0 e in
           inl
           (record {
             production = p;
             member = among-first;
-            of = sym (owned p) ∙ eqb-true (rule p .owner) nonterminal (k .0);
+            of = sym (owned p) ∙ eqb-true (rule p .nonterminal) nonterminal (k .0);
             passed = k .1;
             answer = here p g true e;
           })

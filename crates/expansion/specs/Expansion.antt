@@ -23,7 +23,7 @@ use Rattle.expansion.specs.Limits.{mostCalls, mostOpen}
 
 -- a production with its first set, and whether it is nullable
 pub record Rule : Type 0 where
-  pub owner : ℕ
+  pub nonterminal : ℕ
   pub items : List Item
   pub result : Template
   pub first : ℕ
@@ -37,7 +37,7 @@ pub record Grammar : Type 0 where
 abbrev pub ruleOf : ℕ → List ℕ → Production → Rule
 ruleOf nulls firsts p =
     record {
-      owner = p .owner;
+      nonterminal = p .nonterminal;
       items = p .items;
       result = p .result;
       first = firstOf nulls firsts p;
@@ -136,7 +136,7 @@ pub data Choice : Type 0 where
 unfoldable pub firstRule : (Rule → Bool) → ℕ → List Rule → Choice → Choice
 firstRule test n [] other = other
 firstRule test n (r ∷ rs) other =
-    elim (eqb (r .owner) n && test r) [ true ↦ chosen r | false ↦ firstRule test n rs other ]
+    elim (eqb (r .nonterminal) n && test r) [ true ↦ chosen r | false ↦ firstRule test n rs other ]
 
 -- Choice: the rule whose first set holds the next token, else the nullable one
 abbrev pub choice : Grammar → ℕ → ℕ → Choice

@@ -109,29 +109,30 @@ module _ (calling : Bool) (nulls kind : ℕ) where
 
   step-length : (p : Production) (sets : List ℕ) → length sets ≡ 64 → length (firstStep calling nulls p sets) ≡ 64
   unfolding firstStep
-  step-length p sets h = length-set sets (p .owner) _ ∙ h
+  step-length p sets h = length-set sets (p .nonterminal) _ ∙ h
 
   step-seen : (p : Production) (sets : List ℕ) → length sets ≡ 64
       → bitOfAll kind (firstStep calling nulls p sets) ≡ admit (firstIn calling nulls kind) p (bitOfAll kind sets)
   unfolding firstStep
-  step-seen p sets h = fun-ext (λ n. by n (ℕ-discrete n (p .owner)) (decLt n 64))
+  step-seen p sets h = fun-ext (λ n. by n (ℕ-discrete n (p .nonterminal)) (decLt n 64))
     where
       grown : ℕ
-      grown = bitOr (getD sets (p .owner) 0) (gather calling nulls sets (p .items) 0)
+      grown = bitOr (getD sets (p .nonterminal) 0) (gather calling nulls sets (p .items) 0)
 
       given-it : Bool
       given-it = firstIn calling nulls kind (bitOfAll kind sets) (p .items)
 
-      by : (nonterminal : ℕ) → Dec (nonterminal ≡ p .owner) → Dec (nonterminal < 64) → bitOfAll kind (firstStep calling nulls p sets) nonterminal
+      by : (nonterminal : ℕ) → Dec (nonterminal ≡ p .nonterminal) → Dec (nonterminal < 64) → bitOfAll kind (firstStep calling nulls p sets) nonterminal
           ≡ admit (firstIn calling nulls kind) p (bitOfAll kind sets) nonterminal
       by nonterminal (no e) l =
-          rw (getD-set-other sets (p .owner) nonterminal grown 0 e, ne-eqb nonterminal (p .owner) e, and-false (ltb nonterminal 64), and-false given-it)
+          rw (getD-set-other sets (p .nonterminal) nonterminal grown 0 e, ne-eqb nonterminal (p .nonterminal) e, and-false (ltb nonterminal 64), and-false _)
           (sym (or-false _))
       by nonterminal (yes e) (yes l) =
-          rw (e, getD-set-same sets (p .owner) grown 0 (omega arith), lt-ltb (p .owner) 64 (omega arith), eq-eqb (p .owner) (p .owner) refl, and-true given-it)
-          (has-join (getD sets (p .owner) 0) (gather calling nulls sets (p .items) 0) kind ∙ rw (items-seen sets (p .items)) refl)
+          let own = p .nonterminal in
+          rw (e, getD-set-same sets own grown 0 (omega arith), lt-ltb own 64 (omega arith), eq-eqb own own refl, and-true given-it)
+          (has-join (getD sets (p .nonterminal) 0) (gather calling nulls sets (p .items) 0) kind ∙ rw (items-seen sets (p .items)) refl)
       by nonterminal (yes e) (no l) =
-          rw (set-out sets (p .owner) grown (omega arith), le-ltb nonterminal 64 (omega arith), and-false given-it) (sym (or-false _))
+          rw (set-out sets (p .nonterminal) grown (omega arith), le-ltb nonterminal 64 (omega arith), and-false given-it) (sym (or-false _))
 
   none-seen : bitOfAll kind (replicate 64 0) ≡ nothing
   none-seen = fun-ext (λ n. by n (decLt n 64))

@@ -61,7 +61,7 @@ step-seen p nulls u = fun-ext (λ n. by n (allPassed nulls (p .items)) refl)
     by : (nonterminal : ℕ) (test : Bool) → allPassed nulls (p .items) ≡ test
         → hasKind (nullStep p nulls) nonterminal ≡ admit allIn p (hasKind nulls) nonterminal
     by nonterminal true e =
-        rw (← all-seen nulls (p .items), e, nullStep) (rw (has-only (p .owner) nonterminal) at (has-join nulls (only (p .owner)) nonterminal))
+        rw (← all-seen nulls (p .items), e, nullStep) (rw (has-only (p .nonterminal) nonterminal) at (has-join nulls (only (p .nonterminal)) nonterminal))
     by nonterminal false e = rw (← all-seen nulls (p .items), e, nullStep) (sym (or-false (hasKind nulls nonterminal)))
 
 nullables-seen : (g : List Production) → hasKind (nullables g) ≡ least allIn g

@@ -140,7 +140,7 @@ module _ (round : Numbers → Numbers) (adds : (numbers : Numbers) → Within nu
 
 -- the nonterminal of a production comes in if the items pass with what is in
 abbrev pub admit : (Numbers → List Item → Bool) → Production → Numbers → Numbers
-admit passes p s n = s n || (passes s (p .items) && (ltb n 64 && eqb n (p .owner)))
+admit passes p s n = s n || (passes s (p .items) && (ltb n 64 && eqb n (p .nonterminal)))
 
 -- from nothing, 64 rounds
 pub least : (Numbers → List Item → Bool) → List Production → Numbers
@@ -151,10 +151,10 @@ module _ (passes : Numbers → List Item → Bool) (g : List Production) (P : �
   step-within : (numbers : Numbers) → Each P numbers → (p : Production) → Among g p → Each P (admit passes p numbers)
   step-within numbers hs p member n e = ⊎-elim (hs n) (λ a. came (and-eq-true-iff _ _ .0 a)) (or-split (numbers n) e)
     where
-      came : (passes numbers (p .items) ≡ true) × ((ltb n 64 && eqb n (p .owner)) ≡ true) → P n
+      came : (passes numbers (p .items) ≡ true) × ((ltb n 64 && eqb n (p .nonterminal)) ≡ true) → P n
       came a =
           let t = and-eq-true-iff _ _ .0 (a .1) in
-          keeps numbers hs n p (record { member = member; owned = sym (eqb-true n (p .owner) (t .1)); small = ltb-true n 64 (t .0) }) (a .0)
+          keeps numbers hs n p (record { member = member; owned = sym (eqb-true n (p .nonterminal) (t .1)); small = ltb-true n 64 (t .0) }) (a .0)
 
   -- and of each number after a round
   pub over-within : (part : List Production) → ((p : Production) → Among part p → Among g p) → (numbers : Numbers) → Each P numbers
@@ -198,12 +198,12 @@ module _ (passes : Numbers → List Item → Bool)
   over-high (p ∷ g) numbers nonterminal h = over-high g (admit passes p numbers) nonterminal h ∙ step-high p numbers nonterminal h
 
   -- in a round each production has its turn, with all that was in before
-  over-admits : {g : List Production} {p : Production} → Among g p → (numbers : Numbers) → passes numbers (p .items) ≡ true → p .owner < 64
-      → overAll (admit passes) g numbers (p .owner) ≡ true
+  over-admits : {g : List Production} {p : Production} → Among g p → (numbers : Numbers) → passes numbers (p .items) ≡ true → p .nonterminal < 64
+      → overAll (admit passes) g numbers (p .nonterminal) ≡ true
   unfolding overAll
   over-admits (among-first {x = p} {xs = g}) numbers e l =
-      over-adds g (admit passes p numbers) (p .owner)
-      (or-right (numbers (p .owner)) (rw (e, lt-ltb (p .owner) 64 l, eq-eqb (p .owner) (p .owner) refl) refl))
+      over-adds g (admit passes p numbers) (p .nonterminal)
+      (or-right (numbers (p .nonterminal)) (rw (e, lt-ltb (p .nonterminal) 64 l, eq-eqb (p .nonterminal) (p .nonterminal) refl) refl))
   over-admits (among-later {x = p} {y = q} m) numbers e l =
       over-admits m (admit passes q numbers) (more numbers (admit passes q numbers) (step-adds q numbers) (p .items) e) l
 

@@ -65,7 +65,7 @@ step-is nulls bs owner start kinds calls e ek el = record { kinds-are = ek ∙ r
 -- there are always as many sets
 length-step : (calls : Bool) (nulls : ℕ) (p : Production) (sets : List ℕ) → length (firstStep calls nulls p sets) ≡ length sets
 unfolding firstStep
-length-step calls nulls p sets = length-set sets (p .owner) _
+length-step calls nulls p sets = length-set sets (p .nonterminal) _
 
 -- a round keeps their number
 pub length-over : (calls : Bool) (nulls : ℕ) (g : List Production) (sets : List ℕ) → length (overAll (firstStep calls nulls) g sets) ≡ length sets

@@ -33,7 +33,7 @@ allPassed nulls [] = true
 allPassed nulls (i ∷ is) = isPassed nulls i && allPassed nulls is
 
 unfoldable pub nullStep : Production → ℕ → ℕ
-nullStep p nulls = elim (allPassed nulls (p .items)) [ true ↦ bitOr nulls (only (p .owner)) | false ↦ nulls ]
+nullStep p nulls = elim (allPassed nulls (p .items)) [ true ↦ bitOr nulls (only (p .nonterminal)) | false ↦ nulls ]
 
 -- the nullable nonterminals of a grammar, bit n for nonterminal n
 unfoldable pub nullables : List Production → ℕ
@@ -72,7 +72,7 @@ gather calls nulls sets (i ∷ is) found =
 
 unfoldable pub firstStep : Bool → ℕ → Production → List ℕ → List ℕ
 firstStep calls nulls p sets =
-    set sets (p .owner) (bitOr (getD sets (p .owner) 0) (gather calls nulls sets (p .items) 0))
+    set sets (p .nonterminal) (bitOr (getD sets (p .nonterminal) 0) (gather calls nulls sets (p .items) 0))
 
 -- a set for each of the 64 nonterminals
 unfoldable pub setsOf : Bool → ℕ → List Production → List ℕ

@@ -17,7 +17,7 @@ use Rattle.firsts.specs.FirstSets.{nullables, firstSets, allPassed, gath
 abbrev pub entryAt : List ℕ → ℕ → List ℕ → Place → Entry
 entryAt bs nulls sets p =
     record {
-      owner = p .owner;
+      nonterminal = p .nonterminal;
       start = p .start;
       first = gather false nulls sets (itemsOf (fieldsAt bs (p .start))) 0;
       nullable = allPassed nulls (itemsOf (fieldsAt bs (p .start)));

@@ -19,7 +19,7 @@ IsKeywordNumber k = k < most .keywords
 -- p is a production of the nonterminal n
 pub record Of (g : List Production) (n : ℕ) (p : Production) : Type 0 where
   pub member : Among g p
-  pub owned : p .owner ≡ n
+  pub owned : p .nonterminal ≡ n
   pub small : IsNonterminal n
 
 -- items that may all read nothing: a local is nullable, and so is a call of a nonterminal some alternative of which is

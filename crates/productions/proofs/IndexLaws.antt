@@ -24,7 +24,7 @@ use Rattle.grammar.specs.Limits.{most}
 
 -- the place with a number
 abbrev pub placeAt : List ℕ → List ℕ → ℕ → Place
-placeAt owners starts j = record { owner = getD owners j 0; start = getD starts j 0 }
+placeAt owners starts j = record { nonterminal = getD owners j 0; start = getD starts j 0 }
 
 module _ (owners starts : List ℕ) (many from : ℕ) where
   -- the places from number `from` on are that one and those behind it
@@ -73,7 +73,7 @@ module _ (owners starts : List ℕ) (written owner start : ℕ) where
   -- an entry behind the first `written` is one place more
   pub push-is : IndexRoomFor (written + 1) owners starts
       → placesIn (written + 1) (set owners written owner) (set starts written start)
-      ≡ placesIn written owners starts ++ (record { owner = owner; start = start } ∷ [])
+      ≡ placesIn written owners starts ++ (record { nonterminal = owner; start = start } ∷ [])
   push-is room =
       ap (λ (k : ℕ). placesIn k (set owners written owner) (set starts written start)) (add-one written)
       ∙ places-snoc (set owners written owner) (set starts written start) written 0
@@ -82,11 +82,11 @@ module _ (owners starts : List ℕ) (written owner start : ℕ) where
         getD-set-same owners written owner 0 (omega (arith, room .owners-room)),
         getD-set-same starts written start 0 (omega (arith, room .starts-room)),
       )
-      (ap (λ (g : List Place). g ++ (record { owner = owner; start = start } ∷ [])) (places-stay written 0 (λ i a b. omega arith)))
+      (ap (λ (g : List Place). g ++ (record { nonterminal = owner; start = start } ∷ [])) (places-stay written 0 (λ i a b. omega arith)))
 
 -- ------------------------------------------------------------------ the places of a nonterminal dropped
 
-without-one : (nonterminal : ℕ) (place : Place) (places : List Place) (owned : Bool) → eqb (place .owner) nonterminal ≡ owned
+without-one : (nonterminal : ℕ) (place : Place) (places : List Place) (owned : Bool) → eqb (place .nonterminal) nonterminal ≡ owned
     → placesWithout nonterminal (place ∷ places) ≡ elim owned [ true ↦ placesWithout nonterminal places | false ↦ place ∷ placesWithout nonterminal places ]
 unfolding placesWithout
 without-one nonterminal place places owned e = rw (e, placesWithout) refl
@@ -230,7 +230,7 @@ module _ (at tag : ℕ) (value : List ℕ) (fs : RawFields) where
 
   places-alternative : tag ≡ 5 → (nonterminal : ℕ) (places : List Place)
       → placesBy (next at tag value fs) nonterminal places
-      ≡ placesBy fs nonterminal (places ++ (record { owner = nonterminal; start = at + 3 + length value } ∷ []))
+      ≡ placesBy fs nonterminal (places ++ (record { nonterminal = nonterminal; start = at + 3 + length value } ∷ []))
   unfolding placesBy
   places-alternative e nonterminal places = rw e refl
 
@@ -338,7 +338,7 @@ module _ {bs : List ℕ} {at nonterminal count : ℕ} {owners starts : List ℕ}
 
     -- behind the begin of an alternative
     pub building-alternative : tag ≡ 5 → {owners′ starts′ : List ℕ}
-        → placesIn (count + 1) owners′ starts′ ≡ placesIn count owners starts ++ (record { owner = nonterminal; start = at + 3 + size } ∷ [])
+        → placesIn (count + 1) owners′ starts′ ≡ placesIn count owners starts ++ (record { nonterminal = nonterminal; start = at + 3 + size } ∷ [])
         → Building bs (at + 3 + size) nonterminal (count + 1) owners′ starts′
     building-alternative t f =
         let v : List ℕ = take size (drop (at + 3) bs) in
@@ -349,7 +349,7 @@ module _ {bs : List ℕ} {at nonterminal count : ℕ} {owners starts : List ℕ}
               ap (placesBy (fieldsAt bs (at + 3 + size)) nonterminal) f
               ∙ ap
               (λ (l : ℕ). placesBy (fieldsAt bs (at + 3 + size)) nonterminal
-              (placesIn count owners starts ++ (record { owner = nonterminal; start = at + 3 + l } ∷ [])))
+              (placesIn count owners starts ++ (record { nonterminal = nonterminal; start = at + 3 + l } ∷ [])))
               (sym size-is)
               ∙ sym (places-alternative at tag v (fieldsAt bs (at + 3 + size)) t nonterminal (placesIn count owners starts))
               ∙ rest-by equal;

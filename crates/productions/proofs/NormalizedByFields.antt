@@ -68,8 +68,8 @@ step-alternative at v fs b h =
       result = refl;
       normal =
           λ n g.
-          rw (h .items, h .result, ← (append-assoc g (record { owner = n; items = b .items; result = b .result } ∷ []) (productionsOf n (b .alternatives))))
-          (h .normal n (g ++ (record { owner = n; items = b .items; result = b .result } ∷ [])));
+          let one : List Production = record { nonterminal = n; items = b .items; result = b .result } ∷ [] in
+          rw (h .items, h .result, ← (append-assoc g one (productionsOf n (b .alternatives)))) (h .normal n (g ++ one));
     }
 
 step-item : Step 6

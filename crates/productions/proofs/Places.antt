@@ -70,8 +70,8 @@ without-at : (bs : List ℕ) (nonterminal : ℕ) (ps : List Place) → productio
 unfolding placesWithout without productionAt
 without-at bs nonterminal [] = refl
 without-at bs nonterminal (p ∷ ps) =
-    by-test (eqb (p .owner) nonterminal) (λ e. rw (e, placesWithout, without) (without-at bs nonterminal ps))
-    (λ e. rw (e, placesWithout, without) (ap (_∷_ (productionAt bs (p .owner) (p .start))) (without-at bs nonterminal ps)))
+    by-test (eqb (p .nonterminal) nonterminal) (λ e. rw (e, placesWithout, without) (without-at bs nonterminal ps))
+    (λ e. rw (e, placesWithout, without) (ap (_∷_ (productionAt bs (p .nonterminal) (p .start))) (without-at bs nonterminal ps)))
 
 kept-at : (bs : List ℕ) (mode : Mode) (nonterminal : ℕ) (ps : List Place)
     → productionsAt bs (placesKept mode nonterminal ps) ≡ kept mode nonterminal (productionsAt bs ps)
@@ -95,10 +95,10 @@ normal-at bs (next at tag v fs) s nonterminal ps =
     ∙ ap (normalizedBy fs (getD v 0 0)) (kept-at bs (modeOf (getD v 1 0)) (getD v 0 0) ps)))
     (λ e. by-test (eqb tag 5)
     (λ f. rw (e, f, placesBy, normalizedBy)
-    (normal-at bs fs (s .2) nonterminal (ps ++ (record { owner = nonterminal; start = at + 3 + length v } ∷ []))
+    (normal-at bs fs (s .2) nonterminal (ps ++ (record { nonterminal = nonterminal; start = at + 3 + length v } ∷ []))
     ∙ ap (normalizedBy fs nonterminal)
-    (map-snoc (λ p. productionAt bs (p .owner) (p .start)) ps (record { owner = nonterminal; start = at + 3 + length v })
-    ∙ ap (λ g. productionsAt bs ps ++ (record { owner = nonterminal; items = itemsOf g; result = resultOf g } ∷ [])) (s .1))))
+    (map-snoc (λ p. productionAt bs (p .nonterminal) (p .start)) ps (record { nonterminal = nonterminal; start = at + 3 + length v })
+    ∙ ap (λ g. productionsAt bs ps ++ (record { nonterminal = nonterminal; items = itemsOf g; result = resultOf g } ∷ [])) (s .1))))
     (λ f. rw (e, f, placesBy, normalizedBy) (normal-at bs fs (s .2) nonterminal ps)))
 
 -- The productions at the places of a table are its normalized grammar, field by field.
@@ -111,7 +111,7 @@ without-fewer : (nonterminal : ℕ) (ps : List Place) → length (placesWithout 
 unfolding placesWithout
 without-fewer nonterminal [] = omega arith
 without-fewer nonterminal (p ∷ ps) =
-    by-test (eqb (p .owner) nonterminal) (λ e. rw (e, placesWithout) (omega (arith, without-fewer nonterminal ps)))
+    by-test (eqb (p .nonterminal) nonterminal) (λ e. rw (e, placesWithout) (omega (arith, without-fewer nonterminal ps)))
     (λ e. rw (e, placesWithout) (omega (arith, without-fewer nonterminal ps)))
 
 kept-fewer : (mode : Mode) (nonterminal : ℕ) (ps : List Place) → length (placesKept mode nonterminal ps) ≤ length ps
@@ -135,8 +135,8 @@ places-fewer (next at tag v fs) nonterminal ps =
     (λ f. rw (e, f, placesBy, alternativeFields)
     (omega (
       arith,
-      places-fewer fs nonterminal (ps ++ (record { owner = nonterminal; start = at + 3 + length v } ∷ [])),
-      length-append ps (record { owner = nonterminal; start = at + 3 + length v } ∷ []),
+      places-fewer fs nonterminal (ps ++ (record { nonterminal = nonterminal; start = at + 3 + length v } ∷ [])),
+      length-append ps (record { nonterminal = nonterminal; start = at + 3 + length v } ∷ []),
     )))
     (λ f. rw (e, f, placesBy, alternativeFields) (places-fewer fs nonterminal ps)))
 
@@ -210,7 +210,7 @@ each-without : {P : Place → Type 0} (nonterminal : ℕ) (ps : List Place) → 
 unfolding placesWithout
 each-without nonterminal [] h = each-none
 each-without nonterminal (p ∷ ps) (each-more h hs) =
-    by-test (eqb (p .owner) nonterminal) (λ e. rw (e, placesWithout) (each-without nonterminal ps hs))
+    by-test (eqb (p .nonterminal) nonterminal) (λ e. rw (e, placesWithout) (each-without nonterminal ps hs))
     (λ e. rw (e, placesWithout) (each-more h (each-without nonterminal ps hs)))
 
 each-kept : {P : Place → Type 0} (mode : Mode) (nonterminal : ℕ) (ps : List Place) → Each P ps → Each P (placesKept mode nonterminal ps)

@@ -206,7 +206,7 @@ module _ {sets : List ℕ} {es : List Entry} {room : List ℕ} (holds-entries : 
         ∙ entry-link es 0 place inside
         ∙ ap (linkNumber (getD es place noEntry) (drop (place + 1) es)) y
 
-    next-small : placeFrom (isOf (getD es place noEntry .owner)) (drop (place + 1) es) (place + 1) ≤ 256
+    next-small : placeFrom (isOf (getD es place noEntry .nonterminal)) (drop (place + 1) es) (place + 1) ≤ 256
     next-small = place-small _ (drop (place + 1) es) (place + 1) (omega (arith, holds-entries .few, length-drop (place + 1) es))
 
     -- The offset of its first item, or of its result.
@@ -214,7 +214,7 @@ module _ {sets : List ℕ} {es : List Entry} {room : List ℕ} (holds-entries : 
     start-in = omega (arith, link-in, holds-entries .near place)
 
     -- Where the next production of its nonterminal is.
-    pub next-place-in : nextPlaceIn room place ≡ placeFrom (isOf (getD es place noEntry .owner)) (drop (place + 1) es) (place + 1)
+    pub next-place-in : nextPlaceIn room place ≡ placeFrom (isOf (getD es place noEntry .nonterminal)) (drop (place + 1) es) (place + 1)
     next-place-in = omega (arith, link-in, holds-entries .near place, next-small)
 
     flag-test : (test : Bool) → eqb (flagNumber test) 1 ≡ test

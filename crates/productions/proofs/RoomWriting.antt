@@ -108,30 +108,30 @@ beginning-end {total} sets room₀ c h = begun-here c h ∙ rw (drop-set-lt 129 
 
 -- ------------------------------------------------------------------ an entry is laid
 
-module _ (entry : Entry) (index : ℕ) {room : List ℕ} (at : RoomAt index (entry .owner) room) where
+module _ (entry : Entry) (index : ℕ) {room : List ℕ} (at : RoomAt index (entry .nonterminal) room) where
   abbrev one : List ℕ
   one = set room (129 + 2 * index) (entry .first)
 
   abbrev linking : ℕ
-  linking = entry .start + 65536 * (getD room (65 + entry .owner) 0 % 512) + 33554432 * flagNumber (entry .nullable)
+  linking = entry .start + 65536 * (getD room (65 + entry .nonterminal) 0 % 512) + 33554432 * flagNumber (entry .nullable)
 
   abbrev two : List ℕ
   two = set one (130 + 2 * index) linking
 
   abbrev number : ℕ
-  number = index + 512 * (elim (entry .nullable) [ true ↦ index | false ↦ getD room (65 + entry .owner) 0 / 512 ])
+  number = index + 512 * (elim (entry .nullable) [ true ↦ index | false ↦ getD room (65 + entry .nonterminal) 0 / 512 ])
 
   -- the room stays as long
   pub length-laid : length (laid entry index room) ≡ 641
   unfolding laid
-  length-laid = length-set two (65 + entry .owner) number ∙ length-set one (130 + 2 * index) _ ∙ length-set room (129 + 2 * index) _ ∙ at .size
+  length-laid = length-set two (65 + entry .nonterminal) number ∙ length-set one (130 + 2 * index) _ ∙ length-set room (129 + 2 * index) _ ∙ at .size
 
   -- other numbers stay
-  pub laid-other : (at-place : ℕ) → (at-place ≡ 129 + 2 * index → ⊥) → (at-place ≡ 130 + 2 * index → ⊥) → (at-place ≡ 65 + entry .owner → ⊥)
+  pub laid-other : (at-place : ℕ) → (at-place ≡ 129 + 2 * index → ⊥) → (at-place ≡ 130 + 2 * index → ⊥) → (at-place ≡ 65 + entry .nonterminal → ⊥)
       → getD (laid entry index room) at-place 0 ≡ getD room at-place 0
   unfolding laid
   laid-other at-place a b d =
-      getD-set-other two (65 + entry .owner) at-place number 0 d
+      getD-set-other two (65 + entry .nonterminal) at-place number 0 d
       ∙ getD-set-other one (130 + 2 * index) at-place _ 0 b
       ∙ getD-set-other room (129 + 2 * index) at-place (entry .first) 0 a
 
@@ -139,7 +139,7 @@ module _ (entry : Entry) (index : ℕ) {room : List ℕ} (at : RoomAt index (ent
   pub laid-first : getD (laid entry index room) (129 + 2 * index) 0 ≡ entry .first
   unfolding laid
   laid-first =
-      getD-set-other two (65 + entry .owner) (129 + 2 * index) number 0 (λ q. omega (arith, at .small))
+      getD-set-other two (65 + entry .nonterminal) (129 + 2 * index) number 0 (λ q. omega (arith, at .small))
       ∙ getD-set-other one (130 + 2 * index) (129 + 2 * index) _ 0 (λ q. omega arith)
       ∙ getD-set-same room (129 + 2 * index) (entry .first) 0 (omega (arith, at .size, at .near))
 
@@ -147,14 +147,14 @@ module _ (entry : Entry) (index : ℕ) {room : List ℕ} (at : RoomAt index (ent
   pub laid-second : getD (laid entry index room) (130 + 2 * index) 0 ≡ linking
   unfolding laid
   laid-second =
-      getD-set-other two (65 + entry .owner) (130 + 2 * index) number 0 (λ q. omega (arith, at .small))
+      getD-set-other two (65 + entry .nonterminal) (130 + 2 * index) number 0 (λ q. omega (arith, at .small))
       ∙ getD-set-same one (130 + 2 * index) _ 0 (omega (arith, at .size, at .near, length-set room (129 + 2 * index) (entry .first)))
 
   -- where the productions of its nonterminal are
-  pub laid-own : getD (laid entry index room) (65 + entry .owner) 0 ≡ number
+  pub laid-own : getD (laid entry index room) (65 + entry .nonterminal) 0 ≡ number
   unfolding laid
   laid-own =
-      getD-set-same two (65 + entry .owner) number 0
+      getD-set-same two (65 + entry .nonterminal) number 0
       (omega (arith, at .size, at .small, length-set one (130 + 2 * index) linking, length-set room (129 + 2 * index) (entry .first)))
 
 -- ------------------------------------------------------------------ entries laid from the last to the first
@@ -232,7 +232,7 @@ unfolding placeFrom
 place-cons test entry follow from answer h = rw (h, placeFrom) refl
 
 module _ {sets : List ℕ} {es : List Entry} {room₀ : List ℕ} {index : ℕ} {room : List ℕ} (filling : Filling sets es room₀ index room) where
-  module _ (positive : 0 < index) {entry : Entry} (here : entry ≡ getD es (index - 1) noEntry) (small : entry .owner < 64) where
+  module _ (positive : 0 < index) {entry : Entry} (here : entry ≡ getD es (index - 1) noEntry) (small : entry .nonterminal < 64) where
     -- the entries behind number `index` are the old ones
     opened : drop (index - 1) es ≡ entry ∷ drop index es
     opened =
@@ -252,26 +252,28 @@ module _ {sets : List ℕ} {es : List Entry} {room₀ : List ℕ} {index : ℕ} 
     place test true h = rw opened (place-cons test entry (drop index es) (index - 1) true h)
     place test false h = rw opened (place-cons test entry (drop index es) (index - 1) false h ∙ later test)
 
-    at : RoomAt (index - 1) (entry .owner) room
+    at : RoomAt (index - 1) (entry .nonterminal) room
     at = record { size = filling .size; near = omega (arith, filling .low, filling .few); small = small }
 
     own-number : (test : Bool) → entry .nullable ≡ test
-        → index - 1 + 512 * (elim (entry .nullable) [ true ↦ index - 1 | false ↦ getD room (65 + entry .owner) 0 / 512 ])
-        ≡ placeFrom (isOf (entry .owner)) (drop (index - 1) es) (index - 1) + 512 * placeFrom (isNullableOf (entry .owner)) (drop (index - 1) es) (index - 1)
+        → index - 1 + 512 * (elim (entry .nullable) [ true ↦ index - 1 | false ↦ getD room (65 + entry .nonterminal) 0 / 512 ])
+        ≡ placeFrom (isOf (entry .nonterminal)) (drop (index - 1) es) (index - 1)
+        + 512 * placeFrom (isNullableOf (entry .nonterminal)) (drop (index - 1) es) (index - 1)
     own-number true h =
         rw (
-          place (isOf (entry .owner)) true (eq-eqb (entry .owner) (entry .owner) refl),
-          place (isNullableOf (entry .owner)) true (rw (eq-eqb (entry .owner) (entry .owner) refl) h),
+          place (isOf (entry .nonterminal)) true (eq-eqb (entry .nonterminal) (entry .nonterminal) refl),
+          place (isNullableOf (entry .nonterminal)) true (rw (eq-eqb (entry .nonterminal) (entry .nonterminal) refl) h),
           h,
         ) refl
     own-number false h =
-        let o : placeFrom (isOf (entry .owner)) (drop (index - 1) es) (index - 1) ≡ index - 1 = place (isOf (entry .owner)) true
-        (eq-eqb (entry .owner) (entry .owner) refl) in
-        let n : placeFrom (isNullableOf (entry .owner)) (drop (index - 1) es) (index - 1) ≡ placeFrom (isNullableOf (entry .owner)) (drop index es) index =
-        place (isNullableOf (entry .owner)) false (rw (eq-eqb (entry .owner) (entry .owner) refl) h) in
-        rw h (omega (arith, o, n, filling .places (entry .owner) small, old-place (entry .owner)))
+        let o : placeFrom (isOf (entry .nonterminal)) (drop (index - 1) es) (index - 1) ≡ index - 1 = place (isOf (entry .nonterminal)) true
+        (eq-eqb (entry .nonterminal) (entry .nonterminal) refl) in
+        let n : placeFrom (isNullableOf (entry .nonterminal)) (drop (index - 1) es) (index - 1)
+        ≡ placeFrom (isNullableOf (entry .nonterminal)) (drop index es) index =
+        place (isNullableOf (entry .nonterminal)) false (rw (eq-eqb (entry .nonterminal) (entry .nonterminal) refl) h) in
+        rw h (omega (arith, o, n, filling .places (entry .nonterminal) small, old-place (entry .nonterminal)))
 
-    places-next : (nonterminal : ℕ) → nonterminal < 64 → Dec (entry .owner ≡ nonterminal)
+    places-next : (nonterminal : ℕ) → nonterminal < 64 → Dec (entry .nonterminal ≡ nonterminal)
         → getD (laid entry (index - 1) room) (65 + nonterminal) 0
         ≡ placeFrom (isOf nonterminal) (drop (index - 1) es) (index - 1) + 512 * placeFrom (isNullableOf nonterminal) (drop (index - 1) es) (index - 1)
     places-next nonterminal h (yes q) = rw (sym q) (laid-own entry (index - 1) at ∙ own-number (entry .nullable) refl)
@@ -280,8 +282,8 @@ module _ {sets : List ℕ} {es : List Entry} {room₀ : List ℕ} {index : ℕ} 
         ∙ filling .places nonterminal h
         ∙ sym
         (rw (
-          place (isOf nonterminal) false (ne-eqb (entry .owner) nonterminal q),
-          place (isNullableOf nonterminal) false (rw (ne-eqb (entry .owner) nonterminal q) refl),
+          place (isOf nonterminal) false (ne-eqb (entry .nonterminal) nonterminal q),
+          place (isNullableOf nonterminal) false (rw (ne-eqb (entry .nonterminal) nonterminal q) refl),
         ) refl)
 
     first-next : (at-place : ℕ) → index - 1 ≤ at-place → at-place < length es → Dec (at-place ≡ index - 1)
@@ -297,8 +299,8 @@ module _ {sets : List ℕ} {es : List Entry} {room₀ : List ℕ} {index : ℕ} 
         → getD (laid entry (index - 1) room) (130 + 2 * at-place) 0 ≡ linkNumber (getD es at-place noEntry) (drop (at-place + 1) es) at-place
     link-next at-place l u (yes q) =
         let z : index - 1 + 1 ≡ index = omega arith in
-        let p : getD room (65 + entry .owner) 0 % 512 ≡ placeFrom (isOf (entry .owner)) (drop (index - 1 + 1) es) (index - 1 + 1) =
-        rw z (omega (arith, filling .places (entry .owner) small, old-place (entry .owner))) in
+        let p : getD room (65 + entry .nonterminal) 0 % 512 ≡ placeFrom (isOf (entry .nonterminal)) (drop (index - 1 + 1) es) (index - 1 + 1) =
+        rw z (omega (arith, filling .places (entry .nonterminal) small, old-place (entry .nonterminal))) in
         rw (q, sym here) (laid-second entry (index - 1) at ∙ rw p refl)
     link-next at-place l u (no q) =
         laid-other entry (index - 1) at (130 + 2 * at-place) (λ r. omega arith) (λ r. q (omega arith)) (λ r. omega arith) ∙ filling .link at-place (apart q) u
@@ -316,7 +318,7 @@ module _ {sets : List ℕ} {es : List Entry} {room₀ : List ℕ} {index : ℕ} 
           old-size = filling .old-size;
           count = laid-other entry (index - 1) at 0 (λ r. omega arith) (λ r. omega arith) (λ r. omega arith) ∙ filling .count;
           set-in = λ n h. laid-other entry (index - 1) at (1 + n) (λ r. omega arith) (λ r. omega arith) (λ r. omega arith) ∙ filling .set-in n h;
-          places = λ n h. places-next n h (ℕ-discrete (entry .owner) n);
+          places = λ n h. places-next n h (ℕ-discrete (entry .nonterminal) n);
           first = λ i l u. first-next i l u (ℕ-discrete i (index - 1));
           link = λ i l u. link-next i l u (ℕ-discrete i (index - 1));
           tail = λ i l. laid-other entry (index - 1) at i (λ r. omega (arith, filling .low)) (λ r. omega (arith, filling .low)) (λ r. omega arith)

@@ -33,7 +33,7 @@ resultOf (next at tag v fs) =
 
 -- the production of nonterminal n whose first item, or result if it has none, stands at an offset
 unfoldable pub productionAt : List ℕ → ℕ → ℕ → Production
-productionAt bs n at = record { owner = n; items = itemsOf (fieldsAt bs at); result = resultOf (fieldsAt bs at) }
+productionAt bs n at = record { nonterminal = n; items = itemsOf (fieldsAt bs at); result = resultOf (fieldsAt bs at) }
 
 -- The normalized grammar of a table, field by field from the left: a definition's head names the nonterminal n of the alternatives
 -- that follow, and an update drops those that it had; each alternative is one production more.
@@ -45,7 +45,7 @@ normalizedBy (next at tag v fs) n g =
       | true ↦ normalizedBy fs (getD v 0 0) (kept (modeOf (getD v 1 0)) (getD v 0 0) g)
       | false ↦
           elim (eqb tag 5) [
-            | true ↦ normalizedBy fs n (g ++ (record { owner = n; items = itemsOf fs; result = resultOf fs } ∷ []))
+            | true ↦ normalizedBy fs n (g ++ (record { nonterminal = n; items = itemsOf fs; result = resultOf fs } ∷ []))
             | false ↦ normalizedBy fs n g
           ]
     ]
@@ -54,12 +54,12 @@ normalizedBy (next at tag v fs) n g =
 
 -- a production by place: its nonterminal, and the offset of its first item, or of its result if it has none
 pub record Place : Type 0 where
-  pub owner : ℕ
+  pub nonterminal : ℕ
   pub start : ℕ
 
 unfoldable pub placesWithout : ℕ → List Place → List Place
 placesWithout n [] = []
-placesWithout n (p ∷ ps) = elim (eqb (p .owner) n) [ true ↦ placesWithout n ps | false ↦ p ∷ placesWithout n ps ]
+placesWithout n (p ∷ ps) = elim (eqb (p .nonterminal) n) [ true ↦ placesWithout n ps | false ↦ p ∷ placesWithout n ps ]
 
 abbrev pub placesKept : Mode → ℕ → List Place → List Place
 placesKept add n ps = ps
@@ -75,7 +75,7 @@ placesBy (next at tag v fs) n ps =
       | true ↦ placesBy fs (getD v 0 0) (placesKept (modeOf (getD v 1 0)) (getD v 0 0) ps)
       | false ↦
           elim (eqb tag 5) [
-            | true ↦ placesBy fs n (ps ++ (record { owner = n; start = at + 3 + length v } ∷ []))
+            | true ↦ placesBy fs n (ps ++ (record { nonterminal = n; start = at + 3 + length v } ∷ []))
             | false ↦ placesBy fs n ps
           ]
     ]
@@ -86,13 +86,13 @@ placesOf bs = placesBy (fieldsOf bs) 0 []
 
 -- the productions at places
 abbrev pub productionsAt : List ℕ → List Place → List Production
-productionsAt bs ps = map (λ p. productionAt bs (p .owner) (p .start)) ps
+productionsAt bs ps = map (λ p. productionAt bs (p .nonterminal) (p .start)) ps
 
 -- an index of places: `owners` has their nonterminals, `starts` their offsets; the k places from number j on, and the first m
 unfoldable pub placesFrom : ℕ → List ℕ → List ℕ → ℕ → List Place
 placesFrom zero owners starts j = []
 placesFrom (suc k) owners starts j =
-    record { owner = getD owners j 0; start = getD starts j 0 } ∷ placesFrom k owners starts (j + 1)
+    record { nonterminal = getD owners j 0; start = getD starts j 0 } ∷ placesFrom k owners starts (j + 1)
 
 abbrev pub placesIn : ℕ → List ℕ → List ℕ → List Place
 placesIn m owners starts = placesFrom m owners starts 0
@@ -112,7 +112,7 @@ wholeBody (next at tag v fs) =
 
 -- a place in a table: of a nonterminal, and a whole alternative stands there
 pub record Whole (bs : List ℕ) (p : Place) : Type 0 where
-  pub small : p .owner < most .nonterminals
+  pub small : p .nonterminal < most .nonterminals
   pub inside : p .start ≤ length bs
   pub whole : wholeBody (fieldsAt bs (p .start)) ≡ true
 

@@ -25,7 +25,7 @@ pub record FitsIndex (bs : List ℕ) : Type 0 where
 
 -- one place more behind others
 abbrev pub behind : List Place → ℕ → ℕ → List Place
-behind places owner start = places ++ (record { owner = owner; start = start } ∷ [])
+behind places owner start = places ++ (record { nonterminal = owner; start = start } ∷ [])
 
 -- what the head of a definition leaves of some places
 abbrev pub redefined : List ℕ → List Place → List Place

@@ -7,18 +7,18 @@ use Rattle.grammar.specs.Table.{Template, Item, Alternative, Mode, add, extend,
 
 -- a production: an alternative with the nonterminal that it is of
 pub record Production : Type 0 where
-  pub owner : ℕ
+  pub nonterminal : ℕ
   pub items : List Item
   pub result : Template
 
 unfoldable pub productionsOf : ℕ → List Alternative → List Production
 productionsOf n [] = []
-productionsOf n (a ∷ rest) = record { owner = n; items = a .items; result = a .result } ∷ productionsOf n rest
+productionsOf n (a ∷ rest) = record { nonterminal = n; items = a .items; result = a .result } ∷ productionsOf n rest
 
 -- all but those of n
 unfoldable pub without : ℕ → List Production → List Production
 without n [] = []
-without n (p ∷ g) = elim (eqb (p .owner) n) [ true ↦ without n g | false ↦ p ∷ without n g ]
+without n (p ∷ g) = elim (eqb (p .nonterminal) n) [ true ↦ without n g | false ↦ p ∷ without n g ]
 
 -- add and extend lay the alternatives behind those that are there (001 lays them in front; their order decides nothing), update in place of them
 abbrev pub kept : Mode → ℕ → List Production → List Production

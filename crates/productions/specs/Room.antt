@@ -17,7 +17,7 @@ use Rattle.grammar.specs.Limits.{most}
 
 -- a production in the room: its nonterminal, the offset of its first item or result, its first set, and whether it is nullable
 pub record Entry : Type 0 where
-  pub owner : ℕ
+  pub nonterminal : ℕ
   pub start : ℕ
   pub first : ℕ
   pub nullable : Bool
@@ -34,10 +34,10 @@ placeFrom test [] j = noPlace
 placeFrom test (e ∷ es) j = elim (test e) [ true ↦ j | false ↦ placeFrom test es (j + 1) ]
 
 abbrev pub isOf : ℕ → Entry → Bool
-isOf n e = eqb (e .owner) n
+isOf n e = eqb (e .nonterminal) n
 
 abbrev pub isNullableOf : ℕ → Entry → Bool
-isNullableOf n e = eqb (e .owner) n && e .nullable
+isNullableOf n e = eqb (e .nonterminal) n && e .nullable
 
 -- the values of f at k numbers from n on
 unfoldable pub valuesOf : (ℕ → ℕ) → ℕ → ℕ → List ℕ
@@ -54,7 +54,7 @@ flagNumber false = 0
 
 -- an entry at place j, before the entries es
 abbrev pub linkNumber : Entry → List Entry → ℕ → ℕ
-linkNumber e es j = e .start + 65536 * placeFrom (isOf (e .owner)) es (j + 1) + 33554432 * flagNumber (e .nullable)
+linkNumber e es j = e .start + 65536 * placeFrom (isOf (e .nonterminal)) es (j + 1) + 33554432 * flagNumber (e .nullable)
 
 unfoldable pub entryNumbers : List Entry → ℕ → List ℕ
 entryNumbers [] j = []
@@ -90,13 +90,13 @@ unfoldable pub laid : Entry → ℕ → List ℕ → List ℕ
 laid e j room =
     set
     (set (set room (129 + 2 * j) (e .first)) (130 + 2 * j)
-    (e .start + 65536 * (getD room (65 + e .owner) 0 % 512) + 33554432 * flagNumber (e .nullable)))
-    (65 + e .owner)
-    (j + 512 * (elim (e .nullable) [ true ↦ j | false ↦ getD room (65 + e .owner) 0 / 512 ]))
+    (e .start + 65536 * (getD room (65 + e .nonterminal) 0 % 512) + 33554432 * flagNumber (e .nullable)))
+    (65 + e .nonterminal)
+    (j + 512 * (elim (e .nullable) [ true ↦ j | false ↦ getD room (65 + e .nonterminal) 0 / 512 ]))
 
 -- what stands past the last entry
 abbrev pub noEntry : Entry
-noEntry = record { owner = 0; start = 0; first = 0; nullable = false }
+noEntry = record { nonterminal = 0; start = 0; first = 0; nullable = false }
 
 -- a room with some entries at its front, as many as there may be, each at an offset that fits
 pub record HoldsEntries (sets : List ℕ) (es : List Entry) (room : List ℕ) : Type 0 where

@@ -141,7 +141,7 @@ fn places_from(nullable: bool, place: u64, old: u64) -> u64
 // Lays a production at a place, in front of those at later places.
 pub fn lay(room: &mut [u64], j: usize, owner: u8, start: u16, first: u64, nullable: bool)
     requires { ⌜ RoomAt j owner (now room) ⌝ }
-    ensures { λ r. ⌜ now (room .exit) ≡ laid (record { owner = owner; start = start; first = first; nullable = nullable }) j (now (room .entry)) ⌝ }
+    ensures { λ r. ⌜ now (room .exit) ≡ laid (record { nonterminal = owner; start = start; first = first; nullable = nullable }) j (now (room .entry)) ⌝ }
 {
     let own = PLACES + owner as usize;
     let old = room[own];

@@ -27,30 +27,31 @@ in-back [] m = m
 in-back (q ∷ g) m = among-later (in-back g m)
 
 -- a production of another nonterminal stays
-in-without : (nonterminal : ℕ) {g : List Production} {p : Production} → (p .owner ≡ nonterminal → ⊥) → Among g p → Among (without nonterminal g) p
+in-without : (nonterminal : ℕ) {g : List Production} {p : Production} → (p .nonterminal ≡ nonterminal → ⊥) → Among g p → Among (without nonterminal g) p
 unfolding without
-in-without nonterminal d (among-first {x = p} {xs = g}) = go (eqb (p .owner) nonterminal) refl
+in-without nonterminal d (among-first {x = p} {xs = g}) = go (eqb (p .nonterminal) nonterminal) refl
   where
-    go : (test : Bool) → eqb (p .owner) nonterminal ≡ test → Among (elim test [ true ↦ without nonterminal g | false ↦ p ∷ without nonterminal g ]) p
-    go true e = absurd (d (eqb-true (p .owner) nonterminal e))
+    go : (test : Bool) → eqb (p .nonterminal) nonterminal ≡ test → Among (elim test [ true ↦ without nonterminal g | false ↦ p ∷ without nonterminal g ]) p
+    go true e = absurd (d (eqb-true (p .nonterminal) nonterminal e))
     go false e = among-first
-in-without nonterminal {p = p} d (among-later {y = q} {xs = g} m) = go (eqb (q .owner) nonterminal) (in-without nonterminal d m)
+in-without nonterminal {p = p} d (among-later {y = q} {xs = g} m) = go (eqb (q .nonterminal) nonterminal) (in-without nonterminal d m)
   where
     go : (test : Bool) → Among (without nonterminal g) p → Among (elim test [ true ↦ without nonterminal g | false ↦ q ∷ without nonterminal g ]) p
     go true k = k
     go false k = among-later k
 
-in-kept : (mode : Mode) (nonterminal : ℕ) {g : List Production} {p : Production} → (p .owner ≡ nonterminal → ⊥) → Among g p → Among (kept mode nonterminal g) p
+in-kept : (mode : Mode) (nonterminal : ℕ) {g : List Production} {p : Production} → (p .nonterminal ≡ nonterminal → ⊥) → Among g p
+    → Among (kept mode nonterminal g) p
 in-kept add nonterminal d k = k
 in-kept extend nonterminal d k = k
 in-kept update nonterminal d k = in-without nonterminal d k
 
 -- the first alternative of a definition
 first-of : (nonterminal : ℕ) (rest : List Alternative) → 1 ≤ length rest
-    → (p : Production) × Among (productionsOf nonterminal rest) p × (p .owner ≡ nonterminal)
+    → (p : Production) × Among (productionsOf nonterminal rest) p × (p .nonterminal ≡ nonterminal)
 unfolding productionsOf
 first-of nonterminal [] h = absurd (omega (arith, h))
-first-of nonterminal (a ∷ rest) h = (record { owner = nonterminal; items = a .items; result = a .result }, among-first, refl)
+first-of nonterminal (a ∷ rest) h = (record { nonterminal = nonterminal; items = a .items; result = a .result }, among-first, refl)
 
 -- each nonterminal of an environment has a production
 abbrev Produced : Env → List Production → Type 0
@@ -63,7 +64,7 @@ definition-produced {g = g} definition z h n S newest-first =
     (f .0, record { member = in-back (kept (definition .mode) (definition .nonterminal) g) (f .1); owned = f .2; small = omega (arith, z .nonterminal) })
 definition-produced definition z h n S (newest-later k w) =
     let f = h n S w in
-    let apart : f .0 .owner ≡ definition .nonterminal → ⊥ = λ e. k (cc (e, f .1 .owned)) in
+    let apart : f .0 .nonterminal ≡ definition .nonterminal → ⊥ = λ e. k (cc (e, f .1 .owned)) in
     (f .0, record { member = in-front _ (in-kept (definition .mode) (definition .nonterminal) apart (f .1 .member)); owned = f .1 .owned; small = f .1 .small })
 
 defines-produced : {E own own′ : Env} {ds : List Definition} {g : List Production} → Defines E own ds own′ → Each DefinitionWithin ds

@@ -34,7 +34,7 @@ each-at (each-more h hs) (among-later k) = each-at hs k
 each-without : {P : Production → Type 0} (nonterminal : ℕ) {g : List Production} → Each P g → Each P (without nonterminal g)
 unfolding without
 each-without nonterminal each-none = each-none
-each-without {P} nonterminal (each-more {x = p} {xs = g} h hs) = go (eqb (p .owner) nonterminal) (each-without nonterminal hs)
+each-without {P} nonterminal (each-more {x = p} {xs = g} h hs) = go (eqb (p .nonterminal) nonterminal) (each-without nonterminal hs)
   where
     go : (test : Bool) → Each P (without nonterminal g) → Each P (elim test [ true ↦ without nonterminal g | false ↦ p ∷ without nonterminal g ])
     go true k = k

@@ -123,7 +123,7 @@ pub record Fit (scope : Scope) (p : Production) : Type 0 where
   -- the signature of its nonterminal
   pub signature : Signature
   -- it is the newest one
-  pub newest : Newest (scope .env) (p .owner) signature
+  pub newest : Newest (scope .env) (p .nonterminal) signature
   -- the body is sorted by it
   pub body : Body scope (signature .params) (p .items) (p .result) (signature .result)
   -- the items are within the ranges
