@@ -17,7 +17,8 @@ use Rattle.binders.specs.Links.{FirstBinding, NewestRow, LinkedTo, RowsL
 -- ------------------------------------------------------------------ first rows
 
 module _ (cells : List ℕ) (sought : ℕ) where
-  slot-le : (rows row : ℕ) → row + rows ≤ mostCells → slotFrom rows cells row sought ≤ mostCells
+  -- a slot is a row, or `mostCells`
+  pub slot-le : (rows row : ℕ) → row + rows ≤ mostCells → slotFrom rows cells row sought ≤ mostCells
   unfolding slotFrom
   slot-le zero row l = omega arith
   slot-le (suc rows) row l =

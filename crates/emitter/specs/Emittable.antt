@@ -10,6 +10,7 @@ use Rattle.answers.specs.declared.Answer.the-variants.{Accepted, Refusing}
 use Rattle.answers.specs.Refusals.{refusal}
 use Rattle.grammar.specs.Lookup.{lexiconOf}
 use Rattle.tokens.specs.Tokens.{mostTokens}
+use Rattle.terms.specs.Cells.{columns}
 use Rattle.terms.specs.Rows.{termAt}
 use Rattle.terms.specs.Names.{Distinct, WellNamed}
 use Rattle.rows.specs.Sizes.{WholeRows, sizeAt}
@@ -24,6 +25,7 @@ pub record Emittable (table formula words : List ℕ) (count : ℕ) (cells : Lis
   pub wordsFit : (j : ℕ) → j < count → length (spanned formula words j) < 32
   pub distinct : Distinct (spelledBy table formula words count)
   pub whole : WholeRows cells
+  pub rowsLie : made * columns ≤ length cells
   pub wellNamed : WellNamed (spelledBy table formula words count) (termAt made (spelledBy table formula words count) cells root)
 
 -- the same with a mark for each constructor of the term, all 0

@@ -1,14 +1,14 @@
 -- Resolution, constructor by constructor: what the parts' walks give, the whole gives.
 use Prim.Native.Nat.{ℕ, suc, _+_, _-_, _*_, _/_, _%_, _≤_, _<_}
 use mathlib.Core.Path.{_≡_, refl, sym, ap, subst, _∙_}
-use mathlib.Core.List.{List, _∷_}
+use mathlib.Core.List.{List, [], _∷_}
 use native.Mathlib.Numerals.{add-one}
 use native.Mathlib.Omega.{arith}
 use native.Mathlib.Decide.{decLt}
 use lib.Bits.{bitOr}
 use lib.Dec.{eqb}
-use lib.ListN.{length, set, length-set, length-append}
-use lib.Seq.{set-set}
+use lib.ListN.{length, getD, set, length-set}
+use lib.Seq.{sets, set-set}
 use borrow.Author.Tests.{eqb-true}
 use Rattle.spellings.proofs.BytesLaws.{by-test}
 use Rattle.kinds.proofs.KindsLaws.{has-none, has-join}
@@ -20,19 +20,19 @@ use Rattle.terms.specs.Rows.{termAt, fieldListAt}
 use Rattle.terms.specs.Rename.{isRenamed, isOutside, holds, holdsFields}
 use Rattle.terms.specs.Binding.{Binder}
 use Rattle.terms.specs.Occurrences.{ownerOf}
-use Rattle.binders.specs.Slots.{slotOf}
 use Rattle.marking.specs.Marks.{markOf, ownerCode, binderMark, marks, marksFields}
 use Rattle.marking.proofs.MarkLaws.{length-marks}
 use Rattle.marking.specs.Resolving.{Bindable, bindable-word, bindable-fresh, Around}
 use Rattle.marking.specs.Resolving.{HoldsOutsides, MarksVariable, MarksBinder, Walked, WalkedFields, ResolvesTerm, ResolvesFields}
-use Rattle.marking.specs.Walks.{Exchanged, Walkable, WalksTerm}
+use Rattle.marking.specs.Walks.{Walkable, WalksTerm}
+use Rattle.marking.specs.Chains.{slotAt}
 use Rattle.terms.specs.Names.{Distinct, VariableName, BinderName, WellNamed, WellNamedFields}
 use Rattle.rows.specs.Sizes.{WholeRows, noSpell, sizeAt}
 use Rattle.rows.proofs.ListLaws.{sets-append, set-sets}
 use Rattle.rows.proofs.RowLaws as rows
 use Rattle.rows.proofs.SizeLaws.{size-spell, size-some, size-some-fields}
 use Rattle.binders.proofs.LinkLaws.{slot-is}
-use Rattle.binders.proofs.SlotLaws.{slot-there}
+use Rattle.binders.proofs.SlotLaws.{slot-there, slot-name}
 use Rattle.marking.proofs.AroundLaws.{around-binder, restored}
 
 -- ------------------------------------------------------------------ names
@@ -73,7 +73,7 @@ module _ {spell : ℕ → List ℕ} {around : List Binder} {place : ℕ} where
   nil-walked current room = record { holding = λ m h w. has-none m; kept = refl; marked = refl }
 
   function-walked : {name : Name} {t : Term Name} {held stored : ℕ} {current current₁ current₂ current₃ room room₁ : List ℕ}
-      → Walked spell (record { name = name; place = place } ∷ around) (place + 1) t held current₁ current₂ (set room place 0) room₁
+      → Walked spell (record { name = name; place = place } ∷ around) (place + 1) t held current₁ current₂ room room₁
       → stored ≡ binderMark (isRenamed name t) → current₃ ≡ current
       → Walked spell around place (function name t) held current current₃ room (set room₁ place stored)
   unfolding holds marks
@@ -86,8 +86,7 @@ module _ {spell : ℕ → List ℕ} {around : List Binder} {place : ℕ} where
             cc (
               w .marked,
               add-one place,
-              set-sets (set room place 0) place (suc place) (binderMark (isRenamed name t)) (body (suc place) t) (omega arith),
-              set-set room place 0 (binderMark (isRenamed name t)),
+              set-sets room place (suc place) (binderMark (isRenamed name t)) (body (suc place) t) (omega arith),
             );
       }
 
@@ -215,31 +214,28 @@ module _ (cells : List ℕ) (depth row place : ℕ) where
         rows.number-row spell cells depth row some at (λ t. Walked spell around place t 0 current current room room₁)
         (λ n. walked-as refl er (number-walked n current room)) (before-rcd .0 .0 .1) (before-rcd .0 .1) (before-rcd .1) c d
 
-    -- a function's body is walked with its binder in its slot; then the slot is restored and the binder marked
-    pub function-resolves : code ≡ 33 → {name-value its-slot outer held stored : ℕ} {current current₁ current₂ current₃ room room₀ room₁ room₂ : List ℕ}
-        → name-value ≡ column cells row 1
-        → room₀ ≡ set room place 0 → its-slot ≡ slotOf cells name-value → Exchanged its-slot (place + 1) current current₁ outer
-        → ResolvesTerm cells (depth - 1) (column cells row 2) (place + 1) current₁ current₂ room₀ room₁ held
-        → current₃ ≡ set current₂ its-slot outer → MarksBinder name-value held stored
+    -- a function's body is walked with its binder in its slot; then the slot is restored, and the binder marked by the name of the slot's row
+    pub function-resolves : code ≡ 33 → {outer held stored : ℕ} {current current₂ current₃ room room₁ room₂ : List ℕ}
+        → outer ≡ getD current (slotAt cells row) 0
+        → ResolvesTerm cells (depth - 1) (column cells row 2) (place + 1) (set current (slotAt cells row) (place + 1)) current₂ room room₁ held
+        → current₃ ≡ set current₂ (slotAt cells row) outer → MarksBinder (column cells (slotAt cells row) 1) held stored
         → room₂ ≡ set room₁ place stored → ResolvesTerm cells depth row place current current₃ room room₂ held
     unfolding WellNamed
-    function-resolves e {name-value} {outer = outer} {current = current} {current₁ = current₁} ex e₀ es ee₀ body e₃ mark er spell around apart wh kn len env =
-        let ee : Exchanged (slotOf cells name-value) (place + 1) current current₁ outer = rw es at ee₀ in
-        let t : termAt depth spell cells row ≡ function (nameOf spell name-value) (termAt (depth - 1) spell cells (column cells row 2)) =
-        rw ex (rows.fun-row spell cells depth row some at e) in
+    function-resolves e {held = held} {stored} {current} eo body e₃ mark er spell around apart wh kn len env =
+        let bound-name : ℕ = column cells row 1 in
+        let inner-term : Term Name = termAt (depth - 1) spell cells (column cells row 2) in
+        let t : termAt depth spell cells row ≡ function (nameOf spell bound-name) inner-term = rows.fun-row spell cells depth row some at e in
         let kn′ = subst (WellNamed spell) t kn in
-        let slot : slotOf cells name-value < mostCells =
-        rw ex (slot-there cells row (row-inside cells row wh (sym at ∙ e)) (wh .few) (sym at ∙ e)) in
-        let inside : slotOf cells name-value < length cells / columns = slot-is cells name-value (length cells / columns) (omega (arith, wh .few))
-        slot .inside in
-        let inner : Around spell cells (record { name = nameOf spell name-value; place = place } ∷ around) current₁ =
-        subst (Around spell cells (record { name = nameOf spell name-value; place = place } ∷ around)) (sym (ee .stored))
-        (around-binder spell apart cells around current name-value place (bindable-of spell name-value (kn′ .0)) slot (omega (arith, inside, len)) env) in
-        let w = body spell (record { name = nameOf spell name-value; place = place } ∷ around) apart wh (kn′ .1)
-        (omega (arith, ap length (ee .stored), length-set current (slotOf cells name-value) (place + 1), len)) inner in
+        let slot : slotAt cells row < mostCells = slot-there cells row (row-inside cells row wh (sym at ∙ e)) (wh .few) (sym at ∙ e) in
+        let inside : slotAt cells row < length cells / columns = slot-is cells bound-name (length cells / columns) (omega (arith, wh .few)) slot .inside in
+        let inner = around-binder spell apart cells around current bound-name place (bindable-of spell bound-name (kn′ .0)) slot
+        (omega (arith, inside, len)) env in
+        let w = body spell (record { name = nameOf spell bound-name; place = place } ∷ around) apart wh (kn′ .1)
+        (omega (arith, length-set current (slotAt cells row) (place + 1), len)) inner in
+        let named : MarksBinder bound-name held stored = subst (λ n. MarksBinder n held stored) (slot-name cells bound-name slot) mark in
         walked-as t er
-        (function-walked (from-room e₀ w) (mark spell (termAt (depth - 1) spell cells (column cells row 2)) apart (kn′ .1) (kn′ .0) (w .holding))
-        (cc (w .kept, ee .stored, ee .was, restored current (slotOf cells name-value) (place + 1))))
+        (function-walked w (named spell inner-term apart (kn′ .1) (kn′ .0) (w .holding))
+        (cc (w .kept, eo, restored current (slotAt cells row) (place + 1))))
 
     -- an application's two terms are walked, one after the other
     pub apply-resolves : code ≡ 34 → {next-place next-place′ place′ held₁ held₂ held : ℕ} {current current₁ current₂ room room₀ room₁ room₂ : List ℕ}
@@ -380,37 +376,56 @@ fits-as e f = (omega (arith, f .0), omega (arith, f .1))
 
 module _ {cells links : List ℕ} where
   -- The marks of a term go on behind its first place.
-  pub term-fits : (depth row place : ℕ) {room : List ℕ} → Walkable cells links (size (termAt depth noSpell cells row)) place room
+  pub term-fits : (depth row place : ℕ) {room trail : List ℕ} → Walkable cells links depth (size (termAt depth noSpell cells row)) place room trail
       → (place < length room) × (length room ≤ largestTerm)
   term-fits depth row place w = (place-inside cells depth row place (w .inside), w .few)
 
   -- The marks of a field list go on behind its first place.
-  pub fields-fit : (depth row place : ℕ) {room : List ℕ} → Walkable cells links (sizeFields (fieldListAt depth noSpell cells row)) place room
-      → (place < length room) × (length room ≤ largestTerm)
+  pub fields-fit : (depth row place : ℕ) {room trail : List ℕ}
+      → Walkable cells links depth (sizeFields (fieldListAt depth noSpell cells row)) place room trail → (place < length room) × (length room ≤ largestTerm)
   fields-fit depth row place w = (place-inside-fields cells depth row place (w .inside), w .few)
 
-  -- A room of as many marks.
-  pub walkable-in : {length-left place : ℕ} {room room′ : List ℕ} → Walkable cells links length-left place room → length room′ ≡ length room
-      → Walkable cells links length-left place room′
-  walkable-in w e = record { linked = w .linked; inside = omega (arith, w .inside); few = omega (arith, w .few) }
+  -- A room of as many marks, and a trail as long.
+  pub walkable-in : {depth length-left place : ℕ} {room room′ trail trail′ : List ℕ} → Walkable cells links depth length-left place room trail
+      → length room′ ≡ length room → length trail′ ≡ length trail → Walkable cells links depth length-left place room′ trail′
+  walkable-in w e f = record { linked = w .linked; inside = omega (arith, w .inside); few = omega (arith, w .few); trailed = omega (arith, w .trailed) }
 
   -- The walk of a part.
-  pub walkable-part : {length-left place length-left′ place′ : ℕ} {room : List ℕ} → Walkable cells links length-left place room
-      → place′ + length-left′ ≤ place + length-left → Walkable cells links length-left′ place′ room
-  walkable-part w l = record { linked = w .linked; inside = omega (arith, w .inside); few = w .few }
+  pub walkable-part : {depth length-left place depth′ length-left′ place′ : ℕ} {room trail : List ℕ} → Walkable cells links depth length-left place room trail
+      → depth′ ≤ depth → place′ + length-left′ ≤ place + length-left → Walkable cells links depth′ length-left′ place′ room trail
+  walkable-part w d l = record { linked = w .linked; inside = omega (arith, w .inside); few = w .few; trailed = omega (arith, w .trailed) }
 
   -- The same of a term whose row was read.
-  pub walkable-row : (depth : ℕ) {row row′ place : ℕ} {room : List ℕ} → row′ ≡ row → Walkable cells links (sizeAt cells depth row) place room
-      → Walkable cells links (sizeAt cells depth row′) place room
-  walkable-row depth {place = place} {room} e w = rw e w
+  pub walkable-row : (depth : ℕ) {row row′ place : ℕ} {room trail : List ℕ} → row′ ≡ row
+      → Walkable cells links depth (sizeAt cells depth row) place room trail → Walkable cells links depth (sizeAt cells depth row′) place room trail
+  walkable-row depth {place = place} {room} {trail} e w = rw e w
+
+-- A mark of 0 stored before a walk is written over.
+sets-over : (room : List ℕ) (place value : ℕ) (written : List ℕ) → 0 < length written → sets (set room place value) place written ≡ sets room place written
+sets-over room place value [] h = absurd (omega arith)
+sets-over room place value (x ∷ written) h = ap (λ l. sets l (suc place) written) (set-set room place value x)
+
+-- The walk of a term that began with a 0 at its place.
+pub blanked : {cells : List ℕ} {depth row place place′ : ℕ} {current current′ room room₀ room′ : List ℕ} {held : ℕ} → room₀ ≡ set room place 0
+    → length room₀ ≡ length room
+    → WalksTerm cells depth row place place′ current current′ room₀ room′ held → WalksTerm cells depth row place place′ current current′ room room′ held
+blanked {cells} {depth} {row} {place} {room = room} e l w =
+    record {
+      resolves =
+          λ spell around apart wh kn len env.
+          let walked = w .resolves spell around apart wh kn len env in
+          let t : Term Name = termAt depth spell cells row in
+          record {
+            holding = walked .holding;
+            kept = walked .kept;
+            marked = cc (walked .marked, e, sets-over room place 0 (marks around place t) (omega (arith, length-marks around place t, size-some t)));
+          };
+      moved = w .moved;
+      long = w .long ∙ l;
+    }
 
 -- The same of a walk whose row was read.
 pub walks-row : {cells : List ℕ} {depth row row′ place place′ : ℕ} {current current′ room room′ : List ℕ} {held : ℕ} → row′ ≡ row
     → WalksTerm cells depth row′ place place′ current current′ room room′ held → WalksTerm cells depth row place place′ current current′ room room′ held
 walks-row {cells} {depth} {place = place} {place′} {current} {current′} {room} {room′} {held} e w =
     rw e at w
-
--- A binder's place and one more, stored in its slot.
-pub entered : (place : ℕ) {slot value : ℕ} {current current′ : List ℕ} {previous : ℕ} → Exchanged slot value current current′ previous → value ≡ place + 1
-    → Exchanged slot (place + 1) current current′ previous
-entered place {slot} {current = current} {current′} {previous} h e = rw e at h

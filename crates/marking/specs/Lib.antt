@@ -1,3 +1,4 @@
 pub mod Marks
 pub mod Resolving
 pub mod Walks
+pub mod Chains

@@ -1,5 +1,5 @@
 -- What a walk of a term asks of its rooms and what it leaves in them. Nobody needs this to believe `expand`.
-use Prim.Native.Nat.{ℕ, _+_, _/_, _≤_}
+use Prim.Native.Nat.{ℕ, _+_, _*_, _/_, _≤_}
 use mathlib.Core.Path.{_≡_}
 use mathlib.Core.List.{List}
 use lib.ListN.{length, getD, set, replicate}
@@ -14,11 +14,12 @@ pub record Exchanged (slot v : ℕ) (current current′ : List ℕ) (r : ℕ) : 
   pub stored : current′ ≡ set current slot v
   pub was : r ≡ getD current slot 0
 
--- linked rows, and a mark for each of so many constructors from a place on
-pub record Walkable (cells links : List ℕ) (constructors place : ℕ) (room : List ℕ) : Type 0 where
+-- linked rows, a mark for each of so many constructors from a place on, and a trail for the depth
+pub record Walkable (cells links : List ℕ) (bound constructors place : ℕ) (room trail : List ℕ) : Type 0 where
   pub linked : RowsLinked cells links
   pub inside : place + constructors ≤ length room
   pub few : length room ≤ largestTerm
+  pub trailed : 2 * bound ≤ length trail
 
 -- the marks of the term, or of the field list, at a row, and the place behind it
 pub record WalksTerm (cells : List ℕ) (k row place place′ : ℕ) (current current′ room room′ : List ℕ) (held : ℕ) : Type 0 where
@@ -31,8 +32,9 @@ pub record WalksFields (cells : List ℕ) (k row place place′ : ℕ) (current 
   pub moved : place′ ≡ place + sizeFieldsAt cells k row
   pub long : length room′ ≡ length room
 
--- what the walk of a whole term begins with: linked rows, and no binder in any slot
-pub record WalkPrepared (cells links current : List ℕ) : Type 0 where
+-- what the walk of a whole term begins with: linked rows, no binder in any slot, and a trail for the depth
+pub record WalkPrepared (cells links : List ℕ) (bound : ℕ) (current trail : List ℕ) : Type 0 where
   pub linked : RowsLinked cells links
   pub none : current ≡ replicate (length current) 0
   pub room : length cells / columns ≤ length current
+  pub trailed : 2 * bound ≤ length trail

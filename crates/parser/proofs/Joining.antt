@@ -199,6 +199,7 @@ module _ {bs : List ℕ} (bytes : Bytes bs) (cells : List ℕ) {formula words ce
         wordsFit = naming.words-fit bs bytes P formula words (words-known .answered) (words-known .words-are);
         distinct = naming.distinct bs bytes P formula words (words-known .answered) (words-known .words-are);
         whole = record { few = omega (arith, long, rows-lie .few); whole = omega (arith, long) };
+        rowsLie = omega (arith, long);
         wellNamed =
             rw (spelled-is, leaves .2) named;
       }

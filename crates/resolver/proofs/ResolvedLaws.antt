@@ -32,12 +32,12 @@ stops-first [] end e = sym cc
 stops-first (p ∷ ps) end e = sym cc
 
 -- a walk's marks, numbered, are a resolution
-pub resolves-numbered : {cells links current room room₁ room₂ current′ : List ℕ} {made root held all : ℕ} {resolution : Resolution}
-    → Resolvable cells made root room → WalkPrepared cells links current → all ≡ length room
+pub resolves-numbered : {cells links current trail room room₁ room₂ current′ : List ℕ} {made root held all : ℕ} {resolution : Resolution}
+    → Resolvable cells made root room → WalkPrepared cells links made current trail → all ≡ length room
     → ResolvesTerm cells made root 0 current current′ room room₁ held
     → resolution ≡ firstLoose (looseIn 0 (take all room₁)) → (resolution ≡ Numbered → room₂ ≡ numberedMarks [] 1 (take all room₁) ++ drop all room₁)
     → Resolves cells made root room₂ resolution
-resolves-numbered {cells} {current = current} {room} {room₁} {made = made} {root} {all = all} pre begun en resolves er named spell apart known =
+resolves-numbered {cells} {current = current} {room = room} {room₁} {made = made} {root} {all = all} pre begun en resolves er named spell apart known =
     let t : Term Name = termAt made spell cells root in
     let w = resolves spell [] apart (pre .whole) known (begun .room) (around-none spell cells current (begun .none)) in
     let same : size t ≡ all = size-spell made spell noSpell cells root ∙ sym (pre .counted) ∙ sym en in

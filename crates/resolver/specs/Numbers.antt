@@ -1,11 +1,12 @@
 -- From marks to the numbers of new names, from the left: a binder that is renamed takes the next number, a variable that has a binder its
 -- binder's number, all else 0. Nobody needs this to believe `expand`.
-use Prim.Native.Nat.{ℕ, zero, suc, _+_, _≤_}
+use Prim.Native.Nat.{ℕ, zero, suc, _+_, _*_, _≤_}
 use mathlib.Core.Path.{_≡_}
 use mathlib.Core.Bool.{true, false}
 use mathlib.Core.List.{List, [], _∷_, _++_}
 use lib.Dec.{eqb}
 use lib.ListN.{length, getD}
+use Rattle.terms.specs.Cells.{columns}
 use Rattle.terms.specs.Term.{Name, Term, size, largestTerm}
 use Rattle.terms.specs.Rows.{termAt}
 use Rattle.terms.specs.Names.{Distinct, WellNamed}
@@ -44,9 +45,10 @@ firstLoose (p ∷ ps) = Loose p
 
 -- ------------------------------------------------------------------ a resolution
 
--- what a resolution asks: whole rows, and a mark for each constructor of a term, not too many, and none made
+-- what a resolution asks: whole rows, those made, and a mark for each constructor of a term, not too many, and none made
 pub record Resolvable (cells : List ℕ) (made root : ℕ) (room : List ℕ) : Type 0 where
   pub whole : WholeRows cells
+  pub rowsLie : made * columns ≤ length cells
   pub counted : length room ≡ sizeAt cells made root
   pub few : length room ≤ largestTerm
   pub blank : (i : ℕ) → getD room i 0 ≡ 0

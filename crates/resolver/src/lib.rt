@@ -25,33 +25,45 @@ fn resolved(
     cells: &[u32],
     links: &[u16],
     current: &mut &mut [u16],
+    trail: &mut &mut [u16],
     made: usize,
     root: u32,
     marks: &mut &mut [u16],
 ) -> Resolution
-    requires { ⌜ Resolvable (now cells) made root (now (now marks)) × WalkPrepared (now cells) (now links) (now (now current)) ⌝ }
+    requires { ⌜ Resolvable (now cells) made root (now (now marks)) × WalkPrepared (now cells) (now links) made (now (now current)) (now (now trail)) ⌝ }
     ensures { λ r. ⌜
         Resolves (now (cells .entry)) made root (now (now (marks .exit))) r × (length (now (now (marks .exit))) ≡ length (now (now (marks .entry))))
         ⌝ }
 {
     let mut place: usize = 0;
-    resolve_term(&cells, &links, made, root, &mut place, current, marks);
+    resolve_term(
+        &cells,
+        &links,
+        made,
+        root,
+        &mut place,
+        current,
+        trail,
+        marks,
+    );
     let count = marks.len();
     number(*marks, count)
 }
 
 // With room for the binders of a few rows.
 fn resolve_small(cells: &[u32], made: usize, root: u32, marks: &mut &mut [u16]) -> Resolution
-    requires { ⌜ Resolvable (now cells) made root (now (now marks)) × (length (now cells) / columns ≤ 256) ⌝ }
+    requires { ⌜ Resolvable (now cells) made root (now (now marks)) × ((length (now cells) / columns ≤ 256) × (made ≤ 256)) ⌝ }
     ensures { λ r. ⌜
         Resolves (now (cells .entry)) made root (now (now (marks .exit))) r × (length (now (now (marks .exit))) ≡ length (now (now (marks .entry))))
         ⌝ }
 {
     let mut links = [0u16; 512];
     let mut current = [0u16; 256];
+    let mut notes = [0u16; 512];
     link(cells, &mut links);
     let mut slots = &mut current[..];
-    resolved(cells, &links, &mut slots, made, root, marks)
+    let mut trail = &mut notes[..];
+    resolved(cells, &links, &mut slots, &mut trail, made, root, marks)
 }
 
 // With room for the binders of all rows that an expansion makes.
@@ -63,13 +75,16 @@ fn resolve_large(cells: &[u32], made: usize, root: u32, marks: &mut &mut [u16]) 
 {
     let mut links = [0u16; 32768];
     let mut current = [0u16; 16384];
+    let mut notes = [0u16; 32768];
     link(cells, &mut links);
     let mut slots = &mut current[..];
-    resolved(cells, &links, &mut slots, made, root, marks)
+    let mut trail = &mut notes[..];
+    resolved(cells, &links, &mut slots, &mut trail, made, root, marks)
 }
 
 // Resolves the term at a row, with a mark for each of its constructors: refusal 23, or at each place the number of the new name that stands
-// there. Where no row binds a name and no variable is fresh, nothing is walked: all are 0.
+// there. Where no row binds a name and no variable is fresh, nothing is walked: all are 0. Two places call `resolve_large`, so that it stays
+// a function of its own and a small formula does not pay for its stack.
 pub fn resolve(cells: &[u32], made: usize, root: u32, marks: &mut &mut [u16]) -> Resolution
     requires { ⌜ Resolvable (now cells) made root (now (now marks)) ⌝ }
     ensures { λ r. ⌜
@@ -80,7 +95,10 @@ pub fn resolve(cells: &[u32], made: usize, root: u32, marks: &mut &mut [u16]) ->
         return Resolution::Numbered;
     }
     if cells.len() / COLUMNS <= 256 {
-        return resolve_small(cells, made, root, marks);
+        if made <= 256 {
+            return resolve_small(cells, made, root, marks);
+        }
+        return resolve_large(cells, made, root, marks);
     }
     resolve_large(cells, made, root, marks)
 }

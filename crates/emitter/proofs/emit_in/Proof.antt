@@ -8,7 +8,13 @@ use Rattle.emitter.proofs.emit_in.Tie as tie
 resolve-requires : tie.Need-resolve-requires
 resolve-requires c κs =
     let pre = c .before .before .before .before .before .before .pre in
-    record { whole = pre .emittable .whole; counted = pre .counted; few = pre .few; blank = pre .blank }
+    record {
+      whole = pre .emittable .whole;
+      rowsLie = pre .emittable .rowsLie;
+      counted = pre .counted;
+      few = pre .few;
+      blank = pre .blank;
+    }
 
 print-marked-requires : tie.Need-print-marked-requires
 print-marked-requires c κs =

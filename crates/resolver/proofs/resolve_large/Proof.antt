@@ -13,8 +13,18 @@ link-requires c κs =
     let few = c .before .before .pre .whole .few in
     record { few = few; some = omega arith; room = omega arith; none = ap (λ k. replicate k 0) (sym long) }
 
+resolved-requires : tie.Need-resolved-requires
+resolved-requires c κs = (search needs, record { linked = search needs; none = search needs; room = search needs; trailed = search needs })
+
 -- the function meets its contract
 pub resolve-large-spec : {M : Type 1} → statement M
 resolve-large-spec =
     tie.close
-    (tie.spec (λ c. search needs) link-requires (λ c. search needs) (λ c. search needs) (λ c κs. search needs) (λ c. search needs))
+    (tie.spec
+    (λ c. search needs)
+    link-requires
+    (λ c. search needs)
+    (λ c. search needs)
+    (λ c. search needs)
+    resolved-requires
+    (λ c. search needs))

@@ -1,0 +1,541 @@
+-- `resolve_term`, `resolve_part`, `resolve_functions` and `resolve_fields`: the code of a row decides; a chain of functions is entered, what is
+-- behind it walked, and the chain left.
+use Prim.Native.Nat.{ℕ, _+_, _-_, _*_, _<_}
+use mathlib.Core.Path.{refl, sym, _∙_}
+use native.Mathlib.Omega.{arith}
+use borrow.Author.Needs.{needs}
+use borrow.Fn.Kinds.{In}
+use borrow.Fn.PlainCycle.{Measures, is, falls, and}
+use Rattle.marking.proofs.ResolveLaws as laws
+use Rattle.marking.proofs.ChainLaws as chains
+use Rattle.marking.proofs.resolve_fields.Reads as resolve-fields
+use Rattle.marking.proofs.resolve_fields.Kinds as resolve-fields-kinds
+use Rattle.marking.proofs.+resolve_fields+resolve_functions+resolve_part+resolve_term.Lts-resolve_fields as fields-lts
+use Rattle.marking.proofs.resolve_functions.Reads as resolve-functions
+use Rattle.marking.proofs.resolve_functions.Kinds as resolve-functions-kinds
+use Rattle.marking.proofs.+resolve_fields+resolve_functions+resolve_part+resolve_term.Lts-resolve_functions as functions-lts
+use Rattle.marking.proofs.resolve_part.Reads as resolve-part
+use Rattle.marking.proofs.resolve_part.Kinds as resolve-part-kinds
+use Rattle.marking.proofs.+resolve_fields+resolve_functions+resolve_part+resolve_term.Lts-resolve_part as part-lts
+use Rattle.marking.proofs.resolve_term.Reads as resolve-term
+use Rattle.marking.proofs.resolve_term.Kinds as resolve-term-kinds
+use Rattle.marking.proofs.+resolve_fields+resolve_functions+resolve_part+resolve_term.Lts-resolve_term as term-lts
+use Rattle.kinds.proofs.join.Reads as join-reads
+use Rattle.marking.proofs.enter_functions.Reads as enter-functions-reads
+use Rattle.marking.proofs.held_by.Reads as held-by-reads
+use Rattle.marking.proofs.leave_functions.Reads as leave-functions-reads
+use Rattle.marking.proofs.put.Reads as put-reads
+use Rattle.marking.proofs.variable_mark.Reads as variable-mark-reads
+use Rattle.rows.proofs.column.Reads as column-reads
+use Rattle.marking.proofs.+resolve_fields+resolve_functions+resolve_part+resolve_term.{statement}
+use Rattle.marking.proofs.+resolve_fields+resolve_functions+resolve_part+resolve_term.Tie.{close}
+
+abbrev μ-fields : Measures 11 resolve-fields-kinds.ps ℕ
+μ-fields κs a = a .1 .1 .0 * 2
+
+abbrev fields-at : ℕ → In 11 resolve-fields-kinds.ps
+fields-at t = and 11 resolve-fields-kinds.ps (is 11 resolve-fields-kinds.ps μ-fields t) resolve-fields.Pre
+
+abbrev fields-below : ℕ → In 11 resolve-fields-kinds.ps
+fields-below t = and 11 resolve-fields-kinds.ps (falls 11 resolve-fields-kinds.ps _<_ μ-fields t) resolve-fields.Pre
+
+abbrev μ-functions : Measures 11 resolve-functions-kinds.ps ℕ
+μ-functions κs a = a .1 .1 .0 * 2 - 1
+
+abbrev functions-at : ℕ → In 11 resolve-functions-kinds.ps
+functions-at t = and 11 resolve-functions-kinds.ps (is 11 resolve-functions-kinds.ps μ-functions t) resolve-functions.Pre
+
+abbrev functions-below : ℕ → In 11 resolve-functions-kinds.ps
+functions-below t = and 11 resolve-functions-kinds.ps (falls 11 resolve-functions-kinds.ps _<_ μ-functions t) resolve-functions.Pre
+
+abbrev μ-part : Measures 11 resolve-part-kinds.ps ℕ
+μ-part κs a = a .1 .1 .0 * 2 + 1
+
+abbrev part-at : ℕ → In 11 resolve-part-kinds.ps
+part-at t = and 11 resolve-part-kinds.ps (is 11 resolve-part-kinds.ps μ-part t) resolve-part.Pre
+
+abbrev part-below : ℕ → In 11 resolve-part-kinds.ps
+part-below t = and 11 resolve-part-kinds.ps (falls 11 resolve-part-kinds.ps _<_ μ-part t) resolve-part.Pre
+
+abbrev μ-term : Measures 11 resolve-term-kinds.ps ℕ
+μ-term κs a = a .1 .1 .0 * 2
+
+abbrev term-at : ℕ → In 11 resolve-term-kinds.ps
+term-at t = and 11 resolve-term-kinds.ps (is 11 resolve-term-kinds.ps μ-term t) resolve-term.Pre
+
+abbrev term-below : ℕ → In 11 resolve-term-kinds.ps
+term-below t = and 11 resolve-term-kinds.ps (falls 11 resolve-term-kinds.ps _<_ μ-term t) resolve-term.Pre
+
+abbrev fields-claims : ℕ → fields-lts.Claims
+fields-claims t = (
+  put-reads.Asked,
+  put-reads.Learnt,
+  column-reads.Asked,
+  column-reads.Learnt,
+  part-below t,
+  resolve-part.Post,
+  fields-below t,
+  resolve-fields.Post,
+  join-reads.Asked,
+  join-reads.Learnt,
+)
+
+abbrev functions-claims : ℕ → functions-lts.Claims
+functions-claims t = (
+  enter-functions-reads.Asked,
+  enter-functions-reads.Learnt,
+  term-below t,
+  resolve-term.Post,
+  leave-functions-reads.Asked,
+  leave-functions-reads.Learnt,
+)
+
+abbrev part-claims : ℕ → part-lts.Claims
+part-claims t = (
+  column-reads.Asked,
+  column-reads.Learnt,
+  term-below t,
+  resolve-term.Post,
+)
+
+abbrev term-claims : ℕ → term-lts.Claims
+term-claims t = (
+  put-reads.Asked,
+  put-reads.Learnt,
+  column-reads.Asked,
+  column-reads.Learnt,
+  variable-mark-reads.Asked,
+  variable-mark-reads.Learnt,
+  held-by-reads.Asked,
+  held-by-reads.Learnt,
+  functions-below t,
+  resolve-functions.Post,
+  part-below t,
+  resolve-part.Post,
+  join-reads.Asked,
+  join-reads.Learnt,
+  fields-below t,
+  resolve-fields.Post,
+)
+
+-- the code of a row is read
+module _ (measure : ℕ) (point : term-lts.After-column2 (term-claims measure) (term-at measure) resolve-term.Post) where
+  abbrev term-test : term-lts.Else1 (term-claims measure) (term-at measure) resolve-term.Post
+  term-test = point .before .before .before .before
+
+  abbrev term-put : term-lts.After-put (term-claims measure) (term-at measure) resolve-term.Post
+  term-put = term-test .before
+
+  abbrev term-entry : term-lts.Start (term-claims measure) (term-at measure) resolve-term.Post
+  term-entry = term-put .before .before .before
+
+module _ (measure : ℕ) (point : fields-lts.After-column (fields-claims measure) (fields-at measure) resolve-fields.Post) where
+  abbrev fields-test : fields-lts.Else1 (fields-claims measure) (fields-at measure) resolve-fields.Post
+  fields-test = point .before .before
+
+  abbrev fields-put : fields-lts.After-put (fields-claims measure) (fields-at measure) resolve-fields.Post
+  fields-put = fields-test .before
+
+  abbrev fields-entry : fields-lts.Start (fields-claims measure) (fields-at measure) resolve-fields.Post
+  fields-entry = fields-put .before .before .before
+
+-- a chain of functions is entered, and what is behind it walked
+module _ (measure : ℕ) (point : functions-lts.After-enter-functions (functions-claims measure) (functions-at measure) resolve-functions.Post) where
+  abbrev chain-entry : functions-lts.Start (functions-claims measure) (functions-at measure) resolve-functions.Post
+  chain-entry = point .before .before .before .before .before .before
+
+-- places, each from a later one
+abbrev then2 : {measure : ℕ} → fields-lts.After-resolve-part-arg4 (fields-claims measure) (fields-at measure) resolve-fields.Post
+    → fields-lts.Then2 (fields-claims measure) (fields-at measure) resolve-fields.Post
+then2 p = p .before .before .before .before
+
+fields-add-place : (measure : ℕ) → fields-lts.Need-add-place (fields-claims measure) (fields-at measure) resolve-fields.Post
+fields-add-place measure c = omega (arith, laws.fields-fit _ _ _ (c .before .pre .1))
+
+fields-put-requires : (measure : ℕ) → fields-lts.Need-put-requires (fields-claims measure) (fields-at measure) resolve-fields.Post
+fields-put-requires measure c κs = laws.fields-fit _ _ _ (c .before .before .pre .1)
+
+fields-returns : (measure : ℕ) → fields-lts.Need-returns (fields-claims measure) (fields-at measure) resolve-fields.Post
+fields-returns measure c =
+    let put-place = c .before in (
+      record {
+        resolves = laws.shallow-resolves-fields _ _ _ _ (c .if1 .taken) _ _ (put-place .put .ensures .0);
+        moved = laws.shallow-fields-place _ _ _ _ (c .if1 .taken);
+        long = put-place .put .ensures .1;
+      },
+      chains.trail-same _ _,
+    )
+
+fields-sub-deep : (measure : ℕ) → fields-lts.Need-sub-deep (fields-claims measure) (fields-at measure) resolve-fields.Post
+fields-sub-deep measure c = omega (arith, c .if1 .left)
+
+fields-resolve-part-requires : (measure : ℕ) → fields-lts.Need-resolve-part-requires (fields-claims measure) (fields-at measure) resolve-fields.Post
+fields-resolve-part-requires measure c κs =
+    let then2 = then2 c in
+    let p = then2 .before in
+    let a = fields-entry measure p .args in
+    let w = laws.walkable-in (fields-entry measure p .pre .1) (fields-put measure p .put .ensures .1) refl in
+    let place = laws.cons-place (a .cells .now .now) (a .bound) (a .row) (a .place .now) (fields-test measure p .if1 .left) (p .column .ensures)
+    (then2 .if2 .taken) refl refl in
+    (omega (arith, fields-entry measure p .pre .0, fields-test measure p .if1 .left), (omega arith, laws.walkable-part w (omega arith) (omega (arith, place))))
+
+fields-resolve-fields-requires : (measure : ℕ) → fields-lts.Need-resolve-fields-requires (fields-claims measure) (fields-at measure) resolve-fields.Post
+fields-resolve-fields-requires measure c κs =
+    let column2-place = c .before .before .before .before in
+    let resolve-part-place = column2-place .before .before in
+    let s0 = resolve-part-place .before in
+    let then2 = then2 s0 in
+    let p = then2 .before in
+    let a = fields-entry measure p .args in
+    let first = resolve-part-place .resolve-part .ensures in
+    let w = laws.walkable-in (fields-entry measure p .pre .1) (first .0 .long ∙ fields-put measure p .put .ensures .1) (first .1 .long) in
+    let place = laws.cons-place (a .cells .now .now) (a .bound) (a .row) (a .place .now)
+    (fields-test measure p .if1 .left) (p .column .ensures) (then2 .if2 .taken) refl (column2-place .column2 .ensures) in
+    let deeper = fields-test measure p .if1 .left in
+    (omega (arith, fields-entry measure p .pre .0, deeper), laws.walkable-part w (omega arith) (omega (arith, place, first .0 .moved)))
+
+fields-returns-2 : (measure : ℕ) → fields-lts.Need-returns-2 (fields-claims measure) (fields-at measure) resolve-fields.Post
+fields-returns-2 measure c =
+    let next = c .before .before .before .before .before .before in
+    let s0 = next .before in
+    let resolve-part-place = s0 .before in
+    let is = then2 (resolve-part-place .before) in
+    let p = is .before in
+    let first = resolve-part-place .resolve-part .ensures in
+    let second = c .before .resolve-fields .ensures in
+    let a = fields-entry measure p .args in (
+      record {
+        resolves =
+            laws.cons-resolves _ _ _ _ (fields-test measure p .if1 .left) (p .column .ensures) (is .if2 .taken) refl (next .column2 .ensures)
+            (fields-put measure p .put .ensures .0)
+            (first .0 .resolves) (first .0 .moved) (second .0 .resolves) (c .join .ensures);
+        moved =
+            omega (
+              arith,
+              first .0 .moved,
+              second .0 .moved,
+              laws.cons-place (a .cells .now .now) (a .bound) (a .row) (a .place .now) (fields-test measure p .if1 .left) (p .column .ensures)
+                  (is .if2 .taken) refl
+                  (next .column2 .ensures),
+            );
+        long = second .0 .long ∙ first .0 .long ∙ fields-put measure p .put .ensures .1;
+      },
+      chains.trail-then (chains.trail-within (first .1) (omega arith)) (chains.trail-within (second .1) (omega arith)),
+    )
+
+fields-returns-3 : (measure : ℕ) → fields-lts.Need-returns-3 (fields-claims measure) (fields-at measure) resolve-fields.Post
+fields-returns-3 measure c =
+    let p = c .before in (
+      record {
+        resolves = laws.nil-resolves _ _ _ _ (fields-test measure p .if1 .left) (p .column .ensures) (c .if2 .left) _ _ (fields-put measure p .put .ensures .0);
+        moved = laws.nil-place _ _ _ _ (fields-test measure p .if1 .left) (p .column .ensures) (c .if2 .left);
+        long = fields-put measure p .put .ensures .1;
+      },
+      chains.trail-same _ _,
+    )
+
+functions-enter-functions-requires :
+    (measure : ℕ) → functions-lts.Need-enter-functions-requires (functions-claims measure) (functions-at measure) resolve-functions.Post
+functions-enter-functions-requires measure c κs = chains.enterable (c .before .before .before .before .before .pre .1 .1)
+
+functions-add-place : (measure : ℕ) → functions-lts.Need-add-place (functions-claims measure) (functions-at measure) resolve-functions.Post
+functions-add-place measure c =
+    let w = chain-entry measure c .pre .1 .1 in omega (arith, c .enter-functions .ensures .0 .sized, w .inside, w .few)
+
+functions-sub-resolve-term : (measure : ℕ) → functions-lts.Need-sub-resolve-term (functions-claims measure) (functions-at measure) resolve-functions.Post
+functions-sub-resolve-term measure c = c .enter-functions .ensures .0 .bounded
+
+functions-resolve-term-requires :
+    (measure : ℕ) → functions-lts.Need-resolve-term-requires (functions-claims measure) (functions-at measure) resolve-functions.Post
+functions-resolve-term-requires measure c κs =
+    let p = c .before .before .before .before in
+    let entry = chain-entry measure p in
+    let entered = p .enter-functions .ensures in
+    let some = chains.enters-some (entered .0) (entered .1) (entry .pre .1 .0 .0) (entry .pre .1 .0 .1) in
+    let w = laws.walkable-in (entry .pre .1 .1) refl (entered .0 .trailed .long) in (
+      omega (arith, entry .pre .0, entry .pre .1 .0 .0, some, entered .0 .bounded),
+      laws.walkable-part w (omega arith) (omega (arith, entered .0 .sized)),
+    )
+
+functions-leave-functions-requires :
+    (measure : ℕ) → functions-lts.Need-leave-functions-requires (functions-claims measure) (functions-at measure) resolve-functions.Post
+functions-leave-functions-requires measure c κs =
+    let body = c .before .before .before .before in
+    let p = body .before .before .before .before .before in
+    let w = chain-entry measure p .pre .1 .1 in
+    let entered = p .enter-functions .ensures .0 in
+    let walk = body .resolve-term .ensures in
+    (omega (arith, w .inside, entered .sized, walk .0 .long), (entered .bounded, omega (arith, w .trailed, entered .trailed .long, walk .1 .long)))
+
+functions-returns : (measure : ℕ) → functions-lts.Need-returns (functions-claims measure) (functions-at measure) resolve-functions.Post
+functions-returns measure c =
+    let body = c .before .before .before .before .before in
+    let p = body .before .before .before .before .before in
+    let entered = p .enter-functions .ensures .0 in
+    let walk = body .resolve-term .ensures in
+    let left = c .leave-functions .ensures in
+    (chains.chain-walks entered (walk .1) (walk .0) (left .0), chains.chain-kept entered (walk .1) (left .1))
+
+part-column-requires : (measure : ℕ) → part-lts.Need-column-requires (part-claims measure) (part-at measure) resolve-part.Post
+part-column-requires measure c κs = c .before .pre .1 .0
+
+part-resolve-term-requires : (measure : ℕ) → part-lts.Need-resolve-term-requires (part-claims measure) (part-at measure) resolve-part.Post
+part-resolve-term-requires measure c κs =
+    let column = c .before .before .before .before in
+    let e = column .before .before in
+    (omega (arith, e .pre .0), laws.walkable-row _ (column .column .ensures) (e .pre .1 .1))
+
+part-returns : (measure : ℕ) → part-lts.Need-returns (part-claims measure) (part-at measure) resolve-part.Post
+part-returns measure c =
+    let walk = c .resolve-term .ensures in
+    (laws.walks-row (c .before .before .before .before .before .column .ensures) (walk .0), walk .1)
+
+-- places, each from a later one
+abbrev after-column : {measure : ℕ} → term-lts.After-column2 (term-claims measure) (term-at measure) resolve-term.Post
+    → term-lts.After-column (term-claims measure) (term-at measure) resolve-term.Post
+after-column p = p .before .before
+
+abbrev after-column2 : {measure : ℕ} → term-lts.After-variable-mark-arg3 (term-claims measure) (term-at measure) resolve-term.Post
+    → term-lts.After-column2 (term-claims measure) (term-at measure) resolve-term.Post
+after-column2 p = p .before .before .before .before
+
+term-add-place : (measure : ℕ) → term-lts.Need-add-place (term-claims measure) (term-at measure) resolve-term.Post
+term-add-place measure c = omega (arith, laws.term-fits _ _ _ (c .before .pre .1))
+
+term-put-requires : (measure : ℕ) → term-lts.Need-put-requires (term-claims measure) (term-at measure) resolve-term.Post
+term-put-requires measure c κs = laws.term-fits _ _ _ (c .before .before .pre .1)
+
+term-returns : (measure : ℕ) → term-lts.Need-returns (term-claims measure) (term-at measure) resolve-term.Post
+term-returns measure c =
+    let put-place = c .before in (
+      record {
+        resolves = laws.shallow-resolves _ _ _ _ (c .if1 .taken) _ _ (put-place .put .ensures .0);
+        moved = laws.shallow-place _ _ _ _ (c .if1 .taken);
+        long = put-place .put .ensures .1;
+      },
+      chains.trail-same _ _,
+    )
+
+term-sub-deep : (measure : ℕ) → term-lts.Need-sub-deep (term-claims measure) (term-at measure) resolve-term.Post
+term-sub-deep measure c = omega (arith, c .if1 .left)
+
+term-variable-mark-requires : (measure : ℕ) → term-lts.Need-variable-mark-requires (term-claims measure) (term-at measure) resolve-term.Post
+term-variable-mark-requires measure c κs =
+    let p = after-column2 c in
+    term-entry measure p .pre .1 .linked
+
+term-put-requires-2 : (measure : ℕ) → term-lts.Need-put-requires-2 (term-claims measure) (term-at measure) resolve-term.Post
+term-put-requires-2 measure c κs =
+    let p = after-column2 (c .before .before) in
+    laws.fits-as (term-put measure p .put .ensures .1) (laws.term-fits _ _ _ (term-entry measure p .pre .1))
+
+term-resolve-functions-requires : (measure : ℕ) → term-lts.Need-resolve-functions-requires (term-claims measure) (term-at measure) resolve-term.Post
+term-resolve-functions-requires measure c κs =
+    let m = c .before .before .before .before in
+    let p = m .before in
+    let some = term-test measure p .if1 .left in (
+      omega (arith, term-entry measure p .pre .0, some),
+      (
+        (omega (arith, some), sym ((after-column p) .column .ensures) ∙ m .match .keys2),
+        laws.walkable-in (term-entry measure p .pre .1) (term-put measure p .put .ensures .1) refl,
+      ),
+    )
+
+term-resolve-part-requires : (measure : ℕ) → term-lts.Need-resolve-part-requires (term-claims measure) (term-at measure) resolve-term.Post
+term-resolve-part-requires measure c κs =
+    let match-keys3-place = c .before .before .before .before in
+    let p = match-keys3-place .before in
+    let a = term-entry measure p .args in
+    let w = laws.walkable-in (term-entry measure p .pre .1) (term-put measure p .put .ensures .1) refl in
+    let place = laws.apply-place (a .cells .now .now) (a .bound) (a .row) (a .place .now)
+    (term-test measure p .if1 .left) ((after-column p) .column .ensures) (match-keys3-place .match .keys3) refl refl in
+    (omega (arith, term-entry measure p .pre .0, term-test measure p .if1 .left), (omega arith, laws.walkable-part w (omega arith) (omega (arith, place))))
+
+term-resolve-part-requires-2 : (measure : ℕ) → term-lts.Need-resolve-part-requires-2 (term-claims measure) (term-at measure) resolve-term.Post
+term-resolve-part-requires-2 measure c κs =
+    let resolve-part-place = c .before .before .before .before in
+    let match-keys3-place = resolve-part-place .before .before .before .before .before in
+    let p = match-keys3-place .before in
+    let a = term-entry measure p .args in
+    let first = resolve-part-place .resolve-part .ensures in
+    let w = laws.walkable-in (term-entry measure p .pre .1) (first .0 .long ∙ term-put measure p .put .ensures .1) (first .1 .long) in
+    let place = laws.apply-place (a .cells .now .now) (a .bound) (a .row) (a .place .now)
+    (term-test measure p .if1 .left) ((after-column p) .column .ensures) (match-keys3-place .match .keys3) refl refl in (
+      omega (arith, term-entry measure p .pre .0, term-test measure p .if1 .left),
+      (omega arith, laws.walkable-part w (omega arith) (omega (arith, place, first .0 .moved))),
+    )
+
+term-resolve-fields-requires : (measure : ℕ) → term-lts.Need-resolve-fields-requires (term-claims measure) (term-at measure) resolve-term.Post
+term-resolve-fields-requires measure c κs =
+    let match-keys4-place = c .before .before .before .before in
+    let p = match-keys4-place .before in
+    let a = term-entry measure p .args in
+    let w = laws.walkable-in (term-entry measure p .pre .1) (term-put measure p .put .ensures .1) refl in
+    let place = laws.rcd-place (a .cells .now .now) (a .bound) (a .row) (a .place .now)
+    (term-test measure p .if1 .left) ((after-column p) .column .ensures) (match-keys4-place .match .keys4) (p .column2 .ensures) in
+    (omega (arith, term-entry measure p .pre .0, term-test measure p .if1 .left), laws.walkable-part w (omega arith) (omega (arith, place)))
+
+term-resolve-part-requires-3 : (measure : ℕ) → term-lts.Need-resolve-part-requires-3 (term-claims measure) (term-at measure) resolve-term.Post
+term-resolve-part-requires-3 measure c κs =
+    let match-keys5-place = c .before .before .before .before in
+    let p = match-keys5-place .before in
+    let a = term-entry measure p .args in
+    let w = laws.walkable-in (term-entry measure p .pre .1) (term-put measure p .put .ensures .1) refl in
+    let place = laws.dot-place (a .cells .now .now) (a .bound) (a .row) (a .place .now)
+    (term-test measure p .if1 .left) ((after-column p) .column .ensures) (match-keys5-place .match .keys5) refl in
+    (omega (arith, term-entry measure p .pre .0, term-test measure p .if1 .left), (omega arith, laws.walkable-part w (omega arith) (omega (arith, place))))
+
+term-returns-2 : (measure : ℕ) → term-lts.Need-returns-2 (term-claims measure) (term-at measure) resolve-term.Post
+term-returns-2 measure c =
+    let put2-place = c .before in
+    let variable-mark-place = put2-place .before .before in
+    let s0 = variable-mark-place .before .before .before in
+    let match-keys1-place = s0 .before in
+    let p = match-keys1-place .before in
+    let column-place = after-column p in (
+      record {
+        resolves =
+            laws.variable-resolves _ _ _ _ (term-test measure p .if1 .left) (column-place .column .ensures) (match-keys1-place .match .keys1) _ _
+            (p .column2 .ensures)
+            (variable-mark-place .variable-mark .ensures .1) (term-put measure p .put .ensures .0)
+            (variable-mark-place .variable-mark .ensures .0) (c .held-by .ensures)
+            (put2-place .put2 .ensures .0);
+        moved = laws.variable-place _ _ _ _ (term-test measure p .if1 .left) (column-place .column .ensures) (match-keys1-place .match .keys1);
+        long = put2-place .put2 .ensures .1 ∙ term-put measure p .put .ensures .1;
+      },
+      chains.trail-same _ _,
+    )
+
+term-returns-3 : (measure : ℕ) → term-lts.Need-returns-3 (term-claims measure) (term-at measure) resolve-term.Post
+term-returns-3 measure c =
+    let m = c .before .before .before .before .before in
+    let blank = term-put measure (m .before) .put .ensures in
+    let chain = c .resolve-functions .ensures in
+    (laws.blanked (blank .0) (blank .1) (chain .0), chain .1)
+
+term-returns-4 : (measure : ℕ) → term-lts.Need-returns-4 (term-claims measure) (term-at measure) resolve-term.Post
+term-returns-4 measure c =
+    let resolve-part-place = c .before .before .before .before .before .before in
+    let m = resolve-part-place .before .before .before .before .before in
+    let p = m .before in
+    let column-place = after-column p in
+    let first = resolve-part-place .resolve-part .ensures in
+    let second = c .before .resolve-part2 .ensures in
+    let a = term-entry measure p .args in (
+      record {
+        resolves =
+            laws.apply-resolves _ _ _ _ (term-test measure p .if1 .left) (column-place .column .ensures) (m .match .keys3) refl refl
+            (term-put measure p .put .ensures .0)
+            (first .0 .resolves) (first .0 .moved) (second .0 .resolves) (c .join .ensures);
+        moved =
+            omega (
+              arith,
+              first .0 .moved,
+              second .0 .moved,
+              laws.apply-place (a .cells .now .now) (a .bound) (a .row) (a .place .now) (term-test measure p .if1 .left)
+                  (column-place .column .ensures) (m .match .keys3) refl refl,
+            );
+        long = second .0 .long ∙ first .0 .long ∙ term-put measure p .put .ensures .1;
+      },
+      chains.trail-then (chains.trail-within (first .1) (omega arith)) (chains.trail-within (second .1) (omega arith)),
+    )
+
+term-returns-5 : (measure : ℕ) → term-lts.Need-returns-5 (term-claims measure) (term-at measure) resolve-term.Post
+term-returns-5 measure c =
+    let m = c .before .before .before .before .before in
+    let p = m .before in
+    let column-place = after-column p in
+    let part = c .resolve-fields .ensures in (
+      record {
+        resolves = laws.rcd-resolves _ _ _ _ (term-test measure p .if1 .left) (column-place .column .ensures) (m .match .keys4)
+            (p .column2 .ensures) (term-put measure p .put .ensures .0) (part .0 .resolves);
+        moved =
+            part .0 .moved
+            ∙ laws.rcd-place _ _ _ _ (term-test measure p .if1 .left) (column-place .column .ensures) (m .match .keys4) (p .column2 .ensures);
+        long = part .0 .long ∙ term-put measure p .put .ensures .1;
+      },
+      chains.trail-within (part .1) (omega arith),
+    )
+
+term-returns-6 : (measure : ℕ) → term-lts.Need-returns-6 (term-claims measure) (term-at measure) resolve-term.Post
+term-returns-6 measure c =
+    let m = c .before .before .before .before .before in
+    let p = m .before in
+    let column-place = after-column p in
+    let part = c .resolve-part3 .ensures in (
+      record {
+        resolves = laws.dot-resolves _ _ _ _ (term-test measure p .if1 .left) (column-place .column .ensures) (m .match .keys5) refl
+            (term-put measure p .put .ensures .0) (part .0 .resolves);
+        moved = part .0 .moved ∙ laws.dot-place _ _ _ _ (term-test measure p .if1 .left) (column-place .column .ensures) (m .match .keys5) refl;
+        long = part .0 .long ∙ term-put measure p .put .ensures .1;
+      },
+      chains.trail-within (part .1) (omega arith),
+    )
+
+term-returns-7 : (measure : ℕ) → term-lts.Need-returns-7 (term-claims measure) (term-at measure) resolve-term.Post
+term-returns-7 measure c =
+    let p = c .before in
+    let code-is = (after-column p) .column .ensures in (
+      record {
+        resolves = laws.number-resolves _ _ _ _ (term-test measure p .if1 .left) code-is (c .match .rest) _ _ (term-put measure p .put .ensures .0);
+        moved = laws.number-place _ _ _ _ (term-test measure p .if1 .left) code-is (c .match .rest);
+        long = term-put measure p .put .ensures .1;
+      },
+      chains.trail-same _ _,
+    )
+
+-- the functions meet their contracts
+pub +resolve-fields+resolve-functions+resolve-part+resolve-term-spec : {M : Type 1} → statement M
++resolve-fields+resolve-functions+resolve-part+resolve-term-spec =
+    close μ-fields μ-functions μ-part μ-term
+    (λ t. fields-lts.spec (fields-claims t) (fields-at t) resolve-fields.Post
+    (fields-add-place t)
+    (fields-put-requires t)
+    (fields-returns t)
+    (fields-sub-deep t)
+    (λ c κs. search needs)
+    (fields-resolve-part-requires t)
+    (λ c κs. search needs)
+    (fields-resolve-fields-requires t)
+    (λ c κs. search needs)
+    (fields-returns-2 t)
+    (fields-returns-3 t))
+    (λ t. functions-lts.spec (functions-claims t) (functions-at t) resolve-functions.Post
+    (λ c. search needs)
+    (λ c. search needs)
+    (functions-enter-functions-requires t)
+    (functions-add-place t)
+    (functions-sub-resolve-term t)
+    (functions-resolve-term-requires t)
+    (λ c. search needs)
+    (λ c. search needs)
+    (λ c. search needs)
+    (functions-leave-functions-requires t)
+    (functions-returns t))
+    (λ t. part-lts.spec (part-claims t) (part-at t) resolve-part.Post
+    (part-column-requires t)
+    (part-resolve-term-requires t)
+    (part-returns t))
+    (λ t. term-lts.spec (term-claims t) (term-at t) resolve-term.Post
+    (term-add-place t)
+    (term-put-requires t)
+    (term-returns t)
+    (term-sub-deep t)
+    (λ c κs. search needs)
+    (λ c κs. search needs)
+    (λ c. search needs)
+    (term-variable-mark-requires t)
+    (term-put-requires-2 t)
+    (λ c κs. search needs)
+    (term-resolve-functions-requires t)
+    (term-resolve-part-requires t)
+    (term-resolve-part-requires-2 t)
+    (λ c κs. search needs)
+    (term-resolve-fields-requires t)
+    (term-resolve-part-requires-3 t)
+    (term-returns-2 t)
+    (term-returns-3 t)
+    (term-returns-4 t)
+    (term-returns-5 t)
+    (term-returns-6 t)
+    (term-returns-7 t))
