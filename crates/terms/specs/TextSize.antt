@@ -3,7 +3,7 @@ use Prim.Native.Nat.{ℕ, _+_}
 use mathlib.Core.List.{List}
 use lib.ListN.{length}
 use Rattle.terms.specs.Term.{Term, Fields, variable, function, apply, rcd, dot, number, nil, cons}
-use Rattle.spellings.specs.Bytes.{decimal}
+use Rattle.terms.specs.Print.{numeral}
 
 -- Counted without the text: a constructor's name, two parentheses, the spaces between its arguments and the arguments.
 unfoldable mutual
@@ -13,7 +13,7 @@ unfoldable mutual
   textSize (apply t u) = 12 + textSize t + textSize u
   textSize (rcd f) = 11 + textSizeFields f
   textSize (dot t l) = 12 + textSize t + length l
-  textSize (number n) = 11 + length (decimal n)
+  textSize (number n) = 11 + length (numeral n)
 
   pub textSizeFields : Fields (List ℕ) → ℕ
   textSizeFields nil = 12

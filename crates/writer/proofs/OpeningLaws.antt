@@ -13,6 +13,7 @@ use Rattle.terms.specs.Cells.{column}
 use Rattle.terms.specs.Term.{Name}
 use Rattle.terms.specs.Rows.{nameOf, termAt, fieldListAt}
 use Rattle.terms.specs.Rename.{newName, written}
+use Rattle.terms.specs.Print.{numeral}
 use Rattle.terms.specs.Labelled.{nameShown, labelled}
 use Rattle.rows.proofs.RowLaws as rows
 use Rattle.rows.proofs.RowLaws.{as-word, as-fresh, as-outside}
@@ -78,7 +79,7 @@ abbrev CONS : List ℕ
 CONS = 0x6D ∷ 0x6B ∷ 0x46 ∷ 0x69 ∷ 0x65 ∷ 0x6C ∷ 0x64 ∷ 0x43 ∷ 0x6F ∷ 0x6E ∷ 0x73 ∷ 0x28 ∷ []
 
 -- a number: its constructor, then its digits
-pub open-number : (out : List ℕ) (number : ℕ) {at : ℕ} → Going out at (numberOpening number) at out (NUM ∷ decimal number ∷ [])
+pub open-number : (out : List ℕ) (number : ℕ) {at : ℕ} → Going out at (numberOpening number) at out (NUM ∷ numeral number ∷ [])
 unfolding bytes numberOpening
 open-number out number = go-start out refl
 

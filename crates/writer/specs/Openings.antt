@@ -5,11 +5,12 @@ use mathlib.Core.Path.{_≡_}
 use mathlib.Core.List.{List, [], _∷_, _++_}
 use lib.ListN.{length, getD, take, drop, replicate}
 use lib.Seq.{sets}
-use Rattle.spellings.specs.Bytes.{bytes, decimal}
+use Rattle.spellings.specs.Bytes.{bytes}
 use Rattle.terms.specs.Cells.{column}
 use Rattle.terms.specs.Term.{Term, Fields, variable, function, apply, rcd, dot, number, nil, cons, largestTerm}
 use Rattle.terms.specs.Labelled.{nameShown, labelled}
 use Rattle.terms.specs.Rows.{nameOf, termAt, fieldListAt}
+use Rattle.terms.specs.Print.{numeral}
 
 -- what the text of a term begins with, up to its first part or, if it has none, to the last parenthesis
 unfoldable pub opening : Term (List ℕ) → List ℕ
@@ -19,7 +20,7 @@ opening (function x t) = bytes "mkTermFun(" ++ x ++ 0x20 ∷ []
 opening (apply t u) = bytes "mkTermApp("
 opening (rcd f) = bytes "mkTermRcd("
 opening (dot t l) = bytes "mkTermDot("
-opening (number n) = bytes "mkTermNum(" ++ decimal n
+opening (number n) = bytes "mkTermNum(" ++ numeral n
 
 -- the same of a field list, which holds no names
 unfoldable pub openingFields : {N : Type 0} → Fields N → List ℕ
@@ -34,7 +35,7 @@ spellIn pool n = take (getD pool (n * 32) 0) (drop (n * 32 + 1) pool)
 -- the same of a number, of the term at a row and of the field list at a row
 unfoldable pub numberOpening : ℕ → List ℕ
 unfolding bytes
-numberOpening n = bytes "mkTermNum(" ++ decimal n
+numberOpening n = bytes "mkTermNum(" ++ numeral n
 
 unfoldable pub termOpening : List ℕ → List ℕ → List ℕ → ℕ → ℕ → ℕ → List ℕ
 termOpening pool cells numbers k row p = opening (labelled numbers p (termAt k (spellIn pool) cells row))

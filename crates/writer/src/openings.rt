@@ -17,7 +17,7 @@ ghost use Prim.Native.Nat.{_+_, _^_, _<_, _≤_};
 ghost use mathlib.Core.Path.{_≡_};
 ghost use lib.ListN.{length, getD};
 ghost use Rattle.terms.specs.Rows.{nameOf};
-ghost use Rattle.spellings.specs.Bytes.{decimal};
+ghost use Rattle.terms.specs.Print.{numeral};
 ghost use Rattle.terms.specs.Labelled.{nameShown};
 ghost use Rattle.writer.specs.Openings.{spellIn, numberOpening, termOpening, fieldsOpening, Wrote, NameFits, OpeningFits, FieldsOpeningFits};
 ghost use Rattle.terms.specs.Term.{largestTerm};
@@ -52,8 +52,8 @@ fn shown_at(shown: &[u16], place: usize) -> u16
 
 // A number of a term.
 fn number_at(out: &mut [u8], at: usize, n: u32) -> usize
-    requires { ⌜ at + length (decimal n) < 2 ^ 62 ⌝ }
-    ensures { λ r. ⌜ Wrote (now (out .entry)) at (decimal n) r (now (out .exit)) ⌝ }
+    requires { ⌜ at + length (numeral n) < 2 ^ 62 ⌝ }
+    ensures { λ r. ⌜ Wrote (now (out .entry)) at (numeral n) r (now (out .exit)) ⌝ }
 {
     decimal_at(out, at, n)
 }
