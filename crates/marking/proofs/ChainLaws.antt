@@ -172,8 +172,9 @@ leaves-one {mark = mark} place room es en marks restored =
 pub record Leaving (cells : List ℕ) (bound count place held : ℕ) (trail current current′ room room′ : List ℕ) (left : ℕ) : Type 0 where
   -- they are the first ones
   pub inside : left ≤ count
-  -- the rooms are as long as before
+  -- there are as many marks as before
   pub long : length room′ ≡ length room
+  -- and as many slots
   pub slots : length current′ ≡ length current
   -- what the walk behind all functions gave, the walk behind these gives
   pub rest : (row : ℕ) (before blank : List ℕ) → Chained cells bound row place before trail count
