@@ -3,12 +3,16 @@ use rows::column;
 use spellings::wide_short;
 use terms::COLUMNS;
 use terms::MOST_CELLS;
+use terms::TERM_FUN;
 ghost use Prim.Native.Nat.{_+_, _/_, _%_, _≤_, _<_};
 ghost use mathlib.Core.Path.{_≡_};
 ghost use lib.ListN.{length, getD};
 ghost use Rattle.terms.specs.Cells.{mostCells};
 ghost use Rattle.binders.specs.Slots.{slotFrom, slotOf};
 ghost use Rattle.binders.specs.Links.{LinkedTo, RowsLinked, RowsLinkable, linksWithRow};
+
+// Rows for which shorter rooms are lent.
+pub const FEW_ROWS: usize = 256;
 
 // The link at a place, 0 past the end.
 fn link_at(links: &[u16], i: usize) -> usize
@@ -25,8 +29,8 @@ fn hash(x: u32, half: usize) -> usize
     requires { ⌜ 0 < half ⌝ }
     ensures { λ r. ⌜ (r ≡ x % half) × (r < half) ⌝ }
 {
-    if half == 256 {
-        return (x as usize) % 256;
+    if half == FEW_ROWS {
+        return (x as usize) % FEW_ROWS;
     }
     if half == MOST_CELLS {
         return (x as usize) % MOST_CELLS;
@@ -80,7 +84,7 @@ pub fn link(cells: &[u32], links: &mut [u16])
     while row < cells.len() / COLUMNS {
         let code = column(cells, row as u32, 0);
         let x = column(cells, row as u32, 1);
-        if code == 33 {
+        if code == TERM_FUN {
             let there = find(cells, links, row, x);
             if there == MOST_CELLS {
                 add(links, row, x);

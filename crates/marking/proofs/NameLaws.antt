@@ -18,7 +18,7 @@ use Rattle.terms.specs.Rename.{isOutside, holds, holdsFields, isRenamed}
 use Rattle.terms.specs.Binding.{Binder}
 use Rattle.terms.specs.Occurrences.{ownerOf}
 use Rattle.binders.specs.Slots.{slotOf}
-use Rattle.marking.specs.Marks.{markOf, ownerCode, binderMark}
+use Rattle.marking.specs.Marks.{noOwner, markOf, ownerCode, binderMark}
 use Rattle.marking.specs.Resolving.{Bindable, bindable-word, bindable-fresh, Around, HoldsOutsides}
 use Rattle.terms.specs.Names.{Distinct, VariableName, BinderName, WellNamed, WellNamedFields}
 use Rattle.rows.proofs.RowLaws.{as-word, as-fresh, as-outside}
@@ -134,7 +134,7 @@ module _ (spell : ℕ → List ℕ) (value : ℕ) (cells current : List ℕ) (ar
       em ∙ fresh-owner e ∙ fresh-mark (value % nameBase) Owner (λ z. d (em ∙ fresh-owner e ∙ z)) ∙ sym (cc (as-fresh spell value e))
 
   -- a fresh one without an owner has the mark for that
-  pub fresh-loose-mark : value / nameBase ≡ 2 → {mark : ℕ} → mark ≡ getD current (slotOf cells value) 0 → mark ≡ 0 → 65535 ≡ markOf (nameOf spell value) Owner
+  pub fresh-loose-mark : value / nameBase ≡ 2 → {mark : ℕ} → mark ≡ getD current (slotOf cells value) 0 → mark ≡ 0 → noOwner ≡ markOf (nameOf spell value) Owner
   fresh-loose-mark e em z =
       sym (cc (as-fresh spell value e, fresh-owner e))
 

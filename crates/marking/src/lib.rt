@@ -1,8 +1,17 @@
 // Resolution: each variable's binder, and which binders are renamed, by places. A place is a constructor's number from the left.
 use binders::slot_of;
+use grammar::limits::MOST_OUTSIDES;
 use rows::column;
 use spellings::wide_short;
+use terms::FIELD_CONS;
+use terms::FRESH_CLASS;
 use terms::NAME_BASE;
+use terms::TERM_APP;
+use terms::TERM_DOT;
+use terms::TERM_FUN;
+use terms::TERM_RCD;
+use terms::TERM_VAR;
+use terms::WORD_CLASS;
 ghost use Prim.Native.Nat.{ℕ, _+_, _*_, _<_, _≤_};
 ghost use mathlib.Core.Path.{_≡_};
 ghost use mathlib.Core.List.{List};
@@ -18,6 +27,15 @@ ghost use Rattle.marking.specs.Resolving.{HoldsOutsides, MarksVariable, 
 ghost use Rattle.marking.specs.Walks.{Exchanged, Walkable, WalksTerm, WalksFields};
 ghost use Rattle.marking.specs.Chains.{TrailKept, Noted, EntersOne, Enterable, Enters, LeavesOne, Leaves};
 ghost use Rattle.terms.specs.Term.{largestTerm};
+
+// The mark of a binder that is renamed.
+pub const NEW: u16 = 65534;
+
+// The mark of a fresh variable that has no binder.
+pub const NO_OWNER: u16 = 65535;
+
+// Spelling numbers below this are of outside names.
+const OUTSIDES: u32 = MOST_OUTSIDES as u32;
 
 fn put(room: &mut &mut [u16], at: usize, v: u16)
     requires { ⌜ (at < length (now (now room))) × (length (now (now room)) ≤ largestTerm) ⌝ }
@@ -54,11 +72,11 @@ fn variable_mark(cells: &[u32], links: &[u16], current: &mut [u16], x: u32) -> u
 {
     let class = x / NAME_BASE;
     match class {
-        1 => binder_of(cells, links, current, x),
-        2 => {
+        WORD_CLASS => binder_of(cells, links, current, x),
+        FRESH_CLASS => {
             let inner = binder_of(cells, links, current, x);
             if inner == 0 {
-                return 65535;
+                return NO_OWNER;
             }
             inner
         }
@@ -75,9 +93,9 @@ fn held_by(x: u32) -> u64
     let class = x / NAME_BASE;
     let n = x % NAME_BASE;
     match class {
-        1 => 0,
-        2 => 0,
-        _ => if n < 64 { kinds::only(n as u8) } else { 0 },
+        WORD_CLASS => 0,
+        FRESH_CLASS => 0,
+        _ => kinds::set_of_kind(n),
     }
 }
 
@@ -98,17 +116,17 @@ fn binder_mark(x: u32, held: u64) -> u16
 {
     let class = x / NAME_BASE;
     let n = x % NAME_BASE;
-    if class == 1 {
-        if n < 64 {
+    if class == WORD_CLASS {
+        if n < OUTSIDES {
             let has = kinds::has(held, n as u8);
             if has {
-                return 65534;
+                return NEW;
             }
             return 0;
         }
         return 0;
     }
-    65534
+    NEW
 }
 
 // The binder at a place, as slots have it.
@@ -176,7 +194,7 @@ fn enter_functions(
     let mut below = row;
     while count < bound {
         let code = column(cells, below, 0);
-        if code != 33 {
+        if code != TERM_FUN {
             return Chain {
                 count: count,
                 row: below,
@@ -285,22 +303,22 @@ pub fn resolve_term(
     let code = column(*cells, row, 0);
     let x = column(*cells, row, 1);
     match code {
-        32 => {
+        TERM_VAR => {
             let m = variable_mark(*cells, *links, *current, x);
             put(marks, here, m);
             held_by(x)
         }
-        33 => {
+        TERM_FUN => {
             *place = here;
             resolve_functions(cells, links, bound, row, place, current, trail, marks)
         }
-        34 => {
+        TERM_APP => {
             let first = resolve_part(cells, links, deep, row, 1, place, current, trail, marks);
             let second = resolve_part(cells, links, deep, row, 2, place, current, trail, marks);
             kinds::join(first, second)
         }
-        35 => resolve_fields(cells, links, deep, x, place, current, trail, marks),
-        36 => resolve_part(cells, links, deep, row, 1, place, current, trail, marks),
+        TERM_RCD => resolve_fields(cells, links, deep, x, place, current, trail, marks),
+        TERM_DOT => resolve_part(cells, links, deep, row, 1, place, current, trail, marks),
         _ => 0,
     }
 }
@@ -396,7 +414,7 @@ fn resolve_fields(
     }
     let deep = bound - 1;
     let code = column(*cells, row, 0);
-    if code == 38 {
+    if code == FIELD_CONS {
         let first = resolve_part(cells, links, deep, row, 2, place, current, trail, marks);
         let next = column(*cells, row, 3);
         let rest = resolve_fields(cells, links, deep, next, place, current, trail, marks);

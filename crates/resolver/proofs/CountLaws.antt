@@ -16,16 +16,16 @@ use Rattle.resolver.specs.Numbers.{ownerNumber, numberAt, nextNumber, nu
 
 module _ (done : List ℕ) (next mark : ℕ) where
   -- a binder that is renamed takes the next number
-  pub new-at : mark ≡ 65534 → next ≡ numberAt done next mark
+  pub new-at : mark ≡ new → next ≡ numberAt done next mark
   unfolding numberAt
   new-at e = sym (rw (e, numberAt) refl)
 
   -- a place without an owner has 0
-  pub none-at : mark ≡ 65535 → 0 ≡ numberAt done next mark
+  pub none-at : mark ≡ noOwner → 0 ≡ numberAt done next mark
   unfolding numberAt
   none-at e = sym (ap (numberAt done next) e)
 
-  owner-at : (mark ≡ 65534 → ⊥) → (mark ≡ 65535 → ⊥) → numberAt done next mark ≡ ownerNumber done mark
+  owner-at : (mark ≡ new → ⊥) → (mark ≡ noOwner → ⊥) → numberAt done next mark ≡ ownerNumber done mark
   unfolding numberAt
   owner-at a b = rw (ne-eqb mark new a, numberAt) (rw (ne-eqb mark noOwner b) refl)
 
@@ -33,7 +33,7 @@ owner-number : (done : List ℕ) (mark owner : ℕ) → (mark ≡ 0 → ⊥) →
 owner-number done zero owner d e = absurd (d refl)
 owner-number done (suc k) owner d e = let z : k ≡ owner = omega arith in cc
 
-module _ (room : List ℕ) (place next mark : ℕ) (no-new : mark ≡ 65534 → ⊥) (no-loose : mark ≡ 65535 → ⊥) where
+module _ (room : List ℕ) (place next mark : ℕ) (no-new : mark ≡ new → ⊥) (no-loose : mark ≡ noOwner → ⊥) where
   -- a place with the mark 0 has 0
   pub zero-at : mark ≡ 0 → 0 ≡ numberAt (take place room) next mark
   zero-at e = sym (owner-at (take place room) next mark no-new no-loose ∙ ap (ownerNumber (take place room)) e)
@@ -97,14 +97,14 @@ module _ {total : ℕ} {room₀ room : List ℕ} {place count : ℕ} (counting :
       ap₂ take z (drop-cons room place 0 within)
 
   -- the first place without an owner is the answer
-  pub counting-loose : getD room place 0 ≡ 65535 → Loose place ≡ firstLoose (looseIn 0 (take total room₀))
+  pub counting-loose : getD room place 0 ≡ noOwner → Loose place ≡ firstLoose (looseIn 0 (take total room₀))
   unfolding looseIn
   counting-loose e =
       let h : looseIn place (getD room place 0 ∷ Ahead room total (suc place)) ≡ place ∷ looseIn (suc place) (Ahead room total (suc place)) = rw
       (e, looseIn) refl in
       ap firstLoose (sym h ∙ ap (looseIn place) (sym ahead) ∙ counting .loose)
 
-  module _ (owned : getD room place 0 ≡ 65535 → ⊥) {value : ℕ} (ev : value ≡ numberAt (take place room) (count + 1) (getD room place 0)) where
+  module _ (owned : getD room place 0 ≡ noOwner → ⊥) {value : ℕ} (ev : value ≡ numberAt (take place room) (count + 1) (getD room place 0)) where
     step-names : (more : ℕ) → nextNumber (count + 1) (getD room place 0) ≡ more
         → numberedMarks (take (suc place) (set room place value)) more (Ahead (set room place value) total (suc place)) ≡ numberedMarks [] 1 (take total room₀)
     unfolding numberedMarks
@@ -135,12 +135,12 @@ module _ {total : ℕ} {room₀ room : List ℕ} {place count : ℕ} (counting :
         })
 
     -- a renamed binder takes the next number
-    pub counting-new : getD room place 0 ≡ 65534 → Counting total room₀ (set room place value) (place + 1) (count + 1)
+    pub counting-new : getD room place 0 ≡ new → Counting total room₀ (set room place value) (place + 1) (count + 1)
     unfolding nextNumber
     counting-new e = counting-next (count + 1) (omega (arith, counting .few)) (rw (e, nextNumber) (omega arith))
 
     -- any other place takes none
-    pub counting-old : (getD room place 0 ≡ 65534 → ⊥) → Counting total room₀ (set room place value) (place + 1) count
+    pub counting-old : (getD room place 0 ≡ new → ⊥) → Counting total room₀ (set room place value) (place + 1) count
     unfolding nextNumber
     counting-old e = counting-next count (omega (arith, counting .few)) (rw (ne-eqb (getD room place 0) new e, nextNumber) refl)
 

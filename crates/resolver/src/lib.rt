@@ -1,9 +1,11 @@
 // Resolution: the binder of each variable of a term, the binders that are renamed, and the numbers of their new names. Refusal 23.
 use crate::numbering::number;
 use crate::quiet::is_quiet;
+use binders::FEW_ROWS;
 use binders::link;
 use marking::resolve_term;
 use terms::COLUMNS;
+use terms::MOST_CELLS;
 ghost use Prim.Native.Nat.{_/_, _≤_};
 ghost use mathlib.Core.Path.{_≡_};
 ghost use lib.ListN.{length};
@@ -57,9 +59,9 @@ fn resolve_small(cells: &[u32], made: usize, root: u32, marks: &mut &mut [u16]) 
         Resolves (now (cells .entry)) made root (now (now (marks .exit))) r × (length (now (now (marks .exit))) ≡ length (now (now (marks .entry))))
         ⌝ }
 {
-    let mut links = [0u16; 512];
-    let mut current = [0u16; 256];
-    let mut notes = [0u16; 512];
+    let mut links = [0u16; 2 * FEW_ROWS];
+    let mut current = [0u16; FEW_ROWS];
+    let mut notes = [0u16; 2 * FEW_ROWS];
     link(cells, &mut links);
     let mut slots = &mut current[..];
     let mut trail = &mut notes[..];
@@ -73,9 +75,9 @@ fn resolve_large(cells: &[u32], made: usize, root: u32, marks: &mut &mut [u16]) 
         Resolves (now (cells .entry)) made root (now (now (marks .exit))) r × (length (now (now (marks .exit))) ≡ length (now (now (marks .entry))))
         ⌝ }
 {
-    let mut links = [0u16; 32768];
-    let mut current = [0u16; 16384];
-    let mut notes = [0u16; 32768];
+    let mut links = [0u16; 2 * MOST_CELLS];
+    let mut current = [0u16; MOST_CELLS];
+    let mut notes = [0u16; 2 * MOST_CELLS];
     link(cells, &mut links);
     let mut slots = &mut current[..];
     let mut trail = &mut notes[..];
@@ -94,8 +96,8 @@ pub fn resolve(cells: &[u32], made: usize, root: u32, marks: &mut &mut [u16]) ->
     if is_quiet(cells) {
         return Resolution::Numbered;
     }
-    if cells.len() / COLUMNS <= 256 {
-        if made <= 256 {
+    if cells.len() / COLUMNS <= FEW_ROWS {
+        if made <= FEW_ROWS {
             return resolve_small(cells, made, root, marks);
         }
         return resolve_large(cells, made, root, marks);

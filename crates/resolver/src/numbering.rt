@@ -1,5 +1,7 @@
 // Resolution: the marks of a term become the numbers of the new names, from the left.
 use crate::Resolution;
+use marking::NEW;
+use marking::NO_OWNER;
 use spellings::wide_short;
 ghost use Prim.Native.Nat.{_+_, _≤_, _<_};
 ghost use mathlib.Core.Path.{_≡_};
@@ -13,10 +15,10 @@ fn number_of(marks: &[u16], p: usize, m: u16, count: u16) -> u16
     requires { ⌜ (p ≤ length (now marks)) × (count < largestTerm) ⌝ }
     ensures { λ r. ⌜ r ≡ numberAt (take p (now (marks .entry))) (count + 1) m ⌝ }
 {
-    if m == 65534 {
+    if m == NEW {
         return count + 1;
     }
-    if m == 65535 {
+    if m == NO_OWNER {
         return 0;
     }
     if m == 0 {
@@ -39,12 +41,12 @@ pub fn number(marks: &mut [u16], n: usize) -> Resolution
     let mut count: u16 = 0;
     while p < n {
         let m = marks[p];
-        if m == 65535 {
+        if m == NO_OWNER {
             return Resolution::Loose(p);
         }
         let v = number_of(marks, p, m, count);
         marks[p] = v;
-        if m == 65534 {
+        if m == NEW {
             count += 1;
             p += 1;
         } else {
