@@ -114,78 +114,6 @@ fn print_into(
     print_whole(pool, cells, shown, made, root, text)
 }
 
-// The text with the spellings of a table and a formula, with room for a few words.
-fn print_small(
-    table: &[u8],
-    formula: &[u8],
-    words: &[u32],
-    count: usize,
-    cells: &[u32],
-    made: usize,
-    root: u32,
-    shown: &[u16],
-    text: &mut [u8],
-) -> usize
-    requires { ⌜ Printable (now table) (now formula) (now words) count (now cells) made root (now shown) × (count ≤ 64) ⌝ }
-    ensures { λ r. ⌜
-        Prints
-        (textBy (spelledBy (now (table .entry)) (now (formula .entry)) (now (words .entry)) count) (now (cells .entry)) (now (shown .entry)) made root)
-        (now (text .entry)) (now (text .exit)) r
-        ⌝ }
-{
-    let mut pool = [0u8; SMALL_POOL];
-    fill(table, formula, words, count, &mut pool);
-    print_into(&pool, cells, shown, made, root, text)
-}
-
-// The same, with room for more words.
-fn print_medium(
-    table: &[u8],
-    formula: &[u8],
-    words: &[u32],
-    count: usize,
-    cells: &[u32],
-    made: usize,
-    root: u32,
-    shown: &[u16],
-    text: &mut [u8],
-) -> usize
-    requires { ⌜ Printable (now table) (now formula) (now words) count (now cells) made root (now shown) × (count ≤ 256) ⌝ }
-    ensures { λ r. ⌜
-        Prints
-        (textBy (spelledBy (now (table .entry)) (now (formula .entry)) (now (words .entry)) count) (now (cells .entry)) (now (shown .entry)) made root)
-        (now (text .entry)) (now (text .exit)) r
-        ⌝ }
-{
-    let mut pool = [0u8; MEDIUM_POOL];
-    fill(table, formula, words, count, &mut pool);
-    print_into(&pool, cells, shown, made, root, text)
-}
-
-// The same, with room for all words that a formula may have.
-fn print_large(
-    table: &[u8],
-    formula: &[u8],
-    words: &[u32],
-    count: usize,
-    cells: &[u32],
-    made: usize,
-    root: u32,
-    shown: &[u16],
-    text: &mut [u8],
-) -> usize
-    requires { ⌜ Printable (now table) (now formula) (now words) count (now cells) made root (now shown) ⌝ }
-    ensures { λ r. ⌜
-        Prints
-        (textBy (spelledBy (now (table .entry)) (now (formula .entry)) (now (words .entry)) count) (now (cells .entry)) (now (shown .entry)) made root)
-        (now (text .entry)) (now (text .exit)) r
-        ⌝ }
-{
-    let mut pool = [0u8; LARGE_POOL];
-    fill(table, formula, words, count, &mut pool);
-    print_into(&pool, cells, shown, made, root, text)
-}
-
 // The text of the term at a row, at the front of a buffer, if it fits; the answer is its length. `shown` has the numbers of new names.
 pub fn print_text(
     table: &[u8],
@@ -206,10 +134,16 @@ pub fn print_text(
         ⌝ }
 {
     if count <= FEW_WORDS {
-        return print_small(table, formula, words, count, cells, made, root, shown, text);
+        let mut pool = [0u8; SMALL_POOL];
+        fill(table, formula, words, count, &mut pool);
+        return print_into(&pool, cells, shown, made, root, text);
     }
     if count <= MORE_WORDS {
-        return print_medium(table, formula, words, count, cells, made, root, shown, text);
+        let mut pool = [0u8; MEDIUM_POOL];
+        fill(table, formula, words, count, &mut pool);
+        return print_into(&pool, cells, shown, made, root, text);
     }
-    print_large(table, formula, words, count, cells, made, root, shown, text)
+    let mut pool = [0u8; LARGE_POOL];
+    fill(table, formula, words, count, &mut pool);
+    print_into(&pool, cells, shown, made, root, text)
 }

@@ -218,39 +218,6 @@ const MIDDLE_STACK: usize = 2 * MIDDLE_TABLE + 8;
 
 const LARGE_STACK: usize = 2 * LONGEST_TABLE + 8;
 
-// With room for the places that the templates of a small table open.
-fn check_small(table: &[u8]) -> Verdict
-    requires { ⌜ length (now table) ≤ 1024 ⌝ }
-    ensures { λ r. ⌜ r ≡ sortsOf (now (table .entry)) ⌝ }
-{
-    let mut heads = [0u16; EACH_NONTERMINAL];
-    let mut sorts = [0u8; MOST_VARIABLES];
-    let mut stack = [0u8; SMALL_STACK];
-    check_fields(&mut heads, &mut sorts, &mut stack, table)
-}
-
-// With room for those of a table of a middle size.
-fn check_medium(table: &[u8]) -> Verdict
-    requires { ⌜ length (now table) ≤ 4096 ⌝ }
-    ensures { λ r. ⌜ r ≡ sortsOf (now (table .entry)) ⌝ }
-{
-    let mut heads = [0u16; EACH_NONTERMINAL];
-    let mut sorts = [0u8; MOST_VARIABLES];
-    let mut stack = [0u8; MIDDLE_STACK];
-    check_fields(&mut heads, &mut sorts, &mut stack, table)
-}
-
-// With room for those of any table.
-fn check_large(table: &[u8]) -> Verdict
-    requires { ⌜ length (now table) ≤ most .bytes ⌝ }
-    ensures { λ r. ⌜ r ≡ sortsOf (now (table .entry)) ⌝ }
-{
-    let mut heads = [0u16; EACH_NONTERMINAL];
-    let mut sorts = [0u8; MOST_VARIABLES];
-    let mut stack = [0u8; LARGE_STACK];
-    check_fields(&mut heads, &mut sorts, &mut stack, table)
-}
-
 // The sorts of a table whose layout is right: refusals 7, 8, 9 and 11. A longer table is refused before.
 pub fn check_sorts(table: &[u8]) -> Verdict
     ensures { λ r. ⌜ r ≡ sortsOf (now (table .entry)) ⌝ }
@@ -258,11 +225,16 @@ pub fn check_sorts(table: &[u8]) -> Verdict
     if LONGEST_TABLE < table.len() {
         return Verdict::Passed;
     }
+    let mut heads = [0u16; EACH_NONTERMINAL];
+    let mut sorts = [0u8; MOST_VARIABLES];
     if table.len() <= SMALL_TABLE {
-        return check_small(table);
+        let mut stack = [0u8; SMALL_STACK];
+        return check_fields(&mut heads, &mut sorts, &mut stack, table);
     }
     if table.len() <= MIDDLE_TABLE {
-        return check_medium(table);
+        let mut stack = [0u8; MIDDLE_STACK];
+        return check_fields(&mut heads, &mut sorts, &mut stack, table);
     }
-    check_large(table)
+    let mut stack = [0u8; LARGE_STACK];
+    check_fields(&mut heads, &mut sorts, &mut stack, table)
 }
