@@ -84,8 +84,10 @@ module _ (table : Table) (passing : Passing table) where
   pub productions-sorted : {n : ℕ} {p : Production} → Of (grammarOf table) n p
       → (S : Signature) × Newest (passing .meets .sorted .env) n S
       × Body (scopeOf table (passing .meets .sorted)) (S .params) (p .items) (p .result) (S .result)
-  productions-sorted {p = p} o =
-      let fit = table-fits table (passing .within) (passing .meets .sorted) .each p (o .member) in (fit .signature, rw (← (o .owned)) (fit .newest), fit .body)
+  productions-sorted {n} {p} o =
+      let fit = table-fits table (passing .within) (passing .meets .sorted) .each p (o .member) in
+      let newest : Newest (passing .meets .sorted .env) n (fit .signature) = rw (← (o .owned)) (fit .newest) in
+      (fit .signature, newest, fit .body)
 
   -- Whatever a call of the root derives is a term (001, Corollary 1).
   pub root-derives-term : {spell : ℕ → List ℕ} {M : List Value} {s s′ : List Token} {i i′ : ℕ}
