@@ -8,7 +8,7 @@ use Rattle.terms.specs.Cells.{column, columns, mostCells}
 
 -- a row binds the name x
 abbrev pub binds : List ℕ → ℕ → ℕ → Bool
-binds cells row x = eqb (column cells row 0) 33 && eqb (column cells row 1) x
+binds cells row x = eqb (column cells row 0) 0x21 && eqb (column cells row 1) x
 
 -- the first of n rows, from `row` on, that binds x; `mostCells`, which is no row, if none does
 unfoldable pub slotFrom : ℕ → List ℕ → ℕ → ℕ → ℕ

@@ -2,6 +2,11 @@
 use answers::Verdict;
 use answers::refused;
 use grammar::Front;
+use grammar::codes::BLOCK_TAG;
+use grammar::codes::EXTEND;
+use grammar::codes::HEAD_TAG;
+use grammar::codes::ROOT_TAG;
+use grammar::codes::UPDATE;
 use grammar::front_at;
 use grammar::reader::byte;
 use grammar::reader::part;
@@ -10,6 +15,7 @@ use spellings::wide_byte;
 ghost use Prim.Native.Nat.{_+_, _≤_};
 ghost use mathlib.Core.Path.{_≡_};
 ghost use lib.ListN.{length, getD, take, drop, set};
+ghost use Rattle.grammar.specs.Limits.{most};
 ghost use Rattle.bodies.specs.HeadBytes.{signatureAt, faultOf, Defined, collected, collectAt};
 
 // The signature in the head at an offset: the sort of the result, then those of the parameters, four at most.
@@ -43,13 +49,13 @@ pub fn head_of(heads: &[u16], n: u8) -> usize
 
 // The refusal of the head at an offset, 7 or 8, or 0, in the block that begins at `block`.
 fn fault_of(table: &[u8], at: usize, block: usize, heads: &[u16]) -> u8
-    requires { ⌜ at ≤ 65536 ⌝ }
+    requires { ⌜ at ≤ most .bytes ⌝ }
     ensures { λ r. ⌜ r ≡ faultOf (now (table .entry)) at block (now (heads .entry)) ⌝ }
 {
     let n = byte(table, at + 3);
     let mode = byte(table, at + 4);
     let h = head_of(heads, n);
-    if (mode == 1) | (mode == 2) {
+    if (mode == EXTEND) | (mode == UPDATE) {
         let alike = equal(signature_at(table, h), signature_at(table, at));
         if (h <= block) & (0 < h) & alike { 0 } else { 8 }
     } else if h == 0 {
@@ -61,10 +67,10 @@ fn fault_of(table: &[u8], at: usize, block: usize, heads: &[u16]) -> u8
 
 // A field at an offset: a head goes among the heads, if it is not refused. The refusal, or 0.
 fn define(heads: &mut [u16], table: &[u8], at: usize, tag: u8, block: usize) -> u8
-    requires { ⌜ at ≤ 65535 ⌝ }
+    requires { ⌜ at ≤ most .bytes ⌝ }
     ensures { λ r. ⌜ Defined (now (table .entry)) at tag block (now (heads .entry)) r (now (heads .exit)) ⌝ }
 {
-    if tag != 4 {
+    if tag != HEAD_TAG {
         return 0;
     }
     let fault = fault_of(table, at, block, heads);
@@ -80,7 +86,7 @@ fn define(heads: &mut [u16], table: &[u8], at: usize, tag: u8, block: usize) -> 
 
 // The heads of the block that begins at an offset, from its first field on.
 pub fn collect(heads: &mut [u16], table: &[u8], block: usize, from: usize) -> Verdict
-    requires { ⌜ length (now table) ≤ 65535 ⌝ }
+    requires { ⌜ length (now table) ≤ most .bytes ⌝ }
     ensures { λ r. ⌜ collected r (now (heads .exit)) ≡ collectAt (now (table .entry)) block from (now (heads .entry)) ⌝ }
 {
     let mut at = from;
@@ -95,7 +101,7 @@ pub fn collect(heads: &mut [u16], table: &[u8], block: usize, from: usize) -> Ve
             }
             Front::Field(tag, size) => {
                 let to = at + 3 + size;
-                if (tag == 3) | (tag == 8) {
+                if (tag == BLOCK_TAG) | (tag == ROOT_TAG) {
                     return Verdict::Passed;
                 }
                 let fault = define(heads, table, at, tag, block);

@@ -4,6 +4,10 @@ use crate::Known;
 use crate::heads::head_of;
 use crate::heads::signature_at;
 use crate::templates::fault_in;
+use grammar::codes::CALL_ITEM;
+use grammar::codes::IDE_ITEM;
+use grammar::codes::KEYWORD_ITEM;
+use grammar::codes::LOCAL_ITEM;
 use grammar::limits::MOST_VARIABLES;
 use grammar::reader::byte;
 use grammar::reader::part;
@@ -75,15 +79,15 @@ pub fn check_item(
     let kind = byte(v, 0);
     let operand = byte(v, 1);
     match kind {
-        0 => {
+        KEYWORD_ITEM => {
             if wide_byte(operand) < known.keywords {
                 return ItemSort::As(Sort::UNIT.0);
             }
             ItemSort::Unsorted(9)
         }
-        1 => ItemSort::As(operand),
-        3 => ItemSort::As(Sort::BINDER.0),
-        4 => check_call(
+        IDE_ITEM => ItemSort::As(operand),
+        LOCAL_ITEM => ItemSort::As(Sort::BINDER.0),
+        CALL_ITEM => check_call(
             stack,
             table,
             heads,

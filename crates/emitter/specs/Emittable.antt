@@ -14,6 +14,7 @@ use Rattle.terms.specs.Cells.{columns}
 use Rattle.terms.specs.Rows.{termAt}
 use Rattle.terms.specs.Names.{Distinct, WellNamed}
 use Rattle.rows.specs.Sizes.{WholeRows, sizeAt}
+use Rattle.writer.specs.Openings.{spellingRoom}
 use Rattle.writer.specs.Pool.{oneOf, spanned, spelledBy}
 use Rattle.terms.specs.Term.{largestTerm}
 
@@ -21,8 +22,8 @@ use Rattle.terms.specs.Term.{largestTerm}
 pub record Emittable (table formula words : List ℕ) (count : ℕ) (cells : List ℕ) (made root : ℕ) : Type 0 where
   pub few : count ≤ mostTokens
   pub lie : count * 2 ≤ length words
-  pub outsidesFit : (m : ℕ) → length (oneOf (lexiconOf table .outsides) m) < 32
-  pub wordsFit : (j : ℕ) → j < count → length (spanned formula words j) < 32
+  pub outsidesFit : (m : ℕ) → length (oneOf (lexiconOf table .outsides) m) < spellingRoom
+  pub wordsFit : (j : ℕ) → j < count → length (spanned formula words j) < spellingRoom
   pub distinct : Distinct (spelledBy table formula words count)
   pub whole : WholeRows cells
   pub rowsLie : made * columns ≤ length cells

@@ -1,9 +1,23 @@
 // The tests that a table's layout makes on one field: its tag, length and value, its order, the counts, whole templates. Refusals 3, 4, 6 and 10.
 use decoding::Progress;
+use grammar::codes::ALTERNATIVE_TAG;
+use grammar::codes::BLOCK_TAG;
+use grammar::codes::CALL_ITEM;
+use grammar::codes::HEAD_TAG;
+use grammar::codes::IDE_ITEM;
+use grammar::codes::ITEM_TAG;
+use grammar::codes::KEYWORD_ITEM;
+use grammar::codes::KEYWORD_TAG;
+use grammar::codes::LOCAL_ITEM;
 use grammar::codes::NAME_AS_LABEL;
 use grammar::codes::NAME_AS_VAR;
+use grammar::codes::NUMBER_ITEM;
+use grammar::codes::OUTSIDE_TAG;
+use grammar::codes::RESULT_TAG;
+use grammar::codes::ROOT_TAG;
 use grammar::codes::TERM_NUM;
 use grammar::codes::TERM_VAR;
+use grammar::codes::UPDATE;
 use grammar::codes::VARIABLES;
 use grammar::limits::MOST_ALTERNATIVES;
 use grammar::limits::MOST_BLOCKS;
@@ -53,7 +67,7 @@ fn is_head(v: &[u8]) -> bool
     let sized = (3 <= v.len())
         & (v.len() <= LONGEST_HEAD)
         & (byte(v, 0) < NONTERMINALS)
-        & (byte(v, 1) <= 2);
+        & (byte(v, 1) <= UPDATE);
     if !sized {
         return false;
     }
@@ -67,11 +81,11 @@ fn is_item(v: &[u8]) -> bool
     let kind = byte(v, 0);
     let operand = byte(v, 1);
     let pair = v.len() == 2;
-    ((kind == 0) & pair)
-        | ((kind == 1) & pair & Sort::is_ide_code(operand))
-        | ((kind == 2) & pair & (operand == 0))
-        | ((kind == 3) & pair & (operand == 0))
-        | ((kind == 4) & (2 <= v.len()) & (operand < NONTERMINALS))
+    ((kind == KEYWORD_ITEM) & pair)
+        | ((kind == IDE_ITEM) & pair & Sort::is_ide_code(operand))
+        | ((kind == NUMBER_ITEM) & pair & (operand == 0))
+        | ((kind == LOCAL_ITEM) & pair & (operand == 0))
+        | ((kind == CALL_ITEM) & (2 <= v.len()) & (operand < NONTERMINALS))
 }
 
 // The root: a nonterminal.
@@ -86,14 +100,14 @@ pub fn is_known(tag: u8, v: &[u8]) -> bool
     ensures { λ r. ⌜ r ≡ isKnown tag (now (v .entry)) ⌝ }
 {
     match tag {
-        1 => true,
-        2 => true,
-        3 => v.len() == 0,
-        4 => is_head(v),
-        5 => v.len() == 0,
-        6 => is_item(v),
-        7 => true,
-        8 => is_root(v),
+        KEYWORD_TAG => true,
+        OUTSIDE_TAG => true,
+        BLOCK_TAG => v.len() == 0,
+        HEAD_TAG => is_head(v),
+        ALTERNATIVE_TAG => v.len() == 0,
+        ITEM_TAG => is_item(v),
+        RESULT_TAG => true,
+        ROOT_TAG => is_root(v),
         _ => false,
     }
 }
@@ -105,14 +119,14 @@ fn tags_before(tag: u8) -> u64
     ensures { λ r. ⌜ ((last : ℕ) → hasKind r last ≡ follows tag last) ⌝ }
 {
     match tag {
-        1 => 0x03,
-        2 => 0x07,
-        3 => 0x8F,
-        4 => 0x88,
-        5 => 0x90,
-        6 => 0x60,
-        7 => 0x60,
-        8 => 0x8F,
+        KEYWORD_TAG => 0x03,
+        OUTSIDE_TAG => 0x07,
+        BLOCK_TAG => 0x8F,
+        HEAD_TAG => 0x88,
+        ALTERNATIVE_TAG => 0x90,
+        ITEM_TAG => 0x60,
+        RESULT_TAG => 0x60,
+        ROOT_TAG => 0x8F,
         _ => 0,
     }
 }
@@ -130,11 +144,11 @@ pub fn may_follow(tag: u8, last: u8) -> bool
 pub fn has_room(tag: u8, s: Progress) -> bool
     ensures { λ r. ⌜ r ≡ hasRoom tag s ⌝ }
 {
-    (!(tag == 1) | (s.keywords < MOST_KEYWORDS))
-        & (!(tag == 2) | (s.outsides < MOST_OUTSIDES))
-        & (!(tag == 3) | (s.blocks < MOST_BLOCKS))
-        & (!(tag == 5) | (s.alternatives < MOST_ALTERNATIVES))
-        & (!(tag == 6) | (s.items < MOST_ITEMS))
+    (!(tag == KEYWORD_TAG) | (s.keywords < MOST_KEYWORDS))
+        & (!(tag == OUTSIDE_TAG) | (s.outsides < MOST_OUTSIDES))
+        & (!(tag == BLOCK_TAG) | (s.blocks < MOST_BLOCKS))
+        & (!(tag == ALTERNATIVE_TAG) | (s.alternatives < MOST_ALTERNATIVES))
+        & (!(tag == ITEM_TAG) | (s.items < MOST_ITEMS))
 }
 
 fn one_if(b: bool) -> u16
@@ -148,10 +162,10 @@ fn items_after(tag: u8, s: Progress) -> u16
     requires { ⌜ hasRoom tag s ≡ true ⌝ }
     ensures { λ r. ⌜ r ≡ passed tag s .items ⌝ }
 {
-    if tag == 5 {
+    if tag == ALTERNATIVE_TAG {
         return 0;
     }
-    s.items + one_if(tag == 6)
+    s.items + one_if(tag == ITEM_TAG)
 }
 
 // One field further.
@@ -161,10 +175,10 @@ pub fn further(tag: u8, s: Progress) -> Progress
 {
     Progress {
         last: tag,
-        keywords: s.keywords + one_if(tag == 1),
-        outsides: s.outsides + one_if(tag == 2),
-        blocks: s.blocks + one_if(tag == 3),
-        alternatives: s.alternatives + one_if(tag == 5),
+        keywords: s.keywords + one_if(tag == KEYWORD_TAG),
+        outsides: s.outsides + one_if(tag == OUTSIDE_TAG),
+        blocks: s.blocks + one_if(tag == BLOCK_TAG),
+        alternatives: s.alternatives + one_if(tag == ALTERNATIVE_TAG),
         items: items_after(tag, s),
     }
 }
@@ -226,10 +240,10 @@ fn are_templates(v: &[u8], from: usize, single: bool) -> bool
 pub fn is_whole(tag: u8, v: &[u8]) -> bool
     ensures { λ r. ⌜ r ≡ isWhole tag (now (v .entry)) ⌝ }
 {
-    if tag == 6 {
-        return !(byte(v, 0) == 4) | are_templates(v, 2, false);
+    if tag == ITEM_TAG {
+        return !(byte(v, 0) == CALL_ITEM) | are_templates(v, 2, false);
     }
-    if tag == 7 {
+    if tag == RESULT_TAG {
         return are_templates(v, 0, true);
     }
     true

@@ -79,7 +79,7 @@ const THIRDS: [u8; 8] = [UNIT, UNIT, UNIT, UNIT, UNIT, UNIT, FIELDS, UNIT];
 
 // What a table has for a constructor's code.
 fn by_code(table: [u8; 8], code: u8) -> u8
-    ensures { λ r. ⌜ r ≡ getD table (code - 32) 0 ⌝ }
+    ensures { λ r. ⌜ r ≡ getD table (code - 0x20) 0 ⌝ }
 {
     if code < TERM_VAR {
         return table[0];

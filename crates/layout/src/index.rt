@@ -1,4 +1,5 @@
 // The spellings of one tag by their hash, so that a repeated one is found without comparing it with all of them.
+use grammar::codes::OUTSIDE_TAG;
 use grammar::limits::MOST_OUTSIDES;
 use grammar::reader::byte;
 use grammar::reader::part;
@@ -57,7 +58,7 @@ fn hash(v: &[u8]) -> usize
 pub fn spelling_hash(tag: u8, v: &[u8]) -> usize
     ensures { λ r. ⌜ HashedUnder tag (now (v .entry)) r ⌝ }
 {
-    if 2 < tag {
+    if OUTSIDE_TAG < tag {
         return 0;
     }
     hash(v)

@@ -12,6 +12,9 @@ use fields::is_known;
 use fields::is_whole;
 use fields::may_follow;
 use grammar::Front;
+use grammar::codes::KEYWORD_TAG;
+use grammar::codes::OUTSIDE_TAG;
+use grammar::codes::ROOT_TAG;
 use grammar::front_at;
 use grammar::limits::LONGEST_TABLE;
 use index::ROOM;
@@ -54,10 +57,10 @@ fn is_spelled(
     ensures { λ r. ⌜ ((before : List Field) → Indexed (now (table .entry)) (now (keywords .entry)) (spellingsUnder 1 before)
         → Indexed (now (table .entry)) (now (outsides .entry)) (spellingsUnder 2 before) → r ≡ isSpelled tag (now (v .entry)) before) ⌝ }
 {
-    if tag == 1 {
+    if tag == KEYWORD_TAG {
         return is_keyword_spelling(v) & !is_among(keywords, table, v, h);
     }
-    if tag == 2 {
+    if tag == OUTSIDE_TAG {
         return is_word(v) & !is_among(outsides, table, v, h);
     }
     true
@@ -113,7 +116,7 @@ fn check_field(
 fn check_end(at: usize, s: Progress) -> Verdict
     ensures { λ r. ⌜ r ≡ verdict (need (eqb (s .last) 8) 4 at) ⌝ }
 {
-    if s.last == 8 {
+    if s.last == ROOT_TAG {
         return Verdict::Passed;
     }
     refused(4, at)
@@ -164,8 +167,22 @@ pub fn check_layout(table: &[u8]) -> Verdict
                         return Verdict::Refused(r);
                     }
                     Checking::Further(t) => {
-                        enter(&mut keywords, tag == 1, s.keywords as usize, from, v, h);
-                        enter(&mut outsides, tag == 2, s.outsides as usize, from, v, h);
+                        enter(
+                            &mut keywords,
+                            tag == KEYWORD_TAG,
+                            s.keywords as usize,
+                            from,
+                            v,
+                            h,
+                        );
+                        enter(
+                            &mut outsides,
+                            tag == OUTSIDE_TAG,
+                            s.outsides as usize,
+                            from,
+                            v,
+                            h,
+                        );
                         s = t;
                         at = to;
                     }

@@ -16,11 +16,13 @@ use Rattle.grammar.specs.Lookup.{leading, afterLeading, lexiconOf, frontOf, fie
 use Rattle.grammar.specs.declared.Found.{Found}
 use Rattle.grammar.specs.declared.Found.the-variants.{At, Absent}
 use Rattle.grammar.specs.Found.{foundIn}
-use Rattle.kinds.specs.Kinds.{keywordKind}
+use Rattle.kinds.specs.Kinds.{keywordKind, noKind}
 use Rattle.grammar.proofs.LookupLaws.{Stops, front-inside, fields-at, found-nil, found-here, found-later, keywords-at, outsides-at, few-keywords}
+use Rattle.grammar.specs.Limits.{most}
 use Rattle.lexicon.specs.Places.{wordsFrom, wordsIn}
 use Rattle.lexicon.specs.Trees.{Planted, Searched, Linkable, linksWith}
 use Rattle.lexicon.specs.declared.trees.Spot.{Spot}
+use Rattle.lexicon.specs.LexiconRoom.{mostSpellings, symbolEnd, symbolsAt, keywordCountAt, spellingCountAt, lexiconSize, treeMask, treeSize}
 use Rattle.lexicon.specs.LexiconRoom.{SameBehind, Spelled, Enters, SpellingsEntered, kindFrom, Marked, Symbols, SamePlaces, Unmarked, Blank, Lexical}
 use Rattle.lexicon.proofs.PlaceLaws.{words-length, word-listed, words-alike, words-added, place-stored}
 use Rattle.lexicon.proofs.TreeLaws.{zeros, tree-none, tree-with, linkable, links-long}
@@ -33,15 +35,15 @@ placedAt room e from size = sets room (e * 2) (from ∷ size ∷ [])
 
 module _ {table room links : List ℕ} {entries most : ℕ} (enters : Enters table room links entries most) where
   -- the spellings entered can be searched
-  pub entered-planted : Planted table room links 127 entries
+  pub entered-planted : Planted table room links treeMask entries
   entered-planted =
       let p = enters .spelled in
       record { tree = p .tree; placed = omega (arith, enters .enough, p .long); linked = omega (arith, enters .enough, p .wide) }
 
   -- where a search among them ended there is room for a link
-  pub entered-linkable : (spelling : List ℕ) (spot : Spot) → Searched 127 (wordsIn table room entries) links spelling spot → Linkable links spot
+  pub entered-linkable : (spelling : List ℕ) (spot : Spot) → Searched treeMask (wordsIn table room entries) links spelling spot → Linkable links spot
   entered-linkable spelling spot f =
-      linkable 127 (wordsIn table room entries) links spelling spot f (omega (arith, enters .enough, enters .spelled .wide, words-length entries table room 0))
+      linkable treeMask (wordsIn table room entries) links spelling spot f (omega (arith, enters .enough, enters .spelled .wide, words-length entries table room 0))
 
   -- the second number of a place, after the first is stored
   pub place-inside : (place stored : ℕ) → entries * 2 + 1 < length (set room place stored)
@@ -50,7 +52,7 @@ module _ {table room links : List ℕ} {entries most : ℕ} (enters : Enters tab
 -- a spelling is entered
 pub enter-one : (table room : List ℕ) {links links′ : List ℕ} {entries : ℕ} (from size : ℕ) {spelling : List ℕ} (spot : Spot)
     → Enters table room links entries 1 → spelling ≡ take size (drop from table)
-    → Searched 127 (wordsIn table room entries) links spelling spot
+    → Searched treeMask (wordsIn table room entries) links spelling spot
     → links′ ≡ linksWith links spot entries
     → Spelled table (placedAt room entries from size) links′ (entries + 1)
 enter-one table room {links} {entries = entries} from size {spelling} spot c read f z =
@@ -84,7 +86,7 @@ pub record Entering (table room₀ : List ℕ) (start tag most first : ℕ) (roo
   -- offsets of the table are 32-bit numbers
   pub short : length table < 2 ^ 32
   -- the rooms hold the most that may be entered
-  pub enough : first + most ≤ 126
+  pub enough : first + most ≤ mostSpellings
   -- `entries` counts from `first` on
   pub from : first ≤ entries
   -- no more than `most` are entered
@@ -184,30 +186,30 @@ one-long (b ∷ []) h = refl
 one-long (b ∷ c ∷ bs) h = absurd (omega arith)
 
 module _ (room : List ℕ) {spelling : List ℕ} {number : ℕ} where
-  -- the kind stored at a spelling of one byte below 128 marks it
-  pub marked-one : length room ≡ 382 → length spelling ≡ 1 → getD spelling 0 0 < 128
-      → Marked room (set room (252 + getD spelling 0 0) (number + 2)) spelling number
+  -- the kind stored at a spelling of one byte that may be a symbol marks it
+  pub marked-one : length room ≡ lexiconSize → length spelling ≡ 1 → getD spelling 0 0 < symbolEnd
+      → Marked room (set room (symbolsAt + getD spelling 0 0) (number + 2)) spelling number
   marked-one long one small =
       record {
         this =
             λ b l e.
             let z : getD spelling 0 0 ≡ b = cc in
-            rw z (getD-set-same room (252 + b) (number + 2) 0 (omega arith));
+            rw z (getD-set-same room (symbolsAt + b) (number + 2) 0 (omega arith));
         others =
             λ b l d.
-            getD-set-other room (252 + getD spelling 0 0) (252 + b) (number + 2) 0
+            getD-set-other room (symbolsAt + getD spelling 0 0) (symbolsAt + b) (number + 2) 0
             (λ e.
             let z : getD spelling 0 0 ≡ b = omega (arith, e) in
             d (cc (one-long spelling one)));
-        before = λ i l. getD-set-other room (252 + getD spelling 0 0) i (number + 2) 0 (λ e. omega (arith, e));
-        same-length = length-set room (252 + getD spelling 0 0) (number + 2);
+        before = λ i l. getD-set-other room (symbolsAt + getD spelling 0 0) i (number + 2) 0 (λ e. omega (arith, e));
+        same-length = length-set room (symbolsAt + getD spelling 0 0) (number + 2);
       }
 
-  unmarked : ((byte : ℕ) → byte < 128 → spelling ≡ byte ∷ [] → ⊥) → Marked room room spelling number
+  unmarked : ((byte : ℕ) → byte < symbolEnd → spelling ≡ byte ∷ [] → ⊥) → Marked room room spelling number
   unmarked d = record { this = λ b l e. absurd (d b l e); others = λ b l e. refl; before = λ i l. refl; same-length = refl }
 
-  -- a byte from 128 on is no symbol and needs no mark
-  pub unmarked-high : length spelling ≡ 1 → 128 ≤ getD spelling 0 0 → Marked room room spelling number
+  -- a byte from `symbolEnd` on is no symbol and needs no mark
+  pub unmarked-high : length spelling ≡ 1 → symbolEnd ≤ getD spelling 0 0 → Marked room room spelling number
   unmarked-high one h = unmarked (λ b l e. omega (arith, ap (λ (v : List ℕ). getD v 0 0) e))
 
   -- a spelling that is not one byte needs no mark
@@ -232,19 +234,19 @@ module _ (number : ℕ) (word : List ℕ) (vs : List (List ℕ)) (spelling : Lis
 
 -- the symbols are marked by the spellings from spelling `number` on
 pub record Marking (table room₀ : List ℕ) (count : ℕ) (room : List ℕ) (number : ℕ) : Type 0 where
-  -- there are at most 62 keywords
-  pub few : count ≤ 62
+  -- there are no more keywords than there may be
+  pub few : count ≤ most .keywords
   -- `number` counts the keywords not yet marked
   pub upto : number ≤ count
   -- the room has its size
-  pub long₀ : length room₀ ≡ 382
+  pub long₀ : length room₀ ≡ lexiconSize
   -- each symbol has its kind by the spellings from `number` on
   pub symbols : Symbols (wordsIn table room₀ count) number room
   -- the places of the spellings stay
   pub places : SamePlaces room₀ room
 
 -- no spelling is marked yet
-pub marking-start : (table room : List ℕ) (count : ℕ) → count ≤ 62 → Unmarked room → length room ≡ 382 → Marking table room count room count
+pub marking-start : (table room : List ℕ) (count : ℕ) → count ≤ most .keywords → Unmarked room → length room ≡ lexiconSize → Marking table room count room count
 unfolding kindFrom
 marking-start table room count few u long =
     let past : length (wordsIn table room count) ≤ count = omega (arith, words-length count table room 0) in
@@ -310,28 +312,28 @@ marking-end {table} {room₀} {count} {room} {number} c h =
 -- ------------------------------------------------------------------ the lexicon
 
 -- the rooms of a lexicon, before it is entered
-pub blank : Blank (replicate 382 64) (replicate 380 0)
+pub blank : Blank (replicate lexiconSize noKind) (replicate treeSize 0)
 blank =
     record {
-      long = length-replicate {A = ℕ} 382 64;
-      wide = length-replicate {A = ℕ} 380 0;
-      unmarked = λ b l. getD-replicate {A = ℕ} 382 (252 + b) 64 0 (omega arith);
-      unlinked = zeros 380;
+      long = length-replicate {A = ℕ} lexiconSize noKind;
+      wide = length-replicate {A = ℕ} treeSize 0;
+      unmarked = λ b l. getD-replicate {A = ℕ} lexiconSize (symbolsAt + b) noKind 0 (omega arith);
+      unlinked = zeros treeSize;
     }
 
 module _ {table room₀ links₀ : List ℕ} (given-blank : Blank room₀ links₀) (short : length table < 2 ^ 32) where
-  -- blank rooms have room for 62 keywords
-  pub first-enters : Enters table room₀ links₀ 0 62
+  -- blank rooms have room for all keywords
+  pub first-enters : Enters table room₀ links₀ 0 (most .keywords)
   unfolding wordsFrom
   first-enters =
       record {
         short = short;
         enough = omega arith;
-        spelled = record { long = given-blank .long; wide = given-blank .wide; tree = tree-none 127 links₀ (given-blank .unlinked) };
+        spelled = record { long = given-blank .long; wide = given-blank .wide; tree = tree-none treeMask links₀ (given-blank .unlinked) };
       }
 
   module _ {room₁ links₁ : List ℕ} {number : ℕ}
-      (spellings-entered₁ : SpellingsEntered table room₀ room₁ links₁ number (wordsIn table room₀ 0 ++ take 62 (leading 1 (fieldsAt table 0)))) where
+      (spellings-entered₁ : SpellingsEntered table room₀ room₁ links₁ number (wordsIn table room₀ 0 ++ take (most .keywords) (leading 1 (fieldsAt table 0)))) where
     keywords-listed : wordsIn table room₁ number ≡ lexiconOf table .keywords
     unfolding wordsFrom
     keywords-listed = spellings-entered₁ .listed ∙ sym (keywords-at table)
@@ -339,20 +341,20 @@ module _ {table room₀ links₀ : List ℕ} (given-blank : Blank room₀ links�
     keywords-counted : number ≡ length (lexiconOf table .keywords)
     keywords-counted = sym (words-length number table room₁ 0) ∙ ap length keywords-listed
 
-    -- the keywords entered are at most 62
-    pub few-marks : number ≤ 62
+    -- the keywords entered are no more than there may be
+    pub few-marks : number ≤ most .keywords
     few-marks = omega (arith, keywords-counted, few-keywords table)
 
     -- after the keywords are entered no symbol has a kind yet
     pub still-unmarked : Unmarked room₁
-    still-unmarked i l = spellings-entered₁ .behind (252 + i) (omega arith) ∙ given-blank .unmarked i l
+    still-unmarked i l = spellings-entered₁ .behind (symbolsAt + i) (omega arith) ∙ given-blank .unmarked i l
 
     module _ {room₂ : List ℕ} (marked : Symbols (wordsIn table room₁ number) 0 room₂ × SamePlaces room₁ room₂) where
       same-keywords : wordsIn table room₂ number ≡ wordsIn table room₁ number
       same-keywords = words-alike number table room₁ room₂ 0 (λ j l. marked .1 .same j (omega (arith, few-marks)))
 
-      -- behind the keywords there is room for 64 outside names
-      pub second-enters : Enters table room₂ links₁ number 64
+      -- behind the keywords there is room for all outside names
+      pub second-enters : Enters table room₂ links₁ number (most .outsides)
       second-enters =
           let p = spellings-entered₁ .spelled in
           record {
@@ -362,28 +364,28 @@ module _ {table room₀ links₀ : List ℕ} (given-blank : Blank room₀ links�
           }
 
       module _ (names : ℕ) (equal : fieldsAt table names ≡ afterLeading 1 (fieldsAt table 0)) {room₃ links₃ : List ℕ} {total : ℕ}
-          (spellings-entered₂ : SpellingsEntered table room₂ room₃ links₃ total (wordsIn table room₂ number ++ take 64 (leading 2 (fieldsAt table names))))
+          (spellings-entered₂ : SpellingsEntered table room₂ room₃ links₃ total (wordsIn table room₂ number ++ take (most .outsides) (leading 2 (fieldsAt table names))))
         where
           room₄ : List ℕ
-          room₄ = set (set room₃ 380 number) 381 total
+          room₄ = set (set room₃ keywordCountAt number) spellingCountAt total
 
-          long₃ : length room₃ ≡ 382
+          long₃ : length room₃ ≡ lexiconSize
           long₃ = spellings-entered₂ .spelled .long
 
-          before₄ : (place : ℕ) → place < 380 → getD room₄ place 0 ≡ getD room₃ place 0
+          before₄ : (place : ℕ) → place < keywordCountAt → getD room₄ place 0 ≡ getD room₃ place 0
           unfolding room₄
           before₄ place l =
-              getD-set-other (set room₃ 380 number) 381 place total 0 (λ e. omega (arith, e))
-              ∙ getD-set-other room₃ 380 place number 0 (λ e. omega (arith, e))
+              getD-set-other (set room₃ keywordCountAt number) spellingCountAt place total 0 (λ e. omega (arith, e))
+              ∙ getD-set-other room₃ keywordCountAt place number 0 (λ e. omega (arith, e))
 
-          at-380 : getD room₄ 380 0 ≡ number
+          keyword-count : getD room₄ keywordCountAt 0 ≡ number
           unfolding room₄
-          at-380 =
-              getD-set-other (set room₃ 380 number) 381 380 total 0 (λ e. omega (arith, e)) ∙ getD-set-same room₃ 380 number 0 (omega (arith, long₃))
+          keyword-count =
+              getD-set-other (set room₃ keywordCountAt number) spellingCountAt keywordCountAt total 0 (λ e. omega (arith, e)) ∙ getD-set-same room₃ keywordCountAt number 0 (omega (arith, long₃))
 
-          at-381 : getD room₄ 381 0 ≡ total
+          spelling-count : getD room₄ spellingCountAt 0 ≡ total
           unfolding room₄
-          at-381 = getD-set-same (set room₃ 380 number) 381 total 0 (omega (arith, long₃, length-set room₃ 380 number))
+          spelling-count = getD-set-same (set room₃ keywordCountAt number) spellingCountAt total 0 (omega (arith, long₃, length-set room₃ keywordCountAt number))
 
           listed₃ : wordsIn table room₃ total ≡ lexiconOf table .keywords ++ lexiconOf table .outsides
           listed₃ =
@@ -392,26 +394,26 @@ module _ {table room₀ links₀ : List ℕ} (given-blank : Blank room₀ links�
           listed₄ : wordsIn table room₄ total ≡ wordsIn table room₃ total
           listed₄ = words-alike total table room₃ room₄ 0 (λ j l. before₄ j (omega (arith, spellings-entered₂ .few)))
 
-          symbols₄ : (byte : ℕ) → byte < 128 → getD room₄ (252 + byte) 0 ≡ kindFrom 0 (lexiconOf table .keywords) (byte ∷ [])
+          symbols₄ : (byte : ℕ) → byte < symbolEnd → getD room₄ (symbolsAt + byte) 0 ≡ kindFrom 0 (lexiconOf table .keywords) (byte ∷ [])
           symbols₄ byte l =
-              cc (before₄ (252 + byte) (omega arith), spellings-entered₂ .behind (252 + byte) (omega arith), marked .0 byte l, keywords-listed)
+              cc (before₄ (symbolsAt + byte) (omega arith), spellings-entered₂ .behind (symbolsAt + byte) (omega arith), marked .0 byte l, keywords-listed)
 
           lexical₄ : Lexical table room₄ links₃
           unfolding room₄
           lexical₄ =
               let lex : Lexicon = lexiconOf table in
               record {
-                long = length-set (set room₃ 380 number) 381 total ∙ length-set room₃ 380 number ∙ long₃;
+                long = length-set (set room₃ keywordCountAt number) spellingCountAt total ∙ length-set room₃ keywordCountAt number ∙ long₃;
                 wide = spellings-entered₂ .spelled .wide;
-                keywords = at-380 ∙ keywords-counted;
+                keywords = keyword-count ∙ keywords-counted;
                 spellings =
-                    at-381 ∙ sym (words-length total table room₃ 0) ∙ ap length listed₃ ∙ length-append (lex .keywords) (lex .outsides);
-                spelled = ap (wordsIn table room₄) at-381 ∙ listed₄ ∙ listed₃;
+                    spelling-count ∙ sym (words-length total table room₃ 0) ∙ ap length listed₃ ∙ length-append (lex .keywords) (lex .outsides);
+                spelled = ap (wordsIn table room₄) spelling-count ∙ listed₄ ∙ listed₃;
                 symbols = symbols₄;
                 tree = rw listed₃ at (spellings-entered₂ .spelled .tree);
               }
 
           -- with both counts stored, the rooms hold the table's lexicon
-          pub lexical : Lexical table (set (set room₃ 380 number) 381 total) links₃
+          pub lexical : Lexical table (set (set room₃ keywordCountAt number) spellingCountAt total) links₃
           unfolding room₄
           lexical = lexical₄

@@ -5,6 +5,7 @@ use mathlib.Core.List.{List, []}
 use native.Mathlib.Omega.{arith}
 use lib.ListN.{length, getD, take}
 use lib.Seq.{sets, length-sets, length-take-le}
+use Rattle.grammar.specs.Limits.{most}
 use Rattle.answers.specs.declared.Refusal.{Refusal}
 use Rattle.answers.specs.declared.Answer.{Answer}
 use Rattle.answers.specs.declared.Answer.the-variants.{Refusing}
@@ -66,7 +67,7 @@ module _ {bs : List ℕ} (bytes : Bytes bs) where
     abbrev lex : Lexicon
     lex = lexiconOfTable (passes .table)
 
-    abbrev few : length (lex .outsides) ≤ 64
+    abbrev few : length (lex .outsides) ≤ most .outsides
     few = passes .within .outsideCount
 
     passed : passedTable bs ≡ ok (passes .table)

@@ -5,6 +5,7 @@ use mathlib.Core.Bool.{true}
 use mathlib.Core.List.{List, []}
 use native.Mathlib.Omega.{arith}
 use lib.ListN.{length, getD}
+use Rattle.grammar.specs.Limits.{most}
 use Rattle.spellings.specs.Bytes.{isWord}
 use Rattle.grammar.specs.Table.{Lexicon, lexiconOfTable}
 use Rattle.grammar.specs.Lookup.{lexiconOf}
@@ -17,6 +18,7 @@ use Rattle.tokens.specs.Tokens.{spelled}
 use Rattle.tokens.specs.declared.Scanned.the-variants.{Tokens}
 use Rattle.tokens.proofs.WordsOfScan.{scan-plain}
 use Rattle.tokens.proofs.ScannerTheorems.{tokens-counted}
+use Rattle.writer.specs.Openings.{spellingRoom}
 use Rattle.writer.specs.Pool.{oneOf, spanned, spelledBy, Words}
 use Rattle.writer.proofs.SpellLaws.{Once, word-length, short-words, apart-lists, spelled-lists}
 use Rattle.terms.specs.Term.{Name, outside, Term, Fields}
@@ -57,7 +59,7 @@ words-at (suc count) first (suc index) formula room h =
 
 -- ------------------------------------------------------------------ names of a derived term
 
-module _ {tokens : List Token} {outside-count : ℕ} {given : List Given} (spell : ℕ → List ℕ) (few : outside-count ≤ 64)
+module _ {tokens : List Token} {outside-count : ℕ} {given : List Given} (spell : ℕ → List ℕ) (few : outside-count ≤ most .outsides)
     (known : Each (Supplied tokens outside-count) given)
     (words : (token : Token) → Among tokens token → token .kind ≡ wordKind → isWord (spell (token .value)) ≡ true)
     (outsides : (many : ℕ) → many < outside-count → isWord (spell many) ≡ true) where
@@ -100,8 +102,8 @@ module _ (bs : List ℕ) (bytes : (place : ℕ) → getD bs place 0 < 256) (pass
   pub lexicon-passed : lexiconOf bs ≡ lexiconOfTable (passes .table)
   lexicon-passed = lexicon-decoded bs (passes .table) (decode-exactly bs bytes (passes .table) .1 (passes .encoded, passes .within))
 
-  -- An outside name has less than 32 bytes.
-  pub outsides-fit : (number : ℕ) → length (oneOf (lexiconOf bs .outsides) number) < 32
+  -- An outside name fits the room of a spelling.
+  pub outsides-fit : (number : ℕ) → length (oneOf (lexiconOf bs .outsides) number) < spellingRoom
   outsides-fit number =
       rw lexicon-passed (short-words (passes .table .outsides) (λ i l. each-at (passes .within .outsides) i [] l) number)
 
@@ -124,7 +126,7 @@ module _ (bs : List ℕ) (bytes : (place : ℕ) → getD bs place 0 < 256) (pass
         ∙ ap (λ (l : Lexicon). spelled l (scan (lexiconOfTable (passes .table)) formula .words)) lexicon-passed
 
     -- So has a word of the formula.
-    pub words-fit : (index : ℕ) → index < count → length (spanned formula words index) < 32
+    pub words-fit : (index : ℕ) → index < count → length (spanned formula words index) < spellingRoom
     words-fit index l =
         let plain = scan-plain (lexiconOfTable (passes .table)) (passes .within .outsideCount) formula in
         let at = words-list .each index l in

@@ -96,11 +96,18 @@ pub record Rooms (formula tokens words : List ℕ) : Type 0 where
   pub enough : RoomFor formula tokens words
   pub half : length tokens ≤ length words * 2
 
--- a room for the words of a formula of at most 128 bytes, of at most 1,024, or of any
+-- the sizes of formulas for which shorter rooms are lent
+abbrev pub shortFormula : ℕ
+shortFormula = 128
+
+abbrev pub middleFormula : ℕ
+middleFormula = 1024
+
+-- a room for the words of a short formula, of a middle one, or of any
 pub record WordRoom (formula words : List ℕ) : Type 0 where
-  pub few : 256 ≤ length words
-  pub more : 128 < length formula → 2048 ≤ length words
-  pub all : 1024 < length formula → 8192 ≤ length words
+  pub few : shortFormula * 2 ≤ length words
+  pub more : shortFormula < length formula → middleFormula * 2 ≤ length words
+  pub all : middleFormula < length formula → mostTokens * 2 ≤ length words
 
 -- what a parse after the check asks
 pub record Parseable (bs room formula tokens words : List ℕ) : Type 0 where

@@ -12,13 +12,14 @@ use scanner::room::ALL_WORDS;
 use scanner::room::TOKEN;
 use spellings::length_of;
 use tokens::Scanned;
-ghost use Prim.Native.Nat.{_-_};
+ghost use Prim.Native.Nat.{_*_, _-_};
 ghost use mathlib.Core.Path.{_≡_};
 ghost use lib.ListN.{length, getD};
 ghost use Rattle.expansion.specs.Outcomes.{ran};
 ghost use Rattle.expansion.specs.Expansion.{run};
 ghost use Rattle.expander.specs.Lent.{lentInput};
 ghost use Rattle.terms.specs.Cells.{rowsLent};
+ghost use Rattle.tokens.specs.Tokens.{mostTokens};
 ghost use Rattle.parser.specs.Parse.{Runnable, Rooms, WordRoom, Parseable, ParsesInto, ParsesTo, parsedInto, parseInto, numberedOutcome};
 
 // Formulas up to this have the shortest rooms.
@@ -130,7 +131,7 @@ fn parse_in(
 
 // Full rooms are as long as their types say: looking at them makes that known.
 fn known_rooms(tokens: &[u32; ALL_TOKENS], words: &[u32; ALL_WORDS]) -> usize
-    ensures { λ _. ⌜ (length (now (tokens .entry)) ≡ 16384) × (length (now (words .entry)) ≡ 8192) ⌝ }
+    ensures { λ _. ⌜ (length (now (tokens .entry)) ≡ mostTokens * 4) × (length (now (words .entry)) ≡ mostTokens * 2) ⌝ }
 {
     length_of(tokens);
     length_of(words)

@@ -16,6 +16,8 @@ use Rattle.terms.specs.Rename.{newName, written}
 use Rattle.terms.specs.Print.{print}
 use Rattle.terms.specs.TextSize.{textSize, textSizeFields}
 use Rattle.terms.specs.Labelled.{nameShown, labelled, labelledFields}
+use Rattle.spellings.specs.Bytes.{longestWord}
+use Rattle.writer.specs.Openings.{spellingRoom}
 use Rattle.writer.specs.Openings.{spellIn}
 use Rattle.printing.specs.PrintedParts.{termPart, partText, PartFits}
 use Rattle.printer.specs.Printed.{PrintableBy}
@@ -25,9 +27,9 @@ use Rattle.rows.proofs.RowLaws.{as-word, as-fresh, as-outside}
 use Rattle.rows.proofs.SizeLaws.{size-spell}
 use Rattle.terms.proofs.TextLength.{text-length}
 
-module _ (spell : ℕ → List ℕ) (cells numbers : List ℕ) (short : (number : ℕ) → length (spell number) ≤ 31) (few : (place : ℕ) → getD numbers place 0 < 65536)
+module _ (spell : ℕ → List ℕ) (cells numbers : List ℕ) (short : (number : ℕ) → length (spell number) ≤ longestWord) (few : (place : ℕ) → getD numbers place 0 < 65536)
     (wide : (place : ℕ) → getD cells place 0 < 4294967296) where
-  written-short : (value : ℕ) → length (written (nameOf spell value)) ≤ 31
+  written-short : (value : ℕ) → length (written (nameOf spell value)) ≤ longestWord
   unfolding newName
   written-short value =
       by-test (eqb (value / nameBase) 1)
@@ -37,7 +39,7 @@ module _ (spell : ℕ → List ℕ) (cells numbers : List ℕ) (short : (number 
       (λ f. rw (as-fresh spell value (eqb-true (value / nameBase) 2 f)) (omega (arith, decimal-bound 0 0 (omega arith))))
       (λ f. rw (as-outside spell value (eqb-false (value / nameBase) 1 e) (eqb-false (value / nameBase) 2 f)) (short (value % nameBase))))
 
-  name-short : (number value : ℕ) → number < 65536 → length (nameShown number (nameOf spell value)) ≤ 31
+  name-short : (number value : ℕ) → number < 65536 → length (nameShown number (nameOf spell value)) ≤ longestWord
   unfolding newName
   name-short zero value h = written-short value
   name-short (suc number) value h = omega (arith, decimal-bound 4 (suc number) (omega arith))
@@ -87,9 +89,9 @@ module _ (spell : ℕ → List ℕ) (cells numbers : List ℕ) (short : (number 
         (isCons (constructorOf (column cells row 0)))
 
 -- a spelling of the room is short
-spelling-short : (pool : List ℕ) → ShortSpellings pool → (number : ℕ) → length (spellIn pool number) ≤ 31
+spelling-short : (pool : List ℕ) → ShortSpellings pool → (number : ℕ) → length (spellIn pool number) ≤ longestWord
 unfolding spellIn
-spelling-short pool h number = omega (arith, h number, length-take (getD pool (number * 32) 0) (drop (number * 32 + 1) pool))
+spelling-short pool h number = omega (arith, h number, length-take (getD pool (number * spellingRoom) 0) (drop (number * spellingRoom + 1) pool))
 
 module _ {pool cells numbers : List ℕ} {made root : ℕ} (printable-by : PrintableBy pool cells made root numbers)
     (wide : (place : ℕ) → getD cells place 0 < 4294967296) (few : (place : ℕ) → getD numbers place 0 < 65536) where

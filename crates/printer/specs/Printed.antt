@@ -11,6 +11,7 @@ use Rattle.terms.specs.Rows.{termAt}
 use Rattle.terms.specs.Print.{print}
 use Rattle.terms.specs.Labelled.{labelled}
 use Rattle.rows.specs.Sizes.{sizeAt}
+use Rattle.writer.specs.Openings.{spellingRoom}
 use Rattle.writer.specs.Pool.{oneOf, spanned, ShortSpellings}
 
 -- the text of the term at a row, by a number of a new name for each place
@@ -26,8 +27,8 @@ pub record Prints (out text text′ : List ℕ) (r : ℕ) : Type 0 where
 pub record Printable (table formula words : List ℕ) (count : ℕ) (cells : List ℕ) (made root : ℕ) (numbers : List ℕ) : Type 0 where
   pub few : count ≤ mostTokens
   pub lie : count * 2 ≤ length words
-  pub outsidesFit : (m : ℕ) → length (oneOf (lexiconOf table .outsides) m) < 32
-  pub wordsFit : (j : ℕ) → j < count → length (spanned formula words j) < 32
+  pub outsidesFit : (m : ℕ) → length (oneOf (lexiconOf table .outsides) m) < spellingRoom
+  pub wordsFit : (j : ℕ) → j < count → length (spanned formula words j) < spellingRoom
   pub marked : sizeAt cells made root ≤ length numbers
   pub small : length numbers ≤ largestTerm
 

@@ -8,8 +8,10 @@ use native.Mathlib.Omega.{arith}
 use lib.Dec.{eqb}
 use lib.ListN.{length, getD, drop, length-append, length-drop, List·getD-append}
 use lib.Seq.{getD-append-add, ext-getD}
+use Rattle.grammar.specs.Limits.{most}
 use Rattle.productions.specs.Room.{Entry, noEntry, HoldsEntries, placeFrom, isOf, isNullableOf, valuesOf, placesNumber, flagNumber}
 use Rattle.productions.specs.Room.{linkNumber, entryNumbers, roomOf, firstSetIn, firstPlaceIn, nullablePlaceIn}
+use Rattle.productions.specs.Room.{setsAt, placesAt, productionsAt, linksAt, nullableBase}
 use Rattle.productions.specs.Room.{firstIn, startIn, nextPlaceIn, nullableIn}
 
 -- ------------------------------------------------------------------ values
@@ -32,12 +34,12 @@ getD-values first (suc count) from (suc place) h =
 -- ------------------------------------------------------------------ places
 
 -- a place that is found is among the entries, one that is not is 256
-pub place-small : (test : Entry → Bool) (es : List Entry) (place : ℕ) → place + length es ≤ 256 → placeFrom test es place ≤ 256
+pub place-small : (test : Entry → Bool) (es : List Entry) (place : ℕ) → place + length es ≤ most .alternatives → placeFrom test es place ≤ most .alternatives
 unfolding placeFrom
 place-small test [] place h = omega arith
 place-small test (e ∷ es) place h = by (test e) (place-small test es (place + 1) (omega arith))
   where
-    by : (answer : Bool) → placeFrom test es (place + 1) ≤ 256 → (elim answer as (λ x. ℕ) [ true ↦ place | false ↦ placeFrom test es (place + 1) ]) ≤ 256
+    by : (answer : Bool) → placeFrom test es (place + 1) ≤ most .alternatives → (elim answer as (λ x. ℕ) [ true ↦ place | false ↦ placeFrom test es (place + 1) ]) ≤ most .alternatives
     by true l = omega arith
     by false l = l
 
@@ -75,77 +77,77 @@ length-entries (e ∷ es) start = omega (arith, length-entries es (start + 1))
 module _ (total : ℕ) (first second : ℕ → ℕ) (tail : List ℕ) where
   -- a count, 64 values, 64 more, and the rest
   abbrev pub fourParts : List ℕ
-  fourParts = total ∷ (valuesOf first 64 0 ++ (valuesOf second 64 0 ++ tail))
+  fourParts = total ∷ (valuesOf first (most .nonterminals) 0 ++ (valuesOf second (most .nonterminals) 0 ++ tail))
 
   -- behind the count
-  behind-count : (place : ℕ) → getD fourParts (1 + place) 0 ≡ getD (valuesOf first 64 0 ++ (valuesOf second 64 0 ++ tail)) place 0
+  behind-count : (place : ℕ) → getD fourParts (1 + place) 0 ≡ getD (valuesOf first (most .nonterminals) 0 ++ (valuesOf second (most .nonterminals) 0 ++ tail)) place 0
   behind-count place =
       let z : 1 + place ≡ suc place = omega arith in
       rw z refl
 
   -- behind the first values
-  behind-first : (place : ℕ) → getD fourParts (65 + place) 0 ≡ getD (valuesOf second 64 0 ++ tail) place 0
+  behind-first : (place : ℕ) → getD fourParts (placesAt + place) 0 ≡ getD (valuesOf second (most .nonterminals) 0 ++ tail) place 0
   behind-first place =
-      let z : 65 + place ≡ 1 + (length (valuesOf first 64 0) + place) = omega (arith, length-values first 64 0) in
-      cc (behind-count (length (valuesOf first 64 0) + place), getD-append-add (valuesOf first 64 0) (valuesOf second 64 0 ++ tail) place 0)
+      let z : placesAt + place ≡ 1 + (length (valuesOf first (most .nonterminals) 0) + place) = omega (arith, length-values first (most .nonterminals) 0) in
+      cc (behind-count (length (valuesOf first (most .nonterminals) 0) + place), getD-append-add (valuesOf first (most .nonterminals) 0) (valuesOf second (most .nonterminals) 0 ++ tail) place 0)
 
   -- the first 64
-  pub first-part : (nonterminal : ℕ) → nonterminal < 64 → getD fourParts (1 + nonterminal) 0 ≡ first nonterminal
+  pub first-part : (nonterminal : ℕ) → nonterminal < most .nonterminals → getD fourParts (setsAt + nonterminal) 0 ≡ first nonterminal
   first-part nonterminal h =
       let y : 0 + nonterminal ≡ nonterminal = omega arith in
       behind-count nonterminal
-      ∙ List·getD-append (valuesOf first 64 0) (valuesOf second 64 0 ++ tail) 0 nonterminal (omega (arith, length-values first 64 0))
-      ∙ getD-values first 64 0 nonterminal h
+      ∙ List·getD-append (valuesOf first (most .nonterminals) 0) (valuesOf second (most .nonterminals) 0 ++ tail) 0 nonterminal (omega (arith, length-values first (most .nonterminals) 0))
+      ∙ getD-values first (most .nonterminals) 0 nonterminal h
       ∙ ap first y
 
   -- the others
-  pub second-part : (nonterminal : ℕ) → nonterminal < 64 → getD fourParts (65 + nonterminal) 0 ≡ second nonterminal
+  pub second-part : (nonterminal : ℕ) → nonterminal < most .nonterminals → getD fourParts (placesAt + nonterminal) 0 ≡ second nonterminal
   second-part nonterminal h =
       let y : 0 + nonterminal ≡ nonterminal = omega arith in
       behind-first nonterminal
-      ∙ List·getD-append (valuesOf second 64 0) tail 0 nonterminal (omega (arith, length-values second 64 0))
-      ∙ getD-values second 64 0 nonterminal h
+      ∙ List·getD-append (valuesOf second (most .nonterminals) 0) tail 0 nonterminal (omega (arith, length-values second (most .nonterminals) 0))
+      ∙ getD-values second (most .nonterminals) 0 nonterminal h
       ∙ ap second y
 
   -- and the rest
-  pub last-part : (place : ℕ) → getD fourParts (129 + place) 0 ≡ getD tail place 0
+  pub last-part : (place : ℕ) → getD fourParts (productionsAt + place) 0 ≡ getD tail place 0
   last-part place =
-      let z : 129 + place ≡ 65 + (length (valuesOf second 64 0) + place) = omega (arith, length-values second 64 0) in
-      cc (behind-first (length (valuesOf second 64 0) + place), getD-append-add (valuesOf second 64 0) tail place 0)
+      let z : productionsAt + place ≡ placesAt + (length (valuesOf second (most .nonterminals) 0) + place) = omega (arith, length-values second (most .nonterminals) 0) in
+      cc (behind-first (length (valuesOf second (most .nonterminals) 0) + place), getD-append-add (valuesOf second (most .nonterminals) 0) tail place 0)
 
   -- the length of all
-  pub length-parts : length fourParts ≡ 129 + length tail
+  pub length-parts : length fourParts ≡ productionsAt + length tail
   length-parts =
       omega (
         arith,
-        length-append (valuesOf first 64 0) (valuesOf second 64 0 ++ tail),
-        length-append (valuesOf second 64 0) tail,
-        length-values first 64 0,
-        length-values second 64 0,
+        length-append (valuesOf first (most .nonterminals) 0) (valuesOf second (most .nonterminals) 0 ++ tail),
+        length-append (valuesOf second (most .nonterminals) 0) tail,
+        length-values first (most .nonterminals) 0,
+        length-values second (most .nonterminals) 0,
       )
 
   -- A room is these parts if each of its numbers is.
-  module _ (room : List ℕ) (many : length room ≡ 129 + length tail) (count : getD room 0 0 ≡ total)
-      (firsts : (nonterminal : ℕ) → nonterminal < 64 → getD room (1 + nonterminal) 0 ≡ first nonterminal)
-      (seconds : (nonterminal : ℕ) → nonterminal < 64 → getD room (65 + nonterminal) 0 ≡ second nonterminal)
-      (lasts : (place : ℕ) → getD room (129 + place) 0 ≡ getD tail place 0) where
+  module _ (room : List ℕ) (many : length room ≡ productionsAt + length tail) (count : getD room 0 0 ≡ total)
+      (firsts : (nonterminal : ℕ) → nonterminal < most .nonterminals → getD room (setsAt + nonterminal) 0 ≡ first nonterminal)
+      (seconds : (nonterminal : ℕ) → nonterminal < most .nonterminals → getD room (placesAt + nonterminal) 0 ≡ second nonterminal)
+      (lasts : (place : ℕ) → getD room (productionsAt + place) 0 ≡ getD tail place 0) where
     moved : (place count : ℕ) → place ≡ count → getD room count 0 ≡ getD fourParts count 0 → getD room place 0 ≡ getD fourParts place 0
     moved place count z e = rw z e
 
-    same-number : (place : ℕ) → Dec (place < 1) → Dec (place < 65) → Dec (place < 129) → getD room place 0 ≡ getD fourParts place 0
+    same-number : (place : ℕ) → Dec (place < 1) → Dec (place < placesAt) → Dec (place < productionsAt) → getD room place 0 ≡ getD fourParts place 0
     same-number place (yes a) b d = moved place 0 (omega arith) count
     same-number place (no a) (yes b) d =
         moved place (1 + (place - 1)) (omega arith) (firsts (place - 1) (omega arith) ∙ sym (first-part (place - 1) (omega arith)))
     same-number place (no a) (no b) (yes d) =
-        moved place (65 + (place - 65)) (omega arith) (seconds (place - 65) (omega arith) ∙ sym (second-part (place - 65) (omega arith)))
-    same-number place (no a) (no b) (no d) = moved place (129 + (place - 129)) (omega arith) (lasts (place - 129) ∙ sym (last-part (place - 129)))
+        moved place (placesAt + (place - placesAt)) (omega arith) (seconds (place - placesAt) (omega arith) ∙ sym (second-part (place - placesAt) (omega arith)))
+    same-number place (no a) (no b) (no d) = moved place (productionsAt + (place - productionsAt)) (omega arith) (lasts (place - productionsAt) ∙ sym (last-part (place - productionsAt)))
 
     -- a room with these numbers
     pub parts-are : room ≡ fourParts
-    parts-are = ext-getD 0 room fourParts (many ∙ sym length-parts) (λ i h. same-number i (decLt i 1) (decLt i 65) (decLt i 129))
+    parts-are = ext-getD 0 room fourParts (many ∙ sym length-parts) (λ i h. same-number i (decLt i 1) (decLt i placesAt) (decLt i productionsAt))
 
 -- the length of a room
-pub length-room : (sets : List ℕ) (es : List Entry) → length (roomOf sets es) ≡ 129 + 2 * length es
+pub length-room : (sets : List ℕ) (es : List Entry) → length (roomOf sets es) ≡ productionsAt + 2 * length es
 unfolding roomOf
 length-room sets es =
     length-parts (length es) (λ n. getD sets n 0) (placesNumber es) (entryNumbers es 0) ∙ rw (length-entries es 0) refl
@@ -161,19 +163,19 @@ module _ {sets : List ℕ} {es : List Entry} {room : List ℕ} (holds-entries : 
   unfolding roomOf
   parts = holds-entries .held ∙ simp append-assoc
 
-  at-entries : (place : ℕ) → getD room (129 + place) 0 ≡ getD (entryNumbers es 0 ++ holds-entries .rest) place 0
+  at-entries : (place : ℕ) → getD room (productionsAt + place) 0 ≡ getD (entryNumbers es 0 ++ holds-entries .rest) place 0
   at-entries place = rw parts (last-part (length es) setOf (placesNumber es) (entryNumbers es 0 ++ holds-entries .rest) place)
 
   -- ------------------------------------------------------------------ of a nonterminal
 
-  module _ (nonterminal : ℕ) (small : nonterminal < 64) where
+  module _ (nonterminal : ℕ) (small : nonterminal < most .nonterminals) where
     -- Its first set.
     pub first-set-in : firstSetIn room nonterminal ≡ getD sets nonterminal 0
     first-set-in =
         rw parts (first-part (length es) setOf (placesNumber es) (entryNumbers es 0 ++ holds-entries .rest) nonterminal small)
 
     -- Where its productions are, in one number.
-    pub places-in : getD room (65 + nonterminal) 0 ≡ placesNumber es nonterminal
+    pub places-in : getD room (placesAt + nonterminal) 0 ≡ placesNumber es nonterminal
     places-in =
         rw parts (second-part (length es) setOf (placesNumber es) (entryNumbers es 0 ++ holds-entries .rest) nonterminal small)
 
@@ -197,16 +199,16 @@ module _ {sets : List ℕ} {es : List Entry} {room : List ℕ} (holds-entries : 
         ∙ List·getD-append (entryNumbers es 0) _ 0 (2 * place) (omega (arith, length-entries es 0))
         ∙ entry-first es 0 place inside
 
-    link-in : getD room (130 + 2 * place) 0 ≡ linkNumber (getD es place noEntry) (drop (place + 1) es) place
+    link-in : getD room (linksAt + 2 * place) 0 ≡ linkNumber (getD es place noEntry) (drop (place + 1) es) place
     link-in =
-        let z : 130 + 2 * place ≡ 129 + (2 * place + 1) = omega arith in
+        let z : linksAt + 2 * place ≡ productionsAt + (2 * place + 1) = omega arith in
         let y : 0 + place ≡ place = omega arith in
         rw z (at-entries (2 * place + 1))
         ∙ List·getD-append (entryNumbers es 0) (holds-entries .rest) 0 (2 * place + 1) (omega (arith, length-entries es 0))
         ∙ entry-link es 0 place inside
         ∙ ap (linkNumber (getD es place noEntry) (drop (place + 1) es)) y
 
-    next-small : placeFrom (isOf (getD es place noEntry .nonterminal)) (drop (place + 1) es) (place + 1) ≤ 256
+    next-small : placeFrom (isOf (getD es place noEntry .nonterminal)) (drop (place + 1) es) (place + 1) ≤ most .alternatives
     next-small = place-small _ (drop (place + 1) es) (place + 1) (omega (arith, holds-entries .few, length-drop (place + 1) es))
 
     -- The offset of its first item, or of its result.
@@ -224,6 +226,6 @@ module _ {sets : List ℕ} {es : List Entry} {room : List ℕ} (holds-entries : 
     -- Whether it is nullable.
     pub nullable-in : nullableIn room place ≡ getD es place noEntry .nullable
     nullable-in =
-        let z : linkNumber (getD es place noEntry) (drop (place + 1) es) place / 33554432 ≡ flagNumber (getD es place noEntry .nullable) =
+        let z : linkNumber (getD es place noEntry) (drop (place + 1) es) place / nullableBase ≡ flagNumber (getD es place noEntry .nullable) =
         omega (arith, holds-entries .near place, next-small) in
         rw (link-in, z) (flag-test (getD es place noEntry .nullable))

@@ -8,8 +8,10 @@ use native.Mathlib.Omega.{arith}
 use lib.ListN.{length, getD, set, drop, length-append, length-set, length-drop, List·getD-append}
 use lib.Seq.{drop-cons, getD-append-add, getD-set-same, getD-set-other, getD-drop, drop-set-lt, drop-length, drop-append-add, drop-drop}
 use borrow.Author.Tests.{eq-eqb, ne-eqb}
+use Rattle.grammar.specs.Limits.{most}
 use Rattle.productions.specs.Room.{Entry, noEntry, placesNumber, flagNumber, linkNumber, placeFrom, isOf, isNullableOf, entryNumbers, roomOf}
 use Rattle.productions.specs.Room.{overwritten, valuesOf, begun, laid, RoomAndSets, RoomAt}
+use Rattle.productions.specs.Room.{setsAt, placesAt, productionsAt, linksAt, roomSize, placeBase, startBase, nullableBase, noPlaces}
 use Rattle.productions.proofs.RoomLaws.{length-values, length-room, place-small, entry-first, entry-link, length-entries, first-part}
 use Rattle.productions.proofs.RoomLaws.{second-part, length-parts, parts-are}
 
@@ -18,21 +20,21 @@ use Rattle.productions.proofs.RoomLaws.{second-part, length-parts, part
 -- the first sets before number `nonterminal` are written, and the nonterminals before it have no place
 pub record Beginning (total : ℕ) (sets room₀ : List ℕ) (nonterminal : ℕ) (room : List ℕ) : Type 0 where
   -- `nonterminal` is a nonterminal or the end
-  pub small : nonterminal ≤ 64
+  pub small : nonterminal ≤ most .nonterminals
   -- the room has its size
-  pub size : length room ≡ 641
+  pub size : length room ≡ roomSize
   -- so had the room before
-  pub many : length room₀ ≡ 641
+  pub many : length room₀ ≡ roomSize
   -- there is a first set for each nonterminal
-  pub sets-many : length sets ≡ 64
+  pub sets-many : length sets ≡ most .nonterminals
   -- the count of productions stands in front
   pub count : getD room 0 0 ≡ total
   -- the sets written are those given
-  pub set-in : (at-place : ℕ) → at-place < nonterminal → getD room (1 + at-place) 0 ≡ getD sets at-place 0
-  -- 131,328 is 256 + 512 × 256: no production, and no nullable one
-  pub place-in : (at-place : ℕ) → at-place < nonterminal → getD room (65 + at-place) 0 ≡ 131328
+  pub set-in : (at-place : ℕ) → at-place < nonterminal → getD room (setsAt + at-place) 0 ≡ getD sets at-place 0
+  -- a nonterminal has no production yet, and no nullable one
+  pub place-in : (at-place : ℕ) → at-place < nonterminal → getD room (placesAt + at-place) 0 ≡ noPlaces
   -- the numbers behind are as before
-  pub tail : (at-place : ℕ) → getD room (129 + at-place) 0 ≡ getD room₀ (129 + at-place) 0
+  pub tail : (at-place : ℕ) → getD room (productionsAt + at-place) 0 ≡ getD room₀ (productionsAt + at-place) 0
 
 -- the count is written first
 pub beginning-start : (total : ℕ) (sets room : List ℕ) → RoomAndSets room sets → Beginning total sets (set room 0 total) 0 (set room 0 total)
@@ -49,113 +51,113 @@ beginning-start total sets room h =
     }
 
 module _ {total : ℕ} {sets room₀ : List ℕ} {nonterminal : ℕ} {room : List ℕ} (beginning : Beginning total sets room₀ nonterminal room) where
-  module _ (under : nonterminal < 64) where
-    untouched : (at-place : ℕ) → (at-place ≡ 1 + nonterminal → ⊥) → (at-place ≡ 65 + nonterminal → ⊥)
-        → getD (set (set room (1 + nonterminal) (getD sets nonterminal 0)) (65 + nonterminal) 131328) at-place 0 ≡ getD room at-place 0
+  module _ (under : nonterminal < most .nonterminals) where
+    untouched : (at-place : ℕ) → (at-place ≡ 1 + nonterminal → ⊥) → (at-place ≡ placesAt + nonterminal → ⊥)
+        → getD (set (set room (setsAt + nonterminal) (getD sets nonterminal 0)) (placesAt + nonterminal) noPlaces) at-place 0 ≡ getD room at-place 0
     untouched at-place a b =
-        getD-set-other (set room (1 + nonterminal) (getD sets nonterminal 0)) (65 + nonterminal) at-place 131328 0 b
-        ∙ getD-set-other room (1 + nonterminal) at-place (getD sets nonterminal 0) 0 a
+        getD-set-other (set room (setsAt + nonterminal) (getD sets nonterminal 0)) (placesAt + nonterminal) at-place noPlaces 0 b
+        ∙ getD-set-other room (setsAt + nonterminal) at-place (getD sets nonterminal 0) 0 a
 
     set-next : (at-place : ℕ) → at-place < nonterminal + 1 → Dec (at-place ≡ nonterminal)
-        → getD (set (set room (1 + nonterminal) (getD sets nonterminal 0)) (65 + nonterminal) 131328) (1 + at-place) 0 ≡ getD sets at-place 0
+        → getD (set (set room (setsAt + nonterminal) (getD sets nonterminal 0)) (placesAt + nonterminal) noPlaces) (setsAt + at-place) 0 ≡ getD sets at-place 0
     set-next at-place l (yes e) =
         rw e
-        (getD-set-other (set room (1 + nonterminal) (getD sets nonterminal 0)) (65 + nonterminal) (1 + nonterminal) 131328 0 (λ q. omega arith)
-        ∙ getD-set-same room (1 + nonterminal) (getD sets nonterminal 0) 0 (omega (arith, beginning .size)))
-    set-next at-place l (no e) = untouched (1 + at-place) (λ q. e (omega arith)) (λ q. omega arith) ∙ beginning .set-in at-place (omega (arith, below e l))
+        (getD-set-other (set room (setsAt + nonterminal) (getD sets nonterminal 0)) (placesAt + nonterminal) (setsAt + nonterminal) noPlaces 0 (λ q. omega arith)
+        ∙ getD-set-same room (setsAt + nonterminal) (getD sets nonterminal 0) 0 (omega (arith, beginning .size)))
+    set-next at-place l (no e) = untouched (setsAt + at-place) (λ q. e (omega arith)) (λ q. omega arith) ∙ beginning .set-in at-place (omega (arith, below e l))
       where
         below : (at-place ≡ nonterminal → ⊥) → at-place < nonterminal + 1 → at-place < nonterminal
         below e l = omega arith
 
     place-next : (at-place : ℕ) → at-place < nonterminal + 1 → Dec (at-place ≡ nonterminal)
-        → getD (set (set room (1 + nonterminal) (getD sets nonterminal 0)) (65 + nonterminal) 131328) (65 + at-place) 0 ≡ 131328
+        → getD (set (set room (setsAt + nonterminal) (getD sets nonterminal 0)) (placesAt + nonterminal) noPlaces) (placesAt + at-place) 0 ≡ noPlaces
     place-next at-place l (yes e) =
         rw e
-        (getD-set-same (set room (1 + nonterminal) (getD sets nonterminal 0)) (65 + nonterminal) 131328 0
-        (omega (arith, beginning .size, length-set room (1 + nonterminal) (getD sets nonterminal 0))))
-    place-next at-place l (no e) = untouched (65 + at-place) (λ q. omega arith) (λ q. e (omega arith)) ∙ beginning .place-in at-place (below e l)
+        (getD-set-same (set room (setsAt + nonterminal) (getD sets nonterminal 0)) (placesAt + nonterminal) noPlaces 0
+        (omega (arith, beginning .size, length-set room (setsAt + nonterminal) (getD sets nonterminal 0))))
+    place-next at-place l (no e) = untouched (placesAt + at-place) (λ q. omega arith) (λ q. e (omega arith)) ∙ beginning .place-in at-place (below e l)
       where
         below : (at-place ≡ nonterminal → ⊥) → at-place < nonterminal + 1 → at-place < nonterminal
         below e l = omega arith
 
     -- two numbers for each nonterminal
-    pub beginning-next : Beginning total sets room₀ (nonterminal + 1) (set (set room (1 + nonterminal) (getD sets nonterminal 0)) (65 + nonterminal) 131328)
+    pub beginning-next : Beginning total sets room₀ (nonterminal + 1) (set (set room (setsAt + nonterminal) (getD sets nonterminal 0)) (placesAt + nonterminal) noPlaces)
     beginning-next =
         record {
           small = omega arith;
-          size = length-set (set room (1 + nonterminal) (getD sets nonterminal 0)) (65 + nonterminal) 131328 ∙ length-set room (1 + nonterminal)
+          size = length-set (set room (setsAt + nonterminal) (getD sets nonterminal 0)) (placesAt + nonterminal) noPlaces ∙ length-set room (setsAt + nonterminal)
               (getD sets nonterminal 0) ∙ beginning .size;
           many = beginning .many;
           sets-many = beginning .sets-many;
           count = untouched 0 (λ q. omega arith) (λ q. omega arith) ∙ beginning .count;
           set-in = λ i l. set-next i l (ℕ-discrete i nonterminal);
           place-in = λ i l. place-next i l (ℕ-discrete i nonterminal);
-          tail = λ i. untouched (129 + i) (λ q. omega arith) (λ q. omega arith) ∙ beginning .tail i;
+          tail = λ i. untouched (productionsAt + i) (λ q. omega arith) (λ q. omega arith) ∙ beginning .tail i;
         }
 
-  begun-here : 64 ≤ nonterminal → room ≡ begun total sets room₀
+  begun-here : most .nonterminals ≤ nonterminal → room ≡ begun total sets room₀
   unfolding begun placeFrom
   begun-here h =
-      parts-are total (λ i. getD sets i 0) (placesNumber []) (drop 129 room₀) room (omega (arith, beginning .size, beginning .many, length-drop 129 room₀))
+      parts-are total (λ i. getD sets i 0) (placesNumber []) (drop productionsAt room₀) room (omega (arith, beginning .size, beginning .many, length-drop productionsAt room₀))
       (beginning .count)
-      (λ i l. beginning .set-in i (omega arith)) (λ i l. beginning .place-in i (omega arith)) (λ i. beginning .tail i ∙ sym (getD-drop 129 room₀ i 0))
+      (λ i l. beginning .set-in i (omega arith)) (λ i l. beginning .place-in i (omega arith)) (λ i. beginning .tail i ∙ sym (getD-drop productionsAt room₀ i 0))
 
 -- the count stands in front of what is kept
 pub beginning-end : {total : ℕ} (sets room₀ : List ℕ) {nonterminal : ℕ} {room : List ℕ} → Beginning total sets (set room₀ 0 total) nonterminal room
-    → 64 ≤ nonterminal → room ≡ begun total sets room₀
+    → most .nonterminals ≤ nonterminal → room ≡ begun total sets room₀
 unfolding begun
-beginning-end {total} sets room₀ c h = begun-here c h ∙ rw (drop-set-lt 129 room₀ 0 total (omega arith)) refl
+beginning-end {total} sets room₀ c h = begun-here c h ∙ rw (drop-set-lt productionsAt room₀ 0 total (omega arith)) refl
 
 -- ------------------------------------------------------------------ an entry is laid
 
 module _ (entry : Entry) (index : ℕ) {room : List ℕ} (at : RoomAt index (entry .nonterminal) room) where
   abbrev one : List ℕ
-  one = set room (129 + 2 * index) (entry .first)
+  one = set room (productionsAt + 2 * index) (entry .first)
 
   abbrev linking : ℕ
-  linking = entry .start + 65536 * (getD room (65 + entry .nonterminal) 0 % 512) + 33554432 * flagNumber (entry .nullable)
+  linking = entry .start + startBase * (getD room (placesAt + entry .nonterminal) 0 % placeBase) + nullableBase * flagNumber (entry .nullable)
 
   abbrev two : List ℕ
-  two = set one (130 + 2 * index) linking
+  two = set one (linksAt + 2 * index) linking
 
   abbrev number : ℕ
-  number = index + 512 * (elim (entry .nullable) [ true ↦ index | false ↦ getD room (65 + entry .nonterminal) 0 / 512 ])
+  number = index + placeBase * (elim (entry .nullable) [ true ↦ index | false ↦ getD room (placesAt + entry .nonterminal) 0 / placeBase ])
 
   -- the room stays as long
-  pub length-laid : length (laid entry index room) ≡ 641
+  pub length-laid : length (laid entry index room) ≡ roomSize
   unfolding laid
-  length-laid = length-set two (65 + entry .nonterminal) number ∙ length-set one (130 + 2 * index) _ ∙ length-set room (129 + 2 * index) _ ∙ at .size
+  length-laid = length-set two (placesAt + entry .nonterminal) number ∙ length-set one (linksAt + 2 * index) _ ∙ length-set room (productionsAt + 2 * index) _ ∙ at .size
 
   -- other numbers stay
-  pub laid-other : (at-place : ℕ) → (at-place ≡ 129 + 2 * index → ⊥) → (at-place ≡ 130 + 2 * index → ⊥) → (at-place ≡ 65 + entry .nonterminal → ⊥)
+  pub laid-other : (at-place : ℕ) → (at-place ≡ productionsAt + 2 * index → ⊥) → (at-place ≡ linksAt + 2 * index → ⊥) → (at-place ≡ placesAt + entry .nonterminal → ⊥)
       → getD (laid entry index room) at-place 0 ≡ getD room at-place 0
   unfolding laid
   laid-other at-place a b d =
-      getD-set-other two (65 + entry .nonterminal) at-place number 0 d
-      ∙ getD-set-other one (130 + 2 * index) at-place _ 0 b
-      ∙ getD-set-other room (129 + 2 * index) at-place (entry .first) 0 a
+      getD-set-other two (placesAt + entry .nonterminal) at-place number 0 d
+      ∙ getD-set-other one (linksAt + 2 * index) at-place _ 0 b
+      ∙ getD-set-other room (productionsAt + 2 * index) at-place (entry .first) 0 a
 
   -- the first set of the entry
-  pub laid-first : getD (laid entry index room) (129 + 2 * index) 0 ≡ entry .first
+  pub laid-first : getD (laid entry index room) (productionsAt + 2 * index) 0 ≡ entry .first
   unfolding laid
   laid-first =
-      getD-set-other two (65 + entry .nonterminal) (129 + 2 * index) number 0 (λ q. omega (arith, at .small))
-      ∙ getD-set-other one (130 + 2 * index) (129 + 2 * index) _ 0 (λ q. omega arith)
-      ∙ getD-set-same room (129 + 2 * index) (entry .first) 0 (omega (arith, at .size, at .near))
+      getD-set-other two (placesAt + entry .nonterminal) (productionsAt + 2 * index) number 0 (λ q. omega (arith, at .small))
+      ∙ getD-set-other one (linksAt + 2 * index) (productionsAt + 2 * index) _ 0 (λ q. omega arith)
+      ∙ getD-set-same room (productionsAt + 2 * index) (entry .first) 0 (omega (arith, at .size, at .near))
 
   -- its offset, link and flag
-  pub laid-second : getD (laid entry index room) (130 + 2 * index) 0 ≡ linking
+  pub laid-second : getD (laid entry index room) (linksAt + 2 * index) 0 ≡ linking
   unfolding laid
   laid-second =
-      getD-set-other two (65 + entry .nonterminal) (130 + 2 * index) number 0 (λ q. omega (arith, at .small))
-      ∙ getD-set-same one (130 + 2 * index) _ 0 (omega (arith, at .size, at .near, length-set room (129 + 2 * index) (entry .first)))
+      getD-set-other two (placesAt + entry .nonterminal) (linksAt + 2 * index) number 0 (λ q. omega (arith, at .small))
+      ∙ getD-set-same one (linksAt + 2 * index) _ 0 (omega (arith, at .size, at .near, length-set room (productionsAt + 2 * index) (entry .first)))
 
   -- where the productions of its nonterminal are
-  pub laid-own : getD (laid entry index room) (65 + entry .nonterminal) 0 ≡ number
+  pub laid-own : getD (laid entry index room) (placesAt + entry .nonterminal) 0 ≡ number
   unfolding laid
   laid-own =
-      getD-set-same two (65 + entry .nonterminal) number 0
-      (omega (arith, at .size, at .small, length-set one (130 + 2 * index) linking, length-set room (129 + 2 * index) (entry .first)))
+      getD-set-same two (placesAt + entry .nonterminal) number 0
+      (omega (arith, at .size, at .small, length-set one (linksAt + 2 * index) linking, length-set room (productionsAt + 2 * index) (entry .first)))
 
 -- ------------------------------------------------------------------ entries laid from the last to the first
 
@@ -164,41 +166,41 @@ pub record Filling (sets : List ℕ) (es : List Entry) (room₀ : List ℕ) (ind
   -- `index` is at most the number of entries
   pub low : index ≤ length es
   -- there are at most 256 entries
-  pub few : length es ≤ 256
+  pub few : length es ≤ most .alternatives
   -- the room has its size
-  pub size : length room ≡ 641
+  pub size : length room ≡ roomSize
   -- so had the room before
-  pub old-size : length room₀ ≡ 641
+  pub old-size : length room₀ ≡ roomSize
   -- the count of productions stands in front
   pub count : getD room 0 0 ≡ length es
   -- each nonterminal has its first set
-  pub set-in : (nonterminal : ℕ) → nonterminal < 64 → getD room (1 + nonterminal) 0 ≡ getD sets nonterminal 0
+  pub set-in : (nonterminal : ℕ) → nonterminal < most .nonterminals → getD room (setsAt + nonterminal) 0 ≡ getD sets nonterminal 0
   -- each nonterminal has the places of its first and its nullable entry among those laid
-  pub places : (nonterminal : ℕ) → nonterminal < 64
-      → getD room (65 + nonterminal) 0 ≡ placeFrom (isOf nonterminal) (drop index es) index + 512 * placeFrom (isNullableOf nonterminal) (drop index es) index
+  pub places : (nonterminal : ℕ) → nonterminal < most .nonterminals
+      → getD room (placesAt + nonterminal) 0 ≡ placeFrom (isOf nonterminal) (drop index es) index + placeBase * placeFrom (isNullableOf nonterminal) (drop index es) index
   -- each entry laid has its first set
-  pub first : (at-place : ℕ) → index ≤ at-place → at-place < length es → getD room (129 + 2 * at-place) 0 ≡ getD es at-place noEntry .first
+  pub first : (at-place : ℕ) → index ≤ at-place → at-place < length es → getD room (productionsAt + 2 * at-place) 0 ≡ getD es at-place noEntry .first
   -- each entry laid has its offset, its next entry and its flag
   pub link : (at-place : ℕ) → index ≤ at-place → at-place < length es
-      → getD room (130 + 2 * at-place) 0 ≡ linkNumber (getD es at-place noEntry) (drop (at-place + 1) es) at-place
+      → getD room (linksAt + 2 * at-place) 0 ≡ linkNumber (getD es at-place noEntry) (drop (at-place + 1) es) at-place
   -- the numbers behind all entries are as before
-  pub tail : (at-place : ℕ) → 129 + 2 * length es ≤ at-place → getD room at-place 0 ≡ getD room₀ at-place 0
+  pub tail : (at-place : ℕ) → productionsAt + 2 * length es ≤ at-place → getD room at-place 0 ≡ getD room₀ at-place 0
 
 -- begun: no entry is laid
-pub filling-start : (sets : List ℕ) (es : List Entry) (room₀ : List ℕ) → length es ≤ 256 → length room₀ ≡ 641 → {total : ℕ} → total ≡ length es
+pub filling-start : (sets : List ℕ) (es : List Entry) (room₀ : List ℕ) → length es ≤ most .alternatives → length room₀ ≡ roomSize → {total : ℕ} → total ≡ length es
     → Filling sets es (begun total sets room₀) (length es) (begun total sets room₀)
 unfolding begun placeFrom
 filling-start sets es room₀ few size {total} e =
-    let whole : length (begun total sets room₀) ≡ 641 =
-    length-parts total setOf (placesNumber []) (drop 129 room₀) ∙ omega (arith, length-drop 129 room₀) in
+    let whole : length (begun total sets room₀) ≡ roomSize =
+    length-parts total setOf (placesNumber []) (drop productionsAt room₀) ∙ omega (arith, length-drop productionsAt room₀) in
     record {
       low = omega arith;
       few = few;
       size = whole;
       old-size = whole;
       count = e;
-      set-in = first-part total setOf (placesNumber []) (drop 129 room₀);
-      places = λ n h. second-part total setOf (placesNumber []) (drop 129 room₀) n h ∙ rw (drop-length es) refl;
+      set-in = first-part total setOf (placesNumber []) (drop productionsAt room₀);
+      places = λ n h. second-part total setOf (placesNumber []) (drop productionsAt room₀) n h ∙ rw (drop-length es) refl;
       first = λ i l u. absurd (omega arith);
       link = λ i l u. absurd (omega arith);
       tail = λ i l. refl;
@@ -208,23 +210,23 @@ filling-start sets es room₀ few size {total} e =
     setOf n = getD sets n 0
 
 -- what lies behind the places of the nonterminals is kept
-drop-begun : (total : ℕ) (sets room : List ℕ) (from : ℕ) → drop (129 + from) (begun total sets room) ≡ drop (129 + from) room
+drop-begun : (total : ℕ) (sets room : List ℕ) (from : ℕ) → drop (productionsAt + from) (begun total sets room) ≡ drop (productionsAt + from) room
 unfolding begun
 drop-begun total sets room from =
-    let z : 129 + from ≡ suc (length A + (length B + from)) = omega (arith, length-values setOf 64 0, length-values (placesNumber []) 64 0) in
+    let z : productionsAt + from ≡ suc (length A + (length B + from)) = omega (arith, length-values setOf (most .nonterminals) 0, length-values (placesNumber []) (most .nonterminals) 0) in
     rw z refl
-    ∙ drop-append-add A (B ++ drop 129 room) (length B + from)
-    ∙ drop-append-add B (drop 129 room) from
-    ∙ drop-drop from 129 room
+    ∙ drop-append-add A (B ++ drop productionsAt room) (length B + from)
+    ∙ drop-append-add B (drop productionsAt room) from
+    ∙ drop-drop from productionsAt room
   where
     setOf : ℕ → ℕ
     setOf n = getD sets n 0
 
     A : List ℕ
-    A = valuesOf setOf 64 0
+    A = valuesOf setOf (most .nonterminals) 0
 
     B : List ℕ
-    B = valuesOf (placesNumber []) 64 0
+    B = valuesOf (placesNumber []) (most .nonterminals) 0
 
 place-cons : (test : Entry → Bool) (entry : Entry) (follow : List Entry) (from : ℕ) (answer : Bool) → test entry ≡ answer
     → placeFrom test (entry ∷ follow) from ≡ elim answer [ true ↦ from | false ↦ placeFrom test follow (from + 1) ]
@@ -232,7 +234,7 @@ unfolding placeFrom
 place-cons test entry follow from answer h = rw (h, placeFrom) refl
 
 module _ {sets : List ℕ} {es : List Entry} {room₀ : List ℕ} {index : ℕ} {room : List ℕ} (filling : Filling sets es room₀ index room) where
-  module _ (positive : 0 < index) {entry : Entry} (here : entry ≡ getD es (index - 1) noEntry) (small : entry .nonterminal < 64) where
+  module _ (positive : 0 < index) {entry : Entry} (here : entry ≡ getD es (index - 1) noEntry) (small : entry .nonterminal < most .nonterminals) where
     -- the entries behind number `index` are the old ones
     opened : drop (index - 1) es ≡ entry ∷ drop index es
     opened =
@@ -244,7 +246,7 @@ module _ {sets : List ℕ} {es : List Entry} {room₀ : List ℕ} {index : ℕ} 
         let z : index - 1 + 1 ≡ index = omega arith in
         ap (placeFrom test (drop index es)) z
 
-    old-place : (nonterminal : ℕ) → placeFrom (isOf nonterminal) (drop index es) index ≤ 256
+    old-place : (nonterminal : ℕ) → placeFrom (isOf nonterminal) (drop index es) index ≤ most .alternatives
     old-place nonterminal = place-small (isOf nonterminal) (drop index es) index (omega (arith, filling .low, filling .few, length-drop index es))
 
     place : (test : Entry → Bool) (answer : Bool) → test entry ≡ answer
@@ -256,9 +258,9 @@ module _ {sets : List ℕ} {es : List Entry} {room₀ : List ℕ} {index : ℕ} 
     at = record { size = filling .size; near = omega (arith, filling .low, filling .few); small = small }
 
     own-number : (test : Bool) → entry .nullable ≡ test
-        → index - 1 + 512 * (elim (entry .nullable) [ true ↦ index - 1 | false ↦ getD room (65 + entry .nonterminal) 0 / 512 ])
+        → index - 1 + placeBase * (elim (entry .nullable) [ true ↦ index - 1 | false ↦ getD room (placesAt + entry .nonterminal) 0 / placeBase ])
         ≡ placeFrom (isOf (entry .nonterminal)) (drop (index - 1) es) (index - 1)
-        + 512 * placeFrom (isNullableOf (entry .nonterminal)) (drop (index - 1) es) (index - 1)
+        + placeBase * placeFrom (isNullableOf (entry .nonterminal)) (drop (index - 1) es) (index - 1)
     own-number true h =
         rw (
           place (isOf (entry .nonterminal)) true (eq-eqb (entry .nonterminal) (entry .nonterminal) refl),
@@ -273,12 +275,12 @@ module _ {sets : List ℕ} {es : List Entry} {room₀ : List ℕ} {index : ℕ} 
         place (isNullableOf (entry .nonterminal)) false (rw (eq-eqb (entry .nonterminal) (entry .nonterminal) refl) h) in
         rw h (omega (arith, o, n, filling .places (entry .nonterminal) small, old-place (entry .nonterminal)))
 
-    places-next : (nonterminal : ℕ) → nonterminal < 64 → Dec (entry .nonterminal ≡ nonterminal)
-        → getD (laid entry (index - 1) room) (65 + nonterminal) 0
-        ≡ placeFrom (isOf nonterminal) (drop (index - 1) es) (index - 1) + 512 * placeFrom (isNullableOf nonterminal) (drop (index - 1) es) (index - 1)
+    places-next : (nonterminal : ℕ) → nonterminal < most .nonterminals → Dec (entry .nonterminal ≡ nonterminal)
+        → getD (laid entry (index - 1) room) (placesAt + nonterminal) 0
+        ≡ placeFrom (isOf nonterminal) (drop (index - 1) es) (index - 1) + placeBase * placeFrom (isNullableOf nonterminal) (drop (index - 1) es) (index - 1)
     places-next nonterminal h (yes q) = rw (sym q) (laid-own entry (index - 1) at ∙ own-number (entry .nullable) refl)
     places-next nonterminal h (no q) =
-        laid-other entry (index - 1) at (65 + nonterminal) (λ r. omega arith) (λ r. omega arith) (λ r. q (omega arith))
+        laid-other entry (index - 1) at (placesAt + nonterminal) (λ r. omega arith) (λ r. omega arith) (λ r. q (omega arith))
         ∙ filling .places nonterminal h
         ∙ sym
         (rw (
@@ -287,23 +289,23 @@ module _ {sets : List ℕ} {es : List Entry} {room₀ : List ℕ} {index : ℕ} 
         ) refl)
 
     first-next : (at-place : ℕ) → index - 1 ≤ at-place → at-place < length es → Dec (at-place ≡ index - 1)
-        → getD (laid entry (index - 1) room) (129 + 2 * at-place) 0 ≡ getD es at-place noEntry .first
+        → getD (laid entry (index - 1) room) (productionsAt + 2 * at-place) 0 ≡ getD es at-place noEntry .first
     first-next at-place l u (yes q) = rw (q, sym here) (laid-first entry (index - 1) at)
     first-next at-place l u (no q) =
-        laid-other entry (index - 1) at (129 + 2 * at-place) (λ r. q (omega arith)) (λ r. omega arith) (λ r. omega arith) ∙ filling .first at-place (apart q) u
+        laid-other entry (index - 1) at (productionsAt + 2 * at-place) (λ r. q (omega arith)) (λ r. omega arith) (λ r. omega arith) ∙ filling .first at-place (apart q) u
       where
         apart : (at-place ≡ index - 1 → ⊥) → index ≤ at-place
         apart q = omega arith
 
     link-next : (at-place : ℕ) → index - 1 ≤ at-place → at-place < length es → Dec (at-place ≡ index - 1)
-        → getD (laid entry (index - 1) room) (130 + 2 * at-place) 0 ≡ linkNumber (getD es at-place noEntry) (drop (at-place + 1) es) at-place
+        → getD (laid entry (index - 1) room) (linksAt + 2 * at-place) 0 ≡ linkNumber (getD es at-place noEntry) (drop (at-place + 1) es) at-place
     link-next at-place l u (yes q) =
         let z : index - 1 + 1 ≡ index = omega arith in
-        let p : getD room (65 + entry .nonterminal) 0 % 512 ≡ placeFrom (isOf (entry .nonterminal)) (drop (index - 1 + 1) es) (index - 1 + 1) =
+        let p : getD room (placesAt + entry .nonterminal) 0 % placeBase ≡ placeFrom (isOf (entry .nonterminal)) (drop (index - 1 + 1) es) (index - 1 + 1) =
         rw z (omega (arith, filling .places (entry .nonterminal) small, old-place (entry .nonterminal))) in
         rw (q, sym here) (laid-second entry (index - 1) at ∙ rw p refl)
     link-next at-place l u (no q) =
-        laid-other entry (index - 1) at (130 + 2 * at-place) (λ r. omega arith) (λ r. q (omega arith)) (λ r. omega arith) ∙ filling .link at-place (apart q) u
+        laid-other entry (index - 1) at (linksAt + 2 * at-place) (λ r. omega arith) (λ r. q (omega arith)) (λ r. omega arith) ∙ filling .link at-place (apart q) u
       where
         apart : (at-place ≡ index - 1 → ⊥) → index ≤ at-place
         apart q = omega arith
@@ -317,7 +319,7 @@ module _ {sets : List ℕ} {es : List Entry} {room₀ : List ℕ} {index : ℕ} 
           size = length-laid entry (index - 1) at;
           old-size = filling .old-size;
           count = laid-other entry (index - 1) at 0 (λ r. omega arith) (λ r. omega arith) (λ r. omega arith) ∙ filling .count;
-          set-in = λ n h. laid-other entry (index - 1) at (1 + n) (λ r. omega arith) (λ r. omega arith) (λ r. omega arith) ∙ filling .set-in n h;
+          set-in = λ n h. laid-other entry (index - 1) at (setsAt + n) (λ r. omega arith) (λ r. omega arith) (λ r. omega arith) ∙ filling .set-in n h;
           places = λ n h. places-next n h (ℕ-discrete (entry .nonterminal) n);
           first = λ i l u. first-next i l u (ℕ-discrete i (index - 1));
           link = λ i l u. link-next i l u (ℕ-discrete i (index - 1));
@@ -327,29 +329,29 @@ module _ {sets : List ℕ} {es : List Entry} {room₀ : List ℕ} {index : ℕ} 
 
   module _ (ended : index ≡ 0) where
     abbrev rest : List ℕ
-    rest = drop (129 + 2 * length es) room₀
+    rest = drop (productionsAt + 2 * length es) room₀
 
     number-in : (at-place : ℕ) → Dec (at-place < 2 * length es) → Dec (at-place % 2 ≡ 0)
-        → getD room (129 + at-place) 0 ≡ getD (entryNumbers es 0 ++ rest) at-place 0
+        → getD room (productionsAt + at-place) 0 ≡ getD (entryNumbers es 0 ++ rest) at-place 0
     number-in at-place (no l) d =
         let z : at-place ≡ length (entryNumbers es 0) + (at-place - 2 * length es) = omega (arith, length-entries es 0) in
-        let y : 129 + 2 * length es + (at-place - 2 * length es) ≡ 129 + at-place = omega arith in
+        let y : productionsAt + 2 * length es + (at-place - 2 * length es) ≡ productionsAt + at-place = omega arith in
         cc (
-          filling .tail (129 + at-place) (omega arith),
+          filling .tail (productionsAt + at-place) (omega arith),
           getD-append-add (entryNumbers es 0) rest (at-place - 2 * length es) 0,
-          getD-drop (129 + 2 * length es) room₀ (at-place - 2 * length es) 0,
+          getD-drop (productionsAt + 2 * length es) room₀ (at-place - 2 * length es) 0,
         )
     number-in at-place (yes l) (yes d) =
         let z : at-place ≡ 2 * (at-place / 2) = omega arith in
         List-at l
         (cc (filling .first (at-place / 2) (omega arith) (omega arith), entry-first es 0 (at-place / 2) (omega arith)))
       where
-        List-at : at-place < 2 * length es → getD room (129 + at-place) 0 ≡ getD (entryNumbers es 0) at-place 0
-            → getD room (129 + at-place) 0 ≡ getD (entryNumbers es 0 ++ rest) at-place 0
+        List-at : at-place < 2 * length es → getD room (productionsAt + at-place) 0 ≡ getD (entryNumbers es 0) at-place 0
+            → getD room (productionsAt + at-place) 0 ≡ getD (entryNumbers es 0 ++ rest) at-place 0
         List-at l e = e ∙ sym (List·getD-append (entryNumbers es 0) rest 0 at-place (omega (arith, length-entries es 0)))
     number-in at-place (yes l) (no d) =
         let z : at-place ≡ 2 * (at-place / 2) + 1 = omega arith in
-        let y : 129 + at-place ≡ 130 + 2 * (at-place / 2) = omega arith in
+        let y : productionsAt + at-place ≡ linksAt + 2 * (at-place / 2) = omega arith in
         let x : 0 + at-place / 2 ≡ at-place / 2 = omega arith in
         cc (
           filling .link (at-place / 2) (omega arith) (omega arith),
@@ -357,12 +359,12 @@ module _ {sets : List ℕ} {es : List Entry} {room₀ : List ℕ} {index : ℕ} 
           List·getD-append (entryNumbers es 0) rest 0 at-place (omega (arith, length-entries es 0)),
         )
 
-    filled : room ≡ roomOf sets es ++ drop (129 + 2 * length es) room₀
+    filled : room ≡ roomOf sets es ++ drop (productionsAt + 2 * length es) room₀
     unfolding roomOf
     filled =
         parts-are (length es) (λ n. getD sets n 0) (placesNumber es) (entryNumbers es 0 ++ rest) room
         (filling .size
-        ∙ omega (arith, filling .few, filling .old-size, length-append (entryNumbers es 0) rest, length-entries es 0, length-drop (129 + 2 * length es) room₀))
+        ∙ omega (arith, filling .few, filling .old-size, length-append (entryNumbers es 0) rest, length-entries es 0, length-drop (productionsAt + 2 * length es) room₀))
         (filling .count)
         (filling .set-in)
         (λ n h. rw ended at (filling .places n h))

@@ -22,11 +22,38 @@ pub record Entry : Type 0 where
   pub first : ℕ
   pub nullable : Bool
 
+-- where the room has the first sets of nonterminals, the places of their productions, and the first set and the link of each production
+abbrev pub setsAt : ℕ
+setsAt = 1
+
+abbrev pub placesAt : ℕ
+placesAt = setsAt + most .nonterminals
+
+abbrev pub productionsAt : ℕ
+productionsAt = placesAt + most .nonterminals
+
+abbrev pub linksAt : ℕ
+linksAt = productionsAt + 1
+
 abbrev pub roomSize : ℕ
-roomSize = 641
+roomSize = productionsAt + 2 * most .alternatives
+
+-- places, with the one that is no production's, are below this, and offsets below the next
+abbrev pub placeBase : ℕ
+placeBase = 512
+
+abbrev pub startBase : ℕ
+startBase = 65536
+
+abbrev pub nullableBase : ℕ
+nullableBase = startBase * placeBase
 
 abbrev pub noPlace : ℕ
 noPlace = most .alternatives
+
+-- of a nonterminal that has neither a production nor a nullable one
+abbrev pub noPlaces : ℕ
+noPlaces = noPlace + placeBase * noPlace
 
 -- the place of the first entry that passes a test, where the entries stand from place j on
 unfoldable pub placeFrom : (Entry → Bool) → List Entry → ℕ → ℕ
@@ -46,7 +73,7 @@ valuesOf f (suc k) n = f n ∷ valuesOf f k (n + 1)
 
 -- where the productions of nonterminal n are
 abbrev pub placesNumber : List Entry → ℕ → ℕ
-placesNumber es n = placeFrom (isOf n) es 0 + 512 * placeFrom (isNullableOf n) es 0
+placesNumber es n = placeFrom (isOf n) es 0 + placeBase * placeFrom (isNullableOf n) es 0
 
 abbrev pub flagNumber : Bool → ℕ
 flagNumber true = 1
@@ -54,7 +81,7 @@ flagNumber false = 0
 
 -- an entry at place j, before the entries es
 abbrev pub linkNumber : Entry → List Entry → ℕ → ℕ
-linkNumber e es j = e .start + 65536 * placeFrom (isOf (e .nonterminal)) es (j + 1) + 33554432 * flagNumber (e .nullable)
+linkNumber e es j = e .start + startBase * placeFrom (isOf (e .nonterminal)) es (j + 1) + nullableBase * flagNumber (e .nullable)
 
 unfoldable pub entryNumbers : List Entry → ℕ → List ℕ
 entryNumbers [] j = []
@@ -63,7 +90,7 @@ entryNumbers (e ∷ es) j = e .first ∷ linkNumber e es j ∷ entryNumbers es (
 -- the room of some entries, with the first sets of the nonterminals
 unfoldable pub roomOf : List ℕ → List Entry → List ℕ
 roomOf sets es =
-    length es ∷ (valuesOf (λ n. getD sets n 0) 64 0 ++ (valuesOf (placesNumber es) 64 0 ++ entryNumbers es 0))
+    length es ∷ (valuesOf (λ n. getD sets n 0) (most .nonterminals) 0 ++ (valuesOf (placesNumber es) (most .nonterminals) 0 ++ entryNumbers es 0))
 
 -- numbers written at the front of a room
 abbrev pub overwritten : List ℕ → List ℕ → List ℕ
@@ -72,27 +99,27 @@ overwritten new old = new ++ drop (length new) old
 -- a room begun: the count, the first sets and no places
 unfoldable pub begun : ℕ → List ℕ → List ℕ → List ℕ
 begun m sets room =
-    m ∷ (valuesOf (λ n. getD sets n 0) 64 0 ++ (valuesOf (placesNumber []) 64 0 ++ drop 129 room))
+    m ∷ (valuesOf (λ n. getD sets n 0) (most .nonterminals) 0 ++ (valuesOf (placesNumber []) (most .nonterminals) 0 ++ drop productionsAt room))
 
 -- a whole room, with a first set for each nonterminal
 pub record RoomAndSets (room sets : List ℕ) : Type 0 where
   pub size : length room ≡ roomSize
-  pub many : length sets ≡ 64
+  pub many : length sets ≡ most .nonterminals
 
 -- a whole room, and a place that there may be, of a nonterminal
 pub record RoomAt (j owner : ℕ) (room : List ℕ) : Type 0 where
   pub size : length room ≡ roomSize
-  pub near : j < 256
-  pub small : owner < 64
+  pub near : j < most .alternatives
+  pub small : owner < most .nonterminals
 
 -- an entry laid at place j, in front of those behind it
 unfoldable pub laid : Entry → ℕ → List ℕ → List ℕ
 laid e j room =
     set
-    (set (set room (129 + 2 * j) (e .first)) (130 + 2 * j)
-    (e .start + 65536 * (getD room (65 + e .nonterminal) 0 % 512) + 33554432 * flagNumber (e .nullable)))
-    (65 + e .nonterminal)
-    (j + 512 * (elim (e .nullable) [ true ↦ j | false ↦ getD room (65 + e .nonterminal) 0 / 512 ]))
+    (set (set room (productionsAt + 2 * j) (e .first)) (linksAt + 2 * j)
+    (e .start + startBase * (getD room (placesAt + e .nonterminal) 0 % placeBase) + nullableBase * flagNumber (e .nullable)))
+    (placesAt + e .nonterminal)
+    (j + placeBase * (elim (e .nullable) [ true ↦ j | false ↦ getD room (placesAt + e .nonterminal) 0 / placeBase ]))
 
 -- what stands past the last entry
 abbrev pub noEntry : Entry
@@ -102,28 +129,28 @@ noEntry = record { nonterminal = 0; start = 0; first = 0; nullable = false }
 pub record HoldsEntries (sets : List ℕ) (es : List Entry) (room : List ℕ) : Type 0 where
   pub rest : List ℕ
   pub held : room ≡ roomOf sets es ++ rest
-  pub few : length es ≤ 256
-  pub near : (j : ℕ) → getD es j noEntry .start < 65536
+  pub few : length es ≤ most .alternatives
+  pub near : (j : ℕ) → getD es j noEntry .start < startBase
 
 -- ------------------------------------------------------------------ what is read off a room
 
 abbrev pub firstSetIn : List ℕ → ℕ → ℕ
-firstSetIn room n = getD room (1 + n) 0
+firstSetIn room n = getD room (setsAt + n) 0
 
 abbrev pub firstPlaceIn : List ℕ → ℕ → ℕ
-firstPlaceIn room n = getD room (65 + n) 0 % 512
+firstPlaceIn room n = getD room (placesAt + n) 0 % placeBase
 
 abbrev pub nullablePlaceIn : List ℕ → ℕ → ℕ
-nullablePlaceIn room n = getD room (65 + n) 0 / 512
+nullablePlaceIn room n = getD room (placesAt + n) 0 / placeBase
 
 abbrev pub firstIn : List ℕ → ℕ → ℕ
-firstIn room j = getD room (129 + 2 * j) 0
+firstIn room j = getD room (productionsAt + 2 * j) 0
 
 abbrev pub startIn : List ℕ → ℕ → ℕ
-startIn room j = getD room (130 + 2 * j) 0 % 65536
+startIn room j = getD room (linksAt + 2 * j) 0 % startBase
 
 abbrev pub nextPlaceIn : List ℕ → ℕ → ℕ
-nextPlaceIn room j = getD room (130 + 2 * j) 0 / 65536 % 512
+nextPlaceIn room j = getD room (linksAt + 2 * j) 0 / startBase % placeBase
 
 abbrev pub nullableIn : List ℕ → ℕ → Bool
-nullableIn room j = eqb (getD room (130 + 2 * j) 0 / 33554432) 1
+nullableIn room j = eqb (getD room (linksAt + 2 * j) 0 / nullableBase) 1

@@ -1,5 +1,8 @@
 // The index of a grammar in a table: the nonterminal of each production, and the offset of its first item.
 use grammar::Front;
+use grammar::codes::ALTERNATIVE_TAG;
+use grammar::codes::HEAD_TAG;
+use grammar::codes::UPDATE;
 use grammar::front_at;
 use grammar::limits::EACH_ALTERNATIVE;
 use grammar::reader::byte;
@@ -60,7 +63,7 @@ fn redefine(head: &[u8], owners: &mut [u8], starts: &mut [u16], k: usize) -> usi
         k r (now (owners .exit)) (now (starts .exit)) ⌝ }
 {
     let mode = byte(head, 1);
-    if mode == 2 {
+    if mode == UPDATE {
         let n = byte(head, 0);
         without(owners, starts, k, n)
     } else {
@@ -93,10 +96,10 @@ pub fn build_index(
             Front::Field(tag, size) => {
                 let from = at + 3;
                 let to = from + size;
-                if tag == 4 {
+                if tag == HEAD_TAG {
                     n = byte(&table[from..to], 0);
                     k = redefine(&table[from..to], owners, starts, k);
-                } else if tag == 5 {
+                } else if tag == ALTERNATIVE_TAG {
                     push(owners, starts, k, n, to as u16);
                     k += 1;
                 }

@@ -6,7 +6,8 @@ ghost use Prim.Native.Nat.{_+_, _*_, _/_, _<_, _≤_};
 ghost use mathlib.Core.Path.{_≡_};
 ghost use lib.ListN.{length, getD};
 ghost use mathlib.Core.Bool.{true, false};
-ghost use Rattle.productions.specs.Room.{flagNumber, begun, laid, RoomAndSets, RoomAt};
+ghost use Rattle.grammar.specs.Limits.{most};
+ghost use Rattle.productions.specs.Room.{roomSize, productionsAt, linksAt, placeBase, nullableBase, flagNumber, begun, laid, RoomAndSets, RoomAt};
 ghost use Rattle.productions.specs.Room.{firstSetIn, firstPlaceIn, nullablePlaceIn, firstIn, startIn, nextPlaceIn, nullableIn};
 
 // Where the room has the first sets of nonterminals, the places of their productions, and two numbers for each production: its first set
@@ -64,7 +65,7 @@ pub fn nullable_place(room: &[u64; ROOM], n: u8) -> usize
 
 // One of the two numbers of the production at a place.
 fn number(room: &[u64], base: usize, j: usize) -> u64
-    requires { ⌜ (length (now room) ≡ 641) × (129 ≤ base) × (base ≤ 130) ⌝ }
+    requires { ⌜ (length (now room) ≡ roomSize) × (productionsAt ≤ base) × (base ≤ linksAt) ⌝ }
     ensures { λ r. ⌜ r ≡ getD (now (room .entry)) (base + 2 * j) 0 ⌝ }
 {
     if j < NO_PLACE { room[base + 2 * j] } else { 0 }
@@ -79,7 +80,7 @@ pub fn first(room: &[u64; ROOM], j: usize) -> u64
 
 // The offset, the next place and the nullability of the production at a place, in one number.
 fn link(room: &[u64; ROOM], j: usize) -> u64
-    ensures { λ r. ⌜ r ≡ getD (now (room .entry)) (130 + 2 * j) 0 ⌝ }
+    ensures { λ r. ⌜ r ≡ getD (now (room .entry)) (linksAt + 2 * j) 0 ⌝ }
 {
     number(room, LINKS, j)
 }
@@ -121,15 +122,15 @@ pub fn begin(room: &mut [u64], m: usize, sets: &[u64])
 
 // What a production adds to its link where it is nullable.
 fn flag(nullable: bool) -> u64
-    ensures { λ r. ⌜ r ≡ 33554432 * flagNumber nullable ⌝ }
+    ensures { λ r. ⌜ r ≡ nullableBase * flagNumber nullable ⌝ }
 {
     if nullable { NULLABLE } else { 0 }
 }
 
 // Where the productions of a nonterminal are, with one more at a place in front of the others.
 fn places_from(nullable: bool, place: u64, old: u64) -> u64
-    requires { ⌜ place < 256 ⌝ }
-    ensures { λ r. ⌜ r ≡ place + 512 * (elim nullable [ true ↦ place | false ↦ old / 512 ]) ⌝ }
+    requires { ⌜ place < most .alternatives ⌝ }
+    ensures { λ r. ⌜ r ≡ place + placeBase * (elim nullable [ true ↦ place | false ↦ old / placeBase ]) ⌝ }
 {
     if nullable {
         place + PLACE_BASE * place

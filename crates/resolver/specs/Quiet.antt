@@ -6,8 +6,8 @@ use Rattle.terms.specs.Cells.{column, nameBase}
 
 -- a row of this code and first argument
 pub record QuietRow (code x : ℕ) : Type 0 where
-  pub no-binder : code ≡ 33 → ⊥
-  pub no-fresh : code ≡ 32 → x / nameBase ≡ 2 → ⊥
+  pub no-binder : code ≡ 0x21 → ⊥
+  pub no-fresh : code ≡ 0x20 → x / nameBase ≡ 2 → ⊥
 
 -- n rows
 abbrev pub QuietTo : ℕ → List ℕ → Type 0

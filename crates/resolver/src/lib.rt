@@ -1,15 +1,16 @@
 // Resolution: the binder of each variable of a term, the binders that are renamed, and the numbers of their new names. Refusal 23.
 use crate::numbering::number;
 use crate::quiet::is_quiet;
-use binders::FEW_ROWS;
 use binders::link;
 use marking::resolve_term;
+use rows::FEW_ROWS;
 use terms::COLUMNS;
 use terms::MOST_CELLS;
 ghost use Prim.Native.Nat.{_/_, _≤_};
 ghost use mathlib.Core.Path.{_≡_};
 ghost use lib.ListN.{length};
 ghost use Rattle.terms.specs.Cells.{columns};
+ghost use Rattle.rows.specs.Sizes.{fewRows};
 ghost use Rattle.resolver.specs.Numbers.{Resolvable, Resolves};
 ghost use Rattle.marking.specs.Walks.{WalkPrepared};
 
@@ -54,7 +55,7 @@ fn resolved(
 
 // With room for the binders of a few rows.
 fn resolve_small(cells: &[u32], made: usize, root: u32, marks: &mut &mut [u16]) -> Resolution
-    requires { ⌜ Resolvable (now cells) made root (now (now marks)) × ((length (now cells) / columns ≤ 256) × (made ≤ 256)) ⌝ }
+    requires { ⌜ Resolvable (now cells) made root (now (now marks)) × ((length (now cells) / columns ≤ fewRows) × (made ≤ fewRows)) ⌝ }
     ensures { λ r. ⌜
         Resolves (now (cells .entry)) made root (now (now (marks .exit))) r × (length (now (now (marks .exit))) ≡ length (now (now (marks .entry))))
         ⌝ }

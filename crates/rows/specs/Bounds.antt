@@ -23,8 +23,8 @@ pub record FieldsBound (cells : List ℕ) (row part bound : ℕ) : Type 0 where
 
 -- a bound of what a row is: a field list if its code is that of mkFieldCons, else a term
 pub record RowBound (cells : List ℕ) (row bound : ℕ) : Type 0 where
-  pub term : (depth : ℕ) → row < depth → (column cells row 0 ≡ 38 → ⊥) → bound ≤ sizeAt cells depth row
-  pub fields : (depth : ℕ) → row < depth → column cells row 0 ≡ 38 → bound ≤ sizeFieldsAt cells depth row
+  pub term : (depth : ℕ) → row < depth → (column cells row 0 ≡ 0x26 → ⊥) → bound ≤ sizeAt cells depth row
+  pub fields : (depth : ℕ) → row < depth → column cells row 0 ≡ 0x26 → bound ≤ sizeFieldsAt cells depth row
   pub small : bound ≤ mostBound
 
 -- a room has a bound for each of the first n rows

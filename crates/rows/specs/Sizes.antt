@@ -7,6 +7,10 @@ use Rattle.terms.specs.Cells.{columns, mostCells}
 use Rattle.terms.specs.Term.{size, sizeFields}
 use Rattle.terms.specs.Rows.{termAt, fieldListAt}
 
+-- rows for which shorter rooms are lent
+abbrev pub fewRows : ℕ
+fewRows = 256
+
 abbrev pub noSpell : ℕ → List ℕ
 noSpell n = []
 

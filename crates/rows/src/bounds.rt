@@ -1,5 +1,6 @@
 // Terms that are too large, found by one pass over the rows: a part stands in an earlier row, so that a bound of its size is known where it is
 // used, and a part that is used often is looked at once.
+use crate::FEW_ROWS;
 use crate::column;
 use terms::COLUMNS;
 use terms::FIELD_CONS;
@@ -20,9 +21,6 @@ ghost use Rattle.rows.specs.Bounds.{mostBound, TermBound, FieldsBound, R
 
 // One more than the constructors that a term may have: bounds are cut off there.
 const MOST_BOUND: u16 = LARGEST_TERM as u16 + 1;
-
-// Rows for which a shorter room is lent.
-const FEW_ROWS: usize = 256;
 
 // The bound of a constructor whose parts have these bounds.
 fn joined(first: u16, second: u16) -> u16

@@ -12,6 +12,7 @@ use Rattle.spellings.proofs.BytesLaws.{by-test}
 use Rattle.kinds.specs.Kinds.{wordKind}
 use Rattle.answers.specs.declared.Refusal.{Refusal}
 use Rattle.grammar.specs.Table.{Lexicon}
+use Rattle.grammar.specs.Limits.{most}
 use Rattle.tokens.specs.declared.Token.{Token}
 use Rattle.tokens.specs.declared.Scanned.the-variants.{Tokens, Unscanned}
 use Rattle.tokens.specs.Scan.{Lexed, scan}
@@ -142,9 +143,9 @@ module _ (lex : Lexicon) (few : length (lex .outsides) ≤ 64) (formula : List �
       unfolding scanInto
       scan-refused e = cc
 
-  -- The words of a formula have numbers below 4,160.
+  -- The words of a formula are numbered behind the outside names, and are no more than its tokens.
   pub word-numbers-small : (place : ℕ) → getD (scan lex formula .tokens) place endToken .kind ≡ wordKind
-      → getD (scan lex formula .tokens) place endToken .value < 4160
+      → getD (scan lex formula .tokens) place endToken .value < most .outsides + mostTokens
   word-numbers-small place k =
       by-test (ltb place (length (scan lex formula .tokens)))
       (λ e.

@@ -24,6 +24,7 @@ use Rattle.tokens.specs.declared.Step.the-variants.{Skip, Stop, Emit}
 use Rattle.scanner.specs.declared.Made.{Made}
 use Rattle.scanner.specs.declared.WordClass.{WordClass}
 use Rattle.scanner.specs.declared.WordClass.the-variants.{Keyword, Outside, Other}
+use Rattle.grammar.specs.Limits.{most}
 use Rattle.lexicon.specs.declared.trees.Spot.{Spot}
 use Rattle.lexicon.specs.declared.trees.Spot.the-variants.{Node, Free}
 use Rattle.tokens.specs.Tokens.{token}
@@ -32,6 +33,7 @@ use Rattle.tokens.specs.Tiling as rule
 use Rattle.tokens.specs.Unscanned.{bad-byte, long-word}
 use Rattle.scanner.specs.Rooms.{placeThen, countWith, wordsIn}
 use Rattle.lexicon.specs.Trees.{hashOf, Hashed, Planted, FoundAt, FreeFor, Searched, linksWith}
+use Rattle.lexicon.specs.LexiconRoom.{mostSpellings, symbolsAt, keywordCountAt, spellingCountAt, treeMask}
 use Rattle.lexicon.specs.LexiconRoom.{kindFrom, Lexical}
 use Rattle.grammar.specs.declared.Found.{Found}
 use Rattle.grammar.specs.declared.Found.the-variants.{At, Absent}
@@ -67,7 +69,7 @@ module _ (spelling : List ℕ) (vs us : List (List ℕ)) where
 
 module _ {table room tree : List ℕ} (lexical : Lexical table room tree) where
   -- the table's spellings can be searched
-  pub lexical-planted : Planted table room tree 127 (getD room 381 0)
+  pub lexical-planted : Planted table room tree treeMask (getD room spellingCountAt 0)
   lexical-planted =
       record {
         tree = rw (lexical .spelled) (lexical .tree);
@@ -76,7 +78,7 @@ module _ {table room tree : List ℕ} (lexical : Lexical table room tree) where
       }
 
   module _ {spelling : List ℕ} where
-    module _ {index : ℕ} (found : FoundAt (wordsIn table room (getD room 381 0)) spelling index) where
+    module _ {index : ℕ} (found : FoundAt (wordsIn table room (getD room spellingCountAt 0)) spelling index) where
       found-index : index ≡ indexOf spelling (lexiconOf table .keywords ++ lexiconOf table .outsides)
       found-index = found .index ∙ ap (indexOf spelling) (lexical .spelled)
 
@@ -84,27 +86,27 @@ module _ {table room tree : List ℕ} (lexical : Lexical table room tree) where
       found-small =
           omega (arith, found .inside, ap length (lexical .spelled), length-append (lexiconOf table .keywords) (lexiconOf table .outsides))
 
-      found-fits : index < 126
+      found-fits : index < mostSpellings
       found-fits = omega (arith, found-small, few-keywords table, few-outsides table)
 
-      name-keyword : index < getD room 380 0 → Named (lexiconOf table) spelling (Keyword index)
+      name-keyword : index < getD room keywordCountAt 0 → Named (lexiconOf table) spelling (Keyword index)
       name-keyword h =
           let z : indexOf spelling (lexiconOf table .keywords) ≡ index
           = split-front spelling (lexiconOf table .keywords) (lexiconOf table .outsides) (omega (arith, found-index, lexical .keywords)) ∙ sym found-index in
           named-keyword
           (subst (FirstAt spelling (lexiconOf table .keywords)) z (index-is-first spelling (lexiconOf table .keywords) (omega (arith, lexical .keywords))))
 
-      name-outside : getD room 380 0 ≤ index → Named (lexiconOf table) spelling (Outside (index - getD room 380 0))
+      name-outside : getD room keywordCountAt 0 ≤ index → Named (lexiconOf table) spelling (Outside (index - getD room keywordCountAt 0))
       name-outside h =
           let none : indexOf spelling (lexiconOf table .keywords) ≡ length (lexiconOf table .keywords)
           = split-back spelling (lexiconOf table .keywords) (lexiconOf table .outsides) (omega (arith, found-index, lexical .keywords)) in
           let r = index-rest spelling (lexiconOf table .keywords) (lexiconOf table .outsides) none in
-          let z : indexOf spelling (lexiconOf table .outsides) ≡ index - getD room 380 0 = omega (arith, r, found-index, lexical .keywords) in
+          let z : indexOf spelling (lexiconOf table .outsides) ≡ index - getD room keywordCountAt 0 = omega (arith, r, found-index, lexical .keywords) in
           an-outside (index-is-none spelling (lexiconOf table .keywords) none)
           (subst (FirstAt spelling (lexiconOf table .outsides)) z
           (index-is-first spelling (lexiconOf table .outsides) (omega (arith, z, found-small, lexical .keywords))))
 
-    name-other : {slot : ℕ} → FreeFor 127 (wordsIn table room (getD room 381 0)) tree spelling slot → Named (lexiconOf table) spelling Other
+    name-other : {slot : ℕ} → FreeFor treeMask (wordsIn table room (getD room spellingCountAt 0)) tree spelling slot → Named (lexiconOf table) spelling Other
     name-other f =
         let ks : List (List ℕ) = lexiconOf table .keywords in
         let os : List (List ℕ) = lexiconOf table .outsides in
@@ -116,7 +118,7 @@ module _ {table room tree : List ℕ} (lexical : Lexical table room tree) where
 -- ------------------------------------------------------------------ words of the formula's own
 
 module _ {mask : ℕ} {met : List (List ℕ)} {links spelling : List ℕ} {at size : ℕ} {result : Made} where
-  own-again : {index : ℕ} → FoundAt met spelling index → result ≡ made (Emit (token wordKind at size (64 + index))) (Node 0)
+  own-again : {index : ℕ} → FoundAt met spelling index → result ≡ made (Emit (token wordKind at size (most .outsides + index))) (Node 0)
       → OwnWord mask met links at size spelling result
   own-again {index} f e =
       let first : FirstAt spelling met index = subst (FirstAt spelling met) (sym (f .index))
@@ -124,7 +126,7 @@ module _ {mask : ℕ} {met : List (List ℕ)} {links spelling : List ℕ} {at si
       rw e (met-before first)
 
   own-new : {slot count : ℕ} → FreeFor mask met links spelling slot → count ≡ length met
-      → result ≡ made (Emit (token wordKind at size (64 + count))) (Free slot)
+      → result ≡ made (Emit (token wordKind at size (most .outsides + count))) (Free slot)
       → OwnWord mask met links at size spelling result
   own-new f z e = rw (e, z) (first-met f)
 
@@ -135,13 +137,13 @@ module _ (met-count : ℕ) (read-token : Token) where
   no-word-new : (read-token .kind ≡ wordKind → ⊥) → isNew met-count read-token ≡ false
   no-word-new d = rw (ne-eqb (read-token .kind) wordKind d) refl
 
-  known-new : read-token .kind ≡ wordKind → (read-token .value ≡ 64 + met-count → ⊥) → isNew met-count read-token ≡ false
-  known-new k d = rw (eq-eqb (read-token .kind) wordKind k, ne-eqb (read-token .value) (64 + met-count) d) refl
+  known-new : read-token .kind ≡ wordKind → (read-token .value ≡ most .outsides + met-count → ⊥) → isNew met-count read-token ≡ false
+  known-new k d = rw (eq-eqb (read-token .kind) wordKind k, ne-eqb (read-token .value) (most .outsides + met-count) d) refl
 
-  next-new : read-token .kind ≡ wordKind → read-token .value ≡ 64 + met-count → isNew met-count read-token ≡ true
-  next-new k d = rw (eq-eqb (read-token .kind) wordKind k, eq-eqb (read-token .value) (64 + met-count) d) refl
+  next-new : read-token .kind ≡ wordKind → read-token .value ≡ most .outsides + met-count → isNew met-count read-token ≡ true
+  next-new k d = rw (eq-eqb (read-token .kind) wordKind k, eq-eqb (read-token .value) (most .outsides + met-count) d) refl
 
-module _ {lex : Lexicon} (few : length (lex .outsides) ≤ 64) {mask : ℕ} {met : List (List ℕ)} {links : List ℕ} {at : ℕ} {rest : List ℕ}
+module _ {lex : Lexicon} (few : length (lex .outsides) ≤ most .outsides) {mask : ℕ} {met : List (List ℕ)} {links : List ℕ} {at : ℕ} {rest : List ℕ}
     (below : 0 < length rest) where
   stepped-old : {read-token : Token} {met′ : List (List ℕ)} → Stands lex at rest met read-token met′ → isNew (length met) read-token ≡ false
       → Stepped lex mask met links at rest (made (Emit read-token) (Node 0))
@@ -168,9 +170,9 @@ module _ {lex : Lexicon} (few : length (lex .outsides) ≤ 64) {mask : ℕ} {met
         → Stepped lex mask met links at rest result
     own-step n o (met-before {k = k} f) =
         stepped-old (rule.a-word-again word-front n o f)
-        (known-new (length met) (token wordKind at (length spelling) (64 + k)) refl (λ e. omega (arith, e, f .there)))
+        (known-new (length met) (token wordKind at (length spelling) (most .outsides + k)) refl (λ e. omega (arith, e, f .there)))
     own-step n o (first-met {slot = slot} f) =
-        let t : Token = token wordKind at (length spelling) (64 + length met) in
+        let t : Token = token wordKind at (length spelling) (most .outsides + length met) in
         record {
           step-is = stands-steps few below (rule.a-new-word word-front n o (index-is-none spelling met (f .none))) .emits;
           agrees =
@@ -249,30 +251,30 @@ module _ {lex : Lexicon} {at : ℕ} {rest : List ℕ} where
 -- ------------------------------------------------------------------ the steps as the code takes them
 
 -- a search among the table's spellings
-module _ {table room tree : List ℕ} (lexical : Lexical table room tree) (spelling : List ℕ) {count : ℕ} (equal : count ≡ getD room 381 0) (spot : Spot)
-    (found : Searched 127 (wordsIn table room count) tree spelling spot) where
-  searched-all : Searched 127 (wordsIn table room (getD room 381 0)) tree spelling spot
+module _ {table room tree : List ℕ} (lexical : Lexical table room tree) (spelling : List ℕ) {count : ℕ} (equal : count ≡ getD room spellingCountAt 0) (spot : Spot)
+    (found : Searched treeMask (wordsIn table room count) tree spelling spot) where
+  searched-all : Searched treeMask (wordsIn table room (getD room spellingCountAt 0)) tree spelling spot
   searched-all = rw (equal) at found
 
   module _ {index : ℕ} (agrees : spot ≡ Node index) where
-    node-found : FoundAt (wordsIn table room (getD room 381 0)) spelling index
-    node-found = subst (Searched 127 (wordsIn table room (getD room 381 0)) tree spelling) agrees searched-all
+    node-found : FoundAt (wordsIn table room (getD room spellingCountAt 0)) spelling index
+    node-found = subst (Searched treeMask (wordsIn table room (getD room spellingCountAt 0)) tree spelling) agrees searched-all
 
-    -- a spelling found among the table's is one of 126
-    pub node-fits : index < 126
+    -- a spelling found among the table's is one of those that it may have
+    pub node-fits : index < mostSpellings
     node-fits = found-fits lexical node-found
 
     -- one found among the first is that keyword
-    pub node-keyword : index < getD room 380 0 → Named (lexiconOf table) spelling (Keyword index)
+    pub node-keyword : index < getD room keywordCountAt 0 → Named (lexiconOf table) spelling (Keyword index)
     node-keyword h = name-keyword lexical node-found h
 
     -- one found behind the keywords is that outside name
-    pub node-outside : getD room 380 0 ≤ index → Named (lexiconOf table) spelling (Outside (index - getD room 380 0))
+    pub node-outside : getD room keywordCountAt 0 ≤ index → Named (lexiconOf table) spelling (Outside (index - getD room keywordCountAt 0))
     node-outside h = name-outside lexical node-found h
 
   -- one that is not found is neither
   pub node-none : {slot : ℕ} → spot ≡ Free slot → Named (lexiconOf table) spelling Other
-  node-none e = name-other lexical (subst (Searched 127 (wordsIn table room (getD room 381 0)) tree spelling) e searched-all)
+  node-none e = name-other lexical (subst (Searched treeMask (wordsIn table room (getD room spellingCountAt 0)) tree spelling) e searched-all)
 
 -- a search among the formula's own words
 module _ (mask : ℕ) (formula words : List ℕ) (count : ℕ) (links spelling searched : List ℕ) (equal : searched ≡ spelling) (spot : Spot)
@@ -289,12 +291,12 @@ module _ (mask : ℕ) (formula words : List ℕ) (count : ℕ) (links spelling s
     own-small = omega (arith, own-found .inside, words-length count formula words 0)
 
     -- a word met before has the number of its first appearance
-    pub own-node : {at size : ℕ} {result : Made} → result ≡ made (Emit (token wordKind at size (64 + index))) (Node 0)
+    pub own-node : {at size : ℕ} {result : Made} → result ≡ made (Emit (token wordKind at size (most .outsides + index))) (Node 0)
         → OwnWord mask (wordsIn formula words count) links at size spelling result
     own-node g = own-again own-found g
 
   -- a word not met before has the next number, and a link is free for it
-  pub own-free : {slot at size : ℕ} {result : Made} → spot ≡ Free slot → result ≡ made (Emit (token wordKind at size (64 + count))) (Free slot)
+  pub own-free : {slot at size : ℕ} {result : Made} → spot ≡ Free slot → result ≡ made (Emit (token wordKind at size (most .outsides + count))) (Free slot)
       → OwnWord mask (wordsIn formula words count) links at size spelling result
   own-free e g =
       own-new (subst (Searched mask (wordsIn formula words count) links spelling) e searched-word) (sym (words-length count formula words 0)) g
@@ -343,7 +345,7 @@ module _ {formula : List ℕ} {at size hash : ℕ} {spelling : List ℕ} (given-
   here-some : 0 < length (drop at formula)
   here-some = omega (arith, given-word-here .inside, length-drop at formula)
 
-  module _ {lex : Lexicon} (few : length (lex .outsides) ≤ 64) {mask : ℕ} {met : List (List ℕ)} {links : List ℕ} {name : WordClass} {result : Made}
+  module _ {lex : Lexicon} (few : length (lex .outsides) ≤ most .outsides) {mask : ℕ} {met : List (List ℕ)} {links : List ℕ} {name : WordClass} {result : Made}
       (named : Named lex spelling name) where
     -- a word that is a keyword makes its token
     pub keyword-made : {number : ℕ} → name ≡ Keyword number → result ≡ made (Emit (token (number + 2) at size 0)) (Node 0)
@@ -372,11 +374,11 @@ module _ {formula : List ℕ} {at size hash : ℕ} {spelling : List ℕ} (given-
         by-name : Named lex spelling Other → Stepped lex mask met links at (drop at formula) result
         by-name (neither n q) = own-step few here-some here-front n q own
 
--- a keyword's number is below 62
-pub keyword-small : (table spelling : List ℕ) {name : WordClass} {number : ℕ} → Named (lexiconOf table) spelling name → name ≡ Keyword number → number < 62
+-- a keyword's number is below the most that there may be
+pub keyword-small : (table spelling : List ℕ) {name : WordClass} {number : ℕ} → Named (lexiconOf table) spelling name → name ≡ Keyword number → number < most .keywords
 keyword-small table spelling {number = number} m e = by-name (subst (Named (lexiconOf table) spelling) e m)
   where
-    by-name : Named (lexiconOf table) spelling (Keyword number) → number < 62
+    by-name : Named (lexiconOf table) spelling (Keyword number) → number < most .keywords
     by-name (named-keyword f) = omega (arith, f .there, few-keywords table)
 
 -- a word of more than 31 bytes stops the scan
@@ -456,12 +458,12 @@ module _ {table room tree : List ℕ} (lexical : Lexical table room tree) where
   symbol-below byte y = omega (arith, symbol-only byte y .low)
 
   -- the room has a number for each symbol
-  pub symbol-inside : (byte : ℕ) → isSymbol byte ≡ true → 252 + byte < length room
+  pub symbol-inside : (byte : ℕ) → isSymbol byte ≡ true → symbolsAt + byte < length room
   symbol-inside byte y = omega (arith, symbol-below byte y, lexical .long)
 
   -- a symbol makes a token of the kind that the room holds for it
   pub symbol-at : (formula : List ℕ) (at : ℕ) → at < length formula → isSymbol (getD formula at 0) ≡ true
-      → Marks (lexiconOf table) at (drop at formula) (Emit (token (getD room (252 + getD formula at 0) 0) at 1 0))
+      → Marks (lexiconOf table) at (drop at formula) (Emit (token (getD room (symbolsAt + getD formula at 0) 0) at 1 0))
   symbol-at formula at h y =
       let z : getD (drop at formula) 0 0 ≡ getD formula at 0 = front-byte formula at in
       symbol-marks (omega (arith, length-drop at formula)) (ap isSymbol z ∙ y)

@@ -23,7 +23,7 @@ use Rattle.lexicon.proofs.PlaceLaws.{words-length}
 use Rattle.lexicon.proofs.TreeLaws.{zeros, tree-none, tree-more, links-long}
 use Rattle.tokens.proofs.StepLaws.{step-lies}
 use Rattle.scanner.proofs.ScanLoop.{Turn, turn-start, turn-skip, turn-emit, count-grows}
-use Rattle.tokens.specs.Tokens.{mostTokens}
+use Rattle.tokens.specs.Tokens.{mostTokens, longestFormula}
 
 -- where the scan stands, with the words met in their trees and the rooms as long as they were
 pub record Scanning (table room tree formula tokens₀ words₀ links₀ tokens words links : List ℕ) (mask at many count : ℕ) : Type 0 where
@@ -36,7 +36,7 @@ pub record Scanning (table room tree formula tokens₀ words₀ links₀ tokens 
   -- so is the room for links
   pub enough : (size : ℕ) → size ≤ length formula → size ≤ mostTokens → mask + 1 + size * 2 ≤ length links
   -- the formula is not too long
-  pub short : length formula < 65536
+  pub short : length formula ≤ longestFormula
   -- the room for tokens keeps its length
   pub tokens-same : length tokens ≡ length tokens₀
   -- the room for words keeps its length
@@ -201,7 +201,7 @@ module _ {table room tree formula tokens₀ words₀ links₀ tokens words links
             }
 
 -- a room of zeros that is long enough is ready for a scan's links
-pub scannable : (formula : List ℕ) (mask room : ℕ) → length formula < 65536
+pub scannable : (formula : List ℕ) (mask room : ℕ) → length formula ≤ longestFormula
     → ((size : ℕ) → size ≤ length formula → size ≤ mostTokens → mask + 1 + size * 2 ≤ room)
     → Scannable formula (replicate room 0) mask
 scannable formula mask room short enough =

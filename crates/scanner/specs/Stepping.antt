@@ -17,7 +17,7 @@ use Rattle.scanner.specs.declared.Made.{Made}
 use Rattle.lexicon.specs.declared.trees.Spot.{Spot}
 use Rattle.lexicon.specs.declared.trees.Spot.the-variants.{Node, Free}
 use Rattle.tokens.specs.Scan.{isNew, stepOf}
-use Rattle.tokens.specs.Tokens.{token, mostTokens}
+use Rattle.tokens.specs.Tokens.{token, mostTokens, longestFormula}
 use Rattle.tokens.specs.Tiling.{FirstAt, NotIn}
 use Rattle.scanner.specs.Rooms.{wordsIn}
 use Rattle.lexicon.specs.Trees.{SearchTree, FreeFor}
@@ -68,6 +68,6 @@ pub record Ready (table room tree formula words links : List ℕ) (mask count : 
 
 -- the rooms for the links of a scan, before it
 pub record Scannable (formula links : List ℕ) (mask : ℕ) : Type 0 where
-  pub short : length formula < 65536
+  pub short : length formula ≤ longestFormula
   pub unlinked : (i : ℕ) → getD links i 0 ≡ 0
   pub enough : (n : ℕ) → n ≤ length formula → n ≤ mostTokens → mask + 1 + n * 2 ≤ length links

@@ -36,7 +36,7 @@ ghost use lib.Seq.{sets};
 ghost use Rattle.spellings.specs.Bytes.{isLetter, isDigit};
 ghost use Rattle.grammar.specs.Table.{Lexicon};
 ghost use Rattle.grammar.specs.Lookup.{lexiconOf};
-ghost use Rattle.tokens.specs.Tokens.{token, mostTokens};
+ghost use Rattle.tokens.specs.Tokens.{token, mostTokens, longestFormula};
 ghost use Rattle.lexicon.specs.Trees.{hashOf, Planted, Linkable, linksWith};
 ghost use Rattle.lexicon.specs.LexiconRoom.{Lexical};
 ghost use Rattle.scanner.specs.Stepping.{Named, Ready, OwnWord, made, Marks, Stepped, Agrees, Scannable};
@@ -63,7 +63,7 @@ pub enum WordClass {
 
 // What is done at a number.
 fn number_step(formula: &[u8], at: usize) -> Step
-    requires { ⌜ (at < length (now formula)) × (length (now formula) < 65536) × (isDigit (getD (now formula) at 0) ≡ true) ⌝ }
+    requires { ⌜ (at < length (now formula)) × (length (now formula) ≤ longestFormula) × (isDigit (getD (now formula) at 0) ≡ true) ⌝ }
     ensures { λ r. ⌜ ((lex : Lexicon) → Marks lex at (drop at (now (formula .entry))) r) ⌝ }
 {
     let rest = &formula[at..];
@@ -83,7 +83,7 @@ fn number_step(formula: &[u8], at: usize) -> Step
 // What is done at what is no word.
 fn mark_step(table: &[u8], room: &[u32], tree: &[u32], formula: &[u8], at: usize) -> Step
     requires { ⌜ Lexical (now table) (now room) (now tree) × (isLetter (getD (now formula) at 0) ≡ false) ⌝ }
-    requires { ⌜ (at < length (now formula)) × (length (now formula) < 65536) ⌝ }
+    requires { ⌜ (at < length (now formula)) × (length (now formula) ≤ longestFormula) ⌝ }
     ensures { λ r. ⌜ Marks (lexiconOf (now (table .entry))) at (drop at (now (formula .entry))) r ⌝ }
 {
     let b = formula[at];
@@ -128,7 +128,7 @@ fn name_of(table: &[u8], room: &[u32], tree: &[u32], s: &[u8], hash: u64) -> Wor
 
 // A step that emits a token.
 fn emit(kind: u32, at: usize, size: usize, value: u32, spot: Spot) -> Made
-    requires { ⌜ (at < 65536) × (size < 65536) ⌝ }
+    requires { ⌜ (at ≤ longestFormula) × (size ≤ longestFormula) ⌝ }
     ensures { λ r. ⌜ r ≡ made (Step.Emit (token kind at size value)) spot ⌝ }
 {
     Made {
@@ -154,7 +154,7 @@ fn own_word(
     hash: u64,
 ) -> Made
     requires { ⌜ Planted (now formula) (now words) (now links) mask count × (hash ≡ hashOf (take size (drop at (now formula)))) ⌝ }
-    requires { ⌜ (at < 65536) × (size < 65536) × (count < 65536) ⌝ }
+    requires { ⌜ (at ≤ longestFormula) × (size ≤ longestFormula) × (count ≤ mostTokens) ⌝ }
     ensures { λ r. ⌜ OwnWord mask (wordsIn (now (formula .entry)) (now (words .entry)) count) (now (links .entry)) at size
         (take size (drop at (now (formula .entry)))) r ⌝ }
 {
@@ -192,7 +192,7 @@ fn word_step(
     at: usize,
 ) -> Made
     requires { ⌜ Ready (now table) (now room) (now tree) (now formula) (now words) (now links) mask count ⌝ }
-    requires { ⌜ (at < length (now formula)) × (length (now formula) < 65536) × (isLetter (getD (now formula) at 0) ≡ true) ⌝ }
+    requires { ⌜ (at < length (now formula)) × (length (now formula) ≤ longestFormula) × (isLetter (getD (now formula) at 0) ≡ true) ⌝ }
     ensures { λ r. ⌜ Stepped (lexiconOf (now (table .entry))) mask (wordsIn (now (formula .entry)) (now (words .entry)) count)
         (now (links .entry)) at (drop at (now (formula .entry))) r ⌝ }
 {
@@ -226,7 +226,7 @@ fn step_at(
     at: usize,
 ) -> Made
     requires { ⌜ Ready (now table) (now room) (now tree) (now formula) (now words) (now links) mask count ⌝ }
-    requires { ⌜ (at < length (now formula)) × (length (now formula) < 65536) ⌝ }
+    requires { ⌜ (at < length (now formula)) × (length (now formula) ≤ longestFormula) ⌝ }
     ensures { λ r. ⌜ Stepped (lexiconOf (now (table .entry))) mask (wordsIn (now (formula .entry)) (now (words .entry)) count)
         (now (links .entry)) at (drop at (now (formula .entry))) r ⌝ }
 {

@@ -12,6 +12,14 @@ use bodies::items::check_item;
 use bodies::items::check_result;
 use bodies::items::load_params;
 use grammar::Front;
+use grammar::codes::ALTERNATIVE_TAG;
+use grammar::codes::BLOCK_TAG;
+use grammar::codes::HEAD_TAG;
+use grammar::codes::ITEM_TAG;
+use grammar::codes::KEYWORD_TAG;
+use grammar::codes::OUTSIDE_TAG;
+use grammar::codes::RESULT_TAG;
+use grammar::codes::ROOT_TAG;
 use grammar::front_at;
 use grammar::limits::EACH_NONTERMINAL;
 use grammar::limits::LONGEST_TABLE;
@@ -81,19 +89,19 @@ fn count(known: Known, tag: u8, at: usize) -> Known
     let head = known.head;
     let variables = known.variables;
     match tag {
-        1 => Known {
+        KEYWORD_TAG => Known {
             keywords: keywords + 1,
             outsides,
             head,
             variables,
         },
-        2 => Known {
+        OUTSIDE_TAG => Known {
             keywords,
             outsides: outsides + 1,
             head,
             variables,
         },
-        4 => Known {
+        HEAD_TAG => Known {
             keywords,
             outsides,
             head: at,
@@ -150,8 +158,8 @@ fn check_field(
         r (now (heads .exit)) (now (sorts .exit)) ⌝ }
 {
     match tag {
-        3 => step_of(collect(heads, table, at, to), known),
-        5 => {
+        BLOCK_TAG => step_of(collect(heads, table, at, to), known),
+        ALTERNATIVE_TAG => {
             let head = known.head;
             let variables = load_params(sorts, signature_at(table, head));
             FieldStep::Next(Known {
@@ -161,12 +169,12 @@ fn check_field(
                 variables,
             })
         }
-        6 => check_variable(sorts, stack, table, heads, known, at, v),
-        7 => step_of(
+        ITEM_TAG => check_variable(sorts, stack, table, heads, known, at, v),
+        RESULT_TAG => step_of(
             verdict_of(check_result(stack, table, sorts, known, v), at),
             known,
         ),
-        8 => FieldStep::Stop(verdict_of(check_root(table, heads, byte(v, 0)), at)),
+        ROOT_TAG => FieldStep::Stop(verdict_of(check_root(table, heads, byte(v, 0)), at)),
         _ => FieldStep::Next(count(known, tag, at)),
     }
 }

@@ -7,6 +7,12 @@ use answers::refuse;
 use expansion::Outcome;
 use expansion::State;
 use grammar::Front;
+use grammar::codes::CALL_ITEM;
+use grammar::codes::IDE_ITEM;
+use grammar::codes::ITEM_TAG;
+use grammar::codes::KEYWORD_ITEM;
+use grammar::codes::LOCAL_ITEM;
+use grammar::codes::RESULT_TAG;
 use grammar::front_at;
 use grammar::limits::MOST_VARIABLES;
 use grammar::reader::byte;
@@ -94,9 +100,9 @@ fn read_item(kind: u8, operand: u8, tokens: &[u32], n: usize, s: State) -> Outco
     let at = s.at;
     let value = value_at(tokens, n, at);
     match kind {
-        0 => take(tokens, n, operand as u32 + KEYWORD_KIND, 0, s),
-        1 => take(tokens, n, WORD_KIND, word_value(operand, value), s),
-        3 => fresh_name(s),
+        KEYWORD_ITEM => take(tokens, n, operand as u32 + KEYWORD_KIND, 0, s),
+        IDE_ITEM => take(tokens, n, WORD_KIND, word_value(operand, value), s),
+        LOCAL_ITEM => fresh_name(s),
         _ => take(tokens, n, NUMBER_KIND, value, s),
     }
 }
@@ -130,7 +136,7 @@ fn do_item(
     let count = c.count;
     let kind = byte(v, 0);
     let operand = byte(v, 1);
-    if kind == 4 {
+    if kind == CALL_ITEM {
         let rows = rows_of(cells.len());
         let made = s.made;
         let listed = build_arguments(v, 2, vars, count, rows, made, out, cells, stack);
@@ -173,7 +179,7 @@ pub fn item_step(
         Front::Nothing => ItemStep::Finished,
         Front::Short => ItemStep::Finished,
         Front::Field(tag, size) => {
-            if tag != 6 {
+            if tag != ITEM_TAG {
                 return ItemStep::Finished;
             }
             let from = at + 3;
@@ -246,7 +252,7 @@ pub fn finish(
         Front::Nothing => first_variable(vars, count, s),
         Front::Short => first_variable(vars, count, s),
         Front::Field(tag, size) => {
-            if tag != 7 {
+            if tag != RESULT_TAG {
                 return first_variable(vars, count, s);
             }
             let from = at + 3;

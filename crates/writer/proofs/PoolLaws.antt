@@ -16,6 +16,8 @@ use Rattle.grammar.specs.Fields.{RawFields, next}
 use Rattle.grammar.specs.Lookup.{leading, afterLeading, lexiconOf, frontOf, fieldsAt}
 use Rattle.grammar.proofs.LookupLaws.{opened, fields-at, Stops, outsides-at, few-outsides}
 use Rattle.grammar.proofs.ReaderLaws.{getD-past}
+use Rattle.writer.specs.Openings.{spellingRoom}
+use Rattle.writer.specs.Pool.{firstWord}
 use Rattle.writer.specs.Openings.{spellIn, Wrote}
 use Rattle.tokens.specs.Tokens.{spelled}
 use Rattle.writer.specs.Pool.{spanned, Pooled, noneOf, oneOf, Words, filledTo}
@@ -42,64 +44,64 @@ same-part left right count start e h =
     getD-take count (drop start left) j 0 small ∙ getD-drop start left j 0 ∙ h j small
     ∙ sym (getD-take count (drop start right) j 0 small ∙ getD-drop start right j 0))
 
-module _ (pool spelling : List ℕ) (place : ℕ) (short : length spelling < 32) (fits : place * 32 + 32 ≤ length pool) where
+module _ (pool spelling : List ℕ) (place : ℕ) (short : length spelling < spellingRoom) (fits : place * spellingRoom + spellingRoom ≤ length pool) where
   stored : List ℕ
-  stored = sets pool (place * 32) (length spelling ∷ spelling)
+  stored = sets pool (place * spellingRoom) (length spelling ∷ spelling)
 
-  stored-is : stored ≡ take (place * 32) pool ++ (length spelling ∷ spelling) ++ drop (place * 32 + suc (length spelling)) pool
+  stored-is : stored ≡ take (place * spellingRoom) pool ++ (length spelling ∷ spelling) ++ drop (place * spellingRoom + suc (length spelling)) pool
   unfolding stored
-  stored-is = sets-eq (length spelling ∷ spelling) pool (place * 32) (omega arith)
+  stored-is = sets-eq (length spelling ∷ spelling) pool (place * spellingRoom) (omega arith)
 
-  front-length : length (take (place * 32) pool) ≡ place * 32
-  front-length = length-take-le (place * 32) pool (omega arith)
+  front-length : length (take (place * spellingRoom) pool) ≡ place * spellingRoom
+  front-length = length-take-le (place * spellingRoom) pool (omega arith)
 
-  length-there : getD stored (place * 32) 0 ≡ length spelling
+  length-there : getD stored (place * spellingRoom) 0 ≡ length spelling
   length-there =
       cc (
         stored-is,
-        append-assoc (take (place * 32) pool) (length spelling ∷ spelling) (drop (place * 32 + suc (length spelling)) pool),
-        getD-at (take (place * 32) pool) (length spelling) (spelling ++ drop (place * 32 + suc (length spelling)) pool) 0 (place * 32) front-length,
+        append-assoc (take (place * spellingRoom) pool) (length spelling ∷ spelling) (drop (place * spellingRoom + suc (length spelling)) pool),
+        getD-at (take (place * spellingRoom) pool) (length spelling) (spelling ++ drop (place * spellingRoom + suc (length spelling)) pool) 0 (place * spellingRoom) front-length,
       )
 
-  bytes-there : take (length spelling) (drop (place * 32 + 1) stored) ≡ spelling
+  bytes-there : take (length spelling) (drop (place * spellingRoom + 1) stored) ≡ spelling
   bytes-there =
-      let rest : List ℕ = drop (place * 32 + suc (length spelling)) pool in
-      let split : stored ≡ (take (place * 32) pool ++ length spelling ∷ []) ++ (spelling ++ rest) =
-      stored-is ∙ append-assoc (take (place * 32) pool) (length spelling ∷ spelling) rest
-      ∙ sym (append-assoc (take (place * 32) pool) (length spelling ∷ []) (spelling ++ rest)) in
-      let len : length (take (place * 32) pool ++ length spelling ∷ []) ≡ place * 32 + 1 = cc (
-        length-append (take (place * 32) pool) (length spelling ∷ []),
+      let rest : List ℕ = drop (place * spellingRoom + suc (length spelling)) pool in
+      let split : stored ≡ (take (place * spellingRoom) pool ++ length spelling ∷ []) ++ (spelling ++ rest) =
+      stored-is ∙ append-assoc (take (place * spellingRoom) pool) (length spelling ∷ spelling) rest
+      ∙ sym (append-assoc (take (place * spellingRoom) pool) (length spelling ∷ []) (spelling ++ rest)) in
+      let len : length (take (place * spellingRoom) pool ++ length spelling ∷ []) ≡ place * spellingRoom + 1 = cc (
+        length-append (take (place * spellingRoom) pool) (length spelling ∷ []),
         front-length,
       ) in
-      cc (drop-at (take (place * 32) pool ++ length spelling ∷ []) (spelling ++ rest) (place * 32 + 1) len, take-append-seam spelling rest)
+      cc (drop-at (take (place * spellingRoom) pool ++ length spelling ∷ []) (spelling ++ rest) (place * spellingRoom + 1) len, take-append-seam spelling rest)
 
   spelled-here : spellIn stored place ≡ spelling
   unfolding spellIn
   spelled-here = rw (length-there, bytes-there) refl
 
-  apart-from : (number at-byte : ℕ) → (number ≡ place → ⊥) → number * 32 ≤ at-byte → at-byte < number * 32 + 32 → getD stored at-byte 0 ≡ getD pool at-byte 0
+  apart-from : (number at-byte : ℕ) → (number ≡ place → ⊥) → number * spellingRoom ≤ at-byte → at-byte < number * spellingRoom + spellingRoom → getD stored at-byte 0 ≡ getD pool at-byte 0
   unfolding stored
   apart-from number at-byte d a b =
       by-test (ltb number place)
-      (λ e. getD-sets-other (length spelling ∷ spelling) pool (place * 32) at-byte (inl (omega (arith, ltb-true number place e))))
-      (λ e. getD-sets-other (length spelling ∷ spelling) pool (place * 32) at-byte (inr (omega (arith, ltb-false number place e))))
+      (λ e. getD-sets-other (length spelling ∷ spelling) pool (place * spellingRoom) at-byte (inl (omega (arith, ltb-true number place e))))
+      (λ e. getD-sets-other (length spelling ∷ spelling) pool (place * spellingRoom) at-byte (inr (omega (arith, ltb-false number place e))))
 
-  spelled-there : (number : ℕ) → (number ≡ place → ⊥) → getD pool (number * 32) 0 < 32 → spellIn stored number ≡ spellIn pool number
+  spelled-there : (number : ℕ) → (number ≡ place → ⊥) → getD pool (number * spellingRoom) 0 < spellingRoom → spellIn stored number ≡ spellIn pool number
   unfolding spellIn stored
   spelled-there number d h =
       cc (
-        apart-from number (number * 32) d (omega arith) (omega arith),
-        same-part stored pool (getD pool (number * 32) 0) (number * 32 + 1) (length-sets pool (place * 32) (length spelling ∷ spelling))
-            (λ j b. apart-from number (number * 32 + 1 + j) d (omega arith) (omega arith)),
+        apart-from number (number * spellingRoom) d (omega arith) (omega arith),
+        same-part stored pool (getD pool (number * spellingRoom) 0) (number * spellingRoom + 1) (length-sets pool (place * spellingRoom) (length spelling ∷ spelling))
+            (λ j b. apart-from number (number * spellingRoom + 1 + j) d (omega arith) (omega arith)),
       )
 
   module _ {spell-before spell-after : ℕ → List ℕ} (pooled : Pooled pool spell-before) (here : spell-after place ≡ spelling)
       (there : (number : ℕ) → (number ≡ place → ⊥) → spell-after number ≡ spell-before number) where
-    small-by : (number : ℕ) → getD stored (number * 32) 0 < 32
+    small-by : (number : ℕ) → getD stored (number * spellingRoom) 0 < spellingRoom
     small-by number =
         by-test (eqb number place)
         (λ e. rw (eqb-true number place e, length-there) short)
-        (λ e. rw (apart-from number (number * 32) (eqb-false number place e) (omega arith) (omega arith)) (pooled .small number))
+        (λ e. rw (apart-from number (number * spellingRoom) (eqb-false number place e) (omega arith) (omega arith)) (pooled .small number))
 
     spelled-by : (number : ℕ) → spellIn stored number ≡ spell-after number
     spelled-by number =
@@ -110,7 +112,7 @@ module _ (pool spelling : List ℕ) (place : ℕ) (short : length spelling < 32)
     pooled-by : Pooled stored spell-after
     pooled-by = record { small = small-by; spelled = spelled-by }
 
-    pooled-store : {pool′ : List ℕ} → pool′ ≡ sets pool (place * 32) (length spelling ∷ spelling) → Pooled pool′ spell-after
+    pooled-store : {pool′ : List ℕ} → pool′ ≡ sets pool (place * spellingRoom) (length spelling ∷ spelling) → Pooled pool′ spell-after
     unfolding stored
     pooled-store e = rw e pooled-by
 
@@ -124,8 +126,8 @@ pub pooled-none : (size : ℕ) → Pooled (replicate size 0) noneOf
 unfolding spellIn
 pooled-none size =
     record {
-      small = λ m. omega (arith, zeros size (m * 32));
-      spelled = λ m. cc (zeros size (m * 32));
+      small = λ m. omega (arith, zeros size (m * spellingRoom));
+      spelled = λ m. cc (zeros size (m * spellingRoom));
     }
 
 -- ------------------------------------------------------------------ the outside names
@@ -143,16 +145,16 @@ module _ (table : List ℕ) (at tag : ℕ) where
 
 -- `count` outside names are stored, and the others stand from `at` on
 pub record Filling (table pool₀ pool : List ℕ) (start at count : ℕ) : Type 0 where
-  -- there are at most 64
-  pub few : count ≤ 64
+  -- there are no more than there may be
+  pub few : count ≤ firstWord
   -- the room keeps its length
   pub long : length pool ≡ length pool₀
   -- the names stored
   pub done : List (List ℕ)
   -- there are `count` of them
   pub many : length done ≡ count
-  -- they and those from `at` on are the table's, 64 at most
-  pub rest : take 64 (leading 2 (fieldsAt table start)) ≡ done ++ take (64 - count) (leading 2 (fieldsAt table at))
+  -- they and those from `at` on are the table's
+  pub rest : take firstWord (leading 2 (fieldsAt table start)) ≡ done ++ take (firstWord - count) (leading 2 (fieldsAt table at))
   -- the room has them at their numbers
   pub pooled : Pooled pool (oneOf done)
 
@@ -163,10 +165,10 @@ filling-start table pool start p =
 
 module _ {table pool₀ pool : List ℕ} {start at place : ℕ} (filling : Filling table pool₀ pool start at place) (st : fieldsAt table start ≡ afterLeading 1
     (fieldsAt table 0)) where
-  outs : lexiconOf table .outsides ≡ filling .done ++ take (64 - place) (leading 2 (fieldsAt table at))
+  outs : lexiconOf table .outsides ≡ filling .done ++ take (firstWord - place) (leading 2 (fieldsAt table at))
   outs = outsides-at table start st ∙ filling .rest
 
-  finished : take (64 - place) (leading 2 (fieldsAt table at)) ≡ [] → Pooled pool (oneOf (lexiconOf table .outsides))
+  finished : take (firstWord - place) (leading 2 (fieldsAt table at)) ≡ [] → Pooled pool (oneOf (lexiconOf table .outsides))
   finished e =
       let z : lexiconOf table .outsides ≡ filling .done = cc (outs, e, append-nil (filling .done)) in
       record { small = filling .pooled .small; spelled = λ m. cc (filling .pooled .spelled m) }
@@ -179,33 +181,33 @@ module _ {table pool₀ pool : List ℕ} {start at place : ℕ} (filling : Filli
   pub filling-out : (front : Front) → front ≡ frontOf (drop at table) → Stops 2 front → Pooled pool (oneOf (lexiconOf table .outsides))
   filling-out front e h =
       finished
-      (cc (fields-at table at e, stop-leading table at 2 front h, take-none (64 - place)))
+      (cc (fields-at table at e, stop-leading table at 2 front h, take-none (firstWord - place)))
 
-  -- where 64 are stored, all that count are
-  pub filling-end : 64 ≤ place → Pooled pool (oneOf (lexiconOf table .outsides))
-  filling-end h = let z : 64 - place ≡ 0 = omega arith in finished cc
+  -- where all that may be are stored, all that count are
+  pub filling-end : firstWord ≤ place → Pooled pool (oneOf (lexiconOf table .outsides))
+  filling-end h = let z : firstWord - place ≡ 0 = omega arith in finished cc
 
-  module _ (below : place < 64) {tag size : ℕ} (equal : Field tag size ≡ frontOf (drop at table)) (tagged : tag ≡ 2) where
+  module _ (below : place < firstWord) {tag size : ℕ} (equal : Field tag size ≡ frontOf (drop at table)) (tagged : tag ≡ 2) where
     abbrev Value : List ℕ
     Value = take size (drop (at + 3) table)
 
-    one-left : take (64 - place) (leading 2 (fieldsAt table at)) ≡ Value ∷ take (64 - (place + 1)) (leading 2 (fieldsAt table (at + 3 + size)))
+    one-left : take (firstWord - place) (leading 2 (fieldsAt table at)) ≡ Value ∷ take (firstWord - (place + 1)) (leading 2 (fieldsAt table (at + 3 + size)))
     one-left =
-        let z : 64 - place ≡ suc (64 - (place + 1)) = omega arith in
-        ap (λ fs. take (64 - place) (leading 2 fs)) (fields-at table at equal)
-        ∙ ap (take (64 - place)) (one-leading table at 2 tag _ _ tagged)
+        let z : firstWord - place ≡ suc (firstWord - (place + 1)) = omega arith in
+        ap (λ fs. take (firstWord - place) (leading 2 fs)) (fields-at table at equal)
+        ∙ ap (take (firstWord - place)) (one-leading table at 2 tag _ _ tagged)
         ∙ rw z refl
 
     value-there : oneOf (lexiconOf table .outsides) place ≡ Value
     value-there =
-        cc (outs, one-left, getD-at (filling .done) Value (take (64 - (place + 1)) (leading 2 (fieldsAt table (at + 3 + size)))) [] place (filling .many))
+        cc (outs, one-left, getD-at (filling .done) Value (take (firstWord - (place + 1)) (leading 2 (fieldsAt table (at + 3 + size)))) [] place (filling .many))
 
-    -- the next name is shorter than 32 bytes, if all are
-    pub value-short : ((number : ℕ) → length (oneOf (lexiconOf table .outsides) number) < 32) → {value : List ℕ} → value ≡ Value → length value < 32
+    -- the next name is short enough, if all are
+    pub value-short : ((number : ℕ) → length (oneOf (lexiconOf table .outsides) number) < spellingRoom) → {value : List ℕ} → value ≡ Value → length value < spellingRoom
     value-short hs ev = omega (arith, hs place, ap length value-there, ap length ev)
 
-    module _ (hs : (number : ℕ) → length (oneOf (lexiconOf table .outsides) number) < 32) (room : 2048 ≤ length pool₀) {value pool′ : List ℕ}
-        (ev : value ≡ Value) (ep : pool′ ≡ sets pool (place * 32) (length value ∷ value)) where
+    module _ (hs : (number : ℕ) → length (oneOf (lexiconOf table .outsides) number) < spellingRoom) (room : firstWord * spellingRoom ≤ length pool₀) {value pool′ : List ℕ}
+        (ev : value ≡ Value) (ep : pool′ ≡ sets pool (place * spellingRoom) (length value ∷ value)) where
       more : List (List ℕ)
       more = filling .done ++ value ∷ []
 
@@ -231,62 +233,62 @@ module _ {table pool₀ pool : List ℕ} {start at place : ℕ} (filling : Filli
       filling-next =
           record {
             few = omega arith;
-            long = ap length ep ∙ length-sets pool (place * 32) (length value ∷ value) ∙ filling .long;
+            long = ap length ep ∙ length-sets pool (place * spellingRoom) (length value ∷ value) ∙ filling .long;
             done = more;
             many = cc (length-append (filling .done) (value ∷ []), filling .many);
             rest =
                 cc
-                (filling .rest, one-left, ev, append-assoc (filling .done) (value ∷ []) (take (64 - (place + 1)) (leading 2 (fieldsAt table (at + 3 + size)))));
+                (filling .rest, one-left, ev, append-assoc (filling .done) (value ∷ []) (take (firstWord - (place + 1)) (leading 2 (fieldsAt table (at + 3 + size)))));
             pooled = pooled-more;
           }
 
 -- ------------------------------------------------------------------ the words
 
 module _ (outs : List (List ℕ)) (formula room : List ℕ) where
-  near : (done number : ℕ) → number < 64 → filledTo outs formula room done number ≡ getD outs number []
+  near : (done number : ℕ) → number < firstWord → filledTo outs formula room done number ≡ getD outs number []
   unfolding filledTo
-  near done number h = rw (lt-ltb number 64 h, filledTo) refl
+  near done number h = rw (lt-ltb number firstWord h, filledTo) refl
 
-  stored-word : (done number : ℕ) → 64 ≤ number → number - 64 < done → filledTo outs formula room done number ≡ spanned formula room (number - 64)
+  stored-word : (done number : ℕ) → firstWord ≤ number → number - firstWord < done → filledTo outs formula room done number ≡ spanned formula room (number - firstWord)
   unfolding filledTo
-  stored-word done number h l = rw (le-ltb number 64 h, filledTo) (rw (lt-ltb (number - 64) done l) refl)
+  stored-word done number h l = rw (le-ltb number firstWord h, filledTo) (rw (lt-ltb (number - firstWord) done l) refl)
 
-  further : (done number : ℕ) → 64 ≤ number → done ≤ number - 64 → filledTo outs formula room done number ≡ []
+  further : (done number : ℕ) → firstWord ≤ number → done ≤ number - firstWord → filledTo outs formula room done number ≡ []
   unfolding filledTo
-  further done number h l = rw (le-ltb number 64 h, filledTo) (rw (le-ltb (number - 64) done l) refl)
+  further done number h l = rw (le-ltb number firstWord h, filledTo) (rw (le-ltb (number - firstWord) done l) refl)
 
-  filled-start : length outs ≤ 64 → {pool : List ℕ} → Pooled pool (oneOf outs) → Pooled pool (filledTo outs formula room 0)
+  filled-start : length outs ≤ firstWord → {pool : List ℕ} → Pooled pool (oneOf outs) → Pooled pool (filledTo outs formula room 0)
   filled-start few p =
       record {
         small = p .small;
         spelled =
             λ m.
             p .spelled m
-            ∙ by-test (ltb m 64) (λ e. sym (near 0 m (ltb-true m 64 e)))
-            (λ e. getD-past outs m [] (omega (arith, ltb-false m 64 e)) ∙ sym (further 0 m (omega (arith, ltb-false m 64 e)) (omega arith)));
+            ∙ by-test (ltb m firstWord) (λ e. sym (near 0 m (ltb-true m firstWord e)))
+            (λ e. getD-past outs m [] (omega (arith, ltb-false m firstWord e)) ∙ sym (further 0 m (omega (arith, ltb-false m firstWord e)) (omega arith)));
       }
 
-  same-but : (done number : ℕ) → (number ≡ done + 64 → ⊥) → filledTo outs formula room (done + 1) number ≡ filledTo outs formula room done number
+  same-but : (done number : ℕ) → (number ≡ done + firstWord → ⊥) → filledTo outs formula room (done + 1) number ≡ filledTo outs formula room done number
   same-but done number d =
-      by-test (ltb number 64)
-      (λ e. near (done + 1) number (ltb-true number 64 e) ∙ sym (near done number (ltb-true number 64 e)))
+      by-test (ltb number firstWord)
+      (λ e. near (done + 1) number (ltb-true number firstWord e) ∙ sym (near done number (ltb-true number firstWord e)))
       (λ e.
-      let far : 64 ≤ number = omega (arith, ltb-false number 64 e) in
-      by-test (ltb (number - 64) done)
-      (λ t. stored-word (done + 1) number far (omega (arith, ltb-true (number - 64) done t))
-      ∙ sym (stored-word done number far (ltb-true (number - 64) done t)))
+      let far : firstWord ≤ number = omega (arith, ltb-false number firstWord e) in
+      by-test (ltb (number - firstWord) done)
+      (λ t. stored-word (done + 1) number far (omega (arith, ltb-true (number - firstWord) done t))
+      ∙ sym (stored-word done number far (ltb-true (number - firstWord) done t)))
       (λ t.
-      let past : done + 1 ≤ number - 64 = omega (arith, ltb-false (number - 64) done t, d) in
+      let past : done + 1 ≤ number - firstWord = omega (arith, ltb-false (number - firstWord) done t, d) in
       further (done + 1) number far past ∙ sym (further done number far (omega arith))))
 
   filled-next : (done : ℕ) {pool pool′ spelling : List ℕ} → Pooled pool (filledTo outs formula room done) → spelling ≡ spanned formula room done
-      → length spelling < 32
-      → (done + 64) * 32 + 32 ≤ length pool → pool′ ≡ sets pool ((done + 64) * 32) (length spelling ∷ spelling)
+      → length spelling < spellingRoom
+      → (done + firstWord) * spellingRoom + spellingRoom ≤ length pool → pool′ ≡ sets pool ((done + firstWord) * spellingRoom) (length spelling ∷ spelling)
       → Pooled pool′ (filledTo outs formula room (done + 1))
   filled-next done {pool} {pool′} {spelling} p es short fits ep =
-      let z : done + 64 - 64 ≡ done = omega arith in
-      pooled-store pool spelling (done + 64) short fits p
-      (stored-word (done + 1) (done + 64) (omega arith) (omega arith) ∙ ap (spanned formula room) z ∙ sym es)
+      let z : done + firstWord - firstWord ≡ done = omega arith in
+      pooled-store pool spelling (done + firstWord) short fits p
+      (stored-word (done + 1) (done + firstWord) (omega arith) (omega arith) ∙ ap (spanned formula room) z ∙ sym es)
       (same-but done) ep
 
   -- a word as the code reads it
@@ -294,9 +296,9 @@ module _ (outs : List (List ℕ)) (formula room : List ℕ) where
       → value ≡ take size (drop at formula) → value ≡ spanned formula room place
   word-is place ea es ev = cc
 
-  -- word `place` is shorter than 32 bytes, if all are
-  pub word-short : (place count : ℕ) {value : List ℕ} → ((index : ℕ) → index < count → length (spanned formula room index) < 32) → place < count
-      → value ≡ spanned formula room place → length value < 32
+  -- word `place` is short enough, if all are
+  pub word-short : (place count : ℕ) {value : List ℕ} → ((index : ℕ) → index < count → length (spanned formula room index) < spellingRoom) → place < count
+      → value ≡ spanned formula room place → length value < spellingRoom
   word-short place count hs l e = omega (arith, hs place l, ap length e)
 
 -- with all words stored, it is the spelling of a number by the lexicon and the words
@@ -304,19 +306,19 @@ pub filled-end : (lex : Lexicon) (formula room : List ℕ) {count : ℕ} (list :
     → filledTo (lex .outsides) formula room count number ≡ spelled lex list number
 filled-end lex formula room {count} list w number =
     let outs = lex .outsides in
-    by-test (ltb number 64)
-    (λ e. near outs formula room count number (ltb-true number 64 e) ∙ sym (rw (e, spelled) refl))
+    by-test (ltb number firstWord)
+    (λ e. near outs formula room count number (ltb-true number firstWord e) ∙ sym (rw (e, spelled) refl))
     (λ e.
-    let far : 64 ≤ number = omega (arith, ltb-false number 64 e) in
-    let there : spelled lex list number ≡ getD list (number - 64) [] = rw (e, spelled) refl in
-    by-test (ltb (number - 64) count)
+    let far : firstWord ≤ number = omega (arith, ltb-false number firstWord e) in
+    let there : spelled lex list number ≡ getD list (number - firstWord) [] = rw (e, spelled) refl in
+    by-test (ltb (number - firstWord) count)
     (λ t.
-    stored-word outs formula room count number far (ltb-true (number - 64) count t)
-    ∙ sym (w .each (number - 64) (ltb-true (number - 64) count t))
+    stored-word outs formula room count number far (ltb-true (number - firstWord) count t)
+    ∙ sym (w .each (number - firstWord) (ltb-true (number - firstWord) count t))
     ∙ sym there)
     (λ t.
-    let past : count ≤ number - 64 = omega (arith, ltb-false (number - 64) count t) in
-    further outs formula room count number far past ∙ sym (getD-past list (number - 64) [] (omega (arith, w .many))) ∙ sym there))
+    let past : count ≤ number - firstWord = omega (arith, ltb-false (number - firstWord) count t) in
+    further outs formula room count number far past ∙ sym (getD-past list (number - firstWord) [] (omega (arith, w .many))) ∙ sym there))
 
 -- `done` words are stored
 pub record Storing (outs : List (List ℕ)) (formula room pool₀ pool : List ℕ) (count done : ℕ) : Type 0 where
@@ -336,13 +338,13 @@ storing-start table formula room count p =
 -- one more word is stored
 pub storing-next : {outs : List (List ℕ)} {formula room pool₀ pool pool′ spelling : List ℕ} {count done : ℕ} → Storing outs formula room pool₀ pool count done
     → done < count
-    → spelling ≡ spanned formula room done → length spelling < 32 → (done + 64) * 32 + 32 ≤ length pool
-    → pool′ ≡ sets pool ((done + 64) * 32) (length spelling ∷ spelling)
+    → spelling ≡ spanned formula room done → length spelling < spellingRoom → (done + firstWord) * spellingRoom + spellingRoom ≤ length pool
+    → pool′ ≡ sets pool ((done + firstWord) * spellingRoom) (length spelling ∷ spelling)
     → Storing outs formula room pool₀ pool′ count (done + 1)
 storing-next {outs} {formula} {room} {pool₀} {pool} {pool′} {spelling} {count} {done} c l es short fits ep =
     record {
       inside = omega arith;
-      long = ap length ep ∙ length-sets pool ((done + 64) * 32) (length spelling ∷ spelling) ∙ c .long;
+      long = ap length ep ∙ length-sets pool ((done + firstWord) * spellingRoom) (length spelling ∷ spelling) ∙ c .long;
       pooled = filled-next outs formula room done (c .pooled) es short fits ep;
     }
 

@@ -14,6 +14,9 @@ use Rattle.grammar.specs.Lookup.{lexiconOf}
 use Rattle.grammar.proofs.ReaderLaws.{getD-past}
 use Rattle.tokens.specs.Tokens.{spelled}
 use Rattle.terms.specs.Names.{Distinct}
+use Rattle.writer.specs.Openings.{spellingRoom}
+use Rattle.writer.specs.Pool.{firstWord}
+use Rattle.spellings.specs.Bytes.{longestWord}
 use Rattle.writer.specs.Pool.{oneOf, Words, spelledBy}
 use Rattle.writer.proofs.PoolLaws.{filled-end}
 
@@ -21,15 +24,15 @@ use Rattle.writer.proofs.PoolLaws.{filled-end}
 no-word : isWord [] ≡ true → ⊥
 no-word e = true≢false (sym e)
 
--- a word has at most 31 bytes
-pub word-length : (spelling : List ℕ) → isWord spelling ≡ true → length spelling < 32
+-- a word fits the room of a spelling
+pub word-length : (spelling : List ℕ) → isWord spelling ≡ true → length spelling < spellingRoom
 word-length [] e = absurd (no-word e)
 word-length (b ∷ bs) e =
-    omega (arith, leb-true (suc (length bs)) 31 (and-eq-true-iff (isLetter b && every isWordByte bs) (leb (suc (length bs)) 31) .0 e .1))
+    omega (arith, leb-true (suc (length bs)) longestWord (and-eq-true-iff (isLetter b && every isWordByte bs) (leb (suc (length bs)) longestWord) .0 e .1))
 
 -- spellings that are words are short enough for the room
 pub short-words : (words : List (List ℕ)) → ((number : ℕ) → number < length words → isWord (getD words number []) ≡ true) → (number : ℕ)
-    → length (oneOf words number) < 32
+    → length (oneOf words number) < spellingRoom
 short-words words h number =
     by-test (ltb number (length words)) (λ e. word-length (getD words number []) (h number (ltb-true number (length words) e)))
     (λ e. rw (getD-past words number [] (omega (arith, ltb-false number (length words) e))) (omega arith))
@@ -45,46 +48,46 @@ inside words index w =
 
 module _ (lex : Lexicon) (words : List (List ℕ)) (once-outs : Once (lex .outsides)) (once-words : Once words)
     (other : (index later : ℕ) → index < length (lex .outsides) → later < length words → getD (lex .outsides) index [] ≡ getD words later [] → ⊥) where
-  near : (number : ℕ) → number < 64 → spelled lex words number ≡ getD (lex .outsides) number []
-  near number h = rw (lt-ltb number 64 h, spelled) refl
+  near : (number : ℕ) → number < firstWord → spelled lex words number ≡ getD (lex .outsides) number []
+  near number h = rw (lt-ltb number firstWord h, spelled) refl
 
-  far : (number : ℕ) → 64 ≤ number → spelled lex words number ≡ getD words (number - 64) []
-  far number h = rw (le-ltb number 64 h, spelled) refl
+  far : (number : ℕ) → firstWord ≤ number → spelled lex words number ≡ getD words (number - firstWord) []
+  far number h = rw (le-ltb number firstWord h, spelled) refl
 
   abbrev S : ℕ → List ℕ
   S = spelled lex words
 
-  one : (number second : ℕ) → number < 64 → second < 64 → isWord (S number) ≡ true → S number ≡ S second → number ≡ second
+  one : (number second : ℕ) → number < firstWord → second < firstWord → isWord (S number) ≡ true → S number ≡ S second → number ≡ second
   one number second a b w e =
       let e′ : getD (lex .outsides) number [] ≡ getD (lex .outsides) second [] = sym (near number a) ∙ e ∙ near second b in
       let wm : isWord (getD (lex .outsides) number []) ≡ true = ap isWord (sym (near number a)) ∙ w in
       once-outs number second (inside (lex .outsides) number wm) (inside (lex .outsides) second (ap isWord (sym e′) ∙ wm)) e′
 
-  two : (number second : ℕ) → number < 64 → 64 ≤ second → isWord (S number) ≡ true → S number ≡ S second → ⊥
+  two : (number second : ℕ) → number < firstWord → firstWord ≤ second → isWord (S number) ≡ true → S number ≡ S second → ⊥
   two number second a b w e =
-      let e′ : getD (lex .outsides) number [] ≡ getD words (second - 64) [] = sym (near number a) ∙ e ∙ far second b in
+      let e′ : getD (lex .outsides) number [] ≡ getD words (second - firstWord) [] = sym (near number a) ∙ e ∙ far second b in
       let wm : isWord (getD (lex .outsides) number []) ≡ true = ap isWord (sym (near number a)) ∙ w in
-      other number (second - 64) (inside (lex .outsides) number wm) (inside words (second - 64) (ap isWord (sym e′) ∙ wm)) e′
+      other number (second - firstWord) (inside (lex .outsides) number wm) (inside words (second - firstWord) (ap isWord (sym e′) ∙ wm)) e′
 
-  both : (number second : ℕ) → 64 ≤ number → 64 ≤ second → isWord (S number) ≡ true → S number ≡ S second → number ≡ second
+  both : (number second : ℕ) → firstWord ≤ number → firstWord ≤ second → isWord (S number) ≡ true → S number ≡ S second → number ≡ second
   both number second a b w e =
-      let e′ : getD words (number - 64) [] ≡ getD words (second - 64) [] = sym (far number a) ∙ e ∙ far second b in
-      let wm : isWord (getD words (number - 64) []) ≡ true = ap isWord (sym (far number a)) ∙ w in
-      let z : number - 64 ≡ second - 64 = once-words (number - 64) (second - 64) (inside words (number - 64) wm)
-      (inside words (second - 64) (ap isWord (sym e′) ∙ wm)) e′ in
+      let e′ : getD words (number - firstWord) [] ≡ getD words (second - firstWord) [] = sym (far number a) ∙ e ∙ far second b in
+      let wm : isWord (getD words (number - firstWord) []) ≡ true = ap isWord (sym (far number a)) ∙ w in
+      let z : number - firstWord ≡ second - firstWord = once-words (number - firstWord) (second - firstWord) (inside words (number - firstWord) wm)
+      (inside words (second - firstWord) (ap isWord (sym e′) ∙ wm)) e′ in
       omega arith
 
   -- Words have one number each, if no list has a spelling twice and the two share none.
   pub apart-lists : Distinct (spelled lex words)
   apart-lists m n w e =
-      by-test (ltb m 64)
+      by-test (ltb m firstWord)
       (λ p.
-      by-test (ltb n 64) (λ q. one m n (ltb-true m 64 p) (ltb-true n 64 q) w e)
-      (λ q. absurd (two m n (ltb-true m 64 p) (omega (arith, ltb-false n 64 q)) w e)))
+      by-test (ltb n firstWord) (λ q. one m n (ltb-true m firstWord p) (ltb-true n firstWord q) w e)
+      (λ q. absurd (two m n (ltb-true m firstWord p) (omega (arith, ltb-false n firstWord q)) w e)))
       (λ p.
-      by-test (ltb n 64)
-      (λ q. absurd (two n m (ltb-true n 64 q) (omega (arith, ltb-false m 64 p)) (ap isWord (sym e) ∙ w) (sym e)))
-      (λ q. both m n (omega (arith, ltb-false m 64 p)) (omega (arith, ltb-false n 64 q)) w e))
+      by-test (ltb n firstWord)
+      (λ q. absurd (two n m (ltb-true n firstWord q) (omega (arith, ltb-false m firstWord p)) (ap isWord (sym e) ∙ w) (sym e)))
+      (λ q. both m n (omega (arith, ltb-false m firstWord p)) (omega (arith, ltb-false n firstWord q)) w e))
 
 -- The spellings that `fill` stores are those of the lists.
 pub spelled-lists : (table formula room : List ℕ) {count : ℕ} (list : List (List ℕ)) → Words formula room count list

@@ -8,6 +8,7 @@ use lib.Seq.{sets, sets-eq, take-all, drop-drop}
 use borrow.Rule.Slice.PartMut.{putMid, midOf, same-len-mid}
 use Rattle.spellings.specs.Buffers.{writtenInto}
 use Rattle.spellings.proofs.BuffersLaws.{written-fits, length-written}
+use Rattle.writer.specs.Openings.{spellingRoom}
 use Rattle.writer.specs.Openings.{Wrote, spellIn}
 
 -- past the end of a buffer a byte is counted and not stored
@@ -47,7 +48,7 @@ module _ (out text : List ℕ) (at from : ℕ) (ef : from ≡ min at (length out
       }
 
 -- the spelling of a number, read off the room
-pub spelled : (pool : List ℕ) (number : ℕ) {size : ℕ} {read : List ℕ} → size ≡ getD pool (number * 32) 0 → read ≡ take size (drop (number * 32 + 1) pool)
+pub spelled : (pool : List ℕ) (number : ℕ) {size : ℕ} {read : List ℕ} → size ≡ getD pool (number * spellingRoom) 0 → read ≡ take size (drop (number * spellingRoom + 1) pool)
     → read ≡ spellIn pool number
 unfolding spellIn
 spelled pool number e h = cc

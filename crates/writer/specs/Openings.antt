@@ -5,7 +5,7 @@ use mathlib.Core.Path.{_≡_}
 use mathlib.Core.List.{List, [], _∷_, _++_}
 use lib.ListN.{length, getD, take, drop, replicate}
 use lib.Seq.{sets}
-use Rattle.spellings.specs.Bytes.{bytes}
+use Rattle.spellings.specs.Bytes.{bytes, longestWord}
 use Rattle.terms.specs.Cells.{column}
 use Rattle.terms.specs.Term.{Term, Fields, variable, function, apply, rcd, dot, number, nil, cons, largestTerm}
 use Rattle.terms.specs.Labelled.{nameShown, labelled}
@@ -28,9 +28,13 @@ unfolding bytes
 openingFields nil = bytes "mkFieldNil("
 openingFields (cons l t f) = bytes "mkFieldCons(" ++ l ++ 0x20 ∷ []
 
--- spellings as they lie in a room of 32 bytes a spelling number: a length, and the bytes
+-- the bytes of a spelling number in a room: the length of a spelling, and the longest spelling
+abbrev pub spellingRoom : ℕ
+spellingRoom = longestWord + 1
+
+-- spellings as they lie in a room
 unfoldable pub spellIn : List ℕ → ℕ → List ℕ
-spellIn pool n = take (getD pool (n * 32) 0) (drop (n * 32 + 1) pool)
+spellIn pool n = take (getD pool (n * spellingRoom) 0) (drop (n * spellingRoom + 1) pool)
 
 -- the same of a number, of the term at a row and of the field list at a row
 unfoldable pub numberOpening : ℕ → List ℕ

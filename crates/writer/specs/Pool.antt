@@ -1,4 +1,4 @@
--- The spellings of a table's outside names and of a formula's words, in a room of 32 bytes a spelling number.
+-- The spellings of a table's outside names and of a formula's words, by their numbers in a room.
 -- Nobody needs this to believe `expand`.
 use Prim.Native.Nat.{ℕ, _+_, _-_, _*_, _<_, _≤_}
 use mathlib.Core.Path.{_≡_}
@@ -6,17 +6,22 @@ use mathlib.Core.Bool.{true, false}
 use mathlib.Core.List.{List, []}
 use lib.Dec.{ltb}
 use lib.ListN.{length, getD, take, drop}
+use Rattle.grammar.specs.Limits.{most}
 use Rattle.grammar.specs.Lookup.{lexiconOf}
 use Rattle.tokens.specs.Tokens.{mostTokens}
-use Rattle.writer.specs.Openings.{spellIn}
+use Rattle.writer.specs.Openings.{spellingRoom, spellIn}
+
+-- the spelling number of a formula's first word: those below are of outside names
+abbrev pub firstWord : ℕ
+firstWord = most .outsides
 
 -- the word whose offset and length are the i-th two numbers of a room
 abbrev pub spanned : List ℕ → List ℕ → ℕ → List ℕ
 spanned formula room i = take (getD room (i * 2 + 1) 0) (drop (getD room (i * 2) 0) formula)
 
--- no spelling of a room is longer than 31 bytes
+-- no spelling of a room is longer than a word may be
 abbrev pub ShortSpellings : List ℕ → Type 0
-ShortSpellings pool = (m : ℕ) → getD pool (m * 32) 0 < 32
+ShortSpellings pool = (m : ℕ) → getD pool (m * spellingRoom) 0 < spellingRoom
 
 -- a room has the spelling S n at each number n
 pub record Pooled (pool : List ℕ) (S : ℕ → List ℕ) : Type 0 where
@@ -37,17 +42,17 @@ pub record Words (formula room : List ℕ) (count : ℕ) (words : List (List ℕ
 -- the outside names and the first i words
 unfoldable pub filledTo : List (List ℕ) → List ℕ → List ℕ → ℕ → ℕ → List ℕ
 filledTo outsides formula room i m =
-    elim (ltb m 64) [ true ↦ getD outsides m [] | false ↦ elim (ltb (m - 64) i) [ true ↦ spanned formula room (m - 64) | false ↦ [] ] ]
+    elim (ltb m firstWord) [ true ↦ getD outsides m [] | false ↦ elim (ltb (m - firstWord) i) [ true ↦ spanned formula room (m - firstWord) | false ↦ [] ] ]
 
 -- the spelling of a spelling number, by a table, a formula and the places of its words
 abbrev pub spelledBy : List ℕ → List ℕ → List ℕ → ℕ → ℕ → List ℕ
 spelledBy table formula words count = filledTo (lexiconOf table .outsides) formula words count
 
--- what filling a room asks: room for all spellings, none in it, each shorter than 32 bytes, and the words' places
+-- what filling a room asks: room for all spellings, none in it, each short enough, and the words' places
 pub record Fillable (table formula words : List ℕ) (count : ℕ) (pool : List ℕ) : Type 0 where
-  pub room : 2048 + count * 32 ≤ length pool
+  pub room : (firstWord + count) * spellingRoom ≤ length pool
   pub few : count ≤ mostTokens
   pub lie : count * 2 ≤ length words
   pub none : Pooled pool noneOf
-  pub outsidesFit : (m : ℕ) → length (oneOf (lexiconOf table .outsides) m) < 32
-  pub wordsFit : (j : ℕ) → j < count → length (spanned formula words j) < 32
+  pub outsidesFit : (m : ℕ) → length (oneOf (lexiconOf table .outsides) m) < spellingRoom
+  pub wordsFit : (j : ℕ) → j < count → length (spanned formula words j) < spellingRoom

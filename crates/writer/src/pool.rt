@@ -1,6 +1,8 @@
-// Spellings, in a room of 32 bytes a spelling number.
+// Spellings by their numbers, in a room.
 use crate::writing::byte_at;
 use crate::writing::copy_at;
+use grammar::codes::KEYWORD_TAG;
+use grammar::codes::OUTSIDE_TAG;
 use grammar::limits::MOST_OUTSIDES;
 use grammar::reader::byte;
 use grammar::reader::part;
@@ -13,8 +15,9 @@ ghost use mathlib.Core.List.{_∷_};
 ghost use lib.ListN.{length};
 ghost use lib.Seq.{sets};
 ghost use Rattle.grammar.specs.Lookup.{lexiconOf};
-ghost use Rattle.writer.specs.Openings.{spellIn};
-ghost use Rattle.writer.specs.Pool.{Pooled, noneOf, oneOf, filledTo, Fillable};
+ghost use Rattle.tokens.specs.Tokens.{mostTokens};
+ghost use Rattle.writer.specs.Openings.{spellingRoom, spellIn};
+ghost use Rattle.writer.specs.Pool.{firstWord, Pooled, noneOf, oneOf, filledTo, Fillable};
 
 // The bytes of a spelling number: the length of a spelling, and the longest spelling.
 pub const SPELLING_ROOM: usize = LONGEST_WORD + 1;
@@ -39,9 +42,9 @@ fn narrow(n: usize) -> u8
 
 // Stores a spelling at a number.
 fn store(pool: &mut [u8], i: usize, s: &[u8])
-    requires { ⌜ (length (now s) < 32) × (i * 32 + 32 ≤ length (now pool)) ⌝ }
-    requires { ⌜ i < 8192 ⌝ }
-    ensures { λ _. ⌜ now (pool .exit) ≡ sets (now (pool .entry)) (i * 32) (length (now (s .entry)) ∷ now (s .entry)) ⌝ }
+    requires { ⌜ (length (now s) < spellingRoom) × (i * spellingRoom + spellingRoom ≤ length (now pool)) ⌝ }
+    requires { ⌜ i < firstWord + mostTokens ⌝ }
+    ensures { λ _. ⌜ now (pool .exit) ≡ sets (now (pool .entry)) (i * spellingRoom) (length (now (s .entry)) ∷ now (s .entry)) ⌝ }
 {
     let at = i * SPELLING_ROOM;
     let first = byte_at(pool, at, narrow(s.len()));
@@ -50,12 +53,12 @@ fn store(pool: &mut [u8], i: usize, s: &[u8])
 
 // The table's outside names.
 fn fill_outsides(table: &[u8], pool: &mut [u8])
-    requires { ⌜ 2048 ≤ length (now pool) ⌝ }
+    requires { ⌜ firstWord * spellingRoom ≤ length (now pool) ⌝ }
     requires { ⌜ Pooled (now pool) noneOf ⌝ }
-    requires { ⌜ ((m : ℕ) → length (oneOf (lexiconOf (now table) .outsides) m) < 32) ⌝ }
+    requires { ⌜ ((m : ℕ) → length (oneOf (lexiconOf (now table) .outsides) m) < spellingRoom) ⌝ }
     ensures { λ _. ⌜ Pooled (now (pool .exit)) (oneOf (lexiconOf (now (table .entry)) .outsides)) ⌝ }
 {
-    let start = grammar::after_leading(table, 1);
+    let start = grammar::after_leading(table, KEYWORD_TAG);
     let mut at = start;
     let mut i: usize = 0;
     while i < OUTSIDES {
@@ -68,7 +71,7 @@ fn fill_outsides(table: &[u8], pool: &mut [u8])
                 return;
             }
             grammar::Front::Field(t, size) => {
-                if t != 2 {
+                if t != OUTSIDE_TAG {
                     return;
                 }
                 let from = at + 3;
