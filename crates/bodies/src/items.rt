@@ -17,6 +17,7 @@ ghost use Prim.Native.Nat.{_+_, _*_, _≤_};
 ghost use mathlib.Core.Path.{_≡_};
 ghost use mathlib.Core.List.{[], _∷_, _++_};
 ghost use lib.ListN.{length, take, drop};
+ghost use Rattle.grammar.specs.Variables.{mostVariables};
 ghost use Rattle.bodies.specs.BodyBytes.{callAt, itemAt, resultAt, context, ParametersLoaded};
 
 // Opens the places of a signature's parameters on an empty stack, the first parameter's on top; the height.
@@ -127,10 +128,10 @@ pub fn load_params(sorts: &mut [u8], signature: &[u8]) -> usize
     n
 }
 
-// The sort of one more variable behind those of n variables, 16 at most; how many there are then.
+// The sort of one more variable behind those of n variables, as many as there may be; how many there are then.
 pub fn add_sort(sorts: &mut [u8], n: usize, s: u8) -> usize
-    requires { ⌜ length (now sorts) ≡ 16 ⌝ }
-    ensures { λ r. ⌜ take r (now (sorts .exit)) ≡ take 16 (take n (now (sorts .entry)) ++ (s ∷ [])) ⌝ }
+    requires { ⌜ length (now sorts) ≡ mostVariables ⌝ }
+    ensures { λ r. ⌜ take r (now (sorts .exit)) ≡ take mostVariables (take n (now (sorts .entry)) ++ (s ∷ [])) ⌝ }
 {
     if n < MOST_VARIABLES {
         sorts[n] = s;

@@ -15,6 +15,7 @@ ghost use Prim.Native.Nat.{ℕ, _<_};
 ghost use mathlib.Core.Path.{_≡_};
 ghost use mathlib.Core.List.{List};
 ghost use lib.ListN.{getD};
+ghost use Rattle.grammar.specs.Limits.{most};
 ghost use Rattle.productions.specs.Room.{placeFrom};
 ghost use Rattle.choices.specs.Held.{Held, HoldsSome};
 ghost use Rattle.choices.specs.Chosen.{firstSetsOf, entriesOf, opensOf, chosenPlace, Remembers, Chooses};
@@ -30,7 +31,7 @@ const NOT_HELD: usize = 255;
 
 // The place of the first production of nonterminal n whose first set holds a kind, 256 if there is none.
 fn opened(room: &[u64; ROOM], n: u8, kind: u32) -> usize
-    requires { ⌜ HoldsSome (now room) × (n < 64) ⌝ }
+    requires { ⌜ HoldsSome (now room) × (n < most .nonterminals) ⌝ }
     ensures { λ r. ⌜ ((bs : List ℕ) → Held bs (now (room .entry)) → r ≡ placeFrom (opensOf n kind) (entriesOf bs) 0) ⌝ }
 {
     let mut j = first_place(room, n);

@@ -8,6 +8,7 @@ use mathlib.Core.List.{List}
 use lib.Bits.{bitOr}
 use lib.Dec.{eqb}
 use lib.ListN.{length, getD}
+use Rattle.grammar.specs.Limits.{most}
 use Rattle.kinds.specs.Kinds.{hasKind, only}
 use Rattle.productions.specs.Normal.{Production}
 use Rattle.firsts.specs.FirstSets.{overAll, nullStep}
@@ -19,7 +20,7 @@ everyOne = 18446744073709551615
 
 -- a set of nonterminals has none but these
 pub record Nonterminals (s : ℕ) : Type 0 where
-  pub none-above : (n : ℕ) → 64 ≤ n → hasKind s n ≡ false
+  pub none-above : (n : ℕ) → most .nonterminals ≤ n → hasKind s n ≡ false
 
 -- where all that is needed is nullable, the owner is
 abbrev pub needStep : ℕ → ℕ → ℕ → ℕ

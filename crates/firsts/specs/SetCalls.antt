@@ -8,6 +8,7 @@ use mathlib.Core.Bool.{Bool, true, false}
 use mathlib.Core.List.{List}
 use lib.Bits.{bitOr}
 use lib.ListN.{length, getD}
+use Rattle.grammar.specs.Limits.{most}
 use Rattle.kinds.specs.Kinds.{hasKind}
 use Rattle.grammar.specs.Table.{Item}
 use Rattle.productions.specs.Normal.{Production}
@@ -41,12 +42,12 @@ inSetOf sets n b = hasKind (getD sets n 0) b
 
 -- a set for each nonterminal, twice
 pub record SetsLent (calls kinds : List ℕ) : Type 0 where
-  pub calls-many : length calls ≡ 64
-  pub kinds-many : length kinds ≡ 64
+  pub calls-many : length calls ≡ most .nonterminals
+  pub kinds-many : length kinds ≡ most .nonterminals
 
 -- the nonterminals from `many` on have empty sets
 pub record UsedBelow (many : ℕ) (sets : List ℕ) : Type 0 where
-  pub small : many ≤ 64
+  pub small : many ≤ most .nonterminals
   pub none : (n : ℕ) → many ≤ n → getD sets n 0 ≡ 0
 
 -- a number that is neither below a nor below b
@@ -57,7 +58,7 @@ pub record Above (a b r : ℕ) : Type 0 where
 -- two arrays of sets, for the next callee
 pub record StepLent (many : ℕ) (calls kinds : List ℕ) : Type 0 where
   pub lent : SetsLent calls kinds
-  pub small : many ≤ 64
+  pub small : many ≤ most .nonterminals
 
 -- a set, with more joined to it or not
 abbrev pub joinedIf : Bool → ℕ → ℕ → ℕ

@@ -33,7 +33,7 @@ fn needs_of(
     while j < m {
         let owner = byte(owners, j);
         let start = offset(starts, j);
-        let found = gather(table, start, 18446744073709551615, &none, &none);
+        let found = gather(table, start, u64::MAX, &none, &none);
         if found.nullable {
             whose[k] = owner;
             needs[k] = found.calls;

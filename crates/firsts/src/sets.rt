@@ -12,6 +12,7 @@ use productions::index::offset;
 ghost use mathlib.Core.Path.{_≡_};
 ghost use lib.Bits.{bitOr};
 ghost use lib.ListN.{length, getD, set};
+ghost use Rattle.grammar.specs.Limits.{most};
 ghost use Rattle.kinds.specs.Kinds.{hasKind};
 ghost use Rattle.firsts.specs.SetCalls.{StepTaken, RoundTaken, BothSets, joinedIf, SetsLent, StepLent, UsedBelow, Above, CalleeTaken, ClosedBoth};
 ghost use Rattle.productions.specs.Index.{productionAt, productionsBy};
@@ -94,7 +95,7 @@ fn take_callee(calls: &mut [u64], kinds: &mut [u64], many: u8, k: u8)
 
 // One more than the highest nonterminal with a set that is not empty.
 fn used(sets: &[u64]) -> u8
-    requires { ⌜ length (now sets) ≡ 64 ⌝ }
+    requires { ⌜ length (now sets) ≡ most .nonterminals ⌝ }
     ensures { λ r. ⌜ UsedBelow r (now (sets .entry)) ⌝ }
 {
     let mut n: u8 = NONTERMINALS;
@@ -119,7 +120,7 @@ fn larger(a: u8, b: u8) -> u8
 // Closes the calls over themselves, and the kinds over the calls. This rules out that a callee's callee is lost.
 fn close(calls: &mut [u64], kinds: &mut [u64])
     requires { ⌜ SetsLent (now calls) (now kinds) ⌝ }
-    ensures { λ r. ⌜ ClosedBoth 64 (now (calls .entry)) (now (kinds .entry)) (now (calls .exit)) (now (kinds .exit)) ⌝ }
+    ensures { λ r. ⌜ ClosedBoth (most .nonterminals) (now (calls .entry)) (now (kinds .entry)) (now (calls .exit)) (now (kinds .exit)) ⌝ }
 {
     let callers = used(calls);
     let givers = used(kinds);

@@ -1,10 +1,11 @@
--- The calls that wait in a room, 18 numbers each: 16 variables, how many there are, and the offset to go on at. These definitions mirror
+-- The calls that wait in a room. Each has its variables, how many there are, and the offset to go on at. These definitions mirror
 -- code: nobody needs them to believe `expand`.
 use Prim.Native.Nat.{ℕ, _+_, _-_, _*_, _<_, _≤_}
 use mathlib.Core.Path.{_≡_}
 use mathlib.Core.Bool.{true}
 use mathlib.Core.List.{List, [], _∷_, _++_}
 use lib.ListN.{length, getD}
+use Rattle.grammar.specs.Variables.{mostVariables}
 use Rattle.grammar.specs.Lookup.{fieldsAt}
 use Rattle.productions.specs.Index.{wholeBody}
 use Rattle.expansion.specs.declared.State.{State}
@@ -13,8 +14,15 @@ use Rattle.expansion.specs.Limits.{mostOpen}
 use Rattle.expansion.specs.Expansion.{Input, runCall}
 use Rattle.steps.specs.Steps.{body, weight, mostWeight}
 
+-- where a frame has the count of its variables and the offset to go on at, behind their values
+abbrev pub countAt : ℕ
+countAt = mostVariables
+
+abbrev pub nextAt : ℕ
+nextAt = countAt + 1
+
 abbrev pub frameSize : ℕ
-frameSize = 18
+frameSize = nextAt + 1
 
 -- the numbers of a short room, for 32 calls, of a middle one, for 128, and of a long one, for all that may be open
 abbrev pub shortFrames : ℕ
@@ -38,14 +46,14 @@ pub record LevelFits (frames : List ℕ) (level : ℕ) : Type 0 where
 -- one more stands above `level` others, which stay
 pub record Saved (old new : List ℕ) (level : ℕ) (vars : List ℕ) (count next : ℕ) : Type 0 where
   pub same : (i : ℕ) → i < level * frameSize → getD new i 0 ≡ getD old i 0
-  pub values : (i : ℕ) → i < 16 → getD new (level * frameSize + i) 0 ≡ getD vars i 0
-  pub counted : getD new (level * frameSize + 16) 0 ≡ count
-  pub next-is : getD new (level * frameSize + 17) 0 ≡ next
+  pub values : (i : ℕ) → i < mostVariables → getD new (level * frameSize + i) 0 ≡ getD vars i 0
+  pub counted : getD new (level * frameSize + countAt) 0 ≡ count
+  pub next-is : getD new (level * frameSize + nextAt) 0 ≡ next
 
 -- its variables, read back
 pub record Loaded (frames : List ℕ) (level : ℕ) (vars : List ℕ) : Type 0 where
-  pub long : length vars ≡ 16
-  pub values : (i : ℕ) → i < 16 → getD vars i 0 ≡ getD frames (level * frameSize + i) 0
+  pub long : length vars ≡ mostVariables
+  pub values : (i : ℕ) → i < mostVariables → getD vars i 0 ≡ getD frames (level * frameSize + i) 0
 
 -- ------------------------------------------------------------------ the calls that wait
 
@@ -67,9 +75,9 @@ owed bs (f ∷ fs) = (length bs - f .next) + owed bs fs
 
 -- a call stands at a level of the room
 pub record Waits (bs frames : List ℕ) (level : ℕ) (f : Frame) : Type 0 where
-  pub counted : getD frames (level * frameSize + 16) 0 ≡ length (f .values)
-  pub next-is : getD frames (level * frameSize + 17) 0 ≡ f .next
-  pub held : (i : ℕ) → i < 16 → i < length (f .values) → getD frames (level * frameSize + i) 0 ≡ getD (f .values) i 0
+  pub counted : getD frames (level * frameSize + countAt) 0 ≡ length (f .values)
+  pub next-is : getD frames (level * frameSize + nextAt) 0 ≡ f .next
+  pub held : (i : ℕ) → i < mostVariables → i < length (f .values) → getD frames (level * frameSize + i) 0 ≡ getD (f .values) i 0
   pub whole : wholeBody (fieldsAt bs (f .next)) ≡ true
   pub inside : f .next ≤ length bs
 

@@ -1,11 +1,11 @@
-// The calls that wait, 18 numbers each: the values of 16 variables, how many variables there are, and the offset to go on at.
+// The calls that wait. Each has the values of its variables, how many variables there are, and the offset to go on at.
 use expansion::MOST_OPEN;
 use grammar::limits::MOST_VARIABLES;
 use spellings::wide_number;
 ghost use Prim.Native.Nat.{ℕ, _+_, _*_, _^_, _≤_, _<_};
 ghost use mathlib.Core.Path.{_≡_};
 ghost use lib.ListN.{length, getD};
-ghost use Rattle.frames.specs.Frames.{frameSize, LevelFits, Saved, Loaded};
+ghost use Rattle.frames.specs.Frames.{frameSize, countAt, nextAt, LevelFits, Saved, Loaded};
 
 // Where a frame has the count of its variables and the offset to go on at, behind their values.
 const COUNT: usize = MOST_VARIABLES;
@@ -64,7 +64,7 @@ pub fn load(frames: &[u32], level: usize) -> [u32; MOST_VARIABLES]
 // How many variables it has.
 pub fn count_of(frames: &[u32], level: usize) -> usize
     requires { ⌜ LevelFits (now frames) level ⌝ }
-    ensures { λ r. ⌜ r ≡ getD (now (frames .entry)) (level * frameSize + 16) 0 ⌝ }
+    ensures { λ r. ⌜ r ≡ getD (now (frames .entry)) (level * frameSize + countAt) 0 ⌝ }
 {
     wide_number(frames[level * FRAME + COUNT])
 }
@@ -72,7 +72,7 @@ pub fn count_of(frames: &[u32], level: usize) -> usize
 // Where it goes on.
 pub fn next_of(frames: &[u32], level: usize) -> usize
     requires { ⌜ LevelFits (now frames) level ⌝ }
-    ensures { λ r. ⌜ r ≡ getD (now (frames .entry)) (level * frameSize + 17) 0 ⌝ }
+    ensures { λ r. ⌜ r ≡ getD (now (frames .entry)) (level * frameSize + nextAt) 0 ⌝ }
 {
     wide_number(frames[level * FRAME + NEXT])
 }

@@ -1,4 +1,5 @@
 pub mod Limits
+pub mod Variables
 pub mod Sorts
 pub mod Table
 pub mod Encode

@@ -14,6 +14,8 @@ use Rattle.spellings.specs.Bytes.{same, oneIf}
 use Rattle.spellings.proofs.BytesLaws.{by-test, differ-same}
 use Rattle.grammar.specs.Values.{Field, field}
 use Rattle.decoding.specs.Layout.{isRepeated}
+use Rattle.grammar.specs.Limits.{most}
+use Rattle.layout.specs.Index.{buckets, entrySize, indexSize}
 use Rattle.layout.specs.Index.{spellingsUnder, isAmong, packed, Packs, bucketMixed, bucketHashFrom, bucketHash, bucketOf, HashedUnder, entry}
 use Rattle.layout.specs.Index.{SpellingHeld}
 use Rattle.layout.specs.Index.{Bucket, leads-none, leads-past, leads-here}
@@ -218,7 +220,7 @@ module _ {table room sought : List ℕ} {words : List (List ℕ)} {link : ℕ} (
 -- the search as the code makes it, for any spellings that the room has
 pub record Walking (table room sought : List ℕ) (link : ℕ) : Type 0 where
   -- `link` is an entry or none
-  pub small : link ≤ 64
+  pub small : link ≤ most .outsides
   -- whatever spellings the room has, the search stands at `link`
   pub search : (words : List (List ℕ)) → Indexed table room words → Searching table room sought words link
 
@@ -254,14 +256,14 @@ zeros zero place = refl
 zeros (suc count) zero = refl
 zeros (suc count) (suc place) = zeros count place
 
-indexed-none : {table : List ℕ} → Indexed table (replicate 320 0) []
-indexed-none {table} = record { leads = λ b h. subst (Bucket table (replicate 320 0) b []) (sym (zeros 320 b)) leads-none }
+indexed-none : {table : List ℕ} → Indexed table (replicate indexSize 0) []
+indexed-none {table} = record { leads = λ b h. subst (Bucket table (replicate indexSize 0) b []) (sym (zeros indexSize b)) leads-none }
 
 -- and nothing leads anywhere
-falling-none : Falling (replicate 320 0)
-falling-none = record { heads = λ b h. omega (arith, zeros 320 b); links = λ n h k. omega (arith, zeros 320 (entry n)) }
+falling-none : Falling (replicate indexSize 0)
+falling-none = record { heads = λ b h. omega (arith, zeros indexSize b); links = λ n h k. omega (arith, zeros indexSize (entry n)) }
 
-module _ (room : List ℕ) (long : length room ≡ 320) (number hash from size : ℕ) (few : number ≤ 64) (one : 0 < number) where
+module _ (room : List ℕ) (long : length room ≡ indexSize) (number hash from size : ℕ) (few : number ≤ most .outsides) (one : 0 < number) where
   r₁ : List ℕ
   r₁ = set room (entry number) (getD room (bucketOf hash) 0)
 
@@ -275,7 +277,7 @@ module _ (room : List ℕ) (long : length room ≡ 320) (number hash from size :
   r₄ = set r₃ (entry number + 3) size
 
   -- the room keeps its length
-  with-length : length (roomWith room number hash from size) ≡ 320
+  with-length : length (roomWith room number hash from size) ≡ indexSize
   with-length = simp length-set long
 
   -- a number that is not written
@@ -381,13 +383,13 @@ storedAt room at n h from size = set (set (set (set (set room at (getD room (buc
 pub entered-some :
     (room : List ℕ) {spelled : Bool} (count from : ℕ) (spelling : List ℕ) {hash : ℕ} → spelled ≡ true → hash ≡ bucketHash spelling
     → set
-    (set (set (set (set room (64 + 4 * count) (getD room (bucketOf hash) 0)) (64 + 4 * count + 1) hash) (64 + 4 * count + 2) from) (64 + 4 * count + 3)
+    (set (set (set (set room (buckets + entrySize * count) (getD room (bucketOf hash) 0)) (buckets + entrySize * count + 1) hash) (buckets + entrySize * count + 2) from) (buckets + entrySize * count + 3)
     (length spelling))
     (bucketOf hash) (count + 1)
     ≡ entered room spelled count from spelling
 unfolding storedAt
 entered-some room count from spelling {hash} e f =
-    let at : 64 + 4 * count ≡ entry (count + 1) = omega arith in
+    let at : buckets + entrySize * count ≡ entry (count + 1) = omega arith in
     cc
 
 -- ------------------------------------------------------------------ one field more
@@ -404,21 +406,21 @@ unfolding spellingsUnder
 spelled-here tag found spelling before e = rw (e, spellingsUnder) refl
 
 -- no field yet
-pub has-none : {table : List ℕ} {tag : ℕ} → HasSpellings table tag [] 0 (replicate 320 0)
+pub has-none : {table : List ℕ} {tag : ℕ} → HasSpellings table tag [] 0 (replicate indexSize 0)
 unfolding spellingsUnder
 has-none =
-    record { long = length-replicate {A = ℕ} 320 0; falling = falling-none; indexed = indexed-none; counted = refl }
+    record { long = length-replicate {A = ℕ} indexSize 0; falling = falling-none; indexed = indexed-none; counted = refl }
 
 module _ {table : List ℕ} {tag : ℕ} {before : List Field} {count : ℕ} {room : List ℕ} (has-spellings : HasSpellings table tag before count room) where
   -- a field of the tag is entered, any other is not
   pub has-next :
       (found : ℕ) (spelling : List ℕ) (from : ℕ) → take (length spelling) (drop from table) ≡ spelling → (here : Bool) → eqb found tag ≡ here
-      → (here ≡ true → count < 64) → HasSpellings table tag (field found spelling ∷ before) (count + oneIf here) (entered room here count from spelling)
+      → (here ≡ true → count < most .outsides) → HasSpellings table tag (field found spelling ∷ before) (count + oneIf here) (entered room here count from spelling)
   has-next found spelling from p true e few =
       let n : ℕ = count + 1 in
       let h : ℕ = bucketHash spelling in
       let words : List (List ℕ) = spellingsUnder tag before in
-      let small : count < 64 = few refl in
+      let small : count < most .outsides = few refl in
       let number : n ≡ suc (length words) = omega (arith, has-spellings .counted) in
       let head : getD room (bucketOf h) 0 ≤ length words = leads-small table room (bucketOf h) words
       (has-spellings .indexed .leads (bucketOf h) (omega arith)) in

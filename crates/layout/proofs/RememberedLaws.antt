@@ -15,6 +15,7 @@ use Rattle.grammar.specs.Values as values
 use Rattle.grammar.specs.Lookup.{frontOf}
 use Rattle.grammar.proofs.LookupLaws.{front-inside}
 use Rattle.decoding.specs.declared.Progress.{Progress}
+use Rattle.layout.specs.Index.{indexSize}
 use Rattle.layout.specs.declared.Checking.the-variants.{Further}
 use Rattle.decoding.specs.Layout.{isKnown, follows, isSpelled, hasRoom, passed, isWhole, checkField, initialProgress}
 use Rattle.layout.specs.Before.{fieldsBefore, checking}
@@ -44,7 +45,7 @@ field-ok before at tag bytes progress next e =
     (sym (field-by before at tag bytes progress _ _ _ _ _ refl refl refl refl refl) ∙ e)
 
 -- the counts are below their limits where a field of the tag has room
-below : (count limit : ℕ) (here : Bool) → (not here || ltb count limit) ≡ true → limit ≤ 64 → here ≡ true → count < 64
+below : (count limit : ℕ) (here : Bool) → (not here || ltb count limit) ≡ true → limit ≤ most .outsides → here ≡ true → count < most .outsides
 below count limit true e h k = omega (arith, ltb-true count limit e)
 below count limit false e h k = absurd (let z : _≡_ {A = ℕ} 0 1 = cc in omega arith)
 
@@ -55,7 +56,7 @@ has-moved {table} {tag} {fields} {fields′} {count} {count′} {room} e f g h =
     subst (HasSpellings table tag fields′ count′) g (rw (← f) (rw (← e) h))
 
 -- no field yet
-pub remembered-start : {table : List ℕ} {progress : Progress} → progress ≡ initialProgress → Remembered table 0 progress (replicate 320 0) (replicate 320 0)
+pub remembered-start : {table : List ℕ} {progress : Progress} → progress ≡ initialProgress → Remembered table 0 progress (replicate indexSize 0) (replicate indexSize 0)
 remembered-start {table} e =
     record {
       keywords = has-moved (sym (none-before table)) (cc) refl has-none;
@@ -81,11 +82,11 @@ module _ {table : List ℕ} {at : ℕ} {progress : Progress} {keywords outsides 
       cc
 
   -- room for one more of either tag
-  pub keyword-room : eqb tag 1 ≡ true → progress .keywords < 64
+  pub keyword-room : eqb tag 1 ≡ true → progress .keywords < most .outsides
   keyword-room h = below (progress .keywords) (most .keywords) (eqb tag 1) (room-of tag progress (passes .0) .keywords) (omega arith) h
 
-  -- an outside name has room among the 64
-  pub outside-room : eqb tag 2 ≡ true → progress .outsides < 64
+  -- an outside name has room
+  pub outside-room : eqb tag 2 ≡ true → progress .outsides < most .outsides
   outside-room h = below (progress .outsides) (most .outsides) (eqb tag 2) (room-of tag progress (passes .0) .outsides) (omega arith) h
 
   -- one field more

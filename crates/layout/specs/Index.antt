@@ -1,11 +1,12 @@
 -- How a repeated spelling is found: the spellings of one tag are entered in a room of numbers, and those whose hash falls into one of 64
 -- buckets are linked, the newest first. Nobody needs this file to believe `expand`.
-use Prim.Native.Nat.{ℕ, suc, _+_, _*_, _/_, _%_, _<_, _≤_}
+use Prim.Native.Nat.{ℕ, _-_, suc, _+_, _*_, _/_, _%_, _<_, _≤_}
 use mathlib.Core.Path.{_≡_}
 use mathlib.Core.Bool.{Bool, true, false, _||_}
 use mathlib.Core.List.{List, [], _∷_}
 use lib.Dec.{eqb}
 use lib.ListN.{length, getD, take, drop, set}
+use Rattle.grammar.specs.Limits.{most}
 use Rattle.spellings.specs.Bytes.{same}
 use Rattle.grammar.specs.Values.{Field}
 use Rattle.decoding.specs.declared.Progress.{Progress}
@@ -48,9 +49,12 @@ bucketHashFrom h (a ∷ b ∷ c ∷ d ∷ bs) = bucketHashFrom (bucketMixed h (p
 unfoldable pub bucketHash : List ℕ → ℕ
 bucketHash v = bucketHashFrom 0 v
 
+abbrev pub buckets : ℕ
+buckets = 64
+
 -- the bucket of a hash: its highest six bits, which all bytes move
 abbrev pub bucketOf : ℕ → ℕ
-bucketOf h = h / 67108864 % 64
+bucketOf h = h / 67108864 % buckets
 
 -- h is the hash of a keyword or an outside name; of other fields none is asked
 pub record HashedUnder (tag : ℕ) (v : List ℕ) (h : ℕ) : Type 0 where
@@ -58,10 +62,17 @@ pub record HashedUnder (tag : ℕ) (v : List ℕ) (h : ℕ) : Type 0 where
 
 -- ------------------------------------------------------------------ the room
 
--- The first 64 numbers lead to the newest spelling of each bucket. Behind them each spelling, numbered from 1, has four numbers: the
--- next older spelling of its bucket, its hash, where it stands in the table, and its length. 0 leads to none.
+-- A number for each bucket leads to its newest spelling. Behind them each spelling, numbered from 1, has four numbers: the next older
+-- spelling of its bucket, its hash, where it stands in the table, and its length. 0 leads to none.
+abbrev pub entrySize : ℕ
+entrySize = 4
+
 abbrev pub entry : ℕ → ℕ
-entry n = 60 + 4 * n
+entry n = buckets - entrySize + entrySize * n
+
+-- the numbers of a room: as many spellings as there may be outside names, which are more than keywords
+abbrev pub indexSize : ℕ
+indexSize = buckets + entrySize * most .outsides
 
 -- spelling n is w, and p leads on
 pub record SpellingHeld (table room : List ℕ) (n : ℕ) (w : List ℕ) (p : ℕ) : Type 0 where
@@ -78,14 +89,14 @@ pub data Bucket (table room : List ℕ) (bucket : ℕ) : List (List ℕ) → ℕ
       {w : List ℕ} {ws : List (List ℕ)} {p : ℕ} → SpellingHeld table room (suc (length ws)) w p → Bucket table room bucket ws p
       → Bucket table room bucket (w ∷ ws) (suc (length ws))
 
--- the room has the spellings, 64 at most
+-- the room has the spellings
 pub record Indexed (table room : List ℕ) (words : List (List ℕ)) : Type 0 where
-  pub leads : (b : ℕ) → b < 64 → Bucket table room b words (getD room b 0)
+  pub leads : (b : ℕ) → b < buckets → Bucket table room b words (getD room b 0)
 
 -- links lead to older spellings only
 pub record Falling (room : List ℕ) : Type 0 where
-  pub heads : (b : ℕ) → b < 64 → getD room b 0 ≤ 64
-  pub links : (n : ℕ) → 0 < n → n ≤ 64 → getD room (entry n) 0 < n
+  pub heads : (b : ℕ) → b < buckets → getD room b 0 ≤ most .outsides
+  pub links : (n : ℕ) → 0 < n → n ≤ most .outsides → getD room (entry n) 0 < n
 
 -- a room in which a spelling may be looked for by its hash
 pub record Searchable (room v : List ℕ) (h : ℕ) : Type 0 where
@@ -99,7 +110,7 @@ roomWith room n h from size =
 
 -- a spelling that may be entered, with its hash
 pub record Enterable (spelled : Bool) (count from : ℕ) (v : List ℕ) (h : ℕ) : Type 0 where
-  pub few : spelled ≡ true → count < 64
+  pub few : spelled ≡ true → count < most .outsides
   pub hashed : spelled ≡ true → h ≡ bucketHash v
   pub near : from ≤ 65536
   pub short : length v ≤ 65536
@@ -111,7 +122,7 @@ entered room false count from v = room
 
 -- one room has the spellings of a tag among some fields, of which there are `count`
 pub record HasSpellings (table : List ℕ) (tag : ℕ) (before : List Field) (count : ℕ) (room : List ℕ) : Type 0 where
-  pub long : length room ≡ 320
+  pub long : length room ≡ indexSize
   pub falling : Falling room
   pub indexed : Indexed table room (spellingsUnder tag before)
   pub counted : length (spellingsUnder tag before) ≡ count

@@ -9,6 +9,7 @@ use spellings::wide_number;
 ghost use Prim.Native.Nat.{ℕ, _<_, _≤_};
 ghost use mathlib.Core.Path.{_≡_};
 ghost use mathlib.Core.List.{List};
+ghost use Rattle.grammar.specs.Limits.{most};
 ghost use Rattle.spellings.specs.Bytes.{same};
 ghost use Rattle.layout.specs.Index.{isAmong, Packs, bucketMixed, bucketHash, HashedUnder, SpellingHeld, Indexed, Searchable, Enterable, entered};
 
@@ -66,7 +67,7 @@ pub fn spelling_hash(tag: u8, v: &[u8]) -> usize
 
 // Whether the entry of a number is the spelling v, which has the hash h.
 fn is_entry(room: &[u32; ROOM], table: &[u8], n: usize, h: usize, v: &[u8]) -> bool
-    requires { ⌜ n ≤ 64 ⌝ }
+    requires { ⌜ n ≤ most .outsides ⌝ }
     ensures { λ r. ⌜ ((w : List ℕ) (p : ℕ) → SpellingHeld (now (table .entry)) (now (room .entry)) n w p → h ≡ bucketHash (now (v .entry))
         → r ≡ same w (now (v .entry))) ⌝ }
 {

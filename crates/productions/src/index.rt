@@ -10,6 +10,7 @@ use spellings::wide_short;
 ghost use Prim.Native.Nat.{_+_, _≤_};
 ghost use mathlib.Core.Path.{_≡_};
 ghost use lib.ListN.{getD};
+ghost use Rattle.grammar.specs.Limits.{most};
 ghost use Rattle.productions.specs.Index.{placesIn, placesOf, placesWithout};
 ghost use Rattle.productions.specs.IndexCalls.{IndexRoomFor, Index, FitsIndex, behind, redefined};
 
@@ -79,7 +80,7 @@ pub fn build_index(
     starts: &mut [u16; EACH_ALTERNATIVE],
 ) -> usize
     requires { ⌜ FitsIndex (now table) ⌝ }
-    ensures { λ r. ⌜ Index (placesOf (now (table .entry))) 256 r (now (owners .exit)) (now (starts .exit)) ⌝ }
+    ensures { λ r. ⌜ Index (placesOf (now (table .entry))) (most .alternatives) r (now (owners .exit)) (now (starts .exit)) ⌝ }
 {
     let mut at: usize = 0;
     let mut n: u8 = 0;

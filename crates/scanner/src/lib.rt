@@ -43,6 +43,25 @@ ghost use Rattle.scanner.specs.Stepping.{Named, Ready, OwnWord, made, Ma
 ghost use Rattle.answers.specs.Refusals.{refusal};
 ghost use Rattle.scanner.specs.Rooms.{rowThen, placeThen, countWith, wordsIn, RoomFor, LentToScan, filled, scanInto};
 
+// The trees of a formula's words are one more than this, for a short formula, a middle one, and any.
+const SHORT_MASK: usize = 63;
+
+const MIDDLE_MASK: usize = 255;
+
+const LARGEST_MASK: usize = 2047;
+
+// Sizes of formulas for which shorter rooms of links are lent.
+const SHORT: usize = 64;
+
+const MIDDLE: usize = 512;
+
+// The numbers of the rooms of links: one for each tree, and two for each word that there may be.
+const SHORT_LINKS: usize = SHORT_MASK + 1 + 2 * SHORT;
+
+const MIDDLE_LINKS: usize = MIDDLE_MASK + 1 + 2 * MIDDLE;
+
+const LINKS: usize = LARGEST_MASK + 1 + 2 * MOST_TOKENS;
+
 // The spelling number of a formula's first word that is no outside name.
 const FIRST_WORD: u32 = MOST_OUTSIDES as u32;
 
@@ -365,14 +384,14 @@ pub fn scan(table: &[u8], formula: &[u8], tokens: &mut [u32], words: &mut [u32])
     if LONGEST_FORMULA < size {
         return unscanned(14, 0);
     }
-    if size <= 64 {
-        let mut links = [0u32; 192];
-        return scan_with(table, formula, tokens, words, &mut links, 63);
+    if size <= SHORT {
+        let mut links = [0u32; SHORT_LINKS];
+        return scan_with(table, formula, tokens, words, &mut links, SHORT_MASK);
     }
-    if size <= 512 {
-        let mut links = [0u32; 1280];
-        return scan_with(table, formula, tokens, words, &mut links, 255);
+    if size <= MIDDLE {
+        let mut links = [0u32; MIDDLE_LINKS];
+        return scan_with(table, formula, tokens, words, &mut links, MIDDLE_MASK);
     }
-    let mut links = [0u32; 10240];
-    scan_with(table, formula, tokens, words, &mut links, 2047)
+    let mut links = [0u32; LINKS];
+    scan_with(table, formula, tokens, words, &mut links, LARGEST_MASK)
 }

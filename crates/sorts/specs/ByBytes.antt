@@ -6,6 +6,7 @@ use mathlib.Core.Bool.{true, false, _&&_}
 use mathlib.Core.List.{List, [], _∷_, _++_}
 use lib.Dec.{eqb, leb}
 use lib.ListN.{length, getD, take, drop, replicate}
+use Rattle.grammar.specs.Variables.{mostVariables}
 use Rattle.answers.specs.declared.Verdict.{Verdict}
 use Rattle.answers.specs.declared.Verdict.the-variants.{Passed, Refused}
 use Rattle.answers.specs.Refusals.{refusal}
@@ -68,7 +69,7 @@ afterBlock X (collected v H) = afterVerdict (withHeads X H) v
 
 -- one variable more; there are 16 at most
 abbrev pub afterItem : Context → ℕ → ItemSort → FieldStepped
-afterItem X at (As s) = going (withSorts X (take 16 (X .sorts ++ (s ∷ []))))
+afterItem X at (As s) = going (withSorts X (take mostVariables (X .sorts ++ (s ∷ []))))
 afterItem X at (Unsorted fault) = verdict-found (Refused (refusal fault at 0 0))
 
 -- an item at an offset
@@ -137,7 +138,7 @@ sortsFrom (next at tag v fs) bs X = goOn (stepAt bs at tag v fs X) (λ Y. sortsF
 
 -- a longer table was refused before
 unfoldable pub sortsOf : List ℕ → Verdict
-sortsOf bs = elim (leb (length bs) (most .bytes)) [ true ↦ sortsFrom (fieldsOf bs) bs (unknown (replicate 64 0)) | false ↦ Passed ]
+sortsOf bs = elim (leb (length bs) (most .bytes)) [ true ↦ sortsFrom (fieldsOf bs) bs (unknown (replicate (most .nonterminals) 0)) | false ↦ Passed ]
 
 -- ------------------------------------------------------------------ what the code's functions ask and ensure
 
@@ -164,7 +165,7 @@ pub record FieldChecked (bs : List ℕ) (at tag : ℕ) (v : List ℕ) (to : ℕ)
 
 -- room for 16 variables, and for the places that a value's templates open
 pub record Room (v sorts stack : List ℕ) : Type 0 where
-  pub variables : length sorts ≡ 16
+  pub variables : length sorts ≡ mostVariables
   pub places : 2 * length v + 8 ≤ length stack
 
 -- what the check of one field asks of the table, its value, the rooms and what is known

@@ -4,6 +4,7 @@ use Prim.Native.Nat.{ℕ, _*_, _/_, _<_, _≤_, min}
 use mathlib.Core.Path.{_≡_}
 use mathlib.Core.List.{List}
 use lib.ListN.{length, getD, drop}
+use Rattle.grammar.specs.Variables.{mostVariables}
 use Rattle.answers.specs.Refusals.{refusal}
 use Rattle.terms.specs.Cells.{columns, mostCells}
 use Rattle.grammar.specs.Limits.{most}
@@ -28,9 +29,9 @@ pub record RoomsFit (v : List ℕ) (rows : ℕ) (cells stack : List ℕ) : Type 
 
 -- the first 16 of k values M stand in an array of 16: no template names a further variable
 pub record Holds (env : List ℕ) (k : ℕ) (M : List ℕ) : Type 0 where
-  pub long : length env ≡ 16
+  pub long : length env ≡ mostVariables
   pub count : length M ≡ k
-  pub same : (i : ℕ) → i < 16 → i < k → getD env i 0 ≡ getD M i 0
+  pub same : (i : ℕ) → i < mostVariables → i < k → getD env i 0 ≡ getD M i 0
 
 -- the state with another number of cells made
 abbrev pub withMade : State → ℕ → State

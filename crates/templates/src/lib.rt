@@ -15,6 +15,7 @@ ghost use mathlib.Core.Path.{_≡_};
 ghost use mathlib.Core.List.{List, [], _∷_, _++_};
 ghost use lib.ListN.{length, getD, take, drop};
 ghost use lib.Seq.{sets};
+ghost use Rattle.grammar.specs.Variables.{mostVariables};
 ghost use Rattle.grammar.specs.Limits.{most};
 ghost use Rattle.grammar.specs.Table.{Template};
 ghost use Rattle.terms.specs.Cells.{columns, withRow, mostCells, rowsLent};
@@ -55,7 +56,7 @@ pub fn rows_of(numbers: usize) -> usize
 
 // The value of variable i of k.
 pub fn pick(env: &[u32; MOST_VARIABLES], k: usize, i: usize) -> u32
-    requires { ⌜ i < 16 ⌝ }
+    requires { ⌜ i < mostVariables ⌝ }
     ensures { λ r. ⌜ ((M : List ℕ) → Holds (now (env .entry)) k M → r ≡ getD M i 0) ⌝ }
 {
     if i < k { env[i] } else { 0 }
@@ -236,7 +237,7 @@ pub fn build(
 
 // An array has as many values as its type says: looking at it makes that known.
 fn known_values(values: &[u32; MOST_VARIABLES]) -> usize
-    ensures { λ _. ⌜ length (now (values .entry)) ≡ 16 ⌝ }
+    ensures { λ _. ⌜ length (now (values .entry)) ≡ mostVariables ⌝ }
 {
     length_of(values)
 }

@@ -4,6 +4,7 @@ use Prim.Native.Nat.{ℕ, _<_}
 use mathlib.Core.Path.{_≡_}
 use mathlib.Core.Bool.{true}
 use mathlib.Core.List.{List}
+use Rattle.grammar.specs.Limits.{most}
 use Rattle.spellings.specs.Bytes.{isWord}
 use Rattle.terms.specs.Term.{Name, word, fresh, outside, Term, Fields, variable, function, apply, rcd, dot, number, nil, cons}
 
@@ -15,7 +16,7 @@ Distinct spell = (m n : ℕ) → isWord (spell m) ≡ true → spell m ≡ spell
 abbrev pub VariableName : (ℕ → List ℕ) → Name → Type 0
 VariableName spell (word s) = isWord s ≡ true
 VariableName spell (fresh n) = Unit {0}
-VariableName spell (outside s) = (m : ℕ) × (m < 64) × (s ≡ spell m) × (isWord s ≡ true)
+VariableName spell (outside s) = (m : ℕ) × (m < most .outsides) × (s ≡ spell m) × (isWord s ≡ true)
 
 -- a binder's name: a word or a fresh name
 abbrev pub BinderName : (ℕ → List ℕ) → Name → Type 0

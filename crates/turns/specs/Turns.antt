@@ -13,7 +13,7 @@ use Rattle.expansion.specs.Outcomes.{ran}
 use Rattle.expansion.specs.Expansion.{Input, runCall}
 use Rattle.templates.specs.Built.{Holds}
 use Rattle.steps.specs.Steps.{body, weight, mostWeight, Onward}
-use Rattle.frames.specs.Frames.{frameSize, longFrames, mostWaiting, LevelFits, Saved, Loaded, Frame, resume, owed, Stacked, Standing}
+use Rattle.frames.specs.Frames.{frameSize, countAt, nextAt, longFrames, mostWaiting, LevelFits, Saved, Loaded, Frame, resume, owed, Stacked, Standing}
 use Rattle.turns.specs.declared.Resumption.{Resumption}
 use Rattle.steps.specs.declared.Cursor.{Cursor}
 use Rattle.turns.specs.declared.Advance.{Advance}
@@ -26,8 +26,8 @@ use Rattle.expansion.specs.Limits.{mostCalls}
 abbrev pub cursorAt : List ℕ → Resumption → Cursor
 cursorAt frames from =
     record {
-      count = getD frames (from .level * frameSize + 16) 0;
-      at = getD frames (from .level * frameSize + 17) 0;
+      count = getD frames (from .level * frameSize + countAt) 0;
+      at = getD frames (from .level * frameSize + nextAt) 0;
       level = from .level;
       state = from .state;
     }

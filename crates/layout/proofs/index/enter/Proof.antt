@@ -3,6 +3,7 @@ use borrow.Author.Needs.{needs}
 use Prim.Native.Nat.{_<_}
 use mathlib.Core.Path.{_≡_}
 use borrow.Author.Tests.{not-true, not-false}
+use Rattle.grammar.specs.Limits.{most}
 use Rattle.layout.specs.Index.{bucketHash}
 use Rattle.layout.proofs.IndexLaws as laws
 use native.Mathlib.Omega.{arith}
@@ -14,7 +15,7 @@ module _ (point : tie.Else1) where
   abbrev start : tie.Start
   start = point .before
 
-  few : start .args .count < 64
+  few : start .args .count < most .outsides
   few = start .pre .few (not-false _ (point .if1 .left))
 
   hashed : start .args .h ≡ bucketHash (start .args .v .now)
