@@ -20,12 +20,13 @@ use Rattle.terms.specs.Rows.{termAt, fieldListAt}
 use Rattle.terms.specs.Rename.{isRenamed, isOutside, holds, holdsFields}
 use Rattle.terms.specs.Binding.{Binder}
 use Rattle.terms.specs.Occurrences.{ownerOf}
-use Rattle.marking.specs.Marks.{markOf, ownerCode, binderMark, marks, marksFields}
-use Rattle.marking.proofs.MarkLaws.{length-marks}
-use Rattle.marking.specs.Resolving.{Bindable, bindable-word, bindable-fresh, Around}
-use Rattle.marking.specs.Resolving.{HoldsOutsides, MarksVariable, MarksBinder, Walked, WalkedFields, ResolvesTerm, ResolvesFields}
+use Rattle.scopes.specs.Marks.{markOf, ownerCode, binderMark, Bindable, bindable-word, bindable-fresh, Around, HoldsOutsides, MarksVariable, MarksBinder}
+use Rattle.scopes.specs.Chains.{slotAt}
+use Rattle.scopes.proofs.AroundLaws.{around-binder, restored}
+use Rattle.marking.specs.Marks.{marks, marksFields}
+use Rattle.marking.specs.Resolving.{Walked, WalkedFields, ResolvesTerm, ResolvesFields}
 use Rattle.marking.specs.Walks.{Walkable, WalksTerm}
-use Rattle.marking.specs.Chains.{slotAt}
+use Rattle.marking.proofs.MarkLaws.{length-marks}
 use Rattle.terms.specs.Names.{Distinct, VariableName, BinderName, WellNamed, WellNamedFields}
 use Rattle.rows.specs.Sizes.{WholeRows, noSpell, sizeAt}
 use Rattle.rows.proofs.ListLaws.{sets-append, set-sets}
@@ -33,7 +34,6 @@ use Rattle.rows.proofs.RowLaws as rows
 use Rattle.rows.proofs.SizeLaws.{size-spell, size-some, size-some-fields}
 use Rattle.binders.proofs.LinkLaws.{slot-is}
 use Rattle.binders.proofs.SlotLaws.{slot-there, slot-name}
-use Rattle.marking.proofs.AroundLaws.{around-binder, restored}
 
 -- ------------------------------------------------------------------ names
 
@@ -320,11 +320,6 @@ module _ (cells : List ℕ) (depth row place : ℕ) where
     pub variable-place : code ≡ 32 → place + 1 ≡ place + size (T cells depth row)
     unfolding size
     variable-place e = rw (rows.var-row noSpell cells depth row some at e) refl
-
-    -- a function takes one place and its body's
-    pub function-place : code ≡ 33 → {part : ℕ} → part ≡ column cells row 2 → place + 1 + size (T cells (depth - 1) part) ≡ place + size (T cells depth row)
-    unfolding size
-    function-place e eq = rw (eq, rows.fun-row noSpell cells depth row some at e) (omega arith)
 
     -- an application takes one place and those of both terms
     pub apply-place : code ≡ 34 → {part part′ : ℕ} → part ≡ column cells row 1 → part′ ≡ column cells row 2

@@ -1,33 +1,12 @@
--- Resolution by places: one number for each constructor of a term, from the left. At a variable's place it is its binder's place by
--- origin and one more, or 0 if it has none; a fresh variable that has none has `noOwner`. At a binder's place it is `new` if the binder is
--- renamed, else 0; at any other place 0. Nobody needs this to believe `expand`.
-use Prim.Native.Nat.{ℕ, zero, suc, _+_}
-use mathlib.Core.Bool.{Bool, true, false}
+-- Resolution by places: one number for each constructor of a term, from the left. At the place of a variable, and at that of a binder, it is
+-- the mark of scopes/specs/Marks; at any other place 0. Nobody needs this to believe `expand`.
+use Prim.Native.Nat.{ℕ, suc, _+_}
 use mathlib.Core.List.{List, [], _∷_, _++_}
-use Rattle.terms.specs.Term.{Name, word, fresh, outside, Term, Fields, variable, function, apply, rcd, dot, number, nil, cons, size}
+use Rattle.terms.specs.Term.{Name, Term, Fields, variable, function, apply, rcd, dot, number, nil, cons, size}
 use Rattle.terms.specs.Rename.{isRenamed}
-use Rattle.terms.specs.Binding.{Owner, unbound, boundAt, Binder}
+use Rattle.terms.specs.Binding.{Binder}
 use Rattle.terms.specs.Occurrences.{ownerOf}
-
-abbrev pub new : ℕ
-new = 65534
-
-abbrev pub noOwner : ℕ
-noOwner = 65535
-
-abbrev pub ownerCode : Owner → ℕ
-ownerCode unbound = 0
-ownerCode (boundAt p) = suc p
-
-abbrev pub markOf : Name → ℕ → ℕ
-markOf (word s) c = c
-markOf (fresh n) zero = noOwner
-markOf (fresh n) (suc p) = suc p
-markOf (outside s) c = 0
-
-unfoldable pub binderMark : Bool → ℕ
-binderMark true = new
-binderMark false = 0
+use Rattle.scopes.specs.Marks.{ownerCode, markOf, binderMark}
 
 unfoldable mutual
   pub marks : List Binder → ℕ → Term Name → List ℕ

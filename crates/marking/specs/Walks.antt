@@ -2,17 +2,12 @@
 use Prim.Native.Nat.{ℕ, _+_, _*_, _/_, _≤_}
 use mathlib.Core.Path.{_≡_}
 use mathlib.Core.List.{List}
-use lib.ListN.{length, getD, set, replicate}
+use lib.ListN.{length, replicate}
 use Rattle.terms.specs.Cells.{columns}
 use Rattle.rows.specs.Sizes.{sizeAt, sizeFieldsAt}
 use Rattle.marking.specs.Resolving.{ResolvesTerm, ResolvesFields}
 use Rattle.binders.specs.Links.{RowsLinked}
 use Rattle.terms.specs.Term.{largestTerm}
-
--- v is stored in a slot, if it is there, and r was there before
-pub record Exchanged (slot v : ℕ) (current current′ : List ℕ) (r : ℕ) : Type 0 where
-  pub stored : current′ ≡ set current slot v
-  pub was : r ≡ getD current slot 0
 
 -- linked rows, a mark for each of so many constructors from a place on, and a trail for the depth
 pub record Walkable (cells links : List ℕ) (bound constructors place : ℕ) (room trail : List ℕ) : Type 0 where

@@ -9,7 +9,7 @@ use lib.Seq.{drop-cons, take-suc-set, drop-set-lt, getD-take, length-take-le}
 use borrow.Author.Tests.{ne-eqb}
 use Rattle.grammar.proofs.ReaderLaws.{getD-past}
 use Rattle.resolver.specs.declared.Resolution.the-variants.{Loose, Numbered}
-use Rattle.marking.specs.Marks.{new, noOwner}
+use Rattle.scopes.specs.Marks.{new, noOwner}
 use Rattle.resolver.specs.Numbers.{ownerNumber, numberAt, nextNumber, numberedMarks, looseIn, firstLoose}
 
 -- ------------------------------------------------------------------ the number at a place

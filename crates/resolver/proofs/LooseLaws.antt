@@ -14,7 +14,8 @@ use Rattle.terms.specs.Rename.{belongs, isRenamed}
 use Rattle.terms.specs.Loose.{walk}
 use Rattle.terms.specs.Binding.{Owner, unbound, boundAt, Binder}
 use Rattle.terms.specs.Occurrences.{ownerOf, occurrence, occurrences, occurrencesFields, isLoose, loosePlaces, stopsAtFirst}
-use Rattle.marking.specs.Marks.{noOwner, ownerCode, markOf, binderMark, marks, marksFields}
+use Rattle.scopes.specs.Marks.{noOwner, ownerCode, markOf, binderMark}
+use Rattle.marking.specs.Marks.{marks, marksFields}
 use Rattle.resolver.specs.Numbers.{looseIn}
 use Rattle.terms.proofs.Loose.{walk-stops, loose-append, loose-here, loose-further}
 use Rattle.marking.proofs.MarkLaws.{length-marks}

@@ -14,7 +14,8 @@ use Rattle.terms.specs.Rename.{belongs, isRenamed, renames, renamesFields, writ
 use Rattle.terms.specs.Binding.{unbound, Binder}
 use Rattle.terms.specs.Occurrences.{ownerOf}
 use Rattle.terms.specs.Labelled.{nameShown, labelled, labelledFields}
-use Rattle.marking.specs.Marks.{new, noOwner, ownerCode, markOf, binderMark, marks, marksFields}
+use Rattle.scopes.specs.Marks.{new, noOwner, ownerCode, markOf, binderMark}
+use Rattle.marking.specs.Marks.{marks, marksFields}
 use Rattle.resolver.specs.Numbers.{ownerNumber, numberAt, nextNumber, numberedMarks}
 
 -- the binders around, with the names that their numbers give them

@@ -14,7 +14,8 @@ use Rattle.resolver.specs.declared.Resolution.{Resolution}
 use Rattle.resolver.specs.declared.Resolution.the-variants.{Numbered}
 use Rattle.binders.specs.Slots.{slotOf}
 use Rattle.marking.specs.Marks.{marks}
-use Rattle.marking.specs.Resolving.{Around, ResolvesTerm}
+use Rattle.scopes.specs.Marks.{Around}
+use Rattle.marking.specs.Resolving.{ResolvesTerm}
 use Rattle.marking.specs.Walks.{WalkPrepared}
 use Rattle.resolver.specs.Numbers.{numberedMarks, looseIn, firstLoose, walkOf, Resolvable, Resolves}
 use Rattle.marking.proofs.MarkLaws.{length-marks}

@@ -14,7 +14,7 @@ use Rattle.terms.specs.Rename.{rename}
 use Rattle.terms.specs.Loose.{Walk, loose, reached, walk}
 use Rattle.terms.specs.Labelled.{labelled}
 use Rattle.rows.specs.Sizes.{sizeAt, WholeRows}
-use Rattle.marking.specs.Marks.{new, noOwner}
+use Rattle.scopes.specs.Marks.{new, noOwner}
 use Rattle.resolver.specs.declared.Resolution.{Resolution}
 use Rattle.resolver.specs.declared.Resolution.the-variants.{Loose, Numbered}
 

@@ -1,7 +1,7 @@
 // Resolution: the marks of a term become the numbers of the new names, from the left.
 use crate::Resolution;
-use marking::NEW;
-use marking::NO_OWNER;
+use scopes::marks::NEW;
+use scopes::marks::NO_OWNER;
 use spellings::wide_short;
 ghost use Prim.Native.Nat.{_+_, _≤_, _<_};
 ghost use mathlib.Core.Path.{_≡_};

@@ -7,6 +7,7 @@ use borrow.Author.Needs.{needs}
 use borrow.Fn.Kinds.{In}
 use borrow.Fn.PlainCycle.{Measures, is, falls, and}
 use Rattle.marking.proofs.ResolveLaws as laws
+use Rattle.scopes.proofs.ChainLaws as scopes
 use Rattle.marking.proofs.ChainLaws as chains
 use Rattle.marking.proofs.resolve_fields.Reads as resolve-fields
 use Rattle.marking.proofs.resolve_fields.Kinds as resolve-fields-kinds
@@ -21,11 +22,11 @@ use Rattle.marking.proofs.resolve_term.Reads as resolve-term
 use Rattle.marking.proofs.resolve_term.Kinds as resolve-term-kinds
 use Rattle.marking.proofs.+resolve_fields+resolve_functions+resolve_part+resolve_term.Lts-resolve_term as term-lts
 use Rattle.kinds.proofs.join.Reads as join-reads
-use Rattle.marking.proofs.enter_functions.Reads as enter-functions-reads
-use Rattle.marking.proofs.held_by.Reads as held-by-reads
-use Rattle.marking.proofs.leave_functions.Reads as leave-functions-reads
+use Rattle.scopes.proofs.enter_functions.Reads as enter-functions-reads
+use Rattle.scopes.proofs.marks.held_by.Reads as held-by-reads
+use Rattle.scopes.proofs.leave_functions.Reads as leave-functions-reads
 use Rattle.marking.proofs.put.Reads as put-reads
-use Rattle.marking.proofs.variable_mark.Reads as variable-mark-reads
+use Rattle.scopes.proofs.marks.variable_mark.Reads as variable-mark-reads
 use Rattle.rows.proofs.column.Reads as column-reads
 use Rattle.marking.proofs.+resolve_fields+resolve_functions+resolve_part+resolve_term.{statement}
 use Rattle.marking.proofs.+resolve_fields+resolve_functions+resolve_part+resolve_term.Tie.{close}
@@ -163,7 +164,7 @@ fields-returns measure c =
         moved = laws.shallow-fields-place _ _ _ _ (c .if1 .taken);
         long = put-place .put .ensures .1;
       },
-      chains.trail-same _ _,
+      scopes.trail-same _ _,
     )
 
 fields-sub-deep : (measure : ℕ) → fields-lts.Need-sub-deep (fields-claims measure) (fields-at measure) resolve-fields.Post
@@ -220,7 +221,7 @@ fields-returns-2 measure c =
             );
         long = second .0 .long ∙ first .0 .long ∙ fields-put measure p .put .ensures .1;
       },
-      chains.trail-then (chains.trail-within (first .1) (omega arith)) (chains.trail-within (second .1) (omega arith)),
+      scopes.trail-then (scopes.trail-within (first .1) (omega arith)) (scopes.trail-within (second .1) (omega arith)),
     )
 
 fields-returns-3 : (measure : ℕ) → fields-lts.Need-returns-3 (fields-claims measure) (fields-at measure) resolve-fields.Post
@@ -231,7 +232,7 @@ fields-returns-3 measure c =
         moved = laws.nil-place _ _ _ _ (fields-test measure p .if1 .left) (p .column .ensures) (c .if2 .left);
         long = fields-put measure p .put .ensures .1;
       },
-      chains.trail-same _ _,
+      scopes.trail-same _ _,
     )
 
 functions-enter-functions-requires :
@@ -251,7 +252,7 @@ functions-resolve-term-requires measure c κs =
     let p = c .before .before .before .before in
     let entry = chain-entry measure p in
     let entered = p .enter-functions .ensures in
-    let some = chains.enters-some (entered .0) (entered .1) (entry .pre .1 .0 .0) (entry .pre .1 .0 .1) in
+    let some = scopes.enters-some (entered .0) (entered .1) (entry .pre .1 .0 .0) (entry .pre .1 .0 .1) in
     let w = laws.walkable-in (entry .pre .1 .1) refl (entered .0 .trailed .long) in (
       omega (arith, entry .pre .0, entry .pre .1 .0 .0, some, entered .0 .bounded),
       laws.walkable-part w (omega arith) (omega (arith, entered .0 .sized)),
@@ -313,7 +314,7 @@ term-returns measure c =
         moved = laws.shallow-place _ _ _ _ (c .if1 .taken);
         long = put-place .put .ensures .1;
       },
-      chains.trail-same _ _,
+      scopes.trail-same _ _,
     )
 
 term-sub-deep : (measure : ℕ) → term-lts.Need-sub-deep (term-claims measure) (term-at measure) resolve-term.Post
@@ -403,7 +404,7 @@ term-returns-2 measure c =
         moved = laws.variable-place _ _ _ _ (term-test measure p .if1 .left) (column-place .column .ensures) (match-keys1-place .match .keys1);
         long = put2-place .put2 .ensures .1 ∙ term-put measure p .put .ensures .1;
       },
-      chains.trail-same _ _,
+      scopes.trail-same _ _,
     )
 
 term-returns-3 : (measure : ℕ) → term-lts.Need-returns-3 (term-claims measure) (term-at measure) resolve-term.Post
@@ -437,7 +438,7 @@ term-returns-4 measure c =
             );
         long = second .0 .long ∙ first .0 .long ∙ term-put measure p .put .ensures .1;
       },
-      chains.trail-then (chains.trail-within (first .1) (omega arith)) (chains.trail-within (second .1) (omega arith)),
+      scopes.trail-then (scopes.trail-within (first .1) (omega arith)) (scopes.trail-within (second .1) (omega arith)),
     )
 
 term-returns-5 : (measure : ℕ) → term-lts.Need-returns-5 (term-claims measure) (term-at measure) resolve-term.Post
@@ -454,7 +455,7 @@ term-returns-5 measure c =
             ∙ laws.rcd-place _ _ _ _ (term-test measure p .if1 .left) (column-place .column .ensures) (m .match .keys4) (p .column2 .ensures);
         long = part .0 .long ∙ term-put measure p .put .ensures .1;
       },
-      chains.trail-within (part .1) (omega arith),
+      scopes.trail-within (part .1) (omega arith),
     )
 
 term-returns-6 : (measure : ℕ) → term-lts.Need-returns-6 (term-claims measure) (term-at measure) resolve-term.Post
@@ -469,7 +470,7 @@ term-returns-6 measure c =
         moved = part .0 .moved ∙ laws.dot-place _ _ _ _ (term-test measure p .if1 .left) (column-place .column .ensures) (m .match .keys5) refl;
         long = part .0 .long ∙ term-put measure p .put .ensures .1;
       },
-      chains.trail-within (part .1) (omega arith),
+      scopes.trail-within (part .1) (omega arith),
     )
 
 term-returns-7 : (measure : ℕ) → term-lts.Need-returns-7 (term-claims measure) (term-at measure) resolve-term.Post
@@ -481,7 +482,7 @@ term-returns-7 measure c =
         moved = laws.number-place _ _ _ _ (term-test measure p .if1 .left) code-is (c .match .rest);
         long = term-put measure p .put .ensures .1;
       },
-      chains.trail-same _ _,
+      scopes.trail-same _ _,
     )
 
 -- the functions meet their contracts

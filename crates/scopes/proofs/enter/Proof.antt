@@ -1,9 +1,9 @@
 -- `enter`: the slot of a name, its binder put there, and both on the trail.
 use borrow.Author.Needs.{needs}
 use native.Mathlib.Omega.{arith}
-use Rattle.marking.proofs.ChainLaws as laws
-use Rattle.marking.proofs.enter.Statement.{statement}
-use Rattle.marking.proofs.enter.Tie as tie
+use Rattle.scopes.proofs.ChainLaws as laws
+use Rattle.scopes.proofs.enter.Statement.{statement}
+use Rattle.scopes.proofs.enter.Tie as tie
 
 note-requires : tie.Need-note-requires
 note-requires c κs =

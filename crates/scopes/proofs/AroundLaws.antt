@@ -1,7 +1,7 @@
 -- Names by their values, and the environment of a walk under binders.
-use Prim.Native.Nat.{ℕ, zero, suc, _+_, _*_, _/_, _%_, _≤_, _<_}
+use Prim.Native.Nat.{ℕ, _+_, _*_, _/_, _%_, _≤_, _<_}
 use mathlib.Core.Path.{_≡_, refl, sym, ap, _∙_}
-use mathlib.Core.Bool.{Bool, true, false, and-eq-true-iff}
+use mathlib.Core.Bool.{true, false}
 use mathlib.Core.List.{List, _∷_}
 use native.Mathlib.Omega.{arith}
 use lib.Dec.{eqb}
@@ -18,9 +18,8 @@ use Rattle.terms.specs.Binding.{boundAt, Binder}
 use Rattle.terms.specs.Occurrences.{ownerOf}
 use Rattle.binders.specs.Slots.{slotOf}
 use Rattle.binders.proofs.SlotLaws.{slot-name}
-use Rattle.marking.specs.Marks.{ownerCode}
-use Rattle.marking.specs.Resolving.{Bindable, bindable-word, bindable-fresh, Around}
-use Rattle.marking.specs.Walks.{Exchanged}
+use Rattle.scopes.specs.Marks.{ownerCode, Bindable, bindable-word, bindable-fresh, Around}
+use Rattle.scopes.specs.Chains.{Exchanged}
 use Rattle.terms.specs.Names.{Distinct}
 
 -- ------------------------------------------------------------------ names by their values
@@ -41,7 +40,7 @@ module _ (spell : ℕ → List ℕ) where
       rw (c, nameOf) (rw c (ap fresh d))
 
   -- a name belongs to a binder exactly if their values are equal
-  pub belongs-same : (name-value : ℕ) → Bindable spell name-value → belongs (nameOf spell name-value) (nameOf spell name-value) ≡ true
+  belongs-same : (name-value : ℕ) → Bindable spell name-value → belongs (nameOf spell name-value) (nameOf spell name-value) ≡ true
   belongs-same _ (bindable-word {n = n} h w) = rw (named-word n h) (same-refl (spell n))
   belongs-same _ (bindable-fresh {n = n} h) = rw (named-fresh n h) (eq-eqb n n refl)
 

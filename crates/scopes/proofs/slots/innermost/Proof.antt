@@ -2,8 +2,8 @@
 use mathlib.Core.Path.{sym}
 use Rattle.grammar.proofs.ReaderLaws.{getD-past}
 use borrow.Author.Needs.{needs}
-use Rattle.marking.proofs.innermost.Statement.{statement}
-use Rattle.marking.proofs.innermost.Tie as tie
+use Rattle.scopes.proofs.slots.innermost.Statement.{statement}
+use Rattle.scopes.proofs.slots.innermost.Tie as tie
 
 returns-2 : tie.Need-returns-2
 returns-2 c =

@@ -1,9 +1,9 @@
 -- `leave_functions`: what the walk behind the functions gave, each function left gives for itself.
 use mathlib.Core.Path.{refl}
 use borrow.Author.Needs.{needs}
-use Rattle.marking.proofs.ChainLaws as laws
-use Rattle.marking.proofs.leave_functions.Statement.{statement}
-use Rattle.marking.proofs.leave_functions.Tie as tie
+use Rattle.scopes.proofs.ChainLaws as laws
+use Rattle.scopes.proofs.leave_functions.Statement.{statement}
+use Rattle.scopes.proofs.leave_functions.Tie as tie
 
 abbrev Inv-loop : tie.InvT-loop
 Inv-loop cells bound count place held current₀ trail marks₀ left₀ current marks left =

@@ -1,8 +1,8 @@
 -- `held_by`: an outside name holds itself, any other name nothing.
-use Rattle.marking.proofs.NameLaws.{held-word, held-fresh, held-outside}
+use Rattle.scopes.proofs.NameLaws.{held-word, held-fresh, held-outside}
 use borrow.Author.Needs.{needs}
-use Rattle.marking.proofs.held_by.Statement.{statement}
-use Rattle.marking.proofs.held_by.Tie as tie
+use Rattle.scopes.proofs.marks.held_by.Statement.{statement}
+use Rattle.scopes.proofs.marks.held_by.Tie as tie
 
 returns : tie.Need-returns
 returns c = λ spell apart k. held-word spell _ (c .match .keys1)

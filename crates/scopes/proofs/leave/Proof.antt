@@ -2,9 +2,9 @@
 use Prim.Native.Nat.{_*_}
 use native.Mathlib.Omega.{arith}
 use borrow.Author.Needs.{needs}
-use Rattle.marking.proofs.ChainLaws as laws
-use Rattle.marking.proofs.leave.Statement.{statement}
-use Rattle.marking.proofs.leave.Tie as tie
+use Rattle.scopes.proofs.ChainLaws as laws
+use Rattle.scopes.proofs.leave.Statement.{statement}
+use Rattle.scopes.proofs.leave.Tie as tie
 
 -- where the slot was read
 abbrev after-slot : tie.After-slice-known3 → tie.After-wide-short

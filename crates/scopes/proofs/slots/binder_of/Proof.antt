@@ -1,8 +1,8 @@
 -- `binder_of`: what stands in the slot of a name.
 use mathlib.Core.Path.{refl}
 use borrow.Author.Needs.{needs}
-use Rattle.marking.proofs.binder_of.Statement.{statement}
-use Rattle.marking.proofs.binder_of.Tie as tie
+use Rattle.scopes.proofs.slots.binder_of.Statement.{statement}
+use Rattle.scopes.proofs.slots.binder_of.Tie as tie
 
 returns : tie.Need-returns
 returns c = (cc, refl)

@@ -2,10 +2,10 @@
 use Prim.Native.Nat.{_-_}
 use mathlib.Core.Path.{sym, _∙_}
 use borrow.Author.Needs.{needs}
-use Rattle.marking.specs.Chains.{Enters}
-use Rattle.marking.proofs.ChainLaws as laws
-use Rattle.marking.proofs.enter_functions.Statement.{statement}
-use Rattle.marking.proofs.enter_functions.Tie as tie
+use Rattle.scopes.specs.Chains.{Enters}
+use Rattle.scopes.proofs.ChainLaws as laws
+use Rattle.scopes.proofs.enter_functions.Statement.{statement}
+use Rattle.scopes.proofs.enter_functions.Tie as tie
 
 abbrev Inv-loop : tie.InvT-loop
 Inv-loop cells links bound row place current₀ trail₀ count₀ below₀ current trail count below =

@@ -18,8 +18,7 @@ use Rattle.terms.specs.Rename.{isOutside, holds, holdsFields, isRenamed}
 use Rattle.terms.specs.Binding.{Binder}
 use Rattle.terms.specs.Occurrences.{ownerOf}
 use Rattle.binders.specs.Slots.{slotOf}
-use Rattle.marking.specs.Marks.{noOwner, markOf, ownerCode, binderMark}
-use Rattle.marking.specs.Resolving.{Bindable, bindable-word, bindable-fresh, Around, HoldsOutsides}
+use Rattle.scopes.specs.Marks.{noOwner, markOf, ownerCode, binderMark, Bindable, bindable-word, bindable-fresh, Around, HoldsOutsides}
 use Rattle.terms.specs.Names.{Distinct, VariableName, BinderName, WellNamed, WellNamedFields}
 use Rattle.rows.proofs.RowLaws.{as-word, as-fresh, as-outside}
 
@@ -44,12 +43,6 @@ module _ (spell : ℕ → List ℕ) (value : ℕ) where
       → HoldsOutsides spell held (λ s. isOutside s (nameOf spell value))
   held-outside a b er apart n l w =
       cc (has-only (value % nameBase) n, lt-ltb n 64 l, same-number apart n (value % nameBase) w, as-outside spell value a b)
-
-  -- an outside name has a number below 64
-  pub outside-small : (value / nameBase ≡ 1 → ⊥) → (value / nameBase ≡ 2 → ⊥) → Distinct spell → VariableName spell (nameOf spell value) → value % nameBase < 64
-  outside-small a b apart kn =
-      let k = subst (VariableName spell) (as-outside spell value a b) kn in
-      omega (arith, apart (value % nameBase) (k .0) (k .3) (k .2), k .1)
 
 -- ------------------------------------------------------------------ names from 64 on are no outside names
 

@@ -1,5 +1,5 @@
--- A chain of functions, each the body of the one before, as a walk enters it in one loop and leaves it in another. For a function whose body
--- has the depth d left the trail has its slot at 2d, and behind it the binder that the slot had before. Nobody needs this to believe `expand`.
+-- A chain of functions, each the body of the one before, entered in one loop and left in another. For a function whose body has the depth d
+-- left the trail has its slot at 2d, and behind it the binder that the slot had before. Nobody needs this to believe `expand`.
 use Prim.Native.Nat.{ℕ, zero, suc, _+_, _-_, _*_, _≤_, _<_}
 use mathlib.Core.Path.{_≡_}
 use mathlib.Core.List.{List}
@@ -9,7 +9,12 @@ use Rattle.terms.specs.Term.{largestTerm}
 use Rattle.rows.specs.Sizes.{sizeAt}
 use Rattle.binders.specs.Links.{RowsLinked}
 use Rattle.binders.specs.Slots.{slotOf}
-use Rattle.marking.specs.Resolving.{MarksBinder, ResolvesTerm}
+use Rattle.scopes.specs.Marks.{MarksBinder}
+
+-- v is stored in a slot, if it is there, and r was there before
+pub record Exchanged (slot v : ℕ) (current current′ : List ℕ) (r : ℕ) : Type 0 where
+  pub stored : current′ ≡ set current slot v
+  pub was : r ≡ getD current slot 0
 
 -- what the trail has of the functions around a term with the depth `bound` is as it was
 pub record TrailKept (bound : ℕ) (trail trail′ : List ℕ) : Type 0 where
@@ -64,6 +69,7 @@ pub record Enters (cells : List ℕ) (bound row place : ℕ) (current current′
   pub current-is : current′ ≡ currentIn cells row place current count
   pub sized : count + sizeAt cells (bound - count) below ≡ sizeAt cells bound row
   pub trailed : TrailKept bound trail trail′
+  pub unwritten : (i : ℕ) → i < 2 * (bound - count) → getD trail′ i 0 ≡ getD trail i 0
   pub slots : length current′ ≡ length current
 
 -- the function at a place is left, whose body has the depth `deep` and holds the outside names `held`
@@ -73,13 +79,10 @@ pub record LeavesOne (cells : List ℕ) (deep place held : ℕ) (trail current c
   pub stored : room′ ≡ set room place mark
   pub restored : current′ ≡ set current (getD trail (2 * deep) 0) (getD trail (2 * deep + 1) 0)
 
--- what the walk behind n functions of a chain leaves
-abbrev pub ResolvesBehind : List ℕ → ℕ → ℕ → ℕ → List ℕ → List ℕ → List ℕ → List ℕ → ℕ → ℕ → Type 0
-ResolvesBehind cells bound row place before current blank room held n =
-    ResolvesTerm cells (bound - n) (rowIn cells row n) (place + n) (currentIn cells row place before n) current blank room held
-
--- `count` functions of a chain are left: what the walk behind them gave, the walk of the whole chain gives
-pub record Leaves (cells : List ℕ) (bound count place held : ℕ) (trail current current′ room room′ : List ℕ) : Type 0 where
-  pub resolves : (row : ℕ) (before blank : List ℕ) → Chained cells bound row place before trail count
-      → ResolvesBehind cells bound row place before current blank room held count → ResolvesTerm cells bound row place before current′ blank room′ held
-  pub long : length room′ ≡ length room
+-- `count` functions of a chain are left, the innermost first
+pub data Leaves (cells : List ℕ) (bound place held : ℕ) (trail : List ℕ) : ℕ → List ℕ → List ℕ → List ℕ → List ℕ → Type 0 where
+  leaves-none : {current room : List ℕ} → Leaves cells bound place held trail 0 current current room room
+  leaves-more : {n : ℕ} {current current₁ current₂ room room₁ room₂ : List ℕ}
+      → LeavesOne cells (bound - n - 1) (place + n) held trail current current₁ room room₁
+      → Leaves cells bound place held trail n current₁ current₂ room₁ room₂
+      → Leaves cells bound place held trail (suc n) current current₂ room room₂

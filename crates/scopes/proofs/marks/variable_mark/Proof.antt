@@ -1,9 +1,9 @@
 -- `variable_mark`: the class of the name decides.
 use mathlib.Core.Path.{refl}
 use borrow.Author.Needs.{needs}
-use Rattle.marking.proofs.NameLaws.{word-mark, fresh-bound-mark, fresh-loose-mark, outside-mark}
-use Rattle.marking.proofs.variable_mark.Statement.{statement}
-use Rattle.marking.proofs.variable_mark.Tie as tie
+use Rattle.scopes.proofs.NameLaws.{word-mark, fresh-bound-mark, fresh-loose-mark, outside-mark}
+use Rattle.scopes.proofs.marks.variable_mark.Statement.{statement}
+use Rattle.scopes.proofs.marks.variable_mark.Tie as tie
 
 -- places, each from a later one
 abbrev at-start : tie.After-slice-known → tie.Start

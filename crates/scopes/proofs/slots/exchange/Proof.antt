@@ -1,8 +1,8 @@
 -- `exchange`: a slot, if it is there.
-use Rattle.marking.proofs.AroundLaws.{not-exchanged}
+use Rattle.scopes.proofs.AroundLaws.{not-exchanged}
 use borrow.Author.Needs.{needs}
-use Rattle.marking.proofs.exchange.Statement.{statement}
-use Rattle.marking.proofs.exchange.Tie as tie
+use Rattle.scopes.proofs.slots.exchange.Statement.{statement}
+use Rattle.scopes.proofs.slots.exchange.Tie as tie
 
 returns-2 : tie.Need-returns-2
 returns-2 c = search not-exchanged
