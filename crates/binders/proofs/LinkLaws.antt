@@ -77,14 +77,14 @@ module _ (cells : List ℕ) (sought : ℕ) where
   slot-grows rows l h = omega (arith, slot-le rows 0 (omega arith))
 
 binds-name : (cells : List ℕ) (row name : ℕ) → binds cells row name ≡ true → column cells row 1 ≡ name
-binds-name cells row name e = eqb-true (column cells row 1) name (and-eq-true-iff (eqb (column cells row 0) 33) (eqb (column cells row 1) name) .0 e .1)
+binds-name cells row name e = eqb-true (column cells row 1) name (and-eq-true-iff (eqb (column cells row 0) 0x21) (eqb (column cells row 1) name) .0 e .1)
 
-binds-code : (cells : List ℕ) (row name : ℕ) → binds cells row name ≡ true → column cells row 0 ≡ 33
-binds-code cells row name e = eqb-true (column cells row 0) 33 (and-eq-true-iff (eqb (column cells row 0) 33) (eqb (column cells row 1) name) .0 e .0)
+binds-code : (cells : List ℕ) (row name : ℕ) → binds cells row name ≡ true → column cells row 0 ≡ 0x21
+binds-code cells row name e = eqb-true (column cells row 0) 0x21 (and-eq-true-iff (eqb (column cells row 0) 0x21) (eqb (column cells row 1) name) .0 e .0)
 
-binds-row : (cells : List ℕ) (row name : ℕ) → column cells row 0 ≡ 33 → column cells row 1 ≡ name → binds cells row name ≡ true
+binds-row : (cells : List ℕ) (row name : ℕ) → column cells row 0 ≡ 0x21 → column cells row 1 ≡ name → binds cells row name ≡ true
 binds-row cells row name a b =
-    and-eq-true-iff (eqb (column cells row 0) 33) (eqb (column cells row 1) name) .1 (eq-eqb (column cells row 0) 33 a, eq-eqb (column cells row 1) name b)
+    and-eq-true-iff (eqb (column cells row 0) 0x21) (eqb (column cells row 1) name) .1 (eq-eqb (column cells row 0) 0x21 a, eq-eqb (column cells row 1) name b)
 
 -- the slot of `name` among `rows` rows is a first row, of `name`
 pub record SlotIs (cells : List ℕ) (name rows slot : ℕ) : Type 0 where
@@ -402,7 +402,7 @@ module _ {cells links₀ links : List ℕ} {row : ℕ}
   skip d = record { inside = omega arith; long = linking .long; linked = linked-skip (linking .linked) row-fits row-small d }
 
   -- a row that is no function binds nothing
-  pub skip-code : {code : ℕ} → code ≡ column cells row 0 → (code ≡ 33 → ⊥) → Linking cells links₀ links (row + 1)
+  pub skip-code : {code : ℕ} → code ≡ column cells row 0 → (code ≡ 0x21 → ⊥) → Linking cells links₀ links (row + 1)
   skip-code e d = skip (λ f. d (e ∙ binds-code cells row (column cells row 1) (f .binding)))
 
   -- a row whose name an earlier one binds is not a first one
@@ -411,7 +411,7 @@ module _ {cells links₀ links : List ℕ} {row : ℕ}
   skip-found ex et d = skip (λ f. d (et ∙ ap (slotFrom row cells 0) ex ∙ f .earliest))
 
   -- a row that binds its name first is linked
-  pub add-row : {code name there : ℕ} → code ≡ column cells row 0 → name ≡ column cells row 1 → code ≡ 33 → there ≡ slotFrom row cells 0 name
+  pub add-row : {code name there : ℕ} → code ≡ column cells row 0 → name ≡ column cells row 1 → code ≡ 0x21 → there ≡ slotFrom row cells 0 name
       → there ≡ mostCells → {links′ : List ℕ} → links′ ≡ linksWithRow links row name → Linking cells links₀ links′ (row + 1)
   add-row ec ex e et t {links′} el =
       let f : FirstBinding cells row =

@@ -21,7 +21,7 @@ slot-binds (suc rows) cells row name h =
 pub slot-name : (cells : List ℕ) (name : ℕ) → slotOf cells name < mostCells → column cells (slotOf cells name) 1 ≡ name
 slot-name cells name h =
     eqb-true (column cells (slotOf cells name) 1) name
-    (and-eq-true-iff (eqb (column cells (slotOf cells name) 0) 33) (eqb (column cells (slotOf cells name) 1) name) .0
+    (and-eq-true-iff (eqb (column cells (slotOf cells name) 0) 0x21) (eqb (column cells (slotOf cells name) 1) name) .0
     (slot-binds (length cells / columns) cells 0 name h) .1)
 
 slot-first : (rows : ℕ) (cells : List ℕ) (row name found : ℕ) → row ≤ found → found < row + rows → row + rows ≤ mostCells → binds cells found name ≡ true
@@ -38,9 +38,9 @@ slot-first (suc rows) cells row name found a b m e =
     clash test p q = let z : _≡_ {A = ℕ} 0 1 = cc in omega arith
 
 -- a name that a row binds has a slot
-pub slot-there : (cells : List ℕ) (found : ℕ) → found < length cells / columns → length cells ≤ mostCells * columns → column cells found 0 ≡ 33
+pub slot-there : (cells : List ℕ) (found : ℕ) → found < length cells / columns → length cells ≤ mostCells * columns → column cells found 0 ≡ 0x21
     → slotOf cells (column cells found 1) < mostCells
 slot-there cells found h m e =
     slot-first (length cells / columns) cells 0 (column cells found 1) found (omega arith) (omega arith) (omega arith)
-    (and-eq-true-iff (eqb (column cells found 0) 33) (eqb (column cells found 1) (column cells found 1)) .1
-    (eq-eqb (column cells found 0) 33 e, eq-eqb (column cells found 1) (column cells found 1) refl))
+    (and-eq-true-iff (eqb (column cells found 0) 0x21) (eqb (column cells found 1) (column cells found 1)) .1
+    (eq-eqb (column cells found 0) 0x21 e, eq-eqb (column cells found 1) (column cells found 1) refl))

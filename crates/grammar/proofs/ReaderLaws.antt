@@ -31,7 +31,7 @@ pub arity-is : {code : ℕ} (known : ℕ) → code ≡ known → getD arities (k
 arity-is {code} known e = cc (arity-at code)
 
 -- the other codes up to the last constructor's have one argument, those below the constructors as the first of them
-pub arity-one : (code : ℕ) → code < 40 → (code ≡ 33 → ⊥) → (code ≡ 34 → ⊥) → (code ≡ 36 → ⊥) → (code ≡ 37 → ⊥) → (code ≡ 38 → ⊥) → 1 ≡ arity code
+pub arity-one : (code : ℕ) → code < 40 → (code ≡ 0x21 → ⊥) → (code ≡ 0x22 → ⊥) → (code ≡ 0x24 → ⊥) → (code ≡ 0x25 → ⊥) → (code ≡ 0x26 → ⊥) → 1 ≡ arity code
 arity-one code small not-33 not-34 not-36 not-37 not-38 = by (code - 32) refl ∙ arity-at code
   where
     by : (place : ℕ) → place ≡ code - 32 → 1 ≡ getD arities (code - 32) 0

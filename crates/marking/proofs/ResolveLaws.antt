@@ -53,7 +53,7 @@ bindable-of spell name-value h =
     (bindable-fresh {n = name-value % nameBase} (omega arith)))
     (λ f. absurd (rw (e, nameOf, f) at h)))
 
-row-inside : (cells : List ℕ) (row : ℕ) → WholeRows cells → column cells row 0 ≡ 33 → row < length cells / columns
+row-inside : (cells : List ℕ) (row : ℕ) → WholeRows cells → column cells row 0 ≡ 0x21 → row < length cells / columns
 row-inside cells row w e = by (decLt (row * columns + 0) (length cells))
   where
     by : Dec (row * columns + 0 < length cells) → row < length cells / columns
@@ -156,7 +156,7 @@ module _ {spell : ℕ → List ℕ} {around : List Binder} {place : ℕ} where
 
 -- no code of a variable, a function, an application, a record or a selection
 abbrev OtherCode : ℕ → Type 0
-OtherCode code = ((((Unit {0} × (code ≡ 32 → ⊥)) × (code ≡ 33 → ⊥)) × (code ≡ 34 → ⊥)) × (code ≡ 35 → ⊥)) × (code ≡ 36 → ⊥)
+OtherCode code = ((((Unit {0} × (code ≡ 0x20 → ⊥)) × (code ≡ 0x21 → ⊥)) × (code ≡ 0x22 → ⊥)) × (code ≡ 0x23 → ⊥)) × (code ≡ 0x24 → ⊥)
 
 walked-as : {spell : ℕ → List ℕ} {around : List Binder} {place held : ℕ} {t t′ : Term Name} {current current′ room room₁ room₂ : List ℕ}
     → t ≡ t′ → room₁ ≡ room₂ → Walked spell around place t′ held current current′ room room₂ → Walked spell around place t held current current′ room room₁
@@ -194,7 +194,7 @@ module _ (cells : List ℕ) (depth row place : ℕ) where
 
   module _ (some : depth ≡ 0 → ⊥) {code : ℕ} (at : code ≡ column cells row 0) where
     -- a variable's mark is stored, and the outside names that it holds are known
-    pub variable-resolves : code ≡ 32 → {name-value mark held : ℕ} {current′ room₀ room₁ : List ℕ} (current room : List ℕ) → name-value ≡ column cells row 1
+    pub variable-resolves : code ≡ 0x20 → {name-value mark held : ℕ} {current′ room₀ room₁ : List ℕ} (current room : List ℕ) → name-value ≡ column cells row 1
         → current′ ≡ current → room₀ ≡ set room place 0 → MarksVariable cells current name-value mark
         → ((spell : ℕ → List ℕ) → Distinct spell → VariableName spell (nameOf spell name-value)
         → HoldsOutsides spell held (λ s. isOutside s (nameOf spell name-value)))
@@ -215,7 +215,7 @@ module _ (cells : List ℕ) (depth row place : ℕ) where
         (λ n. walked-as refl er (number-walked n current room)) (before-rcd .0 .0 .1) (before-rcd .0 .1) (before-rcd .1) c d
 
     -- a function's body is walked with its binder in its slot; then the slot is restored, and the binder marked by the name of the slot's row
-    pub function-resolves : code ≡ 33 → {outer held stored : ℕ} {current current₂ current₃ room room₁ room₂ : List ℕ}
+    pub function-resolves : code ≡ 0x21 → {outer held stored : ℕ} {current current₂ current₃ room room₁ room₂ : List ℕ}
         → outer ≡ getD current (slotAt cells row) 0
         → ResolvesTerm cells (depth - 1) (column cells row 2) (place + 1) (set current (slotAt cells row) (place + 1)) current₂ room room₁ held
         → current₃ ≡ set current₂ (slotAt cells row) outer → MarksBinder (column cells (slotAt cells row) 1) held stored
@@ -238,7 +238,7 @@ module _ (cells : List ℕ) (depth row place : ℕ) where
         (cc (w .kept, eo, restored current (slotAt cells row) (place + 1))))
 
     -- an application's two terms are walked, one after the other
-    pub apply-resolves : code ≡ 34 → {next-place next-place′ place′ held₁ held₂ held : ℕ} {current current₁ current₂ room room₀ room₁ room₂ : List ℕ}
+    pub apply-resolves : code ≡ 0x22 → {next-place next-place′ place′ held₁ held₂ held : ℕ} {current current₁ current₂ room room₀ room₁ room₂ : List ℕ}
         → next-place ≡ column cells row 1 → next-place′ ≡ column cells row 2
         → room₀ ≡ set room place 0 → ResolvesTerm cells (depth - 1) next-place (place + 1) current current₁ room₀ room₁ held₁
         → place′ ≡ place + 1 + size (termAt (depth - 1) noSpell cells next-place)
@@ -254,7 +254,7 @@ module _ (cells : List ℕ) (depth row place : ℕ) where
         walked-as t refl (apply-walked (from-room e₀ w) w′ (cc (size-spell (depth - 1) noSpell spell cells next-place)) eh)
 
     -- a record's fields are walked
-    pub rcd-resolves : code ≡ 35 → {part held : ℕ} {current current₁ room room₀ room₁ : List ℕ} → part ≡ column cells row 1
+    pub rcd-resolves : code ≡ 0x23 → {part held : ℕ} {current current₁ room room₀ room₁ : List ℕ} → part ≡ column cells row 1
         → room₀ ≡ set room place 0 → ResolvesFields cells (depth - 1) part (place + 1) current current₁ room₀ room₁ held
         → ResolvesTerm cells depth row place current current₁ room room₁ held
     unfolding WellNamed
@@ -263,7 +263,7 @@ module _ (cells : List ℕ) (depth row place : ℕ) where
         walked-as t refl (rcd-walked (from-room-fields e₀ (first spell around apart wh (subst (WellNamed spell) t kn) len env)))
 
     -- the term of a selection is walked
-    pub dot-resolves : code ≡ 36 → {part held : ℕ} {current current₁ room room₀ room₁ : List ℕ} → part ≡ column cells row 1
+    pub dot-resolves : code ≡ 0x24 → {part held : ℕ} {current current₁ room room₀ room₁ : List ℕ} → part ≡ column cells row 1
         → room₀ ≡ set room place 0 → ResolvesTerm cells (depth - 1) part (place + 1) current current₁ room₀ room₁ held
         → ResolvesTerm cells depth row place current current₁ room room₁ held
     unfolding WellNamed
@@ -273,7 +273,7 @@ module _ (cells : List ℕ) (depth row place : ℕ) where
         walked-as t refl (dot-walked (spell (column cells row 2)) (from-room e₀ (first spell around apart wh (subst (WellNamed spell) t kn) len env)))
 
     -- a field's term, then the fields behind it, are walked
-    pub cons-resolves : code ≡ 38 → {next-place next-place′ place′ held₁ held₂ held : ℕ} {current current₁ current₂ room room₀ room₁ room₂ : List ℕ}
+    pub cons-resolves : code ≡ 0x26 → {next-place next-place′ place′ held₁ held₂ held : ℕ} {current current₁ current₂ room room₀ room₁ room₂ : List ℕ}
         → next-place ≡ column cells row 2 → next-place′ ≡ column cells row 3
         → room₀ ≡ set room place 0 → ResolvesTerm cells (depth - 1) next-place (place + 1) current current₁ room₀ room₁ held₁
         → place′ ≡ place + 1 + size (termAt (depth - 1) noSpell cells next-place)
@@ -291,7 +291,7 @@ module _ (cells : List ℕ) (depth row place : ℕ) where
         (cons-walked (spell (column cells row 1)) (from-room e₀ w) w′ (cc (size-spell (depth - 1) noSpell spell cells next-place)) eh)
 
     -- an empty field list has the mark 0
-    pub nil-resolves : (code ≡ 38 → ⊥) → {room₁ : List ℕ} (current room : List ℕ) → room₁ ≡ set room place 0
+    pub nil-resolves : (code ≡ 0x26 → ⊥) → {room₁ : List ℕ} (current room : List ℕ) → room₁ ≡ set room place 0
         → ResolvesFields cells depth row place current current room room₁ 0
     nil-resolves e current room er spell around apart wh kn len env =
         walked-fields-as (rows.nil-row spell cells depth row some at e) er (nil-walked current room)
@@ -317,23 +317,23 @@ module _ (cells : List ℕ) (depth row place : ℕ) where
 
   module _ (some : depth ≡ 0 → ⊥) {code : ℕ} (at : code ≡ column cells row 0) where
     -- a variable takes one place
-    pub variable-place : code ≡ 32 → place + 1 ≡ place + size (T cells depth row)
+    pub variable-place : code ≡ 0x20 → place + 1 ≡ place + size (T cells depth row)
     unfolding size
     variable-place e = rw (rows.var-row noSpell cells depth row some at e) refl
 
     -- an application takes one place and those of both terms
-    pub apply-place : code ≡ 34 → {part part′ : ℕ} → part ≡ column cells row 1 → part′ ≡ column cells row 2
+    pub apply-place : code ≡ 0x22 → {part part′ : ℕ} → part ≡ column cells row 1 → part′ ≡ column cells row 2
         → place + 1 + size (T cells (depth - 1) part) + size (T cells (depth - 1) part′) ≡ place + size (T cells depth row)
     unfolding size
     apply-place e eq eq′ = rw (eq, eq′, rows.app-row noSpell cells depth row some at e) (omega arith)
 
     -- a record takes one place and its fields'
-    pub rcd-place : code ≡ 35 → {part : ℕ} → part ≡ column cells row 1 → place + 1 + sizeFields (F cells (depth - 1) part) ≡ place + size (T cells depth row)
+    pub rcd-place : code ≡ 0x23 → {part : ℕ} → part ≡ column cells row 1 → place + 1 + sizeFields (F cells (depth - 1) part) ≡ place + size (T cells depth row)
     unfolding size
     rcd-place e eq = rw (eq, rows.rcd-row noSpell cells depth row some at e) (omega arith)
 
     -- a selection takes one place and its term's
-    pub dot-place : code ≡ 36 → {part : ℕ} → part ≡ column cells row 1 → place + 1 + size (T cells (depth - 1) part) ≡ place + size (T cells depth row)
+    pub dot-place : code ≡ 0x24 → {part : ℕ} → part ≡ column cells row 1 → place + 1 + size (T cells (depth - 1) part) ≡ place + size (T cells depth row)
     unfolding size
     dot-place e eq = rw (eq, rows.dot-row noSpell cells depth row some at e) (omega arith)
 
@@ -347,13 +347,13 @@ module _ (cells : List ℕ) (depth row place : ℕ) where
         (before-rcd .1) c d
 
     -- a field takes one place, its term's and those of the fields behind it
-    pub cons-place : code ≡ 38 → {part part′ : ℕ} → part ≡ column cells row 2 → part′ ≡ column cells row 3
+    pub cons-place : code ≡ 0x26 → {part part′ : ℕ} → part ≡ column cells row 2 → part′ ≡ column cells row 3
         → place + 1 + size (T cells (depth - 1) part) + sizeFields (F cells (depth - 1) part′) ≡ place + sizeFields (F cells depth row)
     unfolding sizeFields
     cons-place e eq eq′ = rw (eq, eq′, rows.cons-row noSpell cells depth row some at e) (omega arith)
 
     -- an empty field list takes one place
-    pub nil-place : (code ≡ 38 → ⊥) → place + 1 ≡ place + sizeFields (F cells depth row)
+    pub nil-place : (code ≡ 0x26 → ⊥) → place + 1 ≡ place + sizeFields (F cells depth row)
     unfolding sizeFields
     nil-place e = rw (rows.nil-row noSpell cells depth row some at e) refl
 

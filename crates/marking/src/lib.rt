@@ -89,7 +89,7 @@ fn resolve_functions(
     trail: &mut &mut [u16],
     marks: &mut &mut [u16],
 ) -> u64
-    requires { ⌜ ((0 < bound) × (column (now (now cells)) row 0 ≡ 33)) × Walkable (now (now cells)) (now (now links)) bound (sizeAt (now (now cells)) bound row)
+    requires { ⌜ ((0 < bound) × (column (now (now cells)) row 0 ≡ 0x21)) × Walkable (now (now cells)) (now (now links)) bound (sizeAt (now (now cells)) bound row)
         (now place) (now (now marks)) (now (now trail)) ⌝ }
     ensures { λ r. ⌜
         WalksTerm (now (now (cells .entry))) bound row (now (place .entry)) (now (place .exit)) (now (now (current .entry)))

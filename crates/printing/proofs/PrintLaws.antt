@@ -222,7 +222,7 @@ module _ {pool cells numbers : List ℕ} {depth row closing closing′ at number
 
     module _ (some : depth ≡ 0 → ⊥) {code : ℕ} (equal : code ≡ column cells row 0) where
       -- behind that of a function: its body
-      pub opened-fun : {part-row : ℕ} → code ≡ 33 → part-row ≡ column cells row 2
+      pub opened-fun : {part-row : ℕ} → code ≡ 0x21 → part-row ≡ column cells row 2
           → Printing pool cells numbers (termPart depth row closing) at number-place out (part (termPart (depth - 1) part-row closing′) ∷ []) end
           (number-place + 1) out′
       unfolding partText termOpening labelled piecesText piecesSize size
@@ -232,7 +232,7 @@ module _ {pool cells numbers : List ℕ} {depth row closing closing′ at number
           (rw (eq, rows.fun-row noSpell cells depth row some equal e) (omega arith))
 
       -- behind that of an application: its two terms, with a space between
-      pub opened-app : {part-row part-row′ : ℕ} → code ≡ 34 → part-row ≡ column cells row 1 → part-row′ ≡ column cells row 2
+      pub opened-app : {part-row part-row′ : ℕ} → code ≡ 0x22 → part-row ≡ column cells row 1 → part-row′ ≡ column cells row 2
           → Printing pool cells numbers (termPart depth row closing) at number-place out
           (part (termPart (depth - 1) part-row 0) ∷ text space ∷ part (termPart (depth - 1) part-row′ closing′) ∷ []) end (number-place + 1) out′
       unfolding partText termOpening labelled piecesText piecesSize size
@@ -250,7 +250,7 @@ module _ {pool cells numbers : List ℕ} {depth row closing closing′ at number
           (rw (eq, eq′, rows.app-row noSpell cells depth row some equal e) (omega arith))
 
       -- behind that of a record: its fields
-      pub opened-rcd : {part-row : ℕ} → code ≡ 35 → part-row ≡ column cells row 1
+      pub opened-rcd : {part-row : ℕ} → code ≡ 0x23 → part-row ≡ column cells row 1
           → Printing pool cells numbers (termPart depth row closing) at number-place out
           (part (fieldsPart (depth - 1) part-row) ∷ text (closes closing′) ∷ []) end (number-place + 1) out′
       unfolding partText termOpening labelled piecesText piecesSize size
@@ -259,7 +259,7 @@ module _ {pool cells numbers : List ℕ} {depth row closing closing′ at number
           (rw (eq, rows.rcd-row noSpell cells depth row some equal e) (omega arith))
 
       -- behind that of a selection: its term, a space and its label
-      pub opened-dot : {part-row label-row : ℕ} → code ≡ 36 → part-row ≡ column cells row 1 → label-row ≡ column cells row 2
+      pub opened-dot : {part-row label-row : ℕ} → code ≡ 0x24 → part-row ≡ column cells row 1 → label-row ≡ column cells row 2
           → Printing pool cells numbers (termPart depth row closing) at number-place out
           (part (termPart (depth - 1) part-row 0) ∷ text space ∷ text (spellIn pool label-row) ∷ text (closes closing′) ∷ []) end (number-place + 1) out′
       unfolding partText termOpening labelled piecesText piecesSize size
@@ -269,14 +269,14 @@ module _ {pool cells numbers : List ℕ} {depth row closing closing′ at number
           (rw (eq, rows.dot-row noSpell cells depth row some equal e) (omega arith))
 
       -- the first part of an application or a selection fits
-      pub first-fits : {part-row : ℕ} → (code ≡ 34) ⊎ (code ≡ 36) → part-row ≡ column cells row 1
+      pub first-fits : {part-row : ℕ} → (code ≡ 0x22) ⊎ (code ≡ 0x24) → part-row ≡ column cells row 1
           → PartFits pool cells numbers (termPart depth row closing) at number-place
           → PartFits pool cells numbers (termPart (depth - 1) part-row 0) end (number-place + 1)
       first-fits (inl e) eq fits = next-fits (opened-app e eq refl) fits
       first-fits (inr e) eq fits = next-fits (opened-dot e eq refl) fits
 
       -- and so does the space behind it
-      pub first-room : {part-row end′ number-place′ : ℕ} {out″ : List ℕ} → (code ≡ 34) ⊎ (code ≡ 36) → part-row ≡ column cells row 1
+      pub first-room : {part-row end′ number-place′ : ℕ} {out″ : List ℕ} → (code ≡ 0x22) ⊎ (code ≡ 0x24) → part-row ≡ column cells row 1
           → PartFits pool cells numbers (termPart depth row closing) at number-place
           → PartPrinted pool cells numbers (termPart (depth - 1) part-row 0) end (number-place + 1) out′ end′ number-place′ out″
           → end′ + 1 < 2 ^ 62
@@ -284,13 +284,13 @@ module _ {pool cells numbers : List ℕ} {depth row closing closing′ at number
       first-room (inr e) eq fits printed = next-room (next-part (opened-dot e eq refl) printed) fits
 
       -- behind that of a variable or a number: the parentheses
-      pub opened-bare : (((Unit {0} × (code ≡ 33 → ⊥)) × ((code ≡ 34) ⊎ (code ≡ 36) → ⊥)) × (code ≡ 35 → ⊥))
+      pub opened-bare : (((Unit {0} × (code ≡ 0x21 → ⊥)) × ((code ≡ 0x22) ⊎ (code ≡ 0x24) → ⊥)) × (code ≡ 0x23 → ⊥))
           → Printing pool cells numbers (termPart depth row closing) at number-place out (text (closes closing′) ∷ []) end (number-place + 1) out′
       unfolding partText termOpening labelled piecesText piecesSize size
       opened-bare others =
           let fun = others .0 .0 .1 in
-          let app : code ≡ 34 → ⊥ = λ e. others .0 .1 (inl e) in
-          let dot : code ≡ 36 → ⊥ = λ e. others .0 .1 (inr e) in
+          let app : code ≡ 0x22 → ⊥ = λ e. others .0 .1 (inl e) in
+          let dot : code ≡ 0x24 → ⊥ = λ e. others .0 .1 (inr e) in
           opened (text (closes closing′) ∷ [])
           (rw (up, add-one closing) (rows.bare-row (spellIn pool) cells depth row some equal
           (λ t. print (labelled numbers number-place t) ++ closes closing ≡ opening (labelled numbers number-place t) ++ ((0x29 ∷ closes closing) ++ []))
@@ -313,7 +313,7 @@ module _ {pool cells numbers : List ℕ} {depth row at number-place : ℕ} {out 
 
     module _ (some : depth ≡ 0 → ⊥) {code : ℕ} (equal : code ≡ column cells row 0) where
       -- behind that of a field: its term, a space and the fields behind it
-      pub opened-cons : {part-row part-row′ : ℕ} → code ≡ 38 → part-row ≡ column cells row 2 → part-row′ ≡ column cells row 3
+      pub opened-cons : {part-row part-row′ : ℕ} → code ≡ 0x26 → part-row ≡ column cells row 2 → part-row′ ≡ column cells row 3
           → Printing pool cells numbers (fieldsPart depth row) at number-place out
           (part (termPart (depth - 1) part-row 0) ∷ text space ∷ part (fieldsPart (depth - 1) part-row′) ∷ text close ∷ []) end (number-place + 1) out′
       unfolding partText fieldsOpening labelledFields openingFields piecesText piecesSize sizeFields
@@ -330,7 +330,7 @@ module _ {pool cells numbers : List ℕ} {depth row at number-place : ℕ} {out 
           (rw (eq, eq′, rows.cons-row noSpell cells depth row some equal e) (omega arith))
 
       -- behind that of the empty field list: the parenthesis
-      pub opened-nil : (code ≡ 38 → ⊥) → Printing pool cells numbers (fieldsPart depth row) at number-place out (text close ∷ []) end (number-place + 1) out′
+      pub opened-nil : (code ≡ 0x26 → ⊥) → Printing pool cells numbers (fieldsPart depth row) at number-place out (text close ∷ []) end (number-place + 1) out′
       unfolding partText fieldsOpening labelledFields openingFields piecesText piecesSize sizeFields
       opened-nil e =
           opened-fields (text close ∷ []) (rw (rows.nil-row (spellIn pool) cells depth row some equal e) print-nil)

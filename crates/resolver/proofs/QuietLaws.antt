@@ -120,31 +120,31 @@ module _ (spell : ℕ → List ℕ) (cells : List ℕ) (quiet : Quiet cells) whe
         let z : suc depth - 1 ≡ depth = omega arith in
         let code : ℕ = column cells row 0 in
         let some : suc depth ≡ 0 → ⊥ = λ e. omega (arith, e) in
-        by-test (eqb code 32)
+        by-test (eqb code 0x20)
         (λ e.
-        let is = eqb-true code 32 e in
+        let is = eqb-true code 0x20 e in
         rw (rows.var-row spell cells (suc depth) row some refl is) (spelled-name (column cells row 1) (quiet row .no-fresh is)))
-        (λ v. by-test (eqb code 34)
-        (λ e. rw (rows.app-row spell cells (suc depth) row some refl (eqb-true code 34 e), z)
+        (λ v. by-test (eqb code 0x22)
+        (λ e. rw (rows.app-row spell cells (suc depth) row some refl (eqb-true code 0x22 e), z)
         (still-at depth (column cells row 1), still-at depth (column cells row 2)))
-        (λ a. by-test (eqb code 35)
-        (λ e. rw (rows.rcd-row spell cells (suc depth) row some refl (eqb-true code 35 e), z) (still-fields-at depth (column cells row 1)))
-        (λ r. by-test (eqb code 36)
-        (λ e. rw (rows.dot-row spell cells (suc depth) row some refl (eqb-true code 36 e), z) (still-at depth (column cells row 1)))
+        (λ a. by-test (eqb code 0x23)
+        (λ e. rw (rows.rcd-row spell cells (suc depth) row some refl (eqb-true code 0x23 e), z) (still-fields-at depth (column cells row 1)))
+        (λ r. by-test (eqb code 0x24)
+        (λ e. rw (rows.dot-row spell cells (suc depth) row some refl (eqb-true code 0x24 e), z) (still-at depth (column cells row 1)))
         (λ d.
-        rows.number-row spell cells (suc depth) row some refl Still (λ n. tt) (eqb-false code 32 v) (quiet row .no-binder) (eqb-false code 34 a)
-        (eqb-false code 35 r) (eqb-false code 36 d)))))
+        rows.number-row spell cells (suc depth) row some refl Still (λ n. tt) (eqb-false code 0x20 v) (quiet row .no-binder) (eqb-false code 0x22 a)
+        (eqb-false code 0x23 r) (eqb-false code 0x24 d)))))
 
     still-fields-at : (depth row : ℕ) → StillFields (fieldListAt depth spell cells row)
     still-fields-at zero row = tt
     still-fields-at (suc depth) row =
         let z : suc depth - 1 ≡ depth = omega arith in
         let some : suc depth ≡ 0 → ⊥ = λ e. omega (arith, e) in
-        by-test (eqb (column cells row 0) 38)
+        by-test (eqb (column cells row 0) 0x26)
         (λ e.
-        rw (rows.cons-row spell cells (suc depth) row some refl (eqb-true (column cells row 0) 38 e), z)
+        rw (rows.cons-row spell cells (suc depth) row some refl (eqb-true (column cells row 0) 0x26 e), z)
         (still-at depth (column cells row 2), still-fields-at depth (column cells row 3)))
-        (λ e. rw (rows.nil-row spell cells (suc depth) row some refl (eqb-false (column cells row 0) 38 e)) tt)
+        (λ e. rw (rows.nil-row spell cells (suc depth) row some refl (eqb-false (column cells row 0) 0x26 e)) tt)
 
 -- Zeros are the numbers of such a term.
 pub quiet-resolves : {cells room : List ℕ} {made root : ℕ} → Resolvable cells made root room → Quiet cells → Resolves cells made root room Numbered

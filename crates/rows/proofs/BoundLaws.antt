@@ -29,7 +29,7 @@ no-fields-bound = record { below = λ depth h. omega arith; small = omega arith 
 module _ {cells bounds : List ℕ} {row : ℕ} (b : Bounded cells bounds row) {part code bound : ℕ} (at : code ≡ column cells part 0)
     (earlier : part < row) (is : bound ≡ getD bounds part 0) where
   -- a term at an earlier row has that row's bound
-  pub term-bounded : (code ≡ 38 → ⊥) → TermBound cells row part bound
+  pub term-bounded : (code ≡ 0x26 → ⊥) → TermBound cells row part bound
   term-bounded d =
       let here = b .each part earlier in
       record {
@@ -38,7 +38,7 @@ module _ {cells bounds : List ℕ} {row : ℕ} (b : Bounded cells bounds row) {p
       }
 
   -- and so has a field list
-  pub fields-bounded : code ≡ 38 → FieldsBound cells row part bound
+  pub fields-bounded : code ≡ 0x26 → FieldsBound cells row part bound
   fields-bounded d =
       let here = b .each part earlier in
       record {
@@ -59,26 +59,26 @@ some-bound {cells} {row} =
 
 module _ {cells : List ℕ} {row code bound : ℕ} (at : code ≡ column cells row 0) where
   -- a bound of a row that is a term
-  of-term : (code ≡ 38 → ⊥) → bound ≤ mostBound → ((depth : ℕ) → row < depth → bound ≤ sizeAt cells depth row) → RowBound cells row bound
+  of-term : (code ≡ 0x26 → ⊥) → bound ≤ mostBound → ((depth : ℕ) → row < depth → bound ≤ sizeAt cells depth row) → RowBound cells row bound
   of-term d small h = record { term = λ depth l e. h depth l; fields = λ depth l e. absurd (d (at ∙ e)); small = small }
 
   module _ {first : ℕ} (within : (bound ≤ first + 0 + 1) × (bound ≤ mostBound)) where
     -- a function counts one and its body
-    pub fun-bound : code ≡ 33 → {part : ℕ} → part ≡ column cells row 2 → TermBound cells row part first → RowBound cells row bound
+    pub fun-bound : code ≡ 0x21 → {part : ℕ} → part ≡ column cells row 2 → TermBound cells row part first → RowBound cells row bound
     unfolding size
     fun-bound e eq t =
         of-term (λ d. omega arith) (within .1)
         (λ depth l. rw (rows.fun-row noSpell cells depth row (λ z. omega arith) at e, ← eq) (omega (arith, within .0, t .below (depth - 1) (omega arith))))
 
     -- a record counts one and its fields
-    pub rcd-bound : code ≡ 35 → {part : ℕ} → part ≡ column cells row 1 → FieldsBound cells row part first → RowBound cells row bound
+    pub rcd-bound : code ≡ 0x23 → {part : ℕ} → part ≡ column cells row 1 → FieldsBound cells row part first → RowBound cells row bound
     unfolding size
     rcd-bound e eq t =
         of-term (λ d. omega arith) (within .1)
         (λ depth l. rw (rows.rcd-row noSpell cells depth row (λ z. omega arith) at e, ← eq) (omega (arith, within .0, t .below (depth - 1) (omega arith))))
 
     -- a selection counts one and its term
-    pub dot-bound : code ≡ 36 → {part : ℕ} → part ≡ column cells row 1 → TermBound cells row part first → RowBound cells row bound
+    pub dot-bound : code ≡ 0x24 → {part : ℕ} → part ≡ column cells row 1 → TermBound cells row part first → RowBound cells row bound
     unfolding size
     dot-bound e eq t =
         of-term (λ d. omega arith) (within .1)
@@ -86,7 +86,7 @@ module _ {cells : List ℕ} {row code bound : ℕ} (at : code ≡ column cells r
 
   module _ {first second : ℕ} (within : (bound ≤ first + second + 1) × (bound ≤ mostBound)) where
     -- an application counts one and its two terms
-    pub app-bound : code ≡ 34 → {part other : ℕ} → part ≡ column cells row 1 → other ≡ column cells row 2
+    pub app-bound : code ≡ 0x22 → {part other : ℕ} → part ≡ column cells row 1 → other ≡ column cells row 2
         → TermBound cells row part first → TermBound cells row other second → RowBound cells row bound
     unfolding size
     app-bound e eq eo t u =
@@ -96,7 +96,7 @@ module _ {cells : List ℕ} {row code bound : ℕ} (at : code ≡ column cells r
         (omega (arith, within .0, t .below (depth - 1) (omega arith), u .below (depth - 1) (omega arith))))
 
     -- a field counts one, its term and the other fields
-    pub cons-bound : code ≡ 38 → {part other : ℕ} → part ≡ column cells row 2 → other ≡ column cells row 3
+    pub cons-bound : code ≡ 0x26 → {part other : ℕ} → part ≡ column cells row 2 → other ≡ column cells row 3
         → TermBound cells row part first → FieldsBound cells row other second → RowBound cells row bound
     unfolding sizeFields
     cons-bound e eq eo t u =

@@ -46,7 +46,7 @@ module _ (code : ℕ) where
   high-code h = rw (le-ltb code 0x20 h, constructorOf) refl
 
   -- a code that is none of the four whose terms have parts
-  bare-code : (code ≡ 33 → ⊥) → (code ≡ 34 → ⊥) → (code ≡ 35 → ⊥) → (code ≡ 36 → ⊥) → Bare (constructorOf code)
+  bare-code : (code ≡ 0x21 → ⊥) → (code ≡ 0x22 → ⊥) → (code ≡ 0x23 → ⊥) → (code ≡ 0x24 → ⊥) → Bare (constructorOf code)
   bare-code a b c d = by (decLt code 0x20)
     where
       by : Dec (code < 0x20) → Bare (constructorOf code)
@@ -90,7 +90,7 @@ var-nth (suc (suc (suc (suc (suc (suc zero)))))) h = refl
 var-nth (suc (suc (suc (suc (suc (suc (suc zero))))))) h = refl
 var-nth (suc (suc (suc (suc (suc (suc (suc (suc place)))))))) h = refl
 
-no-var : (code : ℕ) → (code ≡ 32 → ⊥) → isVar (constructorOf code) ≡ false
+no-var : (code : ℕ) → (code ≡ 0x20 → ⊥) → isVar (constructorOf code) ≡ false
 unfolding isVar
 no-var code h = by (decLt code 0x20)
   where
@@ -122,7 +122,7 @@ not-below code h = omega arith
 above : (code place : ℕ) → 0x20 ≤ code → code - 0x20 ≡ place → code ≡ 0x20 + place
 above code place l e = omega arith
 
-num-code : (code : ℕ) → (code ≡ 32 → ⊥) → (code ≡ 33 → ⊥) → (code ≡ 34 → ⊥) → (code ≡ 35 → ⊥) → (code ≡ 36 → ⊥) → (code ≡ 37 → ⊥) → (code ≡ 38 → ⊥)
+num-code : (code : ℕ) → (code ≡ 0x20 → ⊥) → (code ≡ 0x21 → ⊥) → (code ≡ 0x22 → ⊥) → (code ≡ 0x23 → ⊥) → (code ≡ 0x24 → ⊥) → (code ≡ 0x25 → ⊥) → (code ≡ 0x26 → ⊥)
     → constructorOf code ≡ numRow
 num-code code a b c d e f g = by (decLt code 0x20)
   where
@@ -146,7 +146,7 @@ no-cons-nth (suc (suc (suc (suc (suc (suc zero)))))) h = absurd (h refl)
 no-cons-nth (suc (suc (suc (suc (suc (suc (suc zero))))))) h = refl
 no-cons-nth (suc (suc (suc (suc (suc (suc (suc (suc place)))))))) h = refl
 
-no-cons : (code : ℕ) → (code ≡ 38 → ⊥) → isCons (constructorOf code) ≡ false
+no-cons : (code : ℕ) → (code ≡ 0x26 → ⊥) → isCons (constructorOf code) ≡ false
 no-cons code h = by (decLt code 0x20)
   where
     by : Dec (code < 0x20) → isCons (constructorOf code) ≡ false
@@ -175,45 +175,45 @@ module _ (spell : ℕ → List ℕ) (cells : List ℕ) (depth row : ℕ) where
         cc deeper
 
     -- a function's row has its name and its body
-    pub fun-row : code ≡ 33 → termAt depth spell cells row ≡ function (nameOf spell (column cells row 1)) (Below (column cells row 2))
+    pub fun-row : code ≡ 0x21 → termAt depth spell cells row ≡ function (nameOf spell (column cells row 1)) (Below (column cells row 2))
     unfolding constructorOf termBy
     fun-row e = by-code {constructed = funRow} (rw e refl)
 
     -- an application's row has its two terms
-    pub app-row : code ≡ 34 → termAt depth spell cells row ≡ apply (Below (column cells row 1)) (Below (column cells row 2))
+    pub app-row : code ≡ 0x22 → termAt depth spell cells row ≡ apply (Below (column cells row 1)) (Below (column cells row 2))
     unfolding constructorOf termBy
     app-row e = by-code {constructed = appRow} (rw e refl)
 
     -- a record's row has its fields
-    pub rcd-row : code ≡ 35 → termAt depth spell cells row ≡ rcd (BelowFields (column cells row 1))
+    pub rcd-row : code ≡ 0x23 → termAt depth spell cells row ≡ rcd (BelowFields (column cells row 1))
     unfolding constructorOf termBy
     rcd-row e = by-code {constructed = rcdRow} (rw e refl)
 
     -- a selection's row has its term and its label
-    pub dot-row : code ≡ 36 → termAt depth spell cells row ≡ dot (Below (column cells row 1)) (spell (column cells row 2))
+    pub dot-row : code ≡ 0x24 → termAt depth spell cells row ≡ dot (Below (column cells row 1)) (spell (column cells row 2))
     unfolding constructorOf termBy
     dot-row e = by-code {constructed = dotRow} (rw e refl)
 
     -- a variable's row has its name
-    pub var-row : code ≡ 32 → termAt depth spell cells row ≡ variable (nameOf spell (column cells row 1))
+    pub var-row : code ≡ 0x20 → termAt depth spell cells row ≡ variable (nameOf spell (column cells row 1))
     unfolding constructorOf termBy
     var-row e = by-code {constructed = varRow} (rw e refl)
 
     -- a row of fields, read as a term, is the number 0
-    pub zero-row : (code ≡ 37) ⊎ (code ≡ 38) → termAt depth spell cells row ≡ number 0
+    pub zero-row : (code ≡ 0x25) ⊎ (code ≡ 0x26) → termAt depth spell cells row ≡ number 0
     unfolding constructorOf termBy
     zero-row (inl e) = by-code {constructed = nilRow} (rw e refl)
     zero-row (inr e) = by-code {constructed = consRow} (rw e refl)
 
     -- any other code is read as that of a number
-    pub num-row : (code ≡ 32 → ⊥) → (code ≡ 33 → ⊥) → (code ≡ 34 → ⊥) → (code ≡ 35 → ⊥) → (code ≡ 36 → ⊥) → (code ≡ 37 → ⊥) → (code ≡ 38 → ⊥)
+    pub num-row : (code ≡ 0x20 → ⊥) → (code ≡ 0x21 → ⊥) → (code ≡ 0x22 → ⊥) → (code ≡ 0x23 → ⊥) → (code ≡ 0x24 → ⊥) → (code ≡ 0x25 → ⊥) → (code ≡ 0x26 → ⊥)
         → termAt depth spell cells row ≡ number (column cells row 1)
     unfolding termBy
     num-row v a b c d e f = by-code {constructed = numRow} (num-code code v a b c d e f)
 
     -- a fact of the numbers holds of a row of any other code
     pub number-row : (P : Term Name → Type 0) → ((place : ℕ) → P (number place))
-        → (code ≡ 32 → ⊥) → (code ≡ 33 → ⊥) → (code ≡ 34 → ⊥) → (code ≡ 35 → ⊥) → (code ≡ 36 → ⊥) → P (termAt depth spell cells row)
+        → (code ≡ 0x20 → ⊥) → (code ≡ 0x21 → ⊥) → (code ≡ 0x22 → ⊥) → (code ≡ 0x23 → ⊥) → (code ≡ 0x24 → ⊥) → P (termAt depth spell cells row)
     unfolding termBy
     number-row P n v a b c d = by (constructorOf code) refl (numeral-of (bare-code code a b c d) (no-var-is (constructorOf code) (no-var code v)))
       where
@@ -224,7 +224,7 @@ module _ (spell : ℕ → List ℕ) (cells : List ℕ) (depth row : ℕ) where
 
     -- a fact of the variables and numbers holds of any other row
     pub bare-row : (P : Term Name → Type 0) → ((name : Name) → P (variable name)) → ((place : ℕ) → P (number place))
-        → (code ≡ 33 → ⊥) → (code ≡ 34 → ⊥) → (code ≡ 35 → ⊥) → (code ≡ 36 → ⊥) → P (termAt depth spell cells row)
+        → (code ≡ 0x21 → ⊥) → (code ≡ 0x22 → ⊥) → (code ≡ 0x23 → ⊥) → (code ≡ 0x24 → ⊥) → P (termAt depth spell cells row)
     unfolding termBy
     bare-row P v n a b c d = by (constructorOf code) refl (bare-code code a b c d)
       where
@@ -240,13 +240,13 @@ module _ (spell : ℕ → List ℕ) (cells : List ℕ) (depth row : ℕ) where
         cc deeper
 
     -- a row of fields has a label, its term and the other fields
-    pub cons-row : code ≡ 38 → fieldListAt depth spell cells row ≡ cons (spell (column cells row 1)) (Below (column cells row 2))
+    pub cons-row : code ≡ 0x26 → fieldListAt depth spell cells row ≡ cons (spell (column cells row 1)) (Below (column cells row 2))
         (BelowFields (column cells row 3))
     unfolding constructorOf fieldsBy
     cons-row e = fields-by true (rw e refl)
 
     -- any other row, read as fields, has none
-    pub nil-row : (code ≡ 38 → ⊥) → fieldListAt depth spell cells row ≡ nil
+    pub nil-row : (code ≡ 0x26 → ⊥) → fieldListAt depth spell cells row ≡ nil
     unfolding fieldsBy
     nil-row e = fields-by false (no-cons code e)
 

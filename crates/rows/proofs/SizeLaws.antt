@@ -31,39 +31,39 @@ shallow-fields cells depth row left e = rw e refl
 
 module _ (cells : List ℕ) (depth row left : ℕ) (some : depth ≡ 0 → ⊥) {code : ℕ} (at : code ≡ column cells row 0) where
   -- a function counts one, and its body
-  pub fun-left : code ≡ 33 → {part rest : ℕ} → part ≡ column cells row 2 → Left cells (depth - 1) part (left - 1) rest → Left cells depth row left rest
+  pub fun-left : code ≡ 0x21 → {part rest : ℕ} → part ≡ column cells row 2 → Left cells (depth - 1) part (left - 1) rest → Left cells depth row left rest
   unfolding size
   fun-left e eq h = rw (rows.fun-row noSpell cells depth row some at e, ← eq) (omega arith)
 
   -- an application counts one, and its two terms
-  pub app-left : code ≡ 34 → {part part′ rest rest′ : ℕ} → part ≡ column cells row 1 → part′ ≡ column cells row 2
+  pub app-left : code ≡ 0x22 → {part part′ rest rest′ : ℕ} → part ≡ column cells row 1 → part′ ≡ column cells row 2
       → Left cells (depth - 1) part (left - 1) rest → Left cells (depth - 1) part′ rest rest′ → Left cells depth row left rest′
   unfolding size
   app-left e eq eq′ h h′ = rw (rows.app-row noSpell cells depth row some at e, ← eq, ← eq′) (omega arith)
 
   -- a record counts one, and its fields
-  pub rcd-left : code ≡ 35 → {part rest : ℕ} → part ≡ column cells row 1 → LeftFields cells (depth - 1) part (left - 1) rest → Left cells depth row left rest
+  pub rcd-left : code ≡ 0x23 → {part rest : ℕ} → part ≡ column cells row 1 → LeftFields cells (depth - 1) part (left - 1) rest → Left cells depth row left rest
   unfolding size
   rcd-left e eq h = rw (rows.rcd-row noSpell cells depth row some at e, ← eq) (omega arith)
 
   -- a selection counts one, and its term
-  pub dot-left : code ≡ 36 → {part rest : ℕ} → part ≡ column cells row 1 → Left cells (depth - 1) part (left - 1) rest → Left cells depth row left rest
+  pub dot-left : code ≡ 0x24 → {part rest : ℕ} → part ≡ column cells row 1 → Left cells (depth - 1) part (left - 1) rest → Left cells depth row left rest
   unfolding size
   dot-left e eq h = rw (rows.dot-row noSpell cells depth row some at e, ← eq) (omega arith)
 
   -- any other term counts one
-  pub bare-left : (code ≡ 33 → ⊥) → (code ≡ 34 → ⊥) → (code ≡ 35 → ⊥) → (code ≡ 36 → ⊥) → Left cells depth row left (left - 1)
+  pub bare-left : (code ≡ 0x21 → ⊥) → (code ≡ 0x22 → ⊥) → (code ≡ 0x23 → ⊥) → (code ≡ 0x24 → ⊥) → Left cells depth row left (left - 1)
   unfolding size
   bare-left a b c d = rows.bare-row noSpell cells depth row some at (λ t. left - 1 ≡ left - size t) (λ v. refl) (λ n. refl) a b c d
 
   -- a field counts one, its term, and the other fields
-  pub cons-left : code ≡ 38 → {part part′ rest rest′ : ℕ} → part ≡ column cells row 2 → part′ ≡ column cells row 3
+  pub cons-left : code ≡ 0x26 → {part part′ rest rest′ : ℕ} → part ≡ column cells row 2 → part′ ≡ column cells row 3
       → Left cells (depth - 1) part (left - 1) rest → LeftFields cells (depth - 1) part′ rest rest′ → LeftFields cells depth row left rest′
   unfolding sizeFields
   cons-left e eq eq′ h h′ = rw (rows.cons-row noSpell cells depth row some at e, ← eq, ← eq′) (omega arith)
 
   -- no fields count one
-  pub nil-left : (code ≡ 38 → ⊥) → LeftFields cells depth row left (left - 1)
+  pub nil-left : (code ≡ 0x26 → ⊥) → LeftFields cells depth row left (left - 1)
   unfolding sizeFields
   nil-left e = rw (rows.nil-row noSpell cells depth row some at e) refl
 

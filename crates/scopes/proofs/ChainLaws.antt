@@ -51,7 +51,7 @@ noted-kept deep slot outer {trail} e =
 pub slot-small : {cells links : List ℕ} (name : ℕ) → RowsLinked cells links → slotOf cells name ≤ mostCells
 slot-small {cells} name linked = slot-le cells name (length cells / columns) 0 (omega (arith, linked .linked .few))
 
-function-size : (cells : List ℕ) (depth row : ℕ) {below : ℕ} → 0 < depth → column cells row 0 ≡ 33 → below ≡ column cells row 2
+function-size : (cells : List ℕ) (depth row : ℕ) {below : ℕ} → 0 < depth → column cells row 0 ≡ 0x21 → below ≡ column cells row 2
     → 1 + sizeAt cells (depth - 1) below ≡ sizeAt cells depth row
 unfolding size
 function-size cells depth row l e next = rw (next, fun-row noSpell cells depth row (λ z. omega arith) refl e) (omega arith)
@@ -96,7 +96,7 @@ module _ {cells : List ℕ} {bound row place : ℕ} {current : List ℕ} where
         let some = size-some (termAt (bound - count) noSpell cells below) in
         (e .linked, (omega (arith, some, entered .sized, e .few), omega (arith, e .inside, entered .trailed .long)))
 
-    module _ {current₂ trail₂ : List ℕ} {below′ : ℕ} (left : count < bound) (coded : column cells below 0 ≡ 33) (one : EntersOne cells below
+    module _ {current₂ trail₂ : List ℕ} {below′ : ℕ} (left : count < bound) (coded : column cells below 0 ≡ 0x21) (one : EntersOne cells below
         (bound - count - 1) (place + count) current₁ current₂ trail₁ trail₂) (inside : 2 * (bound - count - 1) + 1 < length trail₁) (next : below′ ≡ column
         cells below 2) where
       noted : TrailKept (bound - count - 1 + 1) trail₁ trail₂
@@ -152,7 +152,7 @@ module _ {cells : List ℕ} {bound row place : ℕ} {current : List ℕ} where
           }
 
     -- Where the first row has a function, some are entered.
-    pub enters-some : (count < bound → column cells below 0 ≡ 33 → ⊥) → 0 < bound → column cells row 0 ≡ 33 → 0 < count
+    pub enters-some : (count < bound → column cells below 0 ≡ 0x21 → ⊥) → 0 < bound → column cells row 0 ≡ 0x21 → 0 < count
     unfolding rowIn
     enters-some stops l coded =
         by-test (eqb count 0)

@@ -11,6 +11,7 @@ use Rattle.spellings.specs.Bytes.{same, isWord}
 use Rattle.spellings.proofs.BytesLaws.{by-test, same-true, same-false}
 use Rattle.kinds.specs.Kinds.{hasKind, only}
 use Rattle.kinds.proofs.KindsLaws.{has-none, has-only}
+use Rattle.grammar.specs.Limits.{most}
 use Rattle.terms.specs.Cells.{nameBase}
 use Rattle.terms.specs.Term.{Name, word, fresh, outside, Term, Fields, variable, function, apply, rcd, dot, number, nil, cons}
 use Rattle.terms.specs.Rows.{nameOf}
@@ -42,11 +43,11 @@ module _ (spell : ℕ → List ℕ) (value : ℕ) where
   pub held-outside : (value / nameBase ≡ 1 → ⊥) → (value / nameBase ≡ 2 → ⊥) → {held : ℕ} → held ≡ only (value % nameBase) → Distinct spell
       → HoldsOutsides spell held (λ s. isOutside s (nameOf spell value))
   held-outside a b er apart n l w =
-      cc (has-only (value % nameBase) n, lt-ltb n 64 l, same-number apart n (value % nameBase) w, as-outside spell value a b)
+      cc (has-only (value % nameBase) n, lt-ltb n (most .outsides) l, same-number apart n (value % nameBase) w, as-outside spell value a b)
 
--- ------------------------------------------------------------------ names from 64 on are no outside names
+-- ------------------------------------------------------------------ names behind the outside names
 
-module _ (spell : ℕ → List ℕ) (apart : Distinct spell) (named : ℕ) (far : 64 ≤ named) (equal : isWord (spell named) ≡ true) where
+module _ (spell : ℕ → List ℕ) (apart : Distinct spell) (named : ℕ) (far : most .outsides ≤ named) (equal : isWord (spell named) ≡ true) where
   far-name : (name : Name) → VariableName spell name → isOutside (spell named) name ≡ false
   far-name (word s) k = refl
   far-name (fresh m) k = refl
@@ -79,13 +80,13 @@ module _ (spell : ℕ → List ℕ) (t : Term Name) (value held : ℕ) (apart : 
   marked test e = ap binderMark (sym e)
 
   -- a formula binder spelled as an outside name is renamed exactly if its body holds that name
-  pub near-mark : value / nameBase ≡ 1 → value % nameBase < 64 → (test : Bool) → test ≡ hasKind held (value % nameBase)
+  pub near-mark : value / nameBase ≡ 1 → value % nameBase < most .outsides → (test : Bool) → test ≡ hasKind held (value % nameBase)
       → binderMark test ≡ binderMark (isRenamed (nameOf spell value) t)
   unfolding isRenamed
   near-mark e l test eb = marked test (cc (as-word spell value e, holds-outsides (value % nameBase) l (word-is e)))
 
   -- a formula binder spelled as no outside name is not renamed
-  pub far-mark : value / nameBase ≡ 1 → 64 ≤ value % nameBase → binderMark false ≡ binderMark (isRenamed (nameOf spell value) t)
+  pub far-mark : value / nameBase ≡ 1 → most .outsides ≤ value % nameBase → binderMark false ≡ binderMark (isRenamed (nameOf spell value) t)
   unfolding isRenamed
   far-mark e l = marked false (cc (as-word spell value e, far-holds spell apart (value % nameBase) l (word-is e) t known))
 

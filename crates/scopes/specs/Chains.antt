@@ -47,7 +47,7 @@ currentIn cells row place current (suc n) = set (currentIn cells row place curre
 -- the function behind n others of a chain is on the trail
 pub record FunctionAt (cells : List ℕ) (bound row place : ℕ) (current trail : List ℕ) (n : ℕ) : Type 0 where
   pub some : n < bound
-  pub coded : column cells (rowIn cells row n) 0 ≡ 33
+  pub coded : column cells (rowIn cells row n) 0 ≡ 0x21
   pub slot : getD trail (2 * (bound - n - 1)) 0 ≡ slotAt cells (rowIn cells row n)
   pub outer : getD trail (2 * (bound - n - 1) + 1) 0 ≡ getD (currentIn cells row place current n) (slotAt cells (rowIn cells row n)) 0
 

@@ -7,6 +7,7 @@ use mathlib.Core.List.{List}
 use lib.ListN.{getD}
 use Rattle.spellings.specs.Bytes.{isWord}
 use Rattle.kinds.specs.Kinds.{hasKind}
+use Rattle.grammar.specs.Limits.{most}
 use Rattle.terms.specs.Cells.{nameBase}
 use Rattle.terms.specs.Term.{Name, word, fresh, outside, Term}
 use Rattle.terms.specs.Rows.{nameOf}
@@ -53,7 +54,7 @@ Around spell cells around current =
 
 -- the set of the outside names that a term, or a field list, holds
 abbrev pub HoldsOutsides : (ℕ → List ℕ) → ℕ → (List ℕ → Bool) → Type 0
-HoldsOutsides spell held held-by = (n : ℕ) → n < 64 → isWord (spell n) ≡ true → hasKind held n ≡ held-by (spell n)
+HoldsOutsides spell held held-by = (n : ℕ) → n < most .outsides → isWord (spell n) ≡ true → hasKind held n ≡ held-by (spell n)
 
 -- m is the mark of a variable whose name is x, under any binders around that `current` has
 abbrev pub MarksVariable : List ℕ → List ℕ → ℕ → ℕ → Type 0

@@ -95,40 +95,40 @@ module _ {pool cells numbers : List ℕ} {depth row at place code : ℕ} (out : 
 
     module _ (some : depth ≡ 0 → ⊥) where
       -- a variable: its constructor, then its name
-      pub open-var : code ≡ 32 → {value number : ℕ} → value ≡ column cells row 1 → number ≡ getD numbers place 0
+      pub open-var : code ≡ 0x20 → {value number : ℕ} → value ≡ column cells row 1 → number ≡ getD numbers place 0
           → Opening (VAR ∷ nameShown number (nameOf (spellIn pool) value) ∷ [])
       unfolding bytes termOpening labelled opening
       open-var e ex en = go-start out (rw (ex, en, rows.var-row (spellIn pool) cells depth row some (opening-fits .read) e) refl)
 
       -- a function: its constructor, its binder's name and a space
-      pub open-fun : code ≡ 33 → {value number : ℕ} → value ≡ column cells row 1 → number ≡ getD numbers place 0
+      pub open-fun : code ≡ 0x21 → {value number : ℕ} → value ≡ column cells row 1 → number ≡ getD numbers place 0
           → Opening (FUN ∷ nameShown number (nameOf (spellIn pool) value) ∷ space ∷ [])
       unfolding bytes termOpening labelled opening
       open-fun e ex en = go-start out (rw (ex, en, rows.fun-row (spellIn pool) cells depth row some (opening-fits .read) e) refl)
 
       -- an application: its constructor
-      pub open-app : code ≡ 34 → Opening (APP ∷ [])
+      pub open-app : code ≡ 0x22 → Opening (APP ∷ [])
       unfolding bytes termOpening labelled opening
       open-app e = go-start out (rw (rows.app-row (spellIn pool) cells depth row some (opening-fits .read) e) refl)
 
       -- a record: its constructor
-      pub open-rcd : code ≡ 35 → Opening (RCD ∷ [])
+      pub open-rcd : code ≡ 0x23 → Opening (RCD ∷ [])
       unfolding bytes termOpening labelled opening
       open-rcd e = go-start out (rw (rows.rcd-row (spellIn pool) cells depth row some (opening-fits .read) e) refl)
 
       -- a selection: its constructor
-      pub open-dot : code ≡ 36 → Opening (DOT ∷ [])
+      pub open-dot : code ≡ 0x24 → Opening (DOT ∷ [])
       unfolding bytes termOpening labelled opening
       open-dot e = go-start out (rw (rows.dot-row (spellIn pool) cells depth row some (opening-fits .read) e) refl)
 
       -- a row of a field list, read as a term, begins as the number 0
-      pub open-zero : (code ≡ 37) ⊎ (code ≡ 38) → Opening (numberOpening 0 ∷ [])
+      pub open-zero : (code ≡ 0x25) ⊎ (code ≡ 0x26) → Opening (numberOpening 0 ∷ [])
       unfolding termOpening labelled opening numberOpening
       open-zero e = go-start out (rw (rows.zero-row (spellIn pool) cells depth row some (opening-fits .read) e) refl)
 
       -- any other row: a number
-      pub open-num : ((((((Unit {0} × (code ≡ 32 → ⊥)) × (code ≡ 33 → ⊥)) × (code ≡ 34 → ⊥)) × (code ≡ 35 → ⊥)) × (code ≡ 36 → ⊥)) × (code ≡ 37 → ⊥))
-          × (code ≡ 38 → ⊥) → {value : ℕ} → value ≡ column cells row 1 → Opening (numberOpening value ∷ [])
+      pub open-num : ((((((Unit {0} × (code ≡ 0x20 → ⊥)) × (code ≡ 0x21 → ⊥)) × (code ≡ 0x22 → ⊥)) × (code ≡ 0x23 → ⊥)) × (code ≡ 0x24 → ⊥)) × (code ≡ 0x25 → ⊥))
+          × (code ≡ 0x26 → ⊥) → {value : ℕ} → value ≡ column cells row 1 → Opening (numberOpening value ∷ [])
       unfolding termOpening labelled opening numberOpening
       open-num others ex =
           let (before-cons, not-cons) = others in
@@ -153,11 +153,11 @@ module _ {pool cells : List ℕ} {depth row at : ℕ} (out : List ℕ) (fields-o
 
   module _ (some : depth ≡ 0 → ⊥) {code : ℕ} (equal : code ≡ column cells row 0) where
     -- a field: its constructor, its label and a space
-    pub open-cons : code ≡ 38 → {value : ℕ} → value ≡ column cells row 1 → OpeningFields (CONS ∷ spellIn pool value ∷ space ∷ [])
+    pub open-cons : code ≡ 0x26 → {value : ℕ} → value ≡ column cells row 1 → OpeningFields (CONS ∷ spellIn pool value ∷ space ∷ [])
     unfolding bytes fieldsOpening openingFields
     open-cons e ex = go-start out (rw (ex, rows.cons-row (spellIn pool) cells depth row some equal e) refl)
 
     -- any other row: the empty field list
-    pub open-nil : (code ≡ 38 → ⊥) → OpeningFields (NIL ∷ [])
+    pub open-nil : (code ≡ 0x26 → ⊥) → OpeningFields (NIL ∷ [])
     unfolding bytes fieldsOpening openingFields
     open-nil e = go-start out (rw (rows.nil-row (spellIn pool) cells depth row some equal e) refl)
