@@ -5,11 +5,11 @@ use mathlib.Core.List.{List}
 use native.Mathlib.Omega.{arith}
 use lib.ListN.{length, length-set}
 use Rattle.rows.specs.Sizes.{sizeAt}
-use Rattle.scopes.specs.Chains.{TrailKept, rowIn, currentIn, FunctionAt, Chained, Enterable, Enters, LeavesOne, Leaves, leaves-none, leaves-more}
+use Rattle.scopes.specs.Chains.{rowIn, currentIn, FunctionAt, Chained, Enterable, Enters, LeavesOne, Leaves, leaves-none, leaves-more}
 use Rattle.scopes.proofs.ChainLaws.{trail-within, trail-then, chained-kept}
 use Rattle.marking.specs.Resolving.{ResolvesTerm}
 use Rattle.marking.specs.Walks.{Walkable, WalksTerm}
-use Rattle.marking.proofs.ResolveLaws.{function-resolves}
+use Rattle.marking.proofs.ResolveLaws.{part-fits, function-resolves}
 
 -- ------------------------------------------------------------------ the loop back
 
@@ -25,7 +25,7 @@ unfolding rowIn currentIn
 leave-last {cells} {place} {bound = bound} {row} {n} f one body =
     let deep : bound - suc n ≡ bound - n - 1 = omega arith in
     let behind : place + suc n ≡ place + n + 1 = omega arith in
-    function-resolves cells (bound - n) (rowIn cells row n) (place + n) (λ e. omega (arith, f .some)) refl (f .coded) (f .outer)
+    function-resolves cells (bound - n) (rowIn cells row n) (place + n) (omega (arith, f .some)) (f .coded) (f .outer)
     (rw (deep, behind) at body) (cc (one .restored, f .slot)) (rw (f .slot) at (one .marks)) (one .stored)
 
 module _ {cells : List ℕ} {bound row place held : ℕ} {trail before blank : List ℕ} where
@@ -47,25 +47,28 @@ pub enterable : {cells links room trail : List ℕ} {bound row place : ℕ} → 
     → Enterable cells links bound row place trail
 enterable w = record { linked = w .linked; inside = w .trailed; few = omega (arith, w .inside, w .few) }
 
-module _ {cells : List ℕ} {bound row place count below : ℕ} {current current₁ trail trail₁ trail₂ : List ℕ} (entered : Enters cells bound row place
-    current current₁ trail trail₁ count below) (walk : TrailKept (bound - count) trail₁ trail₂) where
+module _ {cells : List ℕ} {bound row place count below : ℕ} {current current₁ trail trail₁ : List ℕ} (entered : Enters cells bound row place
+    current current₁ trail trail₁ count below) where
+  -- There is room for what is behind the functions.
+  pub chain-fits : {links room : List ℕ} → Walkable cells links bound (sizeAt cells bound row) place room trail
+      → Walkable cells links (bound - count) (sizeAt cells (bound - count) below) (place + count) room trail₁
+  chain-fits w = part-fits w refl (entered .trailed .long) (omega arith) (omega (arith, entered .sized))
+
   -- Functions entered, what is behind them walked, and the functions left, the chain is walked.
-  pub chain-walks : {place′ held : ℕ} {current₂ current₃ room room₁ room₂ : List ℕ}
-      → WalksTerm cells (bound - count) below (place + count) place′ current₁ current₂ room room₁ held
-      → Leaves cells bound place held trail₂ count current₂ current₃ room₁ room₂
-      → WalksTerm cells bound row place place′ current current₃ room room₂ held
+  pub chain-walks : {place′ held : ℕ} {current₂ current₃ room room₁ room₂ trail₂ trail₃ : List ℕ}
+      → WalksTerm cells (bound - count) below (place + count) place′ current₁ current₂ room room₁ held trail₁ trail₂
+      → Leaves cells bound place held trail₂ count current₂ current₃ room₁ room₂ × (trail₃ ≡ trail₂)
+      → WalksTerm cells bound row place place′ current current₃ room room₂ held trail trail₃
   unfolding rowIn currentIn
-  chain-walks w leaves =
+  chain-walks walk left =
       let deep : bound - 0 ≡ bound = omega arith in
       let here : place + 0 ≡ place = omega arith in
       record {
         resolves =
             rw (deep, here) at
-            (leave-all leaves (chained-kept (entered .bounded) (entered .chained) walk) (rw (entered .below-is, entered .current-is) at (w .resolves)));
-        moved = omega (arith, w .moved, entered .sized);
-        long = leaves-long leaves ∙ w .long;
+            (leave-all (left .0) (chained-kept (entered .bounded) (entered .chained) (walk .trailed))
+            (rw (entered .below-is, entered .current-is) at (walk .resolves)));
+        moved = omega (arith, walk .moved, entered .sized);
+        long = leaves-long (left .0) ∙ walk .long;
+        trailed = rw (left .1) (trail-then (entered .trailed) (trail-within (walk .trailed) (omega arith)));
       }
-
-  -- The trail of the functions around the chain is as it was.
-  pub chain-kept : {trail₃ : List ℕ} → trail₃ ≡ trail₂ → TrailKept bound trail trail₃
-  chain-kept e = rw e (trail-then (entered .trailed) (trail-within walk (omega arith)))

@@ -16,7 +16,6 @@ ghost use lib.ListN.{length, set};
 ghost use Rattle.terms.specs.Cells.{column, columns};
 ghost use Rattle.terms.specs.Term.{largestTerm};
 ghost use Rattle.rows.specs.Sizes.{sizeAt, sizeFieldsAt};
-ghost use Rattle.scopes.specs.Chains.{TrailKept};
 ghost use Rattle.marking.specs.Walks.{Walkable, WalksTerm, WalksFields};
 
 fn put(room: &mut &mut [u16], at: usize, v: u16)
@@ -45,7 +44,7 @@ pub fn resolve_term(
     ensures { λ r. ⌜
         WalksTerm (now (now (cells .entry))) bound row (now (place .entry)) (now (place .exit)) (now (now (current .entry)))
         (now (now (current .exit))) (now (now (marks .entry))) (now (now (marks .exit))) r
-        × TrailKept bound (now (now (trail .entry))) (now (now (trail .exit)))
+        (now (now (trail .entry))) (now (now (trail .exit)))
         ⌝ }
 {
     let here = *place;
@@ -94,7 +93,7 @@ fn resolve_functions(
     ensures { λ r. ⌜
         WalksTerm (now (now (cells .entry))) bound row (now (place .entry)) (now (place .exit)) (now (now (current .entry)))
         (now (now (current .exit))) (now (now (marks .entry))) (now (now (marks .exit))) r
-        × TrailKept bound (now (now (trail .entry))) (now (now (trail .exit)))
+        (now (now (trail .entry))) (now (now (trail .exit)))
         ⌝ }
 {
     let here = *place;
@@ -133,7 +132,7 @@ fn resolve_part(
     ensures { λ r. ⌜
         WalksTerm (now (now (cells .entry))) bound (column (now (now (cells .entry))) row i) (now (place .entry)) (now (place .exit))
         (now (now (current .entry))) (now (now (current .exit))) (now (now (marks .entry))) (now (now (marks .exit))) r
-        × TrailKept bound (now (now (trail .entry))) (now (now (trail .exit)))
+        (now (now (trail .entry))) (now (now (trail .exit)))
         ⌝ }
 {
     let part = column(*cells, row, i);
@@ -158,7 +157,7 @@ fn resolve_fields(
     ensures { λ r. ⌜
         WalksFields (now (now (cells .entry))) bound row (now (place .entry)) (now (place .exit)) (now (now (current .entry)))
         (now (now (current .exit))) (now (now (marks .entry))) (now (now (marks .exit))) r
-        × TrailKept bound (now (now (trail .entry))) (now (now (trail .exit)))
+        (now (now (trail .entry))) (now (now (trail .exit)))
         ⌝ }
 {
     let here = *place;

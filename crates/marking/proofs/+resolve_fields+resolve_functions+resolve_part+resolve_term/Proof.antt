@@ -1,7 +1,7 @@
 -- `resolve_term`, `resolve_part`, `resolve_functions` and `resolve_fields`: the code of a row decides; a chain of functions is entered, what is
 -- behind it walked, and the chain left.
 use Prim.Native.Nat.{ℕ, _+_, _-_, _*_, _<_}
-use mathlib.Core.Path.{refl, sym, _∙_}
+use mathlib.Core.Path.{sym, _∙_}
 use native.Mathlib.Omega.{arith}
 use borrow.Author.Needs.{needs}
 use borrow.Fn.Kinds.{In}
@@ -157,15 +157,7 @@ fields-put-requires : (measure : ℕ) → fields-lts.Need-put-requires (fields-c
 fields-put-requires measure c κs = laws.fields-fit _ _ _ (c .before .before .pre .1)
 
 fields-returns : (measure : ℕ) → fields-lts.Need-returns (fields-claims measure) (fields-at measure) resolve-fields.Post
-fields-returns measure c =
-    let put-place = c .before in (
-      record {
-        resolves = laws.shallow-resolves-fields _ _ _ _ (c .if1 .taken) _ _ (put-place .put .ensures .0);
-        moved = laws.shallow-fields-place _ _ _ _ (c .if1 .taken);
-        long = put-place .put .ensures .1;
-      },
-      scopes.trail-same _ _,
-    )
+fields-returns measure c = laws.shallow-walks-fields (c .before .put .ensures) (c .if1 .taken)
 
 fields-sub-deep : (measure : ℕ) → fields-lts.Need-sub-deep (fields-claims measure) (fields-at measure) resolve-fields.Post
 fields-sub-deep measure c = omega (arith, c .if1 .left)
@@ -174,66 +166,41 @@ fields-resolve-part-requires : (measure : ℕ) → fields-lts.Need-resolve-part-
 fields-resolve-part-requires measure c κs =
     let then2 = then2 c in
     let p = then2 .before in
-    let a = fields-entry measure p .args in
-    let w = laws.walkable-in (fields-entry measure p .pre .1) (fields-put measure p .put .ensures .1) refl in
-    let place = laws.cons-place (a .cells .now .now) (a .bound) (a .row) (a .place .now) (fields-test measure p .if1 .left) (p .column .ensures)
-    (then2 .if2 .taken) refl refl in
-    (omega (arith, fields-entry measure p .pre .0, fields-test measure p .if1 .left), (omega arith, laws.walkable-part w (omega arith) (omega (arith, place))))
+    let entry = fields-entry measure p in
+    let some = fields-test measure p .if1 .left in (
+      omega (arith, entry .pre .0, some),
+      (
+        omega arith,
+        laws.cons-fits (entry .args .row) (fields-put measure p .put .ensures) some (p .column .ensures) (entry .pre .1) (then2 .if2 .taken),
+      ),
+    )
 
 fields-resolve-fields-requires : (measure : ℕ) → fields-lts.Need-resolve-fields-requires (fields-claims measure) (fields-at measure) resolve-fields.Post
 fields-resolve-fields-requires measure c κs =
-    let column2-place = c .before .before .before .before in
-    let resolve-part-place = column2-place .before .before in
-    let s0 = resolve-part-place .before in
-    let then2 = then2 s0 in
+    let next = c .before .before .before .before in
+    let first = next .before .before in
+    let then2 = then2 (first .before) in
     let p = then2 .before in
-    let a = fields-entry measure p .args in
-    let first = resolve-part-place .resolve-part .ensures in
-    let w = laws.walkable-in (fields-entry measure p .pre .1) (first .0 .long ∙ fields-put measure p .put .ensures .1) (first .1 .long) in
-    let place = laws.cons-place (a .cells .now .now) (a .bound) (a .row) (a .place .now)
-    (fields-test measure p .if1 .left) (p .column .ensures) (then2 .if2 .taken) refl (column2-place .column2 .ensures) in
-    let deeper = fields-test measure p .if1 .left in
-    (omega (arith, fields-entry measure p .pre .0, deeper), laws.walkable-part w (omega arith) (omega (arith, place, first .0 .moved)))
+    let entry = fields-entry measure p in
+    let some = fields-test measure p .if1 .left in (
+      omega (arith, entry .pre .0, some),
+      laws.cons-fits-next (entry .args .row) (fields-put measure p .put .ensures) some (p .column .ensures) (entry .pre .1) (then2 .if2 .taken)
+          (next .column2 .ensures) (first .resolve-part .ensures),
+    )
 
 fields-returns-2 : (measure : ℕ) → fields-lts.Need-returns-2 (fields-claims measure) (fields-at measure) resolve-fields.Post
 fields-returns-2 measure c =
     let next = c .before .before .before .before .before .before in
-    let s0 = next .before in
-    let resolve-part-place = s0 .before in
-    let is = then2 (resolve-part-place .before) in
-    let p = is .before in
-    let first = resolve-part-place .resolve-part .ensures in
-    let second = c .before .resolve-fields .ensures in
-    let a = fields-entry measure p .args in (
-      record {
-        resolves =
-            laws.cons-resolves _ _ _ _ (fields-test measure p .if1 .left) (p .column .ensures) (is .if2 .taken) refl (next .column2 .ensures)
-            (fields-put measure p .put .ensures .0)
-            (first .0 .resolves) (first .0 .moved) (second .0 .resolves) (c .join .ensures);
-        moved =
-            omega (
-              arith,
-              first .0 .moved,
-              second .0 .moved,
-              laws.cons-place (a .cells .now .now) (a .bound) (a .row) (a .place .now) (fields-test measure p .if1 .left) (p .column .ensures)
-                  (is .if2 .taken) refl
-                  (next .column2 .ensures),
-            );
-        long = second .0 .long ∙ first .0 .long ∙ fields-put measure p .put .ensures .1;
-      },
-      scopes.trail-then (scopes.trail-within (first .1) (omega arith)) (scopes.trail-within (second .1) (omega arith)),
-    )
+    let first = next .before .before in
+    let then2 = then2 (first .before) in
+    let p = then2 .before in
+    laws.cons-walks (fields-put measure p .put .ensures) (fields-test measure p .if1 .left) (p .column .ensures) (then2 .if2 .taken) (next .column2 .ensures)
+    (first .resolve-part .ensures) (c .before .resolve-fields .ensures) (c .join .ensures)
 
 fields-returns-3 : (measure : ℕ) → fields-lts.Need-returns-3 (fields-claims measure) (fields-at measure) resolve-fields.Post
 fields-returns-3 measure c =
-    let p = c .before in (
-      record {
-        resolves = laws.nil-resolves _ _ _ _ (fields-test measure p .if1 .left) (p .column .ensures) (c .if2 .left) _ _ (fields-put measure p .put .ensures .0);
-        moved = laws.nil-place _ _ _ _ (fields-test measure p .if1 .left) (p .column .ensures) (c .if2 .left);
-        long = fields-put measure p .put .ensures .1;
-      },
-      scopes.trail-same _ _,
-    )
+    let p = c .before in
+    laws.nil-walks (fields-put measure p .put .ensures) (fields-test measure p .if1 .left) (p .column .ensures) (c .if2 .left)
 
 functions-enter-functions-requires :
     (measure : ℕ) → functions-lts.Need-enter-functions-requires (functions-claims measure) (functions-at measure) resolve-functions.Post
@@ -252,10 +219,9 @@ functions-resolve-term-requires measure c κs =
     let p = c .before .before .before .before in
     let entry = chain-entry measure p in
     let entered = p .enter-functions .ensures in
-    let some = scopes.enters-some (entered .0) (entered .1) (entry .pre .1 .0 .0) (entry .pre .1 .0 .1) in
-    let w = laws.walkable-in (entry .pre .1 .1) refl (entered .0 .trailed .long) in (
+    let some = scopes.enters-some (entered .0) (entered .1) (entry .pre .1 .0 .0) (entry .pre .1 .0 .1) in (
       omega (arith, entry .pre .0, entry .pre .1 .0 .0, some, entered .0 .bounded),
-      laws.walkable-part w (omega arith) (omega (arith, entered .0 .sized)),
+      chains.chain-fits (entered .0) (entry .pre .1 .1),
     )
 
 functions-leave-functions-requires :
@@ -266,16 +232,13 @@ functions-leave-functions-requires measure c κs =
     let w = chain-entry measure p .pre .1 .1 in
     let entered = p .enter-functions .ensures .0 in
     let walk = body .resolve-term .ensures in
-    (omega (arith, w .inside, entered .sized, walk .0 .long), (entered .bounded, omega (arith, w .trailed, entered .trailed .long, walk .1 .long)))
+    (omega (arith, w .inside, entered .sized, walk .long), (entered .bounded, omega (arith, w .trailed, entered .trailed .long, walk .trailed .long)))
 
 functions-returns : (measure : ℕ) → functions-lts.Need-returns (functions-claims measure) (functions-at measure) resolve-functions.Post
 functions-returns measure c =
     let body = c .before .before .before .before .before in
     let p = body .before .before .before .before .before in
-    let entered = p .enter-functions .ensures .0 in
-    let walk = body .resolve-term .ensures in
-    let left = c .leave-functions .ensures in
-    (chains.chain-walks entered (walk .1) (walk .0) (left .0), chains.chain-kept entered (walk .1) (left .1))
+    chains.chain-walks (p .enter-functions .ensures .0) (body .resolve-term .ensures) (c .leave-functions .ensures)
 
 part-column-requires : (measure : ℕ) → part-lts.Need-column-requires (part-claims measure) (part-at measure) resolve-part.Post
 part-column-requires measure c κs = c .before .pre .1 .0
@@ -284,12 +247,10 @@ part-resolve-term-requires : (measure : ℕ) → part-lts.Need-resolve-term-requ
 part-resolve-term-requires measure c κs =
     let column = c .before .before .before .before in
     let e = column .before .before in
-    (omega (arith, e .pre .0), laws.walkable-row _ (column .column .ensures) (e .pre .1 .1))
+    (omega (arith, e .pre .0), laws.row-fits _ (column .column .ensures) (e .pre .1 .1))
 
 part-returns : (measure : ℕ) → part-lts.Need-returns (part-claims measure) (part-at measure) resolve-part.Post
-part-returns measure c =
-    let walk = c .resolve-term .ensures in
-    (laws.walks-row (c .before .before .before .before .before .column .ensures) (walk .0), walk .1)
+part-returns measure c = laws.walks-row (c .before .before .before .before .before .column .ensures) (c .resolve-term .ensures)
 
 -- places, each from a later one
 abbrev after-column : {measure : ℕ} → term-lts.After-column2 (term-claims measure) (term-at measure) resolve-term.Post
@@ -307,15 +268,7 @@ term-put-requires : (measure : ℕ) → term-lts.Need-put-requires (term-claims 
 term-put-requires measure c κs = laws.term-fits _ _ _ (c .before .before .pre .1)
 
 term-returns : (measure : ℕ) → term-lts.Need-returns (term-claims measure) (term-at measure) resolve-term.Post
-term-returns measure c =
-    let put-place = c .before in (
-      record {
-        resolves = laws.shallow-resolves _ _ _ _ (c .if1 .taken) _ _ (put-place .put .ensures .0);
-        moved = laws.shallow-place _ _ _ _ (c .if1 .taken);
-        long = put-place .put .ensures .1;
-      },
-      scopes.trail-same _ _,
-    )
+term-returns measure c = laws.shallow-walks (c .before .put .ensures) (c .if1 .taken)
 
 term-sub-deep : (measure : ℕ) → term-lts.Need-sub-deep (term-claims measure) (term-at measure) resolve-term.Post
 term-sub-deep measure c = omega (arith, c .if1 .left)
@@ -338,152 +291,91 @@ term-resolve-functions-requires measure c κs =
       omega (arith, term-entry measure p .pre .0, some),
       (
         (omega (arith, some), sym ((after-column p) .column .ensures) ∙ m .match .keys2),
-        laws.walkable-in (term-entry measure p .pre .1) (term-put measure p .put .ensures .1) refl,
+        laws.room-fits (term-entry measure p .pre .1) (term-put measure p .put .ensures .1),
       ),
     )
 
 term-resolve-part-requires : (measure : ℕ) → term-lts.Need-resolve-part-requires (term-claims measure) (term-at measure) resolve-term.Post
 term-resolve-part-requires measure c κs =
-    let match-keys3-place = c .before .before .before .before in
-    let p = match-keys3-place .before in
-    let a = term-entry measure p .args in
-    let w = laws.walkable-in (term-entry measure p .pre .1) (term-put measure p .put .ensures .1) refl in
-    let place = laws.apply-place (a .cells .now .now) (a .bound) (a .row) (a .place .now)
-    (term-test measure p .if1 .left) ((after-column p) .column .ensures) (match-keys3-place .match .keys3) refl refl in
-    (omega (arith, term-entry measure p .pre .0, term-test measure p .if1 .left), (omega arith, laws.walkable-part w (omega arith) (omega (arith, place))))
+    let m = c .before .before .before .before in
+    let p = m .before in
+    let entry = term-entry measure p in
+    let some = term-test measure p .if1 .left in
+    let fits = laws.apply-fits (entry .args .row) (term-put measure p .put .ensures) some ((after-column p) .column .ensures)
+    (entry .pre .1) (m .match .keys3) in
+    (omega (arith, entry .pre .0, some), (omega arith, fits))
 
 term-resolve-part-requires-2 : (measure : ℕ) → term-lts.Need-resolve-part-requires-2 (term-claims measure) (term-at measure) resolve-term.Post
 term-resolve-part-requires-2 measure c κs =
-    let resolve-part-place = c .before .before .before .before in
-    let match-keys3-place = resolve-part-place .before .before .before .before .before in
-    let p = match-keys3-place .before in
-    let a = term-entry measure p .args in
-    let first = resolve-part-place .resolve-part .ensures in
-    let w = laws.walkable-in (term-entry measure p .pre .1) (first .0 .long ∙ term-put measure p .put .ensures .1) (first .1 .long) in
-    let place = laws.apply-place (a .cells .now .now) (a .bound) (a .row) (a .place .now)
-    (term-test measure p .if1 .left) ((after-column p) .column .ensures) (match-keys3-place .match .keys3) refl refl in (
-      omega (arith, term-entry measure p .pre .0, term-test measure p .if1 .left),
-      (omega arith, laws.walkable-part w (omega arith) (omega (arith, place, first .0 .moved))),
-    )
+    let first = c .before .before .before .before in
+    let m = first .before .before .before .before .before in
+    let p = m .before in
+    let entry = term-entry measure p in
+    let some = term-test measure p .if1 .left in
+    let fits = laws.apply-fits-next (entry .args .row) (term-put measure p .put .ensures) some ((after-column p) .column .ensures)
+    (entry .pre .1) (m .match .keys3) (first .resolve-part .ensures) in
+    (omega (arith, entry .pre .0, some), (omega arith, fits))
 
 term-resolve-fields-requires : (measure : ℕ) → term-lts.Need-resolve-fields-requires (term-claims measure) (term-at measure) resolve-term.Post
 term-resolve-fields-requires measure c κs =
-    let match-keys4-place = c .before .before .before .before in
-    let p = match-keys4-place .before in
-    let a = term-entry measure p .args in
-    let w = laws.walkable-in (term-entry measure p .pre .1) (term-put measure p .put .ensures .1) refl in
-    let place = laws.rcd-place (a .cells .now .now) (a .bound) (a .row) (a .place .now)
-    (term-test measure p .if1 .left) ((after-column p) .column .ensures) (match-keys4-place .match .keys4) (p .column2 .ensures) in
-    (omega (arith, term-entry measure p .pre .0, term-test measure p .if1 .left), laws.walkable-part w (omega arith) (omega (arith, place)))
+    let m = c .before .before .before .before in
+    let p = m .before in
+    let entry = term-entry measure p in
+    let some = term-test measure p .if1 .left in
+    let fits = laws.rcd-fits (entry .args .row) (term-put measure p .put .ensures) some ((after-column p) .column .ensures)
+    (entry .pre .1) (m .match .keys4) (p .column2 .ensures) in
+    (omega (arith, entry .pre .0, some), fits)
 
 term-resolve-part-requires-3 : (measure : ℕ) → term-lts.Need-resolve-part-requires-3 (term-claims measure) (term-at measure) resolve-term.Post
 term-resolve-part-requires-3 measure c κs =
-    let match-keys5-place = c .before .before .before .before in
-    let p = match-keys5-place .before in
-    let a = term-entry measure p .args in
-    let w = laws.walkable-in (term-entry measure p .pre .1) (term-put measure p .put .ensures .1) refl in
-    let place = laws.dot-place (a .cells .now .now) (a .bound) (a .row) (a .place .now)
-    (term-test measure p .if1 .left) ((after-column p) .column .ensures) (match-keys5-place .match .keys5) refl in
-    (omega (arith, term-entry measure p .pre .0, term-test measure p .if1 .left), (omega arith, laws.walkable-part w (omega arith) (omega (arith, place))))
+    let m = c .before .before .before .before in
+    let p = m .before in
+    let entry = term-entry measure p in
+    let some = term-test measure p .if1 .left in
+    let fits = laws.dot-fits (entry .args .row) (term-put measure p .put .ensures) some ((after-column p) .column .ensures)
+    (entry .pre .1) (m .match .keys5) in
+    (omega (arith, entry .pre .0, some), (omega arith, fits))
 
 term-returns-2 : (measure : ℕ) → term-lts.Need-returns-2 (term-claims measure) (term-at measure) resolve-term.Post
 term-returns-2 measure c =
-    let put2-place = c .before in
-    let variable-mark-place = put2-place .before .before in
-    let s0 = variable-mark-place .before .before .before in
-    let match-keys1-place = s0 .before in
-    let p = match-keys1-place .before in
-    let column-place = after-column p in (
-      record {
-        resolves =
-            laws.variable-resolves _ _ _ _ (term-test measure p .if1 .left) (column-place .column .ensures) (match-keys1-place .match .keys1) _ _
-            (p .column2 .ensures)
-            (variable-mark-place .variable-mark .ensures .1) (term-put measure p .put .ensures .0)
-            (variable-mark-place .variable-mark .ensures .0) (c .held-by .ensures)
-            (put2-place .put2 .ensures .0);
-        moved = laws.variable-place _ _ _ _ (term-test measure p .if1 .left) (column-place .column .ensures) (match-keys1-place .match .keys1);
-        long = put2-place .put2 .ensures .1 ∙ term-put measure p .put .ensures .1;
-      },
-      scopes.trail-same _ _,
-    )
+    let put2 = c .before in
+    let mark = put2 .before .before in
+    let m = mark .before .before .before .before in
+    let p = m .before in
+    laws.variable-walks (term-put measure p .put .ensures) (term-test measure p .if1 .left) ((after-column p) .column .ensures) (m .match .keys1)
+    (p .column2 .ensures) (mark .variable-mark .ensures) (c .held-by .ensures) (put2 .put2 .ensures)
 
 term-returns-3 : (measure : ℕ) → term-lts.Need-returns-3 (term-claims measure) (term-at measure) resolve-term.Post
 term-returns-3 measure c =
     let m = c .before .before .before .before .before in
-    let blank = term-put measure (m .before) .put .ensures in
-    let chain = c .resolve-functions .ensures in
-    (laws.blanked (blank .0) (blank .1) (chain .0), chain .1)
+    laws.blanked (c .resolve-functions .ensures) (term-put measure (m .before) .put .ensures)
 
 term-returns-4 : (measure : ℕ) → term-lts.Need-returns-4 (term-claims measure) (term-at measure) resolve-term.Post
 term-returns-4 measure c =
-    let resolve-part-place = c .before .before .before .before .before .before in
-    let m = resolve-part-place .before .before .before .before .before in
+    let first = c .before .before .before .before .before .before in
+    let m = first .before .before .before .before .before in
     let p = m .before in
-    let column-place = after-column p in
-    let first = resolve-part-place .resolve-part .ensures in
-    let second = c .before .resolve-part2 .ensures in
-    let a = term-entry measure p .args in (
-      record {
-        resolves =
-            laws.apply-resolves _ _ _ _ (term-test measure p .if1 .left) (column-place .column .ensures) (m .match .keys3) refl refl
-            (term-put measure p .put .ensures .0)
-            (first .0 .resolves) (first .0 .moved) (second .0 .resolves) (c .join .ensures);
-        moved =
-            omega (
-              arith,
-              first .0 .moved,
-              second .0 .moved,
-              laws.apply-place (a .cells .now .now) (a .bound) (a .row) (a .place .now) (term-test measure p .if1 .left)
-                  (column-place .column .ensures) (m .match .keys3) refl refl,
-            );
-        long = second .0 .long ∙ first .0 .long ∙ term-put measure p .put .ensures .1;
-      },
-      scopes.trail-then (scopes.trail-within (first .1) (omega arith)) (scopes.trail-within (second .1) (omega arith)),
-    )
+    laws.apply-walks (term-put measure p .put .ensures) (term-test measure p .if1 .left) ((after-column p) .column .ensures) (m .match .keys3)
+    (first .resolve-part .ensures) (c .before .resolve-part2 .ensures) (c .join .ensures)
 
 term-returns-5 : (measure : ℕ) → term-lts.Need-returns-5 (term-claims measure) (term-at measure) resolve-term.Post
 term-returns-5 measure c =
     let m = c .before .before .before .before .before in
     let p = m .before in
-    let column-place = after-column p in
-    let part = c .resolve-fields .ensures in (
-      record {
-        resolves = laws.rcd-resolves _ _ _ _ (term-test measure p .if1 .left) (column-place .column .ensures) (m .match .keys4)
-            (p .column2 .ensures) (term-put measure p .put .ensures .0) (part .0 .resolves);
-        moved =
-            part .0 .moved
-            ∙ laws.rcd-place _ _ _ _ (term-test measure p .if1 .left) (column-place .column .ensures) (m .match .keys4) (p .column2 .ensures);
-        long = part .0 .long ∙ term-put measure p .put .ensures .1;
-      },
-      scopes.trail-within (part .1) (omega arith),
-    )
+    laws.rcd-walks (term-put measure p .put .ensures) (term-test measure p .if1 .left) ((after-column p) .column .ensures) (m .match .keys4)
+    (p .column2 .ensures) (c .resolve-fields .ensures)
 
 term-returns-6 : (measure : ℕ) → term-lts.Need-returns-6 (term-claims measure) (term-at measure) resolve-term.Post
 term-returns-6 measure c =
     let m = c .before .before .before .before .before in
     let p = m .before in
-    let column-place = after-column p in
-    let part = c .resolve-part3 .ensures in (
-      record {
-        resolves = laws.dot-resolves _ _ _ _ (term-test measure p .if1 .left) (column-place .column .ensures) (m .match .keys5) refl
-            (term-put measure p .put .ensures .0) (part .0 .resolves);
-        moved = part .0 .moved ∙ laws.dot-place _ _ _ _ (term-test measure p .if1 .left) (column-place .column .ensures) (m .match .keys5) refl;
-        long = part .0 .long ∙ term-put measure p .put .ensures .1;
-      },
-      scopes.trail-within (part .1) (omega arith),
-    )
+    laws.dot-walks (term-put measure p .put .ensures) (term-test measure p .if1 .left) ((after-column p) .column .ensures) (m .match .keys5)
+    (c .resolve-part3 .ensures)
 
 term-returns-7 : (measure : ℕ) → term-lts.Need-returns-7 (term-claims measure) (term-at measure) resolve-term.Post
 term-returns-7 measure c =
     let p = c .before in
-    let code-is = (after-column p) .column .ensures in (
-      record {
-        resolves = laws.number-resolves _ _ _ _ (term-test measure p .if1 .left) code-is (c .match .rest) _ _ (term-put measure p .put .ensures .0);
-        moved = laws.number-place _ _ _ _ (term-test measure p .if1 .left) code-is (c .match .rest);
-        long = term-put measure p .put .ensures .1;
-      },
-      scopes.trail-same _ _,
-    )
+    laws.number-walks (term-put measure p .put .ensures) (term-test measure p .if1 .left) ((after-column p) .column .ensures) (c .match .rest)
 
 -- the functions meet their contracts
 pub +resolve-fields+resolve-functions+resolve-part+resolve-term-spec : {M : Type 1} → statement M

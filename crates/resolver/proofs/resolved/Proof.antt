@@ -10,9 +10,9 @@ returns c =
     let walk = c .before .before in
     let back = walk .before .before .before .before .before .before in
     let entry = back .before .before .before in (
-      resolves-numbered (entry .pre .0) (entry .pre .1) (walk .resolve-term .ensures .0 .long) (walk .resolve-term .ensures .0 .resolves)
+      resolves-numbered (entry .pre .0) (entry .pre .1) (walk .resolve-term .ensures .long) (walk .resolve-term .ensures .resolves)
           (c .number .ensures .0) (c .number .ensures .1),
-      c .number .kept .0 ∙ walk .resolve-term .ensures .0 .long,
+      c .number .kept .0 ∙ walk .resolve-term .ensures .long,
     )
 
 -- the function meets its contract
