@@ -7,9 +7,9 @@ use cases::rooms::UNTOUCHED_BYTE;
 use cases::rooms::UNTOUCHED_CELL;
 use cases::rooms::same_cells;
 use cases::rooms::same_text;
-use reports::front;
 use reports::lines;
 use reports::same;
+use rooms::front;
 ghost use Prim.Native.Nat.{_≤_};
 
 // A count, but no more than there is.

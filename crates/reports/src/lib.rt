@@ -1,17 +1,9 @@
-// What the programs share: a room's front, answers compared, and the lines that name them.
+// Lines that the programs write, and the answers that they compare.
 pub mod lines;
 
 use answers::Answer;
 use answers::Refusal;
 use libc::STDOUT_FILENO;
-
-// The first n bytes of a room, or all if it has no more.
-pub fn front(room: &[u8], n: usize) -> &[u8] {
-    if room.len() < n {
-        return room;
-    }
-    &room[..n]
-}
 
 // Whether two answers have one number and the same values.
 pub fn same(x: Refusal, y: Refusal) -> bool {

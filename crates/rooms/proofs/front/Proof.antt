@@ -2,8 +2,8 @@
 use borrow.Author.Needs.{needs}
 use lib.Seq.{length-take-le}
 use mathlib.Core.Path.{sym}
-use Rattle.reports.proofs.front.Statement.{statement}
-use Rattle.reports.proofs.front.Tie as tie
+use Rattle.rooms.proofs.front.Statement.{statement}
+use Rattle.rooms.proofs.front.Tie as tie
 
 slice-aggregate-result : tie.Need-slice-aggregate-result
 slice-aggregate-result c = sym (length-take-le _ _ (c .before .if1 .left))

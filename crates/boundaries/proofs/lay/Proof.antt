@@ -3,8 +3,8 @@ use Prim.Native.Nat.{_≤_, _-_}
 use native.Mathlib.Omega.{arith}
 use borrow.Author.Needs.{needs}
 use lib.ListN.{length}
-use Rattle.listed.proofs.lay.Statement.{statement}
-use Rattle.listed.proofs.lay.Tie as tie
+use Rattle.boundaries.proofs.lay.Statement.{statement}
+use Rattle.boundaries.proofs.lay.Tie as tie
 
 abbrev Inv-loop : tie.InvT-loop
 Inv-loop room₀ from part at₀ i₀ room at i = i ≤ length part

@@ -1,7 +1,7 @@
 -- `lay_times` is safe and ends.
 use borrow.Author.Needs.{needs}
-use Rattle.listed.proofs.lay_times.Statement.{statement}
-use Rattle.listed.proofs.lay_times.Tie as tie
+use Rattle.boundaries.proofs.lay_times.Statement.{statement}
+use Rattle.boundaries.proofs.lay_times.Tie as tie
 
 abbrev Inv-loop : tie.InvT-loop
 Inv-loop room₀ from part times at₀ left₀ room at left = Unit {0}
