@@ -2,8 +2,8 @@
 use Prim.Native.Nat.{_≤_, _-_}
 use native.Mathlib.Omega.{arith}
 use borrow.Author.Needs.{needs}
-use Rattle.cases.proofs.rooms.same_cells.Statement.{statement}
-use Rattle.cases.proofs.rooms.same_cells.Tie as tie
+use Rattle.cases.proofs.contents.same_cells.Statement.{statement}
+use Rattle.cases.proofs.contents.same_cells.Tie as tie
 
 abbrev Inv-loop : tie.InvT-loop
 Inv-loop cells rows i₀ i = i ≤ 80000

@@ -2,8 +2,8 @@
 use Prim.Native.Nat.{_≤_, _-_}
 use native.Mathlib.Omega.{arith}
 use borrow.Author.Needs.{needs}
-use Rattle.cases.proofs.rooms.same_text.Statement.{statement}
-use Rattle.cases.proofs.rooms.same_text.Tie as tie
+use Rattle.cases.proofs.contents.same_text.Statement.{statement}
+use Rattle.cases.proofs.contents.same_text.Tie as tie
 
 abbrev Inv-loop : tie.InvT-loop
 Inv-loop text written i₀ i = i ≤ 300000

@@ -1,6 +1,11 @@
 // What is left in the rooms of an expansion, compared with what a case expects: every number of the cells and every byte of the text, those
 // behind what is written too.
+use crate::CELLS;
+use crate::ROWS;
+use crate::TEXT;
+use crate::case::Sizes;
 use crate::case::number_at;
+use rooms::front;
 
 // What cells and text hold before a call, and no case expects.
 pub const UNTOUCHED_CELL: u32 = 2863311530;
@@ -16,9 +21,9 @@ fn expected_cell(rows: &[u8], i: usize) -> u32 {
 }
 
 // Whether the cells are the rows expected, and behind them as they were.
-pub fn same_cells(cells: &[u32; 80000], rows: &[u8]) -> bool {
+fn same_cells(cells: &[u32; CELLS], rows: &[u8]) -> bool {
     let mut i: usize = 0;
-    while i < 80000 {
+    while i < CELLS {
         if cells[i] != expected_cell(rows, i) {
             return false;
         }
@@ -37,13 +42,26 @@ fn expected_byte(written: &[u8], i: usize) -> u8 {
 }
 
 // Whether the text is the one expected, and behind it as it was.
-pub fn same_text(text: &[u8; 300000], written: &[u8]) -> bool {
+fn same_text(text: &[u8; TEXT], written: &[u8]) -> bool {
     let mut i: usize = 0;
-    while i < 300000 {
+    while i < TEXT {
         if text[i] != expected_byte(written, i) {
             return false;
         }
         i += 1;
     }
     true
+}
+
+// Whether the cells and the text are what is expected.
+pub fn left_as_expected(
+    sizes: Sizes,
+    cells: &[u32; CELLS],
+    rows: &[u8; ROWS],
+    text: &[u8; TEXT],
+    written: &[u8; TEXT],
+) -> bool {
+    let made = sizes.rows;
+    let length = sizes.written;
+    same_cells(cells, front(rows, made)) & same_text(text, front(written, length))
 }
