@@ -1,5 +1,5 @@
-// How much a table may have. Document 01, "Phrase table". specs/Limits has the same numbers. The sizes of rooms follow from these by
-// constants, in the code; specs and laws that speak of such a size, or of how large a number gets, have it as a number (docs/PROOFS.md).
+// How much a table may have. Document 01, "Phrase table". specs/Limits has the same numbers. The sizes of rooms follow from these, in code
+// and in specs (docs/PROOFS.md, "To move a limit").
 pub const LONGEST_TABLE: usize = 16_384;
 
 pub const MOST_KEYWORDS: u16 = 62;
