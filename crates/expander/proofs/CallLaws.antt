@@ -1,11 +1,11 @@
 -- Laws of the root's call and of the whole formula.
-use Prim.Native.Nat.{ℕ, _<_, _≤_}
+use Prim.Native.Nat.{ℕ, _+_, _<_, _≤_}
 use mathlib.Core.Path.{_≡_, refl, sym, ap, _∙_, subst}
 use mathlib.Core.Bool.{Bool, true, false}
 use mathlib.Core.List.{List, []}
 use native.Mathlib.Omega.{arith}
 use lib.Dec.{ltb}
-use lib.ListN.{length, replicate}
+use lib.ListN.{length, replicate, getD}
 use borrow.Author.Tests.{lt-ltb, le-ltb}
 use Rattle.answers.specs.declared.Refusal.{Refusal}
 use Rattle.answers.specs.Refusals.{refusal}
@@ -17,17 +17,20 @@ use Rattle.expansion.specs.Outcomes.{ran}
 use Rattle.expansion.specs.Expansion.{Input, runCall, initialState, ended, run}
 use Rattle.expansion.specs.Limits.{mostOpen}
 use Rattle.templates.specs.Built.{Holds}
-use Rattle.frames.specs.Frames.{longFrames, LevelFits, Saved, resume, owed, stacked-none, Standing}
-use Rattle.frames.proofs.FrameLaws.{waits-saved}
+use Rattle.frames.specs.Frames.{frameSize, longFrames, LevelFits, Saved, resume, owed, stacked-none, Standing}
+use Rattle.frames.proofs.FrameLaws.{waits-saved, standing-same}
+use Rattle.terms.specs.Cells.{rowsLent}
+use Rattle.choices.specs.Chosen.{Remembers}
 use Rattle.turns.specs.declared.begins.Begun.{Begun}
 use Rattle.turns.specs.declared.begins.Begun.the-variants.{Entered}
 use Rattle.turns.specs.declared.Resumption.{Resumption}
 use Rattle.turns.specs.declared.Advance.{Advance}
 use Rattle.turns.specs.declared.Advance.the-variants.{Ended, Paused}
-use Rattle.expander.specs.Lent.{lentInput}
+use Rattle.calls.specs.Lent.{lentInput, Lent}
+use Rattle.calls.specs.Calls.{MayStand, MayGo}
 use Rattle.turns.specs.Begins.{Begins, CallBegunAt, CallEntered}
 use Rattle.turns.specs.Turns.{Goes}
-use Rattle.expander.specs.Calls.{rootItems, BodyAhead}
+use Rattle.expander.specs.Roots.{rootItems, BodyAhead, MayGoOn}
 use Rattle.turns.proofs.BeginLaws.{entry-weight}
 use Rattle.grammar.specs.Limits.{most}
 
@@ -58,23 +61,67 @@ standing-root {first = first} t cells fits saved =
       rest = refl;
     }
 
--- As many rows, and it stands as before
-pub standing-rows : {bs : List ℕ} (tokens : List ℕ) (count : ℕ) {frames : List ℕ} {level : ℕ} {here : State} {cells : List ℕ} {result : Result ℕ}
-    {rows other-rows : ℕ} → rows ≡ other-rows → Standing (lentInput bs tokens count rows) bs frames level here cells result
-    → Standing (lentInput bs tokens count other-rows) bs frames level here cells result
-standing-rows {bs} tokens count {frames} {level} {here} {cells} {result} e s =
-    rw e at s
+-- The calls that stand in a room stand in a longer one that has the same at its front.
+pub standing-copied : {input : Input} {bs short frames : List ℕ} {level : ℕ} {here : State} {cells : List ℕ} {result : Result ℕ}
+    → length short ≤ length frames → ((i : ℕ) → i < length short → getD frames i 0 ≡ getD short i 0)
+    → Standing input bs short level here cells result
+    → Standing input bs frames level here cells result
+standing-copied fit same s =
+    standing-same (record { few = s .fits .few; inside = omega (arith, s .fits .inside) }) (λ i l. same i (omega (arith, s .fits .inside))) s
+
+-- They go on there, if it has a level more.
+pub may-go : {bs room memory tokens : List ℕ} {n : ℕ} {cells stack short frames : List ℕ} {from : Resumption}
+    → MayStand bs room memory tokens n cells stack short from
+    → length short + frameSize ≤ length frames → ((i : ℕ) → i < length short → getD frames i 0 ≡ getD short i 0)
+    → MayGo bs room memory tokens n cells stack frames from
+may-go may fit same =
+    record {
+      stands =
+          record {
+            lent = may .lent;
+            remembers = may .remembers;
+            result = may .result;
+            standing = standing-copied (omega arith) same (may .standing);
+          };
+      next-fits = omega (arith, may .standing .fits .inside);
+    }
 
 -- what a loop gave, by how it ended
-module _ (input : Input) (bs : List ℕ) (result : Result ℕ) (frames cells : List ℕ) (advance : Advance) (goes : Goes input bs result frames cells advance) where
+module _ (bs tokens : List ℕ) (count : ℕ) (cells : List ℕ) (result : Result ℕ) (frames cells′ : List ℕ) (advance : Advance)
+    (goes : Goes (lentInput bs tokens count (rowsLent (length cells))) bs result frames cells′ advance) where
   -- It ended with the result.
-  pub goes-ended : {outcome : Outcome} → advance ≡ Ended outcome → ran outcome cells ≡ result
-  goes-ended e = subst (Goes input bs result frames cells) e goes
+  pub goes-ended : {outcome : Outcome} → advance ≡ Ended outcome → ran outcome cells′ ≡ result
+  goes-ended e = subst (Goes (lentInput bs tokens count (rowsLent (length cells))) bs result frames cells′) e goes
 
-  -- It paused where the result is still to be had.
-  pub goes-paused : {from : Resumption} → advance ≡ Paused from → Standing input bs frames (from .level) (from .state) cells result
+  paused-at : {from : Resumption} → advance ≡ Paused from
+      → Standing (lentInput bs tokens count (rowsLent (length cells))) bs frames (from .level) (from .state) cells′ result
       × (length frames < longFrames)
-  goes-paused e = subst (Goes input bs result frames cells) e goes
+  paused-at e = subst (Goes (lentInput bs tokens count (rowsLent (length cells))) bs result frames cells′) e goes
+
+  -- It paused where the result is still to be had, by as many cells.
+  pub goes-paused : {from : Resumption} → advance ≡ Paused from → length cells′ ≡ length cells
+      → Standing (lentInput bs tokens count (rowsLent (length cells′))) bs frames (from .level) (from .state) cells′ result
+  goes-paused e same = rw same (paused-at e .0)
+
+  -- It pauses in no room for all calls.
+  pub goes-short : {from : Resumption} → advance ≡ Paused from → length frames < longFrames
+  goes-short e = paused-at e .1
+
+  -- Where it paused, it goes on in a longer room.
+  pub may-go-on : {from : Resumption} → advance ≡ Paused from → length cells′ ≡ length cells → {room stack stack′ memory : List ℕ} {most : ℕ}
+      → Lent bs room tokens count stack → length stack′ ≡ length stack → Remembers bs memory → length frames ≤ most
+      → MayGoOn most bs room memory tokens count cells′ stack′ frames from
+  may-go-on e same lent kept remembers short =
+      record {
+        stands =
+            record {
+              lent = record { table = lent .table; tokens-fit = lent .tokens-fit; stack-long = omega (arith, lent .stack-long) };
+              remembers = remembers;
+              result = result;
+              standing = goes-paused e same;
+            };
+        frames-short = short;
+      }
 
 -- how a call went on
 pub entry-of : {bs : List ℕ} {depth : ℕ} {state : State} (begun : Begun) {first : ℕ} {next : State} → begun ≡ Entered first next

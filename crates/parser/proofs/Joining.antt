@@ -42,7 +42,7 @@ use Rattle.expansion.specs.Outcomes.{ran}
 use Rattle.expansion.specs.Expansion.{run}
 use Rattle.expansion.specs.Parsing.{input}
 use Rattle.expansion.specs.Figure3 as Figure3
-use Rattle.expander.specs.Lent.{lentInput}
+use Rattle.calls.specs.Lent.{lentInput}
 use Rattle.soundness.specs.Passing.{Passing, passingOf, Lexemes}
 use Rattle.soundness.proofs.ExpansionTheorems as expansion
 use Rattle.meaning.specs.Expand.{expanded, withCells, finished, expand}

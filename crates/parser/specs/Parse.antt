@@ -21,7 +21,7 @@ use Rattle.expansion.specs.declared.Outcome.the-variants.{Value, Halted}
 use Rattle.expansion.specs.Run.{Result, done, halt}
 use Rattle.expansion.specs.Outcomes.{ran}
 use Rattle.expansion.specs.Expansion.{run}
-use Rattle.expander.specs.Lent.{Held}
+use Rattle.calls.specs.Lent.{Held}
 use Rattle.parser.specs.declared.Parsed.{Parsed}
 use Rattle.meaning.specs.Expand.{inputOf}
 use Rattle.tokens.specs.Tokens.{mostTokens}

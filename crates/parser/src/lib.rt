@@ -1,7 +1,7 @@
 // Check, scan and run in one: from the bytes of a table and a formula to the value of the root's call, or a refusal 1 to 21.
 use answers::Refusal;
 use answers::Verdict;
-use expander::calls::run;
+use expander::run;
 use expansion::Outcome;
 use grammar::limits::LONGEST_TABLE;
 use grammar::limits::MIDDLE_TABLE;
@@ -17,7 +17,7 @@ ghost use mathlib.Core.Path.{_≡_};
 ghost use lib.ListN.{length, getD};
 ghost use Rattle.expansion.specs.Outcomes.{ran};
 ghost use Rattle.expansion.specs.Expansion.{run};
-ghost use Rattle.expander.specs.Lent.{lentInput};
+ghost use Rattle.calls.specs.Lent.{lentInput};
 ghost use Rattle.terms.specs.Cells.{rowsLent};
 ghost use Rattle.tokens.specs.Tokens.{mostTokens};
 ghost use Rattle.parser.specs.Parse.{Runnable, Rooms, WordRoom, Parseable, ParsesInto, ParsesTo, parsedInto, parseInto, numberedOutcome};

@@ -1,5 +1,5 @@
--- What the code that runs calls asks. These definitions mirror code: nobody needs them to believe `expand`.
-use Prim.Native.Nat.{ℕ, _+_, _-_, _*_, _≤_}
+-- What the code that runs the root's call asks. These definitions mirror code: nobody needs them to believe `expand`.
+use Prim.Native.Nat.{ℕ, _+_, _-_, _≤_}
 use mathlib.Core.Path.{_≡_}
 use mathlib.Core.Bool.{true}
 use mathlib.Core.List.{List, []}
@@ -9,12 +9,12 @@ use Rattle.productions.specs.Index.{wholeBody}
 use Rattle.expansion.specs.declared.State.{State}
 use Rattle.expansion.specs.Run.{Result}
 use Rattle.expansion.specs.Expansion.{Input, runCall}
-use Rattle.terms.specs.Cells.{rowsLent}
 use Rattle.choices.specs.Chosen.{Remembers}
 use Rattle.steps.specs.Steps.{body, weight, mostWeight}
-use Rattle.frames.specs.Frames.{frameSize, mostWaiting, Standing}
+use Rattle.frames.specs.Frames.{mostWaiting}
 use Rattle.turns.specs.declared.Resumption.{Resumption}
-use Rattle.expander.specs.Lent.{lentInput, Lent}
+use Rattle.calls.specs.Lent.{Lent}
+use Rattle.calls.specs.Calls.{MayStand}
 
 -- the items of the root's alternative from an offset on, and its result: as many more calls may be open as may wait
 abbrev pub rootItems : Input → List ℕ → ℕ → State → List ℕ → Result ℕ
@@ -32,19 +32,7 @@ pub record MayBeginRoot (bs room memory tokens : List ℕ) (n : ℕ) (stack : Li
   pub remembers : Remembers bs memory
   pub stands : BodyAhead bs start s
 
--- what is lent, and where an expansion stands in a room of frames
-pub record MayStand (bs room memory tokens : List ℕ) (n : ℕ) (cells stack frames : List ℕ) (from : Resumption) : Type 0 where
-  pub lent : Lent bs room tokens n stack
-  pub remembers : Remembers bs memory
-  pub result : Result ℕ
-  pub standing : Standing (lentInput bs tokens n (rowsLent (length cells))) bs frames (from .level) (from .state) cells result
-
--- the same, in a room that has one level more
-pub record MayGo (bs room memory tokens : List ℕ) (n : ℕ) (cells stack frames : List ℕ) (from : Resumption) : Type 0 where
-  pub stands : MayStand bs room memory tokens n cells stack frames from
-  pub next-fits : (from .level + 2) * frameSize ≤ length frames
-
--- the same, in a room of at most so many numbers, which may have none
+-- an expansion stands in a room of at most so many numbers, which may have no level more
 pub record MayGoOn (most : ℕ) (bs room memory tokens : List ℕ) (n : ℕ) (cells stack frames : List ℕ) (from : Resumption) : Type 0 where
   pub stands : MayStand bs room memory tokens n cells stack frames from
   pub frames-short : length frames ≤ most

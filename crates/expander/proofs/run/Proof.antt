@@ -8,15 +8,15 @@ use Rattle.expansion.specs.Run.{Result, after}
 use Rattle.expansion.specs.Expansion.{Input, runCall, initialState, ended, run}
 use Rattle.expansion.specs.Limits.{mostOpen}
 use Rattle.terms.specs.Cells.{rowsLent}
-use Rattle.expander.specs.Lent.{lentInput}
+use Rattle.calls.specs.Lent.{lentInput}
 use Rattle.turns.specs.declared.begins.Begun.{Begun}
 use Rattle.turns.specs.declared.begins.Begun.the-variants.{Entered}
 use Rattle.turns.specs.Begins.{Begins, CallBegunAt, Starts}
 use Rattle.choices.proofs.ChoiceLaws.{remembers-none}
 use Rattle.steps.proofs.TokenLaws.{token-count}
 use Rattle.expander.proofs.CallLaws as laws
-use Rattle.expander.proofs.calls.run.Statement.{statement}
-use Rattle.expander.proofs.calls.run.Tie as tie
+use Rattle.expander.proofs.run.Statement.{statement}
+use Rattle.expander.proofs.run.Tie as tie
 
 -- after the beginning of the root's call
 module _ (point : tie.After-begin-root) where

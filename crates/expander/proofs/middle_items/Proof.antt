@@ -1,0 +1,111 @@
+-- `middle_items`: the calls stand in the middle room as in the short one; where it pauses it goes on in the long one.
+use Prim.Native.Nat.{ℕ}
+use mathlib.Core.Path.{_≡_}
+use mathlib.Core.List.{List}
+use native.Mathlib.Omega.{arith}
+use lib.ListN.{length}
+use borrow.Author.Needs.{needs}
+use Rattle.expansion.specs.Run.{Result}
+use Rattle.terms.specs.Cells.{rowsLent}
+use Rattle.calls.specs.Lent.{lentInput}
+use Rattle.frames.specs.Frames.{middleFrames, Standing}
+use Rattle.turns.specs.Turns.{Goes}
+use Rattle.expander.proofs.CallLaws as laws
+use Rattle.expander.proofs.middle_items.Statement.{statement}
+use Rattle.expander.proofs.middle_items.Tie as tie
+
+-- after the copy
+module _ (point : tie.After-copy) where
+  abbrev entry : tie.Start
+  entry = point .before .before .before .before .before .before .before
+
+  abbrev Stands : List ℕ → Result ℕ → Type 0
+  Stands frames R =
+      Standing (lentInput (entry .args .table .now) (entry .args .tokens .now) (entry .args .n) (rowsLent (length (entry .args .cells .now))))
+      (entry .args .table .now) frames (entry .args .from .level) (entry .args .from .state) (entry .args .cells .now) R
+
+  long : length (point .copy .last .0) ≡ middleFrames
+  long = point .copy .kept .0
+
+-- after the items
+module _ (point : tie.After-items) where
+  abbrev copied : tie.After-copy
+  copied = point .before .before .before .before .before .before
+
+  abbrev start : tie.Start
+  start = entry copied
+
+  abbrev cells′ : List ℕ
+  cells′ = let from-3 = point .items .last .1 .1 .1 in from-3 .1 .1 .0
+
+  abbrev frames′ : List ℕ
+  frames′ = let from-3 = point .items .last .1 .1 .1 in let from-6 = from-3 .1 .1 .1 in from-6 .1 .0
+
+  frames-kept : length frames′ ≡ length (copied .copy .last .0)
+  frames-kept = let from-3 = point .items .kept .1 .1 .1 in let from-6 = from-3 .1 .1 .1 in from-6 .1 .0
+
+  went : {result : Result ℕ} → Stands copied (start .args .short .now) result
+      → Goes (lentInput (start .args .table .now) (start .args .tokens .now) (start .args .n) (rowsLent (length (start .args .cells .now))))
+      (start .args .table .now) result frames′ cells′ (point .items .result)
+  went {result} s =
+      point .items .ensures .0 result (laws.standing-copied (omega (arith, long copied, start .pre .frames-short)) (copied .copy .ensures) s)
+
+  cells-kept : length cells′ ≡ length (start .args .cells .now)
+  cells-kept = let from-3 = point .items .kept .1 .1 .1 in from-3 .1 .1 .0
+
+  stack-kept : length (let from-3 = point .items .last .1 .1 .1 in let from-6 = from-3 .1 .1 .1 in from-6 .0) ≡ length (start .args .stack .now)
+  stack-kept = let from-3 = point .items .kept .1 .1 .1 in let from-6 = from-3 .1 .1 .1 in from-6 .0
+
+items-requires : tie.Need-items-requires
+items-requires c κs =
+    let p = c .before .before .before .before .before in
+    laws.may-go (entry p .pre .stands) (omega (arith, long p, entry p .pre .frames-short)) (p .copy .ensures)
+
+deep-items-requires : tie.Need-deep-items-requires
+deep-items-requires c κs =
+    let progress-place = c .before .before .before .before .before in
+    let match-place = progress-place .before in
+    let q = match-place .before .before .before .before .before .before in
+    let may = start q .pre .stands in
+    laws.may-go-on (start q .args .table .now) (start q .args .tokens .now) (start q .args .n) (start q .args .cells .now)
+    (may .result) (frames′ q) (cells′ q) (q .items .result) (went q (may .standing)) (progress-place .progress2 .given .1) (cells-kept q) (may .lent)
+    (stack-kept q) (q .items .ensures .1) (omega (arith, frames-kept q, long (copied q)))
+
+returns : tie.Need-returns
+returns c =
+    let match-place = c .before .before in
+    let q = match-place .before .before .before .before .before .before in
+    λ R s.
+    laws.goes-ended (start q .args .table .now) (start q .args .tokens .now) (start q .args .n) (start q .args .cells .now)
+    R (frames′ q) (cells′ q) (q .items .result) (went q s) (c .before .progress .given .1)
+
+returns-2 : tie.Need-returns-2
+returns-2 c =
+    let deep-place = c .before .before .before .before in
+    let progress-place = deep-place .before .before .before .before .before .before in
+    let match-place = progress-place .before in
+    let q = match-place .before .before .before .before .before .before in
+    λ R s.
+    deep-place .deep-items .ensures R
+    (laws.goes-paused (start q .args .table .now) (start q .args .tokens .now) (start q .args .n) (start q .args .cells .now)
+    R (frames′ q) (cells′ q) (q .items .result) (went q s) (progress-place .progress2 .given .1) (cells-kept q))
+
+-- the function meets its contract
+pub middle-items-spec : {M : Type 1} → statement M
+middle-items-spec =
+    tie.close
+    (tie.spec
+    (λ c. search needs)
+    (λ c κs. search needs)
+    (λ c. search needs)
+    items-requires
+    (λ c. search needs)
+    (λ c. search needs)
+    (λ c. search needs)
+    deep-items-requires
+    (λ c. search needs)
+    (λ c. search needs)
+    returns
+    (λ c. search needs)
+    (λ c. search needs)
+    returns-2)
