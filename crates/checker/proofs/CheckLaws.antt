@@ -6,6 +6,7 @@ use Rattle.answers.specs.declared.Refusal.{Refusal}
 use Rattle.answers.specs.declared.Verdict.{Verdict}
 use Rattle.answers.specs.declared.Verdict.the-variants.{Passed, Refused}
 use Rattle.answers.specs.Checked.{Checked, ok, bad, _>>_, verdict}
+use Rattle.grammar.specs.Limits.{most}
 use Rattle.grammar.specs.Table.{Table}
 use Rattle.grammar.specs.Encode.{encode}
 use Rattle.decoding.specs.Layout.{layout}
@@ -56,6 +57,7 @@ module _ (bs : List ℕ) where
       record {
         answer = sym (refused-layout refusal e);
         held = cc (refused-bad (layout bs) refusal e);
+        whole = λ p. never refusal p;
       }
 
   module _ (bytes : Bytes bs) (laid : verdict (layout bs) ≡ Passed) where
@@ -79,14 +81,15 @@ module _ (bs : List ℕ) where
 
     -- and so does one refused for its sorts
     pub into-sorts : (refusal : Refusal) → sortsOf bs ≡ Refused refusal → (room : List ℕ) → CheckedInto bs room room (Refused refusal)
-    into-sorts refusal e room = record { answer = sym (refused-sorts refusal e); held = room-left refusal e room }
+    into-sorts refusal e room =
+        record { answer = sym (refused-sorts refusal e); held = room-left refusal e room; whole = λ p. never refusal p }
 
     -- the table fits its index
     pub few : FitsIndex bs
     few = few-alternatives bs (passed-ok (layout bs) laid)
 
     -- an index that was built is whole
-    pub whole-index : {many : ℕ} {owners starts : List ℕ} → Index (placesOf bs) 256 many owners starts → WholeIndex bs many owners starts
+    pub whole-index : {many : ℕ} {owners starts : List ℕ} → Index (placesOf bs) (most .alternatives) many owners starts → WholeIndex bs many owners starts
     whole-index i =
         record {
           short = few .short;
@@ -114,11 +117,12 @@ module _ (bs : List ℕ) where
           cc (decoded, sorts-ok)
 
       -- a table with neither refusal is answered by the check of its first sets
-      pub into-firsts : {many : ℕ} {owners starts : List ℕ} → Index (placesOf bs) 256 many owners starts → {room₀ room : List ℕ} {given-verdict : Verdict}
+      pub into-firsts : {many : ℕ} {owners starts : List ℕ} → Index (placesOf bs) (most .alternatives) many owners starts → {room₀ room : List ℕ} {given-verdict : Verdict}
           → FirstsChecked bs (placesIn many owners starts) room₀ room given-verdict → CheckedInto bs room₀ room given-verdict
       unfolding tableRoom
       into-firsts i {room₀} f =
           record {
             answer = cc (f .answer, i .entries, by-firsts);
             held = cc (f .held, i .entries, room-written room₀);
+            whole = λ p. whole-places bs (passed-ok (layout bs) laid);
           }

@@ -3,9 +3,12 @@ use Prim.Native.Nat.{ℕ}
 use mathlib.Core.Path.{_≡_}
 use mathlib.Core.List.{List}
 use Rattle.answers.specs.declared.Verdict.{Verdict}
+use Rattle.answers.specs.declared.Verdict.the-variants.{Passed}
 use Rattle.answers.specs.Checked.{Checked, ok, bad, _>>=_}
 use Rattle.decoding.specs.Decode.{decode}
+use Rattle.decoding.specs.Within.{Each}
 use Rattle.judgements.specs.CheckSorts.{checkSorts}
+use Rattle.productions.specs.Index.{Whole, placesOf}
 use Rattle.productions.specs.Room.{overwritten}
 use Rattle.firsts.specs.Room.{tableRoom}
 use Rattle.checker.specs.Check.{check}
@@ -18,6 +21,8 @@ roomIfPassed (bad r) bs room = room
 unfoldable pub roomAfter : List ℕ → List ℕ → List ℕ
 roomAfter bs room = roomIfPassed (decode bs >>= λ t. checkSorts t) bs room
 
+-- the verdict, the whole room, and that each start in it is that of a whole alternative of a table that passes
 pub record CheckedInto (bs room₀ room : List ℕ) (r : Verdict) : Type 0 where
   pub answer : r ≡ check bs
   pub held : room ≡ roomAfter bs room₀
+  pub whole : r ≡ Passed → Each (Whole bs) (placesOf bs)

@@ -120,6 +120,16 @@ abbrev pub entered : List ℕ → Bool → ℕ → ℕ → List ℕ → List ℕ
 entered room true count from v = roomWith room (count + 1) (bucketHash v) from (length v)
 entered room false count from v = room
 
+-- a field that may be entered in the room of its tag, after what has been read before it
+pub record EnterableUnder (tag : ℕ) (s : Progress) (from : ℕ) (v : List ℕ) (h : ℕ) : Type 0 where
+  pub as-keyword : Enterable (eqb tag 1) (s .keywords) from v h
+  pub as-outside : Enterable (eqb tag 2) (s .outsides) from v h
+
+-- the rooms of keywords and outside names after it
+pub record EnteredUnder (tag : ℕ) (s : Progress) (from : ℕ) (v keywords outsides keywords′ outsides′ : List ℕ) : Type 0 where
+  pub keywords-are : keywords′ ≡ entered keywords (eqb tag 1) (s .keywords) from v
+  pub outsides-are : outsides′ ≡ entered outsides (eqb tag 2) (s .outsides) from v
+
 -- one room has the spellings of a tag among some fields, of which there are `count`
 pub record HasSpellings (table : List ℕ) (tag : ℕ) (before : List Field) (count : ℕ) (room : List ℕ) : Type 0 where
   pub long : length room ≡ indexSize

@@ -34,7 +34,7 @@ ghost use Rattle.answers.specs.Checked.{need, verdict};
 ghost use Rattle.decoding.specs.Layout.{isSpelled, checkField};
 ghost use Rattle.decoding.specs.Layout.{initialProgress, layout};
 ghost use Rattle.layout.specs.Before.{fieldsBefore, checking};
-ghost use Rattle.layout.specs.Index.{spellingsUnder, Indexed, SpellingLent, FieldLent};
+ghost use Rattle.layout.specs.Index.{spellingsUnder, Indexed, SpellingLent, FieldLent, EnterableUnder, EnteredUnder};
 
 // What the check of one field gives: what has then been read, or the refusal at which the check stops.
 pub enum Checking {
@@ -136,6 +136,37 @@ fn nothing_read() -> Progress
     }
 }
 
+// Enters the spelling of a field in the room of its tag, if it is a keyword or an outside name; s is what was read before it.
+fn remember(
+    keywords: &mut [u32; ROOM],
+    outsides: &mut [u32; ROOM],
+    tag: u8,
+    s: Progress,
+    from: usize,
+    v: &[u8],
+    h: usize,
+)
+    requires { ⌜ EnterableUnder tag s from (now v) h ⌝ }
+    ensures { λ _. ⌜ EnteredUnder tag s from (now (v .entry)) (now (keywords .entry)) (now (outsides .entry)) (now (keywords .exit)) (now (outsides .exit)) ⌝ }
+{
+    enter(
+        keywords,
+        tag == KEYWORD_TAG,
+        s.keywords as usize,
+        from,
+        v,
+        h,
+    );
+    enter(
+        outsides,
+        tag == OUTSIDE_TAG,
+        s.outsides as usize,
+        from,
+        v,
+        h,
+    );
+}
+
 // The layout of a table: refusals 1 to 6 and 10.
 pub fn check_layout(table: &[u8]) -> Verdict
     ensures { λ r. ⌜ r ≡ verdict (layout (now (table .entry))) ⌝ }
@@ -167,22 +198,7 @@ pub fn check_layout(table: &[u8]) -> Verdict
                         return Verdict::Refused(r);
                     }
                     Checking::Further(t) => {
-                        enter(
-                            &mut keywords,
-                            tag == KEYWORD_TAG,
-                            s.keywords as usize,
-                            from,
-                            v,
-                            h,
-                        );
-                        enter(
-                            &mut outsides,
-                            tag == OUTSIDE_TAG,
-                            s.outsides as usize,
-                            from,
-                            v,
-                            h,
-                        );
+                        remember(&mut keywords, &mut outsides, tag, s, from, v, h);
                         s = t;
                         at = to;
                     }

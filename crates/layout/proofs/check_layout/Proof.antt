@@ -115,38 +115,37 @@ returns-4 c =
     laws.turn-stopped (turn (field p) .loop .inv .0) (stands (field p)) (turn (field p) .before .before .if1 .left)
     (sym (q .checked .given .1) ∙ p .check-field .ensures)
 
-enter-requires : tie.Need-enter-requires Inv-loop μ-loop
-enter-requires c κs =
+remember-requires : tie.Need-remember-requires Inv-loop μ-loop
+remember-requires c κs =
     let q = c .before .before in
     let p = field (accepted q) in
     record {
-      few = keyword-room (turn p .loop .inv .0) (turn p .loop .inv .1) (stands p) (further q);
-      hashed = λ e. spelled (accepted q) (omega (arith, eqb-true (tag p) 1 e));
-      near = place p;
-      short = small p;
-    }
-
-enter-requires-2 : tie.Need-enter-requires-2 Inv-loop μ-loop
-enter-requires-2 c κs =
-    let q = c .before .before .before .before .before in
-    let p = field (accepted q) in
-    record {
-      few = outside-room (turn p .loop .inv .0) (turn p .loop .inv .1) (stands p) (further q);
-      hashed = λ e. spelled (accepted q) (omega (arith, eqb-true (tag p) 2 e));
-      near = place p;
-      short = small p;
+      as-keyword =
+          record {
+            few = keyword-room (turn p .loop .inv .0) (turn p .loop .inv .1) (stands p) (further q);
+            hashed = λ e. spelled (accepted q) (omega (arith, eqb-true (tag p) 1 e));
+            near = place p;
+            short = small p;
+          };
+      as-outside =
+          record {
+            few = outside-room (turn p .loop .inv .0) (turn p .loop .inv .1) (stands p) (further q);
+            hashed = λ e. spelled (accepted q) (omega (arith, eqb-true (tag p) 2 e));
+            near = place p;
+            short = small p;
+          };
     }
 
 loop-less : tie.Need-loop-less Inv-loop μ-loop
-loop-less c = omega (arith, inside (field (accepted (c .before .before .before .before .before .before))))
+loop-less c = omega (arith, inside (field (accepted (c .before .before .before))))
 
 loop-again : tie.Need-loop-again Inv-loop μ-loop
 loop-again c =
-    let r = c .before .before .before in
-    let q = r .before .before .before in
-    let p = field (accepted q) in (
+    let q = c .before .before .before in
+    let p = field (accepted q) in
+    let e = c .remember .ensures in (
       laws.turn-next (turn p .loop .inv .0) (stands p) (further q),
-      remembered-next (turn p .loop .inv .0) (turn p .loop .inv .1) (stands p) (further q) (r .enter .ensures) (c .enter2 .ensures),
+      remembered-next (turn p .loop .inv .0) (turn p .loop .inv .1) (stands p) (further q) (e .keywords-are) (e .outsides-are),
     )
 
 -- the function meets its contract
@@ -178,9 +177,6 @@ check-layout-spec =
     (λ c. search needs)
     returns-4
     (λ c. search needs)
-    (λ c. search needs)
-    enter-requires
-    (λ c. search needs)
-    enter-requires-2
+    remember-requires
     loop-less
     loop-again)
