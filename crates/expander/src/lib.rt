@@ -99,7 +99,10 @@ fn middle_items(
     }
 }
 
-// The same, from a short room on: a formula of many tokens that does not fit there needs the long room most often.
+// A formula of so many tokens whose calls do not fit a short room needs the long one most often.
+const MANY_TOKENS: usize = 256;
+
+// The same, from a short room on.
 fn longer_items(
     table: &[u8],
     room: &[u64; ROOM],
@@ -115,7 +118,7 @@ fn longer_items(
     ensures { λ r. ⌜ ((R : Result ℕ) → Standing (lentInput (now (table .entry)) (now (tokens .entry)) n (rowsLent (length (now (cells .entry))))) (now
         (table .entry)) (now (short .entry)) (from .level) (from .state) (now (cells .entry)) R → ran r (now (cells .exit)) ≡ R) ⌝ }
 {
-    if n < 256 {
+    if n < MANY_TOKENS {
         middle_items(table, room, memory, tokens, n, cells, stack, short, from)
     } else {
         deep_items(table, room, memory, tokens, n, cells, stack, short, from)

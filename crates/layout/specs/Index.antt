@@ -1,6 +1,6 @@
 -- How a repeated spelling is found: the spellings of one tag are entered in a room of numbers, and those whose hash falls into one of 64
 -- buckets are linked, the newest first. Nobody needs this file to believe `expand`.
-use Prim.Native.Nat.{ℕ, _-_, suc, _+_, _*_, _/_, _%_, _<_, _≤_}
+use Prim.Native.Nat.{ℕ, _-_, _^_, suc, _+_, _*_, _/_, _%_, _<_, _≤_}
 use mathlib.Core.Path.{_≡_}
 use mathlib.Core.Bool.{Bool, true, false, _||_}
 use mathlib.Core.List.{List, [], _∷_}
@@ -54,7 +54,7 @@ buckets = 64
 
 -- the bucket of a hash: its highest six bits, which all bytes move
 abbrev pub bucketOf : ℕ → ℕ
-bucketOf h = h / 67108864 % buckets
+bucketOf h = h / 2 ^ 26 % buckets
 
 -- h is the hash of a keyword or an outside name; of other fields none is asked
 pub record HashedUnder (tag : ℕ) (v : List ℕ) (h : ℕ) : Type 0 where

@@ -2,9 +2,9 @@
 // used, and a part that is used often is looked at once.
 use crate::FEW_ROWS;
 use crate::column;
+use crate::sizes;
 use terms::COLUMNS;
 use terms::FIELD_CONS;
-use terms::LARGEST_TERM;
 use terms::MOST_CELLS;
 use terms::TERM_APP;
 use terms::TERM_DOT;
@@ -19,8 +19,8 @@ ghost use Rattle.terms.specs.Term.{largestTerm};
 ghost use Rattle.rows.specs.Sizes.{sizeAt, WholeRows};
 ghost use Rattle.rows.specs.Bounds.{mostBound, TermBound, FieldsBound, RowBound, Bounded};
 
-// One more than the constructors that a term may have: bounds are cut off there.
-const MOST_BOUND: u16 = LARGEST_TERM as u16 + 1;
+// Bounds are cut off behind the largest term.
+const MOST_BOUND: u16 = sizes::MOST_BOUND as u16;
 
 // The bound of a constructor whose parts have these bounds.
 fn joined(first: u16, second: u16) -> u16

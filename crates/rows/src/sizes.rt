@@ -60,11 +60,15 @@ fn size_fields(cells: &&[u32], bound: usize, row: u32, left: usize) -> usize
     rest
 }
 
-// How many constructors are counted before the rows are looked at: as many as rows without shared parts can have, and some more.
+// For so many rows and more, all constructors that a term may have are counted at once.
+const MANY_ROWS: usize = 8_000;
+
+// How many constructors are counted before the rows are looked at: twice as many as there are rows, and some more. Without shared parts a
+// term has no more constructors than rows.
 fn first_count(made: usize) -> usize
     ensures { λ r. ⌜ r ≤ mostBound ⌝ }
 {
-    if made < 8000 {
+    if made < MANY_ROWS {
         2 * made + 64
     } else {
         MOST_BOUND

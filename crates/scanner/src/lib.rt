@@ -126,13 +126,13 @@ fn mark_step(table: &[u8], room: &[u32], tree: &[u32], formula: &[u8], at: usize
 // ---------------------------------------------------------------- words
 
 // What the word s with a hash is by the table.
-fn name_of(table: &[u8], room: &[u32], tree: &[u32], s: &[u8], hash: u64) -> WordClass
+fn class_of(table: &[u8], room: &[u32], tree: &[u32], s: &[u8], hash: u64) -> WordClass
     requires { ⌜ Lexical (now table) (now room) (now tree) × (hash ≡ hashOf (now s)) ⌝ }
     ensures { λ r. ⌜ Named (lexiconOf (now (table .entry))) (now (s .entry)) r ⌝ }
 {
     let keywords = room[KEYWORD_COUNT];
-    let spellings = wide_number(room[SPELLING_COUNT]);
-    let spot = find(table, room, tree, MASK, spellings, s, hash);
+    let count = wide_number(room[SPELLING_COUNT]);
+    let spot = find(table, room, tree, MASK, count, s, hash);
     match spot {
         Spot::Node(i) => {
             let k = i as u32;
@@ -224,7 +224,7 @@ fn word_step(
             spot: Spot::Node(0),
         };
     }
-    let name = name_of(table, room, tree, part(formula, at, size), hash);
+    let name = class_of(table, room, tree, part(formula, at, size), hash);
     match name {
         WordClass::Keyword(k) => emit(k + KEYWORD_KIND, at, size, 0, Spot::Node(0)),
         WordClass::Outside(k) => emit(WORD_KIND, at, size, k, Spot::Node(0)),

@@ -17,8 +17,8 @@ at-start p =
 returns : tie.Need-returns
 returns c = search laws.long-made
 
-name-of-requires : tie.Need-name-of-requires
-name-of-requires c κs =
+class-of-requires : tie.Need-class-of-requires
+class-of-requires c κs =
     let part = c in
     let short = part .before in
     let read = short .before in
@@ -35,7 +35,7 @@ add-emit c =
     let short = part .before in
     let read = short .before in
     let start = at-start read in
-    omega (arith, laws.keyword-small (start .args .table .now) (part .part .result .now) (named .name-of .ensures) (c .before .name .given .1))
+    omega (arith, laws.keyword-small (start .args .table .now) (part .part .result .now) (named .class-of .ensures) (c .before .name .given .1))
 
 own-word-requires : tie.Need-own-word-requires
 own-word-requires c κs =
@@ -58,7 +58,7 @@ returns-2 c =
     let start = at-start read in
     let asked = start .pre .1 in
     let here = laws.word-here (asked .0) (asked .2) (read .word-at .ensures) (short .if1 .left) (part .part .ensures) in
-    laws.keyword-made here (few-outsides (start .args .table .now)) (named .name-of .ensures) (name-place .name .given .1) (c .emit .ensures)
+    laws.keyword-made here (few-outsides (start .args .table .now)) (named .class-of .ensures) (name-place .name .given .1) (c .emit .ensures)
 
 returns-3 : tie.Need-returns-3
 returns-3 c =
@@ -70,7 +70,7 @@ returns-3 c =
     let start = at-start read in
     let asked = start .pre .1 in
     let here = laws.word-here (asked .0) (asked .2) (read .word-at .ensures) (short .if1 .left) (part .part .ensures) in
-    laws.outside-made here (few-outsides (start .args .table .now)) (named .name-of .ensures) (name2-place .name2 .given .1) (c .emit2 .ensures)
+    laws.outside-made here (few-outsides (start .args .table .now)) (named .class-of .ensures) (name2-place .name2 .given .1) (c .emit2 .ensures)
 
 returns-4 : tie.Need-returns-4
 returns-4 c =
@@ -81,7 +81,7 @@ returns-4 c =
     let start = at-start read in
     let asked = start .pre .1 in
     let here = laws.word-here (asked .0) (asked .2) (read .word-at .ensures) (short .if1 .left) (part .part .ensures) in
-    laws.other-made here (few-outsides (start .args .table .now)) (named .name-of .ensures) (c .before .enum-told .given .1) (c .own-word .ensures)
+    laws.other-made here (few-outsides (start .args .table .now)) (named .class-of .ensures) (c .before .enum-told .given .1) (c .own-word .ensures)
 
 -- the function meets its contract
 pub word-step-spec : {M : Type 1} → statement M
@@ -91,7 +91,7 @@ word-step-spec =
     (λ c κs. search needs)
     returns
     (λ c κs. search needs)
-    name-of-requires
+    class-of-requires
     (λ c. search needs)
     add-emit
     (λ c κs. search needs)

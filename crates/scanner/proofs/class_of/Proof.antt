@@ -1,9 +1,9 @@
--- `name_of`: where the search among keywords and outside names ended.
+-- `class_of`: where the search among keywords and outside names ended.
 use native.Mathlib.Omega.{arith}
 use Rattle.scanner.proofs.MadeLaws as laws
 use borrow.Author.Needs.{needs}
-use Rattle.scanner.proofs.name_of.Statement.{statement}
-use Rattle.scanner.proofs.name_of.Tie as tie
+use Rattle.scanner.proofs.class_of.Statement.{statement}
+use Rattle.scanner.proofs.class_of.Tie as tie
 
 -- places, each from a later one
 abbrev after-find : tie.After-spot → tie.After-find
@@ -38,8 +38,8 @@ returns-3 : tie.Need-returns-3
 returns-3 c = search laws.node-none
 
 -- the function meets its contract
-pub name-of-spec : {M : Type 1} → statement M
-name-of-spec =
+pub class-of-spec : {M : Type 1} → statement M
+class-of-spec =
     tie.close
     (tie.spec
     (λ c. search needs)
