@@ -1,7 +1,7 @@
 /* Expands a formula under a phrase table and prints the core term.
 
-       gcc -Iinclude hosts/c/example.c target/staticlib/libvegzump.a -o expand
-       ./expand phrases.tab 'fun(p)p(b)'
+       gcc -Iinclude hosts/c/example.c target/staticlib/libvegzump.a -o expand-example
+       ./expand-example phrases.tab 'fun(p)p(b)'
 
    A refusal is printed by its number and values; include/vegzump.h says what they are. */
 #include "vegzump.h"
@@ -16,7 +16,7 @@ static uint8_t text[1 << 20];
 
 int main(int argc, char **argv) {
     FILE *file = argc == 3 ? fopen(argv[1], "rb") : NULL;
-    if (!file) return fputs("usage: expand TABLE FORMULA\n", stderr), 2;
+    if (!file) return fputs("usage: expand-example TABLE FORMULA\n", stderr), 2;
     size_t table_len = fread(table, 1, sizeof table, file);
     fclose(file);
     vegzump_answer answer = vegzump_expand(table, table_len, (const uint8_t *)argv[2], strlen(argv[2]), cells,

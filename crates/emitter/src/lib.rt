@@ -34,7 +34,7 @@ fn answered(made: usize, size: usize, needed: usize, room: usize) -> Answer
     Answer::Accepted(made, size, needed)
 }
 
-// The text with the numbers of new names in a room that is lent to be written.
+// The text, for a caller that holds the numbers of new names in a room lent to be written.
 fn print_marked(
     table: &[u8],
     formula: &[u8],

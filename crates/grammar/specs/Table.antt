@@ -29,7 +29,7 @@ pub record Alternative : Type 0 where
   pub items : List Item
   pub result : Template
 
--- 001's operators: == add, |= extend, := update
+-- 001, 3.2, the operators: == add, |== extend, := update
 pub data Mode : Type 0 where
   add : Mode
   extend : Mode

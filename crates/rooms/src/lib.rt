@@ -23,7 +23,8 @@ pub fn front(room: &[u8], n: usize) -> &[u8] {
     &room[..n]
 }
 
-// Reads a file into the front of a room, as far as there is room, and tells how much: nothing if it can't be opened or read.
+// Reads a file into the front of a room, as far as there is room, and tells how much: nothing if it can't be opened; where a read fails, what was read
+// before.
 pub fn read_file(name: &[u8], room: &mut [u8]) -> usize {
     let file = os::open_read(name);
     if file < 0 {

@@ -33,13 +33,14 @@ unfoldable mutual
 abbrev pub origins : List Binder → ℕ → Term Name → List Use
 origins around p t = map useOf (occurrences around p t)
 
+-- a fresh variable under no binder made with it
 abbrev pub isLoose : Name → Owner → Bool
 isLoose (word s) o = false
 isLoose (fresh n) unbound = true
 isLoose (fresh n) (boundAt p) = false
 isLoose (outside s) o = false
 
--- their places from the left
+-- the places of such variables, from the left
 unfoldable pub loosePlaces : List Occurrence → List ℕ
 loosePlaces [] = []
 loosePlaces (o ∷ os) = elim (isLoose (o .name) (o .owner)) [ true ↦ o .place ∷ loosePlaces os | false ↦ loosePlaces os ]

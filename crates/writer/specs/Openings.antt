@@ -36,7 +36,7 @@ spellingRoom = longestWord + 1
 unfoldable pub spellIn : List ℕ → ℕ → List ℕ
 spellIn pool n = take (getD pool (n * spellingRoom) 0) (drop (n * spellingRoom + 1) pool)
 
--- the same of a number, of the term at a row and of the field list at a row
+-- what the text of a number begins with; then of the term at a row, and of the field list at a row
 unfoldable pub numberOpening : ℕ → List ℕ
 unfolding bytes
 numberOpening n = bytes "mkTermNum(" ++ numeral n
