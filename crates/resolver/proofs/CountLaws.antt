@@ -4,13 +4,13 @@ use mathlib.Core.Path.{_≡_, refl, sym, ap, ap₂, _∙_}
 use mathlib.Core.List.{List, [], _∷_, _++_}
 use native.Mathlib.Numerals.{add-one}
 use native.Mathlib.Omega.{arith}
-use lib.ListN.{length, getD, set, take, drop, length-set, take-append-drop}
-use lib.Seq.{drop-cons, take-suc-set, drop-set-lt, getD-take, length-take-le}
+use lib.ListN.{length, getD, set, take, drop, length-set}
+use lib.Seq.{drop-cons, take-suc-set, drop-set-lt, getD-take, length-take-le, take-length, drop-length}
 use borrow.Author.Tests.{ne-eqb}
 use Rattle.grammar.proofs.ReaderLaws.{getD-past}
 use Rattle.resolver.specs.declared.Resolution.the-variants.{Loose, Numbered}
 use Rattle.scopes.specs.Marks.{new, noOwner}
-use Rattle.resolver.specs.Numbers.{ownerNumber, numberAt, nextNumber, numberedMarks, looseIn, firstLoose}
+use Rattle.resolver.specs.Numbers.{ownerNumber, numberAt, nextNumber, numberedMarks, looseIn, firstLoose, NumbersMarks}
 
 -- ------------------------------------------------------------------ the number at a place
 
@@ -55,66 +55,52 @@ module _ (room : List ℕ) (place next mark : ℕ) (no-new : mark ≡ new → �
 
 -- ------------------------------------------------------------------ the loop
 
-abbrev Ahead : List ℕ → ℕ → ℕ → List ℕ
-Ahead room n p = take (n - p) (drop p room)
-
 -- the marks before `place` are numbered, with `count` new names
-pub record Counting (total : ℕ) (room₀ room : List ℕ) (place count : ℕ) : Type 0 where
+pub record Counting (room₀ room : List ℕ) (place count : ℕ) : Type 0 where
   -- `place` is a place or the end
-  pub inside : place ≤ total
+  pub inside : place ≤ length room₀
   -- no more numbers are taken than places passed
   pub few : count ≤ place
   -- the room keeps its length
   pub long : length room ≡ length room₀
   -- the numbers so far and the marks ahead give the numbers of all
-  pub names : numberedMarks (take place room) (count + 1) (Ahead room total place) ≡ numberedMarks [] 1 (take total room₀)
+  pub names : numberedMarks (take place room) (count + 1) (drop place room) ≡ numberedMarks [] 1 room₀
   -- the places without an owner that are ahead are all of them
-  pub loose : looseIn place (Ahead room total place) ≡ looseIn 0 (take total room₀)
-  -- what lies behind the marks is as before
-  pub behind : drop total room ≡ drop total room₀
+  pub loose : looseIn place (drop place room) ≡ looseIn 0 room₀
 
 -- no place is numbered yet
-pub counting-start : (total : ℕ) (room : List ℕ) → Counting total room room 0 0
-counting-start total room =
-    let z : total - 0 ≡ total = omega arith in
+pub counting-start : (room : List ℕ) → Counting room room 0 0
+counting-start room =
     record {
       inside = omega arith;
       few = omega arith;
       long = refl;
-      names = cc;
-      loose = cc;
-      behind = refl;
+      names = refl;
+      loose = refl;
     }
 
-module _ {total : ℕ} {room₀ room : List ℕ} {place count : ℕ} (counting : Counting total room₀ room place count) (below : place < total)
-    (fit : total ≤ length room₀) where
-  within : place < length room
-  within = omega (arith, counting .long)
-
-  ahead : Ahead room total place ≡ getD room place 0 ∷ Ahead room total (suc place)
-  ahead =
-      let z : total - place ≡ suc (total - suc place) = omega arith in
-      ap₂ take z (drop-cons room place 0 within)
+module _ {room₀ room : List ℕ} {place count : ℕ} (counting : Counting room₀ room place count) (below : place < length room) where
+  ahead : drop place room ≡ getD room place 0 ∷ drop (suc place) room
+  ahead = drop-cons room place 0 below
 
   -- the first place without an owner is the answer
-  pub counting-loose : getD room place 0 ≡ noOwner → Loose place ≡ firstLoose (looseIn 0 (take total room₀))
+  pub counting-loose : getD room place 0 ≡ noOwner → Loose place ≡ firstLoose (looseIn 0 room₀)
   unfolding looseIn
   counting-loose e =
-      let h : looseIn place (getD room place 0 ∷ Ahead room total (suc place)) ≡ place ∷ looseIn (suc place) (Ahead room total (suc place)) = rw
-      (e, looseIn) refl in
+      let h : looseIn place (getD room place 0 ∷ drop (suc place) room) ≡ place ∷ looseIn (suc place) (drop (suc place) room) = rw (e, looseIn) refl in
       ap firstLoose (sym h ∙ ap (looseIn place) (sym ahead) ∙ counting .loose)
 
   module _ (owned : getD room place 0 ≡ noOwner → ⊥) {value : ℕ} (ev : value ≡ numberAt (take place room) (count + 1) (getD room place 0)) where
     step-names : (more : ℕ) → nextNumber (count + 1) (getD room place 0) ≡ more
-        → numberedMarks (take (suc place) (set room place value)) more (Ahead (set room place value) total (suc place)) ≡ numberedMarks [] 1 (take total room₀)
+        → numberedMarks (take (suc place) (set room place value)) more (drop (suc place) (set room place value)) ≡ numberedMarks [] 1 room₀
     unfolding numberedMarks
     step-names more ek =
-        cc (take-suc-set room place value within, ev, drop-set-lt (suc place) room place value (omega arith), ek, ahead, counting .names)
+        cc (take-suc-set room place value below, ev, drop-set-lt (suc place) room place value (omega arith), ek, ahead, counting .names)
 
-    step-loose : looseIn (suc place) (Ahead (set room place value) total (suc place)) ≡ looseIn 0 (take total room₀)
+    step-loose : looseIn (suc place) (drop (suc place) (set room place value)) ≡ looseIn 0 room₀
     unfolding looseIn
     step-loose =
-        let h : looseIn place (getD room place 0 ∷ Ahead room total (suc place)) ≡ looseIn (suc place) (Ahead room total (suc place)) = rw (
+        let h : looseIn place (getD room place 0 ∷ drop (suc place) room) ≡ looseIn (suc place) (drop (suc place) room) = rw (
           ne-eqb (getD room place 0) noOwner owned,
           looseIn,
         )
@@ -122,40 +108,39 @@ module _ {total : ℕ} {room₀ room : List ℕ} {place count : ℕ} (counting :
         cc (drop-set-lt (suc place) room place value (omega arith), h, ahead, counting .loose)
 
     counting-next : (more : ℕ) → more ≤ place + 1 → nextNumber (count + 1) (getD room place 0) ≡ more + 1
-        → Counting total room₀ (set room place value) (place + 1) more
+        → Counting room₀ (set room place value) (place + 1) more
     counting-next more few ek =
         rw (add-one place)
         (record {
-          inside = omega arith;
+          inside = omega (arith, counting .long);
           few = omega arith;
           long = length-set room place value ∙ counting .long;
           names = step-names (more + 1) ek;
           loose = step-loose;
-          behind = drop-set-lt total room place value below ∙ counting .behind;
         })
 
     -- a renamed binder takes the next number
-    pub counting-new : getD room place 0 ≡ new → Counting total room₀ (set room place value) (place + 1) (count + 1)
+    pub counting-new : getD room place 0 ≡ new → Counting room₀ (set room place value) (place + 1) (count + 1)
     unfolding nextNumber
     counting-new e = counting-next (count + 1) (omega (arith, counting .few)) (rw (e, nextNumber) (omega arith))
 
     -- any other place takes none
-    pub counting-old : (getD room place 0 ≡ new → ⊥) → Counting total room₀ (set room place value) (place + 1) count
+    pub counting-old : (getD room place 0 ≡ new → ⊥) → Counting room₀ (set room place value) (place + 1) count
     unfolding nextNumber
     counting-old e = counting-next count (omega (arith, counting .few)) (rw (ne-eqb (getD room place 0) new e, nextNumber) refl)
 
-module _ {total : ℕ} {room₀ room : List ℕ} {place count : ℕ} (counting : Counting total room₀ room place count) (bounded : total ≤ place) where
-  none-ahead : Ahead room total place ≡ []
-  none-ahead = let z : total - place ≡ 0 = omega arith in cc
+module _ {room₀ room : List ℕ} {place count : ℕ} (counting : Counting room₀ room place count) (over : length room ≤ place) where
+  all-passed : place ≡ length room
+  all-passed = omega (arith, counting .inside, counting .long)
 
-  -- where no mark is left, every fresh variable has an owner
-  pub counting-named : Numbered ≡ firstLoose (looseIn 0 (take total room₀))
-  unfolding looseIn
-  counting-named = ap firstLoose (sym (sym (counting .loose) ∙ ap (looseIn place) none-ahead))
+  none-ahead : drop place room ≡ []
+  none-ahead = cc (all-passed, drop-length room)
 
-  -- and the marks have become the numbers
-  pub counting-done : room ≡ numberedMarks [] 1 (take total room₀) ++ drop total room₀
-  unfolding numberedMarks
+  -- where no mark is left, every fresh variable has an owner, and the marks have become the numbers
+  pub counting-done : NumbersMarks room₀ room Numbered
+  unfolding looseIn numberedMarks
   counting-done =
-      let z : place ≡ total = omega (arith, counting .inside) in
-      cc (take-append-drop total room, z, none-ahead, counting .names, counting .behind)
+      record {
+        answer = ap firstLoose (sym (sym (counting .loose) ∙ ap (looseIn place) none-ahead));
+        numbered = λ e. cc (all-passed, take-length room, none-ahead, counting .names);
+      }

@@ -1,9 +1,10 @@
 -- From the marks of a walk to the answer and the numbers of new names.
 use Prim.Native.Nat.{ℕ, _≤_}
 use mathlib.Core.Path.{_≡_, sym, ap, _∙_}
-use mathlib.Core.List.{List, [], _∷_, _++_}
+use mathlib.Core.List.{List, [], _∷_, _++_, append-nil}
 use native.Mathlib.Omega.{arith}
-use lib.ListN.{length, take, drop, replicate}
+use lib.ListN.{length, replicate}
+use lib.Seq.{take-length}
 use Rattle.terms.specs.Term.{Name, Term, size, largestTerm}
 use Rattle.terms.specs.Rows.{termAt}
 use Rattle.terms.specs.Occurrences.{ownerOf, stopsAtFirst}
@@ -17,7 +18,7 @@ use Rattle.marking.specs.Marks.{marks}
 use Rattle.scopes.specs.Marks.{Around}
 use Rattle.marking.specs.Resolving.{ResolvesTerm}
 use Rattle.marking.specs.Walks.{WalkPrepared}
-use Rattle.resolver.specs.Numbers.{numberedMarks, looseIn, firstLoose, walkOf, Resolvable, Resolves}
+use Rattle.resolver.specs.Numbers.{numberedMarks, looseIn, firstLoose, walkOf, NumbersMarks, Resolvable, Resolves}
 use Rattle.marking.proofs.MarkLaws.{length-marks}
 use Rattle.resolver.proofs.LooseLaws.{walk-by-marks}
 use Rattle.resolver.proofs.NumberLaws.{numbered-is-renamed}
@@ -33,21 +34,19 @@ stops-first [] end e = sym cc
 stops-first (p ∷ ps) end e = sym cc
 
 -- a walk's marks, numbered, are a resolution
-pub resolves-numbered : {cells links current trail room room₁ room₂ current′ : List ℕ} {made root held all : ℕ} {resolution : Resolution}
-    → Resolvable cells made root room → WalkPrepared cells links made current trail → all ≡ length room
-    → ResolvesTerm cells made root 0 current current′ room room₁ held
-    → resolution ≡ firstLoose (looseIn 0 (take all room₁)) → (resolution ≡ Numbered → room₂ ≡ numberedMarks [] 1 (take all room₁) ++ drop all room₁)
+pub resolves-numbered : {cells links current trail room room₁ room₂ current′ : List ℕ} {made root held : ℕ} {resolution : Resolution}
+    → Resolvable cells made root room → WalkPrepared cells links made current trail → length room₁ ≡ length room
+    → ResolvesTerm cells made root 0 current current′ room room₁ held → NumbersMarks room₁ room₂ resolution
     → Resolves cells made root room₂ resolution
-resolves-numbered {cells} {current = current} {room = room} {room₁} {made = made} {root} {all = all} pre begun en resolves er named spell apart known =
+resolves-numbered {cells} {current = current} {room = room} {room₁} {made = made} {root} pre begun en resolves numbers spell apart known =
     let t : Term Name = termAt made spell cells root in
     let w = resolves spell [] apart (pre .whole) known (begun .room) (around-none spell cells current (begun .none)) in
-    let same : size t ≡ all = size-spell made spell noSpell cells root ∙ sym (pre .counted) ∙ sym en in
+    let same : size t ≡ length room = size-spell made spell noSpell cells root ∙ sym (pre .counted) in
     let small : size t ≤ largestTerm = omega (arith, pre .few) in
-    let long : all ≤ length room = omega (arith, en) in
-    let front : take all room₁ ≡ marks [] 0 t = ap (take all) (w .marked) ∙ sets-front room (marks [] 0 t) all (length-marks [] 0 t ∙ same) long in
+    let all : room₁ ≡ marks [] 0 t = cc (take-length room₁, en, w .marked, sets-front room (marks [] 0 t) (length room) (length-marks [] 0 t ∙ same) (omega arith)) in
     record {
-      answer = walk-by-marks t small ∙ stops-first (looseIn 0 (marks [] 0 t)) (size t) (rw front at er);
+      answer = walk-by-marks t small ∙ stops-first (looseIn 0 (marks [] 0 t)) (size t) (rw all at numbers .answer);
       named =
           λ e.
-          cc (named e, numbered-is-renamed t small (drop all room₁));
+          cc (numbers .numbered e, all, append-nil (numberedMarks [] 1 (marks [] 0 t)), numbered-is-renamed t small []);
     }

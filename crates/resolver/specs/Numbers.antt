@@ -43,6 +43,11 @@ abbrev pub firstLoose : List ℕ → Resolution
 firstLoose [] = Numbered
 firstLoose (p ∷ ps) = Loose p
 
+-- the marks are numbered, unless a fresh variable has no owner
+pub record NumbersMarks (marks marks′ : List ℕ) (r : Resolution) : Type 0 where
+  pub answer : r ≡ firstLoose (looseIn 0 marks)
+  pub numbered : r ≡ Numbered → marks′ ≡ numberedMarks [] 1 marks
+
 -- ------------------------------------------------------------------ a resolution
 
 -- what a resolution asks: whole rows, those made, and a mark for each constructor of a term, not too many, and none made
