@@ -144,11 +144,11 @@ pub fn may_follow(tag: u8, last: u8) -> bool
 pub fn has_room(tag: u8, s: Progress) -> bool
     ensures { λ r. ⌜ r ≡ hasRoom tag s ⌝ }
 {
-    (!(tag == KEYWORD_TAG) | (s.keywords < MOST_KEYWORDS))
-        & (!(tag == OUTSIDE_TAG) | (s.outsides < MOST_OUTSIDES))
-        & (!(tag == BLOCK_TAG) | (s.blocks < MOST_BLOCKS))
-        & (!(tag == ALTERNATIVE_TAG) | (s.alternatives < MOST_ALTERNATIVES))
-        & (!(tag == ITEM_TAG) | (s.items < MOST_ITEMS))
+    ((tag != KEYWORD_TAG) | (s.keywords < MOST_KEYWORDS))
+        & ((tag != OUTSIDE_TAG) | (s.outsides < MOST_OUTSIDES))
+        & ((tag != BLOCK_TAG) | (s.blocks < MOST_BLOCKS))
+        & ((tag != ALTERNATIVE_TAG) | (s.alternatives < MOST_ALTERNATIVES))
+        & ((tag != ITEM_TAG) | (s.items < MOST_ITEMS))
 }
 
 fn one_if(b: bool) -> u16
@@ -241,7 +241,7 @@ pub fn is_whole(tag: u8, v: &[u8]) -> bool
     ensures { λ r. ⌜ r ≡ isWhole tag (now (v .entry)) ⌝ }
 {
     if tag == ITEM_TAG {
-        return !(byte(v, 0) == CALL_ITEM) | are_templates(v, 2, false);
+        return (byte(v, 0) != CALL_ITEM) | are_templates(v, 2, false);
     }
     if tag == RESULT_TAG {
         return are_templates(v, 0, true);
