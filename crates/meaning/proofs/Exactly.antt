@@ -17,6 +17,7 @@ use Rattle.checker.specs.Check.{passedTable, check}
 use Rattle.checker.specs.Passes.{grammarOf, Passes}
 use Rattle.checker.proofs.TableTheorems.{check-exactly}
 use Rattle.expansion.specs.Run.{Result}
+use Rattle.expansion.specs.Expansion.{inputOf}
 use Rattle.expansion.proofs.Shows.{IsCode}
 use Rattle.soundness.specs.Passing.{Passing}
 use Rattle.soundness.specs.Stopping.{Left, Refuses}
@@ -27,7 +28,7 @@ use Rattle.terms.specs.Rows.{termAt}
 use Rattle.terms.specs.Rename.{rename}
 use Rattle.terms.specs.Print.{print}
 use Rattle.terms.specs.Occurrences.{occurrences, loosePlaces}
-use Rattle.meaning.specs.Expand.{Expanded, refused, inputOf, expandTable, checkedFirst, expand}
+use Rattle.meaning.specs.Expand.{Expanded, refused, expandTable, checkedFirst, expand}
 use Rattle.meaning.specs.Meaning.{Scans, spellOf, Means, MeansWithin, cellsOf, Cause, unscanned, stopped, Accepts}
 use Rattle.meaning.specs.Meaning as Meaning
 use Rattle.meaning.proofs.Owners.{occurs, Says, loose-says, none-places, first-places}

@@ -33,7 +33,7 @@ use Rattle.checker.specs.Check.{passedTable}
 use Rattle.checker.specs.Passes.{grammarOf, Passes}
 use Rattle.expansion.specs.declared.State.{State}
 use Rattle.expansion.specs.Run.{Result, done, halt}
-use Rattle.expansion.specs.Expansion.{run}
+use Rattle.expansion.specs.Expansion.{inputOf, run}
 use Rattle.expansion.specs.Parsing.{Runs}
 use Rattle.expansion.proofs.Shows.{IsCode}
 use Rattle.expansion.specs.Figure3.{Parses}
@@ -50,7 +50,7 @@ use Rattle.terms.specs.Emit.{textOf, fitted, emitted}
 use Rattle.terms.proofs.EmitLaws.{fitted-long, fitted-whole, emitted-large, emitted-loose, emitted-fitted}
 use Rattle.terms.specs.Occurrences.{occurrences, loosePlaces, stopsAtFirst, isWorded}
 use Rattle.terms.proofs.Statements as terms
-use Rattle.meaning.specs.Expand.{Expanded, refused, withCells, inputOf, finished, scanned, expandTable, expand}
+use Rattle.meaning.specs.Expand.{Expanded, refused, withCells, finished, scanned, expandTable, expand}
 use Rattle.meaning.specs.Meaning.{Scans, spellOf, Means, MeansWithin, cellsOf}
 
 -- ------------------------------------------------------------------ the table

@@ -2,22 +2,18 @@
 -- text at exit. Document 01, "Causes, by number": "Every expansion checks the table again".
 use Prim.Native.Nat.{ℕ}
 use mathlib.Core.List.{List}
-use lib.ListN.{length}
 use Rattle.answers.specs.declared.Refusal.{Refusal}
 use Rattle.answers.specs.declared.Answer.{Answer}
 use Rattle.answers.specs.declared.Answer.the-variants.{Refusing}
 use Rattle.answers.specs.Checked.{Checked, ok, bad}
 use Rattle.grammar.specs.Table.{Table, lexiconOfTable}
-use Rattle.terms.specs.Cells.{rowsLent}
-use Rattle.tokens.specs.declared.Token.{Token}
 use Rattle.tokens.specs.declared.Scanned.{Scanned}
 use Rattle.tokens.specs.declared.Scanned.the-variants.{Tokens, Unscanned}
 use Rattle.tokens.specs.Scan.{Lexed, scan}
 use Rattle.tokens.specs.Tokens.{spelled}
-use Rattle.productions.specs.Normal.{normalized}
 use Rattle.checker.specs.Check.{passedTable}
 use Rattle.expansion.specs.Run.{Result, done, halt}
-use Rattle.expansion.specs.Expansion.{Input, ready, run}
+use Rattle.expansion.specs.Expansion.{inputOf, run}
 use Rattle.terms.specs.Rows.{termAt}
 use Rattle.terms.specs.Emit.{textOf, Emitted, emitted}
 
@@ -40,10 +36,6 @@ abbrev pub withCells : List ℕ → Emitted → Expanded
 withCells cells e = record { answer = e .answer; cells = cells; text = e .text }
 
 -- ------------------------------------------------------------------ from a passed table
-
-abbrev pub inputOf : Table → List Token → List ℕ → Input
-inputOf t tokens cells =
-    record { grammar = ready (normalized (t .blocks)); tokens = tokens; rows = rowsLent (length cells) }
 
 -- the last step with the term at the root's row, of which the text is written
 abbrev pub finished : (ℕ → List ℕ) → List ℕ → Result ℕ → Expanded

@@ -17,8 +17,8 @@ use Rattle.expansion.specs.declared.Outcome.{Outcome}
 use Rattle.expansion.specs.declared.Outcome.the-variants.{Value, Halted}
 use Rattle.expansion.specs.Run.{Result, halt}
 use Rattle.expansion.specs.Outcomes.{ran}
-use Rattle.expansion.specs.Expansion.{run}
-use Rattle.meaning.specs.Expand.{refused, inputOf, finished, scanned, expandTable, checkedFirst, expand}
+use Rattle.expansion.specs.Expansion.{inputOf, run}
+use Rattle.meaning.specs.Expand.{refused, finished, scanned, expandTable, checkedFirst, expand}
 use Rattle.parser.specs.declared.Parsed.{Parsed}
 use Rattle.parser.specs.Parse.{parseScanned, parseChecked, parse, parsedInto, haltedParse, outcomeOf, cellsAfter}
 use Rattle.parser.specs.Parse.{parseFilled, parseIntoChecked, parseInto}

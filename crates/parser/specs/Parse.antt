@@ -20,10 +20,9 @@ use Rattle.expansion.specs.declared.Outcome.{Outcome}
 use Rattle.expansion.specs.declared.Outcome.the-variants.{Value, Halted}
 use Rattle.expansion.specs.Run.{Result, done, halt}
 use Rattle.expansion.specs.Outcomes.{ran}
-use Rattle.expansion.specs.Expansion.{run}
 use Rattle.calls.specs.Lent.{Held}
 use Rattle.parser.specs.declared.Parsed.{Parsed}
-use Rattle.meaning.specs.Expand.{inputOf}
+use Rattle.expansion.specs.Expansion.{inputOf, run}
 use Rattle.tokens.specs.Tokens.{mostTokens}
 use Rattle.terms.specs.Cells.{columns, mostCells}
 
