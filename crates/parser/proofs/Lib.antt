@@ -1,4 +1,3 @@
-pub mod Naming
 pub mod Parsing
 pub mod Root
 pub mod Joining

@@ -1,53 +1,26 @@
--- An expansion is the parse of its formula and the last step.
-use Prim.Native.Nat.{ℕ}
+-- What a parse with lent rooms gives, case by case, and that the room of the tokens changes nothing but itself.
+use Prim.Native.Nat.{ℕ, suc}
 use mathlib.Core.Path.{_≡_, refl, ap, _∙_}
-use mathlib.Core.List.{List}
+use mathlib.Core.List.{List, [], _∷_}
 use native.Mathlib.Omega.{arith}
+use lib.Seq.{sets}
 use Rattle.answers.specs.declared.Refusal.{Refusal}
 use Rattle.answers.specs.declared.Verdict.the-variants.{Refused}
 use Rattle.answers.specs.Checked.{Checked, ok, bad, verdict}
 use Rattle.grammar.specs.Table.{Table, lexiconOfTable}
 use Rattle.tokens.specs.declared.Scanned.{Scanned}
 use Rattle.tokens.specs.declared.Scanned.the-variants.{Tokens, Unscanned}
-use Rattle.tokens.specs.Scan.{scan}
-use Rattle.scanner.specs.Rooms.{Filled, filled, scanInto}
-use Rattle.tokens.specs.Tokens.{spelled}
+use Rattle.tokens.specs.Scan.{Lexed, scan}
+use Rattle.scanner.specs.Rooms.{Filled, filled, scanInto, tokenRows, wordPlaces}
 use Rattle.checker.specs.Check.{passedTable, check}
 use Rattle.expansion.specs.declared.Outcome.{Outcome}
 use Rattle.expansion.specs.declared.Outcome.the-variants.{Value, Halted}
-use Rattle.expansion.specs.Run.{Result, halt}
 use Rattle.expansion.specs.Outcomes.{ran}
 use Rattle.expansion.specs.Expansion.{inputOf, run}
-use Rattle.meaning.specs.Expand.{refused, finished, scanned, expandTable, checkedFirst, expand}
 use Rattle.parser.specs.declared.Parsed.{Parsed}
-use Rattle.parser.specs.Parse.{parseScanned, parseChecked, parse, parsedInto, haltedParse, outcomeOf, cellsAfter}
-use Rattle.parser.specs.Parse.{parseFilled, parseIntoChecked, parseInto}
+use Rattle.parser.specs.Parse.{ParsedInto, parsedInto, haltedParse, outcomeOf, cellsAfter, parseFilled, parseIntoChecked, parseInto}
 
--- ------------------------------------------------------------------ what the parse gives
-
-module _ (bs formula cells : List ℕ) where
-  -- A table that the check refuses.
-  pub parse-refused : {refusal : Refusal} → check bs ≡ Refused refusal → parse bs formula cells ≡ halt refusal cells
-  unfolding check parse
-  parse-refused {refusal} e = go (passedTable bs) e
-    where
-      go : (checked : Checked Table) → verdict checked ≡ Refused refusal → parseChecked checked formula cells ≡ halt refusal cells
-      go (bad q) h = let z : q ≡ refusal = cc in rw z refl
-      go (ok t) h = let z : _≡_ {A = ℕ} 0 1 = cc in absurd (omega arith)
-
-  module _ {table : Table} (passed : passedTable bs ≡ ok table) where
-    -- A formula that the scan refuses.
-    pub parse-unscanned : {refusal : Refusal} → scan (lexiconOfTable table) formula .answer ≡ Unscanned refusal → parse bs formula cells ≡ halt refusal cells
-    unfolding parse
-    parse-unscanned e = rw (passed, e)
-
-    -- A formula that is tokens.
-    pub parse-run : {many word-count : ℕ} → scan (lexiconOfTable table) formula .answer ≡ Tokens many word-count
-        → parse bs formula cells ≡ run (inputOf table (scan (lexiconOfTable table) formula .tokens) cells) (table .root) cells
-    unfolding parse
-    parse-run e = rw (passed, e)
-
--- ------------------------------------------------------------------ with the rooms that are lent
+-- ------------------------------------------------------------------ case by case
 
 outcome-ran : (outcome : Outcome) (cells : List ℕ) → outcomeOf (ran outcome cells) ≡ outcome
 outcome-ran (Value v s) cells = refl
@@ -88,34 +61,35 @@ module _ (bs formula tokens words cells : List ℕ) where
         → parsedInto (record { outcome = outcome; words = word-count }) tokens′ words′ cells′ ≡ parseInto bs formula tokens words cells
     into-run outcome {cells′} e er = rw (into-filled e, ← er, outcome-ran outcome cells′, cells-ran outcome cells′)
 
--- ------------------------------------------------------------------ what the expansion makes of it
+-- ------------------------------------------------------------------ no room for tokens
 
-module _ (bs formula cells text : List ℕ) where
-  scanned-is : (table : Table) (given-scanned : Scanned)
-      → scanned table (scan (lexiconOfTable table) formula) given-scanned cells text
-      ≡ finished (spelled (lexiconOfTable table) (scan (lexiconOfTable table) formula .words)) text
-      (parseScanned table (scan (lexiconOfTable table) formula) given-scanned cells)
-  scanned-is table (Unscanned r) = refl
-  scanned-is table (Tokens n m) = refl
+-- nothing is stored where there is no room
+none-stored : (from : ℕ) (numbers : List ℕ) → sets [] from numbers ≡ []
+none-stored from [] = refl
+none-stored from (a ∷ rest) = none-stored (suc from) rest
 
-  -- An expansion of a passed table is the last step on what the parse gives.
-  pub expand-finishes : {table : Table} → passedTable bs ≡ ok table
-      → expand bs formula cells text
-      ≡ finished (spelled (lexiconOfTable table) (scan (lexiconOfTable table) formula .words)) text (parse bs formula cells)
-  unfolding expand expandTable parse
-  expand-finishes {table} e =
-      rw e (scanned-is table (scan (lexiconOfTable table) formula .answer))
+-- a parse without its room of tokens
+abbrev withoutTokens : ParsedInto → ParsedInto
+withoutTokens p = parsedInto (p .answer) [] (p .words) (p .cells)
 
-  -- An expansion whose parse refuses gives that refusal, with the cells made and the text as it was.
-  pub expand-refused : {refusal : Refusal} {cells′ : List ℕ} → parse bs formula cells ≡ halt refusal cells′
-      → expand bs formula cells text ≡ refused refusal cells′ text
-  unfolding expand expandTable parse
-  expand-refused {refusal} {cells′} e = go (passedTable bs) refl
-    where
-      go : (checked : Checked Table) → passedTable bs ≡ checked → checkedFirst (passedTable bs) formula cells text ≡ refused refusal cells′ text
-      go (bad q) h =
-          let a : _≡_ {A = Result ℕ} (halt q cells) (halt refusal cells′) = rw h at e in
-          let same : q ≡ refusal = cc in
-          let left : cells ≡ cells′ = cc in
-          rw (h, same, left)
-      go (ok t) h = expand-finishes h ∙ ap (finished (spelled (lexiconOfTable t) (scan (lexiconOfTable t) formula .words)) text) e
+module _ (bs formula tokens words cells : List ℕ) where
+  -- of tokens that were stored as well as of none
+  filled-alike : (table : Table) (lexed : Lexed) (answer : Scanned) (numbers places : List ℕ)
+      → withoutTokens (parseFilled table lexed (filled answer (sets tokens 0 numbers) places) cells)
+      ≡ parseFilled table lexed (filled answer (sets [] 0 numbers) places) cells
+  filled-alike table lexed (Unscanned r) numbers places = rw (none-stored 0 numbers) refl
+  filled-alike table lexed (Tokens n m) numbers places = rw (none-stored 0 numbers) refl
+
+  alike : (checked : Checked Table) → withoutTokens (parseIntoChecked checked formula tokens words cells) ≡ parseIntoChecked checked formula [] words cells
+  unfolding scanInto
+  alike (bad r) = refl
+  alike (ok t) =
+      filled-alike t (scan (lexiconOfTable t) formula) (scan (lexiconOfTable t) formula .answer) (tokenRows (scan (lexiconOfTable t) formula .tokens))
+      (sets words 0 (wordPlaces 0 (scan (lexiconOfTable t) formula .tokens)))
+
+  -- The answer, the words and the cells do not depend on the room that is lent for tokens.
+  pub tokens-apart : {parsed : Parsed} {tokens′ words′ cells′ : List ℕ}
+      → parsedInto parsed tokens′ words′ cells′ ≡ parseInto bs formula tokens words cells
+      → parsedInto parsed [] words′ cells′ ≡ parseInto bs formula [] words cells
+  unfolding parseInto
+  tokens-apart e = ap withoutTokens e ∙ alike (passedTable bs)

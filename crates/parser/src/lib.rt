@@ -14,13 +14,15 @@ use spellings::length_of;
 use tokens::Scanned;
 ghost use Prim.Native.Nat.{_*_, _-_};
 ghost use mathlib.Core.Path.{_≡_};
+ghost use mathlib.Core.List.{[]};
 ghost use lib.ListN.{length, getD};
 ghost use Rattle.expansion.specs.Outcomes.{ran};
 ghost use Rattle.expansion.specs.Expansion.{run};
 ghost use Rattle.calls.specs.Lent.{lentInput};
 ghost use Rattle.terms.specs.Cells.{rowsLent};
 ghost use Rattle.tokens.specs.Tokens.{mostTokens};
-ghost use Rattle.parser.specs.Parse.{Runnable, Rooms, WordRoom, Parseable, ParsesInto, ParsesTo, parsedInto, parseInto, numberedOutcome};
+ghost use Rattle.scanner.specs.Rooms.{RoomFor};
+ghost use Rattle.parser.specs.Parse.{Runnable, WordRoom, Parseable, parsedInto, parseInto, numberedOutcome};
 
 // Formulas up to this have the shortest rooms.
 pub const SHORT_FORMULA: usize = 128;
@@ -89,10 +91,8 @@ fn parse_checked(
     cells: &mut [u32],
 ) -> Parsed
     requires { ⌜ Parseable (now table) (now room) (now formula) (now tokens) (now words) ⌝ }
-    ensures { λ r. ⌜
-        ParsesInto (now (table .entry)) (now (formula .entry)) (now (tokens .entry)) (now (words .entry)) (now (cells .entry))
-        (now (tokens .exit)) (now (words .exit)) (now (cells .exit)) r
-        ⌝ }
+    ensures { λ r. ⌜ parsedInto r (now (tokens .exit)) (now (words .exit)) (now (cells .exit)) ≡ parseInto (now (table .entry))
+        (now (formula .entry)) (now (tokens .entry)) (now (words .entry)) (now (cells .entry)) ⌝ }
 {
     let scanned = scanner::scan(table, formula, tokens, words);
     match scanned {
@@ -115,11 +115,9 @@ fn parse_in(
     words: &mut [u32],
     cells: &mut [u32],
 ) -> Parsed
-    requires { ⌜ Rooms (now formula) (now tokens) (now words) ⌝ }
-    ensures { λ r. ⌜
-        ParsesInto (now (table .entry)) (now (formula .entry)) (now (tokens .entry)) (now (words .entry)) (now (cells .entry))
-        (now (tokens .exit)) (now (words .exit)) (now (cells .exit)) r
-        ⌝ }
+    requires { ⌜ RoomFor (now formula) (now tokens) (now words) ⌝ }
+    ensures { λ r. ⌜ parsedInto r (now (tokens .exit)) (now (words .exit)) (now (cells .exit)) ≡ parseInto (now (table .entry))
+        (now (formula .entry)) (now (tokens .entry)) (now (words .entry)) (now (cells .entry)) ⌝ }
 {
     let mut room = [0u64; ROOM];
     let verdict = checker::check_into(table, &mut room);
@@ -156,10 +154,12 @@ pub fn parse(
     parse_in(table, formula, tokens, words, cells)
 }
 
-// The same with a room of the size that a formula's tokens need at most.
+// The same with a room of its own for the tokens, of the size that a formula's tokens need at most. What is lent for tokens changes nothing
+// else, so the promise lends nothing there: it fixes the answer and every number of `words` and of `cells`.
 pub fn parse_by_size(table: &[u8], formula: &[u8], words: &mut [u32], cells: &mut [u32]) -> Parsed
     requires { ⌜ WordRoom (now formula) (now words) ⌝ }
-    ensures { λ r. ⌜ ParsesTo (now (table .entry)) (now (formula .entry)) (now (cells .entry)) (now (words .exit)) (now (cells .exit)) r ⌝ }
+    ensures { λ r. ⌜ parsedInto r [] (now (words .exit)) (now (cells .exit)) ≡ parseInto (now (table .entry)) (now (formula .entry)) []
+        (now (words .entry)) (now (cells .entry)) ⌝ }
 {
     if formula.len() <= SHORT_FORMULA {
         let mut tokens = [0u32; SHORT_FORMULA * TOKEN];

@@ -4,7 +4,7 @@ use Rattle.parser.proofs.parse.Statement.{statement}
 use Rattle.parser.proofs.parse.Tie as tie
 
 returns : tie.Need-returns
-returns c = let e = c .before .before .parse-in .ensures .whole in (e, rw (← e))
+returns c = let e = c .before .before .parse-in .ensures in (e, rw (← e))
 
 -- `parse` meets its contract.
 pub parse-spec : {M : Type 1} → statement M

@@ -1,13 +1,6 @@
 -- `parse_checked`: the scan refuses, or the tokens are run.
-use Prim.Native.Nat.{ℕ}
-use mathlib.Core.Path.{_≡_}
-use mathlib.Core.List.{List}
 use native.Mathlib.Omega.{arith}
 use Rattle.decoding.proofs.Split.{Bytes}
-use Rattle.tokens.specs.declared.Scanned.the-variants.{Tokens}
-use Rattle.scanner.specs.Rooms.{RoomFor}
-use Rattle.scanner.proofs.AfterScan.{Holds}
-use Rattle.grammar.specs.Table.{lexiconOfTable}
 use Rattle.parser.proofs.Joining as joining
 use borrow.Author.Needs.{needs}
 use Rattle.parser.proofs.parse_checked.Statement.{statement}
@@ -46,35 +39,23 @@ scan-requires : tie.Need-scan-requires
 scan-requires c κs =
     let back = c .before .before .before .before .before .before in
     let pre = back .before .pre in
-    record { short = omega (arith, pre .checked .held .grammar .small); room = pre .rooms .enough }
+    record { short = omega (arith, pre .checked .held .grammar .small); room = pre .rooms }
 
 run-tokens-requires : tie.Need-run-tokens-requires
 run-tokens-requires c κs =
     let told = c .before .before .before in
     let p = told .before .before .before .before .before .before in
     let pre = entry p .pre in
-    let a = entry p .args in
     record {
       held = pre .checked .held;
-      tokens-fit =
-          joining.scan-fills (bytes p) (pre .checked .passes) (a .formula .now) (a .cells .now) (pre .rooms .enough) (p .scan .ensures)
-          (told .scanned2 .given .1) .tokens-fit;
+      tokens-fit = joining.scan-fills (bytes p) (pre .checked .passes) _ _ _ (p .scan .ensures) (pre .rooms) (told .scanned2 .given .1) .tokens-fit;
     }
 
 returns : tie.Need-returns
 returns c =
     let told = c .before .before in
     let p = told .before .before .before .before .before .before in
-    let P = entry p .pre .checked .passes in
-    let rooms = entry p .pre .rooms .enough in
-    let a = entry p .args in
-    record {
-      parsed =
-          joining.refused-parses _ (c .halted .ensures)
-          (joining.parse-stops (bytes p) P (a .formula .now) (a .cells .now) rooms (p .scan .ensures) (told .scanned .given .1));
-      whole =
-          joining.stops-whole (bytes p) P (a .formula .now) (a .cells .now) rooms (p .scan .ensures) (told .scanned .given .1) (c .halted .ensures);
-    }
+    joining.stops-whole (bytes p) (entry p .pre .checked .passes) _ _ _ (p .scan .ensures) _ (told .scanned .given .1) (c .halted .ensures)
 
 returns-2 : tie.Need-returns-2
 returns-2 c =
@@ -82,9 +63,7 @@ returns-2 c =
     let told = ran .before .before .before .before in
     let p = told .before .before .before .before .before .before in
     let pre = entry p .pre in
-    let a = entry p .args in
-    joining.ran-parses (bytes p) (pre .checked .passes) (a .formula .now) (a .cells .now) (pre .rooms) (p .scan .ensures) (told .scanned2 .given .1)
-    (ran .run-tokens .ensures)
+    joining.runs-whole (bytes p) (pre .checked .passes) _ _ _ (p .scan .ensures) (pre .rooms) (told .scanned2 .given .1) _ (ran .run-tokens .ensures)
 
 -- `parse_checked` meets its contract.
 pub parse-checked-spec : {M : Type 1} → statement M

@@ -45,11 +45,7 @@ parse-checked-requires c κs =
 returns : tie.Need-returns
 returns c =
     let p = c .before .before .before .before in
-    let refused = sym (p .check-into .ensures .answer) ∙ c .before .before .verdict .given .1 in
-    record {
-      parsed = joining.refused-parses _ (c .halted .ensures) (sym (parsing.parse-refused _ _ _ refused));
-      whole = parsing.into-refused _ _ _ _ _ refused (c .halted .ensures);
-    }
+    parsing.into-refused _ _ _ _ _ (sym (p .check-into .ensures .answer) ∙ c .before .before .verdict .given .1) (c .halted .ensures)
 
 -- `parse_in` meets its contract.
 pub parse-in-spec : {M : Type 1} → statement M

@@ -3,7 +3,8 @@ use mathlib.Core.Path.{sym}
 use native.Mathlib.Omega.{arith}
 use lib.Seq.{length-take-le}
 use Rattle.decoding.proofs.Split.{Bytes}
-use Rattle.parser.proofs.Joining as joining
+use Rattle.parser.specs.Parse.{WordRoom}
+use Rattle.handover.proofs.LastStep as last-step
 use borrow.Author.Needs.{needs}
 use Rattle.vegzump.proofs.expand_in.Statement.{statement}
 use Rattle.vegzump.proofs.expand_in.Tie as tie
@@ -26,46 +27,45 @@ module _ (point : lts.After-parse-by-size claims reads.Pre reads.Post) where
   bytes : Bytes (known .before .args .table .now)
   bytes i = omega (arith, known .shared-slice-known .given i)
 
+  room : WordRoom (known .before .args .formula .now) (known .before .args .words .now)
+  room = known .before .pre
+
 mul-end : tie.Need-mul-end
 mul-end c =
     let told = c .before in
     let p = told .before .before .before .before .before .before in
-    omega (arith, p .parse-by-size .ensures .rows-lie _ _ (told .outcome2 .given .1) .few)
+    omega (arith, last-step.rows-lie _ (bytes p) (room p) _ (p .parse-by-size .ensures) (told .outcome2 .given .1) .few)
 
 slice-reshare-prefix-emit : tie.Need-slice-reshare-prefix-emit
 slice-reshare-prefix-emit c =
     let told = c .before .before in
     let p = told .before .before .before .before .before .before in
-    p .parse-by-size .ensures .rows-lie _ _ (told .outcome2 .given .1) .inside
+    last-step.rows-lie _ (bytes p) (room p) _ (p .parse-by-size .ensures) (told .outcome2 .given .1) .inside
 
 slice-aggregate-emit : tie.Need-slice-aggregate-emit
 slice-aggregate-emit c =
     let told = c .before .before .before in
     let p = told .before .before .before .before .before .before in
-    sym (length-take-le _ _ (p .parse-by-size .ensures .rows-lie _ _ (told .outcome2 .given .1) .inside))
+    sym (length-take-le _ _ (last-step.rows-lie _ (bytes p) (room p) _ (p .parse-by-size .ensures) (told .outcome2 .given .1) .inside))
 
 emit-requires : tie.Need-emit-requires
 emit-requires c κs =
     let told = c .before .before .before .before in
     let p = told .before .before .before .before .before .before in
-    let q = p .parse-by-size .ensures in
-    let e = told .outcome2 .given .1 in
-    joining.emittable (bytes p) _ (q .words-known _ _ e) (joining.value-reached q e)
+    last-step.emittable _ (bytes p) (room p) _ (p .parse-by-size .ensures) (told .outcome2 .given .1)
 
 returns : tie.Need-returns
 returns c =
     let told = c .before in
     let p = told .before .before .before .before .before .before in
-    joining.call-refuses (p .parse-by-size .ensures) _ (told .outcome .given .1)
+    last-step.call-refuses _ (bytes p) (room p) _ (p .parse-by-size .ensures) _ (told .outcome .given .1)
 
 returns-2 : tie.Need-returns-2
 returns-2 c =
     let emitted = c .before .before in
     let told = emitted .before .before .before .before .before in
     let p = told .before .before .before .before .before .before in
-    let q = p .parse-by-size .ensures in
-    let v = told .outcome2 .given .1 in
-    joining.emits (bytes p) _ (q .words-known _ _ v) (joining.value-reached q v) _ (emitted .emit .ensures)
+    last-step.emits _ (bytes p) (room p) _ (p .parse-by-size .ensures) (told .outcome2 .given .1) _ (emitted .emit .ensures)
 
 -- `expand_in` meets its contract.
 pub expand-in-spec : {M : Type 1} → statement M

@@ -10,8 +10,7 @@ use Rattle.spellings.specs.Bytes.{isWord}
 use Rattle.grammar.specs.Table.{Lexicon, lexiconOfTable}
 use Rattle.grammar.specs.Lookup.{lexiconOf}
 use Rattle.decoding.specs.Within.{Each, each-none, each-more, Different, different-none, different-more, Among}
-use Rattle.decoding.proofs.LayoutTheorems.{decode-exactly}
-use Rattle.decoding.proofs.DecodedLexicon.{lexicon-decoded}
+use Rattle.decoding.proofs.Split.{Bytes}
 use Rattle.tokens.specs.Scan.{scan}
 use Rattle.scanner.specs.Rooms.{wordsFrom, wordsIn}
 use Rattle.tokens.specs.Tokens.{spelled}
@@ -31,6 +30,7 @@ use Rattle.soundness.specs.Places.{placed-nil, placed-cons}
 use Rattle.soundness.specs.Places.{Supplied, supplied-word, supplied-outside}
 use Rattle.soundness.proofs.Normalizing as normalizing
 use Rattle.checker.specs.Passes.{Passes}
+use Rattle.parser.proofs.Joining.{lexicon-passed}
 
 -- ------------------------------------------------------------------ lists
 
@@ -97,15 +97,11 @@ module _ {tokens : List Token} {outside-count : ℕ} {given : List Given} (spell
 
 -- ------------------------------------------------------------------ a passed table
 
-module _ (bs : List ℕ) (bytes : (place : ℕ) → getD bs place 0 < 256) (passes : Passes bs) where
-  -- The scanner finds the keywords and outside names of a passed table in its bytes.
-  pub lexicon-passed : lexiconOf bs ≡ lexiconOfTable (passes .table)
-  lexicon-passed = lexicon-decoded bs (passes .table) (decode-exactly bs bytes (passes .table) .1 (passes .encoded, passes .within))
-
+module _ (bs : List ℕ) (bytes : Bytes bs) (passes : Passes bs) where
   -- An outside name fits the room of a spelling.
   pub outsides-fit : (number : ℕ) → length (oneOf (lexiconOf bs .outsides) number) < spellingRoom
   outsides-fit number =
-      rw lexicon-passed (short-words (passes .table .outsides) (λ i l. each-at (passes .within .outsides) i [] l) number)
+      rw (lexicon-passed bytes passes) (short-words (passes .table .outsides) (λ i l. each-at (passes .within .outsides) i [] l) number)
 
   module _ (formula words : List ℕ) {many count : ℕ} (answered : scan (lexiconOfTable (passes .table)) formula .answer ≡ Tokens many count)
       (words-are : wordsIn formula words count ≡ scan (lexiconOfTable (passes .table)) formula .words) where
@@ -123,7 +119,7 @@ module _ (bs : List ℕ) (bytes : (place : ℕ) → getD bs place 0 < 256) (pass
     pub spelled-by : spelledBy bs formula words count ≡ spelled (lexiconOfTable (passes .table)) (scan (lexiconOfTable (passes .table)) formula .words)
     spelled-by =
         spelled-lists bs formula words (scan (lexiconOfTable (passes .table)) formula .words) words-list
-        ∙ ap (λ (l : Lexicon). spelled l (scan (lexiconOfTable (passes .table)) formula .words)) lexicon-passed
+        ∙ ap (λ (l : Lexicon). spelled l (scan (lexiconOfTable (passes .table)) formula .words)) (lexicon-passed bytes passes)
 
     -- So has a word of the formula.
     pub words-fit : (index : ℕ) → index < count → length (spanned formula words index) < spellingRoom
