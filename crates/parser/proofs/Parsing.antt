@@ -18,17 +18,9 @@ use Rattle.expansion.specs.declared.Outcome.the-variants.{Value, Halted}
 use Rattle.expansion.specs.Outcomes.{ran}
 use Rattle.expansion.specs.Expansion.{inputOf, run}
 use Rattle.parser.specs.declared.Parsed.{Parsed}
-use Rattle.parser.specs.Parse.{ParsedInto, parsedInto, haltedParse, outcomeOf, cellsAfter, parseFilled, parseIntoChecked, parseInto}
+use Rattle.parser.specs.Parse.{ParsedInto, parsedInto, haltedParse, parseFilled, parseIntoChecked, parseInto}
 
 -- ------------------------------------------------------------------ case by case
-
-outcome-ran : (outcome : Outcome) (cells : List ℕ) → outcomeOf (ran outcome cells) ≡ outcome
-outcome-ran (Value v s) cells = refl
-outcome-ran (Halted r) cells = refl
-
-cells-ran : (outcome : Outcome) (cells : List ℕ) → cellsAfter (ran outcome cells) ≡ cells
-cells-ran (Value v s) cells = refl
-cells-ran (Halted r) cells = refl
 
 module _ (bs formula tokens words cells : List ℕ) where
   -- A table that the check refuses leaves all rooms as they were.
@@ -59,7 +51,8 @@ module _ (bs formula tokens words cells : List ℕ) where
         → filled (Tokens many word-count) tokens′ words′ ≡ scanInto (lexiconOfTable table) formula tokens words
         → ran outcome cells′ ≡ run (inputOf table (scan (lexiconOfTable table) formula .tokens) cells) (table .root) cells
         → parsedInto (record { outcome = outcome; words = word-count }) tokens′ words′ cells′ ≡ parseInto bs formula tokens words cells
-    into-run outcome {cells′} e er = rw (into-filled e, ← er, outcome-ran outcome cells′, cells-ran outcome cells′)
+    into-run (Value v s) e er = rw (into-filled e, ← er)
+    into-run (Halted r) e er = rw (into-filled e, ← er)
 
 -- ------------------------------------------------------------------ no room for tokens
 

@@ -136,8 +136,9 @@ fn known_rooms(tokens: &[u32; ALL_TOKENS], words: &[u32; ALL_WORDS]) -> usize
 }
 
 // Check, scan and run in one, with rooms for all tokens and words that a formula may have. The first promise fixes the answer and every
-// lent room, the second gives document 01's number and values. They rule out, among others, a parse that scans under a table that the check
-// refuses, and so changes the rooms, and one that leaves the cells of a run that halts as they were.
+// lent room; the second gives a refusal's number and values by document 01, and 0 and the cells made where a value is reached. They rule
+// out, among others, a parse that scans under a table that the check refuses, and so changes the rooms, and one that leaves the cells of a
+// run that halts as they were.
 pub fn parse(
     table: &[u8],
     formula: &[u8],
