@@ -5,7 +5,7 @@ use mathlib.Core.Bool.{Bool, true, false}
 use mathlib.Core.List.{List, []}
 use native.Mathlib.Omega.{arith}
 use lib.Dec.{ltb}
-use lib.ListN.{length, replicate, getD}
+use lib.ListN.{length, replicate, drop, List·getD-append}
 use borrow.Author.Tests.{lt-ltb, le-ltb}
 use Rattle.answers.specs.declared.Refusal.{Refusal}
 use Rattle.answers.specs.Refusals.{refusal}
@@ -17,7 +17,7 @@ use Rattle.expansion.specs.Outcomes.{ran}
 use Rattle.expansion.specs.Expansion.{Input, runCall, initialState, ended, run}
 use Rattle.expansion.specs.Limits.{mostOpen}
 use Rattle.templates.specs.Built.{Holds}
-use Rattle.frames.specs.Frames.{frameSize, longFrames, LevelFits, Saved, resume, owed, stacked-none, Standing}
+use Rattle.frames.specs.Frames.{frameSize, longFrames, LevelFits, Saved, withFront, resume, owed, stacked-none, Standing}
 use Rattle.frames.proofs.FrameLaws.{waits-saved, standing-same}
 use Rattle.terms.specs.Cells.{rowsLent}
 use Rattle.choices.specs.Chosen.{Remembers}
@@ -63,25 +63,26 @@ standing-root {first = first} t cells fits saved =
 
 -- The calls that stand in a room stand in a longer one that has the same at its front.
 pub standing-copied : {input : Input} {bs short frames : List ℕ} {level : ℕ} {here : State} {cells : List ℕ} {result : Result ℕ}
-    → length short ≤ length frames → ((i : ℕ) → i < length short → getD frames i 0 ≡ getD short i 0)
+    → length short ≤ length frames → (old : List ℕ) → frames ≡ withFront old short
     → Standing input bs short level here cells result
     → Standing input bs frames level here cells result
-standing-copied fit same s =
-    standing-same (record { few = s .fits .few; inside = omega (arith, s .fits .inside) }) (λ i l. same i (omega (arith, s .fits .inside))) s
+standing-copied {short = short} fit old e s =
+    standing-same (record { few = s .fits .few; inside = omega (arith, s .fits .inside) })
+    (λ i l. rw e (List·getD-append short (drop (length short) old) 0 i (omega (arith, s .fits .inside)))) s
 
 -- They go on there, if it has a level more.
 pub may-go : {bs room memory tokens : List ℕ} {n : ℕ} {cells stack short frames : List ℕ} {from : Resumption}
     → MayStand bs room memory tokens n cells stack short from
-    → length short + frameSize ≤ length frames → ((i : ℕ) → i < length short → getD frames i 0 ≡ getD short i 0)
+    → length short + frameSize ≤ length frames → (old : List ℕ) → frames ≡ withFront old short
     → MayGo bs room memory tokens n cells stack frames from
-may-go may fit same =
+may-go may fit old e =
     record {
       stands =
           record {
             lent = may .lent;
             remembers = may .remembers;
             result = may .result;
-            standing = standing-copied (omega arith) same (may .standing);
+            standing = standing-copied (omega arith) old e (may .standing);
           };
       next-fits = omega (arith, may .standing .fits .inside);
     }

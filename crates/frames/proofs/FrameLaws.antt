@@ -1,12 +1,13 @@
 -- Laws of the calls that wait: how they stand in a room, and what they make of the value of the call above them.
-use Prim.Native.Nat.{ℕ, _+_, _*_, _<_, _≤_}
+use Prim.Native.Nat.{ℕ, suc, _+_, _*_, _<_, _≤_}
 use mathlib.Core.Path.{_≡_, refl, sym, _∙_}
 use mathlib.Core.Bool.{true}
-use mathlib.Core.List.{List, [], _∷_}
+use mathlib.Core.List.{List, [], _∷_, _++_}
 use native.Mathlib.Omega.{arith}
 use native.Mathlib.Decide.{ℕ-discrete}
-use lib.ListN.{length, getD, set, length-set, replicate}
-use lib.Seq.{getD-set-same, getD-set-other}
+use lib.ListN.{length, getD, set, take, drop, length-set, replicate}
+use lib.Seq.{getD-set-same, getD-set-other, drop-cons, take-suc, take-length, length-take-le, set-at, append-snoc}
+use native.Mathlib.Numerals.{add-one}
 use Rattle.answers.specs.declared.Refusal.{Refusal}
 use Rattle.grammar.specs.Lookup.{fieldsAt}
 use Rattle.productions.specs.Index.{wholeBody}
@@ -14,7 +15,7 @@ use Rattle.expansion.specs.declared.State.{State}
 use Rattle.expansion.specs.Run.{Result, halt}
 use Rattle.expansion.specs.Expansion.{Input}
 use Rattle.templates.specs.Built.{Holds}
-use Rattle.frames.specs.Frames.{frameSize, LevelFits, Saved, Loaded, Frame, resume, Waits, Stacked, stacked-none, stacked-one}
+use Rattle.frames.specs.Frames.{frameSize, LevelFits, Saved, Loaded, withFront, Frame, resume, Waits, Stacked, stacked-none, stacked-one}
 use Rattle.frames.specs.Frames.{Standing}
 
 -- ------------------------------------------------------------------ 16 variables, copied one by one
@@ -29,10 +30,13 @@ pub record Saving (old new : List ℕ) (base : ℕ) (vars : List ℕ) (done : �
   pub same : (place : ℕ) → place < base → getD new place 0 ≡ getD old place 0
   -- the first `done` stand in their places
   pub values : (place : ℕ) → place < done → getD new (base + place) 0 ≡ getD vars place 0
+  -- what stands behind 16 places is as before
+  pub above : (place : ℕ) → base + 16 ≤ place → getD new place 0 ≡ getD old place 0
 
 -- None stands yet.
 pub saving-start : (old : List ℕ) (base : ℕ) (vars : List ℕ) → Saving old old base vars 0
-saving-start old base vars = record { long = refl; small = omega arith; same = λ j h. refl; values = λ j h. absurd (omega arith) }
+saving-start old base vars =
+    record { long = refl; small = omega arith; same = λ j h. refl; values = λ j h. absurd (omega arith); above = λ j h. refl }
 
 -- One more stands.
 pub saving-next : {old new : List ℕ} {base : ℕ} {vars : List ℕ} {done : ℕ} → Saving old new base vars done → done < 16 → base + 16 ≤ length old
@@ -43,6 +47,7 @@ saving-next {old} {new} {base} {vars} {done} c h room =
       small = omega arith;
       same = λ j l. getD-set-other new (base + done) j (getD vars done 0) 0 (λ e. omega arith) ∙ c .same j l;
       values = λ j l. by j l (ℕ-discrete j done);
+      above = λ j l. getD-set-other new (base + done) j (getD vars done 0) 0 (λ e. omega arith) ∙ c .above j l;
     }
   where
     by : (place : ℕ) → place < done + 1 → Dec (place ≡ done) → getD (set new (base + done) (getD vars done 0)) (base + place) 0 ≡ getD vars place 0
@@ -57,6 +62,7 @@ pub saving-end : {old new : List ℕ} {level : ℕ} {vars : List ℕ} {done : �
     → Saved old (set (set new (level * frameSize + 16) count) (level * frameSize + 17) next) level vars count next
 saving-end {old} {new} {level} {vars} {done} c h room count next =
     record {
+      long = length-set (set new (level * frameSize + 16) count) (level * frameSize + 17) next ∙ length-set new (level * frameSize + 16) count ∙ c .long;
       same = λ j l. kept j (λ e. omega arith) (λ e. omega arith) ∙ c .same j l;
       values = λ j l. kept (level * frameSize + j) (λ e. omega arith) (λ e. omega arith) ∙ c .values j (omega arith);
       counted =
@@ -65,6 +71,7 @@ saving-end {old} {new} {level} {vars} {done} c h room count next =
       next-is =
           getD-set-same (set new (level * frameSize + 16) count) (level * frameSize + 17) next 0
           (omega (arith, c .long, length-set new (level * frameSize + 16) count));
+      above = λ j l. kept j (λ e. omega arith) (λ e. omega arith) ∙ c .above j (omega arith);
     }
   where
     kept : (place : ℕ) → (place ≡ level * frameSize + 16 → ⊥) → (place ≡ level * frameSize + 17 → ⊥)
@@ -198,8 +205,8 @@ pub record Copying (short old frames : List ℕ) (done : ℕ) : Type 0 where
   pub long : length frames ≡ length old
   -- no more is copied than there is
   pub small : done ≤ length short
-  -- the first `done` numbers are copied
-  pub values : (place : ℕ) → place < done → getD frames place 0 ≡ getD short place 0
+  -- the first `done` numbers are copied, and the others stay
+  pub room-is : frames ≡ take done short ++ drop done old
 
 -- One more number is copied.
 pub copying-next : {short old frames : List ℕ} {done : ℕ} → Copying short old frames done → done < length short → length short ≤ length old
@@ -208,10 +215,14 @@ copying-next {short} {old} {frames} {done} c h fits =
     record {
       long = length-set frames done (getD short done 0) ∙ c .long;
       small = omega arith;
-      values = λ j l. by j l (ℕ-discrete j done);
+      room-is =
+          rw (c .room-is, add-one done, drop-cons old done 0 (omega arith), take-suc short done 0 h)
+          (set-at (take done short) (getD old done 0) (drop (suc done) old) (getD short done 0) done (length-take-le done short (omega arith))
+          ∙ sym (append-snoc (take done short) (getD short done 0) (drop (suc done) old)));
     }
-  where
-    by : (place : ℕ) → place < done + 1 → Dec (place ≡ done) → getD (set frames done (getD short done 0)) place 0 ≡ getD short place 0
-    by place l (yes e) =
-        rw (e, getD-set-same frames done (getD short done 0) 0 (omega (arith, c .long)))
-    by place l (no n) = getD-set-other frames done place (getD short done 0) 0 n ∙ c .values place (omega arith)
+
+-- All are copied.
+pub copying-end : {short old frames : List ℕ} {done : ℕ} → Copying short old frames done → length short ≤ done → frames ≡ withFront old short
+copying-end {short} {done = done} c h =
+    let all : done ≡ length short = omega (arith, c .small) in
+    rw (c .room-is, all, take-length short)

@@ -4,7 +4,7 @@ use Prim.Native.Nat.{ℕ, _+_, _-_, _*_, _<_, _≤_}
 use mathlib.Core.Path.{_≡_}
 use mathlib.Core.Bool.{true}
 use mathlib.Core.List.{List, [], _∷_, _++_}
-use lib.ListN.{length, getD}
+use lib.ListN.{length, getD, drop}
 use Rattle.grammar.specs.Variables.{mostVariables}
 use Rattle.grammar.specs.Lookup.{fieldsAt}
 use Rattle.productions.specs.Index.{wholeBody}
@@ -43,12 +43,18 @@ pub record LevelFits (frames : List ℕ) (level : ℕ) : Type 0 where
   pub few : level ≤ mostWaiting
   pub inside : level * frameSize + frameSize ≤ length frames
 
--- one more stands above `level` others, which stay
+-- one more stands above `level` others; all other numbers of the room stay
 pub record Saved (old new : List ℕ) (level : ℕ) (vars : List ℕ) (count next : ℕ) : Type 0 where
+  pub long : length new ≡ length old
   pub same : (i : ℕ) → i < level * frameSize → getD new i 0 ≡ getD old i 0
   pub values : (i : ℕ) → i < mostVariables → getD new (level * frameSize + i) 0 ≡ getD vars i 0
   pub counted : getD new (level * frameSize + countAt) 0 ≡ count
   pub next-is : getD new (level * frameSize + nextAt) 0 ≡ next
+  pub above : (i : ℕ) → level * frameSize + frameSize ≤ i → getD new i 0 ≡ getD old i 0
+
+-- a room with another at its front
+abbrev pub withFront : List ℕ → List ℕ → List ℕ
+withFront frames short = short ++ drop (length short) frames
 
 -- its variables, read back
 pub record Loaded (frames : List ℕ) (level : ℕ) (vars : List ℕ) : Type 0 where

@@ -2,10 +2,10 @@
 use expansion::MOST_OPEN;
 use grammar::limits::MOST_VARIABLES;
 use spellings::wide_number;
-ghost use Prim.Native.Nat.{ℕ, _+_, _*_, _^_, _≤_, _<_};
+ghost use Prim.Native.Nat.{_+_, _*_, _^_, _≤_, _<_};
 ghost use mathlib.Core.Path.{_≡_};
 ghost use lib.ListN.{length, getD};
-ghost use Rattle.frames.specs.Frames.{frameSize, countAt, nextAt, LevelFits, Saved, Loaded};
+ghost use Rattle.frames.specs.Frames.{frameSize, countAt, nextAt, LevelFits, Saved, Loaded, withFront};
 
 // Where a frame has the count of its variables and the offset to go on at, behind their values.
 const COUNT: usize = MOST_VARIABLES;
@@ -80,7 +80,7 @@ pub fn next_of(frames: &[u32], level: usize) -> usize
 // The frames of a room at the front of one that is no shorter.
 pub fn copy(frames: &mut [u32], short: &[u32])
     requires { ⌜ length (now short) ≤ length (now frames) ⌝ }
-    ensures { λ r. ⌜ ((i : ℕ) → i < length (now (short .entry)) → getD (now (frames .exit)) i 0 ≡ getD (now (short .entry)) i 0) ⌝ }
+    ensures { λ r. ⌜ now (frames .exit) ≡ withFront (now (frames .entry)) (now (short .entry)) ⌝ }
 {
     let mut i: usize = 0;
     while i < short.len() {

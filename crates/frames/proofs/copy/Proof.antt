@@ -15,13 +15,13 @@ abbrev μ-loop : tie.MeasureT-loop
 μ-loop frames₀ short i₀ frames i = length short - i
 
 loop-holds : tie.Need-loop-holds Inv-loop μ-loop
-loop-holds c = record { long = refl; small = omega arith; values = λ j l. absurd (omega arith) }
+loop-holds c = record { long = refl; small = omega arith; room-is = refl }
 
 loop-again : tie.Need-loop-again Inv-loop μ-loop
 loop-again c = search laws.copying-next
 
 returns : tie.Need-returns Inv-loop μ-loop
-returns c = λ i l. c .before .loop .inv .values i (omega (arith, c .loop-test .left))
+returns c = search laws.copying-end
 
 -- the function meets its contract
 pub copy-spec : {M : Type 1} → statement M
