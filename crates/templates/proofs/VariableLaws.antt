@@ -5,18 +5,18 @@ use mathlib.Core.Bool.{Bool, true, false}
 use mathlib.Core.List.{List, [], _∷_, _++_}
 use native.Mathlib.Omega.{arith}
 use native.Mathlib.Numerals.{add-one, add-two, add-three}
-use native.Mathlib.Decide.{ℕ-discrete}
+use native.Mathlib.Decide.{ℕ-discrete, decLt}
 use lib.Dec.{eqb}
 use lib.ListN.{length, getD, take, set, length-append, length-set, List·getD-append}
 use lib.Seq.{sets, getD-at, getD-set-same, getD-set-other}
-use borrow.Author.Tests.{eq-eqb, ne-eqb}
+use borrow.Author.Tests.{eq-eqb, ne-eqb, lt-ltb, le-ltb}
 use Rattle.grammar.proofs.ReaderLaws.{getD-past}
 use Rattle.terms.specs.Cells.{outsideName, rowsLent}
 use Rattle.decoding.specs.Prefix.{nameBy}
 use Rattle.expansion.specs.declared.State.{State}
 use Rattle.expansion.specs.Run.{done}
 use Rattle.expansion.specs.Expansion.{Input, build}
-use Rattle.templates.specs.Built.{RoomsFit, Holds}
+use Rattle.templates.specs.Built.{RoomsFit, Holds, withValue}
 use Rattle.grammar.specs.Limits.{most}
 
 -- ------------------------------------------------------------------ variables
@@ -37,18 +37,16 @@ module _ (env values : List ℕ) (count : ℕ) (holds : Holds env count values) 
   older : (value index : ℕ) → index < count → getD (values ++ (value ∷ [])) index 0 ≡ getD values index 0
   older value index l = List·getD-append values (value ∷ []) 0 index (omega (arith, holds .count))
 
-  -- from the seventeenth on, no value is kept
-  pub put-outside : (value : ℕ) → 16 ≤ count → Holds env (count + 1) (values ++ (value ∷ []))
-  put-outside value l =
+  outside : (value : ℕ) → 16 ≤ count → Holds env (count + 1) (values ++ (value ∷ []))
+  outside value l =
       record {
         long = holds .long;
         count = longer value;
         same = λ i small less. holds .same i small (omega arith) ∙ sym (older value i (omega arith));
       }
 
-  -- a value is kept at its place
-  pub put-inside : (value : ℕ) → count < 16 → Holds (set env count value) (count + 1) (values ++ (value ∷ []))
-  put-inside value l =
+  inside : (value : ℕ) → count < 16 → Holds (set env count value) (count + 1) (values ++ (value ∷ []))
+  inside value l =
       record {
         long = length-set env count value ∙ holds .long;
         count = longer value;
@@ -61,6 +59,26 @@ module _ (env values : List ℕ) (count : ℕ) (holds : Holds env count values) 
       by index less (no n) =
           let l′ : index < count = omega arith in
           getD-set-other env count index value 0 n ∙ holds .same index (omega arith) l′ ∙ sym (older value index l′)
+
+module _ (env : List ℕ) (count value : ℕ) where
+  -- a value is kept at its place
+  pub put-inside : count < 16 → set env count value ≡ withValue env count value
+  unfolding withValue
+  put-inside l = rw (lt-ltb count 16 l, withValue)
+
+  -- from the seventeenth on, no value is kept
+  pub put-outside : 16 ≤ count → env ≡ withValue env count value
+  unfolding withValue
+  put-outside l = rw (le-ltb count 16 l, withValue)
+
+-- an array that holds some values holds one more
+pub holds-more : {env env′ : List ℕ} {count : ℕ} (value : ℕ) → env′ ≡ withValue env count value → (values : List ℕ) → Holds env count values
+    → Holds env′ (count + 1) (values ++ (value ∷ []))
+holds-more {env} {env′} {count} value e values holds = by (decLt count 16)
+  where
+    by : Dec (count < 16) → Holds env′ (count + 1) (values ++ (value ∷ []))
+    by (yes l) = rw (e ∙ sym (put-inside env count value l)) (inside env values count holds value l)
+    by (no n) = rw (e ∙ sym (put-outside env count value (omega arith))) (outside env values count holds value (omega arith))
 
 -- ------------------------------------------------------------------ outside names
 

@@ -2,8 +2,10 @@
 -- prefix form, and rows. These definitions mirror code: nobody needs them to believe `expand`.
 use Prim.Native.Nat.{ℕ, _*_, _/_, _<_, _≤_, min}
 use mathlib.Core.Path.{_≡_}
+use mathlib.Core.Bool.{true, false}
 use mathlib.Core.List.{List}
-use lib.ListN.{length, getD, drop}
+use lib.Dec.{ltb}
+use lib.ListN.{length, getD, drop, set}
 use Rattle.grammar.specs.Variables.{mostVariables}
 use Rattle.answers.specs.Refusals.{refusal}
 use Rattle.terms.specs.Cells.{columns, mostCells}
@@ -32,6 +34,10 @@ pub record Holds (env : List ℕ) (k : ℕ) (M : List ℕ) : Type 0 where
   pub long : length env ≡ mostVariables
   pub count : length M ≡ k
   pub same : (i : ℕ) → i < mostVariables → i < k → getD env i 0 ≡ getD M i 0
+
+-- an array of 16 with a value at place k, if it has that place
+unfoldable pub withValue : List ℕ → ℕ → ℕ → List ℕ
+withValue env k v = elim (ltb k mostVariables) [ true ↦ set env k v | false ↦ env ]
 
 -- the state with another number of cells made
 abbrev pub withMade : State → ℕ → State

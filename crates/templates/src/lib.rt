@@ -12,7 +12,7 @@ use terms::MOST_CELLS;
 use terms::OUTSIDE;
 ghost use Prim.Native.Nat.{ℕ, _+_, _*_, _/_, _%_, _<_, _≤_};
 ghost use mathlib.Core.Path.{_≡_};
-ghost use mathlib.Core.List.{List, [], _∷_, _++_};
+ghost use mathlib.Core.List.{List, _∷_};
 ghost use lib.ListN.{length, getD, take, drop};
 ghost use lib.Seq.{sets};
 ghost use Rattle.grammar.specs.Variables.{mostVariables};
@@ -25,7 +25,7 @@ ghost use mathlib.Core.Bool.{true};
 ghost use Rattle.expansion.specs.declared.State.{State};
 ghost use Rattle.expansion.specs.Run.{done};
 ghost use Rattle.expansion.specs.Expansion.{Input, build, buildAll};
-ghost use Rattle.templates.specs.Built.{RoomsFit, Holds, withMade, Ahead, Evaluates, Behind, Lists, Few};
+ghost use Rattle.templates.specs.Built.{RoomsFit, Holds, withValue, withMade, Ahead, Evaluates, Behind, Lists, Few};
 ghost use Rattle.templates.specs.Heads.{HeadValue, Heads, Takes};
 
 // What a template gives: its value, the offset behind it and the cells then made; or no row is left for a cell.
@@ -64,7 +64,7 @@ pub fn pick(env: &[u32; MOST_VARIABLES], k: usize, i: usize) -> u32
 
 // One more value behind k. The seventeenth and later ones are named by no template.
 pub fn put(env: &mut [u32; MOST_VARIABLES], k: usize, v: u32)
-    ensures { λ r. ⌜ ((M : List ℕ) → Holds (now (env .entry)) k M → Holds (now (env .exit)) (k + 1) (M ++ (v ∷ []))) ⌝ }
+    ensures { λ r. ⌜ now (env .exit) ≡ withValue (now (env .entry)) k v ⌝ }
 {
     if k < MOST_VARIABLES {
         env[k] = v;

@@ -15,6 +15,7 @@ use Rattle.expansion.specs.Run.{Result, done, halt, Run, after}
 use Rattle.expansion.specs.Outcomes.{ran}
 use Rattle.expansion.specs.Expansion.{Input, build, runItems, runCall}
 use Rattle.templates.specs.Built.{Holds}
+use Rattle.templates.proofs.VariableLaws.{holds-more}
 use Rattle.choices.specs.Chosen.{Remembers}
 use Rattle.steps.specs.declared.ItemStep.{ItemStep}
 use Rattle.steps.specs.declared.ItemStep.the-variants.{Finished, Stopped, Taken, Opened}
@@ -178,7 +179,7 @@ module _ {input : Input} {bs frames vars : List ℕ} {cursor : Cursor} {cells : 
                 stacked = going .stacked;
                 light = onward-light o (owed bs (going .waiting)) (going .light);
                 M = going .M ++ (made-value ∷ []);
-                holds = v .holds (going .M) (going .holds);
+                holds = holds-more made-value (v .vars-are) (going .M) (going .holds);
                 rest = instead (sym (steps equal callee));
               },
               spare,
@@ -307,7 +308,7 @@ module _ {input : Input} {bs frames vars : List ℕ} {cursor : Cursor} {cells : 
             rw (r .values .cursor-is, v)
             (record {
               stands = (
-                closed-going (r .resumes) (rw v at (r .values .holds)),
+                closed-going (r .resumes) (holds-more made-value (rw v at (r .values .vars-are))),
                 omega (arith, going .fits .inside),
               );
               less =

@@ -11,7 +11,7 @@ use Rattle.expansion.specs.declared.State.{State}
 use Rattle.expansion.specs.Run.{Result, after}
 use Rattle.expansion.specs.Outcomes.{ran}
 use Rattle.expansion.specs.Expansion.{Input, runCall}
-use Rattle.templates.specs.Built.{Holds}
+use Rattle.templates.specs.Built.{Holds, withValue}
 use Rattle.steps.specs.Steps.{body, weight, mostWeight, Onward}
 use Rattle.frames.specs.Frames.{frameSize, countAt, nextAt, longFrames, mostWaiting, LevelFits, Saved, Loaded, Frame, resume, owed, Stacked, Standing}
 use Rattle.turns.specs.declared.Resumption.{Resumption}
@@ -51,7 +51,7 @@ pub record Resumes (frames : List ℕ) (from : Resumption) (vars : List ℕ) (c 
 
 -- a value is one more variable
 pub record Values (vars : List ℕ) (c : Cursor) (x next : ℕ) (t : State) (vars′ : List ℕ) (d : Cursor) : Type 0 where
-  pub holds : (M : List ℕ) → Holds vars (c .count) M → Holds vars′ (c .count + 1) (M ++ (x ∷ []))
+  pub vars-are : vars′ ≡ withValue vars (c .count) x
   pub cursor-is : d ≡ moved c next t
 
 -- a value goes to the call at a level

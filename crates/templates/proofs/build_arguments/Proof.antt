@@ -6,6 +6,7 @@ use lib.ListN.{length}
 use borrow.Author.Needs.{needs}
 use Rattle.templates.proofs.ArgumentLaws as laws
 use Rattle.templates.proofs.BuildLaws.{node-takes}
+use Rattle.templates.proofs.VariableLaws.{holds-more}
 use Rattle.templates.proofs.build_arguments.Statement.{statement}
 use Rattle.templates.proofs.build_arguments.Tie as tie
 
@@ -52,7 +53,7 @@ loop-again c =
     let seen = leaf-seen c in
     let inv = seen .before .before .loop .inv in (
       laws.leaf-next (inv .0) (seen .before .loop-test .taken) (seen .head-at .result) (leaf c .head .given .1) (seen .head-at .ensures .0)
-          (seen .head-at .ensures .1) (c .put .last .0) (c .put .ensures),
+          (seen .head-at .ensures .1) (c .put .last .0) (holds-more _ (c .put .ensures)),
       inv .1,
     )
 
@@ -84,7 +85,7 @@ loop-again-2 : tie.Need-loop-again-2 Inv-loop μ-loop
 loop-again-2 c =
     let b = built c .build-node in (
       laws.listing-next (turn c .before .loop .inv .0) (turn c .loop-test .taken) _ _ (b .ensures .0) (search needs) (told c .part .given .1)
-          (b .ensures .1) (c .put2 .last .0) (c .put2 .ensures),
+          (b .ensures .1) (c .put2 .last .0) (holds-more _ (c .put2 .ensures)),
       cc,
     )
 
