@@ -6,7 +6,7 @@ use mathlib.Core.List.{List, [], _∷_, map}
 use native.Mathlib.Nat.{sub-self, sub-zero}
 use native.Mathlib.Numerals.{add-one}
 use native.Mathlib.Omega.{arith}
-use native.Mathlib.Decide.{ℕ-discrete}
+use native.Mathlib.Decide.{ℕ-discrete, decLt}
 use lib.Dec.{eqb, ltb}
 use lib.ListN.{length, getD, set, drop, length-set, length-drop, length-map, drop-of-length-le, replicate, length-replicate, getD-replicate}
 use lib.Seq.{drop-cons, drop-nil, drop-drop, getD-drop, getD-set-same, getD-set-other}
@@ -26,7 +26,7 @@ use Rattle.firsts.specs.Room.{entryAt, productionsIn, tableRoom}
 use Rattle.firsts.proofs.StepLaws.{length-sets}
 use Rattle.expansion.specs.Expansion.{Rule, ruleOf, Choice, unfit, chosen, firstRule, choice, ready}
 use Rattle.choices.specs.Held.{Held}
-use Rattle.choices.specs.Chosen.{firstSetsOf, entriesOf, opensOf, chosenPlace, kindsInAll, memorySize, slot, Remembers}
+use Rattle.choices.specs.Chosen.{firstSetsOf, kindsIn, entriesOf, opensOf, chosenPlace, kindsInAll, memorySize, slot, Remembers}
 
 -- ------------------------------------------------------------------ places
 
@@ -270,6 +270,17 @@ map-at image (x ∷ xs) (suc spot) default image-default h = map-at image xs spo
 
 -- ------------------------------------------------------------------ a room that holds a grammar
 
+module _ (room : List ℕ) (nonterminal : ℕ) where
+  -- The first set of a nonterminal stands in the room.
+  pub kinds-inside : nonterminal < 64 → firstSetIn room nonterminal ≡ kindsIn room nonterminal
+  unfolding kindsIn
+  kinds-inside l = rw (lt-ltb nonterminal 64 l, kindsIn)
+
+  -- What is no nonterminal has the empty first set.
+  pub kinds-outside : 64 ≤ nonterminal → 0 ≡ kindsIn room nonterminal
+  unfolding kindsIn
+  kinds-outside l = rw (le-ltb nonterminal 64 l, kindsIn)
+
 module _ {bs room : List ℕ} (held : Held bs room) where
   abbrev nulls : ℕ
   nulls = nullables (productionsIn bs)
@@ -369,14 +380,20 @@ module _ {bs room : List ℕ} (held : Held bs room) where
       = each-other (isNullableOf nonterminal) nonterminal l (λ e t. eqb-true _ nonterminal (and-eq-true-iff _ _ .0 t .0)) (held .places) 0 in
       sym b ∙ chosen-nullable (map E (placesOf bs)) nonterminal kind (sym a) (omega arith)
 
-  -- The first set of a nonterminal, empty for what is none.
-  pub set-inside : (nonterminal : ℕ) → nonterminal < 64 → firstSetIn room nonterminal ≡ getD (firstSetsOf bs) nonterminal 0
+  set-inside : (nonterminal : ℕ) → nonterminal < 64 → firstSetIn room nonterminal ≡ getD (firstSetsOf bs) nonterminal 0
   set-inside nonterminal l = first-set-in entries-held nonterminal l
 
-  -- What is no nonterminal has the empty first set.
-  pub set-outside : (nonterminal : ℕ) → 64 ≤ nonterminal → 0 ≡ getD (firstSetsOf bs) nonterminal 0
+  set-outside : (nonterminal : ℕ) → 64 ≤ nonterminal → 0 ≡ getD (firstSetsOf bs) nonterminal 0
   unfolding firstSetsOf
   set-outside nonterminal l = sym (getD-past (firstSetsOf bs) nonterminal 0 (omega (arith, length-sets false nulls (productionsIn bs))))
+
+  -- The first set that the room has is that of the table.
+  pub kinds-are : (nonterminal : ℕ) → kindsIn room nonterminal ≡ getD (firstSetsOf bs) nonterminal 0
+  kinds-are nonterminal = by (decLt nonterminal 64)
+    where
+      by : Dec (nonterminal < 64) → kindsIn room nonterminal ≡ getD (firstSetsOf bs) nonterminal 0
+      by (yes l) = sym (kinds-inside room nonterminal l) ∙ set-inside nonterminal l
+      by (no n) = sym (kinds-outside room nonterminal (omega arith)) ∙ set-outside nonterminal (omega arith)
 
   -- the search by first sets, and the search for a nullable production
   module _ (nonterminal kind : ℕ) where

@@ -14,11 +14,10 @@ use spellings::wide_byte;
 ghost use Prim.Native.Nat.{ℕ, _<_};
 ghost use mathlib.Core.Path.{_≡_};
 ghost use mathlib.Core.List.{List};
-ghost use lib.ListN.{getD};
 ghost use Rattle.grammar.specs.Limits.{most};
 ghost use Rattle.productions.specs.Room.{placeFrom};
 ghost use Rattle.choices.specs.Held.{Held, HoldsSome};
-ghost use Rattle.choices.specs.Chosen.{firstSetsOf, entriesOf, opensOf, chosenPlace, Remembers, Chooses};
+ghost use Rattle.choices.specs.Chosen.{kindsIn, entriesOf, opensOf, chosenPlace, Remembers, Chooses};
 
 // The kinds, with the one that is none.
 const KINDS: usize = NO_KIND as usize + 1;
@@ -88,7 +87,7 @@ pub fn choose(room: &[u64; ROOM], memory: &mut [u8; MEMORY], n: u8, kind: u32) -
 
 // The first set of a nonterminal, empty for what is none.
 pub fn kinds_of(room: &[u64; ROOM], nonterminal: u8) -> u64
-    ensures { λ r. ⌜ ((bs : List ℕ) → Held bs (now (room .entry)) → r ≡ getD (firstSetsOf bs) nonterminal 0) ⌝ }
+    ensures { λ r. ⌜ r ≡ kindsIn (now (room .entry)) nonterminal ⌝ }
 {
     if nonterminal < NONTERMINALS {
         first_set(room, nonterminal)

@@ -6,10 +6,10 @@ use Rattle.choices.proofs.kinds_of.Statement.{statement}
 use Rattle.choices.proofs.kinds_of.Tie as tie
 
 returns : tie.Need-returns
-returns c = λ bs h. c .first-set .ensures ∙ laws.set-inside h _ (c .before .if1 .taken)
+returns c = c .first-set .ensures ∙ laws.kinds-inside _ _ (c .before .if1 .taken)
 
 returns-2 : tie.Need-returns-2
-returns-2 c = λ bs h. laws.set-outside h _ (c .if1 .left)
+returns-2 c = search laws.kinds-outside
 
 -- the function meets its contract
 pub kinds-of-spec : {M : Type 1} → statement M

@@ -1,5 +1,7 @@
 -- `begin`: tested 19, 20, 17.
+use mathlib.Core.Path.{_∙_}
 use borrow.Author.Needs.{needs}
+use Rattle.choices.proofs.ChoiceLaws.{kinds-are}
 use Rattle.turns.proofs.BeginLaws as laws
 use Rattle.turns.proofs.begins.begin.Statement.{statement}
 use Rattle.turns.proofs.begins.begin.Tie as tie
@@ -26,7 +28,7 @@ returns-4 c =
     let kind-place = choose-place .before .before in
     λ bs rows h m.
     laws.starts-nowhere h _ _ rows _ _ _ (kind-place .before .before .if1 .left) (kind-place .before .if2 .left) (kind-place .kind-at .ensures)
-    (choose-place .choose .ensures bs h m) (c .before .before .if3 .left) (c .before .kinds-of .ensures bs h) (c .misfit .ensures)
+    (choose-place .choose .ensures bs h m) (c .before .before .if3 .left) (c .before .kinds-of .ensures ∙ kinds-are h _) (c .misfit .ensures)
 
 -- the function meets its contract
 pub begin-spec : {M : Type 1} → statement M

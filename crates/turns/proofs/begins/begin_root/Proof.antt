@@ -1,6 +1,8 @@
 -- `begin_root`: tested 17; 19 and 20 cannot be.
 use native.Mathlib.Omega.{arith}
+use mathlib.Core.Path.{_∙_}
 use borrow.Author.Needs.{needs}
+use Rattle.choices.proofs.ChoiceLaws.{kinds-are}
 use Rattle.turns.proofs.BeginLaws as laws
 use Rattle.turns.proofs.begins.begin_root.Statement.{statement}
 use Rattle.turns.proofs.begins.begin_root.Tie as tie
@@ -19,7 +21,7 @@ returns-2 c =
     let kind-place = choose-place .before .before in
     λ bs rows h m.
     laws.starts-nowhere h _ _ rows _ _ _ (λ e. omega arith) (omega arith) (kind-place .kind-at .ensures) (choose-place .choose .ensures bs h m)
-    (c .before .before .if1 .left) (c .before .kinds-of .ensures bs h) (c .misfit .ensures)
+    (c .before .before .if1 .left) (c .before .kinds-of .ensures ∙ kinds-are h _) (c .misfit .ensures)
 
 -- the function meets its contract
 pub begin-root-spec : {M : Type 1} → statement M
