@@ -6,8 +6,8 @@ use mathlib.Core.List.{List, [], _∷_, _++_}
 use native.Mathlib.Numerals.{add-one}
 use native.Mathlib.Omega.{arith}
 use lib.Dec.{eqb, ltb}
-use lib.ListN.{length, getD, take, drop, set, length-set, length-take, length-drop, length-append, drop-of-length-le}
-use lib.Seq.{drop-cons, take-all, take-suc, take-suc-set, take-append-le, getD-drop}
+use lib.ListN.{length, getD, take, drop, set, length-set, length-take, length-drop, length-append, drop-of-length-le, take-append-drop}
+use lib.Seq.{drop-cons, take-all, take-suc, take-suc-set, take-append-le, getD-drop, drop-drop, drop-set-lt, set-out}
 use borrow.Author.Tests.{lt-ltb, le-ltb, eq-eqb, ne-eqb}
 use Rattle.grammar.specs.Sorts.{unit, binder, num}
 use Rattle.bodies.specs.declared.Known.{Known}
@@ -15,7 +15,7 @@ use Rattle.bodies.specs.declared.ItemSort.{ItemSort}
 use Rattle.bodies.specs.declared.ItemSort.the-variants.{As, Unsorted}
 use Rattle.bodies.specs.TemplateBytes.{templatesFault, places}
 use Rattle.bodies.specs.HeadBytes.{signatureAt}
-use Rattle.bodies.specs.BodyBytes.{Context, context, unlessFault, callAt, itemAt, resultAt, ParametersLoaded}
+use Rattle.bodies.specs.BodyBytes.{Context, context, unlessFault, callAt, itemAt, resultAt, ParametersLoaded, ParameterSorts, oneMore, SortAdded}
 use Rattle.bodies.proofs.TemplateInduction.{choose}
 use Rattle.bodies.proofs.TemplateLoops.{places-set}
 
@@ -77,11 +77,13 @@ pub record Copying (sig L₀ L : List ℕ) (count place : ℕ) : Type 0 where
   pub most : count ≤ length sig - 1
   -- the first ones are copied
   pub copied : take count L ≡ take count (drop 1 sig)
+  -- the others stay
+  pub stays : drop count L ≡ drop count L₀
 
 module _ {sig L₀ : List ℕ} where
   -- no sort yet
   pub copying-start : Copying sig L₀ L₀ 0 1
-  copying-start = record { as-many = refl; next = refl; most = omega arith; copied = refl }
+  copying-start = record { as-many = refl; next = refl; most = omega arith; copied = refl; stays = refl }
 
   -- one sort more
   pub copying-next :
@@ -102,30 +104,49 @@ module _ {sig L₀ : List ℕ} where
               getD-drop 1 sig count 0,
               take-suc (drop 1 sig) count 0 (omega (arith, c .next)),
             );
+        stays =
+            drop-set-lt place L count sort (omega (arith, c .next))
+            ∙ (rw (c .next) (sym (drop-drop 1 count L) ∙ ap (drop 1) (c .stays) ∙ drop-drop 1 count L₀));
       }
 
   -- all sorts
-  pub copying-end : {L : List ℕ} {count place : ℕ} → Copying sig L₀ L count place → length sig ≤ place → take count L ≡ drop 1 sig
+  pub copying-end : {L : List ℕ} {count place : ℕ} → Copying sig L₀ L count place → length sig ≤ place → ParameterSorts sig L₀ L count
   copying-end {L} {count} {place} c h =
       let rest : length (drop 1 sig) ≡ length sig - 1 = length-drop 1 sig in
-      c .copied ∙ take-all count (drop 1 sig) (omega (arith, c .next))
+      let front : take count L ≡ drop 1 sig = c .copied ∙ take-all count (drop 1 sig) (omega (arith, c .next)) in
+      record {
+        count-is = omega (arith, c .next, c .most);
+        sorts-are = sym (take-append-drop count L) ∙ ap₂ _++_ front (c .stays);
+        loaded = front;
+      }
 
 -- one sort more behind those of `count` variables, and none where there are 16
 module _ (L : List ℕ) (count sort : ℕ) (equal : length L ≡ 16) where
   -- there is room
-  pub sort-added : count < 16 → take (count + 1) (set L count sort) ≡ take 16 (take count L ++ (sort ∷ []))
+  pub sort-added : count < 16 → SortAdded L count sort (set L count sort) (count + 1)
+  unfolding oneMore
   sort-added h =
       let few : length (take count L ++ (sort ∷ [])) ≤ 16 = omega (arith, length-append (take count L) (sort ∷ []), length-take count L) in
-      cc (add-one count, take-suc-set L count sort (omega arith), take-all 16 (take count L ++ (sort ∷ [])) few)
+      record {
+        count-is = rw (lt-ltb count 16 h, oneMore);
+        sorts-are = refl;
+        added = cc (add-one count, take-suc-set L count sort (omega arith), take-all 16 (take count L ++ (sort ∷ [])) few);
+      }
 
   -- there is none
-  pub sort-left : 16 ≤ count → take count L ≡ take 16 (take count L ++ (sort ∷ []))
+  pub sort-left : 16 ≤ count → SortAdded L count sort L count
+  unfolding oneMore
   sort-left h =
       let all : take count L ≡ L = take-all count L (omega arith) in
-      all
-      ∙ sym (take-all 16 L (omega arith))
-      ∙ ap (take 16) (sym all)
-      ∙ sym (take-append-le 16 (take count L) (sort ∷ []) (omega (arith, ap length all)))
+      record {
+        count-is = rw (le-ltb count 16 h, oneMore);
+        sorts-are = sym (set-out L count sort (omega arith));
+        added =
+            all
+            ∙ sym (take-all 16 L (omega arith))
+            ∙ ap (take 16) (sym all)
+            ∙ sym (take-append-le 16 (take count L) (sort ∷ []) (omega (arith, ap length all)));
+      }
 
 -- one place alone on the stack
 one-place : (room : List ℕ) (B : ℕ) → 0 < length room → places (set room 0 B) 1 ≡ B ∷ []

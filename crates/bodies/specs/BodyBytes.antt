@@ -1,12 +1,13 @@
 -- Items and results, read off the bytes of a table. The environment is a list of offsets: at the place of a nonterminal the offset of its
 -- newest definition's head, or 0. Nobody needs this file to believe `expand`.
-use Prim.Native.Nat.{ℕ, _≤_}
+use Prim.Native.Nat.{ℕ, _+_, _-_, _≤_}
 use mathlib.Core.Path.{_≡_}
 use mathlib.Core.Bool.{true, false}
-use mathlib.Core.List.{List, [], _∷_}
+use mathlib.Core.List.{List, [], _∷_, _++_}
 use lib.Dec.{eqb, ltb}
-use lib.ListN.{length, getD, take, drop}
+use lib.ListN.{length, getD, set, take, drop}
 use Rattle.grammar.specs.Sorts.{unit, binder, num}
+use Rattle.grammar.specs.Variables.{mostVariables}
 use Rattle.bodies.specs.declared.Known.{Known}
 use Rattle.bodies.specs.declared.ItemSort.{ItemSort}
 use Rattle.bodies.specs.declared.ItemSort.the-variants.{As, Unsorted}
@@ -76,3 +77,19 @@ resultAt bs X v = templatesFault (X .outsides) (X .sorts) v (getD (signatureAt b
 pub record ParametersLoaded (signature room : List ℕ) (top : ℕ) : Type 0 where
   pub small : top ≤ length signature
   pub loaded : places room top ≡ drop 1 signature
+
+-- The sorts of a signature's parameters, as those of the first variables: `count` sorts at the front, and the others stay.
+pub record ParameterSorts (signature old new : List ℕ) (count : ℕ) : Type 0 where
+  pub count-is : count ≡ length signature - 1
+  pub sorts-are : new ≡ drop 1 signature ++ drop count old
+  pub loaded : take count new ≡ drop 1 signature
+
+-- the number of variables with one more, as many as there may be
+unfoldable pub oneMore : ℕ → ℕ
+oneMore n = elim (ltb n mostVariables) [ true ↦ n + 1 | false ↦ n ]
+
+-- The sort of one more variable behind those of n: it stands at their end, if there is room, and the others stay.
+pub record SortAdded (old : List ℕ) (n sort : ℕ) (new : List ℕ) (count : ℕ) : Type 0 where
+  pub count-is : count ≡ oneMore n
+  pub sorts-are : new ≡ set old n sort
+  pub added : take count new ≡ take mostVariables (take n old ++ (sort ∷ []))
