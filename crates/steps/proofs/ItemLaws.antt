@@ -35,7 +35,7 @@ use Rattle.scanner.specs.Rooms.{tokensIn}
 use Rattle.templates.specs.Built.{withMade, Ahead, templateAt, built, Lists, Few}
 use Rattle.templates.specs.declared.Built.{Built}
 use Rattle.templates.specs.declared.Built.the-variants.{Made, Full}
-use Rattle.steps.specs.Steps.{body, Steps, ItemAt, Onward, Spends}
+use Rattle.steps.specs.Steps.{body, Gives, Steps, ItemAt, Onward, Spends}
 
 -- ------------------------------------------------------------------ an item by its kind and operand
 
@@ -152,9 +152,14 @@ module _ {bs : List ℕ} {at : ℕ} {bytes : List ℕ} {after′ : ℕ} (given-i
     stopped-step e callee = body-runs callee (rw e at (reads callee))
 
     -- An item gives a value.
-    pub taken-step : {result : ℕ} {state′ : State} → outcome ≡ Value result state′ → (callee : ℕ → List ℕ → Run ℕ)
-        → body callee bs at input values state cells ≡ body callee bs after′ input (values ++ (result ∷ [])) state′ cells
-    taken-step e callee = body-runs callee (rw e at (reads callee))
+    pub taken-step : {result : ℕ} {state′ : State} → outcome ≡ Value result state′ → Gives bs at input values state cells result after′ state′ cells
+    taken-step e =
+        record {
+          value = bytes;
+          fields = given-item-at .fields;
+          runs = λ callee. sym (rw e at (reads callee));
+          rest = λ callee. body-runs callee (rw e at (reads callee));
+        }
 
   -- a call, by what its arguments give
   module _ {kind operand : ℕ} (ek : kind ≡ getD bytes 0 0) (eo : operand ≡ getD bytes 1 0) (is-call : kind ≡ 4) (arguments : Arguments) (out cells′ : List ℕ)
@@ -185,7 +190,8 @@ module _ {bs : List ℕ} {at : ℕ} {bytes : List ℕ} {after′ : ℕ} (given-i
 pub onward : {bs : List ℕ} {at : ℕ} {bytes : List ℕ} {after′ : ℕ} → ItemAt bs at bytes after′ → {state state′ : State}
     → (state′ .at + state′ .fresh ≤ state .at + state .fresh + 1) × (state′ .calls ≡ state .calls)
     → Onward bs at after′ state state′
-onward h c = record { less = h .less; inside = h .inside; whole = h .whole; counted = c .0; called = c .1 }
+onward {bytes = bytes} h c =
+    record { value = bytes; fields = h .fields; less = h .less; inside = h .inside; whole = h .whole; counted = c .0; called = c .1 }
 
 -- So does a call, whose arguments move no counter but that of the cells.
 pub onward-made : {bs : List ℕ} {at : ℕ} {bytes : List ℕ} {after′ : ℕ} → ItemAt bs at bytes after′ → (state : State) {made-count : ℕ} {state′ : State}

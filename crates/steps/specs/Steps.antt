@@ -8,6 +8,7 @@ use lib.ListN.{length, drop}
 use Rattle.grammar.specs.Limits.{most}
 use Rattle.grammar.specs.Fields.{next}
 use Rattle.grammar.specs.Lookup.{fieldsAt}
+use Rattle.decoding.specs.Decode.{itemOf}
 use Rattle.decoding.specs.Prefix.{templatesOf, isTemplates}
 use Rattle.scanner.specs.Rooms.{TokensFit}
 use Rattle.productions.specs.Index.{itemsOf, resultOf}
@@ -16,8 +17,8 @@ use Rattle.expansion.specs.declared.Outcome.{Outcome}
 use Rattle.expansion.specs.declared.Outcome.the-variants.{Value, Halted}
 use Rattle.steps.specs.declared.ItemStep.{ItemStep}
 use Rattle.steps.specs.declared.ItemStep.the-variants.{Finished, Stopped, Taken, Opened}
-use Rattle.expansion.specs.Run.{Run, halt, after}
-use Rattle.expansion.specs.Expansion.{Input, build, runItems}
+use Rattle.expansion.specs.Run.{Run, done, halt, after}
+use Rattle.expansion.specs.Expansion.{Input, build, runItem, runItems}
 use Rattle.productions.specs.Index.{wholeBody}
 use Rattle.templates.specs.Built.{Holds}
 use Rattle.expansion.specs.Limits.{mostCalls}
@@ -75,13 +76,19 @@ Stays s (Halted r) = Unit {0}
 
 -- ------------------------------------------------------------------ one item
 
+-- The item at an offset gives a value: what it does, and what the items behind it then do.
+pub record Gives (bs : List ℕ) (at : ℕ) (I : Input) (M : List ℕ) (s : State) (cells : List ℕ) (x after′ : ℕ) (t : State) (cells′ : List ℕ) : Type 0 where
+  pub value : List ℕ
+  pub fields : fieldsAt bs at ≡ next at 6 value (fieldsAt bs after′)
+  pub runs : (C : ℕ → List ℕ → Run ℕ) → runItem C I (itemOf value) M s cells ≡ done x t cells′
+  pub rest : (C : ℕ → List ℕ → Run ℕ) → body C bs at I M s cells ≡ body C bs after′ I (M ++ (x ∷ [])) t cells′
+
 -- What is done at an offset: no item stands there; the item refuses; it gives a value, and the next one stands at another offset; or
 -- it calls a nonterminal, with k arguments in an array.
 abbrev pub Steps : List ℕ → ℕ → Input → List ℕ → State → List ℕ → ItemStep → List ℕ → List ℕ → Type 0
 Steps bs at I M s cells Finished out cells′ = cells′ ≡ cells
 Steps bs at I M s cells (Stopped r) out cells′ = (C : ℕ → List ℕ → Run ℕ) → body C bs at I M s cells ≡ halt r cells′
-Steps bs at I M s cells (Taken x after′ t) out cells′ =
-    (C : ℕ → List ℕ → Run ℕ) → body C bs at I M s cells ≡ body C bs after′ I (M ++ (x ∷ [])) t cells′
+Steps bs at I M s cells (Taken x after′ t) out cells′ = Gives bs at I M s cells x after′ t cells′
 Steps bs at I M s cells (Opened n k after′ t) out cells′ =
     (vs : List ℕ)
     × Holds out k vs
@@ -95,8 +102,10 @@ pub record ItemAt (bs : List ℕ) (at : ℕ) (v : List ℕ) (after′ : ℕ) : T
   pub shorter : length v ≤ length bs
   pub whole : wholeBody (fieldsAt bs after′) ≡ true
 
--- the next offset lies further right, where whole alternatives go on; the counters move by one item
+-- the next offset is that behind the item, where whole alternatives go on; the counters move by one item
 pub record Onward (bs : List ℕ) (at after′ : ℕ) (s t : State) : Type 0 where
+  pub value : List ℕ
+  pub fields : fieldsAt bs at ≡ next at 6 value (fieldsAt bs after′)
   pub less : at < after′
   pub inside : after′ ≤ length bs
   pub whole : wholeBody (fieldsAt bs after′) ≡ true

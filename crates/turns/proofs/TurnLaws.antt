@@ -180,7 +180,7 @@ module _ {input : Input} {bs frames vars : List ℕ} {cursor : Cursor} {cells : 
                 light = onward-light o (owed bs (going .waiting)) (going .light);
                 M = going .M ++ (made-value ∷ []);
                 holds = holds-more made-value (v .vars-are) (going .M) (going .holds);
-                rest = instead (sym (steps equal callee));
+                rest = instead (sym (steps equal .rest callee));
               },
               spare,
             );
