@@ -26,7 +26,7 @@ use Rattle.firsts.specs.Room.{entryAt, productionsIn, tableRoom}
 use Rattle.firsts.proofs.StepLaws.{length-sets}
 use Rattle.expansion.specs.Expansion.{Rule, ruleOf, Choice, unfit, chosen, firstRule, choice, ready}
 use Rattle.choices.specs.Held.{Held}
-use Rattle.choices.specs.Chosen.{firstSetsOf, kindsIn, entriesOf, opensOf, chosenPlace, kindsInAll, memorySize, slot, Remembers}
+use Rattle.choices.specs.Chosen.{firstSetsOf, kindsIn, entriesOf, opensOf, chosenPlace, chosenStart, kindsInAll, memorySize, slot, Remembers}
 
 -- ------------------------------------------------------------------ places
 
@@ -451,6 +451,11 @@ module _ {bs room : List ℕ} (held : Held bs room) where
         -- The room has the offset of the place.
         pub start-is : startIn room spot ≡ place .start
         start-is = start-in entries-held spot (omega (arith, entries-count, at-place)) ∙ ap (λ x. x .start) (entry-is spot at-place)
+
+        -- It is the offset of the production that is chosen.
+        pub start-chosen : startIn room spot ≡ chosenStart bs nonterminal kind
+        unfolding chosenStart
+        start-chosen = rw (sym equal, chosenStart) (start-in entries-held spot (omega (arith, entries-count, at-place)))
 
         -- A place: the rule whose items and result stand at its offset, in a whole alternative.
         pub chosen-here : choice (ready (productionsIn bs)) nonterminal kind ≡ chosen (R (getD (placesOf bs) spot somewhere))

@@ -21,8 +21,8 @@ use Rattle.expansion.specs.Expansion.{Input, nextToken, misfit, build, runItems
 use Rattle.tokens.specs.Tokens.{endToken}
 use Rattle.expansion.specs.Limits.{mostCalls}
 use Rattle.choices.specs.Held.{Held}
-use Rattle.choices.specs.Chosen.{firstSetsOf, Remembers, Chooses}
-use Rattle.choices.proofs.ChoiceLaws.{chosen-nowhere, chosen-here, chosen-whole, chosen-inside, start-is}
+use Rattle.choices.specs.Chosen.{firstSetsOf, chosenStart, Remembers, Chooses}
+use Rattle.choices.proofs.ChoiceLaws.{chosen-nowhere, chosen-here, chosen-whole, chosen-inside, start-is, start-chosen}
 use Rattle.steps.specs.Steps.{body, weight}
 use Rattle.turns.specs.Lent.{lentInput}
 use Rattle.turns.specs.declared.begins.Begun.{Begun}
@@ -71,7 +71,7 @@ starts-refused : {lent : Input} {bs : List ℕ} {depth nonterminal : ℕ} {state
     → {memory : List ℕ}
     → Remembers bs memory
     → Starts lent bs depth nonterminal state (Refused cause) memory
-starts-refused e h m = record { begins = λ vs cells. rw e (h vs cells); enters = tt; remembers = m }
+starts-refused e h m = record { begins = λ vs cells. rw e (h vs cells); enters = tt; entered-chosen = tt; remembers = m }
 
 module _ {bs room : List ℕ} (held : Held bs room) (tokens : List ℕ) (count rows depth nonterminal : ℕ) (state : State) where
   abbrev input : Input
@@ -128,6 +128,7 @@ module _ {bs room : List ℕ} (held : Held bs room) (tokens : List ℕ) (count r
                   may-call = may-call;
                   begun = et;
                 };
+            entered-chosen = es ∙ start-chosen held nonterminal kind (ch .place-is) l ∙ ap (chosenStart bs nonterminal) ekind;
             remembers = ch .memory-is;
           }
 

@@ -8,9 +8,9 @@ use Rattle.grammar.specs.Lookup.{fieldsAt}
 use Rattle.productions.specs.Index.{wholeBody}
 use Rattle.expansion.specs.declared.State.{State}
 use Rattle.expansion.specs.Run.{halt}
-use Rattle.expansion.specs.Expansion.{Input, callBegun, runCall}
+use Rattle.expansion.specs.Expansion.{Input, nextToken, callBegun, runCall}
 use Rattle.expansion.specs.Limits.{mostCalls}
-use Rattle.choices.specs.Chosen.{Remembers}
+use Rattle.choices.specs.Chosen.{chosenStart, Remembers}
 use Rattle.steps.specs.Steps.{body}
 use Rattle.turns.specs.declared.begins.Begun.{Begun}
 use Rattle.turns.specs.declared.begins.Begun.the-variants.{Refused, Entered}
@@ -32,8 +32,14 @@ abbrev pub CallEntered : List ℕ → ℕ → State → Begun → Type 0
 CallEntered bs depth s (Refused r) = Unit {0}
 CallEntered bs depth s (Entered start t) = CallBegunAt bs depth s start t
 
--- both, and choices are remembered
+-- the offset is that of the production that is chosen at the next token
+abbrev pub EntersChosen : Input → List ℕ → ℕ → State → Begun → Type 0
+EntersChosen I bs n s (Refused r) = Unit {0}
+EntersChosen I bs n s (Entered start t) = start ≡ chosenStart bs n (nextToken I s .kind)
+
+-- all this, and choices are remembered
 pub record Starts (I : Input) (bs : List ℕ) (depth n : ℕ) (s : State) (b : Begun) (memory : List ℕ) : Type 0 where
   pub begins : Begins I bs depth n s b
   pub enters : CallEntered bs depth s b
+  pub entered-chosen : EntersChosen I bs n s b
   pub remembers : Remembers bs memory
