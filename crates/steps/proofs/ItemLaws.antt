@@ -32,7 +32,7 @@ use Rattle.expansion.specs.Expansion.{Input, nextToken, tokenTaken, misfit, bui
 use Rattle.tokens.specs.Tokens.{endToken}
 use Rattle.expansion.specs.Expansion as Expansion
 use Rattle.scanner.specs.Rooms.{tokensIn}
-use Rattle.templates.specs.Built.{withMade, Ahead, templateAt, built, Lists, Few}
+use Rattle.templates.specs.Built.{withMade, Ahead, templateAt, built, Lists, Few, KeptBehind}
 use Rattle.templates.specs.declared.Built.{Built}
 use Rattle.templates.specs.declared.Built.the-variants.{Made, Full}
 use Rattle.steps.specs.Steps.{body, Gives, Steps, ItemAt, Onward, Spends}
@@ -211,6 +211,14 @@ spent-step h {state} e p = onward h (subst (Spends state) e p)
 pub few-given : (arguments : Arguments) (most : ℕ) {given-count made-count : ℕ} → arguments ≡ Listed given-count made-count → Few most arguments
     → given-count ≤ most
 few-given arguments most e f = subst (Few most) e f
+
+-- What stands behind its arguments stays.
+pub kept-given : (arguments : Arguments) (out out′ : List ℕ) {given-count made-count : ℕ} → arguments ≡ Listed given-count made-count
+    → KeptBehind out arguments out′
+    → (place : ℕ)
+    → given-count ≤ place
+    → getD out′ place 0 ≡ getD out place 0
+kept-given arguments out out′ e kept = subst (λ (x : Arguments). KeptBehind out x out′) e kept
 
 -- ------------------------------------------------------------------ what stands at an offset
 

@@ -4,7 +4,7 @@ use Prim.Native.Nat.{ℕ, _+_, _-_, _*_, _^_, _<_, _≤_}
 use mathlib.Core.Path.{_≡_}
 use mathlib.Core.Bool.{true}
 use mathlib.Core.List.{List, [], _∷_, _++_}
-use lib.ListN.{length, drop}
+use lib.ListN.{length, getD, drop}
 use Rattle.grammar.specs.Limits.{most}
 use Rattle.grammar.specs.Fields.{next}
 use Rattle.grammar.specs.Lookup.{fieldsAt}
@@ -93,6 +93,13 @@ Steps bs at I M s cells (Opened n k after′ t) out cells′ =
     (vs : List ℕ)
     × Holds out k vs
     × ((C : ℕ → List ℕ → Run ℕ) → body C bs at I M s cells ≡ after (C n vs t cells′) (λ x. body C bs after′ I (M ++ (x ∷ []))))
+
+-- the array of the arguments stays behind them, and is as it was where the item is no call that can be made
+abbrev pub KeepsArray : List ℕ → ItemStep → List ℕ → Type 0
+KeepsArray out Finished out′ = out′ ≡ out
+KeepsArray out (Stopped r) out′ = Unit {0}
+KeepsArray out (Taken x after′ t) out′ = out′ ≡ out
+KeepsArray out (Opened n k after′ t) out′ = (i : ℕ) → k ≤ i → getD out′ i 0 ≡ getD out i 0
 
 -- an item whose field has the value v stands at an offset, and another offset is behind it, where a whole alternative goes on
 pub record ItemAt (bs : List ℕ) (at : ℕ) (v : List ℕ) (after′ : ℕ) : Type 0 where

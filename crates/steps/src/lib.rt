@@ -44,7 +44,7 @@ ghost use Rattle.expansion.specs.Outcomes.{ran};
 ghost use Rattle.expansion.specs.Expansion.{Input, wordValue, freshMade, build, runItem};
 ghost use Rattle.terms.specs.Cells.{rowsLent};
 ghost use Rattle.templates.specs.Built.{Holds, withMade, built};
-ghost use Rattle.steps.specs.Steps.{MayRead, MayDo, MayStep, MayFinish, Stays, ItemAt, Steps, Advances, Spends};
+ghost use Rattle.steps.specs.Steps.{MayRead, MayDo, MayStep, MayFinish, Stays, ItemAt, Steps, Advances, Spends, KeepsArray};
 
 // What is done at an offset: there is no item, the item refuses, it gives a value (with the offset behind it and where the expansion
 // then stands), or it calls a nonterminal with a number of arguments.
@@ -131,6 +131,7 @@ fn do_item(
         (tokens .entry)) n → I .rows ≡ rowsLent (length (now (cells .entry))) → Holds (now (vars .entry)) (c .count) M → Steps bs at I M (c .state) (now
         (cells .entry)) r (now (out .exit)) (now (cells .exit))) ⌝ }
     ensures { λ r. ⌜ ((bs : List ℕ) (at : ℕ) → ItemAt bs at (now (v .entry)) next → Advances bs at (c .state) r) ⌝ }
+    ensures { λ r. ⌜ KeepsArray (now (out .entry)) r (now (out .exit)) ⌝ }
 {
     let s = c.state;
     let count = c.count;
@@ -172,6 +173,7 @@ pub fn item_step(
         Holds (now (vars .entry)) (c .count) M → Steps (now (table .entry)) (c .at) I M (c .state) (now (cells .entry)) r (now (out .exit))
         (now (cells .exit))) ⌝ }
     ensures { λ r. ⌜ Advances (now (table .entry)) (c .at) (c .state) r ⌝ }
+    ensures { λ r. ⌜ KeepsArray (now (out .entry)) r (now (out .exit)) ⌝ }
 {
     let at = c.at;
     let front = front_at(table, at);

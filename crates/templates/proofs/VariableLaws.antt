@@ -80,6 +80,20 @@ holds-more {env} {env′} {count} value e values holds = by (decLt count 16)
     by (yes l) = rw (e ∙ sym (put-inside env count value l)) (inside env values count holds value l)
     by (no n) = rw (e ∙ sym (put-outside env count value (omega arith))) (outside env values count holds value (omega arith))
 
+-- an array in which nothing is new from a place on
+pub record KeptFrom (old env : List ℕ) (count : ℕ) : Type 0 where
+  -- what stands there is as before
+  pub stays : (place : ℕ) → count ≤ place → getD env place 0 ≡ getD old place 0
+
+-- so behind one more value
+pub kept-behind : {old env env′ : List ℕ} {count : ℕ} (value : ℕ) → env′ ≡ withValue env count value → KeptFrom old env count → KeptFrom old env′ (count + 1)
+kept-behind {old} {env} {env′} {count} value e kept = record { stays = λ place l. by place l (decLt count 16) }
+  where
+    by : (place : ℕ) → count + 1 ≤ place → Dec (count < 16) → getD env′ place 0 ≡ getD old place 0
+    by place l (yes h) =
+        rw (e ∙ sym (put-inside env count value h)) (getD-set-other env count place value 0 (λ z. omega arith) ∙ kept .stays place (omega arith))
+    by place l (no n) = rw (e ∙ sym (put-outside env count value (omega arith))) (kept .stays place (omega arith))
+
 -- ------------------------------------------------------------------ outside names
 
 name-by : (test : Bool) (number : ℕ) (input : Input) (values : List ℕ) (state : State) (cells : List ℕ)

@@ -89,6 +89,11 @@ abbrev pub Lists : State → Arguments → List ℕ → List ℕ → Result (Lis
 Lists s (Listed k made) env cells r = (vs : List ℕ) × (r ≡ done vs (withMade s made) cells) × Holds env k vs
 Lists s Overfull env cells r = r ≡ noRow s cells
 
+-- what stands behind them in the array stays
+abbrev pub KeptBehind : List ℕ → Arguments → List ℕ → Type 0
+KeptBehind env (Listed k made) env′ = (i : ℕ) → k ≤ i → getD env′ i 0 ≡ getD env i 0
+KeptBehind env Overfull env′ = Unit {0}
+
 -- how many there are
 abbrev pub Few : ℕ → Arguments → Type 0
 Few most (Listed k made) = k ≤ most

@@ -25,7 +25,7 @@ ghost use mathlib.Core.Bool.{true};
 ghost use Rattle.expansion.specs.declared.State.{State};
 ghost use Rattle.expansion.specs.Run.{done};
 ghost use Rattle.expansion.specs.Expansion.{Input, build, buildAll};
-ghost use Rattle.templates.specs.Built.{RoomsFit, Holds, withValue, withMade, Ahead, Evaluates, Behind, Lists, Few};
+ghost use Rattle.templates.specs.Built.{RoomsFit, Holds, withValue, withMade, Ahead, Evaluates, Behind, Lists, Few, KeptBehind};
 ghost use Rattle.templates.specs.Heads.{HeadValue, Heads, Takes};
 
 // What a template gives: its value, the offset behind it and the cells then made; or no row is left for a cell.
@@ -259,6 +259,7 @@ pub fn build_arguments(
     ensures { λ r. ⌜ ((I : Input) (s : State) (M : List ℕ) → I .rows ≡ rows → Holds (now (env .entry)) k M → Lists s r (now (out .exit))
         (now (cells .exit)) (buildAll (found (templatesOf (drop start (now (v .entry))))) I M (withMade s made) (now (cells .entry)))) ⌝ }
     ensures { λ r. ⌜ Few (length (now (v .entry))) r ⌝ }
+    ensures { λ r. ⌜ KeptBehind (now (out .entry)) r (now (out .exit)) ⌝ }
 {
     known_values(out);
     let mut at = start;

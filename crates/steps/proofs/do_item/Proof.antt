@@ -1,6 +1,6 @@
 -- `do_item`: a call's arguments, or a token or a fresh name.
 use Prim.Native.Nat.{ℕ}
-use mathlib.Core.Path.{_≡_, sym, _∙_}
+use mathlib.Core.Path.{_≡_, refl, sym, _∙_}
 use mathlib.Core.List.{List}
 use native.Mathlib.Omega.{arith}
 use lib.ListN.{length, drop}
@@ -71,7 +71,7 @@ returns c =
     let p = overfull (c .before) in (
       λ bs at I M h et er g. laws.overfull-step h I M (entry p .args .c .state) _ (byte-place p .byte .ensures) (call-place p .before .byte2 .ensures)
           (call-place p .if1 .taken) _ (out′ p) (cells′ p) (lists p I M er g) (c .before .enum-told .given .1) (c .no-row .ensures),
-      λ bs at h. tt,
+      (λ bs at h. tt, tt),
     )
 
 same-length-3 : tie.Need-same-length-3
@@ -90,13 +90,16 @@ returns-2 c =
     let p = listed-place .before .before .before .before .before .before in (
       λ bs at I M h et er g. laws.listed-step h I M (entry p .args .c .state) _ (byte-place p .byte .ensures) (call-place p .before .byte2 .ensures)
           (call-place p .if1 .taken) _ (out′ p) (cells′ p) (lists p I M er g) (listed-place .listed .given .1) (c .with-made .ensures),
-      λ bs at h. (
-        laws.onward-made h (entry p .args .c .state) (c .with-made .ensures),
-        omega (
-          arith,
-          h .shorter,
-          laws.few-given (p .build-arguments .result) (length (entry p .args .v .now)) (listed-place .listed .given .1) (p .build-arguments .ensures .1),
+      (
+        λ bs at h. (
+          laws.onward-made h (entry p .args .c .state) (c .with-made .ensures),
+          omega (
+            arith,
+            h .shorter,
+            laws.few-given (p .build-arguments .result) (length (entry p .args .v .now)) (listed-place .listed .given .1) (p .build-arguments .ensures .1 .0),
+          ),
         ),
+        laws.kept-given (p .build-arguments .result) _ (out′ p) (listed-place .listed .given .1) (p .build-arguments .ensures .1 .1),
       ),
     )
 
@@ -124,14 +127,14 @@ returns-3 : tie.Need-returns-3
 returns-3 c =
     let q = c .before .before .before in (
       λ bs at I M h et er g. laws.stopped-step h I M (q-entry q .args .c .state) _ (q .read-item .result) (reads q I M et) (c .before .outcome .given .1),
-      λ bs at h. tt,
+      (λ bs at h. tt, tt),
     )
 
 returns-4 : tie.Need-returns-4
 returns-4 c =
     let q = c .before .before .before in (
       λ bs at I M h et er g. laws.taken-step h I M (q-entry q .args .c .state) _ (q .read-item .result) (reads q I M et) (c .before .outcome2 .given .1),
-      λ bs at h. laws.spent-step h (c .before .outcome2 .given .1) (q .read-item .ensures .1),
+      (λ bs at h. laws.spent-step h (c .before .outcome2 .given .1) (q .read-item .ensures .1), refl),
     )
 
 -- the function meets its contract

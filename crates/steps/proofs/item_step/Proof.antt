@@ -33,7 +33,7 @@ module _ (point : tie.After-front-at) where
 returns : tie.Need-returns
 returns c =
     let front-place = c .before .before in
-    (λ I M et er g. refl, laws.no-item _ _ (stands (front-place .before .before) (front-place .front .given .1)) (c .if1 .taken))
+    (λ I M et er g. refl, (laws.no-item _ _ (stands (front-place .before .before) (front-place .front .given .1)) (c .if1 .taken), refl))
 
 add-from : tie.Need-add-from
 add-from c =
@@ -64,10 +64,10 @@ do-item-requires c κs =
     }
 
 returns-2 : tie.Need-returns-2
-returns-2 c = (λ I M et er g. refl, laws.end-items _ _ (sym (c .enum-told .given .1) ∙ c .before .before .front-at .ensures))
+returns-2 c = (λ I M et er g. refl, (laws.end-items _ _ (sym (c .enum-told .given .1) ∙ c .before .before .front-at .ensures), refl))
 
 returns-3 : tie.Need-returns-3
-returns-3 c = (λ I M et er g. refl, laws.cut-items _ _ (sym (c .enum-told2 .given .1) ∙ c .before .before .front-at .ensures))
+returns-3 c = (λ I M et er g. refl, (laws.cut-items _ _ (sym (c .enum-told2 .given .1) ∙ c .before .before .front-at .ensures), refl))
 
 same-length : tie.Need-same-length
 same-length c =
@@ -86,7 +86,8 @@ returns-4 c =
     let front-place = if1-place .before .before in
     let p = front-place .before .before in
     let here = item p (front-place .front .given .1) (if1-place .if1 .left) in
-    (λ I M et er g. do-item-place .do-item .ensures .0 _ _ I M here et er g, do-item-place .do-item .ensures .1 _ _ here)
+    let given = do-item-place .do-item .ensures in
+    (λ I M et er g. given .0 _ _ I M here et er g, (given .1 .0 _ _ here, given .1 .1))
 
 -- the function meets its contract
 pub item-step-spec : {M : Type 1} → statement M

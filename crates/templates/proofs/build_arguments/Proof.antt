@@ -1,18 +1,20 @@
 -- `build_arguments`: the templates ahead, one by one.
 use Prim.Native.Nat.{_-_}
-use mathlib.Core.Path.{_≡_, _∙_}
+use mathlib.Core.Path.{_≡_, refl, _∙_}
 use native.Mathlib.Omega.{arith}
 use lib.ListN.{length}
 use borrow.Author.Needs.{needs}
 use Rattle.templates.proofs.ArgumentLaws as laws
 use Rattle.templates.proofs.BuildLaws.{node-takes}
-use Rattle.templates.proofs.VariableLaws.{holds-more}
+use Rattle.templates.proofs.VariableLaws.{holds-more, KeptFrom, kept-behind}
 use Rattle.templates.proofs.build_arguments.Statement.{statement}
 use Rattle.templates.proofs.build_arguments.Tie as tie
 
 abbrev Inv-loop : tie.InvT-loop
 Inv-loop v start env k rows made out₀ cells₀ stack₀ at₀ n₀ count₀ out cells stack at n count =
-    laws.Listing v start env k rows made cells₀ out cells at n count × (length stack ≡ length stack₀)
+    laws.Listing v start env k rows made cells₀ out cells at n count
+    × (length stack ≡ length stack₀)
+    × KeptFrom out₀ out n
 
 abbrev μ-loop : tie.MeasureT-loop
 μ-loop v start env k rows made out₀ cells₀ stack₀ at₀ n₀ count₀ out cells stack at n count = length v - at
@@ -37,7 +39,8 @@ module _ (point : tie.After-put2 Inv-loop μ-loop) where
   turn = let seen = built .before .before .before .before .before .before in seen .before
 
 loop-holds : tie.Need-loop-holds Inv-loop μ-loop
-loop-holds c = search laws.listing-start
+loop-holds c =
+    (search laws.listing-start, refl, record { stays = λ place l. refl })
 
 head-at-requires : tie.Need-head-at-requires Inv-loop μ-loop
 head-at-requires c κs = laws.listing-first (c .before .loop .inv .0) (c .loop-test .taken) .0
@@ -55,6 +58,7 @@ loop-again c =
       laws.leaf-next (inv .0) (seen .before .loop-test .taken) (seen .head-at .result) (leaf c .head .given .1) (seen .head-at .ensures .0)
           (seen .head-at .ensures .1) (c .put .last .0) (holds-more _ (c .put .ensures)),
       inv .1,
+      kept-behind _ (c .put .ensures) (inv .2),
     )
 
 build-node-requires : tie.Need-build-node-requires Inv-loop μ-loop
@@ -87,6 +91,7 @@ loop-again-2 c =
       laws.listing-next (turn c .before .loop .inv .0) (turn c .loop-test .taken) _ _ (b .ensures .0) (search needs) (told c .part .given .1)
           (b .ensures .1) (c .put2 .last .0) (holds-more _ (c .put2 .ensures)),
       cc,
+      kept-behind _ (c .put2 .ensures) (turn c .before .loop .inv .2),
     )
 
 returns-2 : tie.Need-returns-2 Inv-loop μ-loop
