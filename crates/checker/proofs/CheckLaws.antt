@@ -117,7 +117,8 @@ module _ (bs : List ℕ) where
           cc (decoded, sorts-ok)
 
       -- a table with neither refusal is answered by the check of its first sets
-      pub into-firsts : {many : ℕ} {owners starts : List ℕ} → Index (placesOf bs) (most .alternatives) many owners starts → {room₀ room : List ℕ} {given-verdict : Verdict}
+      pub into-firsts : {many : ℕ} {owners starts : List ℕ} → Index (placesOf bs) (most .alternatives) many owners starts
+          → {room₀ room : List ℕ} {given-verdict : Verdict}
           → FirstsChecked bs (placesIn many owners starts) room₀ room given-verdict → CheckedInto bs room₀ room given-verdict
       unfolding tableRoom
       into-firsts i {room₀} f =

@@ -383,7 +383,8 @@ storedAt room at n h from size = set (set (set (set (set room at (getD room (buc
 pub entered-some :
     (room : List ℕ) {spelled : Bool} (count from : ℕ) (spelling : List ℕ) {hash : ℕ} → spelled ≡ true → hash ≡ bucketHash spelling
     → set
-    (set (set (set (set room (buckets + entrySize * count) (getD room (bucketOf hash) 0)) (buckets + entrySize * count + 1) hash) (buckets + entrySize * count + 2) from) (buckets + entrySize * count + 3)
+    (set (set (set (set room (buckets + entrySize * count) (getD room (bucketOf hash) 0)) (buckets + entrySize * count + 1) hash)
+    (buckets + entrySize * count + 2) from) (buckets + entrySize * count + 3)
     (length spelling))
     (bucketOf hash) (count + 1)
     ≡ entered room spelled count from spelling
@@ -415,7 +416,8 @@ module _ {table : List ℕ} {tag : ℕ} {before : List Field} {count : ℕ} {roo
   -- a field of the tag is entered, any other is not
   pub has-next :
       (found : ℕ) (spelling : List ℕ) (from : ℕ) → take (length spelling) (drop from table) ≡ spelling → (here : Bool) → eqb found tag ≡ here
-      → (here ≡ true → count < most .outsides) → HasSpellings table tag (field found spelling ∷ before) (count + oneIf here) (entered room here count from spelling)
+      → (here ≡ true → count < most .outsides)
+      → HasSpellings table tag (field found spelling ∷ before) (count + oneIf here) (entered room here count from spelling)
   has-next found spelling from p true e few =
       let n : ℕ = count + 1 in
       let h : ℕ = bucketHash spelling in

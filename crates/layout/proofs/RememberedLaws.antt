@@ -56,7 +56,8 @@ has-moved {table} {tag} {fields} {fields′} {count} {count′} {room} e f g h =
     subst (HasSpellings table tag fields′ count′) g (rw (← f) (rw (← e) h))
 
 -- no field yet
-pub remembered-start : {table : List ℕ} {progress : Progress} → progress ≡ initialProgress → Remembered table 0 progress (replicate indexSize 0) (replicate indexSize 0)
+pub remembered-start : {table : List ℕ} {progress : Progress} → progress ≡ initialProgress
+    → Remembered table 0 progress (replicate indexSize 0) (replicate indexSize 0)
 remembered-start {table} e =
     record {
       keywords = has-moved (sym (none-before table)) (cc) refl has-none;

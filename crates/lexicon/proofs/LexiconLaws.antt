@@ -43,7 +43,8 @@ module _ {table room links : List ℕ} {entries most : ℕ} (enters : Enters tab
   -- where a search among them ended there is room for a link
   pub entered-linkable : (spelling : List ℕ) (spot : Spot) → Searched treeMask (wordsIn table room entries) links spelling spot → Linkable links spot
   entered-linkable spelling spot f =
-      linkable treeMask (wordsIn table room entries) links spelling spot f (omega (arith, enters .enough, enters .spelled .wide, words-length entries table room 0))
+      linkable treeMask (wordsIn table room entries) links spelling spot f
+      (omega (arith, enters .enough, enters .spelled .wide, words-length entries table room 0))
 
   -- the second number of a place, after the first is stored
   pub place-inside : (place stored : ℕ) → entries * 2 + 1 < length (set room place stored)
@@ -333,7 +334,8 @@ module _ {table room₀ links₀ : List ℕ} (given-blank : Blank room₀ links�
       }
 
   module _ {room₁ links₁ : List ℕ} {number : ℕ}
-      (spellings-entered₁ : SpellingsEntered table room₀ room₁ links₁ number (wordsIn table room₀ 0 ++ take (most .keywords) (leading 1 (fieldsAt table 0)))) where
+      (spellings-entered₁ : SpellingsEntered table room₀ room₁ links₁ number
+      (wordsIn table room₀ 0 ++ take (most .keywords) (leading 1 (fieldsAt table 0)))) where
     keywords-listed : wordsIn table room₁ number ≡ lexiconOf table .keywords
     unfolding wordsFrom
     keywords-listed = spellings-entered₁ .listed ∙ sym (keywords-at table)
@@ -364,7 +366,8 @@ module _ {table room₀ links₀ : List ℕ} (given-blank : Blank room₀ links�
           }
 
       module _ (names : ℕ) (equal : fieldsAt table names ≡ afterLeading 1 (fieldsAt table 0)) {room₃ links₃ : List ℕ} {total : ℕ}
-          (spellings-entered₂ : SpellingsEntered table room₂ room₃ links₃ total (wordsIn table room₂ number ++ take (most .outsides) (leading 2 (fieldsAt table names))))
+          (spellings-entered₂ : SpellingsEntered table room₂ room₃ links₃ total
+          (wordsIn table room₂ number ++ take (most .outsides) (leading 2 (fieldsAt table names))))
         where
           room₄ : List ℕ
           room₄ = set (set room₃ keywordCountAt number) spellingCountAt total
@@ -381,11 +384,13 @@ module _ {table room₀ links₀ : List ℕ} (given-blank : Blank room₀ links�
           keyword-count : getD room₄ keywordCountAt 0 ≡ number
           unfolding room₄
           keyword-count =
-              getD-set-other (set room₃ keywordCountAt number) spellingCountAt keywordCountAt total 0 (λ e. omega (arith, e)) ∙ getD-set-same room₃ keywordCountAt number 0 (omega (arith, long₃))
+              getD-set-other (set room₃ keywordCountAt number) spellingCountAt keywordCountAt total 0 (λ e. omega (arith, e))
+              ∙ getD-set-same room₃ keywordCountAt number 0 (omega (arith, long₃))
 
           spelling-count : getD room₄ spellingCountAt 0 ≡ total
           unfolding room₄
-          spelling-count = getD-set-same (set room₃ keywordCountAt number) spellingCountAt total 0 (omega (arith, long₃, length-set room₃ keywordCountAt number))
+          spelling-count = getD-set-same (set room₃ keywordCountAt number) spellingCountAt total 0
+              (omega (arith, long₃, length-set room₃ keywordCountAt number))
 
           listed₃ : wordsIn table room₃ total ≡ lexiconOf table .keywords ++ lexiconOf table .outsides
           listed₃ =

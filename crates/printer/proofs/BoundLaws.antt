@@ -27,7 +27,8 @@ use Rattle.rows.proofs.RowLaws.{as-word, as-fresh, as-outside}
 use Rattle.rows.proofs.SizeLaws.{size-spell}
 use Rattle.terms.proofs.TextLength.{text-length}
 
-module _ (spell : ℕ → List ℕ) (cells numbers : List ℕ) (short : (number : ℕ) → length (spell number) ≤ longestWord) (few : (place : ℕ) → getD numbers place 0 < 65536)
+module _ (spell : ℕ → List ℕ) (cells numbers : List ℕ) (short : (number : ℕ) → length (spell number) ≤ longestWord)
+    (few : (place : ℕ) → getD numbers place 0 < 65536)
     (wide : (place : ℕ) → getD cells place 0 < 4294967296) where
   written-short : (value : ℕ) → length (written (nameOf spell value)) ≤ longestWord
   unfolding newName

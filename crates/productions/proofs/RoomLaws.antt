@@ -39,7 +39,8 @@ unfolding placeFrom
 place-small test [] place h = omega arith
 place-small test (e ∷ es) place h = by (test e) (place-small test es (place + 1) (omega arith))
   where
-    by : (answer : Bool) → placeFrom test es (place + 1) ≤ most .alternatives → (elim answer as (λ x. ℕ) [ true ↦ place | false ↦ placeFrom test es (place + 1) ]) ≤ most .alternatives
+    by : (answer : Bool) → placeFrom test es (place + 1) ≤ most .alternatives
+        → (elim answer as (λ x. ℕ) [ true ↦ place | false ↦ placeFrom test es (place + 1) ]) ≤ most .alternatives
     by true l = omega arith
     by false l = l
 
@@ -80,7 +81,8 @@ module _ (total : ℕ) (first second : ℕ → ℕ) (tail : List ℕ) where
   fourParts = total ∷ (valuesOf first (most .nonterminals) 0 ++ (valuesOf second (most .nonterminals) 0 ++ tail))
 
   -- behind the count
-  behind-count : (place : ℕ) → getD fourParts (1 + place) 0 ≡ getD (valuesOf first (most .nonterminals) 0 ++ (valuesOf second (most .nonterminals) 0 ++ tail)) place 0
+  behind-count : (place : ℕ)
+      → getD fourParts (1 + place) 0 ≡ getD (valuesOf first (most .nonterminals) 0 ++ (valuesOf second (most .nonterminals) 0 ++ tail)) place 0
   behind-count place =
       let z : 1 + place ≡ suc place = omega arith in
       rw z refl
@@ -89,14 +91,19 @@ module _ (total : ℕ) (first second : ℕ → ℕ) (tail : List ℕ) where
   behind-first : (place : ℕ) → getD fourParts (placesAt + place) 0 ≡ getD (valuesOf second (most .nonterminals) 0 ++ tail) place 0
   behind-first place =
       let z : placesAt + place ≡ 1 + (length (valuesOf first (most .nonterminals) 0) + place) = omega (arith, length-values first (most .nonterminals) 0) in
-      cc (behind-count (length (valuesOf first (most .nonterminals) 0) + place), getD-append-add (valuesOf first (most .nonterminals) 0) (valuesOf second (most .nonterminals) 0 ++ tail) place 0)
+      cc (
+        behind-count (length (valuesOf first (most .nonterminals) 0) + place),
+        getD-append-add (valuesOf first (most .nonterminals) 0)
+            (valuesOf second (most .nonterminals) 0 ++ tail) place 0,
+      )
 
   -- the first 64
   pub first-part : (nonterminal : ℕ) → nonterminal < most .nonterminals → getD fourParts (setsAt + nonterminal) 0 ≡ first nonterminal
   first-part nonterminal h =
       let y : 0 + nonterminal ≡ nonterminal = omega arith in
       behind-count nonterminal
-      ∙ List·getD-append (valuesOf first (most .nonterminals) 0) (valuesOf second (most .nonterminals) 0 ++ tail) 0 nonterminal (omega (arith, length-values first (most .nonterminals) 0))
+      ∙ List·getD-append (valuesOf first (most .nonterminals) 0) (valuesOf second (most .nonterminals) 0 ++ tail) 0 nonterminal
+      (omega (arith, length-values first (most .nonterminals) 0))
       ∙ getD-values first (most .nonterminals) 0 nonterminal h
       ∙ ap first y
 
@@ -112,7 +119,8 @@ module _ (total : ℕ) (first second : ℕ → ℕ) (tail : List ℕ) where
   -- and the rest
   pub last-part : (place : ℕ) → getD fourParts (productionsAt + place) 0 ≡ getD tail place 0
   last-part place =
-      let z : productionsAt + place ≡ placesAt + (length (valuesOf second (most .nonterminals) 0) + place) = omega (arith, length-values second (most .nonterminals) 0) in
+      let z : productionsAt + place ≡ placesAt + (length (valuesOf second (most .nonterminals) 0) + place) =
+      omega (arith, length-values second (most .nonterminals) 0) in
       cc (behind-first (length (valuesOf second (most .nonterminals) 0) + place), getD-append-add (valuesOf second (most .nonterminals) 0) tail place 0)
 
   -- the length of all
@@ -139,8 +147,10 @@ module _ (total : ℕ) (first second : ℕ → ℕ) (tail : List ℕ) where
     same-number place (no a) (yes b) d =
         moved place (1 + (place - 1)) (omega arith) (firsts (place - 1) (omega arith) ∙ sym (first-part (place - 1) (omega arith)))
     same-number place (no a) (no b) (yes d) =
-        moved place (placesAt + (place - placesAt)) (omega arith) (seconds (place - placesAt) (omega arith) ∙ sym (second-part (place - placesAt) (omega arith)))
-    same-number place (no a) (no b) (no d) = moved place (productionsAt + (place - productionsAt)) (omega arith) (lasts (place - productionsAt) ∙ sym (last-part (place - productionsAt)))
+        moved place (placesAt + (place - placesAt)) (omega arith) (seconds (place - placesAt) (omega arith)
+        ∙ sym (second-part (place - placesAt) (omega arith)))
+    same-number place (no a) (no b) (no d) =
+        moved place (productionsAt + (place - productionsAt)) (omega arith) (lasts (place - productionsAt) ∙ sym (last-part (place - productionsAt)))
 
     -- a room with these numbers
     pub parts-are : room ≡ fourParts

@@ -62,7 +62,8 @@ module _ {total : ℕ} {sets room₀ : List ℕ} {nonterminal : ℕ} {room : Lis
         → getD (set (set room (setsAt + nonterminal) (getD sets nonterminal 0)) (placesAt + nonterminal) noPlaces) (setsAt + at-place) 0 ≡ getD sets at-place 0
     set-next at-place l (yes e) =
         rw e
-        (getD-set-other (set room (setsAt + nonterminal) (getD sets nonterminal 0)) (placesAt + nonterminal) (setsAt + nonterminal) noPlaces 0 (λ q. omega arith)
+        (getD-set-other (set room (setsAt + nonterminal) (getD sets nonterminal 0)) (placesAt + nonterminal) (setsAt + nonterminal) noPlaces 0
+        (λ q. omega arith)
         ∙ getD-set-same room (setsAt + nonterminal) (getD sets nonterminal 0) 0 (omega (arith, beginning .size)))
     set-next at-place l (no e) = untouched (setsAt + at-place) (λ q. e (omega arith)) (λ q. omega arith) ∙ beginning .set-in at-place (omega (arith, below e l))
       where
@@ -81,11 +82,13 @@ module _ {total : ℕ} {sets room₀ : List ℕ} {nonterminal : ℕ} {room : Lis
         below e l = omega arith
 
     -- two numbers for each nonterminal
-    pub beginning-next : Beginning total sets room₀ (nonterminal + 1) (set (set room (setsAt + nonterminal) (getD sets nonterminal 0)) (placesAt + nonterminal) noPlaces)
+    pub beginning-next : Beginning total sets room₀ (nonterminal + 1)
+        (set (set room (setsAt + nonterminal) (getD sets nonterminal 0)) (placesAt + nonterminal) noPlaces)
     beginning-next =
         record {
           small = omega arith;
-          size = length-set (set room (setsAt + nonterminal) (getD sets nonterminal 0)) (placesAt + nonterminal) noPlaces ∙ length-set room (setsAt + nonterminal)
+          size = length-set (set room (setsAt + nonterminal) (getD sets nonterminal 0)) (placesAt + nonterminal) noPlaces
+              ∙ length-set room (setsAt + nonterminal)
               (getD sets nonterminal 0) ∙ beginning .size;
           many = beginning .many;
           sets-many = beginning .sets-many;
@@ -98,7 +101,8 @@ module _ {total : ℕ} {sets room₀ : List ℕ} {nonterminal : ℕ} {room : Lis
   begun-here : most .nonterminals ≤ nonterminal → room ≡ begun total sets room₀
   unfolding begun placeFrom
   begun-here h =
-      parts-are total (λ i. getD sets i 0) (placesNumber []) (drop productionsAt room₀) room (omega (arith, beginning .size, beginning .many, length-drop productionsAt room₀))
+      parts-are total (λ i. getD sets i 0) (placesNumber []) (drop productionsAt room₀) room
+      (omega (arith, beginning .size, beginning .many, length-drop productionsAt room₀))
       (beginning .count)
       (λ i l. beginning .set-in i (omega arith)) (λ i l. beginning .place-in i (omega arith)) (λ i. beginning .tail i ∙ sym (getD-drop productionsAt room₀ i 0))
 
@@ -126,10 +130,12 @@ module _ (entry : Entry) (index : ℕ) {room : List ℕ} (at : RoomAt index (ent
   -- the room stays as long
   pub length-laid : length (laid entry index room) ≡ roomSize
   unfolding laid
-  length-laid = length-set two (placesAt + entry .nonterminal) number ∙ length-set one (linksAt + 2 * index) _ ∙ length-set room (productionsAt + 2 * index) _ ∙ at .size
+  length-laid = length-set two (placesAt + entry .nonterminal) number ∙ length-set one (linksAt + 2 * index) _
+      ∙ length-set room (productionsAt + 2 * index) _ ∙ at .size
 
   -- other numbers stay
-  pub laid-other : (at-place : ℕ) → (at-place ≡ productionsAt + 2 * index → ⊥) → (at-place ≡ linksAt + 2 * index → ⊥) → (at-place ≡ placesAt + entry .nonterminal → ⊥)
+  pub laid-other : (at-place : ℕ) → (at-place ≡ productionsAt + 2 * index → ⊥) → (at-place ≡ linksAt + 2 * index → ⊥)
+      → (at-place ≡ placesAt + entry .nonterminal → ⊥)
       → getD (laid entry index room) at-place 0 ≡ getD room at-place 0
   unfolding laid
   laid-other at-place a b d =
@@ -177,7 +183,8 @@ pub record Filling (sets : List ℕ) (es : List Entry) (room₀ : List ℕ) (ind
   pub set-in : (nonterminal : ℕ) → nonterminal < most .nonterminals → getD room (setsAt + nonterminal) 0 ≡ getD sets nonterminal 0
   -- each nonterminal has the places of its first and its nullable entry among those laid
   pub places : (nonterminal : ℕ) → nonterminal < most .nonterminals
-      → getD room (placesAt + nonterminal) 0 ≡ placeFrom (isOf nonterminal) (drop index es) index + placeBase * placeFrom (isNullableOf nonterminal) (drop index es) index
+      → getD room (placesAt + nonterminal) 0
+      ≡ placeFrom (isOf nonterminal) (drop index es) index + placeBase * placeFrom (isNullableOf nonterminal) (drop index es) index
   -- each entry laid has its first set
   pub first : (at-place : ℕ) → index ≤ at-place → at-place < length es → getD room (productionsAt + 2 * at-place) 0 ≡ getD es at-place noEntry .first
   -- each entry laid has its offset, its next entry and its flag
@@ -187,7 +194,8 @@ pub record Filling (sets : List ℕ) (es : List Entry) (room₀ : List ℕ) (ind
   pub tail : (at-place : ℕ) → productionsAt + 2 * length es ≤ at-place → getD room at-place 0 ≡ getD room₀ at-place 0
 
 -- begun: no entry is laid
-pub filling-start : (sets : List ℕ) (es : List Entry) (room₀ : List ℕ) → length es ≤ most .alternatives → length room₀ ≡ roomSize → {total : ℕ} → total ≡ length es
+pub filling-start : (sets : List ℕ) (es : List Entry) (room₀ : List ℕ) → length es ≤ most .alternatives → length room₀ ≡ roomSize → {total : ℕ}
+    → total ≡ length es
     → Filling sets es (begun total sets room₀) (length es) (begun total sets room₀)
 unfolding begun placeFrom
 filling-start sets es room₀ few size {total} e =
@@ -213,7 +221,8 @@ filling-start sets es room₀ few size {total} e =
 drop-begun : (total : ℕ) (sets room : List ℕ) (from : ℕ) → drop (productionsAt + from) (begun total sets room) ≡ drop (productionsAt + from) room
 unfolding begun
 drop-begun total sets room from =
-    let z : productionsAt + from ≡ suc (length A + (length B + from)) = omega (arith, length-values setOf (most .nonterminals) 0, length-values (placesNumber []) (most .nonterminals) 0) in
+    let z : productionsAt + from ≡ suc (length A + (length B + from)) =
+    omega (arith, length-values setOf (most .nonterminals) 0, length-values (placesNumber []) (most .nonterminals) 0) in
     rw z refl
     ∙ drop-append-add A (B ++ drop productionsAt room) (length B + from)
     ∙ drop-append-add B (drop productionsAt room) from
@@ -292,7 +301,8 @@ module _ {sets : List ℕ} {es : List Entry} {room₀ : List ℕ} {index : ℕ} 
         → getD (laid entry (index - 1) room) (productionsAt + 2 * at-place) 0 ≡ getD es at-place noEntry .first
     first-next at-place l u (yes q) = rw (q, sym here) (laid-first entry (index - 1) at)
     first-next at-place l u (no q) =
-        laid-other entry (index - 1) at (productionsAt + 2 * at-place) (λ r. q (omega arith)) (λ r. omega arith) (λ r. omega arith) ∙ filling .first at-place (apart q) u
+        laid-other entry (index - 1) at (productionsAt + 2 * at-place) (λ r. q (omega arith)) (λ r. omega arith) (λ r. omega arith)
+        ∙ filling .first at-place (apart q) u
       where
         apart : (at-place ≡ index - 1 → ⊥) → index ≤ at-place
         apart q = omega arith
@@ -305,7 +315,8 @@ module _ {sets : List ℕ} {es : List Entry} {room₀ : List ℕ} {index : ℕ} 
         rw z (omega (arith, filling .places (entry .nonterminal) small, old-place (entry .nonterminal))) in
         rw (q, sym here) (laid-second entry (index - 1) at ∙ rw p refl)
     link-next at-place l u (no q) =
-        laid-other entry (index - 1) at (linksAt + 2 * at-place) (λ r. omega arith) (λ r. q (omega arith)) (λ r. omega arith) ∙ filling .link at-place (apart q) u
+        laid-other entry (index - 1) at (linksAt + 2 * at-place) (λ r. omega arith) (λ r. q (omega arith)) (λ r. omega arith)
+        ∙ filling .link at-place (apart q) u
       where
         apart : (at-place ≡ index - 1 → ⊥) → index ≤ at-place
         apart q = omega arith
@@ -364,7 +375,15 @@ module _ {sets : List ℕ} {es : List Entry} {room₀ : List ℕ} {index : ℕ} 
     filled =
         parts-are (length es) (λ n. getD sets n 0) (placesNumber es) (entryNumbers es 0 ++ rest) room
         (filling .size
-        ∙ omega (arith, filling .few, filling .old-size, length-append (entryNumbers es 0) rest, length-entries es 0, length-drop (productionsAt + 2 * length es) room₀))
+        ∙ omega (
+          arith,
+          filling .few,
+          filling .old-size,
+          length-append (entryNumbers es 0) rest,
+          length-entries es 0,
+          length-drop
+              (productionsAt + 2 * length es) room₀,
+        ))
         (filling .count)
         (filling .set-in)
         (λ n h. rw ended at (filling .places n h))

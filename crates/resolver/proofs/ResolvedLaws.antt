@@ -43,7 +43,8 @@ resolves-numbered {cells} {current = current} {room = room} {room₁} {made = ma
     let w = resolves spell [] apart (pre .whole) known (begun .room) (around-none spell cells current (begun .none)) in
     let same : size t ≡ length room = size-spell made spell noSpell cells root ∙ sym (pre .counted) in
     let small : size t ≤ largestTerm = omega (arith, pre .few) in
-    let all : room₁ ≡ marks [] 0 t = cc (take-length room₁, en, w .marked, sets-front room (marks [] 0 t) (length room) (length-marks [] 0 t ∙ same) (omega arith)) in
+    let all : room₁ ≡ marks [] 0 t =
+    cc (take-length room₁, en, w .marked, sets-front room (marks [] 0 t) (length room) (length-marks [] 0 t ∙ same) (omega arith)) in
     record {
       answer = walk-by-marks t small ∙ stops-first (looseIn 0 (marks [] 0 t)) (size t) (rw all at numbers .answer);
       named =

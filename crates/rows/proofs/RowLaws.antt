@@ -122,7 +122,8 @@ not-below code h = omega arith
 above : (code place : ℕ) → 0x20 ≤ code → code - 0x20 ≡ place → code ≡ 0x20 + place
 above code place l e = omega arith
 
-num-code : (code : ℕ) → (code ≡ 0x20 → ⊥) → (code ≡ 0x21 → ⊥) → (code ≡ 0x22 → ⊥) → (code ≡ 0x23 → ⊥) → (code ≡ 0x24 → ⊥) → (code ≡ 0x25 → ⊥) → (code ≡ 0x26 → ⊥)
+num-code : (code : ℕ) → (code ≡ 0x20 → ⊥) → (code ≡ 0x21 → ⊥) → (code ≡ 0x22 → ⊥) → (code ≡ 0x23 → ⊥) → (code ≡ 0x24 → ⊥) → (code ≡ 0x25 → ⊥)
+    → (code ≡ 0x26 → ⊥)
     → constructorOf code ≡ numRow
 num-code code a b c d e f g = by (decLt code 0x20)
   where

@@ -251,7 +251,8 @@ module _ {lex : Lexicon} {at : ℕ} {rest : List ℕ} where
 -- ------------------------------------------------------------------ the steps as the code takes them
 
 -- a search among the table's spellings
-module _ {table room tree : List ℕ} (lexical : Lexical table room tree) (spelling : List ℕ) {count : ℕ} (equal : count ≡ getD room spellingCountAt 0) (spot : Spot)
+module _ {table room tree : List ℕ} (lexical : Lexical table room tree) (spelling : List ℕ) {count : ℕ}
+    (equal : count ≡ getD room spellingCountAt 0) (spot : Spot)
     (found : Searched treeMask (wordsIn table room count) tree spelling spot) where
   searched-all : Searched treeMask (wordsIn table room (getD room spellingCountAt 0)) tree spelling spot
   searched-all = rw (equal) at found
@@ -375,7 +376,8 @@ module _ {formula : List ℕ} {at size hash : ℕ} {spelling : List ℕ} (given-
         by-name (neither n q) = own-step few here-some here-front n q own
 
 -- a keyword's number is below the most that there may be
-pub keyword-small : (table spelling : List ℕ) {name : WordClass} {number : ℕ} → Named (lexiconOf table) spelling name → name ≡ Keyword number → number < most .keywords
+pub keyword-small : (table spelling : List ℕ) {name : WordClass} {number : ℕ} → Named (lexiconOf table) spelling name → name ≡ Keyword number
+    → number < most .keywords
 keyword-small table spelling {number = number} m e = by-name (subst (Named (lexiconOf table) spelling) e m)
   where
     by-name : Named (lexiconOf table) spelling (Keyword number) → number < most .keywords

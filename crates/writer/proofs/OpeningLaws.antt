@@ -127,7 +127,8 @@ module _ {pool cells numbers : List ℕ} {depth row at place code : ℕ} (out : 
       open-zero e = go-start out (rw (rows.zero-row (spellIn pool) cells depth row some (opening-fits .read) e) refl)
 
       -- any other row: a number
-      pub open-num : ((((((Unit {0} × (code ≡ 0x20 → ⊥)) × (code ≡ 0x21 → ⊥)) × (code ≡ 0x22 → ⊥)) × (code ≡ 0x23 → ⊥)) × (code ≡ 0x24 → ⊥)) × (code ≡ 0x25 → ⊥))
+      pub open-num : ((((((Unit {0} × (code ≡ 0x20 → ⊥)) × (code ≡ 0x21 → ⊥)) × (code ≡ 0x22 → ⊥)) × (code ≡ 0x23 → ⊥)) × (code ≡ 0x24 → ⊥)) ×
+          (code ≡ 0x25 → ⊥))
           × (code ≡ 0x26 → ⊥) → {value : ℕ} → value ≡ column cells row 1 → Opening (numberOpening value ∷ [])
       unfolding termOpening labelled opening numberOpening
       open-num others ex =

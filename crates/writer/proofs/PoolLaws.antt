@@ -60,7 +60,8 @@ module _ (pool spelling : List ℕ) (place : ℕ) (short : length spelling < spe
       cc (
         stored-is,
         append-assoc (take (place * spellingRoom) pool) (length spelling ∷ spelling) (drop (place * spellingRoom + suc (length spelling)) pool),
-        getD-at (take (place * spellingRoom) pool) (length spelling) (spelling ++ drop (place * spellingRoom + suc (length spelling)) pool) 0 (place * spellingRoom) front-length,
+        getD-at (take (place * spellingRoom) pool) (length spelling) (spelling ++ drop (place * spellingRoom + suc (length spelling)) pool) 0
+            (place * spellingRoom) front-length,
       )
 
   bytes-there : take (length spelling) (drop (place * spellingRoom + 1) stored) ≡ spelling
@@ -79,7 +80,8 @@ module _ (pool spelling : List ℕ) (place : ℕ) (short : length spelling < spe
   unfolding spellIn
   spelled-here = rw (length-there, bytes-there) refl
 
-  apart-from : (number at-byte : ℕ) → (number ≡ place → ⊥) → number * spellingRoom ≤ at-byte → at-byte < number * spellingRoom + spellingRoom → getD stored at-byte 0 ≡ getD pool at-byte 0
+  apart-from : (number at-byte : ℕ) → (number ≡ place → ⊥) → number * spellingRoom ≤ at-byte → at-byte < number * spellingRoom + spellingRoom
+      → getD stored at-byte 0 ≡ getD pool at-byte 0
   unfolding stored
   apart-from number at-byte d a b =
       by-test (ltb number place)
@@ -91,7 +93,8 @@ module _ (pool spelling : List ℕ) (place : ℕ) (short : length spelling < spe
   spelled-there number d h =
       cc (
         apart-from number (number * spellingRoom) d (omega arith) (omega arith),
-        same-part stored pool (getD pool (number * spellingRoom) 0) (number * spellingRoom + 1) (length-sets pool (place * spellingRoom) (length spelling ∷ spelling))
+        same-part stored pool (getD pool (number * spellingRoom) 0) (number * spellingRoom + 1)
+            (length-sets pool (place * spellingRoom) (length spelling ∷ spelling))
             (λ j b. apart-from number (number * spellingRoom + 1 + j) d (omega arith) (omega arith)),
       )
 
@@ -200,13 +203,20 @@ module _ {table pool₀ pool : List ℕ} {start at place : ℕ} (filling : Filli
 
     value-there : oneOf (lexiconOf table .outsides) place ≡ Value
     value-there =
-        cc (outs, one-left, getD-at (filling .done) Value (take (firstWord - (place + 1)) (leading 2 (fieldsAt table (at + 3 + size)))) [] place (filling .many))
+        cc (
+          outs,
+          one-left,
+          getD-at (filling .done) Value (take (firstWord - (place + 1)) (leading 2 (fieldsAt table (at + 3 + size)))) [] place
+              (filling .many),
+        )
 
     -- the next name is short enough, if all are
-    pub value-short : ((number : ℕ) → length (oneOf (lexiconOf table .outsides) number) < spellingRoom) → {value : List ℕ} → value ≡ Value → length value < spellingRoom
+    pub value-short : ((number : ℕ) → length (oneOf (lexiconOf table .outsides) number) < spellingRoom) → {value : List ℕ} → value ≡ Value
+        → length value < spellingRoom
     value-short hs ev = omega (arith, hs place, ap length value-there, ap length ev)
 
-    module _ (hs : (number : ℕ) → length (oneOf (lexiconOf table .outsides) number) < spellingRoom) (room : firstWord * spellingRoom ≤ length pool₀) {value pool′ : List ℕ}
+    module _ (hs : (number : ℕ) → length (oneOf (lexiconOf table .outsides) number) < spellingRoom)
+        (room : firstWord * spellingRoom ≤ length pool₀) {value pool′ : List ℕ}
         (ev : value ≡ Value) (ep : pool′ ≡ sets pool (place * spellingRoom) (length value ∷ value)) where
       more : List (List ℕ)
       more = filling .done ++ value ∷ []
@@ -237,8 +247,13 @@ module _ {table pool₀ pool : List ℕ} {start at place : ℕ} (filling : Filli
             done = more;
             many = cc (length-append (filling .done) (value ∷ []), filling .many);
             rest =
-                cc
-                (filling .rest, one-left, ev, append-assoc (filling .done) (value ∷ []) (take (firstWord - (place + 1)) (leading 2 (fieldsAt table (at + 3 + size)))));
+                cc (
+                  filling .rest,
+                  one-left,
+                  ev,
+                  append-assoc (filling .done) (value ∷ [])
+                      (take (firstWord - (place + 1)) (leading 2 (fieldsAt table (at + 3 + size)))),
+                );
             pooled = pooled-more;
           }
 
@@ -249,7 +264,8 @@ module _ (outs : List (List ℕ)) (formula room : List ℕ) where
   unfolding filledTo
   near done number h = rw (lt-ltb number firstWord h, filledTo) refl
 
-  stored-word : (done number : ℕ) → firstWord ≤ number → number - firstWord < done → filledTo outs formula room done number ≡ spanned formula room (number - firstWord)
+  stored-word : (done number : ℕ) → firstWord ≤ number → number - firstWord < done
+      → filledTo outs formula room done number ≡ spanned formula room (number - firstWord)
   unfolding filledTo
   stored-word done number h l = rw (le-ltb number firstWord h, filledTo) (rw (lt-ltb (number - firstWord) done l) refl)
 

@@ -48,7 +48,8 @@ module _ (out text : List ℕ) (at from : ℕ) (ef : from ≡ min at (length out
       }
 
 -- the spelling of a number, read off the room
-pub spelled : (pool : List ℕ) (number : ℕ) {size : ℕ} {read : List ℕ} → size ≡ getD pool (number * spellingRoom) 0 → read ≡ take size (drop (number * spellingRoom + 1) pool)
+pub spelled : (pool : List ℕ) (number : ℕ) {size : ℕ} {read : List ℕ} → size ≡ getD pool (number * spellingRoom) 0
+    → read ≡ take size (drop (number * spellingRoom + 1) pool)
     → read ≡ spellIn pool number
 unfolding spellIn
 spelled pool number e h = cc
