@@ -20,6 +20,7 @@ use Rattle.answers.specs.Checked.{Checked, ok, bad, _>>=_, _>>_, verdict}
 use Rattle.grammar.specs.Table.{Table}
 use Rattle.decoding.specs.Decode.{decode}
 use Rattle.decoding.proofs.LayoutTheorems.{decode-exactly}
+use Rattle.decoding.proofs.Inverse.{decode-encoded}
 use Rattle.judgements.specs.CheckSorts.{checkSorts}
 use Rattle.judgements.proofs.SortTheorems.{sorts-exactly, sort-refusals}
 use Rattle.clashes.specs.CheckFirsts.{checkFirsts}
@@ -185,3 +186,16 @@ module _ (bs : List ℕ) (bytes : (place : ℕ) → getD bs place 0 < 256) where
         λ h. let p = k .0 h in let q = clash-lowest (grammarOf (p .0 .table)) nonterminal kind .0 (p .1) in (p .0, q .0, q .1, q .2),
         λ p. k .1 (p .0, clash-lowest (grammarOf (p .0 .table)) nonterminal kind .1 (p .1, p .2, p .3)),
       )
+
+-- ------------------------------------------------------------------ the table of bytes that pass
+
+-- Bytes that pass are those of the table whose rules they meet.
+pub passed-table : (bs : List ℕ) (passes : Passes bs) → passedTable bs ≡ ok (passes .table)
+unfolding passedTable
+passed-table bs passes =
+    rw (
+      passes .encoded,
+      decode-encoded (passes .table) (passes .within),
+      sorts-exactly (passes .table) (passes .within) .1 (passes .meets .sorted),
+      passes-exactly (grammarOf (passes .table)) .1 (passes .meets .not-left-recursive, passes .meets .without-clash),
+    )

@@ -1,7 +1,7 @@
 -- Nullables by what each production needs. A production that reads nothing by itself has only locals and calls, and it needs the nonterminals
 -- that it calls to be nullable: this is gathered once, and the rounds look at what was gathered. These mirror code: nobody needs them to
 -- believe `expand`.
-use Prim.Native.Nat.{ℕ, zero, suc, _-_, _≤_}
+use Prim.Native.Nat.{ℕ, zero, suc, _-_, _^_, _≤_}
 use mathlib.Core.Path.{_≡_}
 use mathlib.Core.Bool.{Bool, true, false}
 use mathlib.Core.List.{List}
@@ -16,7 +16,7 @@ use Rattle.firsts.specs.SetCalls.{joinedIf}
 
 -- the set of all 64 nonterminals
 abbrev pub everyOne : ℕ
-everyOne = 18446744073709551615
+everyOne = 2 ^ 64 - 1
 
 -- a set of nonterminals has none but these
 pub record Nonterminals (s : ℕ) : Type 0 where

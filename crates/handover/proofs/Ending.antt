@@ -13,6 +13,7 @@ use Rattle.tokens.specs.Scan.{Lexed, scan}
 use Rattle.scanner.specs.Rooms.{filled, tokenRows, wordPlaces, scanInto}
 use Rattle.checker.specs.Check.{passedTable, check}
 use Rattle.checker.specs.Passes.{Passes}
+use Rattle.checker.proofs.Passing.{passed-table}
 use Rattle.checker.proofs.TableTheorems.{check-exactly}
 use Rattle.expansion.specs.declared.State.{State}
 use Rattle.expansion.specs.declared.Outcome.{Outcome}
@@ -20,7 +21,6 @@ use Rattle.expansion.specs.declared.Outcome.the-variants.{Value, Halted}
 use Rattle.expansion.specs.Run.{Result, done, halt}
 use Rattle.expansion.specs.Expansion.{inputOf, run}
 use Rattle.meaning.specs.Expand.{refused, expandTable, expand}
-use Rattle.meaning.proofs.Stages.{passed-table}
 use Rattle.parser.specs.declared.Parsed.{Parsed}
 use Rattle.parser.specs.Parse.{ParsedInto, parsedInto, outcomeOf, cellsAfter, parseFilled, parseIntoChecked, parseInto}
 

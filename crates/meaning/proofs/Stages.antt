@@ -11,15 +11,11 @@ use borrow.Author.Tests.{lt-ltb}
 use Rattle.answers.specs.declared.Refusal.{Refusal}
 use Rattle.answers.specs.declared.Answer.the-variants.{Accepted}
 use Rattle.answers.specs.Refusals.{refusal}
-use Rattle.answers.specs.Checked.{ok}
 use Rattle.spellings.specs.Bytes.{isWord}
 use Rattle.kinds.specs.Kinds.{wordKind}
 use Rattle.grammar.specs.Table.{Table, Lexicon, lexiconOfTable}
 use Rattle.terms.specs.Cells.{columns, column, rowsLent}
 use Rattle.decoding.specs.Within.{Each, each-none, each-more, Among, among-first, among-later}
-use Rattle.decoding.proofs.Inverse.{decode-encoded}
-use Rattle.judgements.proofs.SortTheorems.{sorts-exactly}
-use Rattle.clashes.proofs.ClashTheorems.{passes-exactly}
 use Rattle.tokens.specs.declared.Token.{Token}
 use Rattle.tokens.specs.declared.Scanned.{Scanned}
 use Rattle.tokens.specs.declared.Scanned.the-variants.{Tokens, Unscanned}
@@ -29,8 +25,8 @@ use Rattle.tokens.specs.Tiling.{bytesOf}
 use Rattle.tokens.specs.Unscanned.{Unscans}
 use Rattle.tokens.proofs.SpellingLaws.{Spelled, Every, scan-spelled, spelled-number}
 use Rattle.tokens.proofs.ScannerTheorems as scanner
-use Rattle.checker.specs.Check.{passedTable}
 use Rattle.checker.specs.Passes.{grammarOf, Passes}
+use Rattle.checker.proofs.Passing.{passed-table}
 use Rattle.expansion.specs.declared.State.{State}
 use Rattle.expansion.specs.Run.{Result, done, halt}
 use Rattle.expansion.specs.Expansion.{inputOf, run}
@@ -56,21 +52,10 @@ use Rattle.meaning.specs.Meaning.{Scans, spellOf, Means, MeansWithin, ce
 -- ------------------------------------------------------------------ the table
 
 module _ (bs : List ℕ) (passes : Passes bs) where
-  -- A table that passes is the one that is expanded,
-  pub passed-table : passedTable bs ≡ ok (passes .table)
-  unfolding passedTable
-  passed-table =
-      rw (
-        passes .encoded,
-        decode-encoded (passes .table) (passes .within),
-        sorts-exactly (passes .table) (passes .within) .1 (passes .meets .sorted),
-        passes-exactly (grammarOf (passes .table)) .1 (passes .meets .not-left-recursive, passes .meets .without-clash),
-      )
-
-  -- so that its expansion is that of the table.
+  -- The expansion under a table that passes is that of the table.
   pub expand-passed : (formula cells text : List ℕ) → expand bs formula cells text ≡ expandTable (passes .table) formula cells text
   unfolding expand
-  expand-passed formula cells text = rw passed-table
+  expand-passed formula cells text = rw (passed-table bs passes)
 
 -- ------------------------------------------------------------------ the last step
 

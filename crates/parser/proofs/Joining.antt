@@ -1,6 +1,6 @@
 -- What the promises of check, scan and run come to, joined.
 use Prim.Native.Nat.{ℕ, _*_, _-_, _≤_}
-use mathlib.Core.Path.{_≡_, refl, sym, _∙_}
+use mathlib.Core.Path.{_≡_, sym, _∙_}
 use mathlib.Core.List.{List}
 use native.Mathlib.Omega.{arith}
 use lib.Dec.{ltb}
@@ -10,9 +10,8 @@ use Rattle.grammar.specs.Limits.{most}
 use Rattle.answers.specs.declared.Refusal.{Refusal}
 use Rattle.answers.specs.declared.Verdict.{Verdict}
 use Rattle.answers.specs.declared.Verdict.the-variants.{Passed}
-use Rattle.answers.specs.Checked.{Checked, ok, bad, verdict, _>>_}
 use Rattle.spellings.proofs.BytesLaws.{by-test}
-use Rattle.grammar.specs.Table.{Table, Lexicon, lexiconOfTable}
+use Rattle.grammar.specs.Table.{Lexicon, lexiconOfTable}
 use Rattle.grammar.specs.Lookup.{lexiconOf}
 use Rattle.terms.specs.Cells.{rowsLent}
 use Rattle.decoding.proofs.Split.{Bytes}
@@ -23,12 +22,9 @@ use Rattle.tokens.specs.declared.Scanned.the-variants.{Tokens, Unscanned}
 use Rattle.tokens.specs.Tokens.{mostTokens}
 use Rattle.scanner.specs.Rooms.{Filled, filled, scanInto, RoomFor}
 use Rattle.scanner.proofs.AfterScan.{Holds, scan-holds}
-use Rattle.judgements.specs.CheckSorts.{checkSorts}
-use Rattle.clashes.specs.CheckFirsts.{checkFirsts}
-use Rattle.checker.specs.Check.{passedTable, check}
 use Rattle.checker.specs.CheckedInto.{CheckedInto}
-use Rattle.checker.specs.Passes.{grammarOf, Passes}
-use Rattle.checker.proofs.Passing.{never}
+use Rattle.checker.specs.Passes.{Passes}
+use Rattle.checker.proofs.Passing.{passed-table}
 use Rattle.checker.proofs.TableTheorems.{check-exactly}
 use Rattle.checker.proofs.Joined.{passed-grammar, passed-holds, passed-places}
 use Rattle.expansion.specs.declared.Outcome.{Outcome}
@@ -52,11 +48,6 @@ words-room room many a b =
 
 -- ------------------------------------------------------------------ the check
 
--- checks that pass give the table that they are of
-passes-as : (checked : Checked (Unit {0})) (table : Table) → verdict (checked >> ok table) ≡ Passed → (checked >> ok table) ≡ ok table
-passes-as (ok a) table e = refl
-passes-as (bad r) table e = never r e
-
 module _ {bs : List ℕ} (bytes : Bytes bs) where
   -- A table that the check passes, and its room.
   pub checked-passes : {room₀ room : List ℕ} {verdict : Verdict} → CheckedInto bs room₀ room verdict → verdict ≡ Passed → HoldsPassed bs room
@@ -70,14 +61,6 @@ module _ {bs : List ℕ} (bytes : Bytes bs) where
 
     abbrev few : length (lex .outsides) ≤ most .outsides
     few = passes .within .outsideCount
-
-    -- Its bytes are that table.
-    pub passed : passedTable bs ≡ ok (passes .table)
-    unfolding check passedTable
-    passed =
-        let decoded = decode-exactly bs bytes (passes .table) .1 (passes .encoded, passes .within) in
-        rw decoded
-        (passes-as (checkSorts (passes .table) >> checkFirsts (grammarOf (passes .table))) (passes .table) (rw decoded at (check-exactly bs bytes .1 passes)))
 
     -- The scanner finds the keywords and outside names of a passed table in its bytes.
     pub lexicon-passed : lexiconOf bs ≡ lex
@@ -93,7 +76,7 @@ module _ {bs : List ℕ} (bytes : Bytes bs) where
         -- A scan that refuses is the end of the parse.
         pub stops-whole : (cells : List ℕ) {refusal : Refusal} {parsed : Parsed} → scanned ≡ Unscanned refusal → parsed ≡ haltedParse refusal
             → parsedInto parsed tokens′ words′ cells ≡ parseInto bs formula tokens words cells
-        stops-whole cells h = parsing.into-unscanned bs formula tokens words cells passed (rw h at (in-lexicon fills))
+        stops-whole cells h = parsing.into-unscanned bs formula tokens words cells (passed-table bs passes) (rw h at (in-lexicon fills))
 
         module _ {many count : ℕ} (room : RoomFor formula tokens words) (accepts : scanned ≡ Tokens many count) where
           -- One that does not leaves its tokens and words in the rooms.
@@ -107,5 +90,5 @@ module _ {bs : List ℕ} (bytes : Bytes bs) where
               → ran outcome cells′ ≡ run (lentInput bs tokens′ many (rowsLent (length cells))) (getD bs (length bs - 1) 0) cells
               → parsedInto (record { outcome = outcome; words = count }) tokens′ words′ cells′ ≡ parseInto bs formula tokens words cells
           runs-whole cells {outcome} e =
-              parsing.into-run bs formula tokens words cells passed outcome (rw accepts at (in-lexicon fills))
+              parsing.into-run bs formula tokens words cells (passed-table bs passes) outcome (rw accepts at (in-lexicon fills))
               (rw (passed-grammar bytes passes, scan-fills .tokens-are, root-last (passes .table) (passes .encoded)) at e)
