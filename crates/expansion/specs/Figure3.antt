@@ -108,7 +108,6 @@ pub data WordAs : ℕ → List ℕ → Value → Type 0 where
 
 module _ (g : List Production) (spell : ℕ → List ℕ) where
   infix 10 ⟨_∣_⟩_⇒⟨_∣_⟩_
-  infix 10 _⊢⟨_∣_⟩_⇒⟨_∣_⟩_
   -- terminals: "x", ide(B), 01's number, local; x ∉ K(g) is `t .kind ≡ wordKind`, as the scan reads what is spelled as a keyword
   pub data ⟨_∣_⟩_⇒⟨_∣_⟩_ : List Token → ℕ → Item → List Token → ℕ → Value → Type 0 where
     by-keyword : {t : Token} {s : List Token} {i k : ℕ}
@@ -123,19 +122,23 @@ module _ (g : List Production) (spell : ℕ → List ℕ) where
         → ⟨ t ∷ s ∣ i ⟩ Table.number ⇒⟨ s ∣ i ⟩ num (t .value)
     by-local : {s : List Token} {i : ℕ} → ⟨ s ∣ i ⟩ local ⇒⟨ s ∣ i + 1 ⟩ binder (fresh i)
 
-  -- x1 = p1 .. xk = pk, from the variables M and the configuration ⟨s, i⟩ to M' and ⟨s', i'⟩; arguments come before their call, whose
-  -- alternative begins with them as its only variables: (x : S) == p ∈ g is `Of g n p` inside `Taken`
-  pub data _⊢⟨_∣_⟩_⇒⟨_∣_⟩_ : List Value → List Token → ℕ → List Item → List Token → ℕ → List Value → Type 0 where
-    by-end : {M : List Value} {s : List Token} {i : ℕ} → M ⊢⟨ s ∣ i ⟩ [] ⇒⟨ s ∣ i ⟩ M
-    by-terminal : {M M′ : List Value} {s s₁ s′ : List Token} {i i₁ i′ : ℕ} {p : Item} {ps : List Item} {v : Value}
-        → ⟨ s ∣ i ⟩ p ⇒⟨ s₁ ∣ i₁ ⟩ v
+-- x1 = p1 .. xk = pk, from the variables M and the configuration ⟨s, i⟩ to M' and ⟨s', i'⟩; arguments come before their call, whose
+-- alternative begins with them as its only variables: (x : S) == p ∈ g is `Of g n p` inside `Taken`. A are the values; what a terminal reads, which
+-- alternative is taken and what templates give are parameters.
+module _ (A : Type 0) (reads : List Token → ℕ → Item → List Token → ℕ → A → Type 0) (taken : ℕ → List Token → Production → Type 0)
+    (gives : List A → Template → A → Type 0) (giveAll : List A → Templates → List A → Type 0) where
+  infix 10 _⊢⟨_∣_⟩_⇒⟨_∣_⟩_
+  pub data _⊢⟨_∣_⟩_⇒⟨_∣_⟩_ : List A → List Token → ℕ → List Item → List Token → ℕ → List A → Type 0 where
+    by-end : {M : List A} {s : List Token} {i : ℕ} → M ⊢⟨ s ∣ i ⟩ [] ⇒⟨ s ∣ i ⟩ M
+    by-terminal : {M M′ : List A} {s s₁ s′ : List Token} {i i₁ i′ : ℕ} {p : Item} {ps : List Item} {v : A}
+        → reads s i p s₁ i₁ v
         → (M ++ (v ∷ [])) ⊢⟨ s₁ ∣ i₁ ⟩ ps ⇒⟨ s′ ∣ i′ ⟩ M′
         → M ⊢⟨ s ∣ i ⟩ (p ∷ ps) ⇒⟨ s′ ∣ i′ ⟩ M′
-    by-call : {M M₁ M′ vs : List Value} {s s₁ s′ : List Token} {i i₁ i′ n : ℕ} {ts : Templates} {ps : List Item} {v : Value} {p : Production}
-        → GiveAll spell M ts vs
-        → Taken g n s p
+    by-call : {M M₁ M′ vs : List A} {s s₁ s′ : List Token} {i i₁ i′ n : ℕ} {ts : Templates} {ps : List Item} {v : A} {p : Production}
+        → giveAll M ts vs
+        → taken n s p
         → vs ⊢⟨ s ∣ i ⟩ p .items ⇒⟨ s₁ ∣ i₁ ⟩ M₁
-        → Gives spell M₁ (p .result) v
+        → gives M₁ (p .result) v
         → (M ++ (v ∷ [])) ⊢⟨ s₁ ∣ i₁ ⟩ ps ⇒⟨ s′ ∣ i′ ⟩ M′
         → M ⊢⟨ s ∣ i ⟩ (call n ts ∷ ps) ⇒⟨ s′ ∣ i′ ⟩ M′
 
@@ -144,7 +147,7 @@ abbrev pub ReadsAs : List Production → (ℕ → List ℕ) → List Token → �
 ReadsAs g spell s i p s′ i′ v = ⟨_∣_⟩_⇒⟨_∣_⟩_ g spell s i p s′ i′ v
 
 abbrev pub Derives : List Production → (ℕ → List ℕ) → List Value → List Token → ℕ → List Item → List Token → ℕ → List Value → Type 0
-Derives g spell M s i ps s′ i′ M′ = _⊢⟨_∣_⟩_⇒⟨_∣_⟩_ g spell M s i ps s′ i′ M′
+Derives g spell M s i ps s′ i′ M′ = _⊢⟨_∣_⟩_⇒⟨_∣_⟩_ Value (ReadsAs g spell) (Taken g) (Gives spell) (GiveAll spell) M s i ps s′ i′ M′
 
 -- a whole formula: one call, of the root, with fresh names from 1, reads all tokens and gives a term (001, Corollary 1)
 pub record Parses (g : List Production) (spell : ℕ → List ℕ) (root : ℕ) (tokens : List Token) (t : Term Name) : Type 0 where
