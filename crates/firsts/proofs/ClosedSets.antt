@@ -33,7 +33,7 @@ own-called numbers callee h (call n ts) e = rw (← (only-has n callee e .0)) h
 
 -- what calls `callee`, at its left or through others, gives what `callee` gives
 through-call : (calls : Bool) (nulls callee kind : ℕ) (numbers others : Numbers) → Within numbers others → others callee ≡ true → (is : List Item)
-    → firstIn true nulls callee numbers is ≡ true → firstIn calls nulls kind others is ≡ true
+    → firstIn (own true) nulls callee numbers is ≡ true → firstIn (own calls) nulls kind others is ≡ true
 unfolding firstIn
 through-call calls nulls callee kind numbers others h e [] f = absurd (false≢true f)
 through-call calls nulls callee kind numbers others h e (i ∷ is) f =
@@ -41,9 +41,9 @@ through-call calls nulls callee kind numbers others h e (i ∷ is) f =
     (λ p. or-left _
     (or-right (hasKind (own calls i) kind) (⊎-elim (own-called others callee e i) (called-more numbers others h i) (or-split (hasKind (own true i) callee) p))))
     (λ p.
-    let q = and-eq-true-iff (isPassed nulls i) (firstIn true nulls callee numbers is) .0 p in
-    or-right (given calls kind others i) (and-eq-true-iff _ _ .1 (q .0, through-call calls nulls callee kind numbers others h e is (q .1))))
-    (or-split (given true callee numbers i) f)
+    let q = and-eq-true-iff (isPassed nulls i) (firstIn (own true) nulls callee numbers is) .0 p in
+    or-right (given (own calls) kind others i) (and-eq-true-iff _ _ .1 (q .0, through-call calls nulls callee kind numbers others h e is (q .1))))
+    (or-split (given (own true) callee numbers i) f)
 
 -- a callee in `numbers` that stands at the left
 pub record LeftCallee (nulls : ℕ) (numbers : Numbers) (is : List Item) : Type 0 where
@@ -52,17 +52,17 @@ pub record LeftCallee (nulls : ℕ) (numbers : Numbers) (is : List Item) : Type 
   -- it is in `numbers`
   pub in-it : numbers callee ≡ true
   -- a nonterminal stands at the left of the items
-  pub stands : callee < 64 → firstIn true nulls callee nothing is ≡ true
+  pub stands : callee < 64 → firstIn (own true) nulls callee nothing is ≡ true
 
 -- items give `kind` by themselves, or through a callee at their left
-by-parts : (calls : Bool) (nulls kind : ℕ) (numbers : Numbers) (is : List Item) → firstIn calls nulls kind numbers is ≡ true
-    → (firstIn calls nulls kind nothing is ≡ true) ⊎ LeftCallee nulls numbers is
+by-parts : (calls : Bool) (nulls kind : ℕ) (numbers : Numbers) (is : List Item) → firstIn (own calls) nulls kind numbers is ≡ true
+    → (firstIn (own calls) nulls kind nothing is ≡ true) ⊎ LeftCallee nulls numbers is
 unfolding firstIn
 by-parts calls nulls kind numbers [] e = absurd (false≢true e)
 by-parts calls nulls kind numbers (i ∷ is) e =
     ⊎-elim (λ p. ⊎-elim (λ q. inl (or-left _ (or-left _ q))) (λ q. inr (callee-of i q)) (or-split (hasKind (own calls i) kind) p))
-    (λ p. let q = and-eq-true-iff (isPassed nulls i) (firstIn calls nulls kind numbers is) .0 p in later (q .0) (by-parts calls nulls kind numbers is (q .1)))
-    (or-split (given calls kind numbers i) e)
+    (λ p. let q = and-eq-true-iff (isPassed nulls i) (firstIn (own calls) nulls kind numbers is) .0 p in later (q .0) (by-parts calls nulls kind numbers is (q .1)))
+    (or-split (given (own calls) kind numbers i) e)
   where
     callee-of : (item : Item) → called numbers item ≡ true → LeftCallee nulls numbers (item ∷ is)
     callee-of (keyword w) f = absurd (false≢true f)
@@ -71,15 +71,15 @@ by-parts calls nulls kind numbers (i ∷ is) e =
     callee-of local f = absurd (false≢true f)
     callee-of (call n ts) f = record { callee = n; in-it = f; stands = λ l. or-left _ (or-left _ (has-own n l)) }
 
-    later : isPassed nulls i ≡ true → (firstIn calls nulls kind nothing is ≡ true) ⊎ LeftCallee nulls numbers is
-        → (firstIn calls nulls kind nothing (i ∷ is) ≡ true) ⊎ LeftCallee nulls numbers (i ∷ is)
-    later z (inl q) = inl (or-right (given calls kind nothing i) (and-eq-true-iff _ _ .1 (z, q)))
+    later : isPassed nulls i ≡ true → (firstIn (own calls) nulls kind nothing is ≡ true) ⊎ LeftCallee nulls numbers is
+        → (firstIn (own calls) nulls kind nothing (i ∷ is) ≡ true) ⊎ LeftCallee nulls numbers (i ∷ is)
+    later z (inl q) = inl (or-right (given (own calls) kind nothing i) (and-eq-true-iff _ _ .1 (z, q)))
     later z (inr q) =
         inr
         (record {
           callee = q .callee;
           in-it = q .in-it;
-          stands = λ l. or-right (given true (q .callee) nothing i) (and-eq-true-iff _ _ .1 (z, q .stands l));
+          stands = λ l. or-right (given (own true) (q .callee) nothing i) (and-eq-true-iff _ _ .1 (z, q .stands l));
         })
 
 -- ------------------------------------------------------------------ the settled sets, and those of one round
@@ -91,17 +91,17 @@ module _ (nulls : ℕ) (g : List Production) where
   abbrev oneRound : Bool → List ℕ
   oneRound c = overAll (firstStep c nulls) g (replicate 64 0)
 
-  settled-seen : (calls : Bool) (nonterminal kind : ℕ) → settled calls nonterminal kind ≡ least (firstIn calls nulls kind) g nonterminal
-  settled-seen calls nonterminal kind = same-at (sets-seen calls nulls kind g) nonterminal
+  settled-seen : (calls : Bool) (nonterminal kind : ℕ) → settled calls nonterminal kind ≡ least (firstIn (own calls) nulls kind) g nonterminal
+  settled-seen calls nonterminal kind = same-at (sets-seen (own calls) nulls kind g) nonterminal
 
   round-is : (calls : Bool) (nonterminal kind : ℕ)
-      → inSetOf (oneRound calls) nonterminal kind ≡ overAll (admit (firstIn calls nulls kind)) g nothing nonterminal
-  round-is calls nonterminal kind = same-at (round-seen calls nulls kind g) nonterminal
+      → inSetOf (oneRound calls) nonterminal kind ≡ overAll (admit (firstIn (own calls) nulls kind)) g nothing nonterminal
+  round-is calls nonterminal kind = same-at (round-seen (own calls) nulls kind g) nonterminal
 
   -- one round gives nothing else
   round-settled : (calls : Bool) (nonterminal kind : ℕ) → inSetOf (oneRound calls) nonterminal kind ≡ true → settled calls nonterminal kind ≡ true
   round-settled calls nonterminal kind e =
-      settled-seen calls nonterminal kind ∙ round-within (firstIn calls nulls kind) (first-more calls nulls kind) g nonterminal
+      settled-seen calls nonterminal kind ∙ round-within (firstIn (own calls) nulls kind) (first-more (own calls) nulls kind) g nonterminal
       (sym (round-is calls nonterminal kind) ∙ e)
 
   -- what a nonterminal reaches gives to it
@@ -109,14 +109,14 @@ module _ (nulls : ℕ) (g : List Production) where
       → settled calls nonterminal kind ≡ true
   settled-through calls nonterminal callee kind e f =
       settled-seen calls nonterminal kind
-      ∙ least-within (firstIn true nulls callee) g (λ m. least (firstIn calls nulls kind) g m ≡ true) keeps nonterminal
+      ∙ least-within (firstIn (own true) nulls callee) g (λ m. least (firstIn (own calls) nulls kind) g m ≡ true) keeps nonterminal
       (sym (settled-seen true nonterminal callee) ∙ e)
     where
-      keeps : (numbers : Numbers) → Each (λ m. least (firstIn calls nulls kind) g m ≡ true) numbers → (caller : ℕ) (p : Production) → Of g caller p
-          → firstIn true nulls callee numbers (p .items) ≡ true → least (firstIn calls nulls kind) g caller ≡ true
+      keeps : (numbers : Numbers) → Each (λ m. least (firstIn (own calls) nulls kind) g m ≡ true) numbers → (caller : ℕ) (p : Production) → Of g caller p
+          → firstIn (own true) nulls callee numbers (p .items) ≡ true → least (firstIn (own calls) nulls kind) g caller ≡ true
       keeps numbers hs caller p o h =
-          least-closed (firstIn calls nulls kind) (first-more calls nulls kind) g o
-          (through-call calls nulls callee kind numbers (least (firstIn calls nulls kind) g) hs (sym (settled-seen calls callee kind) ∙ f) (p .items) h)
+          least-closed (firstIn (own calls) nulls kind) (first-more (own calls) nulls kind) g o
+          (through-call calls nulls callee kind numbers (least (firstIn (own calls) nulls kind) g) hs (sym (settled-seen calls callee kind) ∙ f) (p .items) h)
 
   -- ---------------------------------------------------------------- the closure has the same
 
@@ -139,14 +139,14 @@ module _ (nulls : ℕ) (g : List Production) where
 
     settled-closed : (nonterminal kind : ℕ) → settled calling nonterminal kind ≡ true → inSetOf sets nonterminal kind ≡ true
     settled-closed nonterminal kind e =
-        least-within (firstIn calling nulls kind) g (λ m. inSetOf sets m kind ≡ true) keeps nonterminal (sym (settled-seen calling nonterminal kind) ∙ e)
+        least-within (firstIn (own calling) nulls kind) g (λ m. inSetOf sets m kind ≡ true) keeps nonterminal (sym (settled-seen calling nonterminal kind) ∙ e)
       where
-        admitted : (either : Bool) (owner member : ℕ) (p : Production) → Of g owner p → firstIn either nulls member nothing (p .items) ≡ true
+        admitted : (either : Bool) (owner member : ℕ) (p : Production) → Of g owner p → firstIn (own either) nulls member nothing (p .items) ≡ true
             → inSetOf (oneRound either) owner member ≡ true
-        admitted either owner member p o h = round-is either owner member ∙ round-admits (firstIn either nulls member) (first-more either nulls member) o h
+        admitted either owner member p o h = round-is either owner member ∙ round-admits (firstIn (own either) nulls member) (first-more (own either) nulls member) o h
 
         keeps : (numbers : Numbers) → Each (λ m. inSetOf sets m kind ≡ true) numbers → (caller : ℕ) (p : Production) → Of g caller p
-            → firstIn calling nulls kind numbers (p .items) ≡ true → inSetOf sets caller kind ≡ true
+            → firstIn (own calling) nulls kind numbers (p .items) ≡ true → inSetOf sets caller kind ≡ true
         keeps numbers hs caller p o h =
             ⊎-elim (λ q. other .kept caller kind (admitted calling caller kind p o q))
             (λ q.

@@ -17,8 +17,8 @@ use Rattle.kinds.specs.Kinds.{hasKind, only, keywordKind, wordKind, numberKind}
 use Rattle.kinds.proofs.KindsLaws.{has-none, has-join, has-only, has-own}
 use Rattle.grammar.specs.Table.{Item, keyword, ide, number, local, call}
 use Rattle.productions.specs.Normal.{Production}
-use Rattle.firsts.specs.FirstSets.{overAll, isPassed, nullables, own, through, joined, gather, firstStep, setsOf}
-use Rattle.firsts.specs.Rules.{Of, First, first-own, first-call, first-past, FirstOf, Reads, reads-keyword, reads-word, reads-number, Calls, calls}
+use Rattle.firsts.specs.FirstSets.{patternOf, overAll, isPassed, nullables, own, through, joinedBy, gatherBy, firstStepBy, setsBy}
+use Rattle.firsts.specs.Rules.{ReadsAt, reads-at, Of, First, first-own, first-call, first-past, FirstOf, Reads, reads-keyword, reads-word, reads-number, Calls, calls}
 use Rattle.firsts.proofs.Rounds.{Numbers, same-at, nothing, Within, Each, admit, least, least-within, least-closed, least-seen, over-seen}
 use Rattle.firsts.proofs.Rounds.{or-left, or-right, or-split}
 use Rattle.firsts.proofs.NullablesExactly.{null-item-exactly}
@@ -38,13 +38,13 @@ called s local = false
 called s (call n ts) = s n
 
 -- an item gives b, by itself or by its nonterminal
-abbrev pub given : Bool → ℕ → Numbers → Item → Bool
-given c b s i = hasKind (own c i) b || called s i
+abbrev pub given : (Item → ℕ) → ℕ → Numbers → Item → Bool
+given mine b s i = hasKind (mine i) b || called s i
 
 -- an item gives b, and those before it are passed
-unfoldable pub firstIn : Bool → ℕ → ℕ → Numbers → List Item → Bool
-firstIn c nulls b s [] = false
-firstIn c nulls b s (i ∷ is) = given c b s i || (isPassed nulls i && firstIn c nulls b s is)
+unfoldable pub firstIn : (Item → ℕ) → ℕ → ℕ → Numbers → List Item → Bool
+firstIn mine nulls b s [] = false
+firstIn mine nulls b s (i ∷ is) = given mine b s i || (isPassed nulls i && firstIn mine nulls b s is)
 
 called-seen : (kind : ℕ) (sets : List ℕ) (item : Item) → hasKind (through sets item) kind ≡ called (bitOfAll kind sets) item
 called-seen kind sets (keyword k) = has-none kind
@@ -71,66 +71,66 @@ and-more false h e = e
 
 -- ------------------------------------------------------------------ the computed sets are the least, bit by bit
 
-module _ (calling : Bool) (nulls kind : ℕ) where
+module _ (mine : Item → ℕ) (nulls kind : ℕ) where
   -- and gives no less
-  pub first-more : (numbers others : Numbers) → Within numbers others → (is : List Item) → firstIn calling nulls kind numbers is ≡ true
-      → firstIn calling nulls kind others is ≡ true
+  pub first-more : (numbers others : Numbers) → Within numbers others → (is : List Item) → firstIn mine nulls kind numbers is ≡ true
+      → firstIn mine nulls kind others is ≡ true
   unfolding firstIn
   first-more numbers others h [] e = e
   first-more numbers others h (i ∷ is) e =
-      ⊎-elim (λ a. or-left _ (or-more (hasKind (own calling i) kind) (called-more numbers others h i) a))
-      (λ a. or-right (given calling kind others i) (and-more (isPassed nulls i) (first-more numbers others h is) a)) (or-split (given calling kind numbers i) e)
+      ⊎-elim (λ a. or-left _ (or-more (hasKind (mine i) kind) (called-more numbers others h i) a))
+      (λ a. or-right (given mine kind others i) (and-more (isPassed nulls i) (first-more numbers others h is) a)) (or-split (given mine kind numbers i) e)
 
   joined-seen : (sets : List ℕ) (item : Item) (found : ℕ)
-      → hasKind (joined calling sets item found) kind ≡ (hasKind found kind || given calling kind (bitOfAll kind sets) item)
+      → hasKind (joinedBy mine sets item found) kind ≡ (hasKind found kind || given mine kind (bitOfAll kind sets) item)
   joined-seen sets item found =
-      has-join (bitOr found (own calling item)) (through sets item) kind ∙ ap₂ _||_ (has-join found (own calling item) kind) (called-seen kind sets item)
-      ∙ or-assoc (hasKind found kind) (hasKind (own calling item) kind) (called (bitOfAll kind sets) item)
+      has-join (bitOr found (mine item)) (through sets item) kind ∙ ap₂ _||_ (has-join found (mine item) kind) (called-seen kind sets item)
+      ∙ or-assoc (hasKind found kind) (hasKind (mine item) kind) (called (bitOfAll kind sets) item)
 
   gather-seen : (sets : List ℕ) (is : List Item) (found : ℕ)
-      → hasKind (gather calling nulls sets is found) kind ≡ (hasKind found kind || firstIn calling nulls kind (bitOfAll kind sets) is)
-  unfolding gather firstIn
+      → hasKind (gatherBy mine nulls sets is found) kind ≡ (hasKind found kind || firstIn mine nulls kind (bitOfAll kind sets) is)
+  unfolding gatherBy firstIn
   gather-seen sets [] found = sym (or-false (hasKind found kind))
-  gather-seen sets (i ∷ is) found = by (isPassed nulls i) refl (gather-seen sets is (joined calling sets i found))
+  gather-seen sets (i ∷ is) found = by (isPassed nulls i) refl (gather-seen sets is (joinedBy mine sets i found))
     where
       by : (test : Bool) → isPassed nulls i ≡ test
-          → hasKind (gather calling nulls sets is (joined calling sets i found)) kind
-          ≡ (hasKind (joined calling sets i found) kind || firstIn calling nulls kind (bitOfAll kind sets) is)
-          → hasKind (gather calling nulls sets (i ∷ is) found) kind ≡ (hasKind found kind || firstIn calling nulls kind (bitOfAll kind sets) (i ∷ is))
+          → hasKind (gatherBy mine nulls sets is (joinedBy mine sets i found)) kind
+          ≡ (hasKind (joinedBy mine sets i found) kind || firstIn mine nulls kind (bitOfAll kind sets) is)
+          → hasKind (gatherBy mine nulls sets (i ∷ is) found) kind ≡ (hasKind found kind || firstIn mine nulls kind (bitOfAll kind sets) (i ∷ is))
       by true e rest =
-          rw (e, gather)
+          rw (e, gatherBy)
           (rest ∙ rw (joined-seen sets i found)
-          (or-assoc (hasKind found kind) (given calling kind (bitOfAll kind sets) i) (firstIn calling nulls kind (bitOfAll kind sets) is)))
-      by false e rest = rw (e, gather) (joined-seen sets i found ∙ rw (or-false (given calling kind (bitOfAll kind sets) i)) refl)
+          (or-assoc (hasKind found kind) (given mine kind (bitOfAll kind sets) i) (firstIn mine nulls kind (bitOfAll kind sets) is)))
+      by false e rest = rw (e, gatherBy) (joined-seen sets i found ∙ rw (or-false (given mine kind (bitOfAll kind sets) i)) refl)
 
   -- what the code gathers, bit by bit
-  pub items-seen : (sets : List ℕ) (is : List Item) → hasKind (gather calling nulls sets is 0) kind ≡ firstIn calling nulls kind (bitOfAll kind sets) is
+  pub items-seen : (sets : List ℕ) (is : List Item) → hasKind (gatherBy mine nulls sets is 0) kind ≡ firstIn mine nulls kind (bitOfAll kind sets) is
   items-seen sets is = rw (has-none kind) at (gather-seen sets is 0)
 
-  step-length : (p : Production) (sets : List ℕ) → length sets ≡ 64 → length (firstStep calling nulls p sets) ≡ 64
-  unfolding firstStep
+  step-length : (p : Production) (sets : List ℕ) → length sets ≡ 64 → length (firstStepBy mine nulls p sets) ≡ 64
+  unfolding firstStepBy
   step-length p sets h = length-set sets (p .nonterminal) _ ∙ h
 
   step-seen : (p : Production) (sets : List ℕ) → length sets ≡ 64
-      → bitOfAll kind (firstStep calling nulls p sets) ≡ admit (firstIn calling nulls kind) p (bitOfAll kind sets)
-  unfolding firstStep
+      → bitOfAll kind (firstStepBy mine nulls p sets) ≡ admit (firstIn mine nulls kind) p (bitOfAll kind sets)
+  unfolding firstStepBy
   step-seen p sets h = fun-ext (λ n. by n (ℕ-discrete n (p .nonterminal)) (decLt n 64))
     where
       grown : ℕ
-      grown = bitOr (getD sets (p .nonterminal) 0) (gather calling nulls sets (p .items) 0)
+      grown = bitOr (getD sets (p .nonterminal) 0) (gatherBy mine nulls sets (p .items) 0)
 
       given-it : Bool
-      given-it = firstIn calling nulls kind (bitOfAll kind sets) (p .items)
+      given-it = firstIn mine nulls kind (bitOfAll kind sets) (p .items)
 
-      by : (nonterminal : ℕ) → Dec (nonterminal ≡ p .nonterminal) → Dec (nonterminal < 64) → bitOfAll kind (firstStep calling nulls p sets) nonterminal
-          ≡ admit (firstIn calling nulls kind) p (bitOfAll kind sets) nonterminal
+      by : (nonterminal : ℕ) → Dec (nonterminal ≡ p .nonterminal) → Dec (nonterminal < 64) → bitOfAll kind (firstStepBy mine nulls p sets) nonterminal
+          ≡ admit (firstIn mine nulls kind) p (bitOfAll kind sets) nonterminal
       by nonterminal (no e) l =
           rw (getD-set-other sets (p .nonterminal) nonterminal grown 0 e, ne-eqb nonterminal (p .nonterminal) e, and-false (ltb nonterminal 64), and-false _)
           (sym (or-false _))
       by nonterminal (yes e) (yes l) =
           let own = p .nonterminal in
           rw (e, getD-set-same sets own grown 0 (omega arith), lt-ltb own 64 (omega arith), eq-eqb own own refl, and-true given-it)
-          (has-join (getD sets (p .nonterminal) 0) (gather calling nulls sets (p .items) 0) kind ∙ rw (items-seen sets (p .items)) refl)
+          (has-join (getD sets (p .nonterminal) 0) (gatherBy mine nulls sets (p .items) 0) kind ∙ rw (items-seen sets (p .items)) refl)
       by nonterminal (yes e) (no l) =
           rw (set-out sets (p .nonterminal) grown (omega arith), le-ltb nonterminal 64 (omega arith), and-false given-it) (sym (or-false _))
 
@@ -143,23 +143,23 @@ module _ (calling : Bool) (nulls kind : ℕ) where
           rw (List·getD-eq-default {A = ℕ} (replicate 64 0) 0 {n = nonterminal} (omega (arith, length-replicate {A = ℕ} 64 0))) (has-none kind)
 
   -- bit `kind` of all sets is the least set that the productions keep
-  pub sets-seen : (g : List Production) → bitOfAll kind (setsOf calling nulls g) ≡ least (firstIn calling nulls kind) g
-  unfolding setsOf
+  pub sets-seen : (g : List Production) → bitOfAll kind (setsBy mine nulls g) ≡ least (firstIn mine nulls kind) g
+  unfolding setsBy
   sets-seen g =
-      least-seen (λ sets. length sets ≡ 64) (bitOfAll kind) (firstIn calling nulls kind) (firstStep calling nulls) step-length step-seen
+      least-seen (λ sets. length sets ≡ 64) (bitOfAll kind) (firstIn mine nulls kind) (firstStepBy mine nulls) step-length step-seen
       g (replicate 64 0) (length-replicate {A = ℕ} 64 0) none-seen
 
   -- and after one round it is that of one round
   pub round-seen : (g : List Production)
-      → bitOfAll kind (overAll (firstStep calling nulls) g (replicate 64 0)) ≡ overAll (admit (firstIn calling nulls kind)) g nothing
+      → bitOfAll kind (overAll (firstStepBy mine nulls) g (replicate 64 0)) ≡ overAll (admit (firstIn mine nulls kind)) g nothing
   round-seen g =
-      over-seen (λ sets. length sets ≡ 64) (bitOfAll kind) (firstIn calling nulls kind) (firstStep calling nulls) step-length step-seen
+      over-seen (λ sets. length sets ≡ 64) (bitOfAll kind) (firstIn mine nulls kind) (firstStepBy mine nulls) step-length step-seen
       g (replicate 64 0) (length-replicate {A = ℕ} 64 0)
-      ∙ ap (overAll (admit (firstIn calling nulls kind)) g) none-seen
+      ∙ ap (overAll (admit (firstIn mine nulls kind)) g) none-seen
 
 -- ------------------------------------------------------------------ the rules
 
-module _ (calling : Bool) (Own : Item → ℕ → Type 0) (own-exactly : (item : Item) (kind : ℕ) → (hasKind (own calling item) kind ≡ true) ↔ Own item kind)
+module _ (mine : Item → ℕ) (Own : Item → ℕ → Type 0) (own-exactly : (item : Item) (kind : ℕ) → (hasKind (mine item) kind ≡ true) ↔ Own item kind)
     (g : List Production) where
   called-sound : (kind : ℕ) (numbers : Numbers) → Each (λ n. FirstOf g Own n kind) numbers → (item : Item) (is : List Item)
       → called numbers item ≡ true → First g Own (item ∷ is) kind
@@ -170,46 +170,46 @@ module _ (calling : Bool) (Own : Item → ℕ → Type 0) (own-exactly : (item :
   called-sound kind numbers hs (call n ts) is e = let f = hs n e in first-call (f .of) (f .first)
 
   first-sound : (kind : ℕ) (numbers : Numbers) → Each (λ n. FirstOf g Own n kind) numbers → (is : List Item)
-      → firstIn calling (nullables g) kind numbers is ≡ true → First g Own is kind
+      → firstIn mine (nullables g) kind numbers is ≡ true → First g Own is kind
   unfolding firstIn
   first-sound kind numbers hs [] e = absurd (false≢true e)
   first-sound kind numbers hs (i ∷ is) e =
-      ⊎-elim (λ a. ⊎-elim (λ o. first-own (own-exactly i kind .0 o)) (called-sound kind numbers hs i is) (or-split (hasKind (own calling i) kind) a))
+      ⊎-elim (λ a. ⊎-elim (λ o. first-own (own-exactly i kind .0 o)) (called-sound kind numbers hs i is) (or-split (hasKind (mine i) kind) a))
       (λ a.
-      let t = and-eq-true-iff (isPassed (nullables g) i) (firstIn calling (nullables g) kind numbers is) .0 a in
-      first-past (null-item-exactly g i .0 (t .0)) (first-sound kind numbers hs is (t .1))) (or-split (given calling kind numbers i) e)
+      let t = and-eq-true-iff (isPassed (nullables g) i) (firstIn mine (nullables g) kind numbers is) .0 a in
+      first-past (null-item-exactly g i .0 (t .0)) (first-sound kind numbers hs is (t .1))) (or-split (given mine kind numbers i) e)
 
-  first-complete : {is : List Item} {kind : ℕ} → First g Own is kind → firstIn calling (nullables g) kind (least (firstIn calling (nullables g) kind) g) is
+  first-complete : {is : List Item} {kind : ℕ} → First g Own is kind → firstIn mine (nullables g) kind (least (firstIn mine (nullables g) kind) g) is
       ≡ true
   unfolding firstIn
   first-complete (first-own {i = i} {b = b} o) = or-left _ (or-left _ (own-exactly i b .1 o))
   first-complete (first-call {n = n} {b = b} {ts = ts} o h) =
       or-left _
-      (or-right (hasKind (own calling (call n ts)) b)
-      (least-closed (firstIn calling (nullables g) b) (first-more calling (nullables g) b) g o (first-complete h)))
+      (or-right (hasKind (mine (call n ts)) b)
+      (least-closed (firstIn mine (nullables g) b) (first-more mine (nullables g) b) g o (first-complete h)))
   first-complete (first-past {i = i} {is = is} {b = b} n h) =
-      or-right (given calling b (least (firstIn calling (nullables g) b) g) i) (and-eq-true-iff _ _ .1 (null-item-exactly g i .1 n, first-complete h))
+      or-right (given mine b (least (firstIn mine (nullables g) b) g) i) (and-eq-true-iff _ _ .1 (null-item-exactly g i .1 n, first-complete h))
 
   -- bit `kind` of the set of `nonterminal` is there exactly if `nonterminal` gives `kind` by the rules
-  pub sets-exactly : (nonterminal kind : ℕ) → (hasKind (getD (setsOf calling (nullables g) g) nonterminal 0) kind ≡ true) ↔ FirstOf g Own nonterminal kind
+  pub sets-exactly : (nonterminal kind : ℕ) → (hasKind (getD (setsBy mine (nullables g) g) nonterminal 0) kind ≡ true) ↔ FirstOf g Own nonterminal kind
   sets-exactly nonterminal kind = (
-    λ e. least-within (firstIn calling (nullables g) kind) g (λ m. FirstOf g Own m kind) keeps nonterminal
-        (sym (same-at (sets-seen calling (nullables g) kind g) nonterminal) ∙ e),
-    λ f. same-at (sets-seen calling (nullables g) kind g) nonterminal
-        ∙ least-closed (firstIn calling (nullables g) kind) (first-more calling (nullables g) kind) g (f .of) (first-complete (f .first)),
+    λ e. least-within (firstIn mine (nullables g) kind) g (λ m. FirstOf g Own m kind) keeps nonterminal
+        (sym (same-at (sets-seen mine (nullables g) kind g) nonterminal) ∙ e),
+    λ f. same-at (sets-seen mine (nullables g) kind g) nonterminal
+        ∙ least-closed (firstIn mine (nullables g) kind) (first-more mine (nullables g) kind) g (f .of) (first-complete (f .first)),
   )
     where
       keeps : (numbers : Numbers) → Each (λ nonterminal. FirstOf g Own nonterminal kind) numbers → (nonterminal : ℕ) (p : Production) → Of g nonterminal p
-          → firstIn calling (nullables g) kind numbers (p .items) ≡ true → FirstOf g Own nonterminal kind
+          → firstIn mine (nullables g) kind numbers (p .items) ≡ true → FirstOf g Own nonterminal kind
       keeps numbers hs nonterminal p o e = record { production = p; of = o; first = first-sound kind numbers hs (p .items) e }
 
   -- and so it is with the items of one production
-  pub items-exactly : (is : List Item) (kind : ℕ) → (hasKind (gather calling (nullables g) (setsOf calling (nullables g) g) is 0) kind ≡ true)
+  pub items-exactly : (is : List Item) (kind : ℕ) → (hasKind (gatherBy mine (nullables g) (setsBy mine (nullables g) g) is 0) kind ≡ true)
       ↔ First g Own is kind
   items-exactly is kind = (
-    λ e. first-sound kind (bitOfAll kind (setsOf calling (nullables g) g)) (λ n. sets-exactly n kind .0) is
-        (sym (items-seen calling (nullables g) kind _ is) ∙ e),
-    λ f. items-seen calling (nullables g) kind _ is ∙ rw (sets-seen calling (nullables g) kind g) (first-complete f),
+    λ e. first-sound kind (bitOfAll kind (setsBy mine (nullables g) g)) (λ n. sets-exactly n kind .0) is
+        (sym (items-seen mine (nullables g) kind _ is) ∙ e),
+    λ f. items-seen mine (nullables g) kind _ is ∙ rw (sets-seen mine (nullables g) kind g) (first-complete f),
   )
 
 -- ------------------------------------------------------------------ what an item gives by itself
@@ -251,3 +251,17 @@ calls-exactly item kind = (sound item, complete item kind)
 
     complete : (item : Item) (kind : ℕ) → Calls item kind → hasKind (own true item) kind ≡ true
     complete _ _ (calls {n = n} l) = has-own n l
+
+-- an ide gives its sort to what reads a variable
+pub reads-at-exactly : (item : Item) (kind : ℕ) → (hasKind (patternOf item) kind ≡ true) ↔ ReadsAt item kind
+reads-at-exactly item kind = (sound item, complete item kind)
+  where
+    sound : (item : Item) → hasKind (patternOf item) kind ≡ true → ReadsAt item kind
+    sound (keyword k) e = absurd (none-has kind e)
+    sound (ide s) e = let t = only-has s kind e in rw (t .0) (reads-at {s = s} (omega arith))
+    sound number e = absurd (none-has kind e)
+    sound local e = absurd (none-has kind e)
+    sound (call n ts) e = absurd (none-has kind e)
+
+    complete : (item : Item) (kind : ℕ) → ReadsAt item kind → hasKind (patternOf item) kind ≡ true
+    complete _ _ (reads-at {s = s} l) = has-own s l

@@ -8,10 +8,10 @@ use mathlib.Core.List.{List}
 use lib.ListN.{getD}
 use Rattle.kinds.specs.Kinds.{hasKind}
 use Rattle.productions.specs.Normal.{Production}
-use Rattle.firsts.specs.FirstSets.{allPassed, nullables, firstSets, leftCalls, firstOf}
-use Rattle.firsts.specs.Rules.{NullItems, Nullable, First, Reads, Calls, Opens, LeftReaches}
+use Rattle.firsts.specs.FirstSets.{allPassed, own, patternOf, patternSets, patternsOf, nullables, firstSets, leftCalls, firstOf}
+use Rattle.firsts.specs.Rules.{ReadsAt, NullItems, Nullable, First, Reads, Calls, Opens, LeftReaches}
 use Rattle.firsts.proofs.NullablesExactly as nulls
-use Rattle.firsts.proofs.FirstSetsExactly.{sets-exactly, items-exactly, reads-exactly, calls-exactly}
+use Rattle.firsts.proofs.FirstSetsExactly.{sets-exactly, items-exactly, reads-exactly, calls-exactly, reads-at-exactly}
 
 module _ (g : List Production) where
   -- 1. Bit `nonterminal` of the nullables is set exactly if `nonterminal` is nullable.
@@ -20,17 +20,22 @@ module _ (g : List Production) where
 
   -- 2. Bit `kind` of the first set of `nonterminal` is set exactly if `kind` opens `nonterminal`.
   pub opens-exactly : (nonterminal kind : ℕ) → (hasKind (getD (firstSets (nullables g) g) nonterminal 0) kind ≡ true) ↔ Opens g nonterminal kind
-  opens-exactly = sets-exactly false Reads reads-exactly g
+  opens-exactly = sets-exactly (own false) Reads reads-exactly g
 
   -- 3. Bit `callee` of the left calls of `nonterminal` is set exactly if `nonterminal` reaches `callee` by calls preceded only by nullable items.
   pub reaches-exactly : (nonterminal callee : ℕ) → (hasKind (getD (leftCalls (nullables g) g) nonterminal 0) callee ≡ true) ↔ LeftReaches g nonterminal callee
-  reaches-exactly = sets-exactly true Calls calls-exactly g
+  reaches-exactly = sets-exactly (own true) Calls calls-exactly g
 
   -- 4. Bit `kind` of the first set of one production is set exactly if its items give `kind` first.
   pub production-opens-exactly : (p : Production) (kind : ℕ)
       → (hasKind (firstOf (nullables g) (firstSets (nullables g) g) p) kind ≡ true) ↔ First g Reads (p .items) kind
-  production-opens-exactly p = items-exactly false Reads reads-exactly g (p .items)
+  production-opens-exactly p = items-exactly (own false) Reads reads-exactly g (p .items)
 
   -- 5. A production is found nullable exactly if its items may all read nothing.
   pub production-nullable-exactly : (p : Production) → (allPassed (nullables g) (p .items) ≡ true) ↔ NullItems g (p .items)
   production-nullable-exactly p = nulls.null-items-exactly g (p .items)
+
+  -- 6. Bit `sort` of what reads a variable first in a production is set exactly if an ide of that sort stands first in it.
+  pub patterns-exactly : (p : Production) (sort : ℕ)
+      → (hasKind (patternsOf (nullables g) (patternSets (nullables g) g) p) sort ≡ true) ↔ First g ReadsAt (p .items) sort
+  patterns-exactly p = items-exactly patternOf ReadsAt reads-at-exactly g (p .items)

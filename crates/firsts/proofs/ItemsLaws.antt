@@ -23,7 +23,7 @@ use Rattle.firsts.specs.declared.SymbolStep.the-variants.{Done, Past}
 use Rattle.firsts.specs.declared.Gathered.{Gathered}
 use Rattle.firsts.specs.SetCalls.{gathered}
 use Rattle.firsts.specs.Symbols.{symbolOf, withSymbol, fieldStep, symbolStep}
-use Rattle.firsts.specs.FirstSets.{isPassed, allPassed, own, through, joined, gather}
+use Rattle.firsts.specs.FirstSets.{isPassed, allPassed, own, through, joined, gather, gatherBy}
 use Rattle.productions.specs.Index.{itemsOf}
 
 -- ------------------------------------------------------------------ the symbol of an item
@@ -224,7 +224,7 @@ pub record Gathering (bs : List ℕ) (calls : Bool) (nulls : ℕ) (sets : List �
 
 module _ {bs : List ℕ} {calls : Bool} {nulls : ℕ} {sets : List ℕ} {start found at : ℕ} (gathering : Gathering bs calls nulls sets start found at) where
   gather-none : itemsOf (fieldsAt bs at) ≡ [] → found ≡ gather calls nulls sets (itemsOf (fieldsAt bs start)) 0
-  unfolding gather
+  unfolding gatherBy
   gather-none e = rw e at (gathering .rest)
 
   -- no item is left
@@ -243,17 +243,17 @@ module _ {bs : List ℕ} {calls : Bool} {nulls : ℕ} {sets : List ℕ} {start f
 
     -- what the definition gives for the item here, where the test is known
     pub gather-next : test ≡ true → Gathering bs calls nulls sets start more after
-    unfolding gather
+    unfolding gatherBy
     gather-next t =
         let goes : isPassed nulls (stepped bs at equal .item) ≡ true = cc (passes bs at nulls equal eb) in
-        record { rest = rw finds (rw (stepped bs at equal .items, goes, gather) at (gathering .rest)) }
+        record { rest = rw finds (rw (stepped bs at equal .items, goes, gatherBy) at (gathering .rest)) }
 
     -- and where the item is the last
     pub gather-stop : test ≡ false → more ≡ gather calls nulls sets (itemsOf (fieldsAt bs start)) 0
-    unfolding gather
+    unfolding gatherBy
     gather-stop t =
         let stops : isPassed nulls (stepped bs at equal .item) ≡ false = cc (passes bs at nulls equal eb) in
-        finds ∙ (rw (stepped bs at equal .items, stops, gather) at (gathering .rest))
+        finds ∙ (rw (stepped bs at equal .items, stops, gatherBy) at (gathering .rest))
 
 -- what both arrays get, and whether all items are nullable
 pub record Walking (bs : List ℕ) (nulls : ℕ) (kinds calls : List ℕ) (start read called at : ℕ) : Type 0 where

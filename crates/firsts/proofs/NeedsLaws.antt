@@ -18,7 +18,7 @@ use Rattle.grammar.specs.Lookup.{fieldsAt}
 use Rattle.productions.specs.Normal.{Production}
 use Rattle.productions.specs.Index.{itemsOf, productionAt, productionsBy}
 use Rattle.firsts.specs.declared.Gathered.{Gathered}
-use Rattle.firsts.specs.FirstSets.{rounds, overAll, isPassed, allPassed, nullStep, nullables, gather}
+use Rattle.firsts.specs.FirstSets.{own, rounds, overAll, isPassed, allPassed, nullStep, nullables, gather}
 use Rattle.firsts.specs.SetCalls.{joinedIf, gathered}
 use Rattle.firsts.specs.Needs.{everyOne, Nonterminals, needStep, needPass, needRound, stepPlace, NeedsLent, NeedsHeld}
 use Rattle.firsts.proofs.Rounds.{nothing, count, count-le, grows, or-left, or-right, or-split}
@@ -102,14 +102,14 @@ passed-every h local e = e
 passed-every h (call n ts) e = every-has n (small-in h n e)
 
 -- what an item calls, where it is passed
-passed-needs : (nulls kind : ℕ) (item : Item) → isPassed nulls item ≡ true → given true kind nothing item ≡ true → hasKind nulls kind ≡ true
+passed-needs : (nulls kind : ℕ) (item : Item) → isPassed nulls item ≡ true → given (own true) kind nothing item ≡ true → hasKind nulls kind ≡ true
 passed-needs nulls kind (keyword k) e f = absurd (false≢true e)
 passed-needs nulls kind (ide s) e f = absurd (false≢true e)
 passed-needs nulls kind number e f = absurd (false≢true e)
 passed-needs nulls kind local e f = absurd (⊎-elim (λ p. false≢true (sym (has-none kind) ∙ p)) (λ p. false≢true p) (or-split (hasKind 0 kind) f))
 passed-needs nulls kind (call n ts) e f = rw (only-has n kind (⊎-elim (λ p. p) (λ p. absurd (false≢true p)) (or-split (hasKind (only n) kind) f)) .0) e
 
-needs-passed : (nulls : ℕ) (item : Item) → isPassed everyOne item ≡ true → ((kind : ℕ) → given true kind nothing item ≡ true → hasKind nulls kind ≡ true)
+needs-passed : (nulls : ℕ) (item : Item) → isPassed everyOne item ≡ true → ((kind : ℕ) → given (own true) kind nothing item ≡ true → hasKind nulls kind ≡ true)
     → isPassed nulls item ≡ true
 needs-passed nulls (keyword k) e h = e
 needs-passed nulls (ide s) e h = e
@@ -118,7 +118,7 @@ needs-passed nulls local e h = e
 needs-passed nulls (call n ts) e h = h n (or-left _ (has-own n (every-small n e)))
 
 abbrev Needed : ℕ → List Item → Type 0
-Needed nulls is = (b : ℕ) → firstIn true everyOne b nothing is ≡ true → hasKind nulls b ≡ true
+Needed nulls is = (b : ℕ) → firstIn (own true) everyOne b nothing is ≡ true → hasKind nulls b ≡ true
 
 all-every : {nulls : ℕ} → Nonterminals nulls → (is : List Item) → allPassed nulls is ≡ true → allPassed everyOne is ≡ true
 unfolding allPassed
@@ -133,7 +133,7 @@ all-needed nulls [] e b f = absurd (false≢true f)
 all-needed nulls (i ∷ is) e b f =
     let p = and-eq-true-iff (isPassed nulls i) (allPassed nulls is) .0 e in
     ⊎-elim (passed-needs nulls b i (p .0)) (λ q. all-needed nulls is (p .1) b (and-eq-true-iff (isPassed everyOne i) _ .0 q .1))
-    (or-split (given true b nothing i) f)
+    (or-split (given (own true) b nothing i) f)
 
 needed-all : (nulls : ℕ) (is : List Item) → allPassed everyOne is ≡ true → Needed nulls is → allPassed nulls is ≡ true
 unfolding allPassed firstIn
@@ -142,7 +142,7 @@ needed-all nulls (i ∷ is) e h =
     let p = and-eq-true-iff (isPassed everyOne i) (allPassed everyOne is) .0 e in
     and-eq-true-iff _ _ .1 (
       needs-passed nulls i (p .0) (λ b q. h b (or-left _ q)),
-      needed-all nulls is (p .1) (λ b q. h b (or-right (given true b nothing i) (and-eq-true-iff _ _ .1 (p .0, q)))),
+      needed-all nulls is (p .1) (λ b q. h b (or-right (given (own true) b nothing i) (and-eq-true-iff _ _ .1 (p .0, q)))),
     )
 
 -- ------------------------------------------------------------------ a step
@@ -151,8 +151,8 @@ module _ (is : List Item) where
   abbrev needsOf : ℕ
   needsOf = gather true everyOne [] is 0
 
-  needs-seen : (kind : ℕ) → hasKind needsOf kind ≡ firstIn true everyOne kind nothing is
-  needs-seen kind = items-seen true everyOne kind [] is ∙ ap (λ s. firstIn true everyOne kind s is) (fun-ext (λ n. has-none kind))
+  needs-seen : (kind : ℕ) → hasKind needsOf kind ≡ firstIn (own true) everyOne kind nothing is
+  needs-seen kind = items-seen (own true) everyOne kind [] is ∙ ap (λ s. firstIn (own true) everyOne kind s is) (fun-ext (λ n. has-none kind))
 
   -- with only locals and calls, the needs decide
   test-is : allPassed everyOne is ≡ true → (nulls : ℕ) → eqb (bitOr nulls needsOf) nulls ≡ allPassed nulls is

@@ -9,7 +9,7 @@ use lib.ListN.{length, getD, set, replicate, length-set, length-replicate}
 use lib.Seq.{set-out}
 use Rattle.grammar.specs.Lookup.{fieldsAt}
 use Rattle.productions.specs.Normal.{Production}
-use Rattle.firsts.specs.FirstSets.{rounds, overAll, firstStep, setsOf}
+use Rattle.firsts.specs.FirstSets.{rounds, overAll, firstStep, setsOf, firstStepBy, setsBy}
 use Rattle.firsts.specs.declared.Gathered.{Gathered}
 use Rattle.firsts.specs.SetCalls.{gathered, StepTaken, RoundTaken, SetsLent}
 use Rattle.productions.specs.Index.{itemsOf, Place, productionAt, productionsAt, placesFrom, productionsBy}
@@ -59,12 +59,12 @@ pub step-is : (nulls : ℕ) (bs : List ℕ) (owner start : ℕ) (kinds calls : L
     → found ≡ gathered nulls kinds calls (itemsOf (fieldsAt bs start)) → {kinds′ calls′ : List ℕ}
     → kinds′ ≡ set kinds owner (bitOr (getD kinds owner 0) (found .kinds)) → calls′ ≡ set calls owner (bitOr (getD calls owner 0) (found .calls))
     → StepTaken nulls (productionAt bs owner start) kinds calls kinds′ calls′
-unfolding firstStep productionAt
+unfolding firstStepBy productionAt
 step-is nulls bs owner start kinds calls e ek el = record { kinds-are = ek ∙ rw e refl; calls-are = el ∙ rw e refl }
 
 -- there are always as many sets
 length-step : (calls : Bool) (nulls : ℕ) (p : Production) (sets : List ℕ) → length (firstStep calls nulls p sets) ≡ length sets
-unfolding firstStep
+unfolding firstStepBy
 length-step calls nulls p sets = length-set sets (p .nonterminal) _
 
 -- a round keeps their number
@@ -81,7 +81,7 @@ length-rounds (suc times) step e sets = length-rounds times step e (step sets) �
 
 -- 64 sets, whatever the grammar
 pub length-sets : (calls : Bool) (nulls : ℕ) (g : List Production) → length (setsOf calls nulls g) ≡ 64
-unfolding setsOf
+unfolding setsBy
 length-sets calls nulls g =
     length-rounds 64 (overAll (firstStep calls nulls) g) (length-over calls nulls g) (replicate 64 0) ∙ length-replicate {A = ℕ} 64 0
 

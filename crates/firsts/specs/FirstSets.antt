@@ -60,23 +60,36 @@ through sets number = 0
 through sets local = 0
 through sets (call n ts) = getD sets n 0
 
+-- found, what an item gives by itself, and what a call gives
+abbrev pub joinedBy : (Item → ℕ) → List ℕ → Item → ℕ → ℕ
+joinedBy mine sets i found = bitOr (bitOr found (mine i)) (through sets i)
+
 abbrev pub joined : Bool → List ℕ → Item → ℕ → ℕ
-joined calls sets i found = bitOr (bitOr found (own calls i)) (through sets i)
+joined calls sets i found = joinedBy (own calls) sets i found
 
--- what the items give up to the first that is not nullable, with that one
-unfoldable pub gather : Bool → ℕ → List ℕ → List Item → ℕ → ℕ
-gather calls nulls sets [] found = found
-gather calls nulls sets (i ∷ is) found =
+-- what the items give up to the first that is not nullable, with that one, where `mine` is what an item gives by itself
+unfoldable pub gatherBy : (Item → ℕ) → ℕ → List ℕ → List Item → ℕ → ℕ
+gatherBy mine nulls sets [] found = found
+gatherBy mine nulls sets (i ∷ is) found =
     elim (isPassed nulls i)
-    [ true ↦ gather calls nulls sets is (joined calls sets i found) | false ↦ joined calls sets i found ]
+    [ true ↦ gatherBy mine nulls sets is (joinedBy mine sets i found) | false ↦ joinedBy mine sets i found ]
 
-unfoldable pub firstStep : Bool → ℕ → Production → List ℕ → List ℕ
-firstStep calls nulls p sets =
-    set sets (p .nonterminal) (bitOr (getD sets (p .nonterminal) 0) (gather calls nulls sets (p .items) 0))
+abbrev pub gather : Bool → ℕ → List ℕ → List Item → ℕ → ℕ
+gather calls nulls sets is found = gatherBy (own calls) nulls sets is found
+
+unfoldable pub firstStepBy : (Item → ℕ) → ℕ → Production → List ℕ → List ℕ
+firstStepBy mine nulls p sets =
+    set sets (p .nonterminal) (bitOr (getD sets (p .nonterminal) 0) (gatherBy mine nulls sets (p .items) 0))
+
+abbrev pub firstStep : Bool → ℕ → Production → List ℕ → List ℕ
+firstStep calls nulls p sets = firstStepBy (own calls) nulls p sets
 
 -- a set for each of the 64 nonterminals
-unfoldable pub setsOf : Bool → ℕ → List Production → List ℕ
-setsOf calls nulls g = rounds (most .nonterminals) (overAll (firstStep calls nulls) g) (replicate (most .nonterminals) 0)
+unfoldable pub setsBy : (Item → ℕ) → ℕ → List Production → List ℕ
+setsBy mine nulls g = rounds (most .nonterminals) (overAll (firstStepBy mine nulls) g) (replicate (most .nonterminals) 0)
+
+abbrev pub setsOf : Bool → ℕ → List Production → List ℕ
+setsOf calls nulls g = setsBy (own calls) nulls g
 
 -- the first sets: bit 0 a word, bit 1 a number, bit k + 2 keyword k
 abbrev pub firstSets : ℕ → List Production → List ℕ
@@ -89,3 +102,17 @@ leftCalls nulls g = setsOf true nulls g
 -- the first set of one production
 abbrev pub firstOf : ℕ → List ℕ → Production → ℕ
 firstOf nulls firsts p = gather false nulls firsts (p .items) 0
+
+-- what reads a `$` variable first, by its sort: bit B an ide of sort B
+abbrev pub patternOf : Item → ℕ
+patternOf (keyword k) = 0
+patternOf (ide s) = only s
+patternOf number = 0
+patternOf local = 0
+patternOf (call n ts) = 0
+
+abbrev pub patternSets : ℕ → List Production → List ℕ
+patternSets nulls g = setsBy patternOf nulls g
+
+abbrev pub patternsOf : ℕ → List ℕ → Production → ℕ
+patternsOf nulls sets p = gatherBy patternOf nulls sets (p .items) 0

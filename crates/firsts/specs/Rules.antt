@@ -52,6 +52,10 @@ pub data Reads : Item → ℕ → Type 0 where
   reads-word : {s : ℕ} → Reads (ide s) wordKind
   reads-number : Reads number numberKind
 
+-- the sort that an ide reads at
+pub data ReadsAt : Item → ℕ → Type 0 where
+  reads-at : {s : ℕ} → s < 64 → ReadsAt (ide s) s
+
 -- the nonterminal that an item calls
 pub data Calls : Item → ℕ → Type 0 where
   calls : {n : ℕ} {ts : Templates} → IsNonterminal n → Calls (call n ts) n
