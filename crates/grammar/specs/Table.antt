@@ -25,9 +25,12 @@ pub data Item : Type 0 where
   call : ℕ → Templates → Item
 
 -- an alternative: its items from the left, then its result
-pub record Alternative : Type 0 where
+pub record AlternativeOf (R : Type 0) : Type 0 where
   pub items : List Item
-  pub result : Template
+  pub result : R
+
+abbrev pub Alternative : Type 0
+Alternative = AlternativeOf Template
 
 -- 001, 3.2, the operators: == add, |== extend, := update
 pub data Mode : Type 0 where
@@ -36,18 +39,24 @@ pub data Mode : Type 0 where
   update : Mode
 
 -- the definition of a nonterminal: one alternative or more
-pub record Definition : Type 0 where
+pub record DefinitionOf (R : Type 0) : Type 0 where
   pub nonterminal : ℕ
   pub mode : Mode
   pub signature : Signature
-  pub alternatives : List Alternative
+  pub alternatives : List (AlternativeOf R)
+
+abbrev pub Definition : Type 0
+Definition = DefinitionOf Template
 
 -- a block is one grammar of the sequence
-pub record Table : Type 0 where
+pub record TableOf (R : Type 0) : Type 0 where
   pub keywords : List (List ℕ)
   pub outsides : List (List ℕ)
-  pub blocks : List (List Definition)
+  pub blocks : List (List (DefinitionOf R))
   pub root : ℕ
+
+abbrev pub Table : Type 0
+Table = TableOf Template
 
 -- what a table gives the scanner: its keywords and its outside names, each in table order
 pub record Lexicon : Type 0 where
