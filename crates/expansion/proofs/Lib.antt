@@ -1,3 +1,5 @@
+pub mod CallLaws
+pub mod CellLaws
 pub mod Choosing
 pub mod Shows
 pub mod Unique

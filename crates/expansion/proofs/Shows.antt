@@ -7,12 +7,13 @@ use native.Mathlib.Omega.{arith}
 use native.Mathlib.Decide.{decLt}
 use lib.ListN.{length, getD, take, drop, length-append, List·getD-append}
 use lib.Seq.{sets-eq, length-sets, length-take-le, getD-take, getD-append-add}
-use Rattle.terms.specs.Cells.{columns, column, withRow, nameBase, wordName, freshName, outsideName}
+use Rattle.terms.specs.Cells.{columns, column, nameBase, wordName, freshName, outsideName}
 use Rattle.terms.specs.Term.{Name, word, fresh, outside, Term, Fields, variable, function, apply, rcd, dot}
 use Rattle.terms.specs.Term as Terms
 use Rattle.terms.specs.Rows.{Constructor, constructorOf, nameOf, termBy, isCons, fieldsBy, termAt, fieldListAt}
 use Rattle.expansion.specs.Figure3.{Value, unit, var, binder, label, num, term, fields, Constructs, Bound, bound-first, bound-later}
 use Rattle.expansion.specs.Figure3 as Figure3
+use Rattle.expansion.proofs.CellLaws.{withRow, filled, Row}
 
 -- ------------------------------------------------------------------ cells that grow
 
@@ -148,14 +149,7 @@ module _ (spell : ℕ → List ℕ) (number : ℕ) (small : number < nameBase) w
 
 -- ------------------------------------------------------------------ a new row
 
--- the four numbers of a row
-abbrev rowOf : ℕ → List ℕ → List ℕ
-rowOf code xs = take columns (code ∷ xs ++ 0 ∷ 0 ∷ 0 ∷ [])
-
-row-length : (code : ℕ) (xs : List ℕ) → length (rowOf code xs) ≡ columns
-row-length code xs = length-take-le columns (code ∷ xs ++ 0 ∷ 0 ∷ 0 ∷ []) (omega (arith, length-append xs (0 ∷ 0 ∷ 0 ∷ [])))
-
-module _ (made : ℕ) (cells : List ℕ) (code : ℕ) (xs : List ℕ) (room : made * columns + columns ≤ length cells) where
+module _ (made : ℕ) (cells : List ℕ) {code : ℕ} {xs numbers : List ℕ} (row : Row code xs numbers) (room : made * columns + columns ≤ length cells) where
   front : List ℕ
   front = take (made * columns) cells
 
@@ -163,44 +157,45 @@ module _ (made : ℕ) (cells : List ℕ) (code : ℕ) (xs : List ℕ) (room : ma
   unfolding front
   front-length = length-take-le (made * columns) cells (omega arith)
 
-  split : (place : ℕ) → place < made * columns + columns → getD (withRow cells made code xs) place 0 ≡ getD (front ++ rowOf code xs) place 0
+  split : (place : ℕ) → place < made * columns + columns → getD (withRow cells made numbers) place 0 ≡ getD (front ++ numbers) place 0
   unfolding front
   split place h =
-      let n : length (front ++ rowOf code xs) ≡ made * columns + columns = rw (length-append, row-length code xs, front-length) refl in
+      let n : length (front ++ numbers) ≡ made * columns + columns = rw (length-append, row .as-many, front-length) refl in
       cc (
-        sets-eq (rowOf code xs) cells (made * columns) (rw (row-length code xs) room),
-        List·getD-append (front ++ rowOf code xs) (drop (made * columns + length (rowOf code xs)) cells) 0 place (omega arith),
+        sets-eq numbers cells (made * columns) (rw (row .as-many) room),
+        List·getD-append (front ++ numbers) (drop (made * columns + length numbers) cells) 0 place (omega arith),
       )
 
-  before-row : (place : ℕ) → place < made * columns → getD (withRow cells made code xs) place 0 ≡ getD cells place 0
+  before-row : (place : ℕ) → place < made * columns → getD (withRow cells made numbers) place 0 ≡ getD cells place 0
   unfolding front
   before-row place h =
-      split place (omega arith) ∙ List·getD-append front (rowOf code xs) 0 place (omega (arith, front-length)) ∙ getD-take (made * columns) cells place 0 h
+      split place (omega arith) ∙ List·getD-append front numbers 0 place (omega (arith, front-length)) ∙ getD-take (made * columns) cells place 0 h
 
   in-row : (column-number : ℕ) → column-number < columns
-      → getD (withRow cells made code xs) (made * columns + column-number) 0 ≡ getD (rowOf code xs) column-number 0
+      → getD (withRow cells made numbers) (made * columns + column-number) 0 ≡ getD numbers column-number 0
   in-row column-number h =
-      cc (split (made * columns + column-number) (omega arith), front-length, getD-append-add front (rowOf code xs) column-number 0)
+      cc (split (made * columns + column-number) (omega arith), front-length, getD-append-add front numbers column-number 0)
 
   -- one row more
-  pub row-grown : IsCode code → Grown made cells (made + 1) (withRow cells made code xs)
+  pub row-grown : IsCode code → Grown made cells (made + 1) (withRow cells made numbers)
   row-grown is-code =
       record {
         more = omega arith;
         agree = record { same = before-row };
-        coded = λ row l b.
-            let here : row ≡ made = omega arith in
-            rw (here, in-row 0 (omega arith)) is-code;
-        as-many = length-sets cells (made * columns) (rowOf code xs);
+        coded = λ other l b.
+            let here : other ≡ made = omega arith in
+            rw (here, in-row 0 (omega arith), row .holds 0 (omega arith)) is-code;
+        as-many = length-sets cells (made * columns) numbers;
       }
 
   -- cells that have the new row too
-  module _ (spell : ℕ → List ℕ) (cells′ : List ℕ) (same : Agree (made + 1) (withRow cells made code xs) cells′) where
+  module _ (spell : ℕ → List ℕ) (cells′ : List ℕ) (same : Agree (made + 1) (withRow cells made numbers) cells′) where
     old : Agree made cells cells′
     old = agree-trans (omega arith) (record { same = before-row }) same
 
-    at-column : (column-number : ℕ) → column-number < columns → column cells′ made column-number ≡ getD (rowOf code xs) column-number 0
-    at-column column-number h = same .same (made * columns + column-number) (omega arith) ∙ in-row column-number h
+    at-column : (column-number : ℕ) → column-number < 4 → column cells′ made column-number ≡ getD (filled code xs) column-number 0
+    at-column column-number h =
+        same .same (made * columns + column-number) (omega arith) ∙ in-row column-number (omega arith) ∙ row .holds column-number h
 
     -- the term of the new row, by its constructor
     term-of : {constructed : Constructor} {t : Term Name} → constructorOf code ≡ constructed
@@ -219,84 +214,81 @@ module _ (made : ℕ) (cells : List ℕ) (code : ℕ) (xs : List ℕ) (room : ma
     fields-of e h (suc depth) l = rw (at-column 0 (omega arith), e) (h depth (omega arith))
 
     -- a column of the new row that holds `number`, which shows an argument
-    name-in : {number : ℕ} {named : Name} (column-number : ℕ) → column-number < columns → getD (rowOf code xs) column-number 0 ≡ number
+    name-in : {number : ℕ} {named : Name} (column-number : ℕ) → column-number < 4 → getD (filled code xs) column-number 0 ≡ number
         → nameOf spell number ≡ named
         → nameOf spell (column cells′ made column-number) ≡ named
     name-in column-number h e n = ap (nameOf spell) (at-column column-number h ∙ e) ∙ n
 
-    label-in : {number : ℕ} (column-number : ℕ) → column-number < columns → getD (rowOf code xs) column-number 0 ≡ number
+    label-in : {number : ℕ} (column-number : ℕ) → column-number < 4 → getD (filled code xs) column-number 0 ≡ number
         → spell (column cells′ made column-number) ≡ spell number
     label-in column-number h e = ap spell (at-column column-number h ∙ e)
 
-    term-in : {row : ℕ} {t : Term Name} (column-number : ℕ) → column-number < columns → getD (rowOf code xs) column-number 0 ≡ row
+    term-in : {row : ℕ} {t : Term Name} (column-number : ℕ) → column-number < 4 → getD (filled code xs) column-number 0 ≡ row
         → ShowsTerm spell made cells row t
         → (depth : ℕ) → made ≤ depth → termAt depth spell cells′ (column cells′ made column-number) ≡ t
     term-in column-number h e s depth l = ap (termAt depth spell cells′) (at-column column-number h ∙ e) ∙ s .read cells′ old depth (omega arith)
 
-    fields-in : {row : ℕ} {list : Fields Name} (column-number : ℕ) → column-number < columns → getD (rowOf code xs) column-number 0 ≡ row
+    fields-in : {row : ℕ} {list : Fields Name} (column-number : ℕ) → column-number < 4 → getD (filled code xs) column-number 0 ≡ row
         → ShowsFields spell made cells row list → (depth : ℕ) → made ≤ depth → fieldListAt depth spell cells′ (column cells′ made column-number) ≡ list
     fields-in column-number h e s depth l = ap (fieldListAt depth spell cells′) (at-column column-number h ∙ e) ∙ s .read cells′ old depth (omega arith)
 
 -- the new row of a constructor over shown arguments shows what is constructed
-module _ (spell : ℕ → List ℕ) (made : ℕ) (cells : List ℕ) (room : made * columns + columns ≤ length cells) where
-  abbrev After : ℕ → List ℕ → Value → Type 0
-  After code xs v = Shows spell (made + 1) (withRow cells made code xs) made v
+module _ (spell : ℕ → List ℕ) (made : ℕ) (cells numbers : List ℕ) (room : made * columns + columns ≤ length cells) where
+  abbrev After : Value → Type 0
+  After v = Shows spell (made + 1) (withRow cells made numbers) made v
 
-  row-term : {t : Term Name} (code : ℕ) (xs : List ℕ) {constructed : Constructor} → constructorOf code ≡ constructed
-      → ((cells′ : List ℕ) → Agree (made + 1) (withRow cells made code xs) cells′ → (depth : ℕ) → made ≤ depth
+  row-term : {t : Term Name} {code : ℕ} {xs : List ℕ} (row : Row code xs numbers) {constructed : Constructor} → constructorOf code ≡ constructed
+      → ((cells′ : List ℕ) → Agree (made + 1) (withRow cells made numbers) cells′ → (depth : ℕ) → made ≤ depth
       → termBy constructed spell cells′ made (λ q. termAt depth spell cells′ q) (λ q. fieldListAt depth spell cells′ q) ≡ t)
-      → After code xs (term t)
-  row-term {t} code xs e h =
-      shows-term {row = made} {t = t} (record { below = omega arith; read = λ cells′ a k l. term-of made cells code xs room spell cells′ a e (h cells′ a) k l })
+      → After (term t)
+  row-term {t} row e h =
+      shows-term {row = made} {t = t} (record { below = omega arith; read = λ cells′ a k l. term-of made cells row room spell cells′ a e (h cells′ a) k l })
 
-  row-fields : {list : Fields Name} (code : ℕ) (xs : List ℕ) {constructed : Constructor} → constructorOf code ≡ constructed
-      → ((cells′ : List ℕ) → Agree (made + 1) (withRow cells made code xs) cells′ → (depth : ℕ) → made ≤ depth
+  row-fields : {list : Fields Name} {code : ℕ} {xs : List ℕ} (row : Row code xs numbers) {constructed : Constructor} → constructorOf code ≡ constructed
+      → ((cells′ : List ℕ) → Agree (made + 1) (withRow cells made numbers) cells′ → (depth : ℕ) → made ≤ depth
       → fieldsBy (isCons constructed) spell cells′ made (λ q. termAt depth spell cells′ q) (λ q. fieldListAt depth spell cells′ q) ≡ list)
-      → After code xs (fields list)
-  row-fields {list} code xs e h =
+      → After (fields list)
+  row-fields {list} row e h =
       shows-fields {row = made} {list = list} (record {
         below = omega arith;
         read =
-            λ cells′ a k l. fields-of made cells code xs room spell cells′ a e (h cells′ a) k l;
+            λ cells′ a k l. fields-of made cells row room spell cells′ a e (h cells′ a) k l;
       })
 
-  variable-row : (number : ℕ) {named : Name} → nameOf spell number ≡ named → After 0x20 (number ∷ []) (term (variable named))
+  variable-row : (number : ℕ) {named : Name} → Row 0x20 (number ∷ []) numbers → nameOf spell number ≡ named → After (term (variable named))
   unfolding constructorOf termBy
-  variable-row number n =
-      row-term 0x20 (number ∷ []) refl (λ cells′ a k l. ap variable (name-in made cells 0x20 (number ∷ []) room spell cells′ a 1 (omega arith) refl n))
+  variable-row number row n =
+      row-term row refl (λ cells′ a k l. ap variable (name-in made cells row room spell cells′ a 1 (omega arith) refl n))
 
   -- a constructor's row shows what it constructs
-  pub row-shows : {code : ℕ} {xs : List ℕ} {vs : List Value} {value : Value} → Constructs code vs value → ShowAll spell made cells xs vs → After code xs value
+  pub row-shows : {code : ℕ} {xs : List ℕ} {vs : List Value} {value : Value} → Row code xs numbers → Constructs code vs value
+      → ShowAll spell made cells xs vs → After value
   unfolding constructorOf termBy fieldsBy
-  row-shows Figure3.makes-var (show-more (shows-var {number = x} n) show-none) = variable-row x n
-  row-shows Figure3.makes-var-of-binder (show-more (shows-binder {number = x} n) show-none) = variable-row x n
-  row-shows Figure3.makes-fun (show-more (shows-binder {number = x} n) (show-more (shows-term {row = y} h) show-none)) =
-      let zs : List ℕ = x ∷ y ∷ [] in
-      row-term 0x21 zs refl
-      (λ cells′ a k l. ap₂ function (name-in made cells 0x21 zs room spell cells′ a 1 (omega arith) refl n)
-      (term-in made cells 0x21 zs room spell cells′ a 2 (omega arith) refl h k l))
-  row-shows Figure3.makes-app (show-more (shows-term {row = x} h) (show-more (shows-term {row = y} h′) show-none)) =
-      let zs : List ℕ = x ∷ y ∷ [] in
-      row-term 0x22 zs refl
-      (λ cells′ a k l. ap₂ apply (term-in made cells 0x22 zs room spell cells′ a 1 (omega arith) refl h k l)
-      (term-in made cells 0x22 zs room spell cells′ a 2 (omega arith) refl h′ k l))
-  row-shows Figure3.makes-rcd (show-more (shows-fields {row = x} h) show-none) =
-      row-term 0x23 (x ∷ []) refl (λ cells′ a k l. ap rcd (fields-in made cells 0x23 (x ∷ []) room spell cells′ a 1 (omega arith) refl h k l))
-  row-shows Figure3.makes-dot (show-more (shows-term {row = x} h) (show-more (shows-label {number = y}) show-none)) =
-      let zs : List ℕ = x ∷ y ∷ [] in
-      row-term 0x24 zs refl
-      (λ cells′ a k l. ap₂ dot (term-in made cells 0x24 zs room spell cells′ a 1 (omega arith) refl h k l)
-      (label-in made cells 0x24 zs room spell cells′ a 2 (omega arith) refl))
-  row-shows Figure3.makes-nil show-none = row-fields 0x25 [] refl (λ cells′ a k l. refl)
-  row-shows Figure3.makes-cons
+  row-shows row Figure3.makes-var (show-more (shows-var {number = x} n) show-none) = variable-row x row n
+  row-shows row Figure3.makes-var-of-binder (show-more (shows-binder {number = x} n) show-none) = variable-row x row n
+  row-shows row Figure3.makes-fun (show-more (shows-binder {number = x} n) (show-more (shows-term {row = y} h) show-none)) =
+      row-term row refl
+      (λ cells′ a k l. ap₂ function (name-in made cells row room spell cells′ a 1 (omega arith) refl n)
+      (term-in made cells row room spell cells′ a 2 (omega arith) refl h k l))
+  row-shows row Figure3.makes-app (show-more (shows-term {row = x} h) (show-more (shows-term {row = y} h′) show-none)) =
+      row-term row refl
+      (λ cells′ a k l. ap₂ apply (term-in made cells row room spell cells′ a 1 (omega arith) refl h k l)
+      (term-in made cells row room spell cells′ a 2 (omega arith) refl h′ k l))
+  row-shows row Figure3.makes-rcd (show-more (shows-fields {row = x} h) show-none) =
+      row-term row refl (λ cells′ a k l. ap rcd (fields-in made cells row room spell cells′ a 1 (omega arith) refl h k l))
+  row-shows row Figure3.makes-dot (show-more (shows-term {row = x} h) (show-more (shows-label {number = y}) show-none)) =
+      row-term row refl
+      (λ cells′ a k l. ap₂ dot (term-in made cells row room spell cells′ a 1 (omega arith) refl h k l)
+      (label-in made cells row room spell cells′ a 2 (omega arith) refl))
+  row-shows row Figure3.makes-nil show-none = row-fields row refl (λ cells′ a k l. refl)
+  row-shows row Figure3.makes-cons
       (show-more (shows-label {number = x}) (show-more (shows-term {row = y} {t = t} h) (show-more (shows-fields {row = z} h′) show-none))) =
-      let zs : List ℕ = x ∷ y ∷ z ∷ [] in
-      row-fields 0x26 zs refl
+      row-fields row refl
       (λ cells′ a k l.
       cc (
-        label-in made cells 0x26 zs room spell cells′ a 1 (omega arith) refl,
-        term-in made cells 0x26 zs room spell cells′ a 2 (omega arith) refl h k l,
-        fields-in made cells 0x26 zs room spell cells′ a 3 (omega arith) refl h′ k l,
+        label-in made cells row room spell cells′ a 1 (omega arith) refl,
+        term-in made cells row room spell cells′ a 2 (omega arith) refl h k l,
+        fields-in made cells row room spell cells′ a 3 (omega arith) refl h′ k l,
       ))
-  row-shows Figure3.makes-num (show-more (shows-num {number = x}) show-none) =
-      row-term 0x27 (x ∷ []) refl (λ cells′ a k l. ap Terms.number (at-column made cells 0x27 (x ∷ []) room spell cells′ a 1 (omega arith)))
+  row-shows row Figure3.makes-num (show-more (shows-num {number = x}) show-none) =
+      row-term row refl (λ cells′ a k l. ap Terms.number (at-column made cells row room spell cells′ a 1 (omega arith)))

@@ -1,16 +1,17 @@
 -- Expansion of a formula's tokens by a grammar: refusals 17 to 21. Document 01, "Choice", "Formula" and "Causes, by number";
 -- 001, section 4.2, Figure 3. A value is a row, a name, a label's spelling number or a number; a Unit is 0.
-use Prim.Native.Nat.{ℕ, zero, suc, _+_}
+use Prim.Native.Nat.{ℕ, zero, suc, _+_, _*_}
 use mathlib.Core.Bool.{Bool, true, false, _&&_}
 use mathlib.Core.List.{List, [], _∷_, _++_, map}
 use lib.Dec.{eqb, ltb}
 use lib.ListN.{length, getD}
+use lib.Seq.{sets}
 use lib.Count.{ones}
 use Rattle.answers.specs.Refusals.{refusal}
 use Rattle.kinds.specs.Kinds.{wordKind, numberKind, keywordKind, hasKind, only}
 use Rattle.grammar.specs.Sorts.{label}
 use Rattle.grammar.specs.Table.{Table, Template, Templates, variable, outsideVar, outsideLabel, make, none, more, Item, keyword, ide, number, local, call}
-use Rattle.terms.specs.Cells.{rowsLent, withRow, wordName, freshName, outsideName}
+use Rattle.terms.specs.Cells.{columns, rowNumbers, rowsLent, wordName, freshName, outsideName}
 use Rattle.tokens.specs.declared.Token.{Token}
 use Rattle.tokens.specs.Tokens.{endToken}
 use Rattle.productions.specs.Normal.{Production, normalized}
@@ -87,7 +88,7 @@ cellMade s = record { at = s .at; fresh = s .fresh; calls = s .calls; made = s .
 abbrev pub cell : Input → ℕ → List ℕ → Run ℕ
 cell I code arguments s cells =
     elim (ltb (s .made) (I .rows)) [
-      | true ↦ done (s .made) (cellMade s) (withRow cells (s .made) code arguments)
+      | true ↦ done (s .made) (cellMade s) (sets cells (s .made * columns) (rowNumbers code arguments))
       | false ↦ halt (refusal 21 (s .at) 0 0) cells
     ]
 

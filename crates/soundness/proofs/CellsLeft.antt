@@ -5,21 +5,21 @@ use mathlib.Core.Bool.{Bool, true, false}
 use mathlib.Core.List.{List, [], _∷_, _++_}
 use native.Mathlib.Omega.{arith}
 use lib.Dec.{eqb, ltb}
-use lib.ListN.{length, getD, set, length-append}
-use lib.ListN as lists
-use lib.Seq.{sets, length-sets, length-take-le, getD-set-other}
-use borrow.Author.Tests.{ltb-true}
+use lib.ListN.{length, getD, set}
+use lib.Seq.{sets, length-sets, getD-set-other}
 use Rattle.answers.specs.Refusals.{refusal}
 use Rattle.kinds.specs.Kinds.{wordKind, numberKind, keywordKind, only}
 use Rattle.grammar.specs.Table.{Template, Templates, none, more, Item}
 use Rattle.grammar.specs.Table as Table
-use Rattle.terms.specs.Cells.{columns, withRow}
+use Rattle.terms.specs.Cells.{columns}
 use Rattle.expansion.specs.declared.State.{State}
 use Rattle.expansion.specs.Run.{Result, done, halt, Run, after}
-use Rattle.expansion.specs.Expansion.{Input, Choice, unfit, chosen, choice, nextToken, tokenTaken, takeToken, misfit, cellMade, cell, build, buildAll, runItem}
+use Rattle.expansion.specs.Expansion.{Input, nextToken, tokenTaken, takeToken, misfit, cell, build, buildAll, runItem}
 use Rattle.expansion.specs.Expansion.{runItems, callBegun, runCall, initialState, ended, run}
-use Rattle.expansion.specs.Limits.{mostCalls, mostOpen}
+use Rattle.expansion.specs.Limits.{mostOpen}
 use Rattle.expansion.specs.Expansion as Expansion
+use Rattle.expansion.proofs.CellLaws.{withRow, Row, cell-by}
+use Rattle.expansion.proofs.CallLaws.{inner, inner-rows, call-by}
 use Rattle.soundness.specs.Stopping.{Left}
 
 -- Cells that were not touched are left.
@@ -52,126 +52,105 @@ sets-other [] room place other h = refl
 sets-other (v ∷ vs) room place other h =
     sets-other vs (set room place v) (suc place) other (omega arith) ∙ getD-set-other room place other v 0 (λ e. omega (arith, e))
 
-row-length : (code : ℕ) (xs : List ℕ) → length (lists.take columns (code ∷ xs ++ 0 ∷ 0 ∷ 0 ∷ [])) ≡ columns
-row-length code xs = length-take-le columns (code ∷ xs ++ 0 ∷ 0 ∷ 0 ∷ []) (omega (arith, length-append xs (0 ∷ 0 ∷ 0 ∷ [])))
-
-row-left : (made : ℕ) (cells : List ℕ) (code : ℕ) (xs : List ℕ) → Left (made + 1) cells (withRow cells made code xs)
-row-left made cells code xs =
+row-left : (made : ℕ) (cells : List ℕ) {code : ℕ} {xs numbers : List ℕ} → Row code xs numbers → Left (made + 1) cells (withRow cells made numbers)
+row-left made cells {numbers = numbers} row =
     record {
-      as-many = length-sets cells (made * columns) (lists.take columns (code ∷ xs ++ 0 ∷ 0 ∷ 0 ∷ []));
-      same = λ j h. sets-other (lists.take columns (code ∷ xs ++ 0 ∷ 0 ∷ 0 ∷ [])) cells (made * columns) j (omega (arith, row-length code xs));
+      as-many = length-sets cells (made * columns) numbers;
+      same = λ j h. sets-other numbers cells (made * columns) j (omega (arith, row .as-many));
     }
 
 -- ------------------------------------------------------------------ templates, items, calls
 
-module _ (input : Input) where
+module _ (rows : ℕ) where
   abbrev Leaving : {A : Type 0} → Run A → Type 0
-  Leaving m = (s : State) (cells : List ℕ) → s .made ≤ input .rows → Leaves (input .rows) (s .made) cells (m s cells)
+  Leaving m = (s : State) (cells : List ℕ) → s .made ≤ rows → Leaves rows (s .made) cells (m s cells)
 
-  stays : (state state′ : State) (cells : List ℕ) → state′ .made ≡ state .made → state .made ≤ input .rows
-      → (state .made ≤ state′ .made) × (state′ .made ≤ input .rows) × Left (state′ .made) cells cells
+  stays : (state state′ : State) (cells : List ℕ) → state′ .made ≡ state .made → state .made ≤ rows
+      → (state .made ≤ state′ .made) × (state′ .made ≤ rows) × Left (state′ .made) cells cells
   stays state state′ cells e h = (omega arith, omega arith, left-not (state′ .made) cells)
 
-  cell-leaves : (code : ℕ) (xs : List ℕ) → Leaving (cell input code xs)
-  cell-leaves code xs s cells h = go (ltb (s .made) (input .rows)) refl
-    where
-      go : (test : Bool) → ltb (s .made) (input .rows) ≡ test
-          → Leaves {A = ℕ} (input .rows) (s .made) cells
-          (elim test as (λ x. Result ℕ) [ true ↦ done (s .made) (cellMade s) (withRow cells (s .made) code xs) | false ↦ halt (refusal 21 (s .at) 0 0) cells ])
-      go true e = (omega arith, omega (arith, ltb-true (s .made) (input .rows) e), row-left (s .made) cells code xs)
-      go false e = (s .made, omega arith, h, left-not (s .made) cells)
+  -- what reads so many rows
+  module _ (input : Input) (rows-are : input .rows ≡ rows) where
+    cell-leaves : (code : ℕ) (xs : List ℕ) → Leaving (cell input code xs)
+    cell-leaves code xs s cells h =
+        cell-by input code xs s cells (λ x. Leaves rows (s .made) cells x)
+        (λ numbers row l. (omega arith, omega (arith, rows-are), row-left (s .made) cells row))
+        (λ l. (s .made, omega arith, h, left-not (s .made) cells))
 
-  take-leaves : (kind : ℕ) (value : ℕ → ℕ) → Leaving (takeToken input kind value)
-  take-leaves kind value s cells h = go (eqb (nextToken input s .kind) kind)
-    where
-      go : (test : Bool)
-          → Leaves {A = ℕ} (input .rows) (s .made) cells
-          (elim test as (λ x. Result ℕ) [ true ↦ done (value (nextToken input s .value)) (tokenTaken s) cells | false ↦ misfit (only kind) s cells ])
-      go true = stays s (tokenTaken s) cells refl h
-      go false = (s .made, omega arith, h, left-not (s .made) cells)
+    take-leaves : (kind : ℕ) (value : ℕ → ℕ) → Leaving (takeToken input kind value)
+    take-leaves kind value s cells h = go (eqb (nextToken input s .kind) kind)
+      where
+        go : (test : Bool)
+            → Leaves {A = ℕ} rows (s .made) cells
+            (elim test as (λ x. Result ℕ) [ true ↦ done (value (nextToken input s .value)) (tokenTaken s) cells | false ↦ misfit (only kind) s cells ])
+        go true = stays s (tokenTaken s) cells refl h
+        go false = (s .made, omega arith, h, left-not (s .made) cells)
 
-  mutual
-    unfolding build buildAll
+    mutual
+      unfolding build buildAll
 
-    -- a template leaves the cells behind the rows that it made,
-    pub build-leaves : (template : Template) (values : List ℕ) → Leaving (build template input values)
-    build-leaves (Table.variable i) values s cells h = stays s s cells refl h
-    build-leaves (Table.outsideVar n) values s cells h = stays s s cells refl h
-    build-leaves (Table.outsideLabel n) values s cells h = stays s s cells refl h
-    build-leaves (Table.make c ts) values s cells h =
-        leaves-after (input .rows) (s .made) cells (buildAll ts input values s cells) (λ vs. cell input c vs) (build-all-leaves ts values s cells h)
-        (λ vs s′ cells′ l. cell-leaves c vs s′ cells′ l)
+      -- a template leaves the cells behind the rows that it made,
+      pub build-leaves : (template : Template) (values : List ℕ) → Leaving (build template input values)
+      build-leaves (Table.variable i) values s cells h = stays s s cells refl h
+      build-leaves (Table.outsideVar n) values s cells h = stays s s cells refl h
+      build-leaves (Table.outsideLabel n) values s cells h = stays s s cells refl h
+      build-leaves (Table.make c ts) values s cells h =
+          leaves-after rows (s .made) cells (buildAll ts input values s cells) (λ vs. cell input c vs) (build-all-leaves ts values s cells h)
+          (λ vs s′ cells′ l. cell-leaves c vs s′ cells′ l)
 
-    -- and so do templates,
-    pub build-all-leaves : (ts : Templates) (values : List ℕ) → Leaving (buildAll ts input values)
-    build-all-leaves none values s cells h = stays s s cells refl h
-    build-all-leaves (more t ts) values s cells h =
-        leaves-after (input .rows) (s .made) cells (build t input values s cells) _ (build-leaves t values s cells h)
-        (λ v s′ cells′ l.
-        leaves-after (input .rows) (s′ .made) cells′ (buildAll ts input values s′ cells′) _ (build-all-leaves ts values s′ cells′ l)
-        (λ vs s″ cells″ m. stays s″ s″ cells″ refl m))
+      -- and so do templates,
+      pub build-all-leaves : (ts : Templates) (values : List ℕ) → Leaving (buildAll ts input values)
+      build-all-leaves none values s cells h = stays s s cells refl h
+      build-all-leaves (more t ts) values s cells h =
+          leaves-after rows (s .made) cells (build t input values s cells) _ (build-leaves t values s cells h)
+          (λ v s′ cells′ l.
+          leaves-after rows (s′ .made) cells′ (buildAll ts input values s′ cells′) _ (build-all-leaves ts values s′ cells′ l)
+          (λ vs s″ cells″ m. stays s″ s″ cells″ refl m))
 
-  module _ (callee : ℕ → List ℕ → Run ℕ) (calls : (nonterminal : ℕ) (vs : List ℕ) → Leaving (callee nonterminal vs)) where
-    -- an item,
-    pub item-leaves : (item : Item) (values : List ℕ) → Leaving (runItem callee input item values)
-    item-leaves (Table.keyword k) values s cells h = take-leaves (keywordKind k) (λ v. 0) s cells h
-    item-leaves (Table.ide b) values s cells h = take-leaves wordKind (Expansion.wordValue b) s cells h
-    item-leaves Table.number values s cells h = take-leaves numberKind (λ v. v) s cells h
-    item-leaves Table.local values s cells h = stays s (record { at = s .at; fresh = s .fresh + 1; calls = s .calls; made = s .made }) cells refl h
-    item-leaves (Table.call n ts) values s cells h =
-        leaves-after (input .rows) (s .made) cells (buildAll ts input values s cells) (λ vs. callee n vs) (build-all-leaves ts values s cells h)
-        (λ vs s′ cells′ l. calls n vs s′ cells′ l)
+    module _ (callee : ℕ → List ℕ → Run ℕ) (calls : (nonterminal : ℕ) (vs : List ℕ) → Leaving (callee nonterminal vs)) where
+      -- an item,
+      pub item-leaves : (item : Item) (values : List ℕ) → Leaving (runItem callee input item values)
+      item-leaves (Table.keyword k) values s cells h = take-leaves (keywordKind k) (λ v. 0) s cells h
+      item-leaves (Table.ide b) values s cells h = take-leaves wordKind (Expansion.wordValue b) s cells h
+      item-leaves Table.number values s cells h = take-leaves numberKind (λ v. v) s cells h
+      item-leaves Table.local values s cells h = stays s (record { at = s .at; fresh = s .fresh + 1; calls = s .calls; made = s .made }) cells refl h
+      item-leaves (Table.call n ts) values s cells h =
+          leaves-after rows (s .made) cells (buildAll ts input values s cells) (λ vs. callee n vs) (build-all-leaves ts values s cells h)
+          (λ vs s′ cells′ l. calls n vs s′ cells′ l)
 
-    -- items,
-    pub items-leave : (is : List Item) (values : List ℕ) → Leaving (runItems callee input is values)
-    unfolding runItems
-    items-leave [] values s cells h = stays s s cells refl h
-    items-leave (i ∷ is) values s cells h =
-        leaves-after (input .rows) (s .made) cells (runItem callee input i values s cells) (λ v. runItems callee input is (values ++ (v ∷ [])))
-        (item-leaves i values s cells h)
-        (λ v s′ cells′ l. items-leave is (values ++ (v ∷ [])) s′ cells′ l)
+      -- items,
+      pub items-leave : (is : List Item) (values : List ℕ) → Leaving (runItems callee input is values)
+      unfolding runItems
+      items-leave [] values s cells h = stays s s cells refl h
+      items-leave (i ∷ is) values s cells h =
+          leaves-after rows (s .made) cells (runItem callee input i values s cells) (λ v. runItems callee input is (values ++ (v ∷ [])))
+          (item-leaves i values s cells h)
+          (λ v s′ cells′ l. items-leave is (values ++ (v ∷ [])) s′ cells′ l)
 
-  -- and a call.
-  pub call-leaves : (depth nonterminal : ℕ) (vs : List ℕ) → Leaving (runCall depth input nonterminal vs)
-  unfolding runCall
-  call-leaves zero nonterminal vs s cells h = (s .made, omega arith, h, left-not (s .made) cells)
-  call-leaves (suc depth) nonterminal vs s cells h =
-      go (ltb (s .calls) mostCalls) (choice (input .grammar) nonterminal (nextToken input s .kind)) (call-leaves depth)
-    where
-      chose : (given-choice : Choice) → ((callee : ℕ) (ws : List ℕ) → Leaving (runCall depth input callee ws))
-          → Leaves {A = ℕ} (input .rows) (s .made) cells
-          (elim given-choice as (λ x. Result ℕ) [
-            | unfit ↦ misfit (getD (input .grammar .firsts) nonterminal 0) s cells
-            | chosen r ↦ after (runItems (runCall depth input) input (r .items) vs (callBegun s) cells) (λ M. build (r .result) input M)
-          ])
-      chose unfit f = (s .made, omega arith, h, left-not (s .made) cells)
-      chose (chosen r) f =
-          leaves-after (input .rows) (s .made) cells (runItems (runCall depth input) input (r .items) vs (callBegun s) cells) (λ M. build (r .result) input M)
-          (items-leave (runCall depth input) f (r .items) vs (callBegun s) cells h) (λ M s′ cells′ l. build-leaves (r .result) M s′ cells′ l)
+  module _ (input : Input) (rows-are : input .rows ≡ rows) where
+    -- and a call.
+    pub call-leaves : (depth nonterminal : ℕ) (vs : List ℕ) → Leaving (runCall depth input nonterminal vs)
+    unfolding runCall
+    call-leaves zero nonterminal vs s cells h = (s .made, omega arith, h, left-not (s .made) cells)
+    call-leaves (suc depth) nonterminal vs s cells h =
+        call-by depth input nonterminal vs s cells (λ x. Leaves rows (s .made) cells x) (s .made, omega arith, h, left-not (s .made) cells)
+        (s .made, omega arith, h, left-not (s .made) cells)
+        (λ r.
+        leaves-after rows (s .made) cells (runItems (runCall depth input) (inner input s) (r .items) vs (callBegun s) cells)
+        (λ M. build (r .result) (inner input s) M)
+        (items-leave (inner input s) (inner-rows input s ∙ rows-are) (runCall depth input) (call-leaves depth) (r .items) vs (callBegun s) cells h)
+        (λ M s′ cells′ l. build-leaves (inner input s) (inner-rows input s ∙ rows-are) (r .result) M s′ cells′ l))
 
-      go : (test : Bool) (given-choice : Choice) → ((callee : ℕ) (ws : List ℕ) → Leaving (runCall depth input callee ws))
-          → Leaves {A = ℕ} (input .rows) (s .made) cells
-          (elim test as (λ x. Result ℕ) [
-            | false ↦ halt (refusal 20 (s .at) 0 0) cells
-            | true ↦
-                elim given-choice as (λ x. Result ℕ) [
-                  | unfit ↦ misfit (getD (input .grammar .firsts) nonterminal 0) s cells
-                  | chosen r ↦ after (runItems (runCall depth input) input (r .items) vs (callBegun s) cells) (λ M. build (r .result) input M)
-                ]
-          ])
-      go false given-choice f = (s .made, omega arith, h, left-not (s .made) cells)
-      go true given-choice f = chose given-choice f
-
-  -- The run of a formula leaves the cells behind the rows that it made.
-  pub run-leaves : (root : ℕ) (cells : List ℕ) → Leaves (input .rows) 0 cells (run input root cells)
-  unfolding run
-  run-leaves root cells =
-      leaves-after (input .rows) (initialState .made) cells (runCall mostOpen input root [] initialState cells) (ended input)
-      (call-leaves mostOpen root [] initialState cells (omega arith))
-      (λ v s cells′ l. go v s cells′ l (ltb (s .at) (length (input .tokens))))
-    where
-      go : (row : ℕ) (state : State) (cells′ : List ℕ) → state .made ≤ input .rows → (test : Bool)
-          → Leaves {A = ℕ} (input .rows) (state .made) cells′
-          (elim test as (λ x. Result ℕ) [ true ↦ halt (refusal 18 (state .at) 0 0) cells′ | false ↦ done row state cells′ ])
-      go row state cells′ l true = (state .made, omega arith, l, left-not (state .made) cells′)
-      go row state cells′ l false = stays state state cells′ refl l
+    -- The run of a formula leaves the cells behind the rows that it made.
+    pub run-leaves : (root : ℕ) (cells : List ℕ) → Leaves rows 0 cells (run input root cells)
+    unfolding run
+    run-leaves root cells =
+        leaves-after rows (initialState .made) cells (runCall mostOpen input root [] initialState cells) (ended input)
+        (call-leaves mostOpen root [] initialState cells (omega arith))
+        (λ v s cells′ l. go v s cells′ l (ltb (s .at) (length (input .tokens))))
+      where
+        go : (row : ℕ) (state : State) (cells′ : List ℕ) → state .made ≤ rows → (test : Bool)
+            → Leaves {A = ℕ} rows (state .made) cells′
+            (elim test as (λ x. Result ℕ) [ true ↦ halt (refusal 18 (state .at) 0 0) cells′ | false ↦ done row state cells′ ])
+        go row state cells′ l true = (state .made, omega arith, l, left-not (state .made) cells′)
+        go row state cells′ l false = stays state state cells′ refl l

@@ -31,12 +31,13 @@ use Rattle.expansion.specs.Figure3.{by-local, Derives, by-end, by-terminal, by-
 use Rattle.expansion.specs.Costs.{rowsOf, rowsOfAll, openIn, callsIn, rowsIn, Affords}
 use Rattle.expansion.proofs.Shows.{Grown, grown-not, grown-trans, Shows, shows-unit, shows-var, shows-binder, shows-label, shows-num, ShowAll}
 use Rattle.expansion.proofs.Shows.{show-none, show-more, all-later, all-and, word-named, fresh-named}
-use Rattle.soundness.proofs.Setting.{Setting, root-body}
+use Rattle.soundness.proofs.Setting.{Setting, Provides, provides-whole, provides-inner, choice-is, take-is, root-body}
 use Rattle.soundness.proofs.Building.{Ends, ends-after, ends-map, Full, Built, BuiltAll, build-ends, build-all-ends}
 use Rattle.soundness.proofs.Typing.{FitAll, taken-of, result-sorted}
-use Rattle.expansion.proofs.Choosing.{kindOf, kind-next, Picks, picks, picks-none, choice-picks, rule, taken-one}
+use Rattle.expansion.proofs.CallLaws.{inner, Ran, call-full, call-chosen}
+use Rattle.expansion.proofs.Choosing.{kindOf, Picks, picks, picks-none, choice-picks, rule, taken-one}
 use Rattle.expansion.specs.Parsing.{input}
-use Rattle.soundness.proofs.Sound.{token-here, Kept, kept-made, kept-less, call-full, call-chosen, shown}
+use Rattle.soundness.proofs.Sound.{token-here, Kept, kept-made, kept-less, shown}
 use Rattle.terms.specs.Cells.{columns}
 
 -- ------------------------------------------------------------------ the next token
@@ -139,33 +140,35 @@ module _ {g : List Production} (setting : Setting g) where
   -- the run of items beside a derivation with its costs
   pub record Along (opened calls rows-made : ℕ) (left : List Token) (i : ℕ) (is : List Item) (M M′ : List Value) (left′ : List Token) (i′ : ℕ) : Type 0 where
     -- from any state that fits, the run goes along
-    pub along : (depth names-left : ℕ) (result : Template) (B : ℕ) (L xs : List ℕ) (state : State) (cells : List ℕ) → Body (F .scope) L is result B
+    pub along : {lent within : Input} → Provides setting lent → Provides setting within
+        → (depth names-left : ℕ) (result : Template) (B : ℕ) (L xs : List ℕ) (state : State) (cells : List ℕ) → Body (F .scope) L is result B
         → from state ≡ left → state .fresh ≡ i → Kept rows (names-left + length is) state cells → ShowAll spell (state .made) cells xs M
         → Ends (Reached names-left depth opened calls rows-made left′ i′ M′ (state .calls) (state .made) cells)
-        (Beyond rows depth opened (state .calls + calls) (state .made + rows-made)) (runItems (runCall depth I) I is xs state cells)
+        (Beyond rows depth opened (state .calls + calls) (state .made + rows-made)) (runItems (runCall depth lent) within is xs state cells)
 
   -- a token taken, and the items after it
   token-along : {opened calls rows-made : ℕ} {token : Token} {s₀ s′ : List Token} {i i′ : ℕ} {is : List Item} {M M′ : List Value} {given-value : Value}
       (item : Item) (kind : ℕ) (value : ℕ → ℕ)
-      → ((callee : ℕ → List ℕ → Run ℕ) (xs : List ℕ) → runItem callee I item xs ≡ takeToken I kind value)
+      → ((within : Input) (callee : ℕ → List ℕ → Run ℕ) (xs : List ℕ) → runItem callee within item xs ≡ takeToken within kind value)
       → token .kind ≡ kind
       → ((state : State) (cells : List ℕ) → nextToken I state ≡ token → Shows spell (state .made) cells (value (nextToken I state .value)) given-value)
       → Along opened calls rows-made s₀ i is (M ++ (given-value ∷ [])) M′ s′ i′ → Along opened calls rows-made (token ∷ s₀) i (item ∷ is) M M′ s′ i′
   token-along {opened} {calls} {rows-made} {token} {s₀} {s′} {i} {i′} {is} {M} {M′} {given-value} item kind value same e shown A =
-      record { along = λ d k r B L xs s cells b p f h a. go d k r B L xs s cells b p f h a }
+      record { along = λ u v d k r B L xs s cells b p f h a. go u v d k r B L xs s cells b p f h a }
     where
-      go : (depth names-left : ℕ) (result : Template) (B : ℕ) (L xs : List ℕ) (state : State) (cells : List ℕ) → Body (F .scope) L (item ∷ is) result B
+      go : {lent within : Input} → Provides setting lent → Provides setting within
+          → (depth names-left : ℕ) (result : Template) (B : ℕ) (L xs : List ℕ) (state : State) (cells : List ℕ) → Body (F .scope) L (item ∷ is) result B
           → from state ≡ token ∷ s₀ → state .fresh ≡ i
           → Kept rows (names-left + length (item ∷ is)) state cells → ShowAll spell (state .made) cells xs M
           → Ends (Reached names-left depth opened calls rows-made s′ i′ M′ (state .calls) (state .made) cells)
-          (Beyond rows depth opened (state .calls + calls) (state .made + rows-made)) (runItems (runCall depth I) I (item ∷ is) xs state cells)
-      go depth names-left result B L xs state cells (by-binding w b) p f h a =
+          (Beyond rows depth opened (state .calls + calls) (state .made + rows-made)) (runItems (runCall depth lent) within (item ∷ is) xs state cells)
+      go {lent} {within} provides inside depth names-left result B L xs state cells (by-binding w b) p f h a =
           let q = token-is tokens (state .at) p in
           let x : ℕ = value (nextToken I state .value) in
-          let taken : runItem (runCall depth I) I item xs state cells ≡ done x (tokenTaken state) cells =
-          cc (same (runCall depth I) xs, take-done I kind value state cells (cc (q .0))) in
-          rw (items-after (runCall depth I) I item is xs state cells x (tokenTaken state) cells taken)
-          (A .along depth names-left result B _ (xs ++ (x ∷ [])) (tokenTaken state) cells b (q .1) f
+          let taken : runItem (runCall depth lent) within item xs state cells ≡ done x (tokenTaken state) cells =
+          cc (same within (runCall depth lent) xs, take-is setting inside kind value state cells, take-done I kind value state cells (cc (q .0))) in
+          rw (items-after (runCall depth lent) within item is xs state cells x (tokenTaken state) cells taken)
+          (A .along provides inside depth names-left result B _ (xs ++ (x ∷ [])) (tokenTaken state) cells b (q .1) f
           (record { room = h .room; fits = h .fits; names = omega (arith, h .names); begun = h .begun }) (all-and a (shown state cells (q .0))))
 
   word-shown : (state : State) (token : Token) → nextToken I state ≡ token → token .kind ≡ wordKind
@@ -188,24 +191,27 @@ module _ {g : List Production} (setting : Setting g) where
           Ends (Gave names-left d (opened + 1) (calls + 1) cost left′ i′ value (state .calls) (state .made) cells)
           (Beyond rows d (opened + 1) (state .calls + (calls + 1)) (state .made + cost)) z
 
-      production-along : (depth : ℕ) → state .calls < mostCalls
-          → Called (suc depth) (after (runItems (runCall depth I) I (p .items) xs (callBegun state) cells) (λ ys. build (p .result) I ys))
-      production-along depth l =
+      production-along : {lent : Input} → Provides setting lent → (depth : ℕ) → state .calls < mostCalls
+          → Called (suc depth) (Ran depth lent nonterminal xs state cells (rule g p))
+      production-along {lent} provides depth l =
+          let inside = provides-inner setting provides state in
           let q = F .each p (taken-of taken .member) in
           let w = result-sorted (q .body) in
           ends-after (Reached names-left depth opened calls rows-made left′ i′ M (callBegun state .calls) (state .made) cells)
           (Beyond rows depth opened (callBegun state .calls + calls) (state .made + rows-made))
           (Gave names-left (suc depth) (opened + 1) (calls + 1) cost left′ i′ value (state .calls) (state .made) cells)
           (Beyond rows (suc depth) (opened + 1) (state .calls + (calls + 1)) (state .made + cost))
-          (runItems (runCall depth I) I (p .items) xs (callBegun state) cells) (λ ys. build (p .result) I ys)
-          (along .along depth names-left (p .result) (q .signature .result) (q .signature .params) xs (callBegun state) cells (q .body) equal agrees
+          (runItems (runCall depth lent) (inner lent state) (p .items) xs (callBegun state) cells) (λ ys. build (p .result) (inner lent state) ys)
+          (along .along provides inside depth names-left (p .result) (q .signature .result) (q .signature .params) xs (callBegun state) cells
+          (q .body) equal agrees
           (record { room = kept .room; fits = kept .fits; names = omega (arith, kept .names, q .itemCount); begun = omega arith }) show-all)
           (λ ys s₁ c₁ y.
-          ends-map (Built spell I (rowsOf (p .result)) s₁ c₁ value) (Full rows (s₁ .made + rowsOf (p .result)))
+          ends-map (Built spell rows (rowsOf (p .result)) s₁ c₁ value) (Full rows (s₁ .made + rowsOf (p .result)))
           (Gave names-left (suc depth) (opened + 1) (calls + 1) cost left′ i′ value (state .calls) (state .made) cells)
           (Beyond rows (suc depth) (opened + 1) (state .calls + (calls + 1)) (state .made + cost))
-          (build (p .result) I ys s₁ c₁)
-          (build-ends spell I (p .result) s₁ c₁ gives (w .2) (omega (arith, F .outsideCount)) (y .0 .kept .room) (y .0 .kept .fits) (y .1))
+          (build (p .result) (inner lent state) ys s₁ c₁)
+          (build-ends spell rows (inner lent state) (inside .rows-are) (p .result) s₁ c₁ gives (w .2) (omega (arith, F .outsideCount)) (y .0 .kept .room)
+          (y .0 .kept .fits) (y .1))
           (λ x s₂ c₂ b. (
             record {
               grown = grown-trans (y .0 .grown) (b .0 .grown);
@@ -221,22 +227,22 @@ module _ {g : List Production} (setting : Setting g) where
           (full-beyond (omega (arith, y .0 .made-are))))
           (beyond-open (omega arith) (omega arith))
 
-      call-along : (depth : ℕ) → Called depth (runCall depth I nonterminal xs state cells)
+      call-along : {lent : Input} → Provides setting lent → (depth : ℕ) → Called depth (runCall depth lent nonterminal xs state cells)
       unfolding runCall
-      call-along zero = too-deep refl (omega arith)
-      call-along (suc depth) = go (ltb (state .calls) mostCalls) refl (choice-picks g nonterminal (taken-of taken .small) (from state))
+      call-along provides zero = too-deep refl (omega arith)
+      call-along {lent} provides (suc depth) = go (ltb (state .calls) mostCalls) refl (choice-picks g nonterminal (taken-of taken .small) (from state))
         where
           go : (test : Bool) → ltb (state .calls) mostCalls ≡ test → Picks g nonterminal (from state) (choice (ready g) nonterminal (kindOf (from state)))
-              → Called (suc depth) (runCall (suc depth) I nonterminal xs state cells)
+              → Called (suc depth) (runCall (suc depth) lent nonterminal xs state cells)
           go false l q =
-              subst⁻¹ (Called (suc depth)) (call-full depth I nonterminal xs state cells l)
+              subst⁻¹ (Called (suc depth)) (call-full depth lent nonterminal xs state cells l)
               (too-many refl (omega (arith, ltb-false (state .calls) mostCalls l)))
           go true l (picks p′ w z) =
               let same : p′ ≡ p = taken-one g (setting .passed) w (rw (← equal) at taken) in
-              let picked : choice (ready g) nonterminal (nextToken I state .kind) ≡ Rattle.expansion.specs.Expansion.chosen (rule g p) =
-              cc (kind-next (state .at) tokens) in
-              subst⁻¹ (Called (suc depth)) (call-chosen depth I nonterminal xs state cells (rule g p) l picked)
-              (production-along depth (ltb-true (state .calls) mostCalls l))
+              let picked : choice (lent .grammar) nonterminal (nextToken lent state .kind) ≡ Rattle.expansion.specs.Expansion.chosen (rule g p) =
+              choice-is setting provides state nonterminal ∙ cc in
+              subst⁻¹ (Called (suc depth)) (call-chosen depth lent nonterminal xs state cells (rule g p) l picked)
+              (production-along provides depth (ltb-true (state .calls) mostCalls l))
           go true l (picks-none f z) = absurd (f p (rw (← equal) at taken))
 
   -- a fresh name, and the items after it
@@ -245,13 +251,15 @@ module _ {g : List Production} (setting : Setting g) where
       → Along opened calls rows-made left i (local ∷ is) M M′ left′ i′
   local-along {opened} {calls} {rows-made} {left} {left′} {i} {i′} {is} {M} {M′} A = record { along = go }
     where
-      go : (depth names-left : ℕ) (result : Template) (B : ℕ) (L xs : List ℕ) (state : State) (cells : List ℕ) → Body (F .scope) L (local ∷ is) result B
+      go : {lent within : Input} → Provides setting lent → Provides setting within
+          → (depth names-left : ℕ) (result : Template) (B : ℕ) (L xs : List ℕ) (state : State) (cells : List ℕ) → Body (F .scope) L (local ∷ is) result B
           → from state ≡ left → state .fresh ≡ i → Kept rows (names-left + length (local ∷ is)) state cells → ShowAll spell (state .made) cells xs M
           → Ends (Reached names-left depth opened calls rows-made left′ i′ M′ (state .calls) (state .made) cells)
-          (Beyond rows depth opened (state .calls + calls) (state .made + rows-made)) (runItems (runCall depth I) I (local ∷ is) xs state cells)
-      go depth names-left result B L xs state cells (by-binding w b) p f h a =
-          rw (items-after (runCall depth I) I local is xs state cells _ _ cells refl)
-          (A .along depth names-left result B _ _ (record { at = state .at; fresh = state .fresh + 1; calls = state .calls; made = state .made }) cells b p (cc)
+          (Beyond rows depth opened (state .calls + calls) (state .made + rows-made)) (runItems (runCall depth lent) within (local ∷ is) xs state cells)
+      go {lent} {within} provides inside depth names-left result B L xs state cells (by-binding w b) p f h a =
+          rw (items-after (runCall depth lent) within local is xs state cells _ _ cells refl)
+          (A .along provides inside depth names-left result B _ _
+          (record { at = state .at; fresh = state .fresh + 1; calls = state .calls; made = state .made }) cells b p (cc)
           (record { room = h .room; fits = h .fits; names = omega (arith, h .names); begun = h .begun })
           (all-and a (shows-binder (fresh-named spell (state .fresh) (omega (arith, h .names, h .begun)) ∙ ap fresh f))))
 
@@ -269,25 +277,26 @@ module _ {g : List Production} (setting : Setting g) where
       cells-of : ℕ
       cells-of = rowsOfAll ts + rows-made + rowsOf (p .result)
 
-      item : (depth names-left : ℕ) {L Bs xs : List ℕ} (state : State) (cells : List ℕ) → Judgements.Fill (F .scope .outsides) L ts Bs → from state ≡ left
+      item : {lent within : Input} → Provides setting lent → Provides setting within
+          → (depth names-left : ℕ) {L Bs xs : List ℕ} (state : State) (cells : List ℕ) → Judgements.Fill (F .scope .outsides) L ts Bs → from state ≡ left
           → state .fresh ≡ i → Kept rows (names-left + 1) state cells → ShowAll spell (state .made) cells xs M
           → Ends (Gave names-left depth (opened + 1) (calls + 1) cells-of left₁ i₁ value (state .calls) (state .made) cells)
           (Beyond rows depth (opened + 1) (state .calls + (calls + 1)) (state .made + cells-of))
-          (runItem (runCall depth I) I (call nonterminal ts) xs state cells)
-      item depth names-left {xs = xs} state cells w e f h a =
-          ends-after (BuiltAll spell I (rowsOfAll ts) state cells vs) (Full rows (state .made + rowsOfAll ts))
+          (runItem (runCall depth lent) within (call nonterminal ts) xs state cells)
+      item {lent} {within} provides inside depth names-left {xs = xs} state cells w e f h a =
+          ends-after (BuiltAll spell rows (rowsOfAll ts) state cells vs) (Full rows (state .made + rowsOfAll ts))
           (Gave names-left depth (opened + 1) (calls + 1) cells-of left₁ i₁ value (state .calls) (state .made) cells)
           (Beyond rows depth (opened + 1) (state .calls + (calls + 1)) (state .made + cells-of))
-          (buildAll ts I xs state cells) (λ ys. runCall depth I nonterminal ys)
-          (build-all-ends spell I ts state cells gs w (omega (arith, F .outsideCount)) (h .room) (h .fits) a)
+          (buildAll ts within xs state cells) (λ ys. runCall depth lent nonterminal ys)
+          (build-all-ends spell rows within (inside .rows-are) ts state cells gs w (omega (arith, F .outsideCount)) (h .room) (h .fits) a)
           (λ ys s₁ c₁ b.
           ends-map (Gave names-left depth (opened + 1) (calls + 1) (rows-made + rowsOf (p .result)) left₁ i₁ value (s₁ .calls) (s₁ .made) c₁)
           (Beyond rows depth (opened + 1) (s₁ .calls + (calls + 1)) (s₁ .made + (rows-made + rowsOf (p .result))))
           (Gave names-left depth (opened + 1) (calls + 1) cells-of left₁ i₁ value (state .calls) (state .made) cells)
           (Beyond rows depth (opened + 1) (state .calls + (calls + 1)) (state .made + cells-of))
-          (runCall depth I nonterminal ys s₁ c₁)
+          (runCall depth lent nonterminal ys s₁ c₁)
           (call-along p taken A gives names-left ys s₁ c₁ (cc (b .0 .at-kept)) (b .0 .fresh-kept ∙ f) (kept-less (kept-made h (b .0)))
-          (b .1) depth)
+          (b .1) provides depth)
           (λ x s₂ c₂ y. (
             record {
               grown = grown-trans (b .0 .grown) (y .0 .grown);
@@ -303,28 +312,30 @@ module _ {g : List Production} (setting : Setting g) where
           (beyond-more (omega arith) (omega (arith, b .0 .calls-kept)) (omega (arith, b .0 .made-is))))
           (full-beyond (omega arith))
 
-      go : (depth names-left : ℕ) (result : Template) (B : ℕ) (L xs : List ℕ) (state : State) (cells : List ℕ)
+      go : {lent within : Input} → Provides setting lent → Provides setting within
+          → (depth names-left : ℕ) (result : Template) (B : ℕ) (L xs : List ℕ) (state : State) (cells : List ℕ)
           → Body (F .scope) L (call nonterminal ts ∷ is) result B → from state ≡ left → state .fresh ≡ i
           → Kept rows (names-left + length (call nonterminal ts ∷ is)) state cells → ShowAll spell (state .made) cells xs M
           → Ends
           (Reached names-left depth (max (opened + 1) opened′) (calls + 1 + calls′) (cells-of + rows-made′) left′ i′ M′ (state .calls) (state .made) cells)
           (Beyond rows depth (max (opened + 1) opened′) (state .calls + (calls + 1 + calls′)) (state .made + (cells-of + rows-made′)))
-          (runItems (runCall depth I) I (call nonterminal ts ∷ is) xs state cells)
-      go depth names-left result B L xs state cells (by-binding (Judgements.by-call w z) b) e f h a =
+          (runItems (runCall depth lent) within (call nonterminal ts ∷ is) xs state cells)
+      go {lent} {within} provides inside depth names-left result B L xs state cells (by-binding (Judgements.by-call w z) b) e f h a =
           ends-after (Gave (names-left + length is) depth (opened + 1) (calls + 1) cells-of left₁ i₁ value (state .calls) (state .made) cells)
           (Beyond rows depth (opened + 1) (state .calls + (calls + 1)) (state .made + cells-of))
           (Reached names-left depth (max (opened + 1) opened′) (calls + 1 + calls′) (cells-of + rows-made′) left′ i′ M′ (state .calls) (state .made) cells)
           (Beyond rows depth (max (opened + 1) opened′) (state .calls + (calls + 1 + calls′)) (state .made + (cells-of + rows-made′)))
-          (runItem (runCall depth I) I (call nonterminal ts) xs state cells) (λ x. runItems (runCall depth I) I is (xs ++ (x ∷ [])))
-          (item depth (names-left + length is) state cells z e f (record { room = h .room; fits = h .fits; names = omega (arith, h .names); begun = h .begun })
+          (runItem (runCall depth lent) within (call nonterminal ts) xs state cells) (λ x. runItems (runCall depth lent) within is (xs ++ (x ∷ [])))
+          (item provides inside depth (names-left + length is) state cells z e f
+          (record { room = h .room; fits = h .fits; names = omega (arith, h .names); begun = h .begun })
           a)
           (λ x s₁ c₁ y.
           ends-map (Reached names-left depth opened′ calls′ rows-made′ left′ i′ M′ (s₁ .calls) (s₁ .made) c₁)
           (Beyond rows depth opened′ (s₁ .calls + calls′) (s₁ .made + rows-made′))
           (Reached names-left depth (max (opened + 1) opened′) (calls + 1 + calls′) (cells-of + rows-made′) left′ i′ M′ (state .calls) (state .made) cells)
           (Beyond rows depth (max (opened + 1) opened′) (state .calls + (calls + 1 + calls′)) (state .made + (cells-of + rows-made′)))
-          (runItems (runCall depth I) I is (xs ++ (x ∷ [])) s₁ c₁)
-          (A′ .along depth names-left result B _ (xs ++ (x ∷ [])) s₁ c₁ b (y .0 .place) (y .0 .counter) (y .0 .kept)
+          (runItems (runCall depth lent) within is (xs ++ (x ∷ [])) s₁ c₁)
+          (A′ .along provides inside depth names-left result B _ (xs ++ (x ∷ [])) s₁ c₁ b (y .0 .place) (y .0 .counter) (y .0 .kept)
           (all-and (all-later (y .0 .grown) a) (y .1)))
           (λ ys s₂ c₂ q. (
             record {
@@ -347,7 +358,7 @@ module _ {g : List Production} (setting : Setting g) where
   unfolding openIn callsIn rowsIn runItems
   items-along by-end =
       record {
-        along = λ d k r B L xs s cells b p f h a. (
+        along = λ u v d k r B L xs s cells b p f h a. (
           record {
             grown = grown-not (s .made) cells;
             kept = record { room = h .room; fits = h .fits; names = omega (arith, h .names); begun = h .begun };
@@ -361,16 +372,16 @@ module _ {g : List Production} (setting : Setting g) where
         );
       }
   items-along (by-terminal (by-keyword {k = k} e) derives) =
-      token-along (keyword k) (keywordKind k) (λ v. 0) (λ C xs. refl) e (λ s cells q. shows-unit) (items-along derives)
+      token-along (keyword k) (keywordKind k) (λ v. 0) (λ J C xs. refl) e (λ s cells q. shows-unit) (items-along derives)
   items-along (by-terminal (by-ide {t = t} e as-var) derives) =
-      token-along (ide Sorts.var) wordKind (wordValue Sorts.var) (λ C xs. refl) e (λ s cells q. shows-var (word-shown s t q e)) (items-along derives)
+      token-along (ide Sorts.var) wordKind (wordValue Sorts.var) (λ J C xs. refl) e (λ s cells q. shows-var (word-shown s t q e)) (items-along derives)
   items-along (by-terminal (by-ide {t = t} e as-binder) derives) =
-      token-along (ide Sorts.binder) wordKind (wordValue Sorts.binder) (λ C xs. refl) e (λ s cells q. shows-binder (word-shown s t q e)) (items-along derives)
+      token-along (ide Sorts.binder) wordKind (wordValue Sorts.binder) (λ J C xs. refl) e (λ s cells q. shows-binder (word-shown s t q e)) (items-along derives)
   items-along (by-terminal (by-ide {t = t} e as-label) derives) =
-      token-along (ide Sorts.label) wordKind (wordValue Sorts.label) (λ C xs. refl) e
+      token-along (ide Sorts.label) wordKind (wordValue Sorts.label) (λ J C xs. refl) e
       (λ s cells q. rw (← q) shows-label) (items-along derives)
   items-along (by-terminal (by-number {t = t} e) derives) =
-      token-along number numberKind (λ v. v) (λ C xs. refl) e
+      token-along number numberKind (λ v. v) (λ J C xs. refl) e
       (λ s cells q. rw (← q) shows-num) (items-along derives)
   items-along (by-terminal by-local derives) = local-along (items-along derives)
   items-along (by-call {p = p} gs t derives q D′) = call-item-along p gs t (items-along derives) q (items-along D′)
@@ -401,7 +412,8 @@ module _ {g : List Production} (setting : Setting g) where
       root-ends W K mostOpen cells
       (ends-map W (Beyond rows mostOpen (openIn derives) (0 + callsIn derives) (0 + rowsIn derives)) W K
       (runItems (runCall mostOpen I) I (call (setting .root) none ∷ []) [] initialState cells)
-      (items-along derives .along mostOpen 0 (make 0x25 none) Sorts.fields [] [] initialState cells (root-body setting) refl refl
+      (items-along derives .along (provides-whole setting) (provides-whole setting) mostOpen 0 (make 0x25 none) Sorts.fields [] [] initialState cells
+      (root-body setting) refl refl
       (record { room = room; fits = omega arith; names = omega arith; begun = omega arith }) show-none)
       (λ xs s c u. u) (beyond-more (omega arith) (omega arith) (omega arith)))
 

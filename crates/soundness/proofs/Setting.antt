@@ -1,8 +1,9 @@
 -- All that an expansion is given but the cells: a grammar that fits, tokens, spellings, rows and a root.
 use Prim.Native.Nat.{ℕ, _<_}
-use mathlib.Core.Path.{_≡_, subst⁻¹}
+use mathlib.Core.Path.{_≡_, refl, ap, subst⁻¹, _∙_}
 use mathlib.Core.List.{List, [], _∷_}
 use native.Mathlib.Omega.{arith}
+use lib.ListN.{drop}
 use Rattle.answers.specs.Checked.{ok}
 use Rattle.grammar.specs.Sorts.{Signature, constructorSignatures, constructor}
 use Rattle.grammar.specs.Sorts as Sorts
@@ -13,8 +14,12 @@ use Rattle.judgements.specs.Judgements as Judgements
 use Rattle.tokens.specs.declared.Token.{Token}
 use Rattle.productions.specs.Normal.{Production}
 use Rattle.clashes.specs.CheckFirsts.{checkFirsts}
-use Rattle.expansion.specs.Parsing.{SmallWords}
+use Rattle.expansion.specs.declared.State.{State}
+use Rattle.expansion.specs.Expansion.{Input, ready, choice, nextToken, takeToken}
+use Rattle.expansion.specs.Parsing.{input, SmallWords}
 use Rattle.expansion.specs.ValueSorts.{Matches, matches-none}
+use Rattle.expansion.proofs.CallLaws.{inner, inner-grammar, inner-tokens, inner-rows}
+use Rattle.expansion.proofs.Choosing.{kindOf, kind-next}
 use Rattle.soundness.proofs.Typing.{FitAll}
 
 -- A grammar that passed, the tokens to parse and the rows that there are.
@@ -44,7 +49,40 @@ pub record Setting (g : List Production) : Type 0 where
   -- of sort Term
   pub of-term : signature .result ≡ Sorts.term
 
+-- What a part of the run reads: this grammar, these tokens and these rows, whatever else it is told.
+pub record Provides {g : List Production} (setting : Setting g) (lent : Input) : Type 0 where
+  -- the grammar
+  pub grammar-is : lent .grammar ≡ ready g
+  -- the tokens
+  pub tokens-are : lent .tokens ≡ setting .tokens
+  -- the rows that there are
+  pub rows-are : lent .rows ≡ setting .rows
+
 module _ {g : List Production} (setting : Setting g) where
+  -- what the whole run reads
+  pub provides-whole : Provides setting (input g (setting .tokens) (setting .rows))
+  provides-whole = record { grammar-is = refl; tokens-are = refl; rows-are = refl }
+
+  -- what a call hands on has them, too
+  pub provides-inner : {lent : Input} → Provides setting lent → (state : State) → Provides setting (inner lent state)
+  provides-inner {lent} provides state =
+      record {
+        grammar-is = inner-grammar lent state ∙ provides .grammar-is;
+        tokens-are = inner-tokens lent state ∙ provides .tokens-are;
+        rows-are = inner-rows lent state ∙ provides .rows-are;
+      }
+
+  -- the choice is that of the tokens left
+  pub choice-is : {lent : Input} → Provides setting lent → (state : State) (nonterminal : ℕ)
+      → choice (lent .grammar) nonterminal (nextToken lent state .kind) ≡ choice (ready g) nonterminal (kindOf (drop (state .at) (setting .tokens)))
+  choice-is provides state nonterminal =
+      rw (provides .grammar-is, provides .tokens-are) (ap (choice (ready g) nonterminal) (kind-next (state .at) (setting .tokens)))
+
+  -- a token is taken as the whole run takes it
+  pub take-is : {lent : Input} → Provides setting lent → (kind : ℕ) (value : ℕ → ℕ) (state : State) (cells : List ℕ)
+      → takeToken lent kind value state cells ≡ takeToken (input g (setting .tokens) (setting .rows)) kind value state cells
+  take-is provides kind value state cells = rw (provides .tokens-are) refl
+
   -- the root is called without arguments
   pub no-arguments : Matches [] (setting .signature .params)
   no-arguments = subst⁻¹ (Matches []) (setting .without) matches-none

@@ -25,7 +25,7 @@ use Rattle.terms.specs.Term.{Name, Term}
 use Rattle.terms.specs.Rows.{termAt}
 use Rattle.expansion.specs.declared.State.{State}
 use Rattle.expansion.specs.Run.{Result, done, halt, Run, after}
-use Rattle.expansion.specs.Expansion.{Input, ready, Rule, unfit, chosen, choice, nextToken, tokenTaken, takeToken, misfit, buildAll, build, wordValue}
+use Rattle.expansion.specs.Expansion.{Input, ready, choice, nextToken, tokenTaken, takeToken, misfit, buildAll, build, wordValue}
 use Rattle.tokens.specs.Tokens.{endToken}
 use Rattle.expansion.specs.Expansion.{runItem, runItems, callBegun, runCall, initialState, ended, run}
 use Rattle.expansion.specs.Limits.{mostCalls, mostOpen}
@@ -35,11 +35,12 @@ use Rattle.expansion.specs.Parsing.{input}
 use Rattle.expansion.specs.Costs.{rowsOf, rowsOfAll}
 use Rattle.expansion.proofs.Shows.{Grown, grown-not, grown-trans, Shows, shows-unit, shows-var, shows-binder, shows-label, shows-num, shows-term, ShowAll}
 use Rattle.expansion.proofs.Shows.{show-none, all-later, all-and, word-named, fresh-named}
-use Rattle.soundness.proofs.Setting.{Setting, no-arguments}
+use Rattle.soundness.proofs.Setting.{Setting, Provides, provides-whole, provides-inner, choice-is, take-is, no-arguments}
 use Rattle.soundness.proofs.Building.{Ends, ends-after, ends-map, Made, Full, Built, BuiltAll, build-ends, build-all-ends}
 use Rattle.expansion.specs.ValueSorts.{Typed, typed-unit, typed-var, typed-binder, typed-label, typed-num, typed-term, Matches}
 use Rattle.soundness.proofs.Typing.{matches-and, gives-exists, give-all-exist, items-typed, FitAll, body-of, taken-of}
-use Rattle.expansion.proofs.Choosing.{kindOf, kind-next, Picks, picks, picks-none, choice-picks, rule}
+use Rattle.expansion.proofs.CallLaws.{inner, Ran, call-full, call-unfit, call-chosen}
+use Rattle.expansion.proofs.Choosing.{kindOf, Picks, picks, picks-none, choice-picks, rule}
 use Rattle.terms.specs.Cells.{columns}
 
 -- ------------------------------------------------------------------ the tokens from a place on
@@ -83,28 +84,6 @@ kept-made h m =
 -- and with one name fewer to come
 pub kept-less : {rows names-left : ℕ} {state : State} {cells : List ℕ} → Kept rows (names-left + 1) state cells → Kept rows names-left state cells
 kept-less h = record { room = h .room; fits = h .fits; names = omega (arith, h .names); begun = h .begun }
-
--- ------------------------------------------------------------------ a call's tests
-
-module _ (depth : ℕ) (lent : Input) (nonterminal : ℕ) (xs : List ℕ) (state : State) (cells : List ℕ) where
-  -- no call is left: refusal 20
-  pub call-full : ltb (state .calls) mostCalls ≡ false → runCall (suc depth) lent nonterminal xs state cells ≡ halt (refusal 20 (state .at) 0 0) cells
-  unfolding runCall
-  call-full e = rw (e, runCall) refl
-
-  -- no production fits: refusal 17
-  pub call-unfit : ltb (state .calls) mostCalls ≡ true → choice (lent .grammar) nonterminal (nextToken lent state .kind) ≡ unfit
-      → runCall (suc depth) lent nonterminal xs state cells ≡ misfit (getD (lent .grammar .firsts) nonterminal 0) state cells
-  unfolding runCall
-  call-unfit e f = rw (e, f, runCall) refl
-
-  -- the production chosen is run
-  pub call-chosen : (given-rule : Rule) → ltb (state .calls) mostCalls ≡ true → choice (lent .grammar) nonterminal (nextToken lent state .kind)
-      ≡ chosen given-rule
-      → runCall (suc depth) lent nonterminal xs state cells ≡ after (runItems (runCall depth lent) lent (given-rule .items) xs (callBegun state) cells)
-      (λ ys. build (given-rule .result) lent ys)
-  unfolding runCall
-  call-chosen given-rule e f = rw (e, f, runCall) refl
 
 module _ {g : List Production} (setting : Setting g) where
   abbrev F : FitAll g
@@ -177,9 +156,10 @@ module _ {g : List Production} (setting : Setting g) where
       (k n : ℕ) (S : Signature) (vs : List Value) (xs : List ℕ) (s : State) (cells : List ℕ) → Newest (F .scope .env) n S → n < 64 → Matches vs (S .params)
       → Kept rows k s cells → ShowAll spell (s .made) cells xs vs → Ends (Called k n vs s cells) Any (C n xs s cells)
 
-  take-ends : (P : ℕ → State → List ℕ → Type 0) (kind : ℕ) (value : ℕ → ℕ) (state : State) (cells : List ℕ)
-      → (nextToken I state .kind ≡ kind → P (value (nextToken I state .value)) (tokenTaken state) cells) → Ends P Any (takeToken I kind value state cells)
-  take-ends P kind value state cells f = go (eqb (nextToken I state .kind) kind) refl
+  take-ends : {lent : Input} → Provides setting lent → (P : ℕ → State → List ℕ → Type 0) (kind : ℕ) (value : ℕ → ℕ) (state : State) (cells : List ℕ)
+      → (nextToken I state .kind ≡ kind → P (value (nextToken I state .value)) (tokenTaken state) cells) → Ends P Any (takeToken lent kind value state cells)
+  take-ends provides P kind value state cells f =
+      subst⁻¹ (Ends P Any) (take-is setting provides kind value state cells) (go (eqb (nextToken I state .kind) kind) refl)
     where
       go : (test : Bool) → eqb (nextToken I state .kind) kind ≡ test
           → Ends P Any
@@ -217,27 +197,52 @@ module _ {g : List Production} (setting : Setting g) where
   at-ide P (suc (suc (suc zero))) l h a b c = c
   at-ide P (suc (suc (suc (suc B)))) l h a b c = absurd (omega arith)
 
-  module _ (called : ℕ → List ℕ → Run ℕ) (callee : Callee called) where
+  -- the items derived, and the result sorted under their variables
+  pub record Derived (names-left : ℕ) (is : List Item) (result : Template) (B : ℕ) (M : List Value) (state : State) (cells : List ℕ) (xs : List ℕ)
+      (state′ : State) (cells′ : List ℕ) : Type 0 where
+    -- the values of all variables, the items' own last
+    pub variables : List Value
+    -- the items give them
+    pub derived : Derives g spell M (from state) (state .fresh) is (from state′) (state′ .fresh) variables
+    -- the variables' sorts
+    pub sorts : List ℕ
+    -- each variable is of its sort
+    pub matches : Matches variables sorts
+    -- the sort of the result
+    pub sort : ℕ
+    -- the result has it under the variables' sorts
+    pub sorted : Sorted (F .scope .outsides) sorts result sort
+    -- it fits where the sort B is asked for
+    pub fit : Fits sort B
+    -- the numbers found show the variables in the cells at exit
+    pub shows : ShowAll spell (state′ .made) cells′ xs variables
+    -- rows are added only
+    pub grown : Grown (state .made) cells (state′ .made) cells′
+    -- the bounds hold still
+    pub kept : Kept rows names-left state′ cells′
+
+  -- what the items read, and what a call of theirs does
+  module _ {lent : Input} (provides : Provides setting lent) (called : ℕ → List ℕ → Run ℕ) (callee : Callee called) where
     -- an item that is run is derived
     pub item-sound : (names-left : ℕ) {item : Item} {A : ℕ} {M : List Value} {L xs : List ℕ} (state : State) (cells : List ℕ) → ItemSorted (F .scope) L item A
         → ItemWithin item → Matches M L
         → Kept rows (names-left + 1) state cells → ShowAll spell (state .made) cells xs M
-        → Ends (Stepped names-left item A M state cells) Any (runItem called I item xs state cells)
+        → Ends (Stepped names-left item A M state cells) Any (runItem called lent item xs state cells)
     item-sound names-left {M = M} state cells (Judgements.by-keyword {k = w} l) z m h a =
-        take-ends (Stepped names-left (keyword w) Sorts.unit M state cells) (keywordKind w) (λ v. 0) state cells
+        take-ends provides (Stepped names-left (keyword w) Sorts.unit M state cells) (keywordKind w) (λ v. 0) state cells
         (λ e. taken-as 0 unit e (omega (arith, l, F .keywordCount)) h typed-unit shows-unit (λ is M′ t j d. by-terminal (by-keyword e) d))
     item-sound names-left {M = M} {L = L} {xs = xs} state cells (Judgements.by-ide {B = B} l u) z m h a =
-        at-ide (λ B. Ends (Stepped names-left (ide B) B M state cells) Any (runItem called I (ide B) xs state cells)) B l u
-        (take-ends (Stepped names-left (ide Sorts.var) Sorts.var M state cells) wordKind (wordValue Sorts.var) state cells
+        at-ide (λ B. Ends (Stepped names-left (ide B) B M state cells) Any (runItem called lent (ide B) xs state cells)) B l u
+        (take-ends provides (Stepped names-left (ide Sorts.var) Sorts.var M state cells) wordKind (wordValue Sorts.var) state cells
         (λ e. taken-as _ _ e (omega arith) h typed-var (shows-var (word-named spell (nextToken I state .value) (setting .small (state .at) e)))
         (λ is M′ t j d. by-terminal (by-ide e as-var) d)))
-        (take-ends (Stepped names-left (ide Sorts.binder) Sorts.binder M state cells) wordKind (wordValue Sorts.binder) state cells
+        (take-ends provides (Stepped names-left (ide Sorts.binder) Sorts.binder M state cells) wordKind (wordValue Sorts.binder) state cells
         (λ e. taken-as _ _ e (omega arith) h typed-binder (shows-binder (word-named spell (nextToken I state .value) (setting .small (state .at) e)))
         (λ is M′ t j d. by-terminal (by-ide e as-binder) d)))
-        (take-ends (Stepped names-left (ide Sorts.label) Sorts.label M state cells) wordKind (wordValue Sorts.label) state cells
+        (take-ends provides (Stepped names-left (ide Sorts.label) Sorts.label M state cells) wordKind (wordValue Sorts.label) state cells
         (λ e. taken-as _ _ e (omega arith) h typed-label shows-label (λ is M′ t j d. by-terminal (by-ide e as-label) d)))
     item-sound names-left {M = M} state cells Judgements.by-number z m h a =
-        take-ends (Stepped names-left number Sorts.num M state cells) numberKind (λ v. v) state cells
+        take-ends provides (Stepped names-left number Sorts.num M state cells) numberKind (λ v. v) state cells
         (λ e. taken-as _ _ e (omega arith) h typed-num shows-num (λ is M′ t j d. by-terminal (by-number e) d))
     item-sound names-left {M = M} state cells Judgements.by-local z m h a =
         record {
@@ -250,10 +255,10 @@ module _ {g : List Production} (setting : Setting g) where
         }
     item-sound names-left {A = A} {M = M} {L = L} {xs = xs} state cells (Judgements.by-call {n = n} {S = S} {ts = ts} w f) (call-within l ws) m h a =
         let vs = give-all-exist spell m ts f in
-        ends-after (BuiltAll spell I (rowsOfAll ts) state cells (vs .0)) (Full rows (state .made + rowsOfAll ts))
+        ends-after (BuiltAll spell rows (rowsOfAll ts) state cells (vs .0)) (Full rows (state .made + rowsOfAll ts))
         (Stepped names-left (call n ts) A M state cells) Any
-        (buildAll ts I xs state cells) (λ ys. called n ys)
-        (build-all-ends spell I ts state cells (vs .1) f (omega (arith, F .outsideCount)) (h .room) (h .fits) a)
+        (buildAll ts lent xs state cells) (λ ys. called n ys)
+        (build-all-ends spell rows lent (provides .rows-are) ts state cells (vs .1) f (omega (arith, F .outsideCount)) (h .room) (h .fits) a)
         (λ ys s₁ c₁ b.
         ends-map (Called names-left n (vs .0) s₁ c₁) Any (Stepped names-left (call n ts) A M state cells) Any (called n ys s₁ c₁)
         (callee names-left n S (vs .0) ys s₁ c₁ w (omega arith) (vs .2) (kept-less (kept-made h (b .0))) (b .1))
@@ -271,35 +276,11 @@ module _ {g : List Production} (setting : Setting g) where
         (λ r u. u))
         (λ r u. tt)
 
-    -- the items derived, and the result sorted under their variables
-    pub record Derived (names-left : ℕ) (is : List Item) (result : Template) (B : ℕ) (M : List Value) (state : State) (cells : List ℕ) (xs : List ℕ)
-        (state′ : State) (cells′ : List ℕ) : Type 0 where
-      -- the values of all variables, the items' own last
-      pub variables : List Value
-      -- the items give them
-      pub derived : Derives g spell M (from state) (state .fresh) is (from state′) (state′ .fresh) variables
-      -- the variables' sorts
-      pub sorts : List ℕ
-      -- each variable is of its sort
-      pub matches : Matches variables sorts
-      -- the sort of the result
-      pub sort : ℕ
-      -- the result has it under the variables' sorts
-      pub sorted : Sorted (F .scope .outsides) sorts result sort
-      -- it fits where the sort B is asked for
-      pub fit : Fits sort B
-      -- the numbers found show the variables in the cells at exit
-      pub shows : ShowAll spell (state′ .made) cells′ xs variables
-      -- rows are added only
-      pub grown : Grown (state .made) cells (state′ .made) cells′
-      -- the bounds hold still
-      pub kept : Kept rows names-left state′ cells′
-
     -- items that are run are derived
     pub items-sound : (names-left : ℕ) (is : List Item) {result : Template} {B : ℕ} {M : List Value} {L xs : List ℕ} (state : State) (cells : List ℕ)
         → Body (F .scope) L is result B → Each ItemWithin is → Matches M L
         → Kept rows (names-left + length is) state cells → ShowAll spell (state .made) cells xs M
-        → Ends (Derived names-left is result B M state cells) Any (runItems called I is xs state cells)
+        → Ends (Derived names-left is result B M state cells) Any (runItems called lent is xs state cells)
     unfolding runItems
     items-sound names-left [] {M = M} {L = L} state cells (by-result {A = A} w f) each-none m h a =
         record {
@@ -316,12 +297,12 @@ module _ {g : List Production} (setting : Setting g) where
         }
     items-sound names-left (i ∷ is) {result = result} {B = B} {M = M} {xs = xs} state cells (by-binding {A = A} w b) (each-more z zs) m h a =
         ends-after (Stepped (names-left + length is) i A M state cells) Any (Derived names-left (i ∷ is) result B M state cells) Any
-        (runItem called I i xs state cells)
-        (λ x. runItems called I is (xs ++ (x ∷ [])))
+        (runItem called lent i xs state cells)
+        (λ x. runItems called lent is (xs ++ (x ∷ [])))
         (item-sound (names-left + length is) state cells w z m (record { room = h .room; fits = h .fits; names = omega (arith, h .names); begun = h .begun }) a)
         (λ x s₁ c₁ p.
         ends-map (Derived names-left is result B (M ++ (p .value ∷ [])) s₁ c₁) Any (Derived names-left (i ∷ is) result B M state cells) Any
-        (runItems called I is (xs ++ (x ∷ [])) s₁ c₁)
+        (runItems called lent is (xs ++ (x ∷ [])) s₁ c₁)
         (items-sound names-left is s₁ c₁ b zs (matches-and m (p .typed)) (p .kept) (all-and (all-later (p .grown) a) (p .shows)))
         (λ ys s₂ c₂ q.
         record {
@@ -341,25 +322,27 @@ module _ {g : List Production} (setting : Setting g) where
 
   -- ------------------------------------------------------------------ calls
 
-  call-step : (depth : ℕ) → Callee (runCall depth I) → Callee (runCall (suc depth) I)
-  call-step depth callee k n S vs xs s cells w l m h a = go (ltb (s .calls) mostCalls) refl (choice-picks g n l (from s))
+  call-step : {lent : Input} → Provides setting lent → (depth : ℕ) → Callee (runCall depth lent) → Callee (runCall (suc depth) lent)
+  call-step {lent} provides depth callee k n S vs xs s cells w l m h a = go (ltb (s .calls) mostCalls) refl (choice-picks g n l (from s))
     where
       Goal : Result ℕ → Type 0
       Goal r = Ends (Called k n vs s cells) Any r
 
       items : (p : Production) → Taken g n (from s) p → s .calls < mostCalls
-          → Goal (after (runItems (runCall depth I) I (p .items) xs (callBegun s) cells) (λ ys. build (p .result) I ys))
+          → Goal (Ran depth lent n xs s cells (rule g p))
       items p t c =
           let q = F .each p (taken-of t .member) in
-          ends-after (Derived (runCall depth I) callee k (p .items) (p .result) (S .result) vs (callBegun s) cells) Any (Called k n vs s cells) Any
-          (runItems (runCall depth I) I (p .items) xs (callBegun s) cells) (λ ys. build (p .result) I ys)
-          (items-sound (runCall depth I) callee k (p .items) (callBegun s) cells (body-of F (taken-of t) w) (q .items) m
+          let within = provides-inner setting provides s in
+          ends-after (Derived k (p .items) (p .result) (S .result) vs (callBegun s) cells) Any (Called k n vs s cells) Any
+          (runItems (runCall depth lent) (inner lent s) (p .items) xs (callBegun s) cells) (λ ys. build (p .result) (inner lent s) ys)
+          (items-sound within (runCall depth lent) callee k (p .items) (callBegun s) cells (body-of F (taken-of t) w) (q .items) m
           (record { room = h .room; fits = h .fits; names = omega (arith, h .names, q .itemCount); begun = omega arith }) a)
           (λ ys s₁ c₁ e.
           let v = gives-exists spell (e .matches) (p .result) (e .sorted) in
-          ends-map (Built spell I (rowsOf (p .result)) s₁ c₁ (v .0)) (Full rows (s₁ .made + rowsOf (p .result))) (Called k n vs s cells) Any
-          (build (p .result) I ys s₁ c₁)
-          (build-ends spell I (p .result) s₁ c₁ (v .1) (e .sorted) (omega (arith, F .outsideCount)) (e .kept .room) (e .kept .fits) (e .shows))
+          ends-map (Built spell rows (rowsOf (p .result)) s₁ c₁ (v .0)) (Full rows (s₁ .made + rowsOf (p .result))) (Called k n vs s cells) Any
+          (build (p .result) (inner lent s) ys s₁ c₁)
+          (build-ends spell rows (inner lent s) (within .rows-are) (p .result) s₁ c₁ (v .1) (e .sorted) (omega (arith, F .outsideCount)) (e .kept .room)
+          (e .kept .fits) (e .shows))
           (λ x s₂ c₂ b.
           record {
             production = p;
@@ -378,19 +361,19 @@ module _ {g : List Production} (setting : Setting g) where
           (λ r u. u)
 
       go : (test : Bool) → ltb (s .calls) mostCalls ≡ test → Picks g n (from s) (choice (ready g) n (kindOf (from s)))
-          → Goal (runCall (suc depth) I n xs s cells)
-      go false e q = subst⁻¹ (Ends (Called k n vs s cells) Any) (call-full depth I n xs s cells e) tt
+          → Goal (runCall (suc depth) lent n xs s cells)
+      go false e q = subst⁻¹ (Ends (Called k n vs s cells) Any) (call-full depth lent n xs s cells e) tt
       go true e (picks p t f) =
-          subst⁻¹ (Ends (Called k n vs s cells) Any) (call-chosen depth I n xs s cells (rule g p) e (ap (choice (ready g) n) (kind-next (s .at) tokens) ∙ f))
+          subst⁻¹ (Ends (Called k n vs s cells) Any) (call-chosen depth lent n xs s cells (rule g p) e (choice-is setting provides s n ∙ f))
           (items p t (ltb-true (s .calls) mostCalls e))
       go true e (picks-none f c) =
-          subst⁻¹ (Ends (Called k n vs s cells) Any) (call-unfit depth I n xs s cells e (ap (choice (ready g) n) (kind-next (s .at) tokens) ∙ c)) tt
+          subst⁻¹ (Ends (Called k n vs s cells) Any) (call-unfit depth lent n xs s cells e (choice-is setting provides s n ∙ c)) tt
 
   -- a call that is run is derived
-  pub call-sound : (depth : ℕ) → Callee (runCall depth I)
+  pub call-sound : {lent : Input} → Provides setting lent → (depth : ℕ) → Callee (runCall depth lent)
   unfolding runCall
-  call-sound zero k n S vs xs s cells w l m h a = tt
-  call-sound (suc depth) k n S vs xs s cells w l m h a = call-step depth (call-sound depth) k n S vs xs s cells w l m h a
+  call-sound provides zero k n S vs xs s cells w l m h a = tt
+  call-sound provides (suc depth) k n S vs xs s cells w l m h a = call-step provides depth (call-sound provides depth) k n S vs xs s cells w l m h a
 
   -- ------------------------------------------------------------------ the whole formula
 
@@ -405,7 +388,8 @@ module _ {g : List Production} (setting : Setting g) where
   -- the root, called
   pub root-called : (cells : List ℕ) → rows * columns ≤ length cells → Ends (Root cells) Any (runCall mostOpen I (setting .root) [] initialState cells)
   root-called cells room =
-      call-sound mostOpen 0 (setting .root) (setting .signature) [] [] initialState cells (setting .defined) (setting .root-small) (no-arguments setting)
+      call-sound (provides-whole setting) mostOpen 0 (setting .root) (setting .signature) [] [] initialState cells (setting .defined) (setting .root-small)
+      (no-arguments setting)
       (record { room = room; fits = omega arith; names = omega arith; begun = omega arith }) show-none
 
   -- as a derivation of one call

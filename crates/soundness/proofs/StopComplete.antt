@@ -28,11 +28,12 @@ use Rattle.expansion.specs.Figure3.{Value, Gives, GiveAll, Taken, Derives}
 use Rattle.expansion.specs.Costs.{rowsOf, rowsOfAll, openIn, callsIn, rowsIn, Affords}
 use Rattle.expansion.specs.Parsing.{input}
 use Rattle.expansion.proofs.Shows.{ShowAll, show-none}
-use Rattle.soundness.proofs.Setting.{Setting, item-body, root-body, root-within}
+use Rattle.soundness.proofs.Setting.{Setting, Provides, provides-whole, provides-inner, choice-is, item-body, root-body, root-within}
 use Rattle.soundness.proofs.Building.{Ends, ends-both, Full, Built, BuiltAll, build-ends, build-all-ends}
 use Rattle.soundness.proofs.Typing.{FitAll, taken-of, result-sorted}
-use Rattle.expansion.proofs.Choosing.{kindOf, kind-next, Picks, picks, picks-none, choice-picks, rule, taken-one}
-use Rattle.soundness.proofs.Sound.{Kept, kept-made, kept-less, call-full, call-unfit, call-chosen}
+use Rattle.expansion.proofs.CallLaws.{inner, Ran, call-full, call-unfit, call-chosen}
+use Rattle.expansion.proofs.Choosing.{kindOf, Picks, picks, picks-none, choice-picks, rule, taken-one}
+use Rattle.soundness.proofs.Sound.{Kept, kept-made, kept-less}
 use Rattle.soundness.proofs.Complete.{Beyond, items-along, Reached, root-along}
 use Rattle.soundness.proofs.Complete as Complete
 use Rattle.soundness.specs.Stopping.{Left, nextIndex, takes, makes, begins, Fails, no-token, no-row, too-deep, too-many-calls, no-choice, Stops, at-token}
@@ -117,16 +118,18 @@ module _ {g : List Production} (setting : Setting g) where
 
   -- a run of these items, begun as the rules are, ends with this refusal
   record Halts (opened begun made : ℕ) (left : List Token) (i : ℕ) (is : List Item) (M : List Value) (cause : Refusal) (total : ℕ) : Type 0 where
-    halts : (depth names-left : ℕ) (result : Template) (B : ℕ) (L xs : List ℕ) (state : State) (cells : List ℕ) → depth + opened ≡ mostOpen
+    halts : {lent within : Input} → Provides setting lent → Provides setting within
+        → (depth names-left : ℕ) (result : Template) (B : ℕ) (L xs : List ℕ) (state : State) (cells : List ℕ) → depth + opened ≡ mostOpen
         → Body (F .scope) L is result B → Each ItemWithin is → At begun made left i state
         → Kept rows (names-left + length is) state cells → ShowAll spell (state .made) cells xs M
-        → HaltsWith total (state .made) cells cause (runItems (runCall depth J) J is xs state cells)
+        → HaltsWith total (state .made) cells cause (runItems (runCall depth lent) within is xs state cells)
 
   -- so does a run of this call
   record Calls (opened begun made nonterminal : ℕ) (vs : List Value) (left : List Token) (i : ℕ) (cause : Refusal) (total : ℕ) : Type 0 where
-    calls : (depth names-left : ℕ) (ys : List ℕ) (state : State) (cells : List ℕ) → depth + opened ≡ mostOpen → nonterminal < 64 → At begun made left i state
+    calls : {lent : Input} → Provides setting lent → (depth names-left : ℕ) (ys : List ℕ) (state : State) (cells : List ℕ) → depth + opened ≡ mostOpen
+        → nonterminal < 64 → At begun made left i state
         → Kept rows names-left state cells → ShowAll spell (state .made) cells ys vs
-        → HaltsWith total (state .made) cells cause (runCall depth J nonterminal ys state cells)
+        → HaltsWith total (state .made) cells cause (runCall depth lent nonterminal ys state cells)
 
   kept-item : (names-left count : ℕ) {state : State} {cells : List ℕ} → Kept rows (names-left + suc count) state cells
       → Kept rows (names-left + count + 1) state cells
@@ -135,33 +138,36 @@ module _ {g : List Production} (setting : Setting g) where
   -- ------------------------------------------------------------------ steps that fail
 
   -- an item that reads takes a token of its kind
-  reads-take : {item : Item} {kind : ℕ} → Reads item kind → (callee : ℕ → List ℕ → Run ℕ) (xs : List ℕ)
-      → (kind < 64) × (value : ℕ → ℕ) × (runItem callee J item xs ≡ Expansion.takeToken J kind value)
-  reads-take (reads-keyword l) callee xs = (omega arith, λ v. 0, refl)
-  reads-take (reads-word {s = B}) callee xs = (omega arith, wordValue B, refl)
-  reads-take reads-number callee xs = (omega arith, λ v. v, refl)
+  reads-take : {item : Item} {kind : ℕ} → Reads item kind → (within : Input) (callee : ℕ → List ℕ → Run ℕ) (xs : List ℕ)
+      → (kind < 64) × (value : ℕ → ℕ) × (runItem callee within item xs ≡ Expansion.takeToken within kind value)
+  reads-take (reads-keyword l) within callee xs = (omega arith, λ v. 0, refl)
+  reads-take (reads-word {s = B}) within callee xs = (omega arith, wordValue B, refl)
+  reads-take reads-number within callee xs = (omega arith, λ v. v, refl)
 
-  token-fails : {opened begun made i kind total : ℕ} {left : List Token} {item : Item} {cause : Refusal} (callee : ℕ → List ℕ → Run ℕ) (xs : List ℕ)
+  token-fails : {opened begun made i kind total : ℕ} {left : List Token} {item : Item} {cause : Refusal} {within : Input} → Provides setting within
+      → (callee : ℕ → List ℕ → Run ℕ) (xs : List ℕ)
       (state : State) (cells : List ℕ) → Reads item kind
       → Fails g spell rows tokens opened begun made left (takes kind) cause total → At begun made left i state
-      → HaltsWith total (state .made) cells cause (runItem callee J item xs state cells)
-  token-fails {kind = kind} {left = left} callee xs state cells w (no-token f) p =
-      let q = reads-take w callee xs in
-      halts-here (p .made) (cc (q .2, take-halts setting kind (q .1) state cells (q .0) (λ n. f (rw (← (p .place)) n)), index state p))
+      → HaltsWith total (state .made) cells cause (runItem callee within item xs state cells)
+  token-fails {kind = kind} {left = left} {within = within} inside callee xs state cells w (no-token f) p =
+      let q = reads-take w within callee xs in
+      halts-here (p .made) (cc (q .2, take-halts setting inside kind (q .1) state cells (q .0) (λ n. f (rw (← (p .place)) n)), index state p))
 
-  arguments-fail : {opened begun made i total : ℕ} {left : List Token} {cause : Refusal} {ts : Templates} {M vs : List Value} {L Bs xs : List ℕ} (state : State)
+  arguments-fail : {within : Input} → Provides setting within
+      → {opened begun made i total : ℕ} {left : List Token} {cause : Refusal} {ts : Templates} {M vs : List Value} {L Bs xs : List ℕ} (state : State)
       (cells : List ℕ) → GiveAll spell M ts vs → Fill (F .scope .outsides) L ts Bs
       → Fails g spell rows tokens opened begun made left (makes (rowsOfAll ts)) cause total → At begun made left i state → rows * columns ≤ length cells
-      → state .made ≤ rows → ShowAll spell (state .made) cells xs M → HaltsWith total (state .made) cells cause (buildAll ts J xs state cells)
-  arguments-fail {left = left} {ts = ts} {vs = vs} {xs = xs} state cells gs f (no-row l) p room fits a =
-      go (buildAll ts J xs state cells)
-      (ends-both (BuiltAll spell J (rowsOfAll ts) state cells vs) (λ ys s₁ c₁. s₁ .at ≡ state .at) (Full rows (state .made + rowsOfAll ts))
-      (λ r. r ≡ refusal 21 (state .at) 0 0) (buildAll ts J xs state cells)
-      (build-all-ends spell J ts state cells gs f (omega (arith, F .outsideCount)) room fits a) (build-all-stays J ts xs state cells))
-      (build-all-leaves J ts xs state cells fits)
+      → state .made ≤ rows → ShowAll spell (state .made) cells xs M → HaltsWith total (state .made) cells cause (buildAll ts within xs state cells)
+  arguments-fail {within} inside {left = left} {ts = ts} {vs = vs} {xs = xs} state cells gs f (no-row l) p room fits a =
+      go (buildAll ts within xs state cells)
+      (ends-both (BuiltAll spell rows (rowsOfAll ts) state cells vs) (λ ys s₁ c₁. s₁ .at ≡ state .at) (Full rows (state .made + rowsOfAll ts))
+      (λ r. r ≡ refusal 21 (state .at) 0 0) (buildAll ts within xs state cells)
+      (build-all-ends spell rows within (inside .rows-are) ts state cells gs f
+      (omega (arith, F .outsideCount)) room fits a) (build-all-stays within ts xs state cells))
+      (build-all-leaves rows within (inside .rows-are) ts xs state cells fits)
     where
       go : (result : Result (List ℕ))
-          → Ends (λ ys s₁ c₁. BuiltAll spell J (rowsOfAll ts) state cells vs ys s₁ c₁ × (s₁ .at ≡ state .at))
+          → Ends (λ ys s₁ c₁. BuiltAll spell rows (rowsOfAll ts) state cells vs ys s₁ c₁ × (s₁ .at ≡ state .at))
           (λ r. Full rows (state .made + rowsOfAll ts) r × (r ≡ refusal 21 (state .at) 0 0)) result
           → Leaves rows (state .made) cells result → HaltsWith rows (state .made) cells (refusal 21 (nextIndex tokens left) 0 0) result
       go (done ys s₁ c₁) y k = absurd (omega (arith, y .0 .0 .made-is, y .0 .0 .fits, l, p .made))
@@ -172,36 +178,40 @@ module _ {g : List Production} (setting : Setting g) where
   unfolding runCall ready
   start-fails {opened} {begun} {made} {nonterminal} {i} {left} {vs} (too-deep l) = record { calls = go }
     where
-      go : (depth names-left : ℕ) (ys : List ℕ) (state : State) (cells : List ℕ) → depth + opened ≡ mostOpen → nonterminal < 64 → At begun made left i state
+      go : {lent : Input} → Provides setting lent → (depth names-left : ℕ) (ys : List ℕ) (state : State) (cells : List ℕ) → depth + opened ≡ mostOpen
+          → nonterminal < 64 → At begun made left i state
           → Kept rows names-left state cells → ShowAll spell (state .made) cells ys vs
-          → HaltsWith made (state .made) cells (refusal 19 (nextIndex tokens left) 0 0) (runCall depth J nonterminal ys state cells)
-      go zero names-left ys state cells e b p h a = halts-here (p .made) (cc (index state p))
-      go (suc depth) names-left ys state cells e b p h a = absurd (omega arith)
+          → HaltsWith made (state .made) cells (refusal 19 (nextIndex tokens left) 0 0) (runCall depth lent nonterminal ys state cells)
+      go provides zero names-left ys state cells e b p h a = halts-here (p .made) (cc (index state p))
+      go {lent} provides (suc depth) names-left ys state cells e b p h a = absurd (omega arith)
   start-fails {opened} {begun} {made} {nonterminal} {i} {left} {vs} (too-many-calls l q) = record { calls = go }
     where
-      go : (depth names-left : ℕ) (ys : List ℕ) (state : State) (cells : List ℕ) → depth + opened ≡ mostOpen → nonterminal < 64 → At begun made left i state
+      go : {lent : Input} → Provides setting lent → (depth names-left : ℕ) (ys : List ℕ) (state : State) (cells : List ℕ) → depth + opened ≡ mostOpen
+          → nonterminal < 64 → At begun made left i state
           → Kept rows names-left state cells → ShowAll spell (state .made) cells ys vs
-          → HaltsWith made (state .made) cells (refusal 20 (nextIndex tokens left) 0 0) (runCall depth J nonterminal ys state cells)
-      go zero names-left ys state cells e b p h a = absurd (omega arith)
-      go (suc depth) names-left ys state cells e b p h a =
+          → HaltsWith made (state .made) cells (refusal 20 (nextIndex tokens left) 0 0) (runCall depth lent nonterminal ys state cells)
+      go provides zero names-left ys state cells e b p h a = absurd (omega arith)
+      go {lent} provides (suc depth) names-left ys state cells e b p h a =
           halts-here (p .made)
-          (cc (call-full depth J nonterminal ys state cells (le-ltb (state .calls) mostCalls (omega (arith, p .calls))), index state p))
+          (cc (call-full depth lent nonterminal ys state cells (le-ltb (state .calls) mostCalls (omega (arith, p .calls))), index state p))
   start-fails {opened} {begun} {made} {nonterminal} {i} {left} {vs} (no-choice {set = set} l q f w) = record { calls = go }
     where
-      go : (depth names-left : ℕ) (ys : List ℕ) (state : State) (cells : List ℕ) → depth + opened ≡ mostOpen → nonterminal < 64 → At begun made left i state
+      go : {lent : Input} → Provides setting lent → (depth names-left : ℕ) (ys : List ℕ) (state : State) (cells : List ℕ) → depth + opened ≡ mostOpen
+          → nonterminal < 64 → At begun made left i state
           → Kept rows names-left state cells → ShowAll spell (state .made) cells ys vs
-          → HaltsWith made (state .made) cells (refusal 17 (nextIndex tokens left) set (ones set)) (runCall depth J nonterminal ys state cells)
-      go zero names-left ys state cells e b p h a = absurd (omega arith)
-      go (suc depth) names-left ys state cells e b p h a = by (choice-picks g nonterminal b (rest state))
+          → HaltsWith made (state .made) cells (refusal 17 (nextIndex tokens left) set (ones set)) (runCall depth lent nonterminal ys state cells)
+      go provides zero names-left ys state cells e b p h a = absurd (omega arith)
+      go {lent} provides (suc depth) names-left ys state cells e b p h a = by (choice-picks g nonterminal b (rest state))
         where
           by : Picks g nonterminal (rest state) (choice (ready g) nonterminal (kindOf (rest state)))
-              → HaltsWith made (state .made) cells (refusal 17 (nextIndex tokens left) set (ones set)) (runCall (suc depth) J nonterminal ys state cells)
+              → HaltsWith made (state .made) cells (refusal 17 (nextIndex tokens left) set (ones set)) (runCall (suc depth) lent nonterminal ys state cells)
           by (picks x z u) = absurd (f x (rw (← (p .place)) z))
           by (picks-none z u) =
               halts-here (p .made)
               (cc (
-                call-unfit depth J nonterminal ys state cells (lt-ltb (state .calls) mostCalls (omega (arith, p .calls)))
-                    (ap (choice (ready g) nonterminal) (kind-next (state .at) tokens) ∙ u),
+                call-unfit depth lent nonterminal ys state cells (lt-ltb (state .calls) mostCalls (omega (arith, p .calls)))
+                    (choice-is setting provides state nonterminal ∙ u),
+                provides .grammar-is,
                 index state p,
                 first-set-one w,
               ))
@@ -209,19 +219,20 @@ module _ {g : List Production} (setting : Setting g) where
   -- ------------------------------------------------------------------ a call that is taken
 
   module _ (opened begun made nonterminal i : ℕ) (left : List Token) (vs : List Value) (p : Production) (taken : Taken g nonterminal left p) where
-    enter : (cause : Refusal) {total : ℕ} (depth : ℕ) (ys : List ℕ) (state : State) (cells : List ℕ) → At begun made left i state → begun < mostCalls
-        → HaltsWith total (state .made) cells cause (after (runItems (runCall depth J) J (p .items) ys (callBegun state) cells) (λ M. build (p .result) J M))
-        → HaltsWith total (state .made) cells cause (runCall (suc depth) J nonterminal ys state cells)
-    enter cause {total} depth ys state cells q l h = by (choice-picks g nonterminal (taken-of taken .small) (rest state))
+    enter : {lent : Input} → Provides setting lent → (cause : Refusal) {total : ℕ} (depth : ℕ) (ys : List ℕ) (state : State) (cells : List ℕ)
+        → At begun made left i state → begun < mostCalls
+        → HaltsWith total (state .made) cells cause (Ran depth lent nonterminal ys state cells (rule g p))
+        → HaltsWith total (state .made) cells cause (runCall (suc depth) lent nonterminal ys state cells)
+    enter {lent} provides cause {total} depth ys state cells q l h = by (choice-picks g nonterminal (taken-of taken .small) (rest state))
       where
         by : Picks g nonterminal (rest state) (choice (ready g) nonterminal (kindOf (rest state)))
-            → HaltsWith total (state .made) cells cause (runCall (suc depth) J nonterminal ys state cells)
+            → HaltsWith total (state .made) cells cause (runCall (suc depth) lent nonterminal ys state cells)
         by (picks p′ w z) =
-            let picked : choice (ready g) nonterminal (nextToken J state .kind) ≡ Expansion.chosen (rule g p) =
-            ap (choice (ready g) nonterminal) (kind-next (state .at) tokens) ∙ z ∙ rw (taken-one g (setting .passed) (rw (q .place) at w) taken) in
+            let picked : choice (lent .grammar) nonterminal (nextToken lent state .kind) ≡ Expansion.chosen (rule g p) =
+            choice-is setting provides state nonterminal ∙ z ∙ rw (taken-one g (setting .passed) (rw (q .place) at w) taken) in
             record {
               cells′ = h .cells′;
-              is = call-chosen depth J nonterminal ys state cells (rule g p) (lt-ltb (state .calls) mostCalls (omega (arith, q .calls))) picked ∙ h .is;
+              is = call-chosen depth lent nonterminal ys state cells (rule g p) (lt-ltb (state .calls) mostCalls (omega (arith, q .calls))) picked ∙ h .is;
               grows = h .grows;
               left = h .left;
             }
@@ -239,15 +250,18 @@ module _ {g : List Production} (setting : Setting g) where
         → Calls opened begun made nonterminal vs left i cause total
     items-fail {cause} {total} l b H = record { calls = go }
       where
-        go : (depth names-left : ℕ) (ys : List ℕ) (state : State) (cells : List ℕ) → depth + opened ≡ mostOpen → nonterminal < 64 → At begun made left i state
+        go : {lent : Input} → Provides setting lent → (depth names-left : ℕ) (ys : List ℕ) (state : State) (cells : List ℕ) → depth + opened ≡ mostOpen
+            → nonterminal < 64 → At begun made left i state
             → Kept rows names-left state cells → ShowAll spell (state .made) cells ys vs
-            → HaltsWith total (state .made) cells cause (runCall depth J nonterminal ys state cells)
-        go zero names-left ys state cells e z q h a = absurd (omega arith)
-        go (suc depth) names-left ys state cells e z q h a =
+            → HaltsWith total (state .made) cells cause (runCall depth lent nonterminal ys state cells)
+        go provides zero names-left ys state cells e z q h a = absurd (omega arith)
+        go {lent} provides (suc depth) names-left ys state cells e z q h a =
             let f = F .each p (taken-of taken .member) in
-            enter cause depth ys state cells q b
-            (halts-after cause (runItems (runCall depth J) J (p .items) ys (callBegun state) cells) (λ M. build (p .result) J M)
-            (H .halts depth names-left (p .result) (f .signature .result) (f .signature .params) ys (callBegun state) cells (omega (arith, e)) (f .body)
+            enter provides cause depth ys state cells q b
+            (halts-after cause (runItems (runCall depth lent) (inner lent state) (p .items) ys (callBegun state) cells)
+            (λ M. build (p .result) (inner lent state) M)
+            (H .halts provides (provides-inner setting provides state) depth names-left (p .result) (f .signature .result) (f .signature .params) ys
+            (callBegun state) cells (omega (arith, e)) (f .body)
             (f .items)
             (begun-at q)
             (begun-kept (omega (arith, q .calls)) h) a))
@@ -259,25 +273,29 @@ module _ {g : List Production} (setting : Setting g) where
         → Calls opened begun made nonterminal vs left i cause total
     result-fails {i′ = i′} {M = M} {value = value} {left′ = left′} derives A gives (no-row l) = record { calls = go }
       where
-        go : (depth names-left : ℕ) (ys : List ℕ) (state : State) (cells : List ℕ) → depth + opened ≡ mostOpen → nonterminal < 64 → At begun made left i state
+        go : {lent : Input} → Provides setting lent → (depth names-left : ℕ) (ys : List ℕ) (state : State) (cells : List ℕ) → depth + opened ≡ mostOpen
+            → nonterminal < 64 → At begun made left i state
             → Kept rows names-left state cells → ShowAll spell (state .made) cells ys vs
-            → HaltsWith rows (state .made) cells (refusal 21 (nextIndex tokens left′) 0 0) (runCall depth J nonterminal ys state cells)
-        go zero names-left ys state cells e z q h a = absurd (omega (arith, A .few-open))
-        go (suc depth) names-left ys state cells e z q h a =
+            → HaltsWith rows (state .made) cells (refusal 21 (nextIndex tokens left′) 0 0) (runCall depth lent nonterminal ys state cells)
+        go provides zero names-left ys state cells e z q h a = absurd (omega (arith, A .few-open))
+        go {lent} provides (suc depth) names-left ys state cells e z q h a =
             let f = F .each p (taken-of taken .member) in
             let b : state .calls < mostCalls = omega (arith, A .few-calls, q .calls) in
-            enter (refusal 21 (nextIndex tokens left′) 0 0) depth ys state cells q (omega (arith, A .few-calls))
-            (by (runItems (runCall depth J) J (p .items) ys (callBegun state) cells)
+            enter provides (refusal 21 (nextIndex tokens left′) 0 0) depth ys state cells q (omega (arith, A .few-calls))
+            (by (runItems (runCall depth lent) (inner lent state) (p .items) ys (callBegun state) cells)
             (ends-both
             (Reached setting names-left depth (openIn derives) (callsIn derives) (rowsIn derives) left′ i′ M (callBegun state .calls) (state .made) cells)
             (λ zs s₁ c₁. s₁ .at ≤ length tokens)
             (Beyond rows depth (openIn derives) (callBegun state .calls + callsIn derives) (state .made + rowsIn derives)) (λ r. Unit {0})
-            (runItems (runCall depth J) J (p .items) ys (callBegun state) cells)
-            (items-along setting derives .along depth names-left (p .result) (f .signature .result) (f .signature .params) ys (callBegun state) cells (f .body)
+            (runItems (runCall depth lent) (inner lent state) (p .items) ys (callBegun state) cells)
+            (items-along setting derives .along provides (provides-inner setting provides state) depth names-left (p .result) (f .signature .result)
+            (f .signature .params) ys (callBegun state) cells (f .body)
             (q .place) (q .counter)
             (begun-kept b h) a)
-            (items-bounded setting (runCall depth J) (call-bounded setting depth) (p .items) ys (callBegun state) cells (f .body) (f .items) (q .bounded)))
-            (items-leave J (runCall depth J) (call-leaves J depth) (p .items) ys (callBegun state) cells (h .fits)))
+            (items-bounded setting (provides-inner setting provides state) (runCall depth lent) (call-bounded setting provides depth) (p .items) ys
+            (callBegun state) cells (f .body) (f .items) (q .bounded)))
+            (items-leave rows (inner lent state) (provides-inner setting provides state .rows-are) (runCall depth lent)
+            (call-leaves rows lent (provides .rows-are) depth) (p .items) ys (callBegun state) cells (h .fits)))
           where
             never : {other : Refusal} → Beyond rows depth (openIn derives) (callBegun state .calls + callsIn derives) (state .made + rowsIn derives) other → ⊥
             never (Complete.too-deep x y) = omega (arith, A .few-open, e, y)
@@ -290,19 +308,21 @@ module _ {g : List Production} (setting : Setting g) where
                 (state .made) cells zs s₁ c₁ × (s₁ .at ≤ length tokens))
                 (λ r. Beyond rows depth (openIn derives) (callBegun state .calls + callsIn derives) (state .made + rowsIn derives) r × Unit {0}) result
                 → Leaves rows (state .made) cells result
-                → HaltsWith rows (state .made) cells (refusal 21 (nextIndex tokens left′) 0 0) (after result (λ M. build (p .result) J M))
+                → HaltsWith rows (state .made) cells (refusal 21 (nextIndex tokens left′) 0 0) (after result (λ M. build (p .result) (inner lent state) M))
             by (halt w c₁) u k = absurd (never (u .0))
             by (done zs s₁ c₁) u k =
                 let w = result-sorted (F .each p (taken-of taken .member) .body) in
                 halts-later (k .0) (k .2)
-                (last (build (p .result) J zs s₁ c₁)
-                (ends-both (Built spell J (rowsOf (p .result)) s₁ c₁ value) (λ x s₂ c₂. s₂ .at ≡ s₁ .at) (Full rows (s₁ .made + rowsOf (p .result)))
-                (λ r. r ≡ refusal 21 (s₁ .at) 0 0) (build (p .result) J zs s₁ c₁)
-                (build-ends spell J (p .result) {value = value} s₁ c₁ gives (w .2) (omega (arith, F .outsideCount)) (u .0 .0 .kept .room) (u .0 .0 .kept .fits)
-                (u .0 .1)) (build-stays J (p .result) zs s₁ c₁)) (build-leaves J (p .result) zs s₁ c₁ (u .0 .0 .kept .fits)))
+                (last (build (p .result) (inner lent state) zs s₁ c₁)
+                (ends-both (Built spell rows (rowsOf (p .result)) s₁ c₁ value) (λ x s₂ c₂. s₂ .at ≡ s₁ .at) (Full rows (s₁ .made + rowsOf (p .result)))
+                (λ r. r ≡ refusal 21 (s₁ .at) 0 0) (build (p .result) (inner lent state) zs s₁ c₁)
+                (build-ends spell rows (inner lent state) (provides-inner setting provides state .rows-are) (p .result) {value = value} s₁ c₁ gives (w .2)
+                (omega (arith, F .outsideCount)) (u .0 .0 .kept .room) (u .0 .0 .kept .fits)
+                (u .0 .1)) (build-stays (inner lent state) (p .result) zs s₁ c₁))
+                (build-leaves rows (inner lent state) (provides-inner setting provides state .rows-are) (p .result) zs s₁ c₁ (u .0 .0 .kept .fits)))
               where
                 last : (result : Result ℕ)
-                    → Ends (λ result s₂ c₂. Built spell J (rowsOf (p .result)) s₁ c₁ value result s₂ c₂ × (s₂ .at ≡ s₁ .at))
+                    → Ends (λ result s₂ c₂. Built spell rows (rowsOf (p .result)) s₁ c₁ value result s₂ c₂ × (s₂ .at ≡ s₁ .at))
                     (λ r. Full rows (s₁ .made + rowsOf (p .result)) r × (r ≡ refusal 21 (s₁ .at) 0 0)) result
                     → Leaves rows (s₁ .made) c₁ result → HaltsWith rows (s₁ .made) c₁ (refusal 21 (nextIndex tokens left′) 0 0) result
                 last (done result s₂ c₂) y k′ = absurd (omega (arith, y .0 .0 .made-is, y .0 .0 .fits, u .0 .0 .made-are, l, q .made))
@@ -316,23 +336,27 @@ module _ {g : List Production} (setting : Setting g) where
   unfolding runItems
   call-fails {opened} {begun} {made} {nonterminal} {i} {left} {ts} {M} {vs} is {cause} {total} gs l C = record { halts = go }
     where
-      go : (depth names-left : ℕ) (result : Template) (B : ℕ) (L xs : List ℕ) (state : State) (cells : List ℕ) → depth + opened ≡ mostOpen
+      go : {lent within : Input} → Provides setting lent → Provides setting within
+          → (depth names-left : ℕ) (result : Template) (B : ℕ) (L xs : List ℕ) (state : State) (cells : List ℕ) → depth + opened ≡ mostOpen
           → Body (F .scope) L (call nonterminal ts ∷ is) result B
           → Each ItemWithin (call nonterminal ts ∷ is)
           → At begun made left i state → Kept rows (names-left + length (call nonterminal ts ∷ is)) state cells → ShowAll spell (state .made) cells xs M
-          → HaltsWith total (state .made) cells cause (runItems (runCall depth J) J (call nonterminal ts ∷ is) xs state cells)
-      go depth names-left result B L xs state cells e (by-binding (Judgements.by-call w z) b) (each-more (call-within y ws) zs) p h a =
-          halts-after cause (runItem (runCall depth J) J (call nonterminal ts) xs state cells) (λ x. runItems (runCall depth J) J is (xs ++ (x ∷ [])))
-          (by (buildAll ts J xs state cells) (build-all-ends spell J ts state cells gs z (omega (arith, F .outsideCount)) (h .room) (h .fits) a)
-          (build-all-leaves J ts xs state cells (h .fits)))
+          → HaltsWith total (state .made) cells cause (runItems (runCall depth lent) within (call nonterminal ts ∷ is) xs state cells)
+      go {lent} {within} provides inside depth names-left result B L xs state cells e (by-binding (Judgements.by-call w z) b)
+          (each-more (call-within y ws) zs) p h a =
+          halts-after cause (runItem (runCall depth lent) within (call nonterminal ts) xs state cells)
+          (λ x. runItems (runCall depth lent) within is (xs ++ (x ∷ [])))
+          (by (buildAll ts within xs state cells)
+          (build-all-ends spell rows within (inside .rows-are) ts state cells gs z (omega (arith, F .outsideCount)) (h .room) (h .fits) a)
+          (build-all-leaves rows within (inside .rows-are) ts xs state cells (h .fits)))
         where
-          by : (given-result : Result (List ℕ)) → Ends (BuiltAll spell J (rowsOfAll ts) state cells vs) (Full rows (state .made + rowsOfAll ts)) given-result
+          by : (given-result : Result (List ℕ)) → Ends (BuiltAll spell rows (rowsOfAll ts) state cells vs) (Full rows (state .made + rowsOfAll ts)) given-result
               → Leaves rows (state .made) cells given-result
-              → HaltsWith total (state .made) cells cause (after given-result (λ ys. runCall depth J nonterminal ys))
+              → HaltsWith total (state .made) cells cause (after given-result (λ ys. runCall depth lent nonterminal ys))
           by (halt q c₁) u k = absurd (omega (arith, u .beyond, p .made, l))
           by (done ys s₁ c₁) u k =
               halts-later (k .0) (k .2)
-              (C .calls depth (names-left + length is) ys s₁ c₁ e (omega (arith, y))
+              (C .calls provides depth (names-left + length is) ys s₁ c₁ e (omega (arith, y))
               (record {
                 place = cc (u .0 .at-kept, p .place);
                 bounded = omega (arith, u .0 .at-kept, p .bounded);
@@ -349,23 +373,26 @@ module _ {g : List Production} (setting : Setting g) where
   unfolding runItems
   arguments-halt {opened} {begun} {made} {nonterminal} {i} {left} {ts} {M} {vs} is {cause} {total} gs f = record { halts = go }
     where
-      go : (depth names-left : ℕ) (result : Template) (B : ℕ) (L xs : List ℕ) (state : State) (cells : List ℕ) → depth + opened ≡ mostOpen
+      go : {lent within : Input} → Provides setting lent → Provides setting within
+          → (depth names-left : ℕ) (result : Template) (B : ℕ) (L xs : List ℕ) (state : State) (cells : List ℕ) → depth + opened ≡ mostOpen
           → Body (F .scope) L (call nonterminal ts ∷ is) result B
           → Each ItemWithin (call nonterminal ts ∷ is)
           → At begun made left i state → Kept rows (names-left + length (call nonterminal ts ∷ is)) state cells → ShowAll spell (state .made) cells xs M
-          → HaltsWith total (state .made) cells cause (runItems (runCall depth J) J (call nonterminal ts ∷ is) xs state cells)
-      go depth names-left result B L xs state cells e (by-binding (Judgements.by-call w z) b) ws p h a =
-          halts-after cause (runItem (runCall depth J) J (call nonterminal ts) xs state cells) (λ x. runItems (runCall depth J) J is (xs ++ (x ∷ [])))
-          (halts-after cause (buildAll ts J xs state cells) (λ ys. runCall depth J nonterminal ys) (arguments-fail state cells gs z f p (h .room) (h .fits) a))
+          → HaltsWith total (state .made) cells cause (runItems (runCall depth lent) within (call nonterminal ts ∷ is) xs state cells)
+      go {lent} {within} provides inside depth names-left result B L xs state cells e (by-binding (Judgements.by-call w z) b) ws p h a =
+          halts-after cause (runItem (runCall depth lent) within (call nonterminal ts) xs state cells)
+          (λ x. runItems (runCall depth lent) within is (xs ++ (x ∷ [])))
+          (halts-after cause (buildAll ts within xs state cells) (λ ys. runCall depth lent nonterminal ys)
+          (arguments-fail inside state cells gs z f p (h .room) (h .fits) a))
 
   token-halts : {opened begun made i kind total : ℕ} {left : List Token} {item : Item} {M : List Value} (is : List Item) {cause : Refusal} → Reads item kind
       → Fails g spell rows tokens opened begun made left (takes kind) cause total → Halts opened begun made left i (item ∷ is) M cause total
   unfolding runItems
   token-halts {item = item} is {cause} w f =
       record {
-        halts = λ d k result B L xs s cells e b ws p h a.
-            halts-after cause (runItem (runCall d J) J item xs s cells) (λ x. runItems (runCall d J) J is (xs ++ (x ∷ [])))
-            (token-fails (runCall d J) xs s cells w f p);
+        halts = λ {lent} {within} provides inside d k result B L xs s cells e b ws p h a.
+            halts-after cause (runItem (runCall d lent) within item xs s cells) (λ x. runItems (runCall d lent) within is (xs ++ (x ∷ [])))
+            (token-fails inside (runCall d lent) xs s cells w f p);
       }
 
   past-halts : {opened begun made i i′ : ℕ} {left left′ : List Token} {item : Item} {is : List Item} {M M′ : List Value} {cause : Refusal} {total : ℕ}
@@ -375,18 +402,20 @@ module _ {g : List Production} (setting : Setting g) where
   unfolding runItems
   past-halts {opened} {begun} {made} {i} {i′} {left} {left′} {item} {is} {M} {M′} {cause} {total} derives A H = record { halts = go }
     where
-      go : (depth names-left : ℕ) (result : Template) (B : ℕ) (L xs : List ℕ) (state : State) (cells : List ℕ) → depth + opened ≡ mostOpen
+      go : {lent within : Input} → Provides setting lent → Provides setting within
+          → (depth names-left : ℕ) (result : Template) (B : ℕ) (L xs : List ℕ) (state : State) (cells : List ℕ) → depth + opened ≡ mostOpen
           → Body (F .scope) L (item ∷ is) result B
           → Each ItemWithin (item ∷ is)
           → At begun made left i state → Kept rows (names-left + length (item ∷ is)) state cells → ShowAll spell (state .made) cells xs M
-          → HaltsWith total (state .made) cells cause (runItems (runCall depth J) J (item ∷ is) xs state cells)
-      go depth names-left result B L xs state cells e (by-binding {A = S} w b) (each-more z zs) p h a =
-          by (runItem (runCall depth J) J item xs state cells)
-          (items-along setting derives .along depth (names-left + length is) (make 0x25 none) Sorts.fields L xs state cells (item-body setting w) (p .place)
+          → HaltsWith total (state .made) cells cause (runItems (runCall depth lent) within (item ∷ is) xs state cells)
+      go {lent} {within} provides inside depth names-left result B L xs state cells e (by-binding {A = S} w b) (each-more z zs) p h a =
+          by (runItem (runCall depth lent) within item xs state cells)
+          (items-along setting derives .along provides inside depth (names-left + length is) (make 0x25 none) Sorts.fields L xs state cells
+          (item-body setting w) (p .place)
           (p .counter)
           (kept-item names-left (length is) h) a)
-          (item-bounded setting (runCall depth J) (call-bounded setting depth) xs state cells w z (p .bounded))
-          (item-leaves J (runCall depth J) (call-leaves J depth) item xs state cells (h .fits))
+          (item-bounded setting inside (runCall depth lent) (call-bounded setting provides depth) xs state cells w z (p .bounded))
+          (item-leaves rows within (inside .rows-are) (runCall depth lent) (call-leaves rows lent (provides .rows-are) depth) item xs state cells (h .fits))
         where
           never : {other : Refusal} → Beyond rows depth (openIn derives) (state .calls + callsIn derives) (state .made + rowsIn derives) other → ⊥
           never (Complete.too-deep x y) = omega (arith, A .few-open, e, y)
@@ -398,13 +427,13 @@ module _ {g : List Production} (setting : Setting g) where
               (Reached setting (names-left + length is) depth (openIn derives) (callsIn derives) (rowsIn derives) left′ i′ M′ (state .calls)
               (state .made) cells)
               (Beyond rows depth (openIn derives) (state .calls + callsIn derives) (state .made + rowsIn derives))
-              (after outcome (λ y. runItems (runCall depth J) J [] (xs ++ (y ∷ []))))
+              (after outcome (λ y. runItems (runCall depth lent) within [] (xs ++ (y ∷ []))))
               → Ends {A = ℕ} (λ a state begun. state .at ≤ length tokens) (λ cause. Unit {0}) outcome → Leaves rows (state .made) cells outcome
-              → HaltsWith total (state .made) cells cause (after outcome (λ y. runItems (runCall depth J) J is (xs ++ (y ∷ []))))
+              → HaltsWith total (state .made) cells cause (after outcome (λ y. runItems (runCall depth lent) within is (xs ++ (y ∷ []))))
           by (halt q c₁) u n k = absurd (never u)
           by (done outcome s₁ c₁) u n k =
               halts-later (k .0) (k .2)
-              (H .halts depth names-left result B (L ++ (S ∷ [])) (xs ++ (outcome ∷ [])) s₁ c₁ e b zs
+              (H .halts provides inside depth names-left result B (L ++ (S ∷ [])) (xs ++ (outcome ∷ [])) s₁ c₁ e b zs
               (record {
                 place = u .0 .place;
                 bounded = n;
@@ -455,8 +484,9 @@ module _ {g : List Production} (setting : Setting g) where
       (ends-both (λ x s c. Reached setting 0 mostOpen (openIn derives) (callsIn derives) (rowsIn derives) (token ∷ ts) i M 0 0 cells (x ∷ []) s c)
       (λ x s c. s .at ≤ length tokens)
       (Beyond rows mostOpen (openIn derives) (callsIn derives) (rowsIn derives)) (λ r. Unit {0}) (runCall mostOpen J (setting .root) [] initialState cells)
-      (root-along setting derives cells room) (call-bounded setting mostOpen (setting .root) [] initialState cells (setting .root-small) (omega arith)))
-      (call-leaves J mostOpen (setting .root) [] initialState cells (omega arith))
+      (root-along setting derives cells room) (call-bounded setting (provides-whole setting) mostOpen (setting .root) [] initialState cells
+      (setting .root-small) (omega arith)))
+      (call-leaves rows J refl mostOpen (setting .root) [] initialState cells (omega arith))
     where
       never : {other : Refusal} → Beyond rows mostOpen (openIn derives) (callsIn derives) (rowsIn derives) other → ⊥
       never (Complete.too-deep x y) = omega (arith, A .few-open, y)
@@ -480,7 +510,8 @@ module _ {g : List Production} (setting : Setting g) where
   refuses-halts {cause} (stops E) cells room =
       halts-after cause (runCall mostOpen J (setting .root) [] initialState cells) (ended J)
       (root-halts cause cells
-      (stops-halts E .halts mostOpen 0 (make 0x25 none) Sorts.fields [] [] initialState cells refl (root-body setting) (root-within setting)
+      (stops-halts E .halts (provides-whole setting) (provides-whole setting) mostOpen 0 (make 0x25 none) Sorts.fields [] [] initialState cells refl
+      (root-body setting) (root-within setting)
       (record { place = refl; bounded = omega arith; counter = refl; calls = refl; made = refl })
       (record { room = room; fits = omega arith; names = omega arith; begun = omega arith }) show-none))
   refuses-halts (left-over D A) cells room = left-halts D A cells room

@@ -14,7 +14,6 @@ use Rattle.kinds.specs.Kinds.{wordKind, numberKind, keywordKind, hasKind, only}
 use Rattle.kinds.proofs.KindsLaws.{same-kinds}
 use Rattle.grammar.specs.Table.{Template, Templates, none, more, Item}
 use Rattle.grammar.specs.Table as Table
-use Rattle.terms.specs.Cells.{withRow}
 use Rattle.decoding.specs.Within.{Each, each-more, ItemWithin, call-within}
 use Rattle.judgements.specs.Judgements.{ItemSorted, Body, by-binding}
 use Rattle.judgements.specs.Judgements as Judgements
@@ -24,16 +23,18 @@ use Rattle.firsts.specs.FirstSets.{nullables, firstSets}
 use Rattle.firsts.proofs.FirstsTheorems.{opens-exactly}
 use Rattle.expansion.specs.declared.State.{State}
 use Rattle.expansion.specs.Run.{Result, done, halt, Run, after}
-use Rattle.expansion.specs.Expansion.{Input, ready, choice, nextToken, tokenTaken, takeToken, misfit, cellMade, cell, build, buildAll, wordValue}
+use Rattle.expansion.specs.Expansion.{Input, ready, choice, nextToken, tokenTaken, takeToken, misfit, cell, build, buildAll, wordValue}
 use Rattle.expansion.specs.Expansion.{runItem, runItems, callBegun, runCall}
 use Rattle.expansion.specs.Limits.{mostCalls}
 use Rattle.expansion.specs.Figure3.{Next, next}
 use Rattle.expansion.specs.Parsing.{input}
-use Rattle.soundness.proofs.Setting.{Setting}
+use Rattle.soundness.proofs.Setting.{Setting, Provides, provides-inner, choice-is, take-is}
 use Rattle.soundness.proofs.Building.{Ends}
 use Rattle.soundness.proofs.Typing.{FitAll, taken-of}
+use Rattle.expansion.proofs.CellLaws.{cell-by}
+use Rattle.expansion.proofs.CallLaws.{inner, call-full, call-unfit, call-chosen}
 use Rattle.expansion.proofs.Choosing.{kindOf, kind-next, Picks, picks, picks-none, choice-picks, rule}
-use Rattle.soundness.proofs.Sound.{token-before, call-full, call-unfit, call-chosen}
+use Rattle.soundness.proofs.Sound.{token-before}
 use Rattle.soundness.specs.Stopping.{nextIndex, FirstSet}
 
 -- ------------------------------------------------------------------ first sets
@@ -57,31 +58,23 @@ first-set-one {g} {nonterminal} {set} w =
 
 -- ------------------------------------------------------------------ templates
 
+-- the place stays, and a refusal is 21 there
+abbrev pub Stays : {A : Type 0} → State → Result A → Type 0
+Stays s x = Ends (λ a s′ c. s′ .at ≡ s .at) (λ r. r ≡ refusal 21 (s .at) 0 0) x
+
+stays-after : {A B : Type 0} (state : State) (result : Result A) (follow : A → Run B) → Stays state result
+    → ((item : A) (state′ : State) (cells : List ℕ) → Stays state′ (follow item state′ cells))
+    → Stays state (after result follow)
+stays-after state (halt r c) follow h f = h
+stays-after {B = B} state (done a s′ c) follow h f = go (follow a s′ c) (f a s′ c)
+  where
+    go : (result : Result B) → Stays s′ result → Stays state result
+    go (done b s″ c″) q = q ∙ h
+    go (halt r c″) q = cc q
+
 module _ (lent : Input) where
-  -- the place stays, and a refusal is 21 there
-  abbrev pub Stays : {A : Type 0} → State → Result A → Type 0
-  Stays s x = Ends (λ a s′ c. s′ .at ≡ s .at) (λ r. r ≡ refusal 21 (s .at) 0 0) x
-
-  stays-after : {A B : Type 0} (state : State) (result : Result A) (follow : A → Run B) → Stays state result
-      → ((item : A) (state′ : State) (cells : List ℕ) → Stays state′ (follow item state′ cells))
-      → Stays state (after result follow)
-  stays-after state (halt r c) follow h f = h
-  stays-after {B = B} state (done a s′ c) follow h f = go (follow a s′ c) (f a s′ c)
-    where
-      go : (result : Result B) → Stays s′ result → Stays state result
-      go (done b s″ c″) q = q ∙ h
-      go (halt r c″) q = cc q
-
   cell-stays : (code : ℕ) (xs : List ℕ) (state : State) (cells : List ℕ) → Stays state (cell lent code xs state cells)
-  cell-stays code xs state cells = go (ltb (state .made) (lent .rows))
-    where
-      go : (test : Bool)
-          → Stays {A = ℕ} state
-          (elim test as
-          (λ x. Result ℕ)
-          [ true ↦ done (state .made) (cellMade state) (withRow cells (state .made) code xs) | false ↦ halt (refusal 21 (state .at) 0 0) cells ])
-      go true = refl
-      go false = refl
+  cell-stays code xs state cells = cell-by lent code xs state cells (λ x. Stays state x) (λ numbers row l. refl) (λ l. refl)
 
   mutual
     unfolding build buildAll
@@ -143,9 +136,11 @@ module _ {g : List Production} (setting : Setting g) where
   kind-of-next state n = kind-next (state .at) tokens ∙ next-is n
 
   -- a token of another kind stops the run
-  pub take-halts : (kind : ℕ) (value : ℕ → ℕ) (state : State) (cells : List ℕ) → kind < 64 → (Next (rest state) kind → ⊥)
-      → takeToken J kind value state cells ≡ halt (refusal 17 (state .at) (only kind) (ones (only kind))) cells
-  take-halts kind value state cells l n = rw (ne-eqb (nextToken J state .kind) kind (λ e. n (next-kind state e l)), takeToken) refl
+  pub take-halts : {lent : Input} → Provides setting lent → (kind : ℕ) (value : ℕ → ℕ) (state : State) (cells : List ℕ) → kind < 64
+      → (Next (rest state) kind → ⊥)
+      → takeToken lent kind value state cells ≡ halt (refusal 17 (state .at) (only kind) (ones (only kind))) cells
+  take-halts provides kind value state cells l n =
+      take-is setting provides kind value state cells ∙ rw (ne-eqb (nextToken J state .kind) kind (λ e. n (next-kind state e l)), takeToken) refl
 
   -- ------------------------------------------------------------------ the place
 
@@ -159,12 +154,14 @@ module _ {g : List Production} (setting : Setting g) where
   bounded-after (done a s c) follow h f = f a s c h
   bounded-after (halt r c) follow h f = tt
 
-  stays-bounded : {A : Type 0} (state : State) (result : Result A) → state .at ≤ length tokens → Stays J state result → Bounded result
+  stays-bounded : {A : Type 0} (state : State) (result : Result A) → state .at ≤ length tokens → Stays state result → Bounded result
   stays-bounded state (done a s′ c) l h = omega arith
   stays-bounded state (halt r c) l h = tt
 
-  take-bounded : (kind : ℕ) (value : ℕ → ℕ) (state : State) (cells : List ℕ) → kind < 64 → Bounded (takeToken J kind value state cells)
-  take-bounded kind value state cells l = go (eqb (nextToken J state .kind) kind) refl
+  take-bounded : {lent : Input} → Provides setting lent → (kind : ℕ) (value : ℕ → ℕ) (state : State) (cells : List ℕ) → kind < 64
+      → Bounded (takeToken lent kind value state cells)
+  take-bounded provides kind value state cells l =
+      subst⁻¹ Bounded (take-is setting provides kind value state cells) (go (eqb (nextToken J state .kind) kind) refl)
     where
       go : (test : Bool) → eqb (nextToken J state .kind) kind ≡ test
           → Bounded {A = ℕ} (elim test as (λ x. Result ℕ)
@@ -172,48 +169,52 @@ module _ {g : List Production} (setting : Setting g) where
       go true e = omega (arith, token-before tokens (state .at) (eqb-true (nextToken J state .kind) kind e) l)
       go false e = tt
 
-  module _ (called : ℕ → List ℕ → Run ℕ)
+  module _ {lent : Input} (provides : Provides setting lent) (called : ℕ → List ℕ → Run ℕ)
       (callee : (number : ℕ) (vs : List ℕ) (state : State) (cells : List ℕ) → number < 64 → state .at ≤ length tokens → Bounded (called number vs state cells))
     where
       -- an item does
       pub item-bounded : {item : Item} {A : ℕ} {L : List ℕ} (xs : List ℕ) (state : State) (cells : List ℕ) → ItemSorted (F .scope) L item A → ItemWithin item
-          → state .at ≤ length tokens → Bounded (runItem called J item xs state cells)
-      item-bounded xs state cells (Judgements.by-keyword {k = k} l) z h = take-bounded (keywordKind k) (λ v. 0) state cells (omega (arith, l, F .keywordCount))
-      item-bounded xs state cells (Judgements.by-ide {B = B} l u) z h = take-bounded wordKind (wordValue B) state cells (omega arith)
-      item-bounded xs state cells Judgements.by-number z h = take-bounded numberKind (λ v. v) state cells (omega arith)
+          → state .at ≤ length tokens → Bounded (runItem called lent item xs state cells)
+      item-bounded xs state cells (Judgements.by-keyword {k = k} l) z h =
+          take-bounded provides (keywordKind k) (λ v. 0) state cells (omega (arith, l, F .keywordCount))
+      item-bounded xs state cells (Judgements.by-ide {B = B} l u) z h = take-bounded provides wordKind (wordValue B) state cells (omega arith)
+      item-bounded xs state cells Judgements.by-number z h = take-bounded provides numberKind (λ v. v) state cells (omega arith)
       item-bounded xs state cells Judgements.by-local z h = h
       item-bounded xs state cells (Judgements.by-call {n = n} {ts = ts} w f) (call-within l ws) h =
-          bounded-after (buildAll ts J xs state cells) (λ vs. called n vs)
-          (stays-bounded state (buildAll ts J xs state cells) h (build-all-stays J ts xs state cells))
+          bounded-after (buildAll ts lent xs state cells) (λ vs. called n vs)
+          (stays-bounded state (buildAll ts lent xs state cells) h (build-all-stays lent ts xs state cells))
           (λ vs s′ c′ b. callee n vs s′ c′ (omega arith) b)
 
       -- items do
       pub items-bounded : (is : List Item) {result : Template} {B : ℕ} {L : List ℕ} (xs : List ℕ) (state : State) (cells : List ℕ)
-          → Body (F .scope) L is result B → Each ItemWithin is → state .at ≤ length tokens → Bounded (runItems called J is xs state cells)
+          → Body (F .scope) L is result B → Each ItemWithin is → state .at ≤ length tokens → Bounded (runItems called lent is xs state cells)
       unfolding runItems
       items-bounded [] xs state cells b z h = h
       items-bounded (i ∷ is) xs state cells (by-binding w b) (each-more z zs) h =
-          bounded-after (runItem called J i xs state cells) (λ v. runItems called J is (xs ++ (v ∷ []))) (item-bounded xs state cells w z h)
+          bounded-after (runItem called lent i xs state cells) (λ v. runItems called lent is (xs ++ (v ∷ []))) (item-bounded xs state cells w z h)
           (λ v s′ c′ l. items-bounded is (xs ++ (v ∷ [])) s′ c′ b zs l)
 
   -- a call does
-  pub call-bounded : (depth nonterminal : ℕ) (vs : List ℕ) (state : State) (cells : List ℕ) → nonterminal < 64 → state .at ≤ length tokens
-      → Bounded (runCall depth J nonterminal vs state cells)
+  pub call-bounded : {lent : Input} → Provides setting lent → (depth nonterminal : ℕ) (vs : List ℕ) (state : State) (cells : List ℕ) → nonterminal < 64
+      → state .at ≤ length tokens
+      → Bounded (runCall depth lent nonterminal vs state cells)
   unfolding runCall
-  call-bounded zero nonterminal vs state cells l h = tt
-  call-bounded (suc depth) nonterminal vs state cells l h =
-      go (call-bounded depth) (ltb (state .calls) mostCalls) refl (choice-picks g nonterminal l (rest state))
+  call-bounded provides zero nonterminal vs state cells l h = tt
+  call-bounded {lent} provides (suc depth) nonterminal vs state cells l h =
+      go (call-bounded provides depth) (ltb (state .calls) mostCalls) refl (choice-picks g nonterminal l (rest state))
     where
       go : ((callee : ℕ) (ws : List ℕ) (state′ : State) (cells′ : List ℕ) → callee < 64 → state′ .at ≤ length tokens
-          → Bounded (runCall depth J callee ws state′ cells′)) → (test : Bool)
+          → Bounded (runCall depth lent callee ws state′ cells′)) → (test : Bool)
           → ltb (state .calls) mostCalls ≡ test
-          → Picks g nonterminal (rest state) (choice (ready g) nonterminal (kindOf (rest state))) → Bounded (runCall (suc depth) J nonterminal vs state cells)
-      go f false e q = subst⁻¹ Bounded (call-full depth J nonterminal vs state cells e) tt
+          → Picks g nonterminal (rest state) (choice (ready g) nonterminal (kindOf (rest state)))
+          → Bounded (runCall (suc depth) lent nonterminal vs state cells)
+      go f false e q = subst⁻¹ Bounded (call-full depth lent nonterminal vs state cells e) tt
       go f true e (picks p t z) =
-          subst⁻¹ Bounded (call-chosen depth J nonterminal vs state cells (rule g p) e (ap (choice (ready g) nonterminal) (kind-next (state .at) tokens) ∙ z))
-          (bounded-after (runItems (runCall depth J) J (p .items) vs (callBegun state) cells) (λ M. build (p .result) J M)
-          (items-bounded (runCall depth J) f (p .items) vs (callBegun state) cells (F .each p (taken-of t .member) .body)
+          subst⁻¹ Bounded (call-chosen depth lent nonterminal vs state cells (rule g p) e (choice-is setting provides state nonterminal ∙ z))
+          (bounded-after (runItems (runCall depth lent) (inner lent state) (p .items) vs (callBegun state) cells) (λ M. build (p .result) (inner lent state) M)
+          (items-bounded (provides-inner setting provides state) (runCall depth lent) f (p .items) vs (callBegun state) cells
+          (F .each p (taken-of t .member) .body)
           (F .each p (taken-of t .member) .items) h)
-          (λ M s′ c′ b. stays-bounded s′ (build (p .result) J M s′ c′) b (build-stays J (p .result) M s′ c′)))
+          (λ M s′ c′ b. stays-bounded s′ (build (p .result) (inner lent state) M s′ c′) b (build-stays (inner lent state) (p .result) M s′ c′)))
       go f true e (picks-none a z) =
-          subst⁻¹ Bounded (call-unfit depth J nonterminal vs state cells e (ap (choice (ready g) nonterminal) (kind-next (state .at) tokens) ∙ z)) tt
+          subst⁻¹ Bounded (call-unfit depth lent nonterminal vs state cells e (choice-is setting provides state nonterminal ∙ z)) tt

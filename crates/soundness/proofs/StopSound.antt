@@ -1,6 +1,6 @@
 -- An expansion that halts stops by the rules, with the same refusal.
 use Prim.Native.Nat.{ℕ, zero, suc, _+_, _*_, _≤_, _<_}
-use mathlib.Core.Path.{_≡_, refl, ap, subst₂, subst⁻¹, _∙_}
+use mathlib.Core.Path.{_≡_, refl, subst₂, subst⁻¹, _∙_}
 use mathlib.Core.Bool.{Bool, true, false}
 use mathlib.Core.List.{List, [], _∷_, _++_}
 use native.Mathlib.Omega.{arith}
@@ -30,11 +30,12 @@ use Rattle.expansion.specs.ValueSorts.{Matches}
 use Rattle.expansion.specs.Costs.{rowsOf, rowsOfAll, openIn, callsIn, rowsIn, Affords}
 use Rattle.expansion.specs.Parsing.{input}
 use Rattle.expansion.proofs.Shows.{ShowAll, show-none, all-later, all-and}
-use Rattle.soundness.proofs.Setting.{Setting, no-arguments, item-body}
+use Rattle.soundness.proofs.Setting.{Setting, Provides, provides-whole, provides-inner, choice-is, take-is, no-arguments, item-body}
 use Rattle.soundness.proofs.Building.{Ends, after-by, ends-both, ends-after, ends-map, Made, Full, Built, BuiltAll, build-ends, build-all-ends}
 use Rattle.soundness.proofs.Typing.{matches-and, give-all-exist, gives-exists, FitAll, body-of, taken-of}
-use Rattle.expansion.proofs.Choosing.{kindOf, kind-next, Picks, picks, picks-none, choice-picks, rule}
-use Rattle.soundness.proofs.Sound.{token-here, Kept, kept-made, kept-less, call-full, call-unfit, call-chosen, Stepped, Derived, item-sound}
+use Rattle.expansion.proofs.CallLaws.{inner, Ran, call-full, call-unfit, call-chosen}
+use Rattle.expansion.proofs.Choosing.{kindOf, Picks, picks, picks-none, choice-picks, rule}
+use Rattle.soundness.proofs.Sound.{token-here, Kept, kept-made, kept-less, Stepped, Derived, item-sound}
 use Rattle.soundness.proofs.Sound.{items-sound, call-sound, Root, root-called, root-derived}
 use Rattle.soundness.proofs.Complete.{items-along, items-after, root-along}
 use Rattle.soundness.specs.Stopping.{Action, nextIndex, makes, Fails, no-token, no-row, too-deep, too-many-calls, no-choice, Stops, at-token}
@@ -84,16 +85,19 @@ module _ {g : List Production} (setting : Setting g) where
   fails-here state l f = rw (here state l) at f
 
   -- what is asked of a callee
-  abbrev Halting : ℕ → Type 0
-  Halting d =
+  abbrev Halting : Input → ℕ → Type 0
+  Halting lent d =
       (o k n : ℕ) (S : Signature) (vs : List Value) (xs : List ℕ) (s : State) (cells : List ℕ) → d + o ≡ mostOpen → Newest
       (F .scope .env) n S → n < 64 → Matches vs (S .params)
-      → s .at ≤ length tokens → Kept rows k s cells → ShowAll spell (s .made) cells xs vs → Ends Fine (EntersAt o n vs s) (runCall d J n xs s cells)
+      → s .at ≤ length tokens → Kept rows k s cells → ShowAll spell (s .made) cells xs vs → Ends Fine (EntersAt o n vs s) (runCall d lent n xs s cells)
 
-  take-halts : (opened : ℕ) (M : List Value) {item : Item} (is : List Item) (kind : ℕ) (value : ℕ → ℕ) (state : State) (cells : List ℕ) → Reads item kind
+  take-halts : {lent : Input} → Provides setting lent
+      → (opened : ℕ) (M : List Value) {item : Item} (is : List Item) (kind : ℕ) (value : ℕ → ℕ) (state : State) (cells : List ℕ) → Reads item kind
       → state .at ≤ length tokens
-      → Ends Fine (StopsAt opened M (item ∷ is) state) (takeToken J kind value state cells)
-  take-halts opened M {item} is kind value state cells w l = go (eqb (nextToken J state .kind) kind) refl
+      → Ends Fine (StopsAt opened M (item ∷ is) state) (takeToken lent kind value state cells)
+  take-halts provides opened M {item} is kind value state cells w l =
+      subst⁻¹ (Ends Fine (StopsAt opened M (item ∷ is) state)) (take-is setting provides kind value state cells)
+      (go (eqb (nextToken J state .kind) kind) refl)
     where
       go : (test : Bool) → eqb (nextToken J state .kind) kind ≡ test
           → Ends {A = ℕ} Fine (StopsAt opened M (item ∷ is) state)
@@ -124,27 +128,29 @@ module _ {g : List Production} (setting : Setting g) where
             (e .1))),
       )
 
-  module _ (depth opened : ℕ) (left : depth + opened ≡ mostOpen) (halting : Halting depth) where
+  module _ {lent within : Input} (provides : Provides setting lent) (inside : Provides setting within) (depth opened : ℕ)
+      (left : depth + opened ≡ mostOpen) (halting : Halting lent depth) where
     item-halts : (names-left : ℕ) {item : Item} {A : ℕ} {M : List Value} {L xs : List ℕ} (is : List Item) (state : State) (cells : List ℕ)
         → ItemSorted (F .scope) L item A → ItemWithin item → Matches M L
         → state .at ≤ length tokens → Kept rows (names-left + 1) state cells → ShowAll spell (state .made) cells xs M
-        → Ends Fine (StopsAt opened M (item ∷ is) state) (runItem (runCall depth J) J item xs state cells)
+        → Ends Fine (StopsAt opened M (item ∷ is) state) (runItem (runCall depth lent) within item xs state cells)
     item-halts names-left {M = M} is state cells (Judgements.by-keyword {k = w} l) z m b h a =
-        take-halts opened M is (keywordKind w) (λ v. 0) state cells (reads-keyword (omega (arith, l, F .keywordCount))) b
+        take-halts inside opened M is (keywordKind w) (λ v. 0) state cells (reads-keyword (omega (arith, l, F .keywordCount))) b
     item-halts names-left {M = M} is state cells (Judgements.by-ide {B = B} l u) z m b h a =
-        take-halts opened M is wordKind (wordValue B) state cells reads-word b
-    item-halts names-left {M = M} is state cells Judgements.by-number z m b h a = take-halts opened M is numberKind (λ v. v) state cells reads-number b
+        take-halts inside opened M is wordKind (wordValue B) state cells reads-word b
+    item-halts names-left {M = M} is state cells Judgements.by-number z m b h a = take-halts inside opened M is numberKind (λ v. v) state cells reads-number b
     item-halts names-left is state cells Judgements.by-local z m b h a = tt
     item-halts names-left {M = M} {xs = xs} is state cells (Judgements.by-call {n = n} {S = S} {ts = ts} w f) (call-within l ws) m b h a =
         let vs = give-all-exist spell m ts f in
-        ends-after (λ ys s₁ c₁. BuiltAll spell J (rowsOfAll ts) state cells (vs .0) ys s₁ c₁ × (s₁ .at ≡ state .at))
+        ends-after (λ ys s₁ c₁. BuiltAll spell rows (rowsOfAll ts) state cells (vs .0) ys s₁ c₁ × (s₁ .at ≡ state .at))
         (λ r. Full rows (state .made + rowsOfAll ts) r × (r ≡ refusal 21 (state .at) 0 0))
-        Fine (StopsAt opened M (call n ts ∷ is) state) (buildAll ts J xs state cells) (λ ys. runCall depth J n ys)
-        (ends-both (BuiltAll spell J (rowsOfAll ts) state cells (vs .0)) (λ ys s₁ c₁. s₁ .at ≡ state .at) (Full rows (state .made + rowsOfAll ts))
-        (λ r. r ≡ refusal 21 (state .at) 0 0) (buildAll ts J xs state cells)
-        (build-all-ends spell J ts state cells (vs .1) f (omega (arith, F .outsideCount)) (h .room) (h .fits) a) (build-all-stays J ts xs state cells))
+        Fine (StopsAt opened M (call n ts ∷ is) state) (buildAll ts within xs state cells) (λ ys. runCall depth lent n ys)
+        (ends-both (BuiltAll spell rows (rowsOfAll ts) state cells (vs .0)) (λ ys s₁ c₁. s₁ .at ≡ state .at) (Full rows (state .made + rowsOfAll ts))
+        (λ r. r ≡ refusal 21 (state .at) 0 0) (buildAll ts within xs state cells)
+        (build-all-ends spell rows within (inside .rows-are) ts state cells (vs .1) f (omega (arith, F .outsideCount)) (h .room)
+        (h .fits) a) (build-all-stays within ts xs state cells))
         (λ ys s₁ c₁ y.
-        ends-map Fine (EntersAt opened n (vs .0) s₁) Fine (StopsAt opened M (call n ts ∷ is) state) (runCall depth J n ys s₁ c₁)
+        ends-map Fine (EntersAt opened n (vs .0) s₁) Fine (StopsAt opened M (call n ts ∷ is) state) (runCall depth lent n ys s₁ c₁)
         (halting opened names-left n S (vs .0) ys s₁ c₁ left w (omega arith) (vs .2) (omega (arith, y .1)) (kept-less (kept-made h (y .0 .0))) (y .0 .1))
         (λ x s₂ c₂ u. u) (enters-stops is (vs .1) (y .0 .0)))
         (λ r u. let full = full-row opened (state .calls) (state .made) state b (u .0 .beyond) in (full .0, at-arguments (vs .1) (rw (u .1) (full .1))))
@@ -153,34 +159,36 @@ module _ {g : List Production} (setting : Setting g) where
     item-costs : (names-left : ℕ) {item : Item} {A : ℕ} {M : List Value} {L : List ℕ} (xs : List ℕ) (state : State) (cells : List ℕ)
         → ItemSorted (F .scope) L item A
         → Kept rows (names-left + 1) state cells → ShowAll spell (state .made) cells xs M → (row : ℕ) (state₁ : State) (cells-after₁ : List ℕ)
-        → runItem (runCall depth J) J item xs state cells ≡ done row state₁ cells-after₁
+        → runItem (runCall depth lent) within item xs state cells ≡ done row state₁ cells-after₁
         → {M₁ : List Value} (derives : Derives g spell M (rest state) (state .fresh) (item ∷ []) (rest state₁) (state₁ .fresh) M₁)
         → (state₁ .calls ≡ state .calls + callsIn derives) × (state₁ .made ≡ state .made + rowsIn derives) × (openIn derives ≤ depth)
     unfolding runItems
     item-costs names-left {item} {L = L} xs state cells w h a row state₁ cells-after₁ e {M₁} derives =
-        let q = rw (items-after (runCall depth J) J item [] xs state cells row state₁ cells-after₁ e) at
-        (items-along setting derives .along depth names-left (make 0x25 none) Sorts.fields L xs state cells (item-body setting w) refl refl h a) in
+        let q = rw (items-after (runCall depth lent) within item [] xs state cells row state₁ cells-after₁ e) at
+        (items-along setting derives .along provides inside depth names-left (make 0x25 none) Sorts.fields L xs state cells
+        (item-body setting w) refl refl h a) in
         (q .0 .calls-are, q .0 .made-are, q .0 .deep)
 
     items-halt : (names-left : ℕ) (is : List Item) {result : Template} {B : ℕ} {M : List Value} {L xs : List ℕ} (state : State) (cells : List ℕ)
         → Body (F .scope) L is result B → Each ItemWithin is → Matches M L
         → state .at ≤ length tokens → Kept rows (names-left + length is) state cells → ShowAll spell (state .made) cells xs M
-        → Ends Fine (StopsAt opened M is state) (runItems (runCall depth J) J is xs state cells)
+        → Ends Fine (StopsAt opened M is state) (runItems (runCall depth lent) within is xs state cells)
     unfolding runItems
     items-halt names-left [] state cells b z m n h a = tt
     items-halt names-left (i ∷ is) {M = M} {xs = xs} state cells (by-binding {A = A} w b) (each-more z zs) m n h a =
         let h′ : Kept rows (names-left + length is + 1) state cells = record
         { room = h .room; fits = h .fits; names = omega (arith, h .names); begun = h .begun } in
-        after-by Fine (StopsAt opened M (i ∷ is) state) (runItem (runCall depth J) J i xs state cells) (λ x. runItems (runCall depth J) J is (xs ++ (x ∷ [])))
+        after-by Fine (StopsAt opened M (i ∷ is) state) (runItem (runCall depth lent) within i xs state cells)
+        (λ x. runItems (runCall depth lent) within is (xs ++ (x ∷ [])))
         (λ x s₁ c₁ e.
         let p : Stepped setting (names-left + length is) i A M state cells x s₁ c₁ =
-        rw e at (item-sound setting (runCall depth J) (call-sound setting depth) (names-left + length is) state cells w z m h′ a) in
+        rw e at (item-sound setting inside (runCall depth lent) (call-sound setting provides depth) (names-left + length is) state cells w z m h′ a) in
         let D = p .step [] (M ++ (p .value ∷ [])) (rest s₁) (s₁ .fresh) by-end in
         let q = item-costs (names-left + length is) xs state cells w h′ a x s₁ c₁ e D in
         let n₁ : s₁ .at ≤ length tokens =
-        rw e at (item-bounded setting (runCall depth J) (call-bounded setting depth) xs state cells w z n) in
+        rw e at (item-bounded setting inside (runCall depth lent) (call-bounded setting provides depth) xs state cells w z n) in
         ends-map Fine (StopsAt opened (M ++ (p .value ∷ [])) is s₁) Fine (StopsAt opened M (i ∷ is) state)
-        (runItems (runCall depth J) J is (xs ++ (x ∷ [])) s₁ c₁)
+        (runItems (runCall depth lent) within is (xs ++ (x ∷ [])) s₁ c₁)
         (items-halt names-left is s₁ c₁ b zs (matches-and m (p .typed)) n₁ (p .kept) (all-and (all-later (p .grown) a) (p .shows)))
         (λ ys s₂ c₂ u. u)
         (λ r u. (
@@ -193,10 +201,11 @@ module _ {g : List Production} (setting : Setting g) where
 
   -- ------------------------------------------------------------------ calls
 
-  module _ (depth opened : ℕ) (left : suc depth + opened ≡ mostOpen) (halting : Halting depth) (names-left nonterminal : ℕ) (S : Signature) (vs : List Value)
+  module _ {lent : Input} (provides : Provides setting lent) (depth opened : ℕ) (left : suc depth + opened ≡ mostOpen) (halting : Halting lent depth)
+      (names-left nonterminal : ℕ) (S : Signature) (vs : List Value)
       (xs : List ℕ) (state : State)
       (cells : List ℕ) (newest : Newest (F .scope .env) nonterminal S) (below : nonterminal < 64) (matches : Matches vs (S .params))
-      (within : state .at ≤ length tokens) (kept : Kept rows names-left state cells) (show-all : ShowAll spell (state .made) cells xs vs) where
+      (bounded : state .at ≤ length tokens) (kept : Kept rows names-left state cells) (show-all : ShowAll spell (state .made) cells xs vs) where
     abbrev Goal : Result ℕ → Type 0
     Goal z = Ends Fine (EntersAt opened nonterminal vs state) z
 
@@ -204,23 +213,29 @@ module _ {g : List Production} (setting : Setting g) where
     deeper = omega arith
 
     production-halts : (p : Production) → Taken g nonterminal (rest state) p → state .calls < mostCalls
-        → Goal (after (runItems (runCall depth J) J (p .items) xs (callBegun state) cells) (λ ys. build (p .result) J ys))
+        → Goal (Ran depth lent nonterminal xs state cells (rule g p))
     production-halts p t c =
+        let within = inner lent state in
+        let inside = provides-inner setting provides state in
         let q = F .each p (taken-of t .member) in
         let h′ : Kept rows (names-left + length (p .items)) (callBegun state) cells =
         record { room = kept .room; fits = kept .fits; names = omega (arith, kept .names, q .itemCount); begun = omega arith } in
         let body = body-of F (taken-of t) newest in
         let K = EntersAt opened nonterminal vs state in
-        after-by Fine K (runItems (runCall depth J) J (p .items) xs (callBegun state) cells) (λ ys. build (p .result) J ys)
+        after-by Fine K (runItems (runCall depth lent) within (p .items) xs (callBegun state) cells) (λ ys. build (p .result) within ys)
         (λ ys s₁ c₁ e.
-        let y : Derived setting (runCall depth J) (call-sound setting depth) names-left (p .items) (p .result) (S .result) vs (callBegun state) cells ys s₁ c₁ =
+        let y : Derived setting names-left (p .items) (p .result) (S .result) vs (callBegun state) cells ys s₁ c₁ =
         rw e at
-        (items-sound setting (runCall depth J) (call-sound setting depth) names-left (p .items) (callBegun state) cells body (q .items) matches h′ show-all) in
+        (items-sound setting inside (runCall depth lent) (call-sound setting provides depth) names-left (p .items) (callBegun state) cells body
+        (q .items) matches h′ show-all) in
         let D = y .derived in
         let z = rw e at
-        (items-along setting D .along depth names-left (p .result) (S .result) (S .params) xs (callBegun state) cells body refl refl h′ show-all) in
+        (items-along setting D .along provides inside depth names-left (p .result) (S .result) (S .params) xs
+        (callBegun state) cells body refl refl h′ show-all) in
         let b₁ : s₁ .at ≤ length tokens =
-        rw e at (items-bounded setting (runCall depth J) (call-bounded setting depth) (p .items) xs (callBegun state) cells body (q .items) within) in
+        rw e at
+        (items-bounded setting inside (runCall depth lent) (call-bounded setting provides depth) (p .items) xs (callBegun state) cells body
+        (q .items) bounded) in
         let v = gives-exists spell (y .matches) (p .result) (y .sorted) in
         let A : Affords rows (opened + 1) (state .calls + 1) (state .made) D =
         record {
@@ -229,45 +244,48 @@ module _ {g : List Production} (setting : Setting g) where
           few-rows = omega
               (arith, z .0 .made-are, y .kept .fits);
         } in
-        ends-map (λ x s₂ c₂. Built spell J (rowsOf (p .result)) s₁ c₁ (v .0) x s₂ c₂ × (s₂ .at ≡ s₁ .at))
+        ends-map (λ x s₂ c₂. Built spell rows (rowsOf (p .result)) s₁ c₁ (v .0) x s₂ c₂ × (s₂ .at ≡ s₁ .at))
         (λ r. Full rows (s₁ .made + rowsOf (p .result)) r × (r ≡ refusal 21 (s₁ .at) 0 0)) Fine K
-        (build (p .result) J ys s₁ c₁)
-        (ends-both (Built spell J (rowsOf (p .result)) s₁ c₁ (v .0)) (λ x s₂ c₂. s₂ .at ≡ s₁ .at) (Full rows (s₁ .made + rowsOf (p .result)))
-        (λ r. r ≡ refusal 21 (s₁ .at) 0 0) (build (p .result) J ys s₁ c₁)
-        (build-ends spell J (p .result) {value = v .0} s₁ c₁ (v .1) (y .sorted) (omega (arith, F .outsideCount)) (y .kept .room) (y .kept .fits) (y .shows))
-        (build-stays J (p .result) ys s₁ c₁))
+        (build (p .result) within ys s₁ c₁)
+        (ends-both (Built spell rows (rowsOf (p .result)) s₁ c₁ (v .0)) (λ x s₂ c₂. s₂ .at ≡ s₁ .at) (Full rows (s₁ .made + rowsOf (p .result)))
+        (λ r. r ≡ refusal 21 (s₁ .at) 0 0) (build (p .result) within ys s₁ c₁)
+        (build-ends spell rows within (inside .rows-are) (p .result) {value = v .0} s₁ c₁ (v .1) (y .sorted) (omega (arith, F .outsideCount)) (y .kept .room)
+        (y .kept .fits) (y .shows))
+        (build-stays within (p .result) ys s₁ c₁))
         (λ x s₂ c₂ u. tt)
         (λ r u.
         let few : rows < state .made + rowsIn D + rowsOf (p .result) = omega (arith, u .0 .beyond, z .0 .made-are) in
         let full = full-row (opened + 1) (state .calls + 1 + callsIn D) (state .made + rowsIn D) s₁ b₁ few in
-        (full .0, at-result {v = v .0} t D A (v .1) (rw (u .1) (full .1)))))
+        (full .0, at-result {made = full .0} {v = v .0} t D A (v .1) (rw (u .1) (full .1)))))
         (λ r c₁ e.
         let x : StopsAt (opened + 1) vs (p .items) (callBegun state) r = rw e at
-        (items-halt depth (opened + 1) (omega (arith, left)) halting names-left (p .items) (callBegun state) cells body (q .items) matches within h′
+        (items-halt provides inside depth (opened + 1) (omega (arith, left)) halting names-left (p .items) (callBegun state) cells body
+        (q .items) matches bounded h′
         show-all) in
         (x .0, in-items deeper c t (x .1)))
 
-    call-step : Goal (runCall (suc depth) J nonterminal xs state cells)
+    call-step : Goal (runCall (suc depth) lent nonterminal xs state cells)
     unfolding ready
     call-step = go (ltb (state .calls) mostCalls) refl (choice-picks g nonterminal below (rest state))
       where
         go : (test : Bool) → ltb (state .calls) mostCalls ≡ test → Picks g nonterminal (rest state) (choice (ready g) nonterminal (kindOf (rest state)))
-            → Goal (runCall (suc depth) J nonterminal xs state cells)
+            → Goal (runCall (suc depth) lent nonterminal xs state cells)
         go false e q =
-            subst⁻¹ Goal (call-full depth J nonterminal xs state cells e)
-            (_, at-start (fails-here state within (too-many-calls deeper (ltb-false (state .calls) mostCalls e))))
+            subst⁻¹ Goal (call-full depth lent nonterminal xs state cells e)
+            (_, at-start (fails-here state bounded (too-many-calls deeper (ltb-false (state .calls) mostCalls e))))
         go true e (picks p t f) =
-            subst⁻¹ Goal (call-chosen depth J nonterminal xs state cells (rule g p) e (ap (choice (ready g) nonterminal) (kind-next (state .at) tokens) ∙ f))
+            subst⁻¹ Goal (call-chosen depth lent nonterminal xs state cells (rule g p) e (choice-is setting provides state nonterminal ∙ f))
             (production-halts p t (ltb-true (state .calls) mostCalls e))
         go true e (picks-none f c) =
-            subst⁻¹ Goal (call-unfit depth J nonterminal xs state cells e (ap (choice (ready g) nonterminal) (kind-next (state .at) tokens) ∙ c))
-            (_, at-start (fails-here state within (no-choice deeper (ltb-true (state .calls) mostCalls e) f (opens-exactly g nonterminal))))
+            subst⁻¹ Goal (call-unfit depth lent nonterminal xs state cells e (choice-is setting provides state nonterminal ∙ c))
+            (rw (provides .grammar-is)
+            (_, at-start (fails-here state bounded (no-choice deeper (ltb-true (state .calls) mostCalls e) f (opens-exactly g nonterminal)))))
 
-  call-halts : (depth : ℕ) → Halting depth
+  call-halts : {lent : Input} → Provides setting lent → (depth : ℕ) → Halting lent depth
   unfolding runCall
-  call-halts zero o k n S vs xs s cells e w l m b h a =
+  call-halts provides zero o k n S vs xs s cells e w l m b h a =
       (_, at-start {o = o} (fails-here s b (too-deep (omega (arith, e)))))
-  call-halts (suc depth) o k n S vs xs s cells e w l m b h a = call-step depth o e (call-halts depth) k n S vs xs s cells w l m b h a
+  call-halts provides (suc depth) o k n S vs xs s cells e w l m b h a = call-step provides depth o e (call-halts provides depth) k n S vs xs s cells w l m b h a
 
   -- ------------------------------------------------------------------ the whole formula
 
@@ -300,11 +318,12 @@ module _ {g : List Production} (setting : Setting g) where
       after-by Fine Refused (runCall mostOpen J (setting .root) [] initialState cells) (ended J)
       (λ v s c₁ q.
       over v s c₁ q (rw q at (root-called setting cells room))
-      (rw q at (call-bounded setting mostOpen (setting .root) [] initialState cells (setting .root-small) (omega arith))))
+      (rw q at (call-bounded setting (provides-whole setting) mostOpen (setting .root) [] initialState cells (setting .root-small) (omega arith))))
       (λ r c₁ q.
       root-stops
       (rw q at
-      (call-halts mostOpen 0 0 (setting .root) (setting .signature) [] [] initialState cells refl (setting .defined) (setting .root-small)
+      (call-halts (provides-whole setting) mostOpen 0 0 (setting .root) (setting .signature) [] [] initialState cells refl (setting .defined)
+      (setting .root-small)
       (no-arguments setting) (omega arith)
       (record { room = room; fits = omega arith; names = omega arith; begun = omega arith }) show-none)))
     where

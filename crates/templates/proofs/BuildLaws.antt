@@ -1,16 +1,14 @@
 -- Laws of what stands in front of a template, and of the loop that evaluates a constructor's template with an explicit stack.
 use Prim.Native.Nat.{ℕ, _+_, _-_, _*_, _/_, _%_, _<_, _≤_}
 use mathlib.Core.Path.{_≡_, refl, sym, ap, _∙_, subst}
-use mathlib.Core.Bool.{Bool, true, false}
 use mathlib.Core.List.{List, [], _∷_}
 use native.Mathlib.Omega.{arith}
-use lib.Dec.{eqb, ltb}
+use lib.Dec.{eqb}
 use lib.ListN.{length, getD, take, drop, set, length-set, length-append, length-take}
 use lib.Seq.{sets, getD-take, getD-drop}
-use borrow.Author.Tests.{lt-ltb, le-ltb}
 use Rattle.grammar.specs.Sorts.{arity}
 use Rattle.grammar.specs.Table.{Template, Templates, none, more}
-use Rattle.terms.specs.Cells.{columns, withRow}
+use Rattle.terms.specs.Cells.{columns, rowNumbers}
 use Rattle.decoding.specs.Prefix.{parsed, templatesOf, nameBy}
 use Rattle.decoding.specs.Within.{count}
 use Rattle.expansion.specs.declared.State.{State}
@@ -18,9 +16,10 @@ use Rattle.templates.specs.declared.Head.{Head}
 use Rattle.templates.specs.declared.Head.the-variants.{Leaf, Node}
 use Rattle.templates.specs.declared.Built.the-variants.{Made}
 use Rattle.expansion.specs.Run.{Result, done}
-use Rattle.expansion.specs.Expansion.{Input, build}
+use Rattle.expansion.specs.Expansion.{Input, cell, build}
 use Rattle.templates.specs.Built.{Holds, withMade, Ahead, templateAt, othersAt, noRow, Behind}
 use Rattle.templates.specs.Heads.{join, HeadValue, Past, Takes, Heads}
+use Rattle.expansion.proofs.CellLaws.{cell-row, cell-none}
 use Rattle.grammar.proofs.ReaderLaws.{getD-past}
 use Rattle.templates.proofs.VariableLaws.{spare}
 use Rattle.templates.proofs.TemplateLaws.{template-is, others-are, ahead-inside, makes, variable-built, behind-variable, at-name, behind-name}
@@ -86,7 +85,7 @@ spare-is (a ∷ b ∷ c ∷ rest) = refl
 pub cell-stored : (cells arguments : List ℕ) (row code : ℕ) {cells′ : List ℕ} {first second third : ℕ} → first ≡ getD arguments 0 0
     → second ≡ getD arguments 1 0 → third ≡ getD arguments 2 0
     → cells′ ≡ sets cells (row * columns) (code ∷ first ∷ second ∷ third ∷ [])
-    → cells′ ≡ withRow cells row code arguments
+    → cells′ ≡ sets cells (row * columns) (rowNumbers code arguments)
 cell-stored cells arguments row code {cells′} {first} {second} {third} ex ey ez e =
     let q : first ∷ second ∷ third ∷ [] ≡ spare arguments = (cc) ∙ spare-is arguments in
     cc
@@ -349,21 +348,16 @@ module _ {whole : Whole} {turn : Turn} {packed-head code needed : ℕ} (looked :
     pub building-fits : turn .pos + needed ≤ length (turn .stack)
     building-fits = omega (arith, n-is, stands-top (c .stands), c .stands .fits)
 
-    -- the next row, or refusal 21
-    abbrev row-or : Bool → State → Result ℕ
-    row-or b s =
-        elim b [
-          | true ↦ done (turn .made) (withMade s (turn .made + 1)) (withRow (turn .cells) (turn .made) (c .inner .code) (c .inner .given))
-          | false ↦ noRow s (turn .cells)
-        ]
-
-    cell-by : (test : Bool) → ltb (turn .made) (whole .rows) ≡ test → Same whole (λ I s M. resume I M (c .around) (row-or test s))
-    cell-by test f I s M e g =
+    -- the cell of those given
+    cell-goes : Same whole (λ I s M. resume I M (c .around) (cell I (c .inner .code) (c .inner .given) (withMade s (turn .made)) (turn .cells)))
+    cell-goes I s M e g =
         cc (makes-cell I M (c .inner) (withMade s (turn .made)) (turn .cells) inner-none, c .rest I s M e g)
 
     -- no row is left: refusal 21
     pub building-full : whole .rows ≤ turn .made → Same whole (λ I s M. noRow s (turn .cells))
-    building-full h I s M e g = sym (resume-halt I M (c .around) _ (turn .cells)) ∙ cell-by false (le-ltb (turn .made) (whole .rows) h) I s M e g
+    building-full h I s M e g =
+        sym (resume-halt I M (c .around) _ (turn .cells))
+        ∙ cc (cell-none I (c .inner .code) (c .inner .given) (withMade s (turn .made)) (turn .cells) (omega (arith, e)), cell-goes I s M e g)
 
 -- its row is made
 pub record Closing (whole : Whole) (turn : Turn) (code needed out : ℕ) (cells : List ℕ) : Type 0 where
@@ -376,7 +370,7 @@ pub record Closing (whole : Whole) (turn : Turn) (code needed out : ℕ) (cells 
   -- there is a row for it
   pub row : turn .made < whole .rows
   -- the row is stored with the arguments on the stack
-  pub stored : cells ≡ withRow (turn .cells) (turn .made) code (take needed (drop (turn .pos) (turn .stack)))
+  pub stored : cells ≡ sets (turn .cells) (turn .made * columns) (rowNumbers code (take needed (drop (turn .pos) (turn .stack))))
   -- the cells are as many
   pub same : length cells ≡ length (turn .cells)
   -- where the arguments of the one around it begin
@@ -395,7 +389,8 @@ module _ {whole : Whole} {turn : Turn} {code needed out : ℕ} {cells : List ℕ
         closing .stored,
         its-code (closing .looked),
         given-is (closing .looked) (closing .stop),
-        cell-by (closing .looked) (closing .stop) true (lt-ltb (turn .made) (whole .rows) (closing .row)) I s M e g,
+        cell-row I (b .inner .code) (b .inner .given) (withMade s (turn .made)) (turn .cells) (omega (arith, e, closing .row)),
+        cell-goes (closing .looked) (closing .stop) I s M e g,
       )
 
   read-on : templatesOf (drop (turn .at) (whole .v)) ≡ parsed (lefts (b .around) (othersAt (whole .v) (whole .from)))

@@ -18,7 +18,7 @@ ghost use lib.Seq.{sets};
 ghost use Rattle.grammar.specs.Variables.{mostVariables};
 ghost use Rattle.grammar.specs.Limits.{most};
 ghost use Rattle.grammar.specs.Table.{Template};
-ghost use Rattle.terms.specs.Cells.{columns, withRow, mostCells, rowsLent};
+ghost use Rattle.terms.specs.Cells.{columns, rowNumbers, mostCells, rowsLent};
 ghost use Rattle.decoding.specs.Prefix.{nameBy, templatesOf, isTemplates, found};
 ghost use lib.Dec.{eqb};
 ghost use mathlib.Core.Bool.{true};
@@ -143,7 +143,7 @@ fn given_at(stack: &[u32], pos: usize, n: usize, i: usize) -> u32
 fn store_cell(cells: &mut [u32], row: usize, code: u8, stack: &[u32], pos: usize, n: usize)
     requires { ⌜ (row ≤ mostCells) × (row * columns + columns ≤ length (now cells)) ⌝ }
     requires { ⌜ pos + n ≤ length (now stack) ⌝ }
-    ensures { λ r. ⌜ now (cells .exit) ≡ withRow (now (cells .entry)) row code (take n (drop pos (now (stack .entry)))) ⌝ }
+    ensures { λ r. ⌜ now (cells .exit) ≡ sets (now (cells .entry)) (row * columns) (rowNumbers code (take n (drop pos (now (stack .entry))))) ⌝ }
 {
     let args = [
         given_at(stack, pos, n, 0),

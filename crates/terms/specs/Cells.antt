@@ -2,7 +2,6 @@
 use Prim.Native.Nat.{ℕ, _+_, _*_, _/_, min}
 use mathlib.Core.List.{List, [], _∷_, _++_}
 use lib.ListN.{getD, take}
-use lib.Seq.{sets}
 
 -- the numbers of a row: a constructor's code and up to three arguments
 abbrev pub columns : ℕ
@@ -12,9 +11,9 @@ columns = 4
 abbrev pub column : List ℕ → ℕ → ℕ → ℕ
 column cells row k = getD cells (row * columns + k) 0
 
--- the cells after a row is written: code and arguments, spare ones 0
-abbrev pub withRow : List ℕ → ℕ → ℕ → List ℕ → List ℕ
-withRow cells row code arguments = sets cells (row * columns) (take columns (code ∷ arguments ++ 0 ∷ 0 ∷ 0 ∷ []))
+-- a row's numbers: code and arguments, spare ones 0
+abbrev pub rowNumbers : ℕ → List ℕ → List ℕ
+rowNumbers code arguments = take columns (code ∷ arguments ++ 0 ∷ 0 ∷ 0 ∷ [])
 
 -- a name is its class × 2^24 and its number: class 1 a formula's word, 2 a fresh name, 3 an outside name
 abbrev pub nameBase : ℕ
