@@ -16,6 +16,8 @@ use Rattle.tokens.specs.declared.Token.{Token}
 use Rattle.tokens.specs.Unscanned.{Unscans}
 use Rattle.checker.specs.Check.{check}
 use Rattle.checker.specs.Passes.{grammarOf, Passes}
+use Rattle.causes.specs.Unlaid.{RefusesTable}
+use Rattle.causes.proofs.CauseTheorems as tables
 use Rattle.productions.specs.Normal.{Production}
 use Rattle.firsts.specs.Rules.{Of}
 use Rattle.expansion.specs.Figure3.{Value, term, Gives, GiveAll, Derives}
@@ -45,9 +47,10 @@ module _ (table formula cells text : List ℕ) where
   pub demand-3 : Demand3 table formula cells text (X .answer) (X .text)
   demand-3 = hygiene.demand-3 table formula cells text
 
-  -- Demand 2: a table of bytes that does not pass gets exactly the refusal of its check, and nothing that was lent changes.
-  pub not-passed : ((at : ℕ) → getD table at 0 < 256) → (Passes table → ⊥) → (r : Refusal) × (check table ≡ Refused r) × (X ≡ refused r cells text)
-  not-passed bytes = exactly.not-passed table bytes formula cells text
+  -- Demand 2: a table of bytes that does not pass gets exactly the refusal that the rules of 1 to 13 give, and nothing that was lent changes.
+  pub not-passed : ((at : ℕ) → getD table at 0 < 256) → (Passes table → ⊥) → (r : Refusal) × RefusesTable table r × (X ≡ refused r cells text)
+  not-passed bytes fails =
+      let (r, given, left) = exactly.not-passed table bytes formula cells text fails in (r, tables.refused-exactly table bytes r .0 given, left)
 
   module _ (passes : Passes table) where
     -- A refusal is given exactly in its case of document 01's table of causes, with the values listed there.

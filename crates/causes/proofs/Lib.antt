@@ -1,0 +1,9 @@
+pub mod FieldTests
+pub mod LayoutWalk
+pub mod NormalLaws
+pub mod BlockLaws
+pub mod PartTests
+pub mod Walking
+pub mod SortWalks
+pub mod SortStops
+pub mod CauseTheorems
