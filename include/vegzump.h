@@ -30,37 +30,37 @@ extern "C" {
 #define VEGZUMP_ROW_CELLS 4u
 
 /* number is 0 on acceptance, else the cause of a refusal; values that are not listed are 0. A place is the offset of a field's tag in the table, or the
-   table's length if something is missing at its end; an index counts the formula's tokens from 0.
+   table's length if something is missing at its end; a token is an index, from 0, at the end of the formula the count of tokens.
 
-     0  accepted                          a cells made, b constructors of the term, c length of the text (all 0 for vegzump_check)
+     0  accepted  [a cells made, b constructors of the term, c length of the text; all 0 for vegzump_check]
    Of the table:
-     1  over 16,384 bytes
-     2  field runs past the end           a place
-     3  unknown tag, length or value      a place
-     4  field out of order, or missing    a place
-     5  bad or repeated spelling          a place
-     6  too many of a kind                a place
-     7  add of a number in use            a place
-     8  extend or update without an earlier definition of the same signature, or twice in one block    a place
-     9  undefined nonterminal, keyword, name or variable    a place
-    10  template cut, left over, or an unknown byte in it   a place
-    11  wrong sort or count of arguments; a root that is no Term or has parameters    a place
-    12  left recursion                    a lowest such nonterminal
-    13  two alternatives share an opening, or both are nullable    a nonterminal, b lowest bit shared (64 if none)
+     1  the table has more than 16,384 bytes
+     2  a field of the table runs past its end  [a place]
+     3  a tag, a length or a value that is not known  [a place]
+     4  a field is out of order, or missing  [a place]
+     5  a keyword or outside name is badly spelled, or stands twice  [a place]
+     6  more keywords, names, blocks, alternatives or items than allowed  [a place]
+     7  a nonterminal is added that is defined already  [a place]
+     8  nothing to extend or update: defined in this block, not defined earlier, or with another signature  [a place]
+     9  something is used that is not defined: nonterminal, keyword, name, variable  [a place]
+    10  a template is cut, has bytes left over or an unknown byte  [a place]
+    11  a sort or a count of arguments is wrong; the root has parameters or is no Term  [a place]
+    12  left recursion: a nonterminal reaches itself before any token is read  [a lowest such nonterminal]
+    13  two alternatives share a token that they can begin with, or both can be empty  [a nonterminal, b lowest shared bit (64: both empty)]
    Of the formula:
-    14  over 65,535 bytes
-    15  bad byte, long word, large number a offset of its start
-    16  over 4,096 tokens
-    17  token does not fit                a index (the token count at the end), b what would have fitted (bit 0 a word, bit 1 a number, bit k + 2
-                                            keyword k), c how many kinds that is
-    18  token left over                   a index
-    19  1,025 open calls                  a index
-    20  65,537 calls                      a index
-    21  no row for the next cell          a index
+    14  the formula has more than 65,535 bytes
+    15  a byte that may not stand in a formula, a word over 31 bytes, a number over 999,999,999  [a offset of its start]
+    16  more than 4,096 tokens
+    17  a token does not fit  [a token, b what would have fitted at the item where the run stopped (bit 0 a word, bit 1 a number, bit k + 2 keyword
+        k), c how many kinds that is]
+    18  a token is left over behind a whole formula  [a token]
+    19  nested too deeply: a call when 1,024 are open  [a token]
+    20  more than 65,536 calls  [a token]
+    21  no row is left for the next cell, or 16,384 are made  [a token]
    Of the term and its text:
-    22  over 16,384 constructors          a cells made
-    23  a fresh variable under no binder of its own    a its place among the constructors, from the left, from 0
-    24  text longer than its room         a length needed */
+    22  the term has more than 16,384 constructors  [a cells made]
+    23  a fresh name is a variable under no binder made with it  [a its place among the constructors, from the left, from 0]
+    24  the text is longer than its buffer  [a length needed] */
 typedef struct vegzump_answer {
     uint8_t number;
     uint64_t a, b, c;

@@ -1,27 +1,48 @@
-"""The causes of document 01 in plain words, by number."""
+"""The causes of refusal, from causes.txt, and the limits, from the Rattle sources."""
+import os
+import re
+from typing import Callable, Dict, List, NamedTuple
 
-CAUSES = {
-    1: "the table has more than 16,384 bytes",
-    2: "a field runs past the end of the table",
-    3: "the table has a tag, a length or a value that is not known",
-    4: "a part of the table is out of order, or missing",
-    5: "a keyword or an outside name is badly spelled, or stands twice",
-    6: "there are more of these than allowed",
-    7: "`==` adds a nonterminal that is defined already",
-    8: "`|==` or `:=` finds nothing that it could extend or update",
-    9: "something is used here that is not defined, in this block or an earlier one",
-    10: "a template is cut, has bytes left over, or has an unknown byte",
-    11: "a sort or a count of arguments is wrong",
-    12: "left recursion: a nonterminal reaches itself before any token is read",
-    13: "two alternatives of a nonterminal cannot be told apart by the next token",
-    14: "the formula has more than 65,535 bytes",
-    15: "the formula has a byte, a word or a number that may not stand in it",
-    16: "the formula has more than 4,096 tokens",
-    17: "this token does not fit here",
-    18: "the formula could have ended before this token",
-    19: "phrases are nested too deeply: more than 1,024 calls are open at once",
-    20: "the formula needs more than 65,536 calls",
-    21: "there is no room for another cell of the term",
-    22: "the term has more than 16,384 constructors",
-    23: "a fresh name is used as a variable where no binder made with it is around",
-    24: "the text is longer than its buffer"}
+ROOT = os.path.dirname(os.path.dirname(os.path.dirname(os.path.abspath(__file__))))
+SOURCES = ("grammar/src/limits.rt", "spellings/src/lib.rt", "tokens/src/lib.rt", "expansion/src/lib.rt", "terms/src/lib.rt")
+CONSTANT = re.compile(r"^(?:pub )?const ([A-Z_]+): [a-z0-9]+ = ([0-9_]+);", re.MULTILINE)
+
+
+class Cause(NamedTuple):
+    """One line of causes.txt."""
+    number: int
+    name: str
+    values: List[str]
+    words: str
+    said: str
+    example: str
+    message: str
+    told: str
+
+
+def limits() -> Dict[str, int]:
+    """Each limit by its name in the Rattle sources."""
+    found: Dict[str, int] = {}
+    for source in SOURCES:
+        with open(os.path.join(ROOT, "crates", source), encoding="utf-8") as f:
+            found.update((name, int(number.replace("_", ""))) for name, number in CONSTANT.findall(f.read()))
+    return found
+
+
+def with_limits(text: str, shown: Callable[[int], str]) -> str:
+    """A text with the limits that it names."""
+    known = limits()
+    return re.sub(r"\{([A-Z_]+)\}", lambda m: shown(known[m.group(1)]), text)
+
+
+def load() -> List[Cause]:
+    with open(os.path.join(ROOT, "causes.txt"), encoding="utf-8") as f:
+        lines = [line.rstrip("\n").split(" | ") for line in f if line.strip() and not line.startswith("#")]
+    causes = [Cause(int(p[0]), p[1], [] if p[2] == "-" else p[2].split(), *p[3:]) for p in lines]
+    if [c.number for c in causes] != list(range(1, len(causes) + 1)):
+        raise ValueError("causes.txt: the causes are not numbered 1, 2 and on")
+    return causes
+
+
+LIST = load()
+CAUSES = {c.number: with_limits(c.told, "{:,}".format) for c in LIST}
