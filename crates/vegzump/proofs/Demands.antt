@@ -2,22 +2,19 @@
 -- `expand` (meaning/specs/Expand) is what the public call promises by equation. What its answers mean, by rules: Meaning, Origins and Hygiene
 -- of meaning/specs; below them Tiling and Unscanned (tokens), Figure3 and Costs (expansion), Stopping and Places (soundness), Passes (checker).
 use Prim.Native.Nat.{ℕ, _*_, _≤_, _<_}
-use mathlib.Core.Path.{_≡_}
+use mathlib.Core.Path.{_≡_, refl}
 use mathlib.Core.Logic.{_↔_}
 use mathlib.Core.List.{List, [], _∷_, _++_}
 use lib.ListN.{length, getD, take, drop}
 use Rattle.answers.specs.declared.Refusal.{Refusal}
 use Rattle.answers.specs.declared.Answer.the-variants.{Accepted, Refusing}
-use Rattle.answers.specs.declared.Verdict.the-variants.{Refused}
 use Rattle.grammar.specs.Table.{Template, Templates, none, Item, call, lexiconOfTable}
 use Rattle.grammar.specs.Sorts.{Signature}
 use Rattle.judgements.specs.Judgements.{Newest, ItemSorted, Body, scopeOf}
 use Rattle.tokens.specs.declared.Token.{Token}
 use Rattle.tokens.specs.Unscanned.{Unscans}
-use Rattle.checker.specs.Check.{check}
 use Rattle.checker.specs.Passes.{grammarOf, Passes}
-use Rattle.causes.specs.Unlaid.{RefusesTable}
-use Rattle.causes.proofs.CauseTheorems as tables
+use Rattle.causes.specs.Unlaid.{NotPassed}
 use Rattle.productions.specs.Normal.{Production}
 use Rattle.firsts.specs.Rules.{Of}
 use Rattle.expansion.specs.Figure3.{Value, term, Gives, GiveAll, Derives}
@@ -30,12 +27,13 @@ use Rattle.terms.specs.Cells.{columns, column, rowsLent}
 use Rattle.terms.specs.Rows.{termAt}
 use Rattle.terms.specs.Rename.{rename}
 use Rattle.terms.specs.Print.{print}
-use Rattle.meaning.specs.Expand.{Expanded, refused, expand}
+use Rattle.meaning.specs.Expand.{Expanded, expand}
 use Rattle.meaning.specs.Meaning.{Scans, spellOf, Means, MeansWithin, cellsOf, textLength, Cause, Accepts}
 use Rattle.meaning.specs.Hygiene.{Demand3}
 use Rattle.meaning.proofs.Stages.{expand-passed, means-one}
 use Rattle.meaning.proofs.Exactly as exactly
 use Rattle.meaning.proofs.Hygiene as hygiene
+use Rattle.vegzump.proofs.Refusing.{call-refuses}
 
 -- every table, formula, cells and text
 module _ (table formula cells text : List ℕ) where
@@ -47,10 +45,10 @@ module _ (table formula cells text : List ℕ) where
   pub demand-3 : Demand3 table formula cells text (X .answer) (X .text)
   demand-3 = hygiene.demand-3 table formula cells text
 
-  -- Demand 2: a table of bytes that does not pass gets exactly the refusal that the rules of 1 to 13 give, and nothing that was lent changes.
-  pub not-passed : ((at : ℕ) → getD table at 0 < 256) → (Passes table → ⊥) → (r : Refusal) × RefusesTable table r × (X ≡ refused r cells text)
-  not-passed bytes fails =
-      let (r, given, left) = exactly.not-passed table bytes formula cells text fails in (r, tables.refused-exactly table bytes r .0 given, left)
+  -- Demand 2: a table of bytes that does not pass gets the one refusal that the rules of 1 to 13 give, and nothing that was lent changes. The
+  -- table of a call is bytes, so that the fourth promise of `expand` has no such hypothesis.
+  pub not-passed : ((at : ℕ) → getD table at 0 < 256) → NotPassed table cells text (X .answer) (X .cells) (X .text)
+  not-passed bytes = call-refuses table bytes formula refl
 
   module _ (passes : Passes table) where
     -- A refusal is given exactly in its case of document 01's table of causes, with the values listed there.

@@ -1,9 +1,12 @@
--- `expand`: the number and values, and demand 3, follow from the equation.
+-- `expand`: the number and values, demand 3, and what a table that does not pass gets follow from the equation.
 use mathlib.Core.Path.{ap}
+use native.Mathlib.Omega.{arith}
 use borrow.Author.Needs.{needs}
+use Rattle.decoding.proofs.Split.{Bytes}
 use Rattle.answers.specs.Refusals.{numbered}
 use Rattle.meaning.specs.Expand.{Expanded}
 use Rattle.meaning.proofs.Hygiene.{call-meets-demand-3}
+use Rattle.vegzump.proofs.Refusing.{call-refuses}
 use Rattle.vegzump.proofs.expand.Statement.{statement}
 use Rattle.vegzump.proofs.expand.Tie as tie
 
@@ -11,7 +14,9 @@ returns : tie.Need-returns
 returns c =
     let p = c .before .before .before .before in
     let e = p .expand-by-size .ensures in
-    (e, (ap (λ (x : Expanded). numbered (x .answer)) e, call-meets-demand-3 e))
+    let first = p .before .before .before .before .before .before in
+    let bytes : Bytes (first .before .args .table .now) = λ i. omega (arith, first .shared-slice-known .given i) in
+    (e, (ap (λ (x : Expanded). numbered (x .answer)) e, (call-meets-demand-3 e, call-refuses _ bytes _ e)))
 
 -- `expand` meets its contract.
 pub expand-spec : {M : Type 1} → statement M
