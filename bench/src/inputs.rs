@@ -9,11 +9,16 @@ pub struct Input {
     pub formula: Vec<u8>,
     /// The number of the answer: what an input is for is lost if it is refused early.
     pub number: u8,
+    /// Bytes of text that are lent.
+    pub text: usize,
 }
+
+/// As many bytes as the longest text has, and more.
+pub const ENOUGH: usize = 1 << 21;
 
 impl Input {
     fn new(name: impl Into<String>, table: Vec<u8>, formula: impl Into<Vec<u8>>) -> Input {
-        Input { name: name.into(), table, formula: formula.into(), number: 0 }
+        Input { name: name.into(), table, formula: formula.into(), number: 0, text: ENOUGH }
     }
 }
 
@@ -95,7 +100,15 @@ fn series(name: &'static str, sizes: [usize; 4], input: impl Fn(usize) -> (Vec<u
     Series { name, inputs }
 }
 
-/// One series for each thing that an input can have more of.
+impl Series {
+    /// The same inputs with so much text lent, and the number that they are answered with.
+    fn answered(mut self, number: u8, text: usize) -> Series {
+        self.inputs.iter_mut().for_each(|(_, input)| (input.number, input.text) = (number, text));
+        self
+    }
+}
+
+/// One series for each thing that an input can have more of, and for each shape that an enemy could try.
 pub fn growth(multiplier: u32) -> Vec<Series> {
     let of_one_hash = collide::words(Hash::Polynomial { multiplier }, WORDS);
     let of_one_tree = collide::words(Hash::Folded, WORDS);
@@ -136,6 +149,14 @@ pub fn growth(multiplier: u32) -> Vec<Series> {
         }),
         series("constructors, shared parts", [10, 11, 12, 13], |size| (tables::house(&[Extra::Twice]), twice(size))),
         series("constructors, a record", [125, 250, 500, 1_000], |size| (tables::house(&[]), record(size))),
+        series("alternatives that clash, refused with 13", [32, 64, 128, 255], |size| (tables::clashing(size), String::new())).answered(13, ENOUGH),
+        series("calls of the last production", [12, 13, 14, 15], |size| (tables::levels(size, 178, 62), String::new())),
+        series("calls with 12 locals each", [12, 13, 14, 15], |size| (tables::locals(size), String::new())),
+        series("shared parts, nothing of the text fits", [10, 11, 12, 13], |size| (tables::house(&[Extra::Twice]), twice(size))).answered(24, 0),
+        series("functions of fresh names, nothing of the text fits", [2_047, 4_095, 8_191, 16_383], |size| (tables::nested(), functions(size)))
+            .answered(24, 0),
+        series("zeros before a digit", [8_125, 16_250, 32_500, 65_000], |size| (tables::house(&[]), "0".repeat(size) + "1")),
+        series("blanks", [8_125, 16_250, 32_500, 65_000], |size| (tables::house(&[]), " ".repeat(size) + "q")),
     ]
 }
 

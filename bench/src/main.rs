@@ -114,7 +114,7 @@ fn compare(options: &Options, list: &[Input]) -> bool {
     let mut of_inputs = Comparison::default();
     let series = inputs::growth(options.hash);
     for input in list.iter().chain(series.iter().flat_map(|series| series.inputs.iter().map(|(_, input)| input))) {
-        let found = of_inputs.input("input", &input.table, &input.formula, 4 * vegzump::ROWS, 1 << 21);
+        let found = of_inputs.input("input", &input.table, &input.formula, 4 * vegzump::ROWS, input.text);
         if found.answer.number != input.number {
             of_inputs.differ += 1;
             println!("DIFFERS: {} is answered {:?}", input.name, found.answer);

@@ -244,6 +244,23 @@ pub fn levels(count: usize, others: usize, of_last: usize) -> Vec<u8> {
     table.root(first)
 }
 
+/// So many alternatives of one nonterminal that begin with 31 keywords in turn, so that those from the 32nd on clash with earlier ones.
+pub fn clashing(count: usize) -> Vec<u8> {
+    let table = Table::new().keywords(spellings("k", 62)).block().add(0, TERM, &[]);
+    table.times(count, |table, n| table.alternative().keyword(n % 31).result(&[0x23, 0x25])).root(0)
+}
+
+/// Levels of nonterminals that call the next twice, with twelve locals in the last.
+pub fn locals(count: usize) -> Vec<u8> {
+    let mut table = Table::new().block();
+    for n in 0..count {
+        table = table.add(n, if n == 0 { TERM } else { BINDER }, &[]).alternative();
+        table = if n + 1 < count { table.call(n + 1, &[]).call(n + 1, &[]) } else { table.times(12, |table, _| table.local()) };
+        table = if n == 0 { table.result(&[0x21, 0, 0x20, 0]) } else { table.result(&[0]) };
+    }
+    table.root(0)
+}
+
 /// A chain of nullable nonterminals, each calling the next (or the one before).
 pub fn chain(count: usize, upward: bool) -> Vec<u8> {
     let (root, last) = if upward { (0, count - 1) } else { (count - 1, 0) };

@@ -1,6 +1,6 @@
 //! Times: the best of many runs of both sides, taken in turn in one process, so that both meet the same machine.
 
-use crate::inputs::Input;
+use crate::inputs::{Input, ENOUGH};
 use crate::sides::Side;
 use std::hint::black_box;
 use std::time::{Duration, Instant};
@@ -13,14 +13,14 @@ pub struct Room {
 
 impl Room {
     pub fn new() -> Room {
-        Room { cells: vec![0; 4 * vegzump::ROWS], text: vec![0; 1 << 21] }
+        Room { cells: vec![0; 4 * vegzump::ROWS], text: vec![0; ENOUGH] }
     }
 }
 
 fn batch(side: Side, input: &Input, room: &mut Room, runs: u32) -> Duration {
     let start = Instant::now();
     for _ in 0..runs {
-        let answer = side.expand(black_box(&input.table), black_box(&input.formula), &mut room.cells, &mut room.text);
+        let answer = side.expand(black_box(&input.table), black_box(&input.formula), &mut room.cells, &mut room.text[..input.text]);
         black_box(answer);
     }
     start.elapsed()

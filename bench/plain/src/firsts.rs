@@ -7,13 +7,30 @@ use crate::{Answer, Refusal};
 pub struct Firsts {
     /// The openings of each nonterminal and of each alternative.
     pub openings: [u64; 64],
-    pub of_alternative: Vec<u64>,
+    of_alternative: Vec<u64>,
     /// The nullable alternative of each nonterminal, plus one; 0 if there is none.
     nullable: [u16; 64],
+    /// For each nonterminal and kind of the next token the alternative to take, plus one; 0 if nothing fits.
+    pub choice: Vec<[u16; 65]>,
+    each: Vec<Begins>,
+    waiting: Vec<Waiting>,
+    links: Vec<(u32, u32)>,
+    new: Vec<u8>,
 }
 
-/// For each nonterminal and kind of the next token the alternative to take, plus one; 0 if nothing fits.
-pub type Choice = Vec<[u16; 65]>;
+impl Default for Firsts {
+    fn default() -> Firsts {
+        let (of_alternative, choice, each) = (Vec::new(), Vec::new(), Vec::new());
+        let (waiting, links, new) = (Vec::new(), Vec::new(), Vec::new());
+        Firsts { openings: [0; 64], of_alternative, nullable: [0; 64], choice, each, waiting, links, new }
+    }
+}
+
+/// An alternative that is empty once so many nonterminals are.
+struct Waiting {
+    nonterminal: u8,
+    calls: u32,
+}
 
 fn bits(mut set: u64) -> impl Iterator<Item = u8> {
     std::iter::from_fn(move || {
@@ -23,57 +40,55 @@ fn bits(mut set: u64) -> impl Iterator<Item = u8> {
     })
 }
 
-/// The nonterminals that derive nothing. An alternative waits for those that it calls; each nonterminal found wakes the alternatives that
-/// wait for it, so every call is looked at twice.
-fn nullable(grammar: &Grammar) -> u64 {
-    struct Waiting {
-        nonterminal: u8,
-        calls: u32,
-    }
-    let mut waiting: Vec<Waiting> = Vec::new();
-    // For each nonterminal a list, through `links`, of the alternatives that wait for it.
-    let mut heads = [0u32; 64];
-    let mut links: Vec<(u32, u32)> = Vec::new();
-    let (mut found, mut new) = (0u64, Vec::new());
-    for nonterminal in bits(grammar.defined) {
-        for number in grammar.of(nonterminal) {
-            let mut calls = 0u64;
-            let only_calls = grammar.alternatives[number].items.of(&grammar.items).iter().all(|item| match item {
-                Item::Call { nonterminal, .. } => {
-                    calls |= 1 << nonterminal;
-                    true
+impl Firsts {
+    /// The nonterminals that derive nothing. An alternative waits for those that it calls; each nonterminal found wakes the alternatives that
+    /// wait for it, so every call is looked at twice.
+    fn nullables(&mut self, grammar: &Grammar) -> u64 {
+        self.waiting.clear();
+        self.links.clear();
+        // For each nonterminal a list, through `links`, of the alternatives that wait for it.
+        let mut heads = [0u32; 64];
+        let mut found = 0u64;
+        for nonterminal in bits(grammar.defined) {
+            for number in grammar.of(nonterminal) {
+                let mut calls = 0u64;
+                let only_calls = grammar.alternatives[number].items.of(&grammar.items).iter().all(|item| match item {
+                    Item::Call { nonterminal, .. } => {
+                        calls |= 1 << nonterminal;
+                        true
+                    }
+                    Item::Local => true,
+                    _ => false,
+                });
+                if !only_calls {
+                    continue;
                 }
-                Item::Local => true,
-                _ => false,
-            });
-            if !only_calls {
-                continue;
+                if calls == 0 && found & 1 << nonterminal == 0 {
+                    found |= 1 << nonterminal;
+                    self.new.push(nonterminal);
+                }
+                for called in bits(calls) {
+                    self.links.push((self.waiting.len() as u32, heads[usize::from(called)]));
+                    heads[usize::from(called)] = self.links.len() as u32;
+                }
+                self.waiting.push(Waiting { nonterminal, calls: calls.count_ones() });
             }
-            if calls == 0 && found & 1 << nonterminal == 0 {
-                found |= 1 << nonterminal;
-                new.push(nonterminal);
-            }
-            for called in bits(calls) {
-                links.push((waiting.len() as u32, heads[usize::from(called)]));
-                heads[usize::from(called)] = links.len() as u32;
-            }
-            waiting.push(Waiting { nonterminal, calls: calls.count_ones() });
         }
-    }
-    while let Some(nonterminal) = new.pop() {
-        let mut link = heads[usize::from(nonterminal)];
-        while link != 0 {
-            let (number, next) = links[link as usize - 1];
-            let woken = &mut waiting[number as usize];
-            woken.calls -= 1;
-            if woken.calls == 0 && found & 1 << woken.nonterminal == 0 {
-                found |= 1 << woken.nonterminal;
-                new.push(woken.nonterminal);
+        while let Some(nonterminal) = self.new.pop() {
+            let mut link = heads[usize::from(nonterminal)];
+            while link != 0 {
+                let (number, next) = self.links[link as usize - 1];
+                let woken = &mut self.waiting[number as usize];
+                woken.calls -= 1;
+                if woken.calls == 0 && found & 1 << woken.nonterminal == 0 {
+                    found |= 1 << woken.nonterminal;
+                    self.new.push(woken.nonterminal);
+                }
+                link = next;
             }
-            link = next;
         }
+        found
     }
-    found
 }
 
 /// What an alternative may begin with: kinds of its own and nonterminals called, up to the first item that is not nullable.
@@ -149,54 +164,60 @@ fn lowest_recursive(mut reaches: [u64; 64]) -> u64 {
     (0..64).find(|&n| reaches[n] & 1 << n != 0).unwrap_or(64) as u64
 }
 
-pub fn check(grammar: &Grammar) -> Result<Firsts, Refusal> {
-    let nullable = nullable(grammar);
-    let mut each = vec![Begins::default(); grammar.alternatives.len()];
-    let (mut own, mut calls) = ([0u64; 64], [0u64; 64]);
-    for nonterminal in bits(grammar.defined) {
-        for number in grammar.of(nonterminal) {
-            each[number] = begins(grammar.alternatives[number].items.of(&grammar.items), nullable);
-            own[usize::from(nonterminal)] |= each[number].own;
-            calls[usize::from(nonterminal)] |= each[number].calls;
-        }
-    }
-    let mut search = Search { calls: &calls, begun: 0, done: 0, openings: own };
-    for nonterminal in bits(grammar.defined) {
-        if search.done & 1 << nonterminal == 0 && !search.visit(nonterminal) {
-            return Err(Answer { number: 12, a: lowest_recursive(calls), b: 0, c: 0 });
-        }
-    }
-    let mut firsts = Firsts { openings: search.openings, of_alternative: vec![0; each.len()], nullable: [0; 64] };
-    for nonterminal in bits(grammar.defined) {
-        let (mut all, mut shared, mut nullables) = (0, 0, 0);
-        for number in grammar.of(nonterminal) {
-            let begins = each[number];
-            let openings = bits(begins.calls).fold(begins.own, |set, called| set | firsts.openings[usize::from(called)]);
-            firsts.of_alternative[number] = openings;
-            shared |= all & openings;
-            all |= openings;
-            if begins.nullable {
-                nullables += 1;
-                firsts.nullable[usize::from(nonterminal)] = number as u16 + 1;
+impl Firsts {
+    pub fn check(&mut self, grammar: &Grammar) -> Result<(), Refusal> {
+        let nullable = self.nullables(grammar);
+        self.each.clear();
+        self.each.resize(grammar.alternatives.len(), Begins::default());
+        let (mut own, mut calls) = ([0u64; 64], [0u64; 64]);
+        for nonterminal in bits(grammar.defined) {
+            for number in grammar.of(nonterminal) {
+                self.each[number] = begins(grammar.alternatives[number].items.of(&grammar.items), nullable);
+                own[usize::from(nonterminal)] |= self.each[number].own;
+                calls[usize::from(nonterminal)] |= self.each[number].calls;
             }
         }
-        if shared != 0 || nullables > 1 {
-            return Err(Answer { number: 13, a: nonterminal.into(), b: shared.trailing_zeros().into(), c: 0 });
+        let mut search = Search { calls: &calls, begun: 0, done: 0, openings: own };
+        for nonterminal in bits(grammar.defined) {
+            if search.done & 1 << nonterminal == 0 && !search.visit(nonterminal) {
+                return Err(Answer { number: 12, a: lowest_recursive(calls), b: 0, c: 0 });
+            }
         }
+        self.openings = search.openings;
+        self.nullable = [0; 64];
+        self.of_alternative.clear();
+        self.of_alternative.resize(self.each.len(), 0);
+        for nonterminal in bits(grammar.defined) {
+            let (mut all, mut shared, mut nullables) = (0, 0, 0);
+            for number in grammar.of(nonterminal) {
+                let begins = self.each[number];
+                let openings = bits(begins.calls).fold(begins.own, |set, called| set | self.openings[usize::from(called)]);
+                self.of_alternative[number] = openings;
+                shared |= all & openings;
+                all |= openings;
+                if begins.nullable {
+                    nullables += 1;
+                    self.nullable[usize::from(nonterminal)] = number as u16 + 1;
+                }
+            }
+            if shared != 0 || nullables > 1 {
+                return Err(Answer { number: 13, a: nonterminal.into(), b: shared.trailing_zeros().into(), c: 0 });
+            }
+        }
+        Ok(())
     }
-    Ok(firsts)
-}
 
-/// The alternative whose openings hold the kind; else the nullable one.
-pub fn choice(grammar: &Grammar, firsts: &Firsts) -> Choice {
-    let highest = 64 - grammar.defined.leading_zeros() as usize;
-    let mut choice: Choice = (0..highest).map(|nonterminal| [firsts.nullable[nonterminal]; 65]).collect();
-    for nonterminal in bits(grammar.defined) {
-        for number in grammar.of(nonterminal) {
-            for kind in bits(firsts.of_alternative[number]) {
-                choice[usize::from(nonterminal)][usize::from(kind)] = number as u16 + 1;
+    /// The alternative whose openings hold the kind; else the nullable one.
+    pub fn choose(&mut self, grammar: &Grammar) {
+        let highest = 64 - grammar.defined.leading_zeros() as usize;
+        self.choice.clear();
+        self.choice.extend(self.nullable[..highest].iter().map(|&nullable| [nullable; 65]));
+        for nonterminal in bits(grammar.defined) {
+            for number in grammar.of(nonterminal) {
+                for kind in bits(self.of_alternative[number]) {
+                    self.choice[usize::from(nonterminal)][usize::from(kind)] = number as u16 + 1;
+                }
             }
         }
     }
-    choice
 }

@@ -1,9 +1,9 @@
 //! The expansion: items from left to right, calls, cells, and refusals 17 to 21.
 
-use crate::firsts::{Choice, Firsts};
+use crate::firsts::Firsts;
 use crate::scan::Token;
-use crate::sorts::{name, Grammar, Item, Op, Span};
-use crate::table::{ARGUMENTS, NO_KIND, NUMBER, WORD};
+use crate::sorts::{name, Grammar, Item, Source, Span};
+use crate::table::{NO_KIND, NUMBER, WORD};
 use crate::{refusal, Answer, Refusal};
 
 /// What a run leaves: the cells made, the row of the whole term, and how many fresh names were given.
@@ -13,18 +13,25 @@ pub struct Ran {
     pub fresh: u32,
 }
 
-/// An open call: the items that are still to be met, the template of its result, and where its variables begin.
+/// An open call: the items that are still to be met, the cells and the value of its result, and where its variables begin.
 #[derive(Clone, Copy)]
 struct Frame {
     items: Span,
-    result: Span,
-    variables: usize,
+    cells: Span,
+    result: Source,
+    variables: u32,
+}
+
+/// The open calls round the innermost one, and the variables of all of them, those of the innermost last.
+#[derive(Default)]
+pub struct Stacks {
+    open: Vec<Frame>,
+    values: Vec<u32>,
 }
 
 struct Machine<'a> {
     grammar: &'a Grammar,
     firsts: &'a Firsts,
-    choice: &'a Choice,
     tokens: &'a [Token],
     cells: &'a mut [u32],
     rows: usize,
@@ -32,18 +39,17 @@ struct Machine<'a> {
     next: usize,
     fresh: u32,
     calls: usize,
-    /// The open calls round the innermost one.
-    open: Vec<Frame>,
-    /// The variables of all open calls, those of the innermost last; above them what a template has put together so far. The arguments of a call
-    /// are its first variables where they stand, and its result takes their place as the caller's next variable.
-    values: Vec<u32>,
+    open: &'a mut Vec<Frame>,
+    /// The arguments of a call are its first variables where they stand, and its result takes their place as the caller's next variable.
+    values: &'a mut Vec<u32>,
 }
 
-pub fn run(grammar: &Grammar, firsts: &Firsts, choice: &Choice, tokens: &[Token], cells: &mut [u32]) -> Result<Ran, Refusal> {
+pub fn run(grammar: &Grammar, firsts: &Firsts, tokens: &[Token], cells: &mut [u32], stacks: &mut Stacks) -> Result<Ran, Refusal> {
     let rows = (cells.len() / 4).min(16_384);
-    let (open, values) = (Vec::with_capacity(16), Vec::with_capacity(64));
-    let mut machine =
-        Machine { grammar, firsts, choice, tokens, cells, rows, made: 0, next: 0, fresh: 0, calls: 0, open, values };
+    let Stacks { open, values } = stacks;
+    open.clear();
+    values.clear();
+    let mut machine = Machine { grammar, firsts, tokens, cells, rows, made: 0, next: 0, fresh: 0, calls: 0, open, values };
     let root = machine.call(grammar.root, 0, 0)?;
     machine.items(root)?;
     if machine.next < tokens.len() {
@@ -58,11 +64,13 @@ impl Machine<'_> {
     }
 
     /// The token does not fit: 17.
+    #[cold]
     fn unfit(&self, openings: u64) -> Refusal {
         Answer { number: 17, a: self.next as u64, b: openings, c: openings.count_ones().into() }
     }
 
     /// Takes a token of the kind.
+    #[inline(always)]
     fn take(&mut self, kind: u8) -> Result<u32, Refusal> {
         match self.tokens.get(self.next) {
             Some(token) if token.kind == kind => {
@@ -75,30 +83,31 @@ impl Machine<'_> {
 
     /// Opens a call whose arguments are the last values, inside so many open ones.
     #[inline(always)]
-    fn call(&mut self, nonterminal: u8, parameters: u8, open: usize) -> Result<Frame, Refusal> {
+    fn call(&mut self, nonterminal: u8, arguments: usize, open: usize) -> Result<Frame, Refusal> {
         if open == 1_024 {
             return Err(refusal(19, self.next));
         }
         if self.calls == 65_536 {
             return Err(refusal(20, self.next));
         }
-        let chosen = self.choice[usize::from(nonterminal)][usize::from(self.kind())];
+        let chosen = self.firsts.choice[usize::from(nonterminal)][usize::from(self.kind())];
         let Some(number) = usize::from(chosen).checked_sub(1) else {
             return Err(self.unfit(self.firsts.openings[usize::from(nonterminal)]));
         };
         self.calls += 1;
         let alternative = &self.grammar.alternatives[number];
-        let variables = self.values.len() - usize::from(parameters);
-        Ok(Frame { items: alternative.items, result: alternative.result, variables })
+        let variables = (self.values.len() - arguments) as u32;
+        Ok(Frame { items: alternative.items, cells: alternative.cells, result: alternative.result, variables })
     }
 
     /// Items of the innermost call, until no call is open.
     fn items(&mut self, mut frame: Frame) -> Result<(), Refusal> {
         loop {
             if frame.items.from == frame.items.to {
-                self.templates(frame.result, frame.variables)?;
-                let value = self.values.pop().unwrap_or_default();
-                self.values.truncate(frame.variables);
+                let base = self.make(frame.cells, frame.variables)?;
+                let variables = frame.variables as usize;
+                let value = frame.result.value(&self.values[variables..], base);
+                self.values.truncate(variables);
                 self.values.push(value);
                 match self.open.pop() {
                     Some(outer) => frame = outer,
@@ -106,7 +115,7 @@ impl Machine<'_> {
                 }
                 continue;
             }
-            let item = self.grammar.items[frame.items.from as usize];
+            let item = self.grammar.items[usize::from(frame.items.from)];
             frame.items.from += 1;
             let value = match item {
                 Item::Keyword(kind) => self.take(kind).map(|_| 0)?,
@@ -117,9 +126,14 @@ impl Machine<'_> {
                     self.fresh += 1;
                     name(2, self.fresh)
                 }
-                Item::Call { nonterminal, parameters, arguments } => {
-                    self.templates(arguments, frame.variables)?;
-                    let inner = self.call(nonterminal, parameters, self.open.len() + 1)?;
+                Item::Call { nonterminal, cells, arguments } => {
+                    let base = self.make(cells, frame.variables)?;
+                    let arguments = arguments.of(&self.grammar.arguments);
+                    for argument in arguments {
+                        let value = argument.value(&self.values[frame.variables as usize..], base);
+                        self.values.push(value);
+                    }
+                    let inner = self.call(nonterminal, arguments.len(), self.open.len() + 1)?;
                     self.open.push(std::mem::replace(&mut frame, inner));
                     continue;
                 }
@@ -128,30 +142,19 @@ impl Machine<'_> {
         }
     }
 
-    /// Puts templates together: their values are the last ones afterwards.
+    /// Makes the cells of templates; the row of the first.
     #[inline(always)]
-    fn templates(&mut self, span: Span, variables: usize) -> Result<(), Refusal> {
-        for op in span.of(&self.grammar.ops) {
-            match *op {
-                Op::Variable(number) => self.values.push(self.values[variables + usize::from(number)]),
-                Op::Value(value) => self.values.push(value),
-                Op::Make(code) => {
-                    if self.made == self.rows {
-                        return Err(refusal(21, self.next));
-                    }
-                    let from = self.values.len() - ARGUMENTS[usize::from(code - 0x20)].len();
-                    let row = &mut self.cells[4 * self.made..][..4];
-                    row.fill(0);
-                    row[0] = code.into();
-                    for (cell, value) in row[1..].iter_mut().zip(&self.values[from..]) {
-                        *cell = *value;
-                    }
-                    self.values.truncate(from);
-                    self.values.push(self.made as u32);
-                    self.made += 1;
-                }
+    fn make(&mut self, cells: Span, variables: u32) -> Result<u32, Refusal> {
+        let base = self.made as u32;
+        let values = &self.values[variables as usize..];
+        for make in cells.of(&self.grammar.makes) {
+            if self.made == self.rows {
+                return Err(refusal(21, self.next));
             }
+            let [a, b, c] = make.arguments.map(|argument| argument.value(values, base));
+            self.cells[4 * self.made..][..4].copy_from_slice(&[make.code.into(), a, b, c]);
+            self.made += 1;
         }
-        Ok(())
+        Ok(base)
     }
 }

@@ -1,26 +1,46 @@
-//! Definitions block by block, sorts of bodies, and refusals 7, 8, 9 and 11. What passes is kept in the form that a run wants: templates in
-//! postfix order, and for each nonterminal the alternatives that normalizing leaves it.
+//! Definitions block by block, sorts of bodies, and refusals 7, 8, 9 and 11. What passes is kept in the form that a run wants: templates as the cells
+//! that they make, and for each nonterminal the alternatives that normalizing leaves it.
 
 use crate::table::*;
 use crate::{refusal, Refusal};
 
-/// A part of a template, in postfix order.
-#[derive(Clone, Copy)]
-pub enum Op {
-    Variable(u8),
-    Value(u32),
-    Make(u8),
+/// An argument of a cell to be made, in 32 bits: a value that is known, a variable, or a cell of the same templates by its number among them.
+#[derive(Clone, Copy, Default)]
+pub struct Source(u32);
+
+const VARIABLE: u32 = 1 << 30;
+const CELL: u32 = 2 << 30;
+
+impl Source {
+    /// The value, with the variables of the call and the row of the first cell of the templates.
+    #[inline(always)]
+    pub fn value(self, variables: &[u32], base: u32) -> u32 {
+        match self.0 >> 30 {
+            0 => self.0,
+            1 => variables[(self.0 & 15) as usize],
+            _ => base + (self.0 & !CELL),
+        }
+    }
 }
 
+/// A cell that a template makes.
 #[derive(Clone, Copy)]
+pub struct Make {
+    pub code: u8,
+    pub arguments: [Source; 3],
+}
+
+/// A table of 16,384 bytes has fewer items, cells and arguments than that.
+#[derive(Clone, Copy, Default)]
 pub struct Span {
-    pub from: u32,
-    pub to: u32,
+    pub from: u16,
+    pub to: u16,
 }
 
 impl Span {
+    #[inline(always)]
     pub fn of<'a, T>(&self, all: &'a [T]) -> &'a [T] {
-        &all[self.from as usize..self.to as usize]
+        &all[usize::from(self.from)..usize::from(self.to)]
     }
 }
 
@@ -31,18 +51,20 @@ pub enum Item {
     Label,
     Number,
     Local,
-    Call { nonterminal: u8, parameters: u8, arguments: Span },
+    /// The nonterminal, the cells of its arguments, and the arguments.
+    Call { nonterminal: u8, cells: Span, arguments: Span },
 }
 
 #[derive(Clone, Copy)]
 pub struct Alternative {
     pub items: Span,
-    pub result: Span,
+    pub cells: Span,
+    pub result: Source,
     /// The next alternative of the same nonterminal, plus one; 0 if there is none.
     next: u16,
 }
 
-#[derive(Clone, Copy)]
+#[derive(Clone, Copy, Default)]
 struct List {
     first: u16,
     last: u16,
@@ -54,8 +76,16 @@ pub struct Grammar {
     pub defined: u64,
     pub alternatives: Vec<Alternative>,
     pub items: Vec<Item>,
-    pub ops: Vec<Op>,
+    pub makes: Vec<Make>,
+    pub arguments: Vec<Source>,
     lists: [List; 64],
+}
+
+impl Default for Grammar {
+    fn default() -> Grammar {
+        let (alternatives, items, makes, arguments) = (Vec::new(), Vec::new(), Vec::new(), Vec::new());
+        Grammar { root: 0, defined: 0, alternatives, items, makes, arguments, lists: [List::default(); 64] }
+    }
 }
 
 impl Grammar {
@@ -67,6 +97,15 @@ impl Grammar {
             at = self.alternatives[number].next;
             Some(number)
         })
+    }
+
+    fn clear(&mut self) {
+        self.defined = 0;
+        self.alternatives.clear();
+        self.items.clear();
+        self.makes.clear();
+        self.arguments.clear();
+        self.lists = [List::default(); 64];
     }
 
     fn append(&mut self, nonterminal: u8, alternative: Alternative) {
@@ -87,100 +126,97 @@ pub fn name(class: u32, number: u32) -> u32 {
     class << 24 | number
 }
 
-struct Checker<'a> {
-    names: usize,
-    /// Result sort and parameter sorts of the nonterminals defined up to the present block.
-    signatures: [Option<&'a [u8]>; 64],
+pub struct Checker {
+    /// Where the result sort and the parameter sorts of each nonterminal stand, for those defined up to the present block.
+    signatures: [(u16, u16); 64],
     /// The sorts of the variables numbered so far in the present alternative.
     variables: Vec<u8>,
     /// What a template still owes, the next last: the sort of a part, or a constructor's code after the sorts of its arguments.
     owed: Vec<u8>,
-    grammar: Grammar,
+    /// The parts that are whole and stand in no cell yet.
+    parts: Vec<Source>,
+}
+
+impl Default for Checker {
+    fn default() -> Checker {
+        Checker { signatures: [(0, 0); 64], variables: Vec::new(), owed: Vec::new(), parts: Vec::new() }
+    }
 }
 
 fn fits(given: u8, asked: u8) -> bool {
     given == asked || given == BINDER && asked == VAR
 }
 
-/// Checks a table that `read` has passed.
-pub fn check(table: &[u8], spellings: &Spellings) -> Result<Grammar, Refusal> {
-    let mut checker = Checker {
-        names: spellings.names,
-        signatures: [None; 64],
-        variables: Vec::with_capacity(16),
-        owed: Vec::with_capacity(16),
-        grammar: Grammar {
-            root: 0,
-            defined: 0,
-            alternatives: Vec::with_capacity(table.len() / 16),
-            items: Vec::with_capacity(table.len() / 8),
-            ops: Vec::with_capacity(table.len() / 4),
-            lists: [List { first: 0, last: 0 }; 64],
-        },
-    };
-    let mut nonterminal = 0;
-    let mut signature: &[u8] = &[];
-    let mut items_from = 0;
-    let mut place = 0;
-    while let Some(field) = field_at(table, place) {
-        place = field.end();
-        match field.tag {
-            BLOCK => checker.define(table, place)?,
-            DEFINITION => {
-                nonterminal = field.value[0];
-                signature = &field.value[2..];
-                if field.value[1] == 2 {
-                    checker.grammar.lists[usize::from(nonterminal)] = List { first: 0, last: 0 };
+impl Checker {
+    /// Checks a table that `read` has passed.
+    pub fn check(&mut self, table: &[u8], read: &Table, grammar: &mut Grammar) -> Result<(), Refusal> {
+        grammar.clear();
+        let (mut block, mut heads) = (0, 0);
+        let mut nonterminal = 0;
+        let mut signature: &[u8] = &[];
+        let mut items_from = 0;
+        for &field in &read.fields {
+            let value = field.value(table);
+            match field.tag {
+                BLOCK => {
+                    let to = usize::from(read.blocks[block]);
+                    self.define(table, &read.heads[heads..to], grammar)?;
+                    (block, heads) = (block + 1, to);
+                }
+                DEFINITION => {
+                    nonterminal = value[0];
+                    signature = &value[2..];
+                    if value[1] == 2 {
+                        grammar.lists[usize::from(nonterminal)] = List::default();
+                    }
+                }
+                ALTERNATIVE => {
+                    self.variables.clear();
+                    self.variables.extend_from_slice(&signature[1..]);
+                    items_from = grammar.items.len() as u16;
+                }
+                ITEM => self.item(table, value, field.place(), read, grammar)?,
+                RESULT => {
+                    let items = Span { from: items_from, to: grammar.items.len() as u16 };
+                    let cells = self.templates(value, &signature[..1], field.place(), read.names, grammar)?;
+                    grammar.append(nonterminal, Alternative { items, cells, result: self.parts[0], next: 0 });
+                }
+                _ => {
+                    let root = usize::from(value[0]);
+                    if grammar.defined & 1 << root == 0 {
+                        return Err(refusal(9, field.place()));
+                    }
+                    if self.signature(table, root) != [TERM] {
+                        return Err(refusal(11, field.place()));
+                    }
+                    grammar.root = value[0];
                 }
             }
-            ALTERNATIVE => {
-                checker.variables.clear();
-                checker.variables.extend_from_slice(&signature[1..]);
-                items_from = checker.grammar.items.len() as u32;
-            }
-            ITEM => checker.item(&field, spellings.keywords)?,
-            RESULT => {
-                let items = Span { from: items_from, to: checker.grammar.items.len() as u32 };
-                let result = checker.templates(field.value, &signature[..1], field.place)?;
-                checker.grammar.append(nonterminal, Alternative { items, result, next: 0 });
-            }
-            ROOT => {
-                match checker.signatures[usize::from(field.value[0])] {
-                    None => return Err(refusal(9, field.place)),
-                    Some(&[TERM]) => checker.grammar.root = field.value[0],
-                    Some(_) => return Err(refusal(11, field.place)),
-                };
-            }
-            _ => {}
         }
+        Ok(())
     }
-    Ok(checker.grammar)
-}
 
-impl<'a> Checker<'a> {
-    /// The definitions of the block whose fields begin at `place`: 7 and 8.
-    fn define(&mut self, table: &'a [u8], mut place: usize) -> Result<(), Refusal> {
-        let earlier = self.grammar.defined;
+    fn signature<'a>(&self, table: &'a [u8], nonterminal: usize) -> &'a [u8] {
+        let (from, to) = self.signatures[nonterminal];
+        &table[usize::from(from)..usize::from(to)]
+    }
+
+    /// The definitions of a block: 7 and 8.
+    fn define(&mut self, table: &[u8], heads: &[Noted], grammar: &mut Grammar) -> Result<(), Refusal> {
+        let earlier = grammar.defined;
         let mut here = 0u64;
-        while let Some(field) = field_at(table, place) {
-            place = field.end();
-            match field.tag {
-                BLOCK | ROOT => break,
-                DEFINITION => {}
-                _ => continue,
-            }
-            let (nonterminal, mode, signature) = (usize::from(field.value[0]), field.value[1], &field.value[2..]);
+        for &head in heads {
+            let value = head.value(table);
+            let (nonterminal, mode, signature) = (usize::from(value[0]), value[1], &value[2..]);
             let bit = 1 << nonterminal;
             if mode == 0 {
-                if self.grammar.defined & bit != 0 {
-                    return Err(refusal(7, field.place));
+                if grammar.defined & bit != 0 {
+                    return Err(refusal(7, head.place()));
                 }
-                self.signatures[nonterminal] = Some(signature);
-                self.grammar.defined |= bit;
-            } else {
-                if earlier & bit == 0 || here & bit != 0 || self.signatures[nonterminal] != Some(signature) {
-                    return Err(refusal(8, field.place));
-                }
+                self.signatures[nonterminal] = (head.from + 2, head.to);
+                grammar.defined |= bit;
+            } else if earlier & bit == 0 || here & bit != 0 || self.signature(table, nonterminal) != signature {
+                return Err(refusal(8, head.place()));
             }
             here |= bit;
         }
@@ -188,43 +224,50 @@ impl<'a> Checker<'a> {
     }
 
     /// One item: its 9 before its 11; then its variable is numbered.
-    fn item(&mut self, field: &Field, keywords: usize) -> Result<(), Refusal> {
-        let operand = field.value[1];
-        let (item, sort) = match field.value[0] {
-            ITEM_KEYWORD if usize::from(operand) >= keywords => return Err(refusal(9, field.place)),
+    fn item(&mut self, table: &[u8], value: &[u8], place: usize, read: &Table, grammar: &mut Grammar) -> Result<(), Refusal> {
+        let operand = value[1];
+        let (item, sort) = match value[0] {
+            ITEM_KEYWORD if usize::from(operand) >= read.keywords => return Err(refusal(9, place)),
             ITEM_KEYWORD => (Item::Keyword(FIRST_KEYWORD + operand), 0),
             ITEM_IDE => (if operand == LABEL { Item::Label } else { Item::Name }, operand),
             ITEM_NUMBER => (Item::Number, 6),
             ITEM_LOCAL => (Item::Local, BINDER),
             _ => {
-                let Some(signature) = self.signatures[usize::from(operand)] else { return Err(refusal(9, field.place)) };
-                let arguments = self.templates(&field.value[2..], &signature[1..], field.place)?;
-                let parameters = (signature.len() - 1) as u8;
-                (Item::Call { nonterminal: operand, parameters, arguments }, signature[0])
+                if grammar.defined & 1 << operand == 0 {
+                    return Err(refusal(9, place));
+                }
+                let signature = self.signature(table, usize::from(operand));
+                let cells = self.templates(&value[2..], &signature[1..], place, read.names, grammar)?;
+                let from = grammar.arguments.len() as u16;
+                grammar.arguments.extend_from_slice(&self.parts);
+                let arguments = Span { from, to: grammar.arguments.len() as u16 };
+                (Item::Call { nonterminal: operand, cells, arguments }, signature[0])
             }
         };
-        self.grammar.items.push(item);
+        grammar.items.push(item);
         self.variables.push(sort);
         Ok(())
     }
 
-    /// Templates that must have the sorts asked, one each: all their 9 before any 11. They are put into postfix order on the way.
-    fn templates(&mut self, bytes: &[u8], sorts: &[u8], place: usize) -> Result<Span, Refusal> {
-        let from = self.grammar.ops.len() as u32;
+    /// Templates that must have the sorts asked, one each: all their 9 before any 11. The cells that they make are put together on the way, and
+    /// `parts` are the templates' own values afterwards.
+    fn templates(&mut self, bytes: &[u8], sorts: &[u8], place: usize, names: usize, grammar: &mut Grammar) -> Result<Span, Refusal> {
+        let from = grammar.makes.len();
         self.owed.clear();
         self.owed.extend(sorts.iter().rev());
+        self.parts.clear();
         let mut sorts_fit = true;
         let mut bytes = bytes.iter();
         while let Some(&byte) = bytes.next() {
-            let asked = self.asked();
+            let asked = self.asked(from, grammar);
             let given = match byte {
                 0x10 | 0x11 => {
                     let number = bytes.next().copied().unwrap_or(u8::MAX);
-                    if usize::from(number) >= self.names {
+                    if usize::from(number) >= names {
                         return Err(refusal(9, place));
                     }
                     let (class, sort) = if byte == 0x10 { (3, VAR) } else { (0, LABEL) };
-                    self.grammar.ops.push(Op::Value(name(class, number.into())));
+                    self.parts.push(Source(name(class, number.into())));
                     sort
                 }
                 0x20.. => {
@@ -236,24 +279,31 @@ impl<'a> Checker<'a> {
                 }
                 _ => {
                     let Some(&sort) = self.variables.get(usize::from(byte)) else { return Err(refusal(9, place)) };
-                    self.grammar.ops.push(Op::Variable(byte));
+                    self.parts.push(Source(VARIABLE | u32::from(byte)));
                     sort
                 }
             };
             // Where there are more templates than sorts, nothing is asked.
             sorts_fit &= asked.is_some_and(|asked| fits(given, asked));
         }
-        if !sorts_fit || self.asked().is_some() {
+        if !sorts_fit || self.asked(from, grammar).is_some() {
             return Err(refusal(11, place));
         }
-        Ok(Span { from, to: self.grammar.ops.len() as u32 })
+        Ok(Span { from: from as u16, to: grammar.makes.len() as u16 })
     }
 
-    /// The sort that is owed next, after the constructors whose arguments are complete.
-    fn asked(&mut self) -> Option<u8> {
+    /// The sort that is owed next, after the constructors whose arguments are complete: each is a cell of the last parts, and a part itself.
+    fn asked(&mut self, from: usize, grammar: &mut Grammar) -> Option<u8> {
         loop {
             match self.owed.pop() {
-                Some(code @ 0x20..) => self.grammar.ops.push(Op::Make(code)),
+                Some(code @ 0x20..) => {
+                    let behind = self.parts.len() - ARGUMENTS[usize::from(code & 7)].len();
+                    let mut arguments = [Source::default(); 3];
+                    arguments.iter_mut().zip(&self.parts[behind..]).for_each(|(argument, part)| *argument = *part);
+                    self.parts.truncate(behind);
+                    self.parts.push(Source(CELL | (grammar.makes.len() - from) as u32));
+                    grammar.makes.push(Make { code, arguments });
+                }
                 sort => return sort,
             }
         }

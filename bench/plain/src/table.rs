@@ -1,7 +1,7 @@
 //! The fields of a table, and refusals 1 to 6 and 10.
 
+use crate::words::{Place, Words};
 use crate::{refusal, Refusal};
-use std::collections::hash_map::{Entry, HashMap};
 
 pub const KEYWORD: u8 = 1;
 pub const NAME: u8 = 2;
@@ -33,20 +33,51 @@ pub const NUMBER: u8 = 1;
 pub const FIRST_KEYWORD: u8 = 2;
 pub const NO_KIND: u8 = 64;
 
-/// What a word means: its kind, and its spelling number where it is no keyword.
+/// A field behind the outside names: its tag, and where its value stands.
 #[derive(Clone, Copy)]
-pub struct Meaning {
-    pub kind: u8,
-    pub spelling: u32,
+pub struct Noted {
+    pub tag: u8,
+    pub from: u16,
+    pub to: u16,
 }
 
-/// The words and symbols that have a meaning, and the words by spelling number (outside names from 0, formula words from 64).
-pub struct Spellings<'a> {
+impl Noted {
+    pub fn value(self, table: &[u8]) -> &[u8] {
+        &table[usize::from(self.from)..usize::from(self.to)]
+    }
+
+    pub fn place(self) -> usize {
+        usize::from(self.from) - 3
+    }
+}
+
+/// A table as its layout gives it: the words and symbols that have a meaning, and the fields from the first block on.
+#[derive(Default)]
+pub struct Table {
     pub keywords: usize,
     pub names: usize,
-    pub symbols: [u8; 128],
-    pub words: HashMap<&'a [u8], Meaning>,
-    pub spelled: Vec<&'a [u8]>,
+    pub symbols: Symbols,
+    pub words: Words,
+    pub fields: Vec<Noted>,
+    /// The definitions of all blocks, and for each block how many there are up to its end.
+    pub heads: Vec<Noted>,
+    pub blocks: Vec<u16>,
+}
+
+/// The kind of each symbol.
+pub struct Symbols([u8; 128]);
+
+impl Default for Symbols {
+    fn default() -> Symbols {
+        Symbols([NO_KIND; 128])
+    }
+}
+
+impl std::ops::Index<usize> for Symbols {
+    type Output = u8;
+    fn index(&self, at: usize) -> &u8 {
+        &self.0[at]
+    }
 }
 
 #[derive(Clone, Copy)]
@@ -128,46 +159,91 @@ enum Stage {
     Root,
 }
 
-/// Reads the whole table: 1, then field by field 2, 3, 4, 5, 6, 10, then what is missing at the end.
-pub fn read(table: &[u8]) -> Result<Spellings<'_>, Refusal> {
-    if table.len() > 16_384 {
-        return Err(refusal(1, 0));
-    }
-    let mut spellings = Spellings { keywords: 0, names: 0, symbols: [NO_KIND; 128], words: HashMap::new(), spelled: Vec::new() };
-    let (mut blocks, mut alternatives) = (0, 0);
-    let mut stage = Stage::Keywords;
-    let mut place = 0;
-    while place < table.len() {
-        let Some(field) = field_at(table, place) else { return Err(refusal(2, place)) };
-        if !known(&field) {
-            return Err(refusal(3, place));
+impl Table {
+    /// Reads the whole table: 1, then field by field 2, 3, 4, 5, 6, 10, then what is missing at the end.
+    pub fn read(&mut self, table: &[u8]) -> Result<(), Refusal> {
+        if table.len() > 16_384 {
+            return Err(refusal(1, 0));
         }
-        let Some(next) = step(stage, field.tag) else { return Err(refusal(4, place)) };
-        stage = next;
-        match field.tag {
-            KEYWORD => keyword(&field, &mut spellings)?,
-            NAME => name(&field, &mut spellings)?,
-            BLOCK => counted(&mut blocks, 16, place)?,
-            ALTERNATIVE => counted(&mut alternatives, 256, place)?,
-            ITEM => {
-                if matches!(stage, Stage::Alternative(items) if items > 12) {
-                    return Err(refusal(6, place));
+        (self.keywords, self.names) = (0, 0);
+        self.symbols = Symbols::default();
+        self.words.clear();
+        self.fields.clear();
+        self.heads.clear();
+        self.blocks.clear();
+        let mut alternatives = 0;
+        let mut stage = Stage::Keywords;
+        let mut place = 0;
+        while place < table.len() {
+            let Some(field) = field_at(table, place) else { return Err(refusal(2, place)) };
+            if !known(&field) {
+                return Err(refusal(3, place));
+            }
+            let Some(next) = step(stage, field.tag) else { return Err(refusal(4, place)) };
+            stage = next;
+            let noted = Noted { tag: field.tag, from: place as u16 + 3, to: field.end() as u16 };
+            match field.tag {
+                KEYWORD => self.keyword(table, &field)?,
+                NAME => self.name(table, &field)?,
+                BLOCK => {
+                    if self.blocks.len() == 16 {
+                        return Err(refusal(6, place));
+                    }
+                    self.blocks.push(0);
                 }
-                if field.value[0] == ITEM_CALL && whole_templates(&field.value[2..]).is_none() {
-                    return Err(refusal(10, place));
+                DEFINITION => self.heads.push(noted),
+                ALTERNATIVE => counted(&mut alternatives, 256, place)?,
+                ITEM => {
+                    if matches!(stage, Stage::Alternative(items) if items > 12) {
+                        return Err(refusal(6, place));
+                    }
+                    if field.value[0] == ITEM_CALL && whole_templates(&field.value[2..]).is_none() {
+                        return Err(refusal(10, place));
+                    }
+                }
+                RESULT if whole_templates(field.value) != Some(1) => return Err(refusal(10, place)),
+                _ => {}
+            }
+            if field.tag > NAME {
+                self.fields.push(noted);
+                if let Some(heads) = self.blocks.last_mut() {
+                    *heads = self.heads.len() as u16;
                 }
             }
-            RESULT if whole_templates(field.value) != Some(1) => return Err(refusal(10, place)),
-            _ => {}
+            place = field.end();
         }
-        place = field.end();
+        if stage != Stage::Root {
+            return Err(refusal(4, place));
+        }
+        // Formula words are numbered from 64, wherever the outside names end.
+        self.words.spelled.resize(64, Place::default());
+        Ok(())
     }
-    if stage != Stage::Root {
-        return Err(refusal(4, place));
+
+    fn keyword(&mut self, table: &[u8], field: &Field) -> Result<(), Refusal> {
+        let kind = FIRST_KEYWORD + self.keywords as u8;
+        let is_new = if is_symbol(field.value) {
+            let slot = &mut self.symbols.0[usize::from(field.value[0])];
+            std::mem::replace(slot, kind) == NO_KIND
+        } else {
+            is_word(field.value) && self.words.keyword(table, spelled_at(field), kind)
+        };
+        if !is_new {
+            return Err(refusal(5, field.place));
+        }
+        counted(&mut self.keywords, 62, field.place)
     }
-    // Formula words are numbered from 64, wherever the outside names end.
-    spellings.spelled.resize(64, &[]);
-    Ok(spellings)
+
+    fn name(&mut self, table: &[u8], field: &Field) -> Result<(), Refusal> {
+        if !is_word(field.value) || !self.words.name(table, spelled_at(field), WORD) {
+            return Err(refusal(5, field.place));
+        }
+        counted(&mut self.names, 64, field.place)
+    }
+}
+
+fn spelled_at(field: &Field) -> Place {
+    Place { at: field.place as u16 + 3, length: field.value.len() as u8, in_formula: false }
 }
 
 /// Whether tag, length and values are known (3).
@@ -206,42 +282,6 @@ fn step(stage: Stage, tag: u8) -> Option<Stage> {
 fn counted(count: &mut usize, most: usize, place: usize) -> Result<(), Refusal> {
     *count += 1;
     if *count > most { Err(refusal(6, place)) } else { Ok(()) }
-}
-
-fn keyword<'a>(field: &Field<'a>, spellings: &mut Spellings<'a>) -> Result<(), Refusal> {
-    let kind = FIRST_KEYWORD + spellings.keywords as u8;
-    let is_new = if is_symbol(field.value) {
-        let slot = &mut spellings.symbols[usize::from(field.value[0])];
-        std::mem::replace(slot, kind) == NO_KIND
-    } else {
-        is_word(field.value) && spellings.words.insert(field.value, Meaning { kind, spelling: u32::MAX }).is_none()
-    };
-    if !is_new {
-        return Err(refusal(5, field.place));
-    }
-    counted(&mut spellings.keywords, 62, field.place)
-}
-
-fn name<'a>(field: &Field<'a>, spellings: &mut Spellings<'a>) -> Result<(), Refusal> {
-    if !is_word(field.value) {
-        return Err(refusal(5, field.place));
-    }
-    let spelling = spellings.names as u32;
-    match spellings.words.entry(field.value) {
-        Entry::Vacant(entry) => {
-            entry.insert(Meaning { kind: WORD, spelling });
-        }
-        // A keyword may be an outside name as well, once.
-        Entry::Occupied(mut entry) => {
-            let meaning = entry.get_mut();
-            if meaning.spelling != u32::MAX {
-                return Err(refusal(5, field.place));
-            }
-            meaning.spelling = spelling;
-        }
-    }
-    spellings.spelled.push(field.value);
-    counted(&mut spellings.names, 64, field.place)
 }
 
 /// How many templates the bytes are; none if a byte is unknown or the last template is cut.
