@@ -13,8 +13,12 @@ pub struct Ran {
     pub fresh: u32,
 }
 
+/// Open calls, and the variables of all of them: each has 16 at the most.
+const MOST_OPEN: usize = 1_024;
+const MOST_VALUES: usize = MOST_OPEN * 16;
+
 /// An open call: the items that are still to be met, the cells and the value of its result, and where its variables begin.
-#[derive(Clone, Copy)]
+#[derive(Clone, Copy, Default)]
 struct Frame {
     items: Span,
     cells: Span,
@@ -23,10 +27,15 @@ struct Frame {
 }
 
 /// The open calls round the innermost one, and the variables of all of them, those of the innermost last.
-#[derive(Default)]
 pub struct Stacks {
-    open: Vec<Frame>,
-    values: Vec<u32>,
+    open: Box<[Frame; MOST_OPEN]>,
+    values: Box<[u32; MOST_VALUES]>,
+}
+
+impl Default for Stacks {
+    fn default() -> Stacks {
+        Stacks { open: Box::new([Frame::default(); MOST_OPEN]), values: Box::new([0; MOST_VALUES]) }
+    }
 }
 
 struct Machine<'a> {
@@ -39,17 +48,17 @@ struct Machine<'a> {
     next: usize,
     fresh: u32,
     calls: usize,
-    open: &'a mut Vec<Frame>,
+    open: &'a mut [Frame; MOST_OPEN],
+    depth: usize,
     /// The arguments of a call are its first variables where they stand, and its result takes their place as the caller's next variable.
-    values: &'a mut Vec<u32>,
+    values: &'a mut [u32; MOST_VALUES],
+    top: usize,
 }
 
 pub fn run(grammar: &Grammar, firsts: &Firsts, tokens: &[Token], cells: &mut [u32], stacks: &mut Stacks) -> Result<Ran, Refusal> {
     let rows = (cells.len() / 4).min(16_384);
     let Stacks { open, values } = stacks;
-    open.clear();
-    values.clear();
-    let mut machine = Machine { grammar, firsts, tokens, cells, rows, made: 0, next: 0, fresh: 0, calls: 0, open, values };
+    let mut machine = Machine { grammar, firsts, tokens, cells, rows, made: 0, next: 0, fresh: 0, calls: 0, open, depth: 0, values, top: 0 };
     let root = machine.call(grammar.root, 0, 0)?;
     machine.items(root)?;
     if machine.next < tokens.len() {
@@ -84,7 +93,7 @@ impl Machine<'_> {
     /// Opens a call whose arguments are the last values, inside so many open ones.
     #[inline(always)]
     fn call(&mut self, nonterminal: u8, arguments: usize, open: usize) -> Result<Frame, Refusal> {
-        if open == 1_024 {
+        if open == MOST_OPEN {
             return Err(refusal(19, self.next));
         }
         if self.calls == 65_536 {
@@ -96,7 +105,7 @@ impl Machine<'_> {
         };
         self.calls += 1;
         let alternative = &self.grammar.alternatives[number];
-        let variables = (self.values.len() - arguments) as u32;
+        let variables = (self.top - arguments) as u32;
         Ok(Frame { items: alternative.items, cells: alternative.cells, result: alternative.result, variables })
     }
 
@@ -106,13 +115,13 @@ impl Machine<'_> {
             if frame.items.from == frame.items.to {
                 let base = self.make(frame.cells, frame.variables)?;
                 let variables = frame.variables as usize;
-                let value = frame.result.value(&self.values[variables..], base);
-                self.values.truncate(variables);
-                self.values.push(value);
-                match self.open.pop() {
-                    Some(outer) => frame = outer,
-                    None => return Ok(()),
+                self.values[variables] = frame.result.value(&self.values[variables..], base);
+                self.top = variables + 1;
+                if self.depth == 0 {
+                    return Ok(());
                 }
+                self.depth -= 1;
+                frame = self.open[self.depth];
                 continue;
             }
             let item = self.grammar.items[usize::from(frame.items.from)];
@@ -130,15 +139,17 @@ impl Machine<'_> {
                     let base = self.make(cells, frame.variables)?;
                     let arguments = arguments.of(&self.grammar.arguments);
                     for argument in arguments {
-                        let value = argument.value(&self.values[frame.variables as usize..], base);
-                        self.values.push(value);
+                        self.values[self.top] = argument.value(&self.values[frame.variables as usize..], base);
+                        self.top += 1;
                     }
-                    let inner = self.call(nonterminal, arguments.len(), self.open.len() + 1)?;
-                    self.open.push(std::mem::replace(&mut frame, inner));
+                    let inner = self.call(nonterminal, arguments.len(), self.depth + 1)?;
+                    self.open[self.depth] = std::mem::replace(&mut frame, inner);
+                    self.depth += 1;
                     continue;
                 }
             };
-            self.values.push(value);
+            self.values[self.top] = value;
+            self.top += 1;
         }
     }
 

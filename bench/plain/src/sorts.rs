@@ -126,20 +126,29 @@ pub fn name(class: u32, number: u32) -> u32 {
     class << 24 | number
 }
 
+/// A constructor of which so many arguments are whole.
+#[derive(Clone, Copy)]
+struct Open {
+    code: u8,
+    taken: u8,
+    arity: u8,
+    asked: [u8; 3],
+}
+
 pub struct Checker {
     /// Where the result sort and the parameter sorts of each nonterminal stand, for those defined up to the present block.
     signatures: [(u16, u16); 64],
     /// The sorts of the variables numbered so far in the present alternative.
     variables: Vec<u8>,
-    /// What a template still owes, the next last: the sort of a part, or a constructor's code after the sorts of its arguments.
-    owed: Vec<u8>,
+    /// The constructors whose arguments are not complete, the innermost last.
+    open: Vec<Open>,
     /// The parts that are whole and stand in no cell yet.
     parts: Vec<Source>,
 }
 
 impl Default for Checker {
     fn default() -> Checker {
-        Checker { signatures: [(0, 0); 64], variables: Vec::new(), owed: Vec::new(), parts: Vec::new() }
+        Checker { signatures: [(0, 0); 64], variables: Vec::new(), open: Vec::new(), parts: Vec::new() }
     }
 }
 
@@ -253,13 +262,16 @@ impl Checker {
     /// `parts` are the templates' own values afterwards.
     fn templates(&mut self, bytes: &[u8], sorts: &[u8], place: usize, names: usize, grammar: &mut Grammar) -> Result<Span, Refusal> {
         let from = grammar.makes.len();
-        self.owed.clear();
-        self.owed.extend(sorts.iter().rev());
+        self.open.clear();
         self.parts.clear();
-        let mut sorts_fit = true;
+        let (mut whole, mut sorts_fit) = (0, true);
         let mut bytes = bytes.iter();
         while let Some(&byte) = bytes.next() {
-            let asked = self.asked(from, grammar);
+            // Where there are more templates than sorts, nothing is asked.
+            let asked = match self.open.last() {
+                Some(open) => open.asked[usize::from(open.taken)],
+                None => sorts.get(whole).copied().unwrap_or(u8::MAX),
+            };
             let given = match byte {
                 0x10 | 0x11 => {
                     let number = bytes.next().copied().unwrap_or(u8::MAX);
@@ -271,10 +283,10 @@ impl Checker {
                     sort
                 }
                 0x20.. => {
-                    self.owed.push(byte);
-                    for &sort in ARGUMENTS[usize::from(byte & 7)].iter().rev() {
-                        self.owed.push(sort);
-                    }
+                    let arguments = ARGUMENTS[usize::from(byte & 7)];
+                    let mut asked = [0; 3];
+                    asked[..arguments.len()].copy_from_slice(arguments);
+                    self.open.push(Open { code: byte, taken: 0, arity: arguments.len() as u8, asked });
                     if byte == 0x25 || byte == 0x26 { FIELDS } else { TERM }
                 }
                 _ => {
@@ -283,29 +295,35 @@ impl Checker {
                     sort
                 }
             };
-            // Where there are more templates than sorts, nothing is asked.
-            sorts_fit &= asked.is_some_and(|asked| fits(given, asked));
+            sorts_fit &= fits(given, asked);
+            if byte < 0x20 || byte == 0x25 {
+                whole += usize::from(self.close(byte < 0x20, from, grammar));
+            }
         }
-        if !sorts_fit || self.asked(from, grammar).is_some() {
+        if !sorts_fit || whole != sorts.len() {
             return Err(refusal(11, place));
         }
         Ok(Span { from: from as u16, to: grammar.makes.len() as u16 })
     }
 
-    /// The sort that is owed next, after the constructors whose arguments are complete: each is a cell of the last parts, and a part itself.
-    fn asked(&mut self, from: usize, grammar: &mut Grammar) -> Option<u8> {
-        loop {
-            match self.owed.pop() {
-                Some(code @ 0x20..) => {
-                    let behind = self.parts.len() - ARGUMENTS[usize::from(code & 7)].len();
-                    let mut arguments = [Source::default(); 3];
-                    arguments.iter_mut().zip(&self.parts[behind..]).for_each(|(argument, part)| *argument = *part);
-                    self.parts.truncate(behind);
-                    self.parts.push(Source(CELL | (grammar.makes.len() - from) as u32));
-                    grammar.makes.push(Make { code, arguments });
-                }
-                sort => return sort,
+    /// A part is whole, or a constructor without arguments is open: constructors whose arguments are complete become cells. Whether no constructor is
+    /// open any more.
+    #[inline(always)]
+    fn close(&mut self, mut is_part: bool, from: usize, grammar: &mut Grammar) -> bool {
+        while let Some(open) = self.open.last_mut() {
+            open.taken += u8::from(is_part);
+            if open.taken < open.arity {
+                return false;
             }
+            let (code, behind) = (open.code, self.parts.len() - usize::from(open.arity));
+            let mut arguments = [Source::default(); 3];
+            arguments.iter_mut().zip(&self.parts[behind..]).for_each(|(argument, part)| *argument = *part);
+            self.parts.truncate(behind);
+            self.parts.push(Source(CELL | (grammar.makes.len() - from) as u32));
+            grammar.makes.push(Make { code, arguments });
+            self.open.pop();
+            is_part = true;
         }
+        true
     }
 }
