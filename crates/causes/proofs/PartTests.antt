@@ -14,9 +14,10 @@ use Rattle.answers.specs.Checked.{Checked, ok, bad, _>>=_, _>>_, need}
 use Rattle.spellings.proofs.BytesLaws.{by-test}
 use Rattle.grammar.specs.Sorts.{Signature, gives, unit, term}
 use Rattle.grammar.specs.SortTests.{fits}
-use Rattle.grammar.specs.Table.{Template, Templates, variable, outsideVar, outsideLabel, make, none, more, Item, keyword, ide, number, local, call}
+use Rattle.grammar.specs.Table.{Template, Templates, variable, outsideVar, outsideLabel, make, none, more, keyword, ide, number, Item, terminal}
+use Rattle.grammar.specs.Table.{local, call}
 use Rattle.grammar.specs.Table.{Mode, add, extend, update, Definition}
-use Rattle.decoding.specs.Within.{TemplateWithin, TemplatesWithin, ItemWithin, ide-within, call-within}
+use Rattle.decoding.specs.Within.{TemplateWithin, TemplatesWithin, ide-within, ItemWithin, terminal-within, call-within}
 use Rattle.judgements.specs.Scopes.{Env, Scope}
 use Rattle.judgements.specs.CheckSorts.{isDefined, signatureOf, sameSignature, isAsBefore, isUnused, consistent, isClosed, areClosed, sortOf, isSorted, fill}
 use Rattle.judgements.specs.CheckSorts.{checkItem, checkResult, checkRoot}
@@ -89,11 +90,11 @@ module _ (G : Scope) (L : List ℕ) (at : ℕ) where
 
   -- an item passes by a judgement, or fails
   pub item-view : (i : Item) → ItemWithin i → Outcome at (item G L i) (ItemSorted G L i) (checkItem G L at i)
-  item-view (keyword k) w =
+  item-view (terminal (keyword k)) w =
       by-test (ltb k (G .keywords)) (λ e. passing unit (by-keyword (ltb-true k (G .keywords) e)) (rw e refl))
       (λ e. failing (rules.undefined-item (no-keyword (ltb-false k (G .keywords) e))) (rw e refl))
-  item-view (ide s) (ide-within l u) = passing s (by-ide l u) refl
-  item-view number w = passing _ by-number refl
+  item-view (terminal (ide s)) (terminal-within (ide-within l u)) = passing s (by-ide l u) refl
+  item-view (terminal number) w = passing _ by-number refl
   item-view local w = passing _ by-local refl
   item-view (call n ts) (call-within l ws) =
       by-test (isDefined (G .env) n)

@@ -9,8 +9,8 @@ use lib.ListN.{length}
 use Rattle.answers.specs.declared.Refusal.{Refusal}
 use Rattle.answers.specs.Refusals.{refusal}
 use Rattle.grammar.specs.Sorts.{Signature, gives, term}
-use Rattle.grammar.specs.Table.{Template, Templates, variable, outsideVar, outsideLabel, make, more, Item, keyword, call, Alternative, add, Definition}
-use Rattle.grammar.specs.Table.{Table}
+use Rattle.grammar.specs.Table.{Template, Templates, variable, outsideVar, outsideLabel, make, more, keyword, Item, terminal, call, Alternative, add}
+use Rattle.grammar.specs.Table.{Definition, Table}
 use Rattle.grammar.specs.Values.{Field, field, headValue}
 use Rattle.grammar.specs.Encode.{fieldBytes, spellingsThen, itemsThen, alternativesThen, definitionsThen, blocksThen}
 use Rattle.judgements.specs.Scopes.{Env, Scope}
@@ -33,7 +33,7 @@ mutual
 
 -- in an item
 pub data UndefinedItem (G : Scope) (n : ℕ) : Item → Type 0 where
-  no-keyword : {k : ℕ} → G .keywords ≤ k → UndefinedItem G n (keyword k)
+  no-keyword : {k : ℕ} → G .keywords ≤ k → UndefinedItem G n (terminal (keyword k))
   no-nonterminal : {x : ℕ} {ts : Templates} → Undeclared (G .env) x → UndefinedItem G n (call x ts)
   in-arguments : {x : ℕ} {ts : Templates} → SomeUndefined (G .outsides) n ts → UndefinedItem G n (call x ts)
 

@@ -14,7 +14,7 @@ use Rattle.grammar.specs.Table.{Item}
 use Rattle.productions.specs.Normal.{Production}
 use Rattle.clashes.specs.CheckFirsts.{sharedBy, clash, anyPair, joinPairs}
 use Rattle.firsts.specs.FirstSets.{own, nullables, firstSets, firstOf, allPassed}
-use Rattle.firsts.specs.Rules.{First, first-own, first-call, first-past, Reads, reads-keyword, reads-word, reads-number}
+use Rattle.firsts.specs.Rules.{First, first-own, first-call, first-past, Reads, reads}
 use Rattle.clashes.specs.Clashes.{Before, Two, Shares, Clashes}
 use Rattle.firsts.proofs.EqualSets.{some-kind, kind-positive}
 use Rattle.firsts.proofs.Rounds.{or-left, or-right, or-split}
@@ -27,9 +27,7 @@ pub kind-small : {g : List Production} {is : List Item} {kind : ℕ} → First g
 kind-small (first-own r) = read-small r
   where
     read-small : {item : Item} {kind : ℕ} → Reads item kind → kind < 64
-    read-small (reads-keyword l) = omega arith
-    read-small reads-word = omega arith
-    read-small reads-number = omega arith
+    read-small (reads l) = l
 kind-small (first-call o f) = kind-small f
 kind-small (first-past n f) = kind-small f
 

@@ -7,7 +7,7 @@ use lib.ListN.{take}
 use Rattle.answers.specs.Refusals.{refusal}
 use Rattle.answers.specs.Checked.{Checked, ok, bad}
 use Rattle.kinds.specs.Kinds.{hasKind, only}
-use Rattle.grammar.specs.Table.{Item, variable, none, keyword, ide, number, local, call}
+use Rattle.grammar.specs.Table.{variable, none, keyword, ide, number, Item, terminal, local, call}
 use Rattle.productions.specs.Normal.{Production}
 use Rattle.clashes.specs.CheckFirsts.{lowest, anyWith, anyPair, joinWith, joinPairs, noLeftRecursion, noClash, checkFirsts}
 use Rattle.firsts.specs.FirstSets.{rounds, overAll, allPassed, nullStep, nullables, gather, firstStep, setsOf, firstSets, gatherBy, firstStepBy, setsBy}
@@ -19,9 +19,15 @@ n ⟶ is = record { nonterminal = n; items = is; result = variable 0 }
 abbrev nonterminal : ℕ → Item
 nonterminal n = call n none
 
+abbrev spelled : ℕ → Item
+spelled k = terminal (keyword k)
+
+abbrev digits : Item
+digits = terminal number
+
 -- 0 reads past a local and past 1, which may read nothing
 abbrev passing : List Production
-passing = 0 ⟶ (local ∷ nonterminal 1 ∷ keyword 3 ∷ []) ∷ 1 ⟶ (ide 1 ∷ []) ∷ 1 ⟶ [] ∷ []
+passing = 0 ⟶ (local ∷ nonterminal 1 ∷ spelled 3 ∷ []) ∷ 1 ⟶ (terminal (ide 1) ∷ []) ∷ 1 ⟶ [] ∷ []
 
 abbrev grammars : List (List Production)
 grammars =
@@ -31,12 +37,12 @@ grammars =
     -- 3 and 4 reach each other
     ∷ (4 ⟶ (nonterminal 3 ∷ []) ∷ 3 ⟶ (local ∷ nonterminal 4 ∷ []) ∷ [])
     -- three pairs share a keyword, and neither the first nor the last of them the lowest
-    ∷ (5 ⟶ (keyword 6 ∷ []) ∷ 5 ⟶ (keyword 6 ∷ []) ∷ 5 ⟶ (keyword 1 ∷ number ∷ []) ∷ 5 ⟶ (keyword 1 ∷ [])
-    ∷ 5 ⟶ (keyword 4 ∷ []) ∷ 5 ⟶ (keyword 4 ∷ local ∷ []) ∷ [])
+    ∷ (5 ⟶ (spelled 6 ∷ []) ∷ 5 ⟶ (spelled 6 ∷ []) ∷ 5 ⟶ (spelled 1 ∷ digits ∷ []) ∷ 5 ⟶ (spelled 1 ∷ [])
+    ∷ 5 ⟶ (spelled 4 ∷ []) ∷ 5 ⟶ (spelled 4 ∷ local ∷ []) ∷ [])
     -- both nullable, no kind shared
-    ∷ (7 ⟶ (local ∷ []) ∷ 7 ⟶ (nonterminal 8 ∷ []) ∷ 8 ⟶ (number ∷ []) ∷ 8 ⟶ [] ∷ [])
+    ∷ (7 ⟶ (local ∷ []) ∷ 7 ⟶ (nonterminal 8 ∷ []) ∷ 8 ⟶ (digits ∷ []) ∷ 8 ⟶ [] ∷ [])
     -- one production alone shares nothing with itself, nor two of different nonterminals
-    ∷ (9 ⟶ (number ∷ []) ∷ 10 ⟶ (number ∷ []) ∷ []) ∷ []
+    ∷ (9 ⟶ (digits ∷ []) ∷ 10 ⟶ (digits ∷ []) ∷ []) ∷ []
 
 abbrev results : List (Checked (Unit {0}))
 results =

@@ -10,13 +10,14 @@ use borrow.Author.Tests.{le-leb, leb-true, lt-ltb, ltb-true, eqb-true}
 use Rattle.spellings.specs.Bytes.{every}
 use Rattle.grammar.specs.Limits.{most}
 use Rattle.grammar.specs.SortTests.{isSort, isIdeSort}
-use Rattle.grammar.specs.Table.{Template, Templates, none, more, Item, keyword, ide, number, local, call, Alternative, Mode, add, extend, update, Definition}
+use Rattle.grammar.specs.Table.{Template, Templates, none, more, keyword, ide, number, Item, terminal, local, call, Alternative}
+use Rattle.grammar.specs.Table.{Mode, add, extend, update, Definition}
 use Rattle.grammar.specs.Values.{templateThen, templatesThen, itemValue, modeCode, headValue}
 use Rattle.decoding.specs.Prefix.{ReadTemplates, fault, parsed, templatesOf, isTemplates, isTemplate, found, headTemplate}
 use Rattle.decoding.specs.Layout.{isEmpty, isHead, isItem, isRoot, isKnown, isWhole}
 use Rattle.decoding.specs.Decode.{modeOf, itemOf, definitionOf}
-use Rattle.decoding.specs.Within.{Each, each-none, each-more, TemplateWithin, TemplatesWithin, ItemWithin, keyword-within, ide-within}
-use Rattle.decoding.specs.Within.{number-within, local-within, call-within, AlternativeWithin, DefinitionWithin}
+use Rattle.decoding.specs.Within.{Each, each-none, each-more, TemplateWithin, TemplatesWithin, keyword-within, ide-within}
+use Rattle.decoding.specs.Within.{number-within, ItemWithin, terminal-within, local-within, call-within, AlternativeWithin, DefinitionWithin}
 use Rattle.decoding.proofs.Split.{Bytes, dropped-bytes}
 use Rattle.decoding.proofs.Templates.{Forms, forms, more-parts, read-template, read-templates}
 
@@ -244,16 +245,16 @@ module _ (value : List ℕ) (bytes : Bytes value) where
   unfolding itemValue
   a-keyword h =
       let tests = and-eq-true-iff (eqb (getD value 0 0) 0) (eqb (length value) 2) .0 h in
-      (keyword (getD value 1 0), operand value 0 (getD value 1 0) (tests .0) (tests .1) refl, keyword-within (bytes 1))
+      (terminal (keyword (getD value 1 0)), operand value 0 (getD value 1 0) (tests .0) (tests .1) refl, terminal-within (keyword-within (bytes 1)))
 
   an-ide : ideTest value ≡ true → IsItem value
   unfolding itemValue
   an-ide h =
       let tests = and-three (eqb (getD value 0 0) 1) (eqb (length value) 2) (isIdeSort (getD value 1 0)) h in
       let sort = and-eq-true-iff (leb 1 (getD value 1 0)) (leb (getD value 1 0) 3) .0 (tests .2) in (
-        ide (getD value 1 0),
+        terminal (ide (getD value 1 0)),
         operand value 1 (getD value 1 0) (tests .0) (tests .1) refl,
-        ide-within (leb-true 1 (getD value 1 0) (sort .0)) (leb-true (getD value 1 0) 3 (sort .1)),
+        terminal-within (ide-within (leb-true 1 (getD value 1 0) (sort .0)) (leb-true (getD value 1 0) 3 (sort .1))),
       )
 
   -- a number or a local
@@ -281,16 +282,16 @@ module _ (value : List ℕ) (bytes : Bytes value) where
       (λ e. by-either (keywordTest value || ideTest value || plainTest value 2) (plainTest value 3) e
       (λ e. by-either (keywordTest value || ideTest value) (plainTest value 2) e
       (λ e. by-either (keywordTest value) (ideTest value) e a-keyword an-ide)
-      (λ e. (number, plain 2 e, number-within)))
+      (λ e. (terminal number, plain 2 e, terminal-within number-within)))
       (λ e. (local, plain 3 e, local-within)))
       (λ e. a-call e (and-left (argumentsTest value) true w))
 
 -- an item's bytes are known
 pub item-known : {item : Item} → ItemWithin item → isKnown 6 (itemValue item) ≡ true
 unfolding itemValue isItem
-item-known (keyword-within {k} h) = known-item (0 ∷ k ∷ [])
-item-known (ide-within {s} h l) = known-item (1 ∷ s ∷ []) ∙ rw (le-leb 1 s h, le-leb s 3 l) refl
-item-known number-within = known-item (2 ∷ 0 ∷ [])
+item-known (terminal-within (keyword-within {k} h)) = known-item (0 ∷ k ∷ [])
+item-known (terminal-within (ide-within {s} h l)) = known-item (1 ∷ s ∷ []) ∙ rw (le-leb 1 s h, le-leb s 3 l) refl
+item-known (terminal-within number-within) = known-item (2 ∷ 0 ∷ [])
 item-known local-within = known-item (3 ∷ 0 ∷ [])
 item-known (call-within {n} {ts} h w) =
     known-item (4 ∷ n ∷ templatesThen ts [])
@@ -299,17 +300,17 @@ item-known (call-within {n} {ts} h w) =
 -- they are whole
 pub item-whole : {item : Item} → ItemWithin item → isWhole 6 (itemValue item) ≡ true
 unfolding itemValue isWhole
-item-whole (keyword-within h) = refl
-item-whole (ide-within h l) = refl
-item-whole number-within = refl
+item-whole (terminal-within (keyword-within h)) = refl
+item-whole (terminal-within (ide-within h l)) = refl
+item-whole (terminal-within number-within) = refl
 item-whole local-within = refl
 item-whole (call-within {n} {ts} h w) = and-true (isTemplates (templatesOf (templatesThen ts []))) ∙ ap isTemplates (read-templates w)
 
 -- they are read as the item
 pub item-read : {item : Item} → ItemWithin item → itemOf (itemValue item) ≡ item
 unfolding itemValue itemOf
-item-read (keyword-within h) = refl
-item-read (ide-within h l) = refl
-item-read number-within = refl
+item-read (terminal-within (keyword-within h)) = refl
+item-read (terminal-within (ide-within h l)) = refl
+item-read (terminal-within number-within) = refl
 item-read local-within = refl
 item-read (call-within {n} {ts} h w) = cc (read-templates w)

@@ -4,8 +4,8 @@ use mathlib.Core.List.{List, [], _∷_}
 use lib.ListN.{getD, drop}
 use Rattle.answers.specs.Checked.{Checked, ok, bad, _>>=_, _>>_}
 use Rattle.grammar.specs.Sorts.{gives}
-use Rattle.grammar.specs.Table.{Template, Templates, variable, none, Item, keyword, ide, number, local, call, Alternative, Mode, add, extend, update}
-use Rattle.grammar.specs.Table.{Definition, Table}
+use Rattle.grammar.specs.Table.{Template, Templates, variable, none, keyword, ide, number, Item, terminal, local, call, Alternative}
+use Rattle.grammar.specs.Table.{Mode, add, extend, update, Definition, Table}
 use Rattle.grammar.specs.Fields.{RawFields, end, cut, next, fieldsOf}
 use Rattle.decoding.specs.Prefix.{templatesOf, found, headTemplate}
 use Rattle.decoding.specs.Layout.{layout}
@@ -38,9 +38,10 @@ modeOf m = getD (add ∷ extend ∷ update ∷ []) m add
 unfoldable pub itemOf : List ℕ → Item
 itemOf v =
     getD
-    (keyword (getD v 1 0) ∷ ide (getD v 1 0) ∷ number ∷ local ∷ call (getD v 1 0) (found (templatesOf (drop 2 v))) ∷ [])
+    (terminal (keyword (getD v 1 0))
+    ∷ terminal (ide (getD v 1 0)) ∷ terminal number ∷ local ∷ call (getD v 1 0) (found (templatesOf (drop 2 v))) ∷ [])
     (getD v 0 0)
-    number
+    (terminal number)
 
 -- the definition whose head is the value of a field 04
 unfoldable pub definitionOf : List ℕ → List Alternative → Definition

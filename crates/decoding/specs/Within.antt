@@ -6,8 +6,8 @@ use mathlib.Core.List.{List, [], _∷_}
 use lib.ListN.{length}
 use Rattle.spellings.specs.Bytes.{isWord, isKeyword}
 use Rattle.grammar.specs.Sorts.{arity}
-use Rattle.grammar.specs.Table.{Template, Templates, variable, outsideVar, outsideLabel, make, none, more, Item, keyword, ide, number, local, call}
-use Rattle.grammar.specs.Table.{Alternative, Definition, Table}
+use Rattle.grammar.specs.Table.{Template, Templates, variable, outsideVar, outsideLabel, make, none, more, Terminal, keyword, ide, number}
+use Rattle.grammar.specs.Table.{Item, terminal, local, call, Alternative, Definition, Table}
 use Rattle.grammar.specs.Encode.{encode}
 use Rattle.grammar.specs.Limits.{most}
 
@@ -44,11 +44,15 @@ mutual
     none-within : TemplatesWithin none
     more-within : {t : Template} {ts : Templates} → TemplateWithin t → TemplatesWithin ts → TemplatesWithin (more t ts)
 
--- 06: a keyword's number is a byte, an identifier's sort 1 to 3, a nonterminal its number
+-- a keyword's number is a byte, an identifier's sort 1 to 3
+pub data TerminalWithin : Terminal → Type 0 where
+  keyword-within : {k : ℕ} → k < 256 → TerminalWithin (keyword k)
+  ide-within : {s : ℕ} → 1 ≤ s → s ≤ 3 → TerminalWithin (ide s)
+  number-within : TerminalWithin number
+
+-- 06: a terminal, a fresh name, or a nonterminal with arguments
 pub data ItemWithin : Item → Type 0 where
-  keyword-within : {k : ℕ} → k < 256 → ItemWithin (keyword k)
-  ide-within : {s : ℕ} → 1 ≤ s → s ≤ 3 → ItemWithin (ide s)
-  number-within : ItemWithin number
+  terminal-within : {t : Terminal} → TerminalWithin t → ItemWithin (terminal t)
   local-within : ItemWithin local
   call-within : {n : ℕ} {ts : Templates} → n < most .nonterminals → TemplatesWithin ts → ItemWithin (call n ts)
 

@@ -16,7 +16,7 @@ use Rattle.productions.specs.Normal.{Production}
 use Rattle.clashes.specs.CheckFirsts.{checkFirsts}
 use Rattle.firsts.specs.FirstSets.{nullables, firstSets}
 use Rattle.decoding.specs.Within.{Among, among-first, among-later}
-use Rattle.firsts.specs.Rules.{First, first-own, first-call, first-past, Reads, reads-keyword, reads-word, reads-number}
+use Rattle.firsts.specs.Rules.{First, first-own, first-call, first-past, Reads, reads}
 use Rattle.firsts.proofs.FirstsTheorems.{production-opens-exactly, production-nullable-exactly}
 use Rattle.clashes.proofs.ClashTheorems.{one-production}
 use Rattle.expansion.specs.Expansion.{Rule, ruleOf, ready, Choice, unfit, chosen, firstRule, choice}
@@ -26,29 +26,27 @@ use Rattle.expansion.specs.Figure3.{Next, next, Opened, Taken, taken-ope
 -- ------------------------------------------------------------------ the kind of the next token
 
 -- the kind of the first token, and the kind that is in no set at the end
-abbrev pub kindOf : List Token → ℕ
-kindOf [] = noKind
-kindOf (t ∷ s) = t .kind
+abbrev pub nextKind : List Token → ℕ
+nextKind [] = noKind
+nextKind (t ∷ s) = t .kind
 
 -- the next token's kind, or the end's, is that of the tokens left
-pub kind-next : (at : ℕ) (tokens : List Token) → getD tokens at endToken .kind ≡ kindOf (drop at tokens)
+pub kind-next : (at : ℕ) (tokens : List Token) → getD tokens at endToken .kind ≡ nextKind (drop at tokens)
 kind-next zero [] = refl
 kind-next (suc at) [] = refl
 kind-next zero (t ∷ tokens) = refl
 kind-next (suc at) (t ∷ tokens) = kind-next at tokens
 
-next-is : {s : List Token} {kind : ℕ} → Next s kind → kindOf s ≡ kind
+next-is : {s : List Token} {kind : ℕ} → Next s kind → nextKind s ≡ kind
 next-is next = refl
 
-is-next : (s : List Token) {kind : ℕ} → kindOf s ≡ kind → kind < 64 → Next s kind
+is-next : (s : List Token) {kind : ℕ} → nextKind s ≡ kind → kind < 64 → Next s kind
 is-next [] e l = absurd (omega (arith, e))
 is-next (t ∷ s) e l = subst (Next (t ∷ s)) e next
 
 -- what stands first is a kind
 first-small : {g : List Production} {is : List Item} {kind : ℕ} → First g Reads is kind → kind < 64
-first-small (first-own (reads-keyword l)) = omega arith
-first-small (first-own reads-word) = omega arith
-first-small (first-own reads-number) = omega arith
+first-small (first-own (reads l)) = l
 first-small (first-call o f) = first-small f
 first-small (first-past z f) = first-small f
 
@@ -117,36 +115,36 @@ module _ (g : List Production) where
   abbrev pub rule : Production → Rule
   rule p = ruleOf (nullables g) (firstSets (nullables g) g) p
 
-  opened-first : {s : List Token} {p : Production} → Opened g s p → hasKind (rule p .first) (kindOf s) ≡ true
-  opened-first {s} {p} o = production-opens-exactly g p (kindOf s) .1 (subst (First g Reads (p .items)) (sym (next-is (o .token))) (o .first))
+  opened-first : {s : List Token} {p : Production} → Opened g s p → hasKind (rule p .first) (nextKind s) ≡ true
+  opened-first {s} {p} o = production-opens-exactly g p (nextKind s) .1 (subst (First g Reads (p .items)) (sym (next-is (o .token))) (o .first))
 
-  first-opened : (s : List Token) (p : Production) → hasKind (rule p .first) (kindOf s) ≡ true → Opened g s p
+  first-opened : (s : List Token) (p : Production) → hasKind (rule p .first) (nextKind s) ≡ true → Opened g s p
   first-opened s p h =
-      let f : First g Reads (p .items) (kindOf s) = production-opens-exactly g p (kindOf s) .0 h in
-      record { kind = kindOf s; token = is-next s refl (first-small f); first = f }
+      let f : First g Reads (p .items) (nextKind s) = production-opens-exactly g p (nextKind s) .0 h in
+      record { kind = nextKind s; token = is-next s refl (first-small f); first = f }
 
   -- what a choice answers: the rule of the production taken, or that none is
   pub data Picks (nonterminal : ℕ) (s : List Token) (given-choice : Choice) : Type 0 where
     picks : (p : Production) → Taken g nonterminal s p → given-choice ≡ chosen (rule p) → Picks nonterminal s given-choice
     picks-none : ((p : Production) → Taken g nonterminal s p → ⊥) → given-choice ≡ unfit → Picks nonterminal s given-choice
 
-  none-taken : {nonterminal : ℕ} {s : List Token} → Missing rule (λ p. refl) (λ r. hasKind (r .first) (kindOf s)) nonterminal
+  none-taken : {nonterminal : ℕ} {s : List Token} → Missing rule (λ p. refl) (λ r. hasKind (r .first) (nextKind s)) nonterminal
       (firstRule (λ r. r .nullable) nonterminal (map rule g) unfit) g
       → Missing rule (λ p. refl) (λ r. r .nullable) nonterminal unfit g → (p : Production) → Taken g nonterminal s p → ⊥
   none-taken m k p (taken-opened o h) = m .none-passed p (o .member) (o .owned) (opened-first h)
   none-taken m k p (taken-nullable o h z) = k .none-passed p (o .member) (o .owned) (production-nullable-exactly g p .1 z)
 
   -- the choice by the next kind picks the production that the tokens take
-  pub choice-picks : (nonterminal : ℕ) → nonterminal < 64 → (s : List Token) → Picks nonterminal s (choice (ready g) nonterminal (kindOf s))
+  pub choice-picks : (nonterminal : ℕ) → nonterminal < 64 → (s : List Token) → Picks nonterminal s (choice (ready g) nonterminal (nextKind s))
   unfolding ready
   choice-picks nonterminal l s =
-      go (first-rule rule (λ p. refl) (λ r. hasKind (r .first) (kindOf s)) nonterminal (firstRule (λ r. r .nullable) nonterminal (map rule g) unfit) g)
+      go (first-rule rule (λ p. refl) (λ r. hasKind (r .first) (nextKind s)) nonterminal (firstRule (λ r. r .nullable) nonterminal (map rule g) unfit) g)
       (first-rule rule (λ p. refl) (λ r. r .nullable) nonterminal unfit g)
     where
-      go : Found rule (λ p. refl) (λ r. hasKind (r .first) (kindOf s)) nonterminal (firstRule (λ r. r .nullable) nonterminal (map rule g) unfit) g
-          ⊎ Missing rule (λ p. refl) (λ r. hasKind (r .first) (kindOf s)) nonterminal (firstRule (λ r. r .nullable) nonterminal (map rule g) unfit) g
+      go : Found rule (λ p. refl) (λ r. hasKind (r .first) (nextKind s)) nonterminal (firstRule (λ r. r .nullable) nonterminal (map rule g) unfit) g
+          ⊎ Missing rule (λ p. refl) (λ r. hasKind (r .first) (nextKind s)) nonterminal (firstRule (λ r. r .nullable) nonterminal (map rule g) unfit) g
           → Found rule (λ p. refl) (λ r. r .nullable) nonterminal unfit g ⊎ Missing rule (λ p. refl) (λ r. r .nullable) nonterminal unfit g
-          → Picks nonterminal s (choice (ready g) nonterminal (kindOf s))
+          → Picks nonterminal s (choice (ready g) nonterminal (nextKind s))
       go (inl f) k =
           picks (f .production) (taken-opened (record { member = f .member; owned = f .of; small = l }) (first-opened s (f .production) (f .passed)))
           (f .answer)

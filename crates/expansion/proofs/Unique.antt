@@ -49,9 +49,7 @@ module _ {spell : ℕ → List ℕ} {M : List Value} where
 
 -- a terminal is no call, and reads one value
 abbrev isTerminal : Item → Bool
-isTerminal (Table.keyword k) = true
-isTerminal (Table.ide B) = true
-isTerminal Table.number = true
+isTerminal (Table.terminal t) = true
 isTerminal Table.local = true
 isTerminal (Table.call n ts) = false
 

@@ -8,9 +8,10 @@ use lib.ListN.{length, getD}
 use lib.Seq.{sets}
 use lib.Count.{ones}
 use Rattle.answers.specs.Refusals.{refusal}
-use Rattle.kinds.specs.Kinds.{wordKind, numberKind, keywordKind, hasKind, only}
+use Rattle.kinds.specs.Kinds.{hasKind, only}
 use Rattle.grammar.specs.Sorts.{label}
-use Rattle.grammar.specs.Table.{Table, Template, Templates, variable, outsideVar, outsideLabel, make, none, more, Item, keyword, ide, number, local, call}
+use Rattle.grammar.specs.Table.{Table, Template, Templates, variable, outsideVar, outsideLabel, make, none, more}
+use Rattle.grammar.specs.Table.{Terminal, keyword, ide, number, kindOf, Item, terminal, local, call}
 use Rattle.terms.specs.Cells.{columns, rowNumbers, rowsLent, wordName, freshName, outsideName}
 use Rattle.tokens.specs.declared.Token.{Token}
 use Rattle.tokens.specs.Tokens.{endToken}
@@ -117,11 +118,15 @@ freshMade s cells =
 abbrev pub wordValue : ℕ → ℕ → ℕ
 wordValue sort n = elim (eqb sort label) [ true ↦ n | false ↦ wordName n ]
 
+-- what a terminal gives of its token's value
+abbrev pub readValue : Terminal → ℕ → ℕ
+readValue (keyword k) v = 0
+readValue (ide s) v = wordValue s v
+readValue number v = v
+
 -- an item under the values of the variables; `callee` is what a call does
 abbrev pub runItem : (ℕ → List ℕ → Run ℕ) → Input → Item → List ℕ → Run ℕ
-runItem callee I (keyword k) M = takeToken I (keywordKind k) (λ v. 0)
-runItem callee I (ide s) M = takeToken I wordKind (wordValue s)
-runItem callee I number M = takeToken I numberKind (λ v. v)
+runItem callee I (terminal t) M = takeToken I (kindOf t) (readValue t)
 runItem callee I local M = freshMade
 runItem callee I (call n ts) M = buildAll ts I M >>= λ vs. callee n vs
 

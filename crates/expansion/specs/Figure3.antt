@@ -14,7 +14,7 @@ use mathlib.Core.Path.{_≡_}
 use mathlib.Core.List.{List, [], _∷_, _++_}
 use Rattle.kinds.specs.Kinds.{wordKind, numberKind, keywordKind}
 use Rattle.grammar.specs.Sorts as Sorts
-use Rattle.grammar.specs.Table.{Template, Templates, none, more, Item, keyword, ide, local, call}
+use Rattle.grammar.specs.Table.{Template, Templates, none, more, keyword, ide, Item, terminal, local, call}
 use Rattle.grammar.specs.Table as Table
 use Rattle.tokens.specs.declared.Token.{Token}
 use Rattle.productions.specs.Normal.{Production}
@@ -112,14 +112,14 @@ module _ (g : List Production) (spell : ℕ → List ℕ) where
   pub data ⟨_∣_⟩_⇒⟨_∣_⟩_ : List Token → ℕ → Item → List Token → ℕ → Value → Type 0 where
     by-keyword : {t : Token} {s : List Token} {i k : ℕ}
         → t .kind ≡ keywordKind k
-        → ⟨ t ∷ s ∣ i ⟩ keyword k ⇒⟨ s ∣ i ⟩ unit
+        → ⟨ t ∷ s ∣ i ⟩ terminal (keyword k) ⇒⟨ s ∣ i ⟩ unit
     by-ide : {t : Token} {s : List Token} {i B : ℕ} {v : Value}
         → t .kind ≡ wordKind
         → WordAs B (spell (t .value)) v
-        → ⟨ t ∷ s ∣ i ⟩ ide B ⇒⟨ s ∣ i ⟩ v
+        → ⟨ t ∷ s ∣ i ⟩ terminal (ide B) ⇒⟨ s ∣ i ⟩ v
     by-number : {t : Token} {s : List Token} {i : ℕ}
         → t .kind ≡ numberKind
-        → ⟨ t ∷ s ∣ i ⟩ Table.number ⇒⟨ s ∣ i ⟩ num (t .value)
+        → ⟨ t ∷ s ∣ i ⟩ terminal Table.number ⇒⟨ s ∣ i ⟩ num (t .value)
     by-local : {s : List Token} {i : ℕ} → ⟨ s ∣ i ⟩ local ⇒⟨ s ∣ i + 1 ⟩ binder (fresh i)
 
 -- x1 = p1 .. xk = pk, from the variables M and the configuration ⟨s, i⟩ to M' and ⟨s', i'⟩; arguments come before their call, whose

@@ -10,7 +10,7 @@ use lib.ListN.{length, replicate, length-replicate, List·getD-eq-default}
 use lib.Seq.{ext-getD}
 use Rattle.kinds.specs.Kinds.{hasKind}
 use Rattle.kinds.proofs.KindsLaws.{has-none, has-own}
-use Rattle.grammar.specs.Table.{Item, keyword, ide, number, local, call}
+use Rattle.grammar.specs.Table.{Item, terminal, local, call}
 use Rattle.productions.specs.Normal.{Production}
 use Rattle.firsts.specs.FirstSets.{overAll, isPassed, own, firstStep, setsOf}
 use Rattle.firsts.specs.Rules.{Of}
@@ -25,9 +25,7 @@ use Rattle.firsts.proofs.StepLaws.{length-sets, length-over}
 
 -- an item that gives `callee` to the left calls calls `callee`
 own-called : (numbers : Numbers) (callee : ℕ) → numbers callee ≡ true → (item : Item) → hasKind (own true item) callee ≡ true → called numbers item ≡ true
-own-called numbers callee h (keyword w) e = absurd (false≢true (sym (has-none callee) ∙ e))
-own-called numbers callee h (ide w) e = absurd (false≢true (sym (has-none callee) ∙ e))
-own-called numbers callee h number e = absurd (false≢true (sym (has-none callee) ∙ e))
+own-called numbers callee h (terminal t) e = absurd (false≢true (sym (has-none callee) ∙ e))
 own-called numbers callee h local e = absurd (false≢true (sym (has-none callee) ∙ e))
 own-called numbers callee h (call n ts) e = rw (← (only-has n callee e .0)) h
 
@@ -65,9 +63,7 @@ by-parts calls nulls kind numbers (i ∷ is) e =
     (or-split (given (own calls) kind numbers i) e)
   where
     callee-of : (item : Item) → called numbers item ≡ true → LeftCallee nulls numbers (item ∷ is)
-    callee-of (keyword w) f = absurd (false≢true f)
-    callee-of (ide w) f = absurd (false≢true f)
-    callee-of number f = absurd (false≢true f)
+    callee-of (terminal t) f = absurd (false≢true f)
     callee-of local f = absurd (false≢true f)
     callee-of (call n ts) f = record { callee = n; in-it = f; stands = λ l. or-left _ (or-left _ (has-own n l)) }
 

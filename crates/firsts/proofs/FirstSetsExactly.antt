@@ -13,12 +13,12 @@ use lib.Bits.{bitOr}
 use lib.ListN.{length, getD, replicate, length-set, length-replicate, getD-replicate, List·getD-eq-default}
 use lib.Seq.{set-out, getD-set-same, getD-set-other}
 use borrow.Author.Tests.{lt-ltb, le-ltb, eq-eqb, ne-eqb, eqb-true, ltb-true}
-use Rattle.kinds.specs.Kinds.{hasKind, only, keywordKind, wordKind, numberKind}
+use Rattle.kinds.specs.Kinds.{hasKind, only}
 use Rattle.kinds.proofs.KindsLaws.{has-none, has-join, has-only, has-own}
-use Rattle.grammar.specs.Table.{Item, keyword, ide, number, local, call}
+use Rattle.grammar.specs.Table.{keyword, ide, number, kindOf, Item, terminal, local, call}
 use Rattle.productions.specs.Normal.{Production}
 use Rattle.firsts.specs.FirstSets.{patternOf, overAll, isPassed, nullables, own, through, joinedBy, gatherBy, firstStepBy, setsBy}
-use Rattle.firsts.specs.Rules.{ReadsAt, reads-at, Of, First, first-own, first-call, first-past, FirstOf, Reads, reads-keyword, reads-word, reads-number, Calls, calls}
+use Rattle.firsts.specs.Rules.{ReadsAt, reads-at, Of, First, first-own, first-call, first-past, FirstOf, Reads, reads, Calls, calls}
 use Rattle.firsts.proofs.Rounds.{Numbers, same-at, nothing, Within, Each, admit, least, least-within, least-closed, least-seen, over-seen}
 use Rattle.firsts.proofs.Rounds.{or-left, or-right, or-split}
 use Rattle.firsts.proofs.NullablesExactly.{null-item-exactly}
@@ -31,9 +31,7 @@ bitOfAll b sets n = hasKind (getD sets n 0) b
 
 -- an item calls a nonterminal of the set
 abbrev pub called : Numbers → Item → Bool
-called s (keyword k) = false
-called s (ide b) = false
-called s number = false
+called s (terminal t) = false
 called s local = false
 called s (call n ts) = s n
 
@@ -47,17 +45,13 @@ firstIn mine nulls b s [] = false
 firstIn mine nulls b s (i ∷ is) = given mine b s i || (isPassed nulls i && firstIn mine nulls b s is)
 
 called-seen : (kind : ℕ) (sets : List ℕ) (item : Item) → hasKind (through sets item) kind ≡ called (bitOfAll kind sets) item
-called-seen kind sets (keyword k) = has-none kind
-called-seen kind sets (ide s) = has-none kind
-called-seen kind sets number = has-none kind
+called-seen kind sets (terminal t) = has-none kind
 called-seen kind sets local = has-none kind
 called-seen kind sets (call n ts) = refl
 
 -- a larger set is called by no fewer items
 pub called-more : (numbers others : Numbers) → Within numbers others → (item : Item) → called numbers item ≡ true → called others item ≡ true
-called-more numbers others h (keyword k) e = e
-called-more numbers others h (ide b) e = e
-called-more numbers others h number e = e
+called-more numbers others h (terminal t) e = e
 called-more numbers others h local e = e
 called-more numbers others h (call n ts) e = h n e
 
@@ -163,9 +157,7 @@ module _ (mine : Item → ℕ) (Own : Item → ℕ → Type 0) (own-exactly : (i
     (g : List Production) where
   called-sound : (kind : ℕ) (numbers : Numbers) → Each (λ n. FirstOf g Own n kind) numbers → (item : Item) (is : List Item)
       → called numbers item ≡ true → First g Own (item ∷ is) kind
-  called-sound kind numbers hs (keyword k) is e = absurd (false≢true e)
-  called-sound kind numbers hs (ide k) is e = absurd (false≢true e)
-  called-sound kind numbers hs number is e = absurd (false≢true e)
+  called-sound kind numbers hs (terminal t) is e = absurd (false≢true e)
   called-sound kind numbers hs local is e = absurd (false≢true e)
   called-sound kind numbers hs (call n ts) is e = let f = hs n e in first-call (f .of) (f .first)
 
@@ -227,25 +219,19 @@ pub reads-exactly : (item : Item) (kind : ℕ) → (hasKind (own false item) kin
 reads-exactly item kind = (sound item, complete item kind)
   where
     sound : (item : Item) → hasKind (own false item) kind ≡ true → Reads item kind
-    sound (keyword k) e = let t = only-has (keywordKind k) kind e in rw (t .0) (reads-keyword {k = k} (omega arith))
-    sound (ide s) e = rw (only-has wordKind kind e .0) reads-word
-    sound number e = rw (only-has numberKind kind e .0) reads-number
+    sound (terminal t) e = let o = only-has (kindOf t) kind e in rw (o .0) (reads {t = t} (omega (arith, o)))
     sound local e = absurd (none-has kind e)
     sound (call n ts) e = absurd (none-has kind e)
 
     complete : (item : Item) (kind : ℕ) → Reads item kind → hasKind (own false item) kind ≡ true
-    complete _ _ (reads-keyword {k = k} l) = has-own (keywordKind k) (omega arith)
-    complete _ _ reads-word = has-own wordKind (omega arith)
-    complete _ _ reads-number = has-own numberKind (omega arith)
+    complete _ _ (reads {t = t} l) = has-own (kindOf t) l
 
 -- an item gives its nonterminal to the left calls
 pub calls-exactly : (item : Item) (kind : ℕ) → (hasKind (own true item) kind ≡ true) ↔ Calls item kind
 calls-exactly item kind = (sound item, complete item kind)
   where
     sound : (item : Item) → hasKind (own true item) kind ≡ true → Calls item kind
-    sound (keyword k) e = absurd (none-has kind e)
-    sound (ide s) e = absurd (none-has kind e)
-    sound number e = absurd (none-has kind e)
+    sound (terminal t) e = absurd (none-has kind e)
     sound local e = absurd (none-has kind e)
     sound (call n ts) e = let t = only-has n kind e in rw (t .0) (calls {n = n} (omega arith))
 
@@ -257,9 +243,9 @@ pub reads-at-exactly : (item : Item) (kind : ℕ) → (hasKind (patternOf item) 
 reads-at-exactly item kind = (sound item, complete item kind)
   where
     sound : (item : Item) → hasKind (patternOf item) kind ≡ true → ReadsAt item kind
-    sound (keyword k) e = absurd (none-has kind e)
-    sound (ide s) e = let t = only-has s kind e in rw (t .0) (reads-at {s = s} (omega arith))
-    sound number e = absurd (none-has kind e)
+    sound (terminal (keyword k)) e = absurd (none-has kind e)
+    sound (terminal (ide s)) e = let t = only-has s kind e in rw (t .0) (reads-at {s = s} (omega arith))
+    sound (terminal number) e = absurd (none-has kind e)
     sound local e = absurd (none-has kind e)
     sound (call n ts) e = absurd (none-has kind e)
 

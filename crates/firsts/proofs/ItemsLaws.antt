@@ -9,7 +9,7 @@ use borrow.Author.Tests.{eq-eqb, ne-eqb}
 use lib.ListN.{length, getD, take, drop, List·getD-map}
 use Rattle.kinds.specs.Kinds.{only, keywordKind}
 use Rattle.kinds.proofs.KindsLaws.{only-none}
-use Rattle.grammar.specs.Table.{Item, keyword, ide, number, local, call}
+use Rattle.grammar.specs.Table.{keyword, ide, number, Item, terminal, local, call}
 use Rattle.grammar.specs.declared.Front.{Front}
 use Rattle.grammar.specs.declared.Front.the-variants.{Nothing, Short, Field}
 use Rattle.grammar.specs.Lookup.{frontOf, fieldsAt}
@@ -37,9 +37,10 @@ unfolding itemOf
 symbol-by value =
     sym
     (List·getD-map symbolOf
-    (keyword (getD value 1 0) ∷ ide (getD value 1 0) ∷ number ∷ local ∷ call (getD value 1 0) (found (templatesOf (drop 2 value))) ∷ [])
+    (terminal (keyword (getD value 1 0))
+    ∷ terminal (ide (getD value 1 0)) ∷ terminal number ∷ local ∷ call (getD value 1 0) (found (templatesOf (drop 2 value))) ∷ [])
     (getD value 0 0)
-    number)
+    (terminal number))
 
 -- the symbol by the first two bytes of a value
 pub symbol-is : (value : List ℕ) (kind operand code : ℕ) → kind ≡ getD value 0 0 → operand ≡ getD value 1 0 → kind ≡ code
@@ -64,28 +65,28 @@ symbol-other value kind operand ek eo n0 n1 n3 n4 = sym (other kind n0 n1 n3 n4)
 
 -- nullables and first sets look at the symbol alone
 passed-by : (nulls : ℕ) (item : Item) → isPassed nulls (withSymbol (symbolOf item)) ≡ isPassed nulls item
-passed-by nulls (keyword k) = refl
-passed-by nulls (ide s) = refl
-passed-by nulls number = refl
+passed-by nulls (terminal (keyword k)) = refl
+passed-by nulls (terminal (ide s)) = refl
+passed-by nulls (terminal number) = refl
 passed-by nulls local = refl
 passed-by nulls (call n ts) = refl
 
 own-by : (calls : Bool) (item : Item) → own calls (withSymbol (symbolOf item)) ≡ own calls item
-own-by true (keyword k) = refl
-own-by true (ide s) = refl
-own-by true number = refl
+own-by true (terminal (keyword k)) = refl
+own-by true (terminal (ide s)) = refl
+own-by true (terminal number) = refl
 own-by true local = refl
 own-by true (call n ts) = refl
-own-by false (keyword k) = refl
-own-by false (ide s) = refl
-own-by false number = refl
+own-by false (terminal (keyword k)) = refl
+own-by false (terminal (ide s)) = refl
+own-by false (terminal number) = refl
 own-by false local = refl
 own-by false (call n ts) = refl
 
 through-by : (sets : List ℕ) (item : Item) → through sets (withSymbol (symbolOf item)) ≡ through sets item
-through-by sets (keyword k) = refl
-through-by sets (ide s) = refl
-through-by sets number = refl
+through-by sets (terminal (keyword k)) = refl
+through-by sets (terminal (ide s)) = refl
+through-by sets (terminal number) = refl
 through-by sets local = refl
 through-by sets (call n ts) = refl
 

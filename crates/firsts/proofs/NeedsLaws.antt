@@ -13,7 +13,7 @@ use lib.Seq.{getD-set-same, getD-set-other}
 use borrow.Author.Tests.{eq-eqb, ne-eqb, eqb-true}
 use Rattle.kinds.specs.Kinds.{hasKind, only}
 use Rattle.kinds.proofs.KindsLaws.{has-none, has-join, has-own, has-above, only-bound}
-use Rattle.grammar.specs.Table.{Item, keyword, ide, number, local, call}
+use Rattle.grammar.specs.Table.{Item, terminal, local, call}
 use Rattle.grammar.specs.Lookup.{fieldsAt}
 use Rattle.productions.specs.Normal.{Production}
 use Rattle.productions.specs.Index.{itemsOf, productionAt, productionsBy}
@@ -95,25 +95,19 @@ joined-in reached-set other e nonterminal f =
 
 -- an item that is passed is passed with all nonterminals nullable
 passed-every : {nulls : ℕ} → Nonterminals nulls → (item : Item) → isPassed nulls item ≡ true → isPassed everyOne item ≡ true
-passed-every h (keyword k) e = e
-passed-every h (ide s) e = e
-passed-every h number e = e
+passed-every h (terminal t) e = e
 passed-every h local e = e
 passed-every h (call n ts) e = every-has n (small-in h n e)
 
 -- what an item calls, where it is passed
 passed-needs : (nulls kind : ℕ) (item : Item) → isPassed nulls item ≡ true → given (own true) kind nothing item ≡ true → hasKind nulls kind ≡ true
-passed-needs nulls kind (keyword k) e f = absurd (false≢true e)
-passed-needs nulls kind (ide s) e f = absurd (false≢true e)
-passed-needs nulls kind number e f = absurd (false≢true e)
+passed-needs nulls kind (terminal t) e f = absurd (false≢true e)
 passed-needs nulls kind local e f = absurd (⊎-elim (λ p. false≢true (sym (has-none kind) ∙ p)) (λ p. false≢true p) (or-split (hasKind 0 kind) f))
 passed-needs nulls kind (call n ts) e f = rw (only-has n kind (⊎-elim (λ p. p) (λ p. absurd (false≢true p)) (or-split (hasKind (only n) kind) f)) .0) e
 
 needs-passed : (nulls : ℕ) (item : Item) → isPassed everyOne item ≡ true → ((kind : ℕ) → given (own true) kind nothing item ≡ true → hasKind nulls kind ≡ true)
     → isPassed nulls item ≡ true
-needs-passed nulls (keyword k) e h = e
-needs-passed nulls (ide s) e h = e
-needs-passed nulls number e h = e
+needs-passed nulls (terminal t) e h = e
 needs-passed nulls local e h = e
 needs-passed nulls (call n ts) e h = h n (or-left _ (has-own n (every-small n e)))
 

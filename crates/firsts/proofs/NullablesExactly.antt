@@ -6,7 +6,7 @@ use mathlib.Core.Logic.{_↔_}
 use mathlib.Core.List.{List, [], _∷_}
 use Rattle.kinds.specs.Kinds.{hasKind, only}
 use Rattle.kinds.proofs.KindsLaws.{has-none, has-join, has-only}
-use Rattle.grammar.specs.Table.{Item, keyword, ide, number, local, call}
+use Rattle.grammar.specs.Table.{Item, terminal, local, call}
 use Rattle.productions.specs.Normal.{Production}
 use Rattle.firsts.specs.FirstSets.{overAll, isPassed, allPassed, nullStep, nullables}
 use Rattle.firsts.specs.Rules.{Of, NullItems, null-none, null-local, null-call, Nullable}
@@ -16,9 +16,7 @@ use Rattle.firsts.proofs.EqualSets.{same-set}
 -- ------------------------------------------------------------------ the test of items, with the nullables as a set
 
 abbrev passed : Numbers → Item → Bool
-passed s (keyword k) = false
-passed s (ide b) = false
-passed s number = false
+passed s (terminal t) = false
 passed s local = true
 passed s (call n ts) = s n
 
@@ -27,9 +25,7 @@ allIn s [] = true
 allIn s (i ∷ is) = passed s i && allIn s is
 
 passed-seen : (nulls : ℕ) (item : Item) → isPassed nulls item ≡ passed (hasKind nulls) item
-passed-seen nulls (keyword k) = refl
-passed-seen nulls (ide b) = refl
-passed-seen nulls number = refl
+passed-seen nulls (terminal t) = refl
 passed-seen nulls local = refl
 passed-seen nulls (call n ts) = refl
 
@@ -39,9 +35,7 @@ all-seen nulls [] = refl
 all-seen nulls (i ∷ is) = ap₂ _&&_ (passed-seen nulls i) (all-seen nulls is)
 
 passed-more : (numbers others : Numbers) → Within numbers others → (item : Item) → passed numbers item ≡ true → passed others item ≡ true
-passed-more numbers others h (keyword k) e = e
-passed-more numbers others h (ide b) e = e
-passed-more numbers others h number e = e
+passed-more numbers others h (terminal t) e = e
 passed-more numbers others h local e = e
 passed-more numbers others h (call n ts) e = h n e
 
@@ -82,9 +76,7 @@ module _ (g : List Production) where
   null-sound : (numbers : Numbers) → Each (Nullable g) numbers → (is : List Item) → allIn numbers is ≡ true → NullItems g is
   unfolding allIn
   null-sound numbers hs [] e = null-none
-  null-sound numbers hs (keyword k ∷ is) e = absurd (false≢true e)
-  null-sound numbers hs (ide b ∷ is) e = absurd (false≢true e)
-  null-sound numbers hs (number ∷ is) e = absurd (false≢true e)
+  null-sound numbers hs (terminal t ∷ is) e = absurd (false≢true e)
   null-sound numbers hs (local ∷ is) e = null-local (null-sound numbers hs is e)
   null-sound numbers hs (call n ts ∷ is) e =
       let b = and-eq-true-iff _ _ .0 e in

@@ -5,9 +5,9 @@ use mathlib.Core.Bool.{Bool, true, false, _&&_}
 use mathlib.Core.List.{List, [], _∷_}
 use lib.ListN.{getD, set, replicate}
 use lib.Bits.{bitOr}
-use Rattle.kinds.specs.Kinds.{wordKind, numberKind, keywordKind, hasKind, only}
+use Rattle.kinds.specs.Kinds.{hasKind, only}
 use Rattle.grammar.specs.Limits.{most}
-use Rattle.grammar.specs.Table.{Item, keyword, ide, number, local, call}
+use Rattle.grammar.specs.Table.{keyword, ide, number, kindOf, Item, terminal, local, call}
 use Rattle.productions.specs.Normal.{Production}
 
 -- k rounds of f
@@ -22,9 +22,7 @@ overAll f (p ∷ g) x = overAll f g (f p x)
 
 -- an item that may read nothing: a local, or a call of a nullable nonterminal
 abbrev pub isPassed : ℕ → Item → Bool
-isPassed nulls (keyword k) = false
-isPassed nulls (ide s) = false
-isPassed nulls number = false
+isPassed nulls (terminal t) = false
 isPassed nulls local = true
 isPassed nulls (call n ts) = hasKind nulls n
 
@@ -41,22 +39,16 @@ nullables g = rounds (most .nonterminals) (overAll nullStep g) 0
 
 -- what an item gives by itself: to a first set the kind that it reads, to the left calls the nonterminal that it calls
 abbrev pub own : Bool → Item → ℕ
-own false (keyword k) = only (keywordKind k)
-own false (ide s) = only wordKind
-own false number = only numberKind
+own false (terminal t) = only (kindOf t)
 own false local = 0
 own false (call n ts) = 0
-own true (keyword k) = 0
-own true (ide s) = 0
-own true number = 0
+own true (terminal t) = 0
 own true local = 0
 own true (call n ts) = only n
 
 -- what a call gives through its nonterminal, whose sets are `sets`
 abbrev pub through : List ℕ → Item → ℕ
-through sets (keyword k) = 0
-through sets (ide s) = 0
-through sets number = 0
+through sets (terminal t) = 0
 through sets local = 0
 through sets (call n ts) = getD sets n 0
 
@@ -105,9 +97,9 @@ firstOf nulls firsts p = gather false nulls firsts (p .items) 0
 
 -- what reads a `$` variable first, by its sort: bit B an ide of sort B
 abbrev pub patternOf : Item → ℕ
-patternOf (keyword k) = 0
-patternOf (ide s) = only s
-patternOf number = 0
+patternOf (terminal (keyword k)) = 0
+patternOf (terminal (ide s)) = only s
+patternOf (terminal number) = 0
 patternOf local = 0
 patternOf (call n ts) = 0
 

@@ -3,18 +3,18 @@
 use Prim.Native.Nat.{ℕ, _<_}
 use mathlib.Core.Path.{_≡_}
 use mathlib.Core.List.{List, [], _∷_}
-use Rattle.kinds.specs.Kinds.{wordKind, numberKind, keywordKind}
+use Rattle.kinds.specs.Kinds.{noKind}
 use Rattle.grammar.specs.Limits.{most}
-use Rattle.grammar.specs.Table.{Templates, Item, keyword, ide, number, local, call}
+use Rattle.grammar.specs.Table.{Templates, Terminal, ide, kindOf, Item, terminal, local, call}
 use Rattle.decoding.specs.Within.{Among}
 use Rattle.productions.specs.Normal.{Production}
 
--- Document 01, "Phrase table": nonterminals and keywords are numbered from 0
+-- Document 01, "Phrase table": nonterminals are numbered from 0; a word, a number and 62 keywords have kinds
 abbrev pub IsNonterminal : ℕ → Type 0
 IsNonterminal n = n < most .nonterminals
 
-abbrev pub IsKeywordNumber : ℕ → Type 0
-IsKeywordNumber k = k < most .keywords
+abbrev pub IsKind : ℕ → Type 0
+IsKind k = k < noKind
 
 -- p is a production of the nonterminal n
 pub record Of (g : List Production) (n : ℕ) (p : Production) : Type 0 where
@@ -48,13 +48,11 @@ pub record FirstOf (g : List Production) (own : Item → ℕ → Type 0) (n b : 
 
 -- the kind that an item reads
 pub data Reads : Item → ℕ → Type 0 where
-  reads-keyword : {k : ℕ} → IsKeywordNumber k → Reads (keyword k) (keywordKind k)
-  reads-word : {s : ℕ} → Reads (ide s) wordKind
-  reads-number : Reads number numberKind
+  reads : {t : Terminal} → IsKind (kindOf t) → Reads (terminal t) (kindOf t)
 
 -- the sort that an ide reads at
 pub data ReadsAt : Item → ℕ → Type 0 where
-  reads-at : {s : ℕ} → s < 64 → ReadsAt (ide s) s
+  reads-at : {s : ℕ} → IsKind s → ReadsAt (terminal (ide s)) s
 
 -- the nonterminal that an item calls
 pub data Calls : Item → ℕ → Type 0 where

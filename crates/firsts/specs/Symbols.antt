@@ -5,7 +5,7 @@ use mathlib.Core.Bool.{Bool, true, false}
 use mathlib.Core.List.{List}
 use lib.Dec.{eqb}
 use lib.ListN.{take, drop}
-use Rattle.grammar.specs.Table.{none, Item, keyword, ide, number, local, call}
+use Rattle.grammar.specs.Table.{none, keyword, ide, number, Item, terminal, local, call}
 use Rattle.grammar.specs.declared.Front.{Front}
 use Rattle.grammar.specs.declared.Front.the-variants.{Nothing, Short, Field}
 use Rattle.decoding.specs.Decode.{itemOf}
@@ -16,17 +16,17 @@ use Rattle.firsts.specs.declared.SymbolStep.the-variants.{Done, Past}
 
 -- an item's symbol
 abbrev pub symbolOf : Item → ItemKind
-symbolOf (keyword k) = Keyword k
-symbolOf (ide s) = Word
-symbolOf number = Number
+symbolOf (terminal (keyword k)) = Keyword k
+symbolOf (terminal (ide s)) = Word
+symbolOf (terminal number) = Number
 symbolOf local = Local
 symbolOf (call n ts) = Call n
 
 -- an item with that symbol
 abbrev pub withSymbol : ItemKind → Item
-withSymbol (Keyword k) = keyword k
-withSymbol Word = ide 0
-withSymbol Number = number
+withSymbol (Keyword k) = terminal (keyword k)
+withSymbol Word = terminal (ide 0)
+withSymbol Number = terminal number
 withSymbol Local = local
 withSymbol (Call n) = call n none
 

@@ -2,6 +2,7 @@
 -- Document 01, "Phrase table"; 001, section 4.1: productions p, definitions with their operators a, grammars g, sequences gseq.
 use Prim.Native.Nat.{ℕ}
 use mathlib.Core.List.{List}
+use Rattle.kinds.specs.Kinds.{wordKind, numberKind, keywordKind}
 use Rattle.grammar.specs.Sorts.{Signature}
 
 -- a template: a variable of the alternative, an outside name as Var (001's global(x)) or as Label, or a constructor applied
@@ -16,11 +17,21 @@ mutual
     none : Templates
     more : Template → Templates → Templates
 
--- an item: "x", ide(B), number (01's addition), local, or a nonterminal applied to arguments
+-- a terminal reads one token: "x", ide(B), or number (01's addition)
+pub data Terminal : Type 0 where
+  keyword : ℕ → Terminal
+  ide : ℕ → Terminal
+  number : Terminal
+
+-- the kind of token that it reads
+abbrev pub kindOf : Terminal → ℕ
+kindOf (keyword k) = keywordKind k
+kindOf (ide s) = wordKind
+kindOf number = numberKind
+
+-- an item: a terminal, local, or a nonterminal applied to arguments
 pub data Item : Type 0 where
-  keyword : ℕ → Item
-  ide : ℕ → Item
-  number : Item
+  terminal : Terminal → Item
   local : Item
   call : ℕ → Templates → Item
 

@@ -2,8 +2,8 @@
 -- Each part is laid in front of what follows it.
 use Prim.Native.Nat.{ℕ}
 use mathlib.Core.List.{List, [], _∷_}
-use Rattle.grammar.specs.Table.{Template, Templates, variable, outsideVar, outsideLabel, make, none, more, Item, keyword, ide, number, local, call, Mode}
-use Rattle.grammar.specs.Table.{add, extend, update, Definition}
+use Rattle.grammar.specs.Table.{Template, Templates, variable, outsideVar, outsideLabel, make, none, more, Terminal, keyword, ide, number, Item, terminal, local, call}
+use Rattle.grammar.specs.Table.{Mode, add, extend, update, Definition}
 
 -- a field: a tag and a value
 pub record Field : Type 0 where
@@ -25,10 +25,13 @@ unfoldable mutual
   templatesThen none follow = follow
   templatesThen (more t ts) follow = templateThen t (templatesThen ts follow)
 
+abbrev pub terminalValue : Terminal → List ℕ
+terminalValue (keyword k) = 0 ∷ k ∷ []
+terminalValue (ide s) = 1 ∷ s ∷ []
+terminalValue number = 2 ∷ 0 ∷ []
+
 unfoldable pub itemValue : Item → List ℕ
-itemValue (keyword k) = 0 ∷ k ∷ []
-itemValue (ide s) = 1 ∷ s ∷ []
-itemValue number = 2 ∷ 0 ∷ []
+itemValue (terminal t) = terminalValue t
 itemValue local = 3 ∷ 0 ∷ []
 itemValue (call n ts) = 4 ∷ n ∷ templatesThen ts []
 

@@ -8,9 +8,10 @@ use borrow.Author.Tests.{ltb-true, lt-ltb}
 use Rattle.answers.specs.Checked.{Checked, ok, _>>_, need}
 use Rattle.grammar.specs.Sorts.{Signature, unit}
 use Rattle.grammar.specs.SortTests.{fits}
-use Rattle.grammar.specs.Table.{Template, Item, keyword, ide, number, local, call, Alternative, Definition}
+use Rattle.grammar.specs.Table.{Template, keyword, ide, number, Item, terminal, local, call, Alternative, Definition}
 use Rattle.grammar.specs.Values.{headValue}
-use Rattle.decoding.specs.Within.{Each, each-none, each-more, TemplateWithin, ItemWithin, ide-within, call-within, AlternativeWithin, DefinitionWithin}
+use Rattle.decoding.specs.Within.{Each, each-none, each-more, TemplateWithin, ide-within, ItemWithin, terminal-within, call-within}
+use Rattle.decoding.specs.Within.{AlternativeWithin, DefinitionWithin}
 use Rattle.judgements.specs.Sizes.{fieldSize, itemsSize, definitionSize}
 use Rattle.judgements.specs.CheckSorts.{isDefined, signatureOf, isClosed, areClosed, sortOf, isSorted, fill, checkItem, checkItems}
 use Rattle.judgements.specs.Scopes.{Scope}
@@ -29,11 +30,11 @@ module _ (scope : Scope) where
   item-rule :
       (L : List ℕ) (at : ℕ) (item : Item) (P : ℕ → Type 0) → ItemWithin item → Accepts (checkItem scope L at item) P
       → (B : ℕ) × ItemSorted scope L item B × P B
-  item-rule L at (keyword k) P w h =
+  item-rule L at (terminal (keyword k)) P w h =
       let n = need-passed (ltb k (scope .keywords)) 9 at _ (then-passed P (need (ltb k (scope .keywords)) 9 at) (ok unit) h) in
       (unit, by-keyword (ltb-true k (scope .keywords) (n .0)), n .1)
-  item-rule L at (ide s) P (ide-within l u) h = (s, by-ide l u, h)
-  item-rule L at number P w h = (_, by-number, h)
+  item-rule L at (terminal (ide s)) P (terminal-within (ide-within l u)) h = (s, by-ide l u, h)
+  item-rule L at (terminal number) P w h = (_, by-number, h)
   item-rule L at local P w h = (_, by-local, h)
   item-rule L at (call n ts) P (call-within l ws) h =
       let S : Signature = signatureOf (scope .env) n in

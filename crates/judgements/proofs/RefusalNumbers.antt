@@ -9,7 +9,7 @@ use Rattle.answers.specs.declared.Refusal.{Refusal}
 use Rattle.answers.specs.Checked.{Checked, ok, bad, _>>=_, _>>_, need}
 use Rattle.grammar.specs.Sorts.{Signature, unit, term}
 use Rattle.grammar.specs.SortTests.{fits}
-use Rattle.grammar.specs.Table.{Item, keyword, ide, number, local, call, Alternative, Mode, add, extend, update, Definition, Table}
+use Rattle.grammar.specs.Table.{keyword, ide, number, Item, terminal, local, call, Alternative, Mode, add, extend, update, Definition, Table}
 use Rattle.grammar.specs.Values.{itemValue}
 use Rattle.judgements.specs.Sizes.{fieldSize, alternativeSize, definitionSize, definitionsSize}
 use Rattle.judgements.specs.CheckSorts.{isDefined, signatureOf, isUnused, isAsBefore, isClosed, areClosed, isSorted, sortOf, fill}
@@ -73,9 +73,9 @@ collect-sort E own at (d ∷ ds) =
 
 module _ (scope : Scope) where
   item-sort : (L : List ℕ) (at : ℕ) (item : Item) → Sort (checkItem scope L at item)
-  item-sort L at (keyword k) = after (need (ltb k (scope .keywords)) 9 at) (ok unit) (need-9 (ltb k (scope .keywords)) at) none
-  item-sort L at (ide s) = none
-  item-sort L at number = none
+  item-sort L at (terminal (keyword k)) = after (need (ltb k (scope .keywords)) 9 at) (ok unit) (need-9 (ltb k (scope .keywords)) at) none
+  item-sort L at (terminal (ide s)) = none
+  item-sort L at (terminal number) = none
   item-sort L at local = none
   item-sort L at (call n ts) =
       after _ (ok (signatureOf (scope .env) n .result))

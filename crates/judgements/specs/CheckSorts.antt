@@ -10,8 +10,8 @@ use Rattle.answers.specs.Checked.{Checked, ok, _>>=_, _>>_, need}
 use Rattle.spellings.specs.Bytes.{same}
 use Rattle.grammar.specs.Sorts.{Signature, gives, unit, var, binder, label, term, num, constructor}
 use Rattle.grammar.specs.SortTests.{fits}
-use Rattle.grammar.specs.Table.{Template, Templates, variable, outsideVar, outsideLabel, make, none, more, Item, keyword, ide, number, local, call, Alternative}
-use Rattle.grammar.specs.Table.{Mode, add, extend, update, Definition, Table}
+use Rattle.grammar.specs.Table.{Template, Templates, variable, outsideVar, outsideLabel, make, none, more, keyword, ide, number, Item, terminal, local, call}
+use Rattle.grammar.specs.Table.{Alternative, Mode, add, extend, update, Definition, Table}
 use Rattle.grammar.specs.Values.{itemValue, headValue}
 use Rattle.judgements.specs.Sizes.{fieldSize, spellingsSize, itemsSize, alternativeSize, definitionSize, definitionsSize}
 use Rattle.judgements.specs.Scopes.{Env, Scope, entryOf}
@@ -94,9 +94,9 @@ unfoldable mutual
 
 -- an item, and the sort of the variable that it numbers
 abbrev pub checkItem : Scope → List ℕ → ℕ → Item → Checked ℕ
-checkItem G L at (keyword k) = need (ltb k (G .keywords)) 9 at >> ok unit
-checkItem G L at (ide s) = ok s
-checkItem G L at number = ok num
+checkItem G L at (terminal (keyword k)) = need (ltb k (G .keywords)) 9 at >> ok unit
+checkItem G L at (terminal (ide s)) = ok s
+checkItem G L at (terminal number) = ok num
 checkItem G L at local = ok binder
 checkItem G L at (call n ts) =
     need (isDefined (G .env) n && areClosed ts G (length L)) 9 at

@@ -12,8 +12,8 @@ use mathlib.Core.Path.{_≡_}
 use mathlib.Core.List.{List, [], _∷_, _++_}
 use lib.ListN.{length}
 use Rattle.grammar.specs.Sorts.{Signature, unit, var, binder, label, term, num, constructor}
-use Rattle.grammar.specs.Table.{Template, Templates, variable, outsideVar, outsideLabel, make, none, more, Item, keyword, ide, number, local, call, Alternative}
-use Rattle.grammar.specs.Table.{add, extend, update, Definition, Table}
+use Rattle.grammar.specs.Table.{Template, Templates, variable, outsideVar, outsideLabel, make, none, more, keyword, ide, number, Item, terminal, local, call}
+use Rattle.grammar.specs.Table.{Alternative, add, extend, update, Definition, Table}
 use Rattle.judgements.specs.Scopes.{Declaration, Env, entryOf, Scope}
 
 -- ------------------------------------------------------------------ environments
@@ -77,12 +77,12 @@ mutual
 pub data ItemSorted (G : Scope) (L : List ℕ) : Item → ℕ → Type 0 where
   by-keyword : {k : ℕ}
       → k < G .keywords
-      → ItemSorted G L (keyword k) unit
+      → ItemSorted G L (terminal (keyword k)) unit
   by-ide : {B : ℕ}
       → var ≤ B
       → B ≤ label
-      → ItemSorted G L (ide B) B
-  by-number : ItemSorted G L number num
+      → ItemSorted G L (terminal (ide B)) B
+  by-number : ItemSorted G L (terminal number) num
   by-local : ItemSorted G L local binder
   by-call : {n : ℕ} {S : Signature} {ts : Templates}
       → Newest (G .env) n S

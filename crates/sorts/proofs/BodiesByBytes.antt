@@ -17,7 +17,7 @@ use Rattle.grammar.specs.Values.{templateThen, templatesThen, itemValue}
 use Rattle.decoding.specs.Prefix.{templatesOf, found, headTemplate}
 use Rattle.decoding.specs.Decode.{itemOf}
 use Rattle.decoding.specs.Layout.{isKnown, isWhole}
-use Rattle.decoding.specs.Within.{TemplatesWithin, ItemWithin, keyword-within, ide-within, number-within, local-within, call-within}
+use Rattle.decoding.specs.Within.{TemplatesWithin, keyword-within, ide-within, number-within, ItemWithin, terminal-within, local-within, call-within}
 use Rattle.decoding.proofs.Split.{Bytes}
 use Rattle.decoding.proofs.Templates.{read-templates, read-template}
 use Rattle.decoding.proofs.Values.{item-value, item-read, result-value, result-read}
@@ -93,9 +93,9 @@ module _ (bs : List ℕ) (scope : Scope) (heads : List ℕ) (knows : (nontermina
 
     value-agrees : {item : Item} → ItemWithin item → sortedAt at (itemAt bs (contextOf scope head heads L) (itemValue item)) ≡ checkItem scope L at item
     unfolding itemAt itemValue
-    value-agrees (keyword-within {k} l) = keyword-agrees (ltb k (scope .keywords))
-    value-agrees (ide-within l k) = refl
-    value-agrees number-within = refl
+    value-agrees (terminal-within (keyword-within {k} l)) = keyword-agrees (ltb k (scope .keywords))
+    value-agrees (terminal-within (ide-within l k)) = refl
+    value-agrees (terminal-within number-within) = refl
     value-agrees local-within = refl
     value-agrees (call-within {n} {ts} l w) = call-agrees n (omega arith) w
 

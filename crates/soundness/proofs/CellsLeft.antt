@@ -8,7 +8,7 @@ use lib.Dec.{eqb, ltb}
 use lib.ListN.{length, getD, set}
 use lib.Seq.{sets, length-sets, getD-set-other}
 use Rattle.answers.specs.Refusals.{refusal}
-use Rattle.kinds.specs.Kinds.{wordKind, numberKind, keywordKind, only}
+use Rattle.kinds.specs.Kinds.{only}
 use Rattle.grammar.specs.Table.{Template, Templates, none, more, Item}
 use Rattle.grammar.specs.Table as Table
 use Rattle.terms.specs.Cells.{columns}
@@ -110,9 +110,7 @@ module _ (rows : ℕ) where
     module _ (callee : ℕ → List ℕ → Run ℕ) (calls : (nonterminal : ℕ) (vs : List ℕ) → Leaving (callee nonterminal vs)) where
       -- an item,
       pub item-leaves : (item : Item) (values : List ℕ) → Leaving (runItem callee input item values)
-      item-leaves (Table.keyword k) values s cells h = take-leaves (keywordKind k) (λ v. 0) s cells h
-      item-leaves (Table.ide b) values s cells h = take-leaves wordKind (Expansion.wordValue b) s cells h
-      item-leaves Table.number values s cells h = take-leaves numberKind (λ v. v) s cells h
+      item-leaves (Table.terminal t) values s cells h = take-leaves (Table.kindOf t) (Expansion.readValue t) s cells h
       item-leaves Table.local values s cells h = stays s (record { at = s .at; fresh = s .fresh + 1; calls = s .calls; made = s .made }) cells refl h
       item-leaves (Table.call n ts) values s cells h =
           leaves-after rows (s .made) cells (buildAll ts input values s cells) (λ vs. callee n vs) (build-all-leaves ts values s cells h)

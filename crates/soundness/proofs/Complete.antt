@@ -11,9 +11,9 @@ use borrow.Author.Tests.{eq-eqb, ltb-true, ltb-false, le-ltb}
 use Rattle.spellings.proofs.BytesLaws.{by-test}
 use Rattle.answers.specs.declared.Refusal.{Refusal}
 use Rattle.answers.specs.Refusals.{refusal}
-use Rattle.kinds.specs.Kinds.{wordKind, numberKind, keywordKind}
+use Rattle.kinds.specs.Kinds.{wordKind}
 use Rattle.grammar.specs.Sorts as Sorts
-use Rattle.grammar.specs.Table.{Template, Templates, make, none, Item, keyword, ide, number, local, call}
+use Rattle.grammar.specs.Table.{Template, Templates, make, none, Terminal, keyword, ide, number, kindOf, Item, terminal, local, call}
 use Rattle.judgements.specs.Judgements.{Body, by-binding}
 use Rattle.judgements.specs.Judgements as Judgements
 use Rattle.tokens.specs.declared.Token.{Token}
@@ -22,7 +22,7 @@ use Rattle.terms.specs.Term.{Name, Term, word, fresh}
 use Rattle.terms.specs.Rows.{termAt, nameOf}
 use Rattle.expansion.specs.declared.State.{State}
 use Rattle.expansion.specs.Run.{Result, done, halt, Run, after}
-use Rattle.expansion.specs.Expansion.{Input, ready, choice, nextToken, tokenTaken, takeToken, buildAll, build, wordValue, runItem, runItems, callBegun}
+use Rattle.expansion.specs.Expansion.{Input, ready, choice, nextToken, tokenTaken, takeToken, buildAll, build, readValue, runItem, runItems, callBegun}
 use Rattle.tokens.specs.Tokens.{endToken}
 use Rattle.expansion.specs.Expansion.{runCall, initialState, ended, run}
 use Rattle.expansion.specs.Limits.{mostCalls, mostOpen}
@@ -35,7 +35,7 @@ use Rattle.soundness.proofs.Setting.{Setting, Provides, provides-whole,
 use Rattle.soundness.proofs.Building.{Ends, ends-after, ends-map, Full, Built, BuiltAll, build-ends, build-all-ends}
 use Rattle.soundness.proofs.Typing.{FitAll, taken-of, result-sorted}
 use Rattle.expansion.proofs.CallLaws.{inner, Ran, call-full, call-chosen}
-use Rattle.expansion.proofs.Choosing.{kindOf, Picks, picks, picks-none, choice-picks, rule, taken-one}
+use Rattle.expansion.proofs.Choosing.{nextKind, Picks, picks, picks-none, choice-picks, rule, taken-one}
 use Rattle.expansion.specs.Parsing.{input}
 use Rattle.soundness.proofs.Sound.{token-here, Kept, kept-made, kept-less, shown}
 use Rattle.terms.specs.Cells.{columns}
@@ -148,26 +148,24 @@ module _ {g : List Production} (setting : Setting g) where
 
   -- a token taken, and the items after it
   token-along : {opened calls rows-made : ℕ} {token : Token} {s₀ s′ : List Token} {i i′ : ℕ} {is : List Item} {M M′ : List Value} {given-value : Value}
-      (item : Item) (kind : ℕ) (value : ℕ → ℕ)
-      → ((within : Input) (callee : ℕ → List ℕ → Run ℕ) (xs : List ℕ) → runItem callee within item xs ≡ takeToken within kind value)
-      → token .kind ≡ kind
-      → ((state : State) (cells : List ℕ) → nextToken I state ≡ token → Shows spell (state .made) cells (value (nextToken I state .value)) given-value)
-      → Along opened calls rows-made s₀ i is (M ++ (given-value ∷ [])) M′ s′ i′ → Along opened calls rows-made (token ∷ s₀) i (item ∷ is) M M′ s′ i′
-  token-along {opened} {calls} {rows-made} {token} {s₀} {s′} {i} {i′} {is} {M} {M′} {given-value} item kind value same e shown A =
+      (t : Terminal) → token .kind ≡ kindOf t
+      → ((state : State) (cells : List ℕ) → nextToken I state ≡ token → Shows spell (state .made) cells (readValue t (nextToken I state .value)) given-value)
+      → Along opened calls rows-made s₀ i is (M ++ (given-value ∷ [])) M′ s′ i′ → Along opened calls rows-made (token ∷ s₀) i (terminal t ∷ is) M M′ s′ i′
+  token-along {opened} {calls} {rows-made} {token} {s₀} {s′} {i} {i′} {is} {M} {M′} {given-value} t e shown A =
       record { along = λ u v d k r B L xs s cells b p f h a. go u v d k r B L xs s cells b p f h a }
     where
       go : {lent within : Input} → Provides setting lent → Provides setting within
-          → (depth names-left : ℕ) (result : Template) (B : ℕ) (L xs : List ℕ) (state : State) (cells : List ℕ) → Body (F .scope) L (item ∷ is) result B
+          → (depth names-left : ℕ) (result : Template) (B : ℕ) (L xs : List ℕ) (state : State) (cells : List ℕ) → Body (F .scope) L (terminal t ∷ is) result B
           → from state ≡ token ∷ s₀ → state .fresh ≡ i
-          → Kept rows (names-left + length (item ∷ is)) state cells → ShowAll spell (state .made) cells xs M
+          → Kept rows (names-left + length (terminal t ∷ is)) state cells → ShowAll spell (state .made) cells xs M
           → Ends (Reached names-left depth opened calls rows-made s′ i′ M′ (state .calls) (state .made) cells)
-          (Beyond rows depth opened (state .calls + calls) (state .made + rows-made)) (runItems (runCall depth lent) within (item ∷ is) xs state cells)
+          (Beyond rows depth opened (state .calls + calls) (state .made + rows-made)) (runItems (runCall depth lent) within (terminal t ∷ is) xs state cells)
       go {lent} {within} provides inside depth names-left result B L xs state cells (by-binding w b) p f h a =
           let q = token-is tokens (state .at) p in
-          let x : ℕ = value (nextToken I state .value) in
-          let taken : runItem (runCall depth lent) within item xs state cells ≡ done x (tokenTaken state) cells =
-          cc (same within (runCall depth lent) xs, take-is setting inside kind value state cells, take-done I kind value state cells (cc (q .0))) in
-          rw (items-after (runCall depth lent) within item is xs state cells x (tokenTaken state) cells taken)
+          let x : ℕ = readValue t (nextToken I state .value) in
+          let taken : runItem (runCall depth lent) within (terminal t) xs state cells ≡ done x (tokenTaken state) cells =
+          cc (take-is setting inside (kindOf t) (readValue t) state cells, take-done I (kindOf t) (readValue t) state cells (cc (q .0))) in
+          rw (items-after (runCall depth lent) within (terminal t) is xs state cells x (tokenTaken state) cells taken)
           (A .along provides inside depth names-left result B _ (xs ++ (x ∷ [])) (tokenTaken state) cells b (q .1) f
           (record { room = h .room; fits = h .fits; names = omega (arith, h .names); begun = h .begun }) (all-and a (shown state cells (q .0))))
 
@@ -232,7 +230,7 @@ module _ {g : List Production} (setting : Setting g) where
       call-along provides zero = too-deep refl (omega arith)
       call-along {lent} provides (suc depth) = go (ltb (state .calls) mostCalls) refl (choice-picks g nonterminal (taken-of taken .small) (from state))
         where
-          go : (test : Bool) → ltb (state .calls) mostCalls ≡ test → Picks g nonterminal (from state) (choice (ready g) nonterminal (kindOf (from state)))
+          go : (test : Bool) → ltb (state .calls) mostCalls ≡ test → Picks g nonterminal (from state) (choice (ready g) nonterminal (nextKind (from state)))
               → Called (suc depth) (runCall (suc depth) lent nonterminal xs state cells)
           go false l q =
               subst⁻¹ (Called (suc depth)) (call-full depth lent nonterminal xs state cells l)
@@ -372,17 +370,15 @@ module _ {g : List Production} (setting : Setting g) where
         );
       }
   items-along (by-terminal (by-keyword {k = k} e) derives) =
-      token-along (keyword k) (keywordKind k) (λ v. 0) (λ J C xs. refl) e (λ s cells q. shows-unit) (items-along derives)
+      token-along (keyword k) e (λ s cells q. shows-unit) (items-along derives)
   items-along (by-terminal (by-ide {t = t} e as-var) derives) =
-      token-along (ide Sorts.var) wordKind (wordValue Sorts.var) (λ J C xs. refl) e (λ s cells q. shows-var (word-shown s t q e)) (items-along derives)
+      token-along (ide Sorts.var) e (λ s cells q. shows-var (word-shown s t q e)) (items-along derives)
   items-along (by-terminal (by-ide {t = t} e as-binder) derives) =
-      token-along (ide Sorts.binder) wordKind (wordValue Sorts.binder) (λ J C xs. refl) e (λ s cells q. shows-binder (word-shown s t q e)) (items-along derives)
+      token-along (ide Sorts.binder) e (λ s cells q. shows-binder (word-shown s t q e)) (items-along derives)
   items-along (by-terminal (by-ide {t = t} e as-label) derives) =
-      token-along (ide Sorts.label) wordKind (wordValue Sorts.label) (λ J C xs. refl) e
-      (λ s cells q. rw (← q) shows-label) (items-along derives)
+      token-along (ide Sorts.label) e (λ s cells q. rw (← q) shows-label) (items-along derives)
   items-along (by-terminal (by-number {t = t} e) derives) =
-      token-along number numberKind (λ v. v) (λ J C xs. refl) e
-      (λ s cells q. rw (← q) shows-num) (items-along derives)
+      token-along number e (λ s cells q. rw (← q) shows-num) (items-along derives)
   items-along (by-terminal by-local derives) = local-along (items-along derives)
   items-along (by-call {p = p} gs t derives q D′) = call-item-along p gs t (items-along derives) q (items-along D′)
 

@@ -19,7 +19,7 @@ use Rattle.expansion.specs.Expansion.{Input, ready, choice, nextToken, takeToke
 use Rattle.expansion.specs.Parsing.{input, SmallWords}
 use Rattle.expansion.specs.ValueSorts.{Matches, matches-none}
 use Rattle.expansion.proofs.CallLaws.{inner, inner-grammar, inner-tokens, inner-rows}
-use Rattle.expansion.proofs.Choosing.{kindOf, kind-next}
+use Rattle.expansion.proofs.Choosing.{nextKind, kind-next}
 use Rattle.soundness.proofs.Typing.{FitAll}
 
 -- A grammar that passed, the tokens to parse and the rows that there are.
@@ -74,7 +74,7 @@ module _ {g : List Production} (setting : Setting g) where
 
   -- the choice is that of the tokens left
   pub choice-is : {lent : Input} → Provides setting lent → (state : State) (nonterminal : ℕ)
-      → choice (lent .grammar) nonterminal (nextToken lent state .kind) ≡ choice (ready g) nonterminal (kindOf (drop (state .at) (setting .tokens)))
+      → choice (lent .grammar) nonterminal (nextToken lent state .kind) ≡ choice (ready g) nonterminal (nextKind (drop (state .at) (setting .tokens)))
   choice-is provides state nonterminal =
       rw (provides .grammar-is, provides .tokens-are) (ap (choice (ready g) nonterminal) (kind-next (state .at) (setting .tokens)))
 

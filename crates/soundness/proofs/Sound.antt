@@ -12,10 +12,9 @@ use borrow.Author.Tests.{eqb-true, ltb-true, ltb-false}
 use Rattle.spellings.proofs.BytesLaws.{by-test}
 use Rattle.answers.specs.declared.Refusal.{Refusal}
 use Rattle.answers.specs.Refusals.{refusal}
-use Rattle.kinds.specs.Kinds.{wordKind, numberKind, keywordKind}
 use Rattle.grammar.specs.Sorts.{Signature}
 use Rattle.grammar.specs.Sorts as Sorts
-use Rattle.grammar.specs.Table.{Template, none, Item, keyword, ide, number, call}
+use Rattle.grammar.specs.Table.{Template, none, Terminal, keyword, ide, number, kindOf, Item, terminal, call}
 use Rattle.decoding.specs.Within.{Each, each-none, each-more, ItemWithin, call-within}
 use Rattle.judgements.specs.Judgements.{Newest, Fits, Sorted, ItemSorted, Body, by-result, by-binding}
 use Rattle.judgements.specs.Judgements as Judgements
@@ -25,7 +24,7 @@ use Rattle.terms.specs.Term.{Name, Term}
 use Rattle.terms.specs.Rows.{termAt}
 use Rattle.expansion.specs.declared.State.{State}
 use Rattle.expansion.specs.Run.{Result, done, halt, Run, after}
-use Rattle.expansion.specs.Expansion.{Input, ready, choice, nextToken, tokenTaken, takeToken, misfit, buildAll, build, wordValue}
+use Rattle.expansion.specs.Expansion.{Input, ready, choice, nextToken, tokenTaken, takeToken, misfit, buildAll, build, readValue}
 use Rattle.tokens.specs.Tokens.{endToken}
 use Rattle.expansion.specs.Expansion.{runItem, runItems, callBegun, runCall, initialState, ended, run}
 use Rattle.expansion.specs.Limits.{mostCalls, mostOpen}
@@ -40,7 +39,7 @@ use Rattle.soundness.proofs.Building.{Ends, ends-after, ends-map, Made,
 use Rattle.expansion.specs.ValueSorts.{Typed, typed-unit, typed-var, typed-binder, typed-label, typed-num, typed-term, Matches}
 use Rattle.soundness.proofs.Typing.{matches-and, gives-exists, give-all-exist, items-typed, FitAll, body-of, taken-of}
 use Rattle.expansion.proofs.CallLaws.{inner, Ran, call-full, call-unfit, call-chosen}
-use Rattle.expansion.proofs.Choosing.{kindOf, Picks, picks, picks-none, choice-picks, rule}
+use Rattle.expansion.proofs.Choosing.{nextKind, Picks, picks, picks-none, choice-picks, rule}
 use Rattle.terms.specs.Cells.{columns}
 
 -- ------------------------------------------------------------------ the tokens from a place on
@@ -156,16 +155,22 @@ module _ {g : List Production} (setting : Setting g) where
       (k n : ℕ) (S : Signature) (vs : List Value) (xs : List ℕ) (s : State) (cells : List ℕ) → Newest (F .scope .env) n S → n < 64 → Matches vs (S .params)
       → Kept rows k s cells → ShowAll spell (s .made) cells xs vs → Ends (Called k n vs s cells) Any (C n xs s cells)
 
-  take-ends : {lent : Input} → Provides setting lent → (P : ℕ → State → List ℕ → Type 0) (kind : ℕ) (value : ℕ → ℕ) (state : State) (cells : List ℕ)
-      → (nextToken I state .kind ≡ kind → P (value (nextToken I state .value)) (tokenTaken state) cells) → Ends P Any (takeToken lent kind value state cells)
-  take-ends provides P kind value state cells f =
-      subst⁻¹ (Ends P Any) (take-is setting provides kind value state cells) (go (eqb (nextToken I state .kind) kind) refl)
+  -- a token of the terminal's kind is taken, or nothing is said
+  take-ends : {lent : Input} → Provides setting lent → {names-left A : ℕ} {M : List Value} (t : Terminal) (state : State) (cells : List ℕ)
+      → (nextToken I state .kind ≡ kindOf t
+      → Stepped names-left (terminal t) A M state cells (readValue t (nextToken I state .value)) (tokenTaken state) cells)
+      → Ends (Stepped names-left (terminal t) A M state cells) Any (takeToken lent (kindOf t) (readValue t) state cells)
+  take-ends provides {names-left} {A} {M} t state cells f =
+      subst⁻¹ (Ends (Stepped names-left (terminal t) A M state cells) Any) (take-is setting provides (kindOf t) (readValue t) state cells)
+      (go (eqb (nextToken I state .kind) (kindOf t)) refl)
     where
-      go : (test : Bool) → eqb (nextToken I state .kind) kind ≡ test
-          → Ends P Any
-          (elim test
-          [ true ↦ done (value (nextToken I state .value)) (tokenTaken state) cells | false ↦ misfit (Rattle.kinds.specs.Kinds.only kind) state cells ])
-      go true e = f (eqb-true (nextToken I state .kind) kind e)
+      go : (test : Bool) → eqb (nextToken I state .kind) (kindOf t) ≡ test
+          → Ends (Stepped names-left (terminal t) A M state cells) Any
+          (elim test [
+            | true ↦ done (readValue t (nextToken I state .value)) (tokenTaken state) cells
+            | false ↦ misfit (Rattle.kinds.specs.Kinds.only (kindOf t)) state cells
+          ])
+      go true e = f (eqb-true (nextToken I state .kind) (kindOf t) e)
       go false e = tt
 
   kept-on : {names-left : ℕ} {state : State} {cells : List ℕ} → Kept rows (names-left + 1) state cells → Kept rows names-left (tokenTaken state) cells
@@ -228,21 +233,21 @@ module _ {g : List Production} (setting : Setting g) where
         → ItemWithin item → Matches M L
         → Kept rows (names-left + 1) state cells → ShowAll spell (state .made) cells xs M
         → Ends (Stepped names-left item A M state cells) Any (runItem called lent item xs state cells)
-    item-sound names-left {M = M} state cells (Judgements.by-keyword {k = w} l) z m h a =
-        take-ends provides (Stepped names-left (keyword w) Sorts.unit M state cells) (keywordKind w) (λ v. 0) state cells
+    item-sound names-left state cells (Judgements.by-keyword {k = w} l) z m h a =
+        take-ends provides (keyword w) state cells
         (λ e. taken-as 0 unit e (omega (arith, l, F .keywordCount)) h typed-unit shows-unit (λ is M′ t j d. by-terminal (by-keyword e) d))
-    item-sound names-left {M = M} {L = L} {xs = xs} state cells (Judgements.by-ide {B = B} l u) z m h a =
-        at-ide (λ B. Ends (Stepped names-left (ide B) B M state cells) Any (runItem called lent (ide B) xs state cells)) B l u
-        (take-ends provides (Stepped names-left (ide Sorts.var) Sorts.var M state cells) wordKind (wordValue Sorts.var) state cells
+    item-sound names-left {M = M} {xs = xs} state cells (Judgements.by-ide {B = B} l u) z m h a =
+        at-ide (λ B. Ends (Stepped names-left (terminal (ide B)) B M state cells) Any (runItem called lent (terminal (ide B)) xs state cells)) B l u
+        (take-ends provides (ide Sorts.var) state cells
         (λ e. taken-as _ _ e (omega arith) h typed-var (shows-var (word-named spell (nextToken I state .value) (setting .small (state .at) e)))
         (λ is M′ t j d. by-terminal (by-ide e as-var) d)))
-        (take-ends provides (Stepped names-left (ide Sorts.binder) Sorts.binder M state cells) wordKind (wordValue Sorts.binder) state cells
+        (take-ends provides (ide Sorts.binder) state cells
         (λ e. taken-as _ _ e (omega arith) h typed-binder (shows-binder (word-named spell (nextToken I state .value) (setting .small (state .at) e)))
         (λ is M′ t j d. by-terminal (by-ide e as-binder) d)))
-        (take-ends provides (Stepped names-left (ide Sorts.label) Sorts.label M state cells) wordKind (wordValue Sorts.label) state cells
+        (take-ends provides (ide Sorts.label) state cells
         (λ e. taken-as _ _ e (omega arith) h typed-label shows-label (λ is M′ t j d. by-terminal (by-ide e as-label) d)))
-    item-sound names-left {M = M} state cells Judgements.by-number z m h a =
-        take-ends provides (Stepped names-left number Sorts.num M state cells) numberKind (λ v. v) state cells
+    item-sound names-left state cells Judgements.by-number z m h a =
+        take-ends provides number state cells
         (λ e. taken-as _ _ e (omega arith) h typed-num shows-num (λ is M′ t j d. by-terminal (by-number e) d))
     item-sound names-left {M = M} state cells Judgements.by-local z m h a =
         record {
@@ -360,7 +365,7 @@ module _ {g : List Production} (setting : Setting g) where
           (λ r u. tt))
           (λ r u. u)
 
-      go : (test : Bool) → ltb (s .calls) mostCalls ≡ test → Picks g n (from s) (choice (ready g) n (kindOf (from s)))
+      go : (test : Bool) → ltb (s .calls) mostCalls ≡ test → Picks g n (from s) (choice (ready g) n (nextKind (from s)))
           → Goal (runCall (suc depth) lent n xs s cells)
       go false e q = subst⁻¹ (Ends (Called k n vs s cells) Any) (call-full depth lent n xs s cells e) tt
       go true e (picks p t f) =

@@ -17,10 +17,10 @@ use Rattle.judgements.specs.Judgements.{Fill, Body, by-binding}
 use Rattle.judgements.specs.Judgements as Judgements
 use Rattle.tokens.specs.declared.Token.{Token}
 use Rattle.productions.specs.Normal.{Production}
-use Rattle.firsts.specs.Rules.{Reads, reads-keyword, reads-word, reads-number}
+use Rattle.firsts.specs.Rules.{Reads, reads}
 use Rattle.expansion.specs.declared.State.{State}
 use Rattle.expansion.specs.Run.{Result, done, halt, Run, after}
-use Rattle.expansion.specs.Expansion.{Input, ready, choice, nextToken, buildAll, build, wordValue, runItem, runItems, callBegun, runCall, initialState, ended}
+use Rattle.expansion.specs.Expansion.{Input, ready, choice, nextToken, buildAll, build, readValue, runItem, runItems, callBegun, runCall, initialState, ended}
 use Rattle.expansion.specs.Expansion.{run}
 use Rattle.expansion.specs.Limits.{mostCalls, mostOpen}
 use Rattle.expansion.specs.Expansion as Expansion
@@ -32,7 +32,7 @@ use Rattle.soundness.proofs.Setting.{Setting, Provides, provides-whole,
 use Rattle.soundness.proofs.Building.{Ends, ends-both, Full, Built, BuiltAll, build-ends, build-all-ends}
 use Rattle.soundness.proofs.Typing.{FitAll, taken-of, result-sorted}
 use Rattle.expansion.proofs.CallLaws.{inner, Ran, call-full, call-unfit, call-chosen}
-use Rattle.expansion.proofs.Choosing.{kindOf, Picks, picks, picks-none, choice-picks, rule, taken-one}
+use Rattle.expansion.proofs.Choosing.{nextKind, Picks, picks, picks-none, choice-picks, rule, taken-one}
 use Rattle.soundness.proofs.Sound.{Kept, kept-made, kept-less}
 use Rattle.soundness.proofs.Complete.{Beyond, items-along, Reached, root-along}
 use Rattle.soundness.proofs.Complete as Complete
@@ -140,9 +140,7 @@ module _ {g : List Production} (setting : Setting g) where
   -- an item that reads takes a token of its kind
   reads-take : {item : Item} {kind : ℕ} → Reads item kind → (within : Input) (callee : ℕ → List ℕ → Run ℕ) (xs : List ℕ)
       → (kind < 64) × (value : ℕ → ℕ) × (runItem callee within item xs ≡ Expansion.takeToken within kind value)
-  reads-take (reads-keyword l) within callee xs = (omega arith, λ v. 0, refl)
-  reads-take (reads-word {s = B}) within callee xs = (omega arith, wordValue B, refl)
-  reads-take reads-number within callee xs = (omega arith, λ v. v, refl)
+  reads-take (reads {t = t} l) within callee xs = (l, readValue t, refl)
 
   token-fails : {opened begun made i kind total : ℕ} {left : List Token} {item : Item} {cause : Refusal} {within : Input} → Provides setting within
       → (callee : ℕ → List ℕ → Run ℕ) (xs : List ℕ)
@@ -203,7 +201,7 @@ module _ {g : List Production} (setting : Setting g) where
       go provides zero names-left ys state cells e b p h a = absurd (omega arith)
       go {lent} provides (suc depth) names-left ys state cells e b p h a = by (choice-picks g nonterminal b (rest state))
         where
-          by : Picks g nonterminal (rest state) (choice (ready g) nonterminal (kindOf (rest state)))
+          by : Picks g nonterminal (rest state) (choice (ready g) nonterminal (nextKind (rest state)))
               → HaltsWith made (state .made) cells (refusal 17 (nextIndex tokens left) set (ones set)) (runCall (suc depth) lent nonterminal ys state cells)
           by (picks x z u) = absurd (f x (rw (← (p .place)) z))
           by (picks-none z u) =
@@ -225,7 +223,7 @@ module _ {g : List Production} (setting : Setting g) where
         → HaltsWith total (state .made) cells cause (runCall (suc depth) lent nonterminal ys state cells)
     enter {lent} provides cause {total} depth ys state cells q l h = by (choice-picks g nonterminal (taken-of taken .small) (rest state))
       where
-        by : Picks g nonterminal (rest state) (choice (ready g) nonterminal (kindOf (rest state)))
+        by : Picks g nonterminal (rest state) (choice (ready g) nonterminal (nextKind (rest state)))
             → HaltsWith total (state .made) cells cause (runCall (suc depth) lent nonterminal ys state cells)
         by (picks p′ w z) =
             let picked : choice (lent .grammar) nonterminal (nextToken lent state .kind) ≡ Expansion.chosen (rule g p) =

@@ -10,9 +10,9 @@ use lib.ListN.{length, getD, drop, length-drop}
 use lib.Count.{ones}
 use borrow.Author.Tests.{eqb-true, ne-eqb}
 use Rattle.answers.specs.Refusals.{refusal}
-use Rattle.kinds.specs.Kinds.{wordKind, numberKind, keywordKind, hasKind, only}
+use Rattle.kinds.specs.Kinds.{hasKind, only}
 use Rattle.kinds.proofs.KindsLaws.{same-kinds}
-use Rattle.grammar.specs.Table.{Template, Templates, none, more, Item}
+use Rattle.grammar.specs.Table.{Template, Templates, none, more, kindOf, Item, terminal, local, call}
 use Rattle.grammar.specs.Table as Table
 use Rattle.decoding.specs.Within.{Each, each-more, ItemWithin, call-within}
 use Rattle.judgements.specs.Judgements.{ItemSorted, Body, by-binding}
@@ -23,17 +23,17 @@ use Rattle.firsts.specs.FirstSets.{nullables, firstSets}
 use Rattle.firsts.proofs.FirstsTheorems.{opens-exactly}
 use Rattle.expansion.specs.declared.State.{State}
 use Rattle.expansion.specs.Run.{Result, done, halt, Run, after}
-use Rattle.expansion.specs.Expansion.{Input, ready, choice, nextToken, tokenTaken, takeToken, misfit, cell, build, buildAll, wordValue}
+use Rattle.expansion.specs.Expansion.{Input, ready, choice, nextToken, tokenTaken, takeToken, misfit, cell, build, buildAll, readValue}
 use Rattle.expansion.specs.Expansion.{runItem, runItems, callBegun, runCall}
 use Rattle.expansion.specs.Limits.{mostCalls}
 use Rattle.expansion.specs.Figure3.{Next, next}
 use Rattle.expansion.specs.Parsing.{input}
 use Rattle.soundness.proofs.Setting.{Setting, Provides, provides-inner, choice-is, take-is}
 use Rattle.soundness.proofs.Building.{Ends}
-use Rattle.soundness.proofs.Typing.{FitAll, taken-of}
+use Rattle.soundness.proofs.Typing.{FitAll, sorted-kind, taken-of}
 use Rattle.expansion.proofs.CellLaws.{cell-by}
 use Rattle.expansion.proofs.CallLaws.{inner, call-full, call-unfit, call-chosen}
-use Rattle.expansion.proofs.Choosing.{kindOf, kind-next, Picks, picks, picks-none, choice-picks, rule}
+use Rattle.expansion.proofs.Choosing.{nextKind, kind-next, Picks, picks, picks-none, choice-picks, rule}
 use Rattle.soundness.proofs.Sound.{token-before}
 use Rattle.soundness.specs.Stopping.{nextIndex, FirstSet}
 
@@ -97,11 +97,11 @@ module _ (lent : Input) where
 
 -- ------------------------------------------------------------------ tokens
 
-is-next : (s : List Token) {kind : ℕ} → kindOf s ≡ kind → kind < 64 → Next s kind
+is-next : (s : List Token) {kind : ℕ} → nextKind s ≡ kind → kind < 64 → Next s kind
 is-next [] e l = absurd (omega (arith, e))
 is-next (t ∷ s) e l = subst (Next (t ∷ s)) e next
 
-next-is : {s : List Token} {kind : ℕ} → Next s kind → kindOf s ≡ kind
+next-is : {s : List Token} {kind : ℕ} → Next s kind → nextKind s ≡ kind
 next-is next = refl
 
 module _ {g : List Production} (setting : Setting g) where
@@ -175,12 +175,9 @@ module _ {g : List Production} (setting : Setting g) where
       -- an item does
       pub item-bounded : {item : Item} {A : ℕ} {L : List ℕ} (xs : List ℕ) (state : State) (cells : List ℕ) → ItemSorted (F .scope) L item A → ItemWithin item
           → state .at ≤ length tokens → Bounded (runItem called lent item xs state cells)
-      item-bounded xs state cells (Judgements.by-keyword {k = k} l) z h =
-          take-bounded provides (keywordKind k) (λ v. 0) state cells (omega (arith, l, F .keywordCount))
-      item-bounded xs state cells (Judgements.by-ide {B = B} l u) z h = take-bounded provides wordKind (wordValue B) state cells (omega arith)
-      item-bounded xs state cells Judgements.by-number z h = take-bounded provides numberKind (λ v. v) state cells (omega arith)
-      item-bounded xs state cells Judgements.by-local z h = h
-      item-bounded xs state cells (Judgements.by-call {n = n} {ts = ts} w f) (call-within l ws) h =
+      item-bounded {item = terminal t} xs state cells w z h = take-bounded provides (kindOf t) (readValue t) state cells (sorted-kind F w)
+      item-bounded {item = local} xs state cells w z h = h
+      item-bounded {item = call n ts} xs state cells w (call-within l ws) h =
           bounded-after (buildAll ts lent xs state cells) (λ vs. called n vs)
           (stays-bounded state (buildAll ts lent xs state cells) h (build-all-stays lent ts xs state cells))
           (λ vs s′ c′ b. callee n vs s′ c′ (omega arith) b)
@@ -206,7 +203,7 @@ module _ {g : List Production} (setting : Setting g) where
       go : ((callee : ℕ) (ws : List ℕ) (state′ : State) (cells′ : List ℕ) → callee < 64 → state′ .at ≤ length tokens
           → Bounded (runCall depth lent callee ws state′ cells′)) → (test : Bool)
           → ltb (state .calls) mostCalls ≡ test
-          → Picks g nonterminal (rest state) (choice (ready g) nonterminal (kindOf (rest state)))
+          → Picks g nonterminal (rest state) (choice (ready g) nonterminal (nextKind (rest state)))
           → Bounded (runCall (suc depth) lent nonterminal vs state cells)
       go f false e q = subst⁻¹ Bounded (call-full depth lent nonterminal vs state cells e) tt
       go f true e (picks p t z) =

@@ -9,20 +9,20 @@ use lib.ListN.{length, drop}
 use borrow.Author.Tests.{eqb-false, ltb-true, ltb-false}
 use Rattle.answers.specs.declared.Refusal.{Refusal}
 use Rattle.answers.specs.Refusals.{refusal}
-use Rattle.kinds.specs.Kinds.{wordKind, numberKind, keywordKind, only}
+use Rattle.kinds.specs.Kinds.{only}
 use Rattle.grammar.specs.Sorts.{Signature}
 use Rattle.grammar.specs.Sorts as Sorts
-use Rattle.grammar.specs.Table.{Template, Templates, make, none, Item, call}
+use Rattle.grammar.specs.Table.{Template, Templates, make, none, kindOf, Item, terminal, local, call}
 use Rattle.decoding.specs.Within.{Each, each-more, ItemWithin, call-within}
 use Rattle.judgements.specs.Judgements.{Newest, ItemSorted, Body, by-binding}
 use Rattle.judgements.specs.Judgements as Judgements
 use Rattle.tokens.specs.declared.Token.{Token}
 use Rattle.productions.specs.Normal.{Production}
-use Rattle.firsts.specs.Rules.{Reads, reads-keyword, reads-word, reads-number}
+use Rattle.firsts.specs.Rules.{Reads, reads}
 use Rattle.firsts.proofs.FirstsTheorems.{opens-exactly}
 use Rattle.expansion.specs.declared.State.{State}
 use Rattle.expansion.specs.Run.{Result, done, halt, after}
-use Rattle.expansion.specs.Expansion.{Input, ready, choice, nextToken, tokenTaken, takeToken, misfit, buildAll, build, wordValue, runItem, runItems, callBegun}
+use Rattle.expansion.specs.Expansion.{Input, ready, choice, nextToken, tokenTaken, takeToken, misfit, buildAll, build, readValue, runItem, runItems, callBegun}
 use Rattle.expansion.specs.Expansion.{runCall, initialState, ended, run}
 use Rattle.expansion.specs.Limits.{mostCalls, mostOpen}
 use Rattle.expansion.specs.Figure3.{Value, GiveAll, give-none, Taken, Derives, by-end}
@@ -32,9 +32,9 @@ use Rattle.expansion.specs.Parsing.{input}
 use Rattle.expansion.proofs.Shows.{ShowAll, show-none, all-later, all-and}
 use Rattle.soundness.proofs.Setting.{Setting, Provides, provides-whole, provides-inner, choice-is, take-is, no-arguments, item-body}
 use Rattle.soundness.proofs.Building.{Ends, after-by, ends-both, ends-after, ends-map, Made, Full, Built, BuiltAll, build-ends, build-all-ends}
-use Rattle.soundness.proofs.Typing.{matches-and, give-all-exist, gives-exists, FitAll, body-of, taken-of}
+use Rattle.soundness.proofs.Typing.{matches-and, give-all-exist, gives-exists, FitAll, sorted-kind, body-of, taken-of}
 use Rattle.expansion.proofs.CallLaws.{inner, Ran, call-full, call-unfit, call-chosen}
-use Rattle.expansion.proofs.Choosing.{kindOf, Picks, picks, picks-none, choice-picks, rule}
+use Rattle.expansion.proofs.Choosing.{nextKind, Picks, picks, picks-none, choice-picks, rule}
 use Rattle.soundness.proofs.Sound.{token-here, Kept, kept-made, kept-less, Stepped, Derived, item-sound}
 use Rattle.soundness.proofs.Sound.{items-sound, call-sound, Root, root-called, root-derived}
 use Rattle.soundness.proofs.Complete.{items-along, items-after, root-along}
@@ -134,13 +134,10 @@ module _ {g : List Production} (setting : Setting g) where
         → ItemSorted (F .scope) L item A → ItemWithin item → Matches M L
         → state .at ≤ length tokens → Kept rows (names-left + 1) state cells → ShowAll spell (state .made) cells xs M
         → Ends Fine (StopsAt opened M (item ∷ is) state) (runItem (runCall depth lent) within item xs state cells)
-    item-halts names-left {M = M} is state cells (Judgements.by-keyword {k = w} l) z m b h a =
-        take-halts inside opened M is (keywordKind w) (λ v. 0) state cells (reads-keyword (omega (arith, l, F .keywordCount))) b
-    item-halts names-left {M = M} is state cells (Judgements.by-ide {B = B} l u) z m b h a =
-        take-halts inside opened M is wordKind (wordValue B) state cells reads-word b
-    item-halts names-left {M = M} is state cells Judgements.by-number z m b h a = take-halts inside opened M is numberKind (λ v. v) state cells reads-number b
-    item-halts names-left is state cells Judgements.by-local z m b h a = tt
-    item-halts names-left {M = M} {xs = xs} is state cells (Judgements.by-call {n = n} {S = S} {ts = ts} w f) (call-within l ws) m b h a =
+    item-halts names-left {item = terminal t} {M = M} is state cells w z m b h a =
+        take-halts inside opened M is (kindOf t) (readValue t) state cells (reads (sorted-kind F w)) b
+    item-halts names-left {item = local} is state cells w z m b h a = tt
+    item-halts names-left {item = call _ _} {M = M} {xs = xs} is state cells (Judgements.by-call {n = n} {S = S} {ts = ts} w f) (call-within l ws) m b h a =
         let vs = give-all-exist spell m ts f in
         ends-after (λ ys s₁ c₁. BuiltAll spell rows (rowsOfAll ts) state cells (vs .0) ys s₁ c₁ × (s₁ .at ≡ state .at))
         (λ r. Full rows (state .made + rowsOfAll ts) r × (r ≡ refusal 21 (state .at) 0 0))
@@ -268,7 +265,7 @@ module _ {g : List Production} (setting : Setting g) where
     unfolding ready
     call-step = go (ltb (state .calls) mostCalls) refl (choice-picks g nonterminal below (rest state))
       where
-        go : (test : Bool) → ltb (state .calls) mostCalls ≡ test → Picks g nonterminal (rest state) (choice (ready g) nonterminal (kindOf (rest state)))
+        go : (test : Bool) → ltb (state .calls) mostCalls ≡ test → Picks g nonterminal (rest state) (choice (ready g) nonterminal (nextKind (rest state)))
             → Goal (runCall (suc depth) lent nonterminal xs state cells)
         go false e q =
             subst⁻¹ Goal (call-full depth lent nonterminal xs state cells e)

@@ -5,7 +5,7 @@ use mathlib.Core.List.{List, [], _∷_, _++_}
 use native.Mathlib.Omega.{arith}
 use lib.ListN.{length}
 use Rattle.grammar.specs.Sorts.{Signature, constructorSignatures, constructor}
-use Rattle.grammar.specs.Table.{Template, Templates, none, more, Item}
+use Rattle.grammar.specs.Table.{Template, Templates, none, more, kindOf, Item, terminal}
 use Rattle.grammar.specs.Table as Table
 use Rattle.decoding.specs.Within.{Each, TemplateWithin, ItemWithin, Among}
 use Rattle.judgements.specs.CheckSorts.{signatureOf}
@@ -143,6 +143,13 @@ pub record FitAll (g : List Production) : Type 0 where
   pub outsideCount : scope .outsides ≤ 64
   -- each production fits it
   pub each : (p : Production) → Among g p → Fit scope p
+
+-- a sorted terminal reads a kind
+pub sorted-kind : {g : List Production} (fit-all : FitAll g) {L : List ℕ} {t : Table.Terminal} {A : ℕ}
+    → ItemSorted (fit-all .scope) L (terminal t) A → kindOf t < 64
+sorted-kind fit-all (Judgements.by-keyword l) = omega (arith, l, fit-all .keywordCount)
+sorted-kind fit-all (Judgements.by-ide l u) = omega arith
+sorted-kind fit-all Judgements.by-number = omega arith
 
 -- what a terminal gives has its sort
 terminal-typed : {g : List Production} {spell : ℕ → List ℕ} {scope : Scope} {L : List ℕ} {s s′ : List Token} {i i′ : ℕ} {p : Item} {value : Value} {A : ℕ}

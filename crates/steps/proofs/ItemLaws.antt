@@ -11,7 +11,7 @@ use Rattle.answers.specs.declared.Refusal.{Refusal}
 use Rattle.answers.specs.Refusals.{refusal}
 use Rattle.kinds.specs.Kinds.{only}
 use Rattle.grammar.specs.declared.Front.the-variants.{Nothing, Short, Field}
-use Rattle.grammar.specs.Table.{Template, Templates, variable, none, more, Item, keyword, ide, number, local, call}
+use Rattle.grammar.specs.Table.{Template, Templates, variable, none, more, keyword, ide, number, Item, terminal, local, call}
 use Rattle.grammar.specs.Sorts.{label}
 use Rattle.terms.specs.Cells.{wordName}
 use Rattle.grammar.specs.Fields.{RawFields, next}
@@ -40,22 +40,23 @@ use Rattle.steps.specs.Steps.{body, Gives, Steps, ItemAt, Onward, Spends
 -- ------------------------------------------------------------------ an item by its kind and operand
 
 abbrev items : ℕ → Templates → List Item
-items o ts = keyword o ∷ ide o ∷ number ∷ local ∷ call o ts ∷ []
+items o ts = terminal (keyword o) ∷ terminal (ide o) ∷ terminal number ∷ local ∷ call o ts ∷ []
 
 abbrev own : List ℕ → Templates
 own v = found (templatesOf (drop 2 v))
 
 module _ (bytes : List ℕ) (kind operand : ℕ) (ek : kind ≡ getD bytes 0 0) (eo : operand ≡ getD bytes 1 0) where
-  item-is : (code : ℕ) → kind ≡ code → getD (items operand (own bytes)) code number ≡ itemOf bytes
+  item-is : (code : ℕ) → kind ≡ code → getD (items operand (own bytes)) code (terminal number) ≡ itemOf bytes
   unfolding itemOf
   item-is code e =
-      ap (λ (o : ℕ). getD (items o (own bytes)) code number) eo
-      ∙ ap (λ (n : ℕ). getD (items (getD bytes 1 0) (own bytes)) n number) (sym e ∙ ek)
+      ap (λ (o : ℕ). getD (items o (own bytes)) code (terminal number)) eo
+      ∙ ap (λ (n : ℕ). getD (items (getD bytes 1 0) (own bytes)) n (terminal number)) (sym e ∙ ek)
 
-  item-other : (kind ≡ 0 → ⊥) → (kind ≡ 1 → ⊥) → (kind ≡ 3 → ⊥) → (kind ≡ 4 → ⊥) → number ≡ itemOf bytes
+  item-other : (kind ≡ 0 → ⊥) → (kind ≡ 1 → ⊥) → (kind ≡ 3 → ⊥) → (kind ≡ 4 → ⊥) → terminal number ≡ itemOf bytes
   item-other n0 n1 n3 n4 = sym (other kind n0 n1 n3 n4) ∙ item-is kind refl
     where
-      other : (code : ℕ) → (code ≡ 0 → ⊥) → (code ≡ 1 → ⊥) → (code ≡ 3 → ⊥) → (code ≡ 4 → ⊥) → getD (items operand (own bytes)) code number ≡ number
+      other : (code : ℕ) → (code ≡ 0 → ⊥) → (code ≡ 1 → ⊥) → (code ≡ 3 → ⊥) → (code ≡ 4 → ⊥)
+          → getD (items operand (own bytes)) code (terminal number) ≡ terminal number
       other zero a b c d = absurd (a refl)
       other (suc zero) a b c d = absurd (b refl)
       other (suc (suc zero)) a b c d = refl
