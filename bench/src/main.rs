@@ -21,7 +21,7 @@ use times::{shown, Room};
 const USAGE: &str = "\
 usage: bench/run [compare] [times] [growth] [counts] [--draws N] [--seed N] [--cases FILE] [--budget MS] [--hash MULTIPLIER]
   compare   the conformance cases, the inputs that are measured, and N drawn inputs (100,000; seed 1)
-  times     best times of both, archive over plain, for each input; MS milliseconds (300) for each
+  times     best times of both, archive over plain, for each input; MS milliseconds (300) for each; and instructions, where valgrind is installed
   growth    times at one, two, four and eight times a size
   counts    instructions of both, by valgrind's callgrind
 Without a word: compare, times, growth. --hash is the multiplier (31) of the polynomial hash for which colliding words are made.";
@@ -180,18 +180,27 @@ fn tokens(input: &Input) -> usize {
 
 fn times(options: &Options, list: &[Input]) {
     let mut room = Room::new();
-    println!("| Input | table bytes | tokens | archive, µs | plain Rust, µs | ratio |\n|---|---|---|---|---|---|");
-    let (mut worst, mut worst_long) = (0.0f64, 0.0f64);
+    println!("| Input | table bytes | tokens | archive, µs | plain Rust, µs | ratio | archive, K instructions | plain Rust | ratio |");
+    println!("|---|---|---|---|---|---|---|---|---|");
+    let (mut worst, mut worst_long) = ((0.0f64, ""), (0.0f64, ""));
     for input in list {
         let [archive, plain] = times::best(input, &mut room, options.budget);
         let (bytes, tokens, ratio) = (input.table.len(), tokens(input), archive / plain);
-        println!("| {} | {bytes} | {tokens} | {} | {} | {ratio:.2} |", input.name, shown(archive), shown(plain));
-        worst = worst.max(ratio);
-        if tokens > 1_000 {
-            worst_long = worst_long.max(ratio);
+        let counted = match (collected("archive", input), collected("plain", input)) {
+            (Some(archive), Some(plain)) => {
+                format!("{:.1} | {:.1} | {:.2}", archive as f64 / 1e3, plain as f64 / 1e3, archive as f64 / plain as f64)
+            }
+            _ => "- | - | -".to_string(),
+        };
+        println!("| {} | {bytes} | {tokens} | {} | {} | {ratio:.2} | {counted} |", input.name, shown(archive), shown(plain));
+        if worst.0 < ratio {
+            worst = (ratio, &input.name);
+        }
+        if tokens > 1_000 && worst_long.0 < ratio {
+            worst_long = (ratio, &input.name);
         }
     }
-    println!("\nThe largest ratio is {worst:.2}, and {worst_long:.2} of inputs over 1,000 tokens.");
+    println!("\nThe largest ratio of times is {:.2} ({}), and {:.2} of inputs over 1,000 tokens ({}).", worst.0, worst.1, worst_long.0, worst_long.1);
 }
 
 fn growth(options: &Options) {
