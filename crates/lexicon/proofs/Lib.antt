@@ -1,4 +1,5 @@
 pub mod HashLaws
 pub mod PlaceLaws
+pub mod PathLaws
 pub mod TreeLaws
 pub mod LexiconLaws

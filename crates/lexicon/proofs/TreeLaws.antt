@@ -1,5 +1,5 @@
--- Laws of the trees of spellings: what a search finds, and that one more spelling keeps them. They hold for any hash.
-use Prim.Native.Nat.{ℕ, zero, suc, _+_, _-_, _*_, _/_, _<_, _≤_}
+-- Laws of the trees of spellings: what a search finds, and that one more spelling keeps them. They hold for any path that a spelling has.
+use Prim.Native.Nat.{ℕ, zero, suc, _+_, _-_, _*_, _/_, _%_, _<_, _≤_}
 use mathlib.Core.Path.{_≡_, refl, sym, ap, _∙_, subst}
 use mathlib.Core.Bool.{Bool, true, false}
 use mathlib.Core.List.{List, [], _∷_, _++_}
@@ -7,18 +7,21 @@ use native.Mathlib.Nat.{add-zero}
 use native.Mathlib.Omega.{arith}
 use lib.Bits.{bitAnd, and-le-r}
 use lib.Dec.{eqb, ltb}
-use lib.ListN.{length, getD, set, replicate, length-set, length-append, List·getD-append}
+use lib.ListN.{length, getD, set, drop, replicate, length-set, length-append, List·getD-append}
 use lib.Seq.{getD-set-same, getD-set-other, getD-at}
 use borrow.Author.Tests.{eqb-true, eqb-false, ltb-true, ltb-false}
 use Rattle.spellings.specs.Bytes.{same, indexOf}
 use Rattle.spellings.proofs.BytesLaws.{by-test, same-true, same-false, index-le, index-self, index-found, index-front, index-rest}
-use Rattle.lexicon.specs.Trees.{hashOf}
+use Rattle.lexicon.specs.Trees.{hashOf, bytesOf, behindHash, Window, Refilled, Seeks}
 use Rattle.lexicon.specs.Trees.{rootOf, turnsOf, branchOf, Leads, there, further, Linked, SearchTree, Planted, Extends, FreeFor, FoundAt}
 use Rattle.lexicon.specs.Trees.{Searched, Linkable, linksWith}
 use Rattle.lexicon.specs.declared.trees.Spot.{Spot}
 use Rattle.lexicon.specs.declared.trees.Spot.the-variants.{Node, Free}
 use Rattle.lexicon.specs.Places.{wordAt, wordsIn}
+use Rattle.lexicon.specs.declared.trees.Seen.{Seen}
+use Rattle.lexicon.specs.declared.trees.Seen.the-variants.{Met, New, Beyond}
 use Rattle.lexicon.proofs.PlaceLaws.{words-length, word-same}
+use Rattle.lexicon.proofs.PathLaws.{window-some, window-turn, window-next, hash-window}
 
 -- ------------------------------------------------------------------ a search
 
@@ -37,13 +40,17 @@ module _ {mask : ℕ} {words : List (List ℕ)} {links : List ℕ} (search-tree 
   walking-start =
       record { below = omega (arith, and-le-r (hashOf sought) mask); ahead = search-tree .leads sought; back = λ links′ i x l. l }
 
+  module _ (slot : ℕ) {found : ℕ} (equal : getD links slot 0 ≡ suc found) where
+    met-at : same (getD words found []) sought ≡ true → FoundAt words sought found
+    met-at f =
+        let n : Linked mask words slot found = search-tree .linked slot found equal in
+        record { index = cc (n .first, same-true (getD words found []) sought f); inside = n .small }
+
+    branch-behind : (turns : ℕ) → slot < branchOf mask found turns
+    branch-behind turns = omega (arith, search-tree .linked slot found equal .behind)
+
   module _ {slot turns : ℕ} (walking : Walking mask words links sought slot turns) where
     module _ {found : ℕ} (equal : getD links slot 0 ≡ suc found) where
-      walking-found : same (getD words found []) sought ≡ true → FoundAt words sought found
-      walking-found f =
-          let n : Linked mask words slot found = search-tree .linked slot found equal in
-          record { index = cc (n .first, same-true (getD words found []) sought f); inside = n .small }
-
       -- the node that `sought` is found at is not this one
       onward : {turns number : ℕ} → (number ≡ found → ⊥) → Leads links mask slot turns number → Leads links mask (branchOf mask found turns) (turns / 2) number
       onward {turns} {number} no-this (there f) = absurd (no-this (omega (arith, sym f ∙ equal)))
@@ -63,9 +70,6 @@ module _ {mask : ℕ} {words : List (List ℕ)} {links : List ℕ} (search-tree 
                 onward differs (walking .ahead h);
             back = λ links′ i x l. walking .back links′ i x (further (x slot found equal) l);
           }
-
-      walking-behind : slot < branchOf mask found turns
-      walking-behind = omega (arith, search-tree .linked slot found equal .behind)
 
     walking-end : getD links slot 0 ≡ 0 → FreeFor mask words links sought slot
     walking-end e =
@@ -222,73 +226,188 @@ module _ (links : List ℕ) {spot : Spot} {slot : ℕ} (equal : spot ≡ Free sl
   pub free-set : (number : ℕ) → set links slot (number + 1) ≡ linksWith links spot number
   free-set number = sym (cc)
 
+-- ------------------------------------------------------------------ a search by the bits ahead
+
+-- a search for `sought` stands at a link, with the bits `turns` ahead and `more` behind them
+pub record Following (mask : ℕ) (words : List (List ℕ)) (links sought : List ℕ) (more slot turns : ℕ) : Type 0 where
+  -- the rest of the path
+  pub path : ℕ
+  -- its next bits are those ahead
+  pub window : Window more turns path
+  -- the search stands there
+  pub walking : Walking mask words links sought slot path
+
+-- at another spelling the search goes on by the branch that the next bit names
+following-next : {mask : ℕ} {words : List (List ℕ)} {links sought : List ℕ} {more slot turns : ℕ} → SearchTree mask words links
+    → Following mask words links sought more slot turns
+    → 2 ≤ turns
+    → {found : ℕ} → getD links slot 0 ≡ suc found
+    → same (getD words found []) sought ≡ false
+    → Following mask words links sought more (branchOf mask found turns) (turns / 2)
+following-next {mask} {sought = sought} {turns = turns} search-tree f l {found} e d =
+    let turn : f .path % 2 ≡ turns % 2 = window-turn (f .window) l in
+    let next : branchOf mask found (f .path) ≡ branchOf mask found turns = ap (λ (b : ℕ). mask + 1 + found * 2 + b) turn in
+    record {
+      path = f .path / 2;
+      window = window-next (f .window) l;
+      walking = rw next at (walking-next search-tree sought (f .walking) e d);
+    }
+
 -- ------------------------------------------------------------------ the search as the code has it
 
--- the search for `sought` stands at a link of the room
-pub record Chasing (text places links : List ℕ) (mask count : ℕ) (sought : List ℕ) (slot turns link : ℕ) : Type 0 where
+-- a search stands at a link of the room
+pub record Standing (text places links : List ℕ) (mask count slot link : ℕ) : Type 0 where
   -- the trees and their rooms
   pub planted : Planted text places links mask count
   -- `link` is the number stored at the link: 0, or a node and one
   pub here : link ≡ getD links slot 0
   -- the link is one of the spellings' own
   pub below : slot < mask + 1 + count * 2
-  -- the search stands there
-  pub walking : Walking mask (wordsIn text places count) links sought slot turns
 
-module _ {text places links : List ℕ} {mask count : ℕ} (planted : Planted text places links mask count) (sought : List ℕ) where
-  chased : {slot turns link : ℕ} → link ≡ getD links slot 0 → Walking mask (wordsIn text places count) links sought slot turns
-      → Chasing text places links mask count sought slot turns link
-  chased e w = record { planted = planted; here = e; below = omega (arith, w .below, words-length count text places 0); walking = w }
-
-  -- a search begins at the root of the spelling's tree
-  pub chasing-start : {hash slot turns link : ℕ} → hash ≡ hashOf sought → slot ≡ bitAnd hash mask → turns ≡ hash / 2048 → link ≡ getD links slot 0
-      → Chasing text places links mask count sought slot turns link
-  chasing-start {hash} {slot} {turns} eh es et ep =
-      let a : slot ≡ rootOf mask sought = cc in
-      let b : turns ≡ turnsOf sought = cc in
-      chased ep (rw (a, b) (walking-start (planted .tree) sought))
-
+module _ {text places links : List ℕ} {mask count : ℕ} (planted : Planted text places links mask count) where
   -- the root's link is one of the room's
   pub root-inside : (hash : ℕ) → bitAnd hash mask < length links
   root-inside hash = omega (arith, and-le-r hash mask, planted .linked)
 
-module _ {text places links : List ℕ} {mask count : ℕ} {sought : List ℕ} {slot turns link : ℕ}
-    (chasing : Chasing text places links mask count sought slot turns link) where
-  -- a link of 0 is free for the spelling, which is in no tree
-  pub chasing-end : link ≤ 0 → FreeFor mask (wordsIn text places count) links sought slot
-  chasing-end h = walking-end (chasing .planted .tree) sought (chasing .walking) (omega (arith, chasing .here))
+  -- a search begins at the root of a tree
+  standing-root : (hash : ℕ) {slot link : ℕ} → slot ≡ bitAnd hash mask → link ≡ getD links slot 0 → Standing text places links mask count slot link
+  standing-root hash es el = record { planted = planted; here = el; below = omega (arith, and-le-r hash mask) }
 
-  module _ (below : 0 < link) where
-    leads-here : getD links slot 0 ≡ suc (link - 1)
-    leads-here = omega (arith, chasing .here)
+  walking-root : {sought : List ℕ} {hash slot : ℕ} → hash ≡ hashOf sought → slot ≡ bitAnd hash mask
+      → Walking mask (wordsIn text places count) links sought slot (turnsOf sought)
+  walking-root {sought} {slot = slot} eh es =
+      let a : slot ≡ rootOf mask sought = cc in
+      rw a (walking-start (planted .tree) sought)
 
-    chasing-small : link - 1 < count
-    chasing-small = omega (arith, chasing .planted .tree .linked slot (link - 1) leads-here .small, words-length count text places 0)
+module _ {text places links : List ℕ} {mask count slot link : ℕ} (standing : Standing text places links mask count slot link) (more : 0 < link) where
+  leads-here : getD links slot 0 ≡ suc (link - 1)
+  leads-here = omega (arith, standing .here)
 
-    -- the node has its place, and its branches their links
-    pub place-inside : (link - 1) * 2 + 1 < length places
-    place-inside = omega (arith, chasing-small, chasing .planted .placed)
+  small : link - 1 < count
+  small = omega (arith, standing .planted .tree .linked slot (link - 1) leads-here .small, words-length count text places 0)
 
-    -- the links of the node's branches are in the room
-    pub branch-inside : mask + 1 + (link - 1) * 2 + 1 < length links
-    branch-inside = omega (arith, chasing-small, chasing .planted .linked)
+  -- the node has its place, and its branches their links
+  pub place-inside : (link - 1) * 2 + 1 < length places
+  place-inside = omega (arith, small, standing .planted .placed)
 
-    -- a branch's link stands behind the one that led to its node
-    pub chasing-behind : slot < branchOf mask (link - 1) turns
-    chasing-behind = walking-behind (chasing .planted .tree) sought (chasing .walking) leads-here
+  -- the links of the node's branches are in the room
+  pub branch-inside : mask + 1 + (link - 1) * 2 + 1 < length links
+  branch-inside = omega (arith, small, standing .planted .linked)
 
-    compared : {test : Bool} → test ≡ same (wordAt text places (link - 1)) sought → same (getD (wordsIn text places count) (link - 1) []) sought ≡ test
-    compared e = word-same text places sought count (link - 1) chasing-small refl refl (sym e)
+  -- a branch's link stands behind the one that led to its node
+  pub standing-behind : (turns : ℕ) → slot < branchOf mask (link - 1) turns
+  standing-behind turns = branch-behind (standing .planted .tree) [] slot leads-here turns
+
+  standing-next : (turns : ℕ) {slot′ link′ : ℕ} → slot′ ≡ branchOf mask (link - 1) turns → link′ ≡ getD links slot′ 0
+      → Standing text places links mask count slot′ link′
+  standing-next turns e d = record { planted = standing .planted; here = d; below = omega (arith, small) }
+
+  module _ (sought : List ℕ) {test : Bool} (equal : test ≡ same (wordAt text places (link - 1)) sought) where
+    compared : same (getD (wordsIn text places count) (link - 1) []) sought ≡ test
+    compared = word-same text places sought count (link - 1) small refl refl (sym equal)
 
     -- a node with the same spelling is where it stands first
-    pub chasing-found : {test : Bool} → test ≡ same (wordAt text places (link - 1)) sought → test ≡ true → FoundAt (wordsIn text places count) sought (link - 1)
-    chasing-found e t = walking-found (chasing .planted .tree) sought (chasing .walking) leads-here (compared e ∙ t)
+    pub standing-found : test ≡ true → FoundAt (wordsIn text places count) sought (link - 1)
+    standing-found t = met-at (standing .planted .tree) sought slot leads-here (compared ∙ t)
 
-    -- at another spelling the search goes on by the branch that the next bit names
-    pub chasing-next : {test : Bool} → test ≡ same (wordAt text places (link - 1)) sought → test ≡ false → {slot′ turns′ link′ : ℕ}
-        → slot′ ≡ branchOf mask (link - 1) turns
-        → turns′ ≡ turns / 2
-        → link′ ≡ getD links slot′ 0
-        → Chasing text places links mask count sought slot′ turns′ link′
-    chasing-next e t a b d =
-        chased (chasing .planted) sought d (rw (a, b) (walking-next (chasing .planted .tree) sought (chasing .walking) leads-here (compared e ∙ t)))
+    standing-follows : test ≡ false → {ahead turns : ℕ} → Following mask (wordsIn text places count) links sought ahead slot turns → 2 ≤ turns
+        → {slot′ turns′ : ℕ} → slot′ ≡ branchOf mask (link - 1) turns → turns′ ≡ turns / 2
+        → Following mask (wordsIn text places count) links sought ahead slot′ turns′
+    standing-follows t f l a b = rw (a, b) (following-next (standing .planted .tree) f l leads-here (compared ∙ t))
+
+-- a link of 0 is free for the spelling, which is in no tree
+standing-end : {text places links sought : List ℕ} {mask count slot link ahead turns : ℕ} → Standing text places links mask count slot link → link ≤ 0
+    → Following mask (wordsIn text places count) links sought ahead slot turns
+    → FreeFor mask (wordsIn text places count) links sought slot
+standing-end {sought = sought} standing h f = walking-end (standing .planted .tree) sought (f .walking) (omega (arith, standing .here))
+
+positive : (number : ℕ) → (number ≡ 0 → ⊥) → 0 < number
+positive zero d = absurd (d refl)
+positive (suc number) d = omega arith
+
+-- the search by the bits of the hash
+pub record Seeking (text places links : List ℕ) (mask count : ℕ) (sought : List ℕ) (slot turns link : ℕ) : Type 0 where
+  pub standing : Standing text places links mask count slot link
+  -- as long as there are bits ahead, they are those of the path
+  pub follows : 0 < turns → Following mask (wordsIn text places count) links sought (behindHash sought) slot turns
+
+-- the search by the whole path
+pub record Searching (text places links : List ℕ) (mask count : ℕ) (sought : List ℕ) (slot turns next link : ℕ) : Type 0 where
+  pub standing : Standing text places links mask count slot link
+  -- the bytes from `next` on come behind the bits ahead
+  pub within : next ≤ length sought
+  pub following : Following mask (wordsIn text places count) links sought (bytesOf (drop next sought)) slot turns
+
+module _ {text places links : List ℕ} {mask count : ℕ} (planted : Planted text places links mask count) {sought : List ℕ}
+    {hash slot turns link : ℕ} (hashed : hash ≡ hashOf sought) (root : slot ≡ bitAnd hash mask) (here : link ≡ getD links slot 0) where
+  -- at the root, with the bits of the hash ahead
+  pub seeking-start : hash < 18446744073709551616 → turns ≡ hash / 17592186044416 + 1048576
+      → Seeking text places links mask count sought slot turns link
+  seeking-start l e =
+      record {
+        standing = standing-root planted hash root here;
+        follows = λ h. record { path = turnsOf sought; window = hash-window sought hashed l e; walking = walking-root planted hashed root };
+      }
+
+  -- at the root, with the bits of both hashes ahead
+  pub searching-start : Window (bytesOf sought) turns (turnsOf sought) → Searching text places links mask count sought slot turns 0 link
+  searching-start w =
+      record {
+        standing = standing-root planted hash root here;
+        within = omega arith;
+        following = record { path = turnsOf sought; window = w; walking = walking-root planted hashed root };
+      }
+
+module _ {text places links : List ℕ} {mask count : ℕ} {sought : List ℕ} {slot turns link : ℕ}
+    (seeking : Seeking text places links mask count sought slot turns link) where
+  -- a spelling that the bits tell to be new
+  pub seeking-end : link ≤ 0 → (turns ≡ 0 → ⊥) → FreeFor mask (wordsIn text places count) links sought slot
+  seeking-end h d = standing-end (seeking .standing) h (seeking .follows (positive turns d))
+
+  -- one branch further
+  pub seeking-next : (more : 0 < link) {test : Bool} → test ≡ same (wordAt text places (link - 1)) sought → test ≡ false → {slot′ turns′ link′ : ℕ}
+      → slot′ ≡ branchOf mask (link - 1) turns
+      → turns′ ≡ turns / 2
+      → link′ ≡ getD links slot′ 0
+      → Seeking text places links mask count sought slot′ turns′ link′
+  seeking-next more e t a b d =
+      record {
+        standing = standing-next (seeking .standing) more turns a d;
+        follows =
+            λ h.
+            standing-follows (seeking .standing) more sought e t (seeking .follows (omega arith)) (omega arith) a b;
+      }
+
+module _ {text places links : List ℕ} {mask count : ℕ} {sought : List ℕ} {slot turns next link : ℕ}
+    (searching : Searching text places links mask count sought slot turns next link) where
+  -- where the path ends the spelling is new
+  pub searching-end : link ≤ 0 → FreeFor mask (wordsIn text places count) links sought slot
+  searching-end h = standing-end (searching .standing) h (searching .following)
+
+  -- one branch further
+  pub searching-next : (more : 0 < link) {test : Bool} → test ≡ same (wordAt text places (link - 1)) sought → test ≡ false → {ahead next′ : ℕ}
+      → Refilled sought turns next ahead next′
+      → {slot′ turns′ link′ : ℕ} → slot′ ≡ branchOf mask (link - 1) ahead
+      → turns′ ≡ ahead / 2
+      → link′ ≡ getD links slot′ 0
+      → Searching text places links mask count sought slot′ turns′ next′ link′
+  searching-next more e t {ahead} r a b d =
+      let f = searching .following in
+      record {
+        standing = standing-next (searching .standing) more ahead a d;
+        within = r .within;
+        following =
+            standing-follows (searching .standing) more sought e t
+            (record { path = f .path; window = r .path (f .path) (f .window); walking = f .walking })
+            (r .some (window-some (f .window))) a b;
+      }
+
+-- what the bits of the hash told, as an answer
+module _ (mask : ℕ) (words : List (List ℕ)) (links sought : List ℕ) {seen : Seen} (seeks : Seeks mask words links sought seen) where
+  -- the node of a number
+  pub settled-node : {number : ℕ} → seen ≡ Met number → Searched mask words links sought (Node number)
+  settled-node e = subst (Seeks mask words links sought) e seeks
+
+  -- the link that is free
+  pub settled-free : {slot : ℕ} → seen ≡ New slot → Searched mask words links sought (Free slot)
+  settled-free e = subst (Seeks mask words links sought) e seeks

@@ -1,16 +1,18 @@
--- How spellings are found by the bits of a hash. The laws hold for any hash. Nobody needs these definitions to believe `scan`: its
--- contract does not cite them.
+-- How spellings are found by the bits of a path that each has. The laws hold for any path. Nobody needs these definitions to believe
+-- `scan`: its contract does not cite them.
 use Prim.Native.Nat.{ℕ, zero, suc, _+_, _-_, _*_, _/_, _%_, _<_, _≤_}
 use mathlib.Core.Path.{_≡_}
 use mathlib.Core.Bool.{true, false}
-use mathlib.Core.List.{List, []}
+use mathlib.Core.List.{List, [], _∷_}
 use lib.Bits.{bitAnd, bitXor}
 use lib.Dec.{ltb}
-use lib.ListN.{length, getD, set}
+use lib.ListN.{length, getD, set, drop}
 use Rattle.spellings.specs.Bytes.{indexOf}
 use Rattle.lexicon.specs.Places.{wordsIn}
 use Rattle.lexicon.specs.declared.trees.Spot.{Spot}
 use Rattle.lexicon.specs.declared.trees.Spot.the-variants.{Node, Free}
+use Rattle.lexicon.specs.declared.trees.Seen.{Seen}
+use Rattle.lexicon.specs.declared.trees.Seen.the-variants.{Met, New, Beyond}
 
 -- ------------------------------------------------------------------ the hash
 
@@ -67,14 +69,44 @@ pub record Hashed (s : List ℕ) (size hash : ℕ) : Type 0 where
   pub sized : size ≡ length s
   pub hashed : hash ≡ hashOf s
 
--- ------------------------------------------------------------------ trees
+-- ------------------------------------------------------------------ paths
 
--- the link of a tree's root, and which branches are taken from there on
+-- a second hash, one byte at a time
+unfoldable pub secondFrom : ℕ → List ℕ → ℕ
+secondFrom h [] = h
+secondFrom h (b ∷ s) = secondFrom (mixed h b) s
+
+abbrev pub secondOf : List ℕ → ℕ
+secondOf s = secondFrom 11400714819323198485 s
+
+-- the bytes of a spelling as one number, the first the lowest
+unfoldable pub bytesOf : List ℕ → ℕ
+bytesOf [] = 0
+bytesOf (b ∷ s) = b + 256 * bytesOf s
+
+-- the link of a tree's root, and which branches are taken from there on, a bit each, the lowest first: the highest 20 bits of the hash,
+-- the lowest 32 of the second one, and the bytes
 abbrev pub rootOf : ℕ → List ℕ → ℕ
 rootOf mask s = bitAnd (hashOf s) mask
 
-abbrev pub turnsOf : List ℕ → ℕ
-turnsOf s = hashOf s / 2048
+abbrev pub behindHash : List ℕ → ℕ
+behindHash s = secondOf s % 4294967296 + 4294967296 * bytesOf s
+
+unfoldable pub turnsOf : List ℕ → ℕ
+turnsOf s = hashOf s / 17592186044416 + 1048576 * behindHash s
+
+-- `turns` are some bits with a 1 behind them, and the path is these bits with `more` behind them
+pub data Window (more : ℕ) : ℕ → ℕ → Type 0 where
+  shut : {turns path : ℕ} → turns ≡ 1 → path ≡ more → Window more turns path
+  bit : {turns path b turns′ path′ : ℕ} → b < 2 → turns ≡ b + 2 * turns′ → path ≡ b + 2 * path′ → Window more turns′ path′ → Window more turns path
+
+-- with the bits of the next byte, where none was left
+pub record Refilled (s : List ℕ) (turns next turns′ next′ : ℕ) : Type 0 where
+  pub some : 0 < turns → 2 ≤ turns′
+  pub within : next′ ≤ length s
+  pub path : (path : ℕ) → Window (bytesOf (drop next s)) turns path → Window (bytesOf (drop next′ s)) turns′ path
+
+-- ------------------------------------------------------------------ trees
 
 -- the link of the branch of node j that is taken
 abbrev pub branchOf : ℕ → ℕ → ℕ → ℕ
@@ -117,6 +149,12 @@ pub record FreeFor (mask : ℕ) (words : List (List ℕ)) (links s : List ℕ) (
 pub record FoundAt (words : List (List ℕ)) (s : List ℕ) (i : ℕ) : Type 0 where
   pub index : i ≡ indexOf s words
   pub inside : i < length words
+
+-- what the bits of its hash tell of a spelling
+abbrev pub Seeks : ℕ → List (List ℕ) → List ℕ → List ℕ → Seen → Type 0
+Seeks mask words links s (Met i) = FoundAt words s i
+Seeks mask words links s (New slot) = FreeFor mask words links s slot
+Seeks mask words links s Beyond = Unit {0}
 
 -- what a search answers
 abbrev pub Searched : ℕ → List (List ℕ) → List ℕ → List ℕ → Spot → Type 0

@@ -17,7 +17,8 @@ use lexicon::SPELLING_COUNT;
 use lexicon::SYMBOLS;
 use lexicon::TREE;
 use lexicon::trees::Spot;
-use lexicon::trees::find;
+use lexicon::trees::seek;
+use lexicon::trees::settle;
 use lexicon::trees::word_at;
 use spellings::LONGEST_WORD;
 use spellings::Number;
@@ -132,7 +133,8 @@ fn class_of(table: &[u8], room: &[u32], tree: &[u32], s: &[u8], hash: u64) -> Wo
 {
     let keywords = room[KEYWORD_COUNT];
     let count = wide_number(room[SPELLING_COUNT]);
-    let spot = find(table, room, tree, MASK, count, s, hash);
+    let seen = seek(table, room, tree, MASK, count, s, hash);
+    let spot = settle(seen, table, room, tree, MASK, count, s, hash);
     match spot {
         Spot::Node(i) => {
             let k = i as u32;
@@ -177,15 +179,9 @@ fn own_word(
     ensures { λ r. ⌜ OwnWord mask (wordsIn (now (formula .entry)) (now (words .entry)) count) (now (links .entry)) at size
         (take size (drop at (now (formula .entry)))) r ⌝ }
 {
-    let spot = find(
-        formula,
-        words,
-        links,
-        mask,
-        count,
-        part(formula, at, size),
-        hash,
-    );
+    let s = part(formula, at, size);
+    let seen = seek(formula, words, links, mask, count, s, hash);
+    let spot = settle(seen, formula, words, links, mask, count, s, hash);
     match spot {
         Spot::Node(i) => emit(WORD_KIND, at, size, FIRST_WORD + i as u32, Spot::Node(0)),
         Spot::Free(slot) => emit(

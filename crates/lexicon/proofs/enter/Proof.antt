@@ -8,29 +8,39 @@ use Rattle.lexicon.proofs.enter.Statement.{statement}
 use Rattle.lexicon.proofs.enter.Tie as tie
 
 -- places, each from a later one
-abbrev after-part : tie.After-find → tie.After-part
-after-part p = p .before .before .before .before
+abbrev after-seek : tie.After-settle → tie.After-seek
+after-seek p = p .before .before .before
+
+abbrev after-hash : tie.After-seek → tie.After-hash
+after-hash p = p .before .before .before
 
 abbrev at-start : tie.After-part → tie.Start
 at-start p = p .before .before .before .before
 
-find-requires : tie.Need-find-requires
-find-requires c κs =
+seek-requires : tie.Need-seek-requires
+seek-requires c κs =
     let hash-place = c .before .before in
     let start = at-start (hash-place .before) in
     (laws.entered-planted (start .pre .0), hash-place .hash .ensures)
 
+settle-requires : tie.Need-settle-requires
+settle-requires c κs =
+    let sought = c .before .before in
+    let hash-place = after-hash sought in
+    let start = at-start (hash-place .before) in
+    ((laws.entered-planted (start .pre .0), hash-place .hash .ensures), sought .seek .ensures)
+
 slice-write-room-2 : tie.Need-slice-write-room-2
 slice-write-room-2 c =
-    let start = at-start (after-part c) in
+    let start = at-start (after-hash (after-seek c) .before) in
     laws.place-inside (start .pre .0) _ _
 
 link-requires : tie.Need-link-requires
 link-requires c κs =
     let found = c .before in
-    let read = after-part found in
+    let read = after-hash (after-seek found) .before in
     let start = at-start read in (
-      laws.entered-linkable (start .pre .0) (read .part .result .now) (found .find .result) (found .find .ensures),
+      laws.entered-linkable (start .pre .0) (read .part .result .now) (found .settle .result) (found .settle .ensures),
       omega (arith, start .pre .0 .enough),
     )
 
@@ -38,12 +48,12 @@ returns : tie.Need-returns
 returns c =
     let link-place = c .before .before in
     let found = link-place .before .before in
-    let read = after-part found in
+    let read = after-hash (after-seek found) .before in
     let start = at-start read in
     let place = place-stored (start .args .room .now) (start .args .e * 2) (start .args .from) (start .args .size) in (
       place,
       rw place
-          (laws.enter-one _ _ _ _ (found .find .result) (start .pre .0) (read .part .ensures) (found .find .ensures)
+          (laws.enter-one _ _ _ _ (found .settle .result) (start .pre .0) (read .part .ensures) (found .settle .ensures)
           (link-place .link .ensures)),
     )
 
@@ -54,7 +64,8 @@ enter-spec =
     (tie.spec
     (λ c κs. search needs)
     (λ c κs. search needs)
-    find-requires
+    seek-requires
+    settle-requires
     (λ c. search needs)
     (λ c. search needs)
     (λ c. search needs)

@@ -6,27 +6,33 @@ use Rattle.scanner.proofs.class_of.Statement.{statement}
 use Rattle.scanner.proofs.class_of.Tie as tie
 
 -- places, each from a later one
-abbrev after-find : tie.After-spot → tie.After-find
-after-find p = p .before .before
+abbrev after-settle : tie.After-spot → tie.After-settle
+after-settle p = p .before .before
 
 abbrev at-start : tie.After-wide-number → tie.Start
 at-start p =
     let q = p .before .before .before in
     q .before .before .before .before
 
-find-requires : tie.Need-find-requires
-find-requires c κs =
+seek-requires : tie.Need-seek-requires
+seek-requires c κs =
     let start = at-start c in
     (rw (c .wide-number .ensures) (laws.lexical-planted (start .pre .0)), start .pre .1)
 
+settle-requires : tie.Need-settle-requires
+settle-requires c κs =
+    let read = c .before in
+    let start = at-start read in
+    ((rw (read .wide-number .ensures) (laws.lexical-planted (start .pre .0)), start .pre .1), c .seek .ensures)
+
 cast-k : tie.Need-cast-k
 cast-k c =
-    let found = after-find (c .before) in
-    let read = found .before in
+    let found = after-settle (c .before) in
+    let read = found .before .before in
     let start = at-start read in
-    let found-there = found .find .ensures in
+    let found-there = found .settle .ensures in
     let counted = read .wide-number .ensures in
-    omega (arith, laws.node-fits (start .pre .0) (start .args .s .now) counted (found .find .result) found-there (c .before .spot .given .1))
+    omega (arith, laws.node-fits (start .pre .0) (start .args .s .now) counted (found .settle .result) found-there (c .before .spot .given .1))
 
 returns : tie.Need-returns
 returns c = search laws.node-keyword
@@ -45,7 +51,8 @@ class-of-spec =
     (λ c. search needs)
     (λ c. search needs)
     (λ c κs. search needs)
-    find-requires
+    seek-requires
+    settle-requires
     (λ c. search needs)
     cast-k
     returns

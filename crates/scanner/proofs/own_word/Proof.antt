@@ -11,38 +11,44 @@ use Rattle.scanner.proofs.own_word.Tie as tie
 abbrev at-start : tie.After-part → tie.Start
 at-start p = p .before .before .before .before
 
-abbrev after-find : tie.After-spot → tie.After-find
-after-find p = p .before .before
+abbrev after-settle : tie.After-spot → tie.After-settle
+after-settle p = p .before .before
 
-find-requires : tie.Need-find-requires
-find-requires c κs =
+seek-requires : tie.Need-seek-requires
+seek-requires c κs =
     let asked = (at-start c) .pre .0 in
     (asked .0, asked .1 ∙ ap hashOf (sym (c .part .ensures)))
 
+settle-requires : tie.Need-settle-requires
+settle-requires c κs =
+    let read = c .before in
+    let asked = (at-start read) .pre .0 in
+    ((asked .0, asked .1 ∙ ap hashOf (sym (read .part .ensures))), c .seek .ensures)
+
 cast-emit : tie.Need-cast-emit
 cast-emit c =
-    let found = after-find (c .before) in
-    let read = found .before in
+    let found = after-settle (c .before) in
+    let read = found .before .before in
     let start = at-start read in
     let args = start .args in
     omega (
       arith,
       start .pre .1,
-      laws.own-small (args .mask) (args .formula .now) (args .words .now) (args .count) (args .links .now) _ _ (read .part .ensures) (found .find .result)
-          (found .find .ensures) (c .before .spot .given .1),
+      laws.own-small (args .mask) (args .formula .now) (args .words .now) (args .count) (args .links .now) _ _ (read .part .ensures) (found .settle .result)
+          (found .settle .ensures) (c .before .spot .given .1),
     )
 
 add-emit : tie.Need-add-emit
 add-emit c =
-    let found = after-find (c .before) in
-    let read = found .before in
+    let found = after-settle (c .before) in
+    let read = found .before .before in
     let start = at-start read in
     let args = start .args in
     omega (
       arith,
       start .pre .1,
-      laws.own-small (args .mask) (args .formula .now) (args .words .now) (args .count) (args .links .now) _ _ (read .part .ensures) (found .find .result)
-          (found .find .ensures) (c .before .spot .given .1),
+      laws.own-small (args .mask) (args .formula .now) (args .words .now) (args .count) (args .links .now) _ _ (read .part .ensures) (found .settle .result)
+          (found .settle .ensures) (c .before .spot .given .1),
     )
 
 returns : tie.Need-returns
@@ -57,7 +63,8 @@ own-word-spec =
     tie.close
     (tie.spec
     (λ c κs. search needs)
-    find-requires
+    seek-requires
+    settle-requires
     (λ c. search needs)
     cast-emit
     add-emit
