@@ -38,134 +38,135 @@ impl Default for Stacks {
     }
 }
 
-struct Machine<'a> {
-    grammar: &'a Grammar,
-    firsts: &'a Firsts,
-    tokens: &'a [Token],
-    cells: &'a mut [u32],
-    rows: usize,
+/// What is counted on the way.
+#[derive(Default)]
+struct Counts {
     made: usize,
     next: usize,
     fresh: u32,
     calls: usize,
-    open: &'a mut [Frame; MOST_OPEN],
-    depth: usize,
-    /// The arguments of a call are its first variables where they stand, and its result takes their place as the caller's next variable.
-    values: &'a mut [u32; MOST_VALUES],
+    /// Open calls round the innermost one, and variables of all open calls.
+    open: usize,
     top: usize,
 }
 
-pub fn run(grammar: &Grammar, firsts: &Firsts, tokens: &[Token], cells: &mut [u32], stacks: &mut Stacks) -> Result<Ran, Refusal> {
-    let rows = (cells.len() / 4).min(16_384);
-    let Stacks { open, values } = stacks;
-    let mut machine = Machine { grammar, firsts, tokens, cells, rows, made: 0, next: 0, fresh: 0, calls: 0, open, depth: 0, values, top: 0 };
-    let root = machine.call(grammar.root, 0, 0)?;
-    machine.items(root)?;
-    if machine.next < tokens.len() {
-        return Err(refusal(18, machine.next));
-    }
-    Ok(Ran { made: machine.made, root: machine.values[0] as usize, fresh: machine.fresh })
+/// The token does not fit: 17.
+#[cold]
+fn unfit(next: usize, openings: u64) -> Refusal {
+    Answer { number: 17, a: next as u64, b: openings, c: openings.count_ones().into() }
 }
 
-impl Machine<'_> {
-    fn kind(&self) -> u8 {
-        self.tokens.get(self.next).map_or(NO_KIND, |token| token.kind)
-    }
+/// What a run reads.
+#[derive(Clone, Copy)]
+struct Given<'a> {
+    grammar: &'a Grammar,
+    firsts: &'a Firsts,
+    tokens: &'a [Token],
+    rows: usize,
+}
 
-    /// The token does not fit: 17.
-    #[cold]
-    fn unfit(&self, openings: u64) -> Refusal {
-        Answer { number: 17, a: self.next as u64, b: openings, c: openings.count_ones().into() }
-    }
-
+impl Given<'_> {
     /// Takes a token of the kind.
     #[inline(always)]
-    fn take(&mut self, kind: u8) -> Result<u32, Refusal> {
-        match self.tokens.get(self.next) {
+    fn take(&self, counts: &mut Counts, kind: u8) -> Result<u32, Refusal> {
+        match self.tokens.get(counts.next) {
             Some(token) if token.kind == kind => {
-                self.next += 1;
+                counts.next += 1;
                 Ok(token.value)
             }
-            _ => Err(self.unfit(1 << kind)),
+            _ => Err(unfit(counts.next, 1 << kind)),
         }
     }
 
     /// Opens a call whose arguments are the last values, inside so many open ones.
     #[inline(always)]
-    fn call(&mut self, nonterminal: u8, arguments: usize, open: usize) -> Result<Frame, Refusal> {
+    fn call(&self, counts: &mut Counts, nonterminal: u8, arguments: usize, open: usize) -> Result<Frame, Refusal> {
         if open == MOST_OPEN {
-            return Err(refusal(19, self.next));
+            return Err(refusal(19, counts.next));
         }
-        if self.calls == 65_536 {
-            return Err(refusal(20, self.next));
+        if counts.calls == 65_536 {
+            return Err(refusal(20, counts.next));
         }
-        let chosen = self.firsts.choice[usize::from(nonterminal)][usize::from(self.kind())];
+        let kind = self.tokens.get(counts.next).map_or(NO_KIND, |token| token.kind);
+        let chosen = self.firsts.choice[usize::from(nonterminal)][usize::from(kind)];
         let Some(number) = usize::from(chosen).checked_sub(1) else {
-            return Err(self.unfit(self.firsts.openings[usize::from(nonterminal)]));
+            return Err(unfit(counts.next, self.firsts.openings[usize::from(nonterminal)]));
         };
-        self.calls += 1;
+        counts.calls += 1;
         let alternative = &self.grammar.alternatives[number];
-        let variables = (self.top - arguments) as u32;
-        Ok(Frame { items: alternative.items, cells: alternative.cells, result: alternative.result, variables })
+        Ok(Frame { items: alternative.items, cells: alternative.cells, result: alternative.result, variables: (counts.top - arguments) as u32 })
     }
 
-    /// Items of the innermost call, until no call is open.
-    fn items(&mut self, mut frame: Frame) -> Result<(), Refusal> {
-        loop {
-            if frame.items.from == frame.items.to {
-                let base = self.make(frame.cells, frame.variables)?;
-                let variables = frame.variables as usize;
-                self.values[variables] = frame.result.value(&self.values[variables..], base);
-                self.top = variables + 1;
-                if self.depth == 0 {
-                    return Ok(());
-                }
-                self.depth -= 1;
-                frame = self.open[self.depth];
-                continue;
+    /// Makes the cells of templates.
+    #[inline(always)]
+    fn make(&self, counts: &mut Counts, span: Span, variables: &[u32], cells: &mut [u32]) -> Result<(), Refusal> {
+        if span.from == span.to {
+            return Ok(());
+        }
+        let base = counts.made as u32;
+        for make in span.of(&self.grammar.makes) {
+            if counts.made == self.rows {
+                return Err(refusal(21, counts.next));
             }
-            let item = self.grammar.items[usize::from(frame.items.from)];
-            frame.items.from += 1;
-            let value = match item {
-                Item::Keyword(kind) => self.take(kind).map(|_| 0)?,
-                Item::Name => name(1, self.take(WORD)?),
-                Item::Label => self.take(WORD)?,
-                Item::Number => self.take(NUMBER)?,
-                Item::Local => {
-                    self.fresh += 1;
-                    name(2, self.fresh)
+            let [a, b, c] = make.arguments.map(|argument| argument.value(variables, base));
+            cells[4 * counts.made..][..4].copy_from_slice(&[make.code.into(), a, b, c]);
+            counts.made += 1;
+        }
+        Ok(())
+    }
+}
+
+/// Items of the innermost call, until no call is open. The arguments of a call are its first variables where they stand, and its result takes their
+/// place as the caller's next variable.
+pub fn run(grammar: &Grammar, firsts: &Firsts, tokens: &[Token], cells: &mut [u32], stacks: &mut Stacks) -> Result<Ran, Refusal> {
+    let given = Given { grammar, firsts, tokens, rows: (cells.len() / 4).min(16_384) };
+    let Stacks { open, values } = stacks;
+    let mut counts = Counts::default();
+    let mut frame = given.call(&mut counts, grammar.root, 0, 0)?;
+    loop {
+        let variables = frame.variables as usize;
+        let base = counts.made as u32;
+        let value = if frame.items.from == frame.items.to {
+            given.make(&mut counts, frame.cells, &values[variables..], cells)?;
+            let value = frame.result.value(&values[variables..], base);
+            counts.top = variables;
+            if counts.open == 0 {
+                if counts.next < tokens.len() {
+                    return Err(refusal(18, counts.next));
                 }
-                Item::Call { nonterminal, cells, arguments } => {
-                    let base = self.make(cells, frame.variables)?;
-                    let arguments = arguments.of(&self.grammar.arguments);
-                    for argument in arguments {
-                        self.values[self.top] = argument.value(&self.values[frame.variables as usize..], base);
-                        self.top += 1;
+                return Ok(Ran { made: counts.made, root: value as usize, fresh: counts.fresh });
+            }
+            counts.open -= 1;
+            frame = open[counts.open];
+            value
+        } else {
+            let item = grammar.items[usize::from(frame.items.from)];
+            frame.items.from += 1;
+            match item {
+                Item::Keyword(kind) => given.take(&mut counts, kind).map(|_| 0)?,
+                Item::Name => name(1, given.take(&mut counts, WORD)?),
+                Item::Label => given.take(&mut counts, WORD)?,
+                Item::Number => given.take(&mut counts, NUMBER)?,
+                Item::Local => {
+                    counts.fresh += 1;
+                    name(2, counts.fresh)
+                }
+                Item::Call { nonterminal, cells: span, arguments } => {
+                    given.make(&mut counts, span, &values[variables..], cells)?;
+                    for argument in arguments.of(&grammar.arguments) {
+                        values[counts.top] = argument.value(&values[variables..], base);
+                        counts.top += 1;
                     }
-                    let inner = self.call(nonterminal, arguments.len(), self.depth + 1)?;
-                    self.open[self.depth] = std::mem::replace(&mut frame, inner);
-                    self.depth += 1;
+                    let (passed, opened) = (usize::from(arguments.to - arguments.from), counts.open + 1);
+                    let inner = given.call(&mut counts, nonterminal, passed, opened)?;
+                    open[counts.open] = frame;
+                    counts.open = opened;
+                    frame = inner;
                     continue;
                 }
-            };
-            self.values[self.top] = value;
-            self.top += 1;
-        }
-    }
-
-    /// Makes the cells of templates; the row of the first.
-    #[inline(always)]
-    fn make(&mut self, cells: Span, variables: u32) -> Result<u32, Refusal> {
-        let base = self.made as u32;
-        let values = &self.values[variables as usize..];
-        for make in cells.of(&self.grammar.makes) {
-            if self.made == self.rows {
-                return Err(refusal(21, self.next));
             }
-            let [a, b, c] = make.arguments.map(|argument| argument.value(values, base));
-            self.cells[4 * self.made..][..4].copy_from_slice(&[make.code.into(), a, b, c]);
-            self.made += 1;
-        }
-        Ok(base)
+        };
+        values[counts.top] = value;
+        counts.top += 1;
     }
 }

@@ -135,6 +135,24 @@ struct Open {
     asked: [u8; 3],
 }
 
+/// Each constructor as its code opens it.
+const OPENED: [Open; 8] = {
+    let mut opened = [Open { code: 0, taken: 0, arity: 0, asked: [0; 3] }; 8];
+    let mut code = 0;
+    while code < 8 {
+        let arguments = ARGUMENTS[code];
+        opened[code].code = 0x20 + code as u8;
+        opened[code].arity = arguments.len() as u8;
+        let mut at = 0;
+        while at < arguments.len() {
+            opened[code].asked[at] = arguments[at];
+            at += 1;
+        }
+        code += 1;
+    }
+    opened
+};
+
 pub struct Checker {
     /// Where the result sort and the parameter sorts of each nonterminal stand, for those defined up to the present block.
     signatures: [(u16, u16); 64],
@@ -283,10 +301,7 @@ impl Checker {
                     sort
                 }
                 0x20.. => {
-                    let arguments = ARGUMENTS[usize::from(byte & 7)];
-                    let mut asked = [0; 3];
-                    asked[..arguments.len()].copy_from_slice(arguments);
-                    self.open.push(Open { code: byte, taken: 0, arity: arguments.len() as u8, asked });
+                    self.open.push(OPENED[usize::from(byte & 7)]);
                     if byte == 0x25 || byte == 0x26 { FIELDS } else { TERM }
                 }
                 _ => {
@@ -316,8 +331,13 @@ impl Checker {
                 return false;
             }
             let (code, behind) = (open.code, self.parts.len() - usize::from(open.arity));
-            let mut arguments = [Source::default(); 3];
-            arguments.iter_mut().zip(&self.parts[behind..]).for_each(|(argument, part)| *argument = *part);
+            let none = Source::default();
+            let arguments = match self.parts[behind..] {
+                [a] => [a, none, none],
+                [a, b] => [a, b, none],
+                [a, b, c] => [a, b, c],
+                _ => [none; 3],
+            };
             self.parts.truncate(behind);
             self.parts.push(Source(CELL | (grammar.makes.len() - from) as u32));
             grammar.makes.push(Make { code, arguments });
