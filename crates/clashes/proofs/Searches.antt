@@ -101,7 +101,7 @@ pair-exactly test g = (pair-sound test g, λ r. pair-complete test (r .apart) (r
 
 -- ------------------------------------------------------------------ what all pairs give together
 
-with-seen : (set-of : Production → ℕ) (g : List Production) (found kind : ℕ)
+with-seen : {A : Type 0} (set-of : A → ℕ) (g : List A) (found kind : ℕ)
     → hasKind (joinWith set-of g found) kind ≡ (hasKind found kind || anyWith (λ q. hasKind (set-of q) kind) g)
 unfolding joinWith anyWith
 with-seen set-of [] found kind = sym (or-false (hasKind found kind))
@@ -110,7 +110,7 @@ with-seen set-of (q ∷ g) found kind =
     ∙ or-assoc (hasKind found kind) (hasKind (set-of q) kind) (anyWith (λ r. hasKind (set-of r) kind) g)
 
 -- a kind is in the join over all pairs if some pair gives it
-pub pairs-seen : (set-of : Production → Production → ℕ) (g : List Production) (found kind : ℕ)
+pub pairs-seen : {A : Type 0} (set-of : A → A → ℕ) (g : List A) (found kind : ℕ)
     → hasKind (joinPairs set-of g found) kind ≡ (hasKind found kind || anyPair (λ p q. hasKind (set-of p q) kind) g)
 unfolding joinPairs anyPair
 pairs-seen set-of [] found kind = sym (or-false (hasKind found kind))

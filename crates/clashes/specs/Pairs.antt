@@ -3,13 +3,14 @@
 use Prim.Native.Nat.{ℕ, zero, suc, _-_}
 use mathlib.Core.Bool.{Bool, true, false, _&&_, _||_}
 use mathlib.Core.List.{List, [], _∷_}
-use lib.Bits.{bitAnd}
+use lib.Bits.{bitAnd, bitOr}
 use lib.Count.{trailingZeros}
 use lib.Dec.{ltb}
 use Rattle.answers.specs.Refusals.{refusal}
 use Rattle.answers.specs.Checked.{Checked, ok, bad}
 use Rattle.grammar.specs.Limits.{most}
 use Rattle.productions.specs.Room.{noPlace, firstPlaceIn, firstIn, nextPlaceIn, nullableIn}
+use Rattle.clashes.specs.declared.Seen.{Seen}
 use Rattle.clashes.specs.CheckFirsts.{lowest, anyPair, joinPairs}
 
 -- the place that the link at place i leads to; a link that does not lead on ends the search
@@ -31,6 +32,18 @@ sharedIn room i j = bitAnd (firstIn room i) (firstIn room j)
 -- two productions share a kind, or are both nullable
 abbrev pub clashIn : List ℕ → ℕ → ℕ → Bool
 clashIn room i j = ltb 0 (sharedIn room i j) || (nullableIn room i && nullableIn room j)
+
+-- what productions give together, with one more
+abbrev pub seenWith : List ℕ → Seen → ℕ → Seen
+seenWith room seen i = record { kinds = bitOr (seen .kinds) (firstIn room i); nullable = seen .nullable || nullableIn room i }
+
+-- a production clashes with what others give together
+abbrev pub clashSeen : List ℕ → Seen → ℕ → Bool
+clashSeen room seen i = ltb 0 (bitAnd (seen .kinds) (firstIn room i)) || (seen .nullable && nullableIn room i)
+
+-- where a production's pairs are looked for: from the first place on if it clashes with what those before it give, else nowhere
+abbrev pub otherFrom : List ℕ → ℕ → ℕ → Seen → ℕ
+otherFrom room start i seen = elim (clashSeen room seen i) [ true ↦ start | false ↦ i ]
 
 -- the lowest nonterminal of which two productions clash, 64 if there is none
 abbrev pub clashingIn : List ℕ → ℕ

@@ -1,4 +1,5 @@
 // Left recursion and clashes: refusals 12 and 13. The clash search goes over the productions of each nonterminal, by the links of the room.
+use crate::Seen;
 use firsts::items::set_at;
 use grammar::limits::NONTERMINALS;
 use kinds::has;
@@ -11,8 +12,9 @@ use productions::room::first_place;
 use productions::room::is_nullable;
 use productions::room::next_place;
 ghost use mathlib.Core.Path.{_≡_};
+ghost use Rattle.productions.specs.Room.{firstPlaceIn};
 ghost use Rattle.clashes.specs.CheckFirsts.{leftRecursive};
-ghost use Rattle.clashes.specs.Pairs.{afterIn, sharedIn, clashIn, clashingIn, allSharedIn};
+ghost use Rattle.clashes.specs.Pairs.{afterIn, sharedIn, clashIn, clashSeen, seenWith, otherFrom, clashingIn, allSharedIn};
 
 // The lowest nonterminal that reaches itself by left calls, 64 if none does.
 pub fn left_recursive(calls: &[u64]) -> u8
@@ -55,22 +57,58 @@ fn clash(room: &[u64; ROOM], i: usize, j: usize) -> bool
     (0 < shared) | (a & b)
 }
 
-// The lowest nonterminal of which two productions clash, 64 if there is none: the search ends at the first clash.
+// Whether the production at a place clashes with one of those seen.
+fn clashes(room: &[u64; ROOM], i: usize, seen: Seen) -> bool
+    ensures { λ r. ⌜ r ≡ clashSeen (now (room .entry)) seen i ⌝ }
+{
+    let shared = meet(seen.kinds, first(room, i));
+    let nullable = is_nullable(room, i);
+    (0 < shared) | (seen.nullable & nullable)
+}
+
+// The productions seen, and the one at a place.
+fn seen_with(room: &[u64; ROOM], i: usize, seen: Seen) -> Seen
+    ensures { λ r. ⌜ r ≡ seenWith (now (room .entry)) seen i ⌝ }
+{
+    let kinds = join(seen.kinds, first(room, i));
+    let nullable = is_nullable(room, i);
+    Seen {
+        kinds,
+        nullable: seen.nullable | nullable,
+    }
+}
+
+// Where the search for the other of a pair begins: at the first production of n, if the one at place i clashes with one of those seen; else
+// at i, before which none is left.
+fn other_from(room: &[u64; ROOM], n: u8, i: usize, seen: Seen) -> usize
+    ensures { λ r. ⌜ r ≡ otherFrom (now (room .entry)) (firstPlaceIn (now (room .entry)) n) i seen ⌝ }
+{
+    let found = clashes(room, i, seen);
+    if found { first_place(room, n) } else { i }
+}
+
+// The lowest nonterminal of which two productions clash, 64 if there is none: the search ends at the first clash. A production is held against
+// those before it only where it clashes with what they give together.
 pub fn clashing(room: &[u64; ROOM]) -> u8
     ensures { λ r. ⌜ r ≡ clashingIn (now (room .entry)) ⌝ }
 {
     let mut n: u8 = 0;
     'search: while n < NONTERMINALS {
+        let mut seen = Seen {
+            kinds: 0,
+            nullable: false,
+        };
         let mut i = first_place(room, n);
         while i < NO_PLACE {
-            let mut j = after(room, i);
-            while j < NO_PLACE {
-                let found = clash(room, i, j);
+            let mut j = other_from(room, n, i, seen);
+            while j < i {
+                let found = clash(room, j, i);
                 if found {
                     break 'search;
                 }
                 j = after(room, j);
             }
+            seen = seen_with(room, i, seen);
             i = after(room, i);
         }
         n += 1;
@@ -78,19 +116,18 @@ pub fn clashing(room: &[u64; ROOM]) -> u8
     n
 }
 
-// The kinds that any two productions of n share.
+// The kinds that any two productions of n share: those that one has and one before it.
 pub fn shared(room: &[u64; ROOM], n: u8) -> u64
     ensures { λ r. ⌜ r ≡ allSharedIn (now (room .entry)) n ⌝ }
 {
+    let mut seen: u64 = 0;
     let mut found: u64 = 0;
     let mut i = first_place(room, n);
     while i < NO_PLACE {
-        let mut j = after(room, i);
-        while j < NO_PLACE {
-            let more = shared_by(room, i, j);
-            found = join(found, more);
-            j = after(room, j);
-        }
+        let own = first(room, i);
+        let more = meet(seen, own);
+        found = join(found, more);
+        seen = join(seen, own);
         i = after(room, i);
     }
     found

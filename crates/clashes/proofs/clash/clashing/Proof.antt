@@ -10,16 +10,16 @@ use Rattle.clashes.proofs.clash.clashing.Statement.{statement}
 use Rattle.clashes.proofs.clash.clashing.Tie as tie
 
 abbrev Inv-loop2 : tie.InvT-loop2
-Inv-loop2 room n i j₀ j = laws.Column (clashIn room) room (firstPlaceIn room n) i j
+Inv-loop2 room n seen i j₀ j = laws.Column room (firstPlaceIn room n) seen i j
 
 abbrev μ-loop2 : tie.MeasureT-loop2
-μ-loop2 room n i j₀ j = 256 - j
+μ-loop2 room n seen i j₀ j = 256 - j
 
 abbrev Inv-loop : tie.InvT-loop
-Inv-loop room n i₀ i = laws.Row (clashIn room) room (firstPlaceIn room n) i
+Inv-loop room n seen₀ i₀ seen i = laws.Row room (firstPlaceIn room n) seen i
 
 abbrev μ-loop : tie.MeasureT-loop
-μ-loop room n i₀ i = 256 - i
+μ-loop room n seen₀ i₀ seen i = 256 - i
 
 abbrev Inv-search : tie.InvT-search
 Inv-search room n₀ n = laws.Lowest (λ k. anyPair (clashIn room) (linked room (firstPlaceIn room k))) n
@@ -35,7 +35,7 @@ first-place-requires :
 first-place-requires c κs = search needs
 
 loop-holds : tie.Need-loop-holds Inv-loop2 μ-loop2 Inv-loop μ-loop Inv-search μ-search
-loop-holds c = laws.row-start _ _ (c .first-place .ensures)
+loop-holds c = laws.row-start _ (c .first-place .ensures)
 
 loop2-holds : tie.Need-loop2-holds Inv-loop2 μ-loop2 Inv-loop μ-loop Inv-search μ-search
 loop2-holds c = search laws.column-start
@@ -63,9 +63,9 @@ returns c = laws.lowest-end (c .before .search .inv) (c .search-test .left)
 returns-2 : tie.Need-returns-2 Inv-loop2 μ-loop2 Inv-loop μ-loop Inv-search μ-search
 returns-2 c =
     let column = c .before .before in
-    let search = column .before .before .before .before .before .before in
-    laws.lowest-stop (search .before .search .inv) (search .search-test .taken)
-    (laws.column-found (column .before .loop2 .inv) (column .loop2-test .taken) (c .before .clash .ensures) (c .if1 .taken))
+    let round = column .before .before .before .before .before .before in
+    laws.lowest-stop (round .before .search .inv) (round .search-test .taken)
+    (search laws.column-found)
 
 -- the function meets its contract
 pub clashing-spec : {M : Type 1} → statement M
@@ -87,6 +87,7 @@ clashing-spec =
     (λ c κs. search needs)
     loop2-less
     loop2-again
+    (λ c κs. search needs)
     (λ c κs. search needs)
     loop-less
     loop-again
